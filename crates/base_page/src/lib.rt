@@ -1,0 +1,10 @@
+//! Pages: the ordered items of a range of keys.
+#![tactic(auto)]
+
+mod item;
+mod items;
+mod page;
+
+pub use item::{Content, Item};
+pub use items::{Items, MAX_ITEMS};
+pub use page::Page;

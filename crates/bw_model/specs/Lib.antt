@@ -1,0 +1,6 @@
+pub mod Answers
+pub mod Bytes
+pub mod Limits
+pub mod Log
+pub mod Pairs
+pub mod Replies

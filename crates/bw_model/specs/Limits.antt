@@ -1,0 +1,14 @@
+-- The numbers that limits may have.
+use Rattle.std.specs.Prelude.{◌≡◌, ℕ, ◌≤◌, ◌%◌, ◌^◌}
+
+pub record AreLimits (actors pids rows epoch : ℕ) : Type 0 where
+  pub some_actor : 1 ≤ actors
+  pub few_actors : actors ≤ 16
+  pub some_pids : 64 ≤ pids
+  pub few_pids : pids ≤ 4096
+  pub whole_pids : pids % 64 ≡ 0
+  pub some_rows : 64 ≤ rows
+  pub few_rows : rows ≤ 16384
+  pub whole_rows : rows % 64 ≡ 0
+  pub some_epoch : 1 ≤ epoch
+  pub small_epoch : epoch ≤ 2 ^ 62

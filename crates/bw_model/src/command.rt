@@ -1,0 +1,63 @@
+//! What an actor asks of the map, and what it is answered.
+ghost use Rattle.std.specs.Prelude.{◌≡◌, Some, is_some, option_copied};
+ghost use Rattle.bw_model.specs.Replies.{command_key, reply_of, update_of};
+
+use crate::{Key, Value};
+
+/// What an actor asks of the map.
+#[derive(Clone, Debug, PartialEq, Eq, Drop)]
+pub enum Command {
+    /// The value of a key.
+    Get(Key),
+    /// Gives a key a value where it has none.
+    Insert(Key, Value),
+}
+
+/// What an operation answers when it is done.
+#[derive(Clone, Debug, PartialEq, Eq, Drop)]
+pub enum Reply {
+    /// The value of the key.
+    Value(Value),
+    /// The key has no value.
+    None,
+    /// The key had no value, and has the new one.
+    Inserted,
+    /// The key has this value, and keeps it.
+    Exists(Value),
+    /// Nothing was free for a change, and no key was changed.
+    Full,
+}
+
+impl Command {
+    /// The key that the command is about.
+    pub fn key(&self) -> &Key
+        ensures { result.now ≡ command_key self.now }
+    {
+        match self {
+            Command::Get(key) => key,
+            Command::Insert(key, _) => key,
+        }
+    }
+
+    /// The reply of the command where its key has the value `old`, or none.
+    pub fn reply(&self, old: Option<&Value>) -> Reply
+        ensures { reply_of self.now (option_copied old.entry) ≡ Some result }
+    {
+        match (self, old) {
+            (Command::Get(_), None) => Reply::None,
+            (Command::Get(_), Some(value)) => Reply::Value(value.copied()),
+            (Command::Insert(_, _), None) => Reply::Inserted,
+            (Command::Insert(_, _), Some(value)) => Reply::Exists(value.copied()),
+        }
+    }
+
+    /// Whether the command changes the map where its key has the value `old`, or none.
+    pub fn changes(&self, old: Option<&Value>) -> bool
+        ensures { result ≡ is_some (update_of 0 self.now (option_copied old.entry)) }
+    {
+        match self {
+            Command::Get(_) => false,
+            Command::Insert(_, _) => old.is_none(),
+        }
+    }
+}

@@ -1,0 +1,57 @@
+//! How large a tree is.
+ghost use Rattle.std.specs.Prelude.{◌≡◌, ◌↔◌, IsOk, IfOk};
+ghost use Rattle.bw_model.specs.Limits.{AreLimits};
+
+/// A number is outside the range that is stated for it.
+#[derive(Clone, Copy, Debug, PartialEq, Eq)]
+pub struct BadLimits;
+
+/// Why nothing was opened.
+#[derive(Clone, Copy, Debug, PartialEq, Eq)]
+pub enum OpenError {
+    /// A growth of memory was refused.
+    Memory,
+    /// The opening epoch is outside its range.
+    BadEpoch,
+}
+
+/// The numbers of actors, page identifiers (PIDs) and record rows, and the epoch that opens.
+///
+/// Actors: 1 to 16. PIDs: 64 to 4,096, a multiple of 64. Rows: 64 to 16,384, a multiple of 64.
+/// Epoch: 1 to 2^62.
+#[derive(Clone, Copy, Debug, PartialEq, Eq)]
+pub struct Limits {
+    pub actors: u64,
+    pub pids: u64,
+    pub rows: u64,
+    pub epoch: u64,
+    pub ghost allowed: { AreLimits actors pids rows epoch },
+}
+
+impl Limits {
+    /// These limits, refused exactly where a number is outside its range.
+    pub fn new(actors: u64, pids: u64, rows: u64, epoch: u64) -> Result<Limits, BadLimits>
+        ensures allowed { IsOk result ↔ AreLimits actors pids rows epoch }
+        ensures actors { IfOk result (λ limits. limits.actors ≡ actors) }
+        ensures pids { IfOk result (λ limits. limits.pids ≡ pids) }
+        ensures rows { IfOk result (λ limits. limits.rows ≡ rows) }
+        ensures epoch { IfOk result (λ limits. limits.epoch ≡ epoch) }
+    {
+        let allowed = (1..=16).contains(&actors)
+            && (64..=4096).contains(&pids)
+            && pids % 64 == 0
+            && (64..=16384).contains(&rows)
+            && rows % 64 == 0
+            && (1..=1 << 62).contains(&epoch);
+        if allowed {
+            Ok(Limits {
+                actors,
+                pids,
+                rows,
+                epoch,
+            })
+        } else {
+            Err(BadLimits)
+        }
+    }
+}

@@ -1,0 +1,4 @@
+pub mod Applies
+pub mod Links
+pub mod Memory
+pub mod Records

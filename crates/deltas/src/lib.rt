@@ -1,0 +1,6 @@
+//! The records of a page's chain, and what each makes of the page under it.
+#![tactic(auto)]
+
+mod record;
+
+pub use record::{Delete, Hold, Merge, Put, Record, Remove, Split, Term, Unterm};
