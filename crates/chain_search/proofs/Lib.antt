@@ -1,0 +1,4 @@
+pub mod ChainLaws
+pub mod Pushes
+pub mod RunLaws
+pub mod TraceLaws
