@@ -46,6 +46,7 @@ module _ (limits : Limits) (entries : List Entry) where
     pub whole : IsWhole above
     pub terms : (key : List ℕ) (child : ℕ) (is_held : Bool) → HasTerm above key child is_held ↔ (IsPageAt n level key child × HasPhaseOfTerm n child is_held)
 
-  -- At each moment each level below the root's has its index above it.
+  -- At each moment there is a root, and each level below the root's has its index above it.
   pub record IsExactIndex : Type 0 where
+    pub rooted : (n : ℕ) → n ≤ length entries → (top : ℕ) × IsRootLevel (memory_at limits entries n) top
     pub each : (n level top : ℕ) → n ≤ length entries → IsRootLevel (memory_at limits entries n) top → level < top → (above : List LivePage) × Indexes n level above

@@ -33,17 +33,17 @@ pub data Phase : Type 0 where
   merged : Phase
   cleared : Phase
 
--- The entry takes slot 0 to the page, a base that says the terms of its children.
-abbrev pub MakesRoot : Memory → Entry → ℕ → Page → Type 0
-MakesRoot memory entry pid page = (actor old : ℕ) × Wins memory entry actor 0 old pid link.Root × IsChainOf memory pid (delta.Base page ∷ [])
+-- The entry makes the page of the PID the root.
+abbrev pub MakesRoot : Memory → Entry → ℕ → Type 0
+MakesRoot memory entry pid = (actor old : ℕ) × Wins memory entry actor 0 old pid link.Root
 
 -- The entry takes the PID from the first phase to the second; the memory is that before it.
 pub data Moves (memory : Memory) (entry : Entry) (pid : ℕ) : Phase → Phase → Type 0 where
   takes : (actor : ℕ) → IsStep entry actor (TakePid pid) (Whether true) → Moves memory entry pid free owned
   splits : (slot : ℕ) (split : Split) → Installs memory entry slot (delta.Split split) → split.page ≡ pid → Moves memory entry pid owned fresh
-  becomes_root : (page : Page) → MakesRoot memory entry pid page → Moves memory entry pid owned indexed
+  becomes_root : MakesRoot memory entry pid → Moves memory entry pid owned indexed
   terms : (slot : ℕ) (term : Term) → Installs memory entry slot (delta.Term term) → term.child ≡ pid → Moves memory entry pid fresh indexed
-  under_root : (root : ℕ) (page : Page) (item : Item) → MakesRoot memory entry root page → slice_get page.items 1 ≡ Some item → item.content ≡ Child pid false → Moves memory entry pid fresh indexed
+  under_root : (root : ℕ) (page : Page) (item : Item) → MakesRoot memory entry root → IsChainOf memory root (delta.Base page ∷ []) → slice_get page.items 1 ≡ Some item → item.content ≡ Child pid false → Moves memory entry pid fresh indexed
   holds : (slot : ℕ) (hold : Hold) → Installs memory entry slot (delta.Hold hold) → hold.child ≡ pid → Moves memory entry pid indexed held
   removes : (remove : Remove) → Installs memory entry pid (delta.Remove remove) → Moves memory entry pid held removed
   merges : (slot : ℕ) (merge : Merge) (chain : List Record) → Installs memory entry slot (delta.Merge merge) → IsChainOf memory slot chain → right_in chain ≡ Some pid → Moves memory entry pid removed merged
