@@ -1,0 +1,5 @@
+pub mod FaithLaws
+pub mod Listed
+pub mod LogLaws
+pub mod MapLaws
+pub mod PhaseLaws

@@ -1,12 +1,9 @@
 //! Operations, as the steps of one actor, and the laws of their runs.
 #![tactic(auto)]
 
-ghost use Rattle.std.specs.Prelude.{◌∷◌, ◌++◌, [], List};
-ghost use Rattle.bw_model.specs.declared.limits.Limits.{Limits};
-ghost use Rattle.chain_search.specs.declared.trace.Entry.{Entry};
-ghost use Rattle.chain_search.specs.Run.{IsNext, IsRun};
+mod laws;
 
-/// A run grows by an entry that may stand next.
-pub fn run_grows()
-    ensures { (limits : Limits) (entries : List Entry) (entry : Entry) → IsRun limits entries → IsNext limits entries entry → IsRun limits (entries ++ entry ∷ []) }
-{}
+pub use laws::{
+    chain_is_one, knowledge_stays, late_mark_keeps_log, log_grows, one_leaf_has_the_map,
+    phases_grow, run_grows, side_chain_is_one,
+};
