@@ -3,3 +3,4 @@ pub mod Listed
 pub mod LogLaws
 pub mod MapLaws
 pub mod PhaseLaws
+pub mod Lookup

@@ -9,3 +9,4 @@ pub mod Index
 pub mod Reuse
 pub mod Direct
 pub mod Linearized
+pub mod Examples

@@ -1,8 +1,10 @@
 //! Operations, as the steps of one actor, and the laws of their runs.
 #![tactic(auto)]
 
+mod examples;
 mod laws;
 
+pub use examples::lookup_is_linearized;
 pub use laws::{
     chain_is_one, knowledge_stays, late_mark_keeps_log, log_grows, one_leaf_has_the_map,
     phases_grow, run_grows, side_chain_is_one,

@@ -1,0 +1,11 @@
+//! Worked runs: each function does nothing, and its contract says what the definitions make of one run.
+ghost use Rattle.std.specs.Prelude.{map};
+ghost use Rattle.chain_search.specs.Trace.{turn_of};
+ghost use Rattle.op_machine.specs.Linearized.{IsLinearized, IsOrderly};
+ghost use Rattle.op_machine.specs.Examples.{small, lookup};
+
+/// A lookup in the opening tree.
+pub fn lookup_is_linearized()
+    ensures linearized { IsLinearized small (map turn_of lookup) lookup }
+    ensures orderly { IsOrderly small lookup }
+{}
