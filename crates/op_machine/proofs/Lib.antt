@@ -4,3 +4,4 @@ pub mod LogLaws
 pub mod MapLaws
 pub mod PhaseLaws
 pub mod Lookup
+pub mod InsertAndLookup
