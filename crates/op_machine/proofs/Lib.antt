@@ -5,3 +5,4 @@ pub mod MapLaws
 pub mod PhaseLaws
 pub mod Lookup
 pub mod InsertAndLookup
+pub mod PageLife

@@ -11,6 +11,7 @@ use Rattle.base_page.specs.Pages.{Page, empty_leaf}
 use Rattle.base_page.specs.declared.item.Content.TheVariants.{Child}
 use Rattle.deltas.specs.declared.record.Record.{Record}
 use Rattle.deltas.specs.declared.record.Record.TheVariants as delta
+use Rattle.chain_search.specs.SideChain.{LivePage}
 use Rattle.chain_search.specs.declared.trace.Entry.{Entry}
 use Rattle.chain_search.specs.declared.trace.Entry.TheVariants.{Begin, Step}
 
@@ -126,6 +127,10 @@ page_life = Begin 0 (Insert (codes "a") (codes "1"))
     ∷ Step 0 (Exchange 3 5 8) (Whether true) None
     ∷ Step 0 (Exchange 2 6 0) (Whether true) None
     ∷ []
+
+-- the index page over the leaves, once page 2 is held
+abbrev pub index_page : LivePage
+index_page = record { pid = 3; chain = hold ∷ root ∷ [] }
 
 -- A page is put anew into row 2, and its old row 1 is freed once the other actor was seen outside.
 abbrev pub row_reuse : List Entry
