@@ -6,3 +6,5 @@ pub mod PhaseLaws
 pub mod Lookup
 pub mod InsertAndLookup
 pub mod PageLife
+pub mod RowReuse
+pub mod Refused

@@ -4,12 +4,15 @@ ghost use Rattle.bw_model.specs.declared.step.Link.TheVariants as link;
 ghost use Rattle.chain_search.specs.Run.{IsRun};
 ghost use Rattle.chain_search.specs.SideChain.{IsWhole};
 ghost use Rattle.chain_search.specs.Trace.{memory_at, turn_of};
-ghost use Rattle.op_machine.specs.Examples.{small, lookup, insert_and_lookup, page_life, index_page};
+ghost use Rattle.op_machine.specs.Examples.{small, lookup, insert_and_lookup, page_life, index_page, row_reuse, hurried_reuse, unnamed_read, two_puts, needless_base};
+ghost use Rattle.op_machine.specs.Direct.{IsDirect};
+ghost use Rattle.op_machine.specs.Faithful.{IsFaithful};
 ghost use Rattle.op_machine.specs.Index.{IsLevel, HasTerm};
 ghost use Rattle.op_machine.specs.Linearized.{IsLinearized, IsOrderly};
 ghost use Rattle.op_machine.specs.Links.{link_of};
 ghost use Rattle.op_machine.specs.Phases.{MovesAt, free, owned, fresh, indexed, held, removed, merged, cleared};
 ghost use Rattle.op_machine.specs.Quiet.{IsQuiet};
+ghost use Rattle.op_machine.specs.Reuse.{IsFreedByRule};
 
 /// A lookup in the opening tree.
 pub fn lookup_is_linearized()
@@ -41,4 +44,26 @@ pub fn page_lives()
     ensures level { IsLevel small page_life 19 1 (index_page ∷ []) }
     ensures whole { IsWhole (index_page ∷ []) }
     ensures term { HasTerm small page_life (index_page ∷ []) (codes "m") 2 true }
+{}
+
+/// A row is used again by the rule.
+pub fn row_is_freed()
+    ensures run { IsRun small row_reuse }
+    ensures freed { IsFreedByRule small row_reuse }
+{}
+
+/// A row that is used again without a look at the other actor is not.
+pub fn hurried_reuse_is_refused()
+    ensures { ¬ IsFreedByRule small hurried_reuse }
+{}
+
+/// A record that is read without its row's name is not the one whose name was learnt.
+pub fn unnamed_read_is_refused()
+    ensures { ¬ IsFaithful small unnamed_read }
+{}
+
+/// An operation that links two puts is not direct, nor is one that puts a base over a base alone.
+pub fn useless_links_are_refused()
+    ensures twice { ¬ IsDirect small two_puts }
+    ensures needless { ¬ IsDirect small needless_base }
 {}
