@@ -8,3 +8,4 @@ pub mod InsertAndLookup
 pub mod PageLife
 pub mod RowReuse
 pub mod Refused
+pub mod ClaimedInsert
