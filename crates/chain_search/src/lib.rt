@@ -1,6 +1,8 @@
 //! What happened over the shared memory, turn by turn, and the chains of its pages.
 #![tactic(auto)]
 
+mod examples;
 mod trace;
 
+pub use examples::{leaves_decide, merge_adds, split_cuts, terms_come_and_go};
 pub use trace::{Entry, Turn};
