@@ -1,0 +1,4 @@
+pub mod Answering
+pub mod Cored
+pub mod Linked
+pub mod Replaced
