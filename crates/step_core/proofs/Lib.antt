@@ -2,3 +2,4 @@ pub mod Answering
 pub mod Cored
 pub mod Linked
 pub mod Replaced
+pub mod Stopping

@@ -106,13 +106,7 @@ impl Stepped {
 
 impl Running {
     /// Takes the one step that is wanted.
-    fn step(
-        &mut self,
-        actor: u8,
-        limits: &Limits,
-        hand: &mut Hand,
-        memory: &mut Memory,
-    ) -> Stepped
+    fn step(&mut self, actor: u8, limits: &Limits, hand: &mut Hand, memory: &mut Memory) -> Stepped
         requires actor { actor < limits.now.actors }
         requires sound { IsRunning limits.now hand.old self.old }
         requires memory { AreSound limits.now memory.old }

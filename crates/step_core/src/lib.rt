@@ -6,9 +6,14 @@ mod chain;
 mod copies;
 mod event;
 mod hand;
+mod listing;
 mod machine;
 mod memory;
 mod op;
+mod runs;
+#[cfg(test)]
+mod tests;
 
 pub use event::{Event, RunError, Trace};
 pub use machine::Core;
+pub use runs::run;

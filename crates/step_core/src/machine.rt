@@ -5,8 +5,9 @@ ghost use Rattle.step_core.specs.Turns.{AddsTurn, busy_of, refusal_of};
 
 use crate::actor::{Actor, Stepped};
 use crate::event::{Event, RunError, Trace};
+use crate::listing::pairs_in;
 use crate::memory::Memory;
-use bw_model::{Command, Limits, OpenError};
+use bw_model::{Command, Key, Limits, OpenError, Value};
 use chain_search::{Entry, Turn};
 use std::alloc::{AllocError, Global};
 use std::marker::Model;
@@ -157,6 +158,16 @@ impl Core {
             .push(Entry::Step(actor, step, answer, reply))
             .unwrap();
         event
+    }
+
+    /// All pairs in the order of their keys. It is no turn.
+    pub fn listing(&self, alloc: Global) -> Result<Vec<(Key, Value)>, RunError>
+        ensures err { IfErr result (λ error. error ≡ RunError.Memory (length self.now.entries)) }
+    {
+        match pairs_in(alloc, &self.memory) {
+            Ok(pairs) => Ok(pairs),
+            Err(_) => Err(RunError::Memory(self.turns())),
+        }
     }
 
     /// What was done.

@@ -5,11 +5,10 @@ use Rattle.step_core.proofs.Cored.{core_opens}
 use Rattle.step_core.proofs.machine.Core.with_memory.Goals as goal
 
 pub loop-preserved : goal.loop-preserved
-loop-preserved c =
-    (
-      omega (arith, c.in_ok-push.ensures.len, c.loop.invariant.0),
-      λ a at e. elim (slice_get-push_cases _ _ a at (rw c.in_ok-push.ensures.items at e)) [ inl before ↦ c.loop.invariant.1 a at before | inr last ↦ last.1 ∙ c.idle.ensures ],
-    )
+loop-preserved c = (
+  omega (arith, c.in_ok-push.ensures.len, c.loop.invariant.0),
+  λ a at e. elim (slice_get-push_cases _ _ a at (rw c.in_ok-push.ensures.items at e)) [ inl before ↦ c.loop.invariant.1 a at before | inr last ↦ last.1 ∙ c.idle.ensures ],
+)
 
 pub invariant_of-result : goal.invariant_of-result
 invariant_of-result c =
