@@ -7,3 +7,5 @@ pub mod Marks
 pub mod Remark
 pub mod Names
 pub mod Growth
+pub mod Fitted
+pub mod Runs

@@ -3,4 +3,4 @@
 
 mod law;
 
-pub use law::{begins, is_one_map, opens, steps};
+pub use law::{answers, begins, disciplined_runs, is_one_map, opens, steps};
