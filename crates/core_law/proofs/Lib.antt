@@ -9,3 +9,4 @@ pub mod Names
 pub mod Growth
 pub mod Fitted
 pub mod Runs
+pub mod LostExchange
