@@ -10,3 +10,4 @@ pub mod Growth
 pub mod Fitted
 pub mod Runs
 pub mod LostExchange
+pub mod OwnEntries

@@ -10,7 +10,7 @@ ghost use Rattle.chain_search.specs.declared.trace.Entry.{Entry};
 ghost use Rattle.chain_search.specs.declared.trace.Entry.TheVariants.{Begin, Step};
 ghost use Rattle.chain_search.specs.Discipline.{IsAllowed, IsDisciplined, May};
 ghost use Rattle.chain_search.specs.Fitting.{Fits};
-ghost use Rattle.chain_search.specs.Knowledge.{knows};
+ghost use Rattle.chain_search.specs.Knowledge.{knows, own_entries};
 ghost use Rattle.chain_search.specs.Steps.{IsAnswer};
 ghost use Rattle.chain_search.specs.Trace.{memory_of, command_of, turn_of};
 ghost use Rattle.core_law.specs.State.{IsState};
@@ -49,4 +49,9 @@ pub fn answers()
     ensures stand { (limits : Limits) (entries : List Entry) (actor row : ℕ) → IsState limits entries → May actor (knows entries actor) (Row row) → (content : Record) × ((memory_of limits entries).rows row ≡ Some content) }
     ensures fit { (limits : Limits) (entries : List Entry) (actor : ℕ) (step : StepOf Record) (answer : Answer Record) → IsState limits entries
         → May actor (knows entries actor) step → IsAnswer (memory_of limits entries) step answer → Fits limits (knows entries actor) step answer }
+{}
+
+/// What an actor knows comes from its own entries alone: in two traces with the same ones it knows the same.
+pub fn knowledge_is_own()
+    ensures { (entries others : List Entry) (actor : ℕ) → own_entries actor entries ≡ own_entries actor others → knows entries actor ≡ knows others actor }
 {}
