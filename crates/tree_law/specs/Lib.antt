@@ -1,3 +1,5 @@
+pub mod Discipline
 pub mod Keys
+pub mod Knowledge
 pub mod Laws
 pub mod Put
