@@ -1,2 +1,5 @@
+pub mod Chains
+pub mod Kept
 pub mod KeyOrder
 pub mod Puts
+pub mod Sides

@@ -2,4 +2,8 @@ pub mod Discipline
 pub mod Keys
 pub mod Knowledge
 pub mod Laws
+pub mod Owners
+pub mod Phase
 pub mod Put
+pub mod Shared
+pub mod Tree

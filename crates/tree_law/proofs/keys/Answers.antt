@@ -1,5 +1,6 @@
 use Rattle.tree_law.proofs.KeyOrder.{below_upto, upto_below, not_below, upto_both}
 use Rattle.tree_law.proofs.Puts.{by_test}
+use Rattle.tree_law.proofs.Sides.{tree_merged}
 use Rattle.tree_law.proofs.keys.Goals as goal
 
 pub returns : goal.returns
