@@ -1,6 +1,8 @@
 use Rattle.tree_law.proofs.KeyOrder.{below_upto, upto_below, not_below, upto_both}
 use Rattle.tree_law.proofs.Puts.{by_test}
 use Rattle.tree_law.proofs.Sides.{tree_merged}
+use Rattle.tree_law.proofs.Terms.{exact_going}
+use Rattle.tree_law.proofs.Frames.{names_of}
 use Rattle.tree_law.proofs.keys.Goals as goal
 
 pub returns : goal.returns
