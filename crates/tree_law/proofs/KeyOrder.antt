@@ -105,3 +105,6 @@ both false b e = (refl, e)
 -- the range of a chain, as a test and as two relations
 pub covers_from : (chain : List Record) (key : Key) → IsTrue (covers chain key) → Covers chain key
 covers_from chain key e = let h = both (is_below key (low_in chain)) (is_under key (high_in chain)) e in record { low = h.0; high = h.1 }
+
+pub covers_to : (chain : List Record) (key : Key) → Covers chain key → IsTrue (covers chain key)
+covers_to chain key v = rw (v.low, v.high) refl

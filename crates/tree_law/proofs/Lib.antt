@@ -1,7 +1,10 @@
 pub mod Chains
 pub mod Frames
+pub mod Keeping
 pub mod Kept
 pub mod KeyOrder
 pub mod Puts
+pub mod Reading
 pub mod Sides
+pub mod Taking
 pub mod Terms

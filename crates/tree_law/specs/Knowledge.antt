@@ -65,15 +65,15 @@ abbrev pub learnt_next : Option ℕ → (ℕ → Bool) → ℕ → Bool
 learnt_next None learnt = learnt
 learnt_next (Some next) learnt = replaced_at next true learnt
 
+-- after the page's slot was read as this row
+abbrev pub learn_head : ℕ → ℕ → Knowledge → Knowledge
+learn_head page row k = record k { before = replaced_at page k.heads k.before; heads = replaced_at page (Some row) k.heads; learnt = replaced_at row true k.learnt }
+
 -- Slot 0 has the root's PID. A slot that holds 0 names no row.
 abbrev pub learn_slot : ℕ → ℕ → Knowledge → Knowledge
 learn_slot zero pid k = record k { roots = replaced_at pid true k.roots }
 learn_slot (suc page) zero k = k
-learn_slot (suc page) (suc row) k = record k {
-  before = replaced_at (suc page) k.heads k.before;
-  heads = replaced_at (suc page) (Some (suc row)) k.heads;
-  learnt = replaced_at (suc row) true k.learnt;
-}
+learn_slot (suc page) (suc row) k = learn_head (suc page) (suc row) k
 
 -- no word of bits that is 0 has a free number
 abbrev pub learn_word : ℕ → ℕ → (ℕ → Bool) → ℕ → Bool

@@ -1,5 +1,8 @@
 use Rattle.tree_law.proofs.KeyOrder.{below_upto, upto_below, not_below, upto_both}
 use Rattle.tree_law.proofs.Puts.{by_test}
+use Rattle.tree_law.proofs.Reading.{reads_row}
+use Rattle.tree_law.proofs.Taking.{own_slot}
+use Rattle.tree_law.proofs.Keeping.{tree_at}
 use Rattle.tree_law.proofs.Sides.{tree_merged}
 use Rattle.tree_law.proofs.Terms.{exact_going}
 use Rattle.tree_law.proofs.Frames.{names_of}
