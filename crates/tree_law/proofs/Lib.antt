@@ -5,6 +5,7 @@ pub mod Kept
 pub mod KeyOrder
 pub mod Puts
 pub mod Reading
+pub mod Relinking
 pub mod Sides
 pub mod Taking
 pub mod Terms
