@@ -9,3 +9,4 @@ pub mod Relinking
 pub mod Sides
 pub mod Taking
 pub mod Terms
+pub mod Updating

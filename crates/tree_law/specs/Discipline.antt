@@ -54,6 +54,21 @@ pub record IsMet (k : Knowledge) (page : ℕ) : Type 0 where
 abbrev pub AreAlike : List Item → List Record → Type 0
 AreAlike items chain = (key : List ℕ) → IsTrue (covers chain key) → content_at items key ≡ content_in chain key
 
+-- a base with these items, from this low key on to the chain's end
+abbrev pub base_from : List Record → List ℕ → List Item → Record
+base_from chain low items = Base (record { level = level_in chain; low = low; high = high_in chain; right = right_in chain; removed = false; items = items })
+
+-- the base of a new root over a page, and over its right from the separator on
+abbrev pub root_over : ℕ → ℕ → List ℕ → ℕ → Record
+root_over level page separator right = Base (record {
+  level = level;
+  low = [];
+  high = None;
+  right = None;
+  removed = false;
+  items = record { key = []; content = Child page false } ∷ record { key = separator; content = Child right false } ∷ [];
+})
+
 -- A Put or a Delete: an update may be linked over a leaf that was read and has the key in its range, where the command
 -- makes it there, once in an operation.
 pub record MayUpdate (actor : ℕ) (k : Knowledge) (page old new : ℕ) : Type 0 where
@@ -72,7 +87,7 @@ pub record MayConsolidate (k : Knowledge) (page old new : ℕ) : Type 0 where
   pub basis : HasRead k page old
   pub items : List Item
   pub alike : AreAlike items basis.chain
-  pub placed : k.rows new ≡ Written (Base (record { level = level_in basis.chain; low = low_in basis.chain; high = high_in basis.chain; right = right_in basis.chain; removed = false; items = items }))
+  pub placed : k.rows new ≡ Written (base_from basis.chain (low_in basis.chain) items)
 
 -- A Split: where the new page is ready and spells the upper part.
 pub record MaySplit (k : Knowledge) (page old new : ℕ) : Type 0 where
@@ -85,7 +100,7 @@ pub record MaySplit (k : Knowledge) (page old new : ℕ) : Type 0 where
   pub ready : k.pages right ≡ Ready row
   pub items : List Item
   pub alike : (key : List ℕ) → IsTrue (covers basis.chain key) → IsFalse (is_below key separator) → content_at items key ≡ content_in basis.chain key
-  pub base : k.rows row ≡ Written (Base (record { level = level_in basis.chain; low = separator; high = high_in basis.chain; right = right_in basis.chain; removed = false; items = items }))
+  pub base : k.rows row ≡ Written (base_from basis.chain separator items)
   pub placed : k.rows new ≡ Written (Split (record { level = level_in basis.chain; next = old; separator = separator; page = right }))
 
 -- A Term: of a page that was read after its parent, which is one level up, has the page's low key in its range and no
@@ -167,14 +182,7 @@ pub record MayRoot (k : Knowledge) (old new : ℕ) : Type 0 where
   pub some : IsTrue (is_below [] separator)
   pub base_row : ℕ
   pub ready : k.pages new ≡ Ready base_row
-  pub base : k.rows base_row ≡ Written (Base (record {
-    level = suc (level_in basis.chain);
-    low = [];
-    high = None;
-    right = None;
-    removed = false;
-    items = record { key = []; content = Child old false } ∷ record { key = separator; content = Child right false } ∷ [];
-  }))
+  pub base : k.rows base_row ≡ Written (root_over (suc (level_in basis.chain)) old separator right)
 
 -- a row may be linked over another on a page of the tree
 abbrev pub MayLink : ℕ → Knowledge → ℕ → ℕ → ℕ → Type 0
