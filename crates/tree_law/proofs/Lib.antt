@@ -1,5 +1,6 @@
 pub mod Chains
 pub mod Frames
+pub mod Indexing
 pub mod Keeping
 pub mod Kept
 pub mod KeyOrder

@@ -1,5 +1,5 @@
 -- The order of keys, as relations, and functions of keys changed at one key.
-use Rattle.std.specs.Prelude.{◌≡◌, ℕ, List, Bool, true, false, if◌then◌else◌, Option, None, Some, ⊤}
+use Rattle.std.specs.Prelude.{◌≡◌, ℕ, List, Bool, true, false, if◌then◌else◌, Option, IfSome}
 use Rattle.std.specs.Ordering.{is_eq}
 use Rattle.bw_model.specs.Bytes.{key_cmp, is_below, is_under}
 use Rattle.deltas.specs.declared.record.Record.{Record}
@@ -21,8 +21,7 @@ IsUnder key bound = is_under key bound ≡ true
 
 -- The key is at or below the bound; where there is no bound, each key is.
 abbrev pub IsWithin : Key → Option Key → Type 0
-IsWithin key None = ⊤
-IsWithin key (Some high) = IsUpTo key high
+IsWithin key bound = IfSome bound (λ high. IsUpTo key high)
 
 -- the key is in the chain's range
 pub record Covers (chain : List Record) (key : Key) : Type 0 where
