@@ -7,7 +7,9 @@ pub mod KeyOrder
 pub mod Puts
 pub mod Reading
 pub mod Relinking
+pub mod Rooting
 pub mod Sides
+pub mod Splitting
 pub mod Taking
 pub mod Terms
 pub mod Updating
