@@ -1,9 +1,11 @@
+pub mod Answering
 pub mod Chains
 pub mod Frames
 pub mod Indexing
 pub mod Keeping
 pub mod Kept
 pub mod KeyOrder
+pub mod Merging
 pub mod Puts
 pub mod Reading
 pub mod Relinking

@@ -5,5 +5,6 @@ pub mod Laws
 pub mod Owners
 pub mod Phase
 pub mod Put
+pub mod Replies
 pub mod Shared
 pub mod Tree

@@ -1,5 +1,7 @@
 use Rattle.tree_law.proofs.KeyOrder.{below_upto, upto_below, not_below, upto_both}
 use Rattle.tree_law.proofs.Puts.{by_test}
+use Rattle.tree_law.proofs.Merging.{merges}
+use Rattle.tree_law.proofs.Answering.{answers}
 use Rattle.tree_law.proofs.Rooting.{roots}
 use Rattle.tree_law.proofs.Indexing.{unterms}
 use Rattle.tree_law.proofs.Updating.{removes}
