@@ -12,6 +12,7 @@ pub mod Relinking
 pub mod Rooting
 pub mod Sides
 pub mod Splitting
+pub mod Stepping
 pub mod Taking
 pub mod Terms
 pub mod Updating

@@ -87,7 +87,7 @@ module _ {m : Shared} {log : List Update} {o : Owners} {knows : ℕ → Knowledg
       kept = kept_change a o o' m m' change
 
   -- a row of its own is a spare of its own
-  own_spare : (q : ℕ) (v : OwnRow) → OwnFits a (o.row q) (m.rows q) v → IsOwn v → o.row q ≡ Spare a
+  pub own_spare : (q : ℕ) (v : OwnRow) → OwnFits a (o.row q) (m.rows q) v → IsOwn v → o.row q ≡ Spare a
   own_spare q Foreign h i = absurd i
   own_spare q Taken h i = h
   own_spare q (Written w) h i = h.0

@@ -188,16 +188,21 @@ pub record MayRoot (k : Knowledge) (old new : ℕ) : Type 0 where
 abbrev pub MayLink : ℕ → Knowledge → ℕ → ℕ → ℕ → Type 0
 MayLink actor k page old new = MayUpdate actor k page old new ⊎ MayConsolidate k page old new ⊎ MaySplit k page old new ⊎ MayPost k page old new ⊎ MayHold k page old new ⊎ MayRemove k page old new ⊎ MayMerge k page old new ⊎ MayUnterm k page old new
 
--- Slot 0 goes from root to root. The slot of an own page goes from 0 to an own row (Ready) and back to 0 (Undo), and
+-- a base that the actor placed in an own row
+abbrev pub IsOwnBase : OwnRow → Type 0
+IsOwnBase (Written (Base page)) = ⊤
+IsOwnBase _ = ⊥
+
+-- Slot 0 goes from root to root. The slot of an own page goes from 0 to an own base (Ready) and back to 0 (Undo), and
 -- that of a page whose term the actor took away to 0 (Clear).
 abbrev pub MayExchange : ℕ → Knowledge → ℕ → ℕ → ℕ → Type 0
 MayExchange actor k zero old new = MayRoot k old new
 MayExchange actor k (suc page) zero zero = ⊥
-MayExchange actor k (suc page) zero (suc row) = (k.pages (suc page) ≡ Empty) × IsOwn (k.rows (suc row))
+MayExchange actor k (suc page) zero (suc row) = (k.pages (suc page) ≡ Empty) × IsOwnBase (k.rows (suc row))
 MayExchange actor k (suc page) (suc row) zero = (k.pages (suc page) ≡ Ready (suc row)) ⊎ (k.pages (suc page) ≡ Gone)
 MayExchange actor k (suc page) (suc old) (suc new) = MayLink actor k (suc page) (suc old) (suc new)
 
--- Nothing is reused here: neither Retire nor Reuse may be taken.
+-- An own row is placed while it stands in no slot. Nothing is reused here: neither Retire nor Reuse may be taken.
 abbrev pub May : ℕ → Knowledge → StepOf Record → Type 0
 May actor k (Slot zero) = IsTrue k.inside
 May actor k (Slot (suc page)) = IsTrue k.inside × (IsTrue (k.roots (suc page)) ⊎ IsMet k (suc page))
@@ -208,7 +213,7 @@ May actor k (PidBits word) = ⊤
 May actor k (RowBits word) = ⊤
 May actor k (TakePid page) = ⊤
 May actor k (TakeRow row) = ⊤
-May actor k (Place row content) = IsTrue k.inside × IsOwn (k.rows row)
+May actor k (Place row content) = IsTrue k.inside × IsOwn (k.rows row) × ((page : ℕ) → k.pages page ≡ Ready row → ⊥)
 May actor k (Exchange slot old new) = IsTrue k.inside × MayExchange actor k slot old new
 May actor k (Enter epoch) = IsFalse k.inside × (0 < epoch)
 May actor k Leave = IsTrue k.inside

@@ -1,5 +1,6 @@
 use Rattle.tree_law.proofs.KeyOrder.{below_upto, upto_below, not_below, upto_both}
 use Rattle.tree_law.proofs.Puts.{by_test}
+use Rattle.tree_law.proofs.Stepping.{step}
 use Rattle.tree_law.proofs.Merging.{merges}
 use Rattle.tree_law.proofs.Answering.{answers}
 use Rattle.tree_law.proofs.Rooting.{roots}
