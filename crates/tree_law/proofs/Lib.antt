@@ -6,6 +6,7 @@ pub mod Keeping
 pub mod Kept
 pub mod KeyOrder
 pub mod Merging
+pub mod Opening
 pub mod Puts
 pub mod Reading
 pub mod Relinking
