@@ -19,11 +19,11 @@ use Rattle.tree_law.specs.Phase.{Stage, Fresh, Indexed, Held, Removed, Merged, P
 use Rattle.tree_law.specs.Put.{put}
 use Rattle.tree_law.specs.Shared.{Shared}
 use Rattle.tree_law.specs.Owners.{IsChain, Owner, Owners, Reached, ChainNames, IsClosed, Owns, OwnsPages, Spells, leaf_map, Knows}
-use Rattle.tree_law.specs.Tree.{InPlace, spec, Exact, IsOff, Off, Tree, Frees, Good}
+use Rattle.tree_law.specs.Tree.{InPlace, spec, Exact, IsOff, IsOut, Off, Tree, Frees, Good}
 use Rattle.tree_law.proofs.KeyOrder.{covers_from}
 use Rattle.tree_law.proofs.Puts.{by_test}
 use Rattle.tree_law.proofs.Chains.{chain_unique}
-use Rattle.tree_law.proofs.Kept.{Kept, reached_placed, placed_reached, chain_kept, knows_kept, owns_spared, pages_spared}
+use Rattle.tree_law.proofs.Kept.{Kept, cleared_forward, reached_placed, placed_reached, chain_kept, knows_kept, owns_spared, pages_spared}
 use Rattle.tree_law.proofs.Sides.{locate, in_level_as, tree_kept}
 use Rattle.tree_law.proofs.Frames.{Change, kept_change, spared_change, change_none, names_of, read_linked, knows_more, chain_stands}
 
@@ -96,7 +96,7 @@ module _ {m : Shared} {log : List Update} {o : Owners} {knows : ℕ → Knowledg
       (reached_placed 0 l s (o.page p) r)
     where
       off : IsOff (o.page p) l s → InPlace o m (level_in d) (spec log o.index (level_in d)) (record { page = p; row = y; chain = d })
-      off i = ⊎_elim (λ (n : m.slots p ≡ None). absurd (let e = sym sy ∙ n in cc))
+      off i = ⊎_elim (λ (n : IsOut (o.page p) (m.slots p)). absurd (let e = sym sy ∙ n.0 in cc))
           (λ (w : Off o m p l s).
           let same : w.row ≡ y = same_Some w.row y (sym w.head ∙ sy) in
           let e : w.chain ≡ d = chain_unique m.rows w.chain d (Some y) (subst (λ (n : ℕ). IsChain m.rows w.chain (Some n)) same w.is_chain) h in
@@ -124,7 +124,7 @@ module _ {m : Shared} {log : List Update} {o : Owners} {knows : ℕ → Knowledg
       (reached_placed 0 lv s (o.page p) r)
     where
       off : IsOff (o.page p) lv s → (m.slots p ≡ None) ⊎ ((x : ℕ) × (m.slots p ≡ Some x) × (h : Spells o m x log) × Reached 0 (level_in h.chain) (low_in h.chain) (o.page p))
-      off i = ⊎_elim (λ (n : m.slots p ≡ None). inl n)
+      off i = ⊎_elim (λ (n : IsOut (o.page p) (m.slots p)). inl n.0)
           (λ (w : Off o m p lv s). inr (
             w.row,
             w.head,
@@ -148,8 +148,8 @@ module _ {m : Shared} {log : List Update} {o : Owners} {knows : ℕ → Knowledg
       n : ChainNames o h.chain
       n = names_of o m g.closed h.row (read_linked o m (knows a).seen mine.seen_fits h.chain h.row h.read) h.chain (chain_stands o m (knows a).seen mine.seen_fits h.chain (Some h.row) h.read)
 
-  pub off_still : (o' : Owners) (m' : Shared) → Kept o o' m m' → (q l : ℕ) (k : Key) → m'.slots q ≡ m.slots q → (m.slots q ≡ None) ⊎ Off o m q l k → (m'.slots q ≡ None) ⊎ Off o' m' q l k
-  off_still o' m' kept q l k s (inl e) = inl (s ∙ e)
+  pub off_still : (o' : Owners) (m' : Shared) → Kept o o' m m' → (q l : ℕ) (k : Key) → m'.slots q ≡ m.slots q → IsOut (o.page q) (m.slots q) ⊎ Off o m q l k → IsOut (o'.page q) (m'.slots q) ⊎ Off o' m' q l k
+  off_still o' m' kept q l k s (inl e) = inl (s ∙ e.0, cleared_forward (o.page q) (o'.page q) (kept.page q) e.1)
   off_still o' m' kept q l k s (inr w) = inr (record { row = w.row; chain = w.chain; head = s ∙ w.head; linked = (kept.row w.row w.linked).0; is_chain = chain_kept o o' m m' g.closed kept w.chain (Some w.row) w.linked w.is_chain; flagged = w.flagged; level = w.level; low = w.low })
 
   -- at a step that touches no slot and no page

@@ -44,7 +44,7 @@ rank_below Held = omega arith
 rank_below Removed = omega arith
 rank_below Merged = omega arith
 
-cleared_forward : (w n : PageOwner) → Forward w n → IsCleared w → IsCleared n
+pub cleared_forward : (w n : PageOwner) → Forward w n → IsCleared w → IsCleared n
 cleared_forward w n f u =
     ⊎_elim (λ (r : (st : Stage) × (n ≡ Placed st u.1 u.2) × (5 ≤ rank st)). absurd (let i = rank_below r.0 in let j = r.2 in omega arith))
     (λ (r : (a : ℕ) × (n ≡ Cleared a u.1 u.2)). (r.0, u.1, u.2, r.1))

@@ -18,7 +18,7 @@ use Rattle.tree_law.specs.Phase.{Stage, Fresh, Indexed, Held, Removed, Merged, P
 use Rattle.tree_law.specs.Put.{put}
 use Rattle.tree_law.specs.Shared.{Shared}
 use Rattle.tree_law.specs.Owners.{IsChain, Owner, Free, Spare, Linked, Owners, Reached, Forward, ChainNames, IsLinked, OwnFits, PageFits, OwnsPages, IsCleared, leaf_map, Spells, HeadFits, LinkFits, InOrder, OrderFits, Knows}
-use Rattle.tree_law.specs.Tree.{spec, Page, InPlace, IsPart, HasPage, Level, IsOff, Off, Exact, Tree, Good}
+use Rattle.tree_law.specs.Tree.{spec, Page, InPlace, IsPart, HasPage, Level, IsOff, IsOut, Off, Exact, Tree, Good}
 use Rattle.tree_law.specs.Discipline.{HasRead, MayMerge}
 use Rattle.tree_law.proofs.KeyOrder.{not_below, upto_same, under_trans, by_range, covers_to}
 use Rattle.tree_law.proofs.Puts.{by_test, put_same, put_other, put_all}
@@ -40,8 +40,8 @@ module _ {m : Shared} {log : List Update} {o : Owners} {knows : ℕ → Knowledg
       (record { row = g.frees.row; page = λ j h. let f = g.frees.page j h in (f.0, put_other m.slots p None j (λ e. absurd (let i = sym f.0 ∙ ap o.page e ∙ was.2 in cc)) ∙ f.1) })
       (closed_kept o o m m' kept g.closed (λ j l. inl l))
       (tree_kept o o m m' log g.closed kept (λ j l k st e on. (put_other m.slots p None j (λ i. absurd (let z = sym e ∙ ap o.page i ∙ was.2 in cc)), (st, e, on, refl))) refl refl (λ j l k st e on. (st, e, on)) g.tree g.tree.exact
-      (λ j l k i. by_test j p (λ t. (cond t None (m.slots j) ≡ None) ⊎ Off o m' j l k) (λ e. inl refl)
-      (λ ne. subst (λ (v : Option ℕ). (v ≡ None) ⊎ Off o m' j l k) (put_other m.slots p None j ne) (off_still g a o m' kept j l k (put_other m.slots p None j ne) (g.tree.off j l k i)))))
+      (λ j l k i. by_test j p (λ t. IsOut (o.page j) (cond t None (m.slots j)) ⊎ Off o m' j l k) (λ e. inl (refl, (a, was.0, was.1, ap o.page e ∙ was.2)))
+      (λ ne. subst (λ (v : Option ℕ). IsOut (o.page j) v ⊎ Off o m' j l k) (put_other m.slots p None j ne) (off_still g a o m' kept j l k (put_other m.slots p None j ne) (g.tree.off j l k i)))))
       (g.owns a)
       (λ j. by_test j p (λ t. PageFits a (o.page j) (cond t None (m.slots j)) ((knows a).pages j)) (λ i. subst (λ (v : OwnPage). PageFits a (o.page j) None v) (sym (ap (knows a).pages i ∙ own)) (was.0, was.1, ap o.page i ∙ was.2)) (λ i. g.owns_pages a j))
       (mine_at g a o m' kept))
@@ -92,7 +92,7 @@ module _ {m : Shared} {log : List Update} {o : Owners} {knows : ℕ → Knowledg
         (λ j l k st. by_test j q (λ t. cond t gone (o.page j) ≡ Placed st l k → rank st ≤ 3 → (j ≢ q) × ((st' : Stage) × (o.page j ≡ Placed st' l k) × (rank st' ≤ 3)))
         (λ i e on. absurd (let z : Merged ≡ st = cc in let u = ap rank z in omega arith)) (λ i e on. ((λ z. i z), (st, e, on))))
         (exact_going o.page o.index g.tree.top m.root q lv sq Removed Merged was (below_top g a q lv sq Removed was (omega arith)) refl g.tree.exact)
-        (λ j l k. by_test j q (λ t. IsOff (cond t gone (o.page j)) l k → (put m.slots p (Some y) j ≡ None) ⊎ Off o' m' j l k)
+        (λ j l k. by_test j q (λ t. IsOff (cond t gone (o.page j)) l k → IsOut (put o.page q gone j) (put m.slots p (Some y) j) ⊎ Off o' m' j l k)
         (λ i e. let z = at_off l k e in inr (record { row = h.row; chain = d; head = put_other m.slots p (Some y) j (λ u. apart (sym i ∙ u)) ∙ ap m.slots i ∙ slot; linked = (kept.row h.row fd.linked).0; is_chain = chain_kept o o' m m' g.closed kept d (Some h.row) fd.linked fd.stands; flagged = h.gone; level = level ∙ z.0; low = z.1 }))
         (λ i e. off_still g a o' m' kept j l k (put_other m.slots p (Some y) j (λ u. not_off place.stage lv (low_in c) l k place.on (subst (λ (v : PageOwner). IsOff v l k) (ap o.page u ∙ place.placed) e))) (g.tree.off j l k e))))
         (put_all (λ j v. OwnFits a (o'.row j) (m.rows j) v) (knows a).rows y Foreign tt (λ j ne. rw (put_other o.row y Linked j ne) (g.owns a j)))

@@ -13,7 +13,7 @@ use Rattle.tree_law.specs.Phase.{Stage, Fresh, Indexed, PageOwner, Nobody, Place
 use Rattle.tree_law.specs.Put.{put}
 use Rattle.tree_law.specs.Shared.{Shared, row_in, slot_in, shared}
 use Rattle.tree_law.specs.Owners.{Free, Linked, Owners, IsLinked}
-use Rattle.tree_law.specs.Tree.{spec, Page, HasPage, Level, IsOff, Off, Good}
+use Rattle.tree_law.specs.Tree.{spec, Page, HasPage, Level, IsOff, IsOut, Off, Good}
 use Rattle.tree_law.proofs.Puts.{by_test}
 
 module _ (free free_pages : ℕ → Bool) (taken : free 1 ≡ false) (taken_page : free_pages 1 ≡ false) where
@@ -32,6 +32,10 @@ module _ (free free_pages : ℕ → Bool) (taken : free 1 ≡ false) (taken_page
     whole = (refl, refl, record { stage = Indexed; placed = refl; on = omega arith; flagged = refl; linked = refl; is_page = record { head = refl; is_chain = (refl, refl); on_level = refl; some = refl; same = λ k v. refl } }, (refl, refl));
     listed = λ p s st. by_test p 1 (λ t. cond t (Placed Indexed 0 []) Nobody ≡ Placed st 0 s → rank st ≤ 3 → HasPage p (leaf ∷ [])) (λ i e on. inl (sym i)) (λ ne e on. absurd (cc));
   }
+
+  nobody : {l : ℕ} {s : Key} → IsOff Nobody l s → ⊥
+  nobody (inl e) = absurd (cc)
+  nobody (inr e) = absurd (let f = e.1 in cc)
 
   none : {l : ℕ} {s : Key} → IsOff (Placed Indexed 0 []) l s → ⊥
   none (inl e) = absurd (cc)
@@ -60,7 +64,7 @@ module _ (free free_pages : ℕ → Bool) (taken : free 1 ≡ false) (taken_page
         gone = λ q a l s. by_test q 1 (λ t. cond t (Placed Indexed 0 []) Nobody ≡ Cleared a l s → l < 0) (λ i e. absurd (cc)) (λ i e. absurd (cc));
         is_root = refl;
       };
-      off = λ q l s. by_test q 1 (λ t. IsOff (cond t (Placed Indexed 0 []) Nobody) l s → (cond {A = Option ℕ} t (Some 1) None ≡ None) ⊎ Off o start q l s) (λ i e. absurd (none e)) (λ i e. inl refl);
+      off = λ q l s. by_test q 1 (λ t. IsOff (cond t (Placed Indexed 0 []) Nobody) l s → IsOut (cond t (Placed Indexed 0 []) Nobody) (cond t (Some 1) None) ⊎ Off o start q l s) (λ i e. absurd (none e)) (λ i e. absurd (nobody e));
     };
     owns = λ a r. tt;
     owns_pages = λ a p. tt;

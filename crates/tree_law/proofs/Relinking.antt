@@ -14,7 +14,7 @@ use Rattle.tree_law.specs.Phase.{Stage, Merged, PageOwner, Nobody, Keeps, Placed
 use Rattle.tree_law.specs.Put.{put}
 use Rattle.tree_law.specs.Shared.{Shared}
 use Rattle.tree_law.specs.Owners.{IsChain, Owner, Free, Spare, Linked, Owners, Reached, Forward, ChainNames, IsLinked, OwnFits, PageFits, OwnsPages, HeadFits, LinkFits, Knows}
-use Rattle.tree_law.specs.Tree.{spec, Page, InPlace, HasPage, IsOff, Off, Exact, Good}
+use Rattle.tree_law.specs.Tree.{spec, Page, InPlace, HasPage, IsOff, IsOut, Off, Exact, Good}
 use Rattle.tree_law.proofs.Puts.{by_test, put_same, put_other, put_all}
 use Rattle.tree_law.proofs.Chains.{chain_unique}
 use Rattle.tree_law.proofs.Kept.{Kept, link_kept}
@@ -152,9 +152,9 @@ module _ {m : Shared} {log : List Update} {o : Owners} {knows : ℕ → Knowledg
       (λ j. inr (sym (placed_level stage' st (level_in c) l (low_in c) n (sym here ∙ ap page' (sym j) ∙ e)).0, inl (sym j)))
       (λ ne. inl (moved_placed p y (o.page q) (page' q) (moves q ne) st l n e i)))
       exact
-      (λ q l n i. by_test q p (λ t. (cond t (Some y) (m.slots q) ≡ None) ⊎ Off o' m' q l n)
+      (λ q l n i. by_test q p (λ t. IsOut (page' q) (cond t (Some y) (m.slots q)) ⊎ Off o' m' q l n)
       (λ j. absurd (not_off stage' (level_in c) (low_in c) l n on (subst (λ (v : PageOwner). IsOff v l n) (ap page' j ∙ here) i)))
-      (λ ne. subst (λ (v : Option ℕ). (v ≡ None) ⊎ Off o' m' q l n) (put_other m.slots p (Some y) q ne) (off_still g a o' m' kept q l n (put_other m.slots p (Some y) q ne) (g.tree.off q l n (moved_off p y (o.page q) (page' q) (moves q ne) l n i))))))
+      (λ ne. subst (λ (v : Option ℕ). IsOut (page' q) v ⊎ Off o' m' q l n) (put_other m.slots p (Some y) q ne) (off_still g a o' m' kept q l n (put_other m.slots p (Some y) q ne) (g.tree.off q l n (moved_off p y (o.page q) (page' q) (moves q ne) l n i))))))
       (rw e0 (put_all (λ j v. OwnFits a (o'.row j) (m.rows j) v) (knows a).rows y Foreign tt (λ j ne. rw (put_other o.row y Linked j ne) (g.owns a j))))
       (pages owned)
       (rw (e2, e3, e4, e5, e6) (record { seen_fits = mine'.seen_fits; learnt_fits = mine'.learnt_fits; roots_fit = mine'.roots_fit; heads_fit = mine'.heads_fit; orders_fit = mine'.orders_fit; linked_fits = link_kept o o' m m' g.closed kept ps k.linked link }))

@@ -18,7 +18,7 @@ use Rattle.tree_law.specs.Phase.{Stage, Fresh, Indexed, Held, Removed, Merged, P
 use Rattle.tree_law.specs.Put.{put}
 use Rattle.tree_law.specs.Shared.{Shared}
 use Rattle.tree_law.specs.Owners.{IsChain, Owner, Free, Spare, Linked, Owners, Reached, Forward, ChainNames, IsLinked, OwnFits, PageFits, OwnsPages, IsCleared, leaf_map, Spells, HeadFits, LinkFits, InOrder, OrderFits, Knows}
-use Rattle.tree_law.specs.Tree.{spec, Page, InPlace, IsPart, HasPage, Level, IsOff, Off, Exact, Tree, Good}
+use Rattle.tree_law.specs.Tree.{spec, Page, InPlace, IsPart, HasPage, Level, IsOff, IsOut, Off, Exact, Tree, Good}
 use Rattle.std.specs.Ordering.{is_eq}
 use Rattle.bw_model.specs.Bytes.{key_cmp}
 use Rattle.tree_law.specs.Discipline.{HasRead, MayRoot, root_over}
@@ -55,8 +55,8 @@ module _ {m : Shared} {log : List Update} {o : Owners} {knows : ℕ → Knowledg
               (λ i. subst (λ (n : ℕ). Level o' m' n (spec log o'.index n) y) (sym i) top_level)
               (λ ne. level_kept o o' m m' l (spec log o.index l) (spec log o'.index l) (g.tree.first l) g.closed kept (λ q k st e on. (refl, forth q l k st e on)) (others l ne) (λ q k st e on. old_page q l k st ne e on) (g.tree.levels l (omega arith)));
           exact = exact_root o.page o.index top m.root b h.separator y was h.some (keeps_not g a y ready.0) g.tree.exact;
-          off = λ q l k. by_test q y (λ t. IsOff (cond t new (put o.page b old q)) l k → (m.slots q ≡ None) ⊎ Off o' m' q l k) (λ i e. absurd (not_off Indexed (suc top) [] l k (omega arith) e))
-              (λ i. by_test q b (λ t. IsOff (cond t old (o.page q)) l k → (m.slots q ≡ None) ⊎ Off o' m' q l k) (λ i e. absurd (not_off Indexed top h.separator l k (omega arith) e)) (λ i e. off_still g a o' m' kept q l k refl (g.tree.off q l k e)));
+          off = λ q l k. by_test q y (λ t. IsOff (cond t new (put o.page b old q)) l k → IsOut (o'.page q) (m.slots q) ⊎ Off o' m' q l k) (λ i e. absurd (not_off Indexed (suc top) [] l k (omega arith) e))
+              (λ i. by_test q b (λ t. IsOff (cond t old (o.page q)) l k → IsOut (o'.page q) (m.slots q) ⊎ Off o' m' q l k) (λ i e. absurd (not_off Indexed top h.separator l k (omega arith) e)) (λ i e. off_still g a o' m' kept q l k refl (g.tree.off q l k e)));
         })
         (put_all (λ j v. OwnFits a (o'.row j) (m.rows j) v) (knows a).rows h.base_row Foreign tt (λ j ne. rw (put_other o.row h.base_row Linked j ne) (g.owns a j)))
         (λ j. by_test j y (λ t. PageFits a (cond t new (put o.page b old j)) (m.slots j) (cond t Other ((knows a).pages j))) (λ i. tt)

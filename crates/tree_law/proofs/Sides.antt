@@ -10,7 +10,7 @@ use Rattle.tree_law.specs.Keys.{Key, IsBelow, IsUpTo, IsUnder, IsWithin, Covers}
 use Rattle.tree_law.specs.Phase.{Stage, Merged, PageOwner, Placed, rank, stage_removed}
 use Rattle.tree_law.specs.Shared.{Shared}
 use Rattle.tree_law.specs.Owners.{IsChain, Owners, Linked, IsClosed, Reached}
-use Rattle.tree_law.specs.Tree.{Page, IsPage, InPlace, IsPart, HasPage, spec, Level, Exact, IsOff, Off, Tree}
+use Rattle.tree_law.specs.Tree.{Page, IsPage, InPlace, IsPart, HasPage, spec, Level, Exact, IsOff, IsOut, Off, Tree}
 use Rattle.tree_law.proofs.KeyOrder.{not_below, not_self, below_not, below_upto, upto_below, upto_same, upto_refl, upto_both, upto_trans}
 use Rattle.tree_law.proofs.Puts.{by_test}
 use Rattle.tree_law.proofs.Chains.{chain_unique}
@@ -240,7 +240,7 @@ placed_level st st' l l' s s' e = cc
 
 -- the tree stays where its slots do
 pub tree_kept : (o o' : Owners) (m m' : Shared) (log : List Update) → IsClosed o m → Kept o o' m m' → ((p l : ℕ) (s : Key) (st : Stage) → o.page p ≡ Placed st l s → rank st ≤ 3 → Rest o o' m m' p l s st) → m'.root ≡ m.root → o'.index ≡ o.index
-    → ((p l : ℕ) (s : Key) (st : Stage) → o'.page p ≡ Placed st l s → rank st ≤ 3 → (st' : Stage) × (o.page p ≡ Placed st' l s) × (rank st' ≤ 3)) → (t : Tree o m log) → Exact o'.page o'.index t.top m'.root → ((q l : ℕ) (s : Key) → IsOff (o'.page q) l s → (m'.slots q ≡ None) ⊎ Off o' m' q l s) → Tree o' m' log
+    → ((p l : ℕ) (s : Key) (st : Stage) → o'.page p ≡ Placed st l s → rank st ≤ 3 → (st' : Stage) × (o.page p ≡ Placed st' l s) × (rank st' ≤ 3)) → (t : Tree o m log) → Exact o'.page o'.index t.top m'.root → ((q l : ℕ) (s : Key) → IsOff (o'.page q) l s → IsOut (o'.page q) (m'.slots q) ⊎ Off o' m' q l s) → Tree o' m' log
 tree_kept o o' m m' log closed kept rests root index old t exact off =
     record {
       top = t.top;
@@ -258,7 +258,7 @@ pub tree_relinked : (o o' : Owners) (m m' : Shared) (log log' : List Update) →
     → ((l : ℕ) (k : Key) → (l ≡ lv → Covers c k → ⊥) → spec log' o'.index l k ≡ spec log o.index l k)
     → (news : List Page) → IsPart o' m' lv (spec log' o'.index lv) news (Some p) (Some (low_in c)) (right_in c) (high_in c) → HasPage p news
     → ((q l : ℕ) (s : Key) (st : Stage) → o'.page q ≡ Placed st l s → rank st ≤ 3 → ((st' : Stage) × (o.page q ≡ Placed st' l s) × (rank st' ≤ 3)) ⊎ ((l ≡ lv) × HasPage q news))
-    → Exact o'.page o'.index t.top m'.root → ((q l : ℕ) (s : Key) → IsOff (o'.page q) l s → (m'.slots q ≡ None) ⊎ Off o' m' q l s) → Tree o' m' log'
+    → Exact o'.page o'.index t.top m'.root → ((q l : ℕ) (s : Key) → IsOff (o'.page q) l s → IsOut (o'.page q) (m'.slots q) ⊎ Off o' m' q l s) → Tree o' m' log'
 tree_relinked o o' m m' log log' closed kept t p lv s st e on x i c h rests root outside news new has listed exact off =
     record {
       top = t.top;
@@ -419,7 +419,7 @@ pub tree_merged : (o o' : Owners) (m m' : Shared) (log : List Update) → IsClos
     → (new : Page) → new.page ≡ p → ((g k : Page) → InPlace o m lv (spec log o.index lv) g → g.page ≡ p → InPlace o m lv (spec log o.index lv) k → right_in g.chain ≡ Some k.page → (k.page ≡ q) × IsPart o' m' lv (spec log o'.index lv) (new ∷ []) (Some p) (Some sp) (right_in k.chain) (high_in k.chain))
     → ((g : Page) → InPlace o m lv (spec log o.index lv) g → g.page ≡ p → right_in g.chain ≡ Some q)
     → ((r l : ℕ) (s : Key) (st : Stage) → o'.page r ≡ Placed st l s → rank st ≤ 3 → (r ≢ q) × ((st' : Stage) × (o.page r ≡ Placed st' l s) × (rank st' ≤ 3)))
-    → Exact o'.page o'.index t.top m'.root → ((q l : ℕ) (s : Key) → IsOff (o'.page q) l s → (m'.slots q ≡ None) ⊎ Off o' m' q l s) → Tree o' m' log
+    → Exact o'.page o'.index t.top m'.root → ((q l : ℕ) (s : Key) → IsOff (o'.page q) l s → IsOut (o'.page q) (m'.slots q) ⊎ Off o' m' q l s) → Tree o' m' log
 tree_merged o o' m m' log closed kept t p lv sp q sq st st2 ep on eq lt rests root index new is pair right old exact off =
     record {
       top = t.top;

@@ -18,7 +18,7 @@ use Rattle.tree_law.specs.Phase.{Stage, Fresh, Indexed, Held, Removed, Merged, P
 use Rattle.tree_law.specs.Put.{put}
 use Rattle.tree_law.specs.Shared.{Shared}
 use Rattle.tree_law.specs.Owners.{IsChain, Owner, Free, Spare, Linked, Owners, Reached, Forward, ChainNames, IsLinked, OwnFits, PageFits, OwnsPages, IsCleared, leaf_map, Spells, HeadFits, LinkFits, InOrder, OrderFits, Knows}
-use Rattle.tree_law.specs.Tree.{spec, Page, InPlace, IsPart, HasPage, Level, IsOff, Off, Exact, Tree, Good}
+use Rattle.tree_law.specs.Tree.{spec, Page, InPlace, IsPart, HasPage, Level, IsOff, IsOut, Off, Exact, Tree, Good}
 use Rattle.std.specs.Prelude.{not}
 use Rattle.deltas.specs.declared.record.Split.{Split as SplitOf}
 use Rattle.tree_law.specs.Discipline.{HasRead, MaySplit, base_from}
@@ -98,7 +98,7 @@ module _ {m : Shared} {log : List Update} {o : Owners} {knows : ℕ → Knowledg
         (λ q l k st. by_test q h.right (λ t. cond t (Placed Fresh (level_in c) h.separator) (o.page q) ≡ Placed st l k → rank st ≤ 3 → ((st' : Stage) × (o.page q ≡ Placed st' l k) × (rank st' ≤ 3)) ⊎ ((l ≡ level_in c) × HasPage q (record { page = p; row = y; chain = Split split ∷ c } ∷ record { page = h.right; row = h.row; chain = base ∷ [] } ∷ [])))
         (λ i e on. inr (sym (placed_level Fresh st (level_in c) l h.separator k e).0, inr (inl (sym i)))) (λ i e on. inl (st, e, on)))
         (exact_fresh o.page o.index g.tree.top m.root h.right (level_in c) h.separator (keeps_not h.right ready.0) (g.tree.exact.below p (level_in c) (low_in c) place.stage place.placed) g.tree.exact)
-        (λ q l k. by_test q h.right (λ t. IsOff (cond t (Placed Fresh (level_in c) h.separator) (o.page q)) l k → (put m.slots p (Some y) q ≡ None) ⊎ Off o' m' q l k)
+        (λ q l k. by_test q h.right (λ t. IsOff (cond t (Placed Fresh (level_in c) h.separator) (o.page q)) l k → IsOut (o'.page q) (put m.slots p (Some y) q) ⊎ Off o' m' q l k)
         (λ i e. absurd (not_off Fresh (level_in c) h.separator l k (omega arith) e))
         (λ i e. off_still g a o' m' kept q l k (put_other m.slots p (Some y) q (λ j. not_off place.stage (level_in c) (low_in c) l k place.on (subst (λ (v : PageOwner). IsOff v l k) (ap o.page j ∙ place.placed) e))) (g.tree.off q l k e))))
         (λ j. by_test j y (λ t. OwnFits a (cond t Linked (put o.row h.row Linked j)) (m.rows j) (cond t Foreign (put (knows a).rows h.row Foreign j))) (λ i. tt)

@@ -8,7 +8,7 @@ use Rattle.tree_law.specs.Keys.{Key, IsUnder, Covers}
 use Rattle.tree_law.specs.Knowledge.{Knowledge}
 use Rattle.tree_law.specs.Phase.{Stage, Fresh, Indexed, Merged, PageOwner, Nobody, Placed, Cleared, mark, rank, stage_removed, child_of}
 use Rattle.tree_law.specs.Shared.{Shared}
-use Rattle.tree_law.specs.Owners.{IsChain, Owner, Free, Linked, Owners, IsClosed, Owns, OwnsPages, leaf_map, Knows}
+use Rattle.tree_law.specs.Owners.{IsChain, Owner, Free, Linked, Owners, IsClosed, IsCleared, Owns, OwnsPages, leaf_map, Knows}
 
 -- What a level is to decide: the leaves the log, each other level the terms of the level below. So the index is a second
 -- log, and an index page is treated as a leaf is.
@@ -66,6 +66,10 @@ pub record Exact (page : ℕ → PageOwner) (index : ℕ → Key → Option Cont
 abbrev pub IsOff : PageOwner → ℕ → Key → Type 0
 IsOff w l s = (w ≡ Placed Merged l s) ⊎ ((a : ℕ) × (w ≡ Cleared a l s))
 
+-- a cleared page whose slot is empty
+abbrev pub IsOut : PageOwner → Option ℕ → Type 0
+IsOut w s = (s ≡ None) × IsCleared w
+
 -- the slot of a page that is no more on a side chain
 pub record Off (o : Owners) (m : Shared) (q l : ℕ) (s : Key) : Type 0 where
   pub row : ℕ
@@ -84,7 +88,7 @@ pub record Tree (o : Owners) (m : Shared) (log : List Update) : Type 0 where
   pub root : m.root ≡ first top
   pub levels : (l : ℕ) → l ≤ top → Level o m l (spec log o.index l) (first l)
   pub exact : Exact o.page o.index top m.root
-  pub off : (q l : ℕ) (s : Key) → IsOff (o.page q) l s → (m.slots q ≡ None) ⊎ Off o m q l s
+  pub off : (q l : ℕ) (s : Key) → IsOff (o.page q) l s → IsOut (o.page q) (m.slots q) ⊎ Off o m q l s
 
 pub record Frees (o : Owners) (m : Shared) : Type 0 where
   pub row : (r : ℕ) → m.free r ≡ true → o.row r ≡ Free
