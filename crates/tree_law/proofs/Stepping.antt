@@ -1,0 +1,346 @@
+-- Each allowed step with the memory's answer keeps the invariant.
+use Rattle.std.proofs.Common.{◌≡◌, ◌≢◌, ◌⊎◌, inl, inr, ℕ, zero, suc, ◌<◌, List, [], ◌∷◌, ◌++◌, Option, Some, None, Bool, true, false, cond, eqb, refl, sym, ap, ◌∙◌, subst, ⊎_elim}
+use Rattle.std.specs.Prelude.{IfSome, IsTrue}
+use Rattle.std.proofs.lemmas.Option.{same_Some}
+use Rattle.bw_model.specs.declared.command.Reply.{Reply}
+use Rattle.bw_model.specs.declared.step.Step.{Step as StepOf}
+use Rattle.bw_model.specs.declared.step.Step.TheVariants.{Slot, Row, Epoch, Announce, PidBits, RowBits, Place, Exchange, TakePid, TakeRow, Enter, Leave, Retire, ReusePids, ReuseRows}
+use Rattle.bw_model.specs.declared.step.Answer.{Answer}
+use Rattle.bw_model.specs.declared.step.Answer.TheVariants.{Number, Content, Whether, Done}
+use Rattle.bw_model.specs.Log.{Update, set, unset, value_in}
+use Rattle.base_page.specs.declared.item.Content.{Content as ContentOf}
+use Rattle.base_page.specs.declared.item.Content.TheVariants.{Child}
+use Rattle.deltas.specs.declared.record.Record.{Record}
+use Rattle.deltas.specs.declared.record.Record.TheVariants.{Base, Put, Delete, Split, Term, Hold, Remove, Merge, Unterm}
+use Rattle.deltas.specs.Memory.{Memory, replaced_at}
+use Rattle.chain_search.specs.Chains.{level_in, low_in, high_in, right_in}
+use Rattle.chain_search.specs.Steps.{IsAnswer, memory_after}
+use Rattle.tree_law.specs.Keys.{Key, put_key}
+use Rattle.tree_law.specs.Knowledge.{OwnRow, OwnPage, Empty, Ready, Gone, Knowledge, learn_head, learn_slot, filled, emptied, learn, finished}
+use Rattle.tree_law.specs.Discipline.{record_of, base_from, HasRead, IsMet, IsOwnBase, MayUpdate, MayConsolidate, MaySplit, MayPost, MayHold, MayRemove, MayMerge, MayUnterm, MayRoot, MayLink, MayExchange, May}
+use Rattle.tree_law.specs.Phase.{Stage, Fresh, Indexed, Held, Removed, Merged, PageOwner, Nobody, Keeps, Placed, Cleared}
+use Rattle.tree_law.specs.Phases.{Links, Exchanged}
+use Rattle.tree_law.specs.Put.{put}
+use Rattle.tree_law.specs.Shared.{Shared, row_in, slot_in, shared}
+use Rattle.tree_law.specs.Owners.{Owner, Free, Spare, Linked, Owners, OwnFits, PageFits, Reached, Spells}
+use Rattle.tree_law.specs.Tree.{Good}
+use Rattle.tree_law.specs.Next.{IsDue, Next}
+use Rattle.tree_law.proofs.Puts.{by_test, put_other}
+use Rattle.tree_law.proofs.Keeping.{idles, leaves, slot_of, met_placed}
+use Rattle.tree_law.proofs.Reading.{reads_root, reads_slot, reads_row}
+use Rattle.tree_law.proofs.Taking.{takes_row, takes_page, own_spare, places, own_slot}
+use Rattle.tree_law.proofs.Relinking.{placed_row}
+use Rattle.tree_law.proofs.Updating.{updates, consolidates, removes}
+use Rattle.tree_law.proofs.Indexing.{posts, holds, unterms}
+use Rattle.tree_law.proofs.Splitting.{splits}
+use Rattle.tree_law.proofs.Rooting.{roots}
+use Rattle.tree_law.proofs.Merging.{merges, clears}
+
+-- the slots of pages after a change of the root, and of a page's slot
+root_apart : (slots : ℕ → ℕ) (y : ℕ) → slot_in (replaced_at 0 y slots) ≡ slot_in slots
+root_apart slots y = λ d p. at p d
+  where
+    at : (p : ℕ) → slot_in (replaced_at 0 y slots) p ≡ slot_in slots p
+    at zero = refl
+    at (suc p) = ap row_in (put_other slots 0 y (suc p) (λ e. absurd (cc)))
+
+slot_put : (slots : ℕ → ℕ) (p y : ℕ) → slot_in (replaced_at (suc p) y slots) ≡ put (slot_in slots) (suc p) (row_in y)
+slot_put slots p y = λ d q. at q d
+  where
+    at : (q : ℕ) → slot_in (replaced_at (suc p) y slots) q ≡ put (slot_in slots) (suc p) (row_in y) q
+    at zero = sym (put_other (slot_in slots) (suc p) (row_in y) 0 (λ e. absurd (cc)))
+    at (suc q) = by_test (suc q) (suc p) (λ t. row_in (cond t y (slots (suc q))) ≡ cond t (row_in y) (row_in (slots (suc q)))) (λ e. refl) (λ ne. refl)
+
+-- a bit that is clear is cleared again
+cleared_again : (free : ℕ → Bool) (n : ℕ) → free n ≡ false → replaced_at n false free ≡ free
+cleared_again free n h = λ d j. at j d
+  where
+    at : (j : ℕ) → replaced_at n false free j ≡ free j
+    at j = by_test j n (λ t. cond t false (free j) ≡ free j) (λ e. sym (ap free e ∙ h)) (λ ne. refl)
+
+links_same : (a : ℕ) (u : Update) (x p : ℕ) (f : ℕ → PageOwner) → Links a (record_of u x) p f f
+links_same a (set b k v) x p f = refl
+links_same a (unset b k) x p f = refl
+
+module _ (memory : Memory) {log : List Update} {o : Owners} {knows : ℕ → Knowledge} {point : ℕ → Option (List Update)} {logs : ℕ → List (List Update)} (g : Good (shared memory) log o knows point logs) (a : ℕ) where
+  -- what a step with its answer leaves
+  abbrev pub After : Memory → StepOf Record → Answer Record → Option Reply → Type 0
+  After memory' s x r = Next a (shared memory) (shared memory') log o knows point logs s x r
+
+  same_rows : (row : ℕ) → o.row row ≡ Linked → (o.row row ≡ Linked) × (memory.rows row ≡ memory.rows row)
+  same_rows row l = (l, refl)
+
+  -- a row that was the actor's own is linked
+  linked_rows : (y : ℕ) (row : ℕ) → o.row row ≡ Linked → (put o.row y Linked row ≡ Linked) × (memory.rows row ≡ memory.rows row)
+  linked_rows y row l = (by_test row y (λ t. cond t Linked (o.row row) ≡ Linked) (λ e. refl) (λ ne. l), refl)
+
+  reads : (p n : ℕ) (r : Option Reply) → memory.slots (suc p) ≡ n → IsTrue ((knows a).roots (suc p)) ⊎ IsMet (knows a) (suc p) → After memory (Slot (suc p)) (Number n) r
+  reads p zero r e met = record { update = None; due = tt; last = λ i. refl; owners = o; phased = refl; kept = same_rows; good = idles g a (finished (knows a) r) refl refl refl refl refl refl refl refl }
+  reads p (suc n) r e met =
+      let here = met_placed g a (suc p) met in
+      let held : slot_in memory.slots (suc p) ≡ Some (suc n) = ap row_in e in
+      ⊎_elim
+      (λ (u : slot_in memory.slots (suc p) ≡ None). absurd (let f = sym held ∙ u in cc))
+      (λ (u : (x : ℕ) × (slot_in memory.slots (suc p) ≡ Some x) × (h : Spells o (shared memory) x log) × Reached 0 (level_in h.chain) (low_in h.chain) (o.page (suc p))).
+      record {
+        update = None;
+        due = tt;
+        last = λ i. refl;
+        owners = o;
+        phased = refl;
+        kept = same_rows;
+        good = subst (λ (v : ℕ). Good (shared memory) log o (put knows a (finished (learn_head (suc p) v (knows a)) r)) (put point a (point a)) (put logs a (log ∷ logs a)))
+            (same_Some u.0 (suc n) (sym u.1 ∙ held))
+            (reads_slot g a (suc p) u.0 u.1 u.2 u.3 r);
+      })
+      (slot_of g a (suc p) here.0 here.1 here.2)
+
+  takes : (q : ℕ) (r : Option Reply) (t : Bool) → memory.free_rows q ≡ t → After (memory_after a (TakeRow q) memory) (TakeRow q) (Whether t) r
+  takes q r true e = record {
+    update = None;
+    due = tt;
+    last = λ i. refl;
+    owners = record o { row = put o.row q (Spare a) };
+    phased = refl;
+    kept = λ row l. (put_other o.row q (Spare a) row (λ i. absurd (let f = g.frees.row q e in let l' = sym (ap o.row i) ∙ l in cc)) ∙ l, refl);
+    good = takes_row g a q e r;
+  }
+  takes q r false e = record {
+    update = None;
+    due = tt;
+    last = λ i. refl;
+    owners = o;
+    phased = refl;
+    kept = same_rows;
+    good = subst (λ (f : ℕ → Bool). Good (record (shared memory) { free = f }) log o (put knows a (finished (knows a) r)) (put point a (point a)) (put logs a (log ∷ logs a))) (sym (cleared_again memory.free_rows q e)) (idles g a (finished (knows a) r) refl refl refl refl refl refl refl refl);
+  }
+
+  takes_pid : (q : ℕ) (r : Option Reply) (t : Bool) → memory.free_pids q ≡ t → After (memory_after a (TakePid q) memory) (TakePid q) (Whether t) r
+  takes_pid q r true e = record { update = None; due = tt; last = λ i. refl; owners = record o { page = put o.page q (Keeps a) }; phased = refl; kept = same_rows; good = takes_page g a q e r }
+  takes_pid q r false e = record {
+    update = None;
+    due = tt;
+    last = λ i. refl;
+    owners = o;
+    phased = refl;
+    kept = same_rows;
+    good = subst (λ (f : ℕ → Bool). Good (record (shared memory) { free_pages = f }) log o (put knows a (finished (knows a) r)) (put point a (point a)) (put logs a (log ∷ logs a))) (sym (cleared_again memory.free_pids q e)) (idles g a (finished (knows a) r) refl refl refl refl refl refl refl refl);
+  }
+
+  -- an exchange that lost teaches nothing
+  loses : (p x y : ℕ) (r : Option Reply) → After memory (Exchange p x y) (Whether false) r
+  loses p x y r = record { update = None; due = tt; last = λ i. refl; owners = o; phased = refl; kept = same_rows; good = idles g a (finished (knows a) r) refl refl refl refl refl refl refl refl }
+
+  module _ (p x y : ℕ) (r : Option Reply) (s : slot_in memory.slots (suc p) ≡ Some (suc x)) where
+    -- the memory in which the row is linked on the page
+    abbrev pub Linking : Type 0
+    Linking = Next a (shared memory) (record (shared memory) { slots = put (slot_in memory.slots) (suc p) (Some (suc y)) }) log o knows point logs (Exchange (suc p) (suc x) (suc y)) (Whether true) r
+
+    by_update : MayUpdate a (knows a) (suc p) (suc x) (suc y) → Linking
+    by_update h = let n = updates g a (suc p) (suc x) (suc y) s h r in record {
+      update = Some h.update;
+      due = (h.command, h.going, n.1);
+      last = λ i. absurd (cc);
+      owners = record o { row = put o.row (suc y) Linked };
+      phased = (record_of h.update (suc x), placed_row g a (suc y) (record_of h.update (suc x)) h.placed, links_same a h.update (suc x) (suc p) o.page);
+      kept = linked_rows (suc y);
+      good = n.0;
+    }
+
+    by_base : MayConsolidate (knows a) (suc p) (suc x) (suc y) → Linking
+    by_base h = record {
+      update = None;
+      due = tt;
+      last = λ i. refl;
+      owners = record o { row = put o.row (suc y) Linked };
+      phased = (base_from h.basis.chain (low_in h.basis.chain) h.items, placed_row g a (suc y) (base_from h.basis.chain (low_in h.basis.chain) h.items) h.placed, refl);
+      kept = linked_rows (suc y);
+      good = consolidates g a (suc p) (suc x) (suc y) s h r;
+    }
+
+    by_split : MaySplit (knows a) (suc p) (suc x) (suc y) → Linking
+    by_split h = let n = splits g a (suc p) (suc x) (suc y) s h r in record {
+      update = None;
+      due = tt;
+      last = λ i. refl;
+      owners = record { row = put (put o.row h.row Linked) (suc y) Linked; page = put o.page h.right (Placed Fresh (level_in h.basis.chain) h.separator); index = o.index };
+      phased = (
+        Split (record { level = level_in h.basis.chain; next = suc x; separator = h.separator; page = h.right }),
+        placed_row g a (suc y) (Split (record { level = level_in h.basis.chain; next = suc x; separator = h.separator; page = h.right })) h.placed,
+        (n.1.0, level_in h.basis.chain, low_in h.basis.chain, n.1.1, n.1.2, refl),
+      );
+      kept = λ row l. (by_test row (suc y) (λ t. cond t Linked (put o.row h.row Linked row) ≡ Linked) (λ e. refl) (λ ne. (linked_rows h.row row l).0), refl);
+      good = n.0;
+    }
+
+    by_post : MayPost (knows a) (suc p) (suc x) (suc y) → Linking
+    by_post h = let n = posts g a (suc p) (suc x) (suc y) s h r in record {
+      update = None;
+      due = tt;
+      last = λ i. refl;
+      owners = record { row = put o.row (suc y) Linked; page = put o.page h.child (Placed Indexed (level_in h.below.chain) (low_in h.below.chain)); index = put o.index (level_in h.below.chain) (put_key (o.index (level_in h.below.chain)) (low_in h.below.chain) (Some (Child h.child false))) };
+      phased = (
+        Term (record { level = level_in h.basis.chain; next = suc x; separator = low_in h.below.chain; child = h.child }),
+        placed_row g a (suc y) (Term (record { level = level_in h.basis.chain; next = suc x; separator = low_in h.below.chain; child = h.child })) h.placed,
+        (level_in h.below.chain, n.1, refl),
+      );
+      kept = linked_rows (suc y);
+      good = n.0;
+    }
+
+    by_hold : MayHold (knows a) (suc p) (suc x) (suc y) → Linking
+    by_hold h = let n = holds g a (suc p) (suc x) (suc y) s h r in record {
+      update = None;
+      due = tt;
+      last = λ i. refl;
+      owners = record { row = put o.row (suc y) Linked; page = put o.page h.child (Placed Held h.level h.key); index = put o.index h.level (put_key (o.index h.level) h.key (Some (Child h.child true))) };
+      phased = (
+        Hold (record { level = level_in h.basis.chain; next = suc x; separator = h.key; child = h.child }),
+        placed_row g a (suc y) (Hold (record { level = level_in h.basis.chain; next = suc x; separator = h.key; child = h.child })) h.placed,
+        (h.level, n.1, refl),
+      );
+      kept = linked_rows (suc y);
+      good = n.0;
+    }
+
+    by_remove : MayRemove (knows a) (suc p) (suc x) (suc y) → Linking
+    by_remove h = let n = removes g a (suc p) (suc x) (suc y) s h r in record {
+      update = None;
+      due = tt;
+      last = λ i. refl;
+      owners = record { row = put o.row (suc y) Linked; page = put o.page (suc p) (Placed Removed (level_in h.basis.chain) (low_in h.basis.chain)); index = o.index };
+      phased = (
+        Remove (record { level = level_in h.basis.chain; next = suc x }),
+        placed_row g a (suc y) (Remove (record { level = level_in h.basis.chain; next = suc x })) h.placed,
+        (level_in h.basis.chain, low_in h.basis.chain, n.1, refl),
+      );
+      kept = linked_rows (suc y);
+      good = n.0;
+    }
+
+    by_merge : MayMerge (knows a) (suc p) (suc x) (suc y) → Linking
+    by_merge h =
+        let n = merges g a (suc p) (suc x) (suc y) s h r in
+        let w : Record = Merge (record { level = level_in h.basis.chain; next = suc x; low = low_in h.chain; high = high_in h.chain; right = right_in h.chain; items = h.items }) in
+        record {
+          update = None;
+          due = tt;
+          last = λ i. refl;
+          owners = record { row = put o.row (suc y) Linked; page = put o.page h.other (Placed Merged (level_in h.basis.chain) (low_in h.chain)); index = o.index };
+          phased = (w, placed_row g a (suc y) w h.placed, (h.other, level_in h.basis.chain, n.1, refl));
+          kept = linked_rows (suc y);
+          good = n.0;
+        }
+
+    by_unterm : MayUnterm (knows a) (suc p) (suc x) (suc y) → Linking
+    by_unterm h = let n = unterms g a (suc p) (suc x) (suc y) s h r in record {
+      update = None;
+      due = tt;
+      last = λ i. refl;
+      owners = record { row = put o.row (suc y) Linked; page = put o.page h.child (Cleared a (level_in h.below.chain) h.key); index = put o.index (level_in h.below.chain) (put_key (o.index (level_in h.below.chain)) h.key None) };
+      phased = (
+        Unterm (record { level = level_in h.basis.chain; next = suc x; separator = h.key; child = h.child }),
+        placed_row g a (suc y) (Unterm (record { level = level_in h.basis.chain; next = suc x; separator = h.key; child = h.child })) h.placed,
+        (level_in h.below.chain, n.1, refl),
+      );
+      kept = linked_rows (suc y);
+      good = n.0;
+    }
+
+    by_link : MayLink a (knows a) (suc p) (suc x) (suc y) → Linking
+    by_link (inl h) = by_update h
+    by_link (inr (inl h)) = by_base h
+    by_link (inr (inr (inl h))) = by_split h
+    by_link (inr (inr (inr (inl h)))) = by_post h
+    by_link (inr (inr (inr (inr (inl h))))) = by_hold h
+    by_link (inr (inr (inr (inr (inr (inl h)))))) = by_remove h
+    by_link (inr (inr (inr (inr (inr (inr (inl h))))))) = by_merge h
+    by_link (inr (inr (inr (inr (inr (inr (inr h))))))) = by_unterm h
+
+  own_kept : (p : ℕ) (v : OwnPage) → (knows a).pages p ≡ v → PageFits a (o.page p) (slot_in memory.slots p) v
+  own_kept p v e = subst (λ (w : OwnPage). PageFits a (o.page p) (slot_in memory.slots p) w) e (g.owns_pages a p)
+
+  -- an exchange of a page's slot that won
+  exchanges : (p x y : ℕ) (r : Option Reply) → slot_in memory.slots (suc p) ≡ row_in x → MayExchange a (knows a) (suc p) x y → Next a (shared memory) (record (shared memory) { slots = put (slot_in memory.slots) (suc p) (row_in y) }) log o knows point logs (Exchange (suc p) x y) (Whether true) r
+  exchanges p zero zero r s h = absurd h
+  exchanges p zero (suc y) r s h = record {
+    update = None;
+    due = tt;
+    last = λ i. refl;
+    owners = o;
+    phased = (refl, (own_kept (suc p) Empty h.0).0);
+    kept = same_rows;
+    good = subst (λ (v : OwnPage). Good (record (shared memory) { slots = put (slot_in memory.slots) (suc p) (Some (suc y)) }) log o (put knows a (finished (filled v (suc p) zero (suc y) (knows a)) r)) (put point a (point a)) (put logs a (log ∷ logs a))) (sym h.0)
+        (own_slot g a (suc p) (Some (suc y)) (Ready (suc y)) (own_kept (suc p) Empty h.0).0 ((own_kept (suc p) Empty h.0).0, refl) (finished (filled Empty (suc p) zero (suc y) (knows a)) r) refl refl refl refl refl refl refl refl);
+  }
+  exchanges p (suc x) zero r s (inl h) = record {
+    update = None;
+    due = tt;
+    last = λ i. refl;
+    owners = o;
+    phased = (refl, inl (own_kept (suc p) (Ready (suc x)) h).0);
+    kept = same_rows;
+    good = subst (λ (v : OwnPage). Good (record (shared memory) { slots = put (slot_in memory.slots) (suc p) None }) log o (put knows a (finished (emptied v (suc p) (knows a)) r)) (put point a (point a)) (put logs a (log ∷ logs a))) (sym h)
+        (own_slot g a (suc p) None Empty (own_kept (suc p) (Ready (suc x)) h).0 ((own_kept (suc p) (Ready (suc x)) h).0, refl) (finished (emptied (Ready (suc x)) (suc p) (knows a)) r) refl refl refl refl refl refl refl refl);
+  }
+  exchanges p (suc x) zero r s (inr h) = record {
+    update = None;
+    due = tt;
+    last = λ i. refl;
+    owners = o;
+    phased = (refl, inr (own_kept (suc p) Gone h));
+    kept = same_rows;
+    good = clears g a (suc p) (suc x) s h r;
+  }
+  exchanges p (suc x) (suc y) r s h = by_link p x y r s h
+
+  -- an exchange of slot 0 that won
+  exchanges_root : (x y : ℕ) (r : Option Reply) → memory.slots 0 ≡ x → MayRoot (knows a) x y → Next a (shared memory) (record (shared memory) { root = y }) log o knows point logs (Exchange 0 x y) (Whether true) r
+  exchanges_root x y r s h = let n = roots g a x y s h r in record {
+    update = None;
+    due = tt;
+    last = λ i. refl;
+    owners = record {
+      row = put o.row h.base_row Linked;
+      page = put (put o.page h.right (Placed Indexed g.tree.top h.separator)) y (Placed Indexed (suc g.tree.top) []);
+      index = put o.index g.tree.top (put_key (put_key (λ k. None) h.separator (Some (Child h.right false))) [] (Some (Child (memory.slots 0) false)));
+    };
+    phased = (h.right, g.tree.top, h.separator, n.1.0, n.1.1, n.1.2, refl);
+    kept = linked_rows h.base_row;
+    good = n.0;
+  }
+
+  exchange : (p x y : ℕ) (r : Option Reply) → MayExchange a (knows a) p x y → After (memory_after a (Exchange p x y) memory) (Exchange p x y) (Whether (eqb (memory.slots p) x)) r
+  exchange zero x y r h = by_test (memory.slots 0) x (λ t. After (record memory { slots = cond t (replaced_at 0 y memory.slots) memory.slots }) (Exchange 0 x y) (Whether t) r)
+      (λ e. subst (λ (f : ℕ → Option ℕ). Next a (shared memory) (record (shared memory) { root = y; slots = f }) log o knows point logs (Exchange 0 x y) (Whether true) r) (sym (root_apart memory.slots y)) (exchanges_root x y r e h))
+      (λ ne. loses 0 x y r)
+  exchange (suc p) x y r h = by_test (memory.slots (suc p)) x (λ t. After (record memory { slots = cond t (replaced_at (suc p) y memory.slots) memory.slots }) (Exchange (suc p) x y) (Whether t) r)
+      (λ e. subst (λ (n : ℕ). Next a (shared memory) (record (shared memory) { root = n; slots = slot_in (replaced_at (suc p) y memory.slots) }) log o knows point logs (Exchange (suc p) x y) (Whether true) r) (sym (put_other memory.slots (suc p) y 0 (λ i. absurd (cc))))
+      (subst (λ (f : ℕ → Option ℕ). Next a (shared memory) (record (shared memory) { slots = f }) log o knows point logs (Exchange (suc p) x y) (Whether true) r) (sym (slot_put memory.slots p y)) (exchanges p x y r (ap row_in e) h)))
+      (λ ne. loses (suc p) x y r)
+
+  pub step : (s : StepOf Record) (r : Option Reply) → May a (knows a) s → (x : Answer Record) → IsAnswer memory s x → After (memory_after a s memory) s x r
+  step (Slot zero) r h x e = subst (λ (v : Answer Record). After memory (Slot zero) v r) (sym e) (record { update = None; due = tt; last = λ i. refl; owners = o; phased = refl; kept = same_rows; good = reads_root g a r })
+  step (Slot (suc p)) r h x e = subst (λ (v : Answer Record). After memory (Slot (suc p)) v r) (sym e) (reads p (memory.slots (suc p)) r refl h.1)
+  step (Row q) r h x e = subst (λ (v : Answer Record). After memory (Row q) v r) (sym e.2) (record { update = None; due = tt; last = λ i. refl; owners = o; phased = refl; kept = same_rows; good = reads_row g a q e.0 h.1 e.1 r })
+  step Epoch r h x e = record { update = None; due = tt; last = λ i. refl; owners = o; phased = refl; kept = same_rows; good = idles g a (finished (knows a) r) refl refl refl refl refl refl refl refl }
+  step (Announce b) r h x e = record { update = None; due = tt; last = λ i. refl; owners = o; phased = refl; kept = same_rows; good = idles g a (finished (knows a) r) refl refl refl refl refl refl refl refl }
+  step (PidBits w) r h x e = subst (λ (v : Answer Record). After memory (PidBits w) v r) (sym e.2) (record { update = None; due = tt; last = λ i. refl; owners = o; phased = refl; kept = same_rows; good = idles g a (finished (learn (knows a) (PidBits w) (Number e.0)) r) refl refl refl refl refl refl refl refl })
+  step (RowBits w) r h x e = subst (λ (v : Answer Record). After memory (RowBits w) v r) (sym e.2) (record { update = None; due = tt; last = λ i. refl; owners = o; phased = refl; kept = same_rows; good = idles g a (finished (learn (knows a) (RowBits w) (Number e.0)) r) refl refl refl refl refl refl refl refl })
+  step (Place q w) r h x e = subst (λ (v : Answer Record). After (memory_after a (Place q w) memory) (Place q w) v r) (sym e) (record {
+    update = None;
+    due = tt;
+    last = λ i. refl;
+    owners = o;
+    phased = refl;
+    kept = λ row l. (l, put_other memory.rows q (Some w) row (λ i. absurd (let f = own_spare g a q ((knows a).rows q) (g.owns a q) h.1 in let l' = sym (ap o.row i) ∙ l in cc)));
+    good = places g a q w h.1 r;
+  })
+  step (Exchange p old y) r h x e = subst (λ (v : Answer Record). After (memory_after a (Exchange p old y) memory) (Exchange p old y) v r) (sym e) (exchange p old y r h.1)
+  step (TakePid q) r h x e = subst (λ (v : Answer Record). After (memory_after a (TakePid q) memory) (TakePid q) v r) (sym e) (takes_pid q r (memory.free_pids q) refl)
+  step (TakeRow q) r h x e = subst (λ (v : Answer Record). After (memory_after a (TakeRow q) memory) (TakeRow q) v r) (sym e) (takes q r (memory.free_rows q) refl)
+  step (Enter n) r h x e = record { update = None; due = tt; last = λ i. refl; owners = o; phased = refl; kept = same_rows; good = idles g a (finished (learn (knows a) (Enter n) x) r) refl refl refl refl refl refl refl refl }
+  step Leave r h x e = subst (λ (v : Answer Record). After (memory_after a Leave memory) Leave v r) (sym e) (record { update = None; due = tt; last = λ i. refl; owners = o; phased = refl; kept = same_rows; good = leaves g a r })
+  step (Retire n) r h x e = absurd h
+  step (ReusePids w b) r h x e = absurd h
+  step (ReuseRows w b) r h x e = absurd h
