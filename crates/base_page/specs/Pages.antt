@@ -1,5 +1,5 @@
 -- What a page is, and what it has at a key.
-use Rattle.std.specs.Prelude.{◌≡◌, ◌≤◌, ◌<◌, ℕ, List, [], ◌∷◌, Bool, false, if◌then◌else◌, Option, None, Some, IsTrue, length, map}
+use Rattle.std.specs.Prelude.{◌≡◌, ◌≤◌, ◌<◌, ℕ, List, [], ◌∷◌, Bool, true, false, if◌then◌else◌, Option, None, Some, IsTrue, length, map}
 use Rattle.std.specs.List.{All}
 use Rattle.std.specs.List.Sorted.{IsStrictlySortedBy}
 use Rattle.std.specs.Ordering.{is_eq}
@@ -21,6 +21,23 @@ pub record Page : Type 0 where
 abbrev pub content_at : List Item → List ℕ → Option Content
 content_at [] key = None
 content_at (item ∷ items) key = if is_eq (key_cmp key item.key) then Some item.content else content_at items key
+
+-- the value that a content is, and the child; none where it is the other
+abbrev pub value_in : Option Content → Option (List ℕ)
+value_in (Some (Value value)) = Some value
+value_in (Some (Child page held)) = None
+value_in None = None
+
+abbrev pub child_in : Option Content → Option ℕ
+child_in (Some (Value value)) = None
+child_in (Some (Child page held)) = Some page
+child_in None = None
+
+-- the same content, held where it is a child
+abbrev pub held : Option Content → Option Content
+held (Some (Value value)) = Some (Value value)
+held (Some (Child page mark)) = Some (Child page true)
+held None = None
 
 -- each item's key is below those after it
 abbrev pub IsAscending : List Item → Type 0

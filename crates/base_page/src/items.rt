@@ -1,9 +1,14 @@
 //! The ordered items of one page.
-ghost use Rattle.std.specs.Prelude.{◌≡◌, ◌≤◌, ◌==◌, [], length};
+ghost use Rattle.std.specs.Prelude.{◌≡◌, ◌+◌, ◌<◌, ◌≤◌, ◌==◌, [], ℕ, List, Some, None, if◌then◌else◌, length, is_some, option_copied, IfOk, IfErr};
+ghost use Rattle.std.specs.Ordering.{is_eq};
+ghost use Rattle.bw_model.specs.Bytes.{key_cmp};
+ghost use Rattle.base_page.specs.Pages.{content_at};
+ghost use Rattle.base_page.specs.Places.{IsAt, IsGap};
 ghost use Rattle.base_page.specs.declared.items.TheConstants.{MAX_ITEMS};
 
-use crate::Item;
+use crate::{Content, Item};
 use arrayvec::ArrayVec;
+use bw_model::Key;
 use std::alloc::AllocError;
 use std::marker::Model;
 
@@ -72,6 +77,50 @@ impl Items {
             items.push(item.copied());
         }
         Items { items }
+    }
+}
+
+impl Items {
+    /// What the items have at the key.
+    pub fn find(&self, key: &Key) -> Option<&Content>
+        ensures { option_copied result ≡ content_at self.now key.now }
+    {
+        match self.place_of(key) {
+            Ok(place) => Some(&self.items.as_slice()[place].content),
+            Err(_) => None,
+        }
+    }
+
+    /// Gives the key the content, in place of what it had.
+    pub fn put(&mut self, key: Key, content: Content)
+        requires { content_at self.old key ≡ None → length self.old < MAX_ITEMS }
+        ensures contents { (q : List ℕ) → content_at self.new q ≡ (if is_eq (key_cmp q key) then Some content else content_at self.old q) }
+        ensures count { length self.new ≡ (if is_some (content_at self.old key) then length self.old else length self.old + 1) }
+    {
+        match self.place_of(&key) {
+            Ok(place) => self.items[place] = Item { key, content },
+            Err(place) => self.items.insert(place, Item { key, content }),
+        }
+    }
+
+    /// Takes away what the key has.
+    pub fn remove(&mut self, key: &Key)
+        ensures contents { (q : List ℕ) → content_at self.new q ≡ (if is_eq (key_cmp q key.now) then None else content_at self.old q) }
+        ensures count { length self.old ≡ (if is_some (content_at self.old key.now) then length self.new + 1 else length self.new) }
+    {
+        if let Ok(place) = self.place_of(key) {
+            self.items.remove(place);
+        }
+    }
+
+    /// Where the key stands, or where it would stand.
+    pub(crate) fn place_of(&self, key: &Key) -> Result<usize, usize>
+        ensures found { IfOk result (IsAt self.now key.now) }
+        ensures absent { IfErr result (IsGap self.now key.now) }
+    {
+        self.items
+            .as_slice()
+            .binary_search_by(|item| item.key.cmp(key))
     }
 }
 
