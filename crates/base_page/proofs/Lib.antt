@@ -1,3 +1,4 @@
 pub mod ItemLaws
 pub mod KeyLaws
-mod PlaceLaws
+pub mod PageLaws
+pub mod PlaceLaws

@@ -10,7 +10,7 @@ use Rattle.std.proofs.lemmas.List.{take-append-drop, take_at, drop_more, get_or-
 use Rattle.std.proofs.lemmas.List.Edits.{length-insert, length-remove}
 use Rattle.std.proofs.lemmas.List.Sorted.{searchable_from_sorted}
 use Rattle.std.proofs.lemmas.Map.Keys.{Less-from_sorted}
-use Rattle.std.proofs.lemmas.List.{length-map}
+use Rattle.std.proofs.lemmas.List.{length-map, length-take, length-drop}
 use Rattle.bw_model.specs.Bytes.{key_cmp}
 use Rattle.base_page.specs.declared.item.Content.{Content}
 use Rattle.base_page.specs.declared.item.Content.TheVariants.{Child}
@@ -157,3 +157,13 @@ module _ (items : List Item) (key : List ℕ) (place : ℕ) (gap : IsGap items k
     few = omega (arith, length-insert items place (record { key = key; content = content }) gap.within);
     ascending = IsAscending-from _ (inserted_ascends (take place items) (drop place items) (record { key = key; content = content }) gap.below gap.above (subst Ascends (sym (take-append-drop place items)) (Ascends-from items are.ascending)));
   }
+
+module _ (items : List Item) (are : AreItems items) (place : ℕ) where
+  both : Ascends (take place items ++ drop place items)
+  both = subst Ascends (sym (take-append-drop place items)) (Ascends-from items are.ascending)
+
+  pub AreItems-take : AreItems (take place items)
+  AreItems-take = record { few = omega (arith, length-take place items, are.few); ascending = IsAscending-from _ (front_ascends (take place items) (drop place items) both) }
+
+  pub AreItems-drop : AreItems (drop place items)
+  AreItems-drop = record { few = omega (arith, length-drop place items, are.few); ascending = IsAscending-from _ (back_ascends (take place items) (drop place items) both) }

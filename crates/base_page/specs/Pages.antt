@@ -53,8 +53,9 @@ pub record AreItems (items : List Item) : Type 0 where
   pub few : length items ≤ 24
   pub ascending : IsAscending items
 
--- Each item is in the range, and of the page's level.
+-- The items are few and in order, and each is in the range and of the page's level.
 pub record IsPage (page : Page) : Type 0 where
+  pub ordered : AreItems page.items
   pub within : All (λ item. IsTrue (is_in_range page.low page.high item.key)) page.items
   pub kinds : All (λ item. IsOfLevel page.level item.content) page.items
 

@@ -1,8 +1,8 @@
 //! The ordered items of one page.
-ghost use Rattle.std.specs.Prelude.{◌≡◌, ◌+◌, ◌<◌, ◌≤◌, ◌==◌, [], ℕ, List, Some, None, if◌then◌else◌, length, is_some, option_copied, IfOk, IfErr};
+ghost use Rattle.std.specs.Prelude.{◌≡◌, ◌+◌, ◌++◌, ◌<◌, ◌≤◌, ◌==◌, [], ℕ, List, Some, None, if◌then◌else◌, length, take, drop, is_some, option_copied, IfOk, IfErr};
 ghost use Rattle.std.specs.Ordering.{is_eq};
 ghost use Rattle.bw_model.specs.Bytes.{key_cmp};
-ghost use Rattle.base_page.specs.Pages.{content_at};
+ghost use Rattle.base_page.specs.Pages.{content_at, AreItems};
 ghost use Rattle.base_page.specs.Places.{IsAt, IsGap};
 ghost use Rattle.base_page.specs.declared.items.TheConstants.{MAX_ITEMS};
 
@@ -94,6 +94,7 @@ impl Items {
     /// Gives the key the content, in place of what it had.
     pub fn put(&mut self, key: Key, content: Content)
         requires { content_at self.old key ≡ None → length self.old < MAX_ITEMS }
+        ensures items { AreItems self.new }
         ensures contents { (q : List ℕ) → content_at self.new q ≡ (if is_eq (key_cmp q key) then Some content else content_at self.old q) }
         ensures count { length self.new ≡ (if is_some (content_at self.old key) then length self.old else length self.old + 1) }
     {
@@ -105,11 +106,38 @@ impl Items {
 
     /// Takes away what the key has.
     pub fn remove(&mut self, key: &Key)
+        ensures items { AreItems self.new }
         ensures contents { (q : List ℕ) → content_at self.new q ≡ (if is_eq (key_cmp q key.now) then None else content_at self.old q) }
         ensures count { length self.old ≡ (if is_some (content_at self.old key.now) then length self.new + 1 else length self.new) }
     {
         if let Ok(place) = self.place_of(key) {
             self.items.remove(place);
+        }
+    }
+
+    /// Keeps the items before the place, and gives those from it on.
+    pub fn split_off(&mut self, place: usize) -> Items
+        requires { place ≤ length self.old }
+        ensures front { self.new ≡ take place self.old }
+        ensures back { result ≡ drop place self.old }
+        ensures items { AreItems self.new }
+        ensures others { AreItems result }
+    {
+        let mut back = ArrayVec::new();
+        for item in &self.items.as_slice()[place..] {
+            back.push(item.copied());
+        }
+        self.items.truncate(place);
+        Items { items: back }
+    }
+
+    /// Adds the items, which are above those that stand.
+    pub fn append(&mut self, others: &Items)
+        requires { AreItems (self.old ++ others.now) }
+        ensures items { self.new ≡ self.old ++ others.now }
+    {
+        for item in others.items.as_slice() {
+            self.items.push(item.copied());
         }
     }
 

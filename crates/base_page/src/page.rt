@@ -2,6 +2,9 @@
 ghost use Rattle.std.specs.Prelude.{◌≡◌, option_copied};
 ghost use Rattle.base_page.specs.Pages.{empty_leaf};
 
+mod edits;
+mod reads;
+
 use crate::Items;
 use bw_model::Key;
 use std::alloc::AllocError;

@@ -47,3 +47,9 @@ pub returns-in-Err-clause-count : goal.returns-in-Err-clause-count
 returns-in-Err-clause-count c =
     let absent = content_at_gap c.args.self.now c.args.key c.in-Err.place c.in-Err.ensures.absent in
     rw (absent, c.insert.ensures.items, c.self.view_is) (length-insert c.args.self.now c.in-Err.place (record { key = c.args.key; content = c.args.content }) c.in-Err.ensures.absent.within)
+
+pub returns-in-Ok-clause-items : goal.returns-in-Ok-clause-items
+returns-in-Ok-clause-items c = invariant_of-self c
+
+pub returns-in-Err-clause-items : goal.returns-in-Err-clause-items
+returns-in-Err-clause-items c = invariant_of-self-in-Err c

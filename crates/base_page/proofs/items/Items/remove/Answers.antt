@@ -22,6 +22,9 @@ returns-in-Ok-clause-count c =
     let count = length-remove c.args.self.now c.in-Ok.place c.in-Ok.ensures.found.within in
     rw (there, c.remove.ensures.items, c.self.view_is) (sym count)
 
+pub returns-in_default-clause-items : goal.returns-in_default-clause-items
+returns-in_default-clause-items c = subst AreItems c.self.view_is c.self.invariant
+
 pub returns-in_default-clause-contents : goal.returns-in_default-clause-contents
 returns-in_default-clause-contents c q =
     let absent = content_at_gap c.args.self.now c.args.key.now c.in_default.field-0 c.in_default.ensures.absent in
@@ -31,3 +34,6 @@ returns-in_default-clause-contents c q =
 
 pub returns-in_default-clause-count : goal.returns-in_default-clause-count
 returns-in_default-clause-count c = rw (content_at_gap c.args.self.now c.args.key.now c.in_default.field-0 c.in_default.ensures.absent) refl
+
+pub returns-in-Ok-clause-items : goal.returns-in-Ok-clause-items
+returns-in-Ok-clause-items c = invariant_of-self c
