@@ -1,7 +1,6 @@
 -- Ascending items, and what they have at a key.
-use Rattle.std.proofs.Common.{◌≡◌, ℕ, zero, suc, ◌<◌, ◌≤◌, ◌+◌, List, [], ◌∷◌, ◌++◌, length, get_or, map, Bool, true, false, cond, Option, Some, None, refl, sym, ap, subst, ◌∙◌, arith}
-use Rattle.std.specs.Prelude.{if◌then◌else◌}
-use Rattle.std.specs.List.{All, AllByRecursion}
+use Rattle.std.proofs.Common.{◌≡◌, ℕ, List, [], ◌∷◌, ◌++◌, map, Bool, true, false, cond, Option, Some, None, refl, sym, ap, subst, ◌∙◌}
+use Rattle.std.specs.List.{AllByRecursion}
 use Rattle.std.specs.List.Sorted.{IsStrictlySortedBy}
 use Rattle.std.specs.Ordering.{is_eq}
 use Rattle.std.specs.declared.cmp.Ordering.TheVariants.{Less}
@@ -61,11 +60,11 @@ pub joined : (front back : List Item) → Ascends front → Ascends back → All
 joined [] back a b c = b
 joined (item ∷ front) back a b c = (all-append _ front back a.0 c.0, joined front back a.1 b c.1)
 
-front_all : {X : Type 0} (P : X → Type 0) (xs ys : List X) → AllByRecursion P (xs ++ ys) → AllByRecursion P xs
+pub front_all : {X : Type 0} (P : X → Type 0) (xs ys : List X) → AllByRecursion P (xs ++ ys) → AllByRecursion P xs
 front_all P [] ys a = tt
 front_all P (x ∷ xs) ys a = (a.0, front_all P xs ys a.1)
 
-back_all : {X : Type 0} (P : X → Type 0) (xs ys : List X) → AllByRecursion P (xs ++ ys) → AllByRecursion P ys
+pub back_all : {X : Type 0} (P : X → Type 0) (xs ys : List X) → AllByRecursion P (xs ++ ys) → AllByRecursion P ys
 back_all P [] ys a = a
 back_all P (x ∷ xs) ys a = back_all P xs ys a.1
 
@@ -122,17 +121,23 @@ pub of_content : (P : Item → Type 0) (items : List Item) (q : List ℕ) (conte
 of_content P [] q content all h = cc
 of_content P (item ∷ items) q content all h = either (is_eq (key_cmp q item.key))
     (λ yes.
-      let key : q ≡ item.key = same q item.key yes in
-      let is : Some item.content ≡ Some content = rw yes at h in
-      let content_is : item.content ≡ content = cc in
-      subst P (λ i. record { key = sym key i; content = content_is i }) all.0)
+    let key : q ≡ item.key = same q item.key yes in
+    let is : Some item.content ≡ Some content = rw yes at h in
+    let content_is : item.content ≡ content = cc in
+    subst P (λ i. record { key = sym key i; content = content_is i }) all.0)
     (λ no. of_content P items q content all.1 (rw no at h))
 
 pub all_contents : (P : Item → Type 0) (items : List Item) → Ascends items → ((q : List ℕ) (content : Content) → content_at items q ≡ Some content → P (record { key = q; content = content })) → AllByRecursion P items
 all_contents P [] asc f = tt
 all_contents P (item ∷ items) asc f =
-    let here : content_at (item ∷ items) item.key ≡ Some item.content = rw (itself item.key) refl in
-    (f item.key item.content here, all_contents P items asc.1 (λ q content h.
-      let above : key_cmp item.key q ≡ Less = of_content (λ other. key_cmp item.key other.key ≡ Less) items q content asc.0 h in
-      let other : is_eq (key_cmp q item.key) ≡ false = differs_above item.key q above in
-      f q content (rw other h)))
+    let here : content_at (item ∷ items) item.key ≡ Some item.content = rw (itself item.key) refl in (
+      f item.key item.content here,
+      all_contents P items asc.1 (λ q content h.
+          let above : key_cmp item.key q ≡ Less = of_content (λ other. key_cmp item.key other.key ≡ Less) items q content asc.0 h in
+          let other : is_eq (key_cmp q item.key) ≡ false = differs_above item.key q above in
+          f q content (rw other h)),
+    )
+
+pub append_front : (xs ys : List Item) (q : List ℕ) → content_at ys q ≡ None → content_at (xs ++ ys) q ≡ content_at xs q
+append_front [] ys q h = h
+append_front (item ∷ xs) ys q h = ap (λ r. cond (is_eq (key_cmp q item.key)) (Some item.content) r) (append_front xs ys q h)

@@ -1,3 +1,5 @@
+pub mod ChildLaws
+pub mod CutLaws
 pub mod ItemLaws
 pub mod KeyLaws
 pub mod PageLaws

@@ -1,5 +1,5 @@
 -- What a search finds among ascending items, and what an edit at that place does.
-use Rattle.std.proofs.Common.{◌≡◌, ℕ, zero, suc, ◌+◌, ◌<◌, ◌≤◌, List, [], ◌∷◌, ◌++◌, length, get_or, take, drop, set, map, add-one, true, false, Result, Ok, Err, IfOk, IfErr, Option, Some, None, refl, sym, ap, subst, ◌∙◌, arith}
+use Rattle.std.proofs.Common.{◌≡◌, ℕ, zero, suc, ◌+◌, ◌<◌, ◌≤◌, List, [], ◌∷◌, ◌++◌, length, get_or, take, drop, set, map, add-one, true, false, Result, Ok, Err, IfOk, IfErr, Some, None, refl, sym, ap, subst, ◌∙◌, arith}
 use Rattle.std.specs.Prelude.{if◌then◌else◌}
 use Rattle.std.specs.List.{AllByRecursion, AllWithin, insert, remove, refill}
 use Rattle.std.specs.List.Sorted.{IsSearchInRange, IsBinarySearchResult, IsSortedBy}
@@ -11,13 +11,13 @@ use Rattle.std.proofs.lemmas.List.Edits.{length-insert, length-remove}
 use Rattle.std.proofs.lemmas.List.Sorted.{searchable_from_sorted}
 use Rattle.std.proofs.lemmas.Map.Keys.{Less-from_sorted}
 use Rattle.std.proofs.lemmas.List.{length-map, length-take, length-drop}
-use Rattle.bw_model.specs.Bytes.{key_cmp}
+use Rattle.bw_model.specs.Bytes.{key_cmp, is_below}
 use Rattle.base_page.specs.declared.item.Content.{Content}
 use Rattle.base_page.specs.declared.item.Content.TheVariants.{Child}
 use Rattle.base_page.specs.declared.item.Item.{Item}
 use Rattle.base_page.specs.Pages.{content_at, AreItems, IsAscending}
-use Rattle.base_page.specs.Places.{IsAt, IsGap}
-use Rattle.base_page.proofs.KeyLaws.{above, below, itself, same, differs_above, either}
+use Rattle.base_page.specs.Places.{IsAt, IsCut, IsGap}
+use Rattle.base_page.proofs.KeyLaws.{above, below, itself, same, either}
 use Rattle.base_page.proofs.ItemLaws.{all-weaker, all-both, AllAbove, AllBelow, Ascends, Ascends-from, IsAscending-from, joined, front_ascends, back_ascends, before, lacks_below, lacks_above, append_lacks, middle_other, middle_here}
 
 within_take : {X : Type 0} (P : X → Type 0) (xs : List X) (i : ℕ) → i ≤ length xs → AllWithin P xs 0 i → AllByRecursion P (take i xs)
@@ -77,8 +77,8 @@ module _ (front back : List Item) (item : Item) (asc : Ascends (front ++ item �
   pub removed : (q : List ℕ) → content_at (front ++ back) q ≡ (if is_eq (key_cmp q item.key) then None else content_at (front ++ item ∷ back) q)
   removed q = either (is_eq (key_cmp q item.key))
       (λ yes.
-        let rest : content_at back q ≡ None = rw (same q item.key yes) (lacks_above back item.key above_item) in
-        append_lacks front back q (apart q yes) ∙ rest ∙ rw yes refl)
+      let rest : content_at back q ≡ None = rw (same q item.key yes) (lacks_above back item.key above_item) in
+      append_lacks front back q (apart q yes) ∙ rest ∙ rw yes refl)
       (λ no. sym (middle_other front back item q no) ∙ rw no refl)
 
   pub replaced_ascends : (content : Content) → Ascends (front ++ record { key = item.key; content = content } ∷ back)
@@ -167,3 +167,24 @@ module _ (items : List Item) (are : AreItems items) (place : ℕ) where
 
   pub AreItems-drop : AreItems (drop place items)
   AreItems-drop = record { few = omega (arith, length-drop place items, are.few); ascending = IsAscending-from _ (back_ascends (take place items) (drop place items) both) }
+
+-- the items before the place where a key stands, and those from there on
+module _ (items : List Item) (are : AreItems items) (key : List ℕ) (place : ℕ) (d : Item) (at : IsAt items key place) where
+  pub below_place : AllBelow key (take place items)
+  below_place = below_item (take place items) (drop (suc place) items) (record { key = key; content = (get_or items place d).content }) (around items are key place d at)
+
+  pub above_place : AllAbove key (drop (place + 1) items)
+  above_place = rw add-one (above_item (take place items) (drop (suc place) items) (record { key = key; content = (get_or items place d).content }) (around items are key place d at))
+
+  pub IsCut-at : IsCut items key place
+  IsCut-at =
+      let item_is : (get_or items place d).key ≡ key = at.found d in
+      let first : is_below (get_or items place d).key key ≡ false = rw item_is (ap is_lt (itself key)) in
+      record {
+        within = omega (arith, at.within);
+        below = below_place;
+        rest = rw (drop_more items place d at.within) (first, all-weaker _ _ (λ (item : Item) h. ap is_lt (above key item.key h)) (drop (place + 1) items) above_place);
+      }
+
+pub IsCut-gap : (items : List Item) (key : List ℕ) (place : ℕ) → IsGap items key place → IsCut items key place
+IsCut-gap items key place gap = record { within = gap.within; below = gap.below; rest = all-weaker _ _ (λ (item : Item) h. ap is_lt (above key item.key h)) (drop place items) gap.above }

@@ -3,7 +3,7 @@ use Rattle.std.specs.Prelude.{◌≡◌, ◌≤◌, ◌<◌, ℕ, List, [], ◌�
 use Rattle.std.specs.List.{All}
 use Rattle.std.specs.List.Sorted.{IsStrictlySortedBy}
 use Rattle.std.specs.Ordering.{is_eq}
-use Rattle.bw_model.specs.Bytes.{key_cmp, is_in_range}
+use Rattle.bw_model.specs.Bytes.{key_cmp, is_in_range, is_under}
 use Rattle.base_page.specs.declared.item.Content.{Content}
 use Rattle.base_page.specs.declared.item.Content.TheVariants.{Value, Child}
 use Rattle.base_page.specs.declared.item.Item.{Item}
@@ -53,8 +53,9 @@ pub record AreItems (items : List Item) : Type 0 where
   pub few : length items ≤ 24
   pub ascending : IsAscending items
 
--- The items are few and in order, and each is in the range and of the page's level.
+-- The low key is below the high one. The items are few and in order, and each is in the range and of the page's level.
 pub record IsPage (page : Page) : Type 0 where
+  pub spans : IsTrue (is_under page.low page.high)
   pub ordered : AreItems page.items
   pub within : All (λ item. IsTrue (is_in_range page.low page.high item.key)) page.items
   pub kinds : All (λ item. IsOfLevel page.level item.content) page.items

@@ -19,6 +19,12 @@ pub record IsGap (items : List Item) (key : List ℕ) (place : ℕ) : Type 0 whe
   pub below : AllByRecursion (λ item. key_cmp item.key key ≡ Less) (take place items)
   pub above : AllByRecursion (λ item. key_cmp key item.key ≡ Less) (drop place items)
 
+-- The items before the place are below the key, and those from it on are not.
+pub record IsCut (items : List Item) (key : List ℕ) (place : ℕ) : Type 0 where
+  pub within : place ≤ length items
+  pub below : AllByRecursion (λ item. key_cmp item.key key ≡ Less) (take place items)
+  pub rest : AllByRecursion (λ item. is_below item.key key ≡ false) (drop place items)
+
 -- Of the keys that pass and have a content, this one, which has the content, is the greatest.
 pub record IsGreatest (contents : List ℕ → Option Content) (passes : List ℕ → Bool) (key : List ℕ) (content : Content) : Type 0 where
   pub has : contents key ≡ Some content

@@ -2,8 +2,8 @@
 ghost use Rattle.std.specs.Prelude.{◌≡◌, ◌+◌, ◌++◌, ◌<◌, ◌≤◌, ◌==◌, [], ℕ, List, Some, None, if◌then◌else◌, length, take, drop, is_some, option_copied, IfOk, IfErr};
 ghost use Rattle.std.specs.Ordering.{is_eq};
 ghost use Rattle.bw_model.specs.Bytes.{key_cmp};
-ghost use Rattle.base_page.specs.Pages.{content_at, AreItems};
-ghost use Rattle.base_page.specs.Places.{IsAt, IsGap};
+ghost use Rattle.base_page.specs.Pages.{child_in, content_at, AreItems};
+ghost use Rattle.base_page.specs.Places.{IsAt, IsCut, IsGap};
 ghost use Rattle.base_page.specs.declared.items.TheConstants.{MAX_ITEMS};
 
 use crate::{Content, Item};
@@ -91,6 +91,16 @@ impl Items {
         }
     }
 
+    /// The child that the items have at the key, or none.
+    pub fn child_at(&self, key: &Key) -> Option<u16>
+        ensures { result ≡ child_in (content_at self.now key.now) }
+    {
+        match self.find(key) {
+            Some(Content::Child { page, .. }) => Some(*page),
+            _ => None,
+        }
+    }
+
     /// Gives the key the content, in place of what it had.
     pub fn put(&mut self, key: Key, content: Content)
         requires { content_at self.old key ≡ None → length self.old < MAX_ITEMS }
@@ -131,6 +141,14 @@ impl Items {
         Items { items: back }
     }
 
+    /// Keeps the items before the place.
+    pub fn truncate(&mut self, place: usize)
+        ensures front { self.new ≡ take place self.old }
+        ensures items { AreItems self.new }
+    {
+        self.items.truncate(place);
+    }
+
     /// Adds the items, which are above those that stand.
     pub fn append(&mut self, others: &Items)
         requires { AreItems (self.old ++ others.now) }
@@ -138,6 +156,17 @@ impl Items {
     {
         for item in others.items.as_slice() {
             self.items.push(item.copied());
+        }
+    }
+
+    /// How many items are below the key.
+    pub(crate) fn count_below(&self, key: &Key) -> usize
+        ensures { IsCut self.now key.now result }
+    {
+        let _ = &self.items;
+        match self.place_of(key) {
+            Ok(place) => place,
+            Err(place) => place,
         }
     }
 

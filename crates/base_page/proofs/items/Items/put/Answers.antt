@@ -1,12 +1,9 @@
-use Rattle.std.proofs.Common.{◌≡◌, List, ℕ, None, length, set, arith, ap, subst, sym, refl, ◌∙◌}
-use Rattle.std.specs.Prelude.{if◌then◌else◌}
+use Rattle.std.proofs.Common.{◌≡◌, List, ℕ, length, set, arith, ap, subst}
 use Rattle.std.specs.List.{refill}
-use Rattle.std.specs.Option.{is_some}
-use Rattle.std.specs.Ordering.{is_eq}
 use Rattle.std.proofs.lemmas.List.{length-set}
 use Rattle.std.proofs.lemmas.List.Edits.{length-insert}
 use Rattle.base_page.specs.declared.item.Item.{Item}
-use Rattle.base_page.specs.Pages.{content_at, AreItems}
+use Rattle.base_page.specs.Pages.{AreItems}
 use Rattle.base_page.proofs.PlaceLaws.{refilled, AreItems-set, AreItems-insert, content_at-set, content_at-insert, content_at_place, content_at_gap}
 use Rattle.base_page.proofs.items.Items.put.Goals as goal
 
@@ -38,7 +35,7 @@ pub returns-in-Ok-clause-count : goal.returns-in-Ok-clause-count
 returns-in-Ok-clause-count c =
     let there = content_at_place c.args.self.now (subst AreItems c.self.view_is c.self.invariant) c.args.key c.in-Ok.place (record { key = c.args.key; content = c.args.content }) c.in-Ok.ensures.found in
     rw (there, written c.self.inside.items.items c.deref_mut.result.now c.in-Ok.place (record { key = c.args.key; content = c.args.content }) c.deref_mut.ensures.value, c.self.view_is)
-      (length-set c.args.self.now c.in-Ok.place (record { key = c.args.key; content = c.args.content }))
+    (length-set c.args.self.now c.in-Ok.place (record { key = c.args.key; content = c.args.content }))
 
 pub returns-in-Err-clause-contents : goal.returns-in-Err-clause-contents
 returns-in-Err-clause-contents c q = rw (c.insert.ensures.items, c.self.view_is) (content_at-insert c.args.self.now c.args.key c.in-Err.place c.in-Err.ensures.absent c.args.content q)

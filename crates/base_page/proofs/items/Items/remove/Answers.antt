@@ -1,11 +1,8 @@
-use Rattle.std.proofs.Common.{◌≡◌, List, ℕ, None, length, arith, ap, refl, subst, sym, ◌∙◌}
-use Rattle.std.specs.Prelude.{if◌then◌else◌}
-use Rattle.std.specs.Option.{is_some}
+use Rattle.std.proofs.Common.{refl, subst, sym}
 use Rattle.std.specs.Ordering.{is_eq}
 use Rattle.std.proofs.lemmas.List.Edits.{length-remove}
 use Rattle.bw_model.specs.Bytes.{key_cmp}
-use Rattle.base_page.specs.declared.item.Item.{Item}
-use Rattle.base_page.specs.Pages.{content_at, AreItems}
+use Rattle.base_page.specs.Pages.{AreItems}
 use Rattle.base_page.proofs.KeyLaws.{either, same}
 use Rattle.base_page.proofs.PlaceLaws.{AreItems-remove, content_at-remove, content_at_place, content_at_gap}
 use Rattle.base_page.proofs.items.Items.remove.Goals as goal
@@ -29,8 +26,8 @@ pub returns-in_default-clause-contents : goal.returns-in_default-clause-contents
 returns-in_default-clause-contents c q =
     let absent = content_at_gap c.args.self.now c.args.key.now c.in_default.field-0 c.in_default.ensures.absent in
     either (is_eq (key_cmp q c.args.key.now))
-      (λ yes. rw (yes, same q c.args.key.now yes) absent)
-      (λ no. rw no refl)
+    (λ yes. rw (yes, same q c.args.key.now yes) absent)
+    (λ no. rw no refl)
 
 pub returns-in_default-clause-count : goal.returns-in_default-clause-count
 returns-in_default-clause-count c = rw (content_at_gap c.args.self.now c.args.key.now c.in_default.field-0 c.in_default.ensures.absent) refl

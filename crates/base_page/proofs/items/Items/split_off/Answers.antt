@@ -1,4 +1,4 @@
-use Rattle.std.proofs.Common.{◌≡◌, drop, rules, arith}
+use Rattle.std.proofs.Common.{◌≡◌, drop, arith}
 use Rattle.std.proofs.lemmas.Grind.{common_steps}
 use Rattle.base_page.proofs.PlaceLaws.{AreItems-take, AreItems-drop}
 use Rattle.base_page.proofs.items.Items.split_off.Goals as goal
