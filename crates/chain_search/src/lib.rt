@@ -2,6 +2,7 @@
 #![tactic(auto)]
 
 mod examples;
+mod free_bits;
 mod table;
 mod trace;
 
