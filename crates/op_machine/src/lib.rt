@@ -3,6 +3,7 @@
 
 mod examples;
 mod laws;
+mod link;
 
 pub use examples::{
     claimed_insert_is_refused, hurried_reuse_is_refused, insert_and_lookup_is_linearized,
@@ -13,3 +14,4 @@ pub use laws::{
     chain_is_one, knowledge_stays, late_mark_keeps_log, log_grows, one_leaf_has_the_map,
     phases_grow, run_grows, side_chain_is_one,
 };
+pub use link::exchange_link;
