@@ -4,6 +4,7 @@
 mod examples;
 mod laws;
 mod link;
+mod listing;
 
 pub use examples::{
     claimed_insert_is_refused, hurried_reuse_is_refused, insert_and_lookup_is_linearized,
@@ -15,3 +16,4 @@ pub use laws::{
     phases_grow, run_grows, side_chain_is_one,
 };
 pub use link::exchange_link;
+pub use listing::logged_pairs;
