@@ -12,8 +12,7 @@ pub use examples::{
     useless_links_are_refused,
 };
 pub use laws::{
-    chain_is_one, knowledge_stays, late_mark_keeps_log, log_grows, one_leaf_has_the_map,
-    phases_grow, run_grows, side_chain_is_one,
+    knowledge_stays, late_mark_keeps_log, log_grows, one_leaf_has_the_map, phases_grow,
 };
 pub use link::exchange_link;
 pub use listing::logged_pairs;

@@ -1,4 +1,4 @@
-use Rattle.std.proofs.Common.{◌≡◌, ◌∙◌, Some, None, option_copied, refl, subst}
+use Rattle.std.proofs.Common.{◌≡◌, ◌∙◌, Some, None, option_copied, subst}
 use Rattle.bw_model.specs.Log.{updated_value}
 use Rattle.op_machine.proofs.PairLaws.{noted}
 use Rattle.op_machine.proofs.listing.note.Goals as goal
