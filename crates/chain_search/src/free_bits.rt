@@ -16,7 +16,8 @@ fn with_bit(bits: u64, i: u32, set: bool) -> u64
 /// The word of the numbers from 64 times its place on: a bit is set where the number is free.
 pub(crate) fn word_of(free: &[bool], word: u8) -> u64
     requires { 64 * word + 64 ≤ length free.now }
-    ensures { (i : ℕ) → i < 64 → bit_at result i ≡ (if slice_index_or free.now (64 * word + i) false then 1 else 0) }
+    ensures { (i : ℕ) → i < 64
+        → bit_at result i ≡ (if slice_index_or free.now (64 * word + i) false then 1 else 0) }
 {
     let from = 64 * usize::from(word);
     let mut bits: u64 = 0;
@@ -30,7 +31,8 @@ pub(crate) fn word_of(free: &[bool], word: u8) -> u64
 pub(crate) fn set_free(free: &mut [bool], word: u8, bits: u64)
     requires { 64 * word + 64 ≤ length free.old }
     ensures size { length free.new ≡ length free.old }
-    ensures each { (n : ℕ) → n < length free.old → slice_index_or free.new n false ≡ (slice_index_or free.old n false || is_among word bits n) }
+    ensures each { (n : ℕ) → n < length free.old
+        → slice_index_or free.new n false ≡ (slice_index_or free.old n false || is_among word bits n) }
 {
     let from = 64 * usize::from(word);
     for i in 0..64u32 {

@@ -12,7 +12,8 @@ use deltas::Record;
 pub fn exchange_link(table: &Table, slot: u16, old: u16, new: u16) -> Option<Link>
     requires old { old < vec_len table.now.rows }
     requires new { new < vec_len table.now.rows }
-    ensures { (memory : Memory) → Keeps table.now memory → result ≡ link_of memory slot old new }
+    ensures { (memory : Memory) → Keeps table.now memory
+        → result ≡ link_of memory slot old new }
 {
     if slot == 0 {
         return Some(Link::Root);

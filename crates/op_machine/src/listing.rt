@@ -17,7 +17,8 @@ pub fn logged_pairs(
     low: &Key,
     high: Option<&Key>,
 ) -> Result<Vec<(Key, Value)>, AllocError>
-    ensures { IfOk result (λ pairs. IsPairsOf log.now low.now (option_copied high.entry) pairs.items) }
+    ensures { IfOk result (λ pairs.
+        IsPairsOf log.now low.now (option_copied high.entry) pairs.items) }
 {
     let mut values = BTreeMap::new(alloc);
     for update in log {
@@ -49,7 +50,8 @@ fn is_inside(key: &Key, low: &Key, high: Option<&Key>) -> bool
 /// Takes the update into the values.
 fn note(values: &mut BTreeMap<Key, Value>, update: &Update) -> Result<(), AllocError>
     ensures ordered { OnOk result (IsOrdered key_cmp values.new) }
-    ensures noted { OnOk result ((key : List ℕ) → get key_cmp values.new key ≡ (if is_eq (key_cmp key (updated_key update.now)) then updated_value update.now else get key_cmp values.old key)) }
+    ensures noted { OnOk result ((key : List ℕ) → get key_cmp values.new key
+        ≡ (if is_eq (key_cmp key (updated_key update.now)) then updated_value update.now else get key_cmp values.old key)) }
 {
     match update.value() {
         Some(value) => {
