@@ -9,3 +9,4 @@ pub mod PageLife
 pub mod RowReuse
 pub mod Refused
 pub mod ClaimedInsert
+pub mod PairLaws

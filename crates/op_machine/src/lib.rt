@@ -3,6 +3,8 @@
 
 mod examples;
 mod laws;
+mod link;
+mod listing;
 
 pub use examples::{
     claimed_insert_is_refused, hurried_reuse_is_refused, insert_and_lookup_is_linearized,
@@ -10,6 +12,7 @@ pub use examples::{
     useless_links_are_refused,
 };
 pub use laws::{
-    chain_is_one, knowledge_stays, late_mark_keeps_log, log_grows, one_leaf_has_the_map,
-    phases_grow, run_grows, side_chain_is_one,
+    knowledge_stays, late_mark_keeps_log, log_grows, one_leaf_has_the_map, phases_grow,
 };
+pub use link::exchange_link;
+pub use listing::logged_pairs;
