@@ -1,5 +1,5 @@
 //! One operation as a machine, apart from the memory: it wants one step at a time, and goes on by the answer.
-ghost use Rattle.std.specs.Prelude.{◌≡◌, ◌<◌, ◌*◌, ℕ, Bool, Some, IsSome, IsTrue};
+ghost use Rattle.std.specs.Prelude.{◌≡◌, ◌<◌, ◌*◌, ◌++◌, ◌∷◌, [], ℕ, Bool, Some, IsSome, IsTrue, if◌then◌else◌};
 ghost use Rattle.std.specs.Option.{ForSome};
 ghost use Rattle.bw_model.specs.Replies.{command_key, reply_of};
 ghost use Rattle.chain_search.specs.Chains.{content_in};
@@ -280,6 +280,7 @@ impl Op {
         requires row { row < self.old.limits.rows }
         ensures advances { Advances self.old self.new result }
         ensures hand { IsHand self.new.limits (rows_in_flight self.new.state) hand.new }
+        ensures spare { hand.new ≡ (if won then hand.old else hand.old ++ row ∷ []) }
         ensures placed { (placed : ℕ → Bool) → Knows placed self.new.state }
     {
         if won {
