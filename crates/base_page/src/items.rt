@@ -78,9 +78,7 @@ impl Items {
         }
         Items { items }
     }
-}
 
-impl Items {
     /// What the items have at the key.
     pub fn find(&self, key: &Key) -> Option<&Content>
         ensures { option_copied result ≡ content_at self.now key.now }
