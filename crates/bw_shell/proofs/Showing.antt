@@ -107,7 +107,7 @@ passed_on a b mid bytes whole p q sound none is_failed = record {
     rest = q.rest;
     splits = ap (λ (l : List ℕ). a.held ++ l) q.splits ∙ sym (append_assoc a.held q.written q.rest);
     appends = appends_then a.contents mid b.contents a.held q.written (subst (λ (l : List ℕ). Appends a.contents mid l) (sym (p.all refl)) p.appends) q.appends;
-    all = λ e. nothing_left q.written q.rest (q.all (sym (not_not whole) ∙ ap not (sym is_failed) ∙ e) ) q.splits ∙ sym none;
+    all = λ e. nothing_left q.written q.rest (q.all (sym (not_not whole) ∙ ap not (sym is_failed) ∙ e)) q.splits ∙ sym none;
   };
   stays = λ e. cc (sym sound ∙ e);
 }

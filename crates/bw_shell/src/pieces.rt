@@ -34,7 +34,13 @@ pub fn feed<O: Output>(alloc: Global, weaver: &mut Weaver, bytes: &[u8], out: &m
 {
     for b in bytes {
         if *b == b'\n' {
-            if run_line(alloc, &mut weaver.core, weaver.number, weaver.part.as_slice(), out) {
+            if run_line(
+                alloc,
+                &mut weaver.core,
+                weaver.number,
+                weaver.part.as_slice(),
+                out,
+            ) {
                 return true;
             }
             if out.has_failed() {

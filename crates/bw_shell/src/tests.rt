@@ -181,12 +181,20 @@ fn odd_lines(rt: HostRuntime) {
         (b"", b"", 0),
         (b"\n\n\n", b"", 0),
         (b"list", b"pairs 0\n", 0),
-        (b"\n\nbegin 0 get a\n\nbegin 0 get a\nlist\n", b"refused line 5: 5\n", 1),
+        (
+            b"\n\nbegin 0 get a\n\nbegin 0 get a\nlist\n",
+            b"refused line 5: 5\n",
+            1,
+        ),
         (b"turn 0 1\nlist\n", b"refused line 1: 6\n", 1),
         (b"list \n", b"refused line 1: 11\n", 1),
         (b"begin 00 get a\nfinish 000\n", b"0 none\n", 0),
         (b"begin +0 get a\n", b"refused line 1: 11\n", 1),
-        (b"begin 18446744073709551616 get a\n", b"refused line 1: 4\n", 1),
+        (
+            b"begin 18446744073709551616 get a\n",
+            b"refused line 1: 4\n",
+            1,
+        ),
         (b"turn 256 1\n", b"refused line 1: 4\n", 1),
         (b"begin 0 upsert a 1\n", b"refused line 1: 11\n", 1),
         (b"begin 0 delete a\n", b"refused line 1: 11\n", 1),
@@ -205,8 +213,10 @@ fn odd_lines(rt: HostRuntime) {
 
 #[test]
 fn a_full_page(rt: HostRuntime) {
-    let input = b"begin 0 insert k01 v01\nfinish 0\nbegin 0 insert k02 v02\nfinish 0\nbegin 0 insert k03 v03\nfinish 0\nbegin 0 insert k04 v04\nfinish 0\nbegin 0 insert k05 v05\nfinish 0\nbegin 0 insert k06 v06\nfinish 0\nbegin 0 insert k07 v07\nfinish 0\nbegin 0 insert k08 v08\nfinish 0\nbegin 0 insert k09 v09\nturn 0 13\nturn 0 1\nbegin 0 get k08\nfinish 0\nlist\n";
-    let output = b"0 inserted\n0 inserted\n0 inserted\n0 inserted\n0 inserted\n0 inserted\n0 inserted\n0 inserted\n0 full\n0 value v08\npairs 8\nk01 v01\nk02 v02\nk03 v03\nk04 v04\nk05 v05\nk06 v06\nk07 v07\nk08 v08\n";
+    let input =
+        b"begin 0 insert k01 v01\nfinish 0\nbegin 0 insert k02 v02\nfinish 0\nbegin 0 insert k03 v03\nfinish 0\nbegin 0 insert k04 v04\nfinish 0\nbegin 0 insert k05 v05\nfinish 0\nbegin 0 insert k06 v06\nfinish 0\nbegin 0 insert k07 v07\nfinish 0\nbegin 0 insert k08 v08\nfinish 0\nbegin 0 insert k09 v09\nturn 0 13\nturn 0 1\nbegin 0 get k08\nfinish 0\nlist\n";
+    let output =
+        b"0 inserted\n0 inserted\n0 inserted\n0 inserted\n0 inserted\n0 inserted\n0 inserted\n0 inserted\n0 full\n0 value v08\npairs 8\nk01 v01\nk02 v02\nk03 v03\nk04 v04\nk05 v05\nk06 v06\nk07 v07\nk08 v08\n";
     agree(&rt, rt.alloc(), &[(input, output, 0)]);
 }
 
@@ -229,9 +239,11 @@ fn long_lines(rt: HostRuntime) -> Result<(), Fail> {
 }
 
 // About thirty lines, with empty ones, and without a last LF.
-const INPUT: &[u8] = b"begin 0 insert k01 v01\nfinish 0\n\nbegin 1 insert k02 =\nfinish 1\nbegin 0 get k01\nturn 0 2\nturn 0 1\nturn 0 1\nturn 0 1\nturn 0 1\nturn 0 1\n\nturn 0 1\nbegin 0 insert k02 v02\nfinish 0\nlist\nbegin 0 insert k03 v03\nturn 0 2\nbegin 1 insert k04 v04\nturn 1 4\nturn 0 3\nfinish 1\nfinish 0\nbegin 1 get k04\nbegin 0 get k05\nfinish 1\nfinish 0\n\nlist";
+const INPUT: &[u8] =
+    b"begin 0 insert k01 v01\nfinish 0\n\nbegin 1 insert k02 =\nfinish 1\nbegin 0 get k01\nturn 0 2\nturn 0 1\nturn 0 1\nturn 0 1\nturn 0 1\nturn 0 1\n\nturn 0 1\nbegin 0 insert k02 v02\nfinish 0\nlist\nbegin 0 insert k03 v03\nturn 0 2\nbegin 1 insert k04 v04\nturn 1 4\nturn 0 3\nfinish 1\nfinish 0\nbegin 1 get k04\nbegin 0 get k05\nfinish 1\nfinish 0\n\nlist";
 
-const OUTPUT: &[u8] = b"0 inserted\n1 inserted\n0 value v01\n0 exists =\npairs 2\nk01 v01\nk02 =\n1 inserted\n0 inserted\n1 value v04\n0 none\npairs 4\nk01 v01\nk02 =\nk03 v03\nk04 v04\n";
+const OUTPUT: &[u8] =
+    b"0 inserted\n1 inserted\n0 value v01\n0 exists =\npairs 2\nk01 v01\nk02 =\n1 inserted\n0 inserted\n1 value v04\n0 none\npairs 4\nk01 v01\nk02 =\nk03 v03\nk04 v04\n";
 
 #[test]
 fn failed_writes(rt: HostRuntime) {
@@ -317,7 +329,17 @@ fn numbers_of_options(rt: HostRuntime) -> Result<(), Fail> {
     };
     assert_eq!(rt; (settings.actors, settings.pids), (2, 64));
     assert_eq!(rt; (settings.rows, settings.epoch), (256, 1));
-    let texts = ["bwtree", "weave", "--rows", "64", "--epoch=7", "--actors", "3", "--pids", "0128"];
+    let texts = [
+        "bwtree",
+        "weave",
+        "--rows",
+        "64",
+        "--epoch=7",
+        "--actors",
+        "3",
+        "--pids",
+        "0128",
+    ];
     let given = words(rt.alloc(), &texts)?;
     let Ok(settings) = options(rt.alloc(), given.as_slice()) else {
         return Err(Fail::from("given numbers"));

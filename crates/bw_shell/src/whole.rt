@@ -13,12 +13,7 @@ use std::alloc::Global;
 use step_core::Core;
 
 // Reads to the end of the input, or as far as it goes, and answers whether a line was refused.
-fn run<I: Input, O: Output>(
-    alloc: Global,
-    weaver: &mut Weaver,
-    input: &mut I,
-    out: &mut O,
-) -> bool
+fn run<I: Input, O: Output>(alloc: Global, weaver: &mut Weaver, input: &mut I, out: &mut O) -> bool
     requires sound_in { I.failed input.old ≡ false }
     requires sound_out { (O.state out.old).failed ≡ false }
     requires bounded { I.reads_left input.old ≤ 2 ^ 31 }
@@ -47,17 +42,18 @@ fn run<I: Input, O: Output>(
     if weaver.part.is_empty() {
         return false;
     }
-    run_line(alloc, &mut weaver.core, weaver.number, weaver.part.as_slice(), out)
+    run_line(
+        alloc,
+        &mut weaver.core,
+        weaver.number,
+        weaver.part.as_slice(),
+        out,
+    )
 }
 
 /// Reads lines, runs them on a core of these limits, and writes a transcript. Answers the status: 0 where no read or write
 /// failed and no line was refused, else 1.
-pub fn weave<I: Input, O: Output>(
-    alloc: Global,
-    limits: Limits,
-    input: &mut I,
-    out: &mut O,
-) -> u8
+pub fn weave<I: Input, O: Output>(alloc: Global, limits: Limits, input: &mut I, out: &mut O) -> u8
     requires sound_in { I.failed input.old ≡ false }
     requires bounded { I.reads_left input.old ≤ 2 ^ 31 }
     requires sound_out { (O.state out.old).failed ≡ false }

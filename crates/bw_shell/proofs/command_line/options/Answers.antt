@@ -29,6 +29,6 @@ pub returns-in-Err-2-clause-refused : goal.returns-in-Err-2-clause-refused
 returns-in-Err-2-clause-refused c =
     outside _ _ _ c.in-Ok.ensures c.in-Err-2.ensures.passes
     (λ h.
-      let is : c.kind.result ≡ OutOfMemory = c.kind.ensures ∙ ap kind_of c.in-Err-2.error-is ∙ h in
-      let same = rw is at c.eq.ensures in
-      cc (sym c.if-eq.false ∙ same))
+    let is : c.kind.result ≡ OutOfMemory = c.kind.ensures ∙ ap kind_of c.in-Err-2.error-is ∙ h in
+    let same = rw is at c.eq.ensures in
+    cc (sym c.if-eq.false ∙ same))

@@ -8,7 +8,7 @@ pub returns-in-Err : goal.returns-in-Err
 returns-in-Err c =
     let same : c.in-Ok.actor ≡ c.args.actor = search rules in (
       rw c.code.ensures
-      (subst (λ (actor : ℕ). Refuses (seen c.args.core.now) (Step actor) (code_of c.in-Err.error)) same
-      (refused_turn c.args.core.now (Step c.in-Ok.actor) c.in-Err.error c.in-Err.ensures.refused (λ h. (c.in-Err.ensures.memory h).0))),
+          (subst (λ (actor : ℕ). Refuses (seen c.args.core.now) (Step actor) (code_of c.in-Err.error)) same
+          (refused_turn c.args.core.now (Step c.in-Ok.actor) c.in-Err.error c.in-Err.ensures.refused (λ h. (c.in-Err.ensures.memory h).0))),
       ap seen c.in-Err.ensures.err,
     )
