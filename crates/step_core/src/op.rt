@@ -1,11 +1,12 @@
 //! One operation as a machine, apart from the memory: it wants one step at a time, and goes on by the answer.
-ghost use Rattle.std.specs.Prelude.{◌≡◌, ◌<◌, ◌*◌, Some, IsSome};
+ghost use Rattle.std.specs.Prelude.{◌≡◌, ◌<◌, ◌*◌, ◌++◌, ◌∷◌, [], ℕ, Bool, Some, IsSome, IsTrue, if◌then◌else◌};
 ghost use Rattle.std.specs.Option.{ForSome};
 ghost use Rattle.bw_model.specs.Replies.{command_key, reply_of};
 ghost use Rattle.chain_search.specs.Chains.{content_in};
 ghost use Rattle.deltas.specs.Records.{next_row};
 ghost use Rattle.step_core.specs.Chained.{value_of};
 ghost use Rattle.step_core.specs.Hands.{IsHand};
+ghost use Rattle.step_core.specs.Placed.{Knows, ShowsState};
 ghost use Rattle.step_core.specs.Wants.{Advances, IsAnswerTo, IsChanging, IsSoundState, IsStepWant, change_of, rows_in_flight, wanted_of};
 
 use crate::chain::Chain;
@@ -86,6 +87,7 @@ impl Op {
         ensures advances { Advances self.old self.new result }
         ensures hand { IsHand self.new.limits (rows_in_flight self.new.state) hand.new }
         ensures begins { self.old.state ≡ State.Begun → IsStepWant result }
+        ensures placed { (placed : ℕ → Bool) → Knows placed self.old.state → ShowsState placed self.old.state answer → Knows placed self.new.state }
     {
         match mem::replace(&mut self.state, State::Over) {
             State::Begun => self.ask(State::Epoch),
@@ -163,6 +165,7 @@ impl Op {
         requires head { head < self.old.limits.rows }
         ensures advances { Advances self.old self.new result }
         ensures flight { rows_in_flight self.new.state ≡ 0 }
+        ensures placed { (placed : ℕ → Bool) → (0 < head → IsTrue (placed head)) → Knows placed self.new.state }
     {
         if head == 0 {
             return self.ask(State::Root);
@@ -184,6 +187,7 @@ impl Op {
         requires next { ForSome (next_row older) (λ next. next < self.old.limits.rows) }
         ensures advances { Advances self.old self.new result }
         ensures hand { IsHand self.new.limits (rows_in_flight self.new.state) hand.new }
+        ensures placed { (placed : ℕ → Bool) → IsTrue (placed head) → ForSome (next_row older) (λ next. IsTrue (placed next)) → Knows placed self.new.state }
     {
         if self.chain.is_full() {
             return self.ask(State::Root);
@@ -204,6 +208,7 @@ impl Op {
         requires head { head < self.old.limits.rows }
         ensures advances { Advances self.old self.new result }
         ensures hand { IsHand self.new.limits (rows_in_flight self.new.state) hand.new }
+        ensures placed { (placed : ℕ → Bool) → IsTrue (placed head) → Knows placed self.new.state }
     {
         let is_writer = match &self.command {
             Command::Get(_) => false,
@@ -231,6 +236,7 @@ impl Op {
         requires head { head < self.old.limits.rows }
         requires word { 64 * word < self.old.limits.rows }
         ensures advances { Advances self.old self.new result }
+        ensures placed { (placed : ℕ → Bool) → IsTrue (placed head) → Knows placed self.new.state }
     {
         if bits != 0 {
             let row = 64 * u16::from(word) + bits.trailing_zeros() as u16;
@@ -255,6 +261,7 @@ impl Op {
         requires head { head < self.old.limits.rows }
         requires row { row < self.old.limits.rows }
         ensures advances { Advances self.old self.new result }
+        ensures placed { (placed : ℕ → Bool) → IsTrue (placed head) → Knows placed self.new.state }
     {
         if free {
             self.ask(State::Place { pid, head, row })
@@ -273,6 +280,8 @@ impl Op {
         requires row { row < self.old.limits.rows }
         ensures advances { Advances self.old self.new result }
         ensures hand { IsHand self.new.limits (rows_in_flight self.new.state) hand.new }
+        ensures spare { hand.new ≡ (if won then hand.old else hand.old ++ row ∷ []) }
+        ensures placed { (placed : ℕ → Bool) → Knows placed self.new.state }
     {
         if won {
             let reply = self.reply();
