@@ -11,3 +11,5 @@ pub mod Fitted
 pub mod Runs
 pub mod LostExchange
 pub mod OwnEntries
+pub mod KeyOrder
+pub mod Sides

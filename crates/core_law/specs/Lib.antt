@@ -2,3 +2,4 @@ pub mod Put
 pub mod Owners
 pub mod State
 pub mod Examples
+pub mod Levels
