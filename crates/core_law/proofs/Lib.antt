@@ -13,3 +13,4 @@ pub mod LostExchange
 pub mod OwnEntries
 pub mod KeyOrder
 pub mod Sides
+pub mod Merged

@@ -10,7 +10,8 @@ use Rattle.core_law.specs.Owners.{Linked, IsClosed}
 use Rattle.core_law.specs.Levels.{Stage, Placed, rank, is_gone, Shape, InPlace, IsPart, HasPage, Level}
 use Rattle.core_law.proofs.Chains.{Kept, chain_kept}
 use Rattle.core_law.proofs.Puts.{by_test}
-use Rattle.core_law.proofs.KeyOrder.{irreflexive, clash, at_most, IsUpTo, IsFrom, below_upto, below_from, upto_refl, range_low, range_high}
+use Rattle.core_law.proofs.KeyOrder.{irreflexive, clash, at_most, at_most_both, IsUpTo, IsFrom, NotBeyond, below_upto, below_from, upto_refl, range_low, range_high}
+use Rattle.std.proofs.lemmas.Option.{same_Some}
 
 abbrev pub Keys : Type 0
 Keys = List ℕ
@@ -41,6 +42,12 @@ has_other p [] g news after ne (inl e) = absurd (ne (sym e))
 has_other p [] g news after ne (inr e) = has_right p news after e
 has_other p (b ∷ before) g news after ne (inl e) = inl e
 has_other p (b ∷ before) g news after ne (inr e) = inr (has_other p before g news after ne e)
+
+pub same_low : (stage stage' : Stage) (l l' : ℕ) (low low' : Keys) → Placed stage l low ≡ Placed stage' l' low' → low ≡ low'
+same_low stage stage' l l' low low' e = cc
+
+pub same_level : (stage stage' : Stage) (l l' : ℕ) (low low' : Keys) → Placed stage l low ≡ Placed stage' l' low' → l ≡ l'
+same_level stage stage' l l' low low' e = cc
 
 -- a page beside another: another page, and no key in common
 pub record Beside (g f : LivePage) : Type 0 where
@@ -206,3 +213,82 @@ module _ (s s' : Shape) (lv : ℕ) (mp mp' : Terms) where
               (λ (u : HasPage q news). has_right q l.before (news ++ l.after) (has_left q news l.after u))
               (listed q low' stage' i on');
         }
+
+module _ (s : Shape) (lv : ℕ) (mp : Terms) (first : ℕ) (t : Level s lv mp first) where
+  -- what is listed of a page in its place
+  listed_here : (g : LivePage) → InPlace s lv mp g → HasPage g.pid t.side
+  listed_here g h = t.listed g.pid (low_in g.chain) h.stage h.placed h.on
+
+  chain_is : (g f : LivePage) → InPlace s lv mp g → InPlace s lv mp f → f.pid ≡ g.pid → f.chain ≡ g.chain
+  chain_is = one_chain s lv mp
+
+  low_placed : (f : LivePage) (q : ℕ) (low : Keys) (stage : Stage) → s.page q ≡ Placed stage lv low → InPlace s lv mp f → f.pid ≡ q → low_in f.chain ≡ low
+  low_placed f q low stage e h i = same_low h.stage stage lv lv (low_in f.chain) low (sym h.placed ∙ ap s.page i ∙ e)
+
+  -- two pages of a level that have a key in common are one
+  pub same_page : (g f : LivePage) → InPlace s lv mp g → InPlace s lv mp f → (k : Keys) → covers g.chain k ≡ true → covers f.chain k ≡ true → g.pid ≡ f.pid
+  same_page g f hg hf k cg cf = go t.side (Some first) (Some []) t.whole (listed_here g hg) (listed_here f hf)
+    where
+      later : (h e : LivePage) → InPlace s lv mp e → covers h.chain k ≡ true → covers e.chain k ≡ true → (gs : List LivePage) → IsPart s lv mp gs (right_in h.chain) (high_in h.chain) None None → HasPage e.pid gs → ⊥
+      later h e ie ch ce gs part has =
+          let u : IsFrom (high_in h.chain) (low_in e.chain) = from_part s lv mp gs (right_in h.chain) (high_in h.chain) None None part e.pid has (low_in e.chain) (λ f i j. ap low_in (chain_is e f ie i j)) in
+          clash (is_below k (low_in e.chain)) (below_from k (low_in e.chain) (high_in h.chain) (range_high (low_in h.chain) (high_in h.chain) k ch) u) (range_low (low_in e.chain) (high_in e.chain) k ce)
+
+      moved : (h e : LivePage) → InPlace s lv mp h → InPlace s lv mp e → h.pid ≡ e.pid → covers e.chain k ≡ true → covers h.chain k ≡ true
+      moved h e ih ie i c = subst (λ (d : List Record). covers d k ≡ true) (sym (chain_is e h ie ih i)) c
+
+      go : (gs : List LivePage) (p : Option ℕ) (low : Option Keys) → IsPart s lv mp gs p low None None → HasPage g.pid gs → HasPage f.pid gs → g.pid ≡ f.pid
+      go [] p low part a b = absurd a
+      go (h ∷ gs) p low part (inl a) (inl b) = sym a ∙ b
+      go (h ∷ gs) p low part (inl a) (inr b) = absurd (later h f hf (moved h g part.2 hg a cg) cf gs part.3 b)
+      go (h ∷ gs) p low part (inr a) (inl b) = absurd (later h g hg (moved h f part.2 hf b cf) cg gs part.3 a)
+      go (h ∷ gs) p low part (inr a) (inr b) = go gs (right_in h.chain) (high_in h.chain) part.3 a b
+
+  -- a page of a level with its low beyond another's, and not beyond its end, is its right
+  pub no_gap : (g : LivePage) → InPlace s lv mp g → (q : ℕ) (low : Keys) (stage : Stage) → s.page q ≡ Placed stage lv low → rank stage ≤ 3 → is_below (low_in g.chain) low ≡ true → NotBeyond low (high_in g.chain) → (high_in g.chain ≡ Some low) × (right_in g.chain ≡ Some q)
+  no_gap g hg q low stage e on above within = go t.side (Some first) (Some []) t.whole (listed_here g hg) (t.listed q low stage e on)
+    where
+      upto : (b : Option Keys) → IsFrom b low → NotBeyond low b → b ≡ Some low
+      upto None u v = absurd u
+      upto (Some x) u v = ap Some (at_most_both x low u v)
+
+      is_low : (f : LivePage) → InPlace s lv mp f → f.pid ≡ q → low_in f.chain ≡ low
+      is_low f h i = low_placed f q low stage e h i
+
+      next : (gs : List LivePage) (p : Option ℕ) (b : Option Keys) → IsPart s lv mp gs p b None None → b ≡ Some low → HasPage q gs → p ≡ Some q
+      next [] p b part i has = absurd has
+      next (h ∷ gs) p b part i (inl j) = part.0 ∙ ap Some j
+      next (h ∷ gs) p b part i (inr j) =
+          let at : low_in h.chain ≡ low = same_Some (low_in h.chain) low (sym part.1 ∙ i) in
+          let l : is_below (low_in h.chain) low ≡ true = below_from (low_in h.chain) low (high_in h.chain) part.2.some (from_part s lv mp gs (right_in h.chain) (high_in h.chain) None None part.3 q j low is_low) in
+          absurd (clash (is_below low low) (subst (λ k. is_below k low ≡ true) at l) (irreflexive low))
+
+      go : (gs : List LivePage) (p : Option ℕ) (b : Option Keys) → IsPart s lv mp gs p b None None → HasPage g.pid gs → HasPage q gs → (high_in g.chain ≡ Some low) × (right_in g.chain ≡ Some q)
+      go [] p b part i j = absurd i
+      go (h ∷ gs) p b part (inl i) (inl j) =
+          let l : is_below (low_in h.chain) low ≡ true = subst (λ c. is_below (low_in c) low ≡ true) (sym (chain_is g h hg part.2 i)) above in
+          absurd (clash (is_below low low) (subst (λ k. is_below k low ≡ true) (is_low h part.2 j) l) (irreflexive low))
+      go (h ∷ gs) p b part (inl i) (inr j) =
+          let c = chain_is g h hg part.2 i in
+          let r : IsPart s lv mp gs (right_in g.chain) (high_in g.chain) None None = subst (λ (d : List Record). IsPart s lv mp gs (right_in d) (high_in d) None None) c part.3 in
+          let ends = upto (high_in g.chain) (from_part s lv mp gs (right_in g.chain) (high_in g.chain) None None r q j low is_low) within in
+          (ends, next gs (right_in g.chain) (high_in g.chain) r ends j)
+      go (h ∷ gs) p b part (inr i) (inl j) =
+          let l : is_below (low_in h.chain) (low_in g.chain) ≡ true = below_from (low_in h.chain) (low_in g.chain) (high_in h.chain) part.2.some
+              (from_part s lv mp gs (right_in h.chain) (high_in h.chain) None None part.3 g.pid i (low_in g.chain) (λ f ih k. ap low_in (chain_is g f hg ih k))) in
+          let back : is_below low (low_in g.chain) ≡ true = subst (λ k. is_below k (low_in g.chain) ≡ true) (is_low h part.2 j) l in
+          absurd (clash (is_below low (low_in g.chain)) back (at_most (low_in g.chain) low above))
+      go (h ∷ gs) p b part (inr i) (inr j) = go gs (right_in h.chain) (high_in h.chain) part.3 i j
+
+  -- the page right of a page
+  pub right_page : (g : LivePage) → InPlace s lv mp g → (q : ℕ) → right_in g.chain ≡ Some q → (f : LivePage) × (f.pid ≡ q) × (high_in g.chain ≡ Some (low_in f.chain)) × InPlace s lv mp f
+  right_page g hg q r = go t.side (Some first) (Some []) t.whole (listed_here g hg)
+    where
+      next : (gs : List LivePage) → IsPart s lv mp gs (right_in g.chain) (high_in g.chain) None None → (f : LivePage) × (f.pid ≡ q) × (high_in g.chain ≡ Some (low_in f.chain)) × InPlace s lv mp f
+      next [] part = absurd (let e = sym r ∙ part.0 in cc)
+      next (k ∷ gs) part = (k, same_Some k.pid q (sym part.0 ∙ r), part.1, part.2)
+
+      go : (gs : List LivePage) (p : Option ℕ) (low : Option Keys) → IsPart s lv mp gs p low None None → HasPage g.pid gs → (f : LivePage) × (f.pid ≡ q) × (high_in g.chain ≡ Some (low_in f.chain)) × InPlace s lv mp f
+      go [] p low part a = absurd a
+      go (h ∷ gs) p low part (inl a) = next gs (subst (λ (d : List Record). IsPart s lv mp gs (right_in d) (high_in d) None None) (chain_is g h hg part.2 a) part.3)
+      go (h ∷ gs) p low part (inr a) = go gs (right_in h.chain) (high_in h.chain) part.3 a
