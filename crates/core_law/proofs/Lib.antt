@@ -14,3 +14,4 @@ pub mod OwnEntries
 pub mod KeyOrder
 pub mod Sides
 pub mod Merged
+pub mod Trees

@@ -1,14 +1,13 @@
 -- A level in which one page stands in the place of two neighbours.
-use Rattle.std.proofs.Common.{◌≡◌, ◌≢◌, inl, inr, ℕ, ◌≤◌, List, [], ◌∷◌, Option, Some, None, Bool, true, false, refl, sym, ap, ◌∙◌, subst}
+use Rattle.std.proofs.Common.{◌≡◌, ◌≢◌, inl, inr, ℕ, ◌≤◌, List, [], ◌∷◌, Option, Some, None, true, sym, ap, ◌∙◌, subst}
 use Rattle.bw_model.specs.Bytes.{is_below}
-use Rattle.deltas.specs.declared.record.Record.{Record}
-use Rattle.chain_search.specs.Chains.{low_in, high_in, right_in, covers}
+use Rattle.chain_search.specs.Chains.{low_in, high_in, right_in}
 use Rattle.chain_search.specs.SideChain.{LivePage}
 use Rattle.core_law.specs.Owners.{IsClosed}
 use Rattle.core_law.specs.Levels.{Stage, Placed, rank, Shape, InPlace, IsPart, HasPage, Level}
 use Rattle.core_law.proofs.Chains.{Kept}
-use Rattle.core_law.proofs.KeyOrder.{irreflexive, clash, at_most, IsFrom, below_from, under_trans}
-use Rattle.core_law.proofs.Sides.{Keys, Terms, AllPages, part_join, begins_after, all_in, from_part, Rest, Stays, stays_by, place_kept, part_kept, same_low}
+use Rattle.core_law.proofs.KeyOrder.{irreflexive, clash, IsFrom, below_from, under_trans}
+use Rattle.core_law.proofs.Sides.{Keys, Terms, part_join, begins_after, all_in, from_part, Rest, Stays, stays_by, place_kept, part_kept, same_low}
 
 -- A page q right of p gives its range to p: p's new page ends where q's did, and q is on the side chain no more.
 pub record Merges (s s' : Shape) (lv : ℕ) (mp mp' : Terms) (p q : ℕ) (low above : Keys) (new : LivePage) : Type 0 where
@@ -18,7 +17,7 @@ pub record Merges (s s' : Shape) (lv : ℕ) (mp mp' : Terms) (p q : ℕ) (low ab
   pub other : Stage
   pub right : s.page q ≡ Placed other lv above
   pub order : is_below low above ≡ true
-  pub rests : (r : ℕ) (at : Keys) (stage : Stage) → r ≢ p → r ≢ q → s.page r ≡ Placed stage lv at → rank stage ≤ 3 → Rest s s' lv mp mp' r at stage
+  pub rests : (r : ℕ) (at : Keys) (stage : Stage) → r ≢ p → r ≢ q → s.page r ≡ Placed stage lv at → rank stage ≤ 3 → Rest s s' lv r at stage
   pub same : (k : Keys) → mp' k ≡ mp k
   pub is : new.pid ≡ p
   pub neighbour : (g : LivePage) → InPlace s lv mp g → g.pid ≡ p → right_in g.chain ≡ Some q
@@ -55,8 +54,7 @@ module _ (s s' : Shape) (lv : ℕ) (mp mp' : Terms) (closed : IsClosed s.owner s
   merge : (h : LivePage) → InPlace s lv mp h → h.pid ≡ p → (gs : List LivePage) → IsPart s lv mp gs (right_in h.chain) (high_in h.chain) None None → Rebuilt (h ∷ gs) (Some h.pid) (Some (low_in h.chain))
   merge h hh i [] part = absurd (let e : Some q ≡ None = sym (m.neighbour h hh i) ∙ part.0 in cc)
   merge h hh i (k ∷ gs) part =
-      let is_q : k.pid ≡ q = some_same k.pid q (sym part.0 ∙ m.neighbour h hh i) in
-      (
+      let is_q : k.pid ≡ q = some_same k.pid q (sym part.0 ∙ m.neighbour h hh i) in (
         new ∷ gs,
         rw (i, low_at p low m.stage m.left h hh i) (part_join s' lv mp' (new ∷ []) gs (Some p) (Some low) (right_in k.chain) (high_in k.chain) None None (m.joined h k hh i part.2 is_q) (tail k part.2 is_q gs part.3)),
         λ r ne has. has_in r ne is_q has,

@@ -124,11 +124,11 @@ module _ (s : Shape) (lv : ℕ) (mp : Terms) where
   from_part (h ∷ gs) p low q high part f (inr i) k is = subst (λ (b : Option Keys). IsFrom b k) (sym part.1)
       (at_most (low_in h.chain) k (below_from (low_in h.chain) k (high_in h.chain) part.2.some (from_part gs (right_in h.chain) (high_in h.chain) q high part.3 f i k is)))
 
-module _ (s s' : Shape) (lv : ℕ) (mp mp' : Terms) where
-  -- a page that is on its side chain rests there
-  abbrev pub Rest : ℕ → Keys → Stage → Type 0
-  Rest q low stage = (s'.slots q ≡ s.slots q) × ((stage' : Stage) × (s'.page q ≡ Placed stage' lv low) × (rank stage' ≤ 3) × (is_gone stage ≡ is_gone stage'))
+-- a page that is on its side chain rests there
+abbrev pub Rest : Shape → Shape → ℕ → ℕ → Keys → Stage → Type 0
+Rest s s' lv q low stage = (s'.slots q ≡ s.slots q) × ((stage' : Stage) × (s'.page q ≡ Placed stage' lv low) × (rank stage' ≤ 3) × (is_gone stage ≡ is_gone stage'))
 
+module _ (s s' : Shape) (lv : ℕ) (mp mp' : Terms) where
   -- what a page of the tree is to keep
   pub record Stays (g : LivePage) : Type 0 where
     pub slot : s'.slots g.pid ≡ s.slots g.pid
@@ -138,7 +138,7 @@ module _ (s s' : Shape) (lv : ℕ) (mp mp' : Terms) where
     pub on : rank stage ≤ 3
     pub flagged : is_removed g.chain ≡ is_gone stage
 
-  pub stays_by : (f : LivePage) → (h : InPlace s lv mp f) → Rest f.pid (low_in f.chain) h.stage → ((k : Keys) → covers f.chain k ≡ true → mp' k ≡ mp k) → Stays f
+  pub stays_by : (f : LivePage) → (h : InPlace s lv mp f) → Rest s s' lv f.pid (low_in f.chain) h.stage → ((k : Keys) → covers f.chain k ≡ true → mp' k ≡ mp k) → Stays f
   stays_by f h r v = record { slot = r.0; values = v; stage = r.1.0; placed = r.1.1; on = r.1.2; flagged = h.flagged ∙ r.1.3 }
 
   module _ (closed : IsClosed s.owner s.rows) (kept : Kept s.owner s'.owner s.rows s'.rows) where
@@ -161,7 +161,7 @@ module _ (s s' : Shape) (lv : ℕ) (mp mp' : Terms) where
 
     -- pages in the place of one, on the same keys
     pub replaced : (gs : List LivePage) (p : Option ℕ) (low : Option Keys) (q : Option ℕ) (high : Option Keys) (at : ℕ) (l : Located s lv mp gs p low q high at)
-        → ((f : LivePage) → (h : InPlace s lv mp f) → Beside l.page f → Rest f.pid (low_in f.chain) h.stage)
+        → ((f : LivePage) → (h : InPlace s lv mp f) → Beside l.page f → Rest s s' lv f.pid (low_in f.chain) h.stage)
         → ((k : Keys) → (covers l.page.chain k ≡ true → ⊥) → mp' k ≡ mp k)
         → (news : List LivePage) → IsPart s' lv mp' news (Some l.page.pid) (Some (low_in l.page.chain)) (right_in l.page.chain) (high_in l.page.chain)
         → IsPart s' lv mp' (l.before ++ (news ++ l.after)) p low q high
@@ -178,7 +178,7 @@ module _ (s s' : Shape) (lv : ℕ) (mp mp' : Terms) where
         stays f h b = stays_by f h (rests f h b) (λ k c. outside k (b.apart k c))
 
     -- a level stays where its slots do
-    pub level_kept : (first : ℕ) → ((p : ℕ) (low : Keys) (stage : Stage) → s.page p ≡ Placed stage lv low → rank stage ≤ 3 → Rest p low stage) → ((k : Keys) → mp' k ≡ mp k)
+    pub level_kept : (first : ℕ) → ((p : ℕ) (low : Keys) (stage : Stage) → s.page p ≡ Placed stage lv low → rank stage ≤ 3 → Rest s s' lv p low stage) → ((k : Keys) → mp' k ≡ mp k)
         → ((p : ℕ) (low : Keys) (stage : Stage) → s'.page p ≡ Placed stage lv low → rank stage ≤ 3 → (was : Stage) × (s.page p ≡ Placed was lv low) × (rank was ≤ 3)) → Level s lv mp first → Level s' lv mp' first
     level_kept first rests same old t = record {
       side = t.side;
@@ -192,7 +192,7 @@ module _ (s s' : Shape) (lv : ℕ) (mp mp' : Terms) where
 
     -- a level in which pages stand in the place of one
     pub level_relinked : (first : ℕ) → (t : Level s lv mp first) → (p : ℕ) (low : Keys) (stage : Stage) → s.page p ≡ Placed stage lv low → rank stage ≤ 3 → (c : List Record) → IsChainFrom s.rows (s.slots p) c
-        → ((q : ℕ) (low : Keys) (stage : Stage) → q ≢ p → s.page q ≡ Placed stage lv low → rank stage ≤ 3 → Rest q low stage)
+        → ((q : ℕ) (low : Keys) (stage : Stage) → q ≢ p → s.page q ≡ Placed stage lv low → rank stage ≤ 3 → Rest s s' lv q low stage)
         → ((k : Keys) → (covers c k ≡ true → ⊥) → mp' k ≡ mp k)
         → (news : List LivePage) → IsPart s' lv mp' news (Some p) (Some (low_in c)) (right_in c) (high_in c) → HasPage p news
         → ((q : ℕ) (low : Keys) (stage : Stage) → s'.page q ≡ Placed stage lv low → rank stage ≤ 3 → ((was : Stage) × (s.page q ≡ Placed was lv low) × (rank was ≤ 3)) ⊎ HasPage q news) → Level s' lv mp' first
@@ -275,7 +275,7 @@ module _ (s : Shape) (lv : ℕ) (mp : Terms) (first : ℕ) (t : Level s lv mp fi
           (ends, next gs (right_in g.chain) (high_in g.chain) r ends j)
       go (h ∷ gs) p b part (inr i) (inl j) =
           let l : is_below (low_in h.chain) (low_in g.chain) ≡ true = below_from (low_in h.chain) (low_in g.chain) (high_in h.chain) part.2.some
-              (from_part s lv mp gs (right_in h.chain) (high_in h.chain) None None part.3 g.pid i (low_in g.chain) (λ f ih k. ap low_in (chain_is g f hg ih k))) in
+          (from_part s lv mp gs (right_in h.chain) (high_in h.chain) None None part.3 g.pid i (low_in g.chain) (λ f ih k. ap low_in (chain_is g f hg ih k))) in
           let back : is_below low (low_in g.chain) ≡ true = subst (λ k. is_below k (low_in g.chain) ≡ true) (is_low h part.2 j) l in
           absurd (clash (is_below low (low_in g.chain)) back (at_most (low_in g.chain) low above))
       go (h ∷ gs) p b part (inr i) (inr j) = go gs (right_in h.chain) (high_in h.chain) part.3 i j

@@ -52,10 +52,11 @@ Reached least level low (Keeps actor) = ⊥
 Reached least level low (Placed stage on at) = (on ≡ level) × (at ≡ low) × (least ≤ rank stage)
 Reached least level low (Cleared actor on at) = (on ≡ level) × (at ≡ low)
 
--- who has which row and page, and what stands in rows and slots
+-- who has which row and page, the terms that the pages of each level have above it, and what stands in rows and slots
 pub record Shape : Type 0 where
   pub owner : ℕ → Owner
   pub page : ℕ → PageOwner
+  pub index : ℕ → List ℕ → Option Content
   pub rows : ℕ → Option Record
   pub slots : ℕ → ℕ
 

@@ -3,3 +3,4 @@ pub mod Owners
 pub mod State
 pub mod Examples
 pub mod Levels
+pub mod Trees
