@@ -15,3 +15,4 @@ pub mod KeyOrder
 pub mod Sides
 pub mod Merged
 pub mod Trees
+pub mod Terms
