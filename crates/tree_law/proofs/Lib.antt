@@ -5,6 +5,7 @@ pub mod Indexing
 pub mod Keeping
 pub mod Kept
 pub mod KeyOrder
+pub mod Mapping
 pub mod Merging
 pub mod Opening
 pub mod Puts

@@ -1,14 +1,15 @@
 -- What is proved of the tree: the opening memory meets the invariant, and each step of an actor that obeys its discipline
 -- keeps it, whatever the other actors are about to do.
-use Rattle.std.specs.Prelude.{◌≡◌, ◌≢◌, ℕ, List, [], ◌∷◌, Option, None, Bool}
+use Rattle.std.specs.Prelude.{◌≡◌, ◌≢◌, ℕ, List, [], ◌∷◌, Option, None, Some, Bool, ◌↔◌}
 use Rattle.bw_model.specs.declared.command.Command.{Command}
 use Rattle.bw_model.specs.declared.command.Reply.{Reply}
 use Rattle.bw_model.specs.declared.limits.Limits.{Limits}
 use Rattle.bw_model.specs.declared.step.Step.{Step as StepOf}
 use Rattle.bw_model.specs.declared.step.Answer.{Answer}
-use Rattle.bw_model.specs.Log.{Update}
+use Rattle.bw_model.specs.Log.{Update, value_in}
 use Rattle.deltas.specs.declared.record.Record.{Record}
 use Rattle.deltas.specs.Memory.{Memory, opening}
+use Rattle.chain_search.specs.SideChain.{LivePage, IsLeaves, IsWhole, Spells}
 use Rattle.chain_search.specs.Steps.{IsAnswer, memory_after}
 use Rattle.tree_law.specs.Keys.{Key, IsBelow, IsUpTo}
 use Rattle.tree_law.specs.Knowledge.{Knowledge, nothing, begun}
@@ -47,3 +48,8 @@ StepLaw = (memory : Memory) (log : List Update) (o : Owners) (knows : ℕ → Kn
 abbrev pub AnswerLaw : Type 0
 AnswerLaw = (m : Shared) (log : List Update) (o : Owners) (knows : ℕ → Knowledge) (point : ℕ → Option (List Update)) (logs : ℕ → List (List Update)) → Good m log o knows point logs
     → (a : ℕ) (command : Command) (reply : Reply) → MayAnswer a (knows a) command reply → IsRepliedAt a command reply (point a) (log ∷ logs a)
+
+-- The memory has the map of the log: the leaves are whole, and have at each key the value that the log says.
+abbrev pub MapLaw : Type 0
+MapLaw = (memory : Memory) (log : List Update) (o : Owners) (knows : ℕ → Knowledge) (point : ℕ → Option (List Update)) (logs : ℕ → List (List Update)) → Good (shared memory) log o knows point logs
+    → ((leaves : List LivePage) × IsLeaves memory leaves × IsWhole leaves) × ((key value : Key) → Spells memory key value ↔ (value_in log key ≡ Some value))
