@@ -8,6 +8,7 @@ pub mod KeyOrder
 pub mod Mapping
 pub mod Merging
 pub mod Opening
+pub mod Parting
 pub mod Puts
 pub mod Reading
 pub mod Relinking
