@@ -9,6 +9,7 @@ pub mod Mapping
 pub mod Merging
 pub mod Opening
 pub mod Parting
+pub mod Placing
 pub mod Puts
 pub mod Reading
 pub mod Relinking
