@@ -5,8 +5,11 @@ pub mod Indexing
 pub mod Keeping
 pub mod Kept
 pub mod KeyOrder
+pub mod Mapping
 pub mod Merging
 pub mod Opening
+pub mod Parting
+pub mod Placing
 pub mod Puts
 pub mod Reading
 pub mod Relinking

@@ -4,6 +4,7 @@ pub mod Knowledge
 pub mod Laws
 pub mod Next
 pub mod Owners
+pub mod Parted
 pub mod Phase
 pub mod Phases
 pub mod Put
