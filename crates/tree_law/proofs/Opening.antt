@@ -94,6 +94,7 @@ parts limits = record {
   free_below = λ r f. let h = between 2 limits.rows r f in ((let l = h.0 in omega arith), h.1);
   page_below = λ p. by_test p 1 (λ t. cond t (Placed Indexed 0 []) Nobody ≢ Nobody → (0 < p) × (p < limits.pids)) (λ i n. let few = limits.allowed.some_pids in ((omega arith), (omega arith))) (λ ne n. absurd (n refl));
   free_page_below = λ p f. let h = between 2 limits.pids p f in ((let l = h.0 in omega arith), h.1);
+  ready_fits = λ b p x e. absurd (cc);
   slots_fit = λ p x e. inl (slot p x (sym (ap (λ (f : ℕ → Option ℕ). f p) (opening_slots limits)) ∙ e));
 }
   where

@@ -63,9 +63,14 @@ may_place memory {o = o} {knows = knows} g pids rows h a row own apart = (taken 
     unlinked : IsOnChain memory row → ⊥
     unlinked (pid, chain, is, among) = ⊎_elim
         (λ (l : o.row (memory.slots pid) ≡ Linked). absurd (let f = sym spare ∙ chain_linked memory o g.closed chain (memory.slots pid) l is.records row among in cc))
-        (λ (u : (b : ℕ) × ((knows b).pages pid ≡ Ready (memory.slots pid)) × (o.row (memory.slots pid) ≡ Spare b) × IsBaseIn (memory.rows (memory.slots pid))).
-        let same = base_alone memory.rows chain (memory.slots pid) is.records u.3 row among in
-        let f : Spare u.0 ≡ Spare a = sym u.2 ∙ ap o.row same ∙ spare in
+        (λ (u : (b : ℕ) × ((knows b).pages pid ≡ Ready (memory.slots pid))).
+        let fits = h.ready_fits u.0 pid (memory.slots pid) u.1 in
+        let same = base_alone memory.rows chain (memory.slots pid) is.records fits.1 row among in
+        ⊎_elim
+        (λ (v : o.row (memory.slots pid) ≡ Spare u.0).
+        let f : Spare u.0 ≡ Spare a = sym v ∙ ap o.row same ∙ spare in
         let b : u.0 ≡ a = cc in
         apart pid (subst (λ (n : ℕ). (knows n).pages pid ≡ Ready row) b (u.1 ∙ ap Ready same)))
+        (λ (v : o.row (memory.slots pid) ≡ Linked). absurd (let f = sym v ∙ ap o.row same ∙ spare in cc))
+        fits.0)
         (h.slots_fit pid (memory.slots pid) (slot_row memory.slots pid is.page is.linked))
