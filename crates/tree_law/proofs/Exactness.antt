@@ -1,21 +1,20 @@
 -- Each level is a whole side chain, and each level above the leaves has just the terms of the pages under it.
-use Rattle.std.proofs.Common.{◌≡◌, ◌≢◌, ◌⊎◌, inl, inr, ℕ, zero, suc, ◌<◌, ◌≤◌, List, [], ◌∷◌, map, Option, Some, None, Bool, true, false, refl, sym, ap, ◌∙◌, subst, ⊎_elim, arith}
+use Rattle.std.proofs.Common.{◌≡◌, inl, ℕ, suc, ◌≤◌, List, [], ◌∷◌, map, Option, Some, None, Bool, sym, ap, ◌∙◌, subst, ⊎_elim, arith}
 use Rattle.std.specs.Prelude.{IsTrue}
-use Rattle.std.specs.List.{Contains}
 use Rattle.std.proofs.lemmas.Option.{same_Some}
 use Rattle.bw_model.specs.Log.{Update}
 use Rattle.base_page.specs.declared.item.Content.{Content}
 use Rattle.base_page.specs.declared.item.Content.TheVariants.{Child}
 use Rattle.deltas.specs.declared.record.Record.{Record}
 use Rattle.deltas.specs.Memory.{Memory}
-use Rattle.chain_search.specs.Chains.{IsChainOf, content_in, level_in, low_in, high_in, right_in, covers}
+use Rattle.chain_search.specs.Chains.{IsChainOf, content_in, level_in, low_in, high_in, covers}
 use Rattle.chain_search.specs.SideChain.{LivePage}
 use Rattle.chain_search.proofs.ChainLaws.{IsChainOf-unique}
 use Rattle.tree_law.specs.Keys.{Key, IsUpTo, IsUnder, Covers}
 use Rattle.tree_law.specs.Knowledge.{Knowledge}
-use Rattle.tree_law.specs.Phase.{Stage, Merged, PageOwner, Placed, Cleared, mark, rank}
+use Rattle.tree_law.specs.Phase.{Stage, Merged, Placed, rank}
 use Rattle.tree_law.specs.Shared.{Shared, shared}
-use Rattle.tree_law.specs.Owners.{Owners, IsCleared}
+use Rattle.tree_law.specs.Owners.{Owners}
 use Rattle.tree_law.specs.Tree.{Page, InPlace, IsPart, spec, Level, IsOut, Off, Good}
 use Rattle.tree_law.specs.Indexed.{HasTerm, IsPageAt, HasMark, IsIndexed}
 use Rattle.tree_law.proofs.KeyOrder.{empty_lowest, covers_from, covers_to}
@@ -36,8 +35,7 @@ module _ (memory : Memory) {log : List Update} {o : Owners} {knows : ℕ → Kno
   page_at q l s st e = ⊎_elim
       (λ (on : rank st ≤ 3).
       let t = g.tree.levels l (g.tree.exact.below q l s st e) in
-      let f = locate o (shared memory) l (spec log o.index l) t.side (Some (g.tree.first l)) (Some []) None None q t.whole (t.listed q s st e on) in
-      (
+      let f = locate o (shared memory) l (spec log o.index l) t.side (Some (g.tree.first l)) (Some []) None None q t.whole (t.listed q s st e on) in (
         f.page.chain,
         subst (λ (n : ℕ). IsChainOf memory n f.page.chain) f.is (chain_of memory o l (spec log o.index l) f.page f.here),
         f.here.is_page.on_level,

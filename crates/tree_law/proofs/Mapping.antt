@@ -1,22 +1,21 @@
 -- The memory has the map of the log: the leaves are whole, and decide each key as the log does.
-use Rattle.std.proofs.Common.{◌≡◌, ◌≢◌, ◌⊎◌, inl, inr, ℕ, zero, suc, ◌<◌, ◌≤◌, List, [], ◌∷◌, length, map, Option, Some, None, Bool, true, false, refl, sym, ap, ◌∙◌, subst, ⊎_elim, arith}
-use Rattle.std.specs.Prelude.{MatchOption, IsTrue, ◌↔◌, slice_index_or}
+use Rattle.std.proofs.Common.{◌≡◌, ℕ, zero, suc, ◌<◌, List, [], ◌∷◌, map, Option, Some, None, Bool, true, false, refl, sym, ap, ◌∙◌, subst, arith}
+use Rattle.std.specs.Prelude.{MatchOption, IsTrue, ◌↔◌}
 use Rattle.std.specs.List.{Contains}
 use Rattle.std.proofs.lemmas.Option.{same_Some}
 use Rattle.bw_model.specs.Bytes.{is_under}
 use Rattle.bw_model.specs.Log.{Update, value_in}
 use Rattle.base_page.specs.declared.item.Content.{Content}
-use Rattle.base_page.specs.declared.item.Content.TheVariants.{Value, Child}
 use Rattle.deltas.specs.declared.record.Record.{Record}
 use Rattle.deltas.specs.Memory.{Memory}
-use Rattle.chain_search.specs.Chains.{IsChainOf, content_in, level_in, low_in, high_in, right_in, covers}
+use Rattle.chain_search.specs.Chains.{IsChainOf, content_in, low_in, high_in, right_in, covers}
 use Rattle.chain_search.specs.SideChain.{LivePage, IsSideChainFrom, IsWholeFrom, IsWhole, IsLeaves, Spells}
 use Rattle.chain_search.proofs.ChainLaws.{IsSideChainFrom-unique}
-use Rattle.tree_law.specs.Keys.{Key, IsUpTo, IsUnder, Covers}
+use Rattle.tree_law.specs.Keys.{Key, IsUnder, Covers}
 use Rattle.tree_law.specs.Knowledge.{Knowledge}
-use Rattle.tree_law.specs.Shared.{Shared, row_in, slot_in, shared}
+use Rattle.tree_law.specs.Shared.{row_in, slot_in, shared}
 use Rattle.tree_law.specs.Owners.{IsChain, Owners, leaf_map}
-use Rattle.tree_law.specs.Tree.{Page, InPlace, IsPart, spec, Level, Good}
+use Rattle.tree_law.specs.Tree.{Page, InPlace, IsPart, Level, Good}
 use Rattle.tree_law.proofs.KeyOrder.{empty_lowest, covers_from, covers_to}
 use Rattle.tree_law.proofs.Sides.{StartsFrom}
 use Rattle.tree_law.proofs.Updating.{value_of_map}

@@ -2,8 +2,8 @@
 use Rattle.std.proofs.Common.{◌≡◌, ◌≢◌, ◌⊎◌, inl, inr, ℕ, ◌<◌, Option, Some, None, Bool, true, false, cond, refl, sym, ap, ◌∙◌, subst, ⊎_elim}
 use Rattle.std.proofs.lemmas.Option.{same_Some}
 use Rattle.deltas.specs.declared.record.Record.{Record}
-use Rattle.tree_law.specs.Knowledge.{OwnPage, Other, Empty, Ready, Knowledge}
-use Rattle.tree_law.specs.Phase.{PageOwner, Nobody, Keeps}
+use Rattle.tree_law.specs.Knowledge.{OwnPage, Empty, Ready, Knowledge}
+use Rattle.tree_law.specs.Phase.{Nobody, Keeps}
 use Rattle.tree_law.specs.Put.{put}
 use Rattle.tree_law.specs.Shared.{Shared}
 use Rattle.tree_law.specs.Owners.{Owner, Free, Spare, Linked, Owners}
@@ -92,13 +92,16 @@ module _ {pids rows : ℕ} {m : Shared} {o : Owners} {knows : ℕ → Knowledge}
     free_page_below = h.free_page_below;
     slots_fit = slots_kept (record m { rows = put m.rows q (Some w) }) o (λ p x s. inl s) (λ x l. l) (λ p x s t i. inr (ap (λ (f : ℕ → OwnPage). f p) e ∙ i));
     ready_fits = ready_kept (record m { rows = put m.rows q (Some w) }) o
-        (λ b p x i s. (s, put_other m.rows q (Some w) x (λ j. ⊎_elim
-        (λ (u : o.row x ≡ Spare b).
-        let f : Spare a ≡ Spare b = sym own ∙ sym (ap o.row j) ∙ u in
-        let same : b ≡ a = cc in
-        apart p (subst (λ (n : ℕ). (knows n).pages p ≡ Ready q) same (i ∙ ap Ready j)))
-        (λ (u : o.row x ≡ Linked). absurd (let f = sym own ∙ sym (ap o.row j) ∙ u in cc))
-        s)))
+        (λ b p x i s. (
+          s,
+          put_other m.rows q (Some w) x (λ j. ⊎_elim
+              (λ (u : o.row x ≡ Spare b).
+              let f : Spare a ≡ Spare b = sym own ∙ sym (ap o.row j) ∙ u in
+              let same : b ≡ a = cc in
+              apart p (subst (λ (n : ℕ). (knows n).pages p ≡ Ready q) same (i ∙ ap Ready j)))
+              (λ (u : o.row x ≡ Linked). absurd (let f = sym own ∙ sym (ap o.row j) ∙ u in cc))
+              s),
+        ))
         (λ p x i. inl (sym (ap (λ (f : ℕ → OwnPage). f p) e) ∙ i));
   }
 

@@ -1,19 +1,18 @@
 -- An own row that is placed is taken, and stands on no chain.
-use Rattle.std.proofs.Common.{◌≡◌, ◌≢◌, ◌⊎◌, inl, inr, ℕ, zero, suc, ◌<◌, List, [], ◌∷◌, length, Option, Some, None, Bool, true, false, refl, sym, ap, ◌∙◌, subst, ⊎_elim, arith}
+use Rattle.std.proofs.Common.{◌≡◌, ℕ, zero, suc, ◌<◌, List, [], ◌∷◌, length, Option, Some, None, Bool, true, false, refl, sym, ap, ◌∙◌, subst, ⊎_elim, arith}
 use Rattle.std.specs.Prelude.{MatchOption, IfSome, unwrap_or, slice_index_or}
 use Rattle.std.specs.List.{Contains}
 use Rattle.std.proofs.lemmas.Option.{same_Some}
 use Rattle.bw_model.specs.Log.{Update}
-use Rattle.base_page.specs.Pages.{Page as PageOf}
 use Rattle.deltas.specs.declared.record.Record.{Record}
 use Rattle.deltas.specs.declared.record.Record.TheVariants.{Base}
 use Rattle.deltas.specs.Records.{next_row}
 use Rattle.deltas.specs.Memory.{Memory}
-use Rattle.chain_search.specs.Chains.{IsChainFrom, IsChainOf, IsOnChain, chain_rows}
+use Rattle.chain_search.specs.Chains.{IsChainFrom, IsOnChain, chain_rows}
 use Rattle.tree_law.specs.Knowledge.{Ready, Knowledge}
 use Rattle.tree_law.specs.Discipline.{IsOwn}
-use Rattle.tree_law.specs.Shared.{Shared, row_in, slot_in, shared}
-use Rattle.tree_law.specs.Owners.{Owner, Free, Spare, Linked, Owners, IsClosed}
+use Rattle.tree_law.specs.Shared.{row_in, slot_in, shared}
+use Rattle.tree_law.specs.Owners.{Spare, Linked, Owners, IsClosed}
 use Rattle.tree_law.specs.Parted.{IsBaseIn, IsParted}
 use Rattle.tree_law.specs.Tree.{Good}
 use Rattle.tree_law.proofs.Taking.{own_spare}

@@ -1,13 +1,13 @@
 -- Each allowed step with the memory's answer keeps the invariant.
-use Rattle.std.proofs.Common.{◌≡◌, ◌≢◌, ◌⊎◌, inl, inr, ℕ, zero, suc, ◌<◌, ◌≤◌, List, [], ◌∷◌, ◌++◌, Option, Some, None, Bool, true, false, cond, eqb, refl, sym, ap, ◌∙◌, subst, ⊎_elim, arith}
-use Rattle.std.specs.Prelude.{IfSome, IsTrue}
+use Rattle.std.proofs.Common.{◌≡◌, ◌⊎◌, inl, inr, ℕ, zero, suc, ◌≤◌, List, [], ◌∷◌, Option, Some, None, Bool, true, false, cond, eqb, refl, sym, ap, ◌∙◌, subst, ⊎_elim, arith}
+use Rattle.std.specs.Prelude.{IsTrue}
 use Rattle.std.proofs.lemmas.Option.{same_Some}
 use Rattle.bw_model.specs.declared.command.Reply.{Reply}
 use Rattle.bw_model.specs.declared.step.Step.{Step as StepOf}
 use Rattle.bw_model.specs.declared.step.Step.TheVariants.{Slot, Row, Epoch, Announce, PidBits, RowBits, Place, Exchange, TakePid, TakeRow, Enter, Leave, Retire, ReusePids, ReuseRows}
 use Rattle.bw_model.specs.declared.step.Answer.{Answer}
 use Rattle.bw_model.specs.declared.step.Answer.TheVariants.{Number, Content, Whether, Done}
-use Rattle.bw_model.specs.Log.{Update, set, unset, value_in}
+use Rattle.bw_model.specs.Log.{Update, set, unset}
 use Rattle.base_page.specs.declared.item.Content.{Content as ContentOf}
 use Rattle.base_page.specs.declared.item.Content.TheVariants.{Child}
 use Rattle.deltas.specs.declared.record.Record.{Record}
@@ -16,16 +16,16 @@ use Rattle.deltas.specs.Memory.{Memory, replaced_at}
 use Rattle.chain_search.specs.Chains.{level_in, low_in, high_in, right_in}
 use Rattle.chain_search.specs.Steps.{IsAnswer, memory_after}
 use Rattle.tree_law.specs.Keys.{Key, IsBelow, put_key}
-use Rattle.tree_law.specs.Knowledge.{OwnRow, Foreign, Taken, Written, OwnPage, Other, Empty, Ready, Gone, Knowledge, learn_head, learn_slot, split_off, linked_over, filled, emptied, rooted, learn, finished}
+use Rattle.tree_law.specs.Knowledge.{OwnRow, Foreign, Taken, Written, OwnPage, Other, Empty, Ready, Gone, Knowledge, learn_head, split_off, linked_over, filled, emptied, rooted, learn, finished}
 use Rattle.tree_law.specs.Discipline.{record_of, base_from, root_over, HasRead, IsMet, IsOwnBase, MayUpdate, MayConsolidate, MaySplit, MayPost, MayHold, MayRemove, MayMerge, MayUnterm, MayRoot, MayLink, MayExchange, May}
 use Rattle.tree_law.specs.Phase.{Stage, Fresh, Indexed, Held, Removed, Merged, PageOwner, Nobody, Keeps, Placed, Cleared, rank}
-use Rattle.tree_law.specs.Phases.{Links, Exchanged}
+use Rattle.tree_law.specs.Phases.{Links}
 use Rattle.tree_law.specs.Put.{put}
 use Rattle.tree_law.specs.Shared.{Shared, row_in, slot_in, shared}
-use Rattle.tree_law.specs.Owners.{Owner, Free, Spare, Linked, Owners, OwnFits, PageFits, Reached, Spells}
+use Rattle.tree_law.specs.Owners.{Owner, Spare, Linked, Owners, OwnFits, PageFits, Reached, Spells}
 use Rattle.tree_law.specs.Parted.{IsBaseIn, IsParted}
 use Rattle.tree_law.specs.Tree.{IsOff, Good}
-use Rattle.tree_law.specs.Next.{IsDue, Next}
+use Rattle.tree_law.specs.Next.{Next}
 use Rattle.tree_law.proofs.Puts.{by_test, put_same, put_other}
 use Rattle.tree_law.proofs.Keeping.{idles, leaves, slot_of, met_placed}
 use Rattle.tree_law.proofs.Reading.{reads_root, reads_slot, reads_row}
@@ -446,33 +446,33 @@ module _ (memory : Memory) {log : List Update} {o : Owners} {knows : ℕ → Kno
   -- an exchange of slot 0 that won
   exchanges_root : (x y : ℕ) (r : Option Reply) → memory.slots 0 ≡ x → MayRoot (knows a) x y → Next a (shared memory) (record (shared memory) { root = y }) log o knows point logs (Exchange 0 x y) (Whether true) r
   exchanges_root x y r s h =
-    let n = roots g a x y s h r in
-    let owners' : Owners = record {
-      row = put o.row h.base_row Linked;
-      page = put (put o.page h.right (Placed Indexed g.tree.top h.separator)) y (Placed Indexed (suc g.tree.top) []);
-      index = put o.index g.tree.top (put_key (put_key (λ k. None) h.separator (Some (Child h.right false))) [] (Some (Child (memory.slots 0) false)));
-    } in
-    record {
-    update = None;
-    due = tt;
-    last = λ i. refl;
-    owners = owners';
-    phased = (h.right, g.tree.top, suc (level_in h.basis.chain), h.base_row, h.separator, (own_kept y (Ready h.base_row) h.ready).1, placed_row g a h.base_row (root_over (suc (level_in h.basis.chain)) x h.separator h.right) h.base, n.1.0, n.1.1, n.1.2, refl);
-    kept = linked_rows h.base_row;
-    offs = λ q l low. by_test q y (λ t. IsOff (cond t (Placed Indexed (suc g.tree.top) []) (put o.page h.right (Placed Indexed g.tree.top h.separator) q)) l low → IsOff (o.page q) l low ⊎ IsBelow [] low)
-        (λ i e. absurd (on_side Indexed (suc g.tree.top) [] (omega arith) l low e))
-        (λ ne e. kept_offs h.right (Placed Indexed g.tree.top h.separator) (on_side Indexed g.tree.top h.separator (omega arith)) q l low e);
-    parted = λ pids rows i. subst (λ (v : OwnPage). IsParted pids rows (record (shared memory) { root = y }) owners' (put knows a (finished (rooted v y (knows a)) r))) (sym h.ready)
-        (linked_parted i a (finished (rooted (Ready h.base_row) y (knows a)) r) owners' (record (shared memory) { root = y }) refl refl refl (λ j z e. inl e)
-        (link_row h.base_row (own_row h.base_row (root_over (suc (level_in h.basis.chain)) x h.separator h.right) h.base))
-        (λ q free. put_other (put o.page h.right (Placed Indexed g.tree.top h.separator)) y (Placed Indexed (suc g.tree.top) []) q (λ j. absurd (let f = sym n.1.2 ∙ sym (ap o.page j) ∙ free in cc))
-        ∙ taken_still h.right (Placed Fresh g.tree.top h.separator) (Placed Indexed g.tree.top h.separator) n.1.1 (λ e. absurd (cc)) q free)
-        (λ j z e. by_test j y (λ t. (put o.row h.base_row Linked z ≡ Linked) ⊎ (cond t Other ((knows a).pages j) ≡ Ready z))
-        (λ same. let f : Ready h.base_row ≡ Ready z = sym h.ready ∙ sym (ap (knows a).pages same) ∙ e in let k : h.base_row ≡ z = cc in inl (ap (put o.row h.base_row Linked) (sym k) ∙ put_same o.row h.base_row Linked))
-        (λ ne. inr e))
-        (λ j z. by_test j y (λ t. cond t Other ((knows a).pages j) ≡ Ready z → (knows a).pages j ≡ Ready z) (λ same e. absurd (cc)) (λ ne e. e)));
-    good = n.0;
-  }
+      let n = roots g a x y s h r in
+      let owners' : Owners = record {
+        row = put o.row h.base_row Linked;
+        page = put (put o.page h.right (Placed Indexed g.tree.top h.separator)) y (Placed Indexed (suc g.tree.top) []);
+        index = put o.index g.tree.top (put_key (put_key (λ k. None) h.separator (Some (Child h.right false))) [] (Some (Child (memory.slots 0) false)));
+      } in
+      record {
+        update = None;
+        due = tt;
+        last = λ i. refl;
+        owners = owners';
+        phased = (h.right, g.tree.top, suc (level_in h.basis.chain), h.base_row, h.separator, (own_kept y (Ready h.base_row) h.ready).1, placed_row g a h.base_row (root_over (suc (level_in h.basis.chain)) x h.separator h.right) h.base, n.1.0, n.1.1, n.1.2, refl);
+        kept = linked_rows h.base_row;
+        offs = λ q l low. by_test q y (λ t. IsOff (cond t (Placed Indexed (suc g.tree.top) []) (put o.page h.right (Placed Indexed g.tree.top h.separator) q)) l low → IsOff (o.page q) l low ⊎ IsBelow [] low)
+            (λ i e. absurd (on_side Indexed (suc g.tree.top) [] (omega arith) l low e))
+            (λ ne e. kept_offs h.right (Placed Indexed g.tree.top h.separator) (on_side Indexed g.tree.top h.separator (omega arith)) q l low e);
+        parted = λ pids rows i. subst (λ (v : OwnPage). IsParted pids rows (record (shared memory) { root = y }) owners' (put knows a (finished (rooted v y (knows a)) r))) (sym h.ready)
+            (linked_parted i a (finished (rooted (Ready h.base_row) y (knows a)) r) owners' (record (shared memory) { root = y }) refl refl refl (λ j z e. inl e)
+            (link_row h.base_row (own_row h.base_row (root_over (suc (level_in h.basis.chain)) x h.separator h.right) h.base))
+            (λ q free. put_other (put o.page h.right (Placed Indexed g.tree.top h.separator)) y (Placed Indexed (suc g.tree.top) []) q (λ j. absurd (let f = sym n.1.2 ∙ sym (ap o.page j) ∙ free in cc))
+            ∙ taken_still h.right (Placed Fresh g.tree.top h.separator) (Placed Indexed g.tree.top h.separator) n.1.1 (λ e. absurd (cc)) q free)
+            (λ j z e. by_test j y (λ t. (put o.row h.base_row Linked z ≡ Linked) ⊎ (cond t Other ((knows a).pages j) ≡ Ready z))
+            (λ same. let f : Ready h.base_row ≡ Ready z = sym h.ready ∙ sym (ap (knows a).pages same) ∙ e in let k : h.base_row ≡ z = cc in inl (ap (put o.row h.base_row Linked) (sym k) ∙ put_same o.row h.base_row Linked))
+            (λ ne. inr e))
+            (λ j z. by_test j y (λ t. cond t Other ((knows a).pages j) ≡ Ready z → (knows a).pages j ≡ Ready z) (λ same e. absurd (cc)) (λ ne e. e)));
+        good = n.0;
+      }
 
   exchange : (p x y : ℕ) (r : Option Reply) → MayExchange a (knows a) p x y → After (memory_after a (Exchange p x y) memory) (Exchange p x y) (Whether (eqb (memory.slots p) x)) r
   exchange zero x y r h = by_test (memory.slots 0) x (λ t. After (record memory { slots = cond t (replaced_at 0 y memory.slots) memory.slots }) (Exchange 0 x y) (Whether t) r)

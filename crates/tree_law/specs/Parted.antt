@@ -1,5 +1,5 @@
 -- Numbers in use are above 0 and below the limits, and a row in a slot is linked, or the base of an own page that is ready.
-use Rattle.std.specs.Prelude.{◌≡◌, ◌≢◌, ◌<◌, ℕ, ◌⊎◌, Option, Some, Bool, true}
+use Rattle.std.specs.Prelude.{◌≡◌, ◌≢◌, ◌<◌, ℕ, ◌⊎◌, Option, Some, true}
 use Rattle.base_page.specs.Pages.{Page as PageOf}
 use Rattle.deltas.specs.declared.record.Record.{Record}
 use Rattle.deltas.specs.declared.record.Record.TheVariants.{Base}
