@@ -1,5 +1,6 @@
 pub mod Answering
 pub mod Chains
+pub mod Exactness
 pub mod Frames
 pub mod Indexing
 pub mod Keeping

@@ -1,22 +1,21 @@
 -- The memory has the map of the log: the leaves are whole, and decide each key as the log does.
-use Rattle.std.proofs.Common.{◌≡◌, ◌≢◌, ◌⊎◌, inl, inr, ℕ, zero, suc, ◌<◌, ◌≤◌, List, [], ◌∷◌, length, map, Option, Some, None, Bool, true, false, refl, sym, ap, ◌∙◌, subst, ⊎_elim, arith}
-use Rattle.std.specs.Prelude.{MatchOption, IsTrue, ◌↔◌, slice_index_or}
+use Rattle.std.proofs.Common.{◌≡◌, ℕ, zero, suc, ◌<◌, List, [], ◌∷◌, map, Option, Some, None, Bool, true, false, refl, sym, ap, ◌∙◌, subst, arith}
+use Rattle.std.specs.Prelude.{MatchOption, IsTrue, ◌↔◌}
 use Rattle.std.specs.List.{Contains}
 use Rattle.std.proofs.lemmas.Option.{same_Some}
 use Rattle.bw_model.specs.Bytes.{is_under}
 use Rattle.bw_model.specs.Log.{Update, value_in}
 use Rattle.base_page.specs.declared.item.Content.{Content}
-use Rattle.base_page.specs.declared.item.Content.TheVariants.{Value, Child}
 use Rattle.deltas.specs.declared.record.Record.{Record}
 use Rattle.deltas.specs.Memory.{Memory}
-use Rattle.chain_search.specs.Chains.{IsChainOf, content_in, level_in, low_in, high_in, right_in, covers}
+use Rattle.chain_search.specs.Chains.{IsChainOf, content_in, low_in, high_in, right_in, covers}
 use Rattle.chain_search.specs.SideChain.{LivePage, IsSideChainFrom, IsWholeFrom, IsWhole, IsLeaves, Spells}
 use Rattle.chain_search.proofs.ChainLaws.{IsSideChainFrom-unique}
-use Rattle.tree_law.specs.Keys.{Key, IsUpTo, IsUnder, Covers}
+use Rattle.tree_law.specs.Keys.{Key, IsUnder, Covers}
 use Rattle.tree_law.specs.Knowledge.{Knowledge}
-use Rattle.tree_law.specs.Shared.{Shared, row_in, slot_in, shared}
-use Rattle.tree_law.specs.Owners.{Owners, leaf_map}
-use Rattle.tree_law.specs.Tree.{Page, InPlace, IsPart, spec, Level, Good}
+use Rattle.tree_law.specs.Shared.{row_in, slot_in, shared}
+use Rattle.tree_law.specs.Owners.{IsChain, Owners, leaf_map}
+use Rattle.tree_law.specs.Tree.{Page, InPlace, IsPart, Level, Good}
 use Rattle.tree_law.proofs.KeyOrder.{empty_lowest, covers_from, covers_to}
 use Rattle.tree_law.proofs.Sides.{StartsFrom}
 use Rattle.tree_law.proofs.Updating.{value_of_map}
@@ -40,11 +39,12 @@ holds slots (suc p) x e = go (slots (suc p)) refl e
     go zero i f = absurd (cc)
     go (suc n) i f = let same : suc n ≡ x = same_Some (suc n) x f in record { page = omega arith; row = i ∙ same; some = omega arith }
 
+pub chain_at : (memory : Memory) (p x : ℕ) (c : List Record) → slot_in memory.slots p ≡ Some x → IsChain memory.rows c (Some x) → IsChainOf memory p c
+chain_at memory p x c e h = let s = holds memory.slots p x e in record { page = s.page; linked = subst (λ (n : ℕ). 0 < n) (sym s.row) s.some; records = rw s.row h }
+
 module _ (memory : Memory) (o : Owners) (lv : ℕ) (mp : Key → Option Content) where
   pub chain_of : (g : Page) → InPlace o (shared memory) lv mp g → IsChainOf memory g.page g.chain
-  chain_of g h =
-      let s = holds memory.slots g.page g.row h.is_page.head in
-      record { page = s.page; linked = subst (λ (n : ℕ). 0 < n) (sym s.row) s.some; records = rw s.row h.is_page.is_chain }
+  chain_of g h = chain_at memory g.page g.row g.chain h.is_page.head h.is_page.is_chain
 
   -- the pages are a side chain, and their ranges follow one another
   pub side_from : (gs : List Page) (p : Option ℕ) (low : Option Key) → IsPart o (shared memory) lv mp gs p low None None → MatchOption p (map live gs ≡ []) (λ q. IsSideChainFrom memory q (map live gs))

@@ -1,16 +1,15 @@
 -- The opening memory meets the invariant: one empty leaf, which is the root.
-use Rattle.std.proofs.Common.{◌≡◌, ◌≢◌, ◌⊎◌, inl, inr, ℕ, zero, suc, ◌<◌, ◌≤◌, List, [], ◌∷◌, Option, Some, None, Bool, true, false, cond, eqb, refl, sym, ap, ◌∙◌, subst, ⊎_elim, arith}
+use Rattle.std.proofs.Common.{◌≡◌, ◌≢◌, ◌⊎◌, inl, inr, ℕ, zero, suc, ◌<◌, ◌≤◌, [], ◌∷◌, Option, Some, None, Bool, true, false, cond, refl, sym, ap, ◌∙◌, subst, arith}
 use Rattle.std.proofs.lemmas.Bool.Decides.{nat_tests}
 use Rattle.std.specs.Prelude.{nat_le, nat_lt, ◌&&◌}
 use Rattle.std.proofs.lemmas.Option.{same_Some}
 use Rattle.bw_model.specs.declared.limits.Limits.{Limits}
 use Rattle.base_page.specs.Pages.{empty_leaf}
-use Rattle.deltas.specs.declared.record.Record.{Record}
 use Rattle.deltas.specs.declared.record.Record.TheVariants.{Base}
 use Rattle.deltas.specs.Memory.{opening}
 use Rattle.tree_law.specs.Keys.{Key}
 use Rattle.tree_law.specs.Knowledge.{nothing}
-use Rattle.tree_law.specs.Phase.{Stage, Fresh, Indexed, PageOwner, Nobody, Placed, Cleared, rank}
+use Rattle.tree_law.specs.Phase.{Fresh, Indexed, Nobody, Placed, Cleared, rank}
 use Rattle.tree_law.specs.Put.{put}
 use Rattle.tree_law.specs.Shared.{Shared, row_in, slot_in, shared}
 use Rattle.tree_law.specs.Owners.{Free, Linked, Owners, IsLinked}
@@ -94,6 +93,7 @@ parts limits = record {
   free_below = λ r f. let h = between 2 limits.rows r f in ((let l = h.0 in omega arith), h.1);
   page_below = λ p. by_test p 1 (λ t. cond t (Placed Indexed 0 []) Nobody ≢ Nobody → (0 < p) × (p < limits.pids)) (λ i n. let few = limits.allowed.some_pids in ((omega arith), (omega arith))) (λ ne n. absurd (n refl));
   free_page_below = λ p f. let h = between 2 limits.pids p f in ((let l = h.0 in omega arith), h.1);
+  ready_fits = λ b p x e. absurd (cc);
   slots_fit = λ p x e. inl (slot p x (sym (ap (λ (f : ℕ → Option ℕ). f p) (opening_slots limits)) ∙ e));
 }
   where

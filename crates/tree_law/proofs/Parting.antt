@@ -2,38 +2,50 @@
 use Rattle.std.proofs.Common.{◌≡◌, ◌≢◌, ◌⊎◌, inl, inr, ℕ, ◌<◌, Option, Some, None, Bool, true, false, cond, refl, sym, ap, ◌∙◌, subst, ⊎_elim}
 use Rattle.std.proofs.lemmas.Option.{same_Some}
 use Rattle.deltas.specs.declared.record.Record.{Record}
-use Rattle.tree_law.specs.Knowledge.{OwnPage, Other, Empty, Ready, Knowledge}
-use Rattle.tree_law.specs.Phase.{PageOwner, Nobody, Keeps}
+use Rattle.tree_law.specs.Knowledge.{OwnPage, Empty, Ready, Knowledge}
+use Rattle.tree_law.specs.Phase.{Nobody, Keeps}
 use Rattle.tree_law.specs.Put.{put}
 use Rattle.tree_law.specs.Shared.{Shared}
 use Rattle.tree_law.specs.Owners.{Owner, Free, Spare, Linked, Owners}
-use Rattle.tree_law.specs.Parted.{IsBaseIn, Stands, IsParted}
+use Rattle.tree_law.specs.Parted.{IsBaseIn, Stands, WasOwn, IsParted}
 use Rattle.tree_law.proofs.Puts.{by_test, put_same, put_other}
+
+not_free : (w : Owner) (b : ℕ) → WasOwn w b → w ≡ Free → ⊥
+not_free w b (inl e) f = absurd (let g = sym e ∙ f in cc)
+not_free w b (inr e) f = absurd (let g = sym e ∙ f in cc)
 
 module _ {pids rows : ℕ} {m : Shared} {o : Owners} {knows : ℕ → Knowledge} (h : IsParted pids rows m o knows) (a : ℕ) (k : Knowledge) where
   -- the rows in slots, after a step of the actor
   slots_kept : (m' : Shared) (o' : Owners)
-      → ((p x : ℕ) → m'.slots p ≡ Some x → (m.slots p ≡ Some x) ⊎ (o'.row x ≡ Linked) ⊎ ((k.pages p ≡ Ready x) × (o'.row x ≡ Spare a) × IsBaseIn (m'.rows x)))
+      → ((p x : ℕ) → m'.slots p ≡ Some x → (m.slots p ≡ Some x) ⊎ (o'.row x ≡ Linked) ⊎ (k.pages p ≡ Ready x))
       → ((x : ℕ) → o.row x ≡ Linked → o'.row x ≡ Linked)
-      → ((b p x : ℕ) → (knows b).pages p ≡ Ready x → o.row x ≡ Spare b → (o'.row x ≡ Linked) ⊎ ((o'.row x ≡ Spare b) × (m'.rows x ≡ m.rows x)))
       → ((p x : ℕ) → m'.slots p ≡ Some x → m.slots p ≡ Some x → (knows a).pages p ≡ Ready x → (o'.row x ≡ Linked) ⊎ (k.pages p ≡ Ready x))
-      → (p x : ℕ) → m'.slots p ≡ Some x → Stands o' (put knows a k) m'.rows p x
-  slots_kept m' o' slots linked spare mine p x e = ⊎_elim
+      → (p x : ℕ) → m'.slots p ≡ Some x → Stands o' (put knows a k) p x
+  slots_kept m' o' slots linked mine p x e = ⊎_elim
       (λ (old : m.slots p ≡ Some x). ⊎_elim
       (λ (l : o.row x ≡ Linked). inl (linked x l))
-      (λ (u : (b : ℕ) × ((knows b).pages p ≡ Ready x) × (o.row x ≡ Spare b) × IsBaseIn (m.rows x)). ⊎_elim
+      (λ (u : (b : ℕ) × ((knows b).pages p ≡ Ready x)). ⊎_elim
       (λ (l : o'.row x ≡ Linked). inl l)
-      (λ (s : (o'.row x ≡ Spare u.0) × (m'.rows x ≡ m.rows x)). ⊎_elim
-      (λ (l : o'.row x ≡ Linked). inl l)
-      (λ (r : (put knows a k u.0).pages p ≡ Ready x). inr (u.0, r, s.0, (u.3.0, s.1 ∙ u.3.1)))
+      (λ (r : (put knows a k u.0).pages p ≡ Ready x). inr (u.0, r))
       (by_test u.0 a (λ t. (o'.row x ≡ Linked) ⊎ ((cond t k (knows u.0)).pages p ≡ Ready x)) (λ i. mine p x e old (subst (λ (n : ℕ). (knows n).pages p ≡ Ready x) i u.1)) (λ ne. inr u.1)))
-      (spare u.0 p x u.1 u.2))
       (h.slots_fit p x old))
-      (λ (u : (o'.row x ≡ Linked) ⊎ ((k.pages p ≡ Ready x) × (o'.row x ≡ Spare a) × IsBaseIn (m'.rows x))). ⊎_elim
+      (λ (u : (o'.row x ≡ Linked) ⊎ (k.pages p ≡ Ready x)). ⊎_elim
       (λ (l : o'.row x ≡ Linked). inl l)
-      (λ (own : (k.pages p ≡ Ready x) × (o'.row x ≡ Spare a) × IsBaseIn (m'.rows x)). inr (a, ap (λ (n : Knowledge). n.pages p) (put_same knows a k) ∙ own.0, own.1, own.2))
+      (λ (own : k.pages p ≡ Ready x). inr (a, ap (λ (n : Knowledge). n.pages p) (put_same knows a k) ∙ own))
       u)
       (slots p x e)
+
+  -- the rows of ready pages
+  ready_kept : (m' : Shared) (o' : Owners)
+      → ((b p x : ℕ) → (knows b).pages p ≡ Ready x → WasOwn (o.row x) b → WasOwn (o'.row x) b × (m'.rows x ≡ m.rows x))
+      → ((p x : ℕ) → k.pages p ≡ Ready x → ((knows a).pages p ≡ Ready x) ⊎ (WasOwn (o'.row x) a × IsBaseIn (m'.rows x)))
+      → (b p x : ℕ) → (put knows a k b).pages p ≡ Ready x → WasOwn (o'.row x) b × IsBaseIn (m'.rows x)
+  ready_kept m' o' still new b p x = by_test b a (λ t. (cond t k (knows b)).pages p ≡ Ready x → WasOwn (o'.row x) b × IsBaseIn (m'.rows x))
+      (λ i e. subst (λ (n : ℕ). WasOwn (o'.row x) n × IsBaseIn (m'.rows x)) (sym i) (⊎_elim (λ (u : (knows a).pages p ≡ Ready x). old a u) (λ (u : WasOwn (o'.row x) a × IsBaseIn (m'.rows x)). u) (new p x e)))
+      (λ ne e. old b e)
+    where
+      old : (c : ℕ) → (knows c).pages p ≡ Ready x → WasOwn (o'.row x) c × IsBaseIn (m'.rows x)
+      old c e = let f = h.ready_fits c p x e in let s = still c p x e f.0 in (s.0, (f.1.0, s.1 ∙ f.1.1))
 
   pub quiet_parted : k.pages ≡ (knows a).pages → IsParted pids rows m o (put knows a k)
   quiet_parted e = record {
@@ -41,7 +53,8 @@ module _ {pids rows : ℕ} {m : Shared} {o : Owners} {knows : ℕ → Knowledge}
     free_below = h.free_below;
     page_below = h.page_below;
     free_page_below = h.free_page_below;
-    slots_fit = slots_kept m o (λ p x s. inl s) (λ x l. l) (λ b p x i s. inr (s, refl)) (λ p x s t i. inr (ap (λ (f : ℕ → OwnPage). f p) e ∙ i));
+    slots_fit = slots_kept m o (λ p x s. inl s) (λ x l. l) (λ p x s t i. inr (ap (λ (f : ℕ → OwnPage). f p) e ∙ i));
+    ready_fits = ready_kept m o (λ b p x i s. (s, refl)) (λ p x i. inl (sym (ap (λ (f : ℕ → OwnPage). f p) e) ∙ i));
   }
 
   pub took_row : (q : ℕ) → m.free q ≡ true → o.row q ≡ Free → k.pages ≡ (knows a).pages → IsParted pids rows (record m { free = put m.free q false }) (record o { row = put o.row q (Spare a) }) (put knows a k)
@@ -52,8 +65,10 @@ module _ {pids rows : ℕ} {m : Shared} {o : Owners} {knows : ℕ → Knowledge}
     free_page_below = h.free_page_below;
     slots_fit = slots_kept (record m { free = put m.free q false }) (record o { row = put o.row q (Spare a) }) (λ p x s. inl s)
         (λ x l. put_other o.row q (Spare a) x (λ i. absurd (let f = sym was ∙ sym (ap o.row i) ∙ l in cc)) ∙ l)
-        (λ b p x i s. inr (put_other o.row q (Spare a) x (λ j. absurd (let f = sym was ∙ sym (ap o.row j) ∙ s in cc)) ∙ s, refl))
         (λ p x s t i. inr (ap (λ (f : ℕ → OwnPage). f p) e ∙ i));
+    ready_fits = ready_kept (record m { free = put m.free q false }) (record o { row = put o.row q (Spare a) })
+        (λ b p x i s. (subst (λ (w : Owner). WasOwn w b) (sym (put_other o.row q (Spare a) x (λ j. not_free (o.row x) b s (ap o.row j ∙ was)))) s, refl))
+        (λ p x i. inl (sym (ap (λ (f : ℕ → OwnPage). f p) e) ∙ i));
   }
 
   pub took_page : (q : ℕ) → m.free_pages q ≡ true → m.slots q ≡ None → k.pages ≡ put (knows a).pages q Empty → IsParted pids rows (record m { free_pages = put m.free_pages q false }) (record o { page = put o.page q (Keeps a) }) (put knows a k)
@@ -62,8 +77,10 @@ module _ {pids rows : ℕ} {m : Shared} {o : Owners} {knows : ℕ → Knowledge}
     free_below = h.free_below;
     page_below = λ p. by_test p q (λ t. cond t (Keeps a) (o.page p) ≢ Nobody → (0 < p) × (p < pids)) (λ i n. subst (λ (j : ℕ). (0 < j) × (j < pids)) (sym i) (h.free_page_below q free)) (λ ne n. h.page_below p n);
     free_page_below = λ p. by_test p q (λ t. cond t false (m.free_pages p) ≡ true → (0 < p) × (p < pids)) (λ i f. absurd (cc)) (λ ne f. h.free_page_below p f);
-    slots_fit = slots_kept (record m { free_pages = put m.free_pages q false }) (record o { page = put o.page q (Keeps a) }) (λ p x s. inl s) (λ x l. l) (λ b p x i s. inr (s, refl))
+    slots_fit = slots_kept (record m { free_pages = put m.free_pages q false }) (record o { page = put o.page q (Keeps a) }) (λ p x s. inl s) (λ x l. l)
         (λ p x s t i. inr (ap (λ (f : ℕ → OwnPage). f p) e ∙ put_other (knows a).pages q Empty p (λ j. absurd (let f = sym empty ∙ sym (ap m.slots j) ∙ t in cc)) ∙ i));
+    ready_fits = ready_kept (record m { free_pages = put m.free_pages q false }) (record o { page = put o.page q (Keeps a) }) (λ b p x i s. (s, refl))
+        (λ p x i. inl (by_test p q (λ t. cond t Empty ((knows a).pages p) ≡ Ready x → (knows a).pages p ≡ Ready x) (λ j f. absurd (cc)) (λ ne f. f) (sym (ap (λ (f : ℕ → OwnPage). f p) e) ∙ i)));
   }
 
   -- a record was placed in an own row that stands in no slot
@@ -73,12 +90,19 @@ module _ {pids rows : ℕ} {m : Shared} {o : Owners} {knows : ℕ → Knowledge}
     free_below = h.free_below;
     page_below = h.page_below;
     free_page_below = h.free_page_below;
-    slots_fit = slots_kept (record m { rows = put m.rows q (Some w) }) o (λ p x s. inl s) (λ x l. l)
-        (λ b p x i s. inr (s, put_other m.rows q (Some w) x (λ j.
-        let f : Spare a ≡ Spare b = sym own ∙ sym (ap o.row j) ∙ s in
-        let same : b ≡ a = cc in
-        apart p (subst (λ (n : ℕ). (knows n).pages p ≡ Ready q) same (i ∙ ap Ready j)))))
-        (λ p x s t i. inr (ap (λ (f : ℕ → OwnPage). f p) e ∙ i));
+    slots_fit = slots_kept (record m { rows = put m.rows q (Some w) }) o (λ p x s. inl s) (λ x l. l) (λ p x s t i. inr (ap (λ (f : ℕ → OwnPage). f p) e ∙ i));
+    ready_fits = ready_kept (record m { rows = put m.rows q (Some w) }) o
+        (λ b p x i s. (
+          s,
+          put_other m.rows q (Some w) x (λ j. ⊎_elim
+              (λ (u : o.row x ≡ Spare b).
+              let f : Spare a ≡ Spare b = sym own ∙ sym (ap o.row j) ∙ u in
+              let same : b ≡ a = cc in
+              apart p (subst (λ (n : ℕ). (knows n).pages p ≡ Ready q) same (i ∙ ap Ready j)))
+              (λ (u : o.row x ≡ Linked). absurd (let f = sym own ∙ sym (ap o.row j) ∙ u in cc))
+              s),
+        ))
+        (λ p x i. inl (sym (ap (λ (f : ℕ → OwnPage). f p) e) ∙ i));
   }
 
   -- an own page got a base of its own
@@ -89,25 +113,33 @@ module _ {pids rows : ℕ} {m : Shared} {o : Owners} {knows : ℕ → Knowledge}
     page_below = h.page_below;
     free_page_below = h.free_page_below;
     slots_fit = slots_kept (record m { slots = put m.slots p (Some y) }) o
-        (λ j x. by_test j p (λ t. cond t (Some y) (m.slots j) ≡ Some x → (m.slots j ≡ Some x) ⊎ (o.row x ≡ Linked) ⊎ ((k.pages j ≡ Ready x) × (o.row x ≡ Spare a) × IsBaseIn (m.rows x)))
-        (λ i s. let same : y ≡ x = same_Some y x s in
-        inr (inr (ap (λ (f : ℕ → OwnPage). f j) e ∙ ap (put (knows a).pages p (Ready y)) i ∙ put_same (knows a).pages p (Ready y) ∙ ap Ready same, sym (ap o.row same) ∙ own, (base.0, sym (ap m.rows same) ∙ base.1))))
+        (λ j x. by_test j p (λ t. cond t (Some y) (m.slots j) ≡ Some x → (m.slots j ≡ Some x) ⊎ (o.row x ≡ Linked) ⊎ (k.pages j ≡ Ready x))
+        (λ i s. inr (inr (now j i ∙ ap Ready (same_Some y x s))))
         (λ ne s. inl s))
-        (λ x l. l) (λ b j x i s. inr (s, refl))
+        (λ x l. l)
         (λ j x s t i. inr (ap (λ (f : ℕ → OwnPage). f j) e ∙ put_other (knows a).pages p (Ready y) j (λ n. absurd (let f = sym was ∙ sym (ap (knows a).pages n) ∙ i in cc)) ∙ i));
+    ready_fits = ready_kept (record m { slots = put m.slots p (Some y) }) o (λ b j x i s. (s, refl))
+        (λ j x i. by_test j p (λ t. cond t (Ready y) ((knows a).pages j) ≡ Ready x → ((knows a).pages j ≡ Ready x) ⊎ (WasOwn (o.row x) a × IsBaseIn (m.rows x)))
+        (λ n f. let same : y ≡ x = cc in inr (subst (λ (z : ℕ). WasOwn (o.row z) a × IsBaseIn (m.rows z)) same (inl own, base)))
+        (λ ne f. inl f)
+        (sym (ap (λ (f : ℕ → OwnPage). f j) e) ∙ i));
   }
+    where
+      now : (j : ℕ) → j ≡ p → k.pages j ≡ Ready y
+      now j i = ap (λ (f : ℕ → OwnPage). f j) e ∙ ap (put (knows a).pages p (Ready y)) i ∙ put_same (knows a).pages p (Ready y)
 
   -- a slot was emptied
-  pub emptied_parted : (p : ℕ) → ((j x : ℕ) → j ≢ p → (knows a).pages j ≡ Ready x → k.pages j ≡ Ready x) → IsParted pids rows (record m { slots = put m.slots p None }) o (put knows a k)
-  emptied_parted p same = record {
+  pub emptied_parted : (p : ℕ) → ((j x : ℕ) → j ≢ p → (knows a).pages j ≡ Ready x → k.pages j ≡ Ready x) → ((j x : ℕ) → k.pages j ≡ Ready x → (knows a).pages j ≡ Ready x) → IsParted pids rows (record m { slots = put m.slots p None }) o (put knows a k)
+  emptied_parted p same back = record {
     row_below = h.row_below;
     free_below = h.free_below;
     page_below = h.page_below;
     free_page_below = h.free_page_below;
     slots_fit = slots_kept (record m { slots = put m.slots p None }) o
-        (λ j x. by_test j p (λ t. cond t None (m.slots j) ≡ Some x → (m.slots j ≡ Some x) ⊎ (o.row x ≡ Linked) ⊎ ((k.pages j ≡ Ready x) × (o.row x ≡ Spare a) × IsBaseIn (m.rows x))) (λ i s. absurd (cc)) (λ ne s. inl s))
-        (λ x l. l) (λ b j x i s. inr (s, refl))
+        (λ j x. by_test j p (λ t. cond t None (m.slots j) ≡ Some x → (m.slots j ≡ Some x) ⊎ (o.row x ≡ Linked) ⊎ (k.pages j ≡ Ready x)) (λ i s. absurd (cc)) (λ ne s. inl s))
+        (λ x l. l)
         (λ j x s t i. inr (same j x (λ n. absurd (let f = sym (put_same m.slots p None) ∙ sym (ap (put m.slots p None) n) ∙ s in cc)) i));
+    ready_fits = ready_kept (record m { slots = put m.slots p None }) o (λ b j x i s. (s, refl)) (λ j x i. inl (back j x i));
   }
 
   -- rows were linked, one of them perhaps in a slot
@@ -116,14 +148,17 @@ module _ {pids rows : ℕ} {m : Shared} {o : Owners} {knows : ℕ → Knowledge}
       → ((x : ℕ) → (o'.row x ≡ o.row x) ⊎ ((o'.row x ≡ Linked) × (o.row x ≡ Spare a)))
       → ((p : ℕ) → o.page p ≡ Nobody → o'.page p ≡ Nobody)
       → ((p x : ℕ) → (knows a).pages p ≡ Ready x → (o'.row x ≡ Linked) ⊎ (k.pages p ≡ Ready x))
+      → ((p x : ℕ) → k.pages p ≡ Ready x → (knows a).pages p ≡ Ready x)
       → IsParted pids rows m' o' (put knows a k)
-  linked_parted o' m' f1 f2 f3 slots row page ready = record {
+  linked_parted o' m' f1 f2 f3 slots row page ready back = record {
     row_below = λ r n. ⊎_elim (λ (e : o'.row r ≡ o.row r). h.row_below r (λ u. n (e ∙ u))) (λ (e : (o'.row r ≡ Linked) × (o.row r ≡ Spare a)). h.row_below r (λ u. absurd (let f = sym u ∙ e.1 in cc))) (row r);
     free_below = λ r f. h.free_below r (sym (ap (λ (g : ℕ → Bool). g r) f1) ∙ f);
     page_below = λ p n. h.page_below p (λ u. n (page p u));
     free_page_below = λ p f. h.free_page_below p (sym (ap (λ (g : ℕ → Bool). g p) f2) ∙ f);
     slots_fit = slots_kept m' o' (λ p x s. ⊎_elim (λ (u : m.slots p ≡ Some x). inl u) (λ (u : o'.row x ≡ Linked). inr (inl u)) (slots p x s))
         (λ x l. ⊎_elim (λ (e : o'.row x ≡ o.row x). e ∙ l) (λ (e : (o'.row x ≡ Linked) × (o.row x ≡ Spare a)). e.0) (row x))
-        (λ b p x i s. ⊎_elim (λ (e : o'.row x ≡ o.row x). inr (e ∙ s, ap (λ (g : ℕ → Option Record). g x) f3)) (λ (e : (o'.row x ≡ Linked) × (o.row x ≡ Spare a)). inl e.0) (row x))
         (λ p x s t i. ready p x i);
+    ready_fits = ready_kept m' o'
+        (λ b p x i s. (⊎_elim (λ (e : o'.row x ≡ o.row x). subst (λ (w : Owner). WasOwn w b) (sym e) s) (λ (e : (o'.row x ≡ Linked) × (o.row x ≡ Spare a)). inr e.0) (row x), ap (λ (g : ℕ → Option Record). g x) f3))
+        (λ p x i. inl (back p x i));
   }

@@ -1,19 +1,18 @@
 -- An own row that is placed is taken, and stands on no chain.
-use Rattle.std.proofs.Common.{◌≡◌, ◌≢◌, ◌⊎◌, inl, inr, ℕ, zero, suc, ◌<◌, List, [], ◌∷◌, length, Option, Some, None, Bool, true, false, refl, sym, ap, ◌∙◌, subst, ⊎_elim, arith}
+use Rattle.std.proofs.Common.{◌≡◌, ℕ, zero, suc, ◌<◌, List, [], ◌∷◌, length, Option, Some, None, Bool, true, false, refl, sym, ap, ◌∙◌, subst, ⊎_elim, arith}
 use Rattle.std.specs.Prelude.{MatchOption, IfSome, unwrap_or, slice_index_or}
 use Rattle.std.specs.List.{Contains}
 use Rattle.std.proofs.lemmas.Option.{same_Some}
 use Rattle.bw_model.specs.Log.{Update}
-use Rattle.base_page.specs.Pages.{Page as PageOf}
 use Rattle.deltas.specs.declared.record.Record.{Record}
 use Rattle.deltas.specs.declared.record.Record.TheVariants.{Base}
 use Rattle.deltas.specs.Records.{next_row}
 use Rattle.deltas.specs.Memory.{Memory}
-use Rattle.chain_search.specs.Chains.{IsChainFrom, IsChainOf, IsOnChain, chain_rows}
+use Rattle.chain_search.specs.Chains.{IsChainFrom, IsOnChain, chain_rows}
 use Rattle.tree_law.specs.Knowledge.{Ready, Knowledge}
 use Rattle.tree_law.specs.Discipline.{IsOwn}
-use Rattle.tree_law.specs.Shared.{Shared, row_in, slot_in, shared}
-use Rattle.tree_law.specs.Owners.{Owner, Free, Spare, Linked, Owners, IsClosed}
+use Rattle.tree_law.specs.Shared.{row_in, slot_in, shared}
+use Rattle.tree_law.specs.Owners.{Spare, Linked, Owners, IsClosed}
 use Rattle.tree_law.specs.Parted.{IsBaseIn, IsParted}
 use Rattle.tree_law.specs.Tree.{Good}
 use Rattle.tree_law.proofs.Taking.{own_spare}
@@ -63,9 +62,14 @@ may_place memory {o = o} {knows = knows} g pids rows h a row own apart = (taken 
     unlinked : IsOnChain memory row → ⊥
     unlinked (pid, chain, is, among) = ⊎_elim
         (λ (l : o.row (memory.slots pid) ≡ Linked). absurd (let f = sym spare ∙ chain_linked memory o g.closed chain (memory.slots pid) l is.records row among in cc))
-        (λ (u : (b : ℕ) × ((knows b).pages pid ≡ Ready (memory.slots pid)) × (o.row (memory.slots pid) ≡ Spare b) × IsBaseIn (memory.rows (memory.slots pid))).
-        let same = base_alone memory.rows chain (memory.slots pid) is.records u.3 row among in
-        let f : Spare u.0 ≡ Spare a = sym u.2 ∙ ap o.row same ∙ spare in
+        (λ (u : (b : ℕ) × ((knows b).pages pid ≡ Ready (memory.slots pid))).
+        let fits = h.ready_fits u.0 pid (memory.slots pid) u.1 in
+        let same = base_alone memory.rows chain (memory.slots pid) is.records fits.1 row among in
+        ⊎_elim
+        (λ (v : o.row (memory.slots pid) ≡ Spare u.0).
+        let f : Spare u.0 ≡ Spare a = sym v ∙ ap o.row same ∙ spare in
         let b : u.0 ≡ a = cc in
         apart pid (subst (λ (n : ℕ). (knows n).pages pid ≡ Ready row) b (u.1 ∙ ap Ready same)))
+        (λ (v : o.row (memory.slots pid) ≡ Linked). absurd (let f = sym v ∙ ap o.row same ∙ spare in cc))
+        fits.0)
         (h.slots_fit pid (memory.slots pid) (slot_row memory.slots pid is.page is.linked))

@@ -1,13 +1,13 @@
 -- Each allowed step with the memory's answer keeps the invariant.
-use Rattle.std.proofs.Common.{◌≡◌, ◌≢◌, ◌⊎◌, inl, inr, ℕ, zero, suc, ◌<◌, ◌≤◌, List, [], ◌∷◌, ◌++◌, Option, Some, None, Bool, true, false, cond, eqb, refl, sym, ap, ◌∙◌, subst, ⊎_elim, arith}
-use Rattle.std.specs.Prelude.{IfSome, IsTrue}
+use Rattle.std.proofs.Common.{◌≡◌, ◌⊎◌, inl, inr, ℕ, zero, suc, ◌≤◌, List, [], ◌∷◌, Option, Some, None, Bool, true, false, cond, eqb, refl, sym, ap, ◌∙◌, subst, ⊎_elim, arith}
+use Rattle.std.specs.Prelude.{IsTrue}
 use Rattle.std.proofs.lemmas.Option.{same_Some}
 use Rattle.bw_model.specs.declared.command.Reply.{Reply}
 use Rattle.bw_model.specs.declared.step.Step.{Step as StepOf}
 use Rattle.bw_model.specs.declared.step.Step.TheVariants.{Slot, Row, Epoch, Announce, PidBits, RowBits, Place, Exchange, TakePid, TakeRow, Enter, Leave, Retire, ReusePids, ReuseRows}
 use Rattle.bw_model.specs.declared.step.Answer.{Answer}
 use Rattle.bw_model.specs.declared.step.Answer.TheVariants.{Number, Content, Whether, Done}
-use Rattle.bw_model.specs.Log.{Update, set, unset, value_in}
+use Rattle.bw_model.specs.Log.{Update, set, unset}
 use Rattle.base_page.specs.declared.item.Content.{Content as ContentOf}
 use Rattle.base_page.specs.declared.item.Content.TheVariants.{Child}
 use Rattle.deltas.specs.declared.record.Record.{Record}
@@ -16,16 +16,16 @@ use Rattle.deltas.specs.Memory.{Memory, replaced_at}
 use Rattle.chain_search.specs.Chains.{level_in, low_in, high_in, right_in}
 use Rattle.chain_search.specs.Steps.{IsAnswer, memory_after}
 use Rattle.tree_law.specs.Keys.{Key, IsBelow, put_key}
-use Rattle.tree_law.specs.Knowledge.{OwnRow, Foreign, Taken, Written, OwnPage, Other, Empty, Ready, Gone, Knowledge, learn_head, learn_slot, split_off, linked_over, filled, emptied, rooted, learn, finished}
+use Rattle.tree_law.specs.Knowledge.{OwnRow, Foreign, Taken, Written, OwnPage, Other, Empty, Ready, Gone, Knowledge, learn_head, split_off, linked_over, filled, emptied, rooted, learn, finished}
 use Rattle.tree_law.specs.Discipline.{record_of, base_from, root_over, HasRead, IsMet, IsOwnBase, MayUpdate, MayConsolidate, MaySplit, MayPost, MayHold, MayRemove, MayMerge, MayUnterm, MayRoot, MayLink, MayExchange, May}
 use Rattle.tree_law.specs.Phase.{Stage, Fresh, Indexed, Held, Removed, Merged, PageOwner, Nobody, Keeps, Placed, Cleared, rank}
-use Rattle.tree_law.specs.Phases.{Links, Exchanged}
+use Rattle.tree_law.specs.Phases.{Links}
 use Rattle.tree_law.specs.Put.{put}
 use Rattle.tree_law.specs.Shared.{Shared, row_in, slot_in, shared}
-use Rattle.tree_law.specs.Owners.{Owner, Free, Spare, Linked, Owners, OwnFits, PageFits, Reached, Spells}
+use Rattle.tree_law.specs.Owners.{Owner, Spare, Linked, Owners, OwnFits, PageFits, Reached, Spells}
 use Rattle.tree_law.specs.Parted.{IsBaseIn, IsParted}
 use Rattle.tree_law.specs.Tree.{IsOff, Good}
-use Rattle.tree_law.specs.Next.{IsDue, Next}
+use Rattle.tree_law.specs.Next.{Next}
 use Rattle.tree_law.proofs.Puts.{by_test, put_same, put_other}
 use Rattle.tree_law.proofs.Keeping.{idles, leaves, slot_of, met_placed}
 use Rattle.tree_law.proofs.Reading.{reads_root, reads_slot, reads_row}
@@ -60,9 +60,9 @@ cleared_again free n h = λ d j. at j d
     at : (j : ℕ) → replaced_at n false free j ≡ free j
     at j = by_test j n (λ t. cond t false (free j) ≡ free j) (λ e. sym (ap free e ∙ h)) (λ ne. refl)
 
-links_same : (a : ℕ) (u : Update) (x p : ℕ) (f : ℕ → PageOwner) → Links a (record_of u x) p f f
-links_same a (set b k v) x p f = refl
-links_same a (unset b k) x p f = refl
+links_same : (a : ℕ) (m : Shared) (u : Update) (x p : ℕ) (f : ℕ → PageOwner) → Links a m (record_of u x) p f f
+links_same a m (set b k v) x p f = refl
+links_same a m (unset b k) x p f = refl
 
 module _ (memory : Memory) {log : List Update} {o : Owners} {knows : ℕ → Knowledge} {point : ℕ → Option (List Update)} {logs : ℕ → List (List Update)} (g : Good (shared memory) log o knows point logs) (a : ℕ) where
   -- what a step with its answer leaves
@@ -209,17 +209,22 @@ module _ (memory : Memory) {log : List Update} {o : Owners} {knows : ℕ → Kno
 
     link_parts : HasRead (knows a) (suc p) (suc x) → (w : Record) → (knows a).rows (suc y) ≡ Written w → (page' : ℕ → PageOwner) (index' : ℕ → Key → Option ContentOf) → ((q : ℕ) → o.page q ≡ Nobody → page' q ≡ Nobody)
         → ((j z : ℕ) → (knows a).pages j ≡ Ready z → (linked_over (Written w) (suc x) (suc y) (knows a)).pages j ≡ Ready z)
+        → ((j z : ℕ) → (linked_over (Written w) (suc x) (suc y) (knows a)).pages j ≡ Ready z → (knows a).pages j ≡ Ready z)
         → (pids rows : ℕ) → IsParted pids rows (shared memory) o knows
         → IsParted pids rows (record (shared memory) { slots = put (slot_in memory.slots) (suc p) (Some (suc y)) }) (record { row = put o.row (suc y) Linked; page = page'; index = index' }) (put knows a (finished (filled ((knows a).pages (suc p)) (suc p) (suc x) (suc y) (knows a)) r))
-    link_parts basis w e page' index' free ready pids rows h =
+    link_parts basis w e page' index' free ready back pids rows h =
         subst (λ (k : Knowledge). IsParted pids rows (record (shared memory) { slots = put (slot_in memory.slots) (suc p) (Some (suc y)) }) (record { row = put o.row (suc y) Linked; page = page'; index = index' }) (put knows a (finished k r)))
         (sym (after_link basis w e))
         (linked_parted h a (finished (linked_over (Written w) (suc x) (suc y) (knows a)) r) (record { row = put o.row (suc y) Linked; page = page'; index = index' }) (record (shared memory) { slots = put (slot_in memory.slots) (suc p) (Some (suc y)) })
-        refl refl refl (link_slots o.row) (link_row (suc y) (own_row (suc y) w e)) free (λ j z i. inr (ready j z i)))
+        refl refl refl (link_slots o.row) (link_row (suc y) (own_row (suc y) w e)) free (λ j z i. inr (ready j z i)) back)
 
     update_pages : (u : Update) (j z : ℕ) → (knows a).pages j ≡ Ready z → (linked_over (Written (record_of u (suc x))) (suc x) (suc y) (knows a)).pages j ≡ Ready z
     update_pages (set b k v) j z i = i
     update_pages (unset b k) j z i = i
+
+    update_back : (u : Update) (j z : ℕ) → (linked_over (Written (record_of u (suc x))) (suc x) (suc y) (knows a)).pages j ≡ Ready z → (knows a).pages j ≡ Ready z
+    update_back (set b k v) j z i = i
+    update_back (unset b k) j z i = i
 
     split_parts : (h : MaySplit (knows a) (suc p) (suc x) (suc y)) → o.page h.right ≡ Keeps a → (pids rows : ℕ) → IsParted pids rows (shared memory) o knows
         → IsParted pids rows (record (shared memory) { slots = put (slot_in memory.slots) (suc p) (Some (suc y)) }) (record { row = put (put o.row h.row Linked) (suc y) Linked; page = put o.page h.right (Placed Fresh (level_in h.basis.chain) h.separator); index = o.index }) (put knows a (finished (filled ((knows a).pages (suc p)) (suc p) (suc x) (suc y) (knows a)) r))
@@ -236,7 +241,8 @@ module _ (memory : Memory) {log : List Update} {o : Owners} {knows : ℕ → Kno
         (λ j z e. by_test j h.right (λ t. (o'.row z ≡ Linked) ⊎ (cond t Other ((knows a).pages j) ≡ Ready z))
         (λ same. let f : Ready h.row ≡ Ready z = sym h.ready ∙ sym (ap (knows a).pages same) ∙ e in let g : h.row ≡ z = cc in
         inl (by_test z (suc y) (λ t. cond t Linked (put o.row h.row Linked z) ≡ Linked) (λ u. refl) (λ u. ap (put o.row h.row Linked) (sym g) ∙ put_same o.row h.row Linked)))
-        (λ ne. inr e)))
+        (λ ne. inr e))
+        (λ j z. by_test j h.right (λ t. cond t Other ((knows a).pages j) ≡ Ready z → (knows a).pages j ≡ Ready z) (λ same e. absurd (cc)) (λ ne e. e)))
 
     by_update : MayUpdate a (knows a) (suc p) (suc x) (suc y) → Linking
     by_update h = let n = updates g a (suc p) (suc x) (suc y) s h r in record {
@@ -244,10 +250,10 @@ module _ (memory : Memory) {log : List Update} {o : Owners} {knows : ℕ → Kno
       due = (h.command, h.going, n.1);
       last = λ i. absurd (cc);
       owners = record o { row = put o.row (suc y) Linked };
-      phased = (record_of h.update (suc x), placed_row g a (suc y) (record_of h.update (suc x)) h.placed, links_same a h.update (suc x) (suc p) o.page);
+      phased = (record_of h.update (suc x), placed_row g a (suc y) (record_of h.update (suc x)) h.placed, links_same a (shared memory) h.update (suc x) (suc p) o.page);
       kept = linked_rows (suc y);
       offs = same_offs;
-      parted = link_parts h.basis (record_of h.update (suc x)) h.placed o.page o.index (λ q f. f) (update_pages h.update);
+      parted = link_parts h.basis (record_of h.update (suc x)) h.placed o.page o.index (λ q f. f) (update_pages h.update) (update_back h.update);
       good = n.0;
     }
 
@@ -260,7 +266,7 @@ module _ (memory : Memory) {log : List Update} {o : Owners} {knows : ℕ → Kno
       phased = (base_from h.basis.chain (low_in h.basis.chain) h.items, placed_row g a (suc y) (base_from h.basis.chain (low_in h.basis.chain) h.items) h.placed, refl);
       kept = linked_rows (suc y);
       offs = same_offs;
-      parted = link_parts h.basis (base_from h.basis.chain (low_in h.basis.chain) h.items) h.placed o.page o.index (λ q f. f) (λ j z i. i);
+      parted = link_parts h.basis (base_from h.basis.chain (low_in h.basis.chain) h.items) h.placed o.page o.index (λ q f. f) (λ j z i. i) (λ j z i. i);
       good = consolidates g a (suc p) (suc x) (suc y) s h r;
     }
 
@@ -297,7 +303,7 @@ module _ (memory : Memory) {log : List Update} {o : Owners} {knows : ℕ → Kno
       parted = link_parts h.basis (Term (record { level = level_in h.basis.chain; next = suc x; separator = low_in h.below.chain; child = h.child })) h.placed
           (put o.page h.child (Placed Indexed (level_in h.below.chain) (low_in h.below.chain)))
           (put o.index (level_in h.below.chain) (put_key (o.index (level_in h.below.chain)) (low_in h.below.chain) (Some (Child h.child false))))
-          (taken_still h.child (Placed Fresh (level_in h.below.chain) (low_in h.below.chain)) (Placed Indexed (level_in h.below.chain) (low_in h.below.chain)) n.1 (λ i. absurd (cc))) (λ j z i. i);
+          (taken_still h.child (Placed Fresh (level_in h.below.chain) (low_in h.below.chain)) (Placed Indexed (level_in h.below.chain) (low_in h.below.chain)) n.1 (λ i. absurd (cc))) (λ j z i. i) (λ j z i. i);
       good = n.0;
     }
 
@@ -317,7 +323,7 @@ module _ (memory : Memory) {log : List Update} {o : Owners} {knows : ℕ → Kno
       parted = link_parts h.basis (Hold (record { level = level_in h.basis.chain; next = suc x; separator = h.key; child = h.child })) h.placed
           (put o.page h.child (Placed Held h.level h.key))
           (put o.index h.level (put_key (o.index h.level) h.key (Some (Child h.child true))))
-          (taken_still h.child (Placed Indexed h.level h.key) (Placed Held h.level h.key) n.1 (λ i. absurd (cc))) (λ j z i. i);
+          (taken_still h.child (Placed Indexed h.level h.key) (Placed Held h.level h.key) n.1 (λ i. absurd (cc))) (λ j z i. i) (λ j z i. i);
       good = n.0;
     }
 
@@ -336,7 +342,7 @@ module _ (memory : Memory) {log : List Update} {o : Owners} {knows : ℕ → Kno
       offs = kept_offs (suc p) (Placed Removed (level_in h.basis.chain) (low_in h.basis.chain)) (on_side Removed (level_in h.basis.chain) (low_in h.basis.chain) (omega arith));
       parted = link_parts h.basis (Remove (record { level = level_in h.basis.chain; next = suc x })) h.placed
           (put o.page (suc p) (Placed Removed (level_in h.basis.chain) (low_in h.basis.chain))) o.index
-          (taken_still (suc p) (Placed Held (level_in h.basis.chain) (low_in h.basis.chain)) (Placed Removed (level_in h.basis.chain) (low_in h.basis.chain)) n.1 (λ i. absurd (cc))) (λ j z i. i);
+          (taken_still (suc p) (Placed Held (level_in h.basis.chain) (low_in h.basis.chain)) (Placed Removed (level_in h.basis.chain) (low_in h.basis.chain)) n.1 (λ i. absurd (cc))) (λ j z i. i) (λ j z i. i);
       good = n.0;
     }
 
@@ -349,12 +355,12 @@ module _ (memory : Memory) {log : List Update} {o : Owners} {knows : ℕ → Kno
           due = tt;
           last = λ i. refl;
           owners = record { row = put o.row (suc y) Linked; page = put o.page h.other (Placed Merged (level_in h.basis.chain) (low_in h.chain)); index = o.index };
-          phased = (w, placed_row g a (suc y) w h.placed, (h.other, level_in h.basis.chain, n.1, refl));
+          phased = (w, placed_row g a (suc y) w h.placed, (h.other, level_in h.basis.chain, suc x, h.basis.chain, s, (found g a (suc p) (suc x) h.basis).stands, h.right, n.1, refl));
           kept = linked_rows (suc y);
           offs = λ q l low. by_test q h.other (λ t. IsOff (cond t (Placed Merged (level_in h.basis.chain) (low_in h.chain)) (o.page q)) l low → IsOff (o.page q) l low ⊎ IsBelow [] low)
               (λ i e. inr (subst (λ (k : Key). IsBelow [] k) (off_low (level_in h.basis.chain) (low_in h.chain) l low e) n.2)) (λ ne e. inl e);
           parted = link_parts h.basis w h.placed (put o.page h.other (Placed Merged (level_in h.basis.chain) (low_in h.chain))) o.index
-              (taken_still h.other (Placed Removed (level_in h.basis.chain) (low_in h.chain)) (Placed Merged (level_in h.basis.chain) (low_in h.chain)) n.1 (λ i. absurd (cc))) (λ j z i. i);
+              (taken_still h.other (Placed Removed (level_in h.basis.chain) (low_in h.chain)) (Placed Merged (level_in h.basis.chain) (low_in h.chain)) n.1 (λ i. absurd (cc))) (λ j z i. i) (λ j z i. i);
           good = n.0;
         }
 
@@ -376,7 +382,8 @@ module _ (memory : Memory) {log : List Update} {o : Owners} {knows : ℕ → Kno
           (put o.page h.child (Cleared a (level_in h.below.chain) h.key))
           (put o.index (level_in h.below.chain) (put_key (o.index (level_in h.below.chain)) h.key None))
           (taken_still h.child (Placed Merged (level_in h.below.chain) h.key) (Cleared a (level_in h.below.chain) h.key) n.1 (λ i. absurd (cc)))
-          (λ j z i. put_other (knows a).pages h.child Gone j (λ same. absurd (let f = sym (own_kept j (Ready z) i).0 ∙ ap o.page same ∙ n.1 in cc)) ∙ i);
+          (λ j z i. put_other (knows a).pages h.child Gone j (λ same. absurd (let f = sym (own_kept j (Ready z) i).0 ∙ ap o.page same ∙ n.1 in cc)) ∙ i)
+          (λ j z. by_test j h.child (λ t. cond t Gone ((knows a).pages j) ≡ Ready z → (knows a).pages j ≡ Ready z) (λ same e. absurd (cc)) (λ ne e. e));
       good = n.0;
     }
 
@@ -417,7 +424,8 @@ module _ (memory : Memory) {log : List Update} {o : Owners} {knows : ℕ → Kno
     kept = same_rows;
     offs = same_offs;
     parted = λ pids rows i. subst (λ (v : OwnPage). IsParted pids rows (record (shared memory) { slots = put (slot_in memory.slots) (suc p) None }) o (put knows a (finished (emptied v (suc p) (knows a)) r))) (sym h)
-        (emptied_parted i a (finished (emptied (Ready (suc x)) (suc p) (knows a)) r) (suc p) (λ j z ne e. put_other (knows a).pages (suc p) Empty j ne ∙ e));
+        (emptied_parted i a (finished (emptied (Ready (suc x)) (suc p) (knows a)) r) (suc p) (λ j z ne e. put_other (knows a).pages (suc p) Empty j ne ∙ e)
+        (λ j z. by_test j (suc p) (λ t. cond t Empty ((knows a).pages j) ≡ Ready z → (knows a).pages j ≡ Ready z) (λ same e. absurd (cc)) (λ ne e. e)));
     good = subst (λ (v : OwnPage). Good (record (shared memory) { slots = put (slot_in memory.slots) (suc p) None }) log o (put knows a (finished (emptied v (suc p) (knows a)) r)) (put point a (point a)) (put logs a (log ∷ logs a))) (sym h)
         (own_slot g a (suc p) None Empty (own_kept (suc p) (Ready (suc x)) h).0 ((own_kept (suc p) (Ready (suc x)) h).0, refl) (finished (emptied (Ready (suc x)) (suc p) (knows a)) r) refl refl refl refl refl refl refl refl);
   }
@@ -430,7 +438,7 @@ module _ (memory : Memory) {log : List Update} {o : Owners} {knows : ℕ → Kno
     kept = same_rows;
     offs = same_offs;
     parted = λ pids rows i. subst (λ (v : OwnPage). IsParted pids rows (record (shared memory) { slots = put (slot_in memory.slots) (suc p) None }) o (put knows a (finished (emptied v (suc p) (knows a)) r))) (sym h)
-        (emptied_parted i a (finished (emptied Gone (suc p) (knows a)) r) (suc p) (λ j z ne e. e));
+        (emptied_parted i a (finished (emptied Gone (suc p) (knows a)) r) (suc p) (λ j z ne e. e) (λ j z e. e));
     good = clears g a (suc p) (suc x) s h r;
   }
   exchanges p (suc x) (suc y) r s h = by_link p x y r s h
@@ -438,32 +446,33 @@ module _ (memory : Memory) {log : List Update} {o : Owners} {knows : ℕ → Kno
   -- an exchange of slot 0 that won
   exchanges_root : (x y : ℕ) (r : Option Reply) → memory.slots 0 ≡ x → MayRoot (knows a) x y → Next a (shared memory) (record (shared memory) { root = y }) log o knows point logs (Exchange 0 x y) (Whether true) r
   exchanges_root x y r s h =
-    let n = roots g a x y s h r in
-    let owners' : Owners = record {
-      row = put o.row h.base_row Linked;
-      page = put (put o.page h.right (Placed Indexed g.tree.top h.separator)) y (Placed Indexed (suc g.tree.top) []);
-      index = put o.index g.tree.top (put_key (put_key (λ k. None) h.separator (Some (Child h.right false))) [] (Some (Child (memory.slots 0) false)));
-    } in
-    record {
-    update = None;
-    due = tt;
-    last = λ i. refl;
-    owners = owners';
-    phased = (h.right, g.tree.top, h.separator, n.1.0, n.1.1, n.1.2, refl);
-    kept = linked_rows h.base_row;
-    offs = λ q l low. by_test q y (λ t. IsOff (cond t (Placed Indexed (suc g.tree.top) []) (put o.page h.right (Placed Indexed g.tree.top h.separator) q)) l low → IsOff (o.page q) l low ⊎ IsBelow [] low)
-        (λ i e. absurd (on_side Indexed (suc g.tree.top) [] (omega arith) l low e))
-        (λ ne e. kept_offs h.right (Placed Indexed g.tree.top h.separator) (on_side Indexed g.tree.top h.separator (omega arith)) q l low e);
-    parted = λ pids rows i. subst (λ (v : OwnPage). IsParted pids rows (record (shared memory) { root = y }) owners' (put knows a (finished (rooted v y (knows a)) r))) (sym h.ready)
-        (linked_parted i a (finished (rooted (Ready h.base_row) y (knows a)) r) owners' (record (shared memory) { root = y }) refl refl refl (λ j z e. inl e)
-        (link_row h.base_row (own_row h.base_row (root_over (suc (level_in h.basis.chain)) x h.separator h.right) h.base))
-        (λ q free. put_other (put o.page h.right (Placed Indexed g.tree.top h.separator)) y (Placed Indexed (suc g.tree.top) []) q (λ j. absurd (let f = sym n.1.2 ∙ sym (ap o.page j) ∙ free in cc))
-        ∙ taken_still h.right (Placed Fresh g.tree.top h.separator) (Placed Indexed g.tree.top h.separator) n.1.1 (λ e. absurd (cc)) q free)
-        (λ j z e. by_test j y (λ t. (put o.row h.base_row Linked z ≡ Linked) ⊎ (cond t Other ((knows a).pages j) ≡ Ready z))
-        (λ same. let f : Ready h.base_row ≡ Ready z = sym h.ready ∙ sym (ap (knows a).pages same) ∙ e in let k : h.base_row ≡ z = cc in inl (ap (put o.row h.base_row Linked) (sym k) ∙ put_same o.row h.base_row Linked))
-        (λ ne. inr e)));
-    good = n.0;
-  }
+      let n = roots g a x y s h r in
+      let owners' : Owners = record {
+        row = put o.row h.base_row Linked;
+        page = put (put o.page h.right (Placed Indexed g.tree.top h.separator)) y (Placed Indexed (suc g.tree.top) []);
+        index = put o.index g.tree.top (put_key (put_key (λ k. None) h.separator (Some (Child h.right false))) [] (Some (Child (memory.slots 0) false)));
+      } in
+      record {
+        update = None;
+        due = tt;
+        last = λ i. refl;
+        owners = owners';
+        phased = (h.right, g.tree.top, suc (level_in h.basis.chain), h.base_row, h.separator, (own_kept y (Ready h.base_row) h.ready).1, placed_row g a h.base_row (root_over (suc (level_in h.basis.chain)) x h.separator h.right) h.base, n.1.0, n.1.1, n.1.2, refl);
+        kept = linked_rows h.base_row;
+        offs = λ q l low. by_test q y (λ t. IsOff (cond t (Placed Indexed (suc g.tree.top) []) (put o.page h.right (Placed Indexed g.tree.top h.separator) q)) l low → IsOff (o.page q) l low ⊎ IsBelow [] low)
+            (λ i e. absurd (on_side Indexed (suc g.tree.top) [] (omega arith) l low e))
+            (λ ne e. kept_offs h.right (Placed Indexed g.tree.top h.separator) (on_side Indexed g.tree.top h.separator (omega arith)) q l low e);
+        parted = λ pids rows i. subst (λ (v : OwnPage). IsParted pids rows (record (shared memory) { root = y }) owners' (put knows a (finished (rooted v y (knows a)) r))) (sym h.ready)
+            (linked_parted i a (finished (rooted (Ready h.base_row) y (knows a)) r) owners' (record (shared memory) { root = y }) refl refl refl (λ j z e. inl e)
+            (link_row h.base_row (own_row h.base_row (root_over (suc (level_in h.basis.chain)) x h.separator h.right) h.base))
+            (λ q free. put_other (put o.page h.right (Placed Indexed g.tree.top h.separator)) y (Placed Indexed (suc g.tree.top) []) q (λ j. absurd (let f = sym n.1.2 ∙ sym (ap o.page j) ∙ free in cc))
+            ∙ taken_still h.right (Placed Fresh g.tree.top h.separator) (Placed Indexed g.tree.top h.separator) n.1.1 (λ e. absurd (cc)) q free)
+            (λ j z e. by_test j y (λ t. (put o.row h.base_row Linked z ≡ Linked) ⊎ (cond t Other ((knows a).pages j) ≡ Ready z))
+            (λ same. let f : Ready h.base_row ≡ Ready z = sym h.ready ∙ sym (ap (knows a).pages same) ∙ e in let k : h.base_row ≡ z = cc in inl (ap (put o.row h.base_row Linked) (sym k) ∙ put_same o.row h.base_row Linked))
+            (λ ne. inr e))
+            (λ j z. by_test j y (λ t. cond t Other ((knows a).pages j) ≡ Ready z → (knows a).pages j ≡ Ready z) (λ same e. absurd (cc)) (λ ne e. e)));
+        good = n.0;
+      }
 
   exchange : (p x y : ℕ) (r : Option Reply) → MayExchange a (knows a) p x y → After (memory_after a (Exchange p x y) memory) (Exchange p x y) (Whether (eqb (memory.slots p) x)) r
   exchange zero x y r h = by_test (memory.slots 0) x (λ t. After (record memory { slots = cond t (replaced_at 0 y memory.slots) memory.slots }) (Exchange 0 x y) (Whether t) r)

@@ -1,6 +1,6 @@
 -- What is proved of the tree: the opening memory meets the invariant, and each step of an actor that obeys its discipline
 -- keeps it, whatever the other actors are about to do.
-use Rattle.std.specs.Prelude.{◌≡◌, ◌≢◌, ℕ, List, [], ◌∷◌, Option, None, Some, Bool, false, ◌↔◌}
+use Rattle.std.specs.Prelude.{◌≡◌, ℕ, List, [], ◌∷◌, Option, None, Some, false, ◌↔◌}
 use Rattle.bw_model.specs.declared.command.Command.{Command}
 use Rattle.bw_model.specs.declared.command.Reply.{Reply}
 use Rattle.bw_model.specs.declared.limits.Limits.{Limits}
@@ -16,6 +16,7 @@ use Rattle.chain_search.specs.Steps.{IsAnswer, memory_after}
 use Rattle.tree_law.specs.Keys.{Key, IsBelow, IsUpTo}
 use Rattle.tree_law.specs.Knowledge.{Knowledge, nothing, begun}
 use Rattle.tree_law.specs.Discipline.{MayAnswer, May, IsAllowed}
+use Rattle.tree_law.specs.Indexed.{IsIndexed}
 use Rattle.tree_law.specs.Next.{Next}
 use Rattle.tree_law.specs.Owners.{Spare, Owners}
 use Rattle.tree_law.specs.Parted.{IsParted}
@@ -52,6 +53,10 @@ StepLaw = (memory : Memory) (log : List Update) (o : Owners) (knows : ℕ → Kn
 abbrev pub AnswerLaw : Type 0
 AnswerLaw = (m : Shared) (log : List Update) (o : Owners) (knows : ℕ → Knowledge) (point : ℕ → Option (List Update)) (logs : ℕ → List (List Update)) → Good m log o knows point logs
     → (a : ℕ) (command : Command) (reply : Reply) → MayAnswer a (knows a) command reply → IsRepliedAt a command reply (point a) (log ∷ logs a)
+
+-- The levels are whole side chains, and the index between them is exact.
+abbrev pub IndexLaw : Type 0
+IndexLaw = (memory : Memory) (log : List Update) (o : Owners) (knows : ℕ → Knowledge) (point : ℕ → Option (List Update)) (logs : ℕ → List (List Update)) → Good (shared memory) log o knows point logs → IsIndexed memory o
 
 -- An own row that may be placed is taken, and stands on no chain.
 abbrev pub PlaceLaw : Type 0

@@ -1,7 +1,7 @@
 //! The law of the whole tree, one step at a time: any number of actors, levels, splits, roots, and removal of pages.
 #![tactic(auto)]
 
-ghost use Rattle.tree_law.specs.Laws.{AnswerLaw, BeginLaw, KeyLaw, MapLaw, OpenLaw, PlaceLaw, StepLaw};
+ghost use Rattle.tree_law.specs.Laws.{AnswerLaw, BeginLaw, IndexLaw, KeyLaw, MapLaw, OpenLaw, PlaceLaw, StepLaw};
 
 /// The order of keys is total.
 pub fn key_order()
@@ -36,4 +36,9 @@ pub fn maps()
 /// A row that may be placed is taken, and stands on no chain.
 pub fn places()
     ensures { PlaceLaw }
+{}
+
+/// The levels are whole, and the index is exact.
+pub fn indexes()
+    ensures { IndexLaw }
 {}

@@ -1,5 +1,4 @@
 use Rattle.tree_law.proofs.Stepping.{step}
-use Rattle.tree_law.proofs.Parting.{linked_parted}
 use Rattle.tree_law.proofs.steps.Goals as goal
 
 pub returns : goal.returns
