@@ -1,13 +1,11 @@
 -- Laws of lines, and of what is run of them.
-use Rattle.std.proofs.Common.{◌≡◌, ◌≢◌, ℕ, suc, ◌+◌, ◌<◌, ◌≤◌, List, [], ◌∷◌, ◌++◌, length, refl, sym, ap, ◌∙◌, arith, ◌⊎◌, inl, inr, Bool, true, false, length-append, take, drop, get_or, subst, MatchBool}
+use Rattle.std.proofs.Common.{◌≡◌, ◌≢◌, ℕ, ◌+◌, ◌<◌, List, [], ◌∷◌, ◌++◌, length, refl, sym, ap, ◌∙◌, arith, inl, Bool, true, false, length-append, take, drop, get_or, subst, MatchBool}
 use Rattle.std.proofs.lemmas.List.{append_assoc, append-nil, take-append-drop, drop_more, take_more}
 use Rattle.std.proofs.lemmas.Bool.{ne_eqb}
 use Rattle.std.proofs.lemmas.Grind.{flat_map-append}
 use Rattle.std.specs.List.{AllByRecursion, flat_map}
 use Rattle.bw_shell.specs.Turns.{Trace}
-use Rattle.bw_shell.specs.Request.{Says}
-use Rattle.bw_shell.specs.declared.request.Request.{Request}
-use Rattle.bw_shell.specs.Lines.{lines_of, onto_first, HasNoFeed, ended, Splits}
+use Rattle.bw_shell.specs.Lines.{lines_of, HasNoFeed, ended}
 use Rattle.bw_shell.specs.Text.{refused_text}
 use Rattle.bw_shell.specs.Transcript.{Transcript}
 use Rattle.bw_shell.specs.Weave.{Weaves, Stops}

@@ -1,5 +1,5 @@
 -- Why a turn is refused, by the core and by the transcript.
-use Rattle.std.proofs.Common.{◌≡◌, ℕ, List, length, refl, sym, ap, ◌∙◌, ◌⊎◌, inl, inr, Option, Some, None, Result, Ok, Err, Bool, true, false, cond, nat_lt, is_some, option_map}
+use Rattle.std.proofs.Common.{◌≡◌, ℕ, length, refl, sym, ap, ◌∙◌, inl, inr, Option, Some, None, Result, Err, Bool, true, false, cond, nat_lt, is_some, option_map}
 use Rattle.chain_search.specs.declared.trace.Turn.{Turn}
 use Rattle.chain_search.specs.declared.trace.Turn.TheVariants.{Begin, Step}
 use Rattle.chain_search.specs.Trace.{command_of}
@@ -7,7 +7,7 @@ use Rattle.bw_model.specs.declared.command.Command.{Command}
 use Rattle.step_core.specs.Turns.{Core}
 use Rattle.step_core.specs.Turns.{refusal_of as core_refusal_of, refused_by}
 use Rattle.step_core.specs.declared.event.RunError.{RunError}
-use Rattle.step_core.specs.declared.event.RunError.TheVariants.{NoActor, Unfinished, NoOperation, Memory}
+use Rattle.step_core.specs.declared.event.RunError.TheVariants.{Memory}
 use Rattle.step_core.specs.declared.event.Event.{Event}
 use Rattle.bw_shell.specs.Turns.{seen, code_of, refusal_of, Refuses}
 

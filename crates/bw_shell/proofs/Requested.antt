@@ -1,5 +1,5 @@
 -- What fields request for, as a function, is what the grammar says.
-use Rattle.std.proofs.Common.{◌≡◌, ℕ, ◌≤◌, ◌<◌, List, [], ◌∷◌, length, refl, sym, ap, ◌∙◌, arith, ◌⊎◌, inl, inr, Option, Some, None, Result, Ok, Err, Bool, true, false, ◌&&◌, nat_le, IfOk, IsErrOf, codes, option_map}
+use Rattle.std.proofs.Common.{◌≡◌, ℕ, ◌≤◌, ◌<◌, List, [], ◌∷◌, length, refl, sym, ◌∙◌, arith, ◌⊎◌, inl, inr, Option, Some, None, Result, Ok, Err, true, ◌&&◌, nat_le, IfOk, codes, option_map}
 use Rattle.std.specs.Option.{option_and_then}
 use Rattle.std.specs.Str.{bytes_eq}
 use Rattle.std.proofs.lemmas.Slice.Eq.{bytes_eq-Decides}
@@ -10,7 +10,7 @@ use Rattle.bw_shell.specs.declared.request.Request.{Request}
 use Rattle.bw_shell.specs.declared.request.Request.TheVariants.{Begin, Turn, Finish, List as ListPairs}
 use Rattle.bw_shell.specs.declared.token.LineError.{LineError}
 use Rattle.bw_shell.specs.declared.token.LineError.TheVariants.{Malformed, TooLong}
-use Rattle.bw_shell.specs.Token.{Means, token_value}
+use Rattle.bw_shell.specs.Token.{token_value}
 use Rattle.bw_shell.specs.Number.{number_of, capped}
 use Rattle.bw_shell.specs.Fields.{fields_of}
 use Rattle.bw_shell.specs.Request.{Says, Asks, IsNumber, SpellsCommand, IsShort, IsShortCommand}

@@ -1,9 +1,9 @@
 -- Laws of fields and numbers.
-use Rattle.std.proofs.Common.{◌≡◌, ◌≢◌, ℕ, ◌+◌, ◌-◌, ◌*◌, ◌<◌, ◌≤◌, List, [], ◌∷◌, ◌++◌, length, take, drop, slice_index, refl, sym, ap, ◌∙◌, arith, min, Option, Some, None, Bool, true, false, cond, ◌==◌}
+use Rattle.std.proofs.Common.{◌≡◌, ℕ, ◌+◌, ◌-◌, ◌*◌, ◌<◌, List, [], ◌∷◌, ◌++◌, length, take, drop, slice_index, refl, sym, ap, arith, None, Bool, true, false, cond, ◌==◌}
 use Rattle.std.proofs.lemmas.List.{append_assoc, append-nil, drop_more, take_more, drop_all, take_all}
 use Rattle.std.proofs.lemmas.Bool.{ne_eqb}
 use Rattle.bw_shell.specs.Fields.{fields_of, onto_first}
-use Rattle.bw_shell.specs.Number.{number_after, number_of, capped, is_digit}
+use Rattle.bw_shell.specs.Number.{number_after, is_digit}
 
 -- front goes before the first field
 abbrev pub prepend : List ℕ → List (List ℕ) → List (List ℕ)

@@ -1,12 +1,10 @@
 -- Laws of tokens.
-use Rattle.std.proofs.Common.{◌≡◌, ◌≢◌, ℕ, ◌+◌, ◌-◌, ◌*◌, ◌/◌, ◌%◌, ◌<◌, ◌≤◌, List, [], ◌∷◌, ◌++◌, length, drop, slice_index, refl, sym, ap, ◌∙◌, arith, ◌⊎◌, inl, inr, Option, Some, None, Result, Ok, Err, Bool, true, false, ◌&&◌, not, nat_lt, ◌==◌, IfOk, IsErrOf, cond}
+use Rattle.std.proofs.Common.{◌≡◌, ℕ, ◌+◌, ◌*◌, ◌%◌, ◌<◌, ◌≤◌, List, [], ◌∷◌, length, drop, slice_index, refl, sym, ap, ◌∙◌, arith, ◌⊎◌, inl, inr, Option, Some, None, Result, Ok, Err, Bool, true, false, ◌&&◌, not, nat_lt, ◌==◌, IfOk, cond}
 use Rattle.std.specs.Result.{result_ok}
-use Rattle.std.proofs.lemmas.Grind.{common_steps}
-use Rattle.std.proofs.lemmas.Bool.{eqb-true}
 use Rattle.std.proofs.lemmas.Bool.Decides.{nat_tests}
 use Rattle.std.proofs.lemmas.List.Sums.{AllPass-from_list_all, list_all-from_AllPass}
 use Rattle.std.specs.List.{list_all}
-use Rattle.hex.specs.Hex.{decode_of, decode_pairs, value_at, pair_value, digit_or_error, hex_digit_value, ◌>>=◌, IsBytes, encode_lower, lower_digits, is_hex_digit}
+use Rattle.hex.specs.Hex.{decode_of, decode_pairs, value_at, pair_value, digit_or_error, hex_digit_value, ◌>>=◌, IsBytes, encode_lower, is_hex_digit}
 use Rattle.hex.specs.declared.error.FromHexError.{FromHexError}
 use Rattle.hex.proofs.HexLemmas.{decode_of-encode_lower, decode_of-ok, decode_of-digits, decode_of-odd, decode_of-even}
 use Rattle.bw_shell.specs.Token.{IsDigitOf, SpellsBytes, Means, token_value, is_word, printed}

@@ -1,8 +1,8 @@
 -- Laws of transcripts.
-use Rattle.std.proofs.Common.{◌≡◌, ℕ, suc, ◌+◌, ◌<◌, ◌≤◌, List, [], ◌∷◌, ◌++◌, length, refl, sym, ap, ◌∙◌, arith, add-one, ◌⊎◌, inl, inr, Bool, true, false, Option, Some, None}
+use Rattle.std.proofs.Common.{◌≡◌, ℕ, ◌+◌, ◌<◌, List, [], ◌∷◌, ◌++◌, length, refl, sym, ap, ◌∙◌, arith, add-one, inl, inr, Bool, true, false, None}
 use Rattle.std.proofs.lemmas.List.{append_assoc, append-nil}
-use Rattle.bw_shell.specs.Turns.{Trace, Takes, Refuses}
-use Rattle.chain_search.specs.declared.trace.Turn.TheVariants.{Begin as BeginTurn, Step}
+use Rattle.bw_shell.specs.Turns.{Trace, Takes}
+use Rattle.chain_search.specs.declared.trace.Turn.TheVariants.{Step}
 use Rattle.bw_shell.specs.Request.{Says, IsShort}
 use Rattle.bw_shell.specs.declared.request.Request.{Request}
 use Rattle.bw_shell.specs.Text.{refused_text}

@@ -1,6 +1,6 @@
 -- Laws of whole runs.
-use Rattle.std.proofs.Common.{◌≡◌, ℕ, List, [], ◌∷◌, ◌++◌, length, refl, sym, ap, ◌∙◌, arith, ◌⊎◌, inl, inr, Bool, true, false, not, ◌||◌, Option, Some, None, append_assoc, Result, Ok, Err, MatchResult, MatchBool, ◌↔◌}
-use Rattle.std.specs.Io.KnownBytes.{Consumes, Keeps, Appends}
+use Rattle.std.proofs.Common.{◌≡◌, ℕ, List, [], ◌∷◌, ◌++◌, length, refl, sym, ap, ◌∙◌, arith, ◌⊎◌, inl, inr, Bool, true, false, not, Option, Some, None, append_assoc, ◌↔◌}
+use Rattle.std.specs.Io.KnownBytes.{Consumes, Keeps}
 use Rattle.bw_shell.specs.Turns.{Trace, opening}
 use Rattle.bw_model.specs.declared.limits.Limits.{Limits}
 use Rattle.std.proofs.lemmas.List.{append-nil}

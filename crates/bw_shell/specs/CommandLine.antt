@@ -1,5 +1,5 @@
 -- what the words of a command line mean, by clap's own words
-use Rattle.std.specs.Prelude.{◌≡◌, ℕ, List, [], Option, Some, true, MatchOption, codes}
+use Rattle.std.specs.Prelude.{◌≡◌, ℕ, List, [], Some, true, MatchOption, codes}
 use Rattle.std.specs.Option.{option_map_or}
 use Rattle.std.specs.Str.Parse.{digits_value, without_leading_plus}
 use Rattle.clap.specs.Words.{App, Row, Rule, Text, new_app, new_rule, one_of, subcommand_of, takes, with_rule, with_subcommand}

@@ -1,13 +1,10 @@
 -- What a line asks for.
-use Rattle.std.specs.Prelude.{◌≡◌, ℕ, ◌≤◌, ◌<◌, ◌&&◌, nat_le, Bool, true, if◌then◌else◌, List, [], ◌∷◌, length, codes, Option, Some, None, Result, Ok, Err}
-use Rattle.std.specs.Str.{bytes_eq}
+use Rattle.std.specs.Prelude.{◌≡◌, ℕ, ◌≤◌, List, [], ◌∷◌, length, codes, Some}
 use Rattle.bw_model.specs.declared.command.Command.{Command}
 use Rattle.bw_model.specs.declared.command.Command.TheVariants.{Get, Insert}
 use Rattle.bw_shell.specs.declared.request.Request.{Request}
 use Rattle.bw_shell.specs.declared.request.Request.TheVariants.{Begin, Turn, Finish, List as ListPairs}
-use Rattle.bw_shell.specs.declared.token.LineError.{LineError}
-use Rattle.bw_shell.specs.declared.token.LineError.TheVariants.{Malformed, TooLong}
-use Rattle.bw_shell.specs.Token.{Means, token_value}
+use Rattle.bw_shell.specs.Token.{Means}
 use Rattle.bw_shell.specs.Number.{number_of, capped}
 use Rattle.bw_shell.specs.Fields.{fields_of}
 

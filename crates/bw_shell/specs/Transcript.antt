@@ -22,7 +22,7 @@ TakesUpTo before actor limit (Some reply) after = (n : ℕ) × (n < limit) × (m
 abbrev pub RefusedWithin : Trace → ℕ → ℕ → ℕ → Trace → Type 0
 RefusedWithin before actor limit code after = (n : ℕ) × (n < limit) × StepsOn before actor n after × Refuses after (Step actor) code
 
--- what is asked for is done, and this is printed
+-- what is asked for is done, and this is printed; which pairs a listing has is said by the core's own contract
 abbrev pub Performs : Trace → Request → Trace → List ℕ → Type 0
 Performs before (Begin actor command) after text = Takes before (BeginTurn actor command) None after × (text ≡ [])
 Performs before (Turn actor count) after text = (reply : Option Reply) × TakesUpTo before actor count reply after × (text ≡ turned_text actor reply)

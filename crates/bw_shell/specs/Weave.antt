@@ -34,13 +34,13 @@ Feeds n before part bytes n' after part' old new refused = (text : List ℕ) × 
 
 -- The text is a transcript of what is read, as far as it goes, from this trace on.
 abbrev pub IsTranscriptFrom : Trace → Option (List ℕ) → List ℕ → Bool → Trace → List ℕ → Bool → Bool → Type 0
-IsTranscriptFrom before left taken read_failed after text refused cut =
+IsTranscriptFrom before left taken read_failed after text refused write_failed =
     -- the input was read to its end
     ((read_failed ≡ false) × IsAtEnd left × Transcript 1 before (lines_of taken) after text refused)
     -- a read failed behind these whole lines
     ⊎ ((read_failed ≡ true) × (refused ≡ false) × (lines : List (List ℕ)) × (part : List ℕ) × Splits taken lines part × Transcript 1 before lines after text false)
     -- a line was refused, or a write failed; whatever follows isn't read
-    ⊎ ((read_failed ≡ false) × ((refused ≡ true) ⊎ (cut ≡ true)) × Stops 1 before [] taken after text refused)
+    ⊎ ((read_failed ≡ false) × ((refused ≡ true) ⊎ (write_failed ≡ true)) × Stops 1 before [] taken after text refused)
 
 -- all reads of a run
 pub record HasRun (before : Trace) (in_old in_new : Option (List ℕ)) (read_failed : Bool) (old new : Sink) (after : Trace) (refused : Bool) : Type 0 where
@@ -52,10 +52,10 @@ pub record HasRun (before : Trace) (in_old in_new : Option (List ℕ)) (read_fai
 
 -- The text is a transcript of what is read, as far as it goes.
 abbrev pub IsTranscriptOf : Limits → Option (List ℕ) → List ℕ → Bool → Trace → List ℕ → Bool → Bool → Type 0
-IsTranscriptOf limits left taken read_failed after text refused cut =
+IsTranscriptOf limits left taken read_failed after text refused write_failed =
     -- no core could be opened
     ((taken ≡ []) × (read_failed ≡ false) × (refused ≡ true) × (after ≡ opening limits) × (text ≡ codes "refused: 12\n"))
-    ⊎ IsTranscriptFrom (opening limits) left taken read_failed after text refused cut
+    ⊎ IsTranscriptFrom (opening limits) left taken read_failed after text refused write_failed
 
 -- The whole run: what is taken from the reader, the core's trace, the text for them, and how much of it was written.
 pub record IsWoven (limits : Limits) (in_old in_new : Option (List ℕ)) (read_failed : Bool) (out_old out_new : Option (List ℕ)) (write_failed : Bool) (status : ℕ) : Type 0 where

@@ -1,4 +1,4 @@
-use Rattle.std.proofs.Common.{◌≡◌, ℕ, ◌+◌, ◌≤◌, List, length, take, false}
+use Rattle.std.proofs.Common.{◌≡◌, ℕ, ◌+◌, ◌≤◌, List, take, false}
 use Rattle.arrayvec.specs.ArrayVec.{array_vec_len}
 use Rattle.bw_shell.specs.Turns.{seen}
 use Rattle.bw_shell.specs.Output.{Shows}

@@ -1,4 +1,4 @@
-use Rattle.std.proofs.Common.{◌≡◌, ◌<◌, [], length, refl, sym, ap, ◌∙◌, inl, inr, arith, Err}
+use Rattle.std.proofs.Common.{◌<◌, [], length, refl, sym, ◌∙◌, inl, inr, arith}
 use Rattle.std.proofs.lemmas.Bool.{eqb-true, eqb-false}
 use Rattle.bw_shell.specs.Text.{refused_text}
 use Rattle.bw_shell.proofs.Showing.{no_text}

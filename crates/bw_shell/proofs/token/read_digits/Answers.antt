@@ -1,6 +1,5 @@
-use Rattle.std.proofs.Common.{◌≡◌, ℕ, ◌%◌, ◌<◌, refl, sym, ◌∙◌, arith, length, true, false}
-use Rattle.std.specs.List.{list_all}
-use Rattle.hex.specs.Hex.{decode_of, is_hex_digit}
+use Rattle.std.proofs.Common.{refl, sym, ◌∙◌, arith}
+use Rattle.hex.specs.Hex.{decode_of}
 use Rattle.bw_shell.proofs.Tokens.{no_digits, long_digits}
 use Rattle.bw_shell.proofs.token.read_digits.Goals as goal
 

@@ -1,4 +1,4 @@
-use Rattle.std.proofs.Common.{◌≡◌, ◌<◌, ◌≤◌, ◌+◌, [], ◌++◌, length, refl, sym, ap, ◌∙◌, arith, inl, inr, false, take}
+use Rattle.std.proofs.Common.{◌<◌, [], ◌++◌, length, refl, sym, ap, ◌∙◌, arith, inl, inr}
 use Rattle.std.proofs.lemmas.Bool.{eqb-true, eqb-false}
 use Rattle.std.proofs.lemmas.List.{append-nil}
 use Rattle.bw_shell.proofs.Showing.{no_text, shows_then}

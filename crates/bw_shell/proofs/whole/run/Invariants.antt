@@ -1,4 +1,4 @@
-use Rattle.std.proofs.Common.{◌≡◌, ℕ, ◌+◌, ◌*◌, ◌^◌, ◌≤◌, List, [], false}
+use Rattle.std.proofs.Common.{◌≡◌, ℕ, ◌+◌, ◌*◌, ◌≤◌, List, [], false}
 use Rattle.std.specs.Io.KnownBytes.{Consumes}
 use Rattle.arrayvec.specs.ArrayVec.{array_vec_len}
 use Rattle.bw_shell.specs.Turns.{seen}

@@ -1,4 +1,4 @@
-use Rattle.std.proofs.Common.{◌≡◌, [], refl, sym, ◌∙◌, inl, inr, true, false, codes}
+use Rattle.std.proofs.Common.{[], refl, sym, ◌∙◌, inl, inr, true, codes}
 use Rattle.bw_shell.specs.Turns.{opening}
 use Rattle.bw_shell.proofs.Showing.{shows_then}
 use Rattle.bw_shell.proofs.Weaving.{consumes_none, writes_whole, one_else, zero_then, is_woven}
