@@ -1,7 +1,7 @@
 -- What a turn makes of a core.
-use Rattle.std.proofs.Common.{◌≡◌, ◌≢◌, ◌<◌, ◌⊎◌, inl, inr, ℕ, List, [], ◌∷◌, ◌++◌, length, Some, None, Option, Bool, true, false, set, get_or, ltb, arith, refl, sym, ap, subst, ◌∙◌}
+use Rattle.std.proofs.Common.{◌≡◌, ◌≢◌, ◌<◌, inl, inr, ℕ, List, [], ◌∷◌, ◌++◌, length, Some, None, Option, Bool, true, false, set, get_or, ltb, arith, refl, sym, ap, subst, ◌∙◌}
 use Rattle.std.specs.Prelude.{slice_get, is_some, if◌then◌else◌}
-use Rattle.std.proofs.lemmas.Bool.{ltb-true, lt-ltb}
+use Rattle.std.proofs.lemmas.Bool.{ltb-true}
 use Rattle.bw_model.specs.declared.command.Command.{Command}
 use Rattle.bw_model.specs.declared.command.Reply.{Reply}
 use Rattle.bw_model.specs.declared.limits.Limits.{Limits}
@@ -11,7 +11,7 @@ use Rattle.deltas.specs.declared.record.Record.{Record}
 use Rattle.chain_search.specs.declared.trace.Entry.{Entry}
 use Rattle.chain_search.specs.declared.trace.Entry.TheVariants.{Begin, Step}
 use Rattle.chain_search.specs.declared.trace.Turn.TheVariants as turn
-use Rattle.deltas.specs.Memory.{Memory, opening}
+use Rattle.deltas.specs.Memory.{opening}
 use Rattle.chain_search.specs.Steps.{IsAnswer, memory_after}
 use Rattle.chain_search.specs.Trace.{command_of, commands_after, memory_of}
 use Rattle.chain_search.proofs.TraceLaws.{command_of-push, memory_of-push}
@@ -25,7 +25,7 @@ use Rattle.step_core.proofs.Closing.{closed_after, opening_closed, placed_kept, 
 use Rattle.step_core.proofs.Placing.{actor_more}
 use Rattle.step_core.proofs.Representing.{takes}
 use Rattle.step_core.specs.Cores.{IsCore}
-use Rattle.step_core.specs.Turns.{Core, busy_of, refused_by, refusal_of}
+use Rattle.step_core.specs.Turns.{Core, refused_by, refusal_of}
 use Rattle.step_core.proofs.Replaced.{get_is, replaced_other, replaced_same, set_cases, set_length}
 
 -- a begin that isn't refused

@@ -1,5 +1,5 @@
 -- Words of free bits.
-use Rattle.std.proofs.Common.{◌≡◌, ◌≢◌, ◌<◌, ◌≤◌, ◌+◌, ◌*◌, ◌/◌, ◌%◌, ◌^◌, ◌⊎◌, ℕ, max, zero, suc, Bool, true, false, eqb, eq-eqb, ne_eqb, inl, inr, refl, sym, ap, subst, arith, ◌∙◌}
+use Rattle.std.proofs.Common.{◌≡◌, ◌≢◌, ◌<◌, ◌+◌, ◌*◌, ◌/◌, ◌%◌, ◌^◌, ◌⊎◌, ℕ, max, zero, suc, Bool, true, false, eqb, eq-eqb, ne_eqb, inl, inr, refl, sym, ap, subst, arith, ◌∙◌}
 use Rattle.std.specs.Prelude.{if◌then◌else◌, bit_and, bit_or, not, ◌||◌, ◌&&◌}
 use Rattle.std.specs.Int.{bit_at, bit_not, w64}
 use Rattle.std.proofs.lemmas.Bool.{cases_lt}
@@ -44,7 +44,7 @@ module _ (free : ℕ → Bool) (word bits : ℕ) (is : IsWordOf free word bits) 
       | inr other ↦
           subst (λ m. bit_at (bit_and bits (bit_not w64 m)) j ≡ (if replaced_at (64 * word + i) false free (64 * word + j) then 1 else 0)) (one_shl i 64 below)
           (bit_at_clear_other w64 bits i below j within other ∙ is.says j within
-              ∙ ap (λ (f : Bool). if f then 1 else 0) (sym (replaced_other (64 * word + i) false free (64 * word + j) (λ same. other (omega arith)))))
+          ∙ ap (λ (f : Bool). if f then 1 else 0) (sym (replaced_other (64 * word + i) false free (64 * word + j) (λ same. other (omega arith)))))
     ];
   }
 

@@ -9,7 +9,7 @@ use Rattle.bw_model.specs.declared.step.Answer.{Answer}
 use Rattle.bw_model.specs.declared.step.Answer.TheVariants.{Start, Number, Content, Whether, Done}
 use Rattle.bw_model.specs.declared.step.Link.TheVariants as link
 use Rattle.bw_model.specs.declared.step.Step.{Step as StepOf}
-use Rattle.bw_model.specs.declared.step.Step.TheVariants.{Slot, Row, Epoch, Announce, PidBits, RowBits, Place, Exchange, TakePid, TakeRow, Enter, Leave, Retire, ReusePids, ReuseRows}
+use Rattle.bw_model.specs.declared.step.Step.TheVariants.{Exchange}
 use Rattle.deltas.specs.declared.record.Record.{Record}
 use Rattle.deltas.specs.Links.{record_link}
 use Rattle.chain_search.specs.declared.trace.Entry.{Entry}
@@ -18,7 +18,7 @@ use Rattle.chain_search.specs.declared.trace.Turn.{Turn}
 use Rattle.chain_search.specs.Trace.{memory_of}
 use Rattle.step_core.specs.declared.event.Event.{Event}
 use Rattle.step_core.specs.Cells.{Cells, AreSound}
-use Rattle.op_machine.specs.Links.{link_of, link_without}
+use Rattle.op_machine.specs.Links.{link_without}
 use Rattle.step_core.specs.CellLinks.{exchange_link, link_in, step_event}
 use Rattle.step_core.specs.CellSteps.{IsWithin}
 use Rattle.chain_search.specs.Steps.{IsAnswer, memory_after}

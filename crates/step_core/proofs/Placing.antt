@@ -1,5 +1,5 @@
 -- What states know of placed rows.
-use Rattle.std.proofs.Common.{◌≡◌, ◌<◌, ℕ, Bool, Some, None, Option, subst, sym}
+use Rattle.std.proofs.Common.{◌≡◌, ◌<◌, ℕ, Bool, Some, None, Option, subst}
 use Rattle.std.specs.Prelude.{IsTrue}
 use Rattle.std.specs.Option.{ForSome}
 use Rattle.bw_model.specs.declared.command.Command.{Command}

@@ -1,5 +1,5 @@
 -- Cells go on standing for the memory.
-use Rattle.std.proofs.Common.{◌≡◌, ◌≢◌, ◌<◌, ◌≤◌, ◌+◌, ◌*◌, ◌/◌, ◌%◌, ◌^◌, ◌⊎◌, ℕ, zero, suc, List, [], ◌∷◌, length, Some, None, Option, set, get_or, Bool, true, false, eqb, eq-eqb, ne_eqb, inl, inr, refl, sym, ap, subst, arith, ◌∙◌, get_or-set_same, get_or-set_other}
+use Rattle.std.proofs.Common.{◌≡◌, ◌≢◌, ◌<◌, ◌+◌, ◌*◌, ◌/◌, ◌%◌, ◌^◌, ℕ, zero, suc, List, [], ◌∷◌, length, Some, None, Option, set, Bool, true, false, eqb, eq-eqb, inl, inr, refl, sym, ap, subst, arith, ◌∙◌, get_or-set_same, get_or-set_other}
 use Rattle.std.specs.Prelude.{slice_get, slice_index, is_some, IsTrue, if◌then◌else◌, bit_and, bit_or, ◌||◌}
 use Rattle.std.specs.Int.{bit_not, w64}
 use Rattle.bw_model.specs.declared.limits.Limits.{Limits}
@@ -162,8 +162,7 @@ takes limits cells cells' memory actor (PidBits word) answer is sound within who
 takes limits cells cells' memory actor (RowBits word) answer is sound within who placed took = ((slice_index cells.row_bits word, is.free_rows word within, took.0), moved limits cells cells' memory took.1 is)
 takes limits cells cells' memory actor (Place row content) answer is sound within who placed took = (took.0, moved limits _ cells' _ took.1 (placed_in limits cells memory is sound row content within.0))
 takes limits cells cells' memory actor (Exchange slot old new) answer is sound within who placed took =
-    let same : eqb (slice_index cells.slots slot) old ≡ eqb (memory.slots slot) old = ap (λ n. eqb n old) (is.slots slot within.0) in
-    (
+    let same : eqb (slice_index cells.slots slot) old ≡ eqb (memory.slots slot) old = ap (λ n. eqb n old) (is.slots slot within.0) in (
       took.0 ∙ ap Whether same,
       moved limits _ cells' _ took.1 (subst (λ (t : Bool). Represents limits (if eqb (slice_index cells.slots slot) old then record cells { slots = set cells.slots slot new } else cells) (record memory { slots = if t then replaced_at slot new memory.slots else memory.slots })) same
           (exchanged limits cells memory is sound slot new within.0 (eqb (slice_index cells.slots slot) old))),
@@ -179,8 +178,7 @@ takes limits cells cells' memory actor (TakeRow row) answer is sound within who 
 takes limits cells cells' memory actor (Enter epoch) answer is sound within who placed took = (took.0, moved limits _ cells' _ took.1 (announced_in limits cells memory is sound actor epoch who))
 takes limits cells cells' memory actor Leave answer is sound within who placed took = (took.0, moved limits _ cells' _ took.1 (announced_in limits cells memory is sound actor 0 who))
 takes limits cells cells' memory actor (Retire epoch) answer is sound within who placed took =
-    let same : eqb cells.epoch epoch ≡ eqb memory.epoch epoch = ap (λ n. eqb n epoch) is.same_epoch in
-    (
+    let same : eqb cells.epoch epoch ≡ eqb memory.epoch epoch = ap (λ n. eqb n epoch) is.same_epoch in (
       took.0 ∙ ap Whether same,
       moved limits _ cells' _ took.1 (subst (λ (t : Bool). Represents limits (if eqb cells.epoch epoch then record cells { epoch = epoch + 1 } else cells) (record memory { epoch = if t then epoch + 1 else memory.epoch })) same
           (retired limits cells memory is sound epoch (eqb cells.epoch epoch))),

@@ -10,7 +10,7 @@ use Rattle.deltas.specs.Records.{next_row}
 use Rattle.step_core.specs.declared.actor.Actor.{Actor}
 use Rattle.step_core.specs.declared.actor.Running.{Running}
 use Rattle.step_core.specs.declared.op.State.{State}
-use Rattle.step_core.specs.declared.op.State.TheVariants.{Begun, Epoch, Enter, Root, Slot, Row, Bits, Take, Place, Exchange, Leave, Over}
+use Rattle.step_core.specs.declared.op.State.TheVariants.{Slot, Row, Bits, Take, Place, Exchange}
 
 -- the rows that a state relies on
 abbrev pub Knows : (ℕ → Bool) → State → Type 0

@@ -1,4 +1,3 @@
-use Rattle.std.proofs.Common.{sym}
 use Rattle.step_core.proofs.Placing.{running_knows}
 use Rattle.step_core.proofs.actor.Actor.step.Goals as goal
 

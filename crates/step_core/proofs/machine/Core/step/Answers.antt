@@ -8,7 +8,7 @@ pub invariant_of-self : goal.invariant_of-self
 invariant_of-self c =
     let asks = core_asks _ _ _ _ _ _ _ c.self.invariant _ _ c.self.view_is c.requires.goes c.from.ensures c.index_mut-place.ensures.value in
     let took = core_took _ _ _ _ _ _ _ _ c.step-stepped.result.step c.step-stepped.result.answer c.self.invariant c.from.ensures asks.1 c.index_mut-place.ensures.value
-        asks.0 c.step-stepped.ensures.within c.step-stepped.ensures.takes c.step-stepped.ensures.asks in
+    asks.0 c.step-stepped.ensures.within c.step-stepped.ensures.takes c.step-stepped.ensures.asks in
     core_stepped _ _ _ _ _ _ _ _ _ _ c.step-stepped.result.step c.step-stepped.result.answer c.step-stepped.result.reply c.self.invariant c.from.ensures asks.1
     c.index_mut-place.ensures.value c.step-stepped.ensures.sound c.step-stepped.ensures.command c.step-stepped.ensures.memory took c.step-stepped.ensures.knows (rw c.unwrap.ensures at c.push.ensures.items)
 
@@ -16,7 +16,7 @@ pub returns : goal.returns
 returns c =
     let asks = core_asks _ _ _ _ _ _ _ c.self.invariant _ _ c.self.view_is c.requires.goes c.from.ensures c.index_mut-place.ensures.value in
     let took = core_took _ _ _ _ _ _ _ _ c.step-stepped.result.step c.step-stepped.result.answer c.self.invariant c.from.ensures asks.1 c.index_mut-place.ensures.value
-        asks.0 c.step-stepped.ensures.within c.step-stepped.ensures.takes c.step-stepped.ensures.asks in
+    asks.0 c.step-stepped.ensures.within c.step-stepped.ensures.takes c.step-stepped.ensures.asks in
     record {
       added = Step c.args.actor c.step-stepped.result.step c.step-stepped.result.answer c.step-stepped.result.reply;
       entries = rw (← c.self.view_is) (rw c.unwrap.ensures at c.push.ensures.items);

@@ -1,5 +1,4 @@
 use Rattle.std.proofs.Common.{◌≡◌, sym}
-use Rattle.bw_model.specs.declared.step.Answer.TheVariants.{Number}
 use Rattle.step_core.specs.declared.op.State.TheVariants.{Slot, Bits, Take}
 use Rattle.step_core.proofs.Placing.{knows_at, slot_shows}
 use Rattle.step_core.proofs.op.Op.next.Goals as goal
