@@ -16,3 +16,4 @@ pub mod Sides
 pub mod Merged
 pub mod Trees
 pub mod Terms
+pub mod Places
