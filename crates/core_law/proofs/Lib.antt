@@ -17,3 +17,4 @@ pub mod Merged
 pub mod Trees
 pub mod Terms
 pub mod Places
+pub mod ItemLists
