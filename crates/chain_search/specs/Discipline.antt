@@ -49,8 +49,7 @@ pub record IsConsolidated (chain : List Record) (base : Page) : Type 0 where
   pub right : base.right ≡ right_in chain
   pub removed : base.removed ≡ is_removed chain
 
--- An update may be linked over a chain that was read and has fewer than 8 deltas and fewer than 16 items, once in an operation,
--- where the command makes it there.
+-- An update may be linked over a chain that was read and has fewer than 8 deltas, once in an operation, where the command makes it there.
 pub record MayUpdate (actor : ℕ) (k : Knowledge) (page old new : ℕ) : Type 0 where
   pub inside : k.inside ≡ true
   pub asked : Command
@@ -59,9 +58,6 @@ pub record MayUpdate (actor : ℕ) (k : Knowledge) (page old new : ℕ) : Type 0
   pub chain : List Record
   pub read : HasRead k page old chain
   pub short : length chain ≤ 8
-  pub items : List Item
-  pub are_items : IsItemsOf chain items
-  pub room : length items < 16
   pub update : Update
   pub due : update_of actor asked (found chain (command_key asked)) ≡ Some update
   pub placed : k.own new ≡ Written (record_of update old)

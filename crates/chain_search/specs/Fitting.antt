@@ -1,5 +1,5 @@
 -- What an actor may count on of an answer, by what it knows.
-use Rattle.std.specs.Prelude.{◌≡◌, ◌<◌, ◌≤◌, ◌+◌, ◌*◌, ◌^◌, ℕ, zero, suc, Bool, List, [], ◌∷◌, ◌++◌, length, Option, Some, None, IfSome, MatchOption, true, false}
+use Rattle.std.specs.Prelude.{◌≡◌, ◌<◌, ◌+◌, ◌*◌, ◌^◌, ℕ, zero, suc, Bool, List, [], ◌∷◌, ◌++◌, length, Option, Some, None, IfSome, MatchOption, true, false}
 use Rattle.std.specs.Int.{bit_at}
 use Rattle.bw_model.specs.declared.limits.Limits.{Limits}
 use Rattle.bw_model.specs.declared.step.Step.{Step as StepOf}
@@ -7,10 +7,9 @@ use Rattle.bw_model.specs.declared.step.Step.TheVariants.{Slot, Row, Epoch, PidB
 use Rattle.bw_model.specs.declared.step.Answer.{Answer}
 use Rattle.bw_model.specs.declared.step.Answer.TheVariants.{Number, Content, Whether, Done}
 use Rattle.base_page.specs.declared.item.Content.TheVariants.{Child}
-use Rattle.base_page.specs.declared.item.Item.{Item}
 use Rattle.deltas.specs.declared.record.Record.{Record}
 use Rattle.deltas.specs.Records.{next_row}
-use Rattle.chain_search.specs.Chains.{IsItemsOf, content_in, level_in, low_in, high_in, right_in, is_removed}
+use Rattle.chain_search.specs.Chains.{content_in, level_in, low_in, high_in, right_in, is_removed}
 use Rattle.chain_search.specs.Knowledge.{Foreign, Knowledge}
 
 -- These records lead from a row to the next one to read.
@@ -18,11 +17,8 @@ abbrev pub IsFront : (ℕ → Option Record) → ℕ → List Record → ℕ →
 IsFront rows row [] next = row ≡ next
 IsFront rows row (newest ∷ under) next = (rows row ≡ Some newest) × MatchOption (next_row newest) ⊥ (λ below. IsFront rows below under next)
 
--- the chain of the only leaf, with few items
+-- the chain of the only leaf
 pub record IsLeafChain (chain : List Record) : Type 0 where
-  pub items : List Item
-  pub are_items : IsItemsOf chain items
-  pub few : length items ≤ 16
   pub level : level_in chain ≡ 0
   pub low : low_in chain ≡ []
   pub high : high_in chain ≡ None

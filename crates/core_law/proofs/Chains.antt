@@ -63,7 +63,7 @@ pub spells_kept : (owner owner' : ℕ → Owner) (rows rows' : ℕ → Option Re
 spells_kept owner owner' rows rows' closed kept x l s =
     record {
       linked = (kept.at x s.linked).0;
-      spelled = record { chain = s.spelled.chain; is_chain = chain_kept owner owner' rows rows' closed kept x s.spelled.chain s.linked s.spelled.is_chain; short = s.spelled.short; items = s.spelled.items; are_items = s.spelled.are_items; few = s.spelled.few; level = s.spelled.level; low = s.spelled.low; high = s.spelled.high; right = s.spelled.right; removed = s.spelled.removed; same = s.spelled.same };
+      spelled = record { chain = s.spelled.chain; is_chain = chain_kept owner owner' rows rows' closed kept x s.spelled.chain s.linked s.spelled.is_chain; short = s.spelled.short; level = s.spelled.level; low = s.spelled.low; high = s.spelled.high; right = s.spelled.right; removed = s.spelled.removed; same = s.spelled.same };
     }
 
 -- what an actor knows stays so

@@ -62,9 +62,6 @@ no_child (Some x) page held e = cc
 
 leaf_chain : (rows : ℕ → Option Record) (x : ℕ) (log : List Update) (s : IsSpelled rows x log) → IsLeafChain s.chain
 leaf_chain rows x log s = record {
-  items = s.items;
-  are_items = s.are_items;
-  few = s.few;
   level = s.level;
   low = s.low;
   high = s.high;

@@ -45,7 +45,6 @@ use Rattle.core_law.proofs.Moves.{Next, next, good_begins, chain_decides}
 use Rattle.core_law.proofs.Owned.{pushed_length, same_start, own_new}
 use Rattle.core_law.proofs.Names.{number_same, faithful_push, named_begins, named_steps, reads_known, touches_outside, may_take}
 use Rattle.core_law.proofs.Chains.{chain_kept}
-use Rattle.core_law.proofs.ItemLists.{ascending_none}
 use Rattle.core_law.proofs.Searches.{search_new, search_other, search_own, lacks}
 use Rattle.core_law.proofs.Marks.{marked_push, tells_other, tells_own, quiet_push}
 use Rattle.op_machine.proofs.Listed.{same_operation, and_left, and_right}
@@ -114,7 +113,7 @@ opens limits = record {
       closed = λ r l. by_test r 1 (λ t. cond t Linked Free ≡ Linked → IsLinked owner (opening limits).rows r)
           (λ i e. subst (λ (j : ℕ). IsLinked owner (opening limits).rows j) (sym i) (record { linked = refl; content = Base empty_leaf; stands = refl; next = tt }))
           (λ ne e. absurd (cc)) l;
-      slot_spells = record { linked = refl; spelled = record { chain = Base empty_leaf ∷ []; is_chain = (refl, refl); short = omega arith; items = []; are_items = record { ascending = ascending_none; contents = λ k. refl }; few = omega arith; level = refl; low = refl; high = refl; right = refl; removed = refl; same = λ k. refl } };
+      slot_spells = record { linked = refl; spelled = record { chain = Base empty_leaf ∷ []; is_chain = (refl, refl); short = omega arith; level = refl; low = refl; high = refl; right = refl; removed = refl; same = λ k. refl } };
       owns = λ a r. tt;
       sound = λ a. record { pages_fit = λ p e. absurd (cc); seen_fits = λ r. tt; recent_fits = λ r. tt; learnt_fits = λ r e. absurd (cc); heads_fit = λ p r e. absurd (cc); linked_fits = refl };
     }

@@ -17,4 +17,3 @@ pub mod Merged
 pub mod Trees
 pub mod Terms
 pub mod Places
-pub mod ItemLists

@@ -9,7 +9,6 @@ use Rattle.deltas.specs.declared.record.Record.{Record}
 use Rattle.chain_search.specs.Discipline.{May, MayUpdate, MayConsolidate, MayReplyValue, IsAllowed, IsDisciplinedFrom, IsDisciplined}
 use Rattle.chain_search.specs.Knowledge.{Knowledge, knows}
 use Rattle.op_machine.specs.Examples.{small, opening_leaf, put_a}
-use Rattle.core_law.proofs.ItemLists.{ascending_none}
 use Rattle.core_law.specs.Examples.{leaf_with_a, lost_exchange}
 
 quietly : {actor : ℕ} {k : Knowledge} {step : StepOf Record} → May actor k step → IsAllowed small actor k step None
@@ -28,9 +27,6 @@ wins = record {
   chain = opening_leaf ∷ [];
   read = record { head = refl; read = (refl, refl) };
   short = lit≤ tt;
-  items = [];
-  are_items = record { ascending = ascending_none; contents = λ key. refl };
-  room = lit< tt;
   update = set 0 (codes "a") (codes "1");
   due = refl;
   placed = refl;
@@ -45,9 +41,6 @@ loses = record {
   chain = opening_leaf ∷ [];
   read = record { head = refl; read = (refl, refl) };
   short = lit≤ tt;
-  items = [];
-  are_items = record { ascending = ascending_none; contents = λ key. refl };
-  room = lit< tt;
   update = set 1 (codes "a") (codes "2");
   due = refl;
   placed = refl;

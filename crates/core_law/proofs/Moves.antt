@@ -14,13 +14,12 @@ use Rattle.bw_model.specs.Log.{Update, set, unset, value_in, updated_value}
 use Rattle.bw_model.specs.Replies.{command_key}
 use Rattle.bw_model.proofs.LogLaws.{value_in-push}
 use Rattle.base_page.specs.declared.item.Content.TheVariants.{Value}
-use Rattle.base_page.specs.declared.item.Item.{Item}
 use Rattle.base_page.specs.Pages.{Page}
 use Rattle.deltas.specs.declared.record.Record.{Record}
 use Rattle.deltas.specs.declared.record.Record.TheVariants.{Base}
 use Rattle.deltas.specs.Records.{next_row}
 use Rattle.deltas.specs.Memory.{Memory}
-use Rattle.chain_search.specs.Chains.{IsChainFrom, IsItemsOf}
+use Rattle.chain_search.specs.Chains.{IsChainFrom}
 use Rattle.chain_search.specs.Steps.{IsAnswer, memory_after}
 use Rattle.chain_search.proofs.ChainLaws.{IsChainFrom-unique}
 use Rattle.op_machine.specs.Points.{updates_by}
@@ -30,7 +29,6 @@ use Rattle.chain_search.specs.Knowledge.{Own, Foreign, Taken, Written, Knowledge
 use Rattle.core_law.specs.Owners.{Owner, Free, Spare, Linked, Among, IsSpelled, IsLinked, IsClosed, OwnFits, Owns, SeenFits, Spells, LinkedFits, IsSound, IsParted, Good}
 use Rattle.std.proofs.lemmas.Option.{same_Some}
 use Rattle.core_law.proofs.Puts.{by_test, put_same, put_other, put_all}
-use Rattle.core_law.proofs.ItemLists.{with_item, with_length, with_ascending, with_contents, without, without_length, without_ascending, without_contents}
 use Rattle.core_law.proofs.Chains.{chain_within, Kept, Spared, next_linked, spells_kept, sound_kept, owns_spared}
 
 pub kept_same : (owner : ℕ → Owner) (rows : ℕ → Option Record) → Kept owner owner rows rows
@@ -84,14 +82,11 @@ record_next (set actor k v) x = refl
 record_next (unset actor k) x = refl
 
 -- the chain with the record of an update spells the longer log
-record_spells : (rows : ℕ → Option Record) (u : Update) (x y : ℕ) (l : List Update) → rows y ≡ Some (record_of u x) → (s : IsSpelled rows x l) → length s.chain ≤ 8 → (items : List Item) → IsItemsOf s.chain items → length items < 16 → IsSpelled rows y (l ++ u ∷ [])
-record_spells rows (set actor key value) x y l stands s few items are room = record {
+record_spells : (rows : ℕ → Option Record) (u : Update) (x y : ℕ) (l : List Update) → rows y ≡ Some (record_of u x) → (s : IsSpelled rows x l) → length s.chain ≤ 8 → IsSpelled rows y (l ++ u ∷ [])
+record_spells rows (set actor key value) x y l stands s few = record {
   chain = record_of (set actor key value) x ∷ s.chain;
   is_chain = (stands, s.is_chain);
   short = omega arith;
-  items = with_item key (Value value) items;
-  are_items = record { ascending = with_ascending key (Value value) items are.ascending; contents = λ k. with_contents key (Value value) items k ∙ ap (λ o. if is_eq (key_cmp k key) then Some (Value value) else o) (are.contents k) };
-  few = let more = with_length key (Value value) items in omega arith;
   level = s.level;
   low = s.low;
   high = s.high;
@@ -103,13 +98,10 @@ record_spells rows (set actor key value) x y l stands s few items are room = rec
     by_key : (t : Bool) (k : List ℕ) → (if t then Some (Value value) else option_map Value (value_in l k)) ≡ option_map Value (if t then Some value else value_in l k)
     by_key true k = refl
     by_key false k = refl
-record_spells rows (unset actor key) x y l stands s few items are room = record {
+record_spells rows (unset actor key) x y l stands s few = record {
   chain = record_of (unset actor key) x ∷ s.chain;
   is_chain = (stands, s.is_chain);
   short = omega arith;
-  items = without key items;
-  are_items = record { ascending = without_ascending key items are.ascending; contents = λ k. without_contents key items k ∙ ap (λ o. if is_eq (key_cmp k key) then None else o) (are.contents k) };
-  few = let less = without_length key items in omega arith;
   level = s.level;
   low = s.low;
   high = s.high;
@@ -128,9 +120,6 @@ base_spells rows base x y l stands s same = record {
   chain = Base base ∷ [];
   is_chain = (stands, refl);
   short = omega arith;
-  items = s.items;
-  are_items = record { ascending = s.are_items.ascending; contents = λ k. s.are_items.contents k ∙ sym (same.contents k) };
-  few = s.few;
   level = same.level ∙ s.level;
   low = same.low ∙ s.low;
   high = same.high ∙ s.high;
@@ -402,7 +391,7 @@ module _ (limit : ℕ) (rows : ℕ → Option Record) (slot : ℕ) (free : ℕ �
       let few : length g.slot_spells.spelled.chain ≤ 8 = subst (λ c. length c ≤ 8) (sym (slot_read m.chain m.read.read)) m.short in
       links y (record_of u slot) (log ++ updates_by a (knows a).command log) (Some log) (finished (learn (knows a) (Exchange page slot y) (Whether true)) r) m.placed
       (subst (λ (o : Option ℕ). IfSome o (λ z. owner z ≡ Linked)) (sym (record_next u slot)) g.slot_spells.linked)
-      (λ stands. subst (IsSpelled rows y) (sym grown) (record_spells rows u slot y log stands g.slot_spells.spelled few m.items (subst (λ c. IsItemsOf c m.items) (sym (slot_read m.chain m.read.read)) m.are_items) m.room))
+      (λ stands. subst (IsSpelled rows y) (sym grown) (record_spells rows u slot y log stands g.slot_spells.spelled few))
       refl
       (λ kept.
       let s = sound_kept owner (put owner y Linked) rows rows g.closed kept (knows a).pages (knows a).seen (knows a).recent (knows a).learnt (knows a).heads (knows a).linked (points a) (log ∷ logs a) mine in

@@ -3,10 +3,9 @@ use Rattle.std.specs.Prelude.{◌≡◌, ◌<◌, ◌≤◌, ℕ, ◌⊎◌, Lis
 use Rattle.std.specs.Option.{option_map}
 use Rattle.bw_model.specs.Log.{Update, value_in}
 use Rattle.base_page.specs.declared.item.Content.TheVariants.{Value}
-use Rattle.base_page.specs.declared.item.Item.{Item}
 use Rattle.deltas.specs.declared.record.Record.{Record}
 use Rattle.deltas.specs.Records.{next_row}
-use Rattle.chain_search.specs.Chains.{IsChainFrom, IsItemsOf, content_in, level_in, low_in, high_in, right_in, is_removed}
+use Rattle.chain_search.specs.Chains.{IsChainFrom, content_in, level_in, low_in, high_in, right_in, is_removed}
 use Rattle.chain_search.specs.Knowledge.{Own, Foreign, Taken, Written, Knowledge}
 
 -- A row is free, or one actor has taken it, or it has been linked.
@@ -19,14 +18,11 @@ abbrev pub Among : List Update → List (List Update) → Type 0
 Among log [] = ⊥
 Among log (first ∷ logs) = (log ≡ first) ⊎ Among log logs
 
--- the chain from the row is that of the only leaf, has few records and few items, and decides each key as the log does
+-- the chain from the row is that of the only leaf, is short, and decides each key as the log does
 pub record IsSpelled (rows : ℕ → Option Record) (row : ℕ) (log : List Update) : Type 0 where
   pub chain : List Record
   pub is_chain : IsChainFrom rows row chain
   pub short : length chain ≤ 9
-  pub items : List Item
-  pub are_items : IsItemsOf chain items
-  pub few : length items ≤ 16
   pub level : level_in chain ≡ 0
   pub low : low_in chain ≡ []
   pub high : high_in chain ≡ None

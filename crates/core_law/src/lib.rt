@@ -3,8 +3,6 @@
 
 mod examples;
 mod law;
-mod levels;
 
 pub use examples::lost_exchange_is_disciplined;
 pub use law::{answers, begins, disciplined_runs, is_one_map, knowledge_is_own, opens, steps};
-pub use levels::reached_leaf_is_right;
