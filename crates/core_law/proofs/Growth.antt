@@ -39,11 +39,13 @@ use Rattle.chain_search.specs.Discipline.{May, MayReplyValue, MayReplyFull, MayR
 use Rattle.chain_search.specs.Knowledge.{Knowledge, begun, learn, finished, knows_after, knows}
 use Rattle.op_machine.specs.Linearized.{IsLinearized}
 use Rattle.core_law.specs.Owners.{Owner, Free, Spare, Linked, IsLinked, Spells, LinkedFits, IsSound, Good}
-use Rattle.core_law.specs.State.{IsUnended, operation_of, Tells, IsSearch, Answers, IsMarked, IsState}
+use Rattle.core_law.specs.State.{IsUnended, operation_of, Tells, IsSearch, Answers, IsMarked, IsTame, IsState}
 use Rattle.core_law.proofs.Puts.{by_test, put_same, put_other}
 use Rattle.core_law.proofs.Moves.{Next, next, good_begins, chain_decides}
 use Rattle.core_law.proofs.Owned.{pushed_length, same_start, own_new}
-use Rattle.core_law.proofs.Names.{number_same, faithful_push, named_begins, named_steps, reads_known, touches_outside, may_take}
+use Rattle.core_law.proofs.Names.{number_same, root_after, faithful_push, named_begins, named_steps, reads_known, touches_outside, may_take}
+use Rattle.op_machine.specs.Index.{IsRootLevel}
+use Rattle.core_law.proofs.Calm.{tame, calm_push}
 use Rattle.core_law.proofs.Chains.{chain_kept}
 use Rattle.core_law.proofs.Searches.{search_new, search_other, search_own, lacks}
 use Rattle.core_law.proofs.Marks.{marked_push, tells_other, tells_own, quiet_push}
@@ -65,6 +67,10 @@ slot_chain limit m log owner knows points logs g = record {
   linked = above (m.slots 1) (λ e. let f : owner (m.slots 1) ≡ Free = subst (λ r. owner r ≡ Free) (sym e) g.parted.zero_fits.0 in let l = g.slot_spells.linked in absurd (cc));
   records = g.slot_spells.spelled.is_chain;
 }
+
+-- and that is the root, a leaf
+root_level : (limit : ℕ) (m : Memory) (log : List Update) (owner : ℕ → Owner) (knows : ℕ → Knowledge) (points : ℕ → Option (List Update)) (logs : ℕ → List (List Update)) → Good limit m.rows (m.slots 1) m.free_rows log owner knows points logs → m.slots 0 ≡ 1 → IsRootLevel m 0
+root_level limit m log owner knows points logs g root = (g.slot_spells.spelled.chain, subst (λ p. IsChainOf m p g.slot_spells.spelled.chain) (sym root) (slot_chain limit m log owner knows points logs g), g.slot_spells.spelled.level)
 
 -- the memory has the map of the log
 map_of : (limit : ℕ) (m : Memory) (log : List Update) (owner : ℕ → Owner) (knows : ℕ → Knowledge) (points : ℕ → Option (List Update)) (logs : ℕ → List (List Update)) → Good limit m.rows (m.slots 1) m.free_rows log owner knows points logs → HasMapOf m log
@@ -95,6 +101,7 @@ opens limits = record {
   run = IsRun-none limits;
   quiet = record { at_each = λ n h. at_zero n h };
   faithful = record { known = λ n a row x h. absurd (let e = h.1 in cc); outside = λ n a s x h. absurd (let e = h.1 in cc) };
+  calm = record { tame = λ n a s x h. absurd (let e = h.1 in cc); rooted = λ n h. root_at n h };
 }
   where
     owner : ℕ → Owner
@@ -128,6 +135,10 @@ opens limits = record {
 
     zero_slot : (p : ℕ) → 1 < p → (opening limits).slots p ≡ 0
     zero_slot p h = grind (arith, nat_tests)
+
+    root_at : (n : ℕ) → n ≤ 0 → IsRootLevel (memory_at limits [] n) 0
+    root_at zero h = root_level limits.rows (opening limits) [] owner (knows []) (λ a. None) (λ a. []) good refl
+    root_at (suc n) h = absurd (omega arith)
 
     at_zero : (n : ℕ) → n ≤ 0 → HasMapOf (memory_at limits [] n) (log_at [] [] n)
     at_zero zero h = map_of limits.rows (opening limits) [] owner (knows []) (λ a. None) (λ a. []) good
@@ -163,6 +174,7 @@ begins limits entries a c state below idle = record {
   run = IsRun-push limits entries (Begin a c) state.run (below, idle);
   quiet = quiet_push entries state.points (Begin a c) false state.marked.beside limits state.quiet
       (rw (memory_of-push limits entries (Begin a c), log_of-push entries state.points (Begin a c) false state.marked.beside) (map_of limits.rows _ _ _ _ _ _ state.good));
+  calm = calm_push limits entries (Begin a c) state.calm (λ b s x h. let e = h.1 in absurd (cc)) (rw memory_of-push (root_level limits.rows (memory_of limits entries) _ _ _ _ _ state.good state.named.root));
   faithful = faithful_push limits entries (Begin a c) state.faithful (λ b row x h. let e = h.1 in absurd (cc)) (λ b s x h z. let e = h.1 in absurd (cc));
 }
   where
@@ -382,6 +394,9 @@ module _ (limits : Limits) (entries : List Entry) (a : ℕ) (step : StepOf Recor
           let f = put_same (command_of entries) a None in
           let g : None ≡ Some op.command = sym f ∙ e in absurd (cc)
 
+  root_after' : (memory_after a step (memory_of limits entries)).slots 0 ≡ 1
+  root_after' = root_after limits entries state.owner (memory_of limits entries) (knows entries) (log_of entries state.points) state.point state.logs state.good state.named a step answer r allowed.may is step allowed.may
+
   state_after : IsState limits (entries ++ last ∷ [])
   state_after = record {
     points = z.points ++ n.point ∷ [];
@@ -408,6 +423,9 @@ module _ (limits : Limits) (entries : List Entry) (a : ℕ) (step : StepOf Recor
         (state.searches (operation_of z.mine.start a asked) z.mine.begins z.mine.unended asks).unfinished m reply (subst (λ o. Finishes entries o m reply) same ends));
     run = IsRun-push limits entries last state.run (subst IsSome (sym asks) refl, may_take limits entries state.owner (memory_of limits entries) (knows entries) (log_of entries state.points) state.point state.logs state.good state.named a step answer r allowed.may is refl step allowed.may, is);
     quiet = quiet_push entries z.points last n.point z.marked.beside limits z.quiet (map_of limits.rows _ _ _ _ _ _ good_after);
+    calm = calm_push limits entries last state.calm
+        (λ b s x h. let i = h.1 in let j : step ≡ s = cc in subst (IsTame (memory_of limits entries)) j (tame limits (memory_of limits entries) (log_of entries state.points) state.owner (knows entries) state.point state.logs state.good state.named.root a step allowed.may))
+        (root_level limits.rows (memory_of limits (entries ++ last ∷ [])) _ _ _ _ _ good_after (rw memory_of-push root_after'));
     faithful = faithful_push limits entries last state.faithful
         (reads_known limits entries state.owner (memory_of limits entries) (knows entries) (log_of entries state.points) state.point state.logs state.good state.named a step answer r allowed.may is)
         (touches_outside limits entries state.owner (memory_of limits entries) (knows entries) (log_of entries state.points) state.point state.logs state.good state.named a step answer r allowed.may is);

@@ -6,13 +6,9 @@ pub mod Searches
 pub mod Marks
 pub mod Remark
 pub mod Names
+pub mod Calm
 pub mod Growth
 pub mod Fitted
 pub mod Runs
 pub mod LostExchange
 pub mod OwnEntries
-pub mod KeyOrder
-pub mod Sides
-pub mod Merged
-pub mod Trees
-pub mod Terms

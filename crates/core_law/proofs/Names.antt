@@ -231,7 +231,7 @@ module _ (limits : Limits) (entries : List Entry) (owner : ℕ → Owner) (m : M
   others_after (ReusePids q w) h p lt = old.others p lt
   others_after (ReuseRows q w) h p lt = old.others p lt
 
-  root_after : (t : StepOf Record) → May a (knows a) t → (memory_after a t m).slots 0 ≡ 1
+  pub root_after : (t : StepOf Record) → May a (knows a) t → (memory_after a t m).slots 0 ≡ 1
   root_after (Exchange q e n) h = go (eqb (m.slots q) e)
     where
       go : (t : Bool) → (if t then put m.slots q n else m.slots) 0 ≡ 1

@@ -2,5 +2,3 @@ pub mod Put
 pub mod Owners
 pub mod State
 pub mod Examples
-pub mod Levels
-pub mod Trees

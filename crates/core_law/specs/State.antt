@@ -1,14 +1,17 @@
 -- What a trace of allowed steps keeps true.
-use Rattle.std.specs.Prelude.{◌≡◌, ◌<◌, ◌⊎◌, ℕ, List, length, take, Option, Some, MatchOption, Bool, true, slice_get}
+use Rattle.std.specs.Prelude.{◌≡◌, ◌<◌, ◌≤◌, ◌⊎◌, ℕ, List, length, take, Option, Some, MatchOption, Bool, true, slice_get}
 use Rattle.bw_model.specs.declared.command.Command.{Command}
 use Rattle.bw_model.specs.declared.command.Reply.{Reply}
 use Rattle.bw_model.specs.declared.command.Reply.TheVariants.{Full}
 use Rattle.bw_model.specs.declared.limits.Limits.{Limits}
+use Rattle.bw_model.specs.declared.step.Answer.{Answer}
 use Rattle.bw_model.specs.declared.step.Answer.TheVariants.{Number, Content}
-use Rattle.bw_model.specs.declared.step.Step.TheVariants.{Slot, Row, PidBits, RowBits}
+use Rattle.bw_model.specs.declared.step.Step.{Step as StepOf}
+use Rattle.bw_model.specs.declared.step.Step.TheVariants.{Slot, Row, PidBits, RowBits, Exchange, TakePid, ReusePids, ReuseRows}
 use Rattle.bw_model.specs.Log.{Update, value_in}
 use Rattle.bw_model.specs.Replies.{command_key, reply_of, update_of}
 use Rattle.deltas.specs.declared.record.Record.{Record}
+use Rattle.deltas.specs.declared.record.Record.TheVariants.{Base, Put, Delete}
 use Rattle.deltas.specs.Memory.{Memory}
 use Rattle.chain_search.specs.Chains.{IsChainFrom, IsChainOf}
 use Rattle.chain_search.specs.declared.trace.Entry.{Entry}
@@ -16,8 +19,9 @@ use Rattle.chain_search.specs.declared.trace.Entry.TheVariants.{Begin}
 use Rattle.chain_search.specs.Knowledge.{Knowledge, knows}
 use Rattle.chain_search.specs.Learnt.{HasLearnt}
 use Rattle.chain_search.specs.Run.{IsRun}
-use Rattle.chain_search.specs.Trace.{memory_of, memory_at, command_of}
+use Rattle.chain_search.specs.Trace.{memory_of, memory_at, command_of, TakesStep}
 use Rattle.op_machine.specs.Answered.{FindsNothingFree, FindsPageFull}
+use Rattle.op_machine.specs.Index.{IsRootLevel}
 use Rattle.op_machine.specs.Operations.{Operation, IsOperation, IsOwnStep, TakesOwnStep, Finishes}
 use Rattle.op_machine.specs.Points.{log_of, log_at, IsPoint}
 use Rattle.op_machine.specs.Quiet.{IsQuiet}
@@ -90,6 +94,26 @@ pub record IsNamed (limits : Limits) (entries : List Entry) (owner : ℕ → Own
   pub free_pids : (pid : ℕ) → m.free_pids pid ≡ true → (0 < pid) × (pid < limits.pids)
   pub commands : (actor : ℕ) → (knows actor).command ≡ command_of entries actor
 
+-- a base, a put or a delete
+abbrev pub IsPlain : Record → Type 0
+IsPlain (Base page) = Unit {0}
+IsPlain (Put put) = Unit {0}
+IsPlain (Delete delete) = Unit {0}
+IsPlain other = ⊥
+
+-- a step that moves no page in its life, and frees nothing: an exchange is of a page, to a base, a put or a delete
+abbrev pub IsTame : Memory → StepOf Record → Type 0
+IsTame memory (TakePid pid) = ⊥
+IsTame memory (ReusePids word bits) = ⊥
+IsTame memory (ReuseRows word bits) = ⊥
+IsTame memory (Exchange slot old new) = (0 < slot) × (0 < new) × ((content : Record) × (memory.rows new ≡ Some content) × IsPlain content)
+IsTame memory step = Unit {0}
+
+-- each step was such a one, and at each moment the root is a leaf
+pub record IsCalm (limits : Limits) (entries : List Entry) : Type 0 where
+  pub tame : (n actor : ℕ) (step : StepOf Record) (answer : Answer Record) → TakesStep entries n actor step answer → IsTame (memory_at limits entries n) step
+  pub rooted : (n : ℕ) → n ≤ length entries → IsRootLevel (memory_at limits entries n) 0
+
 pub record IsState (limits : Limits) (entries : List Entry) : Type 0 where
   pub points : List Bool
   pub owner : ℕ → Owner
@@ -104,3 +128,4 @@ pub record IsState (limits : Limits) (entries : List Entry) : Type 0 where
   pub run : IsRun limits entries
   pub quiet : IsQuiet limits entries points
   pub faithful : IsFaithful limits entries
+  pub calm : IsCalm limits entries

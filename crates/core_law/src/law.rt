@@ -15,7 +15,10 @@ ghost use Rattle.chain_search.specs.Steps.{IsAnswer};
 ghost use Rattle.chain_search.specs.Trace.{memory_of, command_of, turn_of};
 ghost use Rattle.core_law.specs.State.{IsState};
 ghost use Rattle.deltas.specs.declared.record.Record.{Record};
+ghost use Rattle.op_machine.specs.Index.{IsExactIndex};
 ghost use Rattle.op_machine.specs.Linearized.{IsLinearized};
+ghost use Rattle.op_machine.specs.Phases.{KeepsPhases};
+ghost use Rattle.op_machine.specs.Reuse.{IsFreedByRule};
 
 /// The empty trace is a state.
 pub fn opens()
@@ -54,4 +57,11 @@ pub fn answers()
 /// What an actor knows comes from its own entries alone: in two traces with the same ones it knows the same.
 pub fn knowledge_is_own()
     ensures { (entries others : List Entry) (actor : ℕ) → own_entries actor entries ≡ own_entries actor others → knows entries actor ≡ knows others actor }
+{}
+
+/// In a state no page has moved in its life, the root is a leaf, and nothing was freed; so pages keep their phases, the index is exact, and freeing is by the rule.
+pub fn is_orderly()
+    ensures phases { (limits : Limits) (entries : List Entry) → IsState limits entries → KeepsPhases limits entries }
+    ensures index { (limits : Limits) (entries : List Entry) → IsState limits entries → IsExactIndex limits entries }
+    ensures freed { (limits : Limits) (entries : List Entry) → IsState limits entries → IsFreedByRule limits entries }
 {}

@@ -5,4 +5,6 @@ mod examples;
 mod law;
 
 pub use examples::lost_exchange_is_disciplined;
-pub use law::{answers, begins, disciplined_runs, is_one_map, knowledge_is_own, opens, steps};
+pub use law::{
+    answers, begins, disciplined_runs, is_one_map, is_orderly, knowledge_is_own, opens, steps,
+};
