@@ -6,6 +6,7 @@ pub mod Indexing
 pub mod Keeping
 pub mod Kept
 pub mod KeyOrder
+pub mod LinkRun
 pub mod Mapping
 pub mod Merging
 pub mod Opening

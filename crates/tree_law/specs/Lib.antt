@@ -1,4 +1,5 @@
 pub mod Discipline
+pub mod Example
 pub mod Indexed
 pub mod Keys
 pub mod Knowledge

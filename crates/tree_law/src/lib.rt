@@ -1,6 +1,7 @@
 //! The law of the whole tree, one step at a time: any number of actors, levels, splits, roots, and removal of pages.
 #![tactic(auto)]
 
+ghost use Rattle.tree_law.specs.Example.{ExampleLaw};
 ghost use Rattle.tree_law.specs.Laws.{AnswerLaw, BeginLaw, IndexLaw, KeyLaw, MapLaw, OpenLaw, PlaceLaw, StepLaw};
 
 /// The order of keys is total.
@@ -41,4 +42,9 @@ pub fn places()
 /// The levels are whole, and the index is exact.
 pub fn indexes()
     ensures { IndexLaw }
+{}
+
+/// A run with each link but Delete, step by step allowed.
+pub fn example()
+    ensures { ExampleLaw }
 {}
