@@ -1,0 +1,10 @@
+pub mod FaithLaws
+pub mod Listed
+pub mod LogLaws
+pub mod MapLaws
+pub mod PhaseLaws
+pub mod Lookup
+pub mod InsertAndLookup
+pub mod PageLife
+pub mod RowReuse
+pub mod Refused

@@ -1,0 +1,250 @@
+-- An actor looks a key up in the opening tree, and finds none: a run with its point, answered, quiet and faithful.
+use Rattle.std.specs.Prelude.{codes}
+use Rattle.std.proofs.Common.{◌≡◌, ◌<◌, ◌≤◌, ℕ, suc, List, [], ◌∷◌, Bool, true, false, Some, None, Option, refl, sym, subst, ap, arith, inl, lit<, lit≤, ◌+◌, ◌*◌, ◌^◌, ◌∙◌}
+use Rattle.std.specs.Prelude.{slice_get}
+use Rattle.bw_model.specs.declared.limits.Limits.{Limits}
+use Rattle.bw_model.specs.declared.command.Command.{Command}
+use Rattle.bw_model.specs.declared.command.Command.TheVariants.{Get}
+use Rattle.bw_model.specs.declared.command.Reply.{Reply}
+use Rattle.bw_model.specs.declared.command.Reply.TheVariants as reply
+use Rattle.bw_model.specs.declared.step.Step.{Step as StepOf}
+use Rattle.bw_model.specs.declared.step.Step.TheVariants.{Slot, Row, Epoch, Enter, Leave, Place, Exchange, TakePid, TakeRow, ReusePids, ReuseRows}
+use Rattle.bw_model.specs.declared.step.Answer.{Answer}
+use Rattle.bw_model.specs.declared.step.Answer.TheVariants.{Number, Content, Done}
+use Rattle.deltas.specs.declared.record.Record.{Record}
+use Rattle.deltas.specs.declared.record.Record.TheVariants.{Base}
+use Rattle.deltas.specs.Memory.{Memory, opening}
+use Rattle.chain_search.specs.declared.trace.Entry.{Entry}
+use Rattle.chain_search.specs.declared.trace.Entry.TheVariants.{Begin, Step}
+use Rattle.chain_search.specs.Run.{IsRun}
+use Rattle.std.specs.Prelude.{map}
+use Rattle.chain_search.specs.Trace.{turn_of}
+use Rattle.chain_search.specs.Trace.{memory_at, TakesStep, IsStep}
+use Rattle.chain_search.proofs.RunLaws.{IsRun-from_steps}
+use Rattle.op_machine.specs.Operations.{Operation, IsOperation, IsOwnStep, Finishes}
+use Rattle.bw_model.specs.Log.{value_in}
+use Rattle.bw_model.specs.Replies.{reply_of}
+use Rattle.op_machine.specs.Points.{log_at, HasPoints, IsPoint, has_point}
+use Rattle.op_machine.specs.Answered.{IsAnswered}
+use Rattle.op_machine.specs.Quiet.{IsQuiet, HasMapOf}
+use Rattle.std.specs.Prelude.{slice_range}
+use Rattle.std.specs.List.{count_by}
+use Rattle.chain_search.specs.Chains.{IsChainOf, level_in}
+use Rattle.chain_search.proofs.ChainLaws.{IsChainOf-unique}
+use Rattle.chain_search.proofs.Pushes.{slice_get_below}
+use Rattle.op_machine.specs.Direct.{IsDirect, is_step_of}
+use Rattle.op_machine.specs.Faithful.{IsFaithful, KnowsRow, touches_pages}
+use Rattle.op_machine.specs.Index.{IsExactIndex, IsOfLevel, IsRootLevel}
+use Rattle.op_machine.specs.Phases.{Phase, Moves, KeepsPhases, takes, splits, becomes_root, terms, under_root, holds, removes, merges, unterms, reuses}
+use Rattle.op_machine.specs.Reuse.{IsFreedByRule}
+use Rattle.op_machine.specs.Examples.{small, opening_leaf, lookup}
+use Rattle.op_machine.specs.Linearized.{IsLinearized, IsOrderly}
+use Rattle.op_machine.proofs.Listed.{EachAt-get, UpTo-at, same_operation}
+use Rattle.op_machine.proofs.MapLaws.{one_leaf}
+
+-- the point is the read of the leaf's slot
+abbrev points : List Bool
+points = false ∷ false ∷ false ∷ false ∷ true ∷ false ∷ false ∷ []
+
+is_run : IsRun small lookup
+is_run = IsRun-from_steps small lookup (
+  (lit< tt, refl),
+  (
+    (refl, tt, refl),
+    (
+      (refl, tt, refl),
+      (
+        (refl, tt, refl),
+        (
+          (refl, tt, refl),
+          (
+            (refl, tt, (opening_leaf, refl, refl)),
+            ((refl, tt, refl), tt),
+          ),
+        ),
+      ),
+    ),
+  ),
+)
+
+is_quiet : IsQuiet small lookup points
+is_quiet = record {
+  at_each = UpTo-at (λ k. HasMapOf (memory_at small lookup k) (log_at lookup points k)) 7
+      (here _, (here _, (here _, (here _, (here _, (here _, (here _, here _)))))));
+}
+  where
+    here : (announced : ℕ → ℕ) → HasMapOf (record (opening small) { announced = announced }) []
+    here announced = one_leaf _ [] (opening_leaf ∷ []) (record { page = lit< tt; linked = lit< tt; records = (refl, refl) }) refl refl refl (λ key. refl)
+
+abbrev the_operation : Operation
+the_operation = record { start = 0; actor = 0; command = Get (codes "a") }
+
+begins : (n actor : ℕ) (command : Command) → slice_get lookup n ≡ Some (Begin actor command) → (n ≡ 0) × (actor ≡ 0) × (command ≡ Get (codes "a"))
+begins n actor command e = EachAt-get (λ k entry. (a : ℕ) (c : Command) → entry ≡ Begin a c → (k ≡ 0) × (a ≡ 0) × (c ≡ Get (codes "a"))) lookup
+    (λ a c e. (refl, cc, cc), (λ a c e. cc, (λ a c e. cc, (λ a c e. cc, (λ a c e. cc, (λ a c e. cc, (λ a c e. cc, tt))))))) n _ e actor command refl
+
+only : (operation : Operation) → IsOperation lookup operation → operation ≡ the_operation
+only operation h = let b = begins operation.start operation.actor operation.command h in same_operation operation the_operation b.0 b.1 b.2
+
+-- no entry after the first begins an operation
+none_later : (later : ℕ) (command : Command) → 0 < later → slice_get lookup later ≡ Some (Begin 0 command) → ⊥
+none_later later command after e = let first : later ≡ 0 = (begins later 0 command e).0 in omega arith
+
+own_point : IsOwnStep lookup the_operation 4
+own_point = (Slot 1, Number 1, (None, record { begun = lit< tt; entry = refl; not_ended = λ later command after before e. none_later later command after e }))
+
+only_point : (n : ℕ) → IsPoint points n → n ≡ 4
+only_point n e = EachAt-get (λ k marked. marked ≡ true → k ≡ 4) points
+    (λ e. cc, (λ e. cc, (λ e. cc, (λ e. cc, (λ e. refl, (λ e. cc, (λ e. cc, tt))))))) n true e refl
+
+only_reply : (n actor : ℕ) (step : StepOf Record) (answer : Answer Record) (answered : Reply) → slice_get lookup n ≡ Some (Step actor step answer (Some answered)) → answered ≡ reply.None
+only_reply n actor step answer answered e = EachAt-get (λ k entry. (a : ℕ) (s : StepOf Record) (b : Answer Record) (r : Reply) → entry ≡ Step a s b (Some r) → r ≡ reply.None) lookup
+    (λ a s b r e. cc, (λ a s b r e. cc, (λ a s b r e. cc, (λ a s b r e. cc, (λ a s b r e. cc, (λ a s b r e. cc, (λ a s b r e. cc, tt))))))) n _ e actor step answer answered refl
+
+finished : (operation : Operation) (n : ℕ) (answered : Reply) → Finishes lookup operation n answered → answered ≡ reply.None
+finished operation n answered h = only_reply n operation.actor h.0 h.1 answered h.2.entry
+
+has_points : HasPoints lookup points
+has_points = record {
+  beside = refl;
+  own = λ n e. (the_operation, first_begins, rw (only_point n e) own_point);
+  one = λ operation m n is a b p q. only_point m p ∙ sym (only_point n q);
+  pointed = λ operation n answered is ends asks. rw (only operation is) (4, own_point, refl);
+  pointless = λ operation m n answered is ends asks own mark. let which : answered ≡ reply.None = finished operation n answered ends in
+      let odd : has_point reply.None ≡ false = subst (λ r. has_point r ≡ false) which asks in cc;
+}
+  where
+    first_begins : IsOperation lookup the_operation
+    first_begins = refl
+
+is_answered : IsAnswered small lookup points
+is_answered = record { each = λ operation n answered is ends. rw (only operation is, finished operation n answered ends) (4, own_point, refl, right) }
+  where
+    right : reply_of the_operation.command (value_in [] (codes "a")) ≡ Some reply.None
+    right = refl
+
+-- the steps of the run neither take nor free nor exchange anything
+only_looks : StepOf Record → Bool
+only_looks (Place row content) = false
+only_looks (Exchange slot old new) = false
+only_looks (TakePid pid) = false
+only_looks (TakeRow row) = false
+only_looks (ReusePids word bits) = false
+only_looks (ReuseRows word bits) = false
+only_looks _ = true
+
+looks : (n : ℕ) (entry : Entry) → slice_get lookup n ≡ Some entry → (actor : ℕ) (step : StepOf Record) (answer : Answer Record) → IsStep entry actor step answer → only_looks step ≡ true
+unfolding only_looks
+looks n entry at actor step answer is = EachAt-get (λ k e. (a : ℕ) (s : StepOf Record) (b : Answer Record) (r : Option Reply) → e ≡ Step a s b r → only_looks s ≡ true) lookup
+    (λ a s b r e. cc, (λ a s b r e. look Epoch s refl cc, (λ a s b r e. look (Enter 1) s refl cc, (λ a s b r e. look (Slot 0) s refl cc, (λ a s b r e. look (Slot 1) s refl cc, (λ a s b r e. look (Row 1) s refl cc, (λ a s b r e. look Leave s refl cc, tt))))))) n entry at actor step answer is.0 is.1
+  where
+    look : (s t : StepOf Record) → only_looks s ≡ true → t ≡ s → only_looks t ≡ true
+    look s t h e = rw e h
+
+keeps_phases : KeepsPhases small lookup
+unfolding only_looks
+keeps_phases = record {
+  in_order = λ n pid from to moves. absurd (none_moves moves.entry (looks n moves.entry moves.at) moves.holds);
+  emptied = λ n actor pid old wins. absurd (odd (looks n wins.entry wins.at _ _ _ wins.holds.0));
+}
+  where
+    odd : false ≡ true → ⊥
+    odd e = cc
+
+    none_moves : {memory : Memory} {pid : ℕ} {from to : Phase} (entry : Entry) → ((actor : ℕ) (step : StepOf Record) (answer : Answer Record) → IsStep entry actor step answer → only_looks step ≡ true) → Moves memory entry pid from to → ⊥
+    none_moves entry l (takes a is) = odd (l _ _ _ is)
+    none_moves entry l (splits a b h e) = odd (l _ _ _ h.3.0)
+    none_moves entry l (becomes_root h) = odd (l _ _ _ h.2.0)
+    none_moves entry l (terms a b h e) = odd (l _ _ _ h.3.0)
+    none_moves entry l (under_root a b c h d e f) = odd (l _ _ _ h.2.0)
+    none_moves entry l (holds a b h e) = odd (l _ _ _ h.3.0)
+    none_moves entry l (removes a h) = odd (l _ _ _ h.3.0)
+    none_moves entry l (merges a b c h i j) = odd (l _ _ _ h.3.0)
+    none_moves entry l (unterms a b h e) = odd (l _ _ _ h.3.0)
+    none_moves entry l (reuses a b c d is e) = odd (l _ _ _ is)
+
+is_freed_by_rule : IsFreedByRule small lookup
+unfolding only_looks
+is_freed_by_rule = record {
+  pids = λ n actor word bits pid answer is among. absurd (odd (looks n _ is.1 actor _ answer (is.0, refl)));
+  rows = λ n actor word bits row answer is among. absurd (odd (looks n _ is.1 actor _ answer (is.0, refl)));
+}
+  where
+    odd : false ≡ true → ⊥
+    odd e = cc
+
+is_faithful : IsFaithful small lookup
+is_faithful = record {
+  known = λ n actor row answer is. let which = read n actor row answer is in rw (which.0, which.1, which.2) known_row;
+  outside = λ n actor step answer is announced. inside n actor step answer is announced;
+}
+  where
+    read : (n actor row : ℕ) (answer : Answer Record) → TakesStep lookup n actor (Row row) answer → (n ≡ 5) × (actor ≡ 0) × (row ≡ 1)
+    read n actor row answer is = EachAt-get (λ k e. (a r : ℕ) (b : Answer Record) (t : Option Reply) → e ≡ Step a (Row r) b t → (k ≡ 5) × (a ≡ 0) × (r ≡ 1)) lookup
+        (λ a r b t e. cc, (λ a r b t e. cc, (λ a r b t e. cc, (λ a r b t e. cc, (λ a r b t e. cc, (λ a r b t e. (refl, cc, cc), (λ a r b t e. cc, tt))))))) n _ is.1 actor row answer is.0 refl
+
+    known_row : KnowsRow lookup 5 0 1
+    known_row = record {
+      at = 4;
+      before = lit< tt;
+      shown = inl (1, lit< tt, (None, refl));
+      inside = λ later epoch answer low high. absurd (omega arith);
+      undisturbed = λ later other step answer low high. absurd (omega arith);
+    }
+
+    inside : (n actor : ℕ) (step : StepOf Record) (answer : Answer Record) → TakesStep lookup n actor step answer → (memory_at small lookup n).announced actor ≡ 0 → touches_pages step ≡ false
+    inside n actor step answer is = EachAt-get (λ k e. (a : ℕ) (s : StepOf Record) (b : Answer Record) (t : Option Reply) → e ≡ Step a s b t → (memory_at small lookup k).announced a ≡ 0 → touches_pages s ≡ false) lookup
+        (λ a s b t e z. cc, (λ a s b t e z. plain Epoch s refl cc, (λ a s b t e z. plain (Enter 1) s refl cc, (λ a s b t e z. entered 3 a (cc) refl z, (λ a s b t e z. entered 4 a (cc) refl z, (λ a s b t e z. entered 5 a (cc) refl z, (λ a s b t e z. plain Leave s refl cc, tt))))))) n _ is.1 actor step answer is.0 refl
+      where
+        plain : (s t : StepOf Record) → touches_pages s ≡ false → t ≡ s → touches_pages t ≡ false
+        plain s t h e = rw e h
+
+        entered : {C : Type 0} (k a : ℕ) → a ≡ 0 → (memory_at small lookup k).announced 0 ≡ 1 → (memory_at small lookup k).announced a ≡ 0 → C
+        entered k a same one none = let odd : ◌≡◌ {A = ℕ} 1 0 = sym one ∙ subst (λ x. (memory_at small lookup k).announced x ≡ 0) same none in cc
+
+is_direct : IsDirect small lookup
+unfolding only_looks
+is_direct = record {
+  few = λ operation n is own. ([], λ k h. absurd (omega arith), λ k d h. absurd (omega arith), rw (only operation is) (bound n (at_most n own)));
+  once = λ operation m n first second is a b. absurd (odd (looks m _ a.3.1.entry operation.actor _ _ (a.3.0, refl)));
+  useful = λ operation n slot old new chain is own. absurd (odd (looks n _ own.1.entry operation.actor _ _ (own.0, refl)));
+}
+  where
+    odd : false ≡ true → ⊥
+    odd e = cc
+
+    at_most : {operation : Operation} (n : ℕ) → IsOwnStep lookup operation n → n ≤ 6
+    at_most n own = let lt : n < 7 = slice_get_below lookup n _ own.2.1.entry in omega arith
+
+    bound : (n : ℕ) → n ≤ 6 → count_by (is_step_of 0) (slice_range lookup 0 (suc n)) ≤ 2 ^ 18 * (0 + 1)
+    bound n h = UpTo-at (λ k. count_by (is_step_of 0) (slice_range lookup 0 (suc k)) ≤ 2 ^ 18 * (0 + 1)) 6 (lit≤ tt, (lit≤ tt, (lit≤ tt, (lit≤ tt, (lit≤ tt, (lit≤ tt, lit≤ tt)))))) n h
+
+is_exact_index : IsExactIndex small lookup
+is_exact_index = record {
+  rooted = λ n h. (0, UpTo-at (λ k. IsRootLevel (memory_at small lookup k) 0) 7 (leafy 0 (record { page = lit< tt; linked = lit< tt; records = (refl, refl) }), (leafy 1 (record { page = lit< tt; linked = lit< tt; records = (refl, refl) }), (leafy 2 (record { page = lit< tt; linked = lit< tt; records = (refl, refl) }), (leafy 3 (record { page = lit< tt; linked = lit< tt; records = (refl, refl) }), (leafy 4 (record { page = lit< tt; linked = lit< tt; records = (refl, refl) }), (leafy 5 (record { page = lit< tt; linked = lit< tt; records = (refl, refl) }), (leafy 6 (record { page = lit< tt; linked = lit< tt; records = (refl, refl) }), leafy 7 (record { page = lit< tt; linked = lit< tt; records = (refl, refl) })))))))) n h);
+  each = λ n level top h root below. absurd (too_low n top h root below);
+}
+  where
+    leafy : (k : ℕ) → IsChainOf (memory_at small lookup k) 1 (opening_leaf ∷ []) → IsOfLevel (memory_at small lookup k) 0 1
+    leafy k is = (opening_leaf ∷ [], is, refl)
+
+    leaf : (k : ℕ) → (memory_at small lookup k).slots 0 ≡ 1 → IsChainOf (memory_at small lookup k) 1 (opening_leaf ∷ []) → (top : ℕ) → IsRootLevel (memory_at small lookup k) top → top ≡ 0
+    leaf k slot is top (chain, other, level) = let other_1 : IsChainOf (memory_at small lookup k) 1 chain = subst (λ p. IsChainOf (memory_at small lookup k) p chain) slot other in
+        let same : chain ≡ opening_leaf ∷ [] = IsChainOf-unique (memory_at small lookup k) 1 chain (opening_leaf ∷ []) other_1 is in sym level ∙ ap level_in same
+
+    too_low : {level : ℕ} (n top : ℕ) → n ≤ 7 → IsRootLevel (memory_at small lookup n) top → level < top → ⊥
+    too_low n top h root below = let zero_top : top ≡ 0 = UpTo-at (λ k. (t : ℕ) → IsRootLevel (memory_at small lookup k) t → t ≡ 0) 7
+        (leaf 0 refl (record { page = lit< tt; linked = lit< tt; records = (refl, refl) }), (leaf 1 refl (record { page = lit< tt; linked = lit< tt; records = (refl, refl) }), (leaf 2 refl (record { page = lit< tt; linked = lit< tt; records = (refl, refl) }), (leaf 3 refl (record { page = lit< tt; linked = lit< tt; records = (refl, refl) }), (leaf 4 refl (record { page = lit< tt; linked = lit< tt; records = (refl, refl) }), (leaf 5 refl (record { page = lit< tt; linked = lit< tt; records = (refl, refl) }), (leaf 6 refl (record { page = lit< tt; linked = lit< tt; records = (refl, refl) }), leaf 7 refl (record { page = lit< tt; linked = lit< tt; records = (refl, refl) })))))))) n h top root in omega arith
+
+pub is_linearized : IsLinearized small (map turn_of lookup) lookup
+is_linearized = record {
+  run = record { in_turn = refl; run = is_run };
+  points = points;
+  pointed = has_points;
+  answered = is_answered;
+  quiet = is_quiet;
+  faithful = is_faithful;
+}
+
+pub is_orderly : IsOrderly small lookup
+is_orderly = record { phases = keeps_phases; index = is_exact_index; direct = is_direct; freed = is_freed_by_rule }

@@ -1,0 +1,73 @@
+-- A memory of one leaf has the map that the leaf's chain decides.
+use Rattle.std.proofs.Common.{◌≡◌, ◌<◌, ℕ, suc, zero, List, [], ◌∷◌, length, false, Option, Some, None, refl, sym, subst, ap, arith, ◌∙◌}
+use Rattle.std.specs.Prelude.{IsTrue, slice_index_or}
+use Rattle.std.specs.List.{Contains, AllByRecursion}
+use Rattle.std.specs.Option.{option_map}
+use Rattle.bw_model.specs.Bytes.{is_below}
+use Rattle.bw_model.specs.Log.{Update, value_in}
+use Rattle.base_page.specs.declared.item.Content.TheVariants.{Value}
+use Rattle.deltas.specs.declared.record.Record.{Record}
+use Rattle.deltas.specs.Memory.{Memory}
+use Rattle.chain_search.specs.Chains.{IsChainOf, content_in, low_in, high_in, right_in, covers}
+use Rattle.chain_search.specs.SideChain.{LivePage, IsLeaves, IsWhole}
+use Rattle.chain_search.proofs.ChainLaws.{IsSideChainFrom-unique}
+use Rattle.op_machine.specs.Quiet.{HasMapOf}
+
+contained_alone : {X : Type 0} (x y : X) → Contains (x ∷ []) y → y ≡ x
+contained_alone x y (zero, h, e) = sym e
+contained_alone x y (suc k, h, e) = absurd (omega arith)
+
+some_same : {X : Type 0} {x y : X} → Some x ≡ Some y → x ≡ y
+some_same e = cc
+
+value_same : (o : Option (List ℕ)) (value : List ℕ) → option_map Value o ≡ Some (Value value) → o ≡ Some value
+value_same None value e = cc
+value_same (Some v) value e = cc
+
+none_below_empty : (key : List ℕ) → is_below key [] ≡ false
+none_below_empty [] = refl
+none_below_empty (x ∷ xs) = refl
+
+pub one_leaf : (memory : Memory) (log : List Update) (chain : List Record) → IsChainOf memory 1 chain → low_in chain ≡ [] → high_in chain ≡ None → right_in chain ≡ None
+    → ((key : List ℕ) → content_in chain key ≡ option_map Value (value_in log key)) → HasMapOf memory log
+one_leaf memory log chain is low high right says = record {
+  whole = (leaves, is_leaves, (low, rw high refl));
+  same = λ key value. (
+    (λ (pages, page, are, among, covered, decided).
+        let alone : Contains leaves page = subst (λ ps. Contains ps page) (IsSideChainFrom-unique memory 1 pages leaves are is_leaves) among in
+        let which : page ≡ leaf = contained_alone leaf page alone in
+        let there : content_in chain key ≡ Some (Value value) = subst (λ p. content_in p.chain key ≡ Some (Value value)) which decided in
+        value_same (value_in log key) value (sym (says key) ∙ there)),
+    (λ h. (leaves, leaf, is_leaves, (0, omega arith, refl), all_covered key, says key ∙ ap (option_map Value) h)),
+  );
+}
+  where
+    leaf : LivePage
+    leaf = record { pid = 1; chain = chain }
+
+    leaves : List LivePage
+    leaves = leaf ∷ []
+
+    is_leaves : IsLeaves memory leaves
+    is_leaves = (refl, is, rw right refl)
+
+    all_covered : (key : List ℕ) → IsTrue (covers chain key)
+    all_covered key = rw (low, high, none_below_empty) refl
+
+nowhere : (pages : List LivePage) → AllByRecursion (λ page. (key : List ℕ) → content_in page.chain key ≡ None) pages → (k : ℕ) (page : LivePage) → k < length pages → slice_index_or pages k page ≡ page → (key : List ℕ) → content_in page.chain key ≡ None
+nowhere [] h k page lt e key = absurd (omega arith)
+nowhere (p ∷ pages) h zero page lt e key = subst (λ q. content_in q.chain key ≡ None) e (h.0 key)
+nowhere (p ∷ pages) h (suc k) page lt e key = nowhere pages h.1 k page (omega arith) e key
+
+-- whole leaves that decide no key have the map of the empty log
+pub no_values : (memory : Memory) (pages : List LivePage) → IsLeaves memory pages → IsWhole pages → AllByRecursion (λ page. (key : List ℕ) → content_in page.chain key ≡ None) pages → HasMapOf memory []
+no_values memory pages are whole none = record {
+  whole = (pages, are, whole);
+  same = λ key value. (
+    (λ (leaves, page, these, among, covered, decided).
+        let alone : Contains pages page = subst (λ ps. Contains ps page) (IsSideChainFrom-unique memory 1 leaves pages these are) among in
+        let absent : content_in page.chain key ≡ None = nowhere pages none alone.0 page alone.1 alone.2 key in
+        cc),
+    (λ h. cc),
+  );
+}

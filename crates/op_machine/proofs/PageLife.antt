@@ -1,0 +1,134 @@
+-- The life of a page: split off, indexed by a new root, held, removed, merged, taken out of the index, and its slot emptied.
+use Rattle.std.specs.Prelude.{codes}
+use Rattle.std.proofs.Common.{◌≡◌, ◌<◌, ℕ, List, [], ◌∷◌, Bool, true, false, Some, None, Option, refl, subst, arith, inl, inr, lit<}
+use Rattle.std.specs.Prelude.{not, take, if◌then◌else◌}
+use Rattle.bw_model.specs.declared.limits.Limits.{Limits}
+use Rattle.bw_model.specs.declared.command.Reply.{Reply}
+use Rattle.bw_model.specs.declared.step.Step.{Step as StepOf}
+use Rattle.bw_model.specs.declared.step.Step.TheVariants.{TakePid, TakeRow, Place, Exchange}
+use Rattle.bw_model.specs.declared.step.Answer.{Answer}
+use Rattle.bw_model.specs.declared.step.Answer.TheVariants.{Whether, Done}
+use Rattle.deltas.specs.declared.record.Record.{Record}
+use Rattle.deltas.specs.declared.record.Record.TheVariants.{Base}
+use Rattle.base_page.specs.Pages.{Page}
+use Rattle.chain_search.specs.declared.trace.Entry.{Entry}
+use Rattle.chain_search.specs.declared.trace.Entry.TheVariants.{Begin, Step}
+use Rattle.chain_search.specs.Chains.{IsChainOf}
+use Rattle.chain_search.specs.Run.{IsRun, MayPlace}
+use Rattle.chain_search.specs.Trace.{memory_at, memory_of, TakesStep}
+use Rattle.chain_search.proofs.RunLaws.{IsRun-from_steps}
+use Rattle.base_page.specs.declared.item.Content.TheVariants.{Child}
+use Rattle.op_machine.specs.Points.{log_at}
+use Rattle.op_machine.specs.Quiet.{IsQuiet, HasMapOf}
+use Rattle.std.specs.Prelude.{replicate}
+use Rattle.std.proofs.Common.{ap}
+use Rattle.chain_search.specs.Chains.{low_in, high_in, right_in}
+use Rattle.op_machine.specs.Examples.{small, opening_leaf, new_leaf, split, root_page, root, hold, remove, merge, unterm, index_page, page_life}
+use Rattle.op_machine.proofs.Listed.{EachAt-get, slice_get-from_take, UpTo-at}
+use Rattle.bw_model.specs.declared.step.Link.TheVariants as link
+use Rattle.bw_model.specs.Bytes.{is_below, is_in_range}
+use Rattle.base_page.specs.declared.item.Content.{Content as ContentOf}
+use Rattle.chain_search.specs.SideChain.{LivePage, IsWhole}
+use Rattle.chain_search.specs.Chains.{content_in, level_in}
+use Rattle.op_machine.specs.Links.{link_of}
+use Rattle.op_machine.specs.Phases.{MakesRoot, MovesAt, free, owned, fresh, indexed, held, removed, merged, cleared, takes, splits, becomes_root, under_root, holds, removes, merges, unterms}
+use Rattle.op_machine.specs.Index.{IsLevel, IsRootLevel, IsOfLevel, HasTerm}
+use Rattle.op_machine.proofs.MapLaws.{no_values}
+use Rattle.chain_search.proofs.ChainLaws.{unplaced, IsChainOf-unique}
+
+-- each step is actor 0's
+alone : (k n actor : ℕ) (step : StepOf Record) (answer : Answer Record) → TakesStep (take k page_life) n actor step answer → actor ≡ 0
+alone k n actor step answer h = EachAt-get (λ j entry. (a : ℕ) (s : StepOf Record) (b : Answer Record) (r : Option Reply) → entry ≡ Step a s b r → a ≡ 0) page_life
+    (λ a s b r e. cc, (λ a s b r e. cc, (λ a s b r e. cc, (λ a s b r e. cc, (λ a s b r e. cc, (λ a s b r e. cc, (λ a s b r e. cc, (λ a s b r e. cc, (λ a s b r e. cc, (λ a s b r e. cc, (λ a s b r e. cc, (λ a s b r e. cc, (λ a s b r e. cc, (λ a s b r e. cc, (λ a s b r e. cc, (λ a s b r e. cc, (λ a s b r e. cc, (λ a s b r e. cc, (λ a s b r e. cc, (λ a s b r e. cc, (λ a s b r e. cc, (λ a s b r e. cc, (λ a s b r e. cc, (λ a s b r e. cc, (λ a s b r e. cc, (λ a s b r e. cc, tt)))))))))))))))))))))))))) n _ (slice_get-from_take k page_life n _ h.1) actor step answer h.0 refl
+
+place : (k row : ℕ) → (memory_of small (take k page_life)).free_rows row ≡ false → (memory_of small (take k page_life)).rows row ≡ None → MayPlace small (take k page_life) 0 row
+place k row taken empty = record {
+  taken = taken;
+  unlinked = unplaced (memory_of small (take k page_life)) row empty;
+  unlearnt = λ other differs learnt. differs (elim learnt.1 [ inl shown ↦ alone k learnt.0 other _ _ shown.2 | inr shown ↦ alone k learnt.0 other _ _ shown.2 ]);
+}
+
+pub is_run : IsRun small page_life
+is_run = IsRun-from_steps small page_life
+    ((lit< tt, refl), ((refl, tt, refl), ((refl, tt, refl), ((refl, tt, refl), ((refl, tt, refl), ((refl, tt, refl), ((refl, tt, refl), ((refl, tt, refl), ((refl, tt, refl), ((refl, tt, refl), ((refl, place 10 2 refl refl, refl), ((refl, tt, refl), ((refl, place 12 3 refl refl, refl), ((refl, tt, refl), ((refl, place 14 4 refl refl, refl), ((refl, tt, refl), ((refl, tt, refl), ((refl, place 17 5 refl refl, refl), ((refl, tt, refl), ((refl, place 19 6 refl refl, refl), ((refl, tt, refl), ((refl, place 21 7 refl refl, refl), ((refl, tt, refl), ((refl, place 23 8 refl refl, refl), ((refl, tt, refl), ((refl, tt, refl), tt))))))))))))))))))))))))))
+
+pub taken_2 : MovesAt small page_life 1 2 free owned
+taken_2 = record { entry = _; at = refl; holds = takes 0 (None, refl) }
+
+pub split_off : MovesAt small page_life 13 2 owned fresh
+split_off = record { entry = _; at = refl; holds = splits 1 _ (0, 1, 3, ((None, refl), refl), refl) refl }
+
+made_root : MakesRoot (memory_at small page_life 16) (Step 0 (Exchange 0 1 3) (Whether true) None) 3
+made_root = (0, 1, ((None, refl), refl))
+
+pub rooted : MovesAt small page_life 16 3 owned indexed
+rooted = record { entry = _; at = refl; holds = becomes_root made_root }
+
+pub indexed_2 : MovesAt small page_life 16 2 fresh indexed
+indexed_2 = record { entry = _; at = refl; holds = under_root 3 root_page (record { key = codes "m"; content = Child 2 false }) made_root (record { page = lit< tt; linked = lit< tt; records = (refl, refl) }) refl refl }
+
+pub held_2 : MovesAt small page_life 18 2 indexed held
+held_2 = record { entry = _; at = refl; holds = holds 3 _ (0, 4, 5, ((None, refl), refl), refl) refl }
+
+pub removed_2 : MovesAt small page_life 20 2 held removed
+removed_2 = record { entry = _; at = refl; holds = removes _ (0, 2, 6, ((None, refl), refl), refl) }
+
+pub merged_2 : MovesAt small page_life 22 2 removed merged
+merged_2 = record { entry = _; at = refl; holds = merges 1 _ (split ∷ opening_leaf ∷ []) (0, 3, 7, ((None, refl), refl), refl) (record { page = lit< tt; linked = lit< tt; records = (refl, (refl, refl)) }) refl }
+
+pub cleared_2 : MovesAt small page_life 24 2 merged cleared
+cleared_2 = record { entry = _; at = refl; holds = unterms 3 _ (0, 5, 8, ((None, refl), refl), refl) refl }
+
+absent_or_absent : (b : Bool) → ◌≡◌ {A = Option ContentOf} (if b then None else None) None
+absent_or_absent true = refl
+absent_or_absent false = refl
+
+both : (key : List ℕ) → content_in (merge ∷ split ∷ opening_leaf ∷ []) key ≡ None
+both key = by_cases (is_in_range (codes "m") None key) (not (is_below key (codes "m")))
+  where
+    by_cases : (a b : Bool) → ◌≡◌ {A = Option ContentOf} (if a then None else (if b then None else None)) None
+    by_cases true b = refl
+    by_cases false b = absent_or_absent b
+
+pub is_quiet : IsQuiet small page_life (replicate 26 false)
+is_quiet = record {
+  at_each = UpTo-at (λ k. HasMapOf (memory_at small page_life k) (log_at page_life (replicate 26 false) k)) 26
+      (alone_leaf 0 (record { page = lit< tt; linked = lit< tt; records = (refl, refl) }), (alone_leaf 1 (record { page = lit< tt; linked = lit< tt; records = (refl, refl) }), (alone_leaf 2 (record { page = lit< tt; linked = lit< tt; records = (refl, refl) }), (alone_leaf 3 (record { page = lit< tt; linked = lit< tt; records = (refl, refl) }), (alone_leaf 4 (record { page = lit< tt; linked = lit< tt; records = (refl, refl) }), (alone_leaf 5 (record { page = lit< tt; linked = lit< tt; records = (refl, refl) }), (alone_leaf 6 (record { page = lit< tt; linked = lit< tt; records = (refl, refl) }), (alone_leaf 7 (record { page = lit< tt; linked = lit< tt; records = (refl, refl) }), (alone_leaf 8 (record { page = lit< tt; linked = lit< tt; records = (refl, refl) }), (alone_leaf 9 (record { page = lit< tt; linked = lit< tt; records = (refl, refl) }), (alone_leaf 10 (record { page = lit< tt; linked = lit< tt; records = (refl, refl) }), (alone_leaf 11 (record { page = lit< tt; linked = lit< tt; records = (refl, refl) }), (alone_leaf 12 (record { page = lit< tt; linked = lit< tt; records = (refl, refl) }), (alone_leaf 13 (record { page = lit< tt; linked = lit< tt; records = (refl, refl) }), (two_leaves 14 (new_leaf ∷ []) (record { page = lit< tt; linked = lit< tt; records = (refl, (refl, refl)) }) (record { page = lit< tt; linked = lit< tt; records = (refl, refl) }) refl refl (λ key. refl), (two_leaves 15 (new_leaf ∷ []) (record { page = lit< tt; linked = lit< tt; records = (refl, (refl, refl)) }) (record { page = lit< tt; linked = lit< tt; records = (refl, refl) }) refl refl (λ key. refl), (two_leaves 16 (new_leaf ∷ []) (record { page = lit< tt; linked = lit< tt; records = (refl, (refl, refl)) }) (record { page = lit< tt; linked = lit< tt; records = (refl, refl) }) refl refl (λ key. refl), (two_leaves 17 (new_leaf ∷ []) (record { page = lit< tt; linked = lit< tt; records = (refl, (refl, refl)) }) (record { page = lit< tt; linked = lit< tt; records = (refl, refl) }) refl refl (λ key. refl), (two_leaves 18 (new_leaf ∷ []) (record { page = lit< tt; linked = lit< tt; records = (refl, (refl, refl)) }) (record { page = lit< tt; linked = lit< tt; records = (refl, refl) }) refl refl (λ key. refl), (two_leaves 19 (new_leaf ∷ []) (record { page = lit< tt; linked = lit< tt; records = (refl, (refl, refl)) }) (record { page = lit< tt; linked = lit< tt; records = (refl, refl) }) refl refl (λ key. refl), (two_leaves 20 (new_leaf ∷ []) (record { page = lit< tt; linked = lit< tt; records = (refl, (refl, refl)) }) (record { page = lit< tt; linked = lit< tt; records = (refl, refl) }) refl refl (λ key. refl), (two_leaves 21 (remove ∷ new_leaf ∷ []) (record { page = lit< tt; linked = lit< tt; records = (refl, (refl, refl)) }) (record { page = lit< tt; linked = lit< tt; records = (refl, (refl, refl)) }) refl refl (λ key. refl), (two_leaves 22 (remove ∷ new_leaf ∷ []) (record { page = lit< tt; linked = lit< tt; records = (refl, (refl, refl)) }) (record { page = lit< tt; linked = lit< tt; records = (refl, (refl, refl)) }) refl refl (λ key. refl), (merged_leaf 23 (record { page = lit< tt; linked = lit< tt; records = (refl, (refl, (refl, refl))) }), (merged_leaf 24 (record { page = lit< tt; linked = lit< tt; records = (refl, (refl, (refl, refl))) }), (merged_leaf 25 (record { page = lit< tt; linked = lit< tt; records = (refl, (refl, (refl, refl))) }), merged_leaf 26 (record { page = lit< tt; linked = lit< tt; records = (refl, (refl, (refl, refl))) })))))))))))))))))))))))))));
+}
+  where
+    alone_leaf : (k : ℕ) → IsChainOf (memory_at small page_life k) 1 (opening_leaf ∷ []) → HasMapOf (memory_at small page_life k) []
+    alone_leaf k is = no_values (memory_at small page_life k) (record { pid = 1; chain = opening_leaf ∷ [] } ∷ []) (refl, is, refl) (refl, refl) (λ key. refl, tt)
+
+    two_leaves : (k : ℕ) (right : List Record) → IsChainOf (memory_at small page_life k) 1 (split ∷ opening_leaf ∷ []) → IsChainOf (memory_at small page_life k) 2 right
+        → ◌≡◌ {A = List ℕ × Option (List ℕ)} (low_in right, high_in right) (codes "m", None) → right_in right ≡ None → ((key : List ℕ) → content_in right key ≡ None) → HasMapOf (memory_at small page_life k) []
+    two_leaves k right is other range last empty = no_values (memory_at small page_life k) (record { pid = 1; chain = split ∷ opening_leaf ∷ [] } ∷ record { pid = 2; chain = right } ∷ [])
+        (refl, is, (refl, other, rw last refl)) (refl, (ap (λ r. r.0) range, let none : high_in right ≡ None = ap (λ r. r.1) range in rw none refl)) (λ key. absent_or_absent (not (is_below key (codes "m"))), (empty, tt))
+
+    merged_leaf : (k : ℕ) → IsChainOf (memory_at small page_life k) 1 (merge ∷ split ∷ opening_leaf ∷ []) → HasMapOf (memory_at small page_life k) []
+    merged_leaf k is = no_values (memory_at small page_life k) (record { pid = 1; chain = merge ∷ split ∷ opening_leaf ∷ [] } ∷ []) (refl, is, refl) (refl, refl) (λ key. both key, tt)
+
+
+pub not_yet : (earlier : ℕ) → earlier < 17 → ¬ IsRootLevel (memory_at small page_life earlier) 1
+not_yet earlier h = UpTo-at (λ k. ¬ IsRootLevel (memory_at small page_life k) 1) 16
+    (leaf_root 0 (record { page = lit< tt; linked = lit< tt; records = (refl, refl) }), (leaf_root 1 (record { page = lit< tt; linked = lit< tt; records = (refl, refl) }), (leaf_root 2 (record { page = lit< tt; linked = lit< tt; records = (refl, refl) }), (leaf_root 3 (record { page = lit< tt; linked = lit< tt; records = (refl, refl) }), (leaf_root 4 (record { page = lit< tt; linked = lit< tt; records = (refl, refl) }), (leaf_root 5 (record { page = lit< tt; linked = lit< tt; records = (refl, refl) }), (leaf_root 6 (record { page = lit< tt; linked = lit< tt; records = (refl, refl) }), (leaf_root 7 (record { page = lit< tt; linked = lit< tt; records = (refl, refl) }), (leaf_root 8 (record { page = lit< tt; linked = lit< tt; records = (refl, refl) }), (leaf_root 9 (record { page = lit< tt; linked = lit< tt; records = (refl, refl) }), (leaf_root 10 (record { page = lit< tt; linked = lit< tt; records = (refl, refl) }), (leaf_root 11 (record { page = lit< tt; linked = lit< tt; records = (refl, refl) }), (leaf_root 12 (record { page = lit< tt; linked = lit< tt; records = (refl, refl) }), (leaf_root 13 (record { page = lit< tt; linked = lit< tt; records = (refl, refl) }), (split_root 14 (record { page = lit< tt; linked = lit< tt; records = (refl, (refl, refl)) }), (split_root 15 (record { page = lit< tt; linked = lit< tt; records = (refl, (refl, refl)) }), split_root 16 (record { page = lit< tt; linked = lit< tt; records = (refl, (refl, refl)) }))))))))))))))))) earlier (omega arith)
+  where
+    leaf_root : (k : ℕ) → IsChainOf (memory_at small page_life k) 1 (opening_leaf ∷ []) → IsOfLevel (memory_at small page_life k) 1 1 → ⊥
+    leaf_root k is (chain, other, level) = let same : chain ≡ opening_leaf ∷ [] = IsChainOf-unique (memory_at small page_life k) 1 chain (opening_leaf ∷ []) other is in
+        let odd : ◌≡◌ {A = ℕ} 0 1 = subst (λ c. level_in c ≡ 1) same level in cc
+
+    split_root : (k : ℕ) → IsChainOf (memory_at small page_life k) 1 (split ∷ opening_leaf ∷ []) → IsOfLevel (memory_at small page_life k) 1 1 → ⊥
+    split_root k is (chain, other, level) = let same : chain ≡ split ∷ opening_leaf ∷ [] = IsChainOf-unique (memory_at small page_life k) 1 chain (split ∷ opening_leaf ∷ []) other is in
+        let odd : ◌≡◌ {A = ℕ} 0 1 = subst (λ c. level_in c ≡ 1) same level in cc
+
+pub index_level : IsLevel small page_life 19 1 (index_page ∷ [])
+index_level = (
+  3,
+  (17, omega arith, refl, (root ∷ [], record { page = lit< tt; linked = lit< tt; records = (refl, refl) }, refl), not_yet),
+  (refl, record { page = lit< tt; linked = lit< tt; records = (refl, (refl, refl)) }, refl),
+)
+
+pub index_whole : IsWhole (index_page ∷ [])
+index_whole = (refl, refl)
+
+pub has_held_term : HasTerm small page_life (index_page ∷ []) (codes "m") 2 true
+has_held_term = (index_page, (0, lit< tt, refl), refl, refl)

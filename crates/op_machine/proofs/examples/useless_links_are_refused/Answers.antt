@@ -1,0 +1,8 @@
+use Rattle.op_machine.proofs.Refused.{not_direct, not_useful}
+use Rattle.op_machine.proofs.examples.useless_links_are_refused.Goals as goal
+
+pub returns-clause-twice : goal.returns-clause-twice
+returns-clause-twice c = not_direct
+
+pub returns-clause-needless : goal.returns-clause-needless
+returns-clause-needless c = not_useful

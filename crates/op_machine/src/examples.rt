@@ -1,0 +1,69 @@
+//! Worked runs: each function does nothing, and its contract says what the definitions make of one run.
+ghost use Rattle.std.specs.Prelude.{codes, ◌≡◌, ◌∷◌, [], map, replicate, true, false, Some};
+ghost use Rattle.bw_model.specs.declared.step.Link.TheVariants as link;
+ghost use Rattle.chain_search.specs.Run.{IsRun};
+ghost use Rattle.chain_search.specs.SideChain.{IsWhole};
+ghost use Rattle.chain_search.specs.Trace.{memory_at, turn_of};
+ghost use Rattle.op_machine.specs.Examples.{small, lookup, insert_and_lookup, page_life, index_page, row_reuse, hurried_reuse, unnamed_read, two_puts, needless_base};
+ghost use Rattle.op_machine.specs.Direct.{IsDirect};
+ghost use Rattle.op_machine.specs.Faithful.{IsFaithful};
+ghost use Rattle.op_machine.specs.Index.{IsLevel, HasTerm};
+ghost use Rattle.op_machine.specs.Linearized.{IsLinearized, IsOrderly};
+ghost use Rattle.op_machine.specs.Links.{link_of};
+ghost use Rattle.op_machine.specs.Phases.{MovesAt, free, owned, fresh, indexed, held, removed, merged, cleared};
+ghost use Rattle.op_machine.specs.Quiet.{IsQuiet};
+ghost use Rattle.op_machine.specs.Reuse.{IsFreedByRule};
+
+/// A lookup in the opening tree.
+pub fn lookup_is_linearized()
+    ensures linearized { IsLinearized small (map turn_of lookup) lookup }
+    ensures orderly { IsOrderly small lookup }
+{}
+
+/// An insert into the opening tree, and a lookup of its key.
+pub fn insert_and_lookup_is_linearized()
+    ensures { IsLinearized small (map turn_of insert_and_lookup) insert_and_lookup }
+{}
+
+/// The life of a page, each change of its phase with the link that makes it.
+pub fn page_lives()
+    ensures run { IsRun small page_life }
+    ensures quiet { IsQuiet small page_life (replicate 26 false) }
+
+    ensures taken { MovesAt small page_life 1 2 free owned }
+    ensures split { MovesAt small page_life 13 2 owned fresh × (link_of (memory_at small page_life 13) 1 1 3 ≡ Some link.Split) }
+    ensures rooted { MovesAt small page_life 16 3 owned indexed × (link_of (memory_at small page_life 16) 0 1 3 ≡ Some link.Root) }
+    ensures indexed { MovesAt small page_life 16 2 fresh indexed }
+    ensures held { MovesAt small page_life 18 2 indexed held × (link_of (memory_at small page_life 18) 3 4 5 ≡ Some link.Hold) }
+    ensures removed { MovesAt small page_life 20 2 held removed × (link_of (memory_at small page_life 20) 2 2 6 ≡ Some link.Remove) }
+    ensures merged { MovesAt small page_life 22 2 removed merged × (link_of (memory_at small page_life 22) 1 3 7 ≡ Some link.Merge) }
+    ensures untermed { MovesAt small page_life 24 2 merged cleared × (link_of (memory_at small page_life 24) 3 5 8 ≡ Some link.Unterm) }
+    ensures emptied { link_of (memory_at small page_life 25) 2 6 0 ≡ Some link.Clear }
+
+    // Between its hold and its removal the index has the page's term, held.
+    ensures level { IsLevel small page_life 19 1 (index_page ∷ []) }
+    ensures whole { IsWhole (index_page ∷ []) }
+    ensures term { HasTerm small page_life (index_page ∷ []) (codes "m") 2 true }
+{}
+
+/// A row is used again by the rule.
+pub fn row_is_freed()
+    ensures run { IsRun small row_reuse }
+    ensures freed { IsFreedByRule small row_reuse }
+{}
+
+/// A row that is used again without a look at the other actor is not.
+pub fn hurried_reuse_is_refused()
+    ensures { ¬ IsFreedByRule small hurried_reuse }
+{}
+
+/// A record that is read without its row's name is not the one whose name was learnt.
+pub fn unnamed_read_is_refused()
+    ensures { ¬ IsFaithful small unnamed_read }
+{}
+
+/// An operation that links two puts is not direct, nor is one that puts a base over a base alone.
+pub fn useless_links_are_refused()
+    ensures twice { ¬ IsDirect small two_puts }
+    ensures needless { ¬ IsDirect small needless_base }
+{}

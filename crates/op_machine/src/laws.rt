@@ -1,0 +1,91 @@
+//! Laws of the definitions: each function does nothing, and its contract is proved of all runs.
+ghost use Rattle.std.specs.Prelude.{◌≡◌, ◌∷◌, ◌++◌, ℕ, suc, [], List, Bool, true, false, None, Some, if◌then◌else◌, length, slice_get, take, set};
+ghost use Rattle.std.specs.Option.{option_map};
+ghost use Rattle.bw_model.specs.declared.limits.Limits.{Limits};
+ghost use Rattle.bw_model.specs.declared.step.Step.{Step};
+ghost use Rattle.bw_model.specs.declared.step.Step.TheVariants.{Enter, Leave};
+ghost use Rattle.bw_model.specs.declared.step.Answer.{Answer};
+ghost use Rattle.bw_model.specs.declared.step.Link.TheVariants.{Clear};
+ghost use Rattle.bw_model.specs.Log.{Update, value_in};
+ghost use Rattle.base_page.specs.declared.item.Content.TheVariants.{Value};
+ghost use Rattle.deltas.specs.declared.record.Record.{Record};
+ghost use Rattle.deltas.specs.Memory.{Memory};
+ghost use Rattle.chain_search.specs.declared.trace.Entry.{Entry};
+ghost use Rattle.chain_search.specs.Chains.{IsChainOf, content_in, low_in, high_in, right_in};
+ghost use Rattle.chain_search.specs.SideChain.{LivePage, IsSideChainFrom};
+ghost use Rattle.chain_search.specs.Run.{IsNext, IsRun};
+ghost use Rattle.chain_search.specs.Trace.{memory_of, IsStep};
+ghost use Rattle.op_machine.specs.Points.{updates_at, log_of, log_at};
+ghost use Rattle.op_machine.specs.Links.{Wins};
+ghost use Rattle.op_machine.specs.Quiet.{HasMapOf};
+ghost use Rattle.op_machine.specs.Faithful.{Disturbs, KnowsRow};
+ghost use Rattle.op_machine.specs.Phases.{Phase, Moves, IsInPhase, KeepsPhases, cleared};
+
+/// A run grows by an entry that may stand next.
+pub fn run_grows()
+    ensures { (limits : Limits) (entries : List Entry) (entry : Entry)
+        → IsRun limits entries
+        → IsNext limits entries entry
+        → IsRun limits (entries ++ entry ∷ []) }
+{}
+
+/// A slot has one chain at most.
+pub fn chain_is_one()
+    ensures { (memory : Memory) (pid : ℕ) (one two : List Record)
+        → IsChainOf memory pid one
+        → IsChainOf memory pid two
+        → one ≡ two }
+{}
+
+/// A page begins one side chain at most.
+pub fn side_chain_is_one()
+    ensures { (memory : Memory) (pid : ℕ) (one two : List LivePage)
+        → IsSideChainFrom memory pid one
+        → IsSideChainFrom memory pid two
+        → one ≡ two }
+{}
+
+/// An entry adds to the log what it updates, if it is marked.
+pub fn log_grows()
+    ensures { (entries : List Entry) (points : List Bool) (entry : Entry) (marked : Bool)
+        → length points ≡ length entries
+        → log_of (entries ++ entry ∷ []) (points ++ marked ∷ []) ≡ (if marked then log_of entries points ++ updates_at entries entry (log_of entries points) else log_of entries points) }
+{}
+
+/// A mark at a step that updates nothing keeps the log.
+pub fn late_mark_keeps_log()
+    ensures { (entries : List Entry) (points : List Bool) (n : ℕ) (entry : Entry)
+        → slice_get entries n ≡ Some entry
+        → slice_get points n ≡ Some false
+        → updates_at (take n entries) entry (log_at entries points n) ≡ []
+        → log_of entries (set points n true) ≡ log_of entries points }
+{}
+
+/// A memory of one leaf has the map that the leaf's chain decides.
+pub fn one_leaf_has_the_map()
+    ensures { (memory : Memory) (log : List Update) (chain : List Record)
+        → IsChainOf memory 1 chain
+        → low_in chain ≡ []
+        → high_in chain ≡ None
+        → right_in chain ≡ None
+        → ((key : List ℕ) → content_in chain key ≡ option_map Value (value_in log key))
+        → HasMapOf memory log }
+{}
+
+/// What an actor knows it keeps, unless it enters or leaves, or the row is disturbed.
+pub fn knowledge_stays()
+    ensures { (entries : List Entry) (last : Entry) (actor row : ℕ)
+        → KnowsRow entries (length entries) actor row
+        → ((epoch : ℕ) (answer : Answer Record) → ¬ IsStep last actor (Enter epoch) answer × ¬ IsStep last actor Leave answer)
+        → ((other : ℕ) (step : Step Record) (answer : Answer Record) → IsStep last other step answer → ¬ Disturbs step answer row)
+        → KnowsRow (entries ++ last ∷ []) (suc (length entries)) actor row }
+{}
+
+/// The phases are kept by an entry that moves each PID from the phase in which it is.
+pub fn phases_grow()
+    ensures { (limits : Limits) (entries : List Entry) (last : Entry)
+        → KeepsPhases limits entries
+        → ((pid : ℕ) (from to : Phase) → Moves (memory_of limits entries) last pid from to → IsInPhase limits entries (length entries) pid from)
+        → ((actor pid old : ℕ) → Wins (memory_of limits entries) last actor pid old 0 Clear → IsInPhase limits entries (length entries) pid cleared)
+        → KeepsPhases limits (entries ++ last ∷ []) }
+{}
