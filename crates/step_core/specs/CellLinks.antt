@@ -1,0 +1,31 @@
+-- What an exchange that won did, by the cells after it.
+use Rattle.std.specs.Prelude.{ℕ, ◌==◌, true, Option, Some, None, slice_get, if◌then◌else◌}
+use Rattle.std.specs.Option.{option_map}
+use Rattle.bw_model.specs.declared.step.Answer.{Answer}
+use Rattle.bw_model.specs.declared.step.Answer.TheVariants.{Whether}
+use Rattle.bw_model.specs.declared.step.Link.{Link}
+use Rattle.bw_model.specs.declared.step.Link.TheVariants as link
+use Rattle.bw_model.specs.declared.step.Step.{Step}
+use Rattle.bw_model.specs.declared.step.Step.TheVariants.{Exchange}
+use Rattle.deltas.specs.declared.record.Record.{Record}
+use Rattle.deltas.specs.declared.record.Record.TheVariants.{Remove}
+use Rattle.deltas.specs.Links.{record_link}
+use Rattle.step_core.specs.Cells.{Cells}
+
+-- the link of an emptied slot, by the record that was its newest
+abbrev pub emptied_link : Record → Link
+emptied_link (Remove remove) = link.Clear
+emptied_link _ = link.Undo
+
+-- the link of an exchange of the slot from old to new
+abbrev pub exchange_link : Cells → ℕ → ℕ → ℕ → Option Link
+exchange_link cells slot old new =
+    if slot == 0 then Some link.Root
+    else if old == 0 then Some link.Ready
+    else if new == 0 then option_map emptied_link (slice_get cells.records old)
+    else option_map record_link (slice_get cells.records new)
+
+-- an exchange that won has a link, and no other step has one
+abbrev pub link_in : Cells → Step Record → Answer Record → Option Link
+link_in cells (Exchange slot old new) (Whether true) = exchange_link cells slot old new
+link_in cells step answer = None

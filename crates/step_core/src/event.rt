@@ -1,0 +1,34 @@
+//! What a turn did, why it was refused, and what a run has done.
+
+use bw_model::{Link, Reply};
+use chain_search::Entry;
+
+/// What a turn did.
+#[derive(Clone, Debug, PartialEq, Eq, Drop)]
+pub enum Event {
+    /// An operation began.
+    Began,
+    /// A step was taken, and its operation goes on. An exchange that won has a link.
+    Stepped(Option<Link>),
+    /// A step was taken, and its operation is done with this reply.
+    Done(Reply),
+}
+
+/// Why a turn was refused, with the number of the turn from 0.
+#[derive(Clone, Copy, Debug, PartialEq, Eq)]
+pub enum RunError {
+    /// There is no such actor.
+    NoActor(u64),
+    /// The actor's operation is not finished yet.
+    Unfinished(u64),
+    /// The actor has no operation.
+    NoOperation(u64),
+    /// A growth of memory was refused.
+    Memory(u64),
+}
+
+/// What was done, turn by turn.
+#[derive(Debug, Drop)]
+pub struct Trace {
+    pub entries: Vec<Entry>,
+}

@@ -1,0 +1,183 @@
+//! The memory that all actors share, with typed records.
+ghost use Rattle.std.specs.Prelude.{◌≡◌, ◌<◌, ◌*◌, length, IfOk, slice_get, slice_index, option_copied};
+ghost use Rattle.step_core.specs.Cells.{AreSound, is_free, without};
+ghost use Rattle.step_core.specs.CellSteps.{IsWithin, IsAnswerWithin, Takes};
+ghost use Rattle.step_core.specs.CellLinks.{emptied_link, exchange_link, link_in};
+
+use base_page::Page;
+use bw_model::{Answer, Limits, Link, Step};
+use deltas::Record;
+use std::alloc::{AllocError, Global};
+use std::marker::Model;
+
+/// Slots and records by number, words of free bits, the epoch, and what each actor announced.
+#[derive(Drop)]
+pub(crate) struct Memory {
+    slots: Vec<u16>,
+    records: Vec<Record>,
+    pid_bits: Vec<u64>,
+    row_bits: Vec<u64>,
+    epoch: u64,
+    announced: Vec<u64>,
+}
+
+impl Model for Memory {
+    ghost use Rattle.step_core.specs.Cells.{Cells};
+
+    ghost Value = { Cells };
+
+    ghost view = { λ m. record { slots = m.slots.items; records = m.records.items; pid_bits = m.pid_bits.items; row_bits = m.row_bits.items; epoch = m.epoch; announced = m.announced.items } };
+}
+
+impl Memory {
+    /// The memory before the first step: page 1 is the root, and an empty leaf.
+    pub(crate) fn open(alloc: Global, limits: &Limits) -> Result<Memory, AllocError>
+        ensures sound { IfOk result (AreSound limits.now) }
+    {
+        let mut slots = vec![in alloc; 0; limits.pids as usize]?;
+        slots[0] = 1;
+        slots[1] = 1;
+        let mut pid_bits = vec![in alloc; u64::MAX; (limits.pids / 64) as usize]?;
+        pid_bits[0] = u64::MAX - 3;
+        let mut row_bits = vec![in alloc; u64::MAX; (limits.rows / 64) as usize]?;
+        row_bits[0] = u64::MAX - 3;
+        let mut records = Vec::with_capacity(alloc, limits.rows as usize)?;
+        for _ in 0..limits.rows {
+            records.push(Record::Base(Page::empty_leaf()))?;
+        }
+        Ok(Memory {
+            slots,
+            records,
+            pid_bits,
+            row_bits,
+            epoch: limits.epoch,
+            announced: vec![in alloc; 0; limits.actors as usize]?,
+        })
+    }
+
+    /// The record that was placed last in a row.
+    pub(crate) fn record(&self, row: u16) -> Option<&Record>
+        ensures { option_copied result ≡ slice_get self.now.records row }
+    {
+        self.records.get(usize::from(row))
+    }
+
+    /// The number in a slot, or 0 where there is no such slot.
+    pub(crate) fn slot(&self, pid: u16) -> u16
+        ensures { result ≡ slice_index self.now.slots pid }
+    {
+        self.slots.get(usize::from(pid)).copied().unwrap_or(0)
+    }
+
+    /// What a step did, if it is an exchange that won.
+    pub(crate) fn link(&self, step: &Step<Record>, answer: &Answer<Record>) -> Option<Link>
+        ensures { result ≡ link_in self.now step.now answer.now }
+    {
+        match (step, answer) {
+            (Step::Exchange(slot, old, new), Answer::Whether(true)) => {
+                self.exchanged(*slot, *old, *new)
+            }
+            _ => None,
+        }
+    }
+
+    /// What it did to exchange a slot's number.
+    fn exchanged(&self, slot: u16, old: u16, new: u16) -> Option<Link>
+        ensures { result ≡ exchange_link self.now slot old new }
+    {
+        if slot == 0 {
+            Some(Link::Root)
+        } else if old == 0 {
+            Some(Link::Ready)
+        } else if new == 0 {
+            self.record(old).map(emptied)
+        } else {
+            self.record(new).map(Record::link)
+        }
+    }
+
+    /// Takes one step of an actor.
+    pub(crate) fn take(
+        &mut self,
+        limits: &Limits,
+        actor: u8,
+        step: Step<Record>,
+    ) -> Answer<Record>
+        requires sound { AreSound limits.now self.old }
+        requires within { IsWithin limits.now step }
+        requires actor { actor < limits.now.actors }
+        ensures sound { AreSound limits.now self.new }
+        ensures step { Takes actor self.old step result self.new }
+        ensures answer { IsAnswerWithin limits.now step result }
+    {
+        match step {
+            Step::Slot(pid) => Answer::Number(u64::from(self.slots[usize::from(pid)])),
+            Step::Row(row) => Answer::Content(self.records[usize::from(row)].copied()),
+            Step::Epoch => Answer::Number(self.epoch),
+            Step::Announce(actor) => Answer::Number(self.announced[usize::from(actor)]),
+            Step::PidBits(word) => Answer::Number(self.pid_bits[usize::from(word)]),
+            Step::RowBits(word) => Answer::Number(self.row_bits[usize::from(word)]),
+            Step::Place(row, record) => {
+                self.records[usize::from(row)] = record;
+                Answer::Done
+            }
+            Step::Exchange(slot, old, new) => {
+                let place = usize::from(slot);
+                let won = self.slots[place] == old;
+                if won {
+                    self.slots[place] = new;
+                }
+                Answer::Whether(won)
+            }
+            Step::TakePid(pid) => Answer::Whether(take_bit(&mut self.pid_bits, pid)),
+            Step::TakeRow(row) => Answer::Whether(take_bit(&mut self.row_bits, row)),
+            Step::Enter(epoch) => {
+                self.announced[usize::from(actor)] = epoch;
+                Answer::Done
+            }
+            Step::Leave => {
+                self.announced[usize::from(actor)] = 0;
+                Answer::Done
+            }
+            Step::Retire(epoch) => {
+                let went = self.epoch == epoch;
+                if went {
+                    self.epoch = epoch + 1;
+                }
+                Answer::Whether(went)
+            }
+            Step::ReusePids(word, bits) => {
+                self.pid_bits[usize::from(word)] |= bits;
+                Answer::Done
+            }
+            Step::ReuseRows(word, bits) => {
+                self.row_bits[usize::from(word)] |= bits;
+                Answer::Done
+            }
+        }
+    }
+}
+
+/// Clears the bit of a number, and says whether it was set.
+fn take_bit(words: &mut Vec<u64>, number: u16) -> bool
+    requires { number < 64 * length words.old.items }
+    ensures free { result ≡ is_free words.old.items number }
+    ensures words { words.new.items ≡ without words.old.items number }
+    ensures len { length words.new.items ≡ length words.old.items }
+{
+    let word = usize::from(number / 64);
+    let bit = 1 << (number % 64);
+    let free = words[word] & bit != 0;
+    words[word] &= !bit;
+    free
+}
+
+/// What it did to empty a slot whose newest record was this one.
+fn emptied(newest: &Record) -> Link
+    ensures { result ≡ emptied_link newest.now }
+{
+    match newest {
+        Record::Remove(_) => Link::Clear,
+        _ => Link::Undo,
+    }
+}
