@@ -8,3 +8,6 @@ pub mod InsertAndLookup
 pub mod PageLife
 pub mod RowReuse
 pub mod Refused
+pub mod FrontLaws
+pub mod SpareLaws
+pub mod Moves

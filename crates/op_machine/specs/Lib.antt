@@ -10,3 +10,7 @@ pub mod Reuse
 pub mod Direct
 pub mod Linearized
 pub mod Examples
+pub mod Hands
+pub mod Fits
+pub mod Wants
+pub mod Shows

@@ -1,11 +1,19 @@
 //! Operations, as the steps of one actor, and the laws of their runs.
 #![tactic(auto)]
 
+mod chain;
 mod examples;
+mod hand;
 mod laws;
+mod op;
 
-pub use examples::{hurried_reuse_is_refused, insert_and_lookup_is_linearized, lookup_is_linearized, page_lives, row_is_freed, unnamed_read_is_refused, useless_links_are_refused};
+pub use examples::{
+    hurried_reuse_is_refused, insert_and_lookup_is_linearized, lookup_is_linearized, page_lives,
+    row_is_freed, unnamed_read_is_refused, useless_links_are_refused,
+};
+pub use hand::Hand;
 pub use laws::{
     chain_is_one, knowledge_stays, late_mark_keeps_log, log_grows, one_leaf_has_the_map,
     phases_grow, run_grows, side_chain_is_one,
 };
+pub use op::{Op, Want};
