@@ -2,7 +2,7 @@
 ghost use Rattle.std.specs.Prelude.{◌≡◌, Some, is_some, option_copied};
 ghost use Rattle.bw_model.specs.Replies.{command_key, reply_of, update_of};
 
-use crate::{Key, Value};
+use crate::{Key, Update, Value};
 
 /// What an actor asks of the map.
 #[derive(Clone, Debug, PartialEq, Eq, Drop)]
@@ -58,6 +58,18 @@ impl Command {
         match self {
             Command::Get(_) => false,
             Command::Insert(_, _) => old.is_none(),
+        }
+    }
+
+    /// The actor's update where the key has the value `old`, or none; no update where nothing changes.
+    pub fn update(&self, actor: u8, old: Option<&Value>) -> Option<Update>
+        ensures { result ≡ update_of actor self.now (option_copied old.entry) }
+    {
+        match (self, old) {
+            (Command::Insert(key, value), None) => {
+                Some(Update::set(actor, key.copied(), value.copied()))
+            }
+            _ => None,
         }
     }
 }

@@ -3,13 +3,17 @@
 #![tactic(auto)]
 
 mod command;
+mod examples;
 mod key;
 mod limits;
 mod step;
+mod update;
 mod value;
 
 pub use command::{Command, Reply};
+pub use examples::{commands_are_answered, keys_are_ordered, logs_are_read, pairs_are_listed};
 pub use key::{Key, MAX_LENGTH, TooLong};
 pub use limits::{BadLimits, Limits, OpenError};
 pub use step::{Answer, Link, Step};
+pub use update::{Update, logged_value};
 pub use value::Value;

@@ -8,6 +8,7 @@ pub mod InsertAndLookup
 pub mod PageLife
 pub mod RowReuse
 pub mod Refused
+pub mod ClaimedInsert
 pub mod FrontLaws
 pub mod SpareLaws
 pub mod Moves

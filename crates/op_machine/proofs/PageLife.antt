@@ -107,7 +107,6 @@ is_quiet = record {
     merged_leaf : (k : ℕ) → IsChainOf (memory_at small page_life k) 1 (merge ∷ split ∷ opening_leaf ∷ []) → HasMapOf (memory_at small page_life k) []
     merged_leaf k is = no_values (memory_at small page_life k) (record { pid = 1; chain = merge ∷ split ∷ opening_leaf ∷ [] } ∷ []) (refl, is, refl) (refl, refl) (λ key. both key, tt)
 
-
 pub not_yet : (earlier : ℕ) → earlier < 17 → ¬ IsRootLevel (memory_at small page_life earlier) 1
 not_yet earlier h = UpTo-at (λ k. ¬ IsRootLevel (memory_at small page_life k) 1) 16
     (leaf_root 0 (record { page = lit< tt; linked = lit< tt; records = (refl, refl) }), (leaf_root 1 (record { page = lit< tt; linked = lit< tt; records = (refl, refl) }), (leaf_root 2 (record { page = lit< tt; linked = lit< tt; records = (refl, refl) }), (leaf_root 3 (record { page = lit< tt; linked = lit< tt; records = (refl, refl) }), (leaf_root 4 (record { page = lit< tt; linked = lit< tt; records = (refl, refl) }), (leaf_root 5 (record { page = lit< tt; linked = lit< tt; records = (refl, refl) }), (leaf_root 6 (record { page = lit< tt; linked = lit< tt; records = (refl, refl) }), (leaf_root 7 (record { page = lit< tt; linked = lit< tt; records = (refl, refl) }), (leaf_root 8 (record { page = lit< tt; linked = lit< tt; records = (refl, refl) }), (leaf_root 9 (record { page = lit< tt; linked = lit< tt; records = (refl, refl) }), (leaf_root 10 (record { page = lit< tt; linked = lit< tt; records = (refl, refl) }), (leaf_root 11 (record { page = lit< tt; linked = lit< tt; records = (refl, refl) }), (leaf_root 12 (record { page = lit< tt; linked = lit< tt; records = (refl, refl) }), (leaf_root 13 (record { page = lit< tt; linked = lit< tt; records = (refl, refl) }), (split_root 14 (record { page = lit< tt; linked = lit< tt; records = (refl, (refl, refl)) }), (split_root 15 (record { page = lit< tt; linked = lit< tt; records = (refl, (refl, refl)) }), split_root 16 (record { page = lit< tt; linked = lit< tt; records = (refl, (refl, refl)) }))))))))))))))))) earlier (omega arith)

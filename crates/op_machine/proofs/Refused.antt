@@ -60,4 +60,3 @@ not_useful direct = let long : 1 < 1 = direct.useful operation 3 1 1 2 (opening_
   where
     begun_once : (later : ℕ) (command : Command) → 0 < later → slice_get needless_base later ≡ Some (Begin 0 command) → ⊥
     begun_once = first_only needless_base (λ h c e. omega arith, (λ h c e. cc, (λ h c e. cc, (λ h c e. cc, tt))))
-

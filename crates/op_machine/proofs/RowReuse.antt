@@ -125,4 +125,4 @@ pub unruly : ¬ IsFreedByRule small hurried_reuse
 unruly rule = let freed = rule.rows 11 0 0 2 1 Done (None, refl) refl in
     let other = freed.passed 1 (lit< tt) (λ e. cc) in
     EachAt-get (λ k e. (a o : ℕ) (b : Answer Record) (r : Option Reply) → e ≡ Step a (Announce o) b r → ⊥) hurried_reuse
-        (λ a o b r e. cc, (λ a o b r e. cc, (λ a o b r e. cc, (λ a o b r e. cc, (λ a o b r e. cc, (λ a o b r e. cc, (λ a o b r e. cc, (λ a o b r e. cc, (λ a o b r e. cc, (λ a o b r e. cc, (λ a o b r e. cc, (λ a o b r e. cc, tt)))))))))))) other.0 _ other.4.1 0 1 (Number other.1) other.4.0 refl
+    (λ a o b r e. cc, (λ a o b r e. cc, (λ a o b r e. cc, (λ a o b r e. cc, (λ a o b r e. cc, (λ a o b r e. cc, (λ a o b r e. cc, (λ a o b r e. cc, (λ a o b r e. cc, (λ a o b r e. cc, (λ a o b r e. cc, (λ a o b r e. cc, tt)))))))))))) other.0 _ other.4.1 0 1 (Number other.1) other.4.0 refl

@@ -4,7 +4,7 @@ ghost use Rattle.bw_model.specs.declared.step.Link.TheVariants as link;
 ghost use Rattle.chain_search.specs.Run.{IsRun};
 ghost use Rattle.chain_search.specs.SideChain.{IsWhole};
 ghost use Rattle.chain_search.specs.Trace.{memory_at, turn_of};
-ghost use Rattle.op_machine.specs.Examples.{small, lookup, insert_and_lookup, page_life, index_page, row_reuse, hurried_reuse, unnamed_read, two_puts, needless_base};
+ghost use Rattle.op_machine.specs.Examples.{small, lookup, insert_and_lookup, page_life, index_page, row_reuse, hurried_reuse, unnamed_read, two_puts, needless_base, claimed_insert};
 ghost use Rattle.op_machine.specs.Direct.{IsDirect};
 ghost use Rattle.op_machine.specs.Faithful.{IsFaithful};
 ghost use Rattle.op_machine.specs.Index.{IsLevel, HasTerm};
@@ -66,4 +66,10 @@ pub fn unnamed_read_is_refused()
 pub fn useless_links_are_refused()
     ensures twice { ¬ IsDirect small two_puts }
     ensures needless { ¬ IsDirect small needless_base }
+{}
+
+/// An insert that replies that it inserted, and has exchanged nothing, has no linearization points.
+pub fn claimed_insert_is_refused()
+    ensures run { IsRun small claimed_insert }
+    ensures refused { ¬ IsLinearized small (map turn_of claimed_insert) claimed_insert }
 {}

@@ -8,8 +8,9 @@ mod laws;
 mod op;
 
 pub use examples::{
-    hurried_reuse_is_refused, insert_and_lookup_is_linearized, lookup_is_linearized, page_lives,
-    row_is_freed, unnamed_read_is_refused, useless_links_are_refused,
+    claimed_insert_is_refused, hurried_reuse_is_refused, insert_and_lookup_is_linearized,
+    lookup_is_linearized, page_lives, row_is_freed, unnamed_read_is_refused,
+    useless_links_are_refused,
 };
 pub use hand::Hand;
 pub use laws::{

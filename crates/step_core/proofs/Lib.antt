@@ -1,0 +1,5 @@
+pub mod Answering
+pub mod Cored
+pub mod Linked
+pub mod Replaced
+pub mod Stopping

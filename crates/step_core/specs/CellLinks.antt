@@ -10,7 +10,10 @@ use Rattle.bw_model.specs.declared.step.Step.TheVariants.{Exchange}
 use Rattle.deltas.specs.declared.record.Record.{Record}
 use Rattle.deltas.specs.declared.record.Record.TheVariants.{Remove}
 use Rattle.deltas.specs.Links.{record_link}
+use Rattle.bw_model.specs.declared.command.Reply.{Reply}
 use Rattle.step_core.specs.Cells.{Cells}
+use Rattle.step_core.specs.declared.event.Event.{Event}
+use Rattle.step_core.specs.declared.event.Event.TheVariants.{Stepped, Done}
 
 -- the link of an emptied slot, by the record that was its newest
 abbrev pub emptied_link : Record → Link
@@ -29,3 +32,8 @@ exchange_link cells slot old new =
 abbrev pub link_in : Cells → Step Record → Answer Record → Option Link
 link_in cells (Exchange slot old new) (Whether true) = exchange_link cells slot old new
 link_in cells step answer = None
+
+-- what a step tells, by its link and its reply
+abbrev pub step_event : Option Link → Option Reply → Event
+step_event link None = Stepped link
+step_event link (Some reply) = Done reply

@@ -19,7 +19,7 @@ IsWithin limits (Announce actor) = actor < limits.actors
 IsWithin limits (PidBits word) = 64 * word < limits.pids
 IsWithin limits (RowBits word) = 64 * word < limits.rows
 IsWithin limits (Place row content) = (row < limits.rows) × ForSome (next_row content) (λ next. next < limits.rows)
-IsWithin limits (Exchange slot old new) = (slot < limits.pids) × (new < cond (slot == 0) limits.pids limits.rows) × (slot ≡ 0 → 0 < new)
+IsWithin limits (Exchange slot old new) = (slot < limits.pids) × (old < cond (slot == 0) limits.pids limits.rows) × (new < cond (slot == 0) limits.pids limits.rows) × (slot ≡ 0 → 0 < new)
 IsWithin limits (TakePid pid) = pid < limits.pids
 IsWithin limits (TakeRow row) = row < limits.rows
 IsWithin limits (Enter epoch) = Unit {0}

@@ -1,6 +1,9 @@
 pub mod Cells
 pub mod CellSteps
 pub mod CellLinks
+pub mod Actors
 pub mod Chained
+pub mod Cores
 pub mod Hands
+pub mod Turns
 pub mod Wants

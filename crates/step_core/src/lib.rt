@@ -1,10 +1,19 @@
 //! All actors over one memory, one step a turn.
 #![tactic(auto)]
 
+mod actor;
 mod chain;
+mod copies;
 mod event;
 mod hand;
+mod listing;
+mod machine;
 mod memory;
 mod op;
+mod runs;
+#[cfg(test)]
+mod tests;
 
 pub use event::{Event, RunError, Trace};
+pub use machine::Core;
+pub use runs::run;

@@ -97,12 +97,7 @@ impl Memory {
     }
 
     /// Takes one step of an actor.
-    pub(crate) fn take(
-        &mut self,
-        limits: &Limits,
-        actor: u8,
-        step: Step<Record>,
-    ) -> Answer<Record>
+    pub(crate) fn take(&mut self, limits: &Limits, actor: u8, step: Step<Record>) -> Answer<Record>
         requires sound { AreSound limits.now self.old }
         requires within { IsWithin limits.now step }
         requires actor { actor < limits.now.actors }

@@ -1,0 +1,41 @@
+//! The definitions at small values: each function does nothing, and its contract computes them.
+ghost use Rattle.std.specs.Prelude.{codes, ◌≡◌, ◌∷◌, [], true, false, None, Some};
+ghost use Rattle.bw_model.specs.declared.command.Command.TheVariants.{Get, Insert};
+ghost use Rattle.bw_model.specs.declared.command.Reply.TheVariants as reply;
+ghost use Rattle.bw_model.specs.Bytes.{is_below, is_in_range};
+ghost use Rattle.bw_model.specs.Log.{set, unset, value_in};
+ghost use Rattle.bw_model.specs.Pairs.{IsPairsOf};
+ghost use Rattle.bw_model.specs.Replies.{reply_of, update_of};
+
+/// A proper front of a key is below it, bytes are unsigned, and the empty key is the lowest.
+pub fn keys_are_ordered()
+    ensures front { is_below (codes "k01") (codes "k011") ≡ true }
+    ensures byte { is_below (codes "k09") (255 ∷ []) ≡ true }
+    ensures itself { is_below (codes "k09") (codes "k09") ≡ false }
+    ensures empty { is_below [] (0 ∷ []) ≡ true }
+    ensures low { is_in_range (codes "k09") (Some (codes "k10")) (codes "k09") ≡ true }
+    ensures high { is_in_range (codes "k09") (Some (codes "k10")) (codes "k10") ≡ false }
+{}
+
+/// The last update of a key says its value; the other keys' updates say nothing of it.
+pub fn logs_are_read()
+    ensures newest { value_in (set 0 (codes "a") (codes "1") ∷ set 1 (codes "b") (codes "2") ∷ set 0 (codes "a") (codes "3") ∷ []) (codes "a") ≡ Some (codes "3") }
+    ensures unset { value_in (set 0 (codes "a") (codes "1") ∷ unset 1 (codes "a") ∷ []) (codes "a") ≡ None }
+    ensures never { value_in (set 0 (codes "a") (codes "1") ∷ []) (codes "b") ≡ None }
+{}
+
+/// The pairs of a log have each key once, with its last value.
+pub fn pairs_are_listed()
+    ensures { IsPairsOf (set 0 (codes "a") (codes "1") ∷ set 1 (codes "b") (codes "2") ∷ set 0 (codes "a") (codes "3") ∷ unset 1 (codes "b") ∷ []) [] None ((codes "a", codes "3") ∷ []) }
+{}
+
+/// A lookup changes nothing; an insert changes an absent key alone.
+pub fn commands_are_answered()
+    ensures get_absent { reply_of (Get (codes "a")) None ≡ Some reply.None }
+    ensures get_present { reply_of (Get (codes "a")) (Some (codes "1")) ≡ Some (reply.Value (codes "1")) }
+    ensures get_keeps { update_of 0 (Get (codes "a")) None ≡ None }
+    ensures insert_absent { reply_of (Insert (codes "a") (codes "2")) None ≡ Some reply.Inserted }
+    ensures insert_sets { update_of 3 (Insert (codes "a") (codes "2")) None ≡ Some (set 3 (codes "a") (codes "2")) }
+    ensures insert_present { reply_of (Insert (codes "a") (codes "2")) (Some (codes "1")) ≡ Some (reply.Exists (codes "1")) }
+    ensures insert_keeps { update_of 0 (Insert (codes "a") (codes "2")) (Some (codes "1")) ≡ None }
+{}

@@ -1,0 +1,43 @@
+//! What small chains decide: each function does nothing, and its contract computes it.
+ghost use Rattle.std.specs.Prelude.{codes, ◌≡◌, [], true, false, None, Some};
+ghost use Rattle.base_page.specs.declared.item.Content.TheVariants.{Value, Child};
+ghost use Rattle.chain_search.specs.Chains.{content_in, high_in, right_in, is_removed, covers};
+ghost use Rattle.chain_search.specs.Examples.{put_leaf, deleted_leaf, split_leaf, removed_leaf, merged_leaf, index_page, termed_page, held_page, untermed_page};
+
+/// The newest record that names a key decides it; the base decides each other one.
+pub fn leaves_decide()
+    ensures put { content_in put_leaf (codes "a") ≡ Some (Value (codes "1")) }
+    ensures elsewhere { content_in put_leaf (codes "b") ≡ None }
+    ensures deleted { content_in deleted_leaf (codes "a") ≡ None }
+    ensures removed { content_in removed_leaf (codes "k08") ≡ Some (Value (codes "v08")) }
+    ensures mark { is_removed removed_leaf ≡ true }
+    ensures unmarked { is_removed split_leaf ≡ false }
+{}
+
+/// A split cuts the keys at or above its separator off.
+pub fn split_cuts()
+    ensures below { content_in split_leaf (codes "k08") ≡ Some (Value (codes "v08")) }
+    ensures at { content_in split_leaf (codes "k09") ≡ None }
+    ensures high { high_in split_leaf ≡ Some (codes "k09") }
+    ensures right { right_in split_leaf ≡ Some 2 }
+    ensures range { covers split_leaf (codes "k09") ≡ false }
+{}
+
+/// A merge decides each key of its range, also those that it has no item of.
+pub fn merge_adds()
+    ensures below { content_in merged_leaf (codes "k08") ≡ Some (Value (codes "v08")) }
+    ensures item { content_in merged_leaf (codes "k09") ≡ Some (Value (codes "w09")) }
+    ensures absent { content_in merged_leaf (codes "k10") ≡ None }
+    ensures high { high_in merged_leaf ≡ None }
+    ensures right { right_in merged_leaf ≡ None }
+    ensures range { covers merged_leaf (codes "k10") ≡ true }
+{}
+
+/// A term is posted, held, and taken out.
+pub fn terms_come_and_go()
+    ensures before { content_in index_page (codes "k09") ≡ None }
+    ensures posted { content_in termed_page (codes "k09") ≡ Some (Child 2 false) }
+    ensures held { content_in held_page (codes "k09") ≡ Some (Child 2 true) }
+    ensures out { content_in untermed_page (codes "k09") ≡ None }
+    ensures first { content_in untermed_page [] ≡ Some (Child 1 false) }
+{}

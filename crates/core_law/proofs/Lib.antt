@@ -1,0 +1,9 @@
+pub mod Puts
+pub mod Chains
+pub mod Moves
+pub mod Owned
+pub mod Searches
+pub mod Marks
+pub mod Remark
+pub mod Names
+pub mod Growth

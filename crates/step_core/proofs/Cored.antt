@@ -1,0 +1,117 @@
+-- What a turn makes of a core.
+use Rattle.std.proofs.Common.{◌≡◌, ◌≢◌, ◌<◌, ◌⊎◌, inl, inr, ℕ, List, [], ◌∷◌, ◌++◌, length, Some, None, Option, Bool, true, false, set, get_or, ltb, arith, refl, sym, ap, subst, ◌∙◌}
+use Rattle.std.specs.Prelude.{slice_get, is_some, if◌then◌else◌}
+use Rattle.std.proofs.lemmas.Bool.{ltb-true, lt-ltb}
+use Rattle.bw_model.specs.declared.command.Command.{Command}
+use Rattle.bw_model.specs.declared.command.Reply.{Reply}
+use Rattle.bw_model.specs.declared.limits.Limits.{Limits}
+use Rattle.bw_model.specs.declared.step.Answer.{Answer}
+use Rattle.bw_model.specs.declared.step.Step.{Step as StepOf}
+use Rattle.deltas.specs.declared.record.Record.{Record}
+use Rattle.chain_search.specs.declared.trace.Entry.{Entry}
+use Rattle.chain_search.specs.declared.trace.Entry.TheVariants.{Begin, Step}
+use Rattle.chain_search.specs.declared.trace.Turn.TheVariants as turn
+use Rattle.chain_search.specs.Trace.{command_of, commands_after}
+use Rattle.chain_search.proofs.TraceLaws.{command_of-push}
+use Rattle.step_core.specs.declared.actor.Actor.{Actor}
+use Rattle.step_core.specs.Actors.{IsActor, command_left, running_command}
+use Rattle.step_core.specs.Cells.{Cells, AreSound}
+use Rattle.step_core.specs.Cores.{IsCore}
+use Rattle.step_core.specs.Turns.{Core, busy_of, refused_by, refusal_of}
+use Rattle.step_core.proofs.Replaced.{get_is, replaced_other, replaced_same, set_cases, set_length}
+
+-- a begin that isn't refused
+pub begin_goes : (core : Core) (i : ℕ) (command : Command) → refusal_of core (turn.Begin i command) ≡ None → (i < core.limits.actors) × (command_of core.entries i ≡ None)
+begin_goes core i command goes = go (ltb i core.limits.actors) refl (command_of core.entries i) goes
+  where
+    go : (t : Bool) → ltb i core.limits.actors ≡ t → (o : Option Command) → refused_by (length core.entries) (turn.Begin i command) (if t then Some (is_some o) else None) ≡ None → (i < core.limits.actors) × (o ≡ None)
+    go true e None h = (ltb-true i core.limits.actors e, refl)
+    go true e (Some other) h = cc
+    go false e o h = cc
+
+-- a step that isn't refused
+pub step_goes : (core : Core) (i : ℕ) → refusal_of core (turn.Step i) ≡ None → (i < core.limits.actors) × (is_some (command_of core.entries i) ≡ true)
+step_goes core i goes = go (ltb i core.limits.actors) refl (command_of core.entries i) goes
+  where
+    go : (t : Bool) → ltb i core.limits.actors ≡ t → (o : Option Command) → refused_by (length core.entries) (turn.Step i) (if t then Some (is_some o) else None) ≡ None → (i < core.limits.actors) × (is_some o ≡ true)
+    go true e None h = cc
+    go true e (Some other) h = (ltb-true i core.limits.actors e, refl)
+    go false e o h = cc
+
+-- each actor runs what the longer trace says, where one actor runs something else
+each_set : (actors : List Actor) (i : ℕ) (new : Actor) (old now : ℕ → Option Command) → ((a : ℕ) (at : Actor) → slice_get actors a ≡ Some at → running_command at ≡ old a)
+    → running_command new ≡ now i → ((a : ℕ) → a ≢ i → now a ≡ old a) → (a : ℕ) (at : Actor) → slice_get (set actors i new) a ≡ Some at → running_command at ≡ now a
+each_set actors i new old now each own others a at e = elim (set_cases actors i new a at e) [
+  | inl h ↦ ap running_command h.1 ∙ own ∙ ap now (sym h.0)
+  | inr h ↦ each a at h.1 ∙ sym (others a h.0)
+]
+
+sound_set : (limits : Limits) (actors : List Actor) (i : ℕ) (new : Actor) → ((a : ℕ) (at : Actor) → slice_get actors a ≡ Some at → IsActor limits at) → IsActor limits new
+    → (a : ℕ) (at : Actor) → slice_get (set actors i new) a ≡ Some at → IsActor limits at
+sound_set limits actors i new each own a at e = elim (set_cases actors i new a at e) [
+  | inl h ↦ subst (IsActor limits) (sym h.1) own
+  | inr h ↦ each a at h.1
+]
+
+module _ (limits : Limits) where
+  pub core_opens : (cells : Cells) (actors : List Actor) (entries : List Entry) → AreSound limits cells → length actors ≡ limits.actors
+      → ((a : ℕ) (at : Actor) → slice_get actors a ≡ Some at → at ≡ record { hand = []; running = None }) → entries ≡ [] → IsCore limits cells actors entries
+  core_opens cells actors entries sound count each none = rw none (record {
+    cells_sound = sound;
+    count = count;
+    each_sound = λ a at e. rw (each a at e) (record { rows = λ k d h. absurd (omega arith); room = omega arith });
+    each_running = λ a at e. rw (each a at e) refl;
+  })
+
+  -- the actor of a turn that isn't refused
+  pub core_begins : (cells : Cells) (actors : List Actor) (entries : List Entry) (i j : ℕ) (old : Actor) (command : Command) → IsCore limits cells actors entries
+      → (room : ℕ) (v : Core) → record { limits = limits; entries = entries; room = room } ≡ v → refusal_of v (turn.Begin i command) ≡ None → j ≡ i → old ≡ get_or actors j old
+      → (j < length actors) × IsActor limits old × (running_command old ≡ None)
+  core_begins cells actors entries i j old command core room v is refusal same at =
+      let goes : (i < limits.actors) × (command_of entries i ≡ None) = begin_goes (record { limits = limits; entries = entries; room = room }) i command (subst (λ u. refusal_of u (turn.Begin i command) ≡ None) (sym is) refusal) in
+      let lt : i < length actors = rw core.count goes.0 in
+      let found : slice_get actors i ≡ Some old = get_is actors i old lt (subst (λ k. old ≡ get_or actors k old) same at) in
+      (rw same lt, core.each_sound i old found, core.each_running i old found ∙ goes.1)
+
+  pub core_asks : (cells : Cells) (actors : List Actor) (entries : List Entry) (i j : ℕ) (old : Actor) → IsCore limits cells actors entries
+      → (room : ℕ) (v : Core) → record { limits = limits; entries = entries; room = room } ≡ v → refusal_of v (turn.Step i) ≡ None → j ≡ i → old ≡ get_or actors j old
+      → (i < limits.actors) × (j < length actors) × IsActor limits old × (is_some (running_command old) ≡ true)
+  core_asks cells actors entries i j old core room v is refusal same at =
+      let goes : (i < limits.actors) × (is_some (command_of entries i) ≡ true) = step_goes (record { limits = limits; entries = entries; room = room }) i (subst (λ u. refusal_of u (turn.Step i) ≡ None) (sym is) refusal) in
+      let lt : i < length actors = rw core.count goes.0 in
+      let found : slice_get actors i ≡ Some old = get_is actors i old lt (subst (λ k. old ≡ get_or actors k old) same at) in
+      (goes.0, rw same lt, core.each_sound i old found, ap is_some (core.each_running i old found) ∙ goes.1)
+
+  pub core_begun : (cells : Cells) (actors : List Actor) (entries entries' : List Entry) (i j : ℕ) (new : Actor) (command : Command) → IsCore limits cells actors entries → j ≡ i
+      → IsActor limits new → running_command new ≡ Some command → entries' ≡ entries ++ Begin i command ∷ [] → IsCore limits cells (set actors j new) entries'
+  core_begun cells actors entries entries' i j new command core same sound runs grown = rw (grown, same) (record {
+    cells_sound = core.cells_sound;
+    count = set_length actors i new ∙ core.count;
+    each_sound = sound_set limits actors i new core.each_sound sound;
+    each_running = rw command_of-push (each_set actors i new (command_of entries) (commands_after (command_of entries) (Begin i command)) core.each_running
+        (runs ∙ sym (replaced_same i (Some command) (command_of entries)))
+        (λ a other. replaced_other i (Some command) (command_of entries) a other));
+  })
+
+  -- the commands after a step
+  left_same : (commands : ℕ → Option Command) (i : ℕ) (step : StepOf Record) (answer : Answer Record) (reply : Option Reply) → command_left reply (commands i) ≡ commands_after commands (Step i step answer reply) i
+  left_same commands i step answer None = refl
+  left_same commands i step answer (Some reply) = sym (replaced_same i None commands)
+
+  left_other : (commands : ℕ → Option Command) (i : ℕ) (step : StepOf Record) (answer : Answer Record) (reply : Option Reply) (a : ℕ) → a ≢ i → commands_after commands (Step i step answer reply) a ≡ commands a
+  left_other commands i step answer None a other = refl
+  left_other commands i step answer (Some reply) a other = replaced_other i None commands a other
+
+  pub core_stepped : (cells cells' : Cells) (actors : List Actor) (entries entries' : List Entry) (i j : ℕ) (old new : Actor) (step : StepOf Record) (answer : Answer Record) (reply : Option Reply) → IsCore limits cells actors entries
+      → j ≡ i → j < length actors → old ≡ get_or actors j old → IsActor limits new → running_command new ≡ command_left reply (running_command old) → AreSound limits cells'
+      → entries' ≡ entries ++ Step i step answer reply ∷ [] → IsCore limits cells' (set actors j new) entries'
+  core_stepped cells cells' actors entries entries' i j old new step answer reply core same lt at sound runs sound' grown =
+      let found : slice_get actors i ≡ Some old = get_is actors i old (rw (sym same) lt) (subst (λ k. old ≡ get_or actors k old) same at) in
+      rw (grown, same) (record {
+        cells_sound = sound';
+        count = set_length actors i new ∙ core.count;
+        each_sound = sound_set limits actors i new core.each_sound sound;
+        each_running = rw command_of-push (each_set actors i new (command_of entries) (commands_after (command_of entries) (Step i step answer reply)) core.each_running
+            (runs ∙ ap (command_left reply) (core.each_running i old found) ∙ left_same (command_of entries) i step answer reply)
+            (left_other (command_of entries) i step answer reply));
+      })

@@ -1,0 +1,27 @@
+-- A function or a list with one value replaced.
+use Rattle.std.proofs.Common.{◌≡◌, ◌≢◌, ◌<◌, ◌⊎◌, inl, inr, ℕ, zero, suc, List, [], ◌∷◌, length, Some, set, get_or, eqb, true, false, eq-eqb, ne_eqb, refl, sym, ap, arith}
+use Rattle.std.specs.Prelude.{slice_get}
+use Rattle.deltas.specs.Memory.{replaced_at}
+
+pub replaced_same : {X : Type 0} (n : ℕ) (x : X) (f : ℕ → X) → replaced_at n x f n ≡ x
+replaced_same n x f = rw (eq-eqb n n refl) refl
+
+pub replaced_other : {X : Type 0} (n : ℕ) (x : X) (f : ℕ → X) (k : ℕ) → k ≢ n → replaced_at n x f k ≡ f k
+replaced_other n x f k other = rw (ne_eqb k n other) refl
+
+pub get_is : {X : Type 0} (xs : List X) (i : ℕ) (x : X) → i < length xs → x ≡ get_or xs i x → slice_get xs i ≡ Some x
+get_is [] i x h e = absurd (omega arith)
+get_is (y ∷ xs) zero x h e = ap Some (sym e)
+get_is (y ∷ xs) (suc i) x h e = get_is xs i x (omega arith) e
+
+pub set_cases : {X : Type 0} (xs : List X) (i : ℕ) (x : X) (a : ℕ) (y : X) → slice_get (set xs i x) a ≡ Some y → ((a ≡ i) × (y ≡ x)) ⊎ ((a ≢ i) × (slice_get xs a ≡ Some y))
+set_cases [] i x a y e = cc
+set_cases (z ∷ xs) zero x zero y e = inl (refl, cc)
+set_cases (z ∷ xs) zero x (suc a) y e = inr ((λ same. absurd (omega arith)), e)
+set_cases (z ∷ xs) (suc i) x zero y e = inr ((λ same. absurd (omega arith)), e)
+set_cases (z ∷ xs) (suc i) x (suc a) y e = elim (set_cases xs i x a y e) [ inl h ↦ inl (ap suc h.0, h.1) | inr h ↦ inr ((λ same. h.0 (omega arith)), h.1) ]
+
+pub set_length : {X : Type 0} (xs : List X) (i : ℕ) (x : X) → length (set xs i x) ≡ length xs
+set_length [] i x = refl
+set_length (z ∷ xs) zero x = refl
+set_length (z ∷ xs) (suc i) x = ap suc (set_length xs i x)

@@ -1,0 +1,15 @@
+-- What a core keeps.
+use Rattle.std.specs.Prelude.{◌≡◌, ℕ, List, length, Some, slice_get}
+use Rattle.bw_model.specs.declared.limits.Limits.{Limits}
+use Rattle.chain_search.specs.declared.trace.Entry.{Entry}
+use Rattle.chain_search.specs.Trace.{command_of}
+use Rattle.step_core.specs.declared.actor.Actor.{Actor}
+use Rattle.step_core.specs.Actors.{IsActor, running_command}
+use Rattle.step_core.specs.Cells.{Cells, AreSound}
+
+-- The memory is sound, and each actor runs what the trace says that it has not finished.
+pub record IsCore (limits : Limits) (cells : Cells) (actors : List Actor) (entries : List Entry) : Type 0 where
+  pub cells_sound : AreSound limits cells
+  pub count : length actors ≡ limits.actors
+  pub each_sound : (actor : ℕ) (at : Actor) → slice_get actors actor ≡ Some at → IsActor limits at
+  pub each_running : (actor : ℕ) (at : Actor) → slice_get actors actor ≡ Some at → running_command at ≡ command_of entries actor

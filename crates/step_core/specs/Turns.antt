@@ -1,0 +1,69 @@
+-- A core as its callers see it, what it refuses, and what a turn adds.
+use Rattle.std.specs.Prelude.{◌≡◌, ℕ, List, [], ◌∷◌, ◌++◌, length, Option, Some, None, Bool, true, false, is_some, nat_lt, if◌then◌else◌, slice_get, take, map, ◌⊎◌}
+use Rattle.bw_model.specs.declared.limits.Limits.{Limits}
+use Rattle.bw_model.specs.declared.step.Answer.{Answer}
+use Rattle.bw_model.specs.declared.step.Answer.TheVariants.{Whether}
+use Rattle.bw_model.specs.declared.step.Link.{Link}
+use Rattle.bw_model.specs.declared.step.Step.{Step as StepOf}
+use Rattle.bw_model.specs.declared.step.Step.TheVariants.{Exchange}
+use Rattle.deltas.specs.declared.record.Record.{Record}
+use Rattle.chain_search.specs.declared.trace.Entry.{Entry}
+use Rattle.chain_search.specs.declared.trace.Entry.TheVariants as entry
+use Rattle.chain_search.specs.declared.trace.Turn.{Turn}
+use Rattle.chain_search.specs.declared.trace.Turn.TheVariants.{Begin, Step}
+use Rattle.chain_search.specs.Trace.{command_of, turn_of}
+use Rattle.step_core.specs.declared.event.RunError.{RunError}
+use Rattle.step_core.specs.declared.event.RunError.TheVariants.{NoActor, Unfinished, NoOperation, Memory}
+use Rattle.step_core.specs.declared.event.Event.{Event}
+use Rattle.step_core.specs.declared.event.Event.TheVariants.{Began, Stepped, Done}
+
+-- room: how many entries the trace takes without a growth
+pub record Core : Type 0 where
+  pub limits : Limits
+  pub entries : List Entry
+  pub room : ℕ
+
+-- whether an actor has an operation, if there is such an actor
+abbrev pub busy_of : Core → ℕ → Option Bool
+busy_of core actor = if nat_lt actor core.limits.actors then Some (is_some (command_of core.entries actor)) else None
+
+abbrev pub refused_by : ℕ → Turn → Option Bool → Option RunError
+refused_by number turn None = Some (NoActor number)
+refused_by number (Begin actor command) (Some false) = None
+refused_by number (Begin actor command) (Some true) = Some (Unfinished number)
+refused_by number (Step actor) (Some false) = Some (NoOperation number)
+refused_by number (Step actor) (Some true) = None
+
+abbrev pub actor_of : Turn → ℕ
+actor_of (Begin actor command) = actor
+actor_of (Step actor) = actor
+
+-- Why a turn is refused, but for want of memory: there is no such actor; it begins while the actor's operation is
+-- unfinished; it steps without an operation.
+abbrev pub refusal_of : Core → Turn → Option RunError
+refusal_of core turn = refused_by (length core.entries) turn (busy_of core (actor_of turn))
+
+-- whether it is an exchange that won
+abbrev pub is_won : StepOf Record → Answer Record → Bool
+is_won (Exchange slot old new) (Whether won) = won
+is_won step answer = false
+
+-- The event tells that an operation began, or its reply, or whether an exchange won.
+abbrev pub IsEventOf : Entry → Event → Type 0
+IsEventOf (entry.Begin actor command) event = event ≡ Began
+IsEventOf (entry.Step actor step answer (Some reply)) event = event ≡ Done reply
+IsEventOf (entry.Step actor step answer None) event = (link : Option Link) × (event ≡ Stepped link) × (is_some link ≡ is_won step answer)
+
+-- There is one entry more, which belongs to the turn.
+pub record AddsTurn (old : Core) (turn : Turn) (event : Event) (new : Core) : Type 0 where
+  pub added : Entry
+  pub entries : new.entries ≡ old.entries ++ added ∷ []
+  pub of_turn : turn_of added ≡ turn
+  pub event_of : IsEventOf added event
+  pub same_limits : new.limits ≡ old.limits
+
+-- A run of the turns ends early: some of them were taken, and the next one was refused, or memory was.
+pub record Stops (limits : Limits) (turns : List Turn) (error : RunError) : Type 0 where
+  pub entries : List Entry
+  pub taken : map turn_of entries ≡ take (length entries) turns
+  pub why : (error ≡ Memory (length entries)) ⊎ ((next : Turn) × (slice_get turns (length entries) ≡ Some next) × ((room : ℕ) → refusal_of (record { limits = limits; entries = entries; room = room }) next ≡ Some error))

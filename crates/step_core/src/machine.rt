@@ -1,0 +1,181 @@
+//! The core: all actors over one memory, one turn at a time.
+ghost use Rattle.std.specs.Prelude.{◌≡◌, ◌<◌, ◌≤◌, ◌&&◌, [], length, nat_lt, is_some, IfOk, IfErr, OnErr, Some, None};
+ghost use Rattle.chain_search.specs.Trace.{command_of};
+ghost use Rattle.step_core.specs.Turns.{AddsTurn, busy_of, refusal_of};
+
+use crate::actor::{Actor, Stepped};
+use crate::event::{Event, RunError, Trace};
+use crate::listing::pairs_in;
+use crate::memory::Memory;
+use bw_model::{Command, Key, Limits, OpenError, Value};
+use chain_search::{Entry, Turn};
+use std::alloc::{AllocError, Global};
+use std::marker::Model;
+
+/// All actors over one memory.
+#[derive(Drop)]
+pub struct Core {
+    limits: Limits,
+    memory: Memory,
+    actors: Vec<Actor>,
+    trace: Vec<Entry>,
+}
+
+impl Model for Core {
+    ghost use Rattle.std.specs.Vec.{vec_capacity};
+    ghost use Rattle.step_core.specs.Cores.{IsCore};
+    ghost use Rattle.step_core.specs.Turns.{Core};
+
+    ghost Value = { Core };
+
+    ghost view = { λ c. record { limits = c.limits; entries = c.trace.items; room = vec_capacity c.trace } };
+
+    ghost invariant = { λ c. IsCore c.limits c.memory c.actors.items c.trace.items };
+}
+
+impl Core {
+    /// A core before its first turn; refused for want of memory alone.
+    pub fn open(alloc: Global, limits: Limits) -> Result<Core, OpenError>
+        ensures entries { IfOk result (λ core. core.entries ≡ []) }
+        ensures limits { IfOk result (λ core. core.limits ≡ limits) }
+        ensures err { IfErr result (λ error. error ≡ OpenError.Memory) }
+    {
+        match Core::with_memory(alloc, limits) {
+            Ok(core) => Ok(core),
+            Err(_) => Err(OpenError::Memory),
+        }
+    }
+
+    fn with_memory(alloc: Global, limits: Limits) -> Result<Core, AllocError>
+        ensures entries { IfOk result (λ core. core.entries ≡ []) }
+        ensures limits { IfOk result (λ core. core.limits ≡ limits) }
+    {
+        let memory = Memory::open(alloc, &limits)?;
+        let mut actors = Vec::with_capacity(alloc, limits.actors as usize)?;
+        for _ in 0..limits.actors {
+            actors.push(Actor::idle())?;
+        }
+        Ok(Core {
+            limits,
+            memory,
+            actors,
+            trace: Vec::new(alloc),
+        })
+    }
+
+    /// How many turns were taken, which is the number of the next one.
+    pub fn turns(&self) -> u64
+        ensures { result ≡ length self.now.entries }
+    {
+        self.trace.len() as u64
+    }
+
+    /// Whether there is such an actor, with an operation that is not done.
+    pub fn is_busy(&self, actor: u8) -> bool
+        ensures { result ≡ (nat_lt actor self.now.limits.actors && is_some (command_of self.now.entries actor)) }
+    {
+        match self.busy(actor) {
+            None => false,
+            Some(busy) => busy,
+        }
+    }
+
+    /// Takes one turn. A turn that is refused changes nothing.
+    pub fn turn(&mut self, turn: Turn) -> Result<Event, RunError>
+        ensures refused { (refusal : _) → refusal_of self.old turn ≡ Some refusal → result ≡ Err refusal }
+        ensures memory { refusal_of self.old turn ≡ None → IfErr result (λ error. (error ≡ RunError.Memory (length self.old.entries)) × (self.old.room ≤ length self.old.entries)) }
+        ensures ok { IfOk result (λ event. AddsTurn self.old turn event self.new) }
+        ensures err { OnErr result (self.new ≡ self.old) }
+    {
+        if let Some(refusal) = self.refusal(&turn) {
+            return Err(refusal);
+        }
+        if self.trace.try_reserve(1).is_err() {
+            return Err(RunError::Memory(self.turns()));
+        }
+        Ok(match turn {
+            Turn::Begin(actor, command) => self.begin(actor, command),
+            Turn::Step(actor) => self.step(actor),
+        })
+    }
+
+    /// Whether an actor has an operation, if there is such an actor.
+    fn busy(&self, actor: u8) -> Option<bool>
+        ensures { result ≡ busy_of self.now actor }
+    {
+        match self.actors.get(usize::from(actor)) {
+            None => None,
+            Some(actor) => Some(actor.is_running()),
+        }
+    }
+
+    /// Why a turn is refused, but for want of memory.
+    fn refusal(&self, turn: &Turn) -> Option<RunError>
+        ensures { result ≡ refusal_of self.now turn.now }
+    {
+        let number = self.turns();
+        let busy = match turn {
+            Turn::Begin(actor, _) => self.busy(*actor),
+            Turn::Step(actor) => self.busy(*actor),
+        };
+        match (turn, busy) {
+            (_, None) => Some(RunError::NoActor(number)),
+            (Turn::Begin(_, _), Some(true)) => Some(RunError::Unfinished(number)),
+            (Turn::Begin(_, _), Some(false)) => None,
+            (Turn::Step(_), Some(true)) => None,
+            (Turn::Step(_), Some(false)) => Some(RunError::NoOperation(number)),
+        }
+    }
+
+    /// Begins an operation. There is room for its entry.
+    fn begin(&mut self, actor: u8, command: Command) -> Event
+        requires goes { refusal_of self.old (Turn.Begin actor command) ≡ None }
+        requires room { length self.old.entries < self.old.room }
+        ensures { AddsTurn self.old (Turn.Begin actor command) result self.new }
+    {
+        let entry = Entry::Begin(actor, command.clone().unwrap());
+        let place = &mut self.actors[usize::from(actor)];
+        place.begin(command, actor, &self.limits);
+        self.trace.push(entry).unwrap();
+        Event::Began
+    }
+
+    /// Takes the step that an operation wants. There is room for its entry.
+    fn step(&mut self, actor: u8) -> Event
+        requires goes { refusal_of self.old (Turn.Step actor) ≡ None }
+        requires room { length self.old.entries < self.old.room }
+        ensures { AddsTurn self.old (Turn.Step actor) result self.new }
+    {
+        let place = &mut self.actors[usize::from(actor)];
+        let stepped = place.step(actor, &self.limits, &mut self.memory);
+        let event = stepped.event(&self.memory);
+        let Stepped {
+            step,
+            answer,
+            reply,
+        } = stepped;
+        self.trace
+            .push(Entry::Step(actor, step, answer, reply))
+            .unwrap();
+        event
+    }
+
+    /// All pairs in the order of their keys. It is no turn.
+    pub fn listing(&self, alloc: Global) -> Result<Vec<(Key, Value)>, RunError>
+        ensures err { IfErr result (λ error. error ≡ RunError.Memory (length self.now.entries)) }
+    {
+        match pairs_in(alloc, &self.memory) {
+            Ok(pairs) => Ok(pairs),
+            Err(_) => Err(RunError::Memory(self.turns())),
+        }
+    }
+
+    /// What was done.
+    pub fn into_trace(self) -> Trace
+        ensures { result.entries.items ≡ self.entries }
+    {
+        Trace {
+            entries: self.trace,
+        }
+    }
+}

@@ -1,0 +1,28 @@
+//! A run of turns from the opening state.
+ghost use Rattle.std.specs.Prelude.{◌≡◌, map, IfOk, IfErr};
+ghost use Rattle.chain_search.specs.Trace.{turn_of};
+ghost use Rattle.step_core.specs.Turns.{Stops};
+
+use crate::event::{RunError, Trace};
+use crate::machine::Core;
+use bw_model::Limits;
+use chain_search::Turn;
+use std::alloc::Global;
+
+/// Opens a core and takes all turns. A refused run answers no trace; where no core was opened, it is refused for want of
+/// memory at turn 0.
+pub fn run(alloc: Global, limits: Limits, turns: &[Turn]) -> Result<Trace, RunError>
+    ensures turns { IfOk result (λ trace. map turn_of trace.entries.items ≡ turns.now) }
+    ensures err { IfErr result (Stops limits turns.now) }
+{
+    let mut core = match Core::open(alloc, limits) {
+        Ok(core) => core,
+        Err(_) => return Err(RunError::Memory(0)),
+    };
+    for turn in turns {
+        if let Err(error) = core.turn(turn.clone().unwrap()) {
+            return Err(error);
+        }
+    }
+    Ok(core.into_trace())
+}
