@@ -1,5 +1,5 @@
 -- What an actor may do, by what it knows.
-use Rattle.std.specs.Prelude.{◌≡◌, ◌<◌, ◌≤◌, ◌/◌, ℕ, ◌⊎◌, List, length, Option, Some, None, IfSome, true, false}
+use Rattle.std.specs.Prelude.{◌≡◌, ◌<◌, ◌≤◌, ◌/◌, ℕ, ◌⊎◌, List, [], ◌∷◌, ◌++◌, length, Option, Some, None, IfSome, IsSome, true, false}
 use Rattle.bw_model.specs.declared.command.Command.{Command}
 use Rattle.bw_model.specs.declared.command.Reply.{Reply}
 use Rattle.bw_model.specs.declared.command.Reply.TheVariants.{Full}
@@ -15,7 +15,11 @@ use Rattle.base_page.specs.Pages.{Page, content_at}
 use Rattle.deltas.specs.declared.record.Record.{Record}
 use Rattle.deltas.specs.declared.record.Record.TheVariants.{Base, Put, Delete}
 use Rattle.chain_search.specs.Chains.{IsChainFrom, IsItemsOf, content_in, level_in, low_in, high_in, right_in, is_removed}
-use Rattle.chain_search.specs.Knowledge.{IsOwn, Written, Knowledge}
+use Rattle.chain_search.specs.declared.trace.Entry.{Entry}
+use Rattle.chain_search.specs.declared.trace.Entry.TheVariants.{Begin, Step}
+use Rattle.chain_search.specs.Knowledge.{IsOwn, Written, Knowledge, knows}
+use Rattle.chain_search.specs.Steps.{IsAnswer}
+use Rattle.chain_search.specs.Trace.{memory_of, command_of}
 
 -- the record that makes this update over the chain of the row
 abbrev pub record_of : Update → ℕ → Record
@@ -125,3 +129,17 @@ MayReply limits actor k reply = MayReplyValue actor k reply ⊎ ((reply ≡ Full
 pub record IsAllowed (limits : Limits) (actor : ℕ) (k : Knowledge) (step : StepOf Record) (reply : Option Reply) : Type 0 where
   pub may : May actor k step
   pub replied : IfSome reply (λ answer. (step ≡ Leave) × MayReply limits actor k answer)
+
+-- The entry may stand after these: an operation begins where its actor has none, and takes an allowed step with the memory's answer.
+abbrev pub MayStand : Limits → List Entry → Entry → Type 0
+MayStand limits entries (Begin actor command) = (actor < limits.actors) × (command_of entries actor ≡ None)
+MayStand limits entries (Step actor step answer reply) = IsSome (command_of entries actor) × IsAllowed limits actor (knows entries actor) step reply × IsAnswer (memory_of limits entries) step answer
+
+-- Each of the entries may stand after those before it.
+abbrev pub IsDisciplinedFrom : Limits → List Entry → List Entry → Type 0
+IsDisciplinedFrom limits before [] = Unit {0}
+IsDisciplinedFrom limits before (entry ∷ entries) = MayStand limits before entry × IsDisciplinedFrom limits (before ++ entry ∷ []) entries
+
+-- In the trace each actor obeys its discipline.
+abbrev pub IsDisciplined : Limits → List Entry → Type 0
+IsDisciplined limits entries = IsDisciplinedFrom limits [] entries

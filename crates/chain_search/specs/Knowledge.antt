@@ -1,5 +1,5 @@
 -- What an actor knows: a fold over its own entries.
-use Rattle.std.specs.Prelude.{ℕ, zero, suc, ◌==◌, List, Option, Some, None, Bool, true, false, if◌then◌else◌}
+use Rattle.std.specs.Prelude.{ℕ, zero, suc, ◌==◌, List, [], ◌∷◌, Option, Some, None, Bool, true, false, if◌then◌else◌}
 use Rattle.std.specs.List.{fold}
 use Rattle.bw_model.specs.declared.command.Command.{Command}
 use Rattle.bw_model.specs.declared.command.Reply.{Reply}
@@ -101,3 +101,12 @@ knows_after known (Step actor step answer reply) = replaced_at actor (finished (
 -- what each actor knows after the entries
 abbrev pub knows : List Entry → ℕ → Knowledge
 knows entries = fold knows_after (λ actor. nothing) entries
+
+abbrev pub is_entry_of : ℕ → Entry → Bool
+is_entry_of actor (Begin other command) = actor == other
+is_entry_of actor (Step other step answer reply) = actor == other
+
+-- the entries of one actor
+abbrev pub own_entries : ℕ → List Entry → List Entry
+own_entries actor [] = []
+own_entries actor (entry ∷ entries) = if is_entry_of actor entry then entry ∷ own_entries actor entries else own_entries actor entries

@@ -47,19 +47,19 @@ use Rattle.core_law.proofs.Names.{number_same, faithful_push, named_begins, name
 use Rattle.core_law.proofs.Chains.{chain_kept}
 use Rattle.core_law.proofs.Searches.{search_new, search_other, search_own, lacks}
 use Rattle.core_law.proofs.Marks.{marked_push, tells_other, tells_own, quiet_push}
-use Rattle.op_machine.proofs.Listed.{same_operation, and_right}
+use Rattle.op_machine.proofs.Listed.{same_operation, and_left, and_right}
 use Rattle.core_law.proofs.Remark.{own_same, remarked, log_of_same, marked', told, told_other, quiet'}
 use Rattle.std.proofs.lemmas.List.Sums.{fold-append}
 
 knows-push : (entries : List Entry) (entry : Entry) → knows (entries ++ entry ∷ []) ≡ knows_after (knows entries) entry
 knows-push entries entry = fold-append _ _ entries (entry ∷ [])
 
-above : (n : ℕ) → (n ≡ 0 → ⊥) → 0 < n
+pub above : (n : ℕ) → (n ≡ 0 → ⊥) → 0 < n
 above zero never = absurd (never refl)
 above (suc n) never = omega arith
 
 -- the chain that spells the log is that of page 1
-slot_chain : (limit : ℕ) (m : Memory) (log : List Update) (owner : ℕ → Owner) (knows : ℕ → Knowledge) (points : ℕ → Option (List Update)) (logs : ℕ → List (List Update)) → (g : Good limit m.rows (m.slots 1) m.free_rows log owner knows points logs) → IsChainOf m 1 g.slot_spells.spelled.chain
+pub slot_chain : (limit : ℕ) (m : Memory) (log : List Update) (owner : ℕ → Owner) (knows : ℕ → Knowledge) (points : ℕ → Option (List Update)) (logs : ℕ → List (List Update)) → (g : Good limit m.rows (m.slots 1) m.free_rows log owner knows points logs) → IsChainOf m 1 g.slot_spells.spelled.chain
 slot_chain limit m log owner knows points logs g = record {
   page = lit< tt;
   linked = above (m.slots 1) (λ e. let f : owner (m.slots 1) ≡ Free = subst (λ r. owner r ≡ Free) (sym e) g.parted.zero_fits.0 in let l = g.slot_spells.linked in absurd (cc));
@@ -85,6 +85,8 @@ opens limits = record {
     announced = λ a e. absurd (cc);
     root = refl;
     others = λ p h. zero_slot p h;
+    epoch = refl;
+    free_pids = λ p e. free_pid p (and_left (leb 2 p) (ltb p limits.pids) e) (and_right (leb 2 p) (ltb p limits.pids) e);
     commands = λ a. refl;
   };
   tells = λ a asked e. absurd (cc);
@@ -119,6 +121,10 @@ opens limits = record {
     not_shown : (a r n : ℕ) → ShowsRow [] n a r → ⊥
     not_shown a r n (inl h) = let e = h.2.1 in cc
     not_shown a r n (inr h) = let e = h.2.1 in cc
+
+    free_pid : (p : ℕ) → leb 2 p ≡ true → ltb p limits.pids ≡ true → (0 < p) × (p < limits.pids)
+    free_pid zero e f = absurd (cc)
+    free_pid (suc p) e f = (omega arith, ltb-true (suc p) limits.pids f)
 
     zero_slot : (p : ℕ) → 1 < p → (opening limits).slots p ≡ 0
     zero_slot p h = grind (arith, nat_tests)

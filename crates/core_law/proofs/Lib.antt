@@ -7,3 +7,7 @@ pub mod Marks
 pub mod Remark
 pub mod Names
 pub mod Growth
+pub mod Fitted
+pub mod Runs
+pub mod LostExchange
+pub mod OwnEntries

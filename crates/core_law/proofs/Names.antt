@@ -65,6 +65,8 @@ named_begins limits entries owner m knows a c old asks = record {
   announced = λ b e. old.announced b (by_test b a (λ t. (cond t (begun (knows a) c) (knows b)).inside ≡ true → (knows b).inside ≡ true) (λ i f. subst (λ n. (knows n).inside ≡ true) (sym i) f) (λ ne f. f) e);
   root = old.root;
   others = old.others;
+  epoch = old.epoch;
+  free_pids = old.free_pids;
   commands = λ b. rw asks (by_test b a (λ t. (cond t (begun (knows a) c) (knows b)).command ≡ cond t (Some c) (command_of entries b)) (λ i. refl) (λ ne. old.commands b));
 }
 
@@ -250,6 +252,23 @@ module _ (limits : Limits) (entries : List Entry) (owner : ℕ → Owner) (m : M
   root_after (ReusePids q w) h = old.root
   root_after (ReuseRows q w) h = old.root
 
+  numbers_after : (t : StepOf Record) → May a (knows a) t → ((memory_after a t m).epoch ≡ m.epoch) × ((memory_after a t m).free_pids ≡ m.free_pids)
+  numbers_after (Slot q) h = (refl, refl)
+  numbers_after (Row q) h = (refl, refl)
+  numbers_after (Epoch) h = (refl, refl)
+  numbers_after (Announce q) h = absurd h
+  numbers_after (PidBits q) h = (refl, refl)
+  numbers_after (RowBits q) h = (refl, refl)
+  numbers_after (Place q w) h = (refl, refl)
+  numbers_after (Exchange q e n) h = (refl, refl)
+  numbers_after (TakePid q) h = absurd h
+  numbers_after (TakeRow q) h = (refl, refl)
+  numbers_after (Enter q) h = (refl, refl)
+  numbers_after (Leave) h = (refl, refl)
+  numbers_after (Retire q) h = absurd h
+  numbers_after (ReusePids q w) h = absurd h
+  numbers_after (ReuseRows q w) h = absurd h
+
   going_command : (o : Option Reply) → going_on o (command_of entries a) ≡ commands_after (command_of entries) (Step a s x o) a
   going_command None = refl
   going_command (Some y) = sym (put_same (command_of entries) a None)
@@ -271,6 +290,8 @@ module _ (limits : Limits) (entries : List Entry) (owner : ℕ → Owner) (m : M
     announced = announced_after s may x;
     root = root_after s may;
     others = others_after s may;
+    epoch = (numbers_after s may).0 ∙ old.epoch;
+    free_pids = λ p e. old.free_pids p (subst (λ f. f p ≡ true) (numbers_after s may).1 e);
     commands = λ b. rw asks (by_test b a (λ t. (cond t (finished (learn (knows a) s x) r) (knows b)).command ≡ commands_after (command_of entries) last b)
         (λ i. subst (λ n. going_on r (learn (knows a) s x).command ≡ commands_after (command_of entries) last n) (sym i) (ap (going_on r) (learn_command (knows a) s x ∙ old.commands a) ∙ going_command r))
         (λ ne. old.commands b ∙ sym (other_command r b ne)));

@@ -1,3 +1,4 @@
 pub mod Put
 pub mod Owners
 pub mod State
+pub mod Examples

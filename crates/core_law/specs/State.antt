@@ -86,6 +86,8 @@ pub record IsNamed (limits : Limits) (entries : List Entry) (owner : ℕ → Own
   pub announced : (actor : ℕ) → (knows actor).inside ≡ true → 0 < m.announced actor
   pub root : m.slots 0 ≡ 1
   pub others : (page : ℕ) → 1 < page → m.slots page ≡ 0
+  pub epoch : m.epoch ≡ limits.epoch
+  pub free_pids : (pid : ℕ) → m.free_pids pid ≡ true → (0 < pid) × (pid < limits.pids)
   pub commands : (actor : ℕ) → (knows actor).command ≡ command_of entries actor
 
 pub record IsState (limits : Limits) (entries : List Entry) : Type 0 where

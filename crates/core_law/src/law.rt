@@ -1,14 +1,16 @@
 //! The law over runs: each of its parts is the contract of a function that does nothing.
-ghost use Rattle.std.specs.Prelude.{◌≡◌, ◌<◌, ◌++◌, ◌∷◌, [], List, ℕ, None, Option, IsSome, map};
+ghost use Rattle.std.specs.Prelude.{◌≡◌, ◌<◌, ◌++◌, ◌∷◌, [], List, ℕ, None, Some, Option, IsSome, map};
 ghost use Rattle.bw_model.specs.declared.command.Command.{Command};
 ghost use Rattle.bw_model.specs.declared.command.Reply.{Reply};
 ghost use Rattle.bw_model.specs.declared.limits.Limits.{Limits};
 ghost use Rattle.bw_model.specs.declared.step.Answer.{Answer};
 ghost use Rattle.bw_model.specs.declared.step.Step.{Step as StepOf};
+ghost use Rattle.bw_model.specs.declared.step.Step.TheVariants.{Row};
 ghost use Rattle.chain_search.specs.declared.trace.Entry.{Entry};
 ghost use Rattle.chain_search.specs.declared.trace.Entry.TheVariants.{Begin, Step};
-ghost use Rattle.chain_search.specs.Discipline.{IsAllowed};
-ghost use Rattle.chain_search.specs.Knowledge.{knows};
+ghost use Rattle.chain_search.specs.Discipline.{IsAllowed, IsDisciplined, May};
+ghost use Rattle.chain_search.specs.Fitting.{Fits};
+ghost use Rattle.chain_search.specs.Knowledge.{knows, own_entries};
 ghost use Rattle.chain_search.specs.Steps.{IsAnswer};
 ghost use Rattle.chain_search.specs.Trace.{memory_of, command_of, turn_of};
 ghost use Rattle.core_law.specs.State.{IsState};
@@ -34,4 +36,22 @@ pub fn steps()
 /// A state is linearized.
 pub fn is_one_map()
     ensures { (limits : Limits) (entries : List Entry) → IsState limits entries → IsLinearized limits (map turn_of entries) entries }
+{}
+
+/// A trace in which each actor obeys its discipline is a state, and so linearized.
+pub fn disciplined_runs()
+    ensures states { (limits : Limits) (entries : List Entry) → IsDisciplined limits entries → IsState limits entries }
+    ensures linearized { (limits : Limits) (entries : List Entry) → IsDisciplined limits entries → IsLinearized limits (map turn_of entries) entries }
+{}
+
+/// In a state, a row that an actor may read has a record, and what the memory answers fits what the actor knows.
+pub fn answers()
+    ensures stand { (limits : Limits) (entries : List Entry) (actor row : ℕ) → IsState limits entries → May actor (knows entries actor) (Row row) → (content : Record) × ((memory_of limits entries).rows row ≡ Some content) }
+    ensures fit { (limits : Limits) (entries : List Entry) (actor : ℕ) (step : StepOf Record) (answer : Answer Record) → IsState limits entries
+        → May actor (knows entries actor) step → IsAnswer (memory_of limits entries) step answer → Fits limits (knows entries actor) step answer }
+{}
+
+/// What an actor knows comes from its own entries alone: in two traces with the same ones it knows the same.
+pub fn knowledge_is_own()
+    ensures { (entries others : List Entry) (actor : ℕ) → own_entries actor entries ≡ own_entries actor others → knows entries actor ≡ knows others actor }
 {}
