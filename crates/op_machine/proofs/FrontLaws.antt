@@ -1,25 +1,25 @@
 -- The front of a chain, as it is read on.
-use Rattle.std.proofs.Common.{◌≡◌, ℕ, ◌==◌, List, [], ◌∷◌, ◌++◌, Bool, true, false, cond, Option, Some, None, refl, ap, sym, ◌∙◌}
+use Rattle.std.proofs.Common.{◌≡◌, ℕ, ◌==◌, List, [], ◌∷◌, ◌++◌, Bool, true, false, cond, Option, Some, None, refl, ap, ◌∙◌}
 use Rattle.std.specs.Prelude.{MatchOption}
 use Rattle.std.proofs.lemmas.Bool.{eqb-true}
 use Rattle.deltas.specs.declared.record.Record.{Record}
 use Rattle.deltas.specs.Memory.{replaced_at}
 use Rattle.deltas.specs.Records.{next_row}
 use Rattle.chain_search.specs.Chains.{IsChainFrom}
-use Rattle.op_machine.specs.Fits.{IsFront}
+use Rattle.chain_search.specs.Fitting.{IsFront}
 
 under : (o : Option ℕ) (X : Type 0) (P Q : ℕ → Type 0) → ((b : ℕ) → P b → Q b) → MatchOption o ⊥ P → MatchOption o X Q
 under None X P Q f h = absurd h
 under (Some b) X P Q f h = f b h
 
 -- A row is read again; what was seen there before is the same record.
-pub front_more : (seen f : ℕ → Option Record) (n : ℕ) (w : Record) → ((before : Record) → seen n ≡ Some before → before ≡ w) → (front : List Record) (row m : ℕ) → IsFront seen row front m → IsFront f row front m
+pub front_more : (seen f : ℕ → Option Record) (n : ℕ) (w : Record) → ((before : Record) → seen n ≡ Some before → w ≡ before) → (front : List Record) (row m : ℕ) → IsFront seen row front m → IsFront f row front m
     → IsFront (replaced_at n (Some w) f) row front m
 front_more seen f n w same [] row m h i = i
 front_more seen f n w same (v ∷ vs) row m h i = (go (row == n) refl, deeper (next_row v) (λ b p q. front_more seen f n w same vs b m p q) h.1 i.1)
   where
     go : (b : Bool) → (row == n) ≡ b → cond b (Some w) (f row) ≡ Some v
-    go true e = let j : row ≡ n = eqb-true row n e in ap Some (sym (same v (rw (← j) h.0)))
+    go true e = let j : row ≡ n = eqb-true row n e in ap Some (same v (rw (← j) h.0))
     go false e = i.0
 
     deeper : (o : Option ℕ) → ((b : ℕ) → IsFront seen b vs m → IsFront f b vs m → IsFront (replaced_at n (Some w) f) b vs m) → MatchOption o ⊥ (λ b. IsFront seen b vs m) → MatchOption o ⊥ (λ b. IsFront f b vs m) → MatchOption o ⊥ (λ b. IsFront (replaced_at n (Some w) f) b vs m)

@@ -21,7 +21,7 @@ use Rattle.chain_search.specs.Knowledge.{Written, Knowledge, learn}
 use Rattle.op_machine.specs.declared.op.State.{State}
 use Rattle.op_machine.specs.declared.op.State.TheVariants.{Begun, Epoch, Enter, Root, Slot, Row, Bits, Take, Place, Exchange, Leave, Over}
 use Rattle.op_machine.specs.Answered.{is_writer}
-use Rattle.op_machine.specs.Fits.{FitsRow, IsFront}
+use Rattle.chain_search.specs.Fitting.{FitsRow, IsFront}
 use Rattle.op_machine.specs.Shows.{Advances, Arrives, FitsLast, Goes, Installs, Reads, Shows, Stands, learn_last}
 use Rattle.op_machine.specs.Wants.{Op, at, change_of, wanted_at, wanted_of}
 use Rattle.op_machine.proofs.SpareLaws.{spare_kept, spare_placed}

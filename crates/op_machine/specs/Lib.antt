@@ -11,6 +11,5 @@ pub mod Direct
 pub mod Linearized
 pub mod Examples
 pub mod Hands
-pub mod Fits
 pub mod Wants
 pub mod Shows

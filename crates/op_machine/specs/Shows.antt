@@ -17,7 +17,7 @@ use Rattle.op_machine.specs.declared.op.State.{State}
 use Rattle.op_machine.specs.declared.op.State.TheVariants.{Begun, Epoch, Enter, Root, Slot, Row, Bits, Take, Place, Exchange, Leave, Over}
 use Rattle.op_machine.specs.declared.op.Want.{Want}
 use Rattle.op_machine.specs.declared.op.Want.TheVariants.{Step, Done}
-use Rattle.op_machine.specs.Fits.{Fits, IsFront}
+use Rattle.chain_search.specs.Fitting.{Fits, IsFront}
 use Rattle.op_machine.specs.Hands.{AreSpare}
 use Rattle.op_machine.specs.Wants.{Op, at, change_of, wanted_of}
 
