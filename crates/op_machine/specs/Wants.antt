@@ -63,6 +63,11 @@ rows_in_flight (Place pid head row) = 1
 rows_in_flight (Exchange pid head row) = 1
 rows_in_flight state = 0
 
+-- how many they are once this is wanted
+abbrev pub rows_flying : Want → State → ℕ
+rows_flying (Step asked) state = rows_in_flight state
+rows_flying (Done reply) state = 0
+
 -- the page's slot and the row of its newest record
 abbrev pub IsPlace : Limits → ℕ → ℕ → Type 0
 IsPlace limits pid head = (0 < pid) × (pid < limits.pids) × (head < limits.rows)
@@ -91,7 +96,7 @@ IsWithin limits (step.Announce actor) = actor < limits.actors
 IsWithin limits (step.PidBits word) = 64 * word < limits.pids
 IsWithin limits (step.RowBits word) = 64 * word < limits.rows
 IsWithin limits (step.Place row content) = (row < limits.rows) × ForSome (next_row content) (λ next. next < limits.rows)
-IsWithin limits (step.Exchange slot old new) = (slot < limits.pids) × (new < cond (slot == 0) limits.pids limits.rows) × (slot ≡ 0 → 0 < new)
+IsWithin limits (step.Exchange slot old new) = (slot < limits.pids) × (old < cond (slot == 0) limits.pids limits.rows) × (new < cond (slot == 0) limits.pids limits.rows) × (slot ≡ 0 → 0 < new)
 IsWithin limits (step.TakePid pid) = pid < limits.pids
 IsWithin limits (step.TakeRow row) = row < limits.rows
 IsWithin limits (step.Enter epoch) = Unit {0}

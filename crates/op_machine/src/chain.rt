@@ -13,11 +13,11 @@ use deltas::Record;
 use std::marker::Model;
 
 /// How many records a chain has at most: twelve deltas and a base.
-pub(crate) const MAX_RECORDS: usize = 13;
+pub const MAX_RECORDS: usize = 13;
 
 /// The records of one page, the newest first.
 #[derive(Debug, Drop)]
-pub(crate) struct Chain {
+pub struct Chain {
     records: ArrayVec<Record, MAX_RECORDS>,
 }
 
@@ -34,7 +34,7 @@ impl Model for Chain {
 
 impl Chain {
     /// No records yet.
-    pub(crate) fn new() -> Chain
+    pub fn new() -> Chain
         ensures { result ≡ [] }
     {
         Chain {
@@ -43,29 +43,21 @@ impl Chain {
     }
 
     /// How many records there are.
-    pub(crate) fn len(&self) -> usize
+    pub fn len(&self) -> usize
         ensures { result ≡ length self.now }
     {
         self.records.len()
     }
 
-    /// Whether there is no room for one more.
-    pub(crate) fn is_full(&self) -> bool
-        ensures value { result ≡ (length self.now == MAX_RECORDS) }
-        ensures fits { length self.now ≤ MAX_RECORDS }
-    {
-        self.records.is_full()
-    }
-
     /// Forgets all records.
-    pub(crate) fn clear(&mut self)
+    pub fn clear(&mut self)
         ensures { self.new ≡ [] }
     {
         self.records.clear();
     }
 
     /// Puts an older record under the others.
-    pub(crate) fn push(&mut self, older: Record)
+    pub fn push(&mut self, older: Record)
         requires { length self.old < MAX_RECORDS }
         ensures { self.new ≡ self.old ++ older ∷ [] }
     {
@@ -73,14 +65,14 @@ impl Chain {
     }
 
     /// The records, the newest first.
-    pub(crate) fn as_slice(&self) -> &[Record]
+    pub fn as_slice(&self) -> &[Record]
         ensures { result.now ≡ self.now }
     {
         self.records.as_slice()
     }
 
     /// The value that the chain decides for a key, if it is a leaf's: the newest record that names the key says it.
-    pub(crate) fn find(&self, key: &Key) -> Option<&Value>
+    pub fn find(&self, key: &Key) -> Option<&Value>
         ensures { option_copied result ≡ value_of (content_in self.now key.now) }
     {
         for newest in self.records.as_slice() {

@@ -7,6 +7,7 @@ mod hand;
 mod laws;
 mod op;
 
+pub use chain::{Chain, MAX_RECORDS};
 pub use examples::{
     claimed_insert_is_refused, hurried_reuse_is_refused, insert_and_lookup_is_linearized,
     lookup_is_linearized, page_lives, row_is_freed, unnamed_read_is_refused,

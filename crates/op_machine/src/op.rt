@@ -6,7 +6,7 @@ ghost use Rattle.deltas.specs.Records.{next_row};
 ghost use Rattle.op_machine.specs.Answered.{is_writer};
 ghost use Rattle.op_machine.specs.Hands.{AreSpare, IsHand};
 ghost use Rattle.op_machine.specs.Shows.{Advances, Arrives, Goes, Installs, IsTold, Obeys, Rests, Shows};
-ghost use Rattle.op_machine.specs.Wants.{IsChanging, IsSameOp, IsSoundState, IsStepWant, IsWantWithin, IsWithin, at, change_of, rows_in_flight, wanted_at};
+ghost use Rattle.op_machine.specs.Wants.{IsChanging, IsSameOp, IsSoundState, IsStepWant, IsWantWithin, IsWithin, at, change_of, rows_flying, rows_in_flight, wanted_at};
 
 use crate::chain::Chain;
 use crate::hand::Hand;
@@ -88,7 +88,7 @@ impl Op {
         requires told { IsTold self.old hand.old answer }
         ensures obeys { Obeys self.old hand.old answer self.new hand.new result }
         ensures within { IsWantWithin self.old.limits result }
-        ensures hand { IsHand self.old.limits (rows_in_flight self.new.state) hand.new }
+        ensures hand { IsHand self.old.limits (rows_flying result self.new.state) hand.new }
         ensures same { IsSameOp self.old self.new }
         ensures begins { self.old.state ≡ State.Begun → IsStepWant result }
     {
