@@ -1,9 +1,9 @@
 -- What a page is, and what it has at a key.
-use Rattle.std.specs.Prelude.{◌≡◌, ◌≤◌, ◌<◌, ℕ, List, [], ◌∷◌, Bool, false, if◌then◌else◌, Option, None, Some, IsTrue, length, map}
+use Rattle.std.specs.Prelude.{◌≡◌, ◌≤◌, ◌<◌, ℕ, List, [], ◌∷◌, Bool, true, false, if◌then◌else◌, Option, None, Some, IsTrue, length, map}
 use Rattle.std.specs.List.{All}
 use Rattle.std.specs.List.Sorted.{IsStrictlySortedBy}
 use Rattle.std.specs.Ordering.{is_eq}
-use Rattle.bw_model.specs.Bytes.{key_cmp, is_in_range}
+use Rattle.bw_model.specs.Bytes.{key_cmp, is_in_range, is_under}
 use Rattle.base_page.specs.declared.item.Content.{Content}
 use Rattle.base_page.specs.declared.item.Content.TheVariants.{Value, Child}
 use Rattle.base_page.specs.declared.item.Item.{Item}
@@ -22,6 +22,23 @@ abbrev pub content_at : List Item → List ℕ → Option Content
 content_at [] key = None
 content_at (item ∷ items) key = if is_eq (key_cmp key item.key) then Some item.content else content_at items key
 
+-- the value that a content is, and the child; none where it is the other
+abbrev pub value_in : Option Content → Option (List ℕ)
+value_in (Some (Value value)) = Some value
+value_in (Some (Child page held)) = None
+value_in None = None
+
+abbrev pub child_in : Option Content → Option ℕ
+child_in (Some (Value value)) = None
+child_in (Some (Child page held)) = Some page
+child_in None = None
+
+-- the same content, held where it is a child
+abbrev pub held : Option Content → Option Content
+held (Some (Value value)) = Some (Value value)
+held (Some (Child page mark)) = Some (Child page true)
+held None = None
+
 -- each item's key is below those after it
 abbrev pub IsAscending : List Item → Type 0
 IsAscending items = IsStrictlySortedBy key_cmp (map (λ item. item.key) items)
@@ -36,8 +53,10 @@ pub record AreItems (items : List Item) : Type 0 where
   pub few : length items ≤ 24
   pub ascending : IsAscending items
 
--- Each item is in the range, and of the page's level.
+-- The low key is below the high one. The items are few and in order, and each is in the range and of the page's level.
 pub record IsPage (page : Page) : Type 0 where
+  pub spans : IsTrue (is_under page.low page.high)
+  pub ordered : AreItems page.items
   pub within : All (λ item. IsTrue (is_in_range page.low page.high item.key)) page.items
   pub kinds : All (λ item. IsOfLevel page.level item.content) page.items
 

@@ -1,9 +1,14 @@
 //! The ordered items of one page.
-ghost use Rattle.std.specs.Prelude.{◌≡◌, ◌≤◌, ◌==◌, [], length};
+ghost use Rattle.std.specs.Prelude.{◌≡◌, ◌+◌, ◌++◌, ◌<◌, ◌≤◌, ◌==◌, [], ℕ, List, Some, None, if◌then◌else◌, length, take, drop, is_some, option_copied, IfOk, IfErr};
+ghost use Rattle.std.specs.Ordering.{is_eq};
+ghost use Rattle.bw_model.specs.Bytes.{key_cmp};
+ghost use Rattle.base_page.specs.Pages.{child_in, content_at, AreItems};
+ghost use Rattle.base_page.specs.Places.{IsAt, IsCut, IsGap};
 ghost use Rattle.base_page.specs.declared.items.TheConstants.{MAX_ITEMS};
 
-use crate::Item;
+use crate::{Content, Item};
 use arrayvec::ArrayVec;
+use bw_model::Key;
 use std::alloc::AllocError;
 use std::marker::Model;
 
@@ -72,6 +77,105 @@ impl Items {
             items.push(item.copied());
         }
         Items { items }
+    }
+
+    /// What the items have at the key.
+    pub fn find(&self, key: &Key) -> Option<&Content>
+        ensures { option_copied result ≡ content_at self.now key.now }
+    {
+        match self.place_of(key) {
+            Ok(place) => Some(&self.items.as_slice()[place].content),
+            Err(_) => None,
+        }
+    }
+
+    /// The child that the items have at the key, or none.
+    pub fn child_at(&self, key: &Key) -> Option<u16>
+        ensures { result ≡ child_in (content_at self.now key.now) }
+    {
+        match self.find(key) {
+            Some(Content::Child { page, .. }) => Some(*page),
+            _ => None,
+        }
+    }
+
+    /// Gives the key the content, in place of what it had.
+    pub fn put(&mut self, key: Key, content: Content)
+        requires { content_at self.old key ≡ None → length self.old < MAX_ITEMS }
+        ensures items { AreItems self.new }
+        ensures contents { (q : List ℕ) → content_at self.new q ≡ (if is_eq (key_cmp q key) then Some content else content_at self.old q) }
+        ensures count { length self.new ≡ (if is_some (content_at self.old key) then length self.old else length self.old + 1) }
+    {
+        match self.place_of(&key) {
+            Ok(place) => self.items[place] = Item { key, content },
+            Err(place) => self.items.insert(place, Item { key, content }),
+        }
+    }
+
+    /// Takes away what the key has.
+    pub fn remove(&mut self, key: &Key)
+        ensures items { AreItems self.new }
+        ensures contents { (q : List ℕ) → content_at self.new q ≡ (if is_eq (key_cmp q key.now) then None else content_at self.old q) }
+        ensures count { length self.old ≡ (if is_some (content_at self.old key.now) then length self.new + 1 else length self.new) }
+    {
+        if let Ok(place) = self.place_of(key) {
+            self.items.remove(place);
+        }
+    }
+
+    /// Keeps the items before the place, and gives those from it on.
+    pub fn split_off(&mut self, place: usize) -> Items
+        requires { place ≤ length self.old }
+        ensures front { self.new ≡ take place self.old }
+        ensures back { result ≡ drop place self.old }
+        ensures items { AreItems self.new }
+        ensures others { AreItems result }
+    {
+        let mut back = ArrayVec::new();
+        for item in &self.items.as_slice()[place..] {
+            back.push(item.copied());
+        }
+        self.items.truncate(place);
+        Items { items: back }
+    }
+
+    /// Keeps the items before the place.
+    pub fn truncate(&mut self, place: usize)
+        ensures front { self.new ≡ take place self.old }
+        ensures items { AreItems self.new }
+    {
+        self.items.truncate(place);
+    }
+
+    /// Adds the items, which are above those that stand.
+    pub fn append(&mut self, others: &Items)
+        requires { AreItems (self.old ++ others.now) }
+        ensures items { self.new ≡ self.old ++ others.now }
+    {
+        for item in others.items.as_slice() {
+            self.items.push(item.copied());
+        }
+    }
+
+    /// How many items are below the key.
+    pub(crate) fn count_below(&self, key: &Key) -> usize
+        ensures { IsCut self.now key.now result }
+    {
+        let _ = &self.items;
+        match self.place_of(key) {
+            Ok(place) => place,
+            Err(place) => place,
+        }
+    }
+
+    /// Where the key stands, or where it would stand.
+    pub(crate) fn place_of(&self, key: &Key) -> Result<usize, usize>
+        ensures found { IfOk result (IsAt self.now key.now) }
+        ensures absent { IfErr result (IsGap self.now key.now) }
+    {
+        self.items
+            .as_slice()
+            .binary_search_by(|item| item.key.cmp(key))
     }
 }
 

@@ -4,6 +4,8 @@
 mod item;
 mod items;
 mod page;
+#[cfg(test)]
+mod tests;
 
 pub use item::{Content, Item};
 pub use items::{Items, MAX_ITEMS};

@@ -1,6 +1,9 @@
 //! A page: the items of a range of keys on one level.
-ghost use Rattle.std.specs.Prelude.{◌≡◌, option_copied};
-ghost use Rattle.base_page.specs.Pages.{empty_leaf};
+ghost use Rattle.std.specs.Prelude.{◌≡◌, option_copied, false};
+ghost use Rattle.base_page.specs.Pages.{empty_leaf, IsPage};
+
+mod edits;
+mod reads;
 
 use crate::Items;
 use bw_model::Key;
@@ -40,6 +43,21 @@ impl Page {
             right: None,
             removed: false,
             items: Items::new(),
+        }
+    }
+
+    /// The page of a range, on a level, with these items.
+    pub fn new(level: u8, low: Key, high: Option<Key>, right: Option<u16>, items: Items) -> Page
+        requires { IsPage (record { level = level; low = low; high = high; right = right; removed = false; items = items }) }
+        ensures { result ≡ record { level = level; low = low; high = high; right = right; removed = false; items = items } }
+    {
+        Page {
+            level,
+            low,
+            high,
+            right,
+            removed: false,
+            items,
         }
     }
 

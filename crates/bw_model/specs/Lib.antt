@@ -1,5 +1,6 @@
 pub mod Answers
 pub mod Bytes
+pub mod Examples
 pub mod Limits
 pub mod Log
 pub mod Pairs

@@ -3,7 +3,8 @@ ghost use Rattle.std.specs.Prelude.{codes, ◌≡◌, ◌∷◌, [], true, false
 ghost use Rattle.bw_model.specs.declared.command.Command.TheVariants.{Get, Insert};
 ghost use Rattle.bw_model.specs.declared.command.Reply.TheVariants as reply;
 ghost use Rattle.bw_model.specs.Bytes.{is_below, is_in_range};
-ghost use Rattle.bw_model.specs.Log.{set, unset, value_in};
+ghost use Rattle.bw_model.specs.Examples.{small_log};
+ghost use Rattle.bw_model.specs.Log.{set, value_in};
 ghost use Rattle.bw_model.specs.Pairs.{IsPairsOf};
 ghost use Rattle.bw_model.specs.Replies.{reply_of, update_of};
 
@@ -19,23 +20,26 @@ pub fn keys_are_ordered()
 
 /// The last update of a key says its value; the other keys' updates say nothing of it.
 pub fn logs_are_read()
-    ensures newest { value_in (set 0 (codes "a") (codes "1") ∷ set 1 (codes "b") (codes "2") ∷ set 0 (codes "a") (codes "3") ∷ []) (codes "a") ≡ Some (codes "3") }
-    ensures unset { value_in (set 0 (codes "a") (codes "1") ∷ unset 1 (codes "a") ∷ []) (codes "a") ≡ None }
-    ensures never { value_in (set 0 (codes "a") (codes "1") ∷ []) (codes "b") ≡ None }
+    ensures newest { value_in small_log (codes "a") ≡ Some (codes "3") }
+    ensures unset { value_in small_log (codes "b") ≡ None }
+    ensures never { value_in small_log (codes "c") ≡ None }
 {}
 
 /// The pairs of a log have each key once, with its last value.
 pub fn pairs_are_listed()
-    ensures { IsPairsOf (set 0 (codes "a") (codes "1") ∷ set 1 (codes "b") (codes "2") ∷ set 0 (codes "a") (codes "3") ∷ unset 1 (codes "b") ∷ []) [] None ((codes "a", codes "3") ∷ []) }
+    ensures { IsPairsOf small_log [] None ((codes "a", codes "3") ∷ []) }
 {}
 
 /// A lookup changes nothing; an insert changes an absent key alone.
 pub fn commands_are_answered()
     ensures get_absent { reply_of (Get (codes "a")) None ≡ Some reply.None }
-    ensures get_present { reply_of (Get (codes "a")) (Some (codes "1")) ≡ Some (reply.Value (codes "1")) }
+    ensures get_present { reply_of (Get (codes "a")) (Some (codes "1"))
+        ≡ Some (reply.Value (codes "1")) }
     ensures get_keeps { update_of 0 (Get (codes "a")) None ≡ None }
     ensures insert_absent { reply_of (Insert (codes "a") (codes "2")) None ≡ Some reply.Inserted }
-    ensures insert_sets { update_of 3 (Insert (codes "a") (codes "2")) None ≡ Some (set 3 (codes "a") (codes "2")) }
-    ensures insert_present { reply_of (Insert (codes "a") (codes "2")) (Some (codes "1")) ≡ Some (reply.Exists (codes "1")) }
+    ensures insert_sets { update_of 3 (Insert (codes "a") (codes "2")) None
+        ≡ Some (set 3 (codes "a") (codes "2")) }
+    ensures insert_present { reply_of (Insert (codes "a") (codes "2")) (Some (codes "1"))
+        ≡ Some (reply.Exists (codes "1")) }
     ensures insert_keeps { update_of 0 (Insert (codes "a") (codes "2")) (Some (codes "1")) ≡ None }
 {}

@@ -80,8 +80,8 @@ May actor k (RowBits word) = Unit {0}
 May actor k (TakeRow row) = Unit {0}
 May actor k (Place row content) = (k.inside ≡ true) × IsOwn (k.own row)
 May actor k (Exchange slot old new) = MayUpdate actor k slot old new ⊎ MayConsolidate k slot old new
-May actor k (Enter epoch) = (k.inside ≡ false) × (0 < epoch)
-May actor k Leave = k.inside ≡ true
+May actor k (Enter epoch) = 0 < epoch
+May actor k Leave = Unit {0}
 May actor k step = ⊥
 
 -- A reply is that of the command over a whole chain that was read: the one over which the update was linked, or, where the

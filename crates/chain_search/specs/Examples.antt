@@ -1,5 +1,5 @@
 -- Small chains, newest record first.
-use Rattle.std.specs.Prelude.{codes, List, [], ◌∷◌, false, None, Some}
+use Rattle.std.specs.Prelude.{codes, List, [], ◌∷◌, false, None}
 use Rattle.base_page.specs.Pages.{Page, empty_leaf}
 use Rattle.base_page.specs.declared.item.Content.TheVariants.{Value, Child}
 use Rattle.deltas.specs.declared.record.Record.{Record}

@@ -1,9 +1,11 @@
 -- A memory as a program may keep it.
-use Rattle.std.specs.Prelude.{◌≡◌, ◌<◌, ◌≤◌, ◌+◌, ◌*◌, ◌^◌, ℕ, Option, Some, slice_get, slice_index, length, vec_len}
+use Rattle.std.specs.Prelude.{◌≡◌, ◌<◌, ◌≤◌, ◌+◌, ◌*◌, ◌^◌, ℕ, Some, slice_get, vec_len}
 use Rattle.bw_model.specs.declared.step.Step.{Step}
 use Rattle.bw_model.specs.declared.step.Step.TheVariants.{Slot, Row, Epoch, Announce, PidBits, RowBits, Place, Exchange, TakePid, TakeRow, Enter, Leave, Retire, ReusePids, ReuseRows}
+use Rattle.bw_model.specs.declared.step.Answer.{Answer}
 use Rattle.deltas.specs.declared.record.Record.{Record}
 use Rattle.deltas.specs.Memory.{Memory}
+use Rattle.chain_search.specs.Steps.{IsAnswer, memory_after}
 use Rattle.chain_search.specs.declared.table.Table.{Table}
 
 -- The table has the memory's slots, rows, free numbers and announced epochs, as far as it goes.
@@ -32,3 +34,11 @@ IsWithin table actor Leave = actor < vec_len table.announced
 IsWithin table actor (Retire epoch) = epoch + 1 < 2 ^ 64
 IsWithin table actor (ReusePids word bits) = 64 * word + 64 ≤ vec_len table.free_pids
 IsWithin table actor (ReuseRows word bits) = 64 * word + 64 ≤ vec_len table.free_rows
+
+-- The answer is that of each memory that the table keeps.
+abbrev pub Answers : Table → Step Record → Answer Record → Type 0
+Answers table step answer = (memory : Memory) → Keeps table memory → IsAnswer memory step answer
+
+-- The new table keeps what the actor's step makes of each memory that the old one keeps.
+abbrev pub Follows : Table → Table → ℕ → Step Record → Type 0
+Follows old new actor step = (memory : Memory) → Keeps old memory → Keeps new (memory_after actor step memory)

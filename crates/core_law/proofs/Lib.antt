@@ -11,3 +11,8 @@ pub mod Fitted
 pub mod Runs
 pub mod LostExchange
 pub mod OwnEntries
+pub mod KeyOrder
+pub mod Sides
+pub mod Merged
+pub mod Trees
+pub mod Terms

@@ -64,16 +64,16 @@ exists = record { asked = Insert (codes "a") (codes "2"); going = refl; row = 2;
 
 -- each entry may stand: both begin and read the slot, both read the leaf and place, one links and is done, the other one goes on
 goes_on : IsDisciplinedFrom small (take 17 lost_exchange) (drop 17 lost_exchange)
-goes_on = ((refl, quietly (refl, inr refl), refl), ((refl, quietly (refl, refl), (put_a, refl, refl)), ((refl, quietly (refl, refl), (opening_leaf, refl, refl)), ((refl, quietly (refl, tt), refl), ((refl, quietly (inr consolidates), refl), ((refl, record { may = refl; replied = (refl, inl exists) }, refl), tt))))))
+goes_on = ((refl, quietly (refl, inr refl), refl), ((refl, quietly (refl, refl), (put_a, refl, refl)), ((refl, quietly (refl, refl), (opening_leaf, refl, refl)), ((refl, quietly (refl, tt), refl), ((refl, quietly (inr consolidates), refl), ((refl, record { may = tt; replied = (refl, inl exists) }, refl), tt))))))
 
 links : IsDisciplinedFrom small (take 14 lost_exchange) (drop 14 lost_exchange)
-links = ((refl, quietly (inl wins), refl), ((refl, quietly (inl loses), refl), ((refl, record { may = refl; replied = (refl, inl inserted) }, refl), goes_on)))
+links = ((refl, quietly (inl wins), refl), ((refl, quietly (inl loses), refl), ((refl, record { may = tt; replied = (refl, inl inserted) }, refl), goes_on)))
 
 places : IsDisciplinedFrom small (take 8 lost_exchange) (drop 8 lost_exchange)
 places = ((refl, quietly (refl, refl), (opening_leaf, refl, refl)), ((refl, quietly (refl, refl), (opening_leaf, refl, refl)), ((refl, quietly tt, refl), ((refl, quietly tt, refl), ((refl, quietly (refl, tt), refl), ((refl, quietly (refl, tt), refl), links))))))
 
 enters : IsDisciplinedFrom small (take 0 lost_exchange) (drop 0 lost_exchange)
-enters = ((lit< tt, refl), ((lit< tt, refl), ((refl, quietly (refl, lit< tt), refl), ((refl, quietly (refl, lit< tt), refl), ((refl, quietly (refl, inl refl), refl), ((refl, quietly (refl, inr refl), refl), ((refl, quietly (refl, inl refl), refl), ((refl, quietly (refl, inr refl), refl), places))))))))
+enters = ((lit< tt, refl), ((lit< tt, refl), ((refl, quietly (lit< tt), refl), ((refl, quietly (lit< tt), refl), ((refl, quietly (refl, inl refl), refl), ((refl, quietly (refl, inr refl), refl), ((refl, quietly (refl, inl refl), refl), ((refl, quietly (refl, inr refl), refl), places))))))))
 
 pub disciplined : IsDisciplined small lost_exchange
 disciplined = enters

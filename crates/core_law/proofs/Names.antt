@@ -206,7 +206,7 @@ module _ (limits : Limits) (entries : List Entry) (owner : ℕ → Owner) (m : M
       (λ i f. subst (λ n. 0 < m.announced n) (sym i) (old.announced a (sym (learn_inside (knows a) t y st) ∙ f))) (λ ne f. old.announced b f) e)
 
   announced_after : (t : StepOf Record) → May a (knows a) t → (y : Answer Record) → (b : ℕ) → (cond (eqb b a) (finished (learn (knows a) t y) r) (knows b)).inside ≡ true → 0 < (memory_after a t m).announced b
-  announced_after (Enter n) h y b e = by_test b a (λ t. (cond t (finished (learn (knows a) (Enter n) y) r) (knows b)).inside ≡ true → 0 < cond t n (m.announced b)) (λ i f. h.1) (λ ne f. old.announced b f) e
+  announced_after (Enter n) h y b e = by_test b a (λ t. (cond t (finished (learn (knows a) (Enter n) y) r) (knows b)).inside ≡ true → 0 < cond t n (m.announced b)) (λ i f. h) (λ ne f. old.announced b f) e
   announced_after Leave h y b e = by_test b a (λ t. (cond t (finished (learn (knows a) Leave y) r) (knows b)).inside ≡ true → 0 < cond t 0 (m.announced b)) (λ i f. absurd (cc)) (λ ne f. old.announced b f) e
   announced_after t h y b e = at_rest t tt y b e
 

@@ -1,4 +1,5 @@
 pub mod Applies
+pub mod Fits
 pub mod Links
 pub mod Memory
 pub mod Records

@@ -1,6 +1,11 @@
 //! The records of a page's chain, and what each makes of the page under it.
 #![tactic(auto)]
 
+mod applies;
 mod record;
+mod says;
+#[cfg(test)]
+mod tests;
 
+pub use applies::apply;
 pub use record::{Delete, Hold, Merge, Put, Record, Remove, Split, Term, Unterm};

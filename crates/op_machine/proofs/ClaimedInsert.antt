@@ -2,7 +2,7 @@
 -- at the mark the log has the key, and the memory hasn't.
 use Rattle.std.specs.Prelude.{codes, slice_get, take, map}
 use Rattle.std.specs.Option.{option_to_list}
-use Rattle.std.proofs.Common.{◌≡◌, ◌<◌, ◌≤◌, ℕ, suc, List, [], ◌∷◌, ◌++◌, Bool, true, Some, None, Option, refl, sym, subst, ap, arith, lit<, ◌∙◌}
+use Rattle.std.proofs.Common.{◌≡◌, ◌<◌, ◌≤◌, ℕ, suc, List, [], ◌∷◌, ◌++◌, Bool, true, Some, None, Option, refl, ap, arith, lit<, ◌∙◌}
 use Rattle.bw_model.specs.declared.command.Command.{Command}
 use Rattle.bw_model.specs.declared.command.Command.TheVariants.{Insert}
 use Rattle.bw_model.specs.declared.command.Reply.TheVariants as reply

@@ -5,19 +5,16 @@ use Rattle.std.specs.Prelude.{slice_get, take, nat_le, if◌then◌else◌, ◌*
 use Rattle.std.specs.Int.{bit_at}
 use Rattle.std.specs.List.{Contains}
 use Rattle.std.proofs.lemmas.Bool.{eqb-true}
-use Rattle.bw_model.specs.declared.limits.Limits.{Limits}
 use Rattle.bw_model.specs.declared.command.Command.{Command}
 use Rattle.bw_model.specs.declared.command.Command.TheVariants.{Get, Insert}
 use Rattle.bw_model.specs.declared.command.Reply.{Reply}
 use Rattle.bw_model.specs.declared.command.Reply.TheVariants as reply
 use Rattle.bw_model.specs.declared.step.Step.{Step as StepOf}
-use Rattle.bw_model.specs.declared.step.Step.TheVariants.{Slot, Row, Epoch, RowBits, TakeRow, Place, Exchange, Enter, Leave}
+use Rattle.bw_model.specs.declared.step.Step.TheVariants.{Slot, Row, Epoch, RowBits, TakeRow, Exchange, Enter, Leave}
 use Rattle.bw_model.specs.declared.step.Answer.{Answer}
-use Rattle.bw_model.specs.declared.step.Answer.TheVariants.{Number, Content, Whether, Done}
+use Rattle.bw_model.specs.declared.step.Answer.TheVariants.{Number, Whether}
 use Rattle.deltas.specs.declared.record.Record.{Record}
-use Rattle.deltas.specs.declared.record.Record.TheVariants.{Base, Put}
 use Rattle.deltas.specs.Memory.{opening}
-use Rattle.chain_search.specs.declared.trace.Entry.{Entry}
 use Rattle.chain_search.specs.declared.trace.Entry.TheVariants.{Begin, Step}
 use Rattle.chain_search.specs.Chains.{IsChainFrom, IsChainOf, chain_rows}
 use Rattle.chain_search.specs.Steps.{IsWordOf}

@@ -9,6 +9,7 @@ pub mod PageLife
 pub mod RowReuse
 pub mod Refused
 pub mod ClaimedInsert
+pub mod PairLaws
 pub mod FrontLaws
 pub mod SpareLaws
 pub mod Moves

@@ -2,7 +2,6 @@
 use Rattle.std.specs.Prelude.{codes}
 use Rattle.std.proofs.Common.{◌≡◌, ◌<◌, ◌≤◌, ℕ, suc, List, [], ◌∷◌, Bool, true, false, Some, None, Option, refl, sym, subst, ap, arith, inl, lit<, lit≤, ◌+◌, ◌*◌, ◌^◌, ◌∙◌}
 use Rattle.std.specs.Prelude.{slice_get}
-use Rattle.bw_model.specs.declared.limits.Limits.{Limits}
 use Rattle.bw_model.specs.declared.command.Command.{Command}
 use Rattle.bw_model.specs.declared.command.Command.TheVariants.{Get}
 use Rattle.bw_model.specs.declared.command.Reply.{Reply}
@@ -10,9 +9,8 @@ use Rattle.bw_model.specs.declared.command.Reply.TheVariants as reply
 use Rattle.bw_model.specs.declared.step.Step.{Step as StepOf}
 use Rattle.bw_model.specs.declared.step.Step.TheVariants.{Slot, Row, Epoch, Enter, Leave, Place, Exchange, TakePid, TakeRow, ReusePids, ReuseRows}
 use Rattle.bw_model.specs.declared.step.Answer.{Answer}
-use Rattle.bw_model.specs.declared.step.Answer.TheVariants.{Number, Content, Done}
+use Rattle.bw_model.specs.declared.step.Answer.TheVariants.{Number}
 use Rattle.deltas.specs.declared.record.Record.{Record}
-use Rattle.deltas.specs.declared.record.Record.TheVariants.{Base}
 use Rattle.deltas.specs.Memory.{Memory, opening}
 use Rattle.chain_search.specs.declared.trace.Entry.{Entry}
 use Rattle.chain_search.specs.declared.trace.Entry.TheVariants.{Begin, Step}

@@ -1,18 +1,14 @@
 -- The life of a page: split off, indexed by a new root, held, removed, merged, taken out of the index, and its slot emptied.
 use Rattle.std.specs.Prelude.{codes}
-use Rattle.std.proofs.Common.{◌≡◌, ◌<◌, ℕ, List, [], ◌∷◌, Bool, true, false, Some, None, Option, refl, subst, arith, inl, inr, lit<}
+use Rattle.std.proofs.Common.{◌≡◌, ◌<◌, ℕ, List, [], ◌∷◌, Bool, true, false, None, Option, refl, subst, arith, inl, inr, lit<}
 use Rattle.std.specs.Prelude.{not, take, if◌then◌else◌}
-use Rattle.bw_model.specs.declared.limits.Limits.{Limits}
 use Rattle.bw_model.specs.declared.command.Reply.{Reply}
 use Rattle.bw_model.specs.declared.step.Step.{Step as StepOf}
-use Rattle.bw_model.specs.declared.step.Step.TheVariants.{TakePid, TakeRow, Place, Exchange}
+use Rattle.bw_model.specs.declared.step.Step.TheVariants.{Exchange}
 use Rattle.bw_model.specs.declared.step.Answer.{Answer}
-use Rattle.bw_model.specs.declared.step.Answer.TheVariants.{Whether, Done}
+use Rattle.bw_model.specs.declared.step.Answer.TheVariants.{Whether}
 use Rattle.deltas.specs.declared.record.Record.{Record}
-use Rattle.deltas.specs.declared.record.Record.TheVariants.{Base}
-use Rattle.base_page.specs.Pages.{Page}
-use Rattle.chain_search.specs.declared.trace.Entry.{Entry}
-use Rattle.chain_search.specs.declared.trace.Entry.TheVariants.{Begin, Step}
+use Rattle.chain_search.specs.declared.trace.Entry.TheVariants.{Step}
 use Rattle.chain_search.specs.Chains.{IsChainOf}
 use Rattle.chain_search.specs.Run.{IsRun, MayPlace}
 use Rattle.chain_search.specs.Trace.{memory_at, memory_of, TakesStep}
@@ -23,14 +19,12 @@ use Rattle.op_machine.specs.Quiet.{IsQuiet, HasMapOf}
 use Rattle.std.specs.Prelude.{replicate}
 use Rattle.std.proofs.Common.{ap}
 use Rattle.chain_search.specs.Chains.{low_in, high_in, right_in}
-use Rattle.op_machine.specs.Examples.{small, opening_leaf, new_leaf, split, root_page, root, hold, remove, merge, unterm, index_page, page_life}
+use Rattle.op_machine.specs.Examples.{small, opening_leaf, new_leaf, split, root_page, root, remove, merge, index_page, page_life}
 use Rattle.op_machine.proofs.Listed.{EachAt-get, slice_get-from_take, UpTo-at}
-use Rattle.bw_model.specs.declared.step.Link.TheVariants as link
 use Rattle.bw_model.specs.Bytes.{is_below, is_in_range}
 use Rattle.base_page.specs.declared.item.Content.{Content as ContentOf}
-use Rattle.chain_search.specs.SideChain.{LivePage, IsWhole}
+use Rattle.chain_search.specs.SideChain.{IsWhole}
 use Rattle.chain_search.specs.Chains.{content_in, level_in}
-use Rattle.op_machine.specs.Links.{link_of}
 use Rattle.op_machine.specs.Phases.{MakesRoot, MovesAt, free, owned, fresh, indexed, held, removed, merged, cleared, takes, splits, becomes_root, under_root, holds, removes, merges, unterms}
 use Rattle.op_machine.specs.Index.{IsLevel, IsRootLevel, IsOfLevel, HasTerm}
 use Rattle.op_machine.proofs.MapLaws.{no_values}

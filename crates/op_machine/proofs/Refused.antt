@@ -1,28 +1,20 @@
 -- Traces that the definitions refuse.
 use Rattle.std.specs.Prelude.{codes, slice_get}
-use Rattle.std.proofs.Common.{◌≡◌, ◌<◌, ℕ, List, [], ◌∷◌, Some, None, Option, refl, arith, inl, inr, lit<, lit≤, false, Bool}
-use Rattle.bw_model.specs.declared.limits.Limits.{Limits}
+use Rattle.std.proofs.Common.{◌≡◌, ◌<◌, ℕ, List, [], ◌∷◌, Some, None, Option, refl, arith, inl, inr, lit<}
 use Rattle.bw_model.specs.declared.command.Command.{Command}
 use Rattle.bw_model.specs.declared.command.Command.TheVariants.{Insert}
 use Rattle.bw_model.specs.declared.command.Reply.{Reply}
-use Rattle.bw_model.specs.declared.command.Reply.TheVariants as reply
-use Rattle.bw_model.specs.Log.{value_in}
-use Rattle.chain_search.specs.SideChain.{Spells}
-use Rattle.op_machine.specs.Quiet.{IsQuiet, HasMapOf}
-use Rattle.op_machine.proofs.MapLaws.{one_leaf}
-use Rattle.bw_model.specs.declared.step.Step.TheVariants.{Slot, Row, Enter, Leave, TakeRow, Place, Exchange}
-use Rattle.bw_model.specs.declared.step.Answer.TheVariants.{Number, Content, Whether, Done}
-use Rattle.std.proofs.Common.{true}
+use Rattle.bw_model.specs.declared.step.Step.TheVariants.{Slot, Row}
+use Rattle.bw_model.specs.declared.step.Answer.TheVariants.{Number, Content}
 use Rattle.bw_model.specs.declared.step.Link.TheVariants as link
 use Rattle.deltas.specs.declared.record.Record.{Record}
-use Rattle.deltas.specs.declared.record.Record.TheVariants.{Base, Put}
 use Rattle.chain_search.specs.declared.trace.Entry.{Entry}
 use Rattle.chain_search.specs.declared.trace.Entry.TheVariants.{Begin, Step}
-use Rattle.chain_search.specs.Trace.{TakesStep, memory_at}
+use Rattle.chain_search.specs.Trace.{TakesStep}
 use Rattle.op_machine.specs.Direct.{IsDirect}
 use Rattle.op_machine.specs.Faithful.{IsFaithful}
 use Rattle.op_machine.specs.Operations.{Operation}
-use Rattle.op_machine.specs.Examples.{small, opening_leaf, unnamed_read, two_puts, needless_base, claimed_insert}
+use Rattle.op_machine.specs.Examples.{small, opening_leaf, unnamed_read, two_puts, needless_base}
 use Rattle.op_machine.proofs.Listed.{EachAt, EachAt-get}
 
 abbrev operation : Operation

@@ -5,16 +5,13 @@ use Rattle.std.specs.List.{Contains}
 use Rattle.std.proofs.lemmas.Bool.{eqb-true, eq-eqb, ne_eqb}
 use Rattle.std.proofs.lemmas.Bool.Decides.{nat_tests}
 use Rattle.std.proofs.Common.{◌≡◌, ◌<◌, ℕ, zero, suc, List, [], ◌∷◌, Bool, true, false, None, Option, refl, subst, arith, inl, inr, lit<}
-use Rattle.bw_model.specs.declared.limits.Limits.{Limits}
 use Rattle.bw_model.specs.declared.command.Reply.{Reply}
 use Rattle.bw_model.specs.declared.step.Step.{Step as StepOf}
-use Rattle.bw_model.specs.declared.step.Step.TheVariants.{Slot, Row, Epoch, Announce, TakeRow, Place, Exchange, Enter, Leave, Retire, ReuseRows, ReusePids}
+use Rattle.bw_model.specs.declared.step.Step.TheVariants.{Epoch, Announce, Leave, Retire, ReuseRows, ReusePids}
 use Rattle.bw_model.specs.declared.step.Answer.{Answer}
-use Rattle.bw_model.specs.declared.step.Answer.TheVariants.{Number, Content, Whether, Done}
+use Rattle.bw_model.specs.declared.step.Answer.TheVariants.{Number, Done}
 use Rattle.deltas.specs.declared.record.Record.{Record}
-use Rattle.deltas.specs.declared.record.Record.TheVariants.{Base}
-use Rattle.chain_search.specs.declared.trace.Entry.{Entry}
-use Rattle.chain_search.specs.declared.trace.Entry.TheVariants.{Begin, Step}
+use Rattle.chain_search.specs.declared.trace.Entry.TheVariants.{Step}
 use Rattle.chain_search.specs.Chains.{IsChainFrom, IsOnChain, chain_rows}
 use Rattle.chain_search.specs.Steps.{is_among}
 use Rattle.chain_search.specs.Run.{IsRun, MayPlace}

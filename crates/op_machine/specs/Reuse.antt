@@ -27,7 +27,7 @@ HandsRow row _ answer = ⊥
 module _ (limits : Limits) (entries : List Entry) where
   -- At step n an exchange of the actor emptied the page's slot.
   abbrev pub UnlinksPid : ℕ → ℕ → ℕ → Type 0
-  UnlinksPid actor pid n = (old : ℕ) × TakesStep entries n actor (Exchange pid old 0) (Whether true)
+  UnlinksPid actor pid n = (old : ℕ) × (0 < old) × TakesStep entries n actor (Exchange pid old 0) (Whether true)
 
   -- At step n an exchange of the actor took the row out of the slot's chain, and it is on no chain then.
   abbrev pub UnlinksRow : ℕ → ℕ → ℕ → Type 0

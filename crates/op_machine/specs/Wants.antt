@@ -102,8 +102,8 @@ IsWithin limits (step.TakeRow row) = row < limits.rows
 IsWithin limits (step.Enter epoch) = Unit {0}
 IsWithin limits step.Leave = Unit {0}
 IsWithin limits (step.Retire epoch) = epoch < 2 ^ 62
-IsWithin limits (step.ReusePids word bits) = 64 * word < limits.pids
-IsWithin limits (step.ReuseRows word bits) = 64 * word < limits.rows
+IsWithin limits (step.ReusePids word bits) = (64 * word < limits.pids) × (bits < 2 ^ 64)
+IsWithin limits (step.ReuseRows word bits) = (64 * word < limits.rows) × (bits < 2 ^ 64)
 
 -- a step that is wanted names nothing outside
 abbrev pub IsWantWithin : Limits → Want → Type 0

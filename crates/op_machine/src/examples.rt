@@ -31,13 +31,19 @@ pub fn page_lives()
     ensures quiet { IsQuiet small page_life (replicate 26 false) }
 
     ensures taken { MovesAt small page_life 1 2 free owned }
-    ensures split { MovesAt small page_life 13 2 owned fresh × (link_of (memory_at small page_life 13) 1 1 3 ≡ Some link.Split) }
-    ensures rooted { MovesAt small page_life 16 3 owned indexed × (link_of (memory_at small page_life 16) 0 1 3 ≡ Some link.Root) }
+    ensures split { MovesAt small page_life 13 2 owned fresh
+        × (link_of (memory_at small page_life 13) 1 1 3 ≡ Some link.Split) }
+    ensures rooted { MovesAt small page_life 16 3 owned indexed
+        × (link_of (memory_at small page_life 16) 0 1 3 ≡ Some link.Root) }
     ensures indexed { MovesAt small page_life 16 2 fresh indexed }
-    ensures held { MovesAt small page_life 18 2 indexed held × (link_of (memory_at small page_life 18) 3 4 5 ≡ Some link.Hold) }
-    ensures removed { MovesAt small page_life 20 2 held removed × (link_of (memory_at small page_life 20) 2 2 6 ≡ Some link.Remove) }
-    ensures merged { MovesAt small page_life 22 2 removed merged × (link_of (memory_at small page_life 22) 1 3 7 ≡ Some link.Merge) }
-    ensures untermed { MovesAt small page_life 24 2 merged cleared × (link_of (memory_at small page_life 24) 3 5 8 ≡ Some link.Unterm) }
+    ensures held { MovesAt small page_life 18 2 indexed held
+        × (link_of (memory_at small page_life 18) 3 4 5 ≡ Some link.Hold) }
+    ensures removed { MovesAt small page_life 20 2 held removed
+        × (link_of (memory_at small page_life 20) 2 2 6 ≡ Some link.Remove) }
+    ensures merged { MovesAt small page_life 22 2 removed merged
+        × (link_of (memory_at small page_life 22) 1 3 7 ≡ Some link.Merge) }
+    ensures untermed { MovesAt small page_life 24 2 merged cleared
+        × (link_of (memory_at small page_life 24) 3 5 8 ≡ Some link.Unterm) }
     ensures emptied { link_of (memory_at small page_life 25) 2 6 0 ≡ Some link.Clear }
 
     // Between its hold and its removal the index has the page's term, held.

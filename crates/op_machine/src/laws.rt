@@ -12,38 +12,12 @@ ghost use Rattle.deltas.specs.declared.record.Record.{Record};
 ghost use Rattle.deltas.specs.Memory.{Memory};
 ghost use Rattle.chain_search.specs.declared.trace.Entry.{Entry};
 ghost use Rattle.chain_search.specs.Chains.{IsChainOf, content_in, low_in, high_in, right_in};
-ghost use Rattle.chain_search.specs.SideChain.{LivePage, IsSideChainFrom};
-ghost use Rattle.chain_search.specs.Run.{IsNext, IsRun};
 ghost use Rattle.chain_search.specs.Trace.{memory_of, IsStep};
 ghost use Rattle.op_machine.specs.Points.{updates_at, log_of, log_at};
 ghost use Rattle.op_machine.specs.Links.{Wins};
 ghost use Rattle.op_machine.specs.Quiet.{HasMapOf};
 ghost use Rattle.op_machine.specs.Faithful.{Disturbs, KnowsRow};
 ghost use Rattle.op_machine.specs.Phases.{Phase, Moves, IsInPhase, KeepsPhases, cleared};
-
-/// A run grows by an entry that may stand next.
-pub fn run_grows()
-    ensures { (limits : Limits) (entries : List Entry) (entry : Entry)
-        → IsRun limits entries
-        → IsNext limits entries entry
-        → IsRun limits (entries ++ entry ∷ []) }
-{}
-
-/// A slot has one chain at most.
-pub fn chain_is_one()
-    ensures { (memory : Memory) (pid : ℕ) (one two : List Record)
-        → IsChainOf memory pid one
-        → IsChainOf memory pid two
-        → one ≡ two }
-{}
-
-/// A page begins one side chain at most.
-pub fn side_chain_is_one()
-    ensures { (memory : Memory) (pid : ℕ) (one two : List LivePage)
-        → IsSideChainFrom memory pid one
-        → IsSideChainFrom memory pid two
-        → one ≡ two }
-{}
 
 /// An entry adds to the log what it updates, if it is marked.
 pub fn log_grows()

@@ -5,6 +5,8 @@ mod chain;
 mod examples;
 mod hand;
 mod laws;
+mod link;
+mod listing;
 mod op;
 
 pub use chain::{Chain, MAX_RECORDS};
@@ -15,7 +17,8 @@ pub use examples::{
 };
 pub use hand::Hand;
 pub use laws::{
-    chain_is_one, knowledge_stays, late_mark_keeps_log, log_grows, one_leaf_has_the_map,
-    phases_grow, run_grows, side_chain_is_one,
+    knowledge_stays, late_mark_keeps_log, log_grows, one_leaf_has_the_map, phases_grow,
 };
+pub use link::exchange_link;
+pub use listing::logged_pairs;
 pub use op::{Op, Want};

@@ -11,11 +11,19 @@ use Rattle.deltas.specs.declared.record.Record.{Record}
 use Rattle.chain_search.specs.declared.trace.Entry.{Entry}
 use Rattle.chain_search.specs.declared.trace.Entry.TheVariants.{Begin, Step}
 use Rattle.chain_search.specs.declared.trace.Turn.TheVariants as turn
-use Rattle.chain_search.specs.Trace.{command_of, commands_after}
-use Rattle.chain_search.proofs.TraceLaws.{command_of-push}
+use Rattle.deltas.specs.Memory.{Memory, opening}
+use Rattle.chain_search.specs.Steps.{IsAnswer, memory_after}
+use Rattle.chain_search.specs.Trace.{command_of, commands_after, memory_of}
+use Rattle.chain_search.proofs.TraceLaws.{command_of-push, memory_of-push}
 use Rattle.step_core.specs.declared.actor.Actor.{Actor}
 use Rattle.step_core.specs.Actors.{IsActor, command_left, running_command}
 use Rattle.step_core.specs.Cells.{Cells, AreSound}
+use Rattle.step_core.specs.CellSteps.{IsWithin, Takes}
+use Rattle.step_core.specs.Placed.{ActorKnows, Asks, Shows}
+use Rattle.step_core.specs.Represents.{Represents, is_placed}
+use Rattle.step_core.proofs.Closing.{closed_after, opening_closed, placed_kept, shows_after}
+use Rattle.step_core.proofs.Placing.{actor_more}
+use Rattle.step_core.proofs.Representing.{takes}
 use Rattle.step_core.specs.Cores.{IsCore}
 use Rattle.step_core.specs.Turns.{Core, busy_of, refused_by, refusal_of}
 use Rattle.step_core.proofs.Replaced.{get_is, replaced_other, replaced_same, set_cases, set_length}
@@ -53,14 +61,24 @@ sound_set limits actors i new each own a at e = elim (set_cases actors i new a a
   | inr h ↦ each a at h.1
 ]
 
+knows_set : (actors : List Actor) (i : ℕ) (new : Actor) (placed : ℕ → Bool) → ((a : ℕ) (at : Actor) → slice_get actors a ≡ Some at → ActorKnows placed at) → ActorKnows placed new
+    → (a : ℕ) (at : Actor) → slice_get (set actors i new) a ≡ Some at → ActorKnows placed at
+knows_set actors i new placed each own a at e = elim (set_cases actors i new a at e) [
+  | inl h ↦ subst (ActorKnows placed) (sym h.1) own
+  | inr h ↦ each a at h.1
+]
+
 module _ (limits : Limits) where
-  pub core_opens : (cells : Cells) (actors : List Actor) (entries : List Entry) → AreSound limits cells → length actors ≡ limits.actors
+  pub core_opens : (cells : Cells) (actors : List Actor) (entries : List Entry) → AreSound limits cells → Represents limits cells (opening limits) → length actors ≡ limits.actors
       → ((a : ℕ) (at : Actor) → slice_get actors a ≡ Some at → at ≡ record { hand = []; running = None }) → entries ≡ [] → IsCore limits cells actors entries
-  core_opens cells actors entries sound count each none = rw none (record {
+  core_opens cells actors entries sound is count each none = rw none (record {
     cells_sound = sound;
     count = count;
     each_sound = λ a at e. rw (each a at e) (record { rows = λ k d h. absurd (omega arith); room = omega arith });
     each_running = λ a at e. rw (each a at e) refl;
+    represented = is;
+    closed = opening_closed limits;
+    each_knows = λ a at e. rw (each a at e) tt;
   })
 
   -- the actor of a turn that isn't refused
@@ -83,14 +101,17 @@ module _ (limits : Limits) where
       (goes.0, rw same lt, core.each_sound i old found, ap is_some (core.each_running i old found) ∙ goes.1)
 
   pub core_begun : (cells : Cells) (actors : List Actor) (entries entries' : List Entry) (i j : ℕ) (new : Actor) (command : Command) → IsCore limits cells actors entries → j ≡ i
-      → IsActor limits new → running_command new ≡ Some command → entries' ≡ entries ++ Begin i command ∷ [] → IsCore limits cells (set actors j new) entries'
-  core_begun cells actors entries entries' i j new command core same sound runs grown = rw (grown, same) (record {
+      → IsActor limits new → running_command new ≡ Some command → ((placed : ℕ → Bool) → ActorKnows placed new) → entries' ≡ entries ++ Begin i command ∷ [] → IsCore limits cells (set actors j new) entries'
+  core_begun cells actors entries entries' i j new command core same sound runs knows grown = rw (grown, same) (record {
     cells_sound = core.cells_sound;
     count = set_length actors i new ∙ core.count;
     each_sound = sound_set limits actors i new core.each_sound sound;
     each_running = rw command_of-push (each_set actors i new (command_of entries) (commands_after (command_of entries) (Begin i command)) core.each_running
         (runs ∙ sym (replaced_same i (Some command) (command_of entries)))
         (λ a other. replaced_other i (Some command) (command_of entries) a other));
+    represented = rw memory_of-push core.represented;
+    closed = rw memory_of-push core.closed;
+    each_knows = rw memory_of-push (knows_set actors i new (is_placed (memory_of limits entries)) core.each_knows (knows (is_placed (memory_of limits entries))));
   })
 
   -- the commands after a step
@@ -102,10 +123,25 @@ module _ (limits : Limits) where
   left_other commands i step answer None a other = refl
   left_other commands i step answer (Some reply) a other = replaced_other i None commands a other
 
+  -- what the step of an actor was
+  pub core_took : (cells cells' : Cells) (actors : List Actor) (entries : List Entry) (i j : ℕ) (old : Actor) (step : StepOf Record) (answer : Answer Record) → IsCore limits cells actors entries → j ≡ i → j < length actors → old ≡ get_or actors j old
+      → i < limits.actors → IsWithin limits step → Takes i cells step answer cells' → ((placed : ℕ → Bool) → ActorKnows placed old → Asks placed step)
+      → Asks (is_placed (memory_of limits entries)) step × IsAnswer (memory_of limits entries) step answer × Represents limits cells' (memory_after i step (memory_of limits entries))
+  core_took cells cells' actors entries i j old step answer core same lt at who within took asks =
+      let found : slice_get actors i ≡ Some old = get_is actors i old (rw (sym same) lt) (subst (λ k. old ≡ get_or actors k old) same at) in
+      let asked : Asks (is_placed (memory_of limits entries)) step = asks (is_placed (memory_of limits entries)) (core.each_knows i old found) in
+      let kept = takes limits cells cells' (memory_of limits entries) i step answer core.represented core.cells_sound within who asked took in
+      (asked, kept.0, kept.1)
+
   pub core_stepped : (cells cells' : Cells) (actors : List Actor) (entries entries' : List Entry) (i j : ℕ) (old new : Actor) (step : StepOf Record) (answer : Answer Record) (reply : Option Reply) → IsCore limits cells actors entries
       → j ≡ i → j < length actors → old ≡ get_or actors j old → IsActor limits new → running_command new ≡ command_left reply (running_command old) → AreSound limits cells'
+      → Asks (is_placed (memory_of limits entries)) step × IsAnswer (memory_of limits entries) step answer × Represents limits cells' (memory_after i step (memory_of limits entries))
+      → ((placed : ℕ → Bool) → ActorKnows placed old → Shows placed step answer → ActorKnows placed new)
       → entries' ≡ entries ++ Step i step answer reply ∷ [] → IsCore limits cells' (set actors j new) entries'
-  core_stepped cells cells' actors entries entries' i j old new step answer reply core same lt at sound runs sound' grown =
+  core_stepped cells cells' actors entries entries' i j old new step answer reply core same lt at sound runs sound' kept knows grown =
+      let memory = memory_of limits entries in
+      let more = is_placed (memory_after i step memory) in
+      let grows = placed_kept memory i step in
       let found : slice_get actors i ≡ Some old = get_is actors i old (rw (sym same) lt) (subst (λ k. old ≡ get_or actors k old) same at) in
       rw (grown, same) (record {
         cells_sound = sound';
@@ -114,4 +150,8 @@ module _ (limits : Limits) where
         each_running = rw command_of-push (each_set actors i new (command_of entries) (commands_after (command_of entries) (Step i step answer reply)) core.each_running
             (runs ∙ ap (command_left reply) (core.each_running i old found) ∙ left_same (command_of entries) i step answer reply)
             (left_other (command_of entries) i step answer reply));
+        represented = rw memory_of-push kept.2;
+        closed = rw memory_of-push (closed_after memory i step core.closed kept.0);
+        each_knows = rw memory_of-push (knows_set actors i new more (λ a other e. actor_more (is_placed memory) more grows other (core.each_knows a other e))
+            (knows more (actor_more (is_placed memory) more grows old (core.each_knows i old found)) (shows_after memory i step answer core.closed kept.1)));
       })

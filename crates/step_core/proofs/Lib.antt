@@ -1,5 +1,10 @@
 pub mod Answering
+pub mod Closing
 pub mod Cored
+pub mod FreeBits
 pub mod Linked
+pub mod Opening
+pub mod Placing
 pub mod Replaced
+pub mod Representing
 pub mod Stopping

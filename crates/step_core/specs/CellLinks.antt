@@ -8,24 +8,19 @@ use Rattle.bw_model.specs.declared.step.Link.TheVariants as link
 use Rattle.bw_model.specs.declared.step.Step.{Step}
 use Rattle.bw_model.specs.declared.step.Step.TheVariants.{Exchange}
 use Rattle.deltas.specs.declared.record.Record.{Record}
-use Rattle.deltas.specs.declared.record.Record.TheVariants.{Remove}
 use Rattle.deltas.specs.Links.{record_link}
+use Rattle.op_machine.specs.Links.{link_without}
 use Rattle.bw_model.specs.declared.command.Reply.{Reply}
 use Rattle.step_core.specs.Cells.{Cells}
 use Rattle.step_core.specs.declared.event.Event.{Event}
 use Rattle.step_core.specs.declared.event.Event.TheVariants.{Stepped, Done}
-
--- the link of an emptied slot, by the record that was its newest
-abbrev pub emptied_link : Record → Link
-emptied_link (Remove remove) = link.Clear
-emptied_link _ = link.Undo
 
 -- the link of an exchange of the slot from old to new
 abbrev pub exchange_link : Cells → ℕ → ℕ → ℕ → Option Link
 exchange_link cells slot old new =
     if slot == 0 then Some link.Root
     else if old == 0 then Some link.Ready
-    else if new == 0 then option_map emptied_link (slice_get cells.records old)
+    else if new == 0 then option_map link_without (slice_get cells.records old)
     else option_map record_link (slice_get cells.records new)
 
 -- an exchange that won has a link, and no other step has one

@@ -25,8 +25,8 @@ IsWithin limits (TakeRow row) = row < limits.rows
 IsWithin limits (Enter epoch) = Unit {0}
 IsWithin limits Leave = Unit {0}
 IsWithin limits (Retire epoch) = epoch < 2 ^ 62
-IsWithin limits (ReusePids word bits) = 64 * word < limits.pids
-IsWithin limits (ReuseRows word bits) = 64 * word < limits.rows
+IsWithin limits (ReusePids word bits) = (64 * word < limits.pids) × (bits < 2 ^ 64)
+IsWithin limits (ReuseRows word bits) = (64 * word < limits.rows) × (bits < 2 ^ 64)
 
 -- The answer is of the step's kind, and names no number that has no place.
 abbrev pub IsAnswerWithin : Limits → Step Record → Answer Record → Type 0

@@ -5,5 +5,7 @@ pub mod Actors
 pub mod Chained
 pub mod Cores
 pub mod Hands
+pub mod Placed
+pub mod Represents
 pub mod Turns
 pub mod Wants

@@ -11,9 +11,12 @@ use Rattle.chain_search.specs.declared.trace.Entry.{Entry}
 use Rattle.chain_search.specs.declared.trace.Entry.TheVariants as entry
 use Rattle.chain_search.specs.declared.trace.Turn.{Turn}
 use Rattle.chain_search.specs.declared.trace.Turn.TheVariants.{Begin, Step}
-use Rattle.chain_search.specs.Trace.{command_of, turn_of}
+use Rattle.chain_search.specs.Steps.{IsAnswer}
+use Rattle.chain_search.specs.Trace.{command_of, memory_of, turn_of}
+use Rattle.deltas.specs.Memory.{Memory}
+use Rattle.op_machine.specs.Links.{link_of}
 use Rattle.step_core.specs.declared.event.RunError.{RunError}
-use Rattle.step_core.specs.declared.event.RunError.TheVariants.{NoActor, Unfinished, NoOperation, Memory}
+use Rattle.step_core.specs.declared.event.RunError.TheVariants.{NoActor, Unfinished, NoOperation, Memory as OutOfMemory}
 use Rattle.step_core.specs.declared.event.Event.{Event}
 use Rattle.step_core.specs.declared.event.Event.TheVariants.{Began, Stepped, Done}
 
@@ -43,27 +46,38 @@ actor_of (Step actor) = actor
 abbrev pub refusal_of : Core → Turn → Option RunError
 refusal_of core turn = refused_by (length core.entries) turn (busy_of core (actor_of turn))
 
+-- what an exchange that won did, by the memory before it
+abbrev pub link_told : Memory → StepOf Record → Answer Record → Option Link
+link_told memory (Exchange slot old new) (Whether true) = link_of memory slot old new
+link_told memory step answer = None
+
 -- whether it is an exchange that won
 abbrev pub is_won : StepOf Record → Answer Record → Bool
 is_won (Exchange slot old new) (Whether won) = won
 is_won step answer = false
 
--- The event tells that an operation began, or its reply, or whether an exchange won.
-abbrev pub IsEventOf : Entry → Event → Type 0
-IsEventOf (entry.Begin actor command) event = event ≡ Began
-IsEventOf (entry.Step actor step answer (Some reply)) event = event ≡ Done reply
-IsEventOf (entry.Step actor step answer None) event = (link : Option Link) × (event ≡ Stepped link) × (is_some link ≡ is_won step answer)
+-- The event tells that an operation began, or its reply, or what an exchange that won did.
+abbrev pub IsEventOf : Memory → Entry → Event → Type 0
+IsEventOf memory (entry.Begin actor command) event = event ≡ Began
+IsEventOf memory (entry.Step actor step answer (Some reply)) event = event ≡ Done reply
+IsEventOf memory (entry.Step actor step answer None) event = (event ≡ Stepped (link_told memory step answer)) × (is_some (link_told memory step answer) ≡ is_won step answer)
+
+-- A step has the answer of the memory before it.
+abbrev pub IsToldBy : Memory → Entry → Type 0
+IsToldBy memory (entry.Begin actor command) = Unit {0}
+IsToldBy memory (entry.Step actor step answer reply) = IsAnswer memory step answer
 
 -- There is one entry more, which belongs to the turn.
 pub record AddsTurn (old : Core) (turn : Turn) (event : Event) (new : Core) : Type 0 where
   pub added : Entry
   pub entries : new.entries ≡ old.entries ++ added ∷ []
   pub of_turn : turn_of added ≡ turn
-  pub event_of : IsEventOf added event
+  pub told : IsToldBy (memory_of old.limits old.entries) added
+  pub event_of : IsEventOf (memory_of old.limits old.entries) added event
   pub same_limits : new.limits ≡ old.limits
 
 -- A run of the turns ends early: some of them were taken, and the next one was refused, or memory was.
 pub record Stops (limits : Limits) (turns : List Turn) (error : RunError) : Type 0 where
   pub entries : List Entry
   pub taken : map turn_of entries ≡ take (length entries) turns
-  pub why : (error ≡ Memory (length entries)) ⊎ ((next : Turn) × (slice_get turns (length entries) ≡ Some next) × ((room : ℕ) → refusal_of (record { limits = limits; entries = entries; room = room }) next ≡ Some error))
+  pub why : (error ≡ OutOfMemory (length entries)) ⊎ ((next : Turn) × (slice_get turns (length entries) ≡ Some next) × ((room : ℕ) → refusal_of (record { limits = limits; entries = entries; room = room }) next ≡ Some error))

@@ -1,10 +1,11 @@
 //! One actor of a core.
-ghost use Rattle.std.specs.Prelude.{◌≡◌, ◌<◌, [], Some, None, is_some, true};
+ghost use Rattle.std.specs.Prelude.{◌≡◌, ◌<◌, ℕ, Bool, [], Some, None, is_some, true};
 ghost use Rattle.step_core.specs.Actors.{IsActor, IsRunning, command_left, running_command};
 ghost use Rattle.step_core.specs.Cells.{AreSound};
 ghost use Rattle.step_core.specs.CellLinks.{link_in, step_event};
 ghost use Rattle.step_core.specs.CellSteps.{IsWithin, Takes};
 ghost use Rattle.step_core.specs.Hands.{IsHand};
+ghost use Rattle.step_core.specs.Placed.{ActorKnows, Asks, Knows, Shows};
 
 use crate::copies::{copied_answer, copied_reply, copied_step};
 use crate::event::Event;
@@ -61,6 +62,7 @@ impl Actor {
         requires idle { running_command self.old ≡ None }
         ensures sound { IsActor limits.now self.new }
         ensures command { running_command self.new ≡ Some command }
+        ensures knows { (placed : ℕ → Bool) → ActorKnows placed self.new }
     {
         let mut op = Op::begin(command, actor, limits);
         match op.next(&mut self.hand, Answer::Start) {
@@ -80,6 +82,8 @@ impl Actor {
         ensures within { IsWithin limits.now result.step }
         ensures takes { Takes actor memory.old result.step result.answer memory.new }
         ensures command { running_command self.new ≡ command_left result.reply (running_command self.old) }
+        ensures asks { (placed : ℕ → Bool) → ActorKnows placed self.old → Asks placed result.step }
+        ensures knows { (placed : ℕ → Bool) → ActorKnows placed self.old → Shows placed result.step result.answer → ActorKnows placed self.new }
     {
         let stepped = match &mut self.running {
             Some(running) => running.step(actor, limits, &mut self.hand, memory),
@@ -116,6 +120,8 @@ impl Running {
         ensures within { IsWithin limits.now result.step }
         ensures takes { Takes actor memory.old result.step result.answer memory.new }
         ensures command { self.new.op.command ≡ self.old.op.command }
+        ensures asks { (placed : ℕ → Bool) → Knows placed self.old.op.state → Asks placed result.step }
+        ensures knows { (placed : ℕ → Bool) → Knows placed self.old.op.state → Shows placed result.step result.answer → Knows placed self.new.op.state }
     {
         let wanted = mem::replace(&mut self.wanted, Step::Leave);
         let step = copied_step(&wanted);

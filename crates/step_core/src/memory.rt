@@ -1,8 +1,11 @@
 //! The memory that all actors share, with typed records.
 ghost use Rattle.std.specs.Prelude.{◌≡◌, ◌<◌, ◌*◌, length, IfOk, slice_get, slice_index, option_copied};
+ghost use Rattle.deltas.specs.Memory.{opening};
+ghost use Rattle.op_machine.specs.Links.{link_without};
 ghost use Rattle.step_core.specs.Cells.{AreSound, is_free, without};
 ghost use Rattle.step_core.specs.CellSteps.{IsWithin, IsAnswerWithin, Takes};
-ghost use Rattle.step_core.specs.CellLinks.{emptied_link, exchange_link, link_in};
+ghost use Rattle.step_core.specs.Represents.{Represents};
+ghost use Rattle.step_core.specs.CellLinks.{exchange_link, link_in};
 
 use base_page::Page;
 use bw_model::{Answer, Limits, Link, Step};
@@ -33,6 +36,7 @@ impl Memory {
     /// The memory before the first step: page 1 is the root, and an empty leaf.
     pub(crate) fn open(alloc: Global, limits: &Limits) -> Result<Memory, AllocError>
         ensures sound { IfOk result (AreSound limits.now) }
+        ensures opening { IfOk result (λ cells. Represents limits.now cells (opening limits.now)) }
     {
         let mut slots = vec![in alloc; 0; limits.pids as usize]?;
         slots[0] = 1;
@@ -169,7 +173,7 @@ fn take_bit(words: &mut Vec<u64>, number: u16) -> bool
 
 /// What it did to empty a slot whose newest record was this one.
 fn emptied(newest: &Record) -> Link
-    ensures { result ≡ emptied_link newest.now }
+    ensures { result ≡ link_without newest.now }
 {
     match newest {
         Record::Remove(_) => Link::Clear,

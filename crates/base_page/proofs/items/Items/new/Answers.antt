@@ -1,4 +1,4 @@
-use Rattle.std.proofs.Common.{rules, ◌≡◌, lit≤}
+use Rattle.std.proofs.Common.{lit≤}
 use Rattle.std.specs.List.Sorted.{IsStrictlySortedBy}
 use Rattle.base_page.proofs.items.Items.new.Goals as goal
 

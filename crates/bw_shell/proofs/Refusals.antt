@@ -1,0 +1,40 @@
+-- Why a turn is refused, by the core and by the transcript.
+use Rattle.std.proofs.Common.{◌≡◌, ℕ, List, length, refl, sym, ap, ◌∙◌, ◌⊎◌, inl, inr, Option, Some, None, Result, Ok, Err, Bool, true, false, cond, nat_lt, is_some, option_map}
+use Rattle.chain_search.specs.declared.trace.Turn.{Turn}
+use Rattle.chain_search.specs.declared.trace.Turn.TheVariants.{Begin, Step}
+use Rattle.chain_search.specs.Trace.{command_of}
+use Rattle.bw_model.specs.declared.command.Command.{Command}
+use Rattle.step_core.specs.Turns.{Core}
+use Rattle.step_core.specs.Turns.{refusal_of as core_refusal_of, refused_by}
+use Rattle.step_core.specs.declared.event.RunError.{RunError}
+use Rattle.step_core.specs.declared.event.RunError.TheVariants.{NoActor, Unfinished, NoOperation, Memory}
+use Rattle.step_core.specs.declared.event.Event.{Event}
+use Rattle.bw_shell.specs.Turns.{seen, code_of, refusal_of, Refuses}
+
+begin_is : (n actor : ℕ) (command : Command) (b c : Bool) → cond b (cond c (Some 5) None) (Some 4) ≡ option_map code_of (refused_by n (Begin actor command) (cond b (Some c) None))
+begin_is n actor command true true = refl
+begin_is n actor command true false = refl
+begin_is n actor command false c = refl
+
+step_is : (n actor : ℕ) (b c : Bool) → cond b (cond c None (Some 6)) (Some 4) ≡ option_map code_of (refused_by n (Step actor) (cond b (Some c) None))
+step_is n actor true true = refl
+step_is n actor true false = refl
+step_is n actor false c = refl
+
+-- both look for the same
+pub refusal_is : (core : Core) (turn : Turn) → refusal_of (seen core) turn ≡ option_map code_of (core_refusal_of core turn)
+refusal_is core (Begin actor command) = begin_is (length core.entries) actor command (nat_lt actor core.limits.actors) (is_some (command_of core.entries actor))
+refusal_is core (Step actor) = step_is (length core.entries) actor (nat_lt actor core.limits.actors) (is_some (command_of core.entries actor))
+
+pub refused_turn : (core : Core) (turn : Turn) (error : RunError)
+    → ((e : RunError) → core_refusal_of core turn ≡ Some e → (let found : Result Event RunError = Err error in let wanted : Result Event RunError = Err e in found ≡ wanted))
+    → (core_refusal_of core turn ≡ None → error ≡ Memory (length core.entries))
+    → Refuses (seen core) turn (code_of error)
+refused_turn core turn error refused memory = at (core_refusal_of core turn) refl
+  where
+    err_is : (e : RunError) → (let found : Result Event RunError = Err error in let wanted : Result Event RunError = Err e in found ≡ wanted) → error ≡ e
+    err_is e h = cc h
+
+    at : (o : Option RunError) → core_refusal_of core turn ≡ o → Refuses (seen core) turn (code_of error)
+    at None is = inr (refusal_is core turn ∙ ap (option_map code_of) is, ap code_of (memory is))
+    at (Some e) is = inl (refusal_is core turn ∙ ap (option_map code_of) is ∙ ap (λ x. Some (code_of x)) (sym (err_is e (refused e is))))

@@ -1,0 +1,126 @@
+-- Laws of writing one text behind another.
+use Rattle.std.proofs.Common.{◌≡◌, ℕ, ◌≤◌, ◌+◌, ◌<◌, get_or, List, [], ◌∷◌, ◌++◌, length, take, drop, refl, sym, ap, ◌∙◌, arith, length-append, Bool, true, false, not, Option, Some, None, subst, Result, Ok, Err, is_ok, OnErr}
+use Rattle.std.proofs.lemmas.List.{append_assoc, append-nil, take-append-drop, take_more}
+use Rattle.std.proofs.lemmas.Grind.{flat_map-append}
+use Rattle.std.specs.List.{flat_map}
+use Rattle.std.specs.Io.KnownBytes.{Appends, Keeps}
+use Rattle.bw_shell.specs.Output.{Sink, Puts, Shows, Writes}
+
+pub appends_nothing : (a : Option (List ℕ)) → Appends a a []
+appends_nothing None = tt
+appends_nothing (Some xs) = sym (append-nil xs)
+
+pub appends_then : (a b c : Option (List ℕ)) (x y : List ℕ) → Appends a b x → Appends b c y → Appends a c (x ++ y)
+appends_then None b c x y p q = tt
+appends_then (Some xs) None c x y p q = absurd p
+appends_then (Some xs) (Some ys) None x y p q = absurd q
+appends_then (Some xs) (Some ys) (Some zs) x y p q = q ∙ ap (λ (l : List ℕ). l ++ y) p ∙ append_assoc xs x y
+
+pub appends_kept : (a b c : Option (List ℕ)) (x : List ℕ) → Appends a b x → Keeps b c → Appends a c x
+appends_kept None b c x p q = tt
+appends_kept (Some xs) None c x p q = absurd p
+appends_kept (Some xs) (Some ys) None x p q = absurd q
+appends_kept (Some xs) (Some ys) (Some zs) x p q = q ∙ p
+
+-- ---- all bytes to the writer
+
+-- of these bytes the rest is still to be written
+abbrev pub SoFar : Option (List ℕ) → Option (List ℕ) → List ℕ → List ℕ → Type 0
+SoFar old new bytes rest = (written : List ℕ) × (bytes ≡ written ++ rest) × Appends old new written
+
+pub so_far_none : (a : Option (List ℕ)) (bytes : List ℕ) → SoFar a a bytes bytes
+so_far_none a bytes = ([], refl, appends_nothing a)
+
+pub so_far_more : (a b c : Option (List ℕ)) (bytes rest : List ℕ) (n : ℕ) → SoFar a b bytes rest → Appends b c (take n rest) → SoFar a c bytes (drop n rest)
+so_far_more a b c bytes rest n s p = (
+  s.0 ++ take n rest,
+  s.1 ∙ ap (λ (l : List ℕ). s.0 ++ l) (sym (take-append-drop n rest)) ∙ sym (append_assoc s.0 (take n rest) (drop n rest)),
+  appends_then a b c s.0 (take n rest) s.2 p,
+)
+
+pub wrote_all : (a b : Option (List ℕ)) (bytes rest : List ℕ) → SoFar a b bytes rest → length rest ≡ 0 → Writes a b bytes true
+wrote_all a b bytes [] s none = record { written = s.0; rest = []; splits = s.1; appends = s.2; all = λ _. s.1 ∙ append-nil s.0 }
+wrote_all a b bytes (x ∷ xs) s none = absurd (omega arith)
+
+pub wrote_part : (a b c : Option (List ℕ)) (bytes rest : List ℕ) → SoFar a b bytes rest → Keeps b c → Writes a c bytes false
+wrote_part a b c bytes rest s kept =
+    record { written = s.0; rest = rest; splits = s.1; appends = appends_kept a b c s.0 s.2 kept; all = λ e. cc e }
+
+-- ---- one text behind another
+
+pub no_text : (a : Sink) → Shows a a []
+no_text a = record {
+  puts = λ _. record { written = []; rest = a.held; splits = append-nil a.held; appends = appends_nothing a.contents; all = λ _. refl };
+  stays = λ e. (refl, e);
+}
+
+pub puts_then : (a b c : Sink) (t u : List ℕ) (w : Bool) → Puts a b t true → Puts b c u w → Puts a c (t ++ u) w
+puts_then a b c t u w p q =
+    let held : p.rest ≡ b.held = p.all refl in
+    record {
+      written = p.written ++ q.written;
+      rest = q.rest;
+      splits =
+          sym (append_assoc a.held t u) ∙ ap (λ (l : List ℕ). l ++ u) p.splits ∙ append_assoc p.written p.rest u
+          ∙ ap (λ (l : List ℕ). p.written ++ (l ++ u)) held ∙ ap (λ (l : List ℕ). p.written ++ l) q.splits
+          ∙ sym (append_assoc p.written q.written q.rest);
+      appends = appends_then a.contents b.contents c.contents p.written q.written p.appends q.appends;
+      all = q.all;
+    }
+
+-- what follows an unfinished text isn't written
+pub puts_short : (a b c : Sink) (t u : List ℕ) → Puts a b t false → c.contents ≡ b.contents → Puts a c (t ++ u) false
+puts_short a b c t u p same = record {
+  written = p.written;
+  rest = p.rest ++ u;
+  splits = sym (append_assoc a.held t u) ∙ ap (λ (l : List ℕ). l ++ u) p.splits ∙ append_assoc p.written p.rest u;
+  appends = subst (λ (x : Option (List ℕ)). Appends a.contents x p.written) (sym same) p.appends;
+  all = λ e. cc e;
+}
+
+shows_at : (a b c : Sink) (t u : List ℕ) (f g : Bool) → b.failed ≡ f → c.failed ≡ g → Shows a b t → Shows b c u → Shows a c (t ++ u)
+shows_at a b c t u true g is_f is_g p q =
+    let end = q.stays is_f in record {
+      puts = λ e. subst (λ (f : Bool). Puts a c (t ++ u) (not f)) (sym end.1) (puts_short a b c t u (subst (λ (f : Bool). Puts a b t (not f)) is_f (p.puts e)) end.0);
+      stays = λ e. (end.0 ∙ (p.stays e).0, end.1);
+    }
+shows_at a b c t u false g is_f is_g p q = record {
+  puts = λ e. puts_then a b c t u (not c.failed) (subst (λ (f : Bool). Puts a b t (not f)) is_f (p.puts e)) (q.puts is_f);
+  stays = λ e. cc (sym is_f ∙ (p.stays e).1);
+}
+
+pub shows_then : {a b c : Sink} {t u : List ℕ} → Shows a b t → Shows b c u → Shows a c (t ++ u)
+shows_then {a} {b} {c} {t} {u} p q = shows_at a b c t u b.failed c.failed refl refl p q
+
+-- ---- pieces that don't fit
+
+pub err_holds : {A E : Type 0} (r : Result A E) (P : Type 0) → is_ok r ≡ false → OnErr r P → P
+err_holds (Ok x) P e h = cc e
+err_holds (Err x) P e h = h
+
+-- what was held back is written, and then the bytes, as far as that goes
+pub passed_on : (a b : Sink) (mid : Option (List ℕ)) (bytes : List ℕ) (whole : Bool) → Writes a.contents mid a.held true → Writes mid b.contents bytes whole
+    → a.failed ≡ false → b.held ≡ [] → b.failed ≡ not whole → Shows a b bytes
+passed_on a b mid bytes whole p q sound none is_failed = record {
+  puts = λ _. record {
+    written = a.held ++ q.written;
+    rest = q.rest;
+    splits = ap (λ (l : List ℕ). a.held ++ l) q.splits ∙ sym (append_assoc a.held q.written q.rest);
+    appends = appends_then a.contents mid b.contents a.held q.written (subst (λ (l : List ℕ). Appends a.contents mid l) (sym (p.all refl)) p.appends) q.appends;
+    all = λ e. nothing_left q.written q.rest (q.all (sym (not_not whole) ∙ ap not (sym is_failed) ∙ e)) q.splits ∙ sym none;
+  };
+  stays = λ e. cc (sym sound ∙ e);
+}
+  where
+    not_not : (w : Bool) → not (not w) ≡ w
+    not_not true = refl
+    not_not false = refl
+
+    nothing_left : (w r : List ℕ) → bytes ≡ w → bytes ≡ w ++ r → r ≡ []
+    nothing_left w [] e s = refl
+    nothing_left w (x ∷ xs) e s = let len = ap length (sym e ∙ s) in let sum = length-append w (x ∷ xs) in absurd (omega (arith, len, sum))
+
+pub flat_more : {A : Type 0} (f : A → List ℕ) (xs : List A) (i : ℕ) (x : A) → i < length xs → x ≡ get_or xs i x
+    → flat_map f (take (i + 1) xs) ≡ flat_map f (take i xs) ++ f x
+flat_more f xs i x h is =
+    rw (take_more xs i x h, flat_map-append f (take i xs) (get_or xs i x ∷ []), sym is, append-nil) refl

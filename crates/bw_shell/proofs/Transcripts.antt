@@ -1,0 +1,65 @@
+-- Laws of transcripts.
+use Rattle.std.proofs.Common.{◌≡◌, ℕ, suc, ◌+◌, ◌<◌, ◌≤◌, List, [], ◌∷◌, ◌++◌, length, refl, sym, ap, ◌∙◌, arith, add-one, ◌⊎◌, inl, inr, Bool, true, false, Option, Some, None}
+use Rattle.std.proofs.lemmas.List.{append_assoc, append-nil}
+use Rattle.bw_shell.specs.Turns.{Trace, Takes, Refuses}
+use Rattle.chain_search.specs.declared.trace.Turn.TheVariants.{Begin as BeginTurn, Step}
+use Rattle.bw_shell.specs.Request.{Says, IsShort}
+use Rattle.bw_shell.specs.declared.request.Request.{Request}
+use Rattle.bw_shell.specs.Text.{refused_text}
+use Rattle.bw_shell.specs.Transcript.{StepsOn, Performs, RefusesLine, Transcript, RequestTold}
+
+pub no_steps : (m : Trace) (actor : ℕ) → StepsOn m actor 0 m
+unfolding StepsOn
+no_steps m actor = refl
+
+pub steps_more : (m : Trace) (actor n : ℕ) (mid after : Trace) → StepsOn m actor n mid → Takes mid (Step actor) None after → StepsOn m actor (n + 1) after
+unfolding StepsOn
+steps_more m actor n mid after s t = rw (add-one n) (mid, s, t)
+
+-- ---- one line
+
+pub skipped : (n : ℕ) (m : Trace) (line : List ℕ) → length line ≡ 0 → Transcript n m (line ∷ []) m [] false
+unfolding Transcript
+skipped n m [] h = (refl, refl, refl)
+skipped n m (b ∷ bs) h = absurd (omega arith)
+
+pub performed : (n : ℕ) (m : Trace) (line : List ℕ) (request : Request) (after : Trace) (text : List ℕ) → 0 < length line
+    → Says line request → IsShort request → Performs m request after text → Transcript n m (line ∷ []) after text false
+unfolding Transcript
+performed n m [] request after text some says short p = absurd (omega arith)
+performed n m (b ∷ bs) request after text some says short p = inl (request, after, text, [], says, short, p, (refl, refl, refl), sym (append-nil text))
+
+pub refused : (n : ℕ) (m : Trace) (line : List ℕ) (code : ℕ) (after : Trace) → 0 < length line
+    → RefusesLine m line code after → Transcript n m (line ∷ []) after (refused_text n code) true
+unfolding Transcript
+refused n m [] code after some r = absurd (omega arith)
+refused n m (b ∷ bs) code after some r = inr (code, r, refl, refl)
+
+pub asked : (n : ℕ) (m : Trace) (line : List ℕ) (request : Request) (after : Trace) (text : List ℕ) (no : Bool) → 0 < length line
+    → Says line request → IsShort request → RequestTold n m request after text no → Transcript n m (line ∷ []) after text no
+asked n m line request after text false some says short told = performed n m line request after text some says short told
+asked n m line request after text true some says short told =
+    rw told.2 (refused n m line told.0 after some (inr (inr (request, says, short, told.1))))
+
+-- ---- lines behind lines
+
+pub transcript_then : (n : ℕ) (a : Trace) (ls : List (List ℕ)) (b : Trace) (t : List ℕ) (k : ℕ) (ms : List (List ℕ)) (c : Trace) (u : List ℕ) (r : Bool)
+    → Transcript n a ls b t false → k ≡ n + length ls → Transcript k b ms c u r → Transcript n a (ls ++ ms) c (t ++ u) r
+unfolding Transcript
+transcript_then n a [] b t k ms c u r first at second =
+    let same : k ≡ n = omega arith in
+    rw (first.1, sym first.0, sym same) second
+transcript_then n a ([] ∷ ls) b t k ms c u r first at second = transcript_then (n + 1) a ls b t k ms c u r first (omega arith) second
+transcript_then n a ((x ∷ xs) ∷ ls) b t k ms c u r (inl p) at second =
+    inl (
+      p.0,
+      p.1,
+      p.2,
+      p.3 ++ u,
+      p.4,
+      p.5,
+      p.6,
+      transcript_then (n + 1) p.1 ls b p.3 k ms c u r p.7 (omega arith) second,
+      ap (λ (l : List ℕ). l ++ u) p.8 ∙ append_assoc p.2 p.3 u,
+    )
+transcript_then n a ((x ∷ xs) ∷ ls) b t k ms c u r (inr p) at second = cc p.3

@@ -1,0 +1,90 @@
+-- Laws of whole runs.
+use Rattle.std.proofs.Common.{◌≡◌, ℕ, List, [], ◌∷◌, ◌++◌, length, refl, sym, ap, ◌∙◌, arith, ◌⊎◌, inl, inr, Bool, true, false, not, ◌||◌, Option, Some, None, append_assoc, Result, Ok, Err, MatchResult, MatchBool, ◌↔◌}
+use Rattle.std.specs.Io.KnownBytes.{Consumes, Keeps, Appends}
+use Rattle.bw_shell.specs.Turns.{Trace, opening}
+use Rattle.bw_model.specs.declared.limits.Limits.{Limits}
+use Rattle.std.proofs.lemmas.List.{append-nil}
+use Rattle.bw_shell.specs.Output.{Sink, Puts, Shows, Writes}
+use Rattle.bw_shell.specs.Weave.{IsTranscriptFrom, HasRun, IsWoven}
+use Rattle.bw_shell.proofs.Showing.{shows_then}
+
+pub consumes_none : (a : Option (List ℕ)) → Consumes a a []
+consumes_none None = tt
+consumes_none (Some xs) = refl
+
+pub consumes_then : (a b c : Option (List ℕ)) (x y : List ℕ) → Consumes a b x → Consumes b c y → Consumes a c (x ++ y)
+consumes_then None b c x y p q = tt
+consumes_then (Some xs) None c x y p q = absurd p
+consumes_then (Some xs) (Some ys) None x y p q = absurd q
+consumes_then (Some xs) (Some ys) (Some zs) x y p q = p ∙ ap (λ (l : List ℕ). x ++ l) q ∙ sym (append_assoc x y zs)
+
+pub consumes_kept : (a b c : Option (List ℕ)) (x : List ℕ) → Consumes a b x → Keeps b c → Consumes a c x
+consumes_kept None b c x p q = tt
+consumes_kept (Some xs) None c x p q = absurd p
+consumes_kept (Some xs) (Some ys) None x p q = absurd q
+consumes_kept (Some xs) (Some ys) (Some zs) x p q = p ∙ ap (λ (l : List ℕ). x ++ l) (sym q)
+
+pub keeps_same : (a : Option (List ℕ)) → Keeps a a
+keeps_same None = tt
+keeps_same (Some xs) = refl
+
+-- a writer that fails later fails too
+pub later_cut : (m : Trace) (left : Option (List ℕ)) (taken : List ℕ) (failed : Bool) (after : Trace) (text : List ℕ) (r cut cut' : Bool)
+    → (cut ≡ true → cut' ≡ true) → IsTranscriptFrom m left taken failed after text r cut → IsTranscriptFrom m left taken failed after text r cut'
+later_cut m left taken failed after text r cut cut' more (inl p) = inl p
+later_cut m left taken failed after text r cut cut' more (inr (inl p)) = inr (inl p)
+later_cut m left taken failed after text r cut cut' more (inr (inr p)) =
+    inr (inr (p.0, elim p.1 [ inl a ↦ inl a | inr b ↦ inr (more b) ], p.2))
+
+pub not_more : (f g : Bool) → (f ≡ true → g ≡ true) → not g ≡ true → not f ≡ true
+not_more false g more h = refl
+not_more true true more h = cc h
+not_more true false more h = cc (more refl)
+
+pub no_items : (xs : List ℕ) → length xs ≡ 0 → xs ≡ []
+no_items [] h = refl
+no_items (x ∷ xs) h = absurd (omega arith)
+
+-- what the status says: 1 where something is wrong, 0 where nothing is
+pub one_else : (status : ℕ) (P : Type 0) → status ≡ 1 → (P → ⊥) → (status ≡ 0) ↔ P
+one_else status P one no_p = (λ e. absurd (omega arith), λ p. absurd (no_p p))
+
+pub zero_then : (status : ℕ) (P : Type 0) → status ≡ 0 → P → (status ≡ 0) ↔ P
+zero_then status P zero_is p = (λ e. p, λ q. zero_is)
+
+-- all of a text that began with nothing held back, and has ended so
+pub writes_whole : (a b : Sink) (t : List ℕ) → Shows a b (t ++ []) → a.failed ≡ false → a.held ≡ [] → (b.failed ≡ false → b.held ≡ [])
+    → Writes a.contents b.contents t (not b.failed)
+writes_whole a b t s sound fresh ends = at b.failed refl
+  where
+    p : Puts a b (t ++ []) (not b.failed)
+    p = s.puts sound
+
+    splits : t ≡ p.written ++ p.rest
+    splits = sym (append-nil t) ∙ sym (ap (λ (l : List ℕ). l ++ (t ++ [])) fresh) ∙ p.splits
+
+    at : (f : Bool) → b.failed ≡ f → Writes a.contents b.contents t (not b.failed)
+    at true e = record { written = p.written; rest = p.rest; splits = splits; appends = p.appends; all = λ h. cc (sym (ap not e) ∙ h) }
+    at false e = record {
+      written = p.written;
+      rest = p.rest;
+      splits = splits;
+      appends = p.appends;
+      all = λ h. splits ∙ ap (λ (l : List ℕ). p.written ++ l) (p.all h ∙ ends e) ∙ append-nil p.written;
+    }
+
+pub is_woven : (limits : Limits) (in_old in_new : Option (List ℕ)) (rf : Bool) (a b c : Sink) (after : Trace) (refused : Bool) (status : ℕ)
+    → HasRun (opening limits) in_old in_new rf a b after refused → Shows b c [] → a.failed ≡ false → a.held ≡ [] → (c.failed ≡ false → c.held ≡ [])
+    → (status ≡ 0) ↔ ((rf ≡ false) × (c.failed ≡ false) × (refused ≡ false)) → (status ≡ 0) ⊎ (status ≡ 1)
+    → IsWoven limits in_old in_new rf a.contents c.contents c.failed status
+is_woven limits in_old in_new rf a b c after refused status h last sound fresh ends is either = record {
+  taken = h.taken;
+  after = after;
+  text = h.text;
+  refused = refused;
+  reads = h.reads;
+  says = inr (later_cut (opening limits) in_new h.taken rf after h.text refused b.failed c.failed (λ e. (last.stays e).1) h.says);
+  writes = writes_whole a c h.text (shows_then h.shows last) sound fresh ends;
+  status_is = is;
+  status_else = either;
+}

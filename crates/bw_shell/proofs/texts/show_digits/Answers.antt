@@ -1,0 +1,5 @@
+use Rattle.bw_shell.proofs.Showing.{shows_then}
+use Rattle.bw_shell.proofs.texts.show_digits.Goals as goal
+
+pub returns : goal.returns
+returns g c = rw (← c.in-Ok.ensures.written) (shows_then c.show.ensures c.show-in-Ok.ensures)

@@ -1,0 +1,8 @@
+use Rattle.bw_shell.specs.Text.{pair_text}
+use Rattle.bw_shell.proofs.Showing.{shows_then, flat_more}
+use Rattle.bw_shell.proofs.texts.show_pairs.Goals as goal
+
+pub loop-pair-preserved : goal.loop-pair-preserved
+loop-pair-preserved g c =
+    rw (flat_more pair_text c.args.pairs.now c.loop-pair.pair-index c.pair-item.result c.loop-pair-test.true c.pair-item.is)
+    (shows_then c.loop-pair.invariant c.show_pair.ensures)

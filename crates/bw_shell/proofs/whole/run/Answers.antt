@@ -1,0 +1,94 @@
+use Rattle.std.proofs.Common.{◌≡◌, ◌<◌, ◌≤◌, ◌+◌, [], ◌++◌, length, refl, sym, ap, ◌∙◌, arith, inl, inr, false, take}
+use Rattle.std.proofs.lemmas.Bool.{eqb-true, eqb-false}
+use Rattle.std.proofs.lemmas.List.{append-nil}
+use Rattle.bw_shell.proofs.Showing.{no_text, shows_then}
+use Rattle.bw_shell.proofs.Feeding.{no_bytes, weaves_then, weaves_stops, end_whole, end_part, match_true_at, match_false_at}
+use Rattle.bw_shell.proofs.Weaving.{consumes_none, consumes_then, no_items}
+use Rattle.bw_shell.proofs.whole.run.Goals as goal
+
+pub reads-init : goal.reads-init
+reads-init g c = record {
+  woven = ([], [], consumes_none _, rw (c.requires.first, c.requires.empty) (no_bytes 1 _ [] tt), no_text _);
+  sound_in = c.requires.sound_in;
+  sound_out = c.requires.sound_out;
+  short = omega (arith, ap length c.requires.empty);
+  count = omega arith;
+}
+
+pub returns-then-feed : goal.returns-then-feed
+returns-then-feed g c =
+    let inv = c.reads.invariant in
+    let fed = c.feed.ensures.fed in
+    let stops = rw c.if-feed.true at fed.2 in
+    record {
+      taken = inv.woven.0 ++ c.split_at.result.0.now;
+      text = inv.woven.1 ++ fed.0;
+      reads = consumes_then _ _ _ _ _ inv.woven.2 (rw c.split_at.ensures.front c.in-Ok.ensures.bytes.0);
+      says = inr (inr (c.in-Ok.ensures.fails ∙ inv.sound_in, inl refl, weaves_stops _ _ _ _ _ _ _ _ _ _ _ _ inv.woven.3 stops));
+      shows = shows_then inv.woven.4 fed.1;
+    }
+
+pub returns-then-has_failed : goal.returns-then-has_failed
+returns-then-has_failed g c =
+    let inv = c.reads.invariant in
+    let fed = c.feed.ensures.fed in
+    let failed = sym c.has_failed.ensures ∙ c.if-has_failed.true in
+    let after = rw c.if-feed.false at fed.2 in
+    let stops = match_true_at _ _ _ failed after in
+    record {
+      taken = inv.woven.0 ++ c.split_at.result.0.now;
+      text = inv.woven.1 ++ fed.0;
+      reads = consumes_then _ _ _ _ _ inv.woven.2 (rw c.split_at.ensures.front c.in-Ok.ensures.bytes.0);
+      says = inr (inr (c.in-Ok.ensures.fails ∙ inv.sound_in, inr failed, weaves_stops _ _ _ _ _ _ _ _ _ _ _ _ inv.woven.3 stops));
+      shows = shows_then inv.woven.4 fed.1;
+    }
+
+pub reads-preserved : goal.reads-preserved
+reads-preserved g c =
+    let inv = c.reads.invariant in
+    let fed = c.feed.ensures.fed in
+    let sound = sym c.has_failed.ensures ∙ c.if-has_failed.false in
+    let after = rw c.if-feed.false at fed.2 in
+    let more = match_false_at _ _ _ sound after in
+    record {
+      woven = (
+        inv.woven.0 ++ c.split_at.result.0.now,
+        inv.woven.1 ++ fed.0,
+        consumes_then _ _ _ _ _ inv.woven.2 (rw c.split_at.ensures.front c.in-Ok.ensures.bytes.0),
+        weaves_then _ _ _ _ _ _ _ _ _ _ _ _ _ inv.woven.3 more,
+        shows_then inv.woven.4 fed.1,
+      );
+      sound_in = c.in-Ok.ensures.fails ∙ inv.sound_in;
+      sound_out = sound;
+      short = c.feed.ensures.short c.if-feed.false;
+      count = omega (arith, c.feed.ensures.count, c.split_at.ensures.front_len, c.in-Ok.ensures.fewer, c.in-Ok.ensures.bound, inv.count);
+    }
+
+pub returns-then-is_empty : goal.returns-then-is_empty
+returns-then-is_empty g c =
+    let inv = c.reads.invariant in
+    let none = no_items _ (eqb-true _ _ (sym c.is_empty.ensures ∙ c.if-is_empty.true)) in
+    record {
+      taken = inv.woven.0;
+      text = inv.woven.1;
+      reads = rw append-nil at (consumes_then _ _ _ _ _ inv.woven.2 (rw c.if-n-eq0.true at c.in-Ok.ensures.bytes.0));
+      says = inl (c.in-Ok.ensures.fails ∙ inv.sound_in, c.in-Ok.ensures.bytes.1 c.if-n-eq0.true (omega arith), end_whole _ _ _ _ _ (rw none at inv.woven.3));
+      shows = inv.woven.4;
+    }
+
+pub returns : goal.returns
+returns g c =
+    let inv = c.reads.invariant in
+    let told = c.run_line.ensures in
+    let some : 0 < length c.reads.weaver.part.items = omega (arith, eqb-false _ _ (sym c.is_empty.ensures ∙ c.if-is_empty.false)) in
+    record {
+      taken = inv.woven.0;
+      text = inv.woven.1 ++ told.0;
+      reads = rw append-nil at (consumes_then _ _ _ _ _ inv.woven.2 (rw c.if-n-eq0.true at c.in-Ok.ensures.bytes.0));
+      says = inl (
+        c.in-Ok.ensures.fails ∙ inv.sound_in,
+        c.in-Ok.ensures.bytes.1 c.if-n-eq0.true (omega arith),
+        end_part _ _ _ _ _ _ _ _ _ inv.woven.3 some (rw c.as_slice.ensures.value at told.1),
+      );
+      shows = shows_then inv.woven.4 told.2;
+    }

@@ -1,0 +1,74 @@
+-- What fields ask for, as a function: the way of the code. `Asks` of Request is the grammar.
+use Rattle.std.specs.Prelude.{◌≡◌, ℕ, ◌≤◌, ◌&&◌, nat_le, if◌then◌else◌, List, [], ◌∷◌, length, codes, option_map, Option, Some, None, Result, Ok, Err}
+use Rattle.std.specs.Option.{option_and_then}
+use Rattle.std.specs.Str.{bytes_eq}
+use Rattle.bw_model.specs.declared.command.Command.{Command}
+use Rattle.bw_model.specs.declared.command.Command.TheVariants.{Get, Insert}
+use Rattle.bw_shell.specs.declared.request.Request.{Request}
+use Rattle.bw_shell.specs.declared.request.Request.TheVariants.{Begin, Turn, Finish, List as ListPairs}
+use Rattle.bw_shell.specs.declared.token.LineError.{LineError}
+use Rattle.bw_shell.specs.declared.token.LineError.TheVariants.{Malformed, TooLong}
+use Rattle.bw_shell.specs.Token.{token_value}
+use Rattle.bw_shell.specs.Number.{number_of, capped}
+use Rattle.bw_shell.specs.Request.{IsShort, IsShortCommand}
+
+unfoldable pub get_of : List (List ℕ) → Option Command
+get_of [] = None
+get_of (k ∷ []) = option_map Get (token_value k)
+get_of (k ∷ x ∷ rest) = None
+
+unfoldable pub insert_of : List (List ℕ) → Option Command
+insert_of [] = None
+insert_of (k ∷ []) = None
+insert_of (k ∷ v ∷ []) = option_and_then (λ key. option_map (Insert key) (token_value v)) (token_value k)
+insert_of (k ∷ v ∷ x ∷ rest) = None
+
+unfoldable pub command_of : List (List ℕ) → Option Command
+command_of [] = None
+command_of (verb ∷ args) = if bytes_eq verb (codes "get") then get_of args else if bytes_eq verb (codes "insert") then insert_of args else None
+
+-- an actor's number
+abbrev pub actor_of : List ℕ → Option ℕ
+actor_of text = option_map capped (number_of text)
+
+unfoldable pub begin_of : List (List ℕ) → Option Request
+begin_of [] = None
+begin_of (a ∷ rest) = option_and_then (λ actor. option_map (Begin actor) (command_of rest)) (actor_of a)
+
+abbrev pub turn_by : ℕ → ℕ → Option Request
+turn_by actor count = if nat_le 1 count && nat_le count 100000 then Some (Turn actor count) else None
+
+unfoldable pub turn_of : List (List ℕ) → Option Request
+turn_of [] = None
+turn_of (a ∷ []) = None
+turn_of (a ∷ n ∷ []) = option_and_then (λ actor. option_and_then (turn_by actor) (actor_of n)) (actor_of a)
+turn_of (a ∷ n ∷ x ∷ rest) = None
+
+unfoldable pub finish_of : List (List ℕ) → Option Request
+finish_of [] = None
+finish_of (a ∷ []) = option_map Finish (actor_of a)
+finish_of (a ∷ x ∷ rest) = None
+
+unfoldable pub list_of : List (List ℕ) → Option Request
+list_of [] = Some ListPairs
+list_of (x ∷ rest) = None
+
+unfoldable pub asked : List (List ℕ) → Option Request
+asked [] = None
+asked (verb ∷ args) =
+    if bytes_eq verb (codes "begin") then begin_of args
+    else if bytes_eq verb (codes "turn") then turn_of args
+    else if bytes_eq verb (codes "finish") then finish_of args
+    else if bytes_eq verb (codes "list") then list_of args
+    else None
+
+-- what is answered, given what the fields request for
+abbrev pub GivesCommand : Result Command LineError → Option Command → Type 0
+GivesCommand (Ok command) found = (found ≡ Some command) × IsShortCommand command
+GivesCommand (Err Malformed) found = found ≡ None
+GivesCommand (Err TooLong) found = (command : Command) × (found ≡ Some command) × (IsShortCommand command → ⊥)
+
+abbrev pub GivesRequest : Result Request LineError → Option Request → Type 0
+GivesRequest (Ok request) found = (found ≡ Some request) × IsShort request
+GivesRequest (Err Malformed) found = found ≡ None
+GivesRequest (Err TooLong) found = (request : Request) × (found ≡ Some request) × (IsShort request → ⊥)

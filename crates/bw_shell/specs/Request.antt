@@ -1,0 +1,43 @@
+-- What a line asks for.
+use Rattle.std.specs.Prelude.{◌≡◌, ℕ, ◌≤◌, ◌<◌, ◌&&◌, nat_le, Bool, true, if◌then◌else◌, List, [], ◌∷◌, length, codes, Option, Some, None, Result, Ok, Err}
+use Rattle.std.specs.Str.{bytes_eq}
+use Rattle.bw_model.specs.declared.command.Command.{Command}
+use Rattle.bw_model.specs.declared.command.Command.TheVariants.{Get, Insert}
+use Rattle.bw_shell.specs.declared.request.Request.{Request}
+use Rattle.bw_shell.specs.declared.request.Request.TheVariants.{Begin, Turn, Finish, List as ListPairs}
+use Rattle.bw_shell.specs.declared.token.LineError.{LineError}
+use Rattle.bw_shell.specs.declared.token.LineError.TheVariants.{Malformed, TooLong}
+use Rattle.bw_shell.specs.Token.{Means, token_value}
+use Rattle.bw_shell.specs.Number.{number_of, capped}
+use Rattle.bw_shell.specs.Fields.{fields_of}
+
+-- the text is a number, and n stands for it
+abbrev pub IsNumber : List ℕ → ℕ → Type 0
+IsNumber text n = (m : ℕ) × (number_of text ≡ Some m) × (n ≡ capped m)
+
+-- the fields spell this command, its keys of any length
+abbrev pub SpellsCommand : List (List ℕ) → Command → Type 0
+SpellsCommand fields (Get key) = (k : List ℕ) × (fields ≡ codes "get" ∷ k ∷ []) × Means k key
+SpellsCommand fields (Insert key value) = (k : List ℕ) × (v : List ℕ) × (fields ≡ codes "insert" ∷ k ∷ v ∷ []) × Means k key × Means v value
+
+-- the fields request for this
+abbrev pub Asks : List (List ℕ) → Request → Type 0
+Asks fields (Begin actor command) = (a : List ℕ) × (rest : List (List ℕ)) × (fields ≡ codes "begin" ∷ a ∷ rest) × IsNumber a actor × SpellsCommand rest command
+Asks fields (Turn actor count) = (a : List ℕ) × (n : List ℕ) × (fields ≡ codes "turn" ∷ a ∷ n ∷ []) × IsNumber a actor × IsNumber n count × (1 ≤ count) × (count ≤ 100000)
+Asks fields (Finish actor) = (a : List ℕ) × (fields ≡ codes "finish" ∷ a ∷ []) × IsNumber a actor
+Asks fields ListPairs = fields ≡ codes "list" ∷ []
+
+-- the line is of the grammar, and asks for this
+abbrev pub Says : List ℕ → Request → Type 0
+Says line request = (length line ≤ 1024) × Asks (fields_of line) request
+
+-- no key or value is too long
+abbrev pub IsShortCommand : Command → Type 0
+IsShortCommand (Get key) = length key ≤ 32
+IsShortCommand (Insert key value) = (length key ≤ 32) × (length value ≤ 32)
+
+abbrev pub IsShort : Request → Type 0
+IsShort (Begin actor command) = IsShortCommand command
+IsShort (Turn actor count) = Unit {0}
+IsShort (Finish actor) = Unit {0}
+IsShort ListPairs = Unit {0}

@@ -1,0 +1,33 @@
+-- What is printed.
+use Rattle.std.specs.Prelude.{ℕ, List, [], ◌∷◌, ◌++◌, length, codes, decimal, Option, Some, None}
+use Rattle.std.specs.List.{flat_map}
+use Rattle.bw_model.specs.declared.command.Reply.{Reply}
+use Rattle.bw_model.specs.declared.command.Reply.TheVariants.{Value, None as NoValue, Inserted, Exists, Full}
+use Rattle.bw_shell.specs.Token.{printed}
+
+-- a reply, as it stands behind its actor
+abbrev pub reply_text : Reply → List ℕ
+reply_text (Value v) = codes " value " ++ printed v ++ codes "\n"
+reply_text NoValue = codes " none\n"
+reply_text Inserted = codes " inserted\n"
+reply_text (Exists v) = codes " exists " ++ printed v ++ codes "\n"
+reply_text Full = codes " full\n"
+
+-- what a `turn` prints
+abbrev pub turned_text : ℕ → Option Reply → List ℕ
+turned_text actor None = []
+turned_text actor (Some reply) = decimal actor ++ reply_text reply
+
+-- what a `finish` prints
+abbrev pub finished_text : ℕ → Option Reply → List ℕ
+finished_text actor None = decimal actor ++ codes " unfinished\n"
+finished_text actor (Some reply) = decimal actor ++ reply_text reply
+
+abbrev pub pair_text : List ℕ × List ℕ → List ℕ
+pair_text pair = printed pair.0 ++ codes " " ++ printed pair.1 ++ codes "\n"
+
+abbrev pub listing_text : List (List ℕ × List ℕ) → List ℕ
+listing_text pairs = codes "pairs " ++ decimal (length pairs) ++ codes "\n" ++ flat_map pair_text pairs
+
+abbrev pub refused_text : ℕ → ℕ → List ℕ
+refused_text number code = codes "refused line " ++ decimal number ++ codes ": " ++ decimal code ++ codes "\n"

@@ -1,0 +1,54 @@
+-- Turns of a core, as its trace shows them, and why a turn is refused.
+use Rattle.std.specs.Prelude.{◌≡◌, ℕ, ◌⊎◌, List, [], ◌∷◌, ◌++◌, nat_lt, is_some, if◌then◌else◌, Option, None, Some}
+use Rattle.bw_model.specs.declared.command.Reply.{Reply}
+use Rattle.bw_model.specs.declared.limits.Limits.{Limits}
+use Rattle.chain_search.specs.declared.trace.Entry.{Entry}
+use Rattle.chain_search.specs.declared.trace.Entry.TheVariants as entry
+use Rattle.chain_search.specs.declared.trace.Turn.{Turn}
+use Rattle.chain_search.specs.declared.trace.Turn.TheVariants.{Begin, Step}
+use Rattle.chain_search.specs.Trace.{command_of, turn_of}
+use Rattle.step_core.specs.Turns.{Core}
+use Rattle.step_core.specs.declared.event.RunError.{RunError}
+use Rattle.step_core.specs.declared.event.RunError.TheVariants.{NoActor, Unfinished, NoOperation, Memory}
+
+-- a core's limits, and what its turns did
+pub record Trace : Type 0 where
+  pub limits : Limits
+  pub entries : List Entry
+
+abbrev pub seen : Core → Trace
+seen core = record { limits = core.limits; entries = core.entries }
+
+abbrev pub opening : Limits → Trace
+opening limits = record { limits = limits; entries = [] }
+
+-- The code of a turn that the trace refuses: 4 where there is no such actor, 5 where an operation begins before the
+-- actor's last one is done, 6 where the actor has no operation that could take a step.
+abbrev pub refusal_of : Trace → Turn → Option ℕ
+refusal_of trace (Begin actor command) = if nat_lt actor trace.limits.actors then (if is_some (command_of trace.entries actor) then Some 5 else None) else Some 4
+refusal_of trace (Step actor) = if nat_lt actor trace.limits.actors then (if is_some (command_of trace.entries actor) then None else Some 6) else Some 4
+
+-- the number of a refusal
+abbrev pub code_of : RunError → ℕ
+code_of (NoActor n) = 4
+code_of (Unfinished n) = 5
+code_of (NoOperation n) = 6
+code_of (Memory n) = 7
+
+-- the reply at which an entry ends its operation
+abbrev pub reply_in : Entry → Option Reply
+reply_in (entry.Begin actor command) = None
+reply_in (entry.Step actor step answer reply) = reply
+
+-- The turn isn't refused, and adds its entry to the trace, with this reply where its operation is done.
+pub record Takes (before : Trace) (turn : Turn) (reply : Option Reply) (after : Trace) : Type 0 where
+  pub free : refusal_of before turn ≡ None
+  pub entry : Entry
+  pub of_turn : turn_of entry ≡ turn
+  pub replies : reply_in entry ≡ reply
+  pub adds : after.entries ≡ before.entries ++ entry ∷ []
+  pub limits : after.limits ≡ before.limits
+
+-- The turn is refused with this code: as the trace says, or 7 for want of memory.
+abbrev pub Refuses : Trace → Turn → ℕ → Type 0
+Refuses trace turn code = (refusal_of trace turn ≡ Some code) ⊎ ((refusal_of trace turn ≡ None) × (code ≡ 7))

@@ -1,0 +1,60 @@
+//! Lines out of pieces.
+
+ghost use Rattle.std.specs.Prelude.{◌≡◌, ◌+◌, ◌≤◌, ◌<◌, ◌^◌, length, false};
+ghost use Rattle.arrayvec.specs.ArrayVec.{array_vec_len};
+ghost use Rattle.bw_shell.specs.Lines.{HasNoFeed};
+ghost use Rattle.bw_shell.specs.Turns.{seen};
+ghost use Rattle.bw_shell.specs.Weave.{Feeds};
+
+use crate::run::run_line;
+use crate::streams::Output;
+use crate::texts::show_refused;
+use arrayvec::ArrayVec;
+use std::alloc::Global;
+use step_core::Core;
+
+/// A run: the core, the number of the line in hand, and what has come of it.
+#[derive(Drop)]
+pub struct Weaver {
+    pub core: Core,
+    pub number: u64,
+    pub part: ArrayVec<u8, 1025>,
+}
+
+/// Runs each line that ends among the bytes, and answers whether one was refused.
+pub fn feed<O: Output>(alloc: Global, weaver: &mut Weaver, bytes: &[u8], out: &mut O) -> bool
+    requires sound { (O.state out.old).failed ≡ false }
+    requires part { HasNoFeed weaver.old.part.items }
+    requires short { array_vec_len weaver.old.part ≤ 1024 }
+    requires count { weaver.old.number + length bytes.now < 2 ^ 64 }
+    ensures fed { Feeds weaver.old.number (seen weaver.old.core) weaver.old.part.items bytes.now
+        weaver.new.number (seen weaver.new.core) weaver.new.part.items (O.state out.old) (O.state out.new) result }
+    ensures short { result ≡ false → array_vec_len weaver.new.part ≤ 1024 }
+    ensures count { weaver.new.number ≤ weaver.old.number + length bytes.now }
+{
+    for b in bytes {
+        if *b == b'\n' {
+            if run_line(
+                alloc,
+                &mut weaver.core,
+                weaver.number,
+                weaver.part.as_slice(),
+                out,
+            ) {
+                return true;
+            }
+            if out.has_failed() {
+                return false;
+            }
+            weaver.number += 1;
+            weaver.part.clear();
+        } else {
+            weaver.part.push(*b);
+            if weaver.part.len() > 1024 {
+                show_refused(out, weaver.number, 11);
+                return true;
+            }
+        }
+    }
+    false
+}

@@ -1,0 +1,195 @@
+//! What a line asks for.
+
+ghost use Rattle.std.specs.Prelude.{◌≡◌, ◌<◌, ◌≤◌, ℕ, List, [], ◌∷◌, IfOk, IsErrOf, length};
+ghost use Rattle.std.specs.Option.{option_copied};
+ghost use Rattle.bw_shell.specs.Fields.{fields_in, fields_of};
+ghost use Rattle.bw_shell.specs.Request.{Says, IsShort};
+ghost use Rattle.bw_shell.specs.Reading.{GivesCommand, GivesRequest, get_of, insert_of, command_of, begin_of, turn_of, finish_of, list_of, asked};
+ghost use Rattle.bw_shell.specs.declared.request.Request.{Request as RequestSeen};
+
+use crate::fields::next_field;
+use crate::number::read_number;
+use crate::token::{LineError, key_of, value_of};
+use bw_model::Command;
+
+/// What a line asks for.
+#[derive(Drop)]
+pub enum Request {
+    Begin(u64, Command),
+    Turn(u64, u64),
+    Finish(u64),
+    List,
+}
+
+#[tactic(auto, unfolding(crate::specs::Reading::get_of))]
+fn read_get(args: Option<&[u8]>) -> Result<Command, LineError>
+    ensures { GivesCommand result (get_of (fields_in (option_copied args.entry))) }
+{
+    let Some((key, rest)) = next_field(args) else {
+        return Err(LineError::Malformed);
+    };
+    if next_field(rest).is_some() {
+        return Err(LineError::Malformed);
+    }
+    match key_of(key) {
+        Ok(key) => Ok(Command::Get(key)),
+        Err(error) => Err(error),
+    }
+}
+
+// A token outside the grammar comes before one that is too long.
+#[tactic(auto, unfolding(crate::specs::Reading::insert_of))]
+fn insert_by(key: &[u8], value: &[u8]) -> Result<Command, LineError>
+    ensures { GivesCommand result (insert_of (key.now ∷ value.now ∷ [])) }
+{
+    match key_of(key) {
+        Err(LineError::Malformed) => Err(LineError::Malformed),
+        Err(LineError::TooLong) => match value_of(value) {
+            Err(LineError::Malformed) => Err(LineError::Malformed),
+            Err(LineError::TooLong) => Err(LineError::TooLong),
+            Ok(_) => Err(LineError::TooLong),
+        },
+        Ok(key) => match value_of(value) {
+            Ok(value) => Ok(Command::Insert(key, value)),
+            Err(error) => Err(error),
+        },
+    }
+}
+
+#[tactic(auto, unfolding(crate::specs::Reading::insert_of))]
+fn read_insert(args: Option<&[u8]>) -> Result<Command, LineError>
+    ensures { GivesCommand result (insert_of (fields_in (option_copied args.entry))) }
+{
+    let Some((key, rest)) = next_field(args) else {
+        return Err(LineError::Malformed);
+    };
+    let Some((value, rest)) = next_field(rest) else {
+        return Err(LineError::Malformed);
+    };
+    if next_field(rest).is_some() {
+        return Err(LineError::Malformed);
+    }
+    insert_by(key, value)
+}
+
+#[tactic(auto, unfolding(crate::specs::Reading::command_of))]
+fn read_command(fields: Option<&[u8]>) -> Result<Command, LineError>
+    ensures { GivesCommand result (command_of (fields_in (option_copied fields.entry))) }
+{
+    let Some((verb, args)) = next_field(fields) else {
+        return Err(LineError::Malformed);
+    };
+    if verb == b"get".as_slice() {
+        return read_get(args);
+    }
+    if verb == b"insert".as_slice() {
+        return read_insert(args);
+    }
+    Err(LineError::Malformed)
+}
+
+#[tactic(auto, unfolding(crate::specs::Reading::begin_of))]
+fn read_begin(args: Option<&[u8]>) -> Result<Request, LineError>
+    ensures { GivesRequest result (begin_of (fields_in (option_copied args.entry))) }
+{
+    let Some((actor, rest)) = next_field(args) else {
+        return Err(LineError::Malformed);
+    };
+    let Some(actor) = read_number(actor) else {
+        return Err(LineError::Malformed);
+    };
+    match read_command(rest) {
+        Ok(command) => Ok(Request::Begin(actor, command)),
+        Err(error) => Err(error),
+    }
+}
+
+#[tactic(auto, unfolding(crate::specs::Reading::turn_of))]
+fn read_turn(args: Option<&[u8]>) -> Result<Request, LineError>
+    ensures { GivesRequest result (turn_of (fields_in (option_copied args.entry))) }
+{
+    let Some((actor, rest)) = next_field(args) else {
+        return Err(LineError::Malformed);
+    };
+    let Some((count, rest)) = next_field(rest) else {
+        return Err(LineError::Malformed);
+    };
+    if next_field(rest).is_some() {
+        return Err(LineError::Malformed);
+    }
+    let Some(actor) = read_number(actor) else {
+        return Err(LineError::Malformed);
+    };
+    let Some(count) = read_number(count) else {
+        return Err(LineError::Malformed);
+    };
+    if count < 1 || count > 100_000 {
+        return Err(LineError::Malformed);
+    }
+    Ok(Request::Turn(actor, count))
+}
+
+#[tactic(auto, unfolding(crate::specs::Reading::finish_of))]
+fn read_finish(args: Option<&[u8]>) -> Result<Request, LineError>
+    ensures { GivesRequest result (finish_of (fields_in (option_copied args.entry))) }
+{
+    let Some((actor, rest)) = next_field(args) else {
+        return Err(LineError::Malformed);
+    };
+    if next_field(rest).is_some() {
+        return Err(LineError::Malformed);
+    }
+    match read_number(actor) {
+        None => Err(LineError::Malformed),
+        Some(actor) => Ok(Request::Finish(actor)),
+    }
+}
+
+#[tactic(auto, unfolding(crate::specs::Reading::list_of))]
+fn read_list(args: Option<&[u8]>) -> Result<Request, LineError>
+    ensures { GivesRequest result (list_of (fields_in (option_copied args.entry))) }
+{
+    if next_field(args).is_some() {
+        return Err(LineError::Malformed);
+    }
+    Ok(Request::List)
+}
+
+#[tactic(auto, unfolding(crate::specs::Reading::asked))]
+fn read_fields(line: &[u8]) -> Result<Request, LineError>
+    ensures { GivesRequest result (asked (fields_of line.now)) }
+{
+    let Some((verb, args)) = next_field(Some(line)) else {
+        return Err(LineError::Malformed);
+    };
+    if verb == b"begin".as_slice() {
+        return read_begin(args);
+    }
+    if verb == b"turn".as_slice() {
+        return read_turn(args);
+    }
+    if verb == b"finish".as_slice() {
+        return read_finish(args);
+    }
+    if verb == b"list".as_slice() {
+        return read_list(args);
+    }
+    Err(LineError::Malformed)
+}
+
+/// What a line asks for, by the grammar.
+pub fn parse(line: &[u8]) -> Result<Request, LineError>
+    ensures ok { IfOk result (λ request. Says line.now request × IsShort request) }
+    ensures malformed { IsErrOf result LineError.Malformed → (request : RequestSeen) → Says line.now request → ⊥ }
+    ensures too_long { IsErrOf result LineError.TooLong → (request : RequestSeen) × Says line.now request × (IsShort request → ⊥) }
+{
+    if line.len() > 1024 {
+        return Err(LineError::Malformed);
+    }
+    read_fields(line)
+}
+
+/// A line asks for one thing at most.
+pub fn lines_are_exact()
+    ensures { (line : List ℕ) (a b : RequestSeen) → Says line a → Says line b → a ≡ b }
+{}

@@ -1,0 +1,131 @@
+//! One line.
+
+ghost use Rattle.std.specs.Prelude.{◌≡◌};
+ghost use Rattle.bw_shell.specs.Turns.{seen};
+ghost use Rattle.bw_shell.specs.Weave.{RequestRuns, LineRuns};
+
+use crate::request::{Request, parse};
+use crate::streams::Output;
+use crate::texts::{show_listing, show_number, show_refused, show_reply};
+use crate::token::LineError;
+use crate::turns::{begin, pairs_of, steps};
+use bw_model::Command;
+use std::alloc::Global;
+use step_core::Core;
+
+/// How many turns `finish` takes at most.
+const MANY: u64 = 100_000;
+
+fn run_begin<O: Output>(
+    core: &mut Core,
+    number: u64,
+    actor: u64,
+    command: Command,
+    out: &mut O,
+) -> bool
+    ensures { RequestRuns number (seen core.old) (Request.Begin actor command) (seen core.new) (O.state out.old) (O.state out.new) result }
+{
+    match begin(core, actor, command) {
+        Ok(()) => false,
+        Err(code) => {
+            show_refused(out, number, code);
+            true
+        }
+    }
+}
+
+fn run_turn<O: Output>(core: &mut Core, number: u64, actor: u64, count: u64, out: &mut O) -> bool
+    ensures { RequestRuns number (seen core.old) (Request.Turn actor count) (seen core.new) (O.state out.old) (O.state out.new) result }
+{
+    match steps(core, actor, count) {
+        Ok(None) => false,
+        Ok(Some(reply)) => {
+            show_number(out, actor);
+            show_reply(out, &reply);
+            false
+        }
+        Err(code) => {
+            show_refused(out, number, code);
+            true
+        }
+    }
+}
+
+fn run_finish<O: Output>(core: &mut Core, number: u64, actor: u64, out: &mut O) -> bool
+    ensures { RequestRuns number (seen core.old) (Request.Finish actor) (seen core.new) (O.state out.old) (O.state out.new) result }
+{
+    match steps(core, actor, MANY) {
+        Ok(None) => {
+            show_number(out, actor);
+            out.show(b" unfinished\n");
+            false
+        }
+        Ok(Some(reply)) => {
+            show_number(out, actor);
+            show_reply(out, &reply);
+            false
+        }
+        Err(code) => {
+            show_refused(out, number, code);
+            true
+        }
+    }
+}
+
+fn run_list<O: Output>(alloc: Global, core: &mut Core, number: u64, out: &mut O) -> bool
+    ensures { RequestRuns number (seen core.old) Request.List (seen core.new) (O.state out.old) (O.state out.new) result }
+{
+    match pairs_of(alloc, core) {
+        Ok(pairs) => {
+            show_listing(out, pairs.as_slice());
+            false
+        }
+        Err(code) => {
+            show_refused(out, number, code);
+            true
+        }
+    }
+}
+
+fn run_request<O: Output>(
+    alloc: Global,
+    core: &mut Core,
+    number: u64,
+    request: Request,
+    out: &mut O,
+) -> bool
+    ensures { RequestRuns number (seen core.old) request (seen core.new) (O.state out.old) (O.state out.new) result }
+{
+    match request {
+        Request::Begin(actor, command) => run_begin(core, number, actor, command, out),
+        Request::Turn(actor, count) => run_turn(core, number, actor, count, out),
+        Request::Finish(actor) => run_finish(core, number, actor, out),
+        Request::List => run_list(alloc, core, number, out),
+    }
+}
+
+/// Runs a line, and answers whether it was refused.
+pub fn run_line<O: Output>(
+    alloc: Global,
+    core: &mut Core,
+    number: u64,
+    line: &[u8],
+    out: &mut O,
+) -> bool
+    ensures { LineRuns number (seen core.old) line.now (seen core.new) (O.state out.old) (O.state out.new) result }
+{
+    if line.is_empty() {
+        return false;
+    }
+    match parse(line) {
+        Err(LineError::Malformed) => {
+            show_refused(out, number, 11);
+            true
+        }
+        Err(LineError::TooLong) => {
+            show_refused(out, number, 1);
+            true
+        }
+        Ok(request) => run_request(alloc, core, number, request, out),
+    }
+}

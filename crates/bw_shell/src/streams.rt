@@ -1,0 +1,52 @@
+//! Readers and writers whose failures can be told afterwards.
+
+ghost use Rattle.std.specs.Prelude.{◌≡◌, ℕ, ◌+◌, List, [], Bool, true, false, Option, OnOk, MatchResult};
+ghost use Rattle.std.specs.Io.{ReadsAtMost};
+ghost use Rattle.std.specs.Io.KnownBytes.{ReadConsumes};
+ghost use Rattle.bw_shell.specs.Output.{Sink, Shows};
+
+/// A read has failed.
+#[derive(Clone, Copy, Debug, PartialEq, Eq)]
+pub struct Failed;
+
+/// A reader.
+pub trait Input {
+    /// The bytes that reads will give from here on, where they are known.
+    ghost remaining: { Self → Option (List ℕ) };
+
+    /// Whether a read has failed.
+    ghost failed: { Self → Bool };
+
+    /// How many more reads there are. After them each read fails.
+    ghost reads_left: { Self → ℕ };
+
+    /// Whether a read has failed.
+    fn has_failed(&self) -> bool
+        ensures { result ≡ failed self.now };
+
+    /// Reads some bytes into the front of `buf`: none at the end alone.
+    fn read(&mut self, buf: &mut [u8]) -> Result<usize, Failed>
+        ensures bound { ReadsAtMost result buf.new }
+        ensures bytes { ReadConsumes (remaining self.old) (remaining self.new) result buf.new }
+        ensures fails { MatchResult result (λ _. failed self.new ≡ failed self.old) (λ _. failed self.new ≡ true) }
+        ensures fewer { OnOk result (reads_left self.new + 1 ≡ reads_left self.old) };
+}
+
+/// A writer, which may hold bytes back. Once a write has failed, nothing more is written.
+pub trait Output {
+    /// What the writer has, what is held back, and whether a write has failed.
+    ghost state: { Self → Sink };
+
+    /// Whether a write has failed.
+    fn has_failed(&self) -> bool
+        ensures { result ≡ (state self.now).failed };
+
+    /// Writes all bytes, now or later, unless a write has failed.
+    fn show(&mut self, bytes: &[u8])
+        ensures { Shows (state self.old) (state self.new) bytes.now };
+
+    /// Writes what is held back, unless a write has failed.
+    fn finish(&mut self)
+        ensures shows { Shows (state self.old) (state self.new) [] }
+        ensures ends { (state self.new).failed ≡ false → (state self.new).held ≡ [] };
+}

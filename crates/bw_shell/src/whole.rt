@@ -1,0 +1,88 @@
+//! A whole run.
+
+ghost use Rattle.std.specs.Prelude.{◌≡◌, ◌≤◌, ◌^◌, [], false};
+ghost use Rattle.bw_shell.specs.Turns.{seen};
+ghost use Rattle.bw_shell.specs.Weave.{HasRun, IsWoven};
+
+use crate::pieces::{Weaver, feed};
+use crate::run::run_line;
+use crate::streams::{Input, Output};
+use arrayvec::ArrayVec;
+use bw_model::Limits;
+use std::alloc::Global;
+use step_core::Core;
+
+// Reads to the end of the input, or as far as it goes, and answers whether a line was refused.
+fn run<I: Input, O: Output>(alloc: Global, weaver: &mut Weaver, input: &mut I, out: &mut O) -> bool
+    requires sound_in { I.failed input.old ≡ false }
+    requires sound_out { (O.state out.old).failed ≡ false }
+    requires bounded { I.reads_left input.old ≤ 2 ^ 31 }
+    requires first { weaver.old.number ≡ 1 }
+    requires empty { weaver.old.part.items ≡ [] }
+    ensures { HasRun (seen weaver.old.core) (I.remaining input.old) (I.remaining input.new) (I.failed input.new)
+        (O.state out.old) (O.state out.new) (seen weaver.new.core) result }
+{
+    let mut bytes = [0u8; 4096];
+    'reads: loop {
+        match input.read(&mut bytes) {
+            Err(_) => return false,
+            Ok(n) => {
+                if n == 0 {
+                    break;
+                }
+                if feed(alloc, weaver, bytes.split_at(n).0, out) {
+                    return true;
+                }
+                if out.has_failed() {
+                    return false;
+                }
+            }
+        }
+    }
+    if weaver.part.is_empty() {
+        return false;
+    }
+    run_line(
+        alloc,
+        &mut weaver.core,
+        weaver.number,
+        weaver.part.as_slice(),
+        out,
+    )
+}
+
+/// Reads lines, runs them on a core of these limits, and writes a transcript. Answers the status: 0 where no read or write
+/// failed and no line was refused, else 1.
+pub fn weave<I: Input, O: Output>(alloc: Global, limits: Limits, input: &mut I, out: &mut O) -> u8
+    requires sound_in { I.failed input.old ≡ false }
+    requires bounded { I.reads_left input.old ≤ 2 ^ 31 }
+    requires sound_out { (O.state out.old).failed ≡ false }
+    requires fresh { (O.state out.old).held ≡ [] }
+    ensures { IsWoven limits (I.remaining input.old) (I.remaining input.new) (I.failed input.new)
+        (O.state out.old).contents (O.state out.new).contents (O.state out.new).failed result }
+{
+    let mut weaver = match Core::open(alloc, limits) {
+        Ok(core) => Weaver {
+            core,
+            number: 1,
+            part: ArrayVec::new(),
+        },
+        Err(_) => {
+            out.show(b"refused: 12\n");
+            out.finish();
+            return 1;
+        }
+    };
+    let refused = run(alloc, &mut weaver, input, out);
+    out.finish();
+    if refused {
+        return 1;
+    }
+    if input.has_failed() {
+        return 1;
+    }
+    if out.has_failed() {
+        return 1;
+    }
+    0
+}

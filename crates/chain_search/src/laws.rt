@@ -1,0 +1,70 @@
+//! Laws of runs and chains: each function does nothing, and its contract is proved of all of them.
+ghost use Rattle.std.specs.Prelude.{◌≡◌, ◌≤◌, ◌∷◌, ◌++◌, ℕ, [], List, length};
+ghost use Rattle.bw_model.specs.declared.limits.Limits.{Limits};
+ghost use Rattle.bw_model.specs.declared.step.Step.TheVariants.{Leave};
+ghost use Rattle.bw_model.specs.declared.step.Answer.{Answer};
+ghost use Rattle.deltas.specs.declared.record.Record.{Record};
+ghost use Rattle.deltas.specs.Memory.{Memory};
+ghost use Rattle.chain_search.specs.declared.trace.Entry.{Entry};
+ghost use Rattle.chain_search.specs.Chains.{IsChainOf};
+ghost use Rattle.chain_search.specs.Learnt.{HasLearnt};
+ghost use Rattle.chain_search.specs.SideChain.{LivePage, IsSideChainFrom};
+ghost use Rattle.chain_search.specs.Run.{IsNext, IsRun};
+ghost use Rattle.chain_search.specs.Trace.{memory_of, memory_at, memory_after_entry, command_of, commands_after, IsStep};
+
+/// A run grows by an entry that may stand next.
+pub fn run_grows()
+    ensures { (limits : Limits) (entries : List Entry) (entry : Entry)
+        → IsRun limits entries
+        → IsNext limits entries entry
+        → IsRun limits (entries ++ entry ∷ []) }
+{}
+
+/// A slot has one chain at most.
+pub fn chain_is_one()
+    ensures { (memory : Memory) (pid : ℕ) (one two : List Record)
+        → IsChainOf memory pid one
+        → IsChainOf memory pid two
+        → one ≡ two }
+{}
+
+/// A page begins one side chain at most.
+pub fn side_chain_is_one()
+    ensures { (memory : Memory) (pid : ℕ) (one two : List LivePage)
+        → IsSideChainFrom memory pid one
+        → IsSideChainFrom memory pid two
+        → one ≡ two }
+{}
+
+/// The beginning of a run is one, and its last entry may stand after it.
+pub fn run_shrinks()
+    ensures front { (limits : Limits) (entries : List Entry) (entry : Entry)
+        → IsRun limits (entries ++ entry ∷ [])
+        → IsRun limits entries }
+    ensures last { (limits : Limits) (entries : List Entry) (entry : Entry)
+        → IsRun limits (entries ++ entry ∷ [])
+        → IsNext limits entries entry }
+{}
+
+/// One more entry changes the memory by its step, and keeps the memories before.
+pub fn memory_grows()
+    ensures after { (limits : Limits) (entries : List Entry) (entry : Entry)
+        → memory_of limits (entries ++ entry ∷ []) ≡ memory_after_entry (memory_of limits entries) entry }
+    ensures before { (limits : Limits) (entries more : List Entry) (n : ℕ)
+        → n ≤ length entries
+        → memory_at limits (entries ++ more) n ≡ memory_at limits entries n }
+{}
+
+/// One more entry begins or ends its actor's operation, or leaves it.
+pub fn command_grows()
+    ensures { (entries : List Entry) (entry : Entry)
+        → command_of (entries ++ entry ∷ []) ≡ commands_after (command_of entries) entry }
+{}
+
+/// What an actor has learnt it keeps until it leaves.
+pub fn learnt_stays()
+    ensures { (entries : List Entry) (entry : Entry) (actor row : ℕ)
+        → HasLearnt entries actor row
+        → ((answer : Answer Record) → ¬ IsStep entry actor Leave answer)
+        → HasLearnt (entries ++ entry ∷ []) actor row }
+{}

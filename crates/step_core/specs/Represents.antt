@@ -1,0 +1,27 @@
+-- The memory that cells stand for.
+use Rattle.std.specs.Prelude.{◌≡◌, ◌<◌, ◌*◌, ℕ, Bool, Some, IsTrue, is_some, slice_index, slice_get}
+use Rattle.std.specs.Option.{ForSome}
+use Rattle.bw_model.specs.declared.limits.Limits.{Limits}
+use Rattle.deltas.specs.declared.record.Record.{Record}
+use Rattle.deltas.specs.Memory.{Memory}
+use Rattle.deltas.specs.Records.{next_row}
+use Rattle.chain_search.specs.Steps.{IsWordOf}
+use Rattle.step_core.specs.Cells.{Cells}
+
+-- Each place has what the memory has there; a row that was never placed may have anything.
+pub record Represents (limits : Limits) (cells : Cells) (memory : Memory) : Type 0 where
+  pub slots : (pid : ℕ) → pid < limits.pids → slice_index cells.slots pid ≡ memory.slots pid
+  pub rows : (row : ℕ) (content : Record) → memory.rows row ≡ Some content → slice_get cells.records row ≡ Some content
+  pub free_pids : (word : ℕ) → 64 * word < limits.pids → IsWordOf memory.free_pids word (slice_index cells.pid_bits word)
+  pub free_rows : (word : ℕ) → 64 * word < limits.rows → IsWordOf memory.free_rows word (slice_index cells.row_bits word)
+  pub same_epoch : cells.epoch ≡ memory.epoch
+  pub announced : (actor : ℕ) → actor < limits.actors → slice_index cells.announced actor ≡ memory.announced actor
+
+-- whether a record was placed in the row
+abbrev pub is_placed : Memory → ℕ → Bool
+is_placed memory row = is_some (memory.rows row)
+
+-- Whatever a slot or a record names was placed.
+pub record IsClosed (memory : Memory) : Type 0 where
+  pub heads : (pid : ℕ) → 0 < pid → 0 < memory.slots pid → IsTrue (is_placed memory (memory.slots pid))
+  pub nexts : (row : ℕ) (content : Record) → memory.rows row ≡ Some content → ForSome (next_row content) (λ next. IsTrue (is_placed memory next))

@@ -1,0 +1,272 @@
+-- Links on an index page that change one term: a term is posted, held, or taken away.
+use Rattle.std.proofs.Common.{◌≡◌, ◌≢◌, ◌⊎◌, inl, inr, ℕ, zero, suc, ◌<◌, ◌≤◌, List, [], ◌∷◌, ◌++◌, Option, Some, None, Bool, true, false, cond, refl, sym, ap, ◌∙◌, subst, ⊎_elim, arith}
+use Rattle.std.specs.Prelude.{IfSome, IsTrue, ⊤}
+use Rattle.std.proofs.lemmas.Option.{same_Some}
+use Rattle.std.proofs.lemmas.Bool.Decides.{nat_tests}
+use Rattle.bw_model.specs.declared.command.Reply.{Reply}
+use Rattle.bw_model.specs.Log.{Update}
+use Rattle.base_page.specs.declared.item.Content.{Content}
+use Rattle.base_page.specs.declared.item.Content.TheVariants.{Value, Child}
+use Rattle.base_page.specs.Pages.{content_at}
+use Rattle.deltas.specs.declared.record.Record.{Record}
+use Rattle.deltas.specs.declared.record.Record.TheVariants.{Base, Put, Delete, Split, Term, Hold, Remove, Merge, Unterm}
+use Rattle.deltas.specs.Records.{next_row}
+use Rattle.chain_search.specs.Chains.{IsChainFrom, content_in, level_in, low_in, high_in, right_in, is_removed}
+use Rattle.tree_law.specs.Keys.{Key, IsBelow, IsUpTo, IsUnder, IsWithin, Covers, put_key}
+use Rattle.tree_law.specs.Knowledge.{OwnRow, Foreign, Taken, Written, OwnPage, Other, Empty, Ready, Gone, Knowledge, filled, linked_over, emptied, rooted, finished}
+use Rattle.tree_law.specs.Phase.{Stage, Fresh, Indexed, Held, Removed, Merged, PageOwner, Nobody, Keeps, Placed, Cleared, mark, rank, stage_removed, child_of, rank_of}
+use Rattle.tree_law.specs.Put.{put}
+use Rattle.tree_law.specs.Shared.{Shared}
+use Rattle.tree_law.specs.Owners.{IsChain, Owner, Free, Spare, Linked, Owners, Reached, Forward, ChainNames, IsLinked, OwnFits, PageFits, OwnsPages, IsCleared, leaf_map, Spells, HeadFits, LinkFits, InOrder, OrderFits, Knows}
+use Rattle.tree_law.specs.Tree.{spec, Page, InPlace, IsPart, HasPage, Level, IsOff, Off, Exact, Tree, Good}
+use Rattle.std.specs.Ordering.{is_eq}
+use Rattle.bw_model.specs.Bytes.{key_cmp}
+use Rattle.tree_law.specs.Discipline.{HasRead, MayPost, MayHold, MayUnterm}
+use Rattle.tree_law.proofs.KeyOrder.{by_key, key_other, covers_from}
+use Rattle.tree_law.proofs.Puts.{by_test, put_same, put_other}
+use Rattle.tree_law.proofs.Kept.{reached_placed}
+use Rattle.tree_law.proofs.Sides.{same_page}
+use Rattle.tree_law.proofs.Terms.{exact_moved}
+use Rattle.tree_law.proofs.Frames.{names_kept}
+use Rattle.tree_law.proofs.Keeping.{mine, alive_place}
+use Rattle.tree_law.proofs.Relinking.{placed_level, Found, Moves, stay, go, clear, not_own, found, place_of, relink_one}
+
+pub not_fresh : (st : Stage) (q : ℕ) → mark st q ≡ None → st ≡ Fresh
+not_fresh Fresh q e = refl
+not_fresh Indexed q e = absurd (cc)
+not_fresh Held q e = absurd (cc)
+not_fresh Removed q e = absurd (cc)
+not_fresh Merged q e = absurd (cc)
+
+module _ {m : Shared} {log : List Update} {o : Owners} {knows : ℕ → Knowledge} {point : ℕ → Option (List Update)} {logs : ℕ → List (List Update)} (g : Good m log o knows point logs) (a : ℕ) where
+  index_one : (p x y : ℕ) (c : List Record) → Found o m p x c → (place : InPlace o m (level_in c) (spec log o.index (level_in c)) (record { page = p; row = x; chain = c })) → is_removed c ≡ false → m.slots p ≡ Some x → o.row y ≡ Spare a
+      → (lv : ℕ) (sep : Key) (q : ℕ) → level_in c ≡ suc lv → Covers c sep → (st : Stage) → o.page q ≡ Placed st lv sep → o.index lv sep ≡ mark st q
+      → (n : PageOwner) (v : Option Content) → Moves a o m p y (o.page q) n
+      → ((l' : ℕ) (s' : Key) (st' : Stage) → n ≡ Placed st' l' s' → (lv ≡ l') × (sep ≡ s') × (mark st' q ≡ v))
+      → ((i : Content) → v ≡ Some i → (st' : Stage) × (child_of i ≡ q) × (n ≡ Placed st' lv sep) × (mark st' q ≡ Some i))
+      → ((b l' : ℕ) (s' : Key) → n ≡ Cleared b l' s' → lv ≡ l')
+      → ((i : Content) → v ≡ Some i → Reached (rank_of i) lv sep n)
+      → (w : Record) → m.rows y ≡ Some w → next_row w ≡ Some x → level_in (w ∷ c) ≡ level_in c → low_in (w ∷ c) ≡ low_in c → right_in (w ∷ c) ≡ right_in c → high_in (w ∷ c) ≡ high_in c → is_removed (w ∷ c) ≡ is_removed c
+      → ((k : Key) → content_in (w ∷ c) k ≡ cond (is_eq (key_cmp k sep)) v (content_in c k))
+      → (k : Knowledge) → k.rows ≡ put (knows a).rows y Foreign
+      → (OwnsPages a (record { row = put o.row y Linked; page = put o.page q n; index = put o.index lv (put_key (o.index lv) sep v) }) (record m { slots = put m.slots p (Some y) }) (knows a).pages → OwnsPages a (record { row = put o.row y Linked; page = put o.page q n; index = put o.index lv (put_key (o.index lv) sep v) }) (record m { slots = put m.slots p (Some y) }) k.pages)
+      → k.seen ≡ (knows a).seen → k.learnt ≡ (knows a).learnt → k.roots ≡ (knows a).roots → k.heads ≡ (knows a).heads → k.before ≡ (knows a).before → k.linked ≡ (knows a).linked
+      → Good (record m { slots = put m.slots p (Some y) }) log (record { row = put o.row y Linked; page = put o.page q n; index = put o.index lv (put_key (o.index lv) sep v) }) (put knows a k) (put point a (point a)) (put logs a (log ∷ logs a))
+  index_one p x y c f place alive s was lv sep q level covers st e had n v move fits full clears reach w wy next wl wlow wright whigh wrem finds k e0 pages e2 e3 e4 e5 e6 e7 =
+      relink_one g a p x y c f place alive s was place.stage (omega arith) place.on page' index' (put_other o.page q n p (λ i. apart (sym i)) ∙ place.placed)
+      (λ j ne. by_test j q (λ t. Moves a o m p y (o.page j) (cond t n (o.page j))) (λ i. subst (λ (z : ℕ). Moves a o m p y (o.page z) n) (sym i) move) (λ i. stay refl))
+      (exact_moved o.page o.index g.tree.top m.root q lv sep st n v e lt had fits full clears g.tree.exact)
+      w wy (rw next f.linked) c (rw next f.stands)
+      (λ forward. let ns = names_kept o (record { row = put o.row y Linked; page = page'; index = index' }) forward c f.names in record {
+        right = λ z i. let r = ns.right z (sym wright ∙ i) in (r.0, whigh ∙ r.1, subst (λ (u : ℕ). Reached 0 u r.0 (page' z)) (sym wl) r.2);
+        items = λ l key i i2 cv d. by_key key sep (λ t. cond t v (content_in c key) ≡ Some i → Reached (rank_of i) l key (page' (child_of i)))
+            (λ j d'. let r = full i d' in let z = sym (sym wl ∙ i2) ∙ level in let lvl : lv ≡ l = omega arith in
+            subst (λ (u : ℕ). Reached (rank_of i) l key (page' u)) (sym r.1) (subst (λ (u : PageOwner). Reached (rank_of i) l key u) (sym (put_same o.page q n)) (subst (λ (u : ℕ). Reached (rank_of i) u key n) lvl (subst (λ (u : Key). Reached (rank_of i) lv u n) (sym j) (reach i d')))))
+            (λ j d'. ns.items l key i (sym wl ∙ i2) (record { low = subst (λ (b : Key). IsUpTo b key) wlow cv.low; high = subst (λ (b : Option Key). IsUnder key b) whigh cv.high }) d')
+            (sym (finds key) ∙ d);
+      })
+      wl wlow wright whigh (wrem ∙ place.flagged)
+      log
+      (λ key cv. subst (λ (z : ℕ). content_in (w ∷ c) key ≡ spec log index' z key) (sym level)
+      (finds key ∙ by_key key sep (λ t. cond t v (content_in c key) ≡ cond t v (o.index lv key)) (λ j. refl) (λ j. same key cv) ∙ sym (ap (λ (f : Key → Option Content). f key) (put_same o.index lv (put_key (o.index lv) sep v)))))
+      outside
+      k e0 pages e2 e3 e4 e5 e6
+      (point a) (rw e7 (mine g a).linked_fits)
+    where
+      page' : ℕ → PageOwner
+      page' = put o.page q n
+
+      index' : ℕ → Key → Option Content
+      index' = put o.index lv (put_key (o.index lv) sep v)
+
+      lt : lv < g.tree.top
+      lt = let i = g.tree.exact.below p (level_in c) (low_in c) place.stage place.placed in omega arith
+
+      apart : q ≢ p
+      apart i = absurd (let z = (placed_level st place.stage lv (level_in c) sep (low_in c) (sym e ∙ ap o.page i ∙ place.placed)).0 in omega arith)
+
+      same : (key : Key) → Covers c key → content_in c key ≡ o.index lv key
+      same key cv = place.is_page.same key cv ∙ ap (λ n. spec log o.index n key) level
+
+      outside : (l : ℕ) (key : Key) → (l ≡ level_in c → Covers c key → ⊥) → spec log index' l key ≡ spec log o.index l key
+      outside zero key ne = refl
+      outside (suc l) key ne = by_test l lv (λ t. cond t (put_key (o.index lv) sep v) (o.index l) key ≡ o.index l key)
+          (λ i. key_other (o.index lv) sep v key (λ j. ne (ap suc i ∙ sym level) (subst (λ (z : Key). Covers c z) (sym j) covers)) ∙ ap (λ n. o.index n key) (sym i))
+          (λ i. refl)
+
+  -- what the index has while the page is as it was read
+  term_at : (p x : ℕ) (c : List Record) → (place : InPlace o m (level_in c) (spec log o.index (level_in c)) (record { page = p; row = x; chain = c })) → (lv : ℕ) (sep : Key) → level_in c ≡ suc lv → Covers c sep → o.index lv sep ≡ content_in c sep
+  term_at p x c place lv sep level covers = sym (place.is_page.same sep covers ∙ ap (λ n. spec log o.index n sep) level)
+
+  -- the exchange that links a term
+  pub posts : (p x y : ℕ) → m.slots p ≡ Some x → (h : MayPost (knows a) p x y) → (r : Option Reply)
+      → Good (record m { slots = put m.slots p (Some y) }) log (record { row = put o.row y Linked; page = put o.page h.child (Placed Indexed (level_in h.below.chain) (low_in h.below.chain)); index = put o.index (level_in h.below.chain) (put_key (o.index (level_in h.below.chain)) (low_in h.below.chain) (Some (Child h.child false))) }) (put knows a (finished (filled ((knows a).pages p) p x y (knows a)) r)) (put point a (point a)) (put logs a (log ∷ logs a)) × (o.page h.child ≡ Placed Fresh (level_in h.below.chain) (low_in h.below.chain))
+  posts p x y s h r = (
+    subst (λ (k : Knowledge). Good (record m { slots = put m.slots p (Some y) }) log (record { row = put o.row y Linked; page = put o.page q (Placed Indexed lv sep); index = put o.index lv (put_key (o.index lv) sep (Some (Child q false))) }) (put knows a (finished k r)) (put point a (point a)) (put logs a (log ∷ logs a))) (sym learned)
+        (index_one p x y c f place h.basis.alive s fits.0 lv sep q h.level (covers_from c sep h.covers) Fresh was absent (Placed Indexed lv sep) (Some (Child q false))
+        (go Fresh Indexed lv sep was refl (omega arith) (omega arith) refl)
+        (λ l' s' st' e. let i = placed_level Indexed st' lv l' sep s' e in let j : Indexed ≡ st' = cc in (i.0, i.1, ap (λ v. mark v q) (sym j)))
+        (λ i e. (Indexed, ap child_of (sym (same_Some (Child q false) i e)), refl, e))
+        (λ b l' s' e. absurd (cc))
+        (λ i e. subst (λ (u : Content). Reached (rank_of u) lv sep (Placed Indexed lv sep)) (same_Some (Child q false) i e) (refl, refl, (omega arith)))
+        (Term (record { level = level_in c; next = x; separator = sep; child = q })) fits.1 refl refl refl refl refl refl (λ k. refl)
+        (finished (record (knows a) { rows = put (knows a).rows y Foreign }) r)
+        refl (λ v. v) refl refl refl refl refl refl),
+    was,
+  )
+    where
+      c : List Record
+      c = h.basis.chain
+
+      q : ℕ
+      q = h.child
+
+      lv : ℕ
+      lv = level_in h.below.chain
+
+      sep : Key
+      sep = low_in h.below.chain
+
+      f : Found o m p x c
+      f = found g a p x h.basis
+
+      place : InPlace o m (level_in c) (spec log o.index (level_in c)) (record { page = p; row = x; chain = c })
+      place = place_of g a p x c f h.basis.alive s
+
+      d : Found o m q h.row h.below.chain
+      d = found g a q h.row h.below
+
+      fits : (o.row y ≡ Spare a) × (m.rows y ≡ Some (Term (record { level = level_in c; next = x; separator = sep; child = q })))
+      fits = subst (λ (v : OwnRow). OwnFits a (o.row y) (m.rows y) v) h.placed (g.owns a y)
+
+      absent : o.index lv sep ≡ None
+      absent = term_at p x c place lv sep h.level (covers_from c sep h.covers) ∙ h.absent
+
+      lt : lv < g.tree.top
+      lt = let i = g.tree.exact.below p (level_in c) (low_in c) place.stage place.placed in let j = h.level in omega arith
+
+      fresh : (st : Stage) → o.page q ≡ Placed st lv sep → (v : Option Content) → mark st q ≡ v → st ≡ Fresh
+      fresh st e None i = not_fresh st q i
+      fresh st e (Some v) i = absurd (let j = sym absent ∙ g.tree.exact.posted q lv sep st v e lt i in cc)
+
+      order : InOrder o m (log ∷ logs a) q h.row p x
+      order = subst (λ (v : Option ℕ). OrderFits o m (log ∷ logs a) q p (Some h.row) v) h.order (subst (λ (v : Option ℕ). OrderFits o m (log ∷ logs a) q p v ((knows a).before q p)) h.below.head ((mine g a).orders_fit q p))
+
+      was : o.page q ≡ Placed Fresh lv sep
+      was = ⊎_elim
+          (λ (u : (st : Stage) × (o.page q ≡ Placed st lv sep) × (0 ≤ rank st)). u.1 ∙ ap (λ st. Placed st lv sep) (fresh u.0 u.1 (mark u.0 q) refl))
+          (λ (u : (b : ℕ) × (o.page q ≡ Cleared b lv sep)). absurd (order.uncleared c h.below.chain f.stands d.stands h.basis.alive h.below.alive h.level (covers_from c sep h.covers) s (u.0, lv, sep, u.1)))
+          (reached_placed 0 lv sep (o.page q) d.reached)
+
+      learned : filled ((knows a).pages p) p x y (knows a) ≡ record (knows a) { rows = put (knows a).rows y Foreign }
+      learned = rw (not_own g a p (level_in c) (low_in c) place.stage place.placed ((knows a).pages p) (g.owns_pages a p), h.placed) refl
+
+  -- the exchange that holds a term
+  pub holds : (p x y : ℕ) → m.slots p ≡ Some x → (h : MayHold (knows a) p x y) → (r : Option Reply)
+      → Good (record m { slots = put m.slots p (Some y) }) log (record { row = put o.row y Linked; page = put o.page h.child (Placed Held h.level h.key); index = put o.index h.level (put_key (o.index h.level) h.key (Some (Child h.child true))) }) (put knows a (finished (filled ((knows a).pages p) p x y (knows a)) r)) (put point a (point a)) (put logs a (log ∷ logs a)) × (o.page h.child ≡ Placed Indexed h.level h.key)
+  holds p x y s h r =
+      let c = h.basis.chain in
+      let q = h.child in
+      let lv = h.level in
+      let sep = h.key in
+      let f = found g a p x h.basis in
+      let place = place_of g a p x c f h.basis.alive s in
+      let fits : (o.row y ≡ Spare a) × (m.rows y ≡ Some (Hold (record { level = level_in c; next = x; separator = sep; child = q }))) = subst (λ (v : OwnRow). OwnFits a (o.row y) (m.rows y) v) h.placed (g.owns a y) in
+      let present : o.index lv sep ≡ Some (Child q false) = term_at p x c place lv sep h.is_level (covers_from c sep h.covers) ∙ h.present in
+      let n = (g.tree.exact.named lv sep (Child q false) present).1 in
+      let was : o.page q ≡ Placed Indexed lv sep = n.1 ∙ ap (λ st. Placed st lv sep) (is_indexed n.0 q n.2) in
+      let learned : filled ((knows a).pages p) p x y (knows a) ≡ record (knows a) { rows = put (knows a).rows y Foreign } = rw (not_own g a p (level_in c) (low_in c) place.stage place.placed ((knows a).pages p) (g.owns_pages a p), h.placed) refl in (
+        subst (λ (k : Knowledge). Good (record m { slots = put m.slots p (Some y) }) log (record { row = put o.row y Linked; page = put o.page q (Placed Held lv sep); index = put o.index lv (put_key (o.index lv) sep (Some (Child q true))) }) (put knows a (finished k r)) (put point a (point a)) (put logs a (log ∷ logs a))) (sym learned)
+            (index_one p x y c f place h.basis.alive s fits.0 lv sep q h.is_level (covers_from c sep h.covers) Indexed was present (Placed Held lv sep) (Some (Child q true))
+            (go Indexed Held lv sep was refl (omega arith) (omega arith) refl)
+            (λ l' s' st' e. let i = placed_level Held st' lv l' sep s' e in let j : Held ≡ st' = cc in (i.0, i.1, ap (λ v. mark v q) (sym j)))
+            (λ i e. (Held, ap child_of (sym (same_Some (Child q true) i e)), refl, e))
+            (λ b l' s' e. absurd (cc))
+            (λ i e. subst (λ (u : Content). Reached (rank_of u) lv sep (Placed Held lv sep)) (same_Some (Child q true) i e) (refl, refl, (omega arith)))
+            (Hold (record { level = level_in c; next = x; separator = sep; child = q })) fits.1 refl refl refl refl refl refl (λ k. refl)
+            (finished (record (knows a) { rows = put (knows a).rows y Foreign }) r)
+            refl (λ v. v) refl refl refl refl refl refl),
+        was,
+      )
+    where
+      is_indexed : (st : Stage) (q : ℕ) → mark st q ≡ Some (Child q false) → st ≡ Indexed
+      is_indexed Fresh q e = absurd (cc)
+      is_indexed Indexed q e = refl
+      is_indexed Held q e = absurd (let f = same_Some (Child q true) (Child q false) e in cc)
+      is_indexed Removed q e = absurd (let f = same_Some (Child q true) (Child q false) e in cc)
+      is_indexed Merged q e = absurd (let f = same_Some (Child q true) (Child q false) e in cc)
+
+  -- the exchange that takes a held term away
+  pub unterms : (p x y : ℕ) → m.slots p ≡ Some x → (h : MayUnterm (knows a) p x y) → (r : Option Reply)
+      → Good (record m { slots = put m.slots p (Some y) }) log (record { row = put o.row y Linked; page = put o.page h.child (Cleared a (level_in h.below.chain) h.key); index = put o.index (level_in h.below.chain) (put_key (o.index (level_in h.below.chain)) h.key None) }) (put knows a (finished (filled ((knows a).pages p) p x y (knows a)) r)) (put point a (point a)) (put logs a (log ∷ logs a)) × (o.page h.child ≡ Placed Merged (level_in h.below.chain) h.key)
+  unterms p x y s h r = (
+    subst (λ (k : Knowledge). Good (record m { slots = put m.slots p (Some y) }) log (record { row = put o.row y Linked; page = put o.page q (Cleared a lv sep); index = put o.index lv (put_key (o.index lv) sep None) }) (put knows a (finished k r)) (put point a (point a)) (put logs a (log ∷ logs a))) (sym learned)
+        (index_one p x y c f place h.basis.alive s fits.0 lv sep q h.level (covers_from c sep h.covers) Merged was present (Cleared a lv sep) None
+        (clear lv sep was refl guard)
+        (λ l' s' st' e. absurd (cc))
+        (λ i e. absurd (cc))
+        (λ b l' s' e. cc)
+        (λ i e. absurd (cc))
+        (Unterm (record { level = level_in c; next = x; separator = sep; child = q })) fits.1 refl refl refl refl refl refl (λ k. refl)
+        (finished (record (knows a) { rows = put (knows a).rows y Foreign; pages = put (knows a).pages q Gone }) r)
+        refl
+        (λ v j. by_test j q (λ t. PageFits a (cond t (Cleared a lv sep) (o.page j)) (put m.slots p (Some y) j) (cond t Gone ((knows a).pages j))) (λ i. (lv, sep, refl)) (λ ne. subst (λ (w : PageOwner). PageFits a w (put m.slots p (Some y) j) ((knows a).pages j)) (put_other o.page q (Cleared a lv sep) j ne) (v j)))
+        refl refl refl refl refl refl),
+    was,
+  )
+    where
+      c : List Record
+      c = h.basis.chain
+
+      q : ℕ
+      q = h.child
+
+      lv : ℕ
+      lv = level_in h.below.chain
+
+      sep : Key
+      sep = h.key
+
+      f : Found o m p x c
+      f = found g a p x h.basis
+
+      place : InPlace o m (level_in c) (spec log o.index (level_in c)) (record { page = p; row = x; chain = c })
+      place = place_of g a p x c f h.basis.alive s
+
+      d : Found o m h.left h.row h.below.chain
+      d = found g a h.left h.row h.below
+
+      fits : (o.row y ≡ Spare a) × (m.rows y ≡ Some (Unterm (record { level = level_in c; next = x; separator = sep; child = q })))
+      fits = subst (λ (v : OwnRow). OwnFits a (o.row y) (m.rows y) v) h.placed (g.owns a y)
+
+      present : o.index lv sep ≡ Some (Child q true)
+      present = term_at p x c place lv sep h.level (covers_from c sep h.covers) ∙ h.present
+
+      order : InOrder o m (log ∷ logs a) h.left h.row p x
+      order = subst (λ (v : Option ℕ). OrderFits o m (log ∷ logs a) h.left p (Some h.row) v) h.order (subst (λ (v : Option ℕ). OrderFits o m (log ∷ logs a) h.left p v ((knows a).before h.left p)) h.below.head ((mine g a).orders_fit h.left p))
+
+      merged : Reached 4 lv sep (o.page q)
+      merged = order.merged c h.below.chain sep q f.stands d.stands h.below.alive h.level (covers_from c sep h.covers) h.present h.above h.within h.apart
+
+      is_merged : (st : Stage) → 4 ≤ rank st → st ≡ Merged
+      is_merged Fresh i = absurd (omega arith)
+      is_merged Indexed i = absurd (omega arith)
+      is_merged Held i = absurd (omega arith)
+      is_merged Removed i = absurd (omega arith)
+      is_merged Merged i = refl
+
+      was : o.page q ≡ Placed Merged lv sep
+      was = let n = (g.tree.exact.named lv sep (Child q true) present).1 in n.1 ∙ ap (λ st. Placed st lv sep) (is_merged n.0 (subst (λ (v : PageOwner). Reached 4 lv sep v) n.1 merged).2)
+
+      guard : (f' x' : ℕ) (c' : List Record) → o.row x' ≡ Linked → IsChain m.rows c' (Some x') → Reached 0 (level_in c') (low_in c') (o.page f') → is_removed c' ≡ false → level_in c' ≡ suc lv → Covers c' sep → m.slots f' ≡ Some x' → put m.slots p (Some y) f' ≡ Some x' → ⊥
+      guard f' x' c' l' ch' r' n' e' v' s' now =
+          let other = alive_place g a f' (level_in c') (low_in c') r' x' s' c' ch' n' in
+          let i : level_in c' ≡ level_in c = e' ∙ sym h.level in
+          let there = subst (λ (n : ℕ). InPlace o m n (spec log o.index n) (record { page = f'; row = x'; chain = c' })) i other in
+          let same : p ≡ f' = same_page o m (level_in c) (spec log o.index (level_in c)) (g.tree.first (level_in c)) (g.tree.levels (level_in c) (g.tree.exact.below p (level_in c) (low_in c) place.stage place.placed)) (record { page = p; row = x; chain = c }) (record { page = f'; row = x'; chain = c' }) place there sep (covers_from c sep h.covers) v' in
+          let z : y ≡ x' = same_Some y x' (sym (put_same m.slots p (Some y)) ∙ ap (put m.slots p (Some y)) same ∙ now) in
+          absurd (let u = sym fits.0 ∙ ap o.row z ∙ l' in cc)
+
+      learned : filled ((knows a).pages p) p x y (knows a) ≡ record (knows a) { rows = put (knows a).rows y Foreign; pages = put (knows a).pages q Gone }
+      learned = rw (not_own g a p (level_in c) (low_in c) place.stage place.placed ((knows a).pages p) (g.owns_pages a p), h.placed) refl
+

@@ -1,0 +1,110 @@
+-- The order of keys is total, and the empty key is lowest.
+use Rattle.std.proofs.Common.{◌≡◌, ◌≢◌, ℕ, List, [], ◌∷◌, Option, Some, None, Bool, true, false, cond, refl, sym, ap, ◌∙◌, subst}
+use Rattle.std.specs.Prelude.{IsTrue, not, ◌&&◌}
+use Rattle.std.specs.declared.cmp.Ordering.{Ordering}
+use Rattle.std.specs.declared.cmp.Ordering.TheVariants.{Less, Equal, Greater}
+use Rattle.std.specs.Ordering.{is_eq, is_lt, ordering_reverse, nat_cmp}
+use Rattle.std.specs.Cmp.Lexicographic.{slice_cmp}
+use Rattle.std.specs.Cmp.{IsTotalOrder}
+use Rattle.std.proofs.lemmas.Cmp.{nat_list_cmp_total, tied_itself}
+use Rattle.std.proofs.lemmas.Map.Lookups.{exact_bytes}
+use Rattle.bw_model.specs.Bytes.{key_cmp, is_below, is_under, is_in_range}
+use Rattle.deltas.specs.declared.record.Record.{Record}
+use Rattle.chain_search.specs.Chains.{low_in, high_in, covers}
+use Rattle.tree_law.specs.Keys.{Key, IsBelow, IsUpTo, IsUnder, IsWithin, Covers, put_key}
+
+cmp_less : (a b : Key) → IsBelow a b → key_cmp a b ≡ Less
+cmp_less a b h = go (key_cmp a b) h
+  where
+    go : (o : Ordering) → is_lt o ≡ true → o ≡ Less
+    go Less e = refl
+    go Equal e = cc
+    go Greater e = cc
+
+less_below : (a b : Key) → key_cmp a b ≡ Less → IsBelow a b
+less_below a b h = ap is_lt h
+
+below_trans : (a b c : Key) → IsBelow a b → IsBelow b c → IsBelow a c
+below_trans a b c h k = less_below a c (nat_list_cmp_total.trans a b c (cmp_less a b h) (cmp_less b c k))
+
+pub below_not : (a b : Key) → IsBelow a b → IsUpTo a b
+below_not a b h = ap is_lt (nat_list_cmp_total.antisymm b a ∙ ap ordering_reverse (cmp_less a b h))
+
+pub upto_refl : (a : Key) → IsUpTo a a
+upto_refl a = ap is_lt (tied_itself nat_list_cmp_total a)
+
+pub upto_same : (a b : Key) → a ≡ b → IsUpTo a b
+upto_same a b e = subst (λ (k : Key). IsUpTo a k) e (upto_refl a)
+
+-- not below is at or above
+pub not_below : (a b : Key) → IsBelow a b → IsUpTo b a → ⊥
+not_below a b h k = cc
+
+pub not_self : (a : Key) → IsBelow a a → ⊥
+not_self a h = not_below a a h (upto_refl a)
+
+-- at or below is below or the same
+upto_cases : (a b : Key) (P : Type 0) → IsUpTo a b → (IsBelow a b → P) → (a ≡ b → P) → P
+upto_cases a b P h below same = go (key_cmp a b) refl
+  where
+    go : (o : Ordering) → key_cmp a b ≡ o → P
+    go Less e = below (less_below a b e)
+    go Equal e = same (exact_bytes a b e)
+    go Greater e = absurd (let i : key_cmp b a ≡ Less = nat_list_cmp_total.antisymm b a ∙ ap ordering_reverse e in not_below b a (less_below b a i) h)
+
+pub below_upto : (a b c : Key) → IsBelow a b → IsUpTo b c → IsBelow a c
+below_upto a b c h k = upto_cases b c (IsBelow a c) k (λ i. below_trans a b c h i) (λ e. subst (λ (n : Key). IsBelow a n) e h)
+
+pub upto_below : (a b c : Key) → IsUpTo a b → IsBelow b c → IsBelow a c
+upto_below a b c h k = upto_cases a b (IsBelow a c) h (λ i. below_trans a b c i k) (λ e. subst (λ (n : Key). IsBelow n c) (sym e) k)
+
+pub upto_trans : (a b c : Key) → IsUpTo a b → IsUpTo b c → IsUpTo a c
+upto_trans a b c h k = upto_cases a b (IsUpTo a c) h (λ i. below_not a c (below_upto a b c i k)) (λ e. subst (λ (n : Key). IsUpTo n c) (sym e) k)
+
+pub upto_both : (a b : Key) → IsUpTo a b → IsUpTo b a → a ≡ b
+upto_both a b h k = upto_cases a b (a ≡ b) h (λ i. absurd (not_below a b i k)) (λ e. e)
+
+pub empty_lowest : (a : Key) → IsUpTo [] a
+empty_lowest [] = refl
+empty_lowest (x ∷ xs) = refl
+
+pub under_trans : (k s : Key) (b : Option Key) → IsBelow k s → IsUnder s b → IsUnder k b
+under_trans k s None h i = refl
+under_trans k s (Some x) h i = below_trans k s x h i
+
+-- tests on keys, by cases
+pub by_key : (j i : Key) (P : Bool → Type 0) → (j ≡ i → P true) → (j ≢ i → P false) → P (is_eq (key_cmp j i))
+by_key j i P same other = go (key_cmp j i) refl
+  where
+    go : (o : Ordering) → key_cmp j i ≡ o → P (is_eq o)
+    go Less e = other (λ s. not_self i (subst (λ (n : Key). IsBelow n i) s (less_below j i e)))
+    go Equal e = same (exact_bytes j i e)
+    go Greater e = other (λ s. let i2 : key_cmp i j ≡ Less = nat_list_cmp_total.antisymm i j ∙ ap ordering_reverse e in not_self i (subst (λ (n : Key). IsBelow i n) s (less_below i j i2)))
+
+pub by_below : (j i : Key) (P : Bool → Type 0) → (IsBelow j i → P true) → (IsUpTo i j → P false) → P (is_below j i)
+by_below j i P below other = go (is_below j i) refl
+  where
+    go : (t : Bool) → is_below j i ≡ t → P t
+    go true e = below e
+    go false e = other e
+
+-- of a key under the bound of a range, whether it is in the range
+pub by_range : (low k : Key) (high : Option Key) → IsUnder k high → (P : Bool → Type 0) → (IsUpTo low k → P true) → (IsBelow k low → P false) → P (is_in_range low high k)
+by_range low k high under P inside below = subst (λ (t : Bool). P (not (is_below k low) && t)) (sym under) (by_below k low (λ t. P (not t && true)) below inside)
+
+pub key_same : {X : Type 0} (f : Key → X) (s : Key) (v : X) → put_key f s v s ≡ v
+key_same {X} f s v = by_key s s (λ t. cond t v (f s) ≡ v) (λ e. refl) (λ ne. absurd (ne refl))
+
+pub key_other : {X : Type 0} (f : Key → X) (s : Key) (v : X) (k : Key) → k ≢ s → put_key f s v k ≡ f k
+key_other {X} f s v k ne = by_key k s (λ t. cond t v (f k) ≡ f k) (λ e. absurd (ne e)) (λ i. refl)
+
+both : (a b : Bool) → not a && b ≡ true → (a ≡ false) × (b ≡ true)
+both true b e = absurd (cc)
+both false b e = (refl, e)
+
+-- the range of a chain, as a test and as two relations
+pub covers_from : (chain : List Record) (key : Key) → IsTrue (covers chain key) → Covers chain key
+covers_from chain key e = let h = both (is_below key (low_in chain)) (is_under key (high_in chain)) e in record { low = h.0; high = h.1 }
+
+pub covers_to : (chain : List Record) (key : Key) → Covers chain key → IsTrue (covers chain key)
+covers_to chain key v = rw (v.low, v.high) refl

@@ -1,0 +1,40 @@
+-- A function changed at one place: what holds at that place and at the others.
+use Rattle.std.proofs.Common.{◌≡◌, ◌≢◌, ℕ, Bool, true, false, cond, eqb, refl, sym, ap, subst, arith}
+use Rattle.std.proofs.lemmas.Bool.Decides.{nat_tests}
+use Rattle.tree_law.specs.Put.{put}
+
+pub eqb_same : (i : ℕ) → eqb i i ≡ true
+eqb_same i = grind (arith, nat_tests)
+
+pub eqb_true : (j i : ℕ) → eqb j i ≡ true → j ≡ i
+eqb_true j i h = grind (arith, nat_tests)
+
+pub eqb_false : (j i : ℕ) → eqb j i ≡ false → j ≢ i
+eqb_false j i h = grind (arith, nat_tests)
+
+pub eqb_apart : (j i : ℕ) → j ≢ i → eqb j i ≡ false
+eqb_apart j i h = grind (arith, nat_tests)
+
+-- a test on numbers, by cases
+pub by_test : (j i : ℕ) (P : Bool → Type 0) → (j ≡ i → P true) → (j ≢ i → P false) → P (eqb j i)
+by_test j i P same other = go (eqb j i) (eqb_true j i) (eqb_false j i)
+  where
+    go : (t : Bool) → (t ≡ true → j ≡ i) → (t ≡ false → j ≢ i) → P t
+    go true e ne = same (e refl)
+    go false e ne = other (ne refl)
+
+pub put_same : {X : Type 0} (f : ℕ → X) (i : ℕ) (v : X) → put f i v i ≡ v
+put_same {X} f i v = subst (λ (t : Bool). cond t v (f i) ≡ v) (sym (eqb_same i)) refl
+
+pub put_other : {X : Type 0} (f : ℕ → X) (i : ℕ) (v : X) (j : ℕ) → j ≢ i → put f i v j ≡ f j
+put_other {X} f i v j ne = subst (λ (t : Bool). cond t v (f j) ≡ f j) (sym (eqb_apart j i ne)) refl
+
+-- what holds of the new value at its place, and of the old ones elsewhere
+pub put_all : {X : Type 0} (P : ℕ → X → Type 0) (f : ℕ → X) (i : ℕ) (v : X) → P i v → ((j : ℕ) → j ≢ i → P j (f j)) → (j : ℕ) → P j (put f i v j)
+put_all {X} P f i v here others j = by_test j i (λ t. P j (cond t v (f j))) (λ e. subst (λ (n : ℕ). P n v) (sym e) here) (others j)
+
+pub put_self : {X : Type 0} (f : ℕ → X) (i : ℕ) → put f i (f i) ≡ f
+put_self {X} f i = λ d j. at j d
+  where
+    at : (j : ℕ) → put f i (f i) j ≡ f j
+    at j = by_test j i (λ t. cond t (f i) (f j) ≡ f j) (λ e. ap f (sym e)) (λ ne. refl)

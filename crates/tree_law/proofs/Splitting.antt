@@ -1,0 +1,178 @@
+-- The exchange that links a split: the new page comes between the old one and its right.
+use Rattle.std.proofs.Common.{◌≡◌, ◌≢◌, ◌⊎◌, inl, inr, ℕ, zero, suc, ◌<◌, ◌≤◌, List, [], ◌∷◌, ◌++◌, Option, Some, None, Bool, true, false, cond, refl, sym, ap, ◌∙◌, subst, ⊎_elim, arith}
+use Rattle.std.specs.Prelude.{IfSome, IsTrue, ⊤}
+use Rattle.std.proofs.lemmas.Option.{same_Some}
+use Rattle.std.proofs.lemmas.Bool.Decides.{nat_tests}
+use Rattle.bw_model.specs.declared.command.Reply.{Reply}
+use Rattle.bw_model.specs.Log.{Update}
+use Rattle.base_page.specs.declared.item.Content.{Content}
+use Rattle.base_page.specs.declared.item.Content.TheVariants.{Value, Child}
+use Rattle.base_page.specs.Pages.{content_at}
+use Rattle.deltas.specs.declared.record.Record.{Record}
+use Rattle.deltas.specs.declared.record.Record.TheVariants.{Base, Put, Delete, Split, Term, Hold, Remove, Merge, Unterm}
+use Rattle.deltas.specs.Records.{next_row}
+use Rattle.chain_search.specs.Chains.{IsChainFrom, content_in, level_in, low_in, high_in, right_in, is_removed}
+use Rattle.tree_law.specs.Keys.{Key, IsBelow, IsUpTo, IsUnder, IsWithin, Covers, put_key}
+use Rattle.tree_law.specs.Knowledge.{OwnRow, Foreign, Taken, Written, OwnPage, Other, Empty, Ready, Gone, Knowledge, filled, linked_over, emptied, rooted, finished}
+use Rattle.tree_law.specs.Phase.{Stage, Fresh, Indexed, Held, Removed, Merged, PageOwner, Nobody, Keeps, Placed, Cleared, mark, rank, stage_removed, child_of, rank_of}
+use Rattle.tree_law.specs.Put.{put}
+use Rattle.tree_law.specs.Shared.{Shared}
+use Rattle.tree_law.specs.Owners.{IsChain, Owner, Free, Spare, Linked, Owners, Reached, Forward, ChainNames, IsLinked, OwnFits, PageFits, OwnsPages, IsCleared, leaf_map, Spells, HeadFits, LinkFits, InOrder, OrderFits, Knows}
+use Rattle.tree_law.specs.Tree.{spec, Page, InPlace, IsPart, HasPage, Level, IsOff, IsOut, Off, Exact, Tree, Good}
+use Rattle.std.specs.Prelude.{not}
+use Rattle.deltas.specs.declared.record.Split.{Split as SplitOf}
+use Rattle.tree_law.specs.Discipline.{HasRead, MaySplit, base_from}
+use Rattle.tree_law.proofs.KeyOrder.{under_trans, upto_trans, below_not, covers_to}
+use Rattle.tree_law.proofs.Puts.{by_test, put_same, put_other}
+use Rattle.tree_law.proofs.Kept.{Kept, placed_reached}
+use Rattle.tree_law.proofs.Sides.{tree_relinked}
+use Rattle.tree_law.proofs.Terms.{exact_fresh}
+use Rattle.tree_law.proofs.Frames.{RowChange, row_own, row_same, PageChange, page_own, page_same, page_link, Change, kept_change, closed_kept}
+use Rattle.tree_law.proofs.Keeping.{put_good, mine_at, off_still}
+use Rattle.tree_law.proofs.Relinking.{placed_level, not_off, Found, not_own, found, place_of}
+
+-- what a split leaves below its separator
+split_below : (split : SplitOf) (c : List Record) (k : Key) → IsBelow k split.separator → content_in (Split split ∷ c) k ≡ content_in c k
+split_below split c k h = ap (λ t. cond (not t) None (content_in c k)) h
+
+module _ {m : Shared} {log : List Update} {o : Owners} {knows : ℕ → Knowledge} {point : ℕ → Option (List Update)} {logs : ℕ → List (List Update)} (g : Good m log o knows point logs) (a : ℕ) where
+  pub keeps_not : (q : ℕ) → o.page q ≡ Keeps a → (l : ℕ) (s : Key) (st : Stage) → o.page q ≡ Placed st l s → ⊥
+  keeps_not q e l s st f = absurd (let i = sym e ∙ f in cc)
+
+  -- the exchange that links a split
+  pub splits : (p x y : ℕ) → m.slots p ≡ Some x → (h : MaySplit (knows a) p x y) → (r : Option Reply) → Good (record m { slots = put m.slots p (Some y) }) log (record { row = put (put o.row h.row Linked) y Linked; page = put o.page h.right (Placed Fresh (level_in h.basis.chain) h.separator); index = o.index }) (put knows a (finished (filled ((knows a).pages p) p x y (knows a)) r)) (put point a (point a)) (put logs a (log ∷ logs a)) × ((st : Stage) × (o.page p ≡ Placed st (level_in h.basis.chain) (low_in h.basis.chain)) × (o.page h.right ≡ Keeps a))
+  splits p x y s h r = (
+    subst (λ (k : Knowledge). Good m' log o' (put knows a (finished k r)) (put point a (point a)) (put logs a (log ∷ logs a))) (sym learned)
+        (put_good g a m' log o' (finished (record (knows a) { rows = put (put (knows a).rows h.row Foreign) y Foreign; pages = put (knows a).pages h.right Other }) r) (point a) (log ∷ logs a)
+        change
+        (record {
+          row = λ j f. by_test j y (λ t. cond t Linked (put o.row h.row Linked j) ≡ Free) (λ i. absurd (let v = g.frees.row j f in let w = ap o.row i ∙ upper.0 in cc))
+              (λ i. by_test j h.row (λ t. cond t Linked (o.row j) ≡ Free) (λ i. absurd (let v = g.frees.row j f in let w = ap o.row i ∙ lower.0 in cc)) (λ i. g.frees.row j f));
+          page = λ j n. by_test j h.right (λ t. (cond t (Placed Fresh (level_in c) h.separator) (o.page j) ≡ Nobody) × (put m.slots p (Some y) j ≡ None)) (λ i. absurd (let v = (g.frees.page j n).0 in let w = ap o.page i ∙ ready.0 in cc))
+              (λ i. ((g.frees.page j n).0, put_other m.slots p (Some y) j (λ i. absurd (let v = sym (g.frees.page j n).0 ∙ ap o.page i ∙ place.placed in cc)) ∙ (g.frees.page j n).1));
+        })
+        (closed_kept o o' m m' kept g.closed (λ j. by_test j y (λ t. cond t Linked (put o.row h.row Linked j) ≡ Linked → (o.row j ≡ Linked) ⊎ IsLinked o' m' j)
+        (λ i l. inr (subst (λ (n : ℕ). IsLinked o' m' n) (sym i) (record { linked = put_same (put o.row h.row Linked) y Linked; content = Split split; stands = upper.1; next = (kept.row x f.linked).0; rest = c; is_rest = f.stands; names = upper_names })))
+        (λ i. by_test j h.row (λ t. cond t Linked (o.row j) ≡ Linked → (o.row j ≡ Linked) ⊎ IsLinked o' m' j)
+        (λ i l. inr (subst (λ (n : ℕ). IsLinked o' m' n) (sym i) (record { linked = linked_lower; content = base; stands = lower.1; next = tt; rest = []; is_rest = refl; names = lower_names })))
+        (λ i l. inl l))))
+        (tree_relinked o o' m m' log log g.closed kept g.tree p (level_in c) (low_in c) place.stage place.placed place.on x s c f.stands (λ q l n st ne e on. (put_other m.slots p (Some y) q ne, (st, put_other o.page h.right (Placed Fresh (level_in c) h.separator) q (λ j. keeps_not h.right ready.0 l n st (sym (ap o.page j) ∙ e)) ∙ e, on, refl))) refl (λ l k n. refl)
+        (record { page = p; row = y; chain = Split split ∷ c } ∷ record { page = h.right; row = h.row; chain = base ∷ [] } ∷ []) (
+          refl,
+          refl,
+          record {
+            stage = place.stage;
+            placed = put_other o.page h.right (Placed Fresh (level_in c) h.separator) p apart ∙ place.placed;
+            on = place.on;
+            flagged = place.flagged;
+            linked = put_same (put o.row h.row Linked) y Linked;
+            is_page = record {
+              head = put_same m.slots p (Some y);
+              is_chain = (upper.1, f.stands);
+              on_level = refl;
+              some = h.above;
+              same = λ k v. split_below split c k v.high ∙ place.is_page.same k (record { low = v.low; high = under_trans k h.separator (high_in c) v.high h.below });
+            };
+          },
+          (
+            refl,
+            refl,
+            record {
+              stage = Fresh;
+              placed = put_same o.page h.right (Placed Fresh (level_in c) h.separator);
+              on = omega arith;
+              flagged = refl;
+              linked = linked_lower;
+              is_page = record {
+                head = put_other m.slots p (Some y) h.right (λ i. apart (sym i)) ∙ ready.1;
+                is_chain = (lower.1, refl);
+                on_level = refl;
+                some = h.below;
+                same = λ k v. h.alike k (covers_to c k (wider k v)) v.low ∙ place.is_page.same k (wider k v);
+              };
+            },
+            (refl, refl),
+          ),
+        )
+        (inl refl)
+        (λ q l k st. by_test q h.right (λ t. cond t (Placed Fresh (level_in c) h.separator) (o.page q) ≡ Placed st l k → rank st ≤ 3 → ((st' : Stage) × (o.page q ≡ Placed st' l k) × (rank st' ≤ 3)) ⊎ ((l ≡ level_in c) × HasPage q (record { page = p; row = y; chain = Split split ∷ c } ∷ record { page = h.right; row = h.row; chain = base ∷ [] } ∷ [])))
+        (λ i e on. inr (sym (placed_level Fresh st (level_in c) l h.separator k e).0, inr (inl (sym i)))) (λ i e on. inl (st, e, on)))
+        (exact_fresh o.page o.index g.tree.top m.root h.right (level_in c) h.separator (keeps_not h.right ready.0) (g.tree.exact.below p (level_in c) (low_in c) place.stage place.placed) g.tree.exact)
+        (λ q l k. by_test q h.right (λ t. IsOff (cond t (Placed Fresh (level_in c) h.separator) (o.page q)) l k → IsOut (o'.page q) (put m.slots p (Some y) q) ⊎ Off o' m' q l k)
+        (λ i e. absurd (not_off Fresh (level_in c) h.separator l k (omega arith) e))
+        (λ i e. off_still g a o' m' kept q l k (put_other m.slots p (Some y) q (λ j. not_off place.stage (level_in c) (low_in c) l k place.on (subst (λ (v : PageOwner). IsOff v l k) (ap o.page j ∙ place.placed) e))) (g.tree.off q l k e))))
+        (λ j. by_test j y (λ t. OwnFits a (cond t Linked (put o.row h.row Linked j)) (m.rows j) (cond t Foreign (put (knows a).rows h.row Foreign j))) (λ i. tt)
+        (λ i. by_test j h.row (λ t. OwnFits a (cond t Linked (o.row j)) (m.rows j) (cond t Foreign ((knows a).rows j))) (λ i. tt) (λ i. g.owns a j)))
+        (λ j. by_test j h.right (λ t. PageFits a (cond t (Placed Fresh (level_in c) h.separator) (o.page j)) (put m.slots p (Some y) j) (cond t Other ((knows a).pages j))) (λ i. tt)
+        (λ i. by_test j p (λ t. PageFits a (o.page j) (cond t (Some y) (m.slots j)) ((knows a).pages j))
+        (λ i. subst (λ (v : OwnPage). PageFits a (o.page j) (Some y) v) (sym (not_own g a j (level_in c) (low_in c) place.stage (ap o.page i ∙ place.placed) ((knows a).pages j) (g.owns_pages a j))) tt)
+        (λ i. g.owns_pages a j)))
+        (mine_at g a o' m' kept)),
+    (place.stage, place.placed, ready.0),
+  )
+    where
+      c : List Record
+      c = h.basis.chain
+
+      f : Found o m p x c
+      f = found g a p x h.basis
+
+      place : InPlace o m (level_in c) (spec log o.index (level_in c)) (record { page = p; row = x; chain = c })
+      place = place_of g a p x c f h.basis.alive s
+
+      split : SplitOf
+      split = record { level = level_in c; next = x; separator = h.separator; page = h.right }
+
+      base : Record
+      base = base_from c h.separator h.items
+
+      upper : (o.row y ≡ Spare a) × (m.rows y ≡ Some (Split split))
+      upper = subst (λ (v : OwnRow). OwnFits a (o.row y) (m.rows y) v) h.placed (g.owns a y)
+
+      lower : (o.row h.row ≡ Spare a) × (m.rows h.row ≡ Some base)
+      lower = subst (λ (v : OwnRow). OwnFits a (o.row h.row) (m.rows h.row) v) h.base (g.owns a h.row)
+
+      ready : (o.page h.right ≡ Keeps a) × (m.slots h.right ≡ Some h.row)
+      ready = subst (λ (v : OwnPage). PageFits a (o.page h.right) (m.slots h.right) v) h.ready (g.owns_pages a h.right)
+
+      apart : p ≢ h.right
+      apart i = absurd (let v = sym place.placed ∙ ap o.page i ∙ ready.0 in cc)
+
+      wider : (k : Key) → Covers (base ∷ []) k → Covers c k
+      wider k v = record { low = upto_trans (low_in c) h.separator k (below_not (low_in c) h.separator h.above) v.low; high = v.high }
+
+      m' : Shared
+      m' = record m { slots = put m.slots p (Some y) }
+
+      o' : Owners
+      o' = record { row = put (put o.row h.row Linked) y Linked; page = put o.page h.right (Placed Fresh (level_in c) h.separator); index = o.index }
+
+      linked_lower : o'.row h.row ≡ Linked
+      linked_lower = by_test h.row y (λ t. cond t Linked (put o.row h.row Linked h.row) ≡ Linked) (λ i. refl) (λ i. put_same o.row h.row Linked)
+
+      change : Change a o o' m m'
+      change = record {
+        row = λ j. by_test j y (λ t. RowChange a (o.row j) (cond t Linked (put o.row h.row Linked j)) (m.rows j) (m.rows j)) (λ i. row_own (ap o.row i ∙ upper.0))
+            (λ i. by_test j h.row (λ t. RowChange a (o.row j) (cond t Linked (o.row j)) (m.rows j) (m.rows j)) (λ i. row_own (ap o.row i ∙ lower.0)) (λ i. row_same refl refl));
+        page = λ j. by_test j h.right (λ t. PageChange a o m m' (o.page j) (cond t (Placed Fresh (level_in c) h.separator) (o.page j)) (m.slots j) (put m.slots p (Some y) j)) (λ i. page_own (ap o.page i ∙ ready.0))
+            (λ i. by_test j p (λ t. PageChange a o m m' (o.page j) (o.page j) (m.slots j) (cond t (Some y) (m.slots j))) (λ i. page_link place.stage place.stage (level_in c) (low_in c) (ap o.page i ∙ place.placed) (ap o.page i ∙ place.placed) (omega arith) x y c (ap m.slots i ∙ s) f.stands h.basis.alive refl upper.0) (λ i. page_same refl refl));
+      }
+
+      kept : Kept o o' m m'
+      kept = kept_change a o o' m m' change
+
+      upper_names : ChainNames o' (Split split ∷ c)
+      upper_names = record {
+        right = λ q e. (h.separator, refl, subst (λ (n : ℕ). Reached 0 (level_in c) h.separator (o'.page n)) (same_Some h.right q e) (placed_reached (level_in c) h.separator Fresh (o'.page h.right) (put_same o.page h.right (Placed Fresh (level_in c) h.separator))));
+        items = λ l k i e v d. kept.page (child_of i) (rank_of i) l k (f.names.items l k i e (record { low = v.low; high = under_trans k h.separator (high_in c) v.high h.below }) (sym (split_below split c k v.high) ∙ d));
+      }
+
+      lower_names : ChainNames o' (base ∷ [])
+      lower_names = record {
+        right = λ q e. let i = f.names.right q e in (i.0, i.1, kept.page q 0 (level_in c) i.0 i.2);
+        items = λ l k i e v d. kept.page (child_of i) (rank_of i) l k (f.names.items l k i e (wider k v) (sym (h.alike k (covers_to c k (wider k v)) v.low) ∙ d));
+      }
+
+      learned : filled ((knows a).pages p) p x y (knows a) ≡ record (knows a) { rows = put (put (knows a).rows h.row Foreign) y Foreign; pages = put (knows a).pages h.right Other }
+      learned = rw (not_own g a p (level_in c) (low_in c) place.stage place.placed ((knows a).pages p) (g.owns_pages a p), h.placed, h.ready) refl
+

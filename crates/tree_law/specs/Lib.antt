@@ -1,0 +1,13 @@
+pub mod Discipline
+pub mod Keys
+pub mod Knowledge
+pub mod Laws
+pub mod Next
+pub mod Owners
+pub mod Parted
+pub mod Phase
+pub mod Phases
+pub mod Put
+pub mod Replies
+pub mod Shared
+pub mod Tree
