@@ -74,7 +74,7 @@ module _ (limits : Limits) (actor : ℕ) (k : Knowledge) (c : Command) (chain : 
   allowed : (state : State) (s : Step Record) → wanted_at c state ≡ Some s → Stands limits actor c chain spares k state → May actor k s
   allowed Begun s e h = cc
   allowed Epoch s e h = subst (May actor k) (same_Some _ _ e) tt
-  allowed (Enter epoch) s e h = subst (May actor k) (same_Some _ _ e) (h.0.outside, h.2)
+  allowed (Enter epoch) s e h = subst (May actor k) (same_Some _ _ e) h.2
   allowed Root s e h = subst (May actor k) (same_Some _ _ e) (h.0.inside, inl refl)
   allowed (Slot pid) s e h = subst (May actor k) (same_Some _ _ e) (h.0.inside, inr h.3)
   allowed (Row pid head row) s e h = subst (May actor k) (same_Some _ _ e) (h.0.inside, h.2.named)
@@ -82,7 +82,7 @@ module _ (limits : Limits) (actor : ℕ) (k : Knowledge) (c : Command) (chain : 
   allowed (Take pid head row) s e h = subst (May actor k) (same_Some _ _ e) tt
   allowed (Place pid head row) s e h = subst (May actor k) (same_Some _ _ e) (h.0.seeks.inside, h.1.0)
   allowed (Exchange pid head row) s e h = subst (May actor k) (same_Some _ _ e) (inl (links pid head row h.0 h.2))
-  allowed (Leave answered) s e h = subst (May actor k) (same_Some _ _ e) h.0.inside
+  allowed (Leave answered) s e h = subst (May actor k) (same_Some _ _ e) tt
   allowed Over s e h = cc
 
 -- a step asked for at a state that shows what is known

@@ -1,5 +1,5 @@
 //! One operation as a machine, apart from the memory: it wants one step at a time, and goes on by the answer.
-ghost use Rattle.std.specs.Prelude.{◌≡◌, ◌<◌, ◌≤◌, ◌*◌, ◌&&◌, ℕ, List, Some, None, IsSome, length, nat_lt};
+ghost use Rattle.std.specs.Prelude.{◌≡◌, ◌<◌, ◌≤◌, ◌*◌, ◌&&◌, ◌++◌, ◌∷◌, [], ℕ, List, Some, None, IsSome, length, nat_lt, if◌then◌else◌};
 ghost use Rattle.std.specs.Option.{ForSome};
 ghost use Rattle.chain_search.specs.Knowledge.{Knowledge, begun};
 ghost use Rattle.deltas.specs.Records.{next_row};
@@ -334,6 +334,7 @@ impl Op {
         ensures goes { Advances self.old hand.old (State.Exchange pid head row) (Answer.Whether won) self.new hand.new result }
         ensures within { IsWithin self.old.limits result }
         ensures hand { IsHand self.old.limits (rows_in_flight self.new.state) hand.new }
+        ensures spare { hand.new ≡ (if won then hand.old else hand.old ++ row ∷ []) }
         ensures same { IsSameOp self.old self.new }
     {
         if !won {
