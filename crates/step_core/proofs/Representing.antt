@@ -1,5 +1,5 @@
 -- Cells go on standing for the memory.
-use Rattle.std.proofs.Common.{◌≡◌, ◌≢◌, ◌<◌, ◌≤◌, ◌+◌, ◌*◌, ◌/◌, ◌%◌, ◌^◌, ◌⊎◌, ℕ, zero, suc, List, [], ◌∷◌, length, Some, None, Option, set, get_or, Bool, true, false, eqb, eq-eqb, ne_eqb, inl, inr, refl, sym, ap, subst, arith, ◌∙◌, get_or-set_same, get_or-set_other}
+use Rattle.std.proofs.Common.{◌≡◌, ◌≢◌, ◌<◌, ◌+◌, ◌*◌, ◌/◌, ◌%◌, ◌^◌, ℕ, zero, suc, List, [], ◌∷◌, length, Some, None, Option, set, Bool, true, false, eqb, eq-eqb, inl, inr, refl, sym, ap, subst, arith, ◌∙◌, get_or-set_same, get_or-set_other}
 use Rattle.std.specs.Prelude.{slice_get, slice_index, is_some, IsTrue, if◌then◌else◌, bit_and, bit_or, ◌||◌}
 use Rattle.std.specs.Int.{bit_not, w64}
 use Rattle.bw_model.specs.declared.limits.Limits.{Limits}
@@ -11,9 +11,9 @@ use Rattle.deltas.specs.declared.record.Record.{Record}
 use Rattle.deltas.specs.Memory.{Memory, replaced_at}
 use Rattle.chain_search.specs.Steps.{IsAnswer, IsWordOf, is_among, memory_after}
 use Rattle.step_core.specs.Cells.{AreSound, Cells, is_free, without}
-use Rattle.step_core.specs.CellSteps.{IsWithin, Takes}
-use Rattle.step_core.specs.Placed.{Asks}
-use Rattle.step_core.specs.Represents.{Represents, is_placed}
+use Rattle.op_machine.specs.Wants.{IsWithin}
+use Rattle.step_core.specs.CellSteps.{Takes}
+use Rattle.step_core.specs.Represents.{Asks, Represents, is_placed}
 use Rattle.step_core.proofs.FreeBits.{bit_cleared, bit_is_free, bits_set, same_or_not, word_apart, word_kept}
 use Rattle.step_core.proofs.Replaced.{replaced_other, replaced_same}
 

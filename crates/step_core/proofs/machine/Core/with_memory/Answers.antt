@@ -1,5 +1,4 @@
 use Rattle.std.proofs.Common.{◌≡◌, length, arith, inl, inr, ◌∙◌}
-use Rattle.std.specs.Vec.{vec_len}
 use Rattle.chain_search.proofs.Pushes.{slice_get-push_cases}
 use Rattle.step_core.proofs.Cored.{core_opens}
 use Rattle.step_core.proofs.machine.Core.with_memory.Goals as goal

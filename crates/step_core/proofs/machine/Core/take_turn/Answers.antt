@@ -1,6 +1,6 @@
 use Rattle.step_core.proofs.Linked.{turned}
-use Rattle.step_core.proofs.machine.Core.turn.Goals as goal
-use Rattle.step_core.proofs.machine.Core.turn.Goals.{in-Begin, in-Step}
+use Rattle.step_core.proofs.machine.Core.take_turn.Goals as goal
+use Rattle.step_core.proofs.machine.Core.take_turn.Goals.{in-Begin, in-Step}
 
 pub returns-clause-ok : goal.returns-clause-ok
 returns-clause-ok c =
