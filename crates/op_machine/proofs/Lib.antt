@@ -10,3 +10,6 @@ pub mod RowReuse
 pub mod Refused
 pub mod ClaimedInsert
 pub mod PairLaws
+pub mod FrontLaws
+pub mod SpareLaws
+pub mod Moves

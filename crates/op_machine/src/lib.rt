@@ -1,18 +1,24 @@
 //! Operations, as the steps of one actor, and the laws of their runs.
 #![tactic(auto)]
 
+mod chain;
 mod examples;
+mod hand;
 mod laws;
 mod link;
 mod listing;
+mod op;
 
+pub use chain::{Chain, MAX_RECORDS};
 pub use examples::{
     claimed_insert_is_refused, hurried_reuse_is_refused, insert_and_lookup_is_linearized,
     lookup_is_linearized, page_lives, row_is_freed, unnamed_read_is_refused,
     useless_links_are_refused,
 };
+pub use hand::Hand;
 pub use laws::{
     knowledge_stays, late_mark_keeps_log, log_grows, one_leaf_has_the_map, phases_grow,
 };
 pub use link::exchange_link;
 pub use listing::logged_pairs;
+pub use op::{Op, Want};

@@ -16,13 +16,15 @@ use Rattle.chain_search.specs.Steps.{IsAnswer, memory_after}
 use Rattle.chain_search.specs.Trace.{command_of, commands_after, memory_of}
 use Rattle.chain_search.proofs.TraceLaws.{command_of-push, memory_of-push}
 use Rattle.step_core.specs.declared.actor.Actor.{Actor}
-use Rattle.step_core.specs.Actors.{IsActor, command_left, running_command}
+use Rattle.chain_search.specs.Discipline.{IsAllowed, May}
+use Rattle.chain_search.specs.Knowledge.{Knowledge, begun, finished, knows, knows_after, learn}
+use Rattle.core_law.proofs.Growth.{begins, opens, steps}
+use Rattle.op_machine.specs.Wants.{IsWithin}
+use Rattle.step_core.specs.Actors.{IsActor, IsReady, command_left, knows_then, running_command}
 use Rattle.step_core.specs.Cells.{Cells, AreSound}
-use Rattle.step_core.specs.CellSteps.{IsWithin, Takes}
-use Rattle.step_core.specs.Placed.{ActorKnows, Asks, Shows}
-use Rattle.step_core.specs.Represents.{Represents, is_placed}
-use Rattle.step_core.proofs.Closing.{closed_after, opening_closed, placed_kept, shows_after}
-use Rattle.step_core.proofs.Placing.{actor_more}
+use Rattle.step_core.specs.CellSteps.{Takes}
+use Rattle.step_core.specs.Represents.{Asks, Represents, is_placed}
+use Rattle.step_core.proofs.Lawful.{asks, knows-push, served_at}
 use Rattle.step_core.proofs.Representing.{takes}
 use Rattle.step_core.specs.Cores.{IsCore}
 use Rattle.step_core.specs.Turns.{Core, refused_by, refusal_of}
@@ -54,65 +56,63 @@ each_set actors i new old now each own others a at e = elim (set_cases actors i 
   | inr h ↦ each a at h.1 ∙ sym (others a h.0)
 ]
 
-sound_set : (limits : Limits) (actors : List Actor) (i : ℕ) (new : Actor) → ((a : ℕ) (at : Actor) → slice_get actors a ≡ Some at → IsActor limits at) → IsActor limits new
-    → (a : ℕ) (at : Actor) → slice_get (set actors i new) a ≡ Some at → IsActor limits at
-sound_set limits actors i new each own a at e = elim (set_cases actors i new a at e) [
-  | inl h ↦ subst (IsActor limits) (sym h.1) own
-  | inr h ↦ each a at h.1
-]
-
-knows_set : (actors : List Actor) (i : ℕ) (new : Actor) (placed : ℕ → Bool) → ((a : ℕ) (at : Actor) → slice_get actors a ≡ Some at → ActorKnows placed at) → ActorKnows placed new
-    → (a : ℕ) (at : Actor) → slice_get (set actors i new) a ≡ Some at → ActorKnows placed at
-knows_set actors i new placed each own a at e = elim (set_cases actors i new a at e) [
-  | inl h ↦ subst (ActorKnows placed) (sym h.1) own
-  | inr h ↦ each a at h.1
+-- each actor shows what the longer trace lets it know, where one actor learns something
+shows_set : (limits : Limits) (actors : List Actor) (i : ℕ) (new : Actor) (old now : ℕ → Knowledge) → ((a : ℕ) (at : Actor) → slice_get actors a ≡ Some at → IsActor limits a (old a) at)
+    → IsActor limits i (now i) new → ((a : ℕ) → a ≢ i → now a ≡ old a) → (a : ℕ) (at : Actor) → slice_get (set actors i new) a ≡ Some at → IsActor limits a (now a) at
+shows_set limits actors i new old now each own others a at e = elim (set_cases actors i new a at e) [
+  | inl h ↦ rw (h.0, h.1) own
+  | inr h ↦ subst (λ k. IsActor limits a k at) (sym (others a h.0)) (each a at h.1)
 ]
 
 module _ (limits : Limits) where
   pub core_opens : (cells : Cells) (actors : List Actor) (entries : List Entry) → AreSound limits cells → Represents limits cells (opening limits) → length actors ≡ limits.actors
       → ((a : ℕ) (at : Actor) → slice_get actors a ≡ Some at → at ≡ record { hand = []; running = None }) → entries ≡ [] → IsCore limits cells actors entries
   core_opens cells actors entries sound is count each none = rw none (record {
+    state = opens limits;
     cells_sound = sound;
-    count = count;
-    each_sound = λ a at e. rw (each a at e) (record { rows = λ k d h. absurd (omega arith); room = omega arith });
-    each_running = λ a at e. rw (each a at e) refl;
     represented = is;
-    closed = opening_closed limits;
-    each_knows = λ a at e. rw (each a at e) tt;
+    count = count;
+    each_shows = λ a at e. rw (each a at e) (record { hand = record { rows = λ k d h. absurd (omega arith); room = omega arith }; rests = record { outside = refl; spare = tt } });
+    each_running = λ a at e. rw (each a at e) refl;
   })
 
   -- the actor of a turn that isn't refused
   pub core_begins : (cells : Cells) (actors : List Actor) (entries : List Entry) (i j : ℕ) (old : Actor) (command : Command) → IsCore limits cells actors entries
       → (room : ℕ) (v : Core) → record { limits = limits; entries = entries; room = room } ≡ v → refusal_of v (turn.Begin i command) ≡ None → j ≡ i → old ≡ get_or actors j old
-      → (j < length actors) × IsActor limits old × (running_command old ≡ None)
+      → (j < length actors) × IsActor limits i (knows entries i) old × (running_command old ≡ None)
   core_begins cells actors entries i j old command core room v is refusal same at =
       let goes : (i < limits.actors) × (command_of entries i ≡ None) = begin_goes (record { limits = limits; entries = entries; room = room }) i command (subst (λ u. refusal_of u (turn.Begin i command) ≡ None) (sym is) refusal) in
       let lt : i < length actors = rw core.count goes.0 in
       let found : slice_get actors i ≡ Some old = get_is actors i old lt (subst (λ k. old ≡ get_or actors k old) same at) in
-      (rw same lt, core.each_sound i old found, core.each_running i old found ∙ goes.1)
+      (rw same lt, core.each_shows i old found, core.each_running i old found ∙ goes.1)
 
   pub core_asks : (cells : Cells) (actors : List Actor) (entries : List Entry) (i j : ℕ) (old : Actor) → IsCore limits cells actors entries
       → (room : ℕ) (v : Core) → record { limits = limits; entries = entries; room = room } ≡ v → refusal_of v (turn.Step i) ≡ None → j ≡ i → old ≡ get_or actors j old
-      → (i < limits.actors) × (j < length actors) × IsActor limits old × (is_some (running_command old) ≡ true)
+      → (i < limits.actors) × (j < length actors) × IsReady limits i (knows entries i) cells old × (is_some (running_command old) ≡ true)
   core_asks cells actors entries i j old core room v is refusal same at =
       let goes : (i < limits.actors) × (is_some (command_of entries i) ≡ true) = step_goes (record { limits = limits; entries = entries; room = room }) i (subst (λ u. refusal_of u (turn.Step i) ≡ None) (sym is) refusal) in
       let lt : i < length actors = rw core.count goes.0 in
       let found : slice_get actors i ≡ Some old = get_is actors i old lt (subst (λ k. old ≡ get_or actors k old) same at) in
-      (goes.0, rw same lt, core.each_sound i old found, ap is_some (core.each_running i old found) ∙ goes.1)
+      let shows = core.each_shows i old found in
+      (goes.0, rw same lt, (shows, served_at limits entries core.state i cells core.represented core.cells_sound goes.0 old.hand old.running shows), ap is_some (core.each_running i old found) ∙ goes.1)
 
-  pub core_begun : (cells : Cells) (actors : List Actor) (entries entries' : List Entry) (i j : ℕ) (new : Actor) (command : Command) → IsCore limits cells actors entries → j ≡ i
-      → IsActor limits new → running_command new ≡ Some command → ((placed : ℕ → Bool) → ActorKnows placed new) → entries' ≡ entries ++ Begin i command ∷ [] → IsCore limits cells (set actors j new) entries'
-  core_begun cells actors entries entries' i j new command core same sound runs knows grown = rw (grown, same) (record {
-    cells_sound = core.cells_sound;
-    count = set_length actors i new ∙ core.count;
-    each_sound = sound_set limits actors i new core.each_sound sound;
-    each_running = rw command_of-push (each_set actors i new (command_of entries) (commands_after (command_of entries) (Begin i command)) core.each_running
-        (runs ∙ sym (replaced_same i (Some command) (command_of entries)))
-        (λ a other. replaced_other i (Some command) (command_of entries) a other));
-    represented = rw memory_of-push core.represented;
-    closed = rw memory_of-push core.closed;
-    each_knows = rw memory_of-push (knows_set actors i new (is_placed (memory_of limits entries)) core.each_knows (knows (is_placed (memory_of limits entries))));
-  })
+  pub core_begun : (cells : Cells) (actors : List Actor) (entries entries' : List Entry) (i j : ℕ) (new : Actor) (command : Command) → IsCore limits cells actors entries
+      → (room : ℕ) (v : Core) → record { limits = limits; entries = entries; room = room } ≡ v → refusal_of v (turn.Begin i command) ≡ None → j ≡ i
+      → IsActor limits i (begun (knows entries i) command) new → running_command new ≡ Some command → entries' ≡ entries ++ Begin i command ∷ [] → IsCore limits cells (set actors j new) entries'
+  core_begun cells actors entries entries' i j new command core room v is refusal same shows runs grown =
+      let goes : (i < limits.actors) × (command_of entries i ≡ None) = begin_goes (record { limits = limits; entries = entries; room = room }) i command (subst (λ u. refusal_of u (turn.Begin i command) ≡ None) (sym is) refusal) in
+      rw (grown, same) (record {
+        state = begins limits entries i command core.state goes.0 goes.1;
+        cells_sound = core.cells_sound;
+        represented = rw memory_of-push core.represented;
+        count = set_length actors i new ∙ core.count;
+        each_shows = rw knows-push (shows_set limits actors i new (knows entries) (knows_after (knows entries) (Begin i command)) core.each_shows
+            (subst (λ k. IsActor limits i k new) (sym (replaced_same i (begun (knows entries i) command) (knows entries))) shows)
+            (λ a other. replaced_other i (begun (knows entries i) command) (knows entries) a other));
+        each_running = rw command_of-push (each_set actors i new (command_of entries) (commands_after (command_of entries) (Begin i command)) core.each_running
+            (runs ∙ sym (replaced_same i (Some command) (command_of entries)))
+            (λ a other. replaced_other i (Some command) (command_of entries) a other));
+      })
 
   -- the commands after a step
   left_same : (commands : ℕ → Option Command) (i : ℕ) (step : StepOf Record) (answer : Answer Record) (reply : Option Reply) → command_left reply (commands i) ≡ commands_after commands (Step i step answer reply) i
@@ -124,34 +124,29 @@ module _ (limits : Limits) where
   left_other commands i step answer (Some reply) a other = replaced_other i None commands a other
 
   -- what the step of an actor was
-  pub core_took : (cells cells' : Cells) (actors : List Actor) (entries : List Entry) (i j : ℕ) (old : Actor) (step : StepOf Record) (answer : Answer Record) → IsCore limits cells actors entries → j ≡ i → j < length actors → old ≡ get_or actors j old
-      → i < limits.actors → IsWithin limits step → Takes i cells step answer cells' → ((placed : ℕ → Bool) → ActorKnows placed old → Asks placed step)
-      → Asks (is_placed (memory_of limits entries)) step × IsAnswer (memory_of limits entries) step answer × Represents limits cells' (memory_after i step (memory_of limits entries))
-  core_took cells cells' actors entries i j old step answer core same lt at who within took asks =
-      let found : slice_get actors i ≡ Some old = get_is actors i old (rw (sym same) lt) (subst (λ k. old ≡ get_or actors k old) same at) in
-      let asked : Asks (is_placed (memory_of limits entries)) step = asks (is_placed (memory_of limits entries)) (core.each_knows i old found) in
+  pub core_took : (cells cells' : Cells) (actors : List Actor) (entries : List Entry) (i : ℕ) (step : StepOf Record) (answer : Answer Record) → IsCore limits cells actors entries → i < limits.actors → IsWithin limits step → Takes i cells step answer cells'
+      → May i (knows entries i) step → Asks (is_placed (memory_of limits entries)) step × IsAnswer (memory_of limits entries) step answer × Represents limits cells' (memory_after i step (memory_of limits entries))
+  core_took cells cells' actors entries i step answer core who within took may =
+      let asked : Asks (is_placed (memory_of limits entries)) step = asks limits entries core.state i step may in
       let kept = takes limits cells cells' (memory_of limits entries) i step answer core.represented core.cells_sound within who asked took in
       (asked, kept.0, kept.1)
 
   pub core_stepped : (cells cells' : Cells) (actors : List Actor) (entries entries' : List Entry) (i j : ℕ) (old new : Actor) (step : StepOf Record) (answer : Answer Record) (reply : Option Reply) → IsCore limits cells actors entries
-      → j ≡ i → j < length actors → old ≡ get_or actors j old → IsActor limits new → running_command new ≡ command_left reply (running_command old) → AreSound limits cells'
-      → Asks (is_placed (memory_of limits entries)) step × IsAnswer (memory_of limits entries) step answer × Represents limits cells' (memory_after i step (memory_of limits entries))
-      → ((placed : ℕ → Bool) → ActorKnows placed old → Shows placed step answer → ActorKnows placed new)
+      → j ≡ i → j < length actors → old ≡ get_or actors j old → is_some (running_command old) ≡ true → IsAllowed limits i (knows entries i) step reply → IsActor limits i (knows_then (knows entries i) step answer reply) new
+      → running_command new ≡ command_left reply (running_command old) → AreSound limits cells' → IsAnswer (memory_of limits entries) step answer → Represents limits cells' (memory_after i step (memory_of limits entries))
       → entries' ≡ entries ++ Step i step answer reply ∷ [] → IsCore limits cells' (set actors j new) entries'
-  core_stepped cells cells' actors entries entries' i j old new step answer reply core same lt at sound runs sound' kept knows grown =
-      let memory = memory_of limits entries in
-      let more = is_placed (memory_after i step memory) in
-      let grows = placed_kept memory i step in
+  core_stepped cells cells' actors entries entries' i j old new step answer reply core same lt at some allowed shows runs sound' answered kept grown =
       let found : slice_get actors i ≡ Some old = get_is actors i old (rw (sym same) lt) (subst (λ k. old ≡ get_or actors k old) same at) in
+      let going : is_some (command_of entries i) ≡ true = ap is_some (sym (core.each_running i old found)) ∙ some in
       rw (grown, same) (record {
+        state = steps limits entries i step answer reply core.state going allowed answered;
         cells_sound = sound';
+        represented = rw memory_of-push kept;
         count = set_length actors i new ∙ core.count;
-        each_sound = sound_set limits actors i new core.each_sound sound;
+        each_shows = rw knows-push (shows_set limits actors i new (knows entries) (knows_after (knows entries) (Step i step answer reply)) core.each_shows
+            (subst (λ k. IsActor limits i k new) (sym (replaced_same i (finished (learn (knows entries i) step answer) reply) (knows entries))) shows)
+            (λ a other. replaced_other i (finished (learn (knows entries i) step answer) reply) (knows entries) a other));
         each_running = rw command_of-push (each_set actors i new (command_of entries) (commands_after (command_of entries) (Step i step answer reply)) core.each_running
             (runs ∙ ap (command_left reply) (core.each_running i old found) ∙ left_same (command_of entries) i step answer reply)
             (left_other (command_of entries) i step answer reply));
-        represented = rw memory_of-push kept.2;
-        closed = rw memory_of-push (closed_after memory i step core.closed kept.0);
-        each_knows = rw memory_of-push (knows_set actors i new more (λ a other e. actor_more (is_placed memory) more grows other (core.each_knows a other e))
-            (knows more (actor_more (is_placed memory) more grows old (core.each_knows i old found)) (shows_after memory i step answer core.closed kept.1)));
       })

@@ -1,10 +1,9 @@
-pub mod Answering
-pub mod Closing
 pub mod Cored
 pub mod FreeBits
+pub mod Going
+pub mod Lawful
 pub mod Linked
 pub mod Opening
-pub mod Placing
 pub mod Replaced
 pub mod Representing
 pub mod Stopping

@@ -20,12 +20,11 @@ use Rattle.step_core.specs.declared.event.Event.{Event}
 use Rattle.step_core.specs.Cells.{Cells, AreSound}
 use Rattle.op_machine.specs.Links.{link_without}
 use Rattle.step_core.specs.CellLinks.{exchange_link, link_in, step_event}
-use Rattle.step_core.specs.CellSteps.{IsWithin}
+use Rattle.op_machine.specs.Wants.{IsWithin}
 use Rattle.chain_search.specs.Steps.{IsAnswer, memory_after}
 use Rattle.deltas.specs.Memory.{Memory}
 use Rattle.step_core.specs.declared.event.Event.TheVariants.{Stepped}
-use Rattle.step_core.specs.Placed.{Asks}
-use Rattle.step_core.specs.Represents.{IsClosed, Represents, is_placed}
+use Rattle.step_core.specs.Represents.{Asks, HasHeads, Represents, is_placed}
 use Rattle.step_core.specs.Turns.{AddsTurn, Core, IsEventOf, IsToldBy, is_won, link_told}
 
 positive : (n : ℕ) → eqb n 0 ≡ false → 0 < n
@@ -64,7 +63,7 @@ told_at f (Some x) p same some = ap (option_map f) (same x refl)
 eqb_is : (a b : ℕ) → eqb a b ≡ true → a ≡ b
 eqb_is a b h = grind (arith, nat_tests)
 
-told : (limits : Limits) (cells : Cells) (memory : Memory) (actor : ℕ) (step : StepOf Record) (answer : Answer Record) → Represents limits cells (memory_after actor step memory) → IsClosed memory → Asks (is_placed memory) step
+told : (limits : Limits) (cells : Cells) (memory : Memory) (actor : ℕ) (step : StepOf Record) (answer : Answer Record) → Represents limits cells (memory_after actor step memory) → HasHeads memory → Asks (is_placed memory) step
     → IsAnswer memory step answer → link_in cells step answer ≡ link_told memory step answer
 told limits cells memory actor (Exchange slot old new) (Whether true) is closed asks answered = go (eqb slot 0) refl (eqb old 0) refl (eqb new 0) refl
   where
@@ -84,8 +83,8 @@ told limits cells memory actor (Exchange slot old new) (Whether true) is closed 
     go false s true p n q = refl
     go false s false p true q =
         told_at link_without (memory.rows old) (slice_get cells.records old) (is.rows old)
-        (subst (λ row. IsTrue (is_placed memory row)) before (closed.heads slot (positive slot s) (subst (λ row. 0 < row) (sym before) (positive old p))))
-    go false s false p false q = told_at record_link (memory.rows new) (slice_get cells.records new) (is.rows new) (asks (positive slot s) (positive new q))
+        (subst (λ row. IsTrue (is_placed memory row)) before (closed slot (positive slot s) (subst (λ row. 0 < row) (sym before) (positive old p))))
+    go false s false p false q = told_at record_link (memory.rows new) (slice_get cells.records new) (is.rows new) asks
 told limits cells memory actor (Exchange slot old new) (Whether false) is closed asks answered = refl
 told limits cells memory actor (Exchange slot old new) Start is closed asks answered = refl
 told limits cells memory actor (Exchange slot old new) (Number n) is closed asks answered = refl
@@ -94,7 +93,7 @@ told limits cells memory actor (Exchange slot old new) Done is closed asks answe
 told limits cells memory actor step answer is closed asks answered = refl
 
 pub event_is : (limits : Limits) (cells : Cells) (memory : Memory) (actor : ℕ) (step : StepOf Record) (answer : Answer Record) (reply : Option Reply) (event : Event) → AreSound limits cells → IsWithin limits step
-    → Represents limits cells (memory_after actor step memory) → IsClosed memory → Asks (is_placed memory) step → IsAnswer memory step answer
+    → Represents limits cells (memory_after actor step memory) → HasHeads memory → Asks (is_placed memory) step → IsAnswer memory step answer
     → event ≡ step_event (link_in cells step answer) reply → IsEventOf memory (entry.Step actor step answer reply) event
 event_is limits cells memory actor step answer None event sound within stands closed asks answered is =
     let same : link_in cells step answer ≡ link_told memory step answer = told limits cells memory actor step answer stands closed asks answered in

@@ -11,9 +11,9 @@ use Rattle.deltas.specs.declared.record.Record.{Record}
 use Rattle.deltas.specs.Memory.{Memory, replaced_at}
 use Rattle.chain_search.specs.Steps.{IsAnswer, IsWordOf, is_among, memory_after}
 use Rattle.step_core.specs.Cells.{AreSound, Cells, is_free, without}
-use Rattle.step_core.specs.CellSteps.{IsWithin, Takes}
-use Rattle.step_core.specs.Placed.{Asks}
-use Rattle.step_core.specs.Represents.{Represents, is_placed}
+use Rattle.op_machine.specs.Wants.{IsWithin}
+use Rattle.step_core.specs.CellSteps.{Takes}
+use Rattle.step_core.specs.Represents.{Asks, Represents, is_placed}
 use Rattle.step_core.proofs.FreeBits.{bit_cleared, bit_is_free, bits_set, same_or_not, word_apart, word_kept}
 use Rattle.step_core.proofs.Replaced.{replaced_other, replaced_same}
 

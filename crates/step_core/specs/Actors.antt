@@ -3,25 +3,52 @@ use Rattle.std.specs.Prelude.{◌≡◌, ℕ, List, Option, Some, None}
 use Rattle.bw_model.specs.declared.command.Command.{Command}
 use Rattle.bw_model.specs.declared.command.Reply.{Reply}
 use Rattle.bw_model.specs.declared.limits.Limits.{Limits}
+use Rattle.bw_model.specs.declared.step.Answer.{Answer}
+use Rattle.bw_model.specs.declared.step.Step.{Step as StepOf}
+use Rattle.deltas.specs.declared.record.Record.{Record}
+use Rattle.chain_search.specs.Fitting.{Fits}
+use Rattle.chain_search.specs.Knowledge.{Knowledge, learn, finished}
+use Rattle.op_machine.specs.Hands.{IsHand}
+use Rattle.op_machine.specs.Shows.{Goes, Rests}
+use Rattle.op_machine.specs.Wants.{IsWithin, rows_in_flight}
 use Rattle.step_core.specs.declared.actor.Actor.{Actor}
 use Rattle.step_core.specs.declared.actor.Running.{Running}
-use Rattle.step_core.specs.CellSteps.{IsWithin}
-use Rattle.step_core.specs.Hands.{IsHand}
-use Rattle.step_core.specs.Wants.{rows_in_flight, wanted_of}
+use Rattle.step_core.specs.Cells.{Cells}
+use Rattle.step_core.specs.CellSteps.{Takes}
 
--- An operation that is under way, with the step that it wants.
-pub record IsRunning (limits : Limits) (spares : List ℕ) (running : Running) : Type 0 where
+-- An operation that is under way, with the step that it wants, which its actor may take by what it knows.
+pub record IsRunning (limits : Limits) (actor : ℕ) (k : Knowledge) (spares : List ℕ) (running : Running) : Type 0 where
   pub own_limits : running.op.limits ≡ limits
-  pub asked : wanted_of running.op.command running.op.state ≡ Some running.wanted
+  pub own_actor : running.op.actor ≡ actor
   pub within : IsWithin limits running.wanted
   pub hand : IsHand limits (rows_in_flight running.op.state) spares
+  pub goes : Goes k running.op spares running.wanted
 
-abbrev pub IsAt : Limits → List ℕ → Option Running → Type 0
-IsAt limits spares None = IsHand limits 0 spares
-IsAt limits spares (Some running) = IsRunning limits spares running
+-- An actor between operations.
+pub record IsIdle (limits : Limits) (k : Knowledge) (spares : List ℕ) : Type 0 where
+  pub hand : IsHand limits 0 spares
+  pub rests : Rests spares k
 
-abbrev pub IsActor : Limits → Actor → Type 0
-IsActor limits actor = IsAt limits actor.hand actor.running
+abbrev pub IsAt : Limits → ℕ → Knowledge → List ℕ → Option Running → Type 0
+IsAt limits actor k spares None = IsIdle limits k spares
+IsAt limits actor k spares (Some running) = IsRunning limits actor k spares running
+
+-- What the actor keeps shows what it knows.
+abbrev pub IsActor : Limits → ℕ → Knowledge → Actor → Type 0
+IsActor limits actor k at = IsAt limits actor k at.hand at.running
+
+-- Whatever the cells answer to the step fits what the actor knows.
+abbrev pub IsServed : Limits → ℕ → Knowledge → Cells → StepOf Record → Type 0
+IsServed limits actor k cells step = (answer : Answer Record) (after : Cells) → Takes actor cells step answer after → Fits limits k step answer
+
+-- The operation goes on, or is done with the reply.
+abbrev pub IsLeft : Limits → ℕ → Knowledge → List ℕ → Running → Option Reply → Type 0
+IsLeft limits actor k spares running None = IsRunning limits actor k spares running
+IsLeft limits actor k spares running (Some reply) = IsIdle limits k spares
+
+-- what the actor knows after its step
+abbrev pub knows_then : Knowledge → StepOf Record → Answer Record → Option Reply → Knowledge
+knows_then k step answer reply = finished (learn k step answer) reply
 
 abbrev pub command_at : Option Running → Option Command
 command_at None = None
@@ -30,6 +57,14 @@ command_at (Some running) = Some running.op.command
 -- the command of its operation, if it has one
 abbrev pub running_command : Actor → Option Command
 running_command actor = command_at actor.running
+
+abbrev pub IsServedAt : Limits → ℕ → Knowledge → Cells → Option Running → Type 0
+IsServedAt limits actor k cells None = Unit {0}
+IsServedAt limits actor k cells (Some running) = IsServed limits actor k cells running.wanted
+
+-- What the actor keeps shows what it knows, and what the cells answer to the step that it wants will fit that.
+abbrev pub IsReady : Limits → ℕ → Knowledge → Cells → Actor → Type 0
+IsReady limits actor k cells at = IsActor limits actor k at × IsServedAt limits actor k cells at.running
 
 -- the command that is left after a step with the reply
 abbrev pub command_left : Option Reply → Option Command → Option Command

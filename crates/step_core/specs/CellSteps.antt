@@ -1,51 +1,11 @@
 -- The steps over cells.
-use Rattle.std.specs.Prelude.{◌≡◌, ℕ, ◌+◌, ◌*◌, ◌^◌, ◌<◌, ◌==◌, Some, slice_index, slice_set, slice_get, cond, bit_or, if◌then◌else◌}
-use Rattle.std.specs.Option.{ForSome}
-use Rattle.bw_model.specs.declared.limits.Limits.{Limits}
+use Rattle.std.specs.Prelude.{◌≡◌, ℕ, ◌+◌, ◌==◌, Some, slice_index, slice_set, slice_get, bit_or, if◌then◌else◌}
 use Rattle.bw_model.specs.declared.step.Step.{Step}
 use Rattle.bw_model.specs.declared.step.Step.TheVariants.{Slot, Row, Epoch, Announce, PidBits, RowBits, Place, Exchange, TakePid, TakeRow, Enter, Leave, Retire, ReusePids, ReuseRows}
 use Rattle.bw_model.specs.declared.step.Answer.{Answer}
 use Rattle.bw_model.specs.declared.step.Answer.TheVariants.{Number, Content, Whether, Done}
 use Rattle.deltas.specs.declared.record.Record.{Record}
-use Rattle.deltas.specs.Records.{next_row}
 use Rattle.step_core.specs.Cells.{Cells, is_free, without}
-
--- The step names no number that has no place.
-abbrev pub IsWithin : Limits → Step Record → Type 0
-IsWithin limits (Slot pid) = pid < limits.pids
-IsWithin limits (Row row) = row < limits.rows
-IsWithin limits Epoch = Unit {0}
-IsWithin limits (Announce actor) = actor < limits.actors
-IsWithin limits (PidBits word) = 64 * word < limits.pids
-IsWithin limits (RowBits word) = 64 * word < limits.rows
-IsWithin limits (Place row content) = (row < limits.rows) × ForSome (next_row content) (λ next. next < limits.rows)
-IsWithin limits (Exchange slot old new) = (slot < limits.pids) × (old < cond (slot == 0) limits.pids limits.rows) × (new < cond (slot == 0) limits.pids limits.rows) × (slot ≡ 0 → 0 < new)
-IsWithin limits (TakePid pid) = pid < limits.pids
-IsWithin limits (TakeRow row) = row < limits.rows
-IsWithin limits (Enter epoch) = Unit {0}
-IsWithin limits Leave = Unit {0}
-IsWithin limits (Retire epoch) = epoch < 2 ^ 62
-IsWithin limits (ReusePids word bits) = (64 * word < limits.pids) × (bits < 2 ^ 64)
-IsWithin limits (ReuseRows word bits) = (64 * word < limits.rows) × (bits < 2 ^ 64)
-
--- The answer is of the step's kind, and names no number that has no place.
-abbrev pub IsAnswerWithin : Limits → Step Record → Answer Record → Type 0
-IsAnswerWithin limits (Slot pid) (Number n) = (n < cond (pid == 0) limits.pids limits.rows) × (pid ≡ 0 → 0 < n)
-IsAnswerWithin limits (Row row) (Content content) = ForSome (next_row content) (λ next. next < limits.rows)
-IsAnswerWithin limits Epoch (Number n) = Unit {0}
-IsAnswerWithin limits (Announce actor) (Number n) = Unit {0}
-IsAnswerWithin limits (PidBits word) (Number n) = Unit {0}
-IsAnswerWithin limits (RowBits word) (Number n) = Unit {0}
-IsAnswerWithin limits (Place row content) Done = Unit {0}
-IsAnswerWithin limits (Exchange slot old new) (Whether won) = Unit {0}
-IsAnswerWithin limits (TakePid pid) (Whether free) = Unit {0}
-IsAnswerWithin limits (TakeRow row) (Whether free) = Unit {0}
-IsAnswerWithin limits (Enter epoch) Done = Unit {0}
-IsAnswerWithin limits Leave Done = Unit {0}
-IsAnswerWithin limits (Retire epoch) (Whether went) = Unit {0}
-IsAnswerWithin limits (ReusePids word bits) Done = Unit {0}
-IsAnswerWithin limits (ReuseRows word bits) Done = Unit {0}
-IsAnswerWithin limits step answer = ⊥
 
 -- What a step answers, and what it makes of the cells.
 abbrev pub Takes : ℕ → Cells → Step Record → Answer Record → Cells → Type 0

@@ -2,10 +2,6 @@ pub mod Cells
 pub mod CellSteps
 pub mod CellLinks
 pub mod Actors
-pub mod Chained
 pub mod Cores
-pub mod Hands
-pub mod Placed
 pub mod Represents
 pub mod Turns
-pub mod Wants

@@ -1,10 +1,10 @@
 -- The memory that cells stand for.
 use Rattle.std.specs.Prelude.{◌≡◌, ◌<◌, ◌*◌, ℕ, Bool, Some, IsTrue, is_some, slice_index, slice_get}
-use Rattle.std.specs.Option.{ForSome}
 use Rattle.bw_model.specs.declared.limits.Limits.{Limits}
+use Rattle.bw_model.specs.declared.step.Step.{Step}
+use Rattle.bw_model.specs.declared.step.Step.TheVariants.{Row, Exchange}
 use Rattle.deltas.specs.declared.record.Record.{Record}
 use Rattle.deltas.specs.Memory.{Memory}
-use Rattle.deltas.specs.Records.{next_row}
 use Rattle.chain_search.specs.Steps.{IsWordOf}
 use Rattle.step_core.specs.Cells.{Cells}
 
@@ -21,7 +21,12 @@ pub record Represents (limits : Limits) (cells : Cells) (memory : Memory) : Type
 abbrev pub is_placed : Memory → ℕ → Bool
 is_placed memory row = is_some (memory.rows row)
 
--- Whatever a slot or a record names was placed.
-pub record IsClosed (memory : Memory) : Type 0 where
-  pub heads : (pid : ℕ) → 0 < pid → 0 < memory.slots pid → IsTrue (is_placed memory (memory.slots pid))
-  pub nexts : (row : ℕ) (content : Record) → memory.rows row ≡ Some content → ForSome (next_row content) (λ next. IsTrue (is_placed memory next))
+-- Whatever a slot names was placed.
+abbrev pub HasHeads : Memory → Type 0
+HasHeads memory = (pid : ℕ) → 0 < pid → 0 < memory.slots pid → IsTrue (is_placed memory (memory.slots pid))
+
+-- The rows that a step reads, or links, were placed.
+abbrev pub Asks : (ℕ → Bool) → Step Record → Type 0
+Asks placed (Row row) = IsTrue (placed row)
+Asks placed (Exchange slot old new) = IsTrue (placed new)
+Asks placed step = Unit {0}

@@ -1,19 +1,19 @@
 //! One actor of a core.
-ghost use Rattle.std.specs.Prelude.{◌≡◌, ◌<◌, ℕ, Bool, [], Some, None, is_some, true};
-ghost use Rattle.step_core.specs.Actors.{IsActor, IsRunning, command_left, running_command};
+ghost use Rattle.std.specs.Prelude.{◌≡◌, ◌<◌, [], Some, None, is_some, true};
+ghost use Rattle.chain_search.specs.Discipline.{IsAllowed};
+ghost use Rattle.chain_search.specs.Knowledge.{Knowledge, begun};
+ghost use Rattle.op_machine.specs.Wants.{IsWithin};
+ghost use Rattle.step_core.specs.Actors.{IsActor, IsLeft, IsReady, IsRunning, IsServed, command_left, knows_then, running_command};
 ghost use Rattle.step_core.specs.Cells.{AreSound};
 ghost use Rattle.step_core.specs.CellLinks.{link_in, step_event};
-ghost use Rattle.step_core.specs.CellSteps.{IsWithin, Takes};
-ghost use Rattle.step_core.specs.Hands.{IsHand};
-ghost use Rattle.step_core.specs.Placed.{ActorKnows, Asks, Knows, Shows};
+ghost use Rattle.step_core.specs.CellSteps.{Takes};
 
 use crate::copies::{copied_answer, copied_reply, copied_step};
 use crate::event::Event;
-use crate::hand::Hand;
 use crate::memory::Memory;
-use crate::op::{Op, Want};
 use bw_model::{Answer, Command, Limits, Reply, Step};
 use deltas::Record;
+use op_machine::{Hand, Op, Want};
 use std::mem;
 
 /// An operation, and the step that it wants.
@@ -58,11 +58,10 @@ impl Actor {
 
     /// Begins an operation.
     pub(crate) fn begin(&mut self, command: Command, actor: u8, limits: &Limits)
-        requires sound { IsActor limits.now self.old }
+        requires shows { (k : Knowledge) × IsActor limits.now actor k self.old }
         requires idle { running_command self.old ≡ None }
-        ensures sound { IsActor limits.now self.new }
+        ensures shows { (k : Knowledge) → IsActor limits.now actor k self.old → IsActor limits.now actor (begun k command) self.new }
         ensures command { running_command self.new ≡ Some command }
-        ensures knows { (placed : ℕ → Bool) → ActorKnows placed self.new }
     {
         let mut op = Op::begin(command, actor, limits);
         match op.next(&mut self.hand, Answer::Start) {
@@ -75,15 +74,14 @@ impl Actor {
     pub(crate) fn step(&mut self, actor: u8, limits: &Limits, memory: &mut Memory) -> Stepped
         requires actor { actor < limits.now.actors }
         requires running { is_some (running_command self.old) ≡ true }
-        requires sound { IsActor limits.now self.old }
+        requires ready { (k : Knowledge) × IsReady limits.now actor k memory.old self.old }
         requires memory { AreSound limits.now memory.old }
-        ensures sound { IsActor limits.now self.new }
+        ensures allowed { (k : Knowledge) → IsReady limits.now actor k memory.old self.old → IsAllowed limits.now actor k result.step result.reply }
+        ensures shows { (k : Knowledge) → IsReady limits.now actor k memory.old self.old → IsActor limits.now actor (knows_then k result.step result.answer result.reply) self.new }
         ensures memory { AreSound limits.now memory.new }
         ensures within { IsWithin limits.now result.step }
         ensures takes { Takes actor memory.old result.step result.answer memory.new }
         ensures command { running_command self.new ≡ command_left result.reply (running_command self.old) }
-        ensures asks { (placed : ℕ → Bool) → ActorKnows placed self.old → Asks placed result.step }
-        ensures knows { (placed : ℕ → Bool) → ActorKnows placed self.old → Shows placed result.step result.answer → ActorKnows placed self.new }
     {
         let stepped = match &mut self.running {
             Some(running) => running.step(actor, limits, &mut self.hand, memory),
@@ -112,16 +110,14 @@ impl Running {
     /// Takes the one step that is wanted.
     fn step(&mut self, actor: u8, limits: &Limits, hand: &mut Hand, memory: &mut Memory) -> Stepped
         requires actor { actor < limits.now.actors }
-        requires sound { IsRunning limits.now hand.old self.old }
+        requires ready { (k : Knowledge) × IsRunning limits.now actor k hand.old self.old × IsServed limits.now actor k memory.old self.old.wanted }
         requires memory { AreSound limits.now memory.old }
-        ensures going { result.reply ≡ None → IsRunning limits.now hand.new self.new }
-        ensures done { is_some result.reply ≡ true → IsHand limits.now 0 hand.new }
+        ensures allowed { (k : Knowledge) → IsRunning limits.now actor k hand.old self.old → IsServed limits.now actor k memory.old self.old.wanted → IsAllowed limits.now actor k result.step result.reply }
+        ensures left { (k : Knowledge) → IsRunning limits.now actor k hand.old self.old → IsServed limits.now actor k memory.old self.old.wanted → IsLeft limits.now actor (knows_then k result.step result.answer result.reply) hand.new self.new result.reply }
         ensures memory { AreSound limits.now memory.new }
         ensures within { IsWithin limits.now result.step }
         ensures takes { Takes actor memory.old result.step result.answer memory.new }
         ensures command { self.new.op.command ≡ self.old.op.command }
-        ensures asks { (placed : ℕ → Bool) → Knows placed self.old.op.state → Asks placed result.step }
-        ensures knows { (placed : ℕ → Bool) → Knows placed self.old.op.state → Shows placed result.step result.answer → Knows placed self.new.op.state }
     {
         let wanted = mem::replace(&mut self.wanted, Step::Leave);
         let step = copied_step(&wanted);

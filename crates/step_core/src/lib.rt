@@ -2,14 +2,11 @@
 #![tactic(auto)]
 
 mod actor;
-mod chain;
 mod copies;
 mod event;
-mod hand;
 mod listing;
 mod machine;
 mod memory;
-mod op;
 mod runs;
 #[cfg(test)]
 mod tests;

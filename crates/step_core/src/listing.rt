@@ -1,10 +1,10 @@
 //! The pairs that stand in the memory.
 
-use crate::chain::Chain;
 use crate::memory::Memory;
 use base_page::Content;
 use bw_model::{Key, Value};
 use deltas::Record;
+use op_machine::Chain;
 use std::alloc::{AllocError, Global};
 use std::collections::BTreeMap;
 

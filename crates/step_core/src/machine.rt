@@ -1,6 +1,7 @@
 //! The core: all actors over one memory, one turn at a time.
-ghost use Rattle.std.specs.Prelude.{◌≡◌, ◌<◌, ◌≤◌, ◌&&◌, [], length, nat_lt, is_some, IfOk, IfErr, OnErr, Some, None};
-ghost use Rattle.chain_search.specs.Trace.{command_of};
+ghost use Rattle.std.specs.Prelude.{◌≡◌, ◌<◌, ◌≤◌, ◌&&◌, [], length, map, nat_lt, is_some, IfOk, IfErr, OnErr, Some, None};
+ghost use Rattle.chain_search.specs.Trace.{command_of, turn_of};
+ghost use Rattle.op_machine.specs.Linearized.{IsLinearized};
 ghost use Rattle.step_core.specs.Turns.{AddsTurn, busy_of, refusal_of};
 
 use crate::actor::{Actor, Stepped};
@@ -82,6 +83,26 @@ impl Core {
 
     /// Takes one turn. A turn that is refused changes nothing.
     pub fn turn(&mut self, turn: Turn) -> Result<Event, RunError>
+        ensures refused { (refusal : _) → refusal_of self.old turn ≡ Some refusal → result ≡ Err refusal }
+        ensures memory { refusal_of self.old turn ≡ None → IfErr result (λ error. (error ≡ RunError.Memory (length self.old.entries)) × (self.old.room ≤ length self.old.entries)) }
+        ensures ok { IfOk result (λ event. AddsTurn self.old turn event self.new) }
+        ensures err { OnErr result (self.new ≡ self.old) }
+        ensures linearized { IsLinearized self.new.limits (map turn_of self.new.entries) self.new.entries }
+    {
+        let answer = self.take_turn(turn);
+        self.linearized();
+        answer
+    }
+
+    /// Whatever was done so far, the operations took effect one at a time, on one ordered map. It does nothing.
+    pub fn linearized(&self)
+        ensures { IsLinearized self.now.limits (map turn_of self.now.entries) self.now.entries }
+    {
+        let _ = &self.limits;
+    }
+
+    /// Takes one turn, if it is not refused.
+    fn take_turn(&mut self, turn: Turn) -> Result<Event, RunError>
         ensures refused { (refusal : _) → refusal_of self.old turn ≡ Some refusal → result ≡ Err refusal }
         ensures memory { refusal_of self.old turn ≡ None → IfErr result (λ error. (error ≡ RunError.Memory (length self.old.entries)) × (self.old.room ≤ length self.old.entries)) }
         ensures ok { IfOk result (λ event. AddsTurn self.old turn event self.new) }

@@ -2,8 +2,9 @@
 ghost use Rattle.std.specs.Prelude.{◌≡◌, ◌<◌, ◌*◌, length, IfOk, slice_get, slice_index, option_copied};
 ghost use Rattle.deltas.specs.Memory.{opening};
 ghost use Rattle.op_machine.specs.Links.{link_without};
+ghost use Rattle.op_machine.specs.Wants.{IsWithin};
 ghost use Rattle.step_core.specs.Cells.{AreSound, is_free, without};
-ghost use Rattle.step_core.specs.CellSteps.{IsWithin, IsAnswerWithin, Takes};
+ghost use Rattle.step_core.specs.CellSteps.{Takes};
 ghost use Rattle.step_core.specs.Represents.{Represents};
 ghost use Rattle.step_core.specs.CellLinks.{exchange_link, link_in};
 
@@ -107,7 +108,6 @@ impl Memory {
         requires actor { actor < limits.now.actors }
         ensures sound { AreSound limits.now self.new }
         ensures step { Takes actor self.old step result self.new }
-        ensures answer { IsAnswerWithin limits.now step result }
     {
         match step {
             Step::Slot(pid) => Answer::Number(u64::from(self.slots[usize::from(pid)])),

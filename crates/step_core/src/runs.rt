@@ -1,6 +1,7 @@
 //! A run of turns from the opening state.
 ghost use Rattle.std.specs.Prelude.{◌≡◌, map, IfOk, IfErr};
 ghost use Rattle.chain_search.specs.Trace.{turn_of};
+ghost use Rattle.op_machine.specs.Linearized.{IsLinearized};
 ghost use Rattle.step_core.specs.Turns.{Stops};
 
 use crate::event::{RunError, Trace};
@@ -13,6 +14,7 @@ use std::alloc::Global;
 /// memory at turn 0.
 pub fn run(alloc: Global, limits: Limits, turns: &[Turn]) -> Result<Trace, RunError>
     ensures turns { IfOk result (λ trace. map turn_of trace.entries.items ≡ turns.now) }
+    ensures linearized { IfOk result (λ trace. IsLinearized limits turns.now trace.entries.items) }
     ensures err { IfErr result (Stops limits turns.now) }
 {
     let mut core = match Core::open(alloc, limits) {
@@ -24,5 +26,6 @@ pub fn run(alloc: Global, limits: Limits, turns: &[Turn]) -> Result<Trace, RunEr
             return Err(error);
         }
     }
+    core.linearized();
     Ok(core.into_trace())
 }

@@ -1,27 +1,34 @@
 use Rattle.std.proofs.Common.{refl}
+use Rattle.chain_search.specs.Knowledge.{knows}
 use Rattle.chain_search.specs.declared.trace.Entry.TheVariants.{Step}
 use Rattle.step_core.proofs.Cored.{core_asks, core_stepped, core_took}
+use Rattle.step_core.proofs.Lawful.{heads}
 use Rattle.step_core.proofs.Linked.{event_is, told_to}
 use Rattle.step_core.proofs.machine.Core.step.Goals as goal
 
 pub invariant_of-self : goal.invariant_of-self
 invariant_of-self c =
     let asks = core_asks _ _ _ _ _ _ _ c.self.invariant _ _ c.self.view_is c.requires.goes c.from.ensures c.index_mut-place.ensures.value in
-    let took = core_took _ _ _ _ _ _ _ _ c.step-stepped.result.step c.step-stepped.result.answer c.self.invariant c.from.ensures asks.1 c.index_mut-place.ensures.value
-    asks.0 c.step-stepped.ensures.within c.step-stepped.ensures.takes c.step-stepped.ensures.asks in
+    let allowed = c.step-stepped.ensures.allowed _ asks.2 in
+    let took = core_took _ _ _ _ _ _ c.step-stepped.result.step c.step-stepped.result.answer c.self.invariant asks.0 c.step-stepped.ensures.within c.step-stepped.ensures.takes allowed.may in
     core_stepped _ _ _ _ _ _ _ _ _ _ c.step-stepped.result.step c.step-stepped.result.answer c.step-stepped.result.reply c.self.invariant c.from.ensures asks.1
-    c.index_mut-place.ensures.value c.step-stepped.ensures.sound c.step-stepped.ensures.command c.step-stepped.ensures.memory took c.step-stepped.ensures.knows (rw c.unwrap.ensures at c.push.ensures.items)
+    c.index_mut-place.ensures.value asks.3 allowed (c.step-stepped.ensures.shows _ asks.2) c.step-stepped.ensures.command c.step-stepped.ensures.memory took.1 took.2 (rw c.unwrap.ensures at c.push.ensures.items)
 
 pub returns : goal.returns
 returns c =
     let asks = core_asks _ _ _ _ _ _ _ c.self.invariant _ _ c.self.view_is c.requires.goes c.from.ensures c.index_mut-place.ensures.value in
-    let took = core_took _ _ _ _ _ _ _ _ c.step-stepped.result.step c.step-stepped.result.answer c.self.invariant c.from.ensures asks.1 c.index_mut-place.ensures.value
-    asks.0 c.step-stepped.ensures.within c.step-stepped.ensures.takes c.step-stepped.ensures.asks in
+    let allowed = c.step-stepped.ensures.allowed _ asks.2 in
+    let took = core_took _ _ _ _ _ _ c.step-stepped.result.step c.step-stepped.result.answer c.self.invariant asks.0 c.step-stepped.ensures.within c.step-stepped.ensures.takes allowed.may in
     record {
       added = Step c.args.actor c.step-stepped.result.step c.step-stepped.result.answer c.step-stepped.result.reply;
       entries = rw (← c.self.view_is) (rw c.unwrap.ensures at c.push.ensures.items);
       of_turn = refl;
       told = rw (← c.self.view_is) took.1;
-      event_of = told_to _ _ (Step c.args.actor c.step-stepped.result.step c.step-stepped.result.answer c.step-stepped.result.reply) c.event-event.result c.self.view_is (event_is _ _ _ c.args.actor _ _ _ _ c.step-stepped.ensures.memory c.step-stepped.ensures.within took.2 c.self.invariant.closed took.0 took.1 c.event-event.ensures);
+      event_of = told_to _ _ (Step c.args.actor c.step-stepped.result.step c.step-stepped.result.answer c.step-stepped.result.reply) c.event-event.result c.self.view_is (event_is _ _ _ c.args.actor _ _ _ _ c.step-stepped.ensures.memory c.step-stepped.ensures.within took.2 (heads _ _ c.self.invariant.state) took.0 took.1 c.event-event.ensures);
       same_limits = rw (← c.self.view_is) refl;
     }
+
+pub step-stepped-requires-clause-ready : goal.step-stepped-requires-clause-ready
+step-stepped-requires-clause-ready c =
+    let asks = core_asks _ _ _ _ _ _ _ c.self.invariant _ _ c.self.view_is c.requires.goes c.from.ensures c.index_mut-place.ensures.value in
+    (knows c.self.inside.trace.items c.args.actor, asks.2)

@@ -1,0 +1,14 @@
+use Rattle.chain_search.specs.Knowledge.{begun}
+use Rattle.step_core.proofs.Going.{begun_left, idle_at, told_start}
+use Rattle.step_core.proofs.actor.Actor.begin.Goals as goal
+
+pub next-requires-clause-told : goal.next-requires-clause-told
+next-requires-clause-told c =
+    let idle = idle_at _ _ _ _ _ c.requires.idle c.requires.shows.1 in
+    told_start (begun c.requires.shows.0 c.args.command) c.args.self.now.hand c.begin-op.result c.begin-op.ensures.state (c.begin-op.ensures.shows _ _ idle.rests)
+
+pub returns-clause-shows : goal.returns-clause-shows
+returns-clause-shows c = λ k h.
+    let idle = idle_at _ _ _ _ _ c.requires.idle h in
+    begun_left (begun k c.args.command) c.args.self.now.hand c.begin-op.result c.begin-op.ensures.state (c.begin-op.ensures.shows _ _ idle.rests) _ _ _ _ c.begin-op.ensures.limits c.begin-op.ensures.actor c.in-Step.wanted c.in-Step.ensures.obeys
+    c.in-Step.ensures.same c.in-Step.ensures.within c.in-Step.ensures.hand
