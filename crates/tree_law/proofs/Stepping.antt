@@ -16,7 +16,7 @@ use Rattle.deltas.specs.Memory.{Memory, replaced_at}
 use Rattle.chain_search.specs.Chains.{level_in, low_in, high_in, right_in}
 use Rattle.chain_search.specs.Steps.{IsAnswer, memory_after}
 use Rattle.tree_law.specs.Keys.{Key, put_key}
-use Rattle.tree_law.specs.Knowledge.{OwnRow, OwnPage, Empty, Ready, Gone, Knowledge, learn_head, learn_slot, filled, emptied, learn, finished}
+use Rattle.tree_law.specs.Knowledge.{OwnRow, Written, OwnPage, Empty, Ready, Gone, Knowledge, learn_head, learn_slot, filled, emptied, learn, finished}
 use Rattle.tree_law.specs.Discipline.{record_of, base_from, HasRead, IsMet, IsOwnBase, MayUpdate, MayConsolidate, MaySplit, MayPost, MayHold, MayRemove, MayMerge, MayUnterm, MayRoot, MayLink, MayExchange, May}
 use Rattle.tree_law.specs.Phase.{Stage, Fresh, Indexed, Held, Removed, Merged, PageOwner, Nobody, Keeps, Placed, Cleared}
 use Rattle.tree_law.specs.Phases.{Links, Exchanged}
@@ -24,7 +24,7 @@ use Rattle.tree_law.specs.Put.{put}
 use Rattle.tree_law.specs.Shared.{Shared, row_in, slot_in, shared}
 use Rattle.tree_law.specs.Owners.{Owner, Free, Spare, Linked, Owners, OwnFits, PageFits, Reached, Spells}
 use Rattle.tree_law.specs.Tree.{Good}
-use Rattle.tree_law.specs.Next.{IsDue, Next}
+use Rattle.tree_law.specs.Next.{IsDue, IsMoved, Next}
 use Rattle.tree_law.proofs.Puts.{by_test, put_other}
 use Rattle.tree_law.proofs.Keeping.{idles, leaves, slot_of, met_placed}
 use Rattle.tree_law.proofs.Reading.{reads_root, reads_slot, reads_row}
@@ -70,12 +70,21 @@ module _ (memory : Memory) {log : List Update} {o : Owners} {knows : ℕ → Kno
   same_rows : (row : ℕ) → o.row row ≡ Linked → (o.row row ≡ Linked) × (memory.rows row ≡ memory.rows row)
   same_rows row l = (l, refl)
 
+  same_moved : (row : ℕ) → IsMoved a (memory.free_rows row) (o.row row) (o.row row)
+  same_moved row = inl refl
+
+  spare_of : {w : Record} (y : ℕ) → (knows a).rows y ≡ Written w → o.row y ≡ Spare a
+  spare_of {w} y e = (subst (λ (v : OwnRow). OwnFits a (o.row y) (memory.rows y) v) e (g.owns a y)).0
+
+  linked_moved : (y : ℕ) → o.row y ≡ Spare a → (row : ℕ) → IsMoved a (memory.free_rows row) (o.row row) (put o.row y Linked row)
+  linked_moved y spare row = by_test row y (λ t. IsMoved a (memory.free_rows row) (o.row row) (cond t Linked (o.row row))) (λ e. inr (inr (ap o.row e ∙ spare, refl))) (λ ne. inl refl)
+
   -- a row that was the actor's own is linked
   linked_rows : (y : ℕ) (row : ℕ) → o.row row ≡ Linked → (put o.row y Linked row ≡ Linked) × (memory.rows row ≡ memory.rows row)
   linked_rows y row l = (by_test row y (λ t. cond t Linked (o.row row) ≡ Linked) (λ e. refl) (λ ne. l), refl)
 
   reads : (p n : ℕ) (r : Option Reply) → memory.slots (suc p) ≡ n → IsTrue ((knows a).roots (suc p)) ⊎ IsMet (knows a) (suc p) → After memory (Slot (suc p)) (Number n) r
-  reads p zero r e met = record { update = None; due = tt; last = λ i. refl; owners = o; phased = refl; kept = same_rows; good = idles g a (finished (knows a) r) refl refl refl refl refl refl refl refl }
+  reads p zero r e met = record { update = None; due = tt; last = λ i. refl; owners = o; phased = refl; moved = same_moved; kept = same_rows; good = idles g a (finished (knows a) r) refl refl refl refl refl refl refl refl }
   reads p (suc n) r e met =
       let here = met_placed g a (suc p) met in
       let held : slot_in memory.slots (suc p) ≡ Some (suc n) = ap row_in e in
@@ -88,7 +97,7 @@ module _ (memory : Memory) {log : List Update} {o : Owners} {knows : ℕ → Kno
         last = λ i. refl;
         owners = o;
         phased = refl;
-        kept = same_rows;
+        moved = same_moved; kept = same_rows;
         good = subst (λ (v : ℕ). Good (shared memory) log o (put knows a (finished (learn_head (suc p) v (knows a)) r)) (put point a (point a)) (put logs a (log ∷ logs a)))
             (same_Some u.0 (suc n) (sym u.1 ∙ held))
             (reads_slot g a (suc p) u.0 u.1 u.2 u.3 r);
@@ -102,6 +111,7 @@ module _ (memory : Memory) {log : List Update} {o : Owners} {knows : ℕ → Kno
     last = λ i. refl;
     owners = record o { row = put o.row q (Spare a) };
     phased = refl;
+    moved = λ row. by_test row q (λ t. IsMoved a (memory.free_rows row) (o.row row) (cond t (Spare a) (o.row row))) (λ i. inr (inl (ap memory.free_rows i ∙ e, ap o.row i ∙ g.frees.row q e, refl))) (λ ne. inl refl);
     kept = λ row l. (put_other o.row q (Spare a) row (λ i. absurd (let f = g.frees.row q e in let l' = sym (ap o.row i) ∙ l in cc)) ∙ l, refl);
     good = takes_row g a q e r;
   }
@@ -111,25 +121,25 @@ module _ (memory : Memory) {log : List Update} {o : Owners} {knows : ℕ → Kno
     last = λ i. refl;
     owners = o;
     phased = refl;
-    kept = same_rows;
+    moved = same_moved; kept = same_rows;
     good = subst (λ (f : ℕ → Bool). Good (record (shared memory) { free = f }) log o (put knows a (finished (knows a) r)) (put point a (point a)) (put logs a (log ∷ logs a))) (sym (cleared_again memory.free_rows q e)) (idles g a (finished (knows a) r) refl refl refl refl refl refl refl refl);
   }
 
   takes_pid : (q : ℕ) (r : Option Reply) (t : Bool) → memory.free_pids q ≡ t → After (memory_after a (TakePid q) memory) (TakePid q) (Whether t) r
-  takes_pid q r true e = record { update = None; due = tt; last = λ i. refl; owners = record o { page = put o.page q (Keeps a) }; phased = refl; kept = same_rows; good = takes_page g a q e r }
+  takes_pid q r true e = record { update = None; due = tt; last = λ i. refl; owners = record o { page = put o.page q (Keeps a) }; phased = refl; moved = same_moved; kept = same_rows; good = takes_page g a q e r }
   takes_pid q r false e = record {
     update = None;
     due = tt;
     last = λ i. refl;
     owners = o;
     phased = refl;
-    kept = same_rows;
+    moved = same_moved; kept = same_rows;
     good = subst (λ (f : ℕ → Bool). Good (record (shared memory) { free_pages = f }) log o (put knows a (finished (knows a) r)) (put point a (point a)) (put logs a (log ∷ logs a))) (sym (cleared_again memory.free_pids q e)) (idles g a (finished (knows a) r) refl refl refl refl refl refl refl refl);
   }
 
   -- an exchange that lost teaches nothing
   loses : (p x y : ℕ) (r : Option Reply) → After memory (Exchange p x y) (Whether false) r
-  loses p x y r = record { update = None; due = tt; last = λ i. refl; owners = o; phased = refl; kept = same_rows; good = idles g a (finished (knows a) r) refl refl refl refl refl refl refl refl }
+  loses p x y r = record { update = None; due = tt; last = λ i. refl; owners = o; phased = refl; moved = same_moved; kept = same_rows; good = idles g a (finished (knows a) r) refl refl refl refl refl refl refl refl }
 
   module _ (p x y : ℕ) (r : Option Reply) (s : slot_in memory.slots (suc p) ≡ Some (suc x)) where
     -- the memory in which the row is linked on the page
@@ -139,10 +149,11 @@ module _ (memory : Memory) {log : List Update} {o : Owners} {knows : ℕ → Kno
     by_update : MayUpdate a (knows a) (suc p) (suc x) (suc y) → Linking
     by_update h = let n = updates g a (suc p) (suc x) (suc y) s h r in record {
       update = Some h.update;
-      due = (h.command, h.going, n.1);
+      due = (h.command, h.going, h.unlinked, n.1);
       last = λ i. absurd (cc);
       owners = record o { row = put o.row (suc y) Linked };
       phased = (record_of h.update (suc x), placed_row g a (suc y) (record_of h.update (suc x)) h.placed, links_same a h.update (suc x) (suc p) o.page);
+      moved = linked_moved (suc y) (spare_of (suc y) h.placed);
       kept = linked_rows (suc y);
       good = n.0;
     }
@@ -154,6 +165,7 @@ module _ (memory : Memory) {log : List Update} {o : Owners} {knows : ℕ → Kno
       last = λ i. refl;
       owners = record o { row = put o.row (suc y) Linked };
       phased = (base_from h.basis.chain (low_in h.basis.chain) h.items, placed_row g a (suc y) (base_from h.basis.chain (low_in h.basis.chain) h.items) h.placed, refl);
+      moved = linked_moved (suc y) (spare_of (suc y) h.placed);
       kept = linked_rows (suc y);
       good = consolidates g a (suc p) (suc x) (suc y) s h r;
     }
@@ -169,6 +181,7 @@ module _ (memory : Memory) {log : List Update} {o : Owners} {knows : ℕ → Kno
         placed_row g a (suc y) (Split (record { level = level_in h.basis.chain; next = suc x; separator = h.separator; page = h.right })) h.placed,
         (n.1.0, level_in h.basis.chain, low_in h.basis.chain, n.1.1, n.1.2, refl),
       );
+      moved = λ row. by_test row (suc y) (λ t. IsMoved a (memory.free_rows row) (o.row row) (cond t Linked (put o.row h.row Linked row))) (λ e. inr (inr (ap o.row e ∙ spare_of (suc y) h.placed, refl))) (λ ne. linked_moved h.row (spare_of h.row h.base) row);
       kept = λ row l. (by_test row (suc y) (λ t. cond t Linked (put o.row h.row Linked row) ≡ Linked) (λ e. refl) (λ ne. (linked_rows h.row row l).0), refl);
       good = n.0;
     }
@@ -184,6 +197,7 @@ module _ (memory : Memory) {log : List Update} {o : Owners} {knows : ℕ → Kno
         placed_row g a (suc y) (Term (record { level = level_in h.basis.chain; next = suc x; separator = low_in h.below.chain; child = h.child })) h.placed,
         (level_in h.below.chain, n.1, refl),
       );
+      moved = linked_moved (suc y) (spare_of (suc y) h.placed);
       kept = linked_rows (suc y);
       good = n.0;
     }
@@ -199,6 +213,7 @@ module _ (memory : Memory) {log : List Update} {o : Owners} {knows : ℕ → Kno
         placed_row g a (suc y) (Hold (record { level = level_in h.basis.chain; next = suc x; separator = h.key; child = h.child })) h.placed,
         (h.level, n.1, refl),
       );
+      moved = linked_moved (suc y) (spare_of (suc y) h.placed);
       kept = linked_rows (suc y);
       good = n.0;
     }
@@ -214,6 +229,7 @@ module _ (memory : Memory) {log : List Update} {o : Owners} {knows : ℕ → Kno
         placed_row g a (suc y) (Remove (record { level = level_in h.basis.chain; next = suc x })) h.placed,
         (level_in h.basis.chain, low_in h.basis.chain, n.1, refl),
       );
+      moved = linked_moved (suc y) (spare_of (suc y) h.placed);
       kept = linked_rows (suc y);
       good = n.0;
     }
@@ -228,7 +244,8 @@ module _ (memory : Memory) {log : List Update} {o : Owners} {knows : ℕ → Kno
           last = λ i. refl;
           owners = record { row = put o.row (suc y) Linked; page = put o.page h.other (Placed Merged (level_in h.basis.chain) (low_in h.chain)); index = o.index };
           phased = (w, placed_row g a (suc y) w h.placed, (h.other, level_in h.basis.chain, n.1, refl));
-          kept = linked_rows (suc y);
+          moved = linked_moved (suc y) (spare_of (suc y) h.placed);
+      kept = linked_rows (suc y);
           good = n.0;
         }
 
@@ -243,6 +260,7 @@ module _ (memory : Memory) {log : List Update} {o : Owners} {knows : ℕ → Kno
         placed_row g a (suc y) (Unterm (record { level = level_in h.basis.chain; next = suc x; separator = h.key; child = h.child })) h.placed,
         (level_in h.below.chain, n.1, refl),
       );
+      moved = linked_moved (suc y) (spare_of (suc y) h.placed);
       kept = linked_rows (suc y);
       good = n.0;
     }
@@ -269,7 +287,7 @@ module _ (memory : Memory) {log : List Update} {o : Owners} {knows : ℕ → Kno
     last = λ i. refl;
     owners = o;
     phased = (refl, (own_kept (suc p) Empty h.0).0);
-    kept = same_rows;
+    moved = same_moved; kept = same_rows;
     good = subst (λ (v : OwnPage). Good (record (shared memory) { slots = put (slot_in memory.slots) (suc p) (Some (suc y)) }) log o (put knows a (finished (filled v (suc p) zero (suc y) (knows a)) r)) (put point a (point a)) (put logs a (log ∷ logs a))) (sym h.0)
         (own_slot g a (suc p) (Some (suc y)) (Ready (suc y)) (own_kept (suc p) Empty h.0).0 ((own_kept (suc p) Empty h.0).0, refl) (finished (filled Empty (suc p) zero (suc y) (knows a)) r) refl refl refl refl refl refl refl refl);
   }
@@ -279,7 +297,7 @@ module _ (memory : Memory) {log : List Update} {o : Owners} {knows : ℕ → Kno
     last = λ i. refl;
     owners = o;
     phased = (refl, inl (own_kept (suc p) (Ready (suc x)) h).0);
-    kept = same_rows;
+    moved = same_moved; kept = same_rows;
     good = subst (λ (v : OwnPage). Good (record (shared memory) { slots = put (slot_in memory.slots) (suc p) None }) log o (put knows a (finished (emptied v (suc p) (knows a)) r)) (put point a (point a)) (put logs a (log ∷ logs a))) (sym h)
         (own_slot g a (suc p) None Empty (own_kept (suc p) (Ready (suc x)) h).0 ((own_kept (suc p) (Ready (suc x)) h).0, refl) (finished (emptied (Ready (suc x)) (suc p) (knows a)) r) refl refl refl refl refl refl refl refl);
   }
@@ -289,7 +307,7 @@ module _ (memory : Memory) {log : List Update} {o : Owners} {knows : ℕ → Kno
     last = λ i. refl;
     owners = o;
     phased = (refl, inr (own_kept (suc p) Gone h));
-    kept = same_rows;
+    moved = same_moved; kept = same_rows;
     good = clears g a (suc p) (suc x) s h r;
   }
   exchanges p (suc x) (suc y) r s h = by_link p x y r s h
@@ -306,6 +324,7 @@ module _ (memory : Memory) {log : List Update} {o : Owners} {knows : ℕ → Kno
       index = put o.index g.tree.top (put_key (put_key (λ k. None) h.separator (Some (Child h.right false))) [] (Some (Child (memory.slots 0) false)));
     };
     phased = (h.right, g.tree.top, h.separator, n.1.0, n.1.1, n.1.2, refl);
+    moved = linked_moved h.base_row (spare_of h.base_row h.base);
     kept = linked_rows h.base_row;
     good = n.0;
   }
@@ -320,27 +339,28 @@ module _ (memory : Memory) {log : List Update} {o : Owners} {knows : ℕ → Kno
       (λ ne. loses (suc p) x y r)
 
   pub step : (s : StepOf Record) (r : Option Reply) → May a (knows a) s → (x : Answer Record) → IsAnswer memory s x → After (memory_after a s memory) s x r
-  step (Slot zero) r h x e = subst (λ (v : Answer Record). After memory (Slot zero) v r) (sym e) (record { update = None; due = tt; last = λ i. refl; owners = o; phased = refl; kept = same_rows; good = reads_root g a r })
+  step (Slot zero) r h x e = subst (λ (v : Answer Record). After memory (Slot zero) v r) (sym e) (record { update = None; due = tt; last = λ i. refl; owners = o; phased = refl; moved = same_moved; kept = same_rows; good = reads_root g a r })
   step (Slot (suc p)) r h x e = subst (λ (v : Answer Record). After memory (Slot (suc p)) v r) (sym e) (reads p (memory.slots (suc p)) r refl h.1)
-  step (Row q) r h x e = subst (λ (v : Answer Record). After memory (Row q) v r) (sym e.2) (record { update = None; due = tt; last = λ i. refl; owners = o; phased = refl; kept = same_rows; good = reads_row g a q e.0 h.1 e.1 r })
-  step Epoch r h x e = record { update = None; due = tt; last = λ i. refl; owners = o; phased = refl; kept = same_rows; good = idles g a (finished (knows a) r) refl refl refl refl refl refl refl refl }
-  step (Announce b) r h x e = record { update = None; due = tt; last = λ i. refl; owners = o; phased = refl; kept = same_rows; good = idles g a (finished (knows a) r) refl refl refl refl refl refl refl refl }
-  step (PidBits w) r h x e = subst (λ (v : Answer Record). After memory (PidBits w) v r) (sym e.2) (record { update = None; due = tt; last = λ i. refl; owners = o; phased = refl; kept = same_rows; good = idles g a (finished (learn (knows a) (PidBits w) (Number e.0)) r) refl refl refl refl refl refl refl refl })
-  step (RowBits w) r h x e = subst (λ (v : Answer Record). After memory (RowBits w) v r) (sym e.2) (record { update = None; due = tt; last = λ i. refl; owners = o; phased = refl; kept = same_rows; good = idles g a (finished (learn (knows a) (RowBits w) (Number e.0)) r) refl refl refl refl refl refl refl refl })
+  step (Row q) r h x e = subst (λ (v : Answer Record). After memory (Row q) v r) (sym e.2) (record { update = None; due = tt; last = λ i. refl; owners = o; phased = refl; moved = same_moved; kept = same_rows; good = reads_row g a q e.0 h.1 e.1 r })
+  step Epoch r h x e = record { update = None; due = tt; last = λ i. refl; owners = o; phased = refl; moved = same_moved; kept = same_rows; good = idles g a (finished (knows a) r) refl refl refl refl refl refl refl refl }
+  step (Announce b) r h x e = record { update = None; due = tt; last = λ i. refl; owners = o; phased = refl; moved = same_moved; kept = same_rows; good = idles g a (finished (knows a) r) refl refl refl refl refl refl refl refl }
+  step (PidBits w) r h x e = subst (λ (v : Answer Record). After memory (PidBits w) v r) (sym e.2) (record { update = None; due = tt; last = λ i. refl; owners = o; phased = refl; moved = same_moved; kept = same_rows; good = idles g a (finished (learn (knows a) (PidBits w) (Number e.0)) r) refl refl refl refl refl refl refl refl })
+  step (RowBits w) r h x e = subst (λ (v : Answer Record). After memory (RowBits w) v r) (sym e.2) (record { update = None; due = tt; last = λ i. refl; owners = o; phased = refl; moved = same_moved; kept = same_rows; good = idles g a (finished (learn (knows a) (RowBits w) (Number e.0)) r) refl refl refl refl refl refl refl refl })
   step (Place q w) r h x e = subst (λ (v : Answer Record). After (memory_after a (Place q w) memory) (Place q w) v r) (sym e) (record {
     update = None;
     due = tt;
     last = λ i. refl;
     owners = o;
     phased = refl;
+    moved = same_moved;
     kept = λ row l. (l, put_other memory.rows q (Some w) row (λ i. absurd (let f = own_spare g a q ((knows a).rows q) (g.owns a q) h.1 in let l' = sym (ap o.row i) ∙ l in cc)));
     good = places g a q w h.1 r;
   })
   step (Exchange p old y) r h x e = subst (λ (v : Answer Record). After (memory_after a (Exchange p old y) memory) (Exchange p old y) v r) (sym e) (exchange p old y r h.1)
   step (TakePid q) r h x e = subst (λ (v : Answer Record). After (memory_after a (TakePid q) memory) (TakePid q) v r) (sym e) (takes_pid q r (memory.free_pids q) refl)
   step (TakeRow q) r h x e = subst (λ (v : Answer Record). After (memory_after a (TakeRow q) memory) (TakeRow q) v r) (sym e) (takes q r (memory.free_rows q) refl)
-  step (Enter n) r h x e = record { update = None; due = tt; last = λ i. refl; owners = o; phased = refl; kept = same_rows; good = idles g a (finished (learn (knows a) (Enter n) x) r) refl refl refl refl refl refl refl refl }
-  step Leave r h x e = subst (λ (v : Answer Record). After (memory_after a Leave memory) Leave v r) (sym e) (record { update = None; due = tt; last = λ i. refl; owners = o; phased = refl; kept = same_rows; good = leaves g a r })
+  step (Enter n) r h x e = record { update = None; due = tt; last = λ i. refl; owners = o; phased = refl; moved = same_moved; kept = same_rows; good = idles g a (finished (learn (knows a) (Enter n) x) r) refl refl refl refl refl refl refl refl }
+  step Leave r h x e = subst (λ (v : Answer Record). After (memory_after a Leave memory) Leave v r) (sym e) (record { update = None; due = tt; last = λ i. refl; owners = o; phased = refl; moved = same_moved; kept = same_rows; good = leaves g a r })
   step (Retire n) r h x e = absurd h
   step (ReusePids w b) r h x e = absurd h
   step (ReuseRows w b) r h x e = absurd h

@@ -46,4 +46,4 @@ StepLaw = (memory : Memory) (log : List Update) (o : Owners) (knows : ℕ → Kn
 -- A reply that an actor may give is its command's by a log of its operation.
 abbrev pub AnswerLaw : Type 0
 AnswerLaw = (m : Shared) (log : List Update) (o : Owners) (knows : ℕ → Knowledge) (point : ℕ → Option (List Update)) (logs : ℕ → List (List Update)) → Good m log o knows point logs
-    → (a : ℕ) (command : Command) (reply : Reply) → MayAnswer a (knows a) command reply → IsRepliedAt a command reply (point a) (log ∷ logs a)
+    → (a : ℕ) (command : Command) (reply : Reply) → MayAnswer a (knows a) command reply → IsRepliedAt a command reply (point a) (logs a)
