@@ -20,7 +20,7 @@ module _ (free free_pages : ℕ → Bool) (taken : free 1 ≡ false) (taken_page
   abbrev start : Shared
   start = record { root = 1; slots = put (λ p. None) 1 (Some 1); rows = put (λ r. None) 1 (Some (Base empty_leaf)); free = free; free_pages = free_pages }
 
-  abbrev o : Owners
+  abbrev pub o : Owners
   o = record { row = put (λ r. Free) 1 Linked; page = put (λ p. Nobody) 1 (Placed Indexed 0 []); index = λ l s. None }
 
   abbrev leaf : Page
@@ -71,7 +71,7 @@ module _ (free free_pages : ℕ → Bool) (taken : free 1 ≡ false) (taken_page
     sound = λ a. record { seen_fits = λ r. tt; learnt_fits = λ r e. absurd (cc); roots_fit = λ p e. absurd (cc); heads_fit = λ p. tt; orders_fit = λ p f. tt; linked_fits = refl };
   }
 
-opening_slots : (limits : Limits) → slot_in (opening limits).slots ≡ put (λ p. None) 1 (Some 1)
+pub opening_slots : (limits : Limits) → slot_in (opening limits).slots ≡ put (λ p. None) 1 (Some 1)
 opening_slots limits = λ d p. at p d
   where
     at : (p : ℕ) → slot_in (opening limits).slots p ≡ put {X = Option ℕ} (λ p. None) 1 (Some 1) p
@@ -82,9 +82,12 @@ opening_slots limits = λ d p. at p d
         above : (p : ℕ) → nat_le (suc (suc p)) 1 ≡ false
         above p = grind (arith, nat_tests)
 
+abbrev pub opening_owners : Limits → Owners
+opening_owners limits = o (opening limits).free_rows (opening limits).free_pids refl refl
+
+pub opening_good : (limits : Limits) → Good (shared (opening limits)) [] (opening_owners limits) (λ a. nothing) (λ a. None) (λ a. [])
+opening_good limits = subst (λ (f : ℕ → Option ℕ). Good (record (shared (opening limits)) { slots = f }) [] (opening_owners limits) (λ a. nothing) (λ a. None) (λ a. [])) (sym (opening_slots limits))
+    (starts (opening limits).free_rows (opening limits).free_pids refl refl)
+
 pub opens : (limits : Limits) → (o : Owners) × Good (shared (opening limits)) [] o (λ a. nothing) (λ a. None) (λ a. [])
-opens limits = (
-  o (opening limits).free_rows (opening limits).free_pids refl refl,
-  subst (λ (f : ℕ → Option ℕ). Good (record (shared (opening limits)) { slots = f }) [] (o (opening limits).free_rows (opening limits).free_pids refl refl) (λ a. nothing) (λ a. None) (λ a. [])) (sym (opening_slots limits))
-      (starts (opening limits).free_rows (opening limits).free_pids refl refl),
-)
+opens limits = (opening_owners limits, opening_good limits)

@@ -26,7 +26,7 @@ use Rattle.tree_law.specs.Owners.{Owner, Free, Spare, Linked, Owners, OwnFits, P
 use Rattle.tree_law.specs.Tree.{Good}
 use Rattle.tree_law.specs.Next.{IsDue, IsMoved, Next}
 use Rattle.tree_law.proofs.Puts.{by_test, put_other}
-use Rattle.tree_law.proofs.Keeping.{idles, leaves, slot_of, met_placed}
+use Rattle.tree_law.proofs.Keeping.{idles, enters, leaves, slot_of, met_placed}
 use Rattle.tree_law.proofs.Reading.{reads_root, reads_slot, reads_row}
 use Rattle.tree_law.proofs.Taking.{takes_row, takes_page, own_spare, places, own_slot}
 use Rattle.tree_law.proofs.Relinking.{placed_row}
@@ -37,14 +37,14 @@ use Rattle.tree_law.proofs.Rooting.{roots}
 use Rattle.tree_law.proofs.Merging.{merges, clears}
 
 -- the slots of pages after a change of the root, and of a page's slot
-root_apart : (slots : ℕ → ℕ) (y : ℕ) → slot_in (replaced_at 0 y slots) ≡ slot_in slots
+pub root_apart : (slots : ℕ → ℕ) (y : ℕ) → slot_in (replaced_at 0 y slots) ≡ slot_in slots
 root_apart slots y = λ d p. at p d
   where
     at : (p : ℕ) → slot_in (replaced_at 0 y slots) p ≡ slot_in slots p
     at zero = refl
     at (suc p) = ap row_in (put_other slots 0 y (suc p) (λ e. absurd (cc)))
 
-slot_put : (slots : ℕ → ℕ) (p y : ℕ) → slot_in (replaced_at (suc p) y slots) ≡ put (slot_in slots) (suc p) (row_in y)
+pub slot_put : (slots : ℕ → ℕ) (p y : ℕ) → slot_in (replaced_at (suc p) y slots) ≡ put (slot_in slots) (suc p) (row_in y)
 slot_put slots p y = λ d q. at q d
   where
     at : (q : ℕ) → slot_in (replaced_at (suc p) y slots) q ≡ put (slot_in slots) (suc p) (row_in y) q
@@ -359,7 +359,7 @@ module _ (memory : Memory) {log : List Update} {o : Owners} {knows : ℕ → Kno
   step (Exchange p old y) r h x e = subst (λ (v : Answer Record). After (memory_after a (Exchange p old y) memory) (Exchange p old y) v r) (sym e) (exchange p old y r h.1)
   step (TakePid q) r h x e = subst (λ (v : Answer Record). After (memory_after a (TakePid q) memory) (TakePid q) v r) (sym e) (takes_pid q r (memory.free_pids q) refl)
   step (TakeRow q) r h x e = subst (λ (v : Answer Record). After (memory_after a (TakeRow q) memory) (TakeRow q) v r) (sym e) (takes q r (memory.free_rows q) refl)
-  step (Enter n) r h x e = record { update = None; due = tt; last = λ i. refl; owners = o; phased = refl; moved = same_moved; kept = same_rows; good = idles g a (finished (learn (knows a) (Enter n) x) r) refl refl refl refl refl refl refl refl }
+  step (Enter n) r h x e = record { update = None; due = tt; last = λ i. refl; owners = o; phased = refl; moved = same_moved; kept = same_rows; good = enters g a n x r }
   step Leave r h x e = subst (λ (v : Answer Record). After (memory_after a Leave memory) Leave v r) (sym e) (record { update = None; due = tt; last = λ i. refl; owners = o; phased = refl; moved = same_moved; kept = same_rows; good = leaves g a r })
   step (Retire n) r h x e = absurd h
   step (ReusePids w b) r h x e = absurd h

@@ -137,7 +137,7 @@ learn k (TakePid page) (Whether true) = record k { pages = replaced_at page Empt
 learn k (TakeRow row) (Whether true) = record k { rows = replaced_at row Taken k.rows }
 learn k (Place row content) answer = record k { rows = replaced_at row (Written content) k.rows }
 learn k (Exchange slot old new) (Whether true) = exchanged slot old new k
-learn k (Enter epoch) answer = record k { inside = true }
+learn k (Enter epoch) answer = record k { inside = true; learnt = λ row. false }
 learn k Leave answer = record k { inside = false; learnt = λ row. false; roots = λ page. false; seen = λ row. None; recent = λ row. None; heads = λ page. None; before = λ page other. None }
 learn k step answer = k
 

@@ -8,5 +8,7 @@ pub mod Phase
 pub mod Phases
 pub mod Put
 pub mod Replies
+pub mod Runs
 pub mod Shared
+pub mod State
 pub mod Tree
