@@ -88,7 +88,9 @@ named_begins limits entries o m knows a c old asks = record {
     held_begins {p} {r} (inr h) = inr (record {
       actor = h.actor;
       ready = by_test h.actor a (λ t. (cond t (begun (knows a) c) (knows h.actor)).pages p ≡ Ready r) (λ i. subst (λ n. (knows n).pages p ≡ Ready r) i h.ready) (λ ne. h.ready);
+      owned = h.owned;
       base = h.base;
+      stands = h.stands;
     })
 
 -- what a step shows
@@ -401,9 +403,9 @@ module _ (limits : Limits) (entries : List Entry) (o : Owners) (m : Memory) (kno
               let among' : Contains (chain_rows x c) row = subst (λ n. Contains (chain_rows n c) row) at among in
               elim (old.held p x e) [
                 | inl in_tree ↦ apart x c chain' among' (tree_slot p in_tree x e)
-                | inr ready ↦ elim ready.base [
+                | inr ready ↦ elim ready.owned [
                   | inl l ↦ apart x c chain' among' l
-                  | inr base ↦ in_base ready.actor base.1.0 p x c chain' among' base.1.1 base.0 ready.ready
+                  | inr own ↦ in_base ready.actor ready.base p x c chain' among' ready.stands own ready.ready
                 ]
               ]
   may_take same t h = tt

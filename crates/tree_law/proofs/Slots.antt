@@ -21,7 +21,7 @@ use Rattle.tree_law.specs.Owners.{Owner, Free, Spare, Linked, Owners, OwnFits, R
 use Rattle.tree_law.specs.Phase.{Stage, Fresh, Indexed, Held, Removed, Merged, PageOwner, Nobody, Keeps, Placed, Cleared}
 use Rattle.tree_law.specs.Phases.{Links, Phased}
 use Rattle.tree_law.specs.Put.{put}
-use Rattle.tree_law.specs.Shared.{row_in, slot_in, shared}
+use Rattle.tree_law.specs.Shared.{Shared, row_in, slot_in, shared}
 use Rattle.tree_law.specs.State.{IsInTree, IsReady}
 use Rattle.tree_law.specs.Tree.{Good}
 use Rattle.tree_law.proofs.Puts.{by_test, put_same, put_other}
@@ -39,16 +39,16 @@ here_in_tree : (f : ℕ → PageOwner) (q : ℕ) (st : Stage) (l : ℕ) (k : Key
 here_in_tree f q st l k = subst IsInTree (sym (put_same f q (Placed st l k))) tt
 
 -- what is in the tree stays in it when a record is linked
-links_in_tree : (a : ℕ) (w : Record) (q : ℕ) (f f' : ℕ → PageOwner) → Links a w q f f' → (p : ℕ) → IsInTree (f p) → IsInTree (f' p)
-links_in_tree a (Base page) q f f' h p i = subst (λ (g : ℕ → PageOwner). IsInTree (g p)) (sym h) i
-links_in_tree a (Put put') q f f' h p i = subst (λ (g : ℕ → PageOwner). IsInTree (g p)) (sym h) i
-links_in_tree a (Delete delete) q f f' h p i = subst (λ (g : ℕ → PageOwner). IsInTree (g p)) (sym h) i
-links_in_tree a (Term term) q f f' h p i = subst (λ (g : ℕ → PageOwner). IsInTree (g p)) (sym h.2) (put_in_tree f term.child p Indexed h.0 term.separator i)
-links_in_tree a (Hold hold) q f f' h p i = subst (λ (g : ℕ → PageOwner). IsInTree (g p)) (sym h.2) (put_in_tree f hold.child p Held h.0 hold.separator i)
-links_in_tree a (Unterm unterm) q f f' h p i = subst (λ (g : ℕ → PageOwner). IsInTree (g p)) (sym h.2) (put_cleared f unterm.child p a h.0 unterm.separator i)
-links_in_tree a (Split split) q f f' h p i = subst (λ (g : ℕ → PageOwner). IsInTree (g p)) (sym h.5) (put_in_tree f split.page p Fresh h.1 split.separator i)
-links_in_tree a (Remove remove) q f f' h p i = subst (λ (g : ℕ → PageOwner). IsInTree (g p)) (sym h.3) (put_in_tree f q p Removed h.0 h.1 i)
-links_in_tree a (Merge merge) q f f' h p i = subst (λ (g : ℕ → PageOwner). IsInTree (g p)) (sym h.3) (put_in_tree f h.0 p Merged h.1 merge.low i)
+links_in_tree : (m : Shared) (a : ℕ) (w : Record) (q : ℕ) (f f' : ℕ → PageOwner) → Links m a w q f f' → (p : ℕ) → IsInTree (f p) → IsInTree (f' p)
+links_in_tree m a (Base page) q f f' h p i = subst (λ (g : ℕ → PageOwner). IsInTree (g p)) (sym h) i
+links_in_tree m a (Put put') q f f' h p i = subst (λ (g : ℕ → PageOwner). IsInTree (g p)) (sym h) i
+links_in_tree m a (Delete delete) q f f' h p i = subst (λ (g : ℕ → PageOwner). IsInTree (g p)) (sym h) i
+links_in_tree m a (Term term) q f f' h p i = subst (λ (g : ℕ → PageOwner). IsInTree (g p)) (sym h.2) (put_in_tree f term.child p Indexed h.0 term.separator i)
+links_in_tree m a (Hold hold) q f f' h p i = subst (λ (g : ℕ → PageOwner). IsInTree (g p)) (sym h.2) (put_in_tree f hold.child p Held h.0 hold.separator i)
+links_in_tree m a (Unterm unterm) q f f' h p i = subst (λ (g : ℕ → PageOwner). IsInTree (g p)) (sym h.2) (put_cleared f unterm.child p a h.0 unterm.separator i)
+links_in_tree m a (Split split) q f f' h p i = subst (λ (g : ℕ → PageOwner). IsInTree (g p)) (sym h.5) (put_in_tree f split.page p Fresh h.1 split.separator i)
+links_in_tree m a (Remove remove) q f f' h p i = subst (λ (g : ℕ → PageOwner). IsInTree (g p)) (sym h.3) (put_in_tree f q p Removed h.0 h.1 i)
+links_in_tree m a (Merge merge) q f f' h p i = subst (λ (g : ℕ → PageOwner). IsInTree (g p)) (sym h.3) (put_in_tree f h.0 p Merged h.1 merge.low i)
 
 reached_in_tree : (r l : ℕ) (k : Key) (w : PageOwner) → Reached r l k w → IsInTree w
 reached_in_tree r l k Nobody h = h
@@ -76,18 +76,18 @@ module _ (m : Memory) {log : List Update} {o : Owners} {knows : ℕ → Knowledg
     | inr more ↦ elim more [ inl h ↦ absurd (let f = h.1 in cc) | inr h ↦ inl h.1 ]
   ]
 
-  -- the base stays where its record stays
-  base_after : (m' : Memory) (b q : ℕ) → (o.row q ≡ Spare b → m'.rows q ≡ m.rows q)
-      → (o.row q ≡ Linked) ⊎ ((o.row q ≡ Spare b) × ((base : pages.Page) × (m.rows q ≡ Some (Base base)))) → (o'.row q ≡ Linked) ⊎ ((o'.row q ≡ Spare b) × ((base : pages.Page) × (m'.rows q ≡ Some (Base base))))
-  base_after m' b q same (inl l) = inl (kept q l)
-  base_after m' b q same (inr h) = elim (spare_after b q h.0) [ inl l ↦ inl l | inr s ↦ inr (s, (h.1.0, same h.0 ∙ h.1.1)) ]
+  owned_after : (b q : ℕ) → (o.row q ≡ Linked) ⊎ (o.row q ≡ Spare b) → (o'.row q ≡ Linked) ⊎ (o'.row q ≡ Spare b)
+  owned_after b q (inl l) = inl (kept q l)
+  owned_after b q (inr e) = spare_after b q e
 
   -- What is ready stays so for the other actors, and for this one where it still knows it so.
-  ready_after : (m' : Memory) (k : Knowledge) (p q : ℕ) → (h : IsReady o m knows p q) → (o.row q ≡ Spare h.actor → m'.rows q ≡ m.rows q) → (h.actor ≡ a → k.pages p ≡ Ready q) → IsReady o' m' (put knows a k) p q
+  ready_after : (m' : Memory) (k : Knowledge) (p q : ℕ) → (h : IsReady o m knows p q) → ((o.row q ≡ Linked) ⊎ (o.row q ≡ Spare h.actor) → m'.rows q ≡ m.rows q) → (h.actor ≡ a → k.pages p ≡ Ready q) → IsReady o' m' (put knows a k) p q
   ready_after m' k p q h same still = record {
     actor = h.actor;
     ready = by_test h.actor a (λ t. (cond t k (knows h.actor)).pages p ≡ Ready q) still (λ ne. h.ready);
-    base = base_after m' h.actor q same h.base;
+    owned = owned_after h.actor q h.owned;
+    base = h.base;
+    stands = same h.owned ∙ h.stands;
   }
 
   -- after a step that leaves slots, and pages of the actor
@@ -102,12 +102,12 @@ module _ (m : Memory) {log : List Update} {o : Owners} {knows : ℕ → Knowledg
   with_other v n p q ne e = put_other (knows a).pages n v p ne ∙ e
 
   -- a row that is linked on a page
-  module _ (n x y : ℕ) (r : Option Reply) (w : Record) (stands : m.rows (suc y) ≡ Some w) (links : Links a w (suc n) o.page o'.page) (in_tree : IsInTree (o.page (suc n))) where
+  module _ (n x y : ℕ) (r : Option Reply) (w : Record) (stands : m.rows (suc y) ≡ Some w) (links : Links (shared m) a w (suc n) o.page o'.page) (in_tree : IsInTree (o.page (suc n))) where
     -- a page that is ready is so afterwards, or in the tree
     linked_ready : (v : OwnRow) → OwnFits a (o.row (suc y)) (m.rows (suc y)) v → (p q : ℕ) → (knows a).pages p ≡ Ready q → IsInTree (o'.page p) ⊎ ((linked_over v (suc x) (suc y) (knows a)).pages p ≡ Ready q)
     linked_ready (Written (Split split)) fits p q e =
         let same : w ≡ Split split = same_Some w (Split split) (sym stands ∙ fits.1) in
-        let h = subst (λ (u : Record). Links a u (suc n) o.page o'.page) same links in
+        let h = subst (λ (u : Record). Links (shared m) a u (suc n) o.page o'.page) same links in
         elim ((knows a).pages split.page) as (λ z. IsInTree (o'.page p) ⊎ ((split_off z split.page (suc y) (knows a)).pages p ≡ Ready q)) [
           | Ready base ↦ by_test p split.page (λ t. IsInTree (o'.page p) ⊎ (cond t Other ((knows a).pages p) ≡ Ready q))
               (λ i. inl (subst (λ (f : ℕ → PageOwner). IsInTree (f p)) (sym h.5) (rw i (here_in_tree o.page split.page Fresh h.1 split.separator))))
@@ -118,7 +118,7 @@ module _ (m : Memory) {log : List Update} {o : Owners} {knows : ℕ → Knowledg
         ]
     linked_ready (Written (Unterm unterm)) fits p q e =
         let same : w ≡ Unterm unterm = same_Some w (Unterm unterm) (sym stands ∙ fits.1) in
-        let h = subst (λ (u : Record). Links a u (suc n) o.page o'.page) same links in
+        let h = subst (λ (u : Record). Links (shared m) a u (suc n) o.page o'.page) same links in
         by_test p unterm.child (λ t. IsInTree (o'.page p) ⊎ (cond t Gone ((knows a).pages p) ≡ Ready q))
             (λ i. inl (subst (λ (f : ℕ → PageOwner). IsInTree (f p)) (sym h.2) (rw i (subst IsInTree (sym (put_same o.page unterm.child (Cleared a h.0 unterm.separator))) tt))))
             (λ ne. inr e)
@@ -140,9 +140,9 @@ module _ (m : Memory) {log : List Update} {o : Owners} {knows : ℕ → Knowledg
 
     linking : (m' : Memory) → m'.rows ≡ m.rows → (p q : ℕ) → put (slot_in m.slots) (suc n) (Some (suc y)) p ≡ Some q → IsInTree (o'.page p) ⊎ IsReady o' m' (put knows a (finished (exchanged (suc n) (suc x) (suc y) (knows a)) r)) p q
     linking m' rows p q e = by_test p (suc n) (λ t. cond t (Some (suc y)) (slot_in m.slots p) ≡ Some q → IsInTree (o'.page p) ⊎ IsReady o' m' (put knows a (finished (exchanged (suc n) (suc x) (suc y) (knows a)) r)) p q)
-        (λ i f. inl (links_in_tree a w (suc n) o.page o'.page links p (subst (λ z. IsInTree (o.page z)) (sym i) in_tree)))
+        (λ i f. inl (links_in_tree (shared m) a w (suc n) o.page o'.page links p (subst (λ z. IsInTree (o.page z)) (sym i) in_tree)))
         (λ ne f. elim (held p q f) [
-          | inl h ↦ inl (links_in_tree a w (suc n) o.page o'.page links p h)
+          | inl h ↦ inl (links_in_tree (shared m) a w (suc n) o.page o'.page links p h)
           | inr h ↦ by_test h.actor a (λ t. IsInTree (o'.page p) ⊎ IsReady o' m' (put knows a (finished (exchanged (suc n) (suc x) (suc y) (knows a)) r)) p q)
               (λ i. elim (filled_ready ((knows a).pages (suc n)) p q ne (subst (λ z. (knows z).pages p ≡ Ready q) i h.ready)) [
                 | inl tree ↦ inl tree
@@ -155,8 +155,8 @@ module _ (m : Memory) {log : List Update} {o : Owners} {knows : ℕ → Knowledg
   Holds m' k = (p q : ℕ) → slot_in m'.slots p ≡ Some q → IsInTree (o'.page p) ⊎ IsReady o' m' (put knows a k) p q
 
   -- a base in a row of its own
-  own_base : (q : ℕ) (v : OwnRow) → OwnFits a (o.row q) (m.rows q) v → IsOwnBase v → (o.row q ≡ Linked) ⊎ ((o.row q ≡ Spare a) × ((base : pages.Page) × (m.rows q ≡ Some (Base base))))
-  own_base q (Written (Base page)) fits h = inr (fits.0, (page, fits.1))
+  own_base : (q : ℕ) (v : OwnRow) → OwnFits a (o.row q) (m.rows q) v → IsOwnBase v → (o.row q ≡ Spare a) × ((base : pages.Page) × (m.rows q ≡ Some (Base base)))
+  own_base q (Written (Base page)) fits h = (fits.0, (page, fits.1))
   own_base q (Written (Put record')) fits h = absurd h
   own_base q (Written (Delete record')) fits h = absurd h
   own_base q (Written (Split record')) fits h = absurd h
@@ -172,10 +172,12 @@ module _ (m : Memory) {log : List Update} {o : Owners} {knows : ℕ → Knowledg
       → IsInTree (o'.page p) ⊎ IsReady o' (record m { slots = replaced_at (suc n) (suc y) m.slots }) (put knows a (finished (exchanged (suc n) zero (suc y) (knows a)) r)) p q
   readies n y r empty base same p q e = subst (λ (v : OwnPage). IsInTree (o'.page p) ⊎ IsReady o' (record m { slots = replaced_at (suc n) (suc y) m.slots }) (put knows a (finished (filled v (suc n) zero (suc y) (knows a)) r)) p q) (sym empty)
       (by_test p (suc n) (λ t. cond t (Some (suc y)) (slot_in m.slots p) ≡ Some q → IsInTree (o'.page p) ⊎ IsReady o' (record m { slots = replaced_at (suc n) (suc y) m.slots }) (put knows a k) p q)
-      (λ i f. let at : suc y ≡ q = same_Some (suc y) q f in inr (record {
+      (λ i f. let at : suc y ≡ q = same_Some (suc y) q f in let own = own_base (suc y) ((knows a).rows (suc y)) (g.owns a (suc y)) base in inr (record {
         actor = a;
         ready = subst (λ (z : Knowledge). z.pages p ≡ Ready q) (sym (put_same knows a k)) (rw i (put_same (knows a).pages (suc n) (Ready (suc y)) ∙ ap Ready at));
-        base = base_after (record m { slots = replaced_at (suc n) (suc y) m.slots }) a q (λ j. refl) (subst (λ z. (o.row z ≡ Linked) ⊎ ((o.row z ≡ Spare a) × ((base : pages.Page) × (m.rows z ≡ Some (Base base))))) at (own_base (suc y) ((knows a).rows (suc y)) (g.owns a (suc y)) base));
+        owned = owned_after a q (inr (subst (λ z. o.row z ≡ Spare a) at own.0));
+        base = own.1.0;
+        stands = subst (λ z. m.rows z ≡ Some (Base own.1.0)) at own.1.1;
       }))
       (λ ne f. elim (held p q f) [
         | inl h ↦ inl (subst (λ (f : ℕ → PageOwner). IsInTree (f p)) (sym same) h)
@@ -235,13 +237,19 @@ module _ (m : Memory) {log : List Update} {o : Owners} {knows : ℕ → Knowledg
   places n w x r own never same p q e = elim (held p q e) [
     | inl h ↦ inl (subst (λ (f : ℕ → PageOwner). IsInTree (f p)) (sym same) h)
     | inr h ↦ inr (ready_after (memory_after a (Place n w) m) (finished (learn (knows a) (Place n w) x) r) p q h
-        (λ s. put_other m.rows n (Some w) q (λ i.
-        let mine : o.row n ≡ Spare a = own_spare g a n ((knows a).rows n) (g.owns a n) own in
-        let his : o.row n ≡ Spare h.actor = subst (λ z. o.row z ≡ Spare h.actor) i s in
-        let actors : h.actor ≡ a = cc in
-        never p (subst (λ z. (knows z).pages p ≡ Ready n) actors (h.ready ∙ ap Ready i))))
+        (λ owned. put_other m.rows n (Some w) q (λ i. elim owned [
+          | inl l ↦ let mine = spare in let l' : o.row n ≡ Linked = subst (λ z. o.row z ≡ Linked) i l in absurd (cc)
+          | inr s ↦
+              let mine = spare in
+              let his : o.row n ≡ Spare h.actor = subst (λ z. o.row z ≡ Spare h.actor) i s in
+              let actors : h.actor ≡ a = cc in
+              never p (subst (λ z. (knows z).pages p ≡ Ready n) actors (h.ready ∙ ap Ready i))
+        ]))
         (λ j. subst (λ z. (knows z).pages p ≡ Ready q) j h.ready))
   ]
+    where
+      spare : o.row n ≡ Spare a
+      spare = own_spare g a n ((knows a).rows n) (g.owns a n) own
 
   -- after an allowed step
   pub held_after : (s : StepOf Record) (x : Answer Record) (r : Option Reply) → May a (knows a) s → IsAnswer m s x → Phased a (shared m) s x o.page o'.page → Holds (memory_after a s m) (finished (learn (knows a) s x) r)

@@ -17,7 +17,7 @@ use Rattle.chain_search.specs.Chains.{level_in, low_in, high_in, right_in}
 use Rattle.chain_search.specs.Steps.{IsAnswer, memory_after}
 use Rattle.tree_law.specs.Keys.{Key, put_key}
 use Rattle.tree_law.specs.Knowledge.{OwnRow, Written, OwnPage, Empty, Ready, Gone, Knowledge, learn_head, learn_slot, filled, emptied, learn, finished}
-use Rattle.tree_law.specs.Discipline.{record_of, base_from, HasRead, IsMet, IsOwnBase, MayUpdate, MayConsolidate, MaySplit, MayPost, MayHold, MayRemove, MayMerge, MayUnterm, MayRoot, MayLink, MayExchange, May}
+use Rattle.tree_law.specs.Discipline.{record_of, base_from, root_over, HasRead, IsMet, IsOwnBase, MayUpdate, MayConsolidate, MaySplit, MayPost, MayHold, MayRemove, MayMerge, MayUnterm, MayRoot, MayLink, MayExchange, May}
 use Rattle.tree_law.specs.Phase.{Stage, Fresh, Indexed, Held, Removed, Merged, PageOwner, Nobody, Keeps, Placed, Cleared}
 use Rattle.tree_law.specs.Phases.{Links, Exchanged}
 use Rattle.tree_law.specs.Put.{put}
@@ -25,6 +25,7 @@ use Rattle.tree_law.specs.Shared.{Shared, row_in, slot_in, shared}
 use Rattle.tree_law.specs.Owners.{Owner, Free, Spare, Linked, Owners, OwnFits, PageFits, Reached, Spells}
 use Rattle.tree_law.specs.Tree.{Good}
 use Rattle.tree_law.specs.Next.{IsDue, IsMoved, Next}
+use Rattle.tree_law.proofs.Frames.{chain_stands}
 use Rattle.tree_law.proofs.Puts.{by_test, put_other}
 use Rattle.tree_law.proofs.Keeping.{idles, enters, leaves, slot_of, met_placed}
 use Rattle.tree_law.proofs.Reading.{reads_root, reads_slot, reads_row}
@@ -58,9 +59,9 @@ cleared_again free n h = λ d j. at j d
     at : (j : ℕ) → replaced_at n false free j ≡ free j
     at j = by_test j n (λ t. cond t false (free j) ≡ free j) (λ e. sym (ap free e ∙ h)) (λ ne. refl)
 
-links_same : (a : ℕ) (u : Update) (x p : ℕ) (f : ℕ → PageOwner) → Links a (record_of u x) p f f
-links_same a (set b k v) x p f = refl
-links_same a (unset b k) x p f = refl
+links_same : (m : Shared) (a : ℕ) (u : Update) (x p : ℕ) (f : ℕ → PageOwner) → Links m a (record_of u x) p f f
+links_same m a (set b k v) x p f = refl
+links_same m a (unset b k) x p f = refl
 
 module _ (memory : Memory) {log : List Update} {o : Owners} {knows : ℕ → Knowledge} {point : ℕ → Option (List Update)} {logs : ℕ → List (List Update)} (g : Good (shared memory) log o knows point logs) (a : ℕ) where
   -- what a step with its answer leaves
@@ -75,6 +76,9 @@ module _ (memory : Memory) {log : List Update} {o : Owners} {knows : ℕ → Kno
 
   spare_of : {w : Record} (y : ℕ) → (knows a).rows y ≡ Written w → o.row y ≡ Spare a
   spare_of {w} y e = (subst (λ (v : OwnRow). OwnFits a (o.row y) (memory.rows y) v) e (g.owns a y)).0
+
+  ready_slot : (p r : ℕ) → (knows a).pages p ≡ Ready r → slot_in memory.slots p ≡ Some r
+  ready_slot p r e = (subst (λ (v : OwnPage). PageFits a (o.page p) (slot_in memory.slots p) v) e (g.owns_pages a p)).1
 
   linked_moved : (y : ℕ) → o.row y ≡ Spare a → (row : ℕ) → IsMoved a (memory.free_rows row) (o.row row) (put o.row y Linked row)
   linked_moved y spare row = by_test row y (λ t. IsMoved a (memory.free_rows row) (o.row row) (cond t Linked (o.row row))) (λ e. inr (inr (ap o.row e ∙ spare, refl))) (λ ne. inl refl)
@@ -152,7 +156,7 @@ module _ (memory : Memory) {log : List Update} {o : Owners} {knows : ℕ → Kno
       due = (h.command, h.going, h.unlinked, n.1);
       last = λ i. absurd (cc);
       owners = record o { row = put o.row (suc y) Linked };
-      phased = (record_of h.update (suc x), placed_row g a (suc y) (record_of h.update (suc x)) h.placed, links_same a h.update (suc x) (suc p) o.page);
+      phased = (record_of h.update (suc x), placed_row g a (suc y) (record_of h.update (suc x)) h.placed, links_same (shared memory) a h.update (suc x) (suc p) o.page);
       moved = linked_moved (suc y) (spare_of (suc y) h.placed);
       kept = linked_rows (suc y);
       good = n.0;
@@ -243,7 +247,7 @@ module _ (memory : Memory) {log : List Update} {o : Owners} {knows : ℕ → Kno
           due = tt;
           last = λ i. refl;
           owners = record { row = put o.row (suc y) Linked; page = put o.page h.other (Placed Merged (level_in h.basis.chain) (low_in h.chain)); index = o.index };
-          phased = (w, placed_row g a (suc y) w h.placed, (h.other, level_in h.basis.chain, n.1, refl));
+          phased = (w, placed_row g a (suc y) w h.placed, (h.other, level_in h.basis.chain, n.1, refl, (suc x, h.basis.chain, s, chain_stands o (shared memory) (knows a).seen (g.sound a).seen_fits h.basis.chain (Some (suc x)) h.basis.read, h.right)));
           moved = linked_moved (suc y) (spare_of (suc y) h.placed);
       kept = linked_rows (suc y);
           good = n.0;
@@ -323,7 +327,7 @@ module _ (memory : Memory) {log : List Update} {o : Owners} {knows : ℕ → Kno
       page = put (put o.page h.right (Placed Indexed g.tree.top h.separator)) y (Placed Indexed (suc g.tree.top) []);
       index = put o.index g.tree.top (put_key (put_key (λ k. None) h.separator (Some (Child h.right false))) [] (Some (Child (memory.slots 0) false)));
     };
-    phased = (h.right, g.tree.top, h.separator, n.1.0, n.1.1, n.1.2, refl);
+    phased = (h.right, g.tree.top, h.separator, n.1.0, n.1.1, n.1.2, refl, (h.base_row, suc (level_in h.basis.chain), ready_slot y h.base_row h.ready, placed_row g a h.base_row (root_over (suc (level_in h.basis.chain)) x h.separator h.right) h.base));
     moved = linked_moved h.base_row (spare_of h.base_row h.base);
     kept = linked_rows h.base_row;
     good = n.0;

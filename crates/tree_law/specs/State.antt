@@ -91,11 +91,13 @@ IsInTree (Keeps actor) = ⊥
 IsInTree (Placed stage level low) = ⊤
 IsInTree (Cleared actor level low) = ⊤
 
--- The page is ready for its actor, and the row in its slot has a base, or is linked.
+-- The page is ready for its actor, and the row in its slot has a base.
 pub record IsReady (owners : Owners) (memory : Memory) (knows : ℕ → Knowledge) (page row : ℕ) : Type 0 where
   pub actor : ℕ
   pub ready : (knows actor).pages page ≡ Ready row
-  pub base : (owners.row row ≡ Linked) ⊎ ((owners.row row ≡ Spare actor) × ((base : pages.Page) × (memory.rows row ≡ Some (Base base))))
+  pub owned : (owners.row row ≡ Linked) ⊎ (owners.row row ≡ Spare actor)
+  pub base : pages.Page
+  pub stands : memory.rows row ≡ Some (Base base)
 
 -- What the names that actors have learnt are, and which slots hold rows.
 pub record IsNamed (limits : Limits) (entries : List Entry) (owners : Owners) (memory : Memory) (knows : ℕ → Knowledge) : Type 0 where
