@@ -47,6 +47,7 @@ use Rattle.tree_law.proofs.Leaves.{slot_some, map_of}
 use Rattle.tree_law.proofs.Marks.{marked_push, tells_other, tells_own, quiet_push}
 use Rattle.tree_law.proofs.Names.{number_same, slot_none, faithful_push, named_steps, reads_known, touches_outside, may_take}
 use Rattle.tree_law.proofs.Owned.{same_start, own_new}
+use Rattle.tree_law.proofs.Phasing.{moves_between, clears_cleared, moves_or_rests}
 use Rattle.tree_law.proofs.Puts.{by_test, put_same, put_other}
 use Rattle.tree_law.proofs.Remark.{own_same, remarked, log_of_same, marked', told, told_other, quiet'}
 use Rattle.tree_law.proofs.Rows.{rows_kept}

@@ -15,6 +15,7 @@ pub mod Names
 pub mod Opening
 pub mod OwnEntries
 pub mod Owned
+pub mod Phasing
 pub mod Puts
 pub mod Reading
 pub mod Relinking

@@ -23,9 +23,11 @@ use Rattle.op_machine.specs.Operations.{Operation, IsOperation, IsOwnStep, Takes
 use Rattle.op_machine.specs.Points.{log_of, log_at, IsPoint}
 use Rattle.op_machine.specs.Quiet.{IsQuiet}
 use Rattle.op_machine.specs.Faithful.{IsFaithful, KnowsRow}
+use Rattle.op_machine.specs.Phases as phase
+use Rattle.op_machine.specs.Phases.{Phase, IsInPhase, KeepsPhases}
 use Rattle.tree_law.specs.Knowledge.{Ready, Knowledge, knows}
 use Rattle.tree_law.specs.Owners.{Owner, Free, Spare, Linked, Owners, Among}
-use Rattle.tree_law.specs.Phase.{PageOwner, Nobody, Keeps, Placed, Cleared}
+use Rattle.tree_law.specs.Phase.{Fresh, Indexed, Held, Removed, Merged, PageOwner, Nobody, Keeps, Placed, Cleared}
 use Rattle.tree_law.specs.Shared.{slot_in, shared}
 use Rattle.tree_law.specs.Tree.{Good}
 
@@ -83,6 +85,17 @@ pub record IsMarked (limits : Limits) (entries : List Entry) (points : List Bool
   pub own : (n : ℕ) → IsPoint points n → (operation : Operation) × IsOperation entries operation × IsOwnStep entries operation n
   pub one : (operation : Operation) (m n : ℕ) → IsOperation entries operation → IsOwnStep entries operation m → IsOwnStep entries operation n → IsPoint points m → IsPoint points n → m ≡ n
   pub answered : (operation : Operation) (n : ℕ) (reply : Reply) → IsOperation entries operation → Finishes entries operation n reply → Answers limits entries points operation reply
+
+-- the phase of a page by whose it is
+abbrev pub phase_of : PageOwner → Phase
+phase_of Nobody = phase.free
+phase_of (Keeps actor) = phase.owned
+phase_of (Placed Fresh level low) = phase.fresh
+phase_of (Placed Indexed level low) = phase.indexed
+phase_of (Placed Held level low) = phase.held
+phase_of (Placed Removed level low) = phase.removed
+phase_of (Placed Merged level low) = phase.merged
+phase_of (Cleared actor level low) = phase.cleared
 
 -- in the tree, now or once
 abbrev pub IsInTree : PageOwner → Type 0
