@@ -23,10 +23,12 @@ use Rattle.tree_law.specs.Owners.{Owners}
 use Rattle.tree_law.specs.Phase.{Indexed, PageOwner, Nobody, Placed}
 use Rattle.tree_law.specs.Put.{put}
 use Rattle.tree_law.specs.Shared.{slot_in, shared}
-use Rattle.tree_law.specs.State.{IsUnended, operation_of, Tells, IsSearch, IsInTree, IsReady, IsState}
+use Rattle.tree_law.specs.State.{phase_of, IsUnended, operation_of, Tells, IsSearch, IsInTree, IsReady, IsState}
 use Rattle.tree_law.specs.Tree.{Good}
 use Rattle.tree_law.proofs.Keeping.{begins as good_begins}
+use Rattle.op_machine.specs.Phases.{free, indexed}
 use Rattle.tree_law.proofs.Leaves.{map_of}
+use Rattle.tree_law.proofs.Lives.{begins_in_phase, begins_phases, unused_push}
 use Rattle.tree_law.proofs.Marks.{marked_push, tells_other, quiet_push}
 use Rattle.tree_law.proofs.Names.{faithful_push, named_begins}
 use Rattle.tree_law.proofs.Opening.{opening_slots, opening_owners, opening_good}
@@ -61,6 +63,9 @@ opens limits = record {
   run = IsRun-none limits;
   quiet = record { at_each = λ n h. at_zero n h };
   faithful = record { known = λ n a row x h. absurd (let e = h.1 in cc); outside = λ n a s x h. absurd (let e = h.1 in cc) };
+  in_phase = λ pid. inr (λ k from to low high. absurd (omega arith), by_test pid 1 (λ t. phase_of (cond t (Placed Indexed 0 []) Nobody) ≡ cond t indexed free) (λ i. refl) (λ ne. refl));
+  phases = record { in_order = λ n pid from to h. absurd (let e = h.at in cc); emptied = λ n actor pid old h. absurd (let e = h.at in cc) };
+  unused = λ n actor word bits answer. (λ h. let e = h.1 in cc, λ h. let e = h.1 in cc);
 }
   where
     not_shown : (a r n : ℕ) → ShowsRow [] n a r → ⊥
@@ -105,6 +110,9 @@ begins limits entries a c state below idle = record {
   run = IsRun-push limits entries (Begin a c) state.run (below, idle);
   quiet = quiet_push entries state.points (Begin a c) false state.marked.beside limits state.quiet
       (rw (memory_of-push limits entries (Begin a c), log_of-push entries state.points (Begin a c) false state.marked.beside) (map_of state.good));
+  in_phase = λ pid. begins_in_phase limits entries a c pid (phase_of (state.owners.page pid)) (state.in_phase pid);
+  phases = begins_phases limits entries a c state.phases;
+  unused = unused_push limits entries (Begin a c) state.unused (λ b word bits y. (λ h. let e = h.1 in cc, λ h. let e = h.1 in cc));
   faithful = faithful_push limits entries (Begin a c) state.faithful (λ b row x h. let e = h.1 in absurd (cc)) (λ b s x h z. let e = h.1 in absurd (cc));
 }
   where

@@ -11,7 +11,7 @@ use Rattle.bw_model.specs.declared.limits.Limits.{Limits}
 use Rattle.bw_model.specs.declared.step.Answer.{Answer}
 use Rattle.bw_model.specs.declared.step.Answer.TheVariants.{Number}
 use Rattle.bw_model.specs.declared.step.Step.{Step as StepOf}
-use Rattle.bw_model.specs.declared.step.Step.TheVariants.{Slot, Leave}
+use Rattle.bw_model.specs.declared.step.Step.TheVariants.{Slot, Leave, ReusePids, ReuseRows}
 use Rattle.bw_model.specs.Log.{Update, value_in}
 use Rattle.bw_model.specs.Replies.{command_key, reply_of, update_of}
 use Rattle.deltas.specs.declared.record.Record.{Record}
@@ -27,8 +27,10 @@ use Rattle.chain_search.proofs.RunLaws.{IsRun-push}
 use Rattle.op_machine.specs.Answered.{IsTrueReply, is_writer}
 use Rattle.op_machine.specs.Linearized.{IsLinearized}
 use Rattle.op_machine.specs.Operations.{Operation, IsOperation, IsOwnStep, Finishes}
+use Rattle.op_machine.specs.Phases.{Phase, Moves, KeepsPhases}
 use Rattle.op_machine.specs.Points.{IsPoint, log_of, log_at, updates_by, has_point}
 use Rattle.op_machine.specs.Quiet.{IsQuiet}
+use Rattle.op_machine.specs.Reuse.{IsFreedByRule}
 use Rattle.op_machine.proofs.Listed.{same_operation}
 use Rattle.op_machine.proofs.LogLaws.{log_of-push}
 use Rattle.tree_law.specs.Discipline.{May, MayAnswer, MayGiveUp, MayReply, IsAllowed}
@@ -38,12 +40,13 @@ use Rattle.tree_law.specs.Owners.{SeenFits, HeadFits, LinkFits}
 use Rattle.tree_law.specs.Put.{put}
 use Rattle.tree_law.specs.Replies.{IsRepliedAt}
 use Rattle.tree_law.specs.Shared.{shared}
-use Rattle.tree_law.specs.State.{IsUnended, operation_of, Tells, IsSearch, Answers, IsMarked, IsState}
+use Rattle.tree_law.specs.State.{phase_of, IsUnended, operation_of, Tells, IsSearch, Answers, IsMarked, IsState}
 use Rattle.tree_law.specs.Tree.{Good}
 use Rattle.tree_law.proofs.Answering.{answers}
 use Rattle.tree_law.proofs.Beginning.{knows-push}
 use Rattle.tree_law.proofs.Keeping.{slot_of, met_placed}
 use Rattle.tree_law.proofs.Leaves.{slot_some, map_of}
+use Rattle.tree_law.proofs.Lives.{steps_in_phase, steps_phases, unused_push, freed}
 use Rattle.tree_law.proofs.Marks.{marked_push, tells_other, tells_own, quiet_push}
 use Rattle.tree_law.proofs.Names.{number_same, slot_none, faithful_push, named_steps, reads_known, touches_outside, may_take}
 use Rattle.tree_law.proofs.Owned.{same_start, own_new}
@@ -278,6 +281,9 @@ module _ (limits : Limits) (entries : List Entry) (a : ℕ) (step : StepOf Recor
           let f = put_same (command_of entries) a None in
           let g : None ≡ Some op.command = sym f ∙ e in absurd (cc)
 
+  between : (pid : ℕ) (from to : Phase) → Moves (memory_of limits entries) last pid from to → (phase_of (state.owners.page pid) ≡ from) × (phase_of (n.owners.page pid) ≡ to)
+  between = moves_between (memory_of limits entries) state.good state.named.held a step answer r allowed.may is n.owners.page n.phased
+
   state_after : IsState limits (entries ++ last ∷ [])
   state_after = record {
     points = z.points ++ mark ∷ [];
@@ -305,6 +311,14 @@ module _ (limits : Limits) (entries : List Entry) (a : ℕ) (step : StepOf Recor
         (state.searches (operation_of z.mine.start a asked) z.mine.begins z.mine.unended asks).unfinished m reply (subst (λ o. Finishes entries o m reply) same ends));
     run = IsRun-push limits entries last state.run (subst IsSome (sym asks) refl, may_take limits entries state.owners (memory_of limits entries) (knows entries) (log_of entries state.points) state.point state.logs state.good state.named a step answer r allowed.may is refl step allowed.may, is);
     quiet = quiet_push entries z.points last mark z.marked.beside limits z.quiet (map_of good_after);
+    in_phase = steps_in_phase limits entries last state.owners.page n.owners.page state.in_phase between
+        (moves_or_rests (memory_of limits entries) state.good state.named.held a step answer r allowed.may is n.owners.page n.phased);
+    phases = steps_phases limits entries last state.owners.page n.owners.page state.in_phase between state.phases
+        (clears_cleared (memory_of limits entries) state.good state.named.held a step answer r allowed.may is n.owners.page n.phased);
+    unused = unused_push limits entries last state.unused (λ b word bits y. (
+      λ h. let e = h.1 in subst (May a (knows entries a)) (let i : step ≡ ReusePids word bits = cc in i) allowed.may,
+      λ h. let e = h.1 in subst (May a (knows entries a)) (let i : step ≡ ReuseRows word bits = cc in i) allowed.may,
+    ));
     faithful = faithful_push limits entries last state.faithful
         (reads_known limits entries state.owners (memory_of limits entries) (knows entries) (log_of entries state.points) state.point state.logs state.good state.named a step answer r allowed.may is)
         (touches_outside limits entries state.owners (memory_of limits entries) (knows entries) (log_of entries state.points) state.point state.logs state.good state.named a step answer r allowed.may is);
@@ -368,3 +382,9 @@ is_one_map limits entries state = record {
   quiet = state.quiet;
   faithful = state.faithful;
 }
+
+pub keeps_phases : (limits : Limits) (entries : List Entry) → IsState limits entries → KeepsPhases limits entries
+keeps_phases limits entries state = state.phases
+
+pub frees_by_rule : (limits : Limits) (entries : List Entry) → IsState limits entries → IsFreedByRule limits entries
+frees_by_rule limits entries state = freed limits entries state.unused

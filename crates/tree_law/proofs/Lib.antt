@@ -9,6 +9,7 @@ pub mod Keeping
 pub mod Kept
 pub mod KeyOrder
 pub mod Leaves
+pub mod Lives
 pub mod Marks
 pub mod Merging
 pub mod Names

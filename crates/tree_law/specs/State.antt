@@ -4,8 +4,9 @@ use Rattle.bw_model.specs.declared.command.Command.{Command}
 use Rattle.bw_model.specs.declared.command.Reply.{Reply}
 use Rattle.bw_model.specs.declared.command.Reply.TheVariants.{Full}
 use Rattle.bw_model.specs.declared.limits.Limits.{Limits}
+use Rattle.bw_model.specs.declared.step.Answer.{Answer}
 use Rattle.bw_model.specs.declared.step.Answer.TheVariants.{Number, Content}
-use Rattle.bw_model.specs.declared.step.Step.TheVariants.{Slot, Row, PidBits, RowBits}
+use Rattle.bw_model.specs.declared.step.Step.TheVariants.{Slot, Row, PidBits, RowBits, ReusePids, ReuseRows}
 use Rattle.bw_model.specs.Log.{Update, value_in}
 use Rattle.bw_model.specs.Replies.{command_key, reply_of, update_of}
 use Rattle.base_page.specs.Pages as pages
@@ -17,7 +18,7 @@ use Rattle.chain_search.specs.declared.trace.Entry.{Entry}
 use Rattle.chain_search.specs.declared.trace.Entry.TheVariants.{Begin}
 use Rattle.chain_search.specs.Learnt.{HasLearnt}
 use Rattle.chain_search.specs.Run.{IsRun}
-use Rattle.chain_search.specs.Trace.{memory_of, memory_at, command_of}
+use Rattle.chain_search.specs.Trace.{memory_of, memory_at, command_of, TakesStep}
 use Rattle.op_machine.specs.Answered.{FindsNothingFree, FindsPageFull}
 use Rattle.op_machine.specs.Operations.{Operation, IsOperation, IsOwnStep, TakesOwnStep, Finishes}
 use Rattle.op_machine.specs.Points.{log_of, log_at, IsPoint}
@@ -124,6 +125,10 @@ pub record IsNamed (limits : Limits) (entries : List Entry) (owners : Owners) (m
   pub zero_taken : memory.free_rows 0 ≡ false
   pub held : (page row : ℕ) → slot_in memory.slots page ≡ Some row → IsInTree (owners.page page) ⊎ IsReady owners memory knows page row
 
+-- nothing is used again
+abbrev pub IsUnused : List Entry → Type 0
+IsUnused entries = (n actor word bits : ℕ) (answer : Answer Record) → (TakesStep entries n actor (ReusePids word bits) answer → ⊥) × (TakesStep entries n actor (ReuseRows word bits) answer → ⊥)
+
 pub record IsState (limits : Limits) (entries : List Entry) : Type 0 where
   pub points : List Bool
   pub owners : Owners
@@ -138,3 +143,6 @@ pub record IsState (limits : Limits) (entries : List Entry) : Type 0 where
   pub run : IsRun limits entries
   pub quiet : IsQuiet limits entries points
   pub faithful : IsFaithful limits entries
+  pub in_phase : (pid : ℕ) → IsInPhase limits entries (length entries) pid (phase_of (owners.page pid))
+  pub phases : KeepsPhases limits entries
+  pub unused : IsUnused entries

@@ -11,6 +11,8 @@ ghost use Rattle.chain_search.specs.Steps.{IsAnswer};
 ghost use Rattle.chain_search.specs.Trace.{memory_of, command_of, turn_of};
 ghost use Rattle.deltas.specs.declared.record.Record.{Record};
 ghost use Rattle.op_machine.specs.Linearized.{IsLinearized};
+ghost use Rattle.op_machine.specs.Phases.{KeepsPhases};
+ghost use Rattle.op_machine.specs.Reuse.{IsFreedByRule};
 ghost use Rattle.tree_law.specs.Discipline.{IsAllowed};
 ghost use Rattle.tree_law.specs.Knowledge.{knows};
 ghost use Rattle.tree_law.specs.Runs.{IsDisciplined, own_entries};
@@ -35,6 +37,16 @@ pub fn steps()
 /// A state is linearized.
 pub fn is_one_map()
     ensures { (limits : Limits) (entries : List Entry) → IsState limits entries → IsLinearized limits (map turn_of entries) entries }
+{}
+
+/// A state keeps the phases of pages.
+pub fn keeps_phases()
+    ensures { (limits : Limits) (entries : List Entry) → IsState limits entries → KeepsPhases limits entries }
+{}
+
+/// A state frees by the rule: nothing is used again yet.
+pub fn frees_by_rule()
+    ensures { (limits : Limits) (entries : List Entry) → IsState limits entries → IsFreedByRule limits entries }
 {}
 
 /// A trace in which each actor obeys its discipline is a state, and so linearized.
