@@ -1,6 +1,7 @@
 -- The empty trace is a state, and a begin keeps a state.
-use Rattle.std.proofs.Common.{◌≡◌, ◌≢◌, ◌<◌, ◌≤◌, inl, inr, ℕ, zero, suc, List, [], ◌∷◌, ◌++◌, length, Option, Some, None, Bool, true, false, cond, ◌⊎◌, refl, sym, ap, ◌∙◌, subst, arith}
+use Rattle.std.proofs.Common.{◌≡◌, ◌≢◌, ◌<◌, ◌≤◌, inl, inr, ℕ, zero, suc, List, [], ◌∷◌, ◌++◌, length, Option, Some, None, Bool, true, false, cond, leb, ltb, ◌⊎◌, refl, sym, ap, ◌∙◌, subst, arith}
 use Rattle.std.specs.Prelude.{slice_get}
+use Rattle.std.proofs.lemmas.Bool.{ltb-true}
 use Rattle.bw_model.specs.declared.command.Command.{Command}
 use Rattle.bw_model.specs.declared.limits.Limits.{Limits}
 use Rattle.bw_model.specs.Log.{Update}
@@ -15,11 +16,11 @@ use Rattle.chain_search.proofs.RunLaws.{IsRun-none, IsRun-push}
 use Rattle.op_machine.specs.Operations.{Operation, IsOperation}
 use Rattle.op_machine.specs.Points.{log_of, log_at}
 use Rattle.op_machine.specs.Quiet.{HasMapOf}
-use Rattle.op_machine.proofs.Listed.{same_operation}
+use Rattle.op_machine.proofs.Listed.{same_operation, and_left, and_right}
 use Rattle.op_machine.proofs.LogLaws.{log_of-push}
 use Rattle.std.proofs.lemmas.List.Sums.{fold-append}
 use Rattle.tree_law.specs.Knowledge.{Knowledge, begun, knows_after, knows}
-use Rattle.tree_law.specs.Owners.{Owners}
+use Rattle.tree_law.specs.Owners.{Free, Linked, Owners}
 use Rattle.tree_law.specs.Phase.{Indexed, PageOwner, Nobody, Placed}
 use Rattle.tree_law.specs.Put.{put}
 use Rattle.tree_law.specs.Shared.{slot_in, shared}
@@ -55,6 +56,10 @@ opens limits = record {
     recent = λ a r w e. absurd (cc);
     zero_free = refl;
     zero_taken = refl;
+    free_row_below = λ q e. ltb-true q limits.rows (and_right (leb 2 q) (ltb q limits.rows) e);
+    row_below = λ q. by_test q 1 (λ t. (cond t Linked Free ≡ Free) ⊎ (q < limits.rows)) (λ i. inr (let some : 64 ≤ limits.rows = limits.allowed.some_rows in omega arith)) (λ ne. inl refl);
+    free_pid_below = λ p e. free_pid p (and_left (leb 2 p) (ltb p limits.pids) e) (and_right (leb 2 p) (ltb p limits.pids) e);
+    pid_below = λ p. by_test p 1 (λ t. (phase_of (cond t (Placed Indexed 0 []) Nobody) ≡ free) ⊎ ((0 < p) × (p < limits.pids))) (λ i. inr (let some : 64 ≤ limits.pids = limits.allowed.some_pids in (omega arith, omega arith))) (λ ne. inl refl);
     held = held;
   };
   tells = λ a asked e. absurd (cc);
@@ -71,6 +76,10 @@ opens limits = record {
     not_shown : (a r n : ℕ) → ShowsRow [] n a r → ⊥
     not_shown a r n (inl h) = let e = h.2.1 in cc
     not_shown a r n (inr h) = let e = h.2.1 in cc
+
+    free_pid : (p : ℕ) → leb 2 p ≡ true → ltb p limits.pids ≡ true → (0 < p) × (p < limits.pids)
+    free_pid zero e f = absurd (cc)
+    free_pid (suc p) e f = (omega arith, ltb-true (suc p) limits.pids f)
 
     held : (p r : ℕ) → slot_in (opening limits).slots p ≡ Some r → IsInTree ((opening_owners limits).page p) ⊎ IsReady (opening_owners limits) (opening limits) (knows []) p r
     held p r e = by_test p 1 (λ t. cond {A = Option ℕ} t (Some 1) None ≡ Some r → IsInTree (cond t (Placed Indexed 0 []) Nobody) ⊎ IsReady (opening_owners limits) (opening limits) (knows []) p r)

@@ -46,7 +46,7 @@ use Rattle.tree_law.proofs.Answering.{answers}
 use Rattle.tree_law.proofs.Beginning.{knows-push}
 use Rattle.tree_law.proofs.Keeping.{slot_of, met_placed}
 use Rattle.tree_law.proofs.Leaves.{slot_some, map_of}
-use Rattle.tree_law.proofs.Lives.{steps_in_phase, steps_phases, unused_push, freed}
+use Rattle.tree_law.proofs.Lives.{pid_below_after, steps_in_phase, steps_phases, unused_push, freed}
 use Rattle.tree_law.proofs.Marks.{marked_push, tells_other, tells_own, quiet_push}
 use Rattle.tree_law.proofs.Names.{number_same, slot_none, faithful_push, named_steps, reads_known, touches_outside, may_take}
 use Rattle.tree_law.proofs.Owned.{same_start, own_new}
@@ -284,6 +284,9 @@ module _ (limits : Limits) (entries : List Entry) (a : ℕ) (step : StepOf Recor
   between : (pid : ℕ) (from to : Phase) → Moves (memory_of limits entries) last pid from to → (phase_of (state.owners.page pid) ≡ from) × (phase_of (n.owners.page pid) ≡ to)
   between = moves_between (memory_of limits entries) state.good state.named.held a step answer r allowed.may is n.owners.page n.phased
 
+  lives : (pid : ℕ) → Moves (memory_of limits entries) last pid (phase_of (state.owners.page pid)) (phase_of (n.owners.page pid)) ⊎ (phase_of (n.owners.page pid) ≡ phase_of (state.owners.page pid))
+  lives = moves_or_rests (memory_of limits entries) state.good state.named.held a step answer r allowed.may is n.owners.page n.phased
+
   state_after : IsState limits (entries ++ last ∷ [])
   state_after = record {
     points = z.points ++ mark ∷ [];
@@ -292,7 +295,8 @@ module _ (limits : Limits) (entries : List Entry) (a : ℕ) (step : StepOf Recor
     logs = put state.logs a (log_of entries state.points ∷ state.logs a);
     good = good_after;
     named = rw (memory_of-push limits entries last, knows-push entries last)
-        (named_steps limits entries state.owners (memory_of limits entries) (knows entries) (log_of entries state.points) state.point state.logs state.good state.named a step answer r allowed.may is n.owners (λ q l. (n.kept q l).0) (n.moved 0)
+        (named_steps limits entries state.owners (memory_of limits entries) (knows entries) (log_of entries state.points) state.point state.logs state.good state.named a step answer r allowed.may is n.owners (λ q l. (n.kept q l).0) n.moved
+        (pid_below_after limits state.owners.page n.owners.page is lives state.named.free_pid_below state.named.pid_below)
         (held_after (memory_of limits entries) state.good state.named.held a n.owners (λ q l. (n.kept q l).0) n.moved step answer r allowed.may is n.phased) (command_of-push entries last));
     searches = searches_after;
     tells = λ b c e. by_test b a (λ t. Tells (entries ++ last ∷ []) (z.points ++ mark ∷ []) b c (cond t (cond mark (Some (log_of entries state.points)) (state.point a)) (state.point b)) (cond t (log_of entries state.points ∷ state.logs a) (state.logs b)))
@@ -312,7 +316,7 @@ module _ (limits : Limits) (entries : List Entry) (a : ℕ) (step : StepOf Recor
     run = IsRun-push limits entries last state.run (subst IsSome (sym asks) refl, may_take limits entries state.owners (memory_of limits entries) (knows entries) (log_of entries state.points) state.point state.logs state.good state.named a step answer r allowed.may is refl step allowed.may, is);
     quiet = quiet_push entries z.points last mark z.marked.beside limits z.quiet (map_of good_after);
     in_phase = steps_in_phase limits entries last state.owners.page n.owners.page state.in_phase between
-        (moves_or_rests (memory_of limits entries) state.good state.named.held a step answer r allowed.may is n.owners.page n.phased);
+        lives;
     phases = steps_phases limits entries last state.owners.page n.owners.page state.in_phase between state.phases
         (clears_cleared (memory_of limits entries) state.good state.named.held a step answer r allowed.may is n.owners.page n.phased);
     unused = unused_push limits entries last state.unused (λ b word bits y. (

@@ -1,20 +1,23 @@
 -- One more entry: the life of each page, and that nothing is used again.
-use Rattle.std.proofs.Common.{◌≡◌, ◌⊎◌, inl, inr, ℕ, suc, List, [], ◌∷◌, ◌++◌, length, Option, Some, refl, sym, ap, ◌∙◌, subst}
+use Rattle.std.proofs.Common.{◌≡◌, ◌⊎◌, inl, inr, ℕ, suc, List, [], ◌∷◌, ◌++◌, length, Option, Some, Bool, true, ◌<◌, refl, sym, ap, ◌∙◌, subst}
 use Rattle.bw_model.specs.declared.command.Command.{Command}
 use Rattle.bw_model.specs.declared.limits.Limits.{Limits}
 use Rattle.bw_model.specs.declared.step.Step.{Step as StepOf}
-use Rattle.bw_model.specs.declared.step.Step.TheVariants.{ReusePids, ReuseRows}
+use Rattle.bw_model.specs.declared.step.Step.TheVariants.{TakePid, ReusePids, ReuseRows}
+use Rattle.bw_model.specs.declared.command.Reply.{Reply}
 use Rattle.bw_model.specs.declared.step.Answer.{Answer}
+use Rattle.bw_model.specs.declared.step.Answer.TheVariants.{Whether}
 use Rattle.bw_model.specs.declared.step.Link.{Link}
 use Rattle.bw_model.specs.declared.step.Link.TheVariants as link
 use Rattle.deltas.specs.declared.record.Record.{Record}
 use Rattle.deltas.specs.Memory.{Memory}
 use Rattle.chain_search.specs.declared.trace.Entry.{Entry}
 use Rattle.chain_search.specs.declared.trace.Entry.TheVariants.{Begin, Step}
+use Rattle.chain_search.specs.Steps.{IsAnswer}
 use Rattle.chain_search.specs.Trace.{memory_of, TakesStep, IsStep}
 use Rattle.chain_search.proofs.TraceLaws.{TakesStep-push_cases}
 use Rattle.op_machine.specs.Links.{Wins, Installs}
-use Rattle.op_machine.specs.Phases.{Phase, cleared, MakesRoot, Moves, takes, splits, becomes_root, terms, under_root, holds, removes, merges, unterms, reuses, IsInPhase, KeepsPhases}
+use Rattle.op_machine.specs.Phases.{Phase, free, cleared, MakesRoot, Moves, takes, splits, becomes_root, terms, under_root, holds, removes, merges, unterms, reuses, IsInPhase, KeepsPhases}
 use Rattle.op_machine.specs.Reuse.{IsFreedByRule}
 use Rattle.op_machine.proofs.PhaseLaws.{IsInPhase-moved, IsInPhase-rested, KeepsPhases-push}
 use Rattle.tree_law.specs.State.{phase_of, IsUnused}
@@ -46,6 +49,34 @@ moves_on (removes remove installs) e = cc
 moves_on (merges slot merge chain installs stood right) e = cc
 moves_on (unterms slot unterm installs at) e = cc
 moves_on (reuses b word bits answer step among) e = cc
+
+-- what leaves the free ones is taken from them
+taken_from : {m : Memory} {a : ℕ} {s : StepOf Record} {x : Answer Record} {r : Option Reply} {pid : ℕ} {from to : Phase} → Moves m (Step a s x r) pid from to → from ≡ free → IsAnswer m s x → m.free_pids pid ≡ true
+taken_from {m} {a} {s} {x} {r} {pid} (takes b step) e is =
+    let f = step.1 in
+    let i : s ≡ TakePid pid = cc in
+    let j : x ≡ Whether true = cc in
+    let says : x ≡ Whether (m.free_pids pid) = subst (λ t. IsAnswer m t x) i is in
+    cc (says, j)
+taken_from (splits slot split installs at) e is = absurd (cc)
+taken_from (becomes_root makes) e is = absurd (cc)
+taken_from (terms slot term installs at) e is = absurd (cc)
+taken_from (under_root root page item makes chain second child) e is = absurd (cc)
+taken_from (holds slot hold installs at) e is = absurd (cc)
+taken_from (removes remove installs) e is = absurd (cc)
+taken_from (merges slot merge chain installs stood right) e is = absurd (cc)
+taken_from (unterms slot unterm installs at) e is = absurd (cc)
+taken_from (reuses b word bits answer step among) e is = absurd (cc)
+
+-- a PID that is not free is one of the stated number
+pub pid_below_after : {m : Memory} {a : ℕ} {s : StepOf Record} {x : Answer Record} {r : Option Reply} (limits : Limits) (f f' : ℕ → PageOwner) → IsAnswer m s x
+    → ((pid : ℕ) → Moves m (Step a s x r) pid (phase_of (f pid)) (phase_of (f' pid)) ⊎ (phase_of (f' pid) ≡ phase_of (f pid)))
+    → ((pid : ℕ) → m.free_pids pid ≡ true → (0 < pid) × (pid < limits.pids)) → ((pid : ℕ) → (phase_of (f pid) ≡ free) ⊎ ((0 < pid) × (pid < limits.pids)))
+    → (pid : ℕ) → (phase_of (f' pid) ≡ free) ⊎ ((0 < pid) × (pid < limits.pids))
+pid_below_after limits f f' is cases below old pid = elim (old pid) [
+  | inr lt ↦ inr lt
+  | inl was ↦ elim (cases pid) [ inl moves ↦ inr (below pid (taken_from moves was is)) | inr same ↦ inl (same ∙ was) ]
+]
 
 module _ (limits : Limits) (entries : List Entry) where
   pub begins_in_phase : (a : ℕ) (c : Command) (pid : ℕ) (phase : Phase) → IsInPhase limits entries (length entries) pid phase → IsInPhase limits (entries ++ Begin a c ∷ []) (length (entries ++ Begin a c ∷ [])) pid phase

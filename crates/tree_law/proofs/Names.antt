@@ -26,6 +26,7 @@ use Rattle.chain_search.specs.Steps.{IsAnswer, memory_after}
 use Rattle.chain_search.specs.Trace.{memory_of, memory_at, command_of, commands_after, IsStep}
 use Rattle.chain_search.proofs.Pushes.{slice_get-push, slice_get_below, take-push_whole}
 use Rattle.chain_search.proofs.TraceLaws.{memory_at-push, TakesStep-push_cases, HasLearnt-push_cases}
+use Rattle.op_machine.specs.Phases as phase
 use Rattle.op_machine.specs.Faithful.{IsFaithful, KnowsRow, Disturbs, touches_pages}
 use Rattle.op_machine.proofs.FaithLaws.{KnowsRow-before, KnowsRow-kept, KnowsRow-shown}
 use Rattle.tree_law.specs.Put.{put}
@@ -36,7 +37,7 @@ use Rattle.tree_law.specs.Owners.{Owner, Free, Spare, Linked, Owners, Reached}
 use Rattle.tree_law.specs.Keys.{Key}
 use Rattle.tree_law.specs.Phase.{PageOwner, Nobody, Keeps, Placed, Cleared}
 use Rattle.tree_law.specs.Shared.{row_in, slot_in, shared}
-use Rattle.tree_law.specs.State.{IsInTree, IsReady, IsNamed}
+use Rattle.tree_law.specs.State.{phase_of, IsInTree, IsReady, IsNamed}
 use Rattle.tree_law.specs.Tree.{Good}
 use Rattle.tree_law.proofs.Puts.{by_test, put_same, put_other}
 use Rattle.tree_law.proofs.Exchanged.{exchanged_alike}
@@ -79,6 +80,10 @@ named_begins limits entries o m knows a c old asks = record {
   recent = λ b r w. by_test b a (λ t. (cond t (begun (knows a) c) (knows b)).recent r ≡ Some w → (cond t (begun (knows a) c) (knows b)).seen r ≡ Some w) (λ i. old.recent a r w) (λ ne. old.recent b r w);
   zero_free = old.zero_free;
   zero_taken = old.zero_taken;
+  free_row_below = old.free_row_below;
+  row_below = old.row_below;
+  free_pid_below = old.free_pid_below;
+  pid_below = old.pid_below;
   held = λ p r e. held_begins (old.held p r e);
   commands = λ b. rw asks (by_test b a (λ t. (cond t (begun (knows a) c) (knows b)).command ≡ cond t (Some c) (command_of entries b)) (λ i. refl) (λ ne. old.commands b));
 }
@@ -308,16 +313,35 @@ module _ (limits : Limits) (entries : List Entry) (o : Owners) (m : Memory) (kno
   other_command None b ne = refl
   other_command (Some y) b ne = put_other (command_of entries) a None b ne
 
+  free_rows_before : (t : StepOf Record) → May a (knows a) t → (q : ℕ) → (memory_after a t m).free_rows q ≡ true → m.free_rows q ≡ true
+  free_rows_before (TakeRow n) h q e = by_test q n (λ t. cond t false (m.free_rows q) ≡ true → m.free_rows q ≡ true) (λ i f. absurd (cc)) (λ ne f. f) e
+  free_rows_before (ReuseRows n w) h q e = absurd h
+  free_rows_before t h q e = e
+
+  free_pids_before : (t : StepOf Record) → May a (knows a) t → (q : ℕ) → (memory_after a t m).free_pids q ≡ true → m.free_pids q ≡ true
+  free_pids_before (TakePid n) h q e = by_test q n (λ t. cond t false (m.free_pids q) ≡ true → m.free_pids q ≡ true) (λ i f. absurd (cc)) (λ ne f. f) e
+  free_pids_before (ReusePids n w) h q e = absurd h
+  free_pids_before t h q e = e
+
+  row_below_after : (o' : Owners) → ((q : ℕ) → IsMoved a (m.free_rows q) (o.row q) (o'.row q)) → (q : ℕ) → (o'.row q ≡ Free) ⊎ (q < limits.rows)
+  row_below_after o' moved q = elim (moved q) [
+    | inl same ↦ elim (old.row_below q) [ inl f ↦ inl (same ∙ f) | inr lt ↦ inr lt ]
+    | inr more ↦ elim more [
+      | inl taken ↦ inr (old.free_row_below q taken.0)
+      | inr linked ↦ elim (old.row_below q) [ inl f ↦ absurd (let e = linked.0 in cc) | inr lt ↦ inr lt ]
+    ]
+  ]
+
   zero_free_after : (o' : Owners) → IsMoved a (m.free_rows 0) (o.row 0) (o'.row 0) → o'.row 0 ≡ Free
   zero_free_after o' (inl e) = e ∙ old.zero_free
   zero_free_after o' (inr (inl h)) = absurd (let e = h.0 in let f = old.zero_taken in cc)
   zero_free_after o' (inr (inr h)) = absurd (let e = h.0 in let f = old.zero_free in cc)
 
-  pub named_steps : (o' : Owners) → ((q : ℕ) → o.row q ≡ Linked → o'.row q ≡ Linked) → IsMoved a (m.free_rows 0) (o.row 0) (o'.row 0)
+  pub named_steps : (o' : Owners) → ((q : ℕ) → o.row q ≡ Linked → o'.row q ≡ Linked) → ((q : ℕ) → IsMoved a (m.free_rows q) (o.row q) (o'.row q)) → ((p : ℕ) → (phase_of (o'.page p) ≡ phase.free) ⊎ ((0 < p) × (p < limits.pids)))
       → ((p q : ℕ) → slot_in (memory_after a s m).slots p ≡ Some q → IsInTree (o'.page p) ⊎ IsReady o' (memory_after a s m) (knows_after knows last) p q)
       → command_of (entries ++ last ∷ []) ≡ commands_after (command_of entries) last
       → IsNamed limits (entries ++ last ∷ []) o' (memory_after a s m) (knows_after knows last)
-  named_steps o' kept moved held asks = record {
+  named_steps o' kept moved pid_below held asks = record {
     shown = λ b q h. elim (HasLearnt-push_cases entries last b q h) [
       | inl before ↦ elim (old.shown b q before.0) [ inl z ↦ inl z | inr l ↦ inr (kept q l) ]
       | inr shows ↦ elim (linked_shown q (shown_cases b q shows).1) [ inl z ↦ inl z | inr l ↦ inr (kept q l) ]
@@ -331,8 +355,12 @@ module _ (limits : Limits) (entries : List Entry) (o : Owners) (m : Memory) (kno
     announced = announced_after s may x;
     epoch = epoch_after s may ∙ old.epoch;
     recent = λ b q w. by_test b a (λ t. (cond t (finished (learn (knows a) s x) r) (knows b)).recent q ≡ Some w → (cond t (finished (learn (knows a) s x) r) (knows b)).seen q ≡ Some w) (λ i. learn_recent (knows a) (old.recent a) s x q w) (λ ne. old.recent b q w);
-    zero_free = zero_free_after o' moved;
+    zero_free = zero_free_after o' (moved 0);
     zero_taken = zero_after s may;
+    free_row_below = λ q e. old.free_row_below q (free_rows_before s may q e);
+    row_below = row_below_after o' moved;
+    free_pid_below = λ p e. old.free_pid_below p (free_pids_before s may p e);
+    pid_below = pid_below;
     held = held;
     commands = λ b. rw asks (by_test b a (λ t. (cond t (finished (learn (knows a) s x) r) (knows b)).command ≡ commands_after (command_of entries) last b)
         (λ i. subst (λ n. going_on r (learn (knows a) s x).command ≡ commands_after (command_of entries) last n) (sym i) (ap (going_on r) (learn_command (knows a) s x ∙ old.commands a) ∙ going_command r))

@@ -123,6 +123,10 @@ pub record IsNamed (limits : Limits) (entries : List Entry) (owners : Owners) (m
   pub recent : (actor row : ℕ) (content : Record) → (knows actor).recent row ≡ Some content → (knows actor).seen row ≡ Some content
   pub zero_free : owners.row 0 ≡ Free
   pub zero_taken : memory.free_rows 0 ≡ false
+  pub free_row_below : (row : ℕ) → memory.free_rows row ≡ true → row < limits.rows
+  pub row_below : (row : ℕ) → (owners.row row ≡ Free) ⊎ (row < limits.rows)
+  pub free_pid_below : (pid : ℕ) → memory.free_pids pid ≡ true → (0 < pid) × (pid < limits.pids)
+  pub pid_below : (pid : ℕ) → (phase_of (owners.page pid) ≡ phase.free) ⊎ ((0 < pid) × (pid < limits.pids))
   pub held : (page row : ℕ) → slot_in memory.slots page ≡ Some row → IsInTree (owners.page page) ⊎ IsReady owners memory knows page row
 
 -- nothing is used again
