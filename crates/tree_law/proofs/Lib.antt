@@ -2,6 +2,7 @@ pub mod Answering
 pub mod Beginning
 pub mod Chains
 pub mod Exchanged
+pub mod Fitted
 pub mod Frames
 pub mod Growth
 pub mod Indexing

@@ -1,4 +1,5 @@
 pub mod Discipline
+pub mod Fitting
 pub mod Keys
 pub mod Knowledge
 pub mod Laws
