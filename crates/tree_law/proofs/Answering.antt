@@ -1,5 +1,5 @@
 -- A reply that an actor may give is its command's by a log of its operation.
-use Rattle.std.proofs.Common.{◌≡◌, ◌⊎◌, inl, inr, ℕ, List, Option, Some, None, Bool, true, false, sym, ap, ◌∙◌, subst, ⊎_elim}
+use Rattle.std.proofs.Common.{◌≡◌, ◌⊎◌, inl, inr, ℕ, List, Option, Some, None, false, ap, ◌∙◌, subst, ⊎_elim}
 use Rattle.std.specs.Prelude.{IsTrue, IsFalse}
 use Rattle.bw_model.specs.declared.command.Command.{Command}
 use Rattle.bw_model.specs.declared.command.Reply.{Reply}
@@ -8,7 +8,7 @@ use Rattle.bw_model.specs.Replies.{command_key, reply_of, update_of}
 use Rattle.chain_search.specs.Chains.{content_in, is_removed}
 use Rattle.tree_law.specs.Keys.{Key, Covers}
 use Rattle.tree_law.specs.Knowledge.{Knowledge}
-use Rattle.tree_law.specs.Discipline.{HasRead, IsBeside, MayAnswer, value_of, found}
+use Rattle.tree_law.specs.Discipline.{IsBeside, MayAnswer, value_of, found}
 use Rattle.tree_law.specs.Shared.{Shared}
 use Rattle.tree_law.specs.Owners.{Owners, Among, leaf_map, Spells, HeadFits, LinkFits, InOrder, OrderFits}
 use Rattle.tree_law.specs.Replies.{IsRepliedAt}

@@ -1,13 +1,12 @@
 -- The empty trace is a state, and a begin keeps a state.
-use Rattle.std.proofs.Common.{◌≡◌, ◌≢◌, ◌<◌, ◌≤◌, inl, inr, ℕ, zero, suc, List, [], ◌∷◌, ◌++◌, length, Option, Some, None, Bool, true, false, cond, leb, ltb, ◌⊎◌, refl, sym, ap, ◌∙◌, subst, arith}
+use Rattle.std.proofs.Common.{◌≡◌, ◌≢◌, ◌<◌, ◌≤◌, inl, inr, ℕ, zero, suc, List, [], ◌∷◌, ◌++◌, length, Option, Some, None, Bool, true, false, cond, leb, ltb, ◌⊎◌, refl, sym, ◌∙◌, subst, arith}
 use Rattle.std.specs.Prelude.{slice_get}
 use Rattle.std.proofs.lemmas.Bool.{ltb-true}
 use Rattle.bw_model.specs.declared.command.Command.{Command}
 use Rattle.bw_model.specs.declared.limits.Limits.{Limits}
-use Rattle.bw_model.specs.Log.{Update}
 use Rattle.deltas.specs.Memory.{opening}
 use Rattle.chain_search.specs.declared.trace.Entry.{Entry}
-use Rattle.chain_search.specs.declared.trace.Entry.TheVariants.{Begin, Step}
+use Rattle.chain_search.specs.declared.trace.Entry.TheVariants.{Begin}
 use Rattle.chain_search.specs.Learnt.{ShowsRow}
 use Rattle.chain_search.specs.Trace.{memory_of, memory_at, command_of}
 use Rattle.chain_search.proofs.Pushes.{slice_get-push, slice_get-push_cases, slice_get_below, slice_get_kept}
@@ -19,9 +18,9 @@ use Rattle.op_machine.specs.Quiet.{HasMapOf}
 use Rattle.op_machine.proofs.Listed.{same_operation, and_left, and_right}
 use Rattle.op_machine.proofs.LogLaws.{log_of-push}
 use Rattle.std.proofs.lemmas.List.Sums.{fold-append}
-use Rattle.tree_law.specs.Knowledge.{Knowledge, begun, knows_after, knows}
-use Rattle.tree_law.specs.Owners.{Free, Linked, Owners}
-use Rattle.tree_law.specs.Phase.{Indexed, PageOwner, Nobody, Placed}
+use Rattle.tree_law.specs.Knowledge.{begun, knows_after, knows}
+use Rattle.tree_law.specs.Owners.{Free, Linked}
+use Rattle.tree_law.specs.Phase.{Indexed, Nobody, Placed}
 use Rattle.tree_law.specs.Put.{put}
 use Rattle.tree_law.specs.Shared.{slot_in, shared}
 use Rattle.tree_law.specs.State.{phase_of, IsUnended, operation_of, Tells, IsSearch, IsInTree, IsReady, IsState}

@@ -1,7 +1,5 @@
 -- What an exchange that won leaves of what its actor knows.
-use Rattle.std.proofs.Common.{◌≡◌, ℕ, zero, suc, Option, Bool, refl}
-use Rattle.bw_model.specs.declared.command.Command.{Command}
-use Rattle.deltas.specs.declared.record.Record.{Record}
+use Rattle.std.proofs.Common.{◌≡◌, ℕ, zero, suc, refl}
 use Rattle.deltas.specs.declared.record.Record.TheVariants.{Base, Put, Delete, Split, Term, Hold, Remove, Merge, Unterm}
 use Rattle.tree_law.specs.Knowledge.{OwnRow, Foreign, Taken, Written, OwnPage, Other, Empty, Ready, Gone, Knowledge, split_off, linked_over, filled, emptied, rooted, exchanged}
 

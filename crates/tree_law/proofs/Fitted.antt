@@ -1,5 +1,5 @@
 -- What a state's memory answers fits what each actor knows.
-use Rattle.std.proofs.Common.{◌≡◌, ◌<◌, ◌≤◌, ◌+◌, ◌*◌, ◌^◌, ◌⊎◌, inl, inr, ℕ, zero, suc, List, Option, Some, None, Bool, true, false, refl, sym, ap, ◌∙◌, subst, arith}
+use Rattle.std.proofs.Common.{◌≡◌, ◌<◌, ◌≤◌, ◌+◌, ◌*◌, ◌^◌, inl, inr, ℕ, zero, suc, List, Option, Some, None, Bool, true, false, refl, sym, ap, ◌∙◌, subst, arith}
 use Rattle.std.specs.Prelude.{IfSome, if◌then◌else◌}
 use Rattle.std.specs.Int.{bit_at}
 use Rattle.std.proofs.lemmas.Option.{same_Some}
@@ -19,7 +19,7 @@ use Rattle.tree_law.specs.Discipline.{May}
 use Rattle.tree_law.specs.Fitting.{FitsRow, FitsTaken, FitsTakenPid, Fits}
 use Rattle.tree_law.specs.Knowledge.{OwnRow, Foreign, Taken, Written, OwnPage, Other, Empty, Ready, Gone, Knowledge, knows}
 use Rattle.tree_law.specs.Owners.{Free, Linked, OwnFits, PageFits, SeenFits}
-use Rattle.tree_law.specs.Phase.{Indexed, PageOwner, Nobody, Placed}
+use Rattle.tree_law.specs.Phase.{Nobody}
 use Rattle.tree_law.specs.Shared.{slot_in, shared}
 use Rattle.tree_law.specs.State.{phase_of, IsState}
 use Rattle.tree_law.proofs.Keeping.{slot_of, met_placed}

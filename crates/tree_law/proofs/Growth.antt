@@ -1,5 +1,5 @@
 -- A step keeps a state, and a state is linearized.
-use Rattle.std.proofs.Common.{◌≡◌, ◌≢◌, ◌<◌, ◌≤◌, inl, inr, ℕ, zero, suc, List, [], ◌∷◌, ◌++◌, length, Option, Some, None, Bool, true, false, cond, ◌⊎◌, refl, sym, ap, ◌∙◌, subst, arith}
+use Rattle.std.proofs.Common.{◌≡◌, ◌≢◌, ◌<◌, inl, inr, ℕ, zero, suc, List, [], ◌∷◌, ◌++◌, length, Option, Some, None, Bool, true, false, cond, ◌⊎◌, refl, sym, ap, ◌∙◌, subst, arith}
 use Rattle.std.specs.Prelude.{IsSome, IfSome, MatchOption, slice_get, IsTrue, IsFalse, map}
 use Rattle.std.specs.Option.{option_to_list}
 use Rattle.std.proofs.lemmas.Option.{same_Some}
@@ -34,7 +34,7 @@ use Rattle.op_machine.specs.Reuse.{IsFreedByRule}
 use Rattle.op_machine.proofs.Listed.{same_operation}
 use Rattle.op_machine.proofs.LogLaws.{log_of-push}
 use Rattle.tree_law.specs.Discipline.{May, MayAnswer, MayGiveUp, MayReply, IsAllowed}
-use Rattle.tree_law.specs.Knowledge.{Knowledge, learn, finished, knows_after, knows}
+use Rattle.tree_law.specs.Knowledge.{Knowledge, learn, finished, knows}
 use Rattle.tree_law.specs.Next.{IsDue, grown, pointed as pointed', Next}
 use Rattle.tree_law.specs.Owners.{SeenFits, HeadFits, LinkFits}
 use Rattle.tree_law.specs.Put.{put}

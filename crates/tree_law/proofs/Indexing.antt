@@ -1,27 +1,24 @@
 -- Links on an index page that change one term: a term is posted, held, or taken away.
-use Rattle.std.proofs.Common.{◌≡◌, ◌≢◌, ◌⊎◌, inl, inr, ℕ, zero, suc, ◌<◌, ◌≤◌, List, [], ◌∷◌, ◌++◌, Option, Some, None, Bool, true, false, cond, refl, sym, ap, ◌∙◌, subst, ⊎_elim, arith}
-use Rattle.std.specs.Prelude.{IfSome, IsTrue, ⊤}
+use Rattle.std.proofs.Common.{◌≡◌, ◌≢◌, ℕ, zero, suc, ◌<◌, ◌≤◌, List, ◌∷◌, Option, Some, None, true, false, cond, refl, sym, ap, ◌∙◌, subst, ⊎_elim, arith}
 use Rattle.std.proofs.lemmas.Option.{same_Some}
-use Rattle.std.proofs.lemmas.Bool.Decides.{nat_tests}
 use Rattle.bw_model.specs.declared.command.Reply.{Reply}
 use Rattle.bw_model.specs.Log.{Update}
 use Rattle.base_page.specs.declared.item.Content.{Content}
-use Rattle.base_page.specs.declared.item.Content.TheVariants.{Value, Child}
-use Rattle.base_page.specs.Pages.{content_at}
+use Rattle.base_page.specs.declared.item.Content.TheVariants.{Child}
 use Rattle.deltas.specs.declared.record.Record.{Record}
-use Rattle.deltas.specs.declared.record.Record.TheVariants.{Base, Put, Delete, Split, Term, Hold, Remove, Merge, Unterm}
+use Rattle.deltas.specs.declared.record.Record.TheVariants.{Term, Hold, Unterm}
 use Rattle.deltas.specs.Records.{next_row}
-use Rattle.chain_search.specs.Chains.{IsChainFrom, content_in, level_in, low_in, high_in, right_in, is_removed}
-use Rattle.tree_law.specs.Keys.{Key, IsBelow, IsUpTo, IsUnder, IsWithin, Covers, put_key}
-use Rattle.tree_law.specs.Knowledge.{OwnRow, Foreign, Taken, Written, OwnPage, Other, Empty, Ready, Gone, Knowledge, filled, linked_over, emptied, rooted, finished}
-use Rattle.tree_law.specs.Phase.{Stage, Fresh, Indexed, Held, Removed, Merged, PageOwner, Nobody, Keeps, Placed, Cleared, mark, rank, stage_removed, child_of, rank_of}
+use Rattle.chain_search.specs.Chains.{content_in, level_in, low_in, high_in, right_in, is_removed}
+use Rattle.tree_law.specs.Keys.{Key, IsUpTo, IsUnder, Covers, put_key}
+use Rattle.tree_law.specs.Knowledge.{OwnRow, Foreign, Gone, Knowledge, filled, finished}
+use Rattle.tree_law.specs.Phase.{Stage, Fresh, Indexed, Held, Removed, Merged, PageOwner, Placed, Cleared, mark, rank, child_of, rank_of}
 use Rattle.tree_law.specs.Put.{put}
 use Rattle.tree_law.specs.Shared.{Shared}
-use Rattle.tree_law.specs.Owners.{IsChain, Owner, Free, Spare, Linked, Owners, Reached, Forward, ChainNames, IsLinked, OwnFits, PageFits, OwnsPages, IsCleared, leaf_map, Spells, HeadFits, LinkFits, InOrder, OrderFits, Knows}
-use Rattle.tree_law.specs.Tree.{spec, Page, InPlace, IsPart, HasPage, Level, IsOff, Off, Exact, Tree, Good}
+use Rattle.tree_law.specs.Owners.{IsChain, Spare, Linked, Owners, Reached, OwnFits, PageFits, OwnsPages, InOrder, OrderFits}
+use Rattle.tree_law.specs.Tree.{spec, InPlace, Good}
 use Rattle.std.specs.Ordering.{is_eq}
 use Rattle.bw_model.specs.Bytes.{key_cmp}
-use Rattle.tree_law.specs.Discipline.{HasRead, MayPost, MayHold, MayUnterm}
+use Rattle.tree_law.specs.Discipline.{MayPost, MayHold, MayUnterm}
 use Rattle.tree_law.proofs.KeyOrder.{by_key, key_other, covers_from}
 use Rattle.tree_law.proofs.Puts.{by_test, put_same, put_other}
 use Rattle.tree_law.proofs.Kept.{reached_placed}
@@ -269,4 +266,3 @@ module _ {m : Shared} {log : List Update} {o : Owners} {knows : ℕ → Knowledg
 
       learned : filled ((knows a).pages p) p x y (knows a) ≡ record (knows a) { rows = put (knows a).rows y Foreign; pages = put (knows a).pages q Gone }
       learned = rw (not_own g a p (level_in c) (low_in c) place.stage place.placed ((knows a).pages p) (g.owns_pages a p), h.placed) refl
-

@@ -1,17 +1,17 @@
 -- What stays of what actors know: linked rows stay, and pages go forward.
-use Rattle.std.proofs.Common.{◌≡◌, ◌≢◌, ◌⊎◌, inl, inr, ⊎_elim, ℕ, zero, suc, ◌<◌, ◌≤◌, List, [], ◌∷◌, Option, Some, None, Bool, true, false, refl, sym, ap, ◌∙◌, subst, arith}
-use Rattle.std.specs.Prelude.{IfSome, ⊤}
+use Rattle.std.proofs.Common.{◌≡◌, ◌⊎◌, inl, inr, ⊎_elim, ℕ, suc, ◌<◌, ◌≤◌, List, [], ◌∷◌, Option, Some, None, Bool, true, false, refl, sym, ◌∙◌, subst, arith}
+use Rattle.std.specs.Prelude.{IfSome}
 use Rattle.std.proofs.lemmas.Option.{same_Some}
 use Rattle.bw_model.specs.Log.{Update}
 use Rattle.deltas.specs.declared.record.Record.{Record}
 use Rattle.deltas.specs.Records.{next_row}
-use Rattle.chain_search.specs.Chains.{content_in, level_in, low_in, high_in, right_in, is_removed}
+use Rattle.chain_search.specs.Chains.{level_in, low_in, is_removed}
 use Rattle.tree_law.specs.Keys.{Key, Covers}
 use Rattle.tree_law.specs.Knowledge.{OwnRow, Foreign, Taken, Written, OwnPage, Other, Empty, Ready, Gone}
 use Rattle.tree_law.specs.Phase.{Stage, Fresh, Indexed, Held, Removed, Merged, PageOwner, Nobody, Keeps, Placed, Cleared, rank}
 use Rattle.tree_law.specs.Shared.{Shared}
-use Rattle.tree_law.specs.Owners.{IsChain, Owner, Free, Spare, Linked, Owners, Reached, Forward, IsLinked, IsClosed, OwnFits, Owns, PageFits, OwnsPages, SeenFits, Spells, IsCleared, HeadFits, LinkFits, InOrder, OrderFits, Knows}
-use Rattle.tree_law.proofs.Chains.{chain_unique, chain_within}
+use Rattle.tree_law.specs.Owners.{IsChain, Spare, Linked, Owners, Reached, Forward, IsClosed, OwnFits, Owns, PageFits, OwnsPages, SeenFits, Spells, IsCleared, HeadFits, LinkFits, InOrder, OrderFits, Knows}
+use Rattle.tree_law.proofs.Chains.{chain_unique}
 
 -- linked rows stay, and pages go forward
 pub record Kept (o o' : Owners) (m m' : Shared) : Type 0 where
@@ -153,4 +153,3 @@ pages_spared a o o' m m' kept pages h p = at (pages p) (h p)
     at Empty f = ((kept.page p f.0).0, (kept.page p f.0).1 ∙ f.1)
     at (Ready r) f = ((kept.page p f.0).0, (kept.page p f.0).1 ∙ f.1)
     at Gone f = (f.0, f.1, kept.gone p f.0 f.1 f.2)
-

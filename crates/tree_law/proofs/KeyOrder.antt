@@ -1,17 +1,15 @@
 -- The order of keys is total, and the empty key is lowest.
-use Rattle.std.proofs.Common.{◌≡◌, ◌≢◌, ℕ, List, [], ◌∷◌, Option, Some, None, Bool, true, false, cond, refl, sym, ap, ◌∙◌, subst}
+use Rattle.std.proofs.Common.{◌≡◌, ◌≢◌, List, [], ◌∷◌, Option, Some, None, Bool, true, false, cond, refl, sym, ap, ◌∙◌, subst}
 use Rattle.std.specs.Prelude.{IsTrue, not, ◌&&◌}
 use Rattle.std.specs.declared.cmp.Ordering.{Ordering}
 use Rattle.std.specs.declared.cmp.Ordering.TheVariants.{Less, Equal, Greater}
-use Rattle.std.specs.Ordering.{is_eq, is_lt, ordering_reverse, nat_cmp}
-use Rattle.std.specs.Cmp.Lexicographic.{slice_cmp}
-use Rattle.std.specs.Cmp.{IsTotalOrder}
+use Rattle.std.specs.Ordering.{is_eq, is_lt, ordering_reverse}
 use Rattle.std.proofs.lemmas.Cmp.{nat_list_cmp_total, tied_itself}
 use Rattle.std.proofs.lemmas.Map.Lookups.{exact_bytes}
 use Rattle.bw_model.specs.Bytes.{key_cmp, is_below, is_under, is_in_range}
 use Rattle.deltas.specs.declared.record.Record.{Record}
 use Rattle.chain_search.specs.Chains.{low_in, high_in, covers}
-use Rattle.tree_law.specs.Keys.{Key, IsBelow, IsUpTo, IsUnder, IsWithin, Covers, put_key}
+use Rattle.tree_law.specs.Keys.{Key, IsBelow, IsUpTo, IsUnder, Covers, put_key}
 
 cmp_less : (a b : Key) → IsBelow a b → key_cmp a b ≡ Less
 cmp_less a b h = go (key_cmp a b) h

@@ -1,24 +1,23 @@
 -- The memory of a good state has the map of its log: its leaves are the side of level 0.
-use Rattle.std.proofs.Common.{◌≡◌, ◌<◌, inl, inr, ℕ, zero, suc, List, [], ◌∷◌, length, Option, Some, None, Bool, true, false, refl, sym, ap, ◌∙◌, subst, arith}
-use Rattle.std.specs.Prelude.{MatchOption, IsTrue, map}
+use Rattle.std.proofs.Common.{◌≡◌, ◌<◌, ℕ, zero, suc, List, [], ◌∷◌, Option, Some, None, true, refl, sym, ap, ◌∙◌, subst, arith}
+use Rattle.std.specs.Prelude.{MatchOption, map}
 use Rattle.std.specs.List.{Contains}
 use Rattle.std.specs.Option.{option_map}
 use Rattle.std.proofs.lemmas.Option.{same_Some}
-use Rattle.bw_model.specs.Bytes.{is_under, is_below}
+use Rattle.bw_model.specs.Bytes.{is_under}
 use Rattle.bw_model.specs.Log.{Update, value_in}
 use Rattle.base_page.specs.declared.item.Content.{Content}
 use Rattle.base_page.specs.declared.item.Content.TheVariants.{Value}
-use Rattle.deltas.specs.declared.record.Record.{Record}
 use Rattle.deltas.specs.Memory.{Memory}
-use Rattle.chain_search.specs.Chains.{IsChainFrom, IsChainOf, content_in, low_in, high_in, right_in, covers}
-use Rattle.chain_search.specs.SideChain.{LivePage, IsSideChainFrom, IsWholeFrom, IsLeaves, IsWhole, Spells}
+use Rattle.chain_search.specs.Chains.{IsChainFrom, IsChainOf, content_in, low_in, high_in, right_in}
+use Rattle.chain_search.specs.SideChain.{LivePage, IsSideChainFrom, IsWholeFrom}
 use Rattle.chain_search.proofs.ChainLaws.{IsSideChainFrom-unique}
 use Rattle.op_machine.specs.Quiet.{HasMapOf}
-use Rattle.tree_law.specs.Keys.{Key, IsBelow, IsUpTo, Covers}
+use Rattle.tree_law.specs.Keys.{Key, IsUpTo, Covers}
 use Rattle.tree_law.specs.Knowledge.{Knowledge}
 use Rattle.tree_law.specs.Owners.{Owners, leaf_map}
 use Rattle.tree_law.specs.Shared.{row_in, slot_in, shared}
-use Rattle.tree_law.specs.Tree.{Page, InPlace, IsPart, spec, Level, Tree, Good}
+use Rattle.tree_law.specs.Tree.{Page, InPlace, IsPart, Tree, Good}
 use Rattle.tree_law.proofs.KeyOrder.{empty_lowest, covers_from, covers_to, by_below}
 
 abbrev pub live : Page → LivePage

@@ -1,5 +1,5 @@
 -- One more entry: the life of each page, and that nothing is used again.
-use Rattle.std.proofs.Common.{◌≡◌, ◌⊎◌, inl, inr, ℕ, suc, List, [], ◌∷◌, ◌++◌, length, Option, Some, Bool, true, ◌<◌, refl, sym, ap, ◌∙◌, subst}
+use Rattle.std.proofs.Common.{◌≡◌, ◌⊎◌, inl, inr, ℕ, suc, List, [], ◌∷◌, ◌++◌, length, Option, true, ◌<◌, sym, ◌∙◌, subst}
 use Rattle.bw_model.specs.declared.command.Command.{Command}
 use Rattle.bw_model.specs.declared.limits.Limits.{Limits}
 use Rattle.bw_model.specs.declared.step.Step.{Step as StepOf}
@@ -7,17 +7,16 @@ use Rattle.bw_model.specs.declared.step.Step.TheVariants.{TakePid, ReusePids, Re
 use Rattle.bw_model.specs.declared.command.Reply.{Reply}
 use Rattle.bw_model.specs.declared.step.Answer.{Answer}
 use Rattle.bw_model.specs.declared.step.Answer.TheVariants.{Whether}
-use Rattle.bw_model.specs.declared.step.Link.{Link}
 use Rattle.bw_model.specs.declared.step.Link.TheVariants as link
 use Rattle.deltas.specs.declared.record.Record.{Record}
 use Rattle.deltas.specs.Memory.{Memory}
 use Rattle.chain_search.specs.declared.trace.Entry.{Entry}
 use Rattle.chain_search.specs.declared.trace.Entry.TheVariants.{Begin, Step}
 use Rattle.chain_search.specs.Steps.{IsAnswer}
-use Rattle.chain_search.specs.Trace.{memory_of, TakesStep, IsStep}
+use Rattle.chain_search.specs.Trace.{memory_of, IsStep}
 use Rattle.chain_search.proofs.TraceLaws.{TakesStep-push_cases}
-use Rattle.op_machine.specs.Links.{Wins, Installs}
-use Rattle.op_machine.specs.Phases.{Phase, free, cleared, MakesRoot, Moves, takes, splits, becomes_root, terms, under_root, holds, removes, merges, unterms, reuses, IsInPhase, KeepsPhases}
+use Rattle.op_machine.specs.Links.{Wins}
+use Rattle.op_machine.specs.Phases.{Phase, free, cleared, Moves, takes, splits, becomes_root, terms, under_root, holds, removes, merges, unterms, reuses, IsInPhase, KeepsPhases}
 use Rattle.op_machine.specs.Reuse.{IsFreedByRule}
 use Rattle.op_machine.proofs.PhaseLaws.{IsInPhase-moved, IsInPhase-rested, KeepsPhases-push}
 use Rattle.tree_law.specs.State.{phase_of, IsUnused}

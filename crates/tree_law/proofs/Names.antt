@@ -3,7 +3,6 @@ use Rattle.std.proofs.Common.{◌≡◌, ◌≢◌, ◌<◌, ◌⊎◌, inl, inr
 use Rattle.std.specs.Prelude.{IfSome, MatchOption, IsFalse, unwrap_or}
 use Rattle.std.specs.List.{Contains}
 use Rattle.std.proofs.lemmas.Option.{same_Some}
-use Rattle.std.proofs.lemmas.Bool.{cases_lt}
 use Rattle.bw_model.specs.declared.command.Command.{Command}
 use Rattle.bw_model.specs.declared.command.Reply.{Reply}
 use Rattle.bw_model.specs.declared.limits.Limits.{Limits}
@@ -29,11 +28,10 @@ use Rattle.chain_search.proofs.TraceLaws.{memory_at-push, TakesStep-push_cases, 
 use Rattle.op_machine.specs.Phases as phase
 use Rattle.op_machine.specs.Faithful.{IsFaithful, KnowsRow, Disturbs, touches_pages}
 use Rattle.op_machine.proofs.FaithLaws.{KnowsRow-before, KnowsRow-kept, KnowsRow-shown}
-use Rattle.tree_law.specs.Put.{put}
 use Rattle.tree_law.specs.Discipline.{May}
-use Rattle.tree_law.specs.Knowledge.{OwnRow, OwnPage, Foreign, Taken, Written, Other, Empty, Ready, Gone, Knowledge, begun, learnt_next, learn_slot, learn_word, exchanged, filled, emptied, rooted, linked_over, split_off, learn, going_on, finished, knows_after}
+use Rattle.tree_law.specs.Knowledge.{Ready, Knowledge, begun, learnt_next, learn, going_on, finished, knows_after}
 use Rattle.tree_law.specs.Next.{IsMoved}
-use Rattle.tree_law.specs.Owners.{Owner, Free, Spare, Linked, Owners, Reached}
+use Rattle.tree_law.specs.Owners.{Free, Spare, Linked, Owners, Reached}
 use Rattle.tree_law.specs.Keys.{Key}
 use Rattle.tree_law.specs.Phase.{PageOwner, Nobody, Keeps, Placed, Cleared}
 use Rattle.tree_law.specs.Shared.{row_in, slot_in, shared}

@@ -1,17 +1,16 @@
 -- A step moves each PID from the phase that its owner says to the one that it says afterwards.
-use Rattle.std.proofs.Common.{◌≡◌, ◌≢◌, ◌⊎◌, inl, inr, ℕ, zero, suc, ◌<◌, List, [], ◌∷◌, Option, Some, None, Bool, true, false, cond, eqb, refl, sym, ap, ◌∙◌, subst, arith}
+use Rattle.std.proofs.Common.{◌≡◌, ◌≢◌, ◌⊎◌, inl, inr, ℕ, zero, suc, ◌<◌, List, [], ◌∷◌, Option, Some, None, Bool, true, false, cond, eqb, refl, sym, ap, ◌∙◌, subst}
 use Rattle.std.specs.Prelude.{slice_get}
 use Rattle.std.specs.Option.{option_map}
 use Rattle.std.proofs.lemmas.Option.{same_Some}
 use Rattle.bw_model.specs.declared.command.Reply.{Reply}
 use Rattle.bw_model.specs.declared.step.Step.{Step as StepOf}
-use Rattle.bw_model.specs.declared.step.Step.TheVariants.{Slot, Row, Epoch, Announce, PidBits, RowBits, Place, Exchange, TakePid, TakeRow, Enter, Leave, Retire, ReusePids, ReuseRows}
+use Rattle.bw_model.specs.declared.step.Step.TheVariants.{Exchange, TakePid, ReusePids}
 use Rattle.bw_model.specs.declared.step.Answer.{Answer}
 use Rattle.bw_model.specs.declared.step.Answer.TheVariants.{Start, Number, Content, Whether, Done}
 use Rattle.bw_model.specs.declared.step.Link.{Link}
 use Rattle.bw_model.specs.declared.step.Link.TheVariants as link
 use Rattle.bw_model.specs.Log.{Update}
-use Rattle.base_page.specs.declared.item.Content.{Content as ContentOf}
 use Rattle.base_page.specs.declared.item.Content.TheVariants.{Child}
 use Rattle.base_page.specs.declared.item.Item.{Item}
 use Rattle.base_page.specs.Pages as pages
@@ -20,10 +19,9 @@ use Rattle.deltas.specs.declared.record.Record.TheVariants.{Base, Put, Delete, S
 use Rattle.deltas.specs.Links.{record_link}
 use Rattle.deltas.specs.Memory.{Memory}
 use Rattle.chain_search.specs.declared.trace.Entry.{Entry}
-use Rattle.chain_search.specs.declared.trace.Entry.TheVariants.{Begin, Step}
+use Rattle.chain_search.specs.declared.trace.Entry.TheVariants.{Step}
 use Rattle.chain_search.specs.Chains.{IsChainFrom, IsChainOf, right_in}
 use Rattle.chain_search.specs.Steps.{IsAnswer}
-use Rattle.chain_search.specs.Trace.{IsStep}
 use Rattle.chain_search.proofs.ChainLaws.{IsChainFrom-unique}
 use Rattle.op_machine.specs.Links.{link_without, link_of, Wins, Installs}
 use Rattle.op_machine.specs.Phases.{Phase, free, owned, fresh, indexed, held, removed, merged, cleared, MakesRoot, Moves, takes, splits, becomes_root, terms, under_root, holds, removes, merges, unterms, reuses}
@@ -31,7 +29,7 @@ use Rattle.tree_law.specs.Discipline.{root_over, May}
 use Rattle.tree_law.specs.Keys.{Key}
 use Rattle.tree_law.specs.Knowledge.{Knowledge}
 use Rattle.tree_law.specs.Owners.{Owners}
-use Rattle.tree_law.specs.Phase.{Stage, Fresh, Indexed, Held, Removed, Merged, PageOwner, Nobody, Keeps, Placed, Cleared}
+use Rattle.tree_law.specs.Phase.{Fresh, Indexed, Held, Removed, Merged, PageOwner, Nobody, Keeps, Placed, Cleared}
 use Rattle.tree_law.specs.Phases.{Links, Phased}
 use Rattle.tree_law.specs.Put.{put}
 use Rattle.tree_law.specs.Shared.{row_in, slot_in, shared}
@@ -220,7 +218,7 @@ module _ (m : Memory) {log : List Update} {o : Owners} {knows : ℕ → Knowledg
   moved_at : (q pid : ℕ) (from to : PageOwner) → o.page q ≡ from → f' ≡ put o.page q to → Moves m last q (phase_of from) (phase_of to) → Moves m last pid (phase_of (o.page pid)) (phase_of (f' pid)) ⊎ (phase_of (f' pid) ≡ phase_of (o.page pid))
   moved_at q pid from to was now moves = by_test pid q (λ t. Moves m last pid (phase_of (o.page pid)) (phase_of (f' pid)) ⊎ (phase_of (f' pid) ≡ phase_of (o.page pid)))
       (λ i. inl (subst (λ n. Moves m last n (phase_of (o.page n)) (phase_of (f' n))) (sym i)
-          (subst (λ k. Moves m last q k (phase_of (f' q))) (sym (ap phase_of was)) (subst (λ k. Moves m last q (phase_of from) k) (sym (put_phase o.page f' q to now)) moves))))
+      (subst (λ k. Moves m last q k (phase_of (f' q))) (sym (ap phase_of was)) (subst (λ k. Moves m last q (phase_of from) k) (sym (put_phase o.page f' q to now)) moves))))
       (λ ne. inr (ap (λ (k : ℕ → PageOwner). phase_of (k pid)) now ∙ ap phase_of (put_other o.page q to pid ne)))
 
   same_phase : (pid : ℕ) → f' ≡ o.page → Moves m last pid (phase_of (o.page pid)) (phase_of (f' pid)) ⊎ (phase_of (f' pid) ≡ phase_of (o.page pid))
@@ -243,12 +241,12 @@ module _ (m : Memory) {log : List Update} {o : Owners} {knows : ℕ → Knowledg
   by_root : (old y : ℕ) → s ≡ Exchange 0 old y → x ≡ Whether true → Phased a (shared m) (Exchange 0 old y) (Whether true) o.page f' → (pid : ℕ) → Moves m last pid (phase_of (o.page pid)) (phase_of (f' pid)) ⊎ (phase_of (f' pid) ≡ phase_of (o.page pid))
   by_root old y i j h pid = by_test pid y (λ t. Moves m last pid (phase_of (o.page pid)) (phase_of (f' pid)) ⊎ (phase_of (f' pid) ≡ phase_of (o.page pid)))
       (λ e. inl (subst (λ n. Moves m last n (phase_of (o.page n)) (phase_of (f' n))) (sym e)
-          (subst (λ k. Moves m last y k (phase_of (f' y))) (sym (ap phase_of h.5)) (subst (λ k. Moves m last y owned k) (sym (put_phase (put o.page h.0 (Placed Indexed h.1 h.2)) f' y (Placed Indexed (suc h.1) []) h.6)) (becomes_root makes)))))
+      (subst (λ k. Moves m last y k (phase_of (f' y))) (sym (ap phase_of h.5)) (subst (λ k. Moves m last y owned k) (sym (put_phase (put o.page h.0 (Placed Indexed h.1 h.2)) f' y (Placed Indexed (suc h.1) []) h.6)) (becomes_root makes)))))
       (λ ne. by_test pid h.0 (λ t. Moves m last pid (phase_of (o.page pid)) (phase_of (f' pid)) ⊎ (phase_of (f' pid) ≡ phase_of (o.page pid)))
-          (λ e. inl (subst (λ n. Moves m last pid (phase_of n) (phase_of (f' pid))) (sym (ap o.page e ∙ h.4))
-              (subst (λ k. Moves m last pid fresh k) (sym (rest ne ∙ ap (λ n. phase_of (put o.page h.0 (Placed Indexed h.1 h.2) n)) e ∙ ap phase_of (put_same o.page h.0 (Placed Indexed h.1 h.2))))
-              (subst (λ n. Moves m last n fresh indexed) (sym e) under))))
-          (λ other. inr (rest ne ∙ ap phase_of (put_other o.page h.0 (Placed Indexed h.1 h.2) pid other))))
+      (λ e. inl (subst (λ n. Moves m last pid (phase_of n) (phase_of (f' pid))) (sym (ap o.page e ∙ h.4))
+      (subst (λ k. Moves m last pid fresh k) (sym (rest ne ∙ ap (λ n. phase_of (put o.page h.0 (Placed Indexed h.1 h.2) n)) e ∙ ap phase_of (put_same o.page h.0 (Placed Indexed h.1 h.2))))
+      (subst (λ n. Moves m last n fresh indexed) (sym e) under))))
+      (λ other. inr (rest ne ∙ ap phase_of (put_other o.page h.0 (Placed Indexed h.1 h.2) pid other))))
     where
       makes : MakesRoot m last y
       makes = (a, old, ((r, λ d. Step a (i d) (j d) r), refl))

@@ -1,6 +1,6 @@
 -- The reads keep the invariant. At the read of a slot it is known for good what stood in the slots that were read before.
-use Rattle.std.proofs.Common.{◌≡◌, ◌≢◌, ◌⊎◌, inl, inr, ℕ, zero, suc, ◌<◌, ◌≤◌, List, [], ◌∷◌, Option, Some, None, Bool, true, false, cond, refl, sym, ap, ◌∙◌, subst, ⊎_elim, arith}
-use Rattle.std.specs.Prelude.{IfSome, ⊤}
+use Rattle.std.proofs.Common.{◌≡◌, inl, ℕ, ◌≤◌, List, [], ◌∷◌, Option, Some, None, true, cond, refl, sym, ap, ◌∙◌, subst, ⊎_elim, arith}
+use Rattle.std.specs.Prelude.{IfSome}
 use Rattle.std.proofs.lemmas.Option.{same_Some}
 use Rattle.bw_model.specs.declared.command.Reply.{Reply}
 use Rattle.bw_model.specs.declared.step.Step.TheVariants.{Row}
@@ -9,7 +9,7 @@ use Rattle.bw_model.specs.Log.{Update}
 use Rattle.base_page.specs.declared.item.Content.TheVariants.{Child}
 use Rattle.deltas.specs.declared.record.Record.{Record}
 use Rattle.deltas.specs.Records.{next_row}
-use Rattle.chain_search.specs.Chains.{level_in, low_in, right_in, is_removed}
+use Rattle.chain_search.specs.Chains.{level_in, low_in, is_removed}
 use Rattle.tree_law.specs.Keys.{Key}
 use Rattle.tree_law.specs.Knowledge.{Knowledge, learnt_next, learn_head, learn, finished}
 use Rattle.tree_law.specs.Phase.{Stage, Indexed, Merged, PageOwner, Placed, Cleared, rank}

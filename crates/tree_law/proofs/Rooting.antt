@@ -1,27 +1,22 @@
 -- The exchange that links a new root over the old one and its right.
-use Rattle.std.proofs.Common.{◌≡◌, ◌≢◌, ◌⊎◌, inl, inr, ℕ, zero, suc, ◌<◌, ◌≤◌, List, [], ◌∷◌, ◌++◌, Option, Some, None, Bool, true, false, cond, refl, sym, ap, ◌∙◌, subst, ⊎_elim, arith}
-use Rattle.std.specs.Prelude.{IfSome, IsTrue, ⊤}
+use Rattle.std.proofs.Common.{◌≡◌, ◌≢◌, ◌⊎◌, inl, inr, ℕ, zero, suc, ◌≤◌, List, [], ◌∷◌, Option, Some, None, false, cond, refl, sym, ap, ◌∙◌, subst, ⊎_elim, arith}
 use Rattle.std.proofs.lemmas.Option.{same_Some}
-use Rattle.std.proofs.lemmas.Bool.Decides.{nat_tests}
 use Rattle.bw_model.specs.declared.command.Reply.{Reply}
 use Rattle.bw_model.specs.Log.{Update}
 use Rattle.base_page.specs.declared.item.Content.{Content}
-use Rattle.base_page.specs.declared.item.Content.TheVariants.{Value, Child}
-use Rattle.base_page.specs.Pages.{content_at}
+use Rattle.base_page.specs.declared.item.Content.TheVariants.{Child}
 use Rattle.deltas.specs.declared.record.Record.{Record}
-use Rattle.deltas.specs.declared.record.Record.TheVariants.{Base, Put, Delete, Split, Term, Hold, Remove, Merge, Unterm}
-use Rattle.deltas.specs.Records.{next_row}
-use Rattle.chain_search.specs.Chains.{IsChainFrom, content_in, level_in, low_in, high_in, right_in, is_removed}
-use Rattle.tree_law.specs.Keys.{Key, IsBelow, IsUpTo, IsUnder, IsWithin, Covers, put_key}
-use Rattle.tree_law.specs.Knowledge.{OwnRow, Foreign, Taken, Written, OwnPage, Other, Empty, Ready, Gone, Knowledge, filled, linked_over, emptied, rooted, finished}
-use Rattle.tree_law.specs.Phase.{Stage, Fresh, Indexed, Held, Removed, Merged, PageOwner, Nobody, Keeps, Placed, Cleared, mark, rank, stage_removed, child_of, rank_of}
+use Rattle.chain_search.specs.Chains.{level_in, low_in}
+use Rattle.tree_law.specs.Keys.{Key, IsBelow, put_key}
+use Rattle.tree_law.specs.Knowledge.{OwnRow, Foreign, OwnPage, Other, Knowledge, rooted, finished}
+use Rattle.tree_law.specs.Phase.{Stage, Fresh, Indexed, PageOwner, Keeps, Placed, Cleared, rank, stage_removed, child_of, rank_of}
 use Rattle.tree_law.specs.Put.{put}
 use Rattle.tree_law.specs.Shared.{Shared}
-use Rattle.tree_law.specs.Owners.{IsChain, Owner, Free, Spare, Linked, Owners, Reached, Forward, ChainNames, IsLinked, OwnFits, PageFits, OwnsPages, IsCleared, leaf_map, Spells, HeadFits, LinkFits, InOrder, OrderFits, Knows}
-use Rattle.tree_law.specs.Tree.{spec, Page, InPlace, IsPart, HasPage, Level, IsOff, IsOut, Off, Exact, Tree, Good}
+use Rattle.tree_law.specs.Owners.{Spare, Linked, Owners, Reached, ChainNames, IsLinked, OwnFits, PageFits}
+use Rattle.tree_law.specs.Tree.{spec, Page, HasPage, Level, IsOff, IsOut, Off, Good}
 use Rattle.std.specs.Ordering.{is_eq}
 use Rattle.bw_model.specs.Bytes.{key_cmp}
-use Rattle.tree_law.specs.Discipline.{HasRead, MayRoot, root_over}
+use Rattle.tree_law.specs.Discipline.{MayRoot, root_over}
 use Rattle.tree_law.proofs.KeyOrder.{not_self, by_key}
 use Rattle.tree_law.proofs.Puts.{by_test, put_same, put_other, put_all}
 use Rattle.tree_law.proofs.Kept.{Kept, reached_placed}
@@ -195,5 +190,4 @@ module _ {m : Shared} {log : List Update} {o : Owners} {knows : ℕ → Knowledg
 
       learned : rooted ((knows a).pages y) y (knows a) ≡ record (knows a) { rows = put (knows a).rows h.base_row Foreign; pages = put (knows a).pages y Other }
       learned = rw h.ready refl
-
-  -- the slot of a cleared page goes to none
+      -- the slot of a cleared page goes to none

@@ -1,17 +1,17 @@
 -- Parts of the side chain: joining, finding a page, what is outside a page, putting others in its place.
-use Rattle.std.proofs.Common.{◌≡◌, ◌≢◌, ◌⊎◌, inl, inr, ℕ, ◌<◌, ◌≤◌, List, [], ◌∷◌, ◌++◌, Option, Some, None, Bool, true, false, refl, sym, ap, ◌∙◌, subst, ⊎_elim, arith}
+use Rattle.std.proofs.Common.{◌≡◌, ◌≢◌, ◌⊎◌, inl, inr, ℕ, ◌≤◌, List, [], ◌∷◌, ◌++◌, Option, Some, None, refl, sym, ap, ◌∙◌, subst, ⊎_elim}
 use Rattle.std.specs.Prelude.{⊤}
 use Rattle.std.proofs.lemmas.Option.{same_Some}
 use Rattle.bw_model.specs.Log.{Update}
 use Rattle.base_page.specs.declared.item.Content.{Content}
 use Rattle.deltas.specs.declared.record.Record.{Record}
-use Rattle.chain_search.specs.Chains.{content_in, level_in, low_in, high_in, right_in, is_removed}
+use Rattle.chain_search.specs.Chains.{low_in, high_in, right_in, is_removed}
 use Rattle.tree_law.specs.Keys.{Key, IsBelow, IsUpTo, IsUnder, IsWithin, Covers}
-use Rattle.tree_law.specs.Phase.{Stage, Merged, PageOwner, Placed, rank, stage_removed}
+use Rattle.tree_law.specs.Phase.{Stage, Placed, rank, stage_removed}
 use Rattle.tree_law.specs.Shared.{Shared}
-use Rattle.tree_law.specs.Owners.{IsChain, Owners, Linked, IsClosed, Reached}
-use Rattle.tree_law.specs.Tree.{Page, IsPage, InPlace, IsPart, HasPage, spec, Level, Exact, IsOff, IsOut, Off, Tree}
-use Rattle.tree_law.proofs.KeyOrder.{not_below, not_self, below_not, below_upto, upto_below, upto_same, upto_refl, upto_both, upto_trans}
+use Rattle.tree_law.specs.Owners.{IsChain, Owners, IsClosed}
+use Rattle.tree_law.specs.Tree.{Page, InPlace, IsPart, HasPage, spec, Level, Exact, IsOff, IsOut, Off, Tree}
+use Rattle.tree_law.proofs.KeyOrder.{not_below, below_not, below_upto, upto_same, upto_refl, upto_both, upto_trans}
 use Rattle.tree_law.proofs.Puts.{by_test}
 use Rattle.tree_law.proofs.Chains.{chain_unique}
 use Rattle.tree_law.proofs.Kept.{Kept, chain_kept}
@@ -407,7 +407,7 @@ level_merged o o' m m' lv mp mp' first closed kept t p sp q sq st st2 ep on eq l
         let u = under_start (low_in h.chain) sp (high_in h.chain) part.2.is_page.some (from gs (right_in h.chain) (high_in h.chain) part.3 i) in
         let r = go gs (right_in h.chain) (high_in h.chain) part.3 i in
         let s = stays h part.2 (λ j. not_below (low_in h.chain) sp u (upto_same sp (low_in h.chain) (sym (low_at p sp st ep h part.2 j))))
-            (λ j. not_below (low_in h.chain) sp u (upto_trans sp sq (low_in h.chain) (below_not sp sq lt) (upto_same sq (low_in h.chain) (sym (low_at q sq st2 eq h part.2 j))))) in
+        (λ j. not_below (low_in h.chain) sp u (upto_trans sp sq (low_in h.chain) (below_not sp sq lt) (upto_same sq (low_in h.chain) (sym (low_at q sq st2 eq h part.2 j))))) in
         (h ∷ r.0, (part.0, part.1, place_kept o o' m m' lv mp mp' closed kept h s part.2, r.1), λ z ne has. more z ne r.0 r.2 has)
       where
         more : (z : ℕ) → z ≢ q → (gs' : List Page) → ((r : ℕ) → r ≢ q → HasPage r gs → HasPage r gs') → HasPage z (h ∷ gs) → HasPage z (h ∷ gs')

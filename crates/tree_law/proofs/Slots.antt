@@ -1,5 +1,5 @@
 -- Which slots hold rows, after a step.
-use Rattle.std.proofs.Common.{◌≡◌, ◌≢◌, ◌⊎◌, inl, inr, ℕ, zero, suc, ◌<◌, List, [], ◌∷◌, Option, Some, None, Bool, true, false, cond, eqb, refl, sym, ap, ◌∙◌, subst, arith}
+use Rattle.std.proofs.Common.{◌≡◌, ◌≢◌, ◌⊎◌, inl, inr, ℕ, zero, suc, List, [], Option, Some, None, Bool, true, false, cond, eqb, refl, sym, ap, ◌∙◌, subst}
 use Rattle.std.proofs.lemmas.Option.{same_Some}
 use Rattle.bw_model.specs.declared.command.Reply.{Reply}
 use Rattle.bw_model.specs.declared.step.Step.{Step as StepOf}
@@ -17,11 +17,11 @@ use Rattle.tree_law.specs.Discipline.{IsOwn, IsOwnBase, HasRead, MayLink, MayExc
 use Rattle.tree_law.specs.Keys.{Key}
 use Rattle.tree_law.specs.Knowledge.{OwnRow, Foreign, Taken, Written, OwnPage, Other, Empty, Ready, Gone, Knowledge, split_off, linked_over, filled, emptied, rooted, exchanged, learn, finished}
 use Rattle.tree_law.specs.Next.{IsMoved}
-use Rattle.tree_law.specs.Owners.{Owner, Free, Spare, Linked, Owners, OwnFits, Reached, HeadFits}
+use Rattle.tree_law.specs.Owners.{Spare, Linked, Owners, OwnFits, Reached, HeadFits}
 use Rattle.tree_law.specs.Phase.{Stage, Fresh, Indexed, Held, Removed, Merged, PageOwner, Nobody, Keeps, Placed, Cleared}
 use Rattle.tree_law.specs.Phases.{Links, Phased}
 use Rattle.tree_law.specs.Put.{put}
-use Rattle.tree_law.specs.Shared.{Shared, row_in, slot_in, shared}
+use Rattle.tree_law.specs.Shared.{Shared, slot_in, shared}
 use Rattle.tree_law.specs.State.{IsInTree, IsReady}
 use Rattle.tree_law.specs.Tree.{Good}
 use Rattle.tree_law.proofs.Puts.{by_test, put_same, put_other}
@@ -120,8 +120,8 @@ module _ (m : Memory) {log : List Update} {o : Owners} {knows : ℕ → Knowledg
         let same : w ≡ Unterm unterm = same_Some w (Unterm unterm) (sym stands ∙ fits.1) in
         let h = subst (λ (u : Record). Links (shared m) a u (suc n) o.page o'.page) same links in
         by_test p unterm.child (λ t. IsInTree (o'.page p) ⊎ (cond t Gone ((knows a).pages p) ≡ Ready q))
-            (λ i. inl (subst (λ (f : ℕ → PageOwner). IsInTree (f p)) (sym h.2) (rw i (subst IsInTree (sym (put_same o.page unterm.child (Cleared a h.0 unterm.separator))) tt))))
-            (λ ne. inr e)
+        (λ i. inl (subst (λ (f : ℕ → PageOwner). IsInTree (f p)) (sym h.2) (rw i (subst IsInTree (sym (put_same o.page unterm.child (Cleared a h.0 unterm.separator))) tt))))
+        (λ ne. inr e)
     linked_ready (Written (Base page)) fits p q e = inr e
     linked_ready (Written (Put put')) fits p q e = inr e
     linked_ready (Written (Delete delete)) fits p q e = inr e

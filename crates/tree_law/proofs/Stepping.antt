@@ -1,30 +1,29 @@
 -- Each allowed step with the memory's answer keeps the invariant.
-use Rattle.std.proofs.Common.{◌≡◌, ◌≢◌, ◌⊎◌, inl, inr, ℕ, zero, suc, ◌<◌, List, [], ◌∷◌, ◌++◌, Option, Some, None, Bool, true, false, cond, eqb, refl, sym, ap, ◌∙◌, subst, ⊎_elim}
-use Rattle.std.specs.Prelude.{IfSome, IsTrue}
+use Rattle.std.proofs.Common.{◌≡◌, ◌⊎◌, inl, inr, ℕ, zero, suc, List, [], ◌∷◌, Option, Some, None, Bool, true, false, cond, eqb, refl, sym, ap, ◌∙◌, subst, ⊎_elim}
+use Rattle.std.specs.Prelude.{IsTrue}
 use Rattle.std.proofs.lemmas.Option.{same_Some}
 use Rattle.bw_model.specs.declared.command.Reply.{Reply}
 use Rattle.bw_model.specs.declared.step.Step.{Step as StepOf}
 use Rattle.bw_model.specs.declared.step.Step.TheVariants.{Slot, Row, Epoch, Announce, PidBits, RowBits, Place, Exchange, TakePid, TakeRow, Enter, Leave, Retire, ReusePids, ReuseRows}
 use Rattle.bw_model.specs.declared.step.Answer.{Answer}
-use Rattle.bw_model.specs.declared.step.Answer.TheVariants.{Number, Content, Whether, Done}
-use Rattle.bw_model.specs.Log.{Update, set, unset, value_in}
-use Rattle.base_page.specs.declared.item.Content.{Content as ContentOf}
+use Rattle.bw_model.specs.declared.step.Answer.TheVariants.{Number, Whether}
+use Rattle.bw_model.specs.Log.{Update, set, unset}
 use Rattle.base_page.specs.declared.item.Content.TheVariants.{Child}
 use Rattle.deltas.specs.declared.record.Record.{Record}
-use Rattle.deltas.specs.declared.record.Record.TheVariants.{Base, Put, Delete, Split, Term, Hold, Remove, Merge, Unterm}
+use Rattle.deltas.specs.declared.record.Record.TheVariants.{Split, Term, Hold, Remove, Merge, Unterm}
 use Rattle.deltas.specs.Memory.{Memory, replaced_at}
 use Rattle.chain_search.specs.Chains.{level_in, low_in, high_in, right_in}
 use Rattle.chain_search.specs.Steps.{IsAnswer, memory_after}
-use Rattle.tree_law.specs.Keys.{Key, put_key}
-use Rattle.tree_law.specs.Knowledge.{OwnRow, Written, OwnPage, Empty, Ready, Gone, Knowledge, learn_head, learn_slot, filled, emptied, learn, finished}
-use Rattle.tree_law.specs.Discipline.{record_of, base_from, root_over, HasRead, IsMet, IsOwnBase, MayUpdate, MayConsolidate, MaySplit, MayPost, MayHold, MayRemove, MayMerge, MayUnterm, MayRoot, MayLink, MayExchange, May}
-use Rattle.tree_law.specs.Phase.{Stage, Fresh, Indexed, Held, Removed, Merged, PageOwner, Nobody, Keeps, Placed, Cleared}
-use Rattle.tree_law.specs.Phases.{Links, Exchanged}
+use Rattle.tree_law.specs.Keys.{put_key}
+use Rattle.tree_law.specs.Knowledge.{OwnRow, Written, OwnPage, Empty, Ready, Gone, Knowledge, learn_head, filled, emptied, learn, finished}
+use Rattle.tree_law.specs.Discipline.{record_of, base_from, root_over, IsMet, MayUpdate, MayConsolidate, MaySplit, MayPost, MayHold, MayRemove, MayMerge, MayUnterm, MayRoot, MayLink, MayExchange, May}
+use Rattle.tree_law.specs.Phase.{Fresh, Indexed, Held, Removed, Merged, PageOwner, Keeps, Placed, Cleared}
+use Rattle.tree_law.specs.Phases.{Links}
 use Rattle.tree_law.specs.Put.{put}
 use Rattle.tree_law.specs.Shared.{Shared, row_in, slot_in, shared}
-use Rattle.tree_law.specs.Owners.{Owner, Free, Spare, Linked, Owners, OwnFits, PageFits, Reached, Spells}
+use Rattle.tree_law.specs.Owners.{Spare, Linked, Owners, OwnFits, PageFits, Reached, Spells}
 use Rattle.tree_law.specs.Tree.{Good}
-use Rattle.tree_law.specs.Next.{IsDue, IsMoved, Next}
+use Rattle.tree_law.specs.Next.{IsMoved, Next}
 use Rattle.tree_law.proofs.Frames.{chain_stands}
 use Rattle.tree_law.proofs.Puts.{by_test, put_other}
 use Rattle.tree_law.proofs.Keeping.{idles, enters, leaves, slot_of, met_placed}
@@ -101,7 +100,8 @@ module _ (memory : Memory) {log : List Update} {o : Owners} {knows : ℕ → Kno
         last = λ i. refl;
         owners = o;
         phased = refl;
-        moved = same_moved; kept = same_rows;
+        moved = same_moved;
+        kept = same_rows;
         good = subst (λ (v : ℕ). Good (shared memory) log o (put knows a (finished (learn_head (suc p) v (knows a)) r)) (put point a (point a)) (put logs a (log ∷ logs a)))
             (same_Some u.0 (suc n) (sym u.1 ∙ held))
             (reads_slot g a (suc p) u.0 u.1 u.2 u.3 r);
@@ -125,7 +125,8 @@ module _ (memory : Memory) {log : List Update} {o : Owners} {knows : ℕ → Kno
     last = λ i. refl;
     owners = o;
     phased = refl;
-    moved = same_moved; kept = same_rows;
+    moved = same_moved;
+    kept = same_rows;
     good = subst (λ (f : ℕ → Bool). Good (record (shared memory) { free = f }) log o (put knows a (finished (knows a) r)) (put point a (point a)) (put logs a (log ∷ logs a))) (sym (cleared_again memory.free_rows q e)) (idles g a (finished (knows a) r) refl refl refl refl refl refl refl refl);
   }
 
@@ -137,7 +138,8 @@ module _ (memory : Memory) {log : List Update} {o : Owners} {knows : ℕ → Kno
     last = λ i. refl;
     owners = o;
     phased = refl;
-    moved = same_moved; kept = same_rows;
+    moved = same_moved;
+    kept = same_rows;
     good = subst (λ (f : ℕ → Bool). Good (record (shared memory) { free_pages = f }) log o (put knows a (finished (knows a) r)) (put point a (point a)) (put logs a (log ∷ logs a))) (sym (cleared_again memory.free_pids q e)) (idles g a (finished (knows a) r) refl refl refl refl refl refl refl refl);
   }
 
@@ -249,7 +251,7 @@ module _ (memory : Memory) {log : List Update} {o : Owners} {knows : ℕ → Kno
           owners = record { row = put o.row (suc y) Linked; page = put o.page h.other (Placed Merged (level_in h.basis.chain) (low_in h.chain)); index = o.index };
           phased = (w, placed_row g a (suc y) w h.placed, (h.other, level_in h.basis.chain, n.1, refl, (suc x, h.basis.chain, s, chain_stands o (shared memory) (knows a).seen (g.sound a).seen_fits h.basis.chain (Some (suc x)) h.basis.read, h.right)));
           moved = linked_moved (suc y) (spare_of (suc y) h.placed);
-      kept = linked_rows (suc y);
+          kept = linked_rows (suc y);
           good = n.0;
         }
 
@@ -291,7 +293,8 @@ module _ (memory : Memory) {log : List Update} {o : Owners} {knows : ℕ → Kno
     last = λ i. refl;
     owners = o;
     phased = (refl, (own_kept (suc p) Empty h.0).0);
-    moved = same_moved; kept = same_rows;
+    moved = same_moved;
+    kept = same_rows;
     good = subst (λ (v : OwnPage). Good (record (shared memory) { slots = put (slot_in memory.slots) (suc p) (Some (suc y)) }) log o (put knows a (finished (filled v (suc p) zero (suc y) (knows a)) r)) (put point a (point a)) (put logs a (log ∷ logs a))) (sym h.0)
         (own_slot g a (suc p) (Some (suc y)) (Ready (suc y)) (own_kept (suc p) Empty h.0).0 ((own_kept (suc p) Empty h.0).0, refl) (finished (filled Empty (suc p) zero (suc y) (knows a)) r) refl refl refl refl refl refl refl refl);
   }
@@ -301,7 +304,8 @@ module _ (memory : Memory) {log : List Update} {o : Owners} {knows : ℕ → Kno
     last = λ i. refl;
     owners = o;
     phased = (refl, inl (own_kept (suc p) (Ready (suc x)) h).0);
-    moved = same_moved; kept = same_rows;
+    moved = same_moved;
+    kept = same_rows;
     good = subst (λ (v : OwnPage). Good (record (shared memory) { slots = put (slot_in memory.slots) (suc p) None }) log o (put knows a (finished (emptied v (suc p) (knows a)) r)) (put point a (point a)) (put logs a (log ∷ logs a))) (sym h)
         (own_slot g a (suc p) None Empty (own_kept (suc p) (Ready (suc x)) h).0 ((own_kept (suc p) (Ready (suc x)) h).0, refl) (finished (emptied (Ready (suc x)) (suc p) (knows a)) r) refl refl refl refl refl refl refl refl);
   }
@@ -311,7 +315,8 @@ module _ (memory : Memory) {log : List Update} {o : Owners} {knows : ℕ → Kno
     last = λ i. refl;
     owners = o;
     phased = (refl, inr (own_kept (suc p) Gone h));
-    moved = same_moved; kept = same_rows;
+    moved = same_moved;
+    kept = same_rows;
     good = clears g a (suc p) (suc x) s h r;
   }
   exchanges p (suc x) (suc y) r s h = by_link p x y r s h

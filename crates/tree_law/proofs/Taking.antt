@@ -1,17 +1,17 @@
 -- Taking rows and pages, placing records in own rows and rows in the slots of own pages keep the invariant.
-use Rattle.std.proofs.Common.{◌≡◌, ◌≢◌, ◌⊎◌, inl, inr, ℕ, zero, suc, ◌<◌, ◌≤◌, List, [], ◌∷◌, Option, Some, None, Bool, true, false, cond, refl, sym, ap, ◌∙◌, subst, ⊎_elim}
+use Rattle.std.proofs.Common.{◌≡◌, ◌⊎◌, inl, inr, ℕ, List, ◌∷◌, Option, Some, None, true, false, cond, refl, sym, ap, ◌∙◌, ⊎_elim}
 use Rattle.bw_model.specs.declared.command.Reply.{Reply}
 use Rattle.bw_model.specs.declared.step.Step.TheVariants.{Place, TakePid, TakeRow}
 use Rattle.bw_model.specs.declared.step.Answer.TheVariants.{Whether, Done}
 use Rattle.bw_model.specs.Log.{Update}
 use Rattle.deltas.specs.declared.record.Record.{Record}
 use Rattle.tree_law.specs.Keys.{Key}
-use Rattle.tree_law.specs.Knowledge.{OwnRow, Foreign, Taken, Written, OwnPage, Other, Empty, Ready, Gone, Knowledge, learn, finished}
+use Rattle.tree_law.specs.Knowledge.{OwnRow, Foreign, Taken, Written, OwnPage, Empty, Knowledge, learn, finished}
 use Rattle.tree_law.specs.Discipline.{IsOwn}
-use Rattle.tree_law.specs.Phase.{Stage, Merged, PageOwner, Nobody, Keeps, Placed, Cleared}
+use Rattle.tree_law.specs.Phase.{Stage, Merged, Nobody, Keeps, Placed, Cleared}
 use Rattle.tree_law.specs.Put.{put}
 use Rattle.tree_law.specs.Shared.{Shared}
-use Rattle.tree_law.specs.Owners.{Owner, Free, Spare, Linked, Owners, IsLinked, OwnFits, PageFits}
+use Rattle.tree_law.specs.Owners.{Free, Spare, Linked, Owners, IsLinked, OwnFits, PageFits}
 use Rattle.tree_law.specs.Tree.{Good}
 use Rattle.tree_law.proofs.Puts.{by_test, put_same, put_other, put_all}
 use Rattle.tree_law.proofs.Kept.{Kept}
@@ -137,5 +137,4 @@ module _ {m : Shared} {log : List Update} {o : Owners} {knows : ℕ → Knowledg
 
       kept : Kept o o m m'
       kept = kept_change a o o m m' change
-
-  -- a page of the tree is not its own
+      -- a page of the tree is not its own

@@ -1,5 +1,5 @@
 -- The order of keys, as relations, and functions of keys changed at one key.
-use Rattle.std.specs.Prelude.{◌≡◌, ℕ, List, Bool, true, false, if◌then◌else◌, Option, IfSome}
+use Rattle.std.specs.Prelude.{◌≡◌, ℕ, List, true, false, if◌then◌else◌, Option, IfSome}
 use Rattle.std.specs.Ordering.{is_eq}
 use Rattle.bw_model.specs.Bytes.{key_cmp, is_below, is_under}
 use Rattle.deltas.specs.declared.record.Record.{Record}

@@ -1,5 +1,5 @@
 -- What an actor knows from its own entries.
-use Rattle.std.specs.Prelude.{◌≡◌, ℕ, zero, suc, List, Option, None, Some, Bool, true, false}
+use Rattle.std.specs.Prelude.{ℕ, zero, suc, List, Option, None, Some, Bool, true, false}
 use Rattle.std.specs.List.{fold}
 use Rattle.bw_model.specs.declared.command.Command.{Command}
 use Rattle.bw_model.specs.declared.command.Reply.{Reply}

@@ -9,7 +9,7 @@ use Rattle.deltas.specs.Records.{next_row}
 use Rattle.chain_search.specs.Chains.{IsChainFrom, content_in, level_in, low_in, high_in, right_in, is_removed}
 use Rattle.tree_law.specs.Keys.{Key, IsBelow, IsWithin, Covers}
 use Rattle.tree_law.specs.Knowledge.{OwnRow, Foreign, Taken, Written, OwnPage, Other, Empty, Ready, Gone}
-use Rattle.tree_law.specs.Phase.{Stage, PageOwner, Nobody, Keeps, Placed, Cleared, rank, child_of, rank_of}
+use Rattle.tree_law.specs.Phase.{PageOwner, Nobody, Keeps, Placed, Cleared, rank, child_of, rank_of}
 use Rattle.tree_law.specs.Shared.{Shared}
 
 -- the chain from a row, or none from no row

@@ -1,5 +1,5 @@
 -- What a step makes of the lives of pages, and in which phase it has to find its page.
-use Rattle.std.specs.Prelude.{◌≡◌, ℕ, zero, suc, ◌⊎◌, List, [], Some, Bool, true, false}
+use Rattle.std.specs.Prelude.{◌≡◌, ℕ, zero, suc, ◌⊎◌, List, [], Some, true}
 use Rattle.bw_model.specs.declared.step.Step.{Step as StepOf}
 use Rattle.bw_model.specs.declared.step.Step.TheVariants.{Exchange, TakePid}
 use Rattle.bw_model.specs.declared.step.Answer.{Answer}

@@ -27,7 +27,7 @@ use Rattle.op_machine.specs.Faithful.{IsFaithful, KnowsRow}
 use Rattle.op_machine.specs.Phases as phase
 use Rattle.op_machine.specs.Phases.{Phase, IsInPhase, KeepsPhases}
 use Rattle.tree_law.specs.Knowledge.{Ready, Knowledge, knows}
-use Rattle.tree_law.specs.Owners.{Owner, Free, Spare, Linked, Owners, Among}
+use Rattle.tree_law.specs.Owners.{Free, Spare, Linked, Owners, Among}
 use Rattle.tree_law.specs.Phase.{Fresh, Indexed, Held, Removed, Merged, PageOwner, Nobody, Keeps, Placed, Cleared}
 use Rattle.tree_law.specs.Shared.{slot_in, shared}
 use Rattle.tree_law.specs.Tree.{Good}

@@ -1,5 +1,5 @@
 -- The invariant of the tree: its levels as segments, the exact index, and what each actor knows.
-use Rattle.std.specs.Prelude.{◌≡◌, ◌≢◌, ◌<◌, ◌≤◌, ℕ, zero, suc, ◌⊎◌, List, [], ◌∷◌, Option, Some, None, Bool, true, false}
+use Rattle.std.specs.Prelude.{◌≡◌, ◌≢◌, ◌<◌, ◌≤◌, ℕ, zero, suc, ◌⊎◌, List, [], ◌∷◌, Option, Some, None, true}
 use Rattle.bw_model.specs.Log.{Update}
 use Rattle.base_page.specs.declared.item.Content.{Content}
 use Rattle.deltas.specs.declared.record.Record.{Record}
@@ -8,7 +8,7 @@ use Rattle.tree_law.specs.Keys.{Key, IsUnder, Covers}
 use Rattle.tree_law.specs.Knowledge.{Knowledge}
 use Rattle.tree_law.specs.Phase.{Stage, Fresh, Indexed, Merged, PageOwner, Nobody, Placed, Cleared, mark, rank, stage_removed, child_of}
 use Rattle.tree_law.specs.Shared.{Shared}
-use Rattle.tree_law.specs.Owners.{IsChain, Owner, Free, Linked, Owners, IsClosed, IsCleared, Owns, OwnsPages, leaf_map, Knows}
+use Rattle.tree_law.specs.Owners.{IsChain, Free, Linked, Owners, IsClosed, IsCleared, Owns, OwnsPages, leaf_map, Knows}
 
 -- What a level is to decide: the leaves the log, each other level the terms of the level below. So the index is a second
 -- log, and an index page is treated as a leaf is.

@@ -5,5 +5,10 @@
 mod invariant;
 mod law;
 
-pub use invariant::{key_order, one_begin_keeps, one_step_keeps, opening_is_good, reply_is_by_a_log};
-pub use law::{answers, begins, disciplined_runs, frees_by_rule, is_one_map, keeps_phases, knowledge_is_own, opens, steps};
+pub use invariant::{
+    key_order, one_begin_keeps, one_step_keeps, opening_is_good, reply_is_by_a_log,
+};
+pub use law::{
+    answers, begins, disciplined_runs, frees_by_rule, is_one_map, keeps_phases, knowledge_is_own,
+    opens, steps,
+};
