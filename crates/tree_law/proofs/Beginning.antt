@@ -28,7 +28,7 @@ use Rattle.tree_law.specs.Tree.{Good}
 use Rattle.tree_law.proofs.Keeping.{begins as good_begins}
 use Rattle.op_machine.specs.Phases.{free, indexed}
 use Rattle.tree_law.proofs.Leaves.{map_of}
-use Rattle.tree_law.proofs.Lives.{begins_in_phase, begins_phases, unused_push}
+use Rattle.tree_law.proofs.Lives.{begins_in_phase, begins_phases, begins_only, unused_push}
 use Rattle.tree_law.proofs.Marks.{marked_push, tells_other, quiet_push}
 use Rattle.tree_law.proofs.Names.{faithful_push, named_begins}
 use Rattle.tree_law.proofs.Opening.{opening_slots, opening_owners, opening_good}
@@ -68,6 +68,10 @@ opens limits = record {
   quiet = record { at_each = λ n h. at_zero n h };
   faithful = record { known = λ n a row x h. absurd (let e = h.1 in cc); outside = λ n a s x h. absurd (let e = h.1 in cc) };
   in_phase = λ pid. inr (λ k from to low high. absurd (omega arith), by_test pid 1 (λ t. phase_of (cond t (Placed Indexed 0 []) Nobody) ≡ cond t indexed free) (λ i. refl) (λ ne. refl));
+  only_phase = λ pid phase h. elim h [
+    | inl moved ↦ absurd (let lt = moved.2 in omega arith)
+    | inr rested ↦ rested.1 ∙ by_test pid 1 (λ t. cond t indexed free ≡ phase_of (cond t (Placed Indexed 0 []) Nobody)) (λ i. refl) (λ ne. refl)
+  ];
   phases = record { in_order = λ n pid from to h. absurd (let e = h.at in cc); emptied = λ n actor pid old h. absurd (let e = h.at in cc) };
   unused = λ n actor word bits answer. (λ h. let e = h.1 in cc, λ h. let e = h.1 in cc);
 }
@@ -119,6 +123,7 @@ begins limits entries a c state below idle = record {
   quiet = quiet_push entries state.points (Begin a c) false state.marked.beside limits state.quiet
       (rw (memory_of-push limits entries (Begin a c), log_of-push entries state.points (Begin a c) false state.marked.beside) (map_of state.good));
   in_phase = λ pid. begins_in_phase limits entries a c pid (phase_of (state.owners.page pid)) (state.in_phase pid);
+  only_phase = begins_only limits entries a c state.owners.page state.in_phase state.only_phase;
   phases = begins_phases limits entries a c state.phases;
   unused = unused_push limits entries (Begin a c) state.unused (λ b word bits y. (λ h. let e = h.1 in cc, λ h. let e = h.1 in cc));
   faithful = faithful_push limits entries (Begin a c) state.faithful (λ b row x h. let e = h.1 in absurd (cc)) (λ b s x h z. let e = h.1 in absurd (cc));

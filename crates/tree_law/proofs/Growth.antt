@@ -27,7 +27,7 @@ use Rattle.chain_search.proofs.RunLaws.{IsRun-push}
 use Rattle.op_machine.specs.Answered.{IsTrueReply, is_writer}
 use Rattle.op_machine.specs.Linearized.{IsLinearized}
 use Rattle.op_machine.specs.Operations.{Operation, IsOperation, IsOwnStep, Finishes}
-use Rattle.op_machine.specs.Phases.{Phase, Moves, KeepsPhases}
+use Rattle.op_machine.specs.Phases.{Phase, Moves, IsInPhase, KeepsPhases}
 use Rattle.op_machine.specs.Points.{IsPoint, log_of, log_at, updates_by, has_point}
 use Rattle.op_machine.specs.Quiet.{IsQuiet}
 use Rattle.op_machine.specs.Reuse.{IsFreedByRule}
@@ -46,10 +46,10 @@ use Rattle.tree_law.proofs.Answering.{answers}
 use Rattle.tree_law.proofs.Beginning.{knows-push}
 use Rattle.tree_law.proofs.Keeping.{slot_of, met_placed}
 use Rattle.tree_law.proofs.Leaves.{slot_some, map_of}
-use Rattle.tree_law.proofs.Lives.{pid_below_after, steps_in_phase, steps_phases, unused_push, freed}
+use Rattle.tree_law.proofs.Lives.{only_after, pid_below_after, steps_in_phase, steps_phases, unused_push, freed}
 use Rattle.tree_law.proofs.Marks.{marked_push, tells_other, tells_own, quiet_push}
 use Rattle.tree_law.proofs.Names.{number_same, slot_none, faithful_push, named_steps, reads_known, touches_outside, may_take}
-use Rattle.tree_law.proofs.Owned.{same_start, own_new}
+use Rattle.tree_law.proofs.Owned.{pushed_length, same_start, own_new}
 use Rattle.tree_law.proofs.Phasing.{moves_between, clears_cleared, moves_or_rests}
 use Rattle.tree_law.proofs.Puts.{by_test, put_same, put_other}
 use Rattle.tree_law.proofs.Remark.{own_same, remarked, log_of_same, marked', told, told_other, quiet'}
@@ -317,6 +317,7 @@ module _ (limits : Limits) (entries : List Entry) (a : ℕ) (step : StepOf Recor
     quiet = quiet_push entries z.points last mark z.marked.beside limits z.quiet (map_of good_after);
     in_phase = steps_in_phase limits entries last state.owners.page n.owners.page state.in_phase between
         lives;
+    only_phase = λ pid phase h. only_after limits entries last state.owners.page n.owners.page state.in_phase between lives state.only_phase pid phase (subst (λ k. IsInPhase limits (entries ++ last ∷ []) k pid phase) (pushed_length entries last) h);
     phases = steps_phases limits entries last state.owners.page n.owners.page state.in_phase between state.phases
         (clears_cleared (memory_of limits entries) state.good state.named.held a step answer r allowed.may is n.owners.page n.phased);
     unused = unused_push limits entries last state.unused (λ b word bits y. (

@@ -1,5 +1,5 @@
 -- One more entry: the life of each page, and that nothing is used again.
-use Rattle.std.proofs.Common.{◌≡◌, ◌⊎◌, inl, inr, ℕ, suc, List, [], ◌∷◌, ◌++◌, length, Option, true, ◌<◌, sym, ◌∙◌, subst}
+use Rattle.std.proofs.Common.{◌≡◌, ◌⊎◌, inl, inr, ℕ, suc, List, [], ◌∷◌, ◌++◌, length, Option, true, ◌<◌, refl, sym, ◌∙◌, subst, arith}
 use Rattle.bw_model.specs.declared.command.Command.{Command}
 use Rattle.bw_model.specs.declared.limits.Limits.{Limits}
 use Rattle.bw_model.specs.declared.step.Step.{Step as StepOf}
@@ -14,7 +14,7 @@ use Rattle.chain_search.specs.declared.trace.Entry.{Entry}
 use Rattle.chain_search.specs.declared.trace.Entry.TheVariants.{Begin, Step}
 use Rattle.chain_search.specs.Steps.{IsAnswer}
 use Rattle.chain_search.specs.Trace.{memory_of, IsStep}
-use Rattle.chain_search.proofs.TraceLaws.{TakesStep-push_cases}
+use Rattle.chain_search.proofs.TraceLaws.{TakesStep-push_cases, Happens-below, Happens-kept, Happens-push_cases, Happens-last}
 use Rattle.op_machine.specs.Links.{Wins}
 use Rattle.op_machine.specs.Phases.{Phase, free, cleared, Moves, takes, splits, becomes_root, terms, under_root, holds, removes, merges, unterms, reuses, IsInPhase, KeepsPhases}
 use Rattle.op_machine.specs.Reuse.{IsFreedByRule}
@@ -94,6 +94,27 @@ module _ (limits : Limits) (entries : List Entry) where
           (IsInPhase-rested limits entries last pid (phase_of (f pid)) (λ from to moves. let b = between pid from to moves in moves_on moves (sym b.0 ∙ sym same ∙ b.1)) (before pid))
     ])
 
+    -- a phase in which a PID is is the one that its owner says
+    pub only_after : ((pid : ℕ) → Moves (memory_of limits entries) last pid (phase_of (f pid)) (phase_of (f' pid)) ⊎ (phase_of (f' pid) ≡ phase_of (f pid)))
+        → ((pid : ℕ) (phase : Phase) → IsInPhase limits entries (length entries) pid phase → phase ≡ phase_of (f pid))
+        → (pid : ℕ) (phase : Phase) → IsInPhase limits (entries ++ last ∷ []) (suc (length entries)) pid phase → phase ≡ phase_of (f' pid)
+    only_after cases only pid phase (inl (n, from, lt, moves, rests)) = elim (Happens-push_cases moves) [
+      | inr at ↦ sym (between pid from phase at.1).1
+      | inl before ↦
+          let below : n < length entries = Happens-below before in
+          rested pid phase (cases pid) (λ one two mv. rests (length entries) one two (omega arith) (omega arith) (Happens-last limits entries last (λ memory entry. Moves memory entry pid one two) mv))
+          (only pid phase (inl (n, from, below, before, λ k one two low high mv. rests k one two low (omega arith) (Happens-kept (last ∷ []) mv))))
+    ]
+      where
+        rested : (pid : ℕ) (phase : Phase) → Moves (memory_of limits entries) last pid (phase_of (f pid)) (phase_of (f' pid)) ⊎ (phase_of (f' pid) ≡ phase_of (f pid))
+            → ((one two : Phase) → Moves (memory_of limits entries) last pid one two → ⊥) → phase ≡ phase_of (f pid) → phase ≡ phase_of (f' pid)
+        rested pid phase (inl mv) never e = absurd (never (phase_of (f pid)) (phase_of (f' pid)) mv)
+        rested pid phase (inr same) never e = e ∙ sym same
+    only_after cases only pid phase (inr (rests, is)) = elim (cases pid) [
+      | inl mv ↦ absurd (rests (length entries) (phase_of (f pid)) (phase_of (f' pid)) (omega arith) (omega arith) (Happens-last limits entries last (λ memory entry. Moves memory entry pid (phase_of (f pid)) (phase_of (f' pid))) mv))
+      | inr same ↦ only pid phase (inr ((λ k one two low high mv. rests k one two low (omega arith) (Happens-kept (last ∷ []) mv)), is)) ∙ sym same
+    ]
+
     pub steps_phases : KeepsPhases limits entries → ((b pid old : ℕ) → Wins (memory_of limits entries) last b pid old 0 link.Clear → phase_of (f pid) ≡ cleared) → KeepsPhases limits (entries ++ last ∷ [])
     steps_phases keeps clears = KeepsPhases-push limits entries last keeps
         (λ pid from to moves. subst (λ p. IsInPhase limits entries (length entries) pid p) (between pid from to moves).0 (before pid))
@@ -110,3 +131,9 @@ module _ (limits : Limits) (entries : List Entry) where
     pids = λ n actor word bits pid answer takes among. absurd ((none n actor word bits answer).0 takes);
     rows = λ n actor word bits row answer takes among. absurd ((none n actor word bits answer).1 takes);
   }
+
+module _ (limits : Limits) (entries : List Entry) where
+  pub begins_only : (a : ℕ) (c : Command) (f : ℕ → PageOwner) → ((pid : ℕ) → IsInPhase limits entries (length entries) pid (phase_of (f pid)))
+      → ((pid : ℕ) (phase : Phase) → IsInPhase limits entries (length entries) pid phase → phase ≡ phase_of (f pid))
+      → (pid : ℕ) (phase : Phase) → IsInPhase limits (entries ++ Begin a c ∷ []) (length (entries ++ Begin a c ∷ [])) pid phase → phase ≡ phase_of (f pid)
+  begins_only a c f before only pid phase h = only_after limits entries (Begin a c) f f before (λ pid from to moves. absurd (begin_still moves)) (λ pid. inr refl) only pid phase (subst (λ n. IsInPhase limits (entries ++ Begin a c ∷ []) n pid phase) (pushed_length entries (Begin a c)) h)

@@ -148,5 +148,6 @@ pub record IsState (limits : Limits) (entries : List Entry) : Type 0 where
   pub quiet : IsQuiet limits entries points
   pub faithful : IsFaithful limits entries
   pub in_phase : (pid : ℕ) → IsInPhase limits entries (length entries) pid (phase_of (owners.page pid))
+  pub only_phase : (pid : ℕ) (phase : Phase) → IsInPhase limits entries (length entries) pid phase → phase ≡ phase_of (owners.page pid)
   pub phases : KeepsPhases limits entries
   pub unused : IsUnused entries
