@@ -4,7 +4,8 @@ use Rattle.std.specs.Prelude.{IsTrue}
 use Rattle.std.proofs.lemmas.Option.{same_Some}
 use Rattle.bw_model.specs.declared.command.Command.{Command}
 use Rattle.bw_model.specs.declared.command.Reply.{Reply}
-use Rattle.bw_model.specs.declared.step.Step.TheVariants.{Leave}
+use Rattle.bw_model.specs.declared.step.Step.TheVariants.{Enter, Leave}
+use Rattle.bw_model.specs.declared.step.Answer.{Answer}
 use Rattle.bw_model.specs.declared.step.Answer.TheVariants.{Done}
 use Rattle.bw_model.specs.Log.{Update}
 use Rattle.base_page.specs.declared.item.Content.{Content}
@@ -77,6 +78,9 @@ module _ {m : Shared} {log : List Update} {o : Owners} {knows : ℕ → Knowledg
   pub idles : (k : Knowledge) → k.rows ≡ (knows a).rows → k.pages ≡ (knows a).pages → k.seen ≡ (knows a).seen → k.learnt ≡ (knows a).learnt → k.roots ≡ (knows a).roots → k.heads ≡ (knows a).heads → k.before ≡ (knows a).before → k.linked ≡ (knows a).linked
       → Good m log o (put knows a k) (put point a (point a)) (put logs a (log ∷ logs a))
   idles k e0 e1 e2 e3 e4 e5 e7 e6 = quiet k (point a) (log ∷ logs a) (rw e0 (g.owns a)) (rw e1 (g.owns_pages a)) (rw (e2, e3, e4, e5, e7, e6) mine)
+
+  pub enters : (e : ℕ) (x : Answer Record) (r : Option Reply) → Good m log o (put knows a (finished (learn (knows a) (Enter e) x) r)) (put point a (point a)) (put logs a (log ∷ logs a))
+  enters e x r = quiet (finished (learn (knows a) (Enter e) x) r) (point a) (log ∷ logs a) (g.owns a) (g.owns_pages a) (record { seen_fits = mine.seen_fits; learnt_fits = λ q e. absurd (cc); roots_fit = mine.roots_fit; heads_fit = mine.heads_fit; orders_fit = mine.orders_fit; linked_fits = mine.linked_fits })
 
   pub leaves : (r : Option Reply) → Good m log o (put knows a (finished (learn (knows a) Leave Done) r)) (put point a (point a)) (put logs a (log ∷ logs a))
   leaves r = quiet (finished (learn (knows a) Leave Done) r) (point a) (log ∷ logs a) (g.owns a) (g.owns_pages a) (record { seen_fits = λ q. tt; learnt_fits = λ q e. absurd (cc); roots_fit = λ p e. absurd (cc); heads_fit = λ p. tt; orders_fit = λ p f. tt; linked_fits = mine.linked_fits })

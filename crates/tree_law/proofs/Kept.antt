@@ -19,7 +19,7 @@ pub record Kept (o o' : Owners) (m m' : Shared) : Type 0 where
   pub page : (p : ℕ) → Forward (o.page p) (o'.page p)
   -- what is linked comes into no slot again
   pub back : (p x l : ℕ) (s : Key) → Reached 0 l s (o.page p) → o.row x ≡ Linked → m'.slots p ≡ Some x → m.slots p ≡ Some x
-  -- a removed chain stays
+  -- a is_removed chain stays
   pub frozen : (p x l : ℕ) (s : Key) (c : List Record) → Reached 0 l s (o.page p) → m.slots p ≡ Some x → o.row x ≡ Linked → IsChain m.rows c (Some x) → is_removed c ≡ true → (m'.slots p ≡ Some x) ⊎ IsCleared (o'.page p)
   -- a page is cleared by an exchange on the page that has its low
   pub clears : (p l : ℕ) (s : Key) (st : Stage) → o.page p ≡ Placed st l s → IsCleared (o'.page p) → (f x : ℕ) (c : List Record) → o.row x ≡ Linked → IsChain m.rows c (Some x) → Reached 0 (level_in c) (low_in c) (o.page f) → is_removed c ≡ false → level_in c ≡ suc l → Covers c s → m.slots f ≡ Some x → m'.slots f ≡ Some x → ⊥

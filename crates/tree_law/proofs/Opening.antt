@@ -1,8 +1,7 @@
 -- The opening memory meets the invariant: one empty leaf, which is the root.
-use Rattle.std.proofs.Common.{◌≡◌, ◌≢◌, ◌⊎◌, inl, inr, ℕ, zero, suc, ◌<◌, ◌≤◌, [], ◌∷◌, Option, Some, None, Bool, true, false, cond, refl, sym, ap, ◌∙◌, subst, arith}
+use Rattle.std.proofs.Common.{◌≡◌, ◌≢◌, ◌⊎◌, inl, inr, ℕ, zero, suc, ◌<◌, ◌≤◌, [], ◌∷◌, Option, Some, None, Bool, false, cond, refl, sym, ap, ◌∙◌, subst, arith}
 use Rattle.std.proofs.lemmas.Bool.Decides.{nat_tests}
-use Rattle.std.specs.Prelude.{nat_le, nat_lt, ◌&&◌}
-use Rattle.std.proofs.lemmas.Option.{same_Some}
+use Rattle.std.specs.Prelude.{nat_le}
 use Rattle.bw_model.specs.declared.limits.Limits.{Limits}
 use Rattle.base_page.specs.Pages.{empty_leaf}
 use Rattle.deltas.specs.declared.record.Record.TheVariants.{Base}
@@ -13,7 +12,6 @@ use Rattle.tree_law.specs.Phase.{Fresh, Indexed, Nobody, Placed, Cleared, rank}
 use Rattle.tree_law.specs.Put.{put}
 use Rattle.tree_law.specs.Shared.{Shared, row_in, slot_in, shared}
 use Rattle.tree_law.specs.Owners.{Free, Linked, Owners, IsLinked}
-use Rattle.tree_law.specs.Parted.{IsParted}
 use Rattle.tree_law.specs.Tree.{spec, Page, HasPage, Level, IsOff, IsOut, Off, Good}
 use Rattle.tree_law.proofs.Puts.{by_test}
 
@@ -21,7 +19,7 @@ module _ (free free_pages : ℕ → Bool) (taken : free 1 ≡ false) (taken_page
   abbrev start : Shared
   start = record { root = 1; slots = put (λ p. None) 1 (Some 1); rows = put (λ r. None) 1 (Some (Base empty_leaf)); free = free; free_pages = free_pages }
 
-  abbrev o : Owners
+  abbrev pub o : Owners
   o = record { row = put (λ r. Free) 1 Linked; page = put (λ p. Nobody) 1 (Placed Indexed 0 []); index = λ l s. None }
 
   abbrev leaf : Page
@@ -72,7 +70,7 @@ module _ (free free_pages : ℕ → Bool) (taken : free 1 ≡ false) (taken_page
     sound = λ a. record { seen_fits = λ r. tt; learnt_fits = λ r e. absurd (cc); roots_fit = λ p e. absurd (cc); heads_fit = λ p. tt; orders_fit = λ p f. tt; linked_fits = refl };
   }
 
-opening_slots : (limits : Limits) → slot_in (opening limits).slots ≡ put (λ p. None) 1 (Some 1)
+pub opening_slots : (limits : Limits) → slot_in (opening limits).slots ≡ put (λ p. None) 1 (Some 1)
 opening_slots limits = λ d p. at p d
   where
     at : (p : ℕ) → slot_in (opening limits).slots p ≡ put {X = Option ℕ} (λ p. None) 1 (Some 1) p
@@ -83,27 +81,12 @@ opening_slots limits = λ d p. at p d
         above : (p : ℕ) → nat_le (suc (suc p)) 1 ≡ false
         above p = grind (arith, nat_tests)
 
-between : (low high r : ℕ) → nat_le low r && nat_lt r high ≡ true → (low ≤ r) × (r < high)
-between low high r h = (grind (arith, nat_tests), grind (arith, nat_tests))
+abbrev pub opening_owners : Limits → Owners
+opening_owners limits = o (opening limits).free_rows (opening limits).free_pids refl refl
 
--- PID 1 and row 1 are in use, and those from 2 on up to the limits are free
-parts : (limits : Limits) → IsParted limits.pids limits.rows (shared (opening limits)) (o (opening limits).free_rows (opening limits).free_pids refl refl) (λ a. nothing)
-parts limits = record {
-  row_below = λ r. by_test r 1 (λ t. cond t Linked Free ≢ Free → (0 < r) × (r < limits.rows)) (λ i n. let few = limits.allowed.some_rows in ((omega arith), (omega arith))) (λ ne n. absurd (n refl));
-  free_below = λ r f. let h = between 2 limits.rows r f in ((let l = h.0 in omega arith), h.1);
-  page_below = λ p. by_test p 1 (λ t. cond t (Placed Indexed 0 []) Nobody ≢ Nobody → (0 < p) × (p < limits.pids)) (λ i n. let few = limits.allowed.some_pids in ((omega arith), (omega arith))) (λ ne n. absurd (n refl));
-  free_page_below = λ p f. let h = between 2 limits.pids p f in ((let l = h.0 in omega arith), h.1);
-  ready_fits = λ b p x e. absurd (cc);
-  slots_fit = λ p x e. inl (slot p x (sym (ap (λ (f : ℕ → Option ℕ). f p) (opening_slots limits)) ∙ e));
-}
-  where
-    slot : (p x : ℕ) → put (λ q. None) 1 (Some 1) p ≡ Some x → put (λ r. Free) 1 Linked x ≡ Linked
-    slot p x = by_test p 1 (λ t. cond t (Some 1) None ≡ Some x → put (λ r. Free) 1 Linked x ≡ Linked) (λ i e. subst (λ (n : ℕ). put (λ r. Free) 1 Linked n ≡ Linked) (same_Some 1 x e) refl) (λ ne e. absurd (cc))
+pub opening_good : (limits : Limits) → Good (shared (opening limits)) [] (opening_owners limits) (λ a. nothing) (λ a. None) (λ a. [])
+opening_good limits = subst (λ (f : ℕ → Option ℕ). Good (record (shared (opening limits)) { slots = f }) [] (opening_owners limits) (λ a. nothing) (λ a. None) (λ a. [])) (sym (opening_slots limits))
+    (starts (opening limits).free_rows (opening limits).free_pids refl refl)
 
-pub opens : (limits : Limits) → (o : Owners) × Good (shared (opening limits)) [] o (λ a. nothing) (λ a. None) (λ a. []) × IsParted limits.pids limits.rows (shared (opening limits)) o (λ a. nothing)
-opens limits = (
-  o (opening limits).free_rows (opening limits).free_pids refl refl,
-  subst (λ (f : ℕ → Option ℕ). Good (record (shared (opening limits)) { slots = f }) [] (o (opening limits).free_rows (opening limits).free_pids refl refl) (λ a. nothing) (λ a. None) (λ a. [])) (sym (opening_slots limits))
-      (starts (opening limits).free_rows (opening limits).free_pids refl refl),
-  parts limits,
-)
+pub opens : (limits : Limits) → (o : Owners) × Good (shared (opening limits)) [] o (λ a. nothing) (λ a. None) (λ a. [])
+opens limits = (opening_owners limits, opening_good limits)

@@ -1,5 +1,5 @@
 -- What an actor may do, by what it knows from its own entries alone: no more than what the law needs.
-use Rattle.std.specs.Prelude.{◌≡◌, ◌<◌, ◌/◌, ℕ, zero, suc, ◌⊎◌, List, [], ◌∷◌, Option, None, Some, Bool, true, false, IsTrue, IsFalse, IfSome, ⊤}
+use Rattle.std.specs.Prelude.{◌≡◌, ◌<◌, ◌≤◌, ◌/◌, ℕ, zero, suc, ◌⊎◌, List, [], ◌∷◌, length, Option, None, Some, Bool, true, false, IsTrue, IsFalse, IfSome, ⊤}
 use Rattle.bw_model.specs.declared.command.Command.{Command}
 use Rattle.bw_model.specs.declared.command.Reply.{Reply}
 use Rattle.bw_model.specs.declared.command.Reply.TheVariants.{Full}
@@ -15,7 +15,7 @@ use Rattle.base_page.specs.declared.item.Item.{Item}
 use Rattle.base_page.specs.Pages.{content_at}
 use Rattle.deltas.specs.declared.record.Record.{Record}
 use Rattle.deltas.specs.declared.record.Record.TheVariants.{Base, Put, Delete, Split, Term, Hold, Remove, Merge, Unterm}
-use Rattle.chain_search.specs.Chains.{IsChainFrom, content_in, level_in, low_in, high_in, right_in, is_removed, covers}
+use Rattle.chain_search.specs.Chains.{IsChainFrom, IsItemsOf, content_in, level_in, low_in, high_in, right_in, is_removed, covers}
 use Rattle.tree_law.specs.Knowledge.{OwnRow, Foreign, Taken, Written, Empty, Ready, Gone, Knowledge}
 
 abbrev pub IsOwn : OwnRow → Type 0
@@ -248,15 +248,31 @@ pub record MayAnswer (actor : ℕ) (k : Knowledge) (command : Command) (reply : 
   pub is : reply_of command (found chain (command_key command)) ≡ Some reply
   pub basis : HasBasis actor k command row chain
 
--- Full, of a command that may change the map: nothing was linked, and each word of the free PIDs, or each of the free rows,
--- was read as 0.
+-- The chain has 8 deltas or more, or 16 items or more.
+abbrev pub HasNoRoom : List Record → Type 0
+HasNoRoom chain = (8 < length chain) ⊎ ((items : List Item) × IsItemsOf chain items × (16 ≤ length items))
+
+-- A whole chain without room, each of its records read after its slot.
+pub record ReadsNoRoom (k : Knowledge) : Type 0 where
+  pub page : ℕ
+  pub row : ℕ
+  pub chain : List Record
+  pub head : k.heads page ≡ Some row
+  pub read : IsChainFrom k.recent row chain
+  pub full : HasNoRoom chain
+
+-- Each word of the free PIDs, or of the free rows, was read as 0, or a page was read that has no room.
+abbrev pub LacksRoom : Limits → Knowledge → Type 0
+LacksRoom limits k = (((word : ℕ) → word < limits.pids / 64 → IsTrue (k.no_pids word)) ⊎ ((word : ℕ) → word < limits.rows / 64 → IsTrue (k.no_rows word))) ⊎ ReadsNoRoom k
+
+-- Full: the command may change the map, nothing was linked, and there is no room for the change.
 pub record MayGiveUp (limits : Limits) (actor : ℕ) (k : Knowledge) (command : Command) (reply : Reply) : Type 0 where
   pub is : reply ≡ Full
   pub old : Option (List ℕ)
   pub update : Update
   pub writes : update_of actor command old ≡ Some update
   pub unlinked : k.linked ≡ None
-  pub none : ((word : ℕ) → word < limits.pids / 64 → IsTrue (k.no_pids word)) ⊎ ((word : ℕ) → word < limits.rows / 64 → IsTrue (k.no_rows word))
+  pub lacks : LacksRoom limits k
 
 pub record MayReply (limits : Limits) (actor : ℕ) (k : Knowledge) (reply : Reply) : Type 0 where
   pub command : Command

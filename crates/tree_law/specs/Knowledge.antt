@@ -32,6 +32,7 @@ pub record Knowledge : Type 0 where
   pub learnt : ℕ → Bool  -- rows whose names it learnt since the last Enter
   pub roots : ℕ → Bool  -- pages read as the root since then
   pub seen : ℕ → Option Record  -- records read since then
+  pub recent : ℕ → Option Record  -- those of them that it read after the last slot of a page
   pub heads : ℕ → Option ℕ  -- slots, as last read in this operation
   pub before : ℕ → ℕ → Option ℕ  -- for each slot, the slots as they had last been read when it was read
   pub rows : ℕ → OwnRow
@@ -47,6 +48,7 @@ nothing = record {
   learnt = λ row. false;
   roots = λ page. false;
   seen = λ row. None;
+  recent = λ row. None;
   heads = λ page. None;
   before = λ page other. None;
   rows = λ row. Foreign;
@@ -67,7 +69,7 @@ learnt_next (Some next) learnt = replaced_at next true learnt
 
 -- after the page's slot was read as this row
 abbrev pub learn_head : ℕ → ℕ → Knowledge → Knowledge
-learn_head page row k = record k { before = replaced_at page k.heads k.before; heads = replaced_at page (Some row) k.heads; learnt = replaced_at row true k.learnt }
+learn_head page row k = record k { before = replaced_at page k.heads k.before; heads = replaced_at page (Some row) k.heads; recent = λ other. None; learnt = replaced_at row true k.learnt }
 
 -- Slot 0 has the root's PID. A slot that holds 0 names no row.
 abbrev pub learn_slot : ℕ → ℕ → Knowledge → Knowledge
@@ -128,15 +130,15 @@ exchanged (suc page) old (suc row) k = filled (k.pages (suc page)) (suc page) ol
 
 abbrev pub learn : Knowledge → StepOf Record → Answer Record → Knowledge
 learn k (Slot page) (Number n) = learn_slot page n k
-learn k (Row row) (Content content) = record k { seen = replaced_at row (Some content) k.seen; learnt = learnt_next (next_row content) k.learnt }
+learn k (Row row) (Content content) = record k { seen = replaced_at row (Some content) k.seen; recent = replaced_at row (Some content) k.recent; learnt = learnt_next (next_row content) k.learnt }
 learn k (PidBits word) (Number bits) = record k { no_pids = learn_word word bits k.no_pids }
 learn k (RowBits word) (Number bits) = record k { no_rows = learn_word word bits k.no_rows }
 learn k (TakePid page) (Whether true) = record k { pages = replaced_at page Empty k.pages }
 learn k (TakeRow row) (Whether true) = record k { rows = replaced_at row Taken k.rows }
 learn k (Place row content) answer = record k { rows = replaced_at row (Written content) k.rows }
 learn k (Exchange slot old new) (Whether true) = exchanged slot old new k
-learn k (Enter epoch) answer = record k { inside = true }
-learn k Leave answer = record k { inside = false; learnt = λ row. false; roots = λ page. false; seen = λ row. None; heads = λ page. None; before = λ page other. None }
+learn k (Enter epoch) answer = record k { inside = true; learnt = λ row. false }
+learn k Leave answer = record k { inside = false; learnt = λ row. false; roots = λ page. false; seen = λ row. None; recent = λ row. None; heads = λ page. None; before = λ page other. None }
 learn k step answer = k
 
 abbrev pub going_on : Option Reply → Option Command → Option Command

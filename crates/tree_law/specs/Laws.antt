@@ -1,25 +1,20 @@
 -- What is proved of the tree: the opening memory meets the invariant, and each step of an actor that obeys its discipline
 -- keeps it, whatever the other actors are about to do.
-use Rattle.std.specs.Prelude.{◌≡◌, ℕ, List, [], ◌∷◌, Option, None, Some, false, ◌↔◌}
+use Rattle.std.specs.Prelude.{◌≡◌, ℕ, List, [], Option, None}
 use Rattle.bw_model.specs.declared.command.Command.{Command}
 use Rattle.bw_model.specs.declared.command.Reply.{Reply}
 use Rattle.bw_model.specs.declared.limits.Limits.{Limits}
 use Rattle.bw_model.specs.declared.step.Step.{Step as StepOf}
-use Rattle.bw_model.specs.declared.step.Step.TheVariants.{Place}
 use Rattle.bw_model.specs.declared.step.Answer.{Answer}
-use Rattle.bw_model.specs.Log.{Update, value_in}
+use Rattle.bw_model.specs.Log.{Update}
 use Rattle.deltas.specs.declared.record.Record.{Record}
 use Rattle.deltas.specs.Memory.{Memory, opening}
-use Rattle.chain_search.specs.Chains.{IsOnChain}
-use Rattle.chain_search.specs.SideChain.{LivePage, IsLeaves, IsWhole, Spells}
 use Rattle.chain_search.specs.Steps.{IsAnswer, memory_after}
 use Rattle.tree_law.specs.Keys.{Key, IsBelow, IsUpTo}
 use Rattle.tree_law.specs.Knowledge.{Knowledge, nothing, begun}
-use Rattle.tree_law.specs.Discipline.{MayAnswer, May, IsAllowed}
-use Rattle.tree_law.specs.Indexed.{IsIndexed}
+use Rattle.tree_law.specs.Discipline.{MayAnswer, IsAllowed}
 use Rattle.tree_law.specs.Next.{Next}
-use Rattle.tree_law.specs.Owners.{Spare, Owners}
-use Rattle.tree_law.specs.Parted.{IsParted}
+use Rattle.tree_law.specs.Owners.{Owners}
 use Rattle.tree_law.specs.Put.{put}
 use Rattle.tree_law.specs.Replies.{IsRepliedAt}
 use Rattle.tree_law.specs.Shared.{Shared, shared}
@@ -35,13 +30,12 @@ pub record KeyLaw : Type 0 where
 
 -- The opening memory meets the invariant at the empty log, while nobody knows anything.
 abbrev pub OpenLaw : Type 0
-OpenLaw = (limits : Limits) → (o : Owners) × Good (shared (opening limits)) [] o (λ actor. nothing) (λ actor. None) (λ actor. []) × IsParted limits.pids limits.rows (shared (opening limits)) o (λ actor. nothing)
+OpenLaw = (limits : Limits) → (o : Owners) × Good (shared (opening limits)) [] o (λ actor. nothing) (λ actor. None) (λ actor. [])
 
 -- An operation's begin keeps it.
 abbrev pub BeginLaw : Type 0
 BeginLaw = (m : Shared) (log : List Update) (o : Owners) (knows : ℕ → Knowledge) (point : ℕ → Option (List Update)) (logs : ℕ → List (List Update)) → Good m log o knows point logs
     → (a : ℕ) (command : Command) → Good m log o (put knows a (begun (knows a) command)) (put point a None) (put logs a [])
-    × ((pids rows : ℕ) → IsParted pids rows m o knows → IsParted pids rows m o (put knows a (begun (knows a) command)))
 
 -- Each allowed step with the memory's answer keeps it, with what the step adds to the log.
 abbrev pub StepLaw : Type 0
@@ -52,19 +46,4 @@ StepLaw = (memory : Memory) (log : List Update) (o : Owners) (knows : ℕ → Kn
 -- A reply that an actor may give is its command's by a log of its operation.
 abbrev pub AnswerLaw : Type 0
 AnswerLaw = (m : Shared) (log : List Update) (o : Owners) (knows : ℕ → Knowledge) (point : ℕ → Option (List Update)) (logs : ℕ → List (List Update)) → Good m log o knows point logs
-    → (a : ℕ) (command : Command) (reply : Reply) → MayAnswer a (knows a) command reply → IsRepliedAt a command reply (point a) (log ∷ logs a)
-
--- The levels are whole side chains, and the index between them is exact.
-abbrev pub IndexLaw : Type 0
-IndexLaw = (memory : Memory) (log : List Update) (o : Owners) (knows : ℕ → Knowledge) (point : ℕ → Option (List Update)) (logs : ℕ → List (List Update)) → Good (shared memory) log o knows point logs → IsIndexed memory o
-
--- An own row that may be placed is taken, and stands on no chain.
-abbrev pub PlaceLaw : Type 0
-PlaceLaw = (memory : Memory) (log : List Update) (o : Owners) (knows : ℕ → Knowledge) (point : ℕ → Option (List Update)) (logs : ℕ → List (List Update)) → Good (shared memory) log o knows point logs
-    → (pids rows : ℕ) → IsParted pids rows (shared memory) o knows → (a row : ℕ) (w : Record) → May a (knows a) (Place row w)
-    → (memory.free_rows row ≡ false) × ¬ IsOnChain memory row × (o.row row ≡ Spare a)
-
--- The memory has the map of the log: the leaves are whole, and have at each key the value that the log says.
-abbrev pub MapLaw : Type 0
-MapLaw = (memory : Memory) (log : List Update) (o : Owners) (knows : ℕ → Knowledge) (point : ℕ → Option (List Update)) (logs : ℕ → List (List Update)) → Good (shared memory) log o knows point logs
-    → ((leaves : List LivePage) × IsLeaves memory leaves × IsWhole leaves) × ((key value : Key) → Spells memory key value ↔ (value_in log key ≡ Some value))
+    → (a : ℕ) (command : Command) (reply : Reply) → MayAnswer a (knows a) command reply → IsRepliedAt a command reply (point a) (logs a)

@@ -6,33 +6,36 @@ use Rattle.bw_model.specs.declared.step.Answer.{Answer}
 use Rattle.bw_model.specs.declared.step.Answer.TheVariants.{Whether}
 use Rattle.deltas.specs.declared.record.Record.{Record}
 use Rattle.deltas.specs.declared.record.Record.TheVariants.{Base, Put, Delete, Split, Term, Hold, Remove, Merge, Unterm}
-use Rattle.chain_search.specs.Chains.{right_in}
+use Rattle.chain_search.specs.Chains.{IsChainFrom, right_in}
 use Rattle.tree_law.specs.Discipline.{root_over}
 use Rattle.tree_law.specs.Keys.{Key}
-use Rattle.tree_law.specs.Owners.{IsChain}
 use Rattle.tree_law.specs.Phase.{Stage, Fresh, Indexed, Held, Removed, Merged, PageOwner, Keeps, Placed, Cleared}
 use Rattle.tree_law.specs.Put.{put}
 use Rattle.tree_law.specs.Shared.{Shared}
 
--- an exchange that links this record on page p
-abbrev pub Links : ℕ → Shared → Record → ℕ → (ℕ → PageOwner) → (ℕ → PageOwner) → Type 0
-Links a m (Base page) p f f' = f' ≡ f
-Links a m (Put record') p f f' = f' ≡ f
-Links a m (Delete record') p f f' = f' ≡ f
-Links a m (Term term) p f f' = (l : ℕ) × (f term.child ≡ Placed Fresh l term.separator) × (f' ≡ put f term.child (Placed Indexed l term.separator))
-Links a m (Hold hold) p f f' = (l : ℕ) × (f hold.child ≡ Placed Indexed l hold.separator) × (f' ≡ put f hold.child (Placed Held l hold.separator))
-Links a m (Unterm unterm) p f f' = (l : ℕ) × (f unterm.child ≡ Placed Merged l unterm.separator) × (f' ≡ put f unterm.child (Cleared a l unterm.separator))
-Links a m (Split split) p f f' = (st : Stage) × (l : ℕ) × (low : Key) × (f p ≡ Placed st l low) × (f split.page ≡ Keeps a) × (f' ≡ put f split.page (Placed Fresh l split.separator))
-Links a m (Remove remove) p f f' = (l : ℕ) × (s : Key) × (f p ≡ Placed Held l s) × (f' ≡ put f p (Placed Removed l s))
-Links a m (Merge merge) p f f' = (q l x : ℕ) × (c : List Record) × (m.slots p ≡ Some x) × IsChain m.rows c (Some x) × (right_in c ≡ Some q) × (f q ≡ Placed Removed l merge.low) × (f' ≡ put f q (Placed Merged l merge.low))
+-- the page q is the right of page p
+abbrev pub IsRightOf : Shared → ℕ → ℕ → Type 0
+IsRightOf m p q = (x : ℕ) × (chain : List Record) × (m.slots p ≡ Some x) × IsChainFrom m.rows x chain × (right_in chain ≡ Some q)
 
--- A won exchange of slot 0 puts the new page above the old root, whose right, the base's second child, becomes indexed with it. One of another slot
+-- an exchange that links this record on page p
+abbrev pub Links : Shared → ℕ → Record → ℕ → (ℕ → PageOwner) → (ℕ → PageOwner) → Type 0
+Links m a (Base page) p f f' = f' ≡ f
+Links m a (Put record') p f f' = f' ≡ f
+Links m a (Delete record') p f f' = f' ≡ f
+Links m a (Term term) p f f' = (l : ℕ) × (f term.child ≡ Placed Fresh l term.separator) × (f' ≡ put f term.child (Placed Indexed l term.separator))
+Links m a (Hold hold) p f f' = (l : ℕ) × (f hold.child ≡ Placed Indexed l hold.separator) × (f' ≡ put f hold.child (Placed Held l hold.separator))
+Links m a (Unterm unterm) p f f' = (l : ℕ) × (f unterm.child ≡ Placed Merged l unterm.separator) × (f' ≡ put f unterm.child (Cleared a l unterm.separator))
+Links m a (Split split) p f f' = (st : Stage) × (l : ℕ) × (low : Key) × (f p ≡ Placed st l low) × (f split.page ≡ Keeps a) × (f' ≡ put f split.page (Placed Fresh l split.separator))
+Links m a (Remove remove) p f f' = (l : ℕ) × (s : Key) × (f p ≡ Placed Held l s) × (f' ≡ put f p (Placed Removed l s))
+Links m a (Merge merge) p f f' = (q l : ℕ) × (f q ≡ Placed Removed l merge.low) × (f' ≡ put f q (Placed Merged l merge.low)) × IsRightOf m p q
+
+-- A won exchange of slot 0 puts the new page above the old root, whose right becomes indexed with it. One of another slot
 -- to 0 is of an own page or of one that the actor cleared; one from 0 is of an own page.
 abbrev pub Exchanged : ℕ → Shared → ℕ → ℕ → ℕ → (ℕ → PageOwner) → (ℕ → PageOwner) → Type 0
-Exchanged a m zero x y f f' = (b l n row : ℕ) × (s : Key) × (m.slots y ≡ Some row) × (m.rows row ≡ Some (root_over n x s b)) × (f x ≡ Placed Indexed l []) × (f b ≡ Placed Fresh l s) × (f y ≡ Keeps a) × (f' ≡ put (put f b (Placed Indexed l s)) y (Placed Indexed (suc l) []))
+Exchanged a m zero x y f f' = (b l : ℕ) × (s : Key) × (f x ≡ Placed Indexed l []) × (f b ≡ Placed Fresh l s) × (f y ≡ Keeps a) × (f' ≡ put (put f b (Placed Indexed l s)) y (Placed Indexed (suc l) [])) × ((r level : ℕ) × (m.slots y ≡ Some r) × (m.rows r ≡ Some (root_over level x s b)))
 Exchanged a m (suc p) x zero f f' = (f' ≡ f) × ((f (suc p) ≡ Keeps a) ⊎ ((l : ℕ) × (s : Key) × (f (suc p) ≡ Cleared a l s)))
 Exchanged a m (suc p) zero (suc y) f f' = (f' ≡ f) × (f (suc p) ≡ Keeps a)
-Exchanged a m (suc p) (suc x) (suc y) f f' = (w : Record) × (m.rows (suc y) ≡ Some w) × Links a m w (suc p) f f'
+Exchanged a m (suc p) (suc x) (suc y) f f' = (w : Record) × (m.rows (suc y) ≡ Some w) × Links m a w (suc p) f f'
 
 abbrev pub Phased : ℕ → Shared → StepOf Record → Answer Record → (ℕ → PageOwner) → (ℕ → PageOwner) → Type 0
 Phased a m (TakePid q) (Whether true) f f' = f' ≡ put f q (Keeps a)

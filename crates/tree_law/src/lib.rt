@@ -1,50 +1,14 @@
-//! The law of the whole tree, one step at a time: any number of actors, levels, splits, roots, and removal of pages.
+//! The law of the whole tree: any number of actors, levels, splits, roots, and removal of pages. The invariant's steps, and
+//! what follows for the traces of actors that obey their discipline.
 #![tactic(auto)]
 
-ghost use Rattle.tree_law.specs.Example.{ExampleLaw};
-ghost use Rattle.tree_law.specs.Laws.{AnswerLaw, BeginLaw, IndexLaw, KeyLaw, MapLaw, OpenLaw, PlaceLaw, StepLaw};
+mod invariant;
+mod law;
 
-/// The order of keys is total.
-pub fn key_order()
-    ensures { KeyLaw }
-{}
-
-/// The opening memory meets the invariant.
-pub fn opens()
-    ensures { OpenLaw }
-{}
-
-/// The begin of an operation keeps the invariant.
-pub fn begins()
-    ensures { BeginLaw }
-{}
-
-/// Each allowed step keeps the invariant.
-pub fn steps()
-    ensures { StepLaw }
-{}
-
-/// Each allowed reply is that of the command by a log of its operation.
-pub fn replies()
-    ensures { AnswerLaw }
-{}
-
-/// The memory has the map of the log.
-pub fn maps()
-    ensures { MapLaw }
-{}
-
-/// A row that may be placed is taken, and stands on no chain.
-pub fn places()
-    ensures { PlaceLaw }
-{}
-
-/// The levels are whole, and the index is exact.
-pub fn indexes()
-    ensures { IndexLaw }
-{}
-
-/// A run with each link but Delete, step by step allowed.
-pub fn example()
-    ensures { ExampleLaw }
-{}
+pub use invariant::{
+    key_order, one_begin_keeps, one_step_keeps, opening_is_good, reply_is_by_a_log,
+};
+pub use law::{
+    answers, begins, disciplined_runs, frees_by_rule, is_one_map, keeps_phases, knowledge_is_own,
+    opens, steps,
+};

@@ -1,0 +1,149 @@
+-- The empty trace is a state, and a begin keeps a state.
+use Rattle.std.proofs.Common.{◌≡◌, ◌≢◌, ◌<◌, ◌≤◌, inl, inr, ℕ, zero, suc, List, [], ◌∷◌, ◌++◌, length, Option, Some, None, Bool, true, false, cond, leb, ltb, ◌⊎◌, refl, sym, ◌∙◌, subst, arith}
+use Rattle.std.specs.Prelude.{slice_get}
+use Rattle.std.proofs.lemmas.Bool.{ltb-true}
+use Rattle.bw_model.specs.declared.command.Command.{Command}
+use Rattle.bw_model.specs.declared.limits.Limits.{Limits}
+use Rattle.deltas.specs.Memory.{opening}
+use Rattle.chain_search.specs.declared.trace.Entry.{Entry}
+use Rattle.chain_search.specs.declared.trace.Entry.TheVariants.{Begin}
+use Rattle.chain_search.specs.Learnt.{ShowsRow}
+use Rattle.chain_search.specs.Trace.{memory_of, memory_at, command_of}
+use Rattle.chain_search.proofs.Pushes.{slice_get-push, slice_get-push_cases, slice_get_below, slice_get_kept}
+use Rattle.chain_search.proofs.TraceLaws.{memory_of-push, command_of-push}
+use Rattle.chain_search.proofs.RunLaws.{IsRun-none, IsRun-push}
+use Rattle.op_machine.specs.Operations.{Operation, IsOperation}
+use Rattle.op_machine.specs.Points.{log_of, log_at}
+use Rattle.op_machine.specs.Quiet.{HasMapOf}
+use Rattle.op_machine.proofs.Listed.{same_operation, and_left, and_right}
+use Rattle.op_machine.proofs.LogLaws.{log_of-push}
+use Rattle.std.proofs.lemmas.List.Sums.{fold-append}
+use Rattle.tree_law.specs.Knowledge.{begun, knows_after, knows}
+use Rattle.tree_law.specs.Owners.{Free, Linked}
+use Rattle.tree_law.specs.Phase.{Indexed, Nobody, Placed}
+use Rattle.tree_law.specs.Put.{put}
+use Rattle.tree_law.specs.Shared.{slot_in, shared}
+use Rattle.tree_law.specs.State.{phase_of, IsUnended, operation_of, Tells, IsSearch, IsInTree, IsReady, IsState}
+use Rattle.tree_law.specs.Tree.{Good}
+use Rattle.tree_law.proofs.Keeping.{begins as good_begins}
+use Rattle.op_machine.specs.Phases.{free, indexed}
+use Rattle.tree_law.proofs.Leaves.{map_of}
+use Rattle.tree_law.proofs.Lives.{begins_in_phase, begins_phases, begins_only, unused_push}
+use Rattle.tree_law.proofs.Marks.{marked_push, tells_other, quiet_push}
+use Rattle.tree_law.proofs.Names.{faithful_push, named_begins}
+use Rattle.tree_law.proofs.Opening.{opening_slots, opening_owners, opening_good}
+use Rattle.tree_law.proofs.Owned.{pushed_length}
+use Rattle.tree_law.proofs.Puts.{by_test, put_same, put_other}
+use Rattle.tree_law.proofs.Searches.{search_new, search_other}
+
+pub knows-push : (entries : List Entry) (entry : Entry) → knows (entries ++ entry ∷ []) ≡ knows_after (knows entries) entry
+knows-push entries entry = fold-append _ _ entries (entry ∷ [])
+
+pub opens : (limits : Limits) → IsState limits []
+opens limits = record {
+  points = [];
+  owners = opening_owners limits;
+  point = λ a. None;
+  logs = λ a. [];
+  good = opening_good limits;
+  named = record {
+    shown = λ a r h. absurd (not_shown a r h.0 h.1);
+    known = λ a r e. absurd (cc);
+    announced = λ a e. absurd (cc);
+    epoch = refl;
+    commands = λ a. refl;
+    recent = λ a r w e. absurd (cc);
+    zero_free = refl;
+    zero_taken = refl;
+    free_row_below = λ q e. ltb-true q limits.rows (and_right (leb 2 q) (ltb q limits.rows) e);
+    row_below = λ q. by_test q 1 (λ t. (cond t Linked Free ≡ Free) ⊎ (q < limits.rows)) (λ i. inr (let some : 64 ≤ limits.rows = limits.allowed.some_rows in omega arith)) (λ ne. inl refl);
+    free_pid_below = λ p e. free_pid p (and_left (leb 2 p) (ltb p limits.pids) e) (and_right (leb 2 p) (ltb p limits.pids) e);
+    pid_below = λ p. by_test p 1 (λ t. (phase_of (cond t (Placed Indexed 0 []) Nobody) ≡ free) ⊎ ((0 < p) × (p < limits.pids))) (λ i. inr (let some : 64 ≤ limits.pids = limits.allowed.some_pids in (omega arith, omega arith))) (λ ne. inl refl);
+    held = held;
+  };
+  tells = λ a asked e. absurd (cc);
+  searches = λ op is u e. absurd (cc);
+  marked = record { beside = refl; own = λ n e. absurd (cc); one = λ op m n is own own' p q. absurd (cc); answered = λ op n r is ends. absurd (let e = ends.2.entry in cc) };
+  run = IsRun-none limits;
+  quiet = record { at_each = λ n h. at_zero n h };
+  faithful = record { known = λ n a row x h. absurd (let e = h.1 in cc); outside = λ n a s x h. absurd (let e = h.1 in cc) };
+  in_phase = λ pid. inr (λ k from to low high. absurd (omega arith), by_test pid 1 (λ t. phase_of (cond t (Placed Indexed 0 []) Nobody) ≡ cond t indexed free) (λ i. refl) (λ ne. refl));
+  only_phase = λ pid phase h. elim h [
+    | inl moved ↦ absurd (let lt = moved.2 in omega arith)
+    | inr rested ↦ rested.1 ∙ by_test pid 1 (λ t. cond t indexed free ≡ phase_of (cond t (Placed Indexed 0 []) Nobody)) (λ i. refl) (λ ne. refl)
+  ];
+  phases = record { in_order = λ n pid from to h. absurd (let e = h.at in cc); emptied = λ n actor pid old h. absurd (let e = h.at in cc) };
+  unused = λ n actor word bits answer. (λ h. let e = h.1 in cc, λ h. let e = h.1 in cc);
+}
+  where
+    not_shown : (a r n : ℕ) → ShowsRow [] n a r → ⊥
+    not_shown a r n (inl h) = let e = h.2.1 in cc
+    not_shown a r n (inr h) = let e = h.2.1 in cc
+
+    free_pid : (p : ℕ) → leb 2 p ≡ true → ltb p limits.pids ≡ true → (0 < p) × (p < limits.pids)
+    free_pid zero e f = absurd (cc)
+    free_pid (suc p) e f = (omega arith, ltb-true (suc p) limits.pids f)
+
+    held : (p r : ℕ) → slot_in (opening limits).slots p ≡ Some r → IsInTree ((opening_owners limits).page p) ⊎ IsReady (opening_owners limits) (opening limits) (knows []) p r
+    held p r e = by_test p 1 (λ t. cond {A = Option ℕ} t (Some 1) None ≡ Some r → IsInTree (cond t (Placed Indexed 0 []) Nobody) ⊎ IsReady (opening_owners limits) (opening limits) (knows []) p r)
+        (λ i f. inl tt) (λ ne f. absurd (cc)) (subst (λ (f : ℕ → Option ℕ). f p ≡ Some r) (opening_slots limits) e)
+
+    at_zero : (n : ℕ) → n ≤ 0 → HasMapOf (memory_at limits [] n) (log_at [] [] n)
+    at_zero zero h = map_of (opening_good limits)
+    at_zero (suc n) h = absurd (omega arith)
+
+-- what is told of an actor that begins
+tells_new : (entries : List Entry) (points : List Bool) (a : ℕ) (c : Command) → Tells (entries ++ Begin a c ∷ []) points a c None []
+tells_new entries points a c = record {
+  start = length entries;
+  begins = slice_get-push entries (Begin a c);
+  unended = λ later d low e. past later low (slice_get_below _ later _ e);
+  logs_at = λ l h. absurd h;
+  point_at = λ m own p. past m own.2.1.begun (slice_get_below _ m _ own.2.1.entry);
+}
+  where
+    past : (n : ℕ) → length entries < n → n < length (entries ++ Begin a c ∷ []) → ⊥
+    past n low high = let long : length (entries ++ Begin a c ∷ []) ≡ suc (length entries) = pushed_length entries (Begin a c) in omega arith
+
+pub begins : (limits : Limits) (entries : List Entry) (actor : ℕ) (command : Command) → IsState limits entries → actor < limits.actors → command_of entries actor ≡ None → IsState limits (entries ++ Begin actor command ∷ [])
+begins limits entries a c state below idle = record {
+  points = state.points ++ false ∷ [];
+  owners = state.owners;
+  point = put state.point a None;
+  logs = put state.logs a [];
+  good = rw (memory_of-push limits entries (Begin a c), log_of-push entries state.points (Begin a c) false state.marked.beside, knows-push entries (Begin a c)) now;
+  named = rw (memory_of-push limits entries (Begin a c), knows-push entries (Begin a c)) (named_begins limits entries state.owners (memory_of limits entries) (knows entries) a c state.named (command_of-push entries (Begin a c)));
+  tells = λ b asked e. by_test b a (λ t. cond t (Some c) (command_of entries b) ≡ Some asked → Tells (entries ++ Begin a c ∷ []) (state.points ++ false ∷ []) b asked (cond t None (state.point b)) (cond t [] (state.logs b)))
+      (λ i f. let same : c ≡ asked = cc in rw i (subst (λ d. Tells (entries ++ Begin a c ∷ []) (state.points ++ false ∷ []) a d None []) same (tells_new entries (state.points ++ false ∷ []) a c)))
+      (λ ne f. tells_other entries state.points (Begin a c) false state.marked.beside b asked (state.point b) (state.logs b) (λ d i. ne (let j : a ≡ b = cc in sym j)) (λ s x r i. absurd (cc)) (state.tells b asked f))
+      (subst (λ k. k b ≡ Some asked) (command_of-push entries (Begin a c)) e);
+  searches = searches_begin;
+  marked = marked_push entries state.points (Begin a c) false state.marked.beside limits state.marked (λ e. absurd (cc)) (λ e. absurd (cc)) (λ op s x r is e u. absurd (cc)) (λ e. absurd (cc));
+  run = IsRun-push limits entries (Begin a c) state.run (below, idle);
+  quiet = quiet_push entries state.points (Begin a c) false state.marked.beside limits state.quiet
+      (rw (memory_of-push limits entries (Begin a c), log_of-push entries state.points (Begin a c) false state.marked.beside) (map_of state.good));
+  in_phase = λ pid. begins_in_phase limits entries a c pid (phase_of (state.owners.page pid)) (state.in_phase pid);
+  only_phase = begins_only limits entries a c state.owners.page state.in_phase state.only_phase;
+  phases = begins_phases limits entries a c state.phases;
+  unused = unused_push limits entries (Begin a c) state.unused (λ b word bits y. (λ h. let e = h.1 in cc, λ h. let e = h.1 in cc));
+  faithful = faithful_push limits entries (Begin a c) state.faithful (λ b row x h. let e = h.1 in absurd (cc)) (λ b s x h z. let e = h.1 in absurd (cc));
+}
+  where
+    now : Good (shared (memory_of limits entries)) (log_of entries state.points) state.owners (put (knows entries) a (begun (knows entries a) c)) (put state.point a None) (put state.logs a [])
+    now = good_begins state.good a c
+
+    searches_begin : (op : Operation) → IsOperation (entries ++ Begin a c ∷ []) op → IsUnended (entries ++ Begin a c ∷ []) op.start op.actor → command_of (entries ++ Begin a c ∷ []) op.actor ≡ Some op.command
+        → IsSearch limits (entries ++ Begin a c ∷ []) op (memory_of limits (entries ++ Begin a c ∷ [])).rows (knows (entries ++ Begin a c ∷ []) op.actor)
+    searches_begin op is unended asks = rw (memory_of-push limits entries (Begin a c), knows-push entries (Begin a c)) (elim (slice_get-push_cases entries (Begin a c) op.start _ is) [
+      | inr at ↦
+          let same : op ≡ operation_of (length entries) a c = same_operation op (operation_of (length entries) a c) at.0 (let e = at.1 in cc) (let e = at.1 in cc) in
+          subst (λ o. IsSearch limits (entries ++ Begin a c ∷ []) o (memory_of limits entries).rows (put (knows entries) a (begun (knows entries a) c) o.actor)) (sym same)
+          (subst (λ k. IsSearch limits (entries ++ Begin a c ∷ []) (operation_of (length entries) a c) (memory_of limits entries).rows k) (sym (put_same (knows entries) a (begun (knows entries a) c)))
+          (search_new entries (Begin a c) limits a c (memory_of limits entries).rows (knows entries a)))
+      | inl before ↦
+          let other : op.actor ≢ a = λ i. unended (length entries) c (slice_get_below entries op.start _ before) (subst (λ b. slice_get (entries ++ Begin a c ∷ []) (length entries) ≡ Some (Begin b c)) (sym i) (slice_get-push entries (Begin a c))) in
+          let asks' : command_of entries op.actor ≡ Some op.command = sym (put_other (command_of entries) a (Some c) op.actor other) ∙ subst (λ k. k op.actor ≡ Some op.command) (command_of-push entries (Begin a c)) asks in
+          let old = state.searches op before (λ later d low e. unended later d low (slice_get_kept entries (Begin a c ∷ []) later _ e)) asks' in
+          subst (λ k. IsSearch limits (entries ++ Begin a c ∷ []) op (memory_of limits entries).rows k) (sym (put_other (knows entries) a (begun (knows entries a) c) op.actor other))
+          (search_other entries (Begin a c) limits op (memory_of limits entries).rows (memory_of limits entries).rows (knows entries op.actor) old (λ s x r e. absurd (cc)) (λ page row e d h. h))
+    ])

@@ -1,0 +1,150 @@
+-- What a state's memory answers fits what each actor knows.
+use Rattle.std.proofs.Common.{◌≡◌, ◌<◌, ◌≤◌, ◌+◌, ◌*◌, ◌^◌, inl, inr, ℕ, zero, suc, List, Option, Some, None, Bool, true, false, refl, sym, ap, ◌∙◌, subst, arith}
+use Rattle.std.specs.Prelude.{IfSome, if◌then◌else◌}
+use Rattle.std.specs.Int.{bit_at}
+use Rattle.std.proofs.lemmas.Option.{same_Some}
+use Rattle.bw_model.specs.declared.limits.Limits.{Limits}
+use Rattle.bw_model.specs.declared.step.Answer.{Answer}
+use Rattle.bw_model.specs.declared.step.Answer.TheVariants.{Number, Whether}
+use Rattle.bw_model.specs.declared.step.Step.{Step as StepOf}
+use Rattle.bw_model.specs.declared.step.Step.TheVariants.{Slot, Row, Epoch, Announce, PidBits, RowBits, Place, Exchange, TakePid, TakeRow, Enter, Leave, Retire, ReusePids, ReuseRows}
+use Rattle.deltas.specs.declared.record.Record.{Record}
+use Rattle.deltas.specs.Records.{next_row}
+use Rattle.deltas.specs.Memory.{Memory}
+use Rattle.chain_search.specs.declared.trace.Entry.{Entry}
+use Rattle.chain_search.specs.Fitting.{FitsWord}
+use Rattle.chain_search.specs.Steps.{IsWordOf, IsAnswer}
+use Rattle.chain_search.specs.Trace.{memory_of}
+use Rattle.tree_law.specs.Discipline.{May}
+use Rattle.tree_law.specs.Fitting.{FitsRow, FitsTaken, FitsTakenPid, Fits}
+use Rattle.tree_law.specs.Knowledge.{OwnRow, Foreign, Taken, Written, OwnPage, Other, Empty, Ready, Gone, Knowledge, knows}
+use Rattle.tree_law.specs.Owners.{Free, Linked, OwnFits, PageFits, SeenFits}
+use Rattle.tree_law.specs.Phase.{Nobody}
+use Rattle.tree_law.specs.Shared.{slot_in, shared}
+use Rattle.tree_law.specs.State.{phase_of, IsState}
+use Rattle.tree_law.proofs.Keeping.{slot_of, met_placed}
+use Rattle.tree_law.proofs.Leaves.{slot_some}
+use Rattle.tree_law.proofs.Names.{slot_none}
+use Rattle.tree_law.proofs.Rows.{next_linked}
+
+above : (n : ℕ) → (n ≡ 0 → ⊥) → 0 < n
+above zero never = absurd (never refl)
+above (suc n) never = omega arith
+
+module _ (limits : Limits) (entries : List Entry) (state : IsState limits entries) (a : ℕ) where
+  abbrev m : Memory
+  m = memory_of limits entries
+
+  abbrev k : Knowledge
+  k = knows entries a
+
+  stands : (r : ℕ) (w : Record) → k.seen r ≡ Some w → m.rows r ≡ Some w
+  stands r w e = (subst (λ (o : Option Record). SeenFits (state.owners.row r) (m.rows r) o) e ((state.good.sound a).seen_fits r)).1
+
+  -- a linked row is a row
+  linked_some : (r : ℕ) → state.owners.row r ≡ Linked → (0 < r) × (r < limits.rows)
+  linked_some r l = (
+    above r (λ z. let f : state.owners.row r ≡ Free = ap state.owners.row z ∙ state.named.zero_free in absurd (cc)),
+    elim (state.named.row_below r) [ inl f ↦ absurd (cc) | inr lt ↦ lt ],
+  )
+
+  free_some : (r : ℕ) → m.free_rows r ≡ true → (0 < r) × (r < limits.rows)
+  free_some r e = (above r (λ z. let f : m.free_rows r ≡ false = ap m.free_rows z ∙ state.named.zero_taken in absurd (cc)), state.named.free_row_below r e)
+
+  next_some : (w : Record) → IfSome (next_row w) (λ n. state.owners.row n ≡ Linked) → IfSome (next_row w) (λ n. (0 < n) × (n < limits.rows))
+  next_some w h = elim (next_row w) as (λ o. IfSome o (λ n. state.owners.row n ≡ Linked) → IfSome o (λ n. (0 < n) × (n < limits.rows))) [ None ↦ λ h. tt | Some n ↦ λ h. linked_some n h ] h
+
+  fits_row : (q : ℕ) (w : Record) → k.learnt q ≡ true → m.rows q ≡ Some w → FitsRow limits k q w
+  fits_row q w learnt e = record {
+    same = λ before seen. same_Some w before (sym e ∙ stands q before seen);
+    next = next_some w (next_linked state.owners (shared m) state.good.closed q w ((state.good.sound a).learnt_fits q learnt) e);
+  }
+
+  fits_word : (free : ℕ → Bool) (limit word bits : ℕ) → ((n : ℕ) → free n ≡ true → (0 < n) × (n < limit)) → IsWordOf free word bits → FitsWord limit word bits
+  fits_word free limit word bits below is = record {
+    fits = is.fits;
+    below = λ i lt e. below (64 * word + i) (set_bit (free (64 * word + i)) (bit_at bits i) e (is.says i lt));
+  }
+    where
+      set_bit : (t : Bool) (n : ℕ) → n ≡ 1 → n ≡ (if t then 1 else 0) → t ≡ true
+      set_bit true n e f = refl
+      set_bit false n e f = absurd (omega arith)
+
+  fits_taken : (q : ℕ) → m.free_rows q ≡ true → FitsTaken limits k q
+  fits_taken q e = record {
+    some = (free_some q e).0;
+    below = (free_some q e).1;
+    foreign = is_foreign (k.rows q) (state.good.owns a q);
+    unlearnt = is_unlearnt (k.learnt q) refl;
+    unseen = is_unseen (k.seen q) ((state.good.sound a).seen_fits q);
+  }
+    where
+      was : state.owners.row q ≡ Free
+      was = state.good.frees.row q e
+
+      is_foreign : (o : OwnRow) → OwnFits a (state.owners.row q) (m.rows q) o → o ≡ Foreign
+      is_foreign Foreign h = refl
+      is_foreign Taken h = let f = was in absurd (cc)
+      is_foreign (Written w) h = let f = was in let g = h.0 in absurd (cc)
+
+      is_unlearnt : (t : Bool) → k.learnt q ≡ t → k.learnt q ≡ false
+      is_unlearnt true i = let f = was in let g : state.owners.row q ≡ Linked = (state.good.sound a).learnt_fits q i in absurd (cc)
+      is_unlearnt false i = i
+
+      is_unseen : (o : Option Record) → SeenFits (state.owners.row q) (m.rows q) o → o ≡ None
+      is_unseen None h = refl
+      is_unseen (Some w) h = let f = was in let g = h.0 in absurd (cc)
+
+  fits_taken_pid : (q : ℕ) → m.free_pids q ≡ true → FitsTakenPid limits k q
+  fits_taken_pid q e = record { some = (state.named.free_pid_below q e).0; below = (state.named.free_pid_below q e).1; other = is_other (k.pages q) (state.good.owns_pages a q) }
+    where
+      was : state.owners.page q ≡ Nobody
+      was = (state.good.frees.page q e).0
+
+      is_other : (o : OwnPage) → PageFits a (state.owners.page q) (slot_in m.slots q) o → o ≡ Other
+      is_other Other h = refl
+      is_other Empty h = let f = was in let g = h.0 in absurd (cc)
+      is_other (Ready row) h = let f = was in let g = h.0 in absurd (cc)
+      is_other Gone h = let f = was in let g = h.2 in absurd (cc)
+
+  fits_slot : (p : ℕ) → May a k (Slot p) → Fits limits k (Slot p) (Number (m.slots p))
+  fits_slot zero may = elim (state.named.pid_below (m.slots 0)) [
+    | inl f ↦ absurd (let e = ap phase_of state.good.tree.exact.is_root in cc)
+    | inr below ↦ below
+  ]
+  fits_slot (suc p) may = let here = met_placed state.good a (suc p) may.1 in elim (slot_of state.good a (suc p) here.0 here.1 here.2) [
+    | inl none ↦ let z : m.slots (suc p) ≡ 0 = slot_none m.slots (suc p) (omega arith) none in let some : 64 ≤ limits.rows = limits.allowed.some_rows in omega arith
+    | inr found ↦ let at : m.slots (suc p) ≡ found.0 = (slot_some m.slots (suc p) found.0 found.1).1 in subst (λ n. n < limits.rows) (sym at) (linked_some found.0 found.2.linked).1
+  ]
+
+  fits_take : (q : ℕ) (t : Bool) → m.free_rows q ≡ t → Fits limits k (TakeRow q) (Whether t)
+  fits_take q true e = fits_taken q e
+  fits_take q false e = tt
+
+  fits_take_pid : (q : ℕ) (t : Bool) → m.free_pids q ≡ t → Fits limits k (TakePid q) (Whether t)
+  fits_take_pid q true e = fits_taken_pid q e
+  fits_take_pid q false e = tt
+
+  pub fits : (step : StepOf Record) (answer : Answer Record) → May a k step → IsAnswer m step answer → Fits limits k step answer
+  fits (Slot p) answer may is = subst (Fits limits k (Slot p)) (sym is) (fits_slot p may)
+  fits (Row q) answer may is = subst (Fits limits k (Row q)) (sym is.2) (fits_row q is.0 may.1 is.1)
+  fits Epoch answer may is = subst (Fits limits k Epoch) (sym is) (rw state.named.epoch (let some : 1 ≤ limits.epoch = limits.allowed.some_epoch in omega arith, small limits.epoch limits.allowed.small_epoch))
+    where
+      small : (n : ℕ) → n ≤ 2 ^ 62 → n < 2 ^ 64
+      small n le = omega arith
+  fits (PidBits word) answer may is = subst (Fits limits k (PidBits word)) (sym is.2) (fits_word m.free_pids limits.pids word is.0 state.named.free_pid_below is.1)
+  fits (RowBits word) answer may is = subst (Fits limits k (RowBits word)) (sym is.2) (fits_word m.free_rows limits.rows word is.0 free_some is.1)
+  fits (Place q w) answer may is = subst (Fits limits k (Place q w)) (sym is) tt
+  fits (Exchange p x y) answer may is = subst (Fits limits k (Exchange p x y)) (sym is) tt
+  fits (TakeRow q) answer may is = subst (Fits limits k (TakeRow q)) (sym is) (fits_take q (m.free_rows q) refl)
+  fits (TakePid q) answer may is = subst (Fits limits k (TakePid q)) (sym is) (fits_take_pid q (m.free_pids q) refl)
+  fits (Enter e) answer may is = subst (Fits limits k (Enter e)) (sym is) tt
+  fits Leave answer may is = subst (Fits limits k Leave) (sym is) tt
+  fits (Announce b) answer may is = subst (Fits limits k (Announce b)) (sym is) tt
+  fits (Retire e) answer may is = absurd may
+  fits (ReusePids w b) answer may is = absurd may
+  fits (ReuseRows w b) answer may is = absurd may
+
+  -- a row that the actor may read has a record
+  pub row_stands : (q : ℕ) → May a k (Row q) → (content : Record) × (m.rows q ≡ Some content)
+  row_stands q may = let l = state.good.closed q ((state.good.sound a).learnt_fits q may.1) in (l.content, l.stands)

@@ -1,0 +1,5 @@
+use Rattle.tree_law.proofs.Opening.{opens}
+use Rattle.tree_law.proofs.invariant.opening_is_good.Goals as goal
+
+pub returns : goal.returns
+returns c = opens

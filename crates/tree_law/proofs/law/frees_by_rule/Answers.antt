@@ -1,0 +1,5 @@
+use Rattle.tree_law.proofs.Growth.{frees_by_rule}
+use Rattle.tree_law.proofs.law.frees_by_rule.Goals as goal
+
+pub returns : goal.returns
+returns c = frees_by_rule

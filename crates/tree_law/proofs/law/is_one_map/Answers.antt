@@ -1,0 +1,5 @@
+use Rattle.tree_law.proofs.Growth.{is_one_map}
+use Rattle.tree_law.proofs.law.is_one_map.Goals as goal
+
+pub returns : goal.returns
+returns c = is_one_map

@@ -1,0 +1,5 @@
+use Rattle.tree_law.proofs.OwnEntries.{knows_own}
+use Rattle.tree_law.proofs.law.knowledge_is_own.Goals as goal
+
+pub returns : goal.returns
+returns c = knows_own

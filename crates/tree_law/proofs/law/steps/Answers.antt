@@ -1,0 +1,5 @@
+use Rattle.tree_law.proofs.Growth.{steps}
+use Rattle.tree_law.proofs.law.steps.Goals as goal
+
+pub returns : goal.returns
+returns c = steps

@@ -1,5 +1,0 @@
-use Rattle.tree_law.proofs.Answering.{answers}
-use Rattle.tree_law.proofs.replies.Goals as goal
-
-pub returns : goal.returns
-returns c = λ m log o knows point logs g a command reply may. answers g a command reply may

@@ -1,0 +1,153 @@
+-- What a trace of allowed steps keeps true.
+use Rattle.std.specs.Prelude.{◌≡◌, ◌<◌, ◌⊎◌, ℕ, List, length, take, Option, Some, MatchOption, Bool, true, false, slice_get, ⊤}
+use Rattle.bw_model.specs.declared.command.Command.{Command}
+use Rattle.bw_model.specs.declared.command.Reply.{Reply}
+use Rattle.bw_model.specs.declared.command.Reply.TheVariants.{Full}
+use Rattle.bw_model.specs.declared.limits.Limits.{Limits}
+use Rattle.bw_model.specs.declared.step.Answer.{Answer}
+use Rattle.bw_model.specs.declared.step.Answer.TheVariants.{Number, Content}
+use Rattle.bw_model.specs.declared.step.Step.TheVariants.{Slot, Row, PidBits, RowBits, ReusePids, ReuseRows}
+use Rattle.bw_model.specs.Log.{Update, value_in}
+use Rattle.bw_model.specs.Replies.{command_key, reply_of, update_of}
+use Rattle.base_page.specs.Pages as pages
+use Rattle.deltas.specs.declared.record.Record.{Record}
+use Rattle.deltas.specs.declared.record.Record.TheVariants.{Base}
+use Rattle.deltas.specs.Memory.{Memory}
+use Rattle.chain_search.specs.Chains.{IsChainFrom, IsChainOf}
+use Rattle.chain_search.specs.declared.trace.Entry.{Entry}
+use Rattle.chain_search.specs.declared.trace.Entry.TheVariants.{Begin}
+use Rattle.chain_search.specs.Learnt.{HasLearnt}
+use Rattle.chain_search.specs.Run.{IsRun}
+use Rattle.chain_search.specs.Trace.{memory_of, memory_at, command_of, TakesStep}
+use Rattle.op_machine.specs.Answered.{FindsNothingFree, FindsPageFull}
+use Rattle.op_machine.specs.Operations.{Operation, IsOperation, IsOwnStep, TakesOwnStep, Finishes}
+use Rattle.op_machine.specs.Points.{log_of, log_at, IsPoint}
+use Rattle.op_machine.specs.Quiet.{IsQuiet}
+use Rattle.op_machine.specs.Faithful.{IsFaithful, KnowsRow}
+use Rattle.op_machine.specs.Phases as phase
+use Rattle.op_machine.specs.Phases.{Phase, IsInPhase, KeepsPhases}
+use Rattle.tree_law.specs.Knowledge.{Ready, Knowledge, knows}
+use Rattle.tree_law.specs.Owners.{Free, Spare, Linked, Owners, Among}
+use Rattle.tree_law.specs.Phase.{Fresh, Indexed, Held, Removed, Merged, PageOwner, Nobody, Keeps, Placed, Cleared}
+use Rattle.tree_law.specs.Shared.{slot_in, shared}
+use Rattle.tree_law.specs.Tree.{Good}
+
+-- the actor begins no operation after the one at the place
+abbrev pub IsUnended : List Entry → ℕ → ℕ → Type 0
+IsUnended entries start actor = (later : ℕ) (command : Command) → start < later → slice_get entries later ≡ Some (Begin actor command) → ⊥
+
+abbrev pub operation_of : ℕ → ℕ → Command → Operation
+operation_of start actor command = record { start = start; actor = actor; command = command }
+
+-- what the trace says of an actor's unfinished operation: the logs at its own steps, and the one at its point, if it has one
+pub record Tells (entries : List Entry) (points : List Bool) (actor : ℕ) (asked : Command) (point : Option (List Update)) (logs : List (List Update)) : Type 0 where
+  pub start : ℕ
+  pub begins : slice_get entries start ≡ Some (Begin actor asked)
+  pub unended : IsUnended entries start actor
+  pub logs_at : (log : List Update) → Among log logs → (m : ℕ) × IsOwnStep entries (operation_of start actor asked) m × (log_at entries points m ≡ log) × (command_of (take m entries) actor ≡ Some asked)
+  pub point_at : MatchOption point
+      ((m : ℕ) → IsOwnStep entries (operation_of start actor asked) m → IsPoint points m → ⊥)
+      (λ log. (m : ℕ) × IsOwnStep entries (operation_of start actor asked) m × IsPoint points m × (log_at entries points m ≡ log))
+
+-- Where the operation read the slot, with the chain that stood there, which still stands; each recent record it has read since.
+pub record HeadAt (limits : Limits) (entries : List Entry) (operation : Operation) (rows recent : ℕ → Option Record) (page row : ℕ) : Type 0 where
+  pub at : ℕ
+  pub took : TakesOwnStep entries operation at (Slot page) (Number row)
+  pub chain : List Record
+  pub stood : IsChainOf (memory_at limits entries at) page chain
+  pub stands : IsChainFrom rows row chain
+  pub since : (r : ℕ) (content : Record) → recent r ≡ Some content → (m : ℕ) × (at < m) × TakesOwnStep entries operation m (Row r) (Content content)
+
+-- what an unfinished operation has found, and where
+pub record IsSearch (limits : Limits) (entries : List Entry) (operation : Operation) (rows : ℕ → Option Record) (k : Knowledge) : Type 0 where
+  pub unfinished : (n : ℕ) (reply : Reply) → Finishes entries operation n reply → ⊥
+  pub heads_at : (page row : ℕ) → k.heads page ≡ Some row → HeadAt limits entries operation rows k.recent page row
+  pub pids_at : (word : ℕ) → k.no_pids word ≡ true → (n : ℕ) × TakesOwnStep entries operation n (PidBits word) (Number 0)
+  pub rows_at : (word : ℕ) → k.no_rows word ≡ true → (n : ℕ) × TakesOwnStep entries operation n (RowBits word) (Number 0)
+
+-- the operation has a point, at which the reply is that of its command
+abbrev pub Justifies : List Entry → List Bool → Operation → Reply → Type 0
+Justifies entries points operation reply = (m : ℕ) × IsOwnStep entries operation m × IsPoint points m × (reply_of operation.command (value_in (log_at entries points m) (command_key operation.command)) ≡ Some reply)
+
+-- the operation could change the map, has no point, and found no room
+pub record IsFullAnswer (limits : Limits) (entries : List Entry) (points : List Bool) (operation : Operation) : Type 0 where
+  pub old : Option (List ℕ)
+  pub update : Update
+  pub writes : update_of operation.actor operation.command old ≡ Some update
+  pub unmarked : (m : ℕ) → IsOwnStep entries operation m → IsPoint points m → ⊥
+  pub finds : FindsNothingFree limits entries operation ⊎ FindsPageFull limits entries operation
+
+abbrev pub Answers : Limits → List Entry → List Bool → Operation → Reply → Type 0
+Answers limits entries points operation reply = Justifies entries points operation reply ⊎ ((reply ≡ Full) × IsFullAnswer limits entries points operation)
+
+-- each mark is an own step of an operation, none has two, and each finished one replied what its command does at its mark, or Full
+pub record IsMarked (limits : Limits) (entries : List Entry) (points : List Bool) : Type 0 where
+  pub beside : length points ≡ length entries
+  pub own : (n : ℕ) → IsPoint points n → (operation : Operation) × IsOperation entries operation × IsOwnStep entries operation n
+  pub one : (operation : Operation) (m n : ℕ) → IsOperation entries operation → IsOwnStep entries operation m → IsOwnStep entries operation n → IsPoint points m → IsPoint points n → m ≡ n
+  pub answered : (operation : Operation) (n : ℕ) (reply : Reply) → IsOperation entries operation → Finishes entries operation n reply → Answers limits entries points operation reply
+
+-- the phase of a page by whose it is
+abbrev pub phase_of : PageOwner → Phase
+phase_of Nobody = phase.free
+phase_of (Keeps actor) = phase.owned
+phase_of (Placed Fresh level low) = phase.fresh
+phase_of (Placed Indexed level low) = phase.indexed
+phase_of (Placed Held level low) = phase.held
+phase_of (Placed Removed level low) = phase.removed
+phase_of (Placed Merged level low) = phase.merged
+phase_of (Cleared actor level low) = phase.cleared
+
+-- in the tree, now or once
+abbrev pub IsInTree : PageOwner → Type 0
+IsInTree Nobody = ⊥
+IsInTree (Keeps actor) = ⊥
+IsInTree (Placed stage level low) = ⊤
+IsInTree (Cleared actor level low) = ⊤
+
+-- The page is ready for its actor, and the row in its slot has a base.
+pub record IsReady (owners : Owners) (memory : Memory) (knows : ℕ → Knowledge) (page row : ℕ) : Type 0 where
+  pub actor : ℕ
+  pub ready : (knows actor).pages page ≡ Ready row
+  pub owned : (owners.row row ≡ Linked) ⊎ (owners.row row ≡ Spare actor)
+  pub base : pages.Page
+  pub stands : memory.rows row ≡ Some (Base base)
+
+-- What the names that actors have learnt are, and which slots hold rows.
+pub record IsNamed (limits : Limits) (entries : List Entry) (owners : Owners) (memory : Memory) (knows : ℕ → Knowledge) : Type 0 where
+  pub shown : (actor row : ℕ) → HasLearnt entries actor row → (row ≡ 0) ⊎ (owners.row row ≡ Linked)
+  pub known : (actor row : ℕ) → (knows actor).learnt row ≡ true → KnowsRow entries (length entries) actor row
+  pub announced : (actor : ℕ) → (knows actor).inside ≡ true → 0 < memory.announced actor
+  pub epoch : memory.epoch ≡ limits.epoch
+  pub commands : (actor : ℕ) → (knows actor).command ≡ command_of entries actor
+  pub recent : (actor row : ℕ) (content : Record) → (knows actor).recent row ≡ Some content → (knows actor).seen row ≡ Some content
+  pub zero_free : owners.row 0 ≡ Free
+  pub zero_taken : memory.free_rows 0 ≡ false
+  pub free_row_below : (row : ℕ) → memory.free_rows row ≡ true → row < limits.rows
+  pub row_below : (row : ℕ) → (owners.row row ≡ Free) ⊎ (row < limits.rows)
+  pub free_pid_below : (pid : ℕ) → memory.free_pids pid ≡ true → (0 < pid) × (pid < limits.pids)
+  pub pid_below : (pid : ℕ) → (phase_of (owners.page pid) ≡ phase.free) ⊎ ((0 < pid) × (pid < limits.pids))
+  pub held : (page row : ℕ) → slot_in memory.slots page ≡ Some row → IsInTree (owners.page page) ⊎ IsReady owners memory knows page row
+
+-- nothing is used again
+abbrev pub IsUnused : List Entry → Type 0
+IsUnused entries = (n actor word bits : ℕ) (answer : Answer Record) → (TakesStep entries n actor (ReusePids word bits) answer → ⊥) × (TakesStep entries n actor (ReuseRows word bits) answer → ⊥)
+
+pub record IsState (limits : Limits) (entries : List Entry) : Type 0 where
+  pub points : List Bool
+  pub owners : Owners
+  pub point : ℕ → Option (List Update)
+  pub logs : ℕ → List (List Update)
+  pub good : Good (shared (memory_of limits entries)) (log_of entries points) owners (knows entries) point logs
+  pub named : IsNamed limits entries owners (memory_of limits entries) (knows entries)
+  pub tells : (actor : ℕ) (asked : Command) → command_of entries actor ≡ Some asked → Tells entries points actor asked (point actor) (logs actor)
+  pub searches : (operation : Operation) → IsOperation entries operation → IsUnended entries operation.start operation.actor → command_of entries operation.actor ≡ Some operation.command
+      → IsSearch limits entries operation (memory_of limits entries).rows (knows entries operation.actor)
+  pub marked : IsMarked limits entries points
+  pub run : IsRun limits entries
+  pub quiet : IsQuiet limits entries points
+  pub faithful : IsFaithful limits entries
+  pub in_phase : (pid : ℕ) → IsInPhase limits entries (length entries) pid (phase_of (owners.page pid))
+  pub only_phase : (pid : ℕ) (phase : Phase) → IsInPhase limits entries (length entries) pid phase → phase ≡ phase_of (owners.page pid)
+  pub phases : KeepsPhases limits entries
+  pub unused : IsUnused entries
