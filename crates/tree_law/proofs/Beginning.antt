@@ -27,7 +27,7 @@ use Rattle.tree_law.specs.State.{phase_of, IsUnended, operation_of, Tells, IsSea
 use Rattle.tree_law.specs.Tree.{Good}
 use Rattle.tree_law.proofs.Keeping.{begins as good_begins}
 use Rattle.op_machine.specs.Phases.{free, indexed}
-use Rattle.tree_law.proofs.Leaves.{map_of}
+use Rattle.tree_law.proofs.Mapping.{map_of}
 use Rattle.tree_law.proofs.Lives.{begins_in_phase, begins_phases, begins_only, unused_push}
 use Rattle.tree_law.proofs.Marks.{marked_push, tells_other, quiet_push}
 use Rattle.tree_law.proofs.Names.{faithful_push, named_begins}

@@ -23,7 +23,7 @@ use Rattle.tree_law.specs.Phase.{Nobody}
 use Rattle.tree_law.specs.Shared.{slot_in, shared}
 use Rattle.tree_law.specs.State.{phase_of, IsState}
 use Rattle.tree_law.proofs.Keeping.{slot_of, met_placed}
-use Rattle.tree_law.proofs.Leaves.{slot_some}
+use Rattle.tree_law.proofs.Mapping.{slot_some}
 use Rattle.tree_law.proofs.Names.{slot_none}
 use Rattle.tree_law.proofs.Rows.{next_linked}
 

@@ -45,7 +45,7 @@ use Rattle.tree_law.specs.Tree.{Good}
 use Rattle.tree_law.proofs.Answering.{answers}
 use Rattle.tree_law.proofs.Beginning.{knows-push}
 use Rattle.tree_law.proofs.Keeping.{slot_of, met_placed}
-use Rattle.tree_law.proofs.Leaves.{slot_some, map_of}
+use Rattle.tree_law.proofs.Mapping.{slot_some, map_of}
 use Rattle.tree_law.proofs.Lives.{only_after, pid_below_after, steps_in_phase, steps_phases, unused_push, freed}
 use Rattle.tree_law.proofs.Marks.{marked_push, tells_other, tells_own, quiet_push}
 use Rattle.tree_law.proofs.Names.{number_same, slot_none, faithful_push, named_steps, reads_known, touches_outside, may_take}

@@ -1,6 +1,7 @@
 pub mod Answering
 pub mod Beginning
 pub mod Chains
+pub mod Exactness
 pub mod Exchanged
 pub mod Fitted
 pub mod Frames
@@ -9,8 +10,9 @@ pub mod Indexing
 pub mod Keeping
 pub mod Kept
 pub mod KeyOrder
-pub mod Leaves
+pub mod LinkRun
 pub mod Lives
+pub mod Mapping
 pub mod Marks
 pub mod Merging
 pub mod Names

@@ -40,7 +40,7 @@ use Rattle.tree_law.specs.Tree.{Good}
 use Rattle.tree_law.proofs.Puts.{by_test, put_same, put_other}
 use Rattle.tree_law.proofs.Exchanged.{exchanged_alike}
 use Rattle.tree_law.proofs.Keeping.{slot_of, met_placed}
-use Rattle.tree_law.proofs.Leaves.{slot_some}
+use Rattle.tree_law.proofs.Mapping.{slot_some}
 use Rattle.tree_law.proofs.Rows.{next_linked, chain_linked}
 use Rattle.tree_law.proofs.Taking.{own_spare}
 use Rattle.tree_law.proofs.Owned.{pushed_length}

@@ -35,7 +35,7 @@ use Rattle.tree_law.specs.Put.{put}
 use Rattle.tree_law.specs.Shared.{row_in, slot_in, shared}
 use Rattle.tree_law.specs.State.{phase_of, IsInTree, IsReady}
 use Rattle.tree_law.specs.Tree.{Good}
-use Rattle.tree_law.proofs.Leaves.{slot_some}
+use Rattle.tree_law.proofs.Mapping.{slot_some}
 use Rattle.tree_law.proofs.Puts.{eqb_true, eqb_apart, by_test, put_same, put_other}
 
 -- whether it is the link of a record in front of a chain

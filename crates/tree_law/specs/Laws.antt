@@ -10,6 +10,7 @@ use Rattle.bw_model.specs.Log.{Update}
 use Rattle.deltas.specs.declared.record.Record.{Record}
 use Rattle.deltas.specs.Memory.{Memory, opening}
 use Rattle.chain_search.specs.Steps.{IsAnswer, memory_after}
+use Rattle.tree_law.specs.Indexed.{IsIndexed}
 use Rattle.tree_law.specs.Keys.{Key, IsBelow, IsUpTo}
 use Rattle.tree_law.specs.Knowledge.{Knowledge, nothing, begun}
 use Rattle.tree_law.specs.Discipline.{MayAnswer, IsAllowed}
@@ -47,3 +48,7 @@ StepLaw = (memory : Memory) (log : List Update) (o : Owners) (knows : ℕ → Kn
 abbrev pub AnswerLaw : Type 0
 AnswerLaw = (m : Shared) (log : List Update) (o : Owners) (knows : ℕ → Knowledge) (point : ℕ → Option (List Update)) (logs : ℕ → List (List Update)) → Good m log o knows point logs
     → (a : ℕ) (command : Command) (reply : Reply) → MayAnswer a (knows a) command reply → IsRepliedAt a command reply (point a) (logs a)
+
+-- The levels are whole side chains, and the index between them is exact.
+abbrev pub IndexLaw : Type 0
+IndexLaw = (memory : Memory) (log : List Update) (o : Owners) (knows : ℕ → Knowledge) (point : ℕ → Option (List Update)) (logs : ℕ → List (List Update)) → Good (shared memory) log o knows point logs → IsIndexed memory o

@@ -1,5 +1,7 @@
 pub mod Discipline
+pub mod Example
 pub mod Fitting
+pub mod Indexed
 pub mod Keys
 pub mod Knowledge
 pub mod Laws

@@ -1,5 +1,5 @@
 //! The invariant of the tree, one step at a time: each function does nothing, and its contract says what keeps it.
-ghost use Rattle.tree_law.specs.Laws.{AnswerLaw, BeginLaw, KeyLaw, OpenLaw, StepLaw};
+ghost use Rattle.tree_law.specs.Laws.{AnswerLaw, BeginLaw, IndexLaw, KeyLaw, OpenLaw, StepLaw};
 
 /// The order of keys is total.
 pub fn key_order()
@@ -24,4 +24,9 @@ pub fn one_step_keeps()
 /// Each allowed reply is that of the command by a log of its operation.
 pub fn reply_is_by_a_log()
     ensures { AnswerLaw }
+{}
+
+/// Where the invariant holds, each level is whole, and the index between the levels is exact.
+pub fn levels_are_indexed()
+    ensures { IndexLaw }
 {}

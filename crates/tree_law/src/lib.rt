@@ -2,11 +2,14 @@
 //! what follows for the traces of actors that obey their discipline.
 #![tactic(auto)]
 
+mod examples;
 mod invariant;
 mod law;
 
+pub use examples::all_links_are_disciplined;
 pub use invariant::{
-    key_order, one_begin_keeps, one_step_keeps, opening_is_good, reply_is_by_a_log,
+    key_order, levels_are_indexed, one_begin_keeps, one_step_keeps, opening_is_good,
+    reply_is_by_a_log,
 };
 pub use law::{
     answers, begins, disciplined_runs, frees_by_rule, is_one_map, keeps_phases, knowledge_is_own,

@@ -1,0 +1,38 @@
+-- The levels of a memory, each a whole side chain, and the exact index between them.
+use Rattle.std.specs.Prelude.{◌≡◌, ◌≤◌, ℕ, suc, List, [], Bool, Some, IsTrue, ◌↔◌}
+use Rattle.std.specs.List.{Contains}
+use Rattle.base_page.specs.declared.item.Content.TheVariants.{Child}
+use Rattle.deltas.specs.declared.record.Record.{Record}
+use Rattle.deltas.specs.Memory.{Memory}
+use Rattle.chain_search.specs.Chains.{IsChainOf, content_in, level_in, low_in, covers}
+use Rattle.chain_search.specs.SideChain.{LivePage, IsSideChainFrom, IsWhole}
+use Rattle.tree_law.specs.Keys.{Key}
+use Rattle.tree_law.specs.Phase.{Stage, PageOwner, Placed, mark, rank}
+use Rattle.tree_law.specs.Owners.{Owners}
+
+-- The pages have at the key a term for the child.
+abbrev pub HasTerm : List LivePage → Key → ℕ → Bool → Type 0
+HasTerm pages key child held = (page : LivePage) × Contains pages page × IsTrue (covers page.chain key) × (content_in page.chain key ≡ Some (Child child held))
+
+-- The page of the PID is of the level, and begins at the key.
+abbrev pub IsPageAt : Memory → ℕ → Key → ℕ → Type 0
+IsPageAt memory level key pid = (chain : List Record) × IsChainOf memory pid chain × (level_in chain ≡ level) × (low_in chain ≡ key)
+
+-- The page is at a stage that has a term, held or not.
+abbrev pub HasMark : PageOwner → ℕ → Bool → Type 0
+HasMark w child held = (st : Stage) × (l : ℕ) × (s : Key) × (w ≡ Placed st l s) × (mark st child ≡ Some (Child child held))
+
+-- The root is the first page of the top level. Each level up to it is a whole side chain from its first page, the only one
+-- that begins at the empty key; a level above 0 has just the terms of the pages of the level under it.
+pub record IsIndexed (memory : Memory) (o : Owners) : Type 0 where
+  pub top : ℕ
+  pub first : ℕ → ℕ
+  pub leftmost : first 0 ≡ 1
+  pub root : memory.slots 0 ≡ first top
+  pub firsts : (l : ℕ) → l ≤ top → (st : Stage) × (o.page (first l) ≡ Placed st l []) × (rank st ≤ 3)
+  pub only : (q l : ℕ) (st : Stage) → l ≤ top → o.page q ≡ Placed st l [] → rank st ≤ 3 → q ≡ first l
+  pub begins : (l : ℕ) → l ≤ top → IsPageAt memory l [] (first l)
+  pub pages : (l : ℕ) → l ≤ top → List LivePage
+  pub side : (l : ℕ) (le : l ≤ top) → IsSideChainFrom memory (first l) (pages l le)
+  pub whole : (l : ℕ) (le : l ≤ top) → IsWhole (pages l le)
+  pub terms : (l : ℕ) (le : suc l ≤ top) (key : Key) (child : ℕ) (held : Bool) → HasTerm (pages (suc l) le) key child held ↔ (IsPageAt memory l key child × HasMark (o.page child) child held)
