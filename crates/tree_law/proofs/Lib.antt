@@ -3,6 +3,7 @@ pub mod Beginning
 pub mod Chains
 pub mod Exactness
 pub mod Exchanged
+pub mod Firsts
 pub mod Fitted
 pub mod Frames
 pub mod Growth
@@ -15,6 +16,7 @@ pub mod Lives
 pub mod Mapping
 pub mod Marks
 pub mod Merging
+pub mod Moments
 pub mod Names
 pub mod Opening
 pub mod OwnEntries

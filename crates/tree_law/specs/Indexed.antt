@@ -22,6 +22,10 @@ IsPageAt memory level key pid = (chain : List Record) × IsChainOf memory pid ch
 abbrev pub HasMark : PageOwner → ℕ → Bool → Type 0
 HasMark w child held = (st : Stage) × (l : ℕ) × (s : Key) × (w ≡ Placed st l s) × (mark st child ≡ Some (Child child held))
 
+-- The page is on the side chain of the level, where it begins at the empty key.
+abbrev pub IsFirst : Owners → ℕ → ℕ → Type 0
+IsFirst o l q = (st : Stage) × (o.page q ≡ Placed st l []) × (rank st ≤ 3)
+
 -- The root is the first page of the top level. Each level up to it is a whole side chain from its first page, the only one
 -- that begins at the empty key; a level above 0 has just the terms of the pages of the level under it.
 pub record IsIndexed (memory : Memory) (o : Owners) : Type 0 where
