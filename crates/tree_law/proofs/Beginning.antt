@@ -27,6 +27,8 @@ use Rattle.tree_law.specs.State.{phase_of, IsUnended, operation_of, Tells, IsSea
 use Rattle.tree_law.specs.Tree.{Good}
 use Rattle.tree_law.proofs.Keeping.{begins as good_begins}
 use Rattle.op_machine.specs.Phases.{free, indexed}
+use Rattle.tree_law.proofs.Exactness.{is_indexed, below_top, root_indexed}
+use Rattle.tree_law.proofs.Levels.{indexed_first, indexed_push}
 use Rattle.tree_law.proofs.Mapping.{map_of}
 use Rattle.tree_law.proofs.Lives.{begins_in_phase, begins_phases, begins_only, unused_push}
 use Rattle.tree_law.proofs.Marks.{marked_push, tells_other, quiet_push}
@@ -74,6 +76,7 @@ opens limits = record {
   ];
   phases = record { in_order = λ n pid from to h. absurd (let e = h.at in cc); emptied = λ n actor pid old h. absurd (let e = h.at in cc) };
   unused = λ n actor word bits answer. (λ h. let e = h.1 in cc, λ h. let e = h.1 in cc);
+  indexed = indexed_first limits (opening_good limits) (λ l q h. by_test q 1 (λ t. cond t (Placed Indexed 0 []) Nobody ≡ Placed h.0 l [] → l ≡ 0) (λ i e. let f : 0 ≡ l = cc in sym f) (λ ne e. absurd (cc)) h.1);
 }
   where
     not_shown : (a r n : ℕ) → ShowsRow [] n a r → ⊥
@@ -111,7 +114,7 @@ begins limits entries a c state below idle = record {
   owners = state.owners;
   point = put state.point a None;
   logs = put state.logs a [];
-  good = rw (memory_of-push limits entries (Begin a c), log_of-push entries state.points (Begin a c) false state.marked.beside, knows-push entries (Begin a c)) now;
+  good = good_after;
   named = rw (memory_of-push limits entries (Begin a c), knows-push entries (Begin a c)) (named_begins limits entries state.owners (memory_of limits entries) (knows entries) a c state.named (command_of-push entries (Begin a c)));
   tells = λ b asked e. by_test b a (λ t. cond t (Some c) (command_of entries b) ≡ Some asked → Tells (entries ++ Begin a c ∷ []) (state.points ++ false ∷ []) b asked (cond t None (state.point b)) (cond t [] (state.logs b)))
       (λ i f. let same : c ≡ asked = cc in rw i (subst (λ d. Tells (entries ++ Begin a c ∷ []) (state.points ++ false ∷ []) a d None []) same (tells_new entries (state.points ++ false ∷ []) a c)))
@@ -127,10 +130,16 @@ begins limits entries a c state below idle = record {
   phases = begins_phases limits entries a c state.phases;
   unused = unused_push limits entries (Begin a c) state.unused (λ b word bits y. (λ h. let e = h.1 in cc, λ h. let e = h.1 in cc));
   faithful = faithful_push limits entries (Begin a c) state.faithful (λ b row x h. let e = h.1 in absurd (cc)) (λ b s x h z. let e = h.1 in absurd (cc));
+  indexed = indexed_push limits entries (Begin a c) state.good good_after (λ l q h. h)
+      (let le = below_top (memory_of limits entries) state.good ((memory_of limits (entries ++ Begin a c ∷ [])).slots 0) ((is_indexed (memory_of limits (entries ++ Begin a c ∷ [])) good_after).top) [] Indexed (root_indexed (memory_of limits (entries ++ Begin a c ∷ [])) good_after) in omega arith)
+      (λ pid. begins_in_phase limits entries a c pid (phase_of (state.owners.page pid)) (state.in_phase pid)) (begins_only limits entries a c state.owners.page state.in_phase state.only_phase) state.indexed;
 }
   where
     now : Good (shared (memory_of limits entries)) (log_of entries state.points) state.owners (put (knows entries) a (begun (knows entries a) c)) (put state.point a None) (put state.logs a [])
     now = good_begins state.good a c
+
+    good_after : Good (shared (memory_of limits (entries ++ Begin a c ∷ []))) (log_of (entries ++ Begin a c ∷ []) (state.points ++ false ∷ [])) state.owners (knows (entries ++ Begin a c ∷ [])) (put state.point a None) (put state.logs a [])
+    good_after = rw (memory_of-push limits entries (Begin a c), log_of-push entries state.points (Begin a c) false state.marked.beside, knows-push entries (Begin a c)) now
 
     searches_begin : (op : Operation) → IsOperation (entries ++ Begin a c ∷ []) op → IsUnended (entries ++ Begin a c ∷ []) op.start op.actor → command_of (entries ++ Begin a c ∷ []) op.actor ≡ Some op.command
         → IsSearch limits (entries ++ Begin a c ∷ []) op (memory_of limits (entries ++ Begin a c ∷ [])).rows (knows (entries ++ Begin a c ∷ []) op.actor)

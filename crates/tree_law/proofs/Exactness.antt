@@ -12,7 +12,7 @@ use Rattle.chain_search.specs.SideChain.{LivePage}
 use Rattle.chain_search.proofs.ChainLaws.{IsChainOf-unique}
 use Rattle.tree_law.specs.Keys.{Key, IsUpTo, IsUnder, Covers}
 use Rattle.tree_law.specs.Knowledge.{Knowledge}
-use Rattle.tree_law.specs.Phase.{Stage, Merged, Placed, rank}
+use Rattle.tree_law.specs.Phase.{Stage, Indexed, Merged, Placed, rank}
 use Rattle.tree_law.specs.Shared.{Shared, shared}
 use Rattle.tree_law.specs.Owners.{Owners}
 use Rattle.tree_law.specs.Tree.{Page, InPlace, IsPart, spec, Level, IsOut, Off, Good}
@@ -95,3 +95,13 @@ module _ (memory : Memory) {log : List Update} {o : Owners} {knows : ℕ → Kno
 
       from_empty : (c : List Record) → low_in c ≡ [] → IsUnder (low_in c) (high_in c) → Covers c []
       from_empty c e some = record { low = subst (λ (k : Key). IsUpTo k []) (sym e) (empty_lowest []); high = subst (λ (k : Key). IsUnder k (high_in c)) e some }
+
+  -- no page is above the top level
+  pub below_top : (q l : ℕ) (s : Key) (st : Stage) → o.page q ≡ Placed st l s → l ≤ is_indexed.top
+  unfolding is_indexed
+  below_top q l s st e = g.tree.exact.below q l s st e
+
+  -- the root is indexed
+  pub root_indexed : o.page (memory.slots 0) ≡ Placed Indexed is_indexed.top []
+  unfolding is_indexed
+  root_indexed = g.tree.exact.is_root

@@ -18,7 +18,7 @@ use Rattle.tree_law.specs.Phases.{Links, Exchanged, Phased}
 use Rattle.tree_law.specs.Put.{put}
 use Rattle.tree_law.specs.Shared.{Shared, shared}
 use Rattle.tree_law.specs.Tree.{Good}
-use Rattle.tree_law.proofs.Exactness.{is_indexed}
+use Rattle.tree_law.proofs.Exactness.{is_indexed, below_top, root_indexed}
 use Rattle.tree_law.proofs.Puts.{by_test, put_same, put_other}
 
 -- A page on a side chain is there afterwards, at its place, or was merged, and then nothing else was changed.
@@ -116,3 +116,80 @@ module _ (f f' : ℕ → PageOwner) where
         by_test q h.0 (λ t. Grown f l)
             (λ i. from q l s st h.1 h.2 h.2 Indexed Fresh h.0 h.4 (sym (rest ∙ ap (put f h.0 (Placed Indexed h.1 h.2)) i ∙ put_same f h.0 (Placed Indexed h.1 h.2)) ∙ at))
             (λ other. (q, st, l, s, sym (rest ∙ put_other f h.0 (Placed Indexed h.1 h.2) q other) ∙ at, omega arith)))
+
+-- what each step does, by its phases
+module _ (m : Memory) {log : List Update} {o : Owners} {knows : ℕ → Knowledge} {point : ℕ → Option (List Update)} {logs : ℕ → List (List Update)} (g : Good (shared m) log o knows point logs) (a : ℕ) (s : StepOf Record) (x : Answer Record) (is : IsAnswer m s x) (f' : ℕ → PageOwner) where
+  taken_nobody : (q : ℕ) → m.free_pids q ≡ true → o.page q ≡ Nobody
+  taken_nobody q free = (g.frees.page q free).0
+
+  stays_or_merged : Phased a (shared m) s x o.page f' → (q l : ℕ) (low : Key) (st : Stage) → o.page q ≡ Placed st l low → rank st ≤ 3 → Stays o.page f' q l low
+  stays_or_merged ph q l low st at on = go s x is ph
+    where
+      go : (t : StepOf Record) (y : Answer Record) → IsAnswer m t y → Phased a (shared m) t y o.page f' → Stays o.page f' q l low
+      go (TakePid p) (Whether true) e ph' = elsewhere o.page f' q l low st p (Keeps a) at on (λ i. let was : o.page p ≡ Nobody = taken_nobody p (cc) in absurd (cc)) ph'
+      go (TakePid p) (Whether false) e ph' = unchanged o.page f' q l low st at on ph'
+      go (Exchange zero old new) (Whether true) e ph' = by_root o.page f' (shared m) a old new ph' q l low st at on
+      go (Exchange (suc p) zero zero) (Whether true) e ph' = unchanged o.page f' q l low st at on ph'.0
+      go (Exchange (suc p) zero (suc new)) (Whether true) e ph' = unchanged o.page f' q l low st at on ph'.0
+      go (Exchange (suc p) (suc old) zero) (Whether true) e ph' = unchanged o.page f' q l low st at on ph'.0
+      go (Exchange (suc p) (suc old) (suc new)) (Whether true) e ph' = by_links o.page f' (shared m) a ph'.0 (suc p) ph'.2 q l low st at on
+      go (Exchange p old new) (Whether false) e ph' = unchanged o.page f' q l low st at on ph'
+      go (Exchange p old new) (Number n) e ph' = absurd (let f = e in cc)
+      go (Exchange p old new) (Content w) e ph' = absurd (let f = e in cc)
+      go (Exchange p old new) Done e ph' = absurd (let f = e in cc)
+      go (Exchange p old new) Start e ph' = absurd (let f = e in cc)
+      go (TakePid p) (Number n) e ph' = absurd (let f = e in cc)
+      go (TakePid p) (Content w) e ph' = absurd (let f = e in cc)
+      go (TakePid p) Done e ph' = absurd (let f = e in cc)
+      go (TakePid p) Start e ph' = absurd (let f = e in cc)
+      go t y e ph' = unchanged o.page f' q l low st at on ph'
+
+  grown_by_one : Phased a (shared m) s x o.page f' → (q l : ℕ) (low : Key) (st : Stage) → f' q ≡ Placed st l low → Grown o.page l
+  grown_by_one ph q l low st at = go s x is ph
+    where
+      same : f' ≡ o.page → Grown o.page l
+      same e = was_there o.page f' (shared m) a q l low st at e
+
+      go : (t : StepOf Record) (y : Answer Record) → IsAnswer m t y → Phased a (shared m) t y o.page f' → Grown o.page l
+      go (TakePid p) (Whether true) e ph' = put_back o.page f' (shared m) a q l low st p (Keeps a) at ph' (λ i. absurd (cc))
+      go (TakePid p) (Whether false) e ph' = same ph'
+      go (Exchange zero old new) (Whether true) e ph' = root_back o.page f' (shared m) a old new ph' q l low st at
+      go (Exchange (suc p) zero zero) (Whether true) e ph' = same ph'.0
+      go (Exchange (suc p) zero (suc new)) (Whether true) e ph' = same ph'.0
+      go (Exchange (suc p) (suc old) zero) (Whether true) e ph' = same ph'.0
+      go (Exchange (suc p) (suc old) (suc new)) (Whether true) e ph' = links_back o.page f' (shared m) a ph'.0 (suc p) ph'.2 q l low st at
+      go (Exchange p old new) (Whether false) e ph' = same ph'
+      go (Exchange p old new) (Number n) e ph' = absurd (let f = e in cc)
+      go (Exchange p old new) (Content w) e ph' = absurd (let f = e in cc)
+      go (Exchange p old new) Done e ph' = absurd (let f = e in cc)
+      go (Exchange p old new) Start e ph' = absurd (let f = e in cc)
+      go (TakePid p) (Number n) e ph' = absurd (let f = e in cc)
+      go (TakePid p) (Content w) e ph' = absurd (let f = e in cc)
+      go (TakePid p) Done e ph' = absurd (let f = e in cc)
+      go (TakePid p) Start e ph' = absurd (let f = e in cc)
+      go t y e ph' = same ph'
+
+  module _ (m' : Memory) (o' : Owners) {log' : List Update} {knows' : ℕ → Knowledge} {point' : ℕ → Option (List Update)} {logs' : ℕ → List (List Update)} (g' : Good (shared m') log' o' knows' point' logs') (ph : Phased a (shared m) s x o.page o'.page) (same_owners : f' ≡ o'.page) where
+    -- the first page of a level stays the first
+    pub first_stays : (l q : ℕ) → IsFirst o l q → IsFirst o' l q
+    first_stays l q (st, at, on) = elim (stays_or_merged (subst (Phased a (shared m) s x o.page) (sym same_owners) ph) q l [] st at on) [
+      | inl there ↦ (there.0, sym (ap (λ (k : ℕ → PageOwner). k q) same_owners) ∙ there.1, there.2)
+      | inr gone ↦
+          let now = is_indexed m' g' in
+          let was = is_indexed m g in
+          let merged : o'.page q ≡ Placed Merged l [] = sym (ap (λ (k : ℕ → PageOwner). k q) same_owners) ∙ ap (λ (k : ℕ → PageOwner). k q) gone ∙ put_same o.page q (Placed Merged l []) in
+          let le : l ≤ now.top = below_top m' g' q l [] Merged merged in
+          let first = now.firsts l le in
+          let other : now.first l ≢ q = λ i. not_merged o.page f' first.0 l l [] [] first.2 (sym merged ∙ ap o'.page (sym i) ∙ first.1) in
+          let before : o.page (now.first l) ≡ Placed first.0 l [] = sym (put_other o.page q (Placed Merged l []) (now.first l) other) ∙ ap (λ (k : ℕ → PageOwner). k (now.first l)) (sym gone ∙ same_owners) ∙ first.1 in
+          let le' : l ≤ was.top = below_top m g q l [] st at in
+          absurd (other (was.only (now.first l) l first.0 le' before first.2 ∙ sym (was.only q l st le' at on)))
+    ]
+
+    -- the tree grows by one level at most
+    pub grows : (is_indexed m' g').top ≤ suc ((is_indexed m g).top)
+    grows =
+        let root = root_indexed m' g' in
+        let h = grown_by_one (subst (Phased a (shared m) s x o.page) (sym same_owners) ph) (m'.slots 0) ((is_indexed m' g').top) [] Indexed (ap (λ (k : ℕ → PageOwner). k (m'.slots 0)) same_owners ∙ root) in
+        let le : h.2 ≤ (is_indexed m g).top = below_top m g h.0 h.2 h.3 h.1 h.4 in
+        omega arith

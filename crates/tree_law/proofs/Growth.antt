@@ -25,6 +25,7 @@ use Rattle.chain_search.proofs.Pushes.{slice_get-push_cases, slice_get_kept}
 use Rattle.chain_search.proofs.TraceLaws.{memory_of-push, command_of-push}
 use Rattle.chain_search.proofs.RunLaws.{IsRun-push}
 use Rattle.op_machine.specs.Answered.{IsTrueReply, is_writer}
+use Rattle.op_machine.specs.Index.{IsExactIndex}
 use Rattle.op_machine.specs.Linearized.{IsLinearized}
 use Rattle.op_machine.specs.Operations.{Operation, IsOperation, IsOwnStep, Finishes}
 use Rattle.op_machine.specs.Phases.{Phase, Moves, IsInPhase, KeepsPhases}
@@ -44,7 +45,9 @@ use Rattle.tree_law.specs.State.{phase_of, IsUnended, operation_of, Tells, IsSea
 use Rattle.tree_law.specs.Tree.{Good}
 use Rattle.tree_law.proofs.Answering.{answers}
 use Rattle.tree_law.proofs.Beginning.{knows-push}
+use Rattle.tree_law.proofs.Firsts.{first_stays, grows}
 use Rattle.tree_law.proofs.Keeping.{slot_of, met_placed}
+use Rattle.tree_law.proofs.Levels.{indexed_push}
 use Rattle.tree_law.proofs.Mapping.{slot_some, map_of}
 use Rattle.tree_law.proofs.Lives.{only_after, pid_below_after, steps_in_phase, steps_phases, unused_push, freed}
 use Rattle.tree_law.proofs.Marks.{marked_push, tells_other, tells_own, quiet_push}
@@ -287,6 +290,12 @@ module _ (limits : Limits) (entries : List Entry) (a : ℕ) (step : StepOf Recor
   lives : (pid : ℕ) → Moves (memory_of limits entries) last pid (phase_of (state.owners.page pid)) (phase_of (n.owners.page pid)) ⊎ (phase_of (n.owners.page pid) ≡ phase_of (state.owners.page pid))
   lives = moves_or_rests (memory_of limits entries) state.good state.named.held a step answer r allowed.may is n.owners.page n.phased
 
+  in_phase_after : (pid : ℕ) → IsInPhase limits (entries ++ last ∷ []) (length (entries ++ last ∷ [])) pid (phase_of (n.owners.page pid))
+  in_phase_after = steps_in_phase limits entries last state.owners.page n.owners.page state.in_phase between lives
+
+  only_phase_after : (pid : ℕ) (phase : Phase) → IsInPhase limits (entries ++ last ∷ []) (length (entries ++ last ∷ [])) pid phase → phase ≡ phase_of (n.owners.page pid)
+  only_phase_after pid phase h = only_after limits entries last state.owners.page n.owners.page state.in_phase between lives state.only_phase pid phase (subst (λ k. IsInPhase limits (entries ++ last ∷ []) k pid phase) (pushed_length entries last) h)
+
   state_after : IsState limits (entries ++ last ∷ [])
   state_after = record {
     points = z.points ++ mark ∷ [];
@@ -315,9 +324,8 @@ module _ (limits : Limits) (entries : List Entry) (a : ℕ) (step : StepOf Recor
         (state.searches (operation_of z.mine.start a asked) z.mine.begins z.mine.unended asks).unfinished m reply (subst (λ o. Finishes entries o m reply) same ends));
     run = IsRun-push limits entries last state.run (subst IsSome (sym asks) refl, may_take limits entries state.owners (memory_of limits entries) (knows entries) (log_of entries state.points) state.point state.logs state.good state.named a step answer r allowed.may is refl step allowed.may, is);
     quiet = quiet_push entries z.points last mark z.marked.beside limits z.quiet (map_of good_after);
-    in_phase = steps_in_phase limits entries last state.owners.page n.owners.page state.in_phase between
-        lives;
-    only_phase = λ pid phase h. only_after limits entries last state.owners.page n.owners.page state.in_phase between lives state.only_phase pid phase (subst (λ k. IsInPhase limits (entries ++ last ∷ []) k pid phase) (pushed_length entries last) h);
+    in_phase = in_phase_after;
+    only_phase = only_phase_after;
     phases = steps_phases limits entries last state.owners.page n.owners.page state.in_phase between state.phases
         (clears_cleared (memory_of limits entries) state.good state.named.held a step answer r allowed.may is n.owners.page n.phased);
     unused = unused_push limits entries last state.unused (λ b word bits y. (
@@ -327,6 +335,10 @@ module _ (limits : Limits) (entries : List Entry) (a : ℕ) (step : StepOf Recor
     faithful = faithful_push limits entries last state.faithful
         (reads_known limits entries state.owners (memory_of limits entries) (knows entries) (log_of entries state.points) state.point state.logs state.good state.named a step answer r allowed.may is)
         (touches_outside limits entries state.owners (memory_of limits entries) (knows entries) (log_of entries state.points) state.point state.logs state.good state.named a step answer r allowed.may is);
+    indexed = indexed_push limits entries last state.good good_after
+        (first_stays (memory_of limits entries) state.good a step answer is n.owners.page (memory_of limits (entries ++ last ∷ [])) n.owners good_after n.phased refl)
+        (grows (memory_of limits entries) state.good a step answer is n.owners.page (memory_of limits (entries ++ last ∷ [])) n.owners good_after n.phased refl)
+        in_phase_after only_phase_after state.indexed;
   }
 
 pub steps : (limits : Limits) (entries : List Entry) (actor : ℕ) (step : StepOf Record) (answer : Answer Record) (reply : Option Reply) → IsState limits entries → IsSome (command_of entries actor)
@@ -393,3 +405,6 @@ keeps_phases limits entries state = state.phases
 
 pub frees_by_rule : (limits : Limits) (entries : List Entry) → IsState limits entries → IsFreedByRule limits entries
 frees_by_rule limits entries state = freed limits entries state.unused
+
+pub index_is_exact : (limits : Limits) (entries : List Entry) → IsState limits entries → IsExactIndex limits entries
+index_is_exact limits entries state = state.indexed.exact

@@ -11,6 +11,7 @@ pub mod Indexing
 pub mod Keeping
 pub mod Kept
 pub mod KeyOrder
+pub mod Levels
 pub mod LinkRun
 pub mod Lives
 pub mod Mapping

@@ -1,11 +1,15 @@
 -- The levels of a memory, each a whole side chain, and the exact index between them.
-use Rattle.std.specs.Prelude.{◌≡◌, ◌≤◌, ℕ, suc, List, [], Bool, Some, IsTrue, ◌↔◌}
+use Rattle.std.specs.Prelude.{◌≡◌, ◌≤◌, ℕ, suc, List, [], length, Bool, Some, IsTrue, ◌↔◌}
 use Rattle.std.specs.List.{Contains}
+use Rattle.bw_model.specs.declared.limits.Limits.{Limits}
 use Rattle.base_page.specs.declared.item.Content.TheVariants.{Child}
 use Rattle.deltas.specs.declared.record.Record.{Record}
 use Rattle.deltas.specs.Memory.{Memory}
 use Rattle.chain_search.specs.Chains.{IsChainOf, content_in, level_in, low_in, covers}
 use Rattle.chain_search.specs.SideChain.{LivePage, IsSideChainFrom, IsWhole}
+use Rattle.chain_search.specs.declared.trace.Entry.{Entry}
+use Rattle.chain_search.specs.Trace.{memory_at}
+use Rattle.op_machine.specs.Index.{IsRootLevel, IsLeftmost, IsExactIndex}
 use Rattle.tree_law.specs.Keys.{Key}
 use Rattle.tree_law.specs.Phase.{Stage, PageOwner, Placed, mark, rank}
 use Rattle.tree_law.specs.Owners.{Owners}
@@ -40,3 +44,10 @@ pub record IsIndexed (memory : Memory) (o : Owners) : Type 0 where
   pub side : (l : ℕ) (le : l ≤ top) → IsSideChainFrom memory (first l) (pages l le)
   pub whole : (l : ℕ) (le : l ≤ top) → IsWhole (pages l le)
   pub terms : (l : ℕ) (le : suc l ≤ top) (key : Key) (child : ℕ) (held : Bool) → HasTerm (pages (suc l) le) key child held ↔ (IsPageAt memory l key child × HasMark (o.page child) child held)
+
+-- In the trace the first page of each level is the one that slot 0 first held, each level that a root had has a first page,
+-- and the index was exact at each moment.
+pub record IsIndexedAlong (limits : Limits) (entries : List Entry) (o : Owners) : Type 0 where
+  pub leftmost : (l q : ℕ) → IsFirst o l q → IsLeftmost limits entries (length entries) l q
+  pub rooted : (m l : ℕ) → m ≤ length entries → IsRootLevel (memory_at limits entries m) l → (q : ℕ) × IsFirst o l q
+  pub exact : IsExactIndex limits entries

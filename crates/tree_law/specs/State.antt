@@ -26,6 +26,7 @@ use Rattle.op_machine.specs.Quiet.{IsQuiet}
 use Rattle.op_machine.specs.Faithful.{IsFaithful, KnowsRow}
 use Rattle.op_machine.specs.Phases as phase
 use Rattle.op_machine.specs.Phases.{Phase, IsInPhase, KeepsPhases}
+use Rattle.tree_law.specs.Indexed.{IsIndexedAlong}
 use Rattle.tree_law.specs.Knowledge.{Ready, Knowledge, knows}
 use Rattle.tree_law.specs.Owners.{Free, Spare, Linked, Owners, Among}
 use Rattle.tree_law.specs.Phase.{Fresh, Indexed, Held, Removed, Merged, PageOwner, Nobody, Keeps, Placed, Cleared}
@@ -151,3 +152,4 @@ pub record IsState (limits : Limits) (entries : List Entry) : Type 0 where
   pub only_phase : (pid : ℕ) (phase : Phase) → IsInPhase limits entries (length entries) pid phase → phase ≡ phase_of (owners.page pid)
   pub phases : KeepsPhases limits entries
   pub unused : IsUnused entries
+  pub indexed : IsIndexedAlong limits entries owners

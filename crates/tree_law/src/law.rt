@@ -11,6 +11,7 @@ ghost use Rattle.chain_search.specs.declared.trace.Entry.TheVariants.{Begin, Ste
 ghost use Rattle.chain_search.specs.Steps.{IsAnswer};
 ghost use Rattle.chain_search.specs.Trace.{memory_of, command_of, turn_of};
 ghost use Rattle.deltas.specs.declared.record.Record.{Record};
+ghost use Rattle.op_machine.specs.Index.{IsExactIndex};
 ghost use Rattle.op_machine.specs.Linearized.{IsLinearized};
 ghost use Rattle.op_machine.specs.Phases.{KeepsPhases};
 ghost use Rattle.op_machine.specs.Reuse.{IsFreedByRule};
@@ -44,6 +45,11 @@ pub fn is_one_map()
 /// A state keeps the phases of pages.
 pub fn keeps_phases()
     ensures { (limits : Limits) (entries : List Entry) → IsState limits entries → KeepsPhases limits entries }
+{}
+
+/// A state has an exact index at each moment.
+pub fn index_is_exact()
+    ensures { (limits : Limits) (entries : List Entry) → IsState limits entries → IsExactIndex limits entries }
 {}
 
 /// A state frees by the rule: nothing is used again yet.
