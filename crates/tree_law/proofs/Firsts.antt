@@ -1,5 +1,5 @@
 -- A step keeps the first page of each level, and adds at most one level on top.
-use Rattle.std.proofs.Common.{◌≡◌, ◌≢◌, ◌≤◌, ◌⊎◌, inl, inr, ℕ, zero, suc, List, [], ◌∷◌, Option, Some, None, Bool, true, false, refl, sym, ap, ◌∙◌, subst, arith}
+use Rattle.std.proofs.Common.{◌≡◌, ◌≢◌, ◌≤◌, ◌⊎◌, inl, inr, ℕ, zero, suc, List, [], Option, true, false, sym, ap, ◌∙◌, subst, arith}
 use Rattle.bw_model.specs.declared.step.Step.{Step as StepOf}
 use Rattle.bw_model.specs.declared.step.Step.TheVariants.{Exchange, TakePid}
 use Rattle.bw_model.specs.declared.step.Answer.{Answer}
@@ -169,27 +169,28 @@ module _ (m : Memory) {log : List Update} {o : Owners} {knows : ℕ → Knowledg
       go (TakePid p) Start e ph' = absurd (let f = e in cc)
       go t y e ph' = same ph'
 
-  module _ (m' : Memory) (o' : Owners) {log' : List Update} {knows' : ℕ → Knowledge} {point' : ℕ → Option (List Update)} {logs' : ℕ → List (List Update)} (g' : Good (shared m') log' o' knows' point' logs') (ph : Phased a (shared m) s x o.page o'.page) (same_owners : f' ≡ o'.page) where
-    -- the first page of a level stays the first
-    pub first_stays : (l q : ℕ) → IsFirst o l q → IsFirst o' l q
-    first_stays l q (st, at, on) = elim (stays_or_merged (subst (Phased a (shared m) s x o.page) (sym same_owners) ph) q l [] st at on) [
-      | inl there ↦ (there.0, sym (ap (λ (k : ℕ → PageOwner). k q) same_owners) ∙ there.1, there.2)
-      | inr gone ↦
-          let now = is_indexed m' g' in
-          let was = is_indexed m g in
-          let merged : o'.page q ≡ Placed Merged l [] = sym (ap (λ (k : ℕ → PageOwner). k q) same_owners) ∙ ap (λ (k : ℕ → PageOwner). k q) gone ∙ put_same o.page q (Placed Merged l []) in
-          let le : l ≤ now.top = below_top m' g' q l [] Merged merged in
-          let first = now.firsts l le in
-          let other : now.first l ≢ q = λ i. not_merged o.page f' first.0 l l [] [] first.2 (sym merged ∙ ap o'.page (sym i) ∙ first.1) in
-          let before : o.page (now.first l) ≡ Placed first.0 l [] = sym (put_other o.page q (Placed Merged l []) (now.first l) other) ∙ ap (λ (k : ℕ → PageOwner). k (now.first l)) (sym gone ∙ same_owners) ∙ first.1 in
-          let le' : l ≤ was.top = below_top m g q l [] st at in
-          absurd (other (was.only (now.first l) l first.0 le' before first.2 ∙ sym (was.only q l st le' at on)))
-    ]
+-- from one memory that meets the invariant to the next
+module _ (m m' : Memory) {log log' : List Update} {o o' : Owners} {knows knows' : ℕ → Knowledge} {point point' : ℕ → Option (List Update)} {logs logs' : ℕ → List (List Update)} (g : Good (shared m) log o knows point logs) (g' : Good (shared m') log' o' knows' point' logs')
+    (a : ℕ) (s : StepOf Record) (x : Answer Record) (is : IsAnswer m s x) (ph : Phased a (shared m) s x o.page o'.page) where
+  -- The first page of a level stays the first. It is not merged: another page would then be the first, and it would have been so before.
+  pub first_stays : (l q : ℕ) → IsFirst o l q → IsFirst o' l q
+  first_stays l q (st, at, on) = elim (stays_or_merged m g a s x is o'.page ph q l [] st at on) [
+    | inl there ↦ there
+    | inr gone ↦
+        let now = is_indexed m' g' in
+        let was = is_indexed m g in
+        let merged : o'.page q ≡ Placed Merged l [] = ap (λ (k : ℕ → PageOwner). k q) gone ∙ put_same o.page q (Placed Merged l []) in
+        let le : l ≤ now.top = below_top m' g' q l [] Merged merged in
+        let first = now.firsts l le in
+        let other : now.first l ≢ q = λ i. not_merged o.page o'.page first.0 l l [] [] first.2 (sym merged ∙ ap o'.page (sym i) ∙ first.1) in
+        let before : o.page (now.first l) ≡ Placed first.0 l [] = sym (put_other o.page q (Placed Merged l []) (now.first l) other) ∙ ap (λ (k : ℕ → PageOwner). k (now.first l)) (sym gone) ∙ first.1 in
+        let le' : l ≤ was.top = below_top m g q l [] st at in
+        absurd (other (was.only (now.first l) l first.0 le' before first.2 ∙ sym (was.only q l st le' at on)))
+  ]
 
-    -- the tree grows by one level at most
-    pub grows : (is_indexed m' g').top ≤ suc ((is_indexed m g).top)
-    grows =
-        let root = root_indexed m' g' in
-        let h = grown_by_one (subst (Phased a (shared m) s x o.page) (sym same_owners) ph) (m'.slots 0) ((is_indexed m' g').top) [] Indexed (ap (λ (k : ℕ → PageOwner). k (m'.slots 0)) same_owners ∙ root) in
-        let le : h.2 ≤ (is_indexed m g).top = below_top m g h.0 h.2 h.3 h.1 h.4 in
-        omega arith
+  -- the tree grows by one level at most
+  pub grows : (is_indexed m' g').top ≤ suc ((is_indexed m g).top)
+  grows =
+      let h = grown_by_one m g a s x is o'.page ph (m'.slots 0) ((is_indexed m' g').top) [] Indexed (root_indexed m' g') in
+      let le : h.2 ≤ (is_indexed m g).top = below_top m g h.0 h.2 h.3 h.1 h.4 in
+      omega arith

@@ -336,8 +336,8 @@ module _ (limits : Limits) (entries : List Entry) (a : ℕ) (step : StepOf Recor
         (reads_known limits entries state.owners (memory_of limits entries) (knows entries) (log_of entries state.points) state.point state.logs state.good state.named a step answer r allowed.may is)
         (touches_outside limits entries state.owners (memory_of limits entries) (knows entries) (log_of entries state.points) state.point state.logs state.good state.named a step answer r allowed.may is);
     indexed = indexed_push limits entries last state.good good_after
-        (first_stays (memory_of limits entries) state.good a step answer is n.owners.page (memory_of limits (entries ++ last ∷ [])) n.owners good_after n.phased refl)
-        (grows (memory_of limits entries) state.good a step answer is n.owners.page (memory_of limits (entries ++ last ∷ [])) n.owners good_after n.phased refl)
+        (first_stays (memory_of limits entries) (memory_of limits (entries ++ last ∷ [])) state.good good_after a step answer is n.phased)
+        (grows (memory_of limits entries) (memory_of limits (entries ++ last ∷ [])) state.good good_after a step answer is n.phased)
         in_phase_after only_phase_after state.indexed;
   }
 

@@ -1,12 +1,12 @@
 -- The index is exact at each moment of a trace: that of the moment after all entries is the invariant's.
-use Rattle.std.proofs.Common.{◌≡◌, ◌≤◌, ◌<◌, inl, inr, ℕ, suc, List, [], ◌∷◌, ◌++◌, length, Option, Bool, true, false, Some, refl, sym, ap, ◌∙◌, subst, arith}
+use Rattle.std.proofs.Common.{◌≡◌, ◌≤◌, inl, inr, ℕ, suc, List, [], ◌∷◌, ◌++◌, length, Option, Bool, true, false, refl, sym, ap, ◌∙◌, subst, arith}
 use Rattle.std.proofs.lemmas.Bool.{cases_lt}
 use Rattle.bw_model.specs.declared.limits.Limits.{Limits}
 use Rattle.bw_model.specs.Log.{Update}
 use Rattle.deltas.specs.Memory.{Memory}
 use Rattle.chain_search.specs.declared.trace.Entry.{Entry}
 use Rattle.chain_search.specs.Chains.{IsChainOf, level_in}
-use Rattle.chain_search.specs.SideChain.{LivePage, IsSideChainFrom}
+use Rattle.chain_search.specs.SideChain.{IsSideChainFrom}
 use Rattle.chain_search.specs.Trace.{memory_of, memory_at}
 use Rattle.chain_search.proofs.ChainLaws.{IsChainOf-unique}
 use Rattle.op_machine.specs.Index.{IsRootLevel, IsLeftmost, HasPhaseOfTerm, Indexes}

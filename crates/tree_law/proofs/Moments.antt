@@ -1,9 +1,9 @@
 -- What was so of a moment is so in a longer trace.
-use Rattle.std.proofs.Common.{◌≡◌, ◌≤◌, inl, inr, ℕ, suc, List, [], ◌∷◌, ◌++◌, length, Bool, true, false, Some, sym, subst, arith}
+use Rattle.std.proofs.Common.{◌≡◌, ◌≤◌, inl, inr, ℕ, suc, List, [], ◌∷◌, ◌++◌, length, Bool, true, false, sym, subst, arith}
 use Rattle.bw_model.specs.declared.limits.Limits.{Limits}
 use Rattle.deltas.specs.Memory.{Memory}
 use Rattle.chain_search.specs.declared.trace.Entry.{Entry}
-use Rattle.chain_search.specs.Chains.{IsChainOf, level_in, low_in}
+use Rattle.chain_search.specs.Chains.{IsChainOf}
 use Rattle.chain_search.specs.SideChain.{LivePage, IsSideChainFrom}
 use Rattle.chain_search.specs.Trace.{memory_at}
 use Rattle.chain_search.proofs.TraceLaws.{memory_at-push, Happens-kept, Happens-push_cases}
