@@ -114,8 +114,8 @@ module _ (f f' : ℕ → PageOwner) where
         (λ ne.
         let rest : f' q ≡ put f h.0 (Placed Indexed h.1 h.2) q = ap (λ (k : ℕ → PageOwner). k q) h.6 ∙ put_other (put f h.0 (Placed Indexed h.1 h.2)) y (Placed Indexed (suc h.1) []) q ne in
         by_test q h.0 (λ t. Grown f l)
-            (λ i. from q l s st h.1 h.2 h.2 Indexed Fresh h.0 h.4 (sym (rest ∙ ap (put f h.0 (Placed Indexed h.1 h.2)) i ∙ put_same f h.0 (Placed Indexed h.1 h.2)) ∙ at))
-            (λ other. (q, st, l, s, sym (rest ∙ put_other f h.0 (Placed Indexed h.1 h.2) q other) ∙ at, omega arith)))
+        (λ i. from q l s st h.1 h.2 h.2 Indexed Fresh h.0 h.4 (sym (rest ∙ ap (put f h.0 (Placed Indexed h.1 h.2)) i ∙ put_same f h.0 (Placed Indexed h.1 h.2)) ∙ at))
+        (λ other. (q, st, l, s, sym (rest ∙ put_other f h.0 (Placed Indexed h.1 h.2) q other) ∙ at, omega arith)))
 
 -- what each step does, by its phases
 module _ (m : Memory) {log : List Update} {o : Owners} {knows : ℕ → Knowledge} {point : ℕ → Option (List Update)} {logs : ℕ → List (List Update)} (g : Good (shared m) log o knows point logs) (a : ℕ) (s : StepOf Record) (x : Answer Record) (is : IsAnswer m s x) (f' : ℕ → PageOwner) where
