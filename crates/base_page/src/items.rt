@@ -135,7 +135,7 @@ impl Items {
         for item in &self.items.as_slice()[place..] {
             back.push(item.copied());
         }
-        self.items.truncate(place);
+        self.truncate(place);
         Items { items: back }
     }
 

@@ -11,6 +11,10 @@ pub enum Command {
     Get(Key),
     /// Gives a key a value where it has none.
     Insert(Key, Value),
+    /// Gives a key a value, in place of the one that it has, if it has one.
+    Upsert(Key, Value),
+    /// Makes a key absent.
+    Delete(Key),
 }
 
 /// What an operation answers when it is done.
@@ -24,6 +28,14 @@ pub enum Reply {
     Inserted,
     /// The key has this value, and keeps it.
     Exists(Value),
+    /// The key had no value before, and has the new one.
+    Set,
+    /// The key had this value before, and has the new one.
+    Replaced(Value),
+    /// The key had this value before, and has none.
+    Deleted(Value),
+    /// The key had no value before, and has none.
+    Absent,
     /// Nothing was free for a change, and no key was changed.
     Full,
 }
@@ -36,6 +48,8 @@ impl Command {
         match self {
             Command::Get(key) => key,
             Command::Insert(key, _) => key,
+            Command::Upsert(key, _) => key,
+            Command::Delete(key) => key,
         }
     }
 
@@ -48,6 +62,10 @@ impl Command {
             (Command::Get(_), Some(value)) => Reply::Value(value.copied()),
             (Command::Insert(_, _), None) => Reply::Inserted,
             (Command::Insert(_, _), Some(value)) => Reply::Exists(value.copied()),
+            (Command::Upsert(_, _), None) => Reply::Set,
+            (Command::Upsert(_, _), Some(value)) => Reply::Replaced(value.copied()),
+            (Command::Delete(_), None) => Reply::Absent,
+            (Command::Delete(_), Some(value)) => Reply::Deleted(value.copied()),
         }
     }
 
@@ -58,6 +76,8 @@ impl Command {
         match self {
             Command::Get(_) => false,
             Command::Insert(_, _) => old.is_none(),
+            Command::Upsert(_, _) => true,
+            Command::Delete(_) => old.is_some(),
         }
     }
 
@@ -69,6 +89,10 @@ impl Command {
             (Command::Insert(key, value), None) => {
                 Some(Update::set(actor, key.copied(), value.copied()))
             }
+            (Command::Upsert(key, value), _) => {
+                Some(Update::set(actor, key.copied(), value.copied()))
+            }
+            (Command::Delete(key), Some(_)) => Some(Update::unset(actor, key.copied())),
             _ => None,
         }
     }

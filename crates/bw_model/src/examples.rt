@@ -1,10 +1,10 @@
 //! The definitions at small values: each function does nothing, and its contract computes them.
 ghost use Rattle.std.specs.Prelude.{codes, ◌≡◌, ◌∷◌, [], true, false, None, Some};
-ghost use Rattle.bw_model.specs.declared.command.Command.TheVariants.{Get, Insert};
+ghost use Rattle.bw_model.specs.declared.command.Command.TheVariants.{Get, Insert, Upsert, Delete};
 ghost use Rattle.bw_model.specs.declared.command.Reply.TheVariants as reply;
 ghost use Rattle.bw_model.specs.Bytes.{is_below, is_in_range};
 ghost use Rattle.bw_model.specs.Examples.{small_log};
-ghost use Rattle.bw_model.specs.Log.{set, value_in};
+ghost use Rattle.bw_model.specs.Log.{set, unset, value_in};
 ghost use Rattle.bw_model.specs.Pairs.{IsPairsOf};
 ghost use Rattle.bw_model.specs.Replies.{reply_of, update_of};
 
@@ -30,7 +30,7 @@ pub fn pairs_are_listed()
     ensures { IsPairsOf small_log [] None ((codes "a", codes "3") ∷ []) }
 {}
 
-/// A lookup changes nothing; an insert changes an absent key alone.
+/// A lookup changes nothing; an insert changes an absent key alone, an upsert each key, a delete a present one alone.
 pub fn commands_are_answered()
     ensures get_absent { reply_of (Get (codes "a")) None ≡ Some reply.None }
     ensures get_present { reply_of (Get (codes "a")) (Some (codes "1"))
@@ -42,4 +42,15 @@ pub fn commands_are_answered()
     ensures insert_present { reply_of (Insert (codes "a") (codes "2")) (Some (codes "1"))
         ≡ Some (reply.Exists (codes "1")) }
     ensures insert_keeps { update_of 0 (Insert (codes "a") (codes "2")) (Some (codes "1")) ≡ None }
+    ensures upsert_absent { reply_of (Upsert (codes "a") (codes "2")) None ≡ Some reply.Set }
+    ensures upsert_present { reply_of (Upsert (codes "a") (codes "2")) (Some (codes "1"))
+        ≡ Some (reply.Replaced (codes "1")) }
+    ensures upsert_sets { update_of 3 (Upsert (codes "a") (codes "2")) (Some (codes "1"))
+        ≡ Some (set 3 (codes "a") (codes "2")) }
+    ensures delete_absent { reply_of (Delete (codes "a")) None ≡ Some reply.Absent }
+    ensures delete_keeps { update_of 3 (Delete (codes "a")) None ≡ None }
+    ensures delete_present { reply_of (Delete (codes "a")) (Some (codes "1"))
+        ≡ Some (reply.Deleted (codes "1")) }
+    ensures delete_unsets { update_of 3 (Delete (codes "a")) (Some (codes "1"))
+        ≡ Some (unset 3 (codes "a")) }
 {}

@@ -1,20 +1,20 @@
 -- What fields request for, as a function, is what the grammar says.
-use Rattle.std.proofs.Common.{◌≡◌, ℕ, ◌≤◌, ◌<◌, List, [], ◌∷◌, length, refl, sym, ◌∙◌, arith, ◌⊎◌, inl, inr, Option, Some, None, Result, Ok, Err, true, ◌&&◌, nat_le, IfOk, codes, option_map}
+use Rattle.std.proofs.Common.{◌≡◌, ℕ, ◌≤◌, ◌<◌, List, [], ◌∷◌, length, refl, sym, subst, ◌∙◌, arith, ◌⊎◌, inl, inr, Option, Some, None, Result, Ok, Err, true, ◌&&◌, nat_le, IfOk, codes, option_map}
 use Rattle.std.specs.Option.{option_and_then}
 use Rattle.std.specs.Str.{bytes_eq}
 use Rattle.std.proofs.lemmas.Slice.Eq.{bytes_eq-Decides}
 use Rattle.std.proofs.lemmas.Bool.Decides.{nat_tests}
 use Rattle.bw_model.specs.declared.command.Command.{Command}
-use Rattle.bw_model.specs.declared.command.Command.TheVariants.{Get, Insert}
+use Rattle.bw_model.specs.declared.command.Command.TheVariants.{Get, Insert, Upsert, Delete}
 use Rattle.bw_shell.specs.declared.request.Request.{Request}
 use Rattle.bw_shell.specs.declared.request.Request.TheVariants.{Begin, Turn, Finish, List as ListPairs}
 use Rattle.bw_shell.specs.declared.token.LineError.{LineError}
 use Rattle.bw_shell.specs.declared.token.LineError.TheVariants.{Malformed, TooLong}
-use Rattle.bw_shell.specs.Token.{token_value}
+use Rattle.bw_shell.specs.Token.{Means, token_value}
 use Rattle.bw_shell.specs.Number.{number_of, capped}
 use Rattle.bw_shell.specs.Fields.{fields_of}
-use Rattle.bw_shell.specs.Request.{Says, Asks, IsNumber, SpellsCommand, IsShort, IsShortCommand}
-use Rattle.bw_shell.specs.Reading.{get_of, insert_of, command_of, actor_of, begin_of, turn_by, turn_of, finish_of, list_of, asked, GivesRequest}
+use Rattle.bw_shell.specs.Request.{Says, Asks, IsNumber, SpellsCommand, IsShort}
+use Rattle.bw_shell.specs.Reading.{key_in, pair_in, IsShortPair, command_of, actor_of, begin_of, turn_by, turn_of, finish_of, list_of, asked, GivesRequest}
 use Rattle.bw_shell.proofs.Tokens.{chosen, some_is, value_means, means_value}
 
 map_some : {A B : Type 0} (f : A → B) (o : Option A) (y : B) → option_map f o ≡ Some y → (x : A) × (o ≡ Some x) × (f x ≡ y)
@@ -36,46 +36,73 @@ is_number a n h = rw (h.1, h.2) refl
 
 -- ---- commands
 
-get_is : (args : List (List ℕ)) (c : Command) → get_of args ≡ Some c → SpellsCommand (codes "get" ∷ args) c
-unfolding get_of
-get_is [] c h = cc h
-get_is (k ∷ []) c h = let m = map_some Get (token_value k) c h in rw (sym m.2) (k, refl, value_means k m.0 m.1)
-get_is (k ∷ x ∷ rest) c h = cc h
+-- one token, and two
+key_is : (args : List (List ℕ)) (key : List ℕ) → key_in args ≡ Some key → (k : List ℕ) × (args ≡ k ∷ []) × Means k key
+unfolding key_in
+key_is [] key h = cc h
+key_is (k ∷ []) key h = (k, refl, value_means k key h)
+key_is (k ∷ x ∷ rest) key h = cc h
 
-insert_is : (args : List (List ℕ)) (c : Command) → insert_of args ≡ Some c → SpellsCommand (codes "insert" ∷ args) c
-unfolding insert_of
-insert_is [] c h = cc h
-insert_is (k ∷ []) c h = cc h
-insert_is (k ∷ v ∷ []) c h =
-    let a = then_some (λ key. option_map (Insert key) (token_value v)) (token_value k) c h in
-    let b = map_some (Insert a.0) (token_value v) c a.2 in
+pair_is : (args : List (List ℕ)) (pair : List ℕ × List ℕ) → pair_in args ≡ Some pair → (k : List ℕ) × (v : List ℕ) × (args ≡ k ∷ v ∷ []) × Means k pair.0 × Means v pair.1
+unfolding pair_in
+pair_is [] pair h = cc h
+pair_is (k ∷ []) pair h = cc h
+pair_is (k ∷ v ∷ []) pair h =
+    let a = then_some (λ key. option_map (λ value. (key, value)) (token_value v)) (token_value k) pair h in
+    let b = map_some (λ value. (a.0, value)) (token_value v) pair a.2 in
     rw (sym b.2) (k, v, refl, value_means k a.0 a.1, value_means v b.0 b.1)
-insert_is (k ∷ v ∷ x ∷ rest) c h = cc h
+pair_is (k ∷ v ∷ x ∷ rest) pair h = cc h
+
+-- a verb with one token, and with two
+one_field : (verb word k : List ℕ) (args : List (List ℕ)) → verb ≡ word → args ≡ k ∷ [] → verb ∷ args ≡ word ∷ k ∷ []
+one_field verb word k args e f = rw (e, f) refl
+
+two_fields : (verb word k v : List ℕ) (args : List (List ℕ)) → verb ≡ word → args ≡ k ∷ v ∷ [] → verb ∷ args ≡ word ∷ k ∷ v ∷ []
+two_fields verb word k v args e f = rw (e, f) refl
 
 command_is : (fs : List (List ℕ)) (c : Command) → command_of fs ≡ Some c → SpellsCommand fs c
 unfolding command_of
 command_is [] c h = cc h
 command_is (verb ∷ args) c h =
     elim (chosen (bytes_eq verb (codes "get")) _ _ (Some c) h) [
-      | inl p ↦ rw (is_text verb (codes "get") p.0) (get_is args c p.1)
-      | inr q ↦
-          elim (chosen (bytes_eq verb (codes "insert")) _ _ (Some c) q.1) [
-            | inl p ↦ rw (is_text verb (codes "insert") p.0) (insert_is args c p.1)
+      | inl p ↦
+          let m = map_some Get (key_in args) c p.1 in
+          let k = key_is args m.0 m.1 in
+          subst (SpellsCommand (verb ∷ args)) m.2 (k.0, one_field verb (codes "get") k.0 args (is_text verb (codes "get") p.0) k.1, k.2)
+      | inr q ↦ elim (chosen (bytes_eq verb (codes "insert")) _ _ (Some c) q.1) [
+        | inl p ↦
+            let m = map_some (λ (pair : List ℕ × List ℕ). Insert pair.0 pair.1) (pair_in args) c p.1 in
+            let k = pair_is args m.0 m.1 in
+            subst (SpellsCommand (verb ∷ args)) m.2 (k.0, k.1, two_fields verb (codes "insert") k.0 k.1 args (is_text verb (codes "insert") p.0) k.2, k.3, k.4)
+        | inr r ↦ elim (chosen (bytes_eq verb (codes "upsert")) _ _ (Some c) r.1) [
+          | inl p ↦
+              let m = map_some (λ (pair : List ℕ × List ℕ). Upsert pair.0 pair.1) (pair_in args) c p.1 in
+              let k = pair_is args m.0 m.1 in
+              subst (SpellsCommand (verb ∷ args)) m.2 (k.0, k.1, two_fields verb (codes "upsert") k.0 k.1 args (is_text verb (codes "upsert") p.0) k.2, k.3, k.4)
+          | inr s ↦ elim (chosen (bytes_eq verb (codes "delete")) _ _ (Some c) s.1) [
+            | inl p ↦
+                let m = map_some Delete (key_in args) c p.1 in
+                let k = key_is args m.0 m.1 in
+                subst (SpellsCommand (verb ∷ args)) m.2 (k.0, one_field verb (codes "delete") k.0 args (is_text verb (codes "delete") p.0) k.1, k.2)
             | inr n ↦ cc n.1
           ]
+        ]
+      ]
     ]
 
 is_command : (fs : List (List ℕ)) (c : Command) → SpellsCommand fs c → command_of fs ≡ Some c
-unfolding command_of get_of insert_of
+unfolding command_of key_in pair_in
 is_command fs (Get key) h = rw (h.1, means_value h.0 key h.2) refl
 is_command fs (Insert key value) h = rw (h.2, means_value h.0 key h.3, means_value h.1 value h.4) refl
+is_command fs (Upsert key value) h = rw (h.2, means_value h.0 key h.3, means_value h.1 value h.4) refl
+is_command fs (Delete key) h = rw (h.1, means_value h.0 key h.2) refl
 
--- a command with a key or a value that is too long
+-- a pair of which one part is too long
 pub too_long_pair : (k v key value : List ℕ) → token_value k ≡ Some key → token_value v ≡ Some value → (32 < length key) ⊎ (32 < length value)
-    → (c : Command) × (insert_of (k ∷ v ∷ []) ≡ Some c) × (IsShortCommand c → ⊥)
-unfolding insert_of
-too_long_pair k v key value a b (inl long) = (Insert key value, rw (a, b) refl, λ short. omega arith)
-too_long_pair k v key value a b (inr long) = (Insert key value, rw (a, b) refl, λ short. omega arith)
+    → (pair : List ℕ × List ℕ) × (pair_in (k ∷ v ∷ []) ≡ Some pair) × (IsShortPair pair → ⊥)
+unfolding pair_in
+too_long_pair k v key value a b (inl long) = ((key, value), rw (a, b) refl, λ short. omega arith)
+too_long_pair k v key value a b (inr long) = ((key, value), rw (a, b) refl, λ short. omega arith)
 
 -- ---- lines
 

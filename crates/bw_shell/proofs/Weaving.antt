@@ -1,7 +1,7 @@
 -- Laws of whole runs.
 use Rattle.std.proofs.Common.{◌≡◌, ℕ, List, [], ◌∷◌, ◌++◌, length, refl, sym, ap, ◌∙◌, arith, ◌⊎◌, inl, inr, Bool, true, false, not, Option, Some, None, append_assoc, ◌↔◌}
 use Rattle.std.specs.Io.KnownBytes.{Consumes, Keeps}
-use Rattle.bw_shell.specs.Turns.{Trace, opening}
+use Rattle.bw_shell.specs.Turns.{Trace, IsOneMap, opening}
 use Rattle.bw_model.specs.declared.limits.Limits.{Limits}
 use Rattle.std.proofs.lemmas.List.{append-nil}
 use Rattle.bw_shell.specs.Output.{Sink, Puts, Shows, Writes}
@@ -74,16 +74,16 @@ writes_whole a b t s sound fresh ends = at b.failed refl
     }
 
 pub is_woven : (limits : Limits) (in_old in_new : Option (List ℕ)) (rf : Bool) (a b c : Sink) (after : Trace) (refused : Bool) (status : ℕ)
-    → HasRun (opening limits) in_old in_new rf a b after refused → Shows b c [] → a.failed ≡ false → a.held ≡ [] → (c.failed ≡ false → c.held ≡ [])
+    → HasRun (opening limits) in_old in_new rf a b after refused → IsOneMap after → Shows b c [] → a.failed ≡ false → a.held ≡ [] → (c.failed ≡ false → c.held ≡ [])
     → (status ≡ 0) ↔ ((rf ≡ false) × (c.failed ≡ false) × (refused ≡ false)) → (status ≡ 0) ⊎ (status ≡ 1)
     → IsWoven limits in_old in_new rf a.contents c.contents c.failed status
-is_woven limits in_old in_new rf a b c after refused status h last sound fresh ends is either = record {
+is_woven limits in_old in_new rf a b c after refused status h one last sound fresh ends is either = record {
   taken = h.taken;
   after = after;
   text = h.text;
   refused = refused;
   reads = h.reads;
-  says = inr (later_cut (opening limits) in_new h.taken rf after h.text refused b.failed c.failed (λ e. (last.stays e).1) h.says);
+  says = inr (later_cut (opening limits) in_new h.taken rf after h.text refused b.failed c.failed (λ e. (last.stays e).1) h.says, one);
   writes = writes_whole a c h.text (shows_then h.shows last) sound fresh ends;
   status_is = is;
   status_else = either;

@@ -1,9 +1,9 @@
 -- What fields ask for, as a function: the way of the code. `Asks` of Request is the grammar.
-use Rattle.std.specs.Prelude.{◌≡◌, ℕ, ◌&&◌, nat_le, if◌then◌else◌, List, [], ◌∷◌, codes, option_map, Option, Some, None, Result, Ok, Err}
+use Rattle.std.specs.Prelude.{◌≡◌, ℕ, ◌≤◌, length, ◌&&◌, nat_le, if◌then◌else◌, List, [], ◌∷◌, codes, option_map, Option, Some, None, Result, Ok, Err}
 use Rattle.std.specs.Option.{option_and_then}
 use Rattle.std.specs.Str.{bytes_eq}
 use Rattle.bw_model.specs.declared.command.Command.{Command}
-use Rattle.bw_model.specs.declared.command.Command.TheVariants.{Get, Insert}
+use Rattle.bw_model.specs.declared.command.Command.TheVariants.{Get, Insert, Upsert, Delete}
 use Rattle.bw_shell.specs.declared.request.Request.{Request}
 use Rattle.bw_shell.specs.declared.request.Request.TheVariants.{Begin, Turn, Finish, List as ListPairs}
 use Rattle.bw_shell.specs.declared.token.LineError.{LineError}
@@ -12,20 +12,27 @@ use Rattle.bw_shell.specs.Token.{token_value}
 use Rattle.bw_shell.specs.Number.{number_of, capped}
 use Rattle.bw_shell.specs.Request.{IsShort, IsShortCommand}
 
-unfoldable pub get_of : List (List ℕ) → Option Command
-get_of [] = None
-get_of (k ∷ []) = option_map Get (token_value k)
-get_of (k ∷ x ∷ rest) = None
+-- the key that the fields after a verb give, if they are one token
+unfoldable pub key_in : List (List ℕ) → Option (List ℕ)
+key_in [] = None
+key_in (k ∷ []) = token_value k
+key_in (k ∷ x ∷ rest) = None
 
-unfoldable pub insert_of : List (List ℕ) → Option Command
-insert_of [] = None
-insert_of (k ∷ []) = None
-insert_of (k ∷ v ∷ []) = option_and_then (λ key. option_map (Insert key) (token_value v)) (token_value k)
-insert_of (k ∷ v ∷ x ∷ rest) = None
+-- the key and the value that they give, if they are two
+unfoldable pub pair_in : List (List ℕ) → Option (List ℕ × List ℕ)
+pair_in [] = None
+pair_in (k ∷ []) = None
+pair_in (k ∷ v ∷ []) = option_and_then (λ key. option_map (λ value. (key, value)) (token_value v)) (token_value k)
+pair_in (k ∷ v ∷ x ∷ rest) = None
 
 unfoldable pub command_of : List (List ℕ) → Option Command
 command_of [] = None
-command_of (verb ∷ args) = if bytes_eq verb (codes "get") then get_of args else if bytes_eq verb (codes "insert") then insert_of args else None
+command_of (verb ∷ args) =
+    if bytes_eq verb (codes "get") then option_map Get (key_in args)
+    else if bytes_eq verb (codes "insert") then option_map (λ pair. Insert pair.0 pair.1) (pair_in args)
+    else if bytes_eq verb (codes "upsert") then option_map (λ pair. Upsert pair.0 pair.1) (pair_in args)
+    else if bytes_eq verb (codes "delete") then option_map Delete (key_in args)
+    else None
 
 -- an actor's number
 abbrev pub actor_of : List ℕ → Option ℕ
@@ -62,7 +69,16 @@ asked (verb ∷ args) =
     else if bytes_eq verb (codes "list") then list_of args
     else None
 
+-- no key or value of a pair is too long
+abbrev pub IsShortPair : List ℕ × List ℕ → Type 0
+IsShortPair pair = (length pair.0 ≤ 32) × (length pair.1 ≤ 32)
+
 -- what is answered, given what the fields request for
+abbrev pub GivesPair : Result (List ℕ × List ℕ) LineError → Option (List ℕ × List ℕ) → Type 0
+GivesPair (Ok pair) found = (found ≡ Some pair) × IsShortPair pair
+GivesPair (Err Malformed) found = found ≡ None
+GivesPair (Err TooLong) found = (pair : List ℕ × List ℕ) × (found ≡ Some pair) × (IsShortPair pair → ⊥)
+
 abbrev pub GivesCommand : Result Command LineError → Option Command → Type 0
 GivesCommand (Ok command) found = (found ≡ Some command) × IsShortCommand command
 GivesCommand (Err Malformed) found = found ≡ None

@@ -1,7 +1,7 @@
 -- What a line asks for.
 use Rattle.std.specs.Prelude.{◌≡◌, ℕ, ◌≤◌, List, [], ◌∷◌, length, codes, Some}
 use Rattle.bw_model.specs.declared.command.Command.{Command}
-use Rattle.bw_model.specs.declared.command.Command.TheVariants.{Get, Insert}
+use Rattle.bw_model.specs.declared.command.Command.TheVariants.{Get, Insert, Upsert, Delete}
 use Rattle.bw_shell.specs.declared.request.Request.{Request}
 use Rattle.bw_shell.specs.declared.request.Request.TheVariants.{Begin, Turn, Finish, List as ListPairs}
 use Rattle.bw_shell.specs.Token.{Means}
@@ -16,6 +16,8 @@ IsNumber text n = (m : ℕ) × (number_of text ≡ Some m) × (n ≡ capped m)
 abbrev pub SpellsCommand : List (List ℕ) → Command → Type 0
 SpellsCommand fields (Get key) = (k : List ℕ) × (fields ≡ codes "get" ∷ k ∷ []) × Means k key
 SpellsCommand fields (Insert key value) = (k : List ℕ) × (v : List ℕ) × (fields ≡ codes "insert" ∷ k ∷ v ∷ []) × Means k key × Means v value
+SpellsCommand fields (Upsert key value) = (k : List ℕ) × (v : List ℕ) × (fields ≡ codes "upsert" ∷ k ∷ v ∷ []) × Means k key × Means v value
+SpellsCommand fields (Delete key) = (k : List ℕ) × (fields ≡ codes "delete" ∷ k ∷ []) × Means k key
 
 -- the fields request for this
 abbrev pub Asks : List (List ℕ) → Request → Type 0
@@ -32,6 +34,8 @@ Says line request = (length line ≤ 1024) × Asks (fields_of line) request
 abbrev pub IsShortCommand : Command → Type 0
 IsShortCommand (Get key) = length key ≤ 32
 IsShortCommand (Insert key value) = (length key ≤ 32) × (length value ≤ 32)
+IsShortCommand (Upsert key value) = (length key ≤ 32) × (length value ≤ 32)
+IsShortCommand (Delete key) = length key ≤ 32
 
 abbrev pub IsShort : Request → Type 0
 IsShort (Begin actor command) = IsShortCommand command

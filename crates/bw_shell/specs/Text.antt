@@ -2,7 +2,7 @@
 use Rattle.std.specs.Prelude.{ℕ, List, [], ◌++◌, length, codes, decimal, Option, Some, None}
 use Rattle.std.specs.List.{flat_map}
 use Rattle.bw_model.specs.declared.command.Reply.{Reply}
-use Rattle.bw_model.specs.declared.command.Reply.TheVariants.{Value, None as NoValue, Inserted, Exists, Full}
+use Rattle.bw_model.specs.declared.command.Reply.TheVariants.{Value, None as NoValue, Inserted, Exists, Set, Replaced, Deleted, Absent, Full}
 use Rattle.bw_shell.specs.Token.{printed}
 
 -- a reply, as it stands behind its actor
@@ -11,6 +11,10 @@ reply_text (Value v) = codes " value " ++ printed v ++ codes "\n"
 reply_text NoValue = codes " none\n"
 reply_text Inserted = codes " inserted\n"
 reply_text (Exists v) = codes " exists " ++ printed v ++ codes "\n"
+reply_text Set = codes " set\n"
+reply_text (Replaced v) = codes " replaced " ++ printed v ++ codes "\n"
+reply_text (Deleted v) = codes " deleted " ++ printed v ++ codes "\n"
+reply_text Absent = codes " absent\n"
 reply_text Full = codes " full\n"
 
 -- what a `turn` prints

@@ -2,11 +2,12 @@
 use Rattle.std.specs.Prelude.{◌≡◌, ℕ, ◌+◌, ◌<◌, suc, zero, ◌⊎◌, List, [], ◌∷◌, ◌++◌, Bool, true, false, Option, Some, None, Result, Ok, Err}
 use Rattle.bw_model.specs.declared.command.Reply.{Reply}
 use Rattle.chain_search.specs.declared.trace.Turn.TheVariants.{Begin as BeginTurn, Step}
+use Rattle.step_core.specs.Listed.{IsListing}
 use Rattle.bw_shell.specs.Request.{Says, IsShort}
 use Rattle.bw_shell.specs.declared.request.Request.{Request}
 use Rattle.bw_shell.specs.declared.request.Request.TheVariants.{Begin, Turn, Finish, List as ListPairs}
 use Rattle.bw_shell.specs.Text.{turned_text, finished_text, listing_text, refused_text}
-use Rattle.bw_shell.specs.Turns.{Trace, Takes, Refuses}
+use Rattle.bw_shell.specs.Turns.{Trace, IsOneMap, Takes, Refuses}
 
 -- the actor took so many turns, and none of them ended its operation
 unfoldable pub StepsOn : Trace → ℕ → ℕ → Trace → Type 0
@@ -22,12 +23,12 @@ TakesUpTo before actor limit (Some reply) after = (n : ℕ) × (n < limit) × (m
 abbrev pub RefusedWithin : Trace → ℕ → ℕ → ℕ → Trace → Type 0
 RefusedWithin before actor limit code after = (n : ℕ) × (n < limit) × StepsOn before actor n after × Refuses after (Step actor) code
 
--- what is asked for is done, and this is printed; which pairs a listing has is said by the core's own contract
+-- what is asked for is done, and this is printed; a listing has exactly the pairs that stand at that moment
 abbrev pub Performs : Trace → Request → Trace → List ℕ → Type 0
 Performs before (Begin actor command) after text = Takes before (BeginTurn actor command) None after × (text ≡ [])
 Performs before (Turn actor count) after text = (reply : Option Reply) × TakesUpTo before actor count reply after × (text ≡ turned_text actor reply)
 Performs before (Finish actor) after text = (reply : Option Reply) × TakesUpTo before actor 100000 reply after × (text ≡ finished_text actor reply)
-Performs before ListPairs after text = (after ≡ before) × (pairs : List (List ℕ × List ℕ)) × (text ≡ listing_text pairs)
+Performs before ListPairs after text = (after ≡ before) × IsOneMap before × (pairs : List (List ℕ × List ℕ)) × IsListing before.limits before.entries pairs × (text ≡ listing_text pairs)
 
 -- what is asked for is refused
 abbrev pub RefusesRequest : Trace → Request → ℕ → Trace → Type 0

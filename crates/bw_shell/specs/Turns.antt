@@ -1,5 +1,5 @@
 -- Turns of a core, as its trace shows them, and why a turn is refused.
-use Rattle.std.specs.Prelude.{◌≡◌, ℕ, ◌⊎◌, List, [], ◌∷◌, ◌++◌, nat_lt, is_some, if◌then◌else◌, Option, None, Some}
+use Rattle.std.specs.Prelude.{◌≡◌, ℕ, ◌⊎◌, List, [], ◌∷◌, ◌++◌, map, nat_lt, is_some, if◌then◌else◌, Option, None, Some}
 use Rattle.bw_model.specs.declared.command.Reply.{Reply}
 use Rattle.bw_model.specs.declared.limits.Limits.{Limits}
 use Rattle.chain_search.specs.declared.trace.Entry.{Entry}
@@ -7,6 +7,7 @@ use Rattle.chain_search.specs.declared.trace.Entry.TheVariants as entry
 use Rattle.chain_search.specs.declared.trace.Turn.{Turn}
 use Rattle.chain_search.specs.declared.trace.Turn.TheVariants.{Begin, Step}
 use Rattle.chain_search.specs.Trace.{command_of, turn_of}
+use Rattle.op_machine.specs.Linearized.{IsLinearized}
 use Rattle.step_core.specs.Turns.{Core}
 use Rattle.step_core.specs.declared.event.RunError.{RunError}
 use Rattle.step_core.specs.declared.event.RunError.TheVariants.{NoActor, Unfinished, NoOperation, Memory}
@@ -21,6 +22,10 @@ seen core = record { limits = core.limits; entries = core.entries }
 
 abbrev pub opening : Limits → Trace
 opening limits = record { limits = limits; entries = [] }
+
+-- The turns so far took effect one at a time, on one ordered map.
+abbrev pub IsOneMap : Trace → Type 0
+IsOneMap trace = IsLinearized trace.limits (map turn_of trace.entries) trace.entries
 
 -- The code of a turn that the trace refuses: 4 where there is no such actor, 5 where an operation begins before the
 -- actor's last one is done, 6 where the actor has no operation that could take a step.

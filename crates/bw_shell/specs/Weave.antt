@@ -6,7 +6,7 @@ use Rattle.bw_shell.specs.declared.request.Request.{Request}
 use Rattle.bw_shell.specs.Lines.{lines_of, Splits}
 use Rattle.bw_shell.specs.Output.{Sink, Shows, Writes}
 use Rattle.bw_shell.specs.Transcript.{Transcript, RequestTold}
-use Rattle.bw_shell.specs.Turns.{Trace, opening}
+use Rattle.bw_shell.specs.Turns.{Trace, IsOneMap, opening}
 
 -- With part of line n in hand the bytes are read: their whole lines are run, and part' is in hand.
 pub record Weaves (n : ℕ) (before : Trace) (part bytes : List ℕ) (n' : ℕ) (after : Trace) (part' text : List ℕ) : Type 0 where
@@ -50,12 +50,12 @@ pub record HasRun (before : Trace) (in_old in_new : Option (List ℕ)) (read_fai
   pub says : IsTranscriptFrom before in_new taken read_failed after text refused new.failed
   pub shows : Shows old new text
 
--- The text is a transcript of what is read, as far as it goes.
+-- The text is a transcript of what is read, as far as it goes, of turns that took effect one at a time, on one ordered map.
 abbrev pub IsTranscriptOf : Limits → Option (List ℕ) → List ℕ → Bool → Trace → List ℕ → Bool → Bool → Type 0
 IsTranscriptOf limits left taken read_failed after text refused write_failed =
     -- no core could be opened
     ((taken ≡ []) × (read_failed ≡ false) × (refused ≡ true) × (after ≡ opening limits) × (text ≡ codes "refused: 12\n"))
-    ⊎ IsTranscriptFrom (opening limits) left taken read_failed after text refused write_failed
+    ⊎ (IsTranscriptFrom (opening limits) left taken read_failed after text refused write_failed × IsOneMap after)
 
 -- The whole run: what is taken from the reader, the core's trace, the text for them, and how much of it was written.
 pub record IsWoven (limits : Limits) (in_old in_new : Option (List ℕ)) (read_failed : Bool) (out_old out_new : Option (List ℕ)) (write_failed : Bool) (status : ℕ) : Type 0 where

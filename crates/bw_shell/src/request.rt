@@ -3,14 +3,15 @@
 ghost use Rattle.std.specs.Prelude.{◌≡◌, ◌<◌, ◌≤◌, ℕ, List, [], ◌∷◌, IfOk, IsErrOf, length};
 ghost use Rattle.std.specs.Option.{option_copied};
 ghost use Rattle.bw_shell.specs.Fields.{fields_in, fields_of};
+ghost use Rattle.bw_shell.specs.Gives.{Gives};
 ghost use Rattle.bw_shell.specs.Request.{Says, IsShort};
-ghost use Rattle.bw_shell.specs.Reading.{GivesCommand, GivesRequest, get_of, insert_of, command_of, begin_of, turn_of, finish_of, list_of, asked};
+ghost use Rattle.bw_shell.specs.Reading.{GivesCommand, GivesPair, GivesRequest, key_in, pair_in, command_of, begin_of, turn_of, finish_of, list_of, asked};
 ghost use Rattle.bw_shell.specs.declared.request.Request.{Request as RequestSeen};
 
 use crate::fields::next_field;
 use crate::number::read_number;
 use crate::token::{LineError, key_of, value_of};
-use bw_model::Command;
+use bw_model::{Command, Key, Value};
 
 /// What a line asks for.
 #[derive(Drop)]
@@ -21,9 +22,9 @@ pub enum Request {
     List,
 }
 
-#[tactic(auto, unfolding(crate::specs::Reading::get_of))]
-fn read_get(args: Option<&[u8]>) -> Result<Command, LineError>
-    ensures { GivesCommand result (get_of (fields_in (option_copied args.entry))) }
+#[tactic(auto, unfolding(crate::specs::Reading::key_in))]
+fn read_key(args: Option<&[u8]>) -> Result<Key, LineError>
+    ensures { Gives result (key_in (fields_in (option_copied args.entry))) }
 {
     let Some((key, rest)) = next_field(args) else {
         return Err(LineError::Malformed);
@@ -31,16 +32,13 @@ fn read_get(args: Option<&[u8]>) -> Result<Command, LineError>
     if next_field(rest).is_some() {
         return Err(LineError::Malformed);
     }
-    match key_of(key) {
-        Ok(key) => Ok(Command::Get(key)),
-        Err(error) => Err(error),
-    }
+    key_of(key)
 }
 
 // A token outside the grammar comes before one that is too long.
-#[tactic(auto, unfolding(crate::specs::Reading::insert_of))]
-fn insert_by(key: &[u8], value: &[u8]) -> Result<Command, LineError>
-    ensures { GivesCommand result (insert_of (key.now ∷ value.now ∷ [])) }
+#[tactic(auto, unfolding(crate::specs::Reading::pair_in))]
+fn pair_by(key: &[u8], value: &[u8]) -> Result<(Key, Value), LineError>
+    ensures { GivesPair result (pair_in (key.now ∷ value.now ∷ [])) }
 {
     match key_of(key) {
         Err(LineError::Malformed) => Err(LineError::Malformed),
@@ -50,15 +48,15 @@ fn insert_by(key: &[u8], value: &[u8]) -> Result<Command, LineError>
             Ok(_) => Err(LineError::TooLong),
         },
         Ok(key) => match value_of(value) {
-            Ok(value) => Ok(Command::Insert(key, value)),
+            Ok(value) => Ok((key, value)),
             Err(error) => Err(error),
         },
     }
 }
 
-#[tactic(auto, unfolding(crate::specs::Reading::insert_of))]
-fn read_insert(args: Option<&[u8]>) -> Result<Command, LineError>
-    ensures { GivesCommand result (insert_of (fields_in (option_copied args.entry))) }
+#[tactic(auto, unfolding(crate::specs::Reading::pair_in))]
+fn read_pair(args: Option<&[u8]>) -> Result<(Key, Value), LineError>
+    ensures { GivesPair result (pair_in (fields_in (option_copied args.entry))) }
 {
     let Some((key, rest)) = next_field(args) else {
         return Err(LineError::Malformed);
@@ -69,7 +67,7 @@ fn read_insert(args: Option<&[u8]>) -> Result<Command, LineError>
     if next_field(rest).is_some() {
         return Err(LineError::Malformed);
     }
-    insert_by(key, value)
+    pair_by(key, value)
 }
 
 #[tactic(auto, unfolding(crate::specs::Reading::command_of))]
@@ -80,10 +78,18 @@ fn read_command(fields: Option<&[u8]>) -> Result<Command, LineError>
         return Err(LineError::Malformed);
     };
     if verb == b"get".as_slice() {
-        return read_get(args);
+        return Ok(Command::Get(read_key(args)?));
     }
     if verb == b"insert".as_slice() {
-        return read_insert(args);
+        let (key, value) = read_pair(args)?;
+        return Ok(Command::Insert(key, value));
+    }
+    if verb == b"upsert".as_slice() {
+        let (key, value) = read_pair(args)?;
+        return Ok(Command::Upsert(key, value));
+    }
+    if verb == b"delete".as_slice() {
+        return Ok(Command::Delete(read_key(args)?));
     }
     Err(LineError::Malformed)
 }

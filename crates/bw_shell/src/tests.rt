@@ -128,6 +128,16 @@ fn replies(rt: HostRuntime) {
             0,
         ),
         (
+            b"begin 0 delete a\nturn 0 6\nlist\n",
+            b"0 absent\npairs 0\n",
+            0,
+        ),
+        (
+            b"begin 0 upsert a 1\nfinish 0\nbegin 1 upsert a 2\nfinish 1\nbegin 0 delete a\nfinish 0\nbegin 0 get a\nfinish 0\nlist\n",
+            b"0 set\n1 replaced 1\n0 deleted 2\n0 none\npairs 0\n",
+            0,
+        ),
+        (
             b"begin 0 insert = =\nfinish 0\nbegin 0 get =\nfinish 0\nlist\n",
             b"0 inserted\n0 value =\npairs 1\n= =\n",
             0,
@@ -196,8 +206,8 @@ fn odd_lines(rt: HostRuntime) {
             1,
         ),
         (b"turn 256 1\n", b"refused line 1: 4\n", 1),
-        (b"begin 0 upsert a 1\n", b"refused line 1: 11\n", 1),
-        (b"begin 0 delete a\n", b"refused line 1: 11\n", 1),
+        (b"begin 0 upsert a\n", b"refused line 1: 11\n", 1),
+        (b"begin 0 delete a b\n", b"refused line 1: 11\n", 1),
         (b"begin 0 page a\n", b"refused line 1: 11\n", 1),
         (b"begin 0 tidy a\n", b"refused line 1: 11\n", 1),
         (b"until 0 put\n", b"refused line 1: 11\n", 1),
@@ -212,12 +222,42 @@ fn odd_lines(rt: HostRuntime) {
 }
 
 #[test]
+fn a_page_is_consolidated(rt: HostRuntime) {
+    let input =
+        b"begin 0 insert k01 v01\nfinish 0\nbegin 0 insert k02 v02\nfinish 0\nbegin 0 insert k03 v03\nfinish 0\nbegin 0 insert k04 v04\nfinish 0\nbegin 0 insert k05 v05\nfinish 0\nbegin 0 insert k06 v06\nfinish 0\nbegin 0 insert k07 v07\nfinish 0\nbegin 0 insert k08 v08\nfinish 0\nbegin 0 insert k09 v09\nturn 0 24\nturn 0 1\nbegin 0 insert k10 v10\nturn 0 10\nturn 0 1\nlist\n";
+    let output =
+        b"0 inserted\n0 inserted\n0 inserted\n0 inserted\n0 inserted\n0 inserted\n0 inserted\n0 inserted\n0 inserted\n0 inserted\npairs 10\nk01 v01\nk02 v02\nk03 v03\nk04 v04\nk05 v05\nk06 v06\nk07 v07\nk08 v08\nk09 v09\nk10 v10\n";
+    agree(&rt, rt.alloc(), &[(input, output, 0)]);
+}
+
+#[test]
 fn a_full_page(rt: HostRuntime) {
     let input =
-        b"begin 0 insert k01 v01\nfinish 0\nbegin 0 insert k02 v02\nfinish 0\nbegin 0 insert k03 v03\nfinish 0\nbegin 0 insert k04 v04\nfinish 0\nbegin 0 insert k05 v05\nfinish 0\nbegin 0 insert k06 v06\nfinish 0\nbegin 0 insert k07 v07\nfinish 0\nbegin 0 insert k08 v08\nfinish 0\nbegin 0 insert k09 v09\nturn 0 13\nturn 0 1\nbegin 0 get k08\nfinish 0\nlist\n";
+        b"begin 0 insert k01 v01\nfinish 0\nbegin 0 insert k02 v02\nfinish 0\nbegin 0 insert k03 v03\nfinish 0\nbegin 0 insert k04 v04\nfinish 0\nbegin 0 insert k05 v05\nfinish 0\nbegin 0 insert k06 v06\nfinish 0\nbegin 0 insert k07 v07\nfinish 0\nbegin 0 insert k08 v08\nfinish 0\nbegin 0 insert k09 v09\nfinish 0\nbegin 0 insert k10 v10\nfinish 0\nbegin 0 insert k11 v11\nfinish 0\nbegin 0 insert k12 v12\nfinish 0\nbegin 0 insert k13 v13\nfinish 0\nbegin 0 insert k14 v14\nfinish 0\nbegin 0 insert k15 v15\nfinish 0\nbegin 0 insert k16 v16\nfinish 0\nbegin 0 insert k17 v17\nfinish 0\nbegin 0 delete k01\nfinish 0\nbegin 0 get k08\nfinish 0\nlist\n";
     let output =
-        b"0 inserted\n0 inserted\n0 inserted\n0 inserted\n0 inserted\n0 inserted\n0 inserted\n0 inserted\n0 full\n0 value v08\npairs 8\nk01 v01\nk02 v02\nk03 v03\nk04 v04\nk05 v05\nk06 v06\nk07 v07\nk08 v08\n";
+        b"0 inserted\n0 inserted\n0 inserted\n0 inserted\n0 inserted\n0 inserted\n0 inserted\n0 inserted\n0 inserted\n0 inserted\n0 inserted\n0 inserted\n0 inserted\n0 inserted\n0 inserted\n0 inserted\n0 full\n0 full\n0 value v08\npairs 16\nk01 v01\nk02 v02\nk03 v03\nk04 v04\nk05 v05\nk06 v06\nk07 v07\nk08 v08\nk09 v09\nk10 v10\nk11 v11\nk12 v12\nk13 v13\nk14 v14\nk15 v15\nk16 v16\n";
     agree(&rt, rt.alloc(), &[(input, output, 0)]);
+}
+
+// Fifty-six updates and six consolidations use the 62 free rows; the next operation needs a row for a seventh one.
+#[test]
+fn rows_run_out(rt: HostRuntime) -> Result<(), Fail> {
+    let limits = Limits::new(1, 64, 64, 1)?;
+    let mut input = Vec::new(rt.alloc());
+    let mut output = Vec::new(rt.alloc());
+    output.extend_from_slice(b"0 set\n")?;
+    for _ in 0..56u32 {
+        input.extend_from_slice(b"begin 0 upsert a x\nfinish 0\n")?;
+    }
+    for _ in 0..55u32 {
+        output.extend_from_slice(b"0 replaced x\n")?;
+    }
+    input.extend_from_slice(b"begin 0 upsert a x\nfinish 0\n")?;
+    output.extend_from_slice(b"0 full\n")?;
+    let woven = whole(rt.alloc(), limits, input.as_slice());
+    assert_eq!(rt; woven.output.as_slice(), output.as_slice());
+    assert_eq!(rt; woven.status, 0);
+    Ok(())
 }
 
 #[test]

@@ -66,6 +66,10 @@ pub fn show_reply<O: Output>(out: &mut O, reply: &Reply)
         Reply::None => out.show(b" none\n"),
         Reply::Inserted => out.show(b" inserted\n"),
         Reply::Exists(value) => show_with(out, b" exists ", value),
+        Reply::Set => out.show(b" set\n"),
+        Reply::Replaced(value) => show_with(out, b" replaced ", value),
+        Reply::Deleted(value) => show_with(out, b" deleted ", value),
+        Reply::Absent => out.show(b" absent\n"),
         Reply::Full => out.show(b" full\n"),
     }
 }

@@ -1,7 +1,8 @@
 //! Turns of the core.
 
 ghost use Rattle.std.specs.Prelude.{◌≡◌, None, IfErr, IfOk, OnOk};
-ghost use Rattle.bw_shell.specs.Turns.{code_of, seen, Takes, Refuses};
+ghost use Rattle.step_core.specs.Listed.{IsListing};
+ghost use Rattle.bw_shell.specs.Turns.{code_of, seen, IsOneMap, Takes, Refuses};
 ghost use Rattle.bw_shell.specs.Transcript.{StepTold, TurnsTold};
 
 use bw_model::{Command, Key, Reply, Value};
@@ -64,10 +65,13 @@ pub fn steps(core: &mut Core, actor: u64, limit: u64) -> Result<Option<Reply>, u
     Ok(None)
 }
 
-/// All pairs, or the code of the refusal.
+/// All pairs that stand, or the code of the refusal.
 pub fn pairs_of(alloc: Global, core: &Core) -> Result<Vec<(Key, Value)>, u64>
-    ensures { IfErr result (λ code. code ≡ 7) }
+    ensures pairs { IfOk result (λ pairs. IsListing core.now.limits core.now.entries pairs.items) }
+    ensures linearized { IsOneMap (seen core.now) }
+    ensures refused { IfErr result (λ code. code ≡ 7) }
 {
+    core.linearized();
     match core.listing(alloc) {
         Ok(pairs) => Ok(pairs),
         Err(_) => Err(7),

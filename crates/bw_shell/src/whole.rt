@@ -74,6 +74,7 @@ pub fn weave<I: Input, O: Output>(alloc: Global, limits: Limits, input: &mut I, 
         }
     };
     let refused = run(alloc, &mut weaver, input, out);
+    weaver.core.linearized();
     out.finish();
     if refused {
         return 1;

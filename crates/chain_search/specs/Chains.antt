@@ -14,6 +14,11 @@ abbrev pub IsChainFrom : (ℕ → Option Record) → ℕ → List Record → Typ
 IsChainFrom rows row [] = ⊥
 IsChainFrom rows row (newest ∷ under) = (rows row ≡ Some newest) × MatchOption (next_row newest) (under ≡ []) (λ next. IsChainFrom rows next under)
 
+-- These records lead from a row to the next one to read.
+abbrev pub IsFront : (ℕ → Option Record) → ℕ → List Record → ℕ → Type 0
+IsFront rows row [] next = row ≡ next
+IsFront rows row (newest ∷ under) next = (rows row ≡ Some newest) × MatchOption (next_row newest) ⊥ (λ below. IsFront rows below under next)
+
 -- The chain of a page, newest record first. Slot 0 has none, nor has a slot that holds 0.
 pub record IsChainOf (memory : Memory) (pid : ℕ) (chain : List Record) : Type 0 where
   pub page : 0 < pid

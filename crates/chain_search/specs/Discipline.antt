@@ -1,103 +1,273 @@
--- What an actor may do, by what it knows.
-use Rattle.std.specs.Prelude.{◌≡◌, ◌<◌, ◌≤◌, ◌/◌, ℕ, ◌⊎◌, List, [], ◌∷◌, ◌++◌, length, Option, Some, None, IfSome, IsSome, true, false}
+-- What an actor may do, by what it knows from its own entries alone: no more than what the law needs.
+use Rattle.std.specs.Prelude.{◌≡◌, ◌<◌, ◌≤◌, ◌/◌, ℕ, zero, suc, ◌⊎◌, List, [], ◌∷◌, length, Option, None, Some, Bool, true, false, IsTrue, IsFalse, IfSome, MatchOption, ⊤}
 use Rattle.bw_model.specs.declared.command.Command.{Command}
 use Rattle.bw_model.specs.declared.command.Reply.{Reply}
 use Rattle.bw_model.specs.declared.command.Reply.TheVariants.{Full}
 use Rattle.bw_model.specs.declared.limits.Limits.{Limits}
 use Rattle.bw_model.specs.declared.step.Step.{Step as StepOf}
-use Rattle.bw_model.specs.declared.step.Step.TheVariants.{Slot, Row, Epoch, PidBits, RowBits, Place, Exchange, TakeRow, Enter, Leave}
+use Rattle.bw_model.specs.declared.step.Step.TheVariants.{Slot, Row, Epoch, Announce, PidBits, RowBits, Place, Exchange, TakePid, TakeRow, Enter, Leave, Retire, ReusePids, ReuseRows}
+use Rattle.bw_model.specs.Bytes.{is_below, is_under}
 use Rattle.bw_model.specs.Log.{Update, set, unset}
 use Rattle.bw_model.specs.Replies.{command_key, reply_of, update_of}
 use Rattle.base_page.specs.declared.item.Content.{Content}
 use Rattle.base_page.specs.declared.item.Content.TheVariants.{Value, Child}
 use Rattle.base_page.specs.declared.item.Item.{Item}
-use Rattle.base_page.specs.Pages.{Page, content_at}
+use Rattle.base_page.specs.Pages.{content_at}
 use Rattle.deltas.specs.declared.record.Record.{Record}
-use Rattle.deltas.specs.declared.record.Record.TheVariants.{Base, Put, Delete}
-use Rattle.chain_search.specs.Chains.{IsChainFrom, IsItemsOf, content_in, level_in, low_in, high_in, right_in, is_removed}
-use Rattle.chain_search.specs.declared.trace.Entry.{Entry}
-use Rattle.chain_search.specs.declared.trace.Entry.TheVariants.{Begin, Step}
-use Rattle.chain_search.specs.Knowledge.{IsOwn, Written, Knowledge, knows}
-use Rattle.chain_search.specs.Steps.{IsAnswer}
-use Rattle.chain_search.specs.Trace.{memory_of, command_of}
+use Rattle.deltas.specs.declared.record.Record.TheVariants.{Base, Put, Delete, Split, Term, Hold, Remove, Merge, Unterm}
+use Rattle.deltas.specs.Records.{next_row}
+use Rattle.chain_search.specs.Chains.{IsChainFrom, IsItemsOf, content_in, level_in, low_in, high_in, right_in, is_removed, covers}
+use Rattle.chain_search.specs.Fitted.{FitsOver, IsFitted}
+use Rattle.chain_search.specs.Knowledge.{OwnRow, Foreign, Taken, Written, Empty, Ready, Gone, Knowledge}
 
--- the record that makes this update over the chain of the row
+abbrev pub IsOwn : OwnRow → Type 0
+IsOwn Foreign = ⊥
+IsOwn Taken = ⊤
+IsOwn (Written content) = ⊤
+
+-- the record that makes this update over the chain of this row
 abbrev pub record_of : Update → ℕ → Record
-record_of (set actor key value) row = Put (record { next = row; key = key; value = value })
-record_of (unset actor key) row = Delete (record { next = row; key = key })
+record_of (set actor key value) next = Put (record { next = next; key = key; value = value })
+record_of (unset actor key) next = Delete (record { next = next; key = key })
 
 abbrev pub value_of : Option Content → Option (List ℕ)
-value_of None = None
 value_of (Some (Value value)) = Some value
-value_of (Some (Child page held)) = None
+value_of _ = None
 
--- the value that a chain decides for the key
+-- the value that a leaf's chain decides for the key
 abbrev pub found : List Record → List ℕ → Option (List ℕ)
 found chain key = value_of (content_in chain key)
 
--- A whole chain that was read, from the row that a slot held when it was last read.
-pub record HasRead (k : Knowledge) (page row : ℕ) (chain : List Record) : Type 0 where
+-- the page's slot was read as this row, and the whole chain from there, which is not removed
+pub record HasRead (k : Knowledge) (page row : ℕ) : Type 0 where
   pub head : k.heads page ≡ Some row
+  pub chain : List Record
   pub read : IsChainFrom k.seen row chain
+  pub alive : IsFalse (is_removed chain)
 
--- The base decides each key as the chain does, and has its level, its range, its right and its mark of removal.
-pub record IsConsolidated (chain : List Record) (base : Page) : Type 0 where
-  pub contents : (key : List ℕ) → content_at base.items key ≡ content_in chain key
-  pub level : base.level ≡ level_in chain
-  pub low : base.low ≡ low_in chain
-  pub high : base.high ≡ high_in chain
-  pub right : base.right ≡ right_in chain
-  pub removed : base.removed ≡ is_removed chain
-
--- An update may be linked over a chain that was read and has fewer than 8 deltas, once in an operation, where the command makes it there.
-pub record MayUpdate (actor : ℕ) (k : Knowledge) (page old new : ℕ) : Type 0 where
-  pub inside : k.inside ≡ true
-  pub asked : Command
-  pub going : k.command ≡ Some asked
-  pub unlinked : k.linked ≡ None
-  pub chain : List Record
-  pub read : HasRead k page old chain
-  pub short : length chain ≤ 8
-  pub update : Update
-  pub due : update_of actor asked (found chain (command_key asked)) ≡ Some update
-  pub placed : k.own new ≡ Written (record_of update old)
-
--- A chain that was read may be replaced by one base.
-pub record MayConsolidate (k : Knowledge) (page old new : ℕ) : Type 0 where
-  pub inside : k.inside ≡ true
-  pub chain : List Record
-  pub read : HasRead k page old chain
-  pub base : Page
-  pub same : IsConsolidated chain base
-  pub placed : k.own new ≡ Written (Base base)
-
-abbrev pub May : ℕ → Knowledge → StepOf Record → Type 0
-May actor k (Slot page) = (k.inside ≡ true) × ((page ≡ 0) ⊎ (k.pages page ≡ true))
-May actor k (Row row) = (k.inside ≡ true) × (k.learnt row ≡ true)
-May actor k Epoch = Unit {0}
-May actor k (PidBits word) = Unit {0}
-May actor k (RowBits word) = Unit {0}
-May actor k (TakeRow row) = Unit {0}
-May actor k (Place row content) = (k.inside ≡ true) × IsOwn (k.own row)
-May actor k (Exchange slot old new) = MayUpdate actor k slot old new ⊎ MayConsolidate k slot old new
-May actor k (Enter epoch) = 0 < epoch
-May actor k Leave = Unit {0}
-May actor k step = ⊥
-
--- A reply is that of the command over a whole chain that was read: the one over which the update was linked, or, where the
--- command makes no update there, one that a slot held in this operation.
-pub record MayReplyValue (actor : ℕ) (k : Knowledge) (reply : Reply) : Type 0 where
-  pub asked : Command
-  pub going : k.command ≡ Some asked
+-- a chain that was read names the page: as its right, or as a child
+pub record IsMet (k : Knowledge) (page : ℕ) : Type 0 where
   pub row : ℕ
   pub chain : List Record
   pub read : IsChainFrom k.seen row chain
-  pub is : reply_of asked (found chain (command_key asked)) ≡ Some reply
-  pub basis : (k.linked ≡ Some row) ⊎ ((k.linked ≡ None) × ((page : ℕ) × (k.heads page ≡ Some row)) × (update_of actor asked (found chain (command_key asked)) ≡ None))
+  pub named : (right_in chain ≡ Some page) ⊎ ((level : ℕ) × (key : List ℕ) × (held : Bool) × (level_in chain ≡ suc level) × IsTrue (covers chain key) × (content_in chain key ≡ Some (Child page held)))
 
--- The chain has 8 deltas or more, or 16 items or more.
+-- the items decide each key of the chain's range as the chain does
+abbrev pub AreAlike : List Item → List Record → Type 0
+AreAlike items chain = (key : List ℕ) → IsTrue (covers chain key) → content_at items key ≡ content_in chain key
+
+-- a base with these items, from this low key on to the chain's end
+abbrev pub base_from : List Record → List ℕ → List Item → Record
+base_from chain low items = Base (record { level = level_in chain; low = low; high = high_in chain; right = right_in chain; removed = false; items = items })
+
+-- the base of a new root over a page, and over its right from the separator on
+abbrev pub root_over : ℕ → ℕ → List ℕ → ℕ → Record
+root_over level page separator right = Base (record {
+  level = level;
+  low = [];
+  high = None;
+  right = None;
+  removed = false;
+  items = record { key = []; content = Child page false } ∷ record { key = separator; content = Child right false } ∷ [];
+})
+
+-- A base keeps the rules of a page. A delta fits the page that the chain makes, and makes one that keeps them; there are at
+-- most eleven deltas under it.
+abbrev pub FitsOn : List Record → Record → Type 0
+FitsOn chain content = MatchOption (next_row content) (IsFitted (content ∷ [])) (λ next. FitsOver chain content × (length chain ≤ 12))
+
+-- What is placed in the new row fits the chain that was read from the old one.
+pub record MayAdd (k : Knowledge) (old new : ℕ) : Type 0 where
+  pub chain : List Record
+  pub read : IsChainFrom k.seen old chain
+  pub content : Record
+  pub placed : k.rows new ≡ Written content
+  pub fits : FitsOn chain content
+
+-- A Put or a Delete: an update may be linked over a leaf that was read and has the key in its range, where the command
+-- makes it there, once in an operation.
+pub record MayUpdate (actor : ℕ) (k : Knowledge) (page old new : ℕ) : Type 0 where
+  pub basis : HasRead k page old
+  pub leaf : level_in basis.chain ≡ 0
+  pub command : Command
+  pub going : k.command ≡ Some command
+  pub unlinked : k.linked ≡ None
+  pub covers : IsTrue (covers basis.chain (command_key command))
+  pub update : Update
+  pub due : update_of actor command (found basis.chain (command_key command)) ≡ Some update
+  pub placed : k.rows new ≡ Written (record_of update old)
+
+-- A Base: consolidation puts a base in the chain's place that spells what the chain spells.
+pub record MayConsolidate (k : Knowledge) (page old new : ℕ) : Type 0 where
+  pub basis : HasRead k page old
+  pub items : List Item
+  pub alike : AreAlike items basis.chain
+  pub placed : k.rows new ≡ Written (base_from basis.chain (low_in basis.chain) items)
+
+-- A Split: where the new page is ready and spells the upper part.
+pub record MaySplit (k : Knowledge) (page old new : ℕ) : Type 0 where
+  pub basis : HasRead k page old
+  pub separator : List ℕ
+  pub above : IsTrue (is_below (low_in basis.chain) separator)
+  pub below : IsTrue (is_under separator (high_in basis.chain))
+  pub right : ℕ
+  pub row : ℕ
+  pub ready : k.pages right ≡ Ready row
+  pub items : List Item
+  pub alike : (key : List ℕ) → IsTrue (covers basis.chain key) → IsFalse (is_below key separator) → content_at items key ≡ content_in basis.chain key
+  pub base : k.rows row ≡ Written (base_from basis.chain separator items)
+  pub ruled : IsFitted (base_from basis.chain separator items ∷ [])
+  pub placed : k.rows new ≡ Written (Split (record { level = level_in basis.chain; next = old; separator = separator; page = right }))
+
+-- A Term: of a page that was read after its parent, which is one level up, has the page's low key in its range and no
+-- term there.
+pub record MayPost (k : Knowledge) (page old new : ℕ) : Type 0 where
+  pub basis : HasRead k page old
+  pub child : ℕ
+  pub row : ℕ
+  pub below : HasRead k child row
+  pub level : level_in basis.chain ≡ suc (level_in below.chain)
+  pub covers : IsTrue (covers basis.chain (low_in below.chain))
+  pub absent : content_in basis.chain (low_in below.chain) ≡ None
+  pub order : k.before child page ≡ Some old
+  pub placed : k.rows new ≡ Written (Term (record { level = level_in basis.chain; next = old; separator = low_in below.chain; child = child }))
+
+-- A Hold: of an unheld term.
+pub record MayHold (k : Knowledge) (page old new : ℕ) : Type 0 where
+  pub basis : HasRead k page old
+  pub level : ℕ
+  pub is_level : level_in basis.chain ≡ suc level
+  pub key : List ℕ
+  pub covers : IsTrue (covers basis.chain key)
+  pub child : ℕ
+  pub present : content_in basis.chain key ≡ Some (Child child false)
+  pub placed : k.rows new ≡ Written (Hold (record { level = level_in basis.chain; next = old; separator = key; child = child }))
+
+-- A Remove: of a page whose term was read held.
+pub record MayRemove (k : Knowledge) (page old new : ℕ) : Type 0 where
+  pub basis : HasRead k page old
+  pub row : ℕ
+  pub parent : List Record
+  pub read : IsChainFrom k.seen row parent
+  pub level : level_in parent ≡ suc (level_in basis.chain)
+  pub covers : IsTrue (covers parent (low_in basis.chain))
+  pub held : content_in parent (low_in basis.chain) ≡ Some (Child page true)
+  pub placed : k.rows new ≡ Written (Remove (record { level = level_in basis.chain; next = old }))
+
+-- A Merge: a page's right, which was read removed, comes into it.
+pub record MayMerge (k : Knowledge) (page old new : ℕ) : Type 0 where
+  pub basis : HasRead k page old
+  pub other : ℕ
+  pub row : ℕ
+  pub head : k.heads other ≡ Some row
+  pub chain : List Record
+  pub read : IsChainFrom k.seen row chain
+  pub gone : IsTrue (is_removed chain)
+  pub right : right_in basis.chain ≡ Some other
+  pub high : high_in basis.chain ≡ Some (low_in chain)
+  pub items : List Item
+  pub alike : AreAlike items chain
+  pub placed : k.rows new ≡ Written (Merge (record { level = level_in basis.chain; next = old; low = low_in chain; high = high_in chain; right = right_in chain; items = items }))
+
+-- An Unterm: a held term goes where, after its page, a page was read in whose range or at whose end the child would
+-- have to be, and is not.
+pub record MayUnterm (k : Knowledge) (page old new : ℕ) : Type 0 where
+  pub basis : HasRead k page old
+  pub key : List ℕ
+  pub covers : IsTrue (covers basis.chain key)
+  pub child : ℕ
+  pub present : content_in basis.chain key ≡ Some (Child child true)
+  pub left : ℕ
+  pub row : ℕ
+  pub below : HasRead k left row
+  pub level : level_in basis.chain ≡ suc (level_in below.chain)
+  pub above : IsTrue (is_below (low_in below.chain) key)
+  pub within : IfSome (high_in below.chain) (λ high. IsFalse (is_below high key))
+  pub apart : high_in below.chain ≡ Some key → right_in below.chain ≡ Some child → ⊥
+  pub order : k.before left page ≡ Some old
+  pub placed : k.rows new ≡ Written (Unterm (record { level = level_in basis.chain; next = old; separator = key; child = child }))
+
+-- A Root: over the page that slot 0 has, and its right, where the new page is ready with the two terms.
+pub record MayRoot (k : Knowledge) (old new : ℕ) : Type 0 where
+  pub row : ℕ
+  pub basis : HasRead k old row
+  pub right : ℕ
+  pub is_right : right_in basis.chain ≡ Some right
+  pub separator : List ℕ
+  pub is_high : high_in basis.chain ≡ Some separator
+  pub some : IsTrue (is_below [] separator)
+  pub base_row : ℕ
+  pub ready : k.pages new ≡ Ready base_row
+  pub base : k.rows base_row ≡ Written (root_over (suc (level_in basis.chain)) old separator right)
+  pub ruled : IsFitted (root_over (suc (level_in basis.chain)) old separator right ∷ [])
+
+-- a row may be linked over another on a page of the tree
+abbrev pub MayLink : ℕ → Knowledge → ℕ → ℕ → ℕ → Type 0
+MayLink actor k page old new = MayUpdate actor k page old new ⊎ MayConsolidate k page old new ⊎ MaySplit k page old new ⊎ MayPost k page old new ⊎ MayHold k page old new ⊎ MayRemove k page old new ⊎ MayMerge k page old new ⊎ MayUnterm k page old new
+
+-- a base that the actor placed in an own row
+abbrev pub IsOwnBase : OwnRow → Type 0
+IsOwnBase (Written (Base page)) = ⊤
+IsOwnBase _ = ⊥
+
+-- Slot 0 goes from root to root. The slot of an own page goes from 0 to an own base (Ready) and back to 0 (Undo), and
+-- that of a page whose term the actor took away to 0 (Clear).
+abbrev pub MayExchange : ℕ → Knowledge → ℕ → ℕ → ℕ → Type 0
+MayExchange actor k zero old new = MayRoot k old new
+MayExchange actor k (suc page) zero zero = ⊥
+MayExchange actor k (suc page) zero (suc row) = (k.pages (suc page) ≡ Empty) × IsOwnBase (k.rows (suc row))
+MayExchange actor k (suc page) (suc row) zero = (k.pages (suc page) ≡ Ready (suc row)) ⊎ (k.pages (suc page) ≡ Gone)
+MayExchange actor k (suc page) (suc old) (suc new) = MayAdd k (suc old) (suc new) × MayLink actor k (suc page) (suc old) (suc new)
+
+-- An own row is placed while it stands in no slot. Nothing is reused here: neither Retire nor Reuse may be taken.
+abbrev pub May : ℕ → Knowledge → StepOf Record → Type 0
+May actor k (Slot zero) = IsTrue k.inside
+May actor k (Slot (suc page)) = IsTrue k.inside × (IsTrue (k.roots (suc page)) ⊎ IsMet k (suc page))
+May actor k (Row row) = IsTrue k.inside × IsTrue (k.learnt row)
+May actor k Epoch = ⊤
+May actor k (Announce other) = ⊤
+May actor k (PidBits word) = ⊤
+May actor k (RowBits word) = ⊤
+May actor k (TakePid page) = ⊤
+May actor k (TakeRow row) = ⊤
+May actor k (Place row content) = IsTrue k.inside × IsOwn (k.rows row) × ((page : ℕ) → k.pages page ≡ Ready row → ⊥)
+May actor k (Exchange slot old new) = IsTrue k.inside × MayExchange actor k slot old new
+May actor k (Enter epoch) = IsFalse k.inside × (0 < epoch)
+May actor k Leave = IsTrue k.inside
+May actor k (Retire epoch) = ⊥
+May actor k (ReusePids word bits) = ⊥
+May actor k (ReuseRows word bits) = ⊥
+
+-- after the other page was read as this row, the page left of it was read
+pub record IsBeside (k : Knowledge) (row : ℕ) : Type 0 where
+  pub left : ℕ
+  pub head : ℕ
+  pub basis : HasRead k left head
+  pub other : ℕ
+  pub right : right_in basis.chain ≡ Some other
+  pub order : k.before left other ≡ Some row
+
+-- The chain of the row gives the reply: the update was linked over it; or there is none to link, and a slot held the
+-- row; or the page was removed, and its left page was read afterwards.
+abbrev pub HasBasis : ℕ → Knowledge → Command → ℕ → List Record → Type 0
+HasBasis actor k command row chain =
+    ((k.linked ≡ Some row) × IsFalse (is_removed chain))
+    ⊎ ((k.linked ≡ None) × ((page : ℕ) × (k.heads page ≡ Some row) × IsFalse (is_removed chain)) × (update_of actor command (found chain (command_key command)) ≡ None))
+    ⊎ ((k.linked ≡ None) × IsBeside k row × IsTrue (is_removed chain) × (update_of actor command (found chain (command_key command)) ≡ None))
+
+-- a reply by the value of the command's key
+pub record MayAnswer (actor : ℕ) (k : Knowledge) (command : Command) (reply : Reply) : Type 0 where
+  pub row : ℕ
+  pub chain : List Record
+  pub read : IsChainFrom k.seen row chain
+  pub leaf : level_in chain ≡ 0
+  pub covers : IsTrue (covers chain (command_key command))
+  pub is : reply_of command (found chain (command_key command)) ≡ Some reply
+  pub basis : HasBasis actor k command row chain
+
+-- The chain has 16 items or more.
 abbrev pub HasNoRoom : List Record → Type 0
-HasNoRoom chain = (8 < length chain) ⊎ ((items : List Item) × IsItemsOf chain items × (16 ≤ length items))
+HasNoRoom chain = (items : List Item) × IsItemsOf chain items × (16 ≤ length items)
 
 -- A whole chain without room, each of its records read after its slot.
 pub record ReadsNoRoom (k : Knowledge) : Type 0 where
@@ -110,36 +280,23 @@ pub record ReadsNoRoom (k : Knowledge) : Type 0 where
 
 -- Each word of the free PIDs, or of the free rows, was read as 0, or a page was read that has no room.
 abbrev pub LacksRoom : Limits → Knowledge → Type 0
-LacksRoom limits k = (((word : ℕ) → word < limits.pids / 64 → k.full_pids word ≡ true) ⊎ ((word : ℕ) → word < limits.rows / 64 → k.full_rows word ≡ true)) ⊎ ReadsNoRoom k
+LacksRoom limits k = (((word : ℕ) → word < limits.pids / 64 → IsTrue (k.no_pids word)) ⊎ ((word : ℕ) → word < limits.rows / 64 → IsTrue (k.no_rows word))) ⊎ ReadsNoRoom k
 
--- A command that may change the map replies Full where there is no room for the change, and it has linked no update.
-pub record MayReplyFull (limits : Limits) (actor : ℕ) (k : Knowledge) : Type 0 where
-  pub asked : Command
-  pub going : k.command ≡ Some asked
+-- Full: the command may change the map, nothing was linked, and there is no room for the change.
+pub record MayGiveUp (limits : Limits) (actor : ℕ) (k : Knowledge) (command : Command) (reply : Reply) : Type 0 where
+  pub is : reply ≡ Full
   pub old : Option (List ℕ)
   pub update : Update
-  pub writes : update_of actor asked old ≡ Some update
+  pub writes : update_of actor command old ≡ Some update
   pub unlinked : k.linked ≡ None
   pub lacks : LacksRoom limits k
 
-abbrev pub MayReply : Limits → ℕ → Knowledge → Reply → Type 0
-MayReply limits actor k reply = MayReplyValue actor k reply ⊎ ((reply ≡ Full) × MayReplyFull limits actor k)
+pub record MayReply (limits : Limits) (actor : ℕ) (k : Knowledge) (reply : Reply) : Type 0 where
+  pub command : Command
+  pub going : k.command ≡ Some command
+  pub justified : MayAnswer actor k command reply ⊎ MayGiveUp limits actor k command reply
 
--- A step that the actor may take by what it knows; a reply comes with the Leave alone.
+-- a step that the actor may take by what it knows, with its reply, if it has one
 pub record IsAllowed (limits : Limits) (actor : ℕ) (k : Knowledge) (step : StepOf Record) (reply : Option Reply) : Type 0 where
   pub may : May actor k step
-  pub replied : IfSome reply (λ answer. (step ≡ Leave) × MayReply limits actor k answer)
-
--- The entry may stand after these: an operation begins where its actor has none, and takes an allowed step with the memory's answer.
-abbrev pub MayStand : Limits → List Entry → Entry → Type 0
-MayStand limits entries (Begin actor command) = (actor < limits.actors) × (command_of entries actor ≡ None)
-MayStand limits entries (Step actor step answer reply) = IsSome (command_of entries actor) × IsAllowed limits actor (knows entries actor) step reply × IsAnswer (memory_of limits entries) step answer
-
--- Each of the entries may stand after those before it.
-abbrev pub IsDisciplinedFrom : Limits → List Entry → List Entry → Type 0
-IsDisciplinedFrom limits before [] = Unit {0}
-IsDisciplinedFrom limits before (entry ∷ entries) = MayStand limits before entry × IsDisciplinedFrom limits (before ++ entry ∷ []) entries
-
--- In the trace each actor obeys its discipline.
-abbrev pub IsDisciplined : Limits → List Entry → Type 0
-IsDisciplined limits entries = IsDisciplinedFrom limits [] entries
+  pub replied : IfSome reply (λ given. (step ≡ Leave) × MayReply limits actor k given)

@@ -1,5 +1,5 @@
 -- Small chains, newest record first.
-use Rattle.std.specs.Prelude.{codes, List, [], ◌∷◌, false, None}
+use Rattle.std.specs.Prelude.{codes, ℕ, List, [], ◌∷◌, false, None}
 use Rattle.base_page.specs.Pages.{Page, empty_leaf}
 use Rattle.base_page.specs.declared.item.Content.TheVariants.{Value, Child}
 use Rattle.deltas.specs.declared.record.Record.{Record}
@@ -16,25 +16,74 @@ abbrev pub leaf : Page
 leaf = record { level = 0; low = []; high = None; right = None; removed = false; items = record { key = codes "k08"; content = Value (codes "v08") } ∷ record { key = codes "k09"; content = Value (codes "v09") } ∷ [] }
 
 -- a leaf split at "k09" to the new page 2
+abbrev pub split : Record
+split = delta.Split (record { level = 0; next = 11; separator = codes "k09"; page = 2 })
+
 abbrev pub split_leaf : List Record
-split_leaf = delta.Split (record { level = 0; next = 11; separator = codes "k09"; page = 2 }) ∷ delta.Base leaf ∷ []
+split_leaf = split ∷ delta.Base leaf ∷ []
+
+abbrev pub remove : ℕ → Record
+remove next = delta.Remove (record { level = 0; next = next })
 
 abbrev pub removed_leaf : List Record
-removed_leaf = delta.Remove (record { level = 0; next = 7 }) ∷ delta.Base leaf ∷ []
+removed_leaf = remove 7 ∷ delta.Base leaf ∷ []
 
 -- the split page merged back, where it had "k09" with a new value
+abbrev pub merge : Record
+merge = delta.Merge (record { level = 0; next = 12; low = codes "k09"; high = None; right = None; items = record { key = codes "k09"; content = Value (codes "w09") } ∷ [] })
+
 abbrev pub merged_leaf : List Record
-merged_leaf = delta.Merge (record { level = 0; next = 12; low = codes "k09"; high = None; right = None; items = record { key = codes "k09"; content = Value (codes "w09") } ∷ [] }) ∷ split_leaf
+merged_leaf = merge ∷ split_leaf
+
+-- then "k07" put, "k08" deleted, and the page removed
+abbrev pub put : Record
+put = delta.Put (record { next = 13; key = codes "k07"; value = codes "v07" })
+
+abbrev pub delete : Record
+delete = delta.Delete (record { next = 14; key = codes "k08" })
+
+abbrev pub leaf_chain : List Record
+leaf_chain = remove 15 ∷ delete ∷ put ∷ merged_leaf
 
 -- an index page with the term of page 1, and then that of page 2, which is held and taken out again
+abbrev pub index : Page
+index = record { level = 1; low = []; high = None; right = None; removed = false; items = record { key = []; content = Child 1 false } ∷ [] }
+
 abbrev pub index_page : List Record
-index_page = delta.Base (record { level = 1; low = []; high = None; right = None; removed = false; items = record { key = []; content = Child 1 false } ∷ [] }) ∷ []
+index_page = delta.Base index ∷ []
+
+abbrev pub term : ℕ → ℕ → Record
+term next child = delta.Term (record { level = 1; next = next; separator = codes "k09"; child = child })
 
 abbrev pub termed_page : List Record
-termed_page = delta.Term (record { level = 1; next = 4; separator = codes "k09"; child = 2 }) ∷ index_page
+termed_page = term 4 2 ∷ index_page
+
+abbrev pub hold : Record
+hold = delta.Hold (record { level = 1; next = 5; separator = codes "k09"; child = 2 })
 
 abbrev pub held_page : List Record
-held_page = delta.Hold (record { level = 1; next = 5; separator = codes "k09"; child = 2 }) ∷ termed_page
+held_page = hold ∷ termed_page
+
+abbrev pub unterm : Record
+unterm = delta.Unterm (record { level = 1; next = 6; separator = codes "k09"; child = 2 })
 
 abbrev pub untermed_page : List Record
-untermed_page = delta.Unterm (record { level = 1; next = 6; separator = codes "k09"; child = 2 }) ∷ held_page
+untermed_page = unterm ∷ held_page
+
+-- and a term there again, of page 3
+abbrev pub index_chain : List Record
+index_chain = term 7 3 ∷ untermed_page
+
+-- What doesn't fit: a put over a removal, a put of a key that a split cut off, a base over a base, and a hold of the first
+-- term.
+abbrev pub put_over_removal : List Record
+put_over_removal = put ∷ removed_leaf
+
+abbrev pub put_outside : List Record
+put_outside = delta.Put (record { next = 12; key = codes "k09"; value = codes "v09" }) ∷ split_leaf
+
+abbrev pub base_over_base : List Record
+base_over_base = delta.Base leaf ∷ delta.Base leaf ∷ []
+
+abbrev pub first_held : List Record
+first_held = delta.Hold (record { level = 1; next = 4; separator = []; child = 1 }) ∷ index_page

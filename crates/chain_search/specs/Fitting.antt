@@ -1,64 +1,82 @@
 -- What an actor may count on of an answer, by what it knows.
-use Rattle.std.specs.Prelude.{◌≡◌, ◌<◌, ◌+◌, ◌*◌, ◌^◌, ℕ, zero, suc, Bool, List, [], ◌∷◌, ◌++◌, length, Option, Some, None, IfSome, MatchOption, true, false}
+use Rattle.std.specs.Prelude.{◌≡◌, ◌<◌, ◌+◌, ◌*◌, ◌^◌, ℕ, zero, suc, List, [], ◌∷◌, ◌++◌, length, Bool, Some, None, IsTrue, IfSome, true, false, ⊤}
 use Rattle.std.specs.Int.{bit_at}
 use Rattle.bw_model.specs.declared.limits.Limits.{Limits}
 use Rattle.bw_model.specs.declared.step.Step.{Step as StepOf}
-use Rattle.bw_model.specs.declared.step.Step.TheVariants.{Slot, Row, Epoch, PidBits, RowBits, Place, Exchange, TakeRow, Enter, Leave}
+use Rattle.bw_model.specs.declared.step.Step.TheVariants.{Slot, Row, Epoch, Announce, PidBits, RowBits, Place, Exchange, TakePid, TakeRow, Enter, Leave}
 use Rattle.bw_model.specs.declared.step.Answer.{Answer}
 use Rattle.bw_model.specs.declared.step.Answer.TheVariants.{Number, Content, Whether, Done}
 use Rattle.base_page.specs.declared.item.Content.TheVariants.{Child}
 use Rattle.deltas.specs.declared.record.Record.{Record}
 use Rattle.deltas.specs.Records.{next_row}
-use Rattle.chain_search.specs.Chains.{content_in, level_in, low_in, high_in, right_in, is_removed}
-use Rattle.chain_search.specs.Knowledge.{Foreign, Knowledge}
-
--- These records lead from a row to the next one to read.
-abbrev pub IsFront : (ℕ → Option Record) → ℕ → List Record → ℕ → Type 0
-IsFront rows row [] next = row ≡ next
-IsFront rows row (newest ∷ under) next = (rows row ≡ Some newest) × MatchOption (next_row newest) ⊥ (λ below. IsFront rows below under next)
-
--- the chain of the only leaf
-pub record IsLeafChain (chain : List Record) : Type 0 where
-  pub level : level_in chain ≡ 0
-  pub low : low_in chain ≡ []
-  pub high : high_in chain ≡ None
-  pub right : right_in chain ≡ None
-  pub removed : is_removed chain ≡ false
-  pub values : (key : List ℕ) (page : ℕ) (held : Bool) → content_in chain key ≡ Some (Child page held) → ⊥
-
--- A record that is read is the one that was read there before, and leads to a row. A chain that is being read has no more
--- than 9 records; where this is its last one, it is the chain of the only leaf.
-pub record FitsRow (limits : Limits) (k : Knowledge) (row : ℕ) (content : Record) : Type 0 where
-  pub same : (before : Record) → k.seen row ≡ Some before → content ≡ before
-  pub next : IfSome (next_row content) (λ under. (0 < under) × (under < limits.rows))
-  pub short : (page head : ℕ) (front : List Record) → k.heads page ≡ Some head → IsFront k.seen head front row → length front < 9
-  pub whole : (page head : ℕ) (front : List Record) → k.heads page ≡ Some head → IsFront k.seen head front row → next_row content ≡ None → IsLeafChain (front ++ content ∷ [])
+use Rattle.chain_search.specs.Chains.{IsChainFrom, IsFront, content_in, level_in, low_in, high_in, right_in, covers}
+use Rattle.chain_search.specs.Fitted.{IsPageChain}
+use Rattle.chain_search.specs.Knowledge.{Foreign, Other, Ready, Knowledge}
 
 -- a number that a word of free bits shows as free is above 0 and below the limit
 pub record FitsWord (limit word bits : ℕ) : Type 0 where
   pub fits : bits < 2 ^ 64
   pub below : (i : ℕ) → i < 64 → bit_at bits i ≡ 1 → (0 < 64 * word + i) × (64 * word + i < limit)
 
+-- What a chain says of a page, as its right or as a child, is so of the page's chain.
+pub record SaysOf (naming : List Record) (page : ℕ) (chain : List Record) : Type 0 where
+  pub right : right_in naming ≡ Some page → (level_in chain ≡ level_in naming) × (high_in naming ≡ Some (low_in chain))
+  pub child : (level : ℕ) (key : List ℕ) (held : Bool) → level_in naming ≡ suc level → IsTrue (covers naming key) → content_in naming key ≡ Some (Child page held) → (level_in chain ≡ level) × (low_in chain ≡ key)
+
+-- What was read whole of a page is a page's chain, which is as was said of the page, by slot 0 or by a chain that was read;
+-- what it says itself of pages that were read is so; and the pages that it names are below the limit.
+pub record IsWhole (limits : Limits) (k : Knowledge) (page : ℕ) (chain : List Record) : Type 0 where
+  pub is_chain : IsPageChain chain
+  pub root : IsTrue (k.roots page) → low_in chain ≡ []
+  pub named : (row : ℕ) (naming : List Record) → IsChainFrom k.seen row naming → SaysOf naming page chain
+  pub names : (other row : ℕ) (read : List Record) → k.heads other ≡ Some row → IsChainFrom k.seen row read → SaysOf chain other read
+  pub right : (other : ℕ) → right_in chain ≡ Some other → (0 < other) × (other < limits.pids)
+  pub child : (level other : ℕ) (key : List ℕ) (held : Bool) → level_in chain ≡ suc level → IsTrue (covers chain key) → content_in chain key ≡ Some (Child other held) → (0 < other) × (other < limits.pids)
+
+-- A record that is read is the one that was read there before, and leads to a row. A chain that is being read has no more
+-- than 13 records; where this is its last one, it was read whole.
+pub record FitsRow (limits : Limits) (k : Knowledge) (row : ℕ) (content : Record) : Type 0 where
+  pub same : (before : Record) → k.seen row ≡ Some before → content ≡ before
+  pub next : IfSome (next_row content) (λ under. (0 < under) × (under < limits.rows))
+  pub short : (page head : ℕ) (front : List Record) → k.heads page ≡ Some head → IsFront k.seen head front row → length front < 13
+  pub whole : (page head : ℕ) (front : List Record) → k.heads page ≡ Some head → IsFront k.seen head front row → next_row content ≡ None → IsWhole limits k page (front ++ content ∷ [])
+
 -- a row that was taken is below the limit, was not the actor's before, and is on no chain that it has read
 pub record FitsTaken (limits : Limits) (k : Knowledge) (row : ℕ) : Type 0 where
   pub some : 0 < row
   pub below : row < limits.rows
-  pub foreign : k.own row ≡ Foreign
+  pub foreign : k.rows row ≡ Foreign
   pub unlearnt : k.learnt row ≡ false
   pub unseen : k.seen row ≡ None
 
--- Slot 0 has a PID, another slot that may be read has a row.
+-- a PID that was taken is below the limit, and was not the actor's before
+pub record FitsTakenPid (limits : Limits) (k : Knowledge) (pid : ℕ) : Type 0 where
+  pub some : 0 < pid
+  pub below : pid < limits.pids
+  pub other : k.pages pid ≡ Other
+
+-- An exchange of an own page's slot, from 0 or back to 0, wins. One that links a row does not win on an own page.
+abbrev pub FitsExchange : Knowledge → ℕ → ℕ → ℕ → Bool → Type 0
+FitsExchange k zero old new went = ⊤
+FitsExchange k (suc page) zero new went = went ≡ true
+FitsExchange k (suc page) (suc old) zero went = k.pages (suc page) ≡ Ready (suc old) → went ≡ true
+FitsExchange k (suc page) (suc old) (suc new) went = went ≡ true → k.pages (suc page) ≡ Other
+
+-- Slot 0 has a PID; another slot that may be read has a row, or 0 if its page was cleared.
 abbrev pub Fits : Limits → Knowledge → StepOf Record → Answer Record → Type 0
 Fits limits k (Slot zero) (Number n) = (0 < n) × (n < limits.pids)
-Fits limits k (Slot (suc page)) (Number n) = (0 < n) × (n < limits.rows)
+Fits limits k (Slot (suc page)) (Number n) = n < limits.rows
 Fits limits k (Row row) (Content content) = FitsRow limits k row content
 Fits limits k Epoch (Number n) = (0 < n) × (n < 2 ^ 64)
+Fits limits k (Announce other) (Number n) = ⊤
 Fits limits k (PidBits word) (Number bits) = FitsWord limits.pids word bits
 Fits limits k (RowBits word) (Number bits) = FitsWord limits.rows word bits
+Fits limits k (TakePid pid) (Whether true) = FitsTakenPid limits k pid
+Fits limits k (TakePid pid) (Whether false) = ⊤
 Fits limits k (TakeRow row) (Whether true) = FitsTaken limits k row
-Fits limits k (TakeRow row) (Whether false) = Unit {0}
-Fits limits k (Place row content) Done = Unit {0}
-Fits limits k (Exchange slot old new) (Whether went) = Unit {0}
-Fits limits k (Enter epoch) Done = Unit {0}
-Fits limits k Leave Done = Unit {0}
+Fits limits k (TakeRow row) (Whether false) = ⊤
+Fits limits k (Place row content) Done = ⊤
+Fits limits k (Exchange slot old new) (Whether went) = FitsExchange k slot old new went
+Fits limits k (Enter epoch) Done = ⊤
+Fits limits k Leave Done = ⊤
 Fits limits k step answer = ⊥

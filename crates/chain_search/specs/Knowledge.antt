@@ -1,112 +1,158 @@
--- What an actor knows: a fold over its own entries.
-use Rattle.std.specs.Prelude.{ℕ, zero, suc, ◌==◌, List, [], ◌∷◌, Option, Some, None, Bool, true, false, if◌then◌else◌}
+-- What an actor knows from its own entries.
+use Rattle.std.specs.Prelude.{ℕ, zero, suc, List, Option, None, Some, Bool, true, false}
 use Rattle.std.specs.List.{fold}
 use Rattle.bw_model.specs.declared.command.Command.{Command}
 use Rattle.bw_model.specs.declared.command.Reply.{Reply}
 use Rattle.bw_model.specs.declared.step.Step.{Step as StepOf}
-use Rattle.bw_model.specs.declared.step.Step.TheVariants.{Slot, Row, PidBits, RowBits, Place, Exchange, TakeRow, Enter, Leave}
+use Rattle.bw_model.specs.declared.step.Step.TheVariants.{Slot, Row, PidBits, RowBits, Place, Exchange, TakePid, TakeRow, Enter, Leave}
 use Rattle.bw_model.specs.declared.step.Answer.{Answer}
 use Rattle.bw_model.specs.declared.step.Answer.TheVariants.{Number, Content, Whether}
 use Rattle.deltas.specs.declared.record.Record.{Record}
-use Rattle.deltas.specs.declared.record.Record.TheVariants.{Put, Delete}
-use Rattle.deltas.specs.Memory.{replaced_at}
+use Rattle.deltas.specs.declared.record.Record.TheVariants.{Base, Put, Delete, Split, Term, Hold, Remove, Merge, Unterm}
 use Rattle.deltas.specs.Records.{next_row}
+use Rattle.deltas.specs.Memory.{replaced_at}
 use Rattle.chain_search.specs.declared.trace.Entry.{Entry}
 use Rattle.chain_search.specs.declared.trace.Entry.TheVariants.{Begin, Step}
 
--- a row as its actor sees it
-pub data Own : Type 0 where
-  Foreign : Own
-  Taken : Own
-  Written : (content : Record) → Own
+-- a row as its actor sees it: not its own, taken, or with what it placed there last
+pub data OwnRow : Type 0 where
+  Foreign : OwnRow
+  Taken : OwnRow
+  Written : (content : Record) → OwnRow
 
--- the row is the actor's own: taken, and not linked
-abbrev pub IsOwn : Own → Type 0
-IsOwn Foreign = ⊥
-IsOwn Taken = Unit {0}
-IsOwn (Written content) = Unit {0}
+-- a page as its actor sees it: not its own, taken, with a row in its slot, or left by its own unterm
+pub data OwnPage : Type 0 where
+  Other : OwnPage
+  Empty : OwnPage
+  Ready : (row : ℕ) → OwnPage
+  Gone : OwnPage
 
 pub record Knowledge : Type 0 where
-  pub inside : Bool  -- it has entered, and not left
-  pub pages : ℕ → Bool  -- PIDs read in slot 0 since the last Enter
-  pub learnt : ℕ → Bool  -- rows whose names it has learnt since then
+  pub inside : Bool
+  pub learnt : ℕ → Bool  -- rows whose names it learnt since the last Enter
+  pub roots : ℕ → Bool  -- pages read as the root since then
   pub seen : ℕ → Option Record  -- records read since then
-  pub heads : ℕ → Option ℕ  -- slots above 0, as last read since then in this operation
-  pub recent : ℕ → Option Record  -- records read since a slot above 0 was last read
-  pub own : ℕ → Own  -- rows taken and not linked, with what was placed last
-  pub full_pids : ℕ → Bool  -- words of free PIDs that it has read as 0 in this operation
-  pub full_rows : ℕ → Bool  -- the same of free rows
+  pub recent : ℕ → Option Record  -- those of them that it read after the last slot of a page
+  pub heads : ℕ → Option ℕ  -- slots, as last read in this operation
+  pub before : ℕ → ℕ → Option ℕ  -- for each slot, the slots as they had last been read when it was read
+  pub rows : ℕ → OwnRow
+  pub pages : ℕ → OwnPage
   pub command : Option Command
-  pub linked : Option ℕ  -- the row over which this operation has linked its update
+  pub linked : Option ℕ  -- the row over which this operation linked its update
+  pub no_pids : ℕ → Bool  -- words of free PIDs that it read as 0 in this operation
+  pub no_rows : ℕ → Bool  -- words of free rows that it read as 0 in this operation
 
 abbrev pub nothing : Knowledge
 nothing = record {
   inside = false;
-  pages = λ p. false;
-  learnt = λ r. false;
-  seen = λ r. None;
-  heads = λ p. None;
-  recent = λ r. None;
-  own = λ r. Foreign;
-  full_pids = λ w. false;
-  full_rows = λ w. false;
+  learnt = λ row. false;
+  roots = λ page. false;
+  seen = λ row. None;
+  recent = λ row. None;
+  heads = λ page. None;
+  before = λ page other. None;
+  rows = λ row. Foreign;
+  pages = λ page. Other;
   command = None;
   linked = None;
+  no_pids = λ word. false;
+  no_rows = λ word. false;
 }
 
+-- what an actor knows when an operation begins
 abbrev pub begun : Knowledge → Command → Knowledge
-begun k command = record k { heads = λ p. None; recent = λ r. None; full_pids = λ w. false; full_rows = λ w. false; command = Some command; linked = None }
+begun k command = record k { heads = λ page. None; before = λ page other. None; command = Some command; linked = None; no_pids = λ word. false; no_rows = λ word. false }
 
--- the names learnt after a record with this next
 abbrev pub learnt_next : Option ℕ → (ℕ → Bool) → ℕ → Bool
 learnt_next None learnt = learnt
-learnt_next (Some row) learnt = replaced_at row true learnt
+learnt_next (Some next) learnt = replaced_at next true learnt
 
--- Slot 0 has a PID, another slot a row.
-abbrev pub learn_slot : Knowledge → ℕ → ℕ → Knowledge
-learn_slot k zero n = record k { pages = replaced_at n true k.pages }
-learn_slot k (suc p) n = record k { heads = replaced_at (suc p) (Some n) k.heads; recent = λ r. None; learnt = replaced_at n true k.learnt }
+-- after the page's slot was read as this row
+abbrev pub learn_head : ℕ → ℕ → Knowledge → Knowledge
+learn_head page row k = record k { before = replaced_at page k.heads k.before; heads = replaced_at page (Some row) k.heads; recent = λ other. None; learnt = replaced_at row true k.learnt }
 
--- a won exchange to an own row with a Put or a Delete links the update
-abbrev pub linked_by : Own → ℕ → Option ℕ → Option ℕ
-linked_by (Written (Put put)) over before = Some over
-linked_by (Written (Delete delete)) over before = Some over
-linked_by _ over before = before
+-- Slot 0 has the root's PID. A slot that holds 0 names no row.
+abbrev pub learn_slot : ℕ → ℕ → Knowledge → Knowledge
+learn_slot zero pid k = record k { roots = replaced_at pid true k.roots }
+learn_slot (suc page) zero k = k
+learn_slot (suc page) (suc row) k = learn_head (suc page) (suc row) k
+
+-- no word of bits that is 0 has a free number
+abbrev pub learn_word : ℕ → ℕ → (ℕ → Bool) → ℕ → Bool
+learn_word word zero words = replaced_at word true words
+learn_word word (suc bits) words = words
+
+-- The row is linked: it is the actor's own no more.
+abbrev pub handed_over : ℕ → Knowledge → Knowledge
+handed_over row k = record k { rows = replaced_at row Foreign k.rows }
+
+-- After a split was linked, the new page and its base are linked too.
+abbrev pub split_off : OwnPage → ℕ → ℕ → Knowledge → Knowledge
+split_off (Ready base) page row k = record k { rows = replaced_at row Foreign (replaced_at base Foreign k.rows); pages = replaced_at page Other k.pages }
+split_off _ page row k = k
+
+-- After a row with this record was linked over an old one.
+abbrev pub linked_over : OwnRow → ℕ → ℕ → Knowledge → Knowledge
+linked_over (Written (Put put)) old row k = record k { rows = replaced_at row Foreign k.rows; linked = Some old }
+linked_over (Written (Delete delete)) old row k = record k { rows = replaced_at row Foreign k.rows; linked = Some old }
+linked_over (Written (Split split)) old row k = split_off (k.pages split.page) split.page row k
+linked_over (Written (Unterm unterm)) old row k = record k { rows = replaced_at row Foreign k.rows; pages = replaced_at unterm.child Gone k.pages }
+linked_over (Written (Term term)) old row k = handed_over row k
+linked_over (Written (Hold hold)) old row k = handed_over row k
+linked_over (Written (Remove remove)) old row k = handed_over row k
+linked_over (Written (Merge merge)) old row k = handed_over row k
+linked_over (Written (Base page)) old row k = handed_over row k
+linked_over Taken old row k = k
+linked_over Foreign old row k = k
+
+-- After an exchange of a page's slot to a row won: the slot of an own page is set; on another page the row is linked.
+abbrev pub filled : OwnPage → ℕ → ℕ → ℕ → Knowledge → Knowledge
+filled Other page old row k = linked_over (k.rows row) old row k
+filled Empty page old row k = record k { pages = replaced_at page (Ready row) k.pages }
+filled (Ready base) page old row k = k
+filled Gone page old row k = k
+
+-- After an exchange of a page's slot to 0 won: an own page that was ready is empty again.
+abbrev pub emptied : OwnPage → ℕ → Knowledge → Knowledge
+emptied (Ready base) page k = record k { pages = replaced_at page Empty k.pages }
+emptied _ page k = k
+
+-- After a new root was linked, its base is linked too.
+abbrev pub rooted : OwnPage → ℕ → Knowledge → Knowledge
+rooted (Ready base) page k = record k { rows = replaced_at base Foreign k.rows; pages = replaced_at page Other k.pages }
+rooted _ page k = k
+
+-- After an exchange won: slot, the number that was there, the new number.
+abbrev pub exchanged : ℕ → ℕ → ℕ → Knowledge → Knowledge
+exchanged zero old new k = rooted (k.pages new) new k
+exchanged (suc page) old zero k = emptied (k.pages (suc page)) (suc page) k
+exchanged (suc page) old (suc row) k = filled (k.pages (suc page)) (suc page) old (suc row) k
 
 abbrev pub learn : Knowledge → StepOf Record → Answer Record → Knowledge
-learn k (Slot p) (Number n) = learn_slot k p n
+learn k (Slot page) (Number n) = learn_slot page n k
 learn k (Row row) (Content content) = record k { seen = replaced_at row (Some content) k.seen; recent = replaced_at row (Some content) k.recent; learnt = learnt_next (next_row content) k.learnt }
-learn k (PidBits word) (Number bits) = record k { full_pids = replaced_at word (bits == 0) k.full_pids }
-learn k (RowBits word) (Number bits) = record k { full_rows = replaced_at word (bits == 0) k.full_rows }
-learn k (TakeRow row) (Whether went) = record k { own = if went then replaced_at row Taken k.own else k.own }
-learn k (Place row content) answer = record k { own = replaced_at row (Written content) k.own }
-learn k (Exchange slot old new) (Whether went) = record k { own = if went then replaced_at new Foreign k.own else k.own; linked = if went then linked_by (k.own new) old k.linked else k.linked }
-learn k (Enter epoch) answer = record k { inside = true; pages = λ p. false; learnt = λ r. false; seen = λ r. None; heads = λ p. None; recent = λ r. None }
-learn k Leave answer = record k { inside = false; pages = λ p. false; learnt = λ r. false; seen = λ r. None; heads = λ p. None; recent = λ r. None }
+learn k (PidBits word) (Number bits) = record k { no_pids = learn_word word bits k.no_pids }
+learn k (RowBits word) (Number bits) = record k { no_rows = learn_word word bits k.no_rows }
+learn k (TakePid page) (Whether true) = record k { pages = replaced_at page Empty k.pages }
+learn k (TakeRow row) (Whether true) = record k { rows = replaced_at row Taken k.rows }
+learn k (Place row content) answer = record k { rows = replaced_at row (Written content) k.rows }
+learn k (Exchange slot old new) (Whether true) = exchanged slot old new k
+learn k (Enter epoch) answer = record k { inside = true; learnt = λ row. false }
+learn k Leave answer = record k { inside = false; learnt = λ row. false; roots = λ page. false; seen = λ row. None; recent = λ row. None; heads = λ page. None; before = λ page other. None }
 learn k step answer = k
 
 abbrev pub going_on : Option Reply → Option Command → Option Command
 going_on None command = command
 going_on (Some reply) command = None
 
--- a reply ends the operation
+-- what an actor knows after a step with which it replied, or not
 abbrev pub finished : Knowledge → Option Reply → Knowledge
 finished k reply = record k { command = going_on reply k.command }
 
--- an entry changes what its own actor knows
 abbrev pub knows_after : (ℕ → Knowledge) → Entry → ℕ → Knowledge
-knows_after known (Begin actor command) = replaced_at actor (begun (known actor) command) known
-knows_after known (Step actor step answer reply) = replaced_at actor (finished (learn (known actor) step answer) reply) known
+knows_after ks (Begin actor command) = replaced_at actor (begun (ks actor) command) ks
+knows_after ks (Step actor step answer reply) = replaced_at actor (finished (learn (ks actor) step answer) reply) ks
 
 -- what each actor knows after the entries
 abbrev pub knows : List Entry → ℕ → Knowledge
 knows entries = fold knows_after (λ actor. nothing) entries
-
-abbrev pub is_entry_of : ℕ → Entry → Bool
-is_entry_of actor (Begin other command) = actor == other
-is_entry_of actor (Step other step answer reply) = actor == other
-
--- the entries of one actor
-abbrev pub own_entries : ℕ → List Entry → List Entry
-own_entries actor [] = []
-own_entries actor (entry ∷ entries) = if is_entry_of actor entry then entry ∷ own_entries actor entries else own_entries actor entries

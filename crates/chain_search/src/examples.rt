@@ -2,7 +2,8 @@
 ghost use Rattle.std.specs.Prelude.{codes, ◌≡◌, [], true, false, None, Some};
 ghost use Rattle.base_page.specs.declared.item.Content.TheVariants.{Value, Child};
 ghost use Rattle.chain_search.specs.Chains.{content_in, high_in, right_in, is_removed, covers};
-ghost use Rattle.chain_search.specs.Examples.{put_leaf, deleted_leaf, split_leaf, removed_leaf, merged_leaf, index_page, termed_page, held_page, untermed_page};
+ghost use Rattle.chain_search.specs.Examples.{put_leaf, deleted_leaf, split_leaf, removed_leaf, merged_leaf, leaf_chain, index_page, termed_page, held_page, untermed_page, index_chain, put_over_removal, put_outside, base_over_base, first_held};
+ghost use Rattle.chain_search.specs.Fitted.{IsPageChain};
 
 /// The newest record that names a key decides it; the base decides each other one.
 pub fn leaves_decide()
@@ -40,4 +41,18 @@ pub fn terms_come_and_go()
     ensures held { content_in held_page (codes "k09") ≡ Some (Child 2 true) }
     ensures out { content_in untermed_page (codes "k09") ≡ None }
     ensures first { content_in untermed_page [] ≡ Some (Child 1 false) }
+{}
+
+/// Each record of these fits what is under it.
+pub fn chains_fit()
+    ensures leaf { IsPageChain leaf_chain }
+    ensures index { IsPageChain index_chain }
+{}
+
+/// The newest record of these doesn't fit what is under it, or makes a page that breaks a rule.
+pub fn unfit_chains_are_refused()
+    ensures removed { ¬ IsPageChain put_over_removal }
+    ensures outside { ¬ IsPageChain put_outside }
+    ensures base { ¬ IsPageChain base_over_base }
+    ensures held { ¬ IsPageChain first_held }
 {}

@@ -1,16 +1,24 @@
 //! What happened over the shared memory, turn by turn, and the chains of its pages.
 #![tactic(auto)]
 
+mod chain;
+mod chain_part;
 mod examples;
 mod free_bits;
 mod laws;
 mod table;
+#[cfg(test)]
+mod tests;
 mod trace;
 
-pub use examples::{leaves_decide, merge_adds, split_cuts, terms_come_and_go};
+pub use chain::Chain;
+pub use chain_part::{ChainPart, MAX_RECORDS};
+pub use examples::{
+    chains_fit, leaves_decide, merge_adds, split_cuts, terms_come_and_go, unfit_chains_are_refused,
+};
 pub use laws::{
     chain_is_one, command_grows, learnt_stays, memory_grows, run_grows, run_shrinks,
-    side_chain_is_one,
+    side_chain_is_one, updates_fit,
 };
 pub use table::Table;
 pub use trace::{Entry, Turn};

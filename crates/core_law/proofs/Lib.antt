@@ -1,14 +1,4 @@
-pub mod Puts
-pub mod Chains
-pub mod Moves
-pub mod Owned
-pub mod Searches
-pub mod Marks
-pub mod Remark
-pub mod Names
-pub mod Calm
-pub mod Growth
 pub mod Fitted
+pub mod Links
 pub mod Runs
-pub mod LostExchange
-pub mod OwnEntries
+pub mod Keeping

@@ -1,26 +1,36 @@
--- In a trace in which each actor obeys its discipline, the state stands after each entry.
-use Rattle.std.proofs.Common.{List, [], ◌∷◌, ◌++◌, subst, append_assoc}
-use Rattle.std.specs.Prelude.{map}
+-- In a trace of plain steps in which each actor obeys its discipline, the state stands after each entry.
+use Rattle.std.proofs.Common.{◌≡◌, List, [], ◌∷◌, ◌++◌, length, take, Some, refl, sym, ap, subst, append_assoc}
+use Rattle.std.specs.Prelude.{slice_get}
 use Rattle.std.proofs.lemmas.List.{append-nil}
 use Rattle.bw_model.specs.declared.limits.Limits.{Limits}
 use Rattle.chain_search.specs.declared.trace.Entry.{Entry}
 use Rattle.chain_search.specs.declared.trace.Entry.TheVariants.{Begin, Step}
-use Rattle.chain_search.specs.Discipline.{MayStand, IsDisciplinedFrom, IsDisciplined}
-use Rattle.chain_search.specs.Trace.{turn_of}
-use Rattle.op_machine.specs.Linearized.{IsLinearized}
-use Rattle.core_law.specs.State.{IsState}
-use Rattle.core_law.proofs.Growth.{opens, begins, steps, is_one_map}
+use Rattle.chain_search.specs.Disciplined.{MayStand, IsDisciplinedFrom, IsDisciplined}
+use Rattle.chain_search.specs.Knowledge.{knows}
+use Rattle.op_machine.specs.OneLeaf.{IsPlainMove}
+use Rattle.core_law.specs.State.{ArePlain, IsState}
+use Rattle.core_law.proofs.Keeping.{opens, begins, steps}
 
-one_more : (limits : Limits) (before : List Entry) (entry : Entry) → IsState limits before → MayStand limits before entry → IsState limits (before ++ entry ∷ [])
-one_more limits before (Begin actor command) state may = begins limits before actor command state may.0 may.1
-one_more limits before (Step actor step answer reply) state may = steps limits before actor step answer reply state may.0 may.1 may.2
+-- the entry after these
+at_length : (before : List Entry) (entry : Entry) (entries : List Entry) → slice_get (before ++ entry ∷ entries) (length before) ≡ Some entry
+at_length [] entry entries = refl
+at_length (first ∷ before) entry entries = at_length before entry entries
 
-pub state_along : (limits : Limits) (before entries : List Entry) → IsState limits before → IsDisciplinedFrom limits before entries → IsState limits (before ++ entries)
-state_along limits before [] state h = rw append-nil state
-state_along limits before (entry ∷ entries) state h = subst (IsState limits) (append_assoc before (entry ∷ []) entries) (state_along limits (before ++ entry ∷ []) entries (one_more limits before entry state h.0) h.1)
+take_length : (before entries : List Entry) → take (length before) (before ++ entries) ≡ before
+take_length [] entries = refl
+take_length (first ∷ before) entries = ap (λ es. first ∷ es) (take_length before entries)
 
-pub disciplined : (limits : Limits) (entries : List Entry) → IsDisciplined limits entries → IsState limits entries
-disciplined limits entries h = state_along limits [] entries (opens limits) h
+one_more : (limits : Limits) (before : List Entry) (entry : Entry) (entries : List Entry) → IsState limits before → MayStand limits before entry → ArePlain (before ++ entry ∷ entries) → IsState limits (before ++ entry ∷ [])
+one_more limits before (Begin actor command) entries state may plain = begins limits before actor command state may.0 may.1
+one_more limits before (Step actor step answer reply) entries state may plain =
+    steps limits before actor step answer reply state may.0 may.1
+    (subst (λ es. IsPlainMove (knows es actor) step) (take_length before (Step actor step answer reply ∷ entries)) (plain (length before) actor step answer (reply, at_length before (Step actor step answer reply) entries))) may.2
 
-pub linearized : (limits : Limits) (entries : List Entry) → IsDisciplined limits entries → IsLinearized limits (map turn_of entries) entries
-linearized limits entries h = is_one_map limits entries (disciplined limits entries h)
+state_along : (limits : Limits) (before entries : List Entry) → IsState limits before → IsDisciplinedFrom limits before entries → ArePlain (before ++ entries) → IsState limits (before ++ entries)
+state_along limits before [] state h plain = rw append-nil state
+state_along limits before (entry ∷ entries) state h plain =
+    let same : (before ++ entry ∷ []) ++ entries ≡ before ++ entry ∷ entries = append_assoc before (entry ∷ []) entries in
+    subst (IsState limits) same (state_along limits (before ++ entry ∷ []) entries (one_more limits before entry entries state h.0 plain) h.1 (subst ArePlain (sym same) plain))
+
+pub disciplined : (limits : Limits) (entries : List Entry) → IsDisciplined limits entries → ArePlain entries → IsState limits entries
+disciplined limits entries h plain = state_along limits [] entries (opens limits) h plain

@@ -1,4 +1,1 @@
-pub mod Put
-pub mod Owners
 pub mod State
-pub mod Examples

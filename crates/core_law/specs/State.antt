@@ -1,131 +1,41 @@
--- What a trace of allowed steps keeps true.
-use Rattle.std.specs.Prelude.{◌≡◌, ◌<◌, ◌≤◌, ◌⊎◌, ℕ, List, length, take, Option, Some, MatchOption, Bool, true, slice_get}
-use Rattle.bw_model.specs.declared.command.Command.{Command}
-use Rattle.bw_model.specs.declared.command.Reply.{Reply}
-use Rattle.bw_model.specs.declared.command.Reply.TheVariants.{Full}
+-- What a trace of allowed and plain steps keeps true: the state of the tree, with page 1 as its only page.
+use Rattle.std.specs.Prelude.{◌≡◌, ◌<◌, ◌≤◌, ℕ, List, length, take, Option, Some}
 use Rattle.bw_model.specs.declared.limits.Limits.{Limits}
 use Rattle.bw_model.specs.declared.step.Answer.{Answer}
-use Rattle.bw_model.specs.declared.step.Answer.TheVariants.{Number, Content}
 use Rattle.bw_model.specs.declared.step.Step.{Step as StepOf}
-use Rattle.bw_model.specs.declared.step.Step.TheVariants.{Slot, Row, PidBits, RowBits, Exchange, TakePid, ReusePids, ReuseRows}
-use Rattle.bw_model.specs.Log.{Update, value_in}
-use Rattle.bw_model.specs.Replies.{command_key, reply_of, update_of}
 use Rattle.deltas.specs.declared.record.Record.{Record}
-use Rattle.deltas.specs.declared.record.Record.TheVariants.{Base, Put, Delete}
 use Rattle.deltas.specs.Memory.{Memory}
-use Rattle.chain_search.specs.Chains.{IsChainFrom, IsChainOf}
+use Rattle.chain_search.specs.Chains.{IsChainFrom}
 use Rattle.chain_search.specs.declared.trace.Entry.{Entry}
-use Rattle.chain_search.specs.declared.trace.Entry.TheVariants.{Begin}
-use Rattle.chain_search.specs.Knowledge.{Knowledge, knows}
-use Rattle.chain_search.specs.Learnt.{HasLearnt}
-use Rattle.chain_search.specs.Run.{IsRun}
-use Rattle.chain_search.specs.Trace.{memory_of, memory_at, command_of, TakesStep}
-use Rattle.op_machine.specs.Answered.{FindsNothingFree, FindsPageFull}
-use Rattle.op_machine.specs.Index.{IsRootLevel}
-use Rattle.op_machine.specs.Operations.{Operation, IsOperation, IsOwnStep, TakesOwnStep, Finishes}
-use Rattle.op_machine.specs.Points.{log_of, log_at, IsPoint}
-use Rattle.op_machine.specs.Quiet.{IsQuiet}
-use Rattle.op_machine.specs.Faithful.{IsFaithful, KnowsRow}
-use Rattle.core_law.specs.Owners.{Owner, Linked, Among, Good}
+use Rattle.chain_search.specs.Knowledge.{Other, Knowledge, knows}
+use Rattle.chain_search.specs.Trace.{TakesStep, memory_of}
+use Rattle.op_machine.specs.OneLeaf.{IsLeafChain, IsPlainMove}
+use Rattle.tree_law.specs.State as tree
 
--- the actor begins no operation after the one at the place
-abbrev pub IsUnended : List Entry → ℕ → ℕ → Type 0
-IsUnended entries start actor = (later : ℕ) (command : Command) → start < later → slice_get entries later ≡ Some (Begin actor command) → ⊥
-
-abbrev pub operation_of : ℕ → ℕ → Command → Operation
-operation_of start actor command = record { start = start; actor = actor; command = command }
-
--- what the trace says of an actor's unfinished operation: the logs at its own steps, and the one at its point, if it has one
-pub record Tells (entries : List Entry) (points : List Bool) (actor : ℕ) (asked : Command) (point : Option (List Update)) (logs : List (List Update)) : Type 0 where
-  pub start : ℕ
-  pub begins : slice_get entries start ≡ Some (Begin actor asked)
-  pub unended : IsUnended entries start actor
-  pub logs_at : (log : List Update) → Among log logs → (m : ℕ) × IsOwnStep entries (operation_of start actor asked) m × (log_at entries points m ≡ log) × (command_of (take m entries) actor ≡ Some asked)
-  pub point_at : MatchOption point
-      ((m : ℕ) → IsOwnStep entries (operation_of start actor asked) m → IsPoint points m → ⊥)
-      (λ log. (m : ℕ) × IsOwnStep entries (operation_of start actor asked) m × IsPoint points m × (log_at entries points m ≡ log))
-
--- Where the operation read the slot, with the chain that stood there, which still stands; each recent record it has read since.
-pub record HeadAt (limits : Limits) (entries : List Entry) (operation : Operation) (rows recent : ℕ → Option Record) (page row : ℕ) : Type 0 where
-  pub at : ℕ
-  pub took : TakesOwnStep entries operation at (Slot page) (Number row)
+-- the row has the chain of the only leaf, of at most 9 records
+pub record IsShortLeaf (rows : ℕ → Option Record) (row : ℕ) : Type 0 where
   pub chain : List Record
-  pub stood : IsChainOf (memory_at limits entries at) page chain
-  pub stands : IsChainFrom rows row chain
-  pub since : (r : ℕ) (content : Record) → recent r ≡ Some content → (m : ℕ) × (at < m) × TakesOwnStep entries operation m (Row r) (Content content)
+  pub is_chain : IsChainFrom rows row chain
+  pub leaf : IsLeafChain chain
+  pub short : length chain ≤ 9
 
--- what an unfinished operation has found, and where
-pub record IsSearch (limits : Limits) (entries : List Entry) (operation : Operation) (rows : ℕ → Option Record) (k : Knowledge) : Type 0 where
-  pub unfinished : (n : ℕ) (reply : Reply) → Finishes entries operation n reply → ⊥
-  pub heads_at : (page row : ℕ) → k.heads page ≡ Some row → HeadAt limits entries operation rows k.recent page row
-  pub pids_at : (word : ℕ) → k.full_pids word ≡ true → (n : ℕ) × TakesOwnStep entries operation n (PidBits word) (Number 0)
-  pub rows_at : (word : ℕ) → k.full_rows word ≡ true → (n : ℕ) × TakesOwnStep entries operation n (RowBits word) (Number 0)
+-- Page 1 is the root, the slot of each other page is empty, and page 1 has a short chain.
+pub record HasOneLeaf (memory : Memory) : Type 0 where
+  pub root : memory.slots 0 ≡ 1
+  pub linked : 0 < memory.slots 1
+  pub others : (page : ℕ) → 1 < page → memory.slots page ≡ 0
+  pub leaf : IsShortLeaf memory.rows (memory.slots 1)
 
--- the operation has a point, at which the reply is that of its command
-abbrev pub Justifies : List Entry → List Bool → Operation → Reply → Type 0
-Justifies entries points operation reply = (m : ℕ) × IsOwnStep entries operation m × IsPoint points m × (reply_of operation.command (value_in (log_at entries points m) (command_key operation.command)) ≡ Some reply)
-
--- the operation could change the map, has no point, and found no room
-pub record IsFullAnswer (limits : Limits) (entries : List Entry) (points : List Bool) (operation : Operation) : Type 0 where
-  pub old : Option (List ℕ)
-  pub update : Update
-  pub writes : update_of operation.actor operation.command old ≡ Some update
-  pub unmarked : (m : ℕ) → IsOwnStep entries operation m → IsPoint points m → ⊥
-  pub finds : FindsNothingFree limits entries operation ⊎ FindsPageFull limits entries operation
-
-abbrev pub Answers : Limits → List Entry → List Bool → Operation → Reply → Type 0
-Answers limits entries points operation reply = Justifies entries points operation reply ⊎ ((reply ≡ Full) × IsFullAnswer limits entries points operation)
-
--- each mark is an own step of an operation, none has two, and each finished one replied what its command does at its mark, or Full
-pub record IsMarked (limits : Limits) (entries : List Entry) (points : List Bool) : Type 0 where
-  pub beside : length points ≡ length entries
-  pub own : (n : ℕ) → IsPoint points n → (operation : Operation) × IsOperation entries operation × IsOwnStep entries operation n
-  pub one : (operation : Operation) (m n : ℕ) → IsOperation entries operation → IsOwnStep entries operation m → IsOwnStep entries operation n → IsPoint points m → IsPoint points n → m ≡ n
-  pub answered : (operation : Operation) (n : ℕ) (reply : Reply) → IsOperation entries operation → Finishes entries operation n reply → Answers limits entries points operation reply
-
--- what the names that actors have learnt are
-pub record IsNamed (limits : Limits) (entries : List Entry) (owner : ℕ → Owner) (m : Memory) (knows : ℕ → Knowledge) : Type 0 where
-  pub shown : (actor row : ℕ) → HasLearnt entries actor row → owner row ≡ Linked
-  pub known : (actor row : ℕ) → (knows actor).learnt row ≡ true → KnowsRow entries (length entries) actor row
-  pub announced : (actor : ℕ) → (knows actor).inside ≡ true → 0 < m.announced actor
-  pub root : m.slots 0 ≡ 1
-  pub others : (page : ℕ) → 1 < page → m.slots page ≡ 0
-  pub epoch : m.epoch ≡ limits.epoch
-  pub free_pids : (pid : ℕ) → m.free_pids pid ≡ true → (0 < pid) × (pid < limits.pids)
-  pub commands : (actor : ℕ) → (knows actor).command ≡ command_of entries actor
-
--- a base, a put or a delete
-abbrev pub IsPlain : Record → Type 0
-IsPlain (Base page) = Unit {0}
-IsPlain (Put put) = Unit {0}
-IsPlain (Delete delete) = Unit {0}
-IsPlain other = ⊥
-
--- a step that moves no page in its life, and frees nothing: an exchange is of a page, to a base, a put or a delete
-abbrev pub IsTame : Memory → StepOf Record → Type 0
-IsTame memory (TakePid pid) = ⊥
-IsTame memory (ReusePids word bits) = ⊥
-IsTame memory (ReuseRows word bits) = ⊥
-IsTame memory (Exchange slot old new) = (0 < slot) × (0 < new) × ((content : Record) × (memory.rows new ≡ Some content) × IsPlain content)
-IsTame memory step = Unit {0}
-
--- each step was such a one, and at each moment the root is a leaf
-pub record IsCalm (limits : Limits) (entries : List Entry) : Type 0 where
-  pub tame : (n actor : ℕ) (step : StepOf Record) (answer : Answer Record) → TakesStep entries n actor step answer → IsTame (memory_at limits entries n) step
-  pub rooted : (n : ℕ) → n ≤ length entries → IsRootLevel (memory_at limits entries n) 0
+-- Whatever row an actor has read in a slot has a short chain, and no page is its own.
+pub record KnowsLeaf (rows : ℕ → Option Record) (k : Knowledge) : Type 0 where
+  pub heads : (page row : ℕ) → k.heads page ≡ Some row → IsShortLeaf rows row
+  pub pageless : (page : ℕ) → k.pages page ≡ Other
 
 pub record IsState (limits : Limits) (entries : List Entry) : Type 0 where
-  pub points : List Bool
-  pub owner : ℕ → Owner
-  pub point : ℕ → Option (List Update)
-  pub logs : ℕ → List (List Update)
-  pub good : Good limits.rows (memory_of limits entries).rows ((memory_of limits entries).slots 1) (memory_of limits entries).free_rows (log_of entries points) owner (knows entries) point logs
-  pub named : IsNamed limits entries owner (memory_of limits entries) (knows entries)
-  pub tells : (actor : ℕ) (asked : Command) → command_of entries actor ≡ Some asked → Tells entries points actor asked (point actor) (logs actor)
-  pub searches : (operation : Operation) → IsOperation entries operation → IsUnended entries operation.start operation.actor → command_of entries operation.actor ≡ Some operation.command
-      → IsSearch limits entries operation (memory_of limits entries).rows (knows entries operation.actor)
-  pub marked : IsMarked limits entries points
-  pub run : IsRun limits entries
-  pub quiet : IsQuiet limits entries points
-  pub faithful : IsFaithful limits entries
-  pub calm : IsCalm limits entries
+  pub tree : tree.IsState limits entries
+  pub leaf : HasOneLeaf (memory_of limits entries)
+  pub known : (actor : ℕ) → KnowsLeaf (memory_of limits entries).rows (knows entries actor)
+
+-- Each step of the trace was a plain one.
+abbrev pub ArePlain : List Entry → Type 0
+ArePlain entries = (n actor : ℕ) (step : StepOf Record) (answer : Answer Record) → TakesStep entries n actor step answer → IsPlainMove (knows (take n entries) actor) step

@@ -1,24 +1,21 @@
-//! The law over runs: each of its parts is the contract of a function that does nothing.
-ghost use Rattle.std.specs.Prelude.{◌≡◌, ◌<◌, ◌++◌, ◌∷◌, [], List, ℕ, None, Some, Option, IsSome, map};
+//! The law of one leaf, over that of the whole tree: each of its parts is the contract of a function that does nothing.
+ghost use Rattle.std.specs.Prelude.{◌≡◌, ◌<◌, ◌++◌, ◌∷◌, [], List, ℕ, None, Option, IsSome};
 ghost use Rattle.bw_model.specs.declared.command.Command.{Command};
 ghost use Rattle.bw_model.specs.declared.command.Reply.{Reply};
 ghost use Rattle.bw_model.specs.declared.limits.Limits.{Limits};
 ghost use Rattle.bw_model.specs.declared.step.Answer.{Answer};
 ghost use Rattle.bw_model.specs.declared.step.Step.{Step as StepOf};
-ghost use Rattle.bw_model.specs.declared.step.Step.TheVariants.{Row};
+ghost use Rattle.chain_search.specs.Discipline.{IsAllowed, May};
+ghost use Rattle.chain_search.specs.Disciplined.{IsDisciplined};
+ghost use Rattle.chain_search.specs.Knowledge.{knows};
+ghost use Rattle.chain_search.specs.Steps.{IsAnswer};
+ghost use Rattle.chain_search.specs.Trace.{memory_of, command_of};
 ghost use Rattle.chain_search.specs.declared.trace.Entry.{Entry};
 ghost use Rattle.chain_search.specs.declared.trace.Entry.TheVariants.{Begin, Step};
-ghost use Rattle.chain_search.specs.Discipline.{IsAllowed, IsDisciplined, May};
-ghost use Rattle.chain_search.specs.Fitting.{Fits};
-ghost use Rattle.chain_search.specs.Knowledge.{knows, own_entries};
-ghost use Rattle.chain_search.specs.Steps.{IsAnswer};
-ghost use Rattle.chain_search.specs.Trace.{memory_of, command_of, turn_of};
-ghost use Rattle.core_law.specs.State.{IsState};
+ghost use Rattle.core_law.specs.State.{ArePlain, HasOneLeaf, IsState};
 ghost use Rattle.deltas.specs.declared.record.Record.{Record};
-ghost use Rattle.op_machine.specs.Index.{IsExactIndex};
-ghost use Rattle.op_machine.specs.Linearized.{IsLinearized};
-ghost use Rattle.op_machine.specs.Phases.{KeepsPhases};
-ghost use Rattle.op_machine.specs.Reuse.{IsFreedByRule};
+ghost use Rattle.op_machine.specs.OneLeaf.{FitsOneLeaf, IsPlainMove};
+ghost use Rattle.tree_law.specs.State as tree;
 
 /// The empty trace is a state.
 pub fn opens()
@@ -30,38 +27,25 @@ pub fn begins()
     ensures { (limits : Limits) (entries : List Entry) (actor : ℕ) (command : Command) → IsState limits entries → actor < limits.actors → command_of entries actor ≡ None → IsState limits (entries ++ Begin actor command ∷ []) }
 {}
 
-/// A step keeps it, where the actor's knowledge allows it and the memory gives its answer.
+/// A plain step keeps it, where the actor's knowledge allows it and the memory gives its answer.
 pub fn steps()
     ensures { (limits : Limits) (entries : List Entry) (actor : ℕ) (step : StepOf Record) (answer : Answer Record) (reply : Option Reply) → IsState limits entries → IsSome (command_of entries actor)
-        → IsAllowed limits actor (knows entries actor) step reply → IsAnswer (memory_of limits entries) step answer → IsState limits (entries ++ Step actor step answer reply ∷ []) }
+        → IsAllowed limits actor (knows entries actor) step reply → IsPlainMove (knows entries actor) step → IsAnswer (memory_of limits entries) step answer → IsState limits (entries ++ Step actor step answer reply ∷ []) }
 {}
 
-/// A state is linearized.
-pub fn is_one_map()
-    ensures { (limits : Limits) (entries : List Entry) → IsState limits entries → IsLinearized limits (map turn_of entries) entries }
+/// It is a state of the whole tree, so the tree's law says the rest; and page 1 is its only page.
+pub fn is_one_leaf()
+    ensures tree { (limits : Limits) (entries : List Entry) → IsState limits entries → tree.IsState limits entries }
+    ensures leaf { (limits : Limits) (entries : List Entry) → IsState limits entries → HasOneLeaf (memory_of limits entries) }
 {}
 
-/// A trace in which each actor obeys its discipline is a state, and so linearized.
+/// A trace of plain steps in which each actor obeys its discipline is a state.
 pub fn disciplined_runs()
-    ensures states { (limits : Limits) (entries : List Entry) → IsDisciplined limits entries → IsState limits entries }
-    ensures linearized { (limits : Limits) (entries : List Entry) → IsDisciplined limits entries → IsLinearized limits (map turn_of entries) entries }
+    ensures { (limits : Limits) (entries : List Entry) → IsDisciplined limits entries → ArePlain entries → IsState limits entries }
 {}
 
-/// In a state, a row that an actor may read has a record, and what the memory answers fits what the actor knows.
+/// In a state, what the memory answers fits what the actor knows, and shows the only leaf.
 pub fn answers()
-    ensures stand { (limits : Limits) (entries : List Entry) (actor row : ℕ) → IsState limits entries → May actor (knows entries actor) (Row row) → (content : Record) × ((memory_of limits entries).rows row ≡ Some content) }
-    ensures fit { (limits : Limits) (entries : List Entry) (actor : ℕ) (step : StepOf Record) (answer : Answer Record) → IsState limits entries
-        → May actor (knows entries actor) step → IsAnswer (memory_of limits entries) step answer → Fits limits (knows entries actor) step answer }
-{}
-
-/// What an actor knows comes from its own entries alone: in two traces with the same ones it knows the same.
-pub fn knowledge_is_own()
-    ensures { (entries others : List Entry) (actor : ℕ) → own_entries actor entries ≡ own_entries actor others → knows entries actor ≡ knows others actor }
-{}
-
-/// In a state no page has moved in its life, the root is a leaf, and nothing was freed; so pages keep their phases, the index is exact, and freeing is by the rule.
-pub fn is_orderly()
-    ensures phases { (limits : Limits) (entries : List Entry) → IsState limits entries → KeepsPhases limits entries }
-    ensures index { (limits : Limits) (entries : List Entry) → IsState limits entries → IsExactIndex limits entries }
-    ensures freed { (limits : Limits) (entries : List Entry) → IsState limits entries → IsFreedByRule limits entries }
+    ensures { (limits : Limits) (entries : List Entry) (actor : ℕ) (step : StepOf Record) (answer : Answer Record) → IsState limits entries
+        → May actor (knows entries actor) step → IsAnswer (memory_of limits entries) step answer → FitsOneLeaf limits (knows entries actor) step answer }
 {}

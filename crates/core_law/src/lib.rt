@@ -1,10 +1,6 @@
-//! The law over runs: a trace that grows by allowed steps keeps being linearized.
+//! The law of one leaf: a trace that grows by allowed and plain steps keeps page 1 as its only page.
 #![tactic(auto)]
 
-mod examples;
 mod law;
 
-pub use examples::lost_exchange_is_disciplined;
-pub use law::{
-    answers, begins, disciplined_runs, is_one_map, is_orderly, knowledge_is_own, opens, steps,
-};
+pub use law::{answers, begins, disciplined_runs, is_one_leaf, opens, steps};

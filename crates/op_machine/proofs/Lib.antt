@@ -11,5 +11,7 @@ pub mod Refused
 pub mod ClaimedInsert
 pub mod PairLaws
 pub mod FrontLaws
-pub mod SpareLaws
+pub mod Commands
+pub mod Changes
 pub mod Moves
+pub mod Ends

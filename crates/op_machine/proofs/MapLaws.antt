@@ -1,6 +1,6 @@
 -- A memory of one leaf has the map that the leaf's chain decides.
 use Rattle.std.proofs.Common.{◌≡◌, ◌<◌, ℕ, suc, zero, List, [], ◌∷◌, length, false, Option, Some, None, refl, sym, subst, ap, arith, ◌∙◌}
-use Rattle.std.specs.Prelude.{IsTrue, slice_index_or}
+use Rattle.std.specs.Prelude.{IsTrue, slice_index_or, ◌↔◌}
 use Rattle.std.specs.List.{Contains, AllByRecursion}
 use Rattle.std.specs.Option.{option_map}
 use Rattle.bw_model.specs.Bytes.{is_below}
@@ -9,7 +9,7 @@ use Rattle.base_page.specs.declared.item.Content.TheVariants.{Value}
 use Rattle.deltas.specs.declared.record.Record.{Record}
 use Rattle.deltas.specs.Memory.{Memory}
 use Rattle.chain_search.specs.Chains.{IsChainOf, content_in, low_in, high_in, right_in, covers}
-use Rattle.chain_search.specs.SideChain.{LivePage, IsLeaves, IsWhole}
+use Rattle.chain_search.specs.SideChain.{LivePage, IsLeaves, IsWhole, Spells}
 use Rattle.chain_search.proofs.ChainLaws.{IsSideChainFrom-unique}
 use Rattle.op_machine.specs.Quiet.{HasMapOf}
 
@@ -24,35 +24,39 @@ value_same : (o : Option (List ℕ)) (value : List ℕ) → option_map Value o �
 value_same None value e = cc
 value_same (Some v) value e = cc
 
-none_below_empty : (key : List ℕ) → is_below key [] ≡ false
+pub none_below_empty : (key : List ℕ) → is_below key [] ≡ false
 none_below_empty [] = refl
 none_below_empty (x ∷ xs) = refl
+
+-- a memory whose only leaf has the chain
+module _ (memory : Memory) (chain : List Record) (is : IsChainOf memory 1 chain) (right : right_in chain ≡ None) where
+  abbrev only_leaf : LivePage
+  only_leaf = record { pid = 1; chain = chain }
+
+  are_leaves : IsLeaves memory (only_leaf ∷ [])
+  are_leaves = (refl, is, rw right refl)
+
+  pub one_leaf_spells : low_in chain ≡ [] → high_in chain ≡ None → (key value : List ℕ) → Spells memory key value ↔ (content_in chain key ≡ Some (Value value))
+  one_leaf_spells low high key value = (
+    (λ (pages, page, are, among, covered, decided).
+        let alone : Contains (only_leaf ∷ []) page = subst (λ ps. Contains ps page) (IsSideChainFrom-unique memory 1 pages (only_leaf ∷ []) are are_leaves) among in
+        let which : page ≡ only_leaf = contained_alone only_leaf page alone in
+        subst (λ p. content_in p.chain key ≡ Some (Value value)) which decided),
+    (λ decided. (only_leaf ∷ [], only_leaf, are_leaves, (0, omega arith, refl), covered_by low high, decided)),
+  )
+    where
+      covered_by : low_in chain ≡ [] → high_in chain ≡ None → IsTrue (covers chain key)
+      covered_by l h = rw (l, h, none_below_empty) refl
 
 pub one_leaf : (memory : Memory) (log : List Update) (chain : List Record) → IsChainOf memory 1 chain → low_in chain ≡ [] → high_in chain ≡ None → right_in chain ≡ None
     → ((key : List ℕ) → content_in chain key ≡ option_map Value (value_in log key)) → HasMapOf memory log
 one_leaf memory log chain is low high right says = record {
-  whole = (leaves, is_leaves, (low, rw high refl));
+  whole = (only_leaf memory chain is right ∷ [], are_leaves memory chain is right, (low, rw high refl));
   same = λ key value. (
-    (λ (pages, page, are, among, covered, decided).
-        let alone : Contains leaves page = subst (λ ps. Contains ps page) (IsSideChainFrom-unique memory 1 pages leaves are is_leaves) among in
-        let which : page ≡ leaf = contained_alone leaf page alone in
-        let there : content_in chain key ≡ Some (Value value) = subst (λ p. content_in p.chain key ≡ Some (Value value)) which decided in
-        value_same (value_in log key) value (sym (says key) ∙ there)),
-    (λ h. (leaves, leaf, is_leaves, (0, omega arith, refl), all_covered key, says key ∙ ap (option_map Value) h)),
+    (λ spells. value_same (value_in log key) value (sym (says key) ∙ (one_leaf_spells memory chain is right low high key value).0 spells)),
+    (λ h. (one_leaf_spells memory chain is right low high key value).1 (says key ∙ ap (option_map Value) h)),
   );
 }
-  where
-    leaf : LivePage
-    leaf = record { pid = 1; chain = chain }
-
-    leaves : List LivePage
-    leaves = leaf ∷ []
-
-    is_leaves : IsLeaves memory leaves
-    is_leaves = (refl, is, rw right refl)
-
-    all_covered : (key : List ℕ) → IsTrue (covers chain key)
-    all_covered key = rw (low, high, none_below_empty) refl
 
 nowhere : (pages : List LivePage) → AllByRecursion (λ page. (key : List ℕ) → content_in page.chain key ≡ None) pages → (k : ℕ) (page : LivePage) → k < length pages → slice_index_or pages k page ≡ page → (key : List ℕ) → content_in page.chain key ≡ None
 nowhere [] h k page lt e key = absurd (omega arith)

@@ -1,95 +1,94 @@
 -- From what an operation shows to the step that it may take.
-use Rattle.std.proofs.Common.{◌≡◌, inl, inr, ℕ, ◌≤◌, ◌==◌, ◌&&◌, Bool, true, false, List, [], ◌∷◌, ◌++◌, length, Option, Some, None, is_some, refl, ap, sym, subst, arith, ltb-true, ltb-false}
-use Rattle.std.specs.Prelude.{nat_lt}
+use Rattle.std.proofs.Common.{◌≡◌, inl, inr, ℕ, zero, suc, ◌<◌, ◌≤◌, ◌==◌, ◌++◌, true, false, List, [], ◌∷◌, length, Option, Some, None, is_some, refl, sym, ◌∙◌, ap, subst, arith}
 use Rattle.std.proofs.lemmas.Bool.{eq-eqb}
 use Rattle.std.proofs.lemmas.Option.{same_Some}
 use Rattle.bw_model.specs.declared.command.Command.{Command}
-use Rattle.bw_model.specs.declared.command.Command.TheVariants.{Get, Insert}
+use Rattle.bw_model.specs.declared.command.Reply.{Reply}
 use Rattle.bw_model.specs.declared.command.Reply.TheVariants as reply
 use Rattle.bw_model.specs.declared.limits.Limits.{Limits}
 use Rattle.bw_model.specs.declared.step.Step.{Step}
 use Rattle.bw_model.specs.declared.step.Step.TheVariants as step
 use Rattle.bw_model.specs.declared.step.Answer.{Answer}
 use Rattle.bw_model.specs.declared.step.Answer.TheVariants as answer
-use Rattle.bw_model.specs.Log.{Update, set}
-use Rattle.bw_model.specs.Replies.{command_key, update_of}
+use Rattle.bw_model.specs.Log.{Update, set, unset}
+use Rattle.bw_model.specs.Replies.{command_key, reply_of, update_of}
+use Rattle.base_page.specs.Pages.{Page}
 use Rattle.deltas.specs.declared.record.Record.{Record}
 use Rattle.deltas.specs.Memory.{replaced_at}
 use Rattle.deltas.specs.Records.{next_row}
-use Rattle.chain_search.specs.Discipline.{May, MayUpdate, found, record_of}
-use Rattle.chain_search.specs.Knowledge.{Written, Knowledge, learn}
+use Rattle.chain_search.specs.Chains.{IsFront}
+use Rattle.chain_search.specs.Discipline.{May, found, record_of}
+use Rattle.chain_search.specs.Fitted.{IsPageChain, Makes}
+use Rattle.chain_search.specs.Knowledge.{Written, Knowledge, learn, learn_slot}
+use Rattle.installs.specs.Installs as change
+use Rattle.installs.specs.declared.install.State as at_change
+use Rattle.installs.specs.declared.install.State.TheVariants.{Bits, Take, Place, Exchange}
 use Rattle.op_machine.specs.declared.op.State.{State}
-use Rattle.op_machine.specs.declared.op.State.TheVariants.{Begun, Epoch, Enter, Root, Slot, Row, Bits, Take, Place, Exchange, Leave, Over}
+use Rattle.op_machine.specs.declared.op.State.TheVariants.{Begun, Epoch, Enter, Root, Slot, Row, Install, Leave, Over}
 use Rattle.op_machine.specs.Answered.{is_writer}
-use Rattle.chain_search.specs.Fitting.{FitsRow, IsFront}
-use Rattle.op_machine.specs.Shows.{Advances, Arrives, FitsLast, Goes, Installs, Reads, Shows, Stands, learn_last}
-use Rattle.op_machine.specs.Wants.{Op, at, change_of, wanted_at, wanted_of}
-use Rattle.op_machine.proofs.SpareLaws.{spare_kept, spare_placed}
+use Rattle.op_machine.specs.OneLeaf.{FitsOneLeaf, IsLeafChain, IsPlainMove, IsPlainOver}
+use Rattle.op_machine.specs.Shows.{Advances, Arrives, Brings, FitsLast, Goes, Reads, Shows, Stands, learn_last}
+use Rattle.op_machine.specs.Wants.{Op, at, wanted_at, wanted_of}
+use Rattle.op_machine.proofs.Changes.{covers_each}
+use Rattle.op_machine.proofs.Commands.{none_due, writes}
 use Rattle.op_machine.proofs.FrontLaws.{front_more, front_next, front_end}
 
--- the record that a command places makes its update
-pub change_is : (actor : ℕ) (c : Command) (old : Option (List ℕ)) (u : Update) (x : ℕ) → update_of actor c old ≡ Some u → change_of c x ≡ record_of u x
-change_is actor (Get key) old u x h = cc
-change_is actor (Insert key value) None u x h = ap (λ (w : Update). record_of w x) (same_Some _ _ h)
-change_is actor (Insert key value) (Some before) u x h = cc
+-- an update over at most 8 records is plain
+plain_update : (u : Update) (next : ℕ) (chain : List Record) → length chain ≤ 8 → IsPlainOver chain (record_of u next)
+plain_update (set actor key value) next chain short = short
+plain_update (unset actor key) next chain short = short
 
--- which update is due does not depend on whose it is
-pub due_of : (actor other : ℕ) (c : Command) (old : Option (List ℕ)) → is_some (update_of other c old) ≡ true → (u : Update) × (update_of actor c old ≡ Some u)
-due_of actor other (Get key) old h = cc
-due_of actor other (Insert key value) None h = (set actor key value, refl)
-due_of actor other (Insert key value) (Some before) h = cc
+module _ (limits : Limits) (actor : ℕ) (k : Knowledge) (c : Command) (part : List Record) (spares : List ℕ) where
+  reads_slot : (pid : ℕ) → 0 < pid → k.inside ≡ true → k.roots pid ≡ true → May actor k (step.Slot pid)
+  reads_slot zero some inside root = absurd (omega arith)
+  reads_slot (suc pid) some inside root = (inside, inl root)
 
-writes : (actor : ℕ) (c : Command) → is_writer c ≡ true → (u : Update) × (update_of actor c None ≡ Some u)
-writes actor (Get key) h = cc
-writes actor (Insert key value) h = (set actor key value, refl)
+  allowed : (state : State) (s : Step Record) → wanted_at state ≡ Some s → ((install : change.Install) (answered : Option Reply) → state ≡ Install install answered → change.Shows actor install spares k → May actor k s) → Stands limits actor c part spares k state → May actor k s
+  allowed Begun s e f h = cc
+  allowed Epoch s e f h = subst (May actor k) (same_Some _ _ e) tt
+  allowed (Enter epoch) s e f h = subst (May actor k) (same_Some _ _ e) (h.0.outside, h.2)
+  allowed Root s e f h = subst (May actor k) (same_Some _ _ e) h.0.inside
+  allowed (Slot pid) s e f h = subst (May actor k) (same_Some _ _ e) (reads_slot pid h.2 h.0.inside h.3)
+  allowed (Row pid head row) s e f h = subst (May actor k) (same_Some _ _ e) (h.0.inside, h.2.named)
+  allowed (Install install answered) s e f h = f install answered refl h.2
+  allowed (Leave answered) s e f h = subst (May actor k) (same_Some _ _ e) h.0.inside
+  allowed Over s e f h = cc
 
--- a writer whose chain has no room, and one whose chain has
-has_no_room : (c : Command) (b : Bool) → (is_writer c && b) ≡ true → (is_writer c ≡ true) × (b ≡ true)
-has_no_room (Get key) b h = cc
-has_no_room (Insert key value) b h = (refl, h)
+  links_plainly : (pid head row : ℕ) (content : Record) (answered : Option Reply) → Brings actor k c pid head content answered → k.rows row ≡ Written content → IsPlainMove k (step.Exchange pid head row)
+  links_plainly pid head row content (Some r) b placed = record { chain = b.chain; read = b.whole.read; content = content; placed = placed; plain = rw b.is (plain_update b.update head b.chain b.short) }
+  links_plainly pid head row content None b placed = record { chain = b.chain; read = b.whole.read; content = content; placed = placed; plain = rw b.is tt }
 
-has_room : (actor : ℕ) (c : Command) (n : ℕ) (old : Option (List ℕ)) → (is_writer c && nat_lt 8 n) ≡ false → is_some (update_of actor c old) ≡ true → n ≤ 8
-has_room actor (Get key) n old h i = cc
-has_room actor (Insert key value) n old h i = go (nat_lt 8 n) refl h
-  where
-    go : (b : Bool) → nat_lt 8 n ≡ b → b ≡ false → n ≤ 8
-    go true e f = cc
-    go false e f = omega (arith, ltb-false 8 n e)
+  changes_plainly : (pid head : ℕ) (content : Record) (answered : Option Reply) → Brings actor k c pid head content answered → (state : at_change.State) → change.Stands spares k state content → IsPlainMove k (change.wanted_at pid head content state)
+  changes_plainly pid head content answered b (Bits word) h = tt
+  changes_plainly pid head content answered b (Take row) h = tt
+  changes_plainly pid head content answered b (Place row) h = tt
+  changes_plainly pid head content answered b (Exchange row) h = links_plainly pid head row content answered b h.1
 
-module _ (limits : Limits) (actor : ℕ) (k : Knowledge) (c : Command) (chain : List Record) (spares : List ℕ) where
-  links : (pid head row : ℕ) → Installs actor k c chain pid head → k.own row ≡ Written (change_of c head) → MayUpdate actor k pid head row
-  links pid head row i placed = record {
-    inside = i.seeks.inside;
-    asked = c;
-    going = i.seeks.going;
-    unlinked = i.seeks.unlinked;
-    chain = chain;
-    read = i.read;
-    short = i.short;
-    update = i.update;
-    due = i.due;
-    placed = rw (← change_is actor c (found chain (command_key c)) i.update head i.due) placed;
-  }
+  plainly : (state : State) (s : Step Record) → wanted_at state ≡ Some s → Stands limits actor c part spares k state → IsPlainMove k s
+  plainly Begun s e h = cc
+  plainly Epoch s e h = subst (IsPlainMove k) (same_Some _ _ e) tt
+  plainly (Enter epoch) s e h = subst (IsPlainMove k) (same_Some _ _ e) tt
+  plainly Root s e h = subst (IsPlainMove k) (same_Some _ _ e) tt
+  plainly (Slot pid) s e h = subst (IsPlainMove k) (same_Some _ _ e) tt
+  plainly (Row pid head row) s e h = subst (IsPlainMove k) (same_Some _ _ e) tt
+  plainly (Install install answered) s e h = subst (IsPlainMove k) (same_Some _ _ e) (changes_plainly install.pid install.head install.content answered h.1 install.state h.2.stands)
+  plainly (Leave answered) s e h = subst (IsPlainMove k) (same_Some _ _ e) tt
+  plainly Over s e h = cc
 
-  allowed : (state : State) (s : Step Record) → wanted_at c state ≡ Some s → Stands limits actor c chain spares k state → May actor k s
-  allowed Begun s e h = cc
-  allowed Epoch s e h = subst (May actor k) (same_Some _ _ e) tt
-  allowed (Enter epoch) s e h = subst (May actor k) (same_Some _ _ e) h.2
-  allowed Root s e h = subst (May actor k) (same_Some _ _ e) (h.0.inside, inl refl)
-  allowed (Slot pid) s e h = subst (May actor k) (same_Some _ _ e) (h.0.inside, inr h.3)
-  allowed (Row pid head row) s e h = subst (May actor k) (same_Some _ _ e) (h.0.inside, h.2.named)
-  allowed (Bits pid head word) s e h = subst (May actor k) (same_Some _ _ e) tt
-  allowed (Take pid head row) s e h = subst (May actor k) (same_Some _ _ e) tt
-  allowed (Place pid head row) s e h = subst (May actor k) (same_Some _ _ e) (h.0.seeks.inside, h.1.0)
-  allowed (Exchange pid head row) s e h = subst (May actor k) (same_Some _ _ e) (inl (links pid head row h.0 h.2))
-  allowed (Leave answered) s e h = subst (May actor k) (same_Some _ _ e) tt
-  allowed Over s e h = cc
+-- the change that is under way
+abbrev change_in : change.Install → State → change.Install
+change_in other (Install install answered) = install
+change_in other _ = other
+
+pub same_change : (a b : change.Install) (r q : Option Reply) (state : State) → state ≡ Install a r → state ≡ Install b q → a ≡ b
+same_change a b r q state e f = ap (change_in a) (sym e ∙ f)
 
 -- a step asked for at a state that shows what is known
-pub goes : (k : Knowledge) (old new : Op) (spares : List ℕ) (state : State) (s : Step Record) → new ≡ at old state → wanted_at old.command state ≡ Some s → Shows (at old state) spares k → Goes k new spares s
-goes k old new spares state s e w h =
+pub goes : (k : Knowledge) (old new : Op) (spares : List ℕ) (state : State) (s : Step Record) → new ≡ at old state → wanted_at state ≡ Some s
+    → ((install : change.Install) (answered : Option Reply) → state ≡ Install install answered → change.Shows old.actor install spares k → May old.actor k s) → Shows (at old state) spares k → Goes k new spares s
+goes k old new spares state s e w f h =
     let P : Op → Type 0 = λ n. Goes k n spares s in
-    subst P (sym e) (record { wanted = w; may = allowed old.limits old.actor k old.command old.chain spares state s w h; shows = h })
+    subst P (sym e) (record { wanted = w; may = allowed old.limits old.actor k old.command old.part spares state s w f h; plain = plainly old.limits old.actor k old.command old.part spares state s w h; shows = h })
 
 -- the answer to the step wanted last is the one that the state was waiting for
 pub advances : (old : Op) (state : State) (a b : Answer Record) (had : List ℕ) (new : Op) (has : List ℕ) (s : Step Record) → old.state ≡ state → a ≡ b → Advances old had state b new has s
@@ -98,89 +97,112 @@ advances old state a b had new has s e i adv =
     subst (λ (t : State). Advances old had t a new has s) (sym e) (subst (λ (y : Answer Record). Advances old had state y new has s) (sym i) adv)
 
 -- what the whole chain leads to
-module _ (k : Knowledge) (op : Op) (spares : List ℕ) (pid head : ℕ) where
-  pub full_at_once : (is_writer op.command && nat_lt 8 (length op.chain)) ≡ true → Arrives k op spares pid head → Shows (at op (Leave reply.Full)) spares k
-  full_at_once h a =
-      let both = has_no_room op.command (nat_lt 8 (length op.chain)) h in
-      let due = writes op.actor op.command both.0 in (
-        record { inside = a.seeks.inside; going = a.seeks.going },
+module _ (k : Knowledge) (op : Op) (spares : List ℕ) (pid head : ℕ) (chain : List Record) where
+  pub full_at_once : is_writer op.command ≡ true → (page : Page) → Makes chain page → 16 ≤ length page.items → Arrives k op.command spares pid head chain → Shows (at op (Leave reply.Full)) spares k
+  full_at_once h page makes many a =
+      let due = writes op.actor op.command h in (
+        record { inside = a.seeks.inside; pageless = a.seeks.pageless; going = a.seeks.going },
         a.spare,
-        inr (
-          refl,
-          record {
-            asked = op.command;
-            going = a.seeks.going;
-            old = None;
-            update = due.0;
-            writes = due.1;
+        record {
+          command = op.command;
+          going = a.seeks.going;
+          justified = inr (record {
+            is = refl;
+            old = due.0;
+            update = due.1;
+            writes = due.2;
             unlinked = a.seeks.unlinked;
-            lacks = inr (record { page = pid; row = head; chain = op.chain; head = a.read.head; read = a.recent; full = inl (ltb-true 8 (length op.chain) both.1) });
-          },
-        ),
+            lacks = inr (record { page = pid; row = head; chain = chain; head = a.whole.held; read = a.recent; full = (page.items, makes.items, many) });
+          });
+        },
       )
 
-  pub installs : (is_writer op.command && nat_lt 8 (length op.chain)) ≡ false → is_some (update_of 0 op.command (found op.chain (command_key op.command))) ≡ true → Arrives k op spares pid head → Installs op.actor k op.command op.chain pid head
-  installs room some a =
-      let old = found op.chain (command_key op.command) in
-      let due = due_of op.actor 0 op.command old some in
-      record {
-        seeks = a.seeks;
-        read = a.read;
-        short = has_room 0 op.command (length op.chain) old room some;
-        update = due.0;
-        due = due.1;
-      }
+  pub answers_at_once : (answered : Reply) → is_some (update_of 0 op.command (found chain (command_key op.command))) ≡ false → reply_of op.command (found chain (command_key op.command)) ≡ Some answered → Arrives k op.command spares pid head chain
+      → Shows (at op (Leave answered)) spares k
+  answers_at_once answered none is a = (
+    record { inside = a.seeks.inside; pageless = a.seeks.pageless; going = a.seeks.going },
+    a.spare,
+    record {
+      command = op.command;
+      going = a.seeks.going;
+      justified = inl (record {
+        row = head;
+        chain = chain;
+        read = a.whole.read;
+        leaf = a.whole.leaf.level;
+        covers = covers_each chain (command_key op.command) a.whole.leaf;
+        is = is;
+        basis = inr (inl (a.seeks.unlinked, (pid, a.whole.held, a.whole.leaf.removed), none_due op.actor 0 op.command (found chain (command_key op.command)) none));
+      });
+    },
+  )
 
 -- a row was read
-module _ (limits : Limits) (actor : ℕ) (k : Knowledge) (c : Command) (chain : List Record) (spares : List ℕ) (pid head row : ℕ) (w : Record) where
+module _ (limits : Limits) (actor : ℕ) (k : Knowledge) (c : Command) (part : List Record) (spares : List ℕ) (pid head row : ℕ) (w : Record) where
   abbrev read : Knowledge
   read = learn k (step.Row row) (answer.Content w)
 
   replaced_same : {X : Type 0} (f : ℕ → X) (i : ℕ) (x : X) → replaced_at i x f i ≡ x
   replaced_same {X} f i x = let e : (i == i) ≡ true = eq-eqb i i refl in rw e refl
 
-  seen_more : Reads k pid head chain row → FitsRow limits k row w → IsFront (replaced_at row (Some w) k.seen) head chain row
-  seen_more r f = front_more k.seen k.seen row w f.same chain head row r.seen r.seen
+  seen_more : Reads k pid head part row → FitsOneLeaf limits k (step.Row row) (answer.Content w) → IsFront (replaced_at row (Some w) k.seen) head part row
+  seen_more r f = front_more k.seen k.seen row w f.0.same part head row r.seen r.seen
 
-  recent_more : Reads k pid head chain row → FitsRow limits k row w → IsFront (replaced_at row (Some w) k.recent) head chain row
-  recent_more r f = front_more k.seen k.recent row w f.same chain head row r.seen r.recent
+  recent_more : Reads k pid head part row → FitsOneLeaf limits k (step.Row row) (answer.Content w) → IsFront (replaced_at row (Some w) k.recent) head part row
+  recent_more r f = front_more k.seen k.recent row w f.0.same part head row r.seen r.recent
 
-  pub read_on : (m : ℕ) → next_row w ≡ Some m → Stands limits actor c chain spares k (Row pid head row) → FitsRow limits k row w → Stands limits actor c (chain ++ w ∷ []) spares read (Row pid head m)
+  pub read_on : (m : ℕ) → next_row w ≡ Some m → Stands limits actor c part spares k (Row pid head row) → FitsOneLeaf limits k (step.Row row) (answer.Content w) → Stands limits actor c (part ++ w ∷ []) spares read (Row pid head m)
   read_on m i h f = (
-    record { inside = h.0.inside; going = h.0.going; unlinked = h.0.unlinked },
+    record { inside = h.0.inside; pageless = h.0.pageless; going = h.0.going; unlinked = h.0.unlinked },
     h.1,
     record {
       page = h.2.page;
+      linked = h.2.linked;
       held = h.2.held;
-      seen = front_next (replaced_at row (Some w) k.seen) w chain head row m (seen_more h.2 f) (replaced_same k.seen row (Some w)) i;
-      recent = front_next (replaced_at row (Some w) k.recent) w chain head row m (recent_more h.2 f) (replaced_same k.recent row (Some w)) i;
+      seen = front_next (replaced_at row (Some w) k.seen) w part head row m (seen_more h.2 f) (replaced_same k.seen row (Some w)) i;
+      recent = front_next (replaced_at row (Some w) k.recent) w part head row m (recent_more h.2 f) (replaced_same k.recent row (Some w)) i;
       named = rw i (replaced_same k.learnt m true);
     },
   )
 
-  pub read_whole : (op : Op) → op.command ≡ c → op.chain ≡ chain ++ w ∷ [] → next_row w ≡ None → Stands limits actor c chain spares k (Row pid head row) → FitsRow limits k row w → Arrives read op spares pid head
-  read_whole op e g i h f = record {
-    seeks = rw e (record { inside = h.0.inside; going = h.0.going; unlinked = h.0.unlinked });
+  pub read_whole : next_row w ≡ None → Stands limits actor c part spares k (Row pid head row) → FitsOneLeaf limits k (step.Row row) (answer.Content w) → Arrives read c spares pid head (part ++ w ∷ [])
+  read_whole i h f = record {
+    seeks = record { inside = h.0.inside; pageless = h.0.pageless; going = h.0.going; unlinked = h.0.unlinked };
     spare = h.1;
-    read = rw g (record { head = h.2.held; read = front_end (replaced_at row (Some w) k.seen) w chain head row (seen_more h.2 f) (replaced_same k.seen row (Some w)) i });
-    recent = rw g (front_end (replaced_at row (Some w) k.recent) w chain head row (recent_more h.2 f) (replaced_same k.recent row (Some w)) i);
+    whole = record {
+      page = h.2.page;
+      linked = h.2.linked;
+      held = h.2.held;
+      read = front_end (replaced_at row (Some w) k.seen) w part head row (seen_more h.2 f) (replaced_same k.seen row (Some w)) i;
+      leaf = f.1.whole pid head part h.2.held h.2.seen i;
+    };
+    recent = front_end (replaced_at row (Some w) k.recent) w part head row (recent_more h.2 f) (replaced_same k.recent row (Some w)) i;
   }
 
--- the change was placed
-module _ (limits : Limits) (actor : ℕ) (k : Knowledge) (c : Command) (chain : List Record) (spares : List ℕ) (pid head row : ℕ) where
-  pub placed : (a : Answer Record) → Stands limits actor c chain spares k (Place pid head row) → Stands limits actor c chain spares (learn k (step.Place row (change_of c head)) a) (Exchange pid head row)
-  placed a h = (
-    record {
-      seeks = record { inside = h.0.seeks.inside; going = h.0.seeks.going; unlinked = h.0.seeks.unlinked };
-      read = record { head = h.0.read.head; read = h.0.read.read };
-      short = h.0.short;
-      update = h.0.update;
-      due = h.0.due;
-    },
-    spare_placed k.own row (Written (change_of c head)) (row ∷ spares) tt h.1,
-    (let e : (row == row) ≡ true = eq-eqb row row refl in rw e refl),
+  -- the chain is a page's, and that of the only leaf
+  pub whole_fits : next_row w ≡ None → Stands limits actor c part spares k (Row pid head row) → FitsOneLeaf limits k (step.Row row) (answer.Content w) → IsPageChain (part ++ w ∷ []) × IsLeafChain (part ++ w ∷ [])
+  whole_fits i h f = ((f.0.whole pid head part h.2.held h.2.seen i).is_chain, f.1.whole pid head part h.2.held h.2.seen i)
+
+-- the root was read, and a slot
+module _ (limits : Limits) (actor : ℕ) (k : Knowledge) (c : Command) (part : List Record) (spares : List ℕ) where
+  pub entered : (epoch : ℕ) (told : Answer Record) → Stands limits actor c part spares k (Enter epoch) → Stands limits actor c part spares (learn k (step.Enter epoch) told) Root
+  entered epoch told h = (record { inside = refl; pageless = h.0.pageless; going = h.0.going; unlinked = h.0.unlinked }, h.1)
+
+  pub read_root : (pid : ℕ) → 0 < pid → Stands limits actor c part spares k Root → Stands limits actor c part spares (learn k (step.Slot 0) (answer.Number pid)) (Slot pid)
+  read_root pid some h = (
+    record { inside = h.0.inside; pageless = h.0.pageless; going = h.0.going; unlinked = h.0.unlinked },
+    h.1,
+    some,
+    (let e : (pid == pid) ≡ true = eq-eqb pid pid refl in rw e refl),
   )
 
-  -- the exchange lost, and the row is a spare again
-  pub lost : (won : Bool) (has : List ℕ) → won ≡ false → has ≡ spares ++ row ∷ [] → Stands limits actor c chain spares k (Exchange pid head row) → Stands limits actor c chain has (learn k (step.Exchange pid head row) (answer.Whether won)) Root
-  lost won has e g h = rw (e, g) (record { inside = h.0.seeks.inside; going = h.0.seeks.going; unlinked = h.0.seeks.unlinked }, spare_kept k.own row spares h.1)
+  pub read_head : (pid row : ℕ) → 0 < row → Stands limits actor c part spares k (Slot pid) → Stands limits actor c [] spares (learn_slot pid row k) (Row pid row row)
+  read_head zero row some h = let first = h.2 in absurd (omega arith)
+  read_head (suc pid) zero some h = absurd (omega arith)
+  read_head (suc pid) (suc row) some h =
+      let same : (suc pid == suc pid) ≡ true = eq-eqb (suc pid) (suc pid) refl in
+      let named : (suc row == suc row) ≡ true = eq-eqb (suc row) (suc row) refl in (
+        record { inside = h.0.inside; pageless = h.0.pageless; going = h.0.going; unlinked = h.0.unlinked },
+        h.1,
+        record { page = h.2; linked = some; held = rw same refl; seen = refl; recent = refl; named = rw named refl },
+      )

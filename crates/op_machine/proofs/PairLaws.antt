@@ -53,7 +53,7 @@ only_equal Less e = cc
 only_equal Equal e = refl
 only_equal Greater e = cc
 
-equal_keys : (a b : List ℕ) → is_eq (key_cmp a b) ≡ true → a ≡ b
+pub equal_keys : (a b : List ℕ) → is_eq (key_cmp a b) ≡ true → a ≡ b
 equal_keys a b e = exact_bytes a b (only_equal (key_cmp a b) e)
 
 module _ (log : List Update) (update : Update) (low : List ℕ) (high : Option (List ℕ)) where

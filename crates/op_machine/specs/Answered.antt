@@ -36,12 +36,12 @@ module _ (limits : Limits) (entries : List Entry) where
   ReadsChain operation n row chain = (k at : ℕ) (content : Record) → slice_get (chain_rows row chain) k ≡ Some at → slice_get chain k ≡ Some content
       → (m : ℕ) × (n < m) × TakesOwnStep entries operation m (Row at) (Content content)
 
-  -- The chain has 8 deltas or more, or 16 items or more.
+  -- The chain has 16 items or more.
   abbrev pub IsFullChain : List Record → Type 0
-  IsFullChain chain = (8 < length chain) ⊎ ((items : List Item) × IsItemsOf chain items × (16 ≤ length items))
+  IsFullChain chain = (items : List Item) × IsItemsOf chain items × (16 ≤ length items)
 
   -- The operation has read the slot of a page, and then the whole chain that stood there, which has no room.
-  -- This is for a time: it leaves with consolidation (the deltas) and with splits (the items).
+  -- This is for a time: it leaves with splits.
   abbrev pub FindsPageFull : Operation → Type 0
   FindsPageFull operation = (n pid row : ℕ) × (chain : List Record) × TakesOwnStep entries operation n (Slot pid) (Number row) × IsChainOf (memory_at limits entries n) pid chain
       × ReadsChain operation n row chain × IsFullChain chain

@@ -10,6 +10,6 @@ pub mod Reuse
 pub mod Direct
 pub mod Linearized
 pub mod Examples
-pub mod Hands
+pub mod OneLeaf
 pub mod Wants
 pub mod Shows

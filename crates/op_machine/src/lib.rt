@@ -1,7 +1,6 @@
 //! Operations, as the steps of one actor, and the laws of their runs.
 #![tactic(auto)]
 
-mod chain;
 mod examples;
 mod hand;
 mod laws;
@@ -9,7 +8,6 @@ mod link;
 mod listing;
 mod op;
 
-pub use chain::{Chain, MAX_RECORDS};
 pub use examples::{
     claimed_insert_is_refused, hurried_reuse_is_refused, insert_and_lookup_is_linearized,
     lookup_is_linearized, page_lives, row_is_freed, unnamed_read_is_refused,

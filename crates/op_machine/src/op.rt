@@ -1,22 +1,27 @@
 //! One operation as a machine, apart from the memory: it wants one step at a time, and goes on by the answer.
-ghost use Rattle.std.specs.Prelude.{◌≡◌, ◌<◌, ◌≤◌, ◌*◌, ◌&&◌, ◌++◌, ◌∷◌, [], ℕ, List, Some, None, IsSome, length, nat_lt, if◌then◌else◌};
-ghost use Rattle.std.specs.Option.{ForSome};
-ghost use Rattle.chain_search.specs.Knowledge.{Knowledge, begun};
-ghost use Rattle.deltas.specs.Records.{next_row};
+ghost use Rattle.std.specs.Prelude.{◌≡◌, ◌<◌, ◌≤◌, ℕ, List, Some, IsSome, length, true};
+ghost use Rattle.chain_search.specs.Knowledge.{Knowledge, begun, learn};
+ghost use Rattle.installs.specs.Installs.{Follows, Install as InstallSeen, IsTarget, MayInstall, wanted};
+ghost use Rattle.installs.specs.Spares.{AreSpare, HaveRoom};
+ghost use Rattle.installs.specs.Within.{IsWithin};
 ghost use Rattle.op_machine.specs.Answered.{is_writer};
-ghost use Rattle.op_machine.specs.Hands.{AreSpare, IsHand};
-ghost use Rattle.op_machine.specs.Shows.{Advances, Arrives, Goes, Installs, IsTold, Obeys, Rests, Shows};
-ghost use Rattle.op_machine.specs.Wants.{IsChanging, IsSameOp, IsSoundState, IsStepWant, IsWantWithin, IsWithin, at, change_of, rows_flying, rows_in_flight, wanted_at};
+ghost use Rattle.op_machine.specs.OneLeaf.{IsLeafChain};
+ghost use Rattle.op_machine.specs.Shows.{Advances, Arrives, Brings, Goes, IsTold, Obeys, Rests, Seeks, Shows};
+ghost use Rattle.op_machine.specs.Wants.{IsChanging, IsPlace, IsSameOp, IsSoundState, IsStepWant, IsWantWithin, at, change_of, rows_flying, rows_in_flight, wanted_at};
 
-use crate::chain::Chain;
 use crate::hand::Hand;
 use bw_model::{Answer, Command, Limits, Reply, Step};
-use deltas::{Put, Record};
+use chain_search::{Chain, ChainPart, updates_fit};
+use deltas::{Delete, Put, Record};
+use installs::{End, Install};
 use std::marker::Model;
 use std::mem;
 
-/// How many deltas a chain has at most: a writer that reads as many replies that all is full.
-const MAX_DELTAS: usize = 8;
+/// A writer that meets as many deltas consolidates the page.
+const MANY_DELTAS: usize = 8;
+
+/// A writer that meets as many items replies that the page is full.
+const MANY_ITEMS: usize = 16;
 
 /// What an operation wants next.
 #[derive(Debug, Drop)]
@@ -27,20 +32,31 @@ pub enum Want {
     Done(Reply),
 }
 
-/// Where an operation stands: each state is named by the step that it has asked for.
-#[derive(Debug, PartialEq, Eq, Drop)]
+/// Where an operation stands: each state but `Install` is named by the step that it has asked for.
+#[derive(Debug, Drop)]
 pub(crate) enum State {
     Begun,
     Epoch,
-    Enter { epoch: u64 },
+    Enter {
+        epoch: u64,
+    },
     Root,
-    Slot { pid: u16 },
-    Row { pid: u16, head: u16, row: u16 },
-    Bits { pid: u16, head: u16, word: u8 },
-    Take { pid: u16, head: u16, row: u16 },
-    Place { pid: u16, head: u16, row: u16 },
-    Exchange { pid: u16, head: u16, row: u16 },
-    Leave { reply: Reply },
+    Slot {
+        pid: u16,
+    },
+    Row {
+        pid: u16,
+        head: u16,
+        row: u16,
+    },
+    /// A change is under way: an update with the reply that it brings, or a consolidation, after which a new round begins.
+    Install {
+        install: Install,
+        reply: Option<Reply>,
+    },
+    Leave {
+        reply: Reply,
+    },
     Over,
 }
 
@@ -50,7 +66,7 @@ pub struct Op {
     limits: Limits,
     actor: u8,
     command: Command,
-    chain: Chain,
+    part: ChainPart,
     state: State,
 }
 
@@ -59,9 +75,9 @@ impl Model for Op {
 
     ghost Value = { Op };
 
-    ghost view = { λ o. record { limits = o.limits; actor = o.actor; command = o.command; chain = o.chain; state = o.state } };
+    ghost view = { λ o. record { limits = o.limits; actor = o.actor; command = o.command; part = o.part; state = o.state } };
 
-    ghost invariant = { λ o. IsSoundState o.limits o.command o.state };
+    ghost invariant = { λ o. IsSoundState o.limits o.state };
 }
 
 impl Op {
@@ -77,18 +93,18 @@ impl Op {
             limits: *limits,
             actor,
             command,
-            chain: Chain::new(),
+            part: ChainPart::new(),
             state: State::Begun,
         }
     }
 
     /// Takes the answer to the step wanted last, or `Start`, and wants the next step.
     pub fn next(&mut self, hand: &mut Hand, answer: Answer<Record>) -> Want
-        requires hand { IsHand self.old.limits (rows_in_flight self.old.state) hand.old }
+        requires hand { HaveRoom self.old.limits (rows_in_flight self.old.state) hand.old }
         requires told { IsTold self.old hand.old answer }
         ensures obeys { Obeys self.old hand.old answer self.new hand.new result }
         ensures within { IsWantWithin self.old.limits result }
-        ensures hand { IsHand self.old.limits (rows_flying result self.new.state) hand.new }
+        ensures hand { HaveRoom self.old.limits (rows_flying result self.new.state) hand.new }
         ensures same { IsSameOp self.old self.new }
         ensures begins { self.old.state ≡ State.Begun → IsStepWant result }
     {
@@ -111,20 +127,8 @@ impl Op {
                 let older = answer.into_content();
                 Want::Step(self.read_row(hand, pid, head, row, older))
             }
-            State::Bits { pid, head, word } => {
-                let bits = answer.into_number();
-                Want::Step(self.choose_row(pid, head, word, bits))
-            }
-            State::Take { pid, head, row } => {
-                let free = answer.into_whether();
-                Want::Step(self.take_row(pid, head, row, free))
-            }
-            State::Place { pid, head, row } => {
-                Want::Step(self.ask(State::Exchange { pid, head, row }))
-            }
-            State::Exchange { pid, head, row } => {
-                let won = answer.into_whether();
-                Want::Step(self.exchange(hand, pid, head, row, won))
+            State::Install { install, reply } => {
+                Want::Step(self.go_on(hand, install, reply, answer))
             }
             State::Leave { reply } => Want::Done(reply),
             State::Over => unreachable!(),
@@ -133,10 +137,10 @@ impl Op {
 
     /// Goes to a state, and asks for its step.
     fn ask(&mut self, state: State) -> Step<Record>
-        requires sound { IsSoundState self.old.limits self.old.command state }
-        requires asks { IsSome (wanted_at self.old.command state) }
+        requires sound { IsSoundState self.old.limits state }
+        requires asks { IsSome (wanted_at state) }
         ensures moved { self.new ≡ at self.old state }
-        ensures wanted { wanted_at self.old.command state ≡ Some result }
+        ensures goes { (k : Knowledge) (spares : List ℕ) → Shows (at self.old state) spares k → Goes k self.new spares result }
         ensures within { IsWithin self.old.limits result }
     {
         let step = match &state {
@@ -146,28 +150,39 @@ impl Op {
             State::Root => Step::Slot(0),
             State::Slot { pid } => Step::Slot(*pid),
             State::Row { row, .. } => Step::Row(*row),
-            State::Bits { word, .. } => Step::RowBits(*word),
-            State::Take { row, .. } => Step::TakeRow(*row),
-            State::Place { head, row, .. } => Step::Place(*row, self.change(*head)),
-            State::Exchange { pid, head, row } => Step::Exchange(*pid, *head, *row),
+            State::Install { install, .. } => install.step(),
             State::Leave { .. } => Step::Leave,
         };
         self.state = state;
         step
     }
 
-    /// The record that the command places over a row.
+    /// The record that the command places over the row `next`.
     fn change(&self, next: u16) -> Record
         requires { IsChanging self.now.command }
         ensures { result ≡ change_of self.now.command next }
     {
         match &self.command {
             Command::Get(_) => unreachable!(),
-            Command::Insert(key, value) => Record::Put(Put {
+            Command::Insert(key, value) | Command::Upsert(key, value) => Record::Put(Put {
                 next,
                 key: key.copied(),
                 value: value.copied(),
             }),
+            Command::Delete(key) => Record::Delete(Delete {
+                next,
+                key: key.copied(),
+            }),
+        }
+    }
+
+    /// Whether the command may change the map.
+    fn is_writer(&self) -> bool
+        ensures { result ≡ is_writer self.now.command }
+    {
+        match &self.command {
+            Command::Get(_) => false,
+            _ => true,
         }
     }
 
@@ -181,7 +196,7 @@ impl Op {
         ensures flight { rows_in_flight self.new.state ≡ 0 }
         ensures same { IsSameOp self.old self.new }
     {
-        self.chain.clear();
+        self.part = ChainPart::new();
         if head == 0 {
             return self.ask(State::Root);
         }
@@ -192,7 +207,7 @@ impl Op {
         })
     }
 
-    /// Keeps the record that was read, and goes on below it.
+    /// Keeps the delta that was read, and goes on below it; at the base the chain is whole.
     fn read_row(
         &mut self,
         hand: &mut Hand,
@@ -201,147 +216,131 @@ impl Op {
         row: u16,
         older: Record,
     ) -> Step<Record>
-        requires hand { IsHand self.old.limits 0 hand.old }
+        requires hand { HaveRoom self.old.limits 0 hand.old }
         requires told { IsTold (at self.old (State.Row pid head row)) hand.old (Answer.Content older) }
-        requires page { 0 < pid }
-        requires pid { pid < self.old.limits.pids }
-        requires head { head < self.old.limits.rows }
+        requires place { IsPlace self.old.limits pid head }
         ensures goes { Advances self.old hand.old (State.Row pid head row) (Answer.Content older) self.new hand.new result }
         ensures within { IsWithin self.old.limits result }
-        ensures hand { IsHand self.old.limits (rows_in_flight self.new.state) hand.new }
+        ensures hand { HaveRoom self.old.limits (rows_in_flight self.new.state) hand.new }
         ensures same { IsSameOp self.old self.new }
     {
         let _ = row;
-        let next = older.next();
-        self.chain.push(older);
-        match next {
-            None => self.decide(hand, pid, head),
-            Some(row) => self.ask(State::Row { pid, head, row }),
+        match (older.next(), older) {
+            (_, Record::Base(base)) => {
+                let part = mem::replace(&mut self.part, ChainPart::new());
+                self.decide(hand, pid, head, part.over(base))
+            }
+            (Some(row), delta) => {
+                self.part.push(delta);
+                self.ask(State::Row { pid, head, row })
+            }
+            (None, _) => unreachable!(),
         }
     }
 
-    /// Answers from the chain that was read, or begins the change.
-    fn decide(&mut self, hand: &mut Hand, pid: u16, head: u16) -> Step<Record>
-        requires hand { IsHand self.old.limits 0 hand.old }
-        requires page { 0 < pid }
-        requires pid { pid < self.old.limits.pids }
-        requires head { head < self.old.limits.rows }
-        ensures goes { (k : Knowledge) → Arrives k self.old hand.old pid head → Goes k self.new hand.new result }
+    /// Answers from the chain that was read, or begins a change: a writer consolidates a long chain before all else.
+    fn decide(&mut self, hand: &mut Hand, pid: u16, head: u16, chain: Chain) -> Step<Record>
+        requires hand { HaveRoom self.old.limits 0 hand.old }
+        requires place { IsPlace self.old.limits pid head }
+        requires leaf { IsLeafChain chain }
+        ensures goes { (k : Knowledge) → Arrives k self.old.command hand.old pid head chain → Goes k self.new hand.new result }
         ensures within { IsWithin self.old.limits result }
-        ensures hand { IsHand self.old.limits (rows_in_flight self.new.state) hand.new }
+        ensures hand { HaveRoom self.old.limits (rows_in_flight self.new.state) hand.new }
         ensures same { IsSameOp self.old self.new }
     {
-        if self.lacks_room() {
+        if !self.is_writer() {
+            let reply = self.command.reply(chain.find(self.command.key()));
+            return self.ask(State::Leave { reply });
+        }
+        if chain.deltas() >= MANY_DELTAS {
+            let base = Record::Base(chain.consolidated());
+            return self.install(hand, pid, head, base, None);
+        }
+        self.write(hand, pid, head, chain)
+    }
+
+    /// Answers from the chain where nothing is to be changed, or begins the change; a page with many items is full.
+    fn write(&mut self, hand: &mut Hand, pid: u16, head: u16, chain: Chain) -> Step<Record>
+        requires hand { HaveRoom self.old.limits 0 hand.old }
+        requires place { IsPlace self.old.limits pid head }
+        requires leaf { IsLeafChain chain }
+        requires writer { is_writer self.old.command ≡ true }
+        requires short { length chain ≤ 8 }
+        ensures goes { (k : Knowledge) → Arrives k self.old.command hand.old pid head chain → Goes k self.new hand.new result }
+        ensures within { IsWithin self.old.limits result }
+        ensures hand { HaveRoom self.old.limits (rows_in_flight self.new.state) hand.new }
+        ensures same { IsSameOp self.old self.new }
+    {
+        let page = chain.page();
+        if page.items().len() >= MANY_ITEMS {
             return self.ask(State::Leave { reply: Reply::Full });
         }
-        let old = self.chain.find(self.command.key());
-        if self.command.changes(old) {
-            return self.install(hand, pid, head);
-        }
+        let old = chain.find(self.command.key());
         let reply = self.command.reply(old);
-        self.ask(State::Leave { reply })
+        if !self.command.changes(old) {
+            return self.ask(State::Leave { reply });
+        }
+        updates_fit();
+        let change = self.change(head);
+        self.install(hand, pid, head, change, Some(reply))
     }
 
-    /// Whether a writer has read a chain that has no room for one more delta.
-    fn lacks_room(&self) -> bool
-        ensures { result ≡ (is_writer self.now.command && nat_lt 8 (length self.now.chain)) }
-    {
-        match &self.command {
-            Command::Get(_) => false,
-            Command::Insert(_, _) => self.chain.len() > MAX_DELTAS,
-        }
-    }
-
-    /// Begins the change, with a spare row if there is one.
-    fn install(&mut self, hand: &mut Hand, pid: u16, head: u16) -> Step<Record>
-        requires changing { IsChanging self.old.command }
-        requires hand { IsHand self.old.limits 0 hand.old }
-        requires page { 0 < pid }
-        requires pid { pid < self.old.limits.pids }
-        requires head { head < self.old.limits.rows }
-        ensures goes { (k : Knowledge) → Installs self.old.actor k self.old.command self.old.chain pid head → AreSpare k.own hand.old → Goes k self.new hand.new result }
-        ensures within { IsWithin self.old.limits result }
-        ensures hand { IsHand self.old.limits (rows_in_flight self.new.state) hand.new }
-        ensures same { IsSameOp self.old self.new }
-    {
-        match hand.take_spare() {
-            Some(row) => self.ask(State::Place { pid, head, row }),
-            None => self.ask(State::Bits { pid, head, word: 0 }),
-        }
-    }
-
-    /// Takes the lowest free row of a word of free bits, or goes on to the next word.
-    fn choose_row(&mut self, pid: u16, head: u16, word: u8, bits: u64) -> Step<Record>
-        requires changing { IsChanging self.old.command }
-        requires page { 0 < pid }
-        requires pid { pid < self.old.limits.pids }
-        requires head { head < self.old.limits.rows }
-        requires word { 64 * word < self.old.limits.rows }
-        ensures goes { (spares : List ℕ) → Advances self.old spares (State.Bits pid head word) (Answer.Number bits) self.new spares result }
-        ensures within { IsWithin self.old.limits result }
-        ensures flight { rows_in_flight self.new.state ≤ 1 }
-        ensures same { IsSameOp self.old self.new }
-    {
-        if bits != 0 {
-            let row = 64 * u16::from(word) + bits.trailing_zeros() as u16;
-            return self.ask(State::Take { pid, head, row });
-        }
-        if u64::from(word) + 1 < self.limits.rows / 64 {
-            self.ask(State::Bits {
-                pid,
-                head,
-                word: word + 1,
-            })
-        } else {
-            self.ask(State::Leave { reply: Reply::Full })
-        }
-    }
-
-    /// Places the change in the row that was taken, or reads its word again.
-    fn take_row(&mut self, pid: u16, head: u16, row: u16, free: bool) -> Step<Record>
-        requires changing { IsChanging self.old.command }
-        requires page { 0 < pid }
-        requires pid { pid < self.old.limits.pids }
-        requires head { head < self.old.limits.rows }
-        requires row { row < self.old.limits.rows }
-        ensures goes { (spares : List ℕ) → Advances self.old spares (State.Take pid head row) (Answer.Whether free) self.new spares result }
-        ensures within { IsWithin self.old.limits result }
-        ensures flight { rows_in_flight self.new.state ≡ 1 }
-        ensures same { IsSameOp self.old self.new }
-    {
-        if free {
-            self.ask(State::Place { pid, head, row })
-        } else {
-            self.ask(State::Bits {
-                pid,
-                head,
-                word: (row / 64) as u8,
-            })
-        }
-    }
-
-    /// Leaves after an exchange that won; after one that lost, keeps the row and begins a new round.
-    fn exchange(
+    /// Begins a change of the page.
+    fn install(
         &mut self,
         hand: &mut Hand,
         pid: u16,
         head: u16,
-        row: u16,
-        won: bool,
+        content: Record,
+        reply: Option<Reply>,
     ) -> Step<Record>
-        requires hand { IsHand self.old.limits 1 hand.old }
-        requires row { row < self.old.limits.rows }
-        ensures goes { Advances self.old hand.old (State.Exchange pid head row) (Answer.Whether won) self.new hand.new result }
+        requires target { IsTarget self.old.limits pid head content }
+        requires hand { HaveRoom self.old.limits 0 hand.old }
+        ensures goes { (k : Knowledge) → Seeks k self.old.command → Brings self.old.actor k self.old.command pid head content reply → MayInstall self.old.actor k pid head content → AreSpare k.rows hand.old → Goes k self.new hand.new result }
         ensures within { IsWithin self.old.limits result }
-        ensures hand { IsHand self.old.limits (rows_in_flight self.new.state) hand.new }
-        ensures spare { hand.new ≡ (if won then hand.old else hand.old ++ row ∷ []) }
+        ensures hand { HaveRoom self.old.limits (rows_in_flight self.new.state) hand.new }
         ensures same { IsSameOp self.old self.new }
     {
-        if !won {
-            hand.keep_spare(row);
-            return self.ask(State::Root);
+        let install = Install::new(&self.limits, &mut hand.spares, pid, head, content);
+        self.ask(State::Install { install, reply })
+    }
+
+    /// Goes on with a change that is under way.
+    fn go_on(
+        &mut self,
+        hand: &mut Hand,
+        install: Install,
+        reply: Option<Reply>,
+        answer: Answer<Record>,
+    ) -> Step<Record>
+        requires limits { install.limits ≡ self.old.limits }
+        requires hand { HaveRoom self.old.limits 1 hand.old }
+        requires told { IsTold (at self.old (State.Install install reply)) hand.old answer }
+        ensures goes { Advances self.old hand.old (State.Install install reply) answer self.new hand.new result }
+        ensures within { IsWithin self.old.limits result }
+        ensures hand { HaveRoom self.old.limits (rows_in_flight self.new.state) hand.new }
+        ensures same { IsSameOp self.old self.new }
+    {
+        let mut install = install;
+        match install.next(&mut hand.spares, answer) {
+            None => self.ask(State::Install { install, reply }),
+            Some(end) => self.finish(end, reply),
         }
-        let reply = self.command.reply(self.chain.find(self.command.key()));
-        self.ask(State::Leave { reply })
+    }
+
+    /// Leaves after an update that won and where no row was free; after a consolidation, or where another actor was first, it
+    /// begins a new round.
+    fn finish(&mut self, end: End, reply: Option<Reply>) -> Step<Record>
+        ensures goes { (k : Knowledge) (install : InstallSeen) (told : _) (had has : List ℕ) → Shows (at self.old (State.Install install reply)) had k → Follows self.old.actor k install had told install has (Some end) → Goes (learn k (wanted install) told) self.new has result }
+        ensures within { IsWithin self.old.limits result }
+        ensures flight { rows_in_flight self.new.state ≡ 0 }
+        ensures same { IsSameOp self.old self.new }
+    {
+        match (end, reply) {
+            (End::Won, Some(reply)) => self.ask(State::Leave { reply }),
+            (End::Won, None) => self.ask(State::Root),
+            (End::Lost, _) => self.ask(State::Root),
+            (End::Full, _) => self.ask(State::Leave { reply: Reply::Full }),
+        }
     }
 }

@@ -16,15 +16,17 @@ use Rattle.chain_search.specs.Steps.{IsAnswer, memory_after}
 use Rattle.chain_search.specs.Trace.{command_of, commands_after, memory_of}
 use Rattle.chain_search.proofs.TraceLaws.{command_of-push, memory_of-push}
 use Rattle.step_core.specs.declared.actor.Actor.{Actor}
-use Rattle.chain_search.specs.Discipline.{IsAllowed, May}
+use Rattle.chain_search.specs.Discipline.{May}
+use Rattle.op_machine.specs.OneLeaf.{IsPlainMove}
 use Rattle.chain_search.specs.Knowledge.{Knowledge, begun, finished, knows, knows_after, learn}
-use Rattle.core_law.proofs.Growth.{begins, opens, steps}
-use Rattle.op_machine.specs.Wants.{IsWithin}
-use Rattle.step_core.specs.Actors.{IsActor, IsReady, command_left, knows_then, running_command}
+use Rattle.core_law.proofs.Keeping.{begins, opens, steps}
+use Rattle.installs.specs.Within.{IsWithin}
+use Rattle.step_core.specs.Actors.{IsActor, IsPlainlyAllowed, IsReady, command_left, knows_then, running_command}
 use Rattle.step_core.specs.Cells.{Cells, AreSound}
 use Rattle.step_core.specs.CellSteps.{Takes}
 use Rattle.step_core.specs.Represents.{Asks, Represents, is_placed}
-use Rattle.step_core.proofs.Lawful.{asks, knows-push, served_at}
+use Rattle.tree_law.proofs.Beginning.{knows-push}
+use Rattle.step_core.proofs.Lawful.{asks, served_at}
 use Rattle.step_core.proofs.Representing.{takes}
 use Rattle.step_core.specs.Cores.{IsCore}
 use Rattle.step_core.specs.Turns.{Core, refused_by, refusal_of}
@@ -72,7 +74,7 @@ module _ (limits : Limits) where
     cells_sound = sound;
     represented = is;
     count = count;
-    each_shows = λ a at e. rw (each a at e) (record { hand = record { rows = λ k d h. absurd (omega arith); room = omega arith }; rests = record { outside = refl; spare = tt } });
+    each_shows = λ a at e. rw (each a at e) (record { hand = record { rows = λ k d h. absurd (omega arith); room = omega arith }; rests = record { outside = refl; pageless = λ page. refl; spare = tt } });
     each_running = λ a at e. rw (each a at e) refl;
   })
 
@@ -125,21 +127,21 @@ module _ (limits : Limits) where
 
   -- what the step of an actor was
   pub core_took : (cells cells' : Cells) (actors : List Actor) (entries : List Entry) (i : ℕ) (step : StepOf Record) (answer : Answer Record) → IsCore limits cells actors entries → i < limits.actors → IsWithin limits step → Takes i cells step answer cells'
-      → May i (knows entries i) step → Asks (is_placed (memory_of limits entries)) step × IsAnswer (memory_of limits entries) step answer × Represents limits cells' (memory_after i step (memory_of limits entries))
-  core_took cells cells' actors entries i step answer core who within took may =
-      let asked : Asks (is_placed (memory_of limits entries)) step = asks limits entries core.state i step may in
+      → May i (knows entries i) step → IsPlainMove (knows entries i) step → Asks (is_placed (memory_of limits entries)) step × IsAnswer (memory_of limits entries) step answer × Represents limits cells' (memory_after i step (memory_of limits entries))
+  core_took cells cells' actors entries i step answer core who within took may plain =
+      let asked : Asks (is_placed (memory_of limits entries)) step = asks limits entries core.state i step may plain in
       let kept = takes limits cells cells' (memory_of limits entries) i step answer core.represented core.cells_sound within who asked took in
       (asked, kept.0, kept.1)
 
   pub core_stepped : (cells cells' : Cells) (actors : List Actor) (entries entries' : List Entry) (i j : ℕ) (old new : Actor) (step : StepOf Record) (answer : Answer Record) (reply : Option Reply) → IsCore limits cells actors entries
-      → j ≡ i → j < length actors → old ≡ get_or actors j old → is_some (running_command old) ≡ true → IsAllowed limits i (knows entries i) step reply → IsActor limits i (knows_then (knows entries i) step answer reply) new
+      → j ≡ i → j < length actors → old ≡ get_or actors j old → is_some (running_command old) ≡ true → IsPlainlyAllowed limits i (knows entries i) step reply → IsActor limits i (knows_then (knows entries i) step answer reply) new
       → running_command new ≡ command_left reply (running_command old) → AreSound limits cells' → IsAnswer (memory_of limits entries) step answer → Represents limits cells' (memory_after i step (memory_of limits entries))
       → entries' ≡ entries ++ Step i step answer reply ∷ [] → IsCore limits cells' (set actors j new) entries'
   core_stepped cells cells' actors entries entries' i j old new step answer reply core same lt at some allowed shows runs sound' answered kept grown =
       let found : slice_get actors i ≡ Some old = get_is actors i old (rw (sym same) lt) (subst (λ k. old ≡ get_or actors k old) same at) in
       let going : is_some (command_of entries i) ≡ true = ap is_some (sym (core.each_running i old found)) ∙ some in
       rw (grown, same) (record {
-        state = steps limits entries i step answer reply core.state going allowed answered;
+        state = steps limits entries i step answer reply core.state going allowed.allowed allowed.plain answered;
         cells_sound = sound';
         represented = rw memory_of-push kept;
         count = set_length actors i new ∙ core.count;

@@ -8,17 +8,17 @@ use Rattle.bw_model.specs.declared.step.Answer.TheVariants as answer
 use Rattle.bw_model.specs.declared.step.Step.{Step as StepOf}
 use Rattle.bw_model.specs.declared.step.Step.TheVariants as step
 use Rattle.deltas.specs.declared.record.Record.{Record}
-use Rattle.chain_search.specs.Discipline.{IsAllowed}
-use Rattle.chain_search.specs.Fitting.{Fits}
 use Rattle.chain_search.specs.Knowledge.{Knowledge, finished, learn}
 use Rattle.op_machine.specs.declared.op.State.TheVariants.{Begun}
 use Rattle.op_machine.specs.declared.op.Want.TheVariants.{Step, Done}
-use Rattle.op_machine.specs.Hands.{IsHand}
+use Rattle.installs.specs.Spares.{HaveRoom}
+use Rattle.op_machine.specs.OneLeaf.{FitsOneLeaf}
 use Rattle.op_machine.specs.Shows.{FitsLast, Goes, IsTold, Obeys, Shows, learn_last}
-use Rattle.op_machine.specs.Wants.{IsSameOp, IsWithin, Op, rows_in_flight, wanted_of}
+use Rattle.op_machine.specs.Wants.{IsSameOp, Op, rows_in_flight, wanted_of}
+use Rattle.installs.specs.Within.{IsWithin}
 use Rattle.step_core.specs.declared.actor.Actor.{Actor}
 use Rattle.step_core.specs.declared.actor.Running.{Running}
-use Rattle.step_core.specs.Actors.{IsAt, IsIdle, IsLeft, IsReady, IsRunning, IsServed, IsServedAt, command_at}
+use Rattle.step_core.specs.Actors.{IsAt, IsIdle, IsLeft, IsPlainlyAllowed, IsReady, IsRunning, IsServed, IsServedAt, command_at}
 use Rattle.step_core.specs.Cells.{Cells}
 
 -- an actor without an operation, and one with an operation
@@ -49,7 +49,7 @@ module _ (k : Knowledge) (had : List ℕ) (old : Op) (begun : old.state ≡ Begu
   told_start = record { k = k; shows = shows; fits = fits_start }
 
   pub begun_left : (limits : Limits) (actor : ℕ) (new : Op) (has : List ℕ) → old.limits ≡ limits → old.actor ≡ actor → (asked : StepOf Record) → Obeys old had answer.Start new has (Step asked) → IsSameOp old new → IsWithin old.limits asked
-      → IsHand old.limits (rows_in_flight new.state) has → IsRunning limits actor k has (record { op = new; wanted = asked })
+      → HaveRoom old.limits (rows_in_flight new.state) has → IsRunning limits actor k has (record { op = new; wanted = asked })
   begun_left limits actor new has own_limits own_actor asked o same within hand = record {
     own_limits = same.limits ∙ own_limits;
     own_actor = same.actor ∙ own_actor;
@@ -59,17 +59,17 @@ module _ (k : Knowledge) (had : List ℕ) (old : Op) (begun : old.state ≡ Begu
   }
 
 -- a step with its answer
-module _ (limits : Limits) (actor : ℕ) (k : Knowledge) (had has : List ℕ) (old : Running) (new : Op) (a : Answer Record) (running : IsRunning limits actor k had old) (fits : Fits limits k old.wanted a) where
+module _ (limits : Limits) (actor : ℕ) (k : Knowledge) (had has : List ℕ) (old : Running) (new : Op) (a : Answer Record) (running : IsRunning limits actor k had old) (fits : FitsOneLeaf limits k old.wanted a) where
   fits_last : FitsLast old.op.limits k (wanted_of old.op) a
   fits_last = rw (running.own_limits, running.goes.wanted) fits
 
   goes_on : (asked : StepOf Record) → Obeys old.op had a new has (Step asked) → Goes (learn k old.wanted a) new has asked
   goes_on asked o = subst (λ w. Goes (learn_last k w a) new has asked) running.goes.wanted (o k running.goes.shows fits_last)
 
-  pub allowed_on : IsAllowed limits actor k old.wanted None
-  allowed_on = record { may = rw (← running.own_actor) running.goes.may; replied = tt }
+  pub allowed_on : IsPlainlyAllowed limits actor k old.wanted None
+  allowed_on = record { allowed = record { may = rw (← running.own_actor) running.goes.may; replied = tt }; plain = running.goes.plain }
 
-  pub left_on : (asked : StepOf Record) → Obeys old.op had a new has (Step asked) → IsSameOp old.op new → IsWithin old.op.limits asked → IsHand old.op.limits (rows_in_flight new.state) has
+  pub left_on : (asked : StepOf Record) → Obeys old.op had a new has (Step asked) → IsSameOp old.op new → IsWithin old.op.limits asked → HaveRoom old.op.limits (rows_in_flight new.state) has
       → IsLeft limits actor (finished (learn k old.wanted a) None) has (record { op = new; wanted = asked }) None
   left_on asked o same within hand = record {
     own_limits = same.limits ∙ running.own_limits;
@@ -79,13 +79,13 @@ module _ (limits : Limits) (actor : ℕ) (k : Knowledge) (had has : List ℕ) (o
     goes = goes_on asked o;
   }
 
-  pub allowed_done : (reply : Reply) → Obeys old.op had a new has (Done reply) → IsAllowed limits actor k old.wanted (Some reply)
+  pub allowed_done : (reply : Reply) → Obeys old.op had a new has (Done reply) → IsPlainlyAllowed limits actor k old.wanted (Some reply)
   allowed_done reply o =
       let ends = o k running.goes.shows fits_last in
       let last : old.wanted ≡ step.Leave = same_Some _ _ (sym running.goes.wanted ∙ ends.last) in
-      record { may = rw (← running.own_actor) running.goes.may; replied = (last, rw (← running.own_limits, ← running.own_actor) ends.may) }
+      record { allowed = record { may = rw (← running.own_actor) running.goes.may; replied = (last, rw (← running.own_limits, ← running.own_actor) ends.may) }; plain = running.goes.plain }
 
-  pub left_done : (reply : Reply) (left : Running) → Obeys old.op had a new has (Done reply) → IsHand old.op.limits 0 has → IsLeft limits actor (finished (learn k old.wanted a) (Some reply)) has left (Some reply)
+  pub left_done : (reply : Reply) (left : Running) → Obeys old.op had a new has (Done reply) → HaveRoom old.op.limits 0 has → IsLeft limits actor (finished (learn k old.wanted a) (Some reply)) has left (Some reply)
   left_done reply left o hand =
       let ends = o k running.goes.shows fits_last in
       let last : old.wanted ≡ step.Leave = same_Some _ _ (sym running.goes.wanted ∙ ends.last) in

@@ -1,8 +1,12 @@
+pub mod Chaining
 pub mod Cored
 pub mod FreeBits
 pub mod Going
 pub mod Lawful
 pub mod Linked
+pub mod Listings
+pub mod Noting
+pub mod OneLeaf
 pub mod Opening
 pub mod Replaced
 pub mod Representing

@@ -20,7 +20,7 @@ use Rattle.step_core.specs.declared.event.Event.{Event}
 use Rattle.step_core.specs.Cells.{Cells, AreSound}
 use Rattle.op_machine.specs.Links.{link_without}
 use Rattle.step_core.specs.CellLinks.{exchange_link, link_in, step_event}
-use Rattle.op_machine.specs.Wants.{IsWithin}
+use Rattle.installs.specs.Within.{IsWithin}
 use Rattle.chain_search.specs.Steps.{IsAnswer, memory_after}
 use Rattle.deltas.specs.Memory.{Memory}
 use Rattle.step_core.specs.declared.event.Event.TheVariants.{Stepped}

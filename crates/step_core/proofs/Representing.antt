@@ -11,7 +11,7 @@ use Rattle.deltas.specs.declared.record.Record.{Record}
 use Rattle.deltas.specs.Memory.{Memory, replaced_at}
 use Rattle.chain_search.specs.Steps.{IsAnswer, IsWordOf, is_among, memory_after}
 use Rattle.step_core.specs.Cells.{AreSound, Cells, is_free, without}
-use Rattle.op_machine.specs.Wants.{IsWithin}
+use Rattle.installs.specs.Within.{IsWithin}
 use Rattle.step_core.specs.CellSteps.{Takes}
 use Rattle.step_core.specs.Represents.{Asks, Represents, is_placed}
 use Rattle.step_core.proofs.FreeBits.{bit_cleared, bit_is_free, bits_set, same_or_not, word_apart, word_kept}

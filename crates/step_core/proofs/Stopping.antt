@@ -1,6 +1,6 @@
 -- A run that ends early.
-use Rattle.std.proofs.Common.{◌≡◌, ◌<◌, ◌≤◌, ◌⊎◌, ℕ, zero, suc, List, [], ◌∷◌, length, take, map, Option, Some, None, refl, sym, ap, ◌∙◌, inl, inr, arith}
-use Rattle.std.specs.Prelude.{slice_get}
+use Rattle.std.proofs.Common.{◌≡◌, ◌<◌, ◌≤◌, ℕ, zero, suc, List, [], ◌∷◌, length, take, map, Option, Some, None, refl, sym, ap, ◌∙◌, inr, arith}
+use Rattle.std.specs.Prelude.{slice_get, unwrap_or}
 use Rattle.bw_model.specs.declared.limits.Limits.{Limits}
 use Rattle.chain_search.specs.declared.trace.Turn.{Turn}
 use Rattle.chain_search.specs.Trace.{turn_of}
@@ -22,12 +22,12 @@ pub stops : (limits : Limits) (turns : List Turn) (v : Core) (i : ℕ) (next : T
 stops limits turns v i next e taken same lt at refused memory = record {
   entries = v.entries;
   taken = rw long taken;
-  why = go (refusal_of v next) refl;
+  why = inr (next, refusal_of v next, rw long at, (λ room. rw (sym same) refl), go (refusal_of v next) refl);
 }
   where
     long : length v.entries ≡ i
     long = sym (mapped_length turn_of v.entries) ∙ ap length taken ∙ taken_length turns i (omega arith)
 
-    go : (o : Option RunError) → refusal_of v next ≡ o → (e ≡ Memory (length v.entries)) ⊎ ((n : Turn) × (slice_get turns (length v.entries) ≡ Some n) × ((room : ℕ) → refusal_of (record { limits = limits; entries = v.entries; room = room }) n ≡ Some e))
-    go None h = inl (memory h)
-    go (Some f) h = inr (next, rw long at, λ room. rw (sym same) (h ∙ ap Some (sym (refused f h))))
+    go : (o : Option RunError) → refusal_of v next ≡ o → e ≡ unwrap_or o (Memory (length v.entries))
+    go None h = memory h
+    go (Some f) h = refused f h

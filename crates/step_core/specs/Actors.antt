@@ -6,11 +6,13 @@ use Rattle.bw_model.specs.declared.limits.Limits.{Limits}
 use Rattle.bw_model.specs.declared.step.Answer.{Answer}
 use Rattle.bw_model.specs.declared.step.Step.{Step as StepOf}
 use Rattle.deltas.specs.declared.record.Record.{Record}
-use Rattle.chain_search.specs.Fitting.{Fits}
+use Rattle.chain_search.specs.Discipline.{IsAllowed}
 use Rattle.chain_search.specs.Knowledge.{Knowledge, learn, finished}
-use Rattle.op_machine.specs.Hands.{IsHand}
+use Rattle.installs.specs.Spares.{HaveRoom}
+use Rattle.op_machine.specs.OneLeaf.{FitsOneLeaf, IsPlainMove}
 use Rattle.op_machine.specs.Shows.{Goes, Rests}
-use Rattle.op_machine.specs.Wants.{IsWithin, rows_in_flight}
+use Rattle.installs.specs.Within.{IsWithin}
+use Rattle.op_machine.specs.Wants.{rows_in_flight}
 use Rattle.step_core.specs.declared.actor.Actor.{Actor}
 use Rattle.step_core.specs.declared.actor.Running.{Running}
 use Rattle.step_core.specs.Cells.{Cells}
@@ -21,12 +23,12 @@ pub record IsRunning (limits : Limits) (actor : ℕ) (k : Knowledge) (spares : L
   pub own_limits : running.op.limits ≡ limits
   pub own_actor : running.op.actor ≡ actor
   pub within : IsWithin limits running.wanted
-  pub hand : IsHand limits (rows_in_flight running.op.state) spares
+  pub hand : HaveRoom limits (rows_in_flight running.op.state) spares
   pub goes : Goes k running.op spares running.wanted
 
 -- An actor between operations.
 pub record IsIdle (limits : Limits) (k : Knowledge) (spares : List ℕ) : Type 0 where
-  pub hand : IsHand limits 0 spares
+  pub hand : HaveRoom limits 0 spares
   pub rests : Rests spares k
 
 abbrev pub IsAt : Limits → ℕ → Knowledge → List ℕ → Option Running → Type 0
@@ -37,9 +39,14 @@ IsAt limits actor k spares (Some running) = IsRunning limits actor k spares runn
 abbrev pub IsActor : Limits → ℕ → Knowledge → Actor → Type 0
 IsActor limits actor k at = IsAt limits actor k at.hand at.running
 
--- Whatever the cells answer to the step fits what the actor knows.
+-- Whatever the cells answer to the step fits what the actor knows, and shows the only leaf.
 abbrev pub IsServed : Limits → ℕ → Knowledge → Cells → StepOf Record → Type 0
-IsServed limits actor k cells step = (answer : Answer Record) (after : Cells) → Takes actor cells step answer after → Fits limits k step answer
+IsServed limits actor k cells step = (answer : Answer Record) (after : Cells) → Takes actor cells step answer after → FitsOneLeaf limits k step answer
+
+-- The actor may take the step by what it knows, with its reply, if it has one; and the step is plain.
+pub record IsPlainlyAllowed (limits : Limits) (actor : ℕ) (k : Knowledge) (step : StepOf Record) (reply : Option Reply) : Type 0 where
+  pub allowed : IsAllowed limits actor k step reply
+  pub plain : IsPlainMove k step
 
 -- The operation goes on, or is done with the reply.
 abbrev pub IsLeft : Limits → ℕ → Knowledge → List ℕ → Running → Option Reply → Type 0

@@ -4,4 +4,5 @@ pub mod CellLinks
 pub mod Actors
 pub mod Cores
 pub mod Represents
+pub mod Listed
 pub mod Turns

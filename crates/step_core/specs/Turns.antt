@@ -1,5 +1,5 @@
 -- A core as its callers see it, what it refuses, and what a turn adds.
-use Rattle.std.specs.Prelude.{◌≡◌, ℕ, List, [], ◌∷◌, ◌++◌, length, Option, Some, None, Bool, true, false, is_some, nat_lt, if◌then◌else◌, slice_get, take, map, ◌⊎◌}
+use Rattle.std.specs.Prelude.{◌≡◌, ℕ, List, [], ◌∷◌, ◌++◌, length, Option, Some, None, Bool, true, false, is_some, nat_lt, if◌then◌else◌, slice_get, take, map, unwrap_or, ◌⊎◌}
 use Rattle.bw_model.specs.declared.limits.Limits.{Limits}
 use Rattle.bw_model.specs.declared.step.Answer.{Answer}
 use Rattle.bw_model.specs.declared.step.Answer.TheVariants.{Whether}
@@ -76,8 +76,14 @@ pub record AddsTurn (old : Core) (turn : Turn) (event : Event) (new : Core) : Ty
   pub event_of : IsEventOf (memory_of old.limits old.entries) added event
   pub same_limits : new.limits ≡ old.limits
 
--- A run of the turns ends early: some of them were taken, and the next one was refused, or memory was.
+-- what the trace says of a turn, whatever room it has for more entries
+abbrev pub IsRefusal : Limits → List Entry → Turn → Option RunError → Type 0
+IsRefusal limits entries turn refusal = (room : ℕ) → refusal_of (record { limits = limits; entries = entries; room = room }) turn ≡ refusal
+
+-- A run of the turns ends early. No core was opened, for want of memory; or some turns were taken, and the next one was refused,
+-- for want of memory only where nothing else refuses it.
 pub record Stops (limits : Limits) (turns : List Turn) (error : RunError) : Type 0 where
   pub entries : List Entry
   pub taken : map turn_of entries ≡ take (length entries) turns
-  pub why : (error ≡ OutOfMemory (length entries)) ⊎ ((next : Turn) × (slice_get turns (length entries) ≡ Some next) × ((room : ℕ) → refusal_of (record { limits = limits; entries = entries; room = room }) next ≡ Some error))
+  pub why : ((entries ≡ []) × (error ≡ OutOfMemory 0))
+      ⊎ ((next : Turn) × (refusal : Option RunError) × (slice_get turns (length entries) ≡ Some next) × IsRefusal limits entries next refusal × (error ≡ unwrap_or refusal (OutOfMemory (length entries))))

@@ -1,9 +1,8 @@
 //! One actor of a core.
 ghost use Rattle.std.specs.Prelude.{◌≡◌, ◌<◌, [], Some, None, is_some, true};
-ghost use Rattle.chain_search.specs.Discipline.{IsAllowed};
 ghost use Rattle.chain_search.specs.Knowledge.{Knowledge, begun};
-ghost use Rattle.op_machine.specs.Wants.{IsWithin};
-ghost use Rattle.step_core.specs.Actors.{IsActor, IsLeft, IsReady, IsRunning, IsServed, command_left, knows_then, running_command};
+ghost use Rattle.installs.specs.Within.{IsWithin};
+ghost use Rattle.step_core.specs.Actors.{IsActor, IsLeft, IsPlainlyAllowed, IsReady, IsRunning, IsServed, command_left, knows_then, running_command};
 ghost use Rattle.step_core.specs.Cells.{AreSound};
 ghost use Rattle.step_core.specs.CellLinks.{link_in, step_event};
 ghost use Rattle.step_core.specs.CellSteps.{Takes};
@@ -14,6 +13,7 @@ use crate::memory::Memory;
 use bw_model::{Answer, Command, Limits, Reply, Step};
 use deltas::Record;
 use op_machine::{Hand, Op, Want};
+use std::alloc::Allocator;
 use std::mem;
 
 /// An operation, and the step that it wants.
@@ -71,12 +71,17 @@ impl Actor {
     }
 
     /// Takes the one step that its operation wants.
-    pub(crate) fn step(&mut self, actor: u8, limits: &Limits, memory: &mut Memory) -> Stepped
+    pub(crate) fn step<A: Allocator>(
+        &mut self,
+        actor: u8,
+        limits: &Limits,
+        memory: &mut Memory<A>,
+    ) -> Stepped
         requires actor { actor < limits.now.actors }
         requires running { is_some (running_command self.old) ≡ true }
         requires ready { (k : Knowledge) × IsReady limits.now actor k memory.old self.old }
         requires memory { AreSound limits.now memory.old }
-        ensures allowed { (k : Knowledge) → IsReady limits.now actor k memory.old self.old → IsAllowed limits.now actor k result.step result.reply }
+        ensures allowed { (k : Knowledge) → IsReady limits.now actor k memory.old self.old → IsPlainlyAllowed limits.now actor k result.step result.reply }
         ensures shows { (k : Knowledge) → IsReady limits.now actor k memory.old self.old → IsActor limits.now actor (knows_then k result.step result.answer result.reply) self.new }
         ensures memory { AreSound limits.now memory.new }
         ensures within { IsWithin limits.now result.step }
@@ -96,7 +101,7 @@ impl Actor {
 
 impl Stepped {
     /// What the step tells, by the memory after it.
-    pub(crate) fn event(&self, memory: &Memory) -> Event
+    pub(crate) fn event<A: Allocator>(&self, memory: &Memory<A>) -> Event
         ensures { result ≡ step_event (link_in memory.now self.now.step self.now.answer) self.now.reply }
     {
         match &self.reply {
@@ -108,11 +113,17 @@ impl Stepped {
 
 impl Running {
     /// Takes the one step that is wanted.
-    fn step(&mut self, actor: u8, limits: &Limits, hand: &mut Hand, memory: &mut Memory) -> Stepped
+    fn step<A: Allocator>(
+        &mut self,
+        actor: u8,
+        limits: &Limits,
+        hand: &mut Hand,
+        memory: &mut Memory<A>,
+    ) -> Stepped
         requires actor { actor < limits.now.actors }
         requires ready { (k : Knowledge) × IsRunning limits.now actor k hand.old self.old × IsServed limits.now actor k memory.old self.old.wanted }
         requires memory { AreSound limits.now memory.old }
-        ensures allowed { (k : Knowledge) → IsRunning limits.now actor k hand.old self.old → IsServed limits.now actor k memory.old self.old.wanted → IsAllowed limits.now actor k result.step result.reply }
+        ensures allowed { (k : Knowledge) → IsRunning limits.now actor k hand.old self.old → IsServed limits.now actor k memory.old self.old.wanted → IsPlainlyAllowed limits.now actor k result.step result.reply }
         ensures left { (k : Knowledge) → IsRunning limits.now actor k hand.old self.old → IsServed limits.now actor k memory.old self.old.wanted → IsLeft limits.now actor (knows_then k result.step result.answer result.reply) hand.new self.new result.reply }
         ensures memory { AreSound limits.now memory.new }
         ensures within { IsWithin limits.now result.step }

@@ -49,6 +49,10 @@ pub(crate) fn copied_reply(reply: &Reply) -> Reply
         Reply::None => Reply::None,
         Reply::Inserted => Reply::Inserted,
         Reply::Exists(value) => Reply::Exists(value.copied()),
+        Reply::Set => Reply::Set,
+        Reply::Replaced(value) => Reply::Replaced(value.copied()),
+        Reply::Deleted(value) => Reply::Deleted(value.copied()),
+        Reply::Absent => Reply::Absent,
         Reply::Full => Reply::Full,
     }
 }

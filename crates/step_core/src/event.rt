@@ -2,6 +2,7 @@
 
 use bw_model::{Link, Reply};
 use chain_search::Entry;
+use std::alloc::{Allocator, Global};
 
 /// What a turn did.
 #[derive(Clone, Debug, PartialEq, Eq, Drop)]
@@ -29,6 +30,6 @@ pub enum RunError {
 
 /// What was done, turn by turn.
 #[derive(Debug, Drop)]
-pub struct Trace {
-    pub entries: Vec<Entry>,
+pub struct Trace<A: Allocator = Global> {
+    pub entries: Vec<Entry, A>,
 }

@@ -2,15 +2,20 @@
 #![tactic(auto)]
 
 mod actor;
+mod chain;
 mod copies;
 mod event;
+mod law;
 mod listing;
 mod machine;
 mod memory;
+#[cfg(test)]
+mod refusals;
 mod runs;
 #[cfg(test)]
 mod tests;
 
 pub use event::{Event, RunError, Trace};
+pub use law::disciplined_runs;
 pub use machine::Core;
 pub use runs::run;

@@ -5,6 +5,7 @@ ghost use Rattle.op_machine.specs.Index.{IsExactIndex};
 ghost use Rattle.op_machine.specs.Linearized.{IsLinearized};
 ghost use Rattle.op_machine.specs.Phases.{KeepsPhases};
 ghost use Rattle.op_machine.specs.Reuse.{IsFreedByRule};
+ghost use Rattle.step_core.specs.Listed.{IsListing};
 ghost use Rattle.step_core.specs.Turns.{AddsTurn, busy_of, refusal_of};
 
 use crate::actor::{Actor, Stepped};
@@ -13,19 +14,19 @@ use crate::listing::pairs_in;
 use crate::memory::Memory;
 use bw_model::{Command, Key, Limits, OpenError, Value};
 use chain_search::{Entry, Turn};
-use std::alloc::{AllocError, Global};
+use std::alloc::{AllocError, Allocator, Global};
 use std::marker::Model;
 
-/// All actors over one memory.
+/// All actors over one memory, which an allocator gives.
 #[derive(Drop)]
-pub struct Core {
+pub struct Core<A: Allocator = Global> {
     limits: Limits,
-    memory: Memory,
-    actors: Vec<Actor>,
-    trace: Vec<Entry>,
+    memory: Memory<A>,
+    actors: Vec<Actor, A>,
+    trace: Vec<Entry, A>,
 }
 
-impl Model for Core {
+impl<A: Allocator> Model for Core<A> {
     ghost use Rattle.std.specs.Vec.{vec_capacity};
     ghost use Rattle.step_core.specs.Cores.{IsCore};
     ghost use Rattle.step_core.specs.Turns.{Core};
@@ -37,24 +38,24 @@ impl Model for Core {
     ghost invariant = { λ c. IsCore c.limits c.memory c.actors.items c.trace.items };
 }
 
-impl Core {
+impl<A: Allocator + Copy> Core<A> {
     /// A core before its first turn; refused for want of memory alone.
-    pub fn open(alloc: Global, limits: Limits) -> Result<Core, OpenError>
+    pub fn open(alloc: A, limits: Limits) -> Result<Core<A>, OpenError>
         ensures entries { IfOk result (λ core. core.entries ≡ []) }
         ensures limits { IfOk result (λ core. core.limits ≡ limits) }
         ensures err { IfErr result (λ error. error ≡ OpenError.Memory) }
     {
-        match Core::with_memory(alloc, limits) {
+        match Core::<A>::with_memory(alloc, limits) {
             Ok(core) => Ok(core),
             Err(_) => Err(OpenError::Memory),
         }
     }
 
-    fn with_memory(alloc: Global, limits: Limits) -> Result<Core, AllocError>
+    fn with_memory(alloc: A, limits: Limits) -> Result<Core<A>, AllocError>
         ensures entries { IfOk result (λ core. core.entries ≡ []) }
         ensures limits { IfOk result (λ core. core.limits ≡ limits) }
     {
-        let memory = Memory::open(alloc, &limits)?;
+        let memory = Memory::<A>::open(alloc, &limits)?;
         let mut actors = Vec::with_capacity(alloc, limits.actors as usize)?;
         for _ in 0..limits.actors {
             actors.push(Actor::idle())?;
@@ -66,7 +67,9 @@ impl Core {
             trace: Vec::new(alloc),
         })
     }
+}
 
+impl<A: Allocator> Core<A> {
     /// How many turns were taken, which is the number of the next one.
     pub fn turns(&self) -> u64
         ensures { result ≡ length self.now.entries }
@@ -191,8 +194,9 @@ impl Core {
         event
     }
 
-    /// All pairs in the order of their keys. It is no turn.
-    pub fn listing(&self, alloc: Global) -> Result<Vec<(Key, Value)>, RunError>
+    /// All pairs that stand, in the order of their keys; refused for want of memory alone. It is no turn.
+    pub fn listing<B: Allocator + Copy>(&self, alloc: B) -> Result<Vec<(Key, Value), B>, RunError>
+        ensures ok { IfOk result (λ pairs. IsListing self.now.limits self.now.entries pairs.items) }
         ensures err { IfErr result (λ error. error ≡ RunError.Memory (length self.now.entries)) }
     {
         match pairs_in(alloc, &self.memory) {
@@ -202,7 +206,7 @@ impl Core {
     }
 
     /// What was done.
-    pub fn into_trace(self) -> Trace
+    pub fn into_trace(self) -> Trace<A>
         ensures { result.entries.items ≡ self.entries }
     {
         Trace {

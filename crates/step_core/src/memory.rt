@@ -2,7 +2,7 @@
 ghost use Rattle.std.specs.Prelude.{◌≡◌, ◌<◌, ◌*◌, length, IfOk, slice_get, slice_index, option_copied};
 ghost use Rattle.deltas.specs.Memory.{opening};
 ghost use Rattle.op_machine.specs.Links.{link_without};
-ghost use Rattle.op_machine.specs.Wants.{IsWithin};
+ghost use Rattle.installs.specs.Within.{IsWithin};
 ghost use Rattle.step_core.specs.Cells.{AreSound, is_free, without};
 ghost use Rattle.step_core.specs.CellSteps.{Takes};
 ghost use Rattle.step_core.specs.Represents.{Represents};
@@ -11,21 +11,21 @@ ghost use Rattle.step_core.specs.CellLinks.{exchange_link, link_in};
 use base_page::Page;
 use bw_model::{Answer, Limits, Link, Step};
 use deltas::Record;
-use std::alloc::{AllocError, Global};
+use std::alloc::{AllocError, Allocator};
 use std::marker::Model;
 
 /// Slots and records by number, words of free bits, the epoch, and what each actor announced.
 #[derive(Drop)]
-pub(crate) struct Memory {
-    slots: Vec<u16>,
-    records: Vec<Record>,
-    pid_bits: Vec<u64>,
-    row_bits: Vec<u64>,
+pub(crate) struct Memory<A: Allocator> {
+    slots: Vec<u16, A>,
+    records: Vec<Record, A>,
+    pid_bits: Vec<u64, A>,
+    row_bits: Vec<u64, A>,
     epoch: u64,
-    announced: Vec<u64>,
+    announced: Vec<u64, A>,
 }
 
-impl Model for Memory {
+impl<A: Allocator> Model for Memory<A> {
     ghost use Rattle.step_core.specs.Cells.{Cells};
 
     ghost Value = { Cells };
@@ -33,9 +33,9 @@ impl Model for Memory {
     ghost view = { λ m. record { slots = m.slots.items; records = m.records.items; pid_bits = m.pid_bits.items; row_bits = m.row_bits.items; epoch = m.epoch; announced = m.announced.items } };
 }
 
-impl Memory {
+impl<A: Allocator + Copy> Memory<A> {
     /// The memory before the first step: page 1 is the root, and an empty leaf.
-    pub(crate) fn open(alloc: Global, limits: &Limits) -> Result<Memory, AllocError>
+    pub(crate) fn open(alloc: A, limits: &Limits) -> Result<Memory<A>, AllocError>
         ensures sound { IfOk result (AreSound limits.now) }
         ensures opening { IfOk result (λ cells. Represents limits.now cells (opening limits.now)) }
     {
@@ -59,7 +59,9 @@ impl Memory {
             announced: vec![in alloc; 0; limits.actors as usize]?,
         })
     }
+}
 
+impl<A: Allocator> Memory<A> {
     /// The record that was placed last in a row.
     pub(crate) fn record(&self, row: u16) -> Option<&Record>
         ensures { option_copied result ≡ slice_get self.now.records row }
@@ -158,7 +160,7 @@ impl Memory {
 }
 
 /// Clears the bit of a number, and says whether it was set.
-fn take_bit(words: &mut Vec<u64>, number: u16) -> bool
+fn take_bit<A: Allocator>(words: &mut Vec<u64, A>, number: u16) -> bool
     requires { number < 64 * length words.old.items }
     ensures free { result ≡ is_free words.old.items number }
     ensures words { words.new.items ≡ without words.old.items number }

@@ -11,11 +11,15 @@ use crate::event::{RunError, Trace};
 use crate::machine::Core;
 use bw_model::Limits;
 use chain_search::Turn;
-use std::alloc::Global;
+use std::alloc::Allocator;
 
 /// Opens a core and takes all turns. A refused run answers no trace; where no core was opened, it is refused for want of
 /// memory at turn 0.
-pub fn run(alloc: Global, limits: Limits, turns: &[Turn]) -> Result<Trace, RunError>
+pub fn run<A: Allocator + Copy>(
+    alloc: A,
+    limits: Limits,
+    turns: &[Turn],
+) -> Result<Trace<A>, RunError>
     ensures turns { IfOk result (λ trace. map turn_of trace.entries.items ≡ turns.now) }
     ensures linearized { IfOk result (λ trace. IsLinearized limits turns.now trace.entries.items) }
     ensures phases { IfOk result (λ trace. KeepsPhases limits trace.entries.items) }
@@ -23,7 +27,7 @@ pub fn run(alloc: Global, limits: Limits, turns: &[Turn]) -> Result<Trace, RunEr
     ensures freed { IfOk result (λ trace. IsFreedByRule limits trace.entries.items) }
     ensures err { IfErr result (Stops limits turns.now) }
 {
-    let mut core = match Core::open(alloc, limits) {
+    let mut core = match Core::<A>::open(alloc, limits) {
         Ok(core) => core,
         Err(_) => return Err(RunError::Memory(0)),
     };

@@ -114,7 +114,7 @@ fn a_lost_exchange_keeps_its_row(rt: HostRuntime) -> Result<(), Fail> {
 }
 
 #[test]
-fn eight_records_are_full(rt: HostRuntime) -> Result<(), Fail> {
+fn a_writer_consolidates(rt: HostRuntime) -> Result<(), Fail> {
     let limits = Limits::new(1, 64, 64, 1)?;
     let mut core = Core::open(rt.alloc(), limits)?;
     for digit in b"12345678" {
@@ -126,15 +126,12 @@ fn eight_records_are_full(rt: HostRuntime) -> Result<(), Fail> {
     }
     assert_eq!(rt; core.turns(), 116);
     assert_eq!(rt;
-        done(&mut core, Command::Insert(key(b"k1"), value(b"x")))?,
-        Reply::Full
+        done(&mut core, Command::Delete(key(b"k1")))?,
+        Reply::Deleted(value(b"k1"))
     );
-    assert_eq!(rt; core.turns(), 131);
-    assert_eq!(rt;
-        done(&mut core, Command::Get(key(b"k1")))?,
-        Reply::Value(value(b"k1"))
-    );
-    assert_eq!(rt; core.listing(rt.alloc())?.len(), 8);
+    assert_eq!(rt; core.turns(), 142);
+    assert_eq!(rt; done(&mut core, Command::Get(key(b"k1")))?, Reply::None);
+    assert_eq!(rt; core.listing(rt.alloc())?.len(), 7);
     Ok(())
 }
 

@@ -7,8 +7,8 @@ use Rattle.bw_model.specs.Log.{Update, value_in}
 use Rattle.bw_model.specs.Replies.{command_key, reply_of, update_of}
 use Rattle.chain_search.specs.Chains.{content_in, is_removed}
 use Rattle.tree_law.specs.Keys.{Key, Covers}
-use Rattle.tree_law.specs.Knowledge.{Knowledge}
-use Rattle.tree_law.specs.Discipline.{IsBeside, MayAnswer, value_of, found}
+use Rattle.chain_search.specs.Knowledge.{Knowledge}
+use Rattle.chain_search.specs.Discipline.{IsBeside, MayAnswer, value_of, found}
 use Rattle.tree_law.specs.Shared.{Shared}
 use Rattle.tree_law.specs.Owners.{Owners, Among, leaf_map, Spells, HeadFits, LinkFits, InOrder, OrderFits}
 use Rattle.tree_law.specs.Replies.{IsRepliedAt}

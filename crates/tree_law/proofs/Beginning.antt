@@ -18,7 +18,7 @@ use Rattle.op_machine.specs.Quiet.{HasMapOf}
 use Rattle.op_machine.proofs.Listed.{same_operation, and_left, and_right}
 use Rattle.op_machine.proofs.LogLaws.{log_of-push}
 use Rattle.std.proofs.lemmas.List.Sums.{fold-append}
-use Rattle.tree_law.specs.Knowledge.{begun, knows_after, knows}
+use Rattle.chain_search.specs.Knowledge.{begun, knows_after, knows}
 use Rattle.tree_law.specs.Owners.{Free, Linked}
 use Rattle.tree_law.specs.Phase.{Indexed, Nobody, Placed}
 use Rattle.tree_law.specs.Put.{put}
@@ -28,6 +28,7 @@ use Rattle.tree_law.specs.Tree.{Good}
 use Rattle.tree_law.proofs.Keeping.{begins as good_begins}
 use Rattle.op_machine.specs.Phases.{free, indexed}
 use Rattle.tree_law.proofs.Exactness.{is_indexed, below_top, root_indexed}
+use Rattle.tree_law.proofs.Fitness.{opening_fitted}
 use Rattle.tree_law.proofs.Levels.{indexed_first, indexed_push}
 use Rattle.tree_law.proofs.Mapping.{map_of}
 use Rattle.tree_law.proofs.Lives.{begins_in_phase, begins_phases, begins_only, unused_push}
@@ -48,6 +49,7 @@ opens limits = record {
   point = λ a. None;
   logs = λ a. [];
   good = opening_good limits;
+  fitted = opening_fitted limits;
   named = record {
     shown = λ a r h. absurd (not_shown a r h.0 h.1);
     known = λ a r e. absurd (cc);
@@ -115,6 +117,7 @@ begins limits entries a c state below idle = record {
   point = put state.point a None;
   logs = put state.logs a [];
   good = good_after;
+  fitted = rw (memory_of-push limits entries (Begin a c)) state.fitted;
   named = rw (memory_of-push limits entries (Begin a c), knows-push entries (Begin a c)) (named_begins limits entries state.owners (memory_of limits entries) (knows entries) a c state.named (command_of-push entries (Begin a c)));
   tells = λ b asked e. by_test b a (λ t. cond t (Some c) (command_of entries b) ≡ Some asked → Tells (entries ++ Begin a c ∷ []) (state.points ++ false ∷ []) b asked (cond t None (state.point b)) (cond t [] (state.logs b)))
       (λ i f. let same : c ≡ asked = cc in rw i (subst (λ d. Tells (entries ++ Begin a c ∷ []) (state.points ++ false ∷ []) a d None []) same (tells_new entries (state.points ++ false ∷ []) a c)))

@@ -1,8 +1,10 @@
 -- Chains: there is one from each row, and it stays while its rows do.
-use Rattle.std.proofs.Common.{◌≡◌, ℕ, List, [], ◌∷◌, Option, Some, None, sym, ◌∙◌, subst}
+use Rattle.std.proofs.Common.{◌≡◌, ℕ, List, [], ◌∷◌, ◌++◌, Option, Some, None, refl, sym, ◌∙◌, subst}
+use Rattle.std.specs.Prelude.{MatchOption}
 use Rattle.std.proofs.lemmas.Option.{same_Some}
 use Rattle.deltas.specs.declared.record.Record.{Record}
 use Rattle.deltas.specs.Records.{next_row}
+use Rattle.chain_search.specs.Chains.{IsChainFrom, IsFront}
 use Rattle.tree_law.specs.Owners.{IsChain}
 
 pub chain_unique : (rows : ℕ → Option Record) (c d : List Record) (o : Option ℕ) → IsChain rows c o → IsChain rows d o → c ≡ d
@@ -13,6 +15,20 @@ chain_unique rows (v ∷ c) (w ∷ d) (Some x) h g =
     let e : v ≡ w = same_Some v w (sym h.0 ∙ g.0) in
     let t : c ≡ d = chain_unique rows c d (next_row v) h.1 (subst (λ (u : Record). IsChain rows d (next_row u)) (sym e) g.1) in
     cc
+
+-- what was read of a chain is its front
+pub front_of : (seen rows : ℕ → Option Record) → ((r : ℕ) (w : Record) → seen r ≡ Some w → rows r ≡ Some w) → (x : ℕ) (front : List Record) (n : ℕ) (c : List Record) → IsFront seen x front n → IsChainFrom rows x c
+    → (rest : List Record) × IsChainFrom rows n rest × (c ≡ front ++ rest)
+front_of seen rows stand x [] n c at h = (c, subst (λ y. IsChainFrom rows y c) at h, refl)
+front_of seen rows stand x (w ∷ front) n [] at h = absurd h
+front_of seen rows stand x (w ∷ front) n (v ∷ c) at h =
+    let same : w ≡ v = same_Some w v (sym (stand x w at.0) ∙ h.0) in
+    let under : MatchOption (next_row w) (c ≡ []) (λ y. IsChainFrom rows y c) = subst (λ u. MatchOption (next_row u) (c ≡ []) (λ y. IsChainFrom rows y c)) (sym same) h.1 in
+    let deeper = elim (next_row w) as (λ o. MatchOption o ⊥ (λ y. IsFront seen y front n) → MatchOption o (c ≡ []) (λ y. IsChainFrom rows y c) → (rest : List Record) × IsChainFrom rows n rest × (c ≡ front ++ rest)) [
+      | None ↦ λ f g. absurd f
+      | Some y ↦ λ f g. front_of seen rows stand y front n c f g
+    ] at.1 under in
+    (deeper.0, deeper.1, λ i. sym same i ∷ deeper.2 i)
 
 -- a chain stays where every record that stood there stands
 pub chain_within : (rows rows' : ℕ → Option Record) → ((r : ℕ) (w : Record) → rows r ≡ Some w → rows' r ≡ Some w) → (c : List Record) (o : Option ℕ) → IsChain rows c o → IsChain rows' c o

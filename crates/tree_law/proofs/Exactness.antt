@@ -11,7 +11,7 @@ use Rattle.chain_search.specs.Chains.{IsChainOf, content_in, level_in, low_in, h
 use Rattle.chain_search.specs.SideChain.{LivePage}
 use Rattle.chain_search.proofs.ChainLaws.{IsChainOf-unique}
 use Rattle.tree_law.specs.Keys.{Key, IsUpTo, IsUnder, Covers}
-use Rattle.tree_law.specs.Knowledge.{Knowledge}
+use Rattle.chain_search.specs.Knowledge.{Knowledge}
 use Rattle.tree_law.specs.Phase.{Stage, Indexed, Merged, Placed, rank}
 use Rattle.tree_law.specs.Shared.{Shared, shared}
 use Rattle.tree_law.specs.Owners.{Owners}

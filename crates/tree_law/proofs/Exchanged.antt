@@ -1,7 +1,7 @@
 -- What an exchange that won leaves of what its actor knows.
 use Rattle.std.proofs.Common.{◌≡◌, ℕ, zero, suc, refl}
 use Rattle.deltas.specs.declared.record.Record.TheVariants.{Base, Put, Delete, Split, Term, Hold, Remove, Merge, Unterm}
-use Rattle.tree_law.specs.Knowledge.{OwnRow, Foreign, Taken, Written, OwnPage, Other, Empty, Ready, Gone, Knowledge, split_off, linked_over, filled, emptied, rooted, exchanged}
+use Rattle.chain_search.specs.Knowledge.{OwnRow, Foreign, Taken, Written, OwnPage, Other, Empty, Ready, Gone, Knowledge, split_off, linked_over, filled, emptied, rooted, exchanged}
 
 -- the two know the same of all but rows, pages and their link
 pub record Alike (k k' : Knowledge) : Type 0 where

@@ -11,7 +11,7 @@ use Rattle.deltas.specs.Memory.{Memory}
 use Rattle.chain_search.specs.Steps.{IsAnswer}
 use Rattle.tree_law.specs.Indexed.{IsFirst}
 use Rattle.tree_law.specs.Keys.{Key}
-use Rattle.tree_law.specs.Knowledge.{Knowledge}
+use Rattle.chain_search.specs.Knowledge.{Knowledge}
 use Rattle.tree_law.specs.Owners.{Owners}
 use Rattle.tree_law.specs.Phase.{Stage, Fresh, Indexed, Held, Removed, Merged, PageOwner, Nobody, Keeps, Placed, Cleared, rank}
 use Rattle.tree_law.specs.Phases.{Links, Exchanged, Phased}

@@ -1,7 +1,8 @@
 -- What a state's memory answers fits what each actor knows.
-use Rattle.std.proofs.Common.{◌≡◌, ◌<◌, ◌≤◌, ◌+◌, ◌*◌, ◌^◌, inl, inr, ℕ, zero, suc, List, Option, Some, None, Bool, true, false, refl, sym, ap, ◌∙◌, subst, arith}
+use Rattle.std.proofs.Common.{◌≡◌, ◌<◌, ◌≤◌, ◌+◌, ◌*◌, ◌^◌, ◌==◌, inl, inr, ℕ, zero, suc, List, Option, Some, None, Bool, true, false, refl, sym, ap, ◌∙◌, subst, arith}
 use Rattle.std.specs.Prelude.{IfSome, if◌then◌else◌}
 use Rattle.std.specs.Int.{bit_at}
+use Rattle.std.proofs.lemmas.Bool.{eqb-true}
 use Rattle.std.proofs.lemmas.Option.{same_Some}
 use Rattle.bw_model.specs.declared.limits.Limits.{Limits}
 use Rattle.bw_model.specs.declared.step.Answer.{Answer}
@@ -12,20 +13,37 @@ use Rattle.deltas.specs.declared.record.Record.{Record}
 use Rattle.deltas.specs.Records.{next_row}
 use Rattle.deltas.specs.Memory.{Memory}
 use Rattle.chain_search.specs.declared.trace.Entry.{Entry}
+use Rattle.chain_search.specs.Chains.{level_in, low_in}
 use Rattle.chain_search.specs.Fitting.{FitsWord}
 use Rattle.chain_search.specs.Steps.{IsWordOf, IsAnswer}
 use Rattle.chain_search.specs.Trace.{memory_of}
-use Rattle.tree_law.specs.Discipline.{May}
-use Rattle.tree_law.specs.Fitting.{FitsRow, FitsTaken, FitsTakenPid, Fits}
-use Rattle.tree_law.specs.Knowledge.{OwnRow, Foreign, Taken, Written, OwnPage, Other, Empty, Ready, Gone, Knowledge, knows}
-use Rattle.tree_law.specs.Owners.{Free, Linked, OwnFits, PageFits, SeenFits}
-use Rattle.tree_law.specs.Phase.{Nobody}
-use Rattle.tree_law.specs.Shared.{slot_in, shared}
-use Rattle.tree_law.specs.State.{phase_of, IsState}
+use Rattle.chain_search.specs.Discipline.{MayExchange, May}
+use Rattle.chain_search.specs.Fitting.{FitsRow, FitsTaken, FitsTakenPid, FitsExchange, Fits}
+use Rattle.chain_search.specs.Knowledge.{OwnRow, Foreign, Taken, Written, OwnPage, Other, Empty, Ready, Gone, Knowledge, knows}
+use Rattle.tree_law.specs.Owners.{Free, Linked, Reached, OwnFits, PageFits, SeenFits}
+use Rattle.op_machine.specs.Phases as phase
+use Rattle.tree_law.specs.Keys.{Key}
+use Rattle.tree_law.specs.Phase.{Fresh, Indexed, Held, Removed, Merged, PageOwner, Nobody, Keeps, Placed, Cleared}
+use Rattle.tree_law.specs.Shared.{row_in, slot_in, shared}
+use Rattle.tree_law.specs.State.{phase_of, IsInTree, IsState}
 use Rattle.tree_law.proofs.Keeping.{slot_of, met_placed}
 use Rattle.tree_law.proofs.Mapping.{slot_some}
 use Rattle.tree_law.proofs.Names.{slot_none}
+use Rattle.tree_law.proofs.Puts.{by_test}
+use Rattle.tree_law.proofs.Relinking.{not_own, found, place_of}
 use Rattle.tree_law.proofs.Rows.{next_linked}
+use Rattle.tree_law.proofs.Slots.{link_read, reached_in_tree}
+use Rattle.tree_law.proofs.Whole.{short_front, whole_chain}
+
+in_tree_phase : (w : PageOwner) → IsInTree w → phase_of w ≡ phase.free → ⊥
+in_tree_phase Nobody h e = absurd h
+in_tree_phase (Keeps a) h e = absurd h
+in_tree_phase (Placed Fresh l s) h e = cc
+in_tree_phase (Placed Indexed l s) h e = cc
+in_tree_phase (Placed Held l s) h e = cc
+in_tree_phase (Placed Removed l s) h e = cc
+in_tree_phase (Placed Merged l s) h e = cc
+in_tree_phase (Cleared a l s) h e = cc
 
 above : (n : ℕ) → (n ≡ 0 → ⊥) → 0 < n
 above zero never = absurd (never refl)
@@ -54,10 +72,16 @@ module _ (limits : Limits) (entries : List Entry) (state : IsState limits entrie
   next_some : (w : Record) → IfSome (next_row w) (λ n. state.owners.row n ≡ Linked) → IfSome (next_row w) (λ n. (0 < n) × (n < limits.rows))
   next_some w h = elim (next_row w) as (λ o. IfSome o (λ n. state.owners.row n ≡ Linked) → IfSome o (λ n. (0 < n) × (n < limits.rows))) [ None ↦ λ h. tt | Some n ↦ λ h. linked_some n h ] h
 
+  -- a page of the tree is below the limit
+  placed_below : (r p l : ℕ) (s : Key) → Reached r l s (state.owners.page p) → (0 < p) × (p < limits.pids)
+  placed_below r p l s h = elim (state.named.pid_below p) [ inl f ↦ absurd (in_tree_phase (state.owners.page p) (reached_in_tree r l s (state.owners.page p) h) f) | inr below ↦ below ]
+
   fits_row : (q : ℕ) (w : Record) → k.learnt q ≡ true → m.rows q ≡ Some w → FitsRow limits k q w
   fits_row q w learnt e = record {
     same = λ before seen. same_Some w before (sym e ∙ stands q before seen);
     next = next_some w (next_linked state.owners (shared m) state.good.closed q w ((state.good.sound a).learnt_fits q learnt) e);
+    short = λ page head front at part. short_front state.good state.fitted a q w e page head front at part;
+    whole = λ page head front at part last. whole_chain state.good state.fitted a q w e page head front at part limits placed_below last;
   }
 
   fits_word : (free : ℕ → Bool) (limit word bits : ℕ) → ((n : ℕ) → free n ≡ true → (0 < n) × (n < limit)) → IsWordOf free word bits → FitsWord limit word bits
@@ -125,6 +149,23 @@ module _ (limits : Limits) (entries : List Entry) (state : IsState limits entrie
   fits_take_pid q true e = fits_taken_pid q e
   fits_take_pid q false e = tt
 
+  fits_exchange : (p x y : ℕ) (t : Bool) → MayExchange a k p x y → (m.slots p == x) ≡ t → FitsExchange k p x y t
+  fits_exchange zero x y t may e = tt
+  fits_exchange (suc p) zero zero t may e = absurd may
+  fits_exchange (suc p) zero (suc y) t may e =
+      let own = subst (λ (v : OwnPage). PageFits a (state.owners.page (suc p)) (slot_in m.slots (suc p)) v) may.0 (state.good.owns_pages a (suc p)) in
+      let none : m.slots (suc p) ≡ 0 = slot_none m.slots (suc p) (omega arith) own.1 in
+      sym e ∙ rw none refl
+  fits_exchange (suc p) (suc x) zero t may e = λ ready.
+      let own = subst (λ (v : OwnPage). PageFits a (state.owners.page (suc p)) (slot_in m.slots (suc p)) v) ready (state.good.owns_pages a (suc p)) in
+      let at : m.slots (suc p) ≡ suc x = (slot_some m.slots (suc p) (suc x) own.1).1 in
+      sym e ∙ rw at (by_test (suc x) (suc x) (λ t. t ≡ true) (λ i. refl) (λ ne. absurd (ne refl)))
+  fits_exchange (suc p) (suc x) (suc y) t may e = λ won.
+      let at : m.slots (suc p) ≡ suc x = eqb-true (m.slots (suc p)) (suc x) (e ∙ won) in
+      let read = link_read a k (suc p) (suc x) (suc y) may.1 in
+      let place = place_of state.good a (suc p) (suc x) read.chain (found state.good a (suc p) (suc x) read) read.alive (ap row_in at) in
+      not_own state.good a (suc p) (level_in read.chain) (low_in read.chain) place.stage place.placed (k.pages (suc p)) (state.good.owns_pages a (suc p))
+
   pub fits : (step : StepOf Record) (answer : Answer Record) → May a k step → IsAnswer m step answer → Fits limits k step answer
   fits (Slot p) answer may is = subst (Fits limits k (Slot p)) (sym is) (fits_slot p may)
   fits (Row q) answer may is = subst (Fits limits k (Row q)) (sym is.2) (fits_row q is.0 may.1 is.1)
@@ -135,7 +176,7 @@ module _ (limits : Limits) (entries : List Entry) (state : IsState limits entrie
   fits (PidBits word) answer may is = subst (Fits limits k (PidBits word)) (sym is.2) (fits_word m.free_pids limits.pids word is.0 state.named.free_pid_below is.1)
   fits (RowBits word) answer may is = subst (Fits limits k (RowBits word)) (sym is.2) (fits_word m.free_rows limits.rows word is.0 free_some is.1)
   fits (Place q w) answer may is = subst (Fits limits k (Place q w)) (sym is) tt
-  fits (Exchange p x y) answer may is = subst (Fits limits k (Exchange p x y)) (sym is) tt
+  fits (Exchange p x y) answer may is = subst (Fits limits k (Exchange p x y)) (sym is) (fits_exchange p x y (m.slots p == x) may.1 refl)
   fits (TakeRow q) answer may is = subst (Fits limits k (TakeRow q)) (sym is) (fits_take q (m.free_rows q) refl)
   fits (TakePid q) answer may is = subst (Fits limits k (TakePid q)) (sym is) (fits_take_pid q (m.free_pids q) refl)
   fits (Enter e) answer may is = subst (Fits limits k (Enter e)) (sym is) tt

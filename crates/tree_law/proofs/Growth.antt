@@ -4,7 +4,7 @@ use Rattle.std.specs.Prelude.{IsSome, IfSome, MatchOption, slice_get, IsTrue, Is
 use Rattle.std.specs.Option.{option_to_list}
 use Rattle.std.proofs.lemmas.Option.{same_Some}
 use Rattle.bw_model.specs.declared.command.Command.{Command}
-use Rattle.bw_model.specs.declared.command.Command.TheVariants.{Get, Insert}
+use Rattle.bw_model.specs.declared.command.Command.TheVariants.{Get, Insert, Upsert, Delete}
 use Rattle.bw_model.specs.declared.command.Reply.{Reply}
 use Rattle.bw_model.specs.declared.command.Reply.TheVariants as reply
 use Rattle.bw_model.specs.declared.limits.Limits.{Limits}
@@ -34,8 +34,8 @@ use Rattle.op_machine.specs.Quiet.{IsQuiet}
 use Rattle.op_machine.specs.Reuse.{IsFreedByRule}
 use Rattle.op_machine.proofs.Listed.{same_operation}
 use Rattle.op_machine.proofs.LogLaws.{log_of-push}
-use Rattle.tree_law.specs.Discipline.{May, MayAnswer, MayGiveUp, MayReply, IsAllowed}
-use Rattle.tree_law.specs.Knowledge.{Knowledge, learn, finished, knows}
+use Rattle.chain_search.specs.Discipline.{May, MayAnswer, MayGiveUp, MayReply, IsAllowed}
+use Rattle.chain_search.specs.Knowledge.{Knowledge, learn, finished, knows}
 use Rattle.tree_law.specs.Next.{IsDue, grown, pointed as pointed', Next}
 use Rattle.tree_law.specs.Owners.{SeenFits, HeadFits, LinkFits}
 use Rattle.tree_law.specs.Put.{put}
@@ -46,6 +46,7 @@ use Rattle.tree_law.specs.Tree.{Good}
 use Rattle.tree_law.proofs.Answering.{answers}
 use Rattle.tree_law.proofs.Beginning.{knows-push}
 use Rattle.tree_law.proofs.Firsts.{first_stays, grows}
+use Rattle.tree_law.proofs.Fitness.{fitted_after}
 use Rattle.tree_law.proofs.Keeping.{slot_of, met_placed}
 use Rattle.tree_law.proofs.Levels.{indexed_push}
 use Rattle.tree_law.proofs.Mapping.{slot_some, map_of}
@@ -303,6 +304,7 @@ module _ (limits : Limits) (entries : List Entry) (a : ℕ) (step : StepOf Recor
     point = put state.point a (cond mark (Some (log_of entries state.points)) (state.point a));
     logs = put state.logs a (log_of entries state.points ∷ state.logs a);
     good = good_after;
+    fitted = rw (memory_of-push limits entries last) (fitted_after state.owners (shared (memory_of limits entries)) state.good.closed state.fitted n.owners (memory_after a step (memory_of limits entries)).rows (λ q l. (n.kept q l).1) n.added);
     named = rw (memory_of-push limits entries last, knows-push entries last)
         (named_steps limits entries state.owners (memory_of limits entries) (knows entries) (log_of entries state.points) state.point state.logs state.good state.named a step answer r allowed.may is n.owners (λ q l. (n.kept q l).0) n.moved
         (pid_below_after limits state.owners.page n.owners.page is lives state.named.free_pid_below state.named.pid_below)
@@ -360,11 +362,17 @@ no_full (Get k) None e = cc
 no_full (Get k) (Some o) e = cc
 no_full (Insert k w) None e = cc
 no_full (Insert k w) (Some o) e = cc
+no_full (Upsert k w) None e = cc
+no_full (Upsert k w) (Some o) e = cc
+no_full (Delete k) None e = cc
+no_full (Delete k) (Some o) e = cc
 
 -- a command that may change the map is a writer
 writer : (a : ℕ) (c : Command) (old : Option (List ℕ)) (u : Update) → update_of a c old ≡ Some u → IsTrue (is_writer c)
 writer a (Get k) old u e = cc
 writer a (Insert k w) old u e = refl
+writer a (Upsert k w) old u e = refl
+writer a (Delete k) old u e = refl
 
 true_reply : (limits : Limits) (entries : List Entry) (points : List Bool) (op : Operation) (answer : Reply) → Answers limits entries points op answer → IsTrueReply limits entries points op answer
 true_reply limits entries points op reply.Full (inl h) = absurd (no_full op.command _ h.3)
@@ -373,6 +381,10 @@ true_reply limits entries points op (reply.Value v) (inl h) = h
 true_reply limits entries points op reply.None (inl h) = h
 true_reply limits entries points op reply.Inserted (inl h) = h
 true_reply limits entries points op (reply.Exists v) (inl h) = h
+true_reply limits entries points op reply.Set (inl h) = h
+true_reply limits entries points op (reply.Replaced v) (inl h) = h
+true_reply limits entries points op (reply.Deleted v) (inl h) = h
+true_reply limits entries points op reply.Absent (inl h) = h
 true_reply limits entries points op answer (inr h) = let e = h.0 in absurd (cc)
 
 pointed_by : (limits : Limits) (entries : List Entry) (points : List Bool) (op : Operation) (answer : Reply) → Answers limits entries points op answer → IsTrue (has_point answer) → (m : ℕ) × IsOwnStep entries op m × IsPoint points m

@@ -10,7 +10,7 @@ use Rattle.deltas.specs.declared.record.Record.TheVariants.{Term, Hold, Unterm}
 use Rattle.deltas.specs.Records.{next_row}
 use Rattle.chain_search.specs.Chains.{content_in, level_in, low_in, high_in, right_in, is_removed}
 use Rattle.tree_law.specs.Keys.{Key, IsUpTo, IsUnder, Covers, put_key}
-use Rattle.tree_law.specs.Knowledge.{OwnRow, Foreign, Gone, Knowledge, filled, finished}
+use Rattle.chain_search.specs.Knowledge.{OwnRow, Foreign, Gone, Knowledge, filled, finished}
 use Rattle.tree_law.specs.Phase.{Stage, Fresh, Indexed, Held, Removed, Merged, PageOwner, Placed, Cleared, mark, rank, child_of, rank_of}
 use Rattle.tree_law.specs.Put.{put}
 use Rattle.tree_law.specs.Shared.{Shared}
@@ -18,7 +18,7 @@ use Rattle.tree_law.specs.Owners.{IsChain, Spare, Linked, Owners, Reached, OwnFi
 use Rattle.tree_law.specs.Tree.{spec, InPlace, Good}
 use Rattle.std.specs.Ordering.{is_eq}
 use Rattle.bw_model.specs.Bytes.{key_cmp}
-use Rattle.tree_law.specs.Discipline.{MayPost, MayHold, MayUnterm}
+use Rattle.chain_search.specs.Discipline.{MayPost, MayHold, MayUnterm}
 use Rattle.tree_law.proofs.KeyOrder.{by_key, key_other, covers_from}
 use Rattle.tree_law.proofs.Puts.{by_test, put_same, put_other}
 use Rattle.tree_law.proofs.Kept.{reached_placed}

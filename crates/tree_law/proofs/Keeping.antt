@@ -13,8 +13,8 @@ use Rattle.base_page.specs.declared.item.Content.TheVariants.{Child}
 use Rattle.deltas.specs.declared.record.Record.{Record}
 use Rattle.chain_search.specs.Chains.{content_in, level_in, low_in, right_in, is_removed, covers}
 use Rattle.tree_law.specs.Keys.{Key}
-use Rattle.tree_law.specs.Knowledge.{Knowledge, begun, learn, finished}
-use Rattle.tree_law.specs.Discipline.{IsMet}
+use Rattle.chain_search.specs.Knowledge.{Knowledge, begun, learn, finished}
+use Rattle.chain_search.specs.Discipline.{IsMet}
 use Rattle.tree_law.specs.Phase.{Stage, Fresh, Indexed, Held, Removed, Merged, PageOwner, Placed, Cleared, rank, rank_of}
 use Rattle.tree_law.specs.Put.{put}
 use Rattle.tree_law.specs.Shared.{Shared}
@@ -141,7 +141,7 @@ module _ {m : Shared} {log : List Update} {o : Owners} {knows : ℕ → Knowledg
   lower r l s w h = ⊎_elim (λ (u : (st : Stage) × (w ≡ Placed st l s) × (r ≤ rank st)). placed_reached l s u.0 w u.1) (λ (u : (b : ℕ) × (w ≡ Cleared b l s)). subst (λ (v : PageOwner). Reached 0 l s v) (sym u.1) (refl, refl)) (reached_placed r l s w h)
 
   pub met_placed : (p : ℕ) → ((knows a).roots p ≡ true) ⊎ IsMet (knows a) p → (l : ℕ) × (s : Key) × Reached 0 l s (o.page p)
-  met_placed p (inl e) = mine.roots_fit p e
+  met_placed p (inl e) = let i = mine.roots_fit p e in (i.0, [], i.1)
   met_placed p (inr h) = ⊎_elim
       (λ (u : right_in h.chain ≡ Some p). let r = n.right p u in (level_in h.chain, r.0, r.2))
       (λ (u : (level : ℕ) × (key : Key) × (held : Bool) × (level_in h.chain ≡ suc level) × IsTrue (covers h.chain key) × (content_in h.chain key ≡ Some (Child p held))).

@@ -7,7 +7,7 @@ use Rattle.deltas.specs.declared.record.Record.{Record}
 use Rattle.deltas.specs.Records.{next_row}
 use Rattle.chain_search.specs.Chains.{level_in, low_in, is_removed}
 use Rattle.tree_law.specs.Keys.{Key, Covers}
-use Rattle.tree_law.specs.Knowledge.{OwnRow, Foreign, Taken, Written, OwnPage, Other, Empty, Ready, Gone}
+use Rattle.chain_search.specs.Knowledge.{OwnRow, Foreign, Taken, Written, OwnPage, Other, Empty, Ready, Gone}
 use Rattle.tree_law.specs.Phase.{Stage, Fresh, Indexed, Held, Removed, Merged, PageOwner, Nobody, Keeps, Placed, Cleared, rank}
 use Rattle.tree_law.specs.Shared.{Shared}
 use Rattle.tree_law.specs.Owners.{IsChain, Spare, Linked, Owners, Reached, Forward, IsClosed, OwnFits, Owns, PageFits, OwnsPages, SeenFits, Spells, IsCleared, HeadFits, LinkFits, InOrder, OrderFits, Knows}
@@ -86,7 +86,7 @@ knows_kept o o' m m' closed kept seen learnt roots heads before linked point log
     record {
       seen_fits = λ r. seen_at r (seen r) (k.seen_fits r);
       learnt_fits = λ r e. (kept.row r (k.learnt_fits r e)).0;
-      roots_fit = λ p e. let i = k.roots_fit p e in (i.0, i.1, kept.page p 0 i.0 i.1 i.2);
+      roots_fit = λ p e. let i = k.roots_fit p e in (i.0, kept.page p 0 i.0 [] i.1);
       heads_fit = λ p. head_at p (heads p) (k.heads_fit p);
       orders_fit = λ p f. order_at p f (heads p) (before p f) (k.heads_fit p) (k.orders_fit p f);
       linked_fits = link_kept o o' m m' closed kept point linked k.linked_fits;

@@ -12,7 +12,7 @@ use Rattle.chain_search.proofs.ChainLaws.{IsChainOf-unique}
 use Rattle.op_machine.specs.Index.{IsRootLevel, IsLeftmost, HasPhaseOfTerm, Indexes}
 use Rattle.op_machine.specs.Phases.{Phase, indexed, held, removed, merged, IsInPhase}
 use Rattle.tree_law.specs.Indexed.{HasMark, IsFirst, IsIndexed, IsIndexedAlong}
-use Rattle.tree_law.specs.Knowledge.{Knowledge}
+use Rattle.chain_search.specs.Knowledge.{Knowledge}
 use Rattle.tree_law.specs.Owners.{Owners}
 use Rattle.tree_law.specs.Phase.{Stage, Fresh, Indexed, Held, Removed, Merged, PageOwner, Nobody, Keeps, Placed, Cleared}
 use Rattle.tree_law.specs.Shared.{shared}

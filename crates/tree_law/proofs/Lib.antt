@@ -4,16 +4,21 @@ pub mod Chains
 pub mod Exactness
 pub mod Exchanged
 pub mod Firsts
+pub mod Fitness
 pub mod Fitted
 pub mod Frames
 pub mod Growth
+pub mod HelpFits
+pub mod HelpRun
 pub mod Indexing
 pub mod Keeping
 pub mod Kept
 pub mod KeyOrder
 pub mod Levels
+pub mod LinkFits
 pub mod LinkRun
 pub mod Lives
+pub mod Making
 pub mod Mapping
 pub mod Marks
 pub mod Merging
@@ -38,3 +43,4 @@ pub mod Stepping
 pub mod Taking
 pub mod Terms
 pub mod Updating
+pub mod Whole

@@ -1,6 +1,6 @@
 -- The memory has the map of the log: the leaves are whole, and decide each key as the log does.
 use Rattle.std.proofs.Common.{◌≡◌, ℕ, zero, suc, ◌<◌, List, [], ◌∷◌, map, Option, Some, None, Bool, true, false, refl, sym, ap, ◌∙◌, subst, arith}
-use Rattle.std.specs.Prelude.{MatchOption, IsTrue, ◌↔◌}
+use Rattle.std.specs.Prelude.{MatchOption, IsTrue}
 use Rattle.std.specs.List.{Contains}
 use Rattle.std.proofs.lemmas.Option.{same_Some}
 use Rattle.bw_model.specs.Bytes.{is_under}
@@ -9,18 +9,18 @@ use Rattle.base_page.specs.declared.item.Content.{Content}
 use Rattle.deltas.specs.declared.record.Record.{Record}
 use Rattle.deltas.specs.Memory.{Memory}
 use Rattle.chain_search.specs.Chains.{IsChainOf, content_in, low_in, high_in, right_in, covers}
-use Rattle.chain_search.specs.SideChain.{LivePage, IsSideChainFrom, IsWholeFrom, IsWhole, IsLeaves, Spells}
+use Rattle.chain_search.specs.SideChain.{LivePage, IsSideChainFrom, IsWholeFrom, IsLeaves, Spells}
 use Rattle.chain_search.proofs.ChainLaws.{IsSideChainFrom-unique}
 use Rattle.op_machine.specs.Quiet.{HasMapOf}
 use Rattle.tree_law.specs.Keys.{Key, IsUnder, Covers}
-use Rattle.tree_law.specs.Knowledge.{Knowledge}
+use Rattle.chain_search.specs.Knowledge.{Knowledge}
 use Rattle.tree_law.specs.Shared.{row_in, slot_in, shared}
 use Rattle.tree_law.specs.Owners.{IsChain, Owners, leaf_map}
 use Rattle.tree_law.specs.Tree.{Page, InPlace, IsPart, Level, Good}
 use Rattle.tree_law.proofs.KeyOrder.{empty_lowest, covers_from, covers_to}
 use Rattle.tree_law.proofs.Sides.{StartsFrom}
 use Rattle.tree_law.proofs.Updating.{value_of_map}
-use Rattle.tree_law.specs.Discipline.{value_of}
+use Rattle.chain_search.specs.Discipline.{value_of}
 
 -- a page as all see it
 abbrev pub live : Page → LivePage

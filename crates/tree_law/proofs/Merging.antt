@@ -8,13 +8,13 @@ use Rattle.deltas.specs.declared.record.Record.{Record}
 use Rattle.deltas.specs.declared.record.Record.TheVariants.{Merge}
 use Rattle.chain_search.specs.Chains.{content_in, level_in, low_in, high_in, right_in, is_removed}
 use Rattle.tree_law.specs.Keys.{Key, IsBelow, IsUnder, Covers}
-use Rattle.tree_law.specs.Knowledge.{OwnRow, Foreign, OwnPage, Gone, Knowledge, filled, emptied, finished}
+use Rattle.chain_search.specs.Knowledge.{OwnRow, Foreign, OwnPage, Gone, Knowledge, filled, emptied, finished}
 use Rattle.tree_law.specs.Phase.{Stage, Fresh, Indexed, Held, Removed, Merged, PageOwner, Placed, Cleared, rank, stage_removed, child_of, rank_of}
 use Rattle.tree_law.specs.Put.{put}
 use Rattle.tree_law.specs.Shared.{Shared}
 use Rattle.tree_law.specs.Owners.{IsChain, Spare, Linked, Owners, Reached, ChainNames, IsLinked, OwnFits, PageFits, IsCleared, HeadFits}
 use Rattle.tree_law.specs.Tree.{spec, Page, InPlace, IsOff, IsOut, Off, Good}
-use Rattle.tree_law.specs.Discipline.{MayMerge}
+use Rattle.chain_search.specs.Discipline.{MayMerge}
 use Rattle.tree_law.proofs.KeyOrder.{not_below, upto_same, under_trans, by_range, covers_to}
 use Rattle.tree_law.proofs.Puts.{by_test, put_same, put_other, put_all}
 use Rattle.tree_law.proofs.Chains.{chain_unique}

@@ -28,8 +28,8 @@ use Rattle.chain_search.proofs.TraceLaws.{memory_at-push, TakesStep-push_cases, 
 use Rattle.op_machine.specs.Phases as phase
 use Rattle.op_machine.specs.Faithful.{IsFaithful, KnowsRow, Disturbs, touches_pages}
 use Rattle.op_machine.proofs.FaithLaws.{KnowsRow-before, KnowsRow-kept, KnowsRow-shown}
-use Rattle.tree_law.specs.Discipline.{May}
-use Rattle.tree_law.specs.Knowledge.{Ready, Knowledge, begun, learnt_next, learn, going_on, finished, knows_after}
+use Rattle.chain_search.specs.Discipline.{May}
+use Rattle.chain_search.specs.Knowledge.{Ready, Knowledge, begun, learnt_next, learn, going_on, finished, knows_after}
 use Rattle.tree_law.specs.Next.{IsMoved}
 use Rattle.tree_law.specs.Owners.{Free, Spare, Linked, Owners, Reached}
 use Rattle.tree_law.specs.Keys.{Key}

@@ -7,7 +7,7 @@ use Rattle.base_page.specs.Pages.{empty_leaf}
 use Rattle.deltas.specs.declared.record.Record.TheVariants.{Base}
 use Rattle.deltas.specs.Memory.{opening}
 use Rattle.tree_law.specs.Keys.{Key}
-use Rattle.tree_law.specs.Knowledge.{nothing}
+use Rattle.chain_search.specs.Knowledge.{nothing}
 use Rattle.tree_law.specs.Phase.{Fresh, Indexed, Nobody, Placed, Cleared, rank}
 use Rattle.tree_law.specs.Put.{put}
 use Rattle.tree_law.specs.Shared.{Shared, row_in, slot_in, shared}

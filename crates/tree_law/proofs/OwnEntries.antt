@@ -4,8 +4,8 @@ use Rattle.std.specs.Prelude.{if◌then◌else◌}
 use Rattle.std.specs.List.{fold}
 use Rattle.chain_search.specs.declared.trace.Entry.{Entry}
 use Rattle.chain_search.specs.declared.trace.Entry.TheVariants.{Begin, Step}
-use Rattle.tree_law.specs.Knowledge.{Knowledge, nothing, begun, learn, finished, knows_after, knows}
-use Rattle.tree_law.specs.Runs.{is_entry_of, own_entries}
+use Rattle.chain_search.specs.Knowledge.{Knowledge, nothing, begun, learn, finished, knows_after, knows}
+use Rattle.chain_search.specs.Disciplined.{is_entry_of, own_entries}
 use Rattle.tree_law.proofs.Puts.{eqb_true, eqb_false, put_same, put_other}
 
 -- an entry of another actor leaves what the actor knows

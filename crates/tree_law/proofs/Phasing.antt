@@ -25,9 +25,9 @@ use Rattle.chain_search.specs.Steps.{IsAnswer}
 use Rattle.chain_search.proofs.ChainLaws.{IsChainFrom-unique}
 use Rattle.op_machine.specs.Links.{link_without, link_of, Wins, Installs}
 use Rattle.op_machine.specs.Phases.{Phase, free, owned, fresh, indexed, held, removed, merged, cleared, MakesRoot, Moves, takes, splits, becomes_root, terms, under_root, holds, removes, merges, unterms, reuses}
-use Rattle.tree_law.specs.Discipline.{root_over, May}
+use Rattle.chain_search.specs.Discipline.{root_over, May}
 use Rattle.tree_law.specs.Keys.{Key}
-use Rattle.tree_law.specs.Knowledge.{Knowledge}
+use Rattle.chain_search.specs.Knowledge.{Knowledge}
 use Rattle.tree_law.specs.Owners.{Owners}
 use Rattle.tree_law.specs.Phase.{Fresh, Indexed, Held, Removed, Merged, PageOwner, Nobody, Keeps, Placed, Cleared}
 use Rattle.tree_law.specs.Phases.{Links, Phased}

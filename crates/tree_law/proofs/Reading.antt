@@ -10,8 +10,7 @@ use Rattle.base_page.specs.declared.item.Content.TheVariants.{Child}
 use Rattle.deltas.specs.declared.record.Record.{Record}
 use Rattle.deltas.specs.Records.{next_row}
 use Rattle.chain_search.specs.Chains.{level_in, low_in, is_removed}
-use Rattle.tree_law.specs.Keys.{Key}
-use Rattle.tree_law.specs.Knowledge.{Knowledge, learnt_next, learn_head, learn, finished}
+use Rattle.chain_search.specs.Knowledge.{Knowledge, learnt_next, learn_head, learn, finished}
 use Rattle.tree_law.specs.Phase.{Stage, Indexed, Merged, PageOwner, Placed, Cleared, rank}
 use Rattle.tree_law.specs.Put.{put}
 use Rattle.tree_law.specs.Shared.{Shared}
@@ -31,7 +30,7 @@ module _ {m : Shared} {log : List Update} {o : Owners} {knows : ℕ → Knowledg
       (record {
         seen_fits = (mine g a).seen_fits;
         learnt_fits = (mine g a).learnt_fits;
-        roots_fit = λ p. by_test p m.root (λ t. cond t true ((knows a).roots p) ≡ true → (l : ℕ) × (s : Key) × Reached 0 l s (o.page p)) (λ i e. (g.tree.top, [], placed_reached g.tree.top [] Indexed (o.page p) (ap o.page i ∙ g.tree.exact.is_root))) (λ i e. (mine g a).roots_fit p e);
+        roots_fit = λ p. by_test p m.root (λ t. cond t true ((knows a).roots p) ≡ true → (l : ℕ) × Reached 0 l [] (o.page p)) (λ i e. (g.tree.top, placed_reached g.tree.top [] Indexed (o.page p) (ap o.page i ∙ g.tree.exact.is_root))) (λ i e. (mine g a).roots_fit p e);
         heads_fit = (mine g a).heads_fit;
         orders_fit = (mine g a).orders_fit;
         linked_fits = (mine g a).linked_fits;

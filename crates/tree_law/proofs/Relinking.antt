@@ -7,8 +7,8 @@ use Rattle.deltas.specs.declared.record.Record.{Record}
 use Rattle.deltas.specs.Records.{next_row}
 use Rattle.chain_search.specs.Chains.{content_in, level_in, low_in, high_in, right_in, is_removed}
 use Rattle.tree_law.specs.Keys.{Key, IsUpTo, IsUnder, Covers}
-use Rattle.tree_law.specs.Knowledge.{OwnRow, Foreign, Written, OwnPage, Other, Empty, Ready, Gone, Knowledge}
-use Rattle.tree_law.specs.Discipline.{HasRead}
+use Rattle.chain_search.specs.Knowledge.{OwnRow, Foreign, Written, OwnPage, Other, Empty, Ready, Gone, Knowledge}
+use Rattle.chain_search.specs.Discipline.{HasRead}
 use Rattle.tree_law.specs.Phase.{Stage, Merged, PageOwner, Nobody, Placed, Cleared, rank, stage_removed}
 use Rattle.tree_law.specs.Put.{put}
 use Rattle.tree_law.specs.Shared.{Shared}

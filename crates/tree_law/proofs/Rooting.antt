@@ -8,7 +8,7 @@ use Rattle.base_page.specs.declared.item.Content.TheVariants.{Child}
 use Rattle.deltas.specs.declared.record.Record.{Record}
 use Rattle.chain_search.specs.Chains.{level_in, low_in}
 use Rattle.tree_law.specs.Keys.{Key, IsBelow, put_key}
-use Rattle.tree_law.specs.Knowledge.{OwnRow, Foreign, OwnPage, Other, Knowledge, rooted, finished}
+use Rattle.chain_search.specs.Knowledge.{OwnRow, Foreign, OwnPage, Other, Knowledge, rooted, finished}
 use Rattle.tree_law.specs.Phase.{Stage, Fresh, Indexed, PageOwner, Keeps, Placed, Cleared, rank, stage_removed, child_of, rank_of}
 use Rattle.tree_law.specs.Put.{put}
 use Rattle.tree_law.specs.Shared.{Shared}
@@ -16,7 +16,7 @@ use Rattle.tree_law.specs.Owners.{Spare, Linked, Owners, Reached, ChainNames, Is
 use Rattle.tree_law.specs.Tree.{spec, Page, HasPage, Level, IsOff, IsOut, Off, Good}
 use Rattle.std.specs.Ordering.{is_eq}
 use Rattle.bw_model.specs.Bytes.{key_cmp}
-use Rattle.tree_law.specs.Discipline.{MayRoot, root_over}
+use Rattle.chain_search.specs.Discipline.{MayRoot, root_over}
 use Rattle.tree_law.proofs.KeyOrder.{not_self, by_key}
 use Rattle.tree_law.proofs.Puts.{by_test, put_same, put_other, put_all}
 use Rattle.tree_law.proofs.Kept.{Kept, reached_placed}

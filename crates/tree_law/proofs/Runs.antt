@@ -5,7 +5,7 @@ use Rattle.std.proofs.lemmas.List.{append-nil}
 use Rattle.bw_model.specs.declared.limits.Limits.{Limits}
 use Rattle.chain_search.specs.declared.trace.Entry.{Entry}
 use Rattle.chain_search.specs.declared.trace.Entry.TheVariants.{Begin, Step}
-use Rattle.tree_law.specs.Runs.{MayStand, IsDisciplinedFrom, IsDisciplined}
+use Rattle.chain_search.specs.Disciplined.{MayStand, IsDisciplinedFrom, IsDisciplined}
 use Rattle.chain_search.specs.Trace.{turn_of}
 use Rattle.op_machine.specs.Linearized.{IsLinearized}
 use Rattle.tree_law.specs.State.{IsState}

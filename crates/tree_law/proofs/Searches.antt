@@ -20,8 +20,8 @@ use Rattle.chain_search.proofs.Pushes.{slice_get_below, take-push_whole}
 use Rattle.chain_search.proofs.TraceLaws.{memory_at-push}
 use Rattle.op_machine.specs.Answered.{FindsNothingFree, FindsPageFull}
 use Rattle.op_machine.specs.Operations.{Operation, TakesOwnStep}
-use Rattle.tree_law.specs.Discipline.{LacksRoom}
-use Rattle.tree_law.specs.Knowledge.{Knowledge, begun, learn, finished}
+use Rattle.chain_search.specs.Discipline.{LacksRoom}
+use Rattle.chain_search.specs.Knowledge.{Knowledge, begun, learn, finished}
 use Rattle.tree_law.specs.State.{IsUnended, operation_of, HeadAt, IsSearch}
 use Rattle.tree_law.proofs.Puts.{by_test}
 use Rattle.tree_law.proofs.Chains.{chain_within}

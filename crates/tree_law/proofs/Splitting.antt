@@ -7,7 +7,7 @@ use Rattle.deltas.specs.declared.record.Record.{Record}
 use Rattle.deltas.specs.declared.record.Record.TheVariants.{Split}
 use Rattle.chain_search.specs.Chains.{content_in, level_in, low_in, high_in}
 use Rattle.tree_law.specs.Keys.{Key, IsBelow, Covers}
-use Rattle.tree_law.specs.Knowledge.{OwnRow, Foreign, OwnPage, Other, Knowledge, filled, finished}
+use Rattle.chain_search.specs.Knowledge.{OwnRow, Foreign, OwnPage, Other, Knowledge, filled, finished}
 use Rattle.tree_law.specs.Phase.{Stage, Fresh, PageOwner, Nobody, Keeps, Placed, rank, child_of, rank_of}
 use Rattle.tree_law.specs.Put.{put}
 use Rattle.tree_law.specs.Shared.{Shared}
@@ -15,7 +15,7 @@ use Rattle.tree_law.specs.Owners.{Free, Spare, Linked, Owners, Reached, ChainNam
 use Rattle.tree_law.specs.Tree.{spec, InPlace, HasPage, IsOff, IsOut, Off, Good}
 use Rattle.std.specs.Prelude.{not}
 use Rattle.deltas.specs.declared.record.Split.{Split as SplitOf}
-use Rattle.tree_law.specs.Discipline.{MaySplit, base_from}
+use Rattle.chain_search.specs.Discipline.{MaySplit, base_from}
 use Rattle.tree_law.proofs.KeyOrder.{under_trans, upto_trans, below_not, covers_to}
 use Rattle.tree_law.proofs.Puts.{by_test, put_same, put_other}
 use Rattle.tree_law.proofs.Kept.{Kept, placed_reached}

@@ -9,22 +9,26 @@ use Rattle.bw_model.specs.declared.step.Answer.{Answer}
 use Rattle.bw_model.specs.declared.step.Answer.TheVariants.{Number, Whether}
 use Rattle.bw_model.specs.Log.{Update, set, unset}
 use Rattle.base_page.specs.declared.item.Content.TheVariants.{Child}
+use Rattle.base_page.specs.Pages.{Page}
 use Rattle.deltas.specs.declared.record.Record.{Record}
-use Rattle.deltas.specs.declared.record.Record.TheVariants.{Split, Term, Hold, Remove, Merge, Unterm}
+use Rattle.deltas.specs.declared.record.Record.TheVariants.{Base, Split, Term, Hold, Remove, Merge, Unterm}
 use Rattle.deltas.specs.Memory.{Memory, replaced_at}
+use Rattle.deltas.specs.Records.{next_row}
 use Rattle.chain_search.specs.Chains.{level_in, low_in, high_in, right_in}
+use Rattle.chain_search.specs.Fitted.{IsFitted}
 use Rattle.chain_search.specs.Steps.{IsAnswer, memory_after}
 use Rattle.tree_law.specs.Keys.{put_key}
-use Rattle.tree_law.specs.Knowledge.{OwnRow, Written, OwnPage, Empty, Ready, Gone, Knowledge, learn_head, filled, emptied, learn, finished}
-use Rattle.tree_law.specs.Discipline.{record_of, base_from, root_over, IsMet, MayUpdate, MayConsolidate, MaySplit, MayPost, MayHold, MayRemove, MayMerge, MayUnterm, MayRoot, MayLink, MayExchange, May}
+use Rattle.chain_search.specs.Knowledge.{OwnRow, Written, OwnPage, Empty, Ready, Gone, Knowledge, learn_head, filled, emptied, learn, finished}
+use Rattle.chain_search.specs.Discipline.{record_of, base_from, root_over, IsMet, FitsOn, MayAdd, MayUpdate, MayConsolidate, MaySplit, MayPost, MayHold, MayRemove, MayMerge, MayUnterm, MayRoot, MayLink, MayExchange, May}
 use Rattle.tree_law.specs.Phase.{Fresh, Indexed, Held, Removed, Merged, PageOwner, Keeps, Placed, Cleared}
 use Rattle.tree_law.specs.Phases.{Links}
 use Rattle.tree_law.specs.Put.{put}
 use Rattle.tree_law.specs.Shared.{Shared, row_in, slot_in, shared}
 use Rattle.tree_law.specs.Owners.{Spare, Linked, Owners, OwnFits, PageFits, Reached, Spells}
 use Rattle.tree_law.specs.Tree.{Good}
+use Rattle.tree_law.specs.Fitness.{IsAdded}
 use Rattle.tree_law.specs.Next.{IsMoved, Next}
-use Rattle.tree_law.proofs.Frames.{chain_stands}
+use Rattle.tree_law.proofs.Frames.{read_linked, chain_stands}
 use Rattle.tree_law.proofs.Puts.{by_test, put_other}
 use Rattle.tree_law.proofs.Keeping.{idles, enters, leaves, slot_of, met_placed}
 use Rattle.tree_law.proofs.Reading.{reads_root, reads_slot, reads_row}
@@ -58,6 +62,10 @@ cleared_again free n h = λ d j. at j d
     at : (j : ℕ) → replaced_at n false free j ≡ free j
     at j = by_test j n (λ t. cond t false (free j) ≡ free j) (λ e. sym (ap free e ∙ h)) (λ ne. refl)
 
+record_next : (u : Update) (x : ℕ) → next_row (record_of u x) ≡ Some x
+record_next (set b k v) x = refl
+record_next (unset b k) x = refl
+
 links_same : (m : Shared) (a : ℕ) (u : Update) (x p : ℕ) (f : ℕ → PageOwner) → Links m a (record_of u x) p f f
 links_same m a (set b k v) x p f = refl
 links_same m a (unset b k) x p f = refl
@@ -73,6 +81,9 @@ module _ (memory : Memory) {log : List Update} {o : Owners} {knows : ℕ → Kno
   same_moved : (row : ℕ) → IsMoved a (memory.free_rows row) (o.row row) (o.row row)
   same_moved row = inl refl
 
+  same_added : {rows : ℕ → Option Record} (row : ℕ) → o.row row ≡ Linked → (o.row row ≡ Linked) ⊎ IsAdded o rows row
+  same_added row l = inl l
+
   spare_of : {w : Record} (y : ℕ) → (knows a).rows y ≡ Written w → o.row y ≡ Spare a
   spare_of {w} y e = (subst (λ (v : OwnRow). OwnFits a (o.row y) (memory.rows y) v) e (g.owns a y)).0
 
@@ -82,12 +93,32 @@ module _ (memory : Memory) {log : List Update} {o : Owners} {knows : ℕ → Kno
   linked_moved : (y : ℕ) → o.row y ≡ Spare a → (row : ℕ) → IsMoved a (memory.free_rows row) (o.row row) (put o.row y Linked row)
   linked_moved y spare row = by_test row y (λ t. IsMoved a (memory.free_rows row) (o.row row) (cond t Linked (o.row row))) (λ e. inr (inr (ap o.row e ∙ spare, refl))) (λ ne. inl refl)
 
+  -- a delta is linked over the chain that was read
+  adds : (x y : ℕ) (w : Record) → (knows a).rows y ≡ Written w → next_row w ≡ Some x → MayAdd (knows a) x y → IsAdded o memory.rows y
+  adds x y w placed next h =
+      let same : h.content ≡ w = let e = h.placed in let f = placed in cc in
+      record {
+        content = w;
+        stands = placed_row g a y w placed;
+        under = h.chain;
+        is_under = rw next (chain_stands o (shared memory) (knows a).seen (g.sound a).seen_fits h.chain (Some x) h.read);
+        next = rw next (read_linked o (shared memory) (knows a).seen (g.sound a).seen_fits h.chain x h.read);
+        fits = subst (FitsOn h.chain) same h.fits;
+      }
+
+  -- a base is linked
+  based : {page : Page} (y : ℕ) → (knows a).rows y ≡ Written (Base page) → IsFitted (Base page ∷ []) → IsAdded o memory.rows y
+  based {page} y placed fits = record { content = Base page; stands = placed_row g a y (Base page) placed; under = []; is_under = refl; next = tt; fits = fits }
+
+  linked_added : (y : ℕ) → IsAdded o memory.rows y → (row : ℕ) → put o.row y Linked row ≡ Linked → (o.row row ≡ Linked) ⊎ IsAdded o memory.rows row
+  linked_added y h row l = by_test row y (λ t. cond t Linked (o.row row) ≡ Linked → (o.row row ≡ Linked) ⊎ IsAdded o memory.rows row) (λ e i. inr (subst (IsAdded o memory.rows) (sym e) h)) (λ ne i. inl i) l
+
   -- a row that was the actor's own is linked
   linked_rows : (y : ℕ) (row : ℕ) → o.row row ≡ Linked → (put o.row y Linked row ≡ Linked) × (memory.rows row ≡ memory.rows row)
   linked_rows y row l = (by_test row y (λ t. cond t Linked (o.row row) ≡ Linked) (λ e. refl) (λ ne. l), refl)
 
   reads : (p n : ℕ) (r : Option Reply) → memory.slots (suc p) ≡ n → IsTrue ((knows a).roots (suc p)) ⊎ IsMet (knows a) (suc p) → After memory (Slot (suc p)) (Number n) r
-  reads p zero r e met = record { update = None; due = tt; last = λ i. refl; owners = o; phased = refl; moved = same_moved; kept = same_rows; good = idles g a (finished (knows a) r) refl refl refl refl refl refl refl refl }
+  reads p zero r e met = record { update = None; due = tt; last = λ i. refl; owners = o; phased = refl; moved = same_moved; added = same_added; kept = same_rows; good = idles g a (finished (knows a) r) refl refl refl refl refl refl refl refl }
   reads p (suc n) r e met =
       let here = met_placed g a (suc p) met in
       let held : slot_in memory.slots (suc p) ≡ Some (suc n) = ap row_in e in
@@ -101,6 +132,7 @@ module _ (memory : Memory) {log : List Update} {o : Owners} {knows : ℕ → Kno
         owners = o;
         phased = refl;
         moved = same_moved;
+        added = same_added;
         kept = same_rows;
         good = subst (λ (v : ℕ). Good (shared memory) log o (put knows a (finished (learn_head (suc p) v (knows a)) r)) (put point a (point a)) (put logs a (log ∷ logs a)))
             (same_Some u.0 (suc n) (sym u.1 ∙ held))
@@ -116,6 +148,7 @@ module _ (memory : Memory) {log : List Update} {o : Owners} {knows : ℕ → Kno
     owners = record o { row = put o.row q (Spare a) };
     phased = refl;
     moved = λ row. by_test row q (λ t. IsMoved a (memory.free_rows row) (o.row row) (cond t (Spare a) (o.row row))) (λ i. inr (inl (ap memory.free_rows i ∙ e, ap o.row i ∙ g.frees.row q e, refl))) (λ ne. inl refl);
+    added = λ row. by_test row q (λ t. cond t (Spare a) (o.row row) ≡ Linked → (o.row row ≡ Linked) ⊎ IsAdded o memory.rows row) (λ i l. absurd (cc)) (λ ne l. inl l);
     kept = λ row l. (put_other o.row q (Spare a) row (λ i. absurd (let f = g.frees.row q e in let l' = sym (ap o.row i) ∙ l in cc)) ∙ l, refl);
     good = takes_row g a q e r;
   }
@@ -126,12 +159,13 @@ module _ (memory : Memory) {log : List Update} {o : Owners} {knows : ℕ → Kno
     owners = o;
     phased = refl;
     moved = same_moved;
+    added = same_added;
     kept = same_rows;
     good = subst (λ (f : ℕ → Bool). Good (record (shared memory) { free = f }) log o (put knows a (finished (knows a) r)) (put point a (point a)) (put logs a (log ∷ logs a))) (sym (cleared_again memory.free_rows q e)) (idles g a (finished (knows a) r) refl refl refl refl refl refl refl refl);
   }
 
   takes_pid : (q : ℕ) (r : Option Reply) (t : Bool) → memory.free_pids q ≡ t → After (memory_after a (TakePid q) memory) (TakePid q) (Whether t) r
-  takes_pid q r true e = record { update = None; due = tt; last = λ i. refl; owners = record o { page = put o.page q (Keeps a) }; phased = refl; moved = same_moved; kept = same_rows; good = takes_page g a q e r }
+  takes_pid q r true e = record { update = None; due = tt; last = λ i. refl; owners = record o { page = put o.page q (Keeps a) }; phased = refl; moved = same_moved; added = same_added; kept = same_rows; good = takes_page g a q e r }
   takes_pid q r false e = record {
     update = None;
     due = tt;
@@ -139,15 +173,16 @@ module _ (memory : Memory) {log : List Update} {o : Owners} {knows : ℕ → Kno
     owners = o;
     phased = refl;
     moved = same_moved;
+    added = same_added;
     kept = same_rows;
     good = subst (λ (f : ℕ → Bool). Good (record (shared memory) { free_pages = f }) log o (put knows a (finished (knows a) r)) (put point a (point a)) (put logs a (log ∷ logs a))) (sym (cleared_again memory.free_pids q e)) (idles g a (finished (knows a) r) refl refl refl refl refl refl refl refl);
   }
 
   -- an exchange that lost teaches nothing
   loses : (p x y : ℕ) (r : Option Reply) → After memory (Exchange p x y) (Whether false) r
-  loses p x y r = record { update = None; due = tt; last = λ i. refl; owners = o; phased = refl; moved = same_moved; kept = same_rows; good = idles g a (finished (knows a) r) refl refl refl refl refl refl refl refl }
+  loses p x y r = record { update = None; due = tt; last = λ i. refl; owners = o; phased = refl; moved = same_moved; added = same_added; kept = same_rows; good = idles g a (finished (knows a) r) refl refl refl refl refl refl refl refl }
 
-  module _ (p x y : ℕ) (r : Option Reply) (s : slot_in memory.slots (suc p) ≡ Some (suc x)) where
+  module _ (p x y : ℕ) (r : Option Reply) (s : slot_in memory.slots (suc p) ≡ Some (suc x)) (add : MayAdd (knows a) (suc x) (suc y)) where
     -- the memory in which the row is linked on the page
     abbrev pub Linking : Type 0
     Linking = Next a (shared memory) (record (shared memory) { slots = put (slot_in memory.slots) (suc p) (Some (suc y)) }) log o knows point logs (Exchange (suc p) (suc x) (suc y)) (Whether true) r
@@ -160,6 +195,7 @@ module _ (memory : Memory) {log : List Update} {o : Owners} {knows : ℕ → Kno
       owners = record o { row = put o.row (suc y) Linked };
       phased = (record_of h.update (suc x), placed_row g a (suc y) (record_of h.update (suc x)) h.placed, links_same (shared memory) a h.update (suc x) (suc p) o.page);
       moved = linked_moved (suc y) (spare_of (suc y) h.placed);
+      added = linked_added (suc y) (adds (suc x) (suc y) (record_of h.update (suc x)) h.placed (record_next h.update (suc x)) add);
       kept = linked_rows (suc y);
       good = n.0;
     }
@@ -172,6 +208,7 @@ module _ (memory : Memory) {log : List Update} {o : Owners} {knows : ℕ → Kno
       owners = record o { row = put o.row (suc y) Linked };
       phased = (base_from h.basis.chain (low_in h.basis.chain) h.items, placed_row g a (suc y) (base_from h.basis.chain (low_in h.basis.chain) h.items) h.placed, refl);
       moved = linked_moved (suc y) (spare_of (suc y) h.placed);
+      added = linked_added (suc y) (based (suc y) h.placed (let same : add.content ≡ base_from h.basis.chain (low_in h.basis.chain) h.items = let e = add.placed in let f = h.placed in cc in subst (FitsOn add.chain) same add.fits));
       kept = linked_rows (suc y);
       good = consolidates g a (suc p) (suc x) (suc y) s h r;
     }
@@ -188,6 +225,9 @@ module _ (memory : Memory) {log : List Update} {o : Owners} {knows : ℕ → Kno
         (n.1.0, level_in h.basis.chain, low_in h.basis.chain, n.1.1, n.1.2, refl),
       );
       moved = λ row. by_test row (suc y) (λ t. IsMoved a (memory.free_rows row) (o.row row) (cond t Linked (put o.row h.row Linked row))) (λ e. inr (inr (ap o.row e ∙ spare_of (suc y) h.placed, refl))) (λ ne. linked_moved h.row (spare_of h.row h.base) row);
+      added = λ row. by_test row (suc y) (λ t. cond t Linked (put o.row h.row Linked row) ≡ Linked → (o.row row ≡ Linked) ⊎ IsAdded o memory.rows row)
+          (λ e i. inr (subst (IsAdded o memory.rows) (sym e) (adds (suc x) (suc y) (Split (record { level = level_in h.basis.chain; next = suc x; separator = h.separator; page = h.right })) h.placed refl add)))
+          (λ ne. linked_added h.row (based h.row h.base h.ruled) row);
       kept = λ row l. (by_test row (suc y) (λ t. cond t Linked (put o.row h.row Linked row) ≡ Linked) (λ e. refl) (λ ne. (linked_rows h.row row l).0), refl);
       good = n.0;
     }
@@ -204,6 +244,7 @@ module _ (memory : Memory) {log : List Update} {o : Owners} {knows : ℕ → Kno
         (level_in h.below.chain, n.1, refl),
       );
       moved = linked_moved (suc y) (spare_of (suc y) h.placed);
+      added = linked_added (suc y) (adds (suc x) (suc y) (Term (record { level = level_in h.basis.chain; next = suc x; separator = low_in h.below.chain; child = h.child })) h.placed refl add);
       kept = linked_rows (suc y);
       good = n.0;
     }
@@ -220,6 +261,7 @@ module _ (memory : Memory) {log : List Update} {o : Owners} {knows : ℕ → Kno
         (h.level, n.1, refl),
       );
       moved = linked_moved (suc y) (spare_of (suc y) h.placed);
+      added = linked_added (suc y) (adds (suc x) (suc y) (Hold (record { level = level_in h.basis.chain; next = suc x; separator = h.key; child = h.child })) h.placed refl add);
       kept = linked_rows (suc y);
       good = n.0;
     }
@@ -236,6 +278,7 @@ module _ (memory : Memory) {log : List Update} {o : Owners} {knows : ℕ → Kno
         (level_in h.basis.chain, low_in h.basis.chain, n.1, refl),
       );
       moved = linked_moved (suc y) (spare_of (suc y) h.placed);
+      added = linked_added (suc y) (adds (suc x) (suc y) (Remove (record { level = level_in h.basis.chain; next = suc x })) h.placed refl add);
       kept = linked_rows (suc y);
       good = n.0;
     }
@@ -251,6 +294,7 @@ module _ (memory : Memory) {log : List Update} {o : Owners} {knows : ℕ → Kno
           owners = record { row = put o.row (suc y) Linked; page = put o.page h.other (Placed Merged (level_in h.basis.chain) (low_in h.chain)); index = o.index };
           phased = (w, placed_row g a (suc y) w h.placed, (h.other, level_in h.basis.chain, n.1, refl, (suc x, h.basis.chain, s, chain_stands o (shared memory) (knows a).seen (g.sound a).seen_fits h.basis.chain (Some (suc x)) h.basis.read, h.right)));
           moved = linked_moved (suc y) (spare_of (suc y) h.placed);
+          added = linked_added (suc y) (adds (suc x) (suc y) w h.placed refl add);
           kept = linked_rows (suc y);
           good = n.0;
         }
@@ -267,6 +311,7 @@ module _ (memory : Memory) {log : List Update} {o : Owners} {knows : ℕ → Kno
         (level_in h.below.chain, n.1, refl),
       );
       moved = linked_moved (suc y) (spare_of (suc y) h.placed);
+      added = linked_added (suc y) (adds (suc x) (suc y) (Unterm (record { level = level_in h.basis.chain; next = suc x; separator = h.key; child = h.child })) h.placed refl add);
       kept = linked_rows (suc y);
       good = n.0;
     }
@@ -294,6 +339,7 @@ module _ (memory : Memory) {log : List Update} {o : Owners} {knows : ℕ → Kno
     owners = o;
     phased = (refl, (own_kept (suc p) Empty h.0).0);
     moved = same_moved;
+    added = same_added;
     kept = same_rows;
     good = subst (λ (v : OwnPage). Good (record (shared memory) { slots = put (slot_in memory.slots) (suc p) (Some (suc y)) }) log o (put knows a (finished (filled v (suc p) zero (suc y) (knows a)) r)) (put point a (point a)) (put logs a (log ∷ logs a))) (sym h.0)
         (own_slot g a (suc p) (Some (suc y)) (Ready (suc y)) (own_kept (suc p) Empty h.0).0 ((own_kept (suc p) Empty h.0).0, refl) (finished (filled Empty (suc p) zero (suc y) (knows a)) r) refl refl refl refl refl refl refl refl);
@@ -305,6 +351,7 @@ module _ (memory : Memory) {log : List Update} {o : Owners} {knows : ℕ → Kno
     owners = o;
     phased = (refl, inl (own_kept (suc p) (Ready (suc x)) h).0);
     moved = same_moved;
+    added = same_added;
     kept = same_rows;
     good = subst (λ (v : OwnPage). Good (record (shared memory) { slots = put (slot_in memory.slots) (suc p) None }) log o (put knows a (finished (emptied v (suc p) (knows a)) r)) (put point a (point a)) (put logs a (log ∷ logs a))) (sym h)
         (own_slot g a (suc p) None Empty (own_kept (suc p) (Ready (suc x)) h).0 ((own_kept (suc p) (Ready (suc x)) h).0, refl) (finished (emptied (Ready (suc x)) (suc p) (knows a)) r) refl refl refl refl refl refl refl refl);
@@ -316,10 +363,11 @@ module _ (memory : Memory) {log : List Update} {o : Owners} {knows : ℕ → Kno
     owners = o;
     phased = (refl, inr (own_kept (suc p) Gone h));
     moved = same_moved;
+    added = same_added;
     kept = same_rows;
     good = clears g a (suc p) (suc x) s h r;
   }
-  exchanges p (suc x) (suc y) r s h = by_link p x y r s h
+  exchanges p (suc x) (suc y) r s h = by_link p x y r s h.0 h.1
 
   -- an exchange of slot 0 that won
   exchanges_root : (x y : ℕ) (r : Option Reply) → memory.slots 0 ≡ x → MayRoot (knows a) x y → Next a (shared memory) (record (shared memory) { root = y }) log o knows point logs (Exchange 0 x y) (Whether true) r
@@ -334,6 +382,7 @@ module _ (memory : Memory) {log : List Update} {o : Owners} {knows : ℕ → Kno
     };
     phased = (h.right, g.tree.top, h.separator, n.1.0, n.1.1, n.1.2, refl, (h.base_row, suc (level_in h.basis.chain), ready_slot y h.base_row h.ready, placed_row g a h.base_row (root_over (suc (level_in h.basis.chain)) x h.separator h.right) h.base));
     moved = linked_moved h.base_row (spare_of h.base_row h.base);
+    added = linked_added h.base_row (based h.base_row h.base h.ruled);
     kept = linked_rows h.base_row;
     good = n.0;
   }
@@ -348,13 +397,13 @@ module _ (memory : Memory) {log : List Update} {o : Owners} {knows : ℕ → Kno
       (λ ne. loses (suc p) x y r)
 
   pub step : (s : StepOf Record) (r : Option Reply) → May a (knows a) s → (x : Answer Record) → IsAnswer memory s x → After (memory_after a s memory) s x r
-  step (Slot zero) r h x e = subst (λ (v : Answer Record). After memory (Slot zero) v r) (sym e) (record { update = None; due = tt; last = λ i. refl; owners = o; phased = refl; moved = same_moved; kept = same_rows; good = reads_root g a r })
+  step (Slot zero) r h x e = subst (λ (v : Answer Record). After memory (Slot zero) v r) (sym e) (record { update = None; due = tt; last = λ i. refl; owners = o; phased = refl; moved = same_moved; added = same_added; kept = same_rows; good = reads_root g a r })
   step (Slot (suc p)) r h x e = subst (λ (v : Answer Record). After memory (Slot (suc p)) v r) (sym e) (reads p (memory.slots (suc p)) r refl h.1)
-  step (Row q) r h x e = subst (λ (v : Answer Record). After memory (Row q) v r) (sym e.2) (record { update = None; due = tt; last = λ i. refl; owners = o; phased = refl; moved = same_moved; kept = same_rows; good = reads_row g a q e.0 h.1 e.1 r })
-  step Epoch r h x e = record { update = None; due = tt; last = λ i. refl; owners = o; phased = refl; moved = same_moved; kept = same_rows; good = idles g a (finished (knows a) r) refl refl refl refl refl refl refl refl }
-  step (Announce b) r h x e = record { update = None; due = tt; last = λ i. refl; owners = o; phased = refl; moved = same_moved; kept = same_rows; good = idles g a (finished (knows a) r) refl refl refl refl refl refl refl refl }
-  step (PidBits w) r h x e = subst (λ (v : Answer Record). After memory (PidBits w) v r) (sym e.2) (record { update = None; due = tt; last = λ i. refl; owners = o; phased = refl; moved = same_moved; kept = same_rows; good = idles g a (finished (learn (knows a) (PidBits w) (Number e.0)) r) refl refl refl refl refl refl refl refl })
-  step (RowBits w) r h x e = subst (λ (v : Answer Record). After memory (RowBits w) v r) (sym e.2) (record { update = None; due = tt; last = λ i. refl; owners = o; phased = refl; moved = same_moved; kept = same_rows; good = idles g a (finished (learn (knows a) (RowBits w) (Number e.0)) r) refl refl refl refl refl refl refl refl })
+  step (Row q) r h x e = subst (λ (v : Answer Record). After memory (Row q) v r) (sym e.2) (record { update = None; due = tt; last = λ i. refl; owners = o; phased = refl; moved = same_moved; added = same_added; kept = same_rows; good = reads_row g a q e.0 h.1 e.1 r })
+  step Epoch r h x e = record { update = None; due = tt; last = λ i. refl; owners = o; phased = refl; moved = same_moved; added = same_added; kept = same_rows; good = idles g a (finished (knows a) r) refl refl refl refl refl refl refl refl }
+  step (Announce b) r h x e = record { update = None; due = tt; last = λ i. refl; owners = o; phased = refl; moved = same_moved; added = same_added; kept = same_rows; good = idles g a (finished (knows a) r) refl refl refl refl refl refl refl refl }
+  step (PidBits w) r h x e = subst (λ (v : Answer Record). After memory (PidBits w) v r) (sym e.2) (record { update = None; due = tt; last = λ i. refl; owners = o; phased = refl; moved = same_moved; added = same_added; kept = same_rows; good = idles g a (finished (learn (knows a) (PidBits w) (Number e.0)) r) refl refl refl refl refl refl refl refl })
+  step (RowBits w) r h x e = subst (λ (v : Answer Record). After memory (RowBits w) v r) (sym e.2) (record { update = None; due = tt; last = λ i. refl; owners = o; phased = refl; moved = same_moved; added = same_added; kept = same_rows; good = idles g a (finished (learn (knows a) (RowBits w) (Number e.0)) r) refl refl refl refl refl refl refl refl })
   step (Place q w) r h x e = subst (λ (v : Answer Record). After (memory_after a (Place q w) memory) (Place q w) v r) (sym e) (record {
     update = None;
     due = tt;
@@ -362,14 +411,15 @@ module _ (memory : Memory) {log : List Update} {o : Owners} {knows : ℕ → Kno
     owners = o;
     phased = refl;
     moved = same_moved;
+    added = same_added;
     kept = λ row l. (l, put_other memory.rows q (Some w) row (λ i. absurd (let f = own_spare g a q ((knows a).rows q) (g.owns a q) h.1 in let l' = sym (ap o.row i) ∙ l in cc)));
     good = places g a q w h.1 r;
   })
   step (Exchange p old y) r h x e = subst (λ (v : Answer Record). After (memory_after a (Exchange p old y) memory) (Exchange p old y) v r) (sym e) (exchange p old y r h.1)
   step (TakePid q) r h x e = subst (λ (v : Answer Record). After (memory_after a (TakePid q) memory) (TakePid q) v r) (sym e) (takes_pid q r (memory.free_pids q) refl)
   step (TakeRow q) r h x e = subst (λ (v : Answer Record). After (memory_after a (TakeRow q) memory) (TakeRow q) v r) (sym e) (takes q r (memory.free_rows q) refl)
-  step (Enter n) r h x e = record { update = None; due = tt; last = λ i. refl; owners = o; phased = refl; moved = same_moved; kept = same_rows; good = enters g a n x r }
-  step Leave r h x e = subst (λ (v : Answer Record). After (memory_after a Leave memory) Leave v r) (sym e) (record { update = None; due = tt; last = λ i. refl; owners = o; phased = refl; moved = same_moved; kept = same_rows; good = leaves g a r })
+  step (Enter n) r h x e = record { update = None; due = tt; last = λ i. refl; owners = o; phased = refl; moved = same_moved; added = same_added; kept = same_rows; good = enters g a n x r }
+  step Leave r h x e = subst (λ (v : Answer Record). After (memory_after a Leave memory) Leave v r) (sym e) (record { update = None; due = tt; last = λ i. refl; owners = o; phased = refl; moved = same_moved; added = same_added; kept = same_rows; good = leaves g a r })
   step (Retire n) r h x e = absurd h
   step (ReusePids w b) r h x e = absurd h
   step (ReuseRows w b) r h x e = absurd h

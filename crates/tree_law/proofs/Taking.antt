@@ -6,8 +6,8 @@ use Rattle.bw_model.specs.declared.step.Answer.TheVariants.{Whether, Done}
 use Rattle.bw_model.specs.Log.{Update}
 use Rattle.deltas.specs.declared.record.Record.{Record}
 use Rattle.tree_law.specs.Keys.{Key}
-use Rattle.tree_law.specs.Knowledge.{OwnRow, Foreign, Taken, Written, OwnPage, Empty, Knowledge, learn, finished}
-use Rattle.tree_law.specs.Discipline.{IsOwn}
+use Rattle.chain_search.specs.Knowledge.{OwnRow, Foreign, Taken, Written, OwnPage, Empty, Knowledge, learn, finished}
+use Rattle.chain_search.specs.Discipline.{IsOwn}
 use Rattle.tree_law.specs.Phase.{Stage, Merged, Nobody, Keeps, Placed, Cleared}
 use Rattle.tree_law.specs.Put.{put}
 use Rattle.tree_law.specs.Shared.{Shared}

@@ -11,7 +11,7 @@ use Rattle.deltas.specs.declared.record.Record.TheVariants.{Remove}
 use Rattle.deltas.specs.Records.{next_row}
 use Rattle.chain_search.specs.Chains.{content_in, level_in, low_in, high_in, right_in, is_removed}
 use Rattle.tree_law.specs.Keys.{Key, Covers}
-use Rattle.tree_law.specs.Knowledge.{OwnRow, Foreign, Written, Knowledge, filled, linked_over, finished}
+use Rattle.chain_search.specs.Knowledge.{OwnRow, Foreign, Written, Knowledge, filled, linked_over, finished}
 use Rattle.tree_law.specs.Phase.{Stage, Fresh, Indexed, Held, Removed, Merged, PageOwner, Placed, rank, stage_removed}
 use Rattle.tree_law.specs.Put.{put}
 use Rattle.tree_law.specs.Shared.{Shared}
@@ -21,11 +21,11 @@ use Rattle.std.specs.Ordering.{is_eq}
 use Rattle.std.specs.Option.{option_map}
 use Rattle.std.proofs.lemmas.List.Sums.{fold-append}
 use Rattle.bw_model.specs.declared.command.Command.{Command}
-use Rattle.bw_model.specs.declared.command.Command.TheVariants.{Get, Insert}
+use Rattle.bw_model.specs.declared.command.Command.TheVariants.{Get, Insert, Upsert, Delete}
 use Rattle.bw_model.specs.Bytes.{key_cmp}
 use Rattle.bw_model.specs.Log.{set, unset, updated_key, updated_value, value_in}
 use Rattle.bw_model.specs.Replies.{command_key, update_of}
-use Rattle.tree_law.specs.Discipline.{MayUpdate, MayConsolidate, MayRemove, record_of, value_of, base_from}
+use Rattle.chain_search.specs.Discipline.{MayUpdate, MayConsolidate, MayRemove, record_of, value_of, base_from}
 use Rattle.tree_law.proofs.KeyOrder.{by_key, covers_from, covers_to}
 use Rattle.tree_law.proofs.Puts.{by_test, put_same, put_other}
 use Rattle.tree_law.proofs.Terms.{exact_going}
@@ -75,6 +75,9 @@ key_due : (b : ℕ) (c : Command) (old : Option Key) (u : Update) → update_of 
 key_due b (Get k) old u e = absurd (cc)
 key_due b (Insert k v) None u e = ap updated_key (sym (same_Some (set b k v) u e))
 key_due b (Insert k v) (Some x) u e = absurd (cc)
+key_due b (Upsert k v) old u e = ap updated_key (sym (same_Some (set b k v) u e))
+key_due b (Delete k) None u e = absurd (cc)
+key_due b (Delete k) (Some x) u e = ap updated_key (sym (same_Some (unset b k) u e))
 
 linked_update : (u : Update) (x y : ℕ) (k : Knowledge) → linked_over (Written (record_of u x)) x y k ≡ record k { rows = put k.rows y Foreign; linked = Some x }
 linked_update (set b j v) x y k = refl

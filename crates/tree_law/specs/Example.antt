@@ -16,8 +16,8 @@ use Rattle.deltas.specs.declared.record.Record.{Record}
 use Rattle.deltas.specs.declared.record.Record.TheVariants as delta
 use Rattle.deltas.specs.Memory.{Memory, opening}
 use Rattle.chain_search.specs.Steps.{IsAnswer, memory_after}
-use Rattle.tree_law.specs.Knowledge.{Knowledge, nothing, begun, learn}
-use Rattle.tree_law.specs.Discipline.{May, base_from, root_over}
+use Rattle.chain_search.specs.Knowledge.{Knowledge, nothing, begun, learn}
+use Rattle.chain_search.specs.Discipline.{May, base_from, root_over}
 
 -- The actor may take each of the steps, and the memory gives the answers.
 abbrev pub Obeys : ℕ → Knowledge → Memory → List (StepOf Record × Answer Record) → Type 0

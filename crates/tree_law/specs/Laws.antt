@@ -12,8 +12,8 @@ use Rattle.deltas.specs.Memory.{Memory, opening}
 use Rattle.chain_search.specs.Steps.{IsAnswer, memory_after}
 use Rattle.tree_law.specs.Indexed.{IsIndexed}
 use Rattle.tree_law.specs.Keys.{Key, IsBelow, IsUpTo}
-use Rattle.tree_law.specs.Knowledge.{Knowledge, nothing, begun}
-use Rattle.tree_law.specs.Discipline.{MayAnswer, IsAllowed}
+use Rattle.chain_search.specs.Knowledge.{Knowledge, nothing, begun}
+use Rattle.chain_search.specs.Discipline.{MayAnswer, IsAllowed}
 use Rattle.tree_law.specs.Next.{Next}
 use Rattle.tree_law.specs.Owners.{Owners}
 use Rattle.tree_law.specs.Put.{put}

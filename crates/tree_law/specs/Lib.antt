@@ -1,9 +1,8 @@
-pub mod Discipline
 pub mod Example
-pub mod Fitting
+pub mod Fitness
+pub mod HelpedSplit
 pub mod Indexed
 pub mod Keys
-pub mod Knowledge
 pub mod Laws
 pub mod Next
 pub mod Owners
@@ -11,7 +10,6 @@ pub mod Phase
 pub mod Phases
 pub mod Put
 pub mod Replies
-pub mod Runs
 pub mod Shared
 pub mod State
 pub mod Tree

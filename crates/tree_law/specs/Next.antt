@@ -8,7 +8,8 @@ use Rattle.bw_model.specs.declared.step.Answer.{Answer}
 use Rattle.bw_model.specs.Log.{Update, value_in}
 use Rattle.bw_model.specs.Replies.{command_key, update_of}
 use Rattle.deltas.specs.declared.record.Record.{Record}
-use Rattle.tree_law.specs.Knowledge.{Knowledge, learn, finished}
+use Rattle.chain_search.specs.Knowledge.{Knowledge, learn, finished}
+use Rattle.tree_law.specs.Fitness.{IsAdded}
 use Rattle.tree_law.specs.Owners.{Owner, Free, Spare, Linked, Owners}
 use Rattle.tree_law.specs.Phases.{Phased}
 use Rattle.tree_law.specs.Put.{put}
@@ -40,6 +41,7 @@ pub record Next (a : ℕ) (m m' : Shared) (log : List Update) (o : Owners) (know
   pub owners : Owners
   pub phased : Phased a m s x o.page owners.page
   pub moved : (row : ℕ) → IsMoved a (m.free row) (o.row row) (owners.row row)
+  pub added : (row : ℕ) → owners.row row ≡ Linked → (o.row row ≡ Linked) ⊎ IsAdded o m'.rows row
   -- a linked row stays linked, with its record
   pub kept : (row : ℕ) → o.row row ≡ Linked → (owners.row row ≡ Linked) × (m'.rows row ≡ m.rows row)
   pub good : Good m' (grown log update) owners (put knows a (finished (learn (knows a) s x) r)) (put point a (pointed log update (point a))) (put logs a (log ∷ logs a))

@@ -8,7 +8,7 @@ use Rattle.deltas.specs.declared.record.Record.{Record}
 use Rattle.deltas.specs.Records.{next_row}
 use Rattle.chain_search.specs.Chains.{IsChainFrom, content_in, level_in, low_in, high_in, right_in, is_removed}
 use Rattle.tree_law.specs.Keys.{Key, IsBelow, IsWithin, Covers}
-use Rattle.tree_law.specs.Knowledge.{OwnRow, Foreign, Taken, Written, OwnPage, Other, Empty, Ready, Gone}
+use Rattle.chain_search.specs.Knowledge.{OwnRow, Foreign, Taken, Written, OwnPage, Other, Empty, Ready, Gone}
 use Rattle.tree_law.specs.Phase.{PageOwner, Nobody, Keeps, Placed, Cleared, rank, child_of, rank_of}
 use Rattle.tree_law.specs.Shared.{Shared}
 
@@ -132,7 +132,7 @@ OrderFits o m logs p f (Some y) (Some x) = InOrder o m logs p y f x
 pub record Knows (o : Owners) (m : Shared) (seen : ℕ → Option Record) (learnt roots : ℕ → Bool) (heads : ℕ → Option ℕ) (before : ℕ → ℕ → Option ℕ) (linked : Option ℕ) (point : Option (List Update)) (logs : List (List Update)) : Type 0 where
   pub seen_fits : (r : ℕ) → SeenFits (o.row r) (m.rows r) (seen r)
   pub learnt_fits : (r : ℕ) → learnt r ≡ true → o.row r ≡ Linked
-  pub roots_fit : (p : ℕ) → roots p ≡ true → (l : ℕ) × (s : Key) × Reached 0 l s (o.page p)
+  pub roots_fit : (p : ℕ) → roots p ≡ true → (l : ℕ) × Reached 0 l [] (o.page p)
   pub heads_fit : (p : ℕ) → HeadFits o m logs p (heads p)
   pub orders_fit : (p f : ℕ) → OrderFits o m logs p f (heads p) (before p f)
   pub linked_fits : LinkFits o m point linked

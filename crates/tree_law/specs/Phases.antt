@@ -7,7 +7,7 @@ use Rattle.bw_model.specs.declared.step.Answer.TheVariants.{Whether}
 use Rattle.deltas.specs.declared.record.Record.{Record}
 use Rattle.deltas.specs.declared.record.Record.TheVariants.{Base, Put, Delete, Split, Term, Hold, Remove, Merge, Unterm}
 use Rattle.chain_search.specs.Chains.{IsChainFrom, right_in}
-use Rattle.tree_law.specs.Discipline.{root_over}
+use Rattle.chain_search.specs.Discipline.{root_over}
 use Rattle.tree_law.specs.Keys.{Key}
 use Rattle.tree_law.specs.Phase.{Stage, Fresh, Indexed, Held, Removed, Merged, PageOwner, Keeps, Placed, Cleared}
 use Rattle.tree_law.specs.Put.{put}

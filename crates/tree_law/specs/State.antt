@@ -26,8 +26,9 @@ use Rattle.op_machine.specs.Quiet.{IsQuiet}
 use Rattle.op_machine.specs.Faithful.{IsFaithful, KnowsRow}
 use Rattle.op_machine.specs.Phases as phase
 use Rattle.op_machine.specs.Phases.{Phase, IsInPhase, KeepsPhases}
+use Rattle.tree_law.specs.Fitness.{AreFitted}
 use Rattle.tree_law.specs.Indexed.{IsIndexedAlong}
-use Rattle.tree_law.specs.Knowledge.{Ready, Knowledge, knows}
+use Rattle.chain_search.specs.Knowledge.{Ready, Knowledge, knows}
 use Rattle.tree_law.specs.Owners.{Free, Spare, Linked, Owners, Among}
 use Rattle.tree_law.specs.Phase.{Fresh, Indexed, Held, Removed, Merged, PageOwner, Nobody, Keeps, Placed, Cleared}
 use Rattle.tree_law.specs.Shared.{slot_in, shared}
@@ -140,6 +141,7 @@ pub record IsState (limits : Limits) (entries : List Entry) : Type 0 where
   pub point : ℕ → Option (List Update)
   pub logs : ℕ → List (List Update)
   pub good : Good (shared (memory_of limits entries)) (log_of entries points) owners (knows entries) point logs
+  pub fitted : AreFitted owners (memory_of limits entries).rows
   pub named : IsNamed limits entries owners (memory_of limits entries) (knows entries)
   pub tells : (actor : ℕ) (asked : Command) → command_of entries actor ≡ Some asked → Tells entries points actor asked (point actor) (logs actor)
   pub searches : (operation : Operation) → IsOperation entries operation → IsUnended entries operation.start operation.actor → command_of entries operation.actor ≡ Some operation.command

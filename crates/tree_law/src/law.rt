@@ -15,10 +15,10 @@ ghost use Rattle.op_machine.specs.Index.{IsExactIndex};
 ghost use Rattle.op_machine.specs.Linearized.{IsLinearized};
 ghost use Rattle.op_machine.specs.Phases.{KeepsPhases};
 ghost use Rattle.op_machine.specs.Reuse.{IsFreedByRule};
-ghost use Rattle.tree_law.specs.Discipline.{IsAllowed, May};
-ghost use Rattle.tree_law.specs.Fitting.{Fits};
-ghost use Rattle.tree_law.specs.Knowledge.{knows};
-ghost use Rattle.tree_law.specs.Runs.{IsDisciplined, own_entries};
+ghost use Rattle.chain_search.specs.Discipline.{IsAllowed, May};
+ghost use Rattle.chain_search.specs.Fitting.{Fits};
+ghost use Rattle.chain_search.specs.Knowledge.{knows};
+ghost use Rattle.chain_search.specs.Disciplined.{IsDisciplined, own_entries};
 ghost use Rattle.tree_law.specs.State.{IsState};
 
 /// The empty trace is a state.

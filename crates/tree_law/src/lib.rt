@@ -6,12 +6,12 @@ mod examples;
 mod invariant;
 mod law;
 
-pub use examples::all_links_are_disciplined;
+pub use examples::{all_links_are_disciplined, helped_split_is_disciplined};
 pub use invariant::{
     key_order, levels_are_indexed, one_begin_keeps, one_step_keeps, opening_is_good,
     reply_is_by_a_log,
 };
 pub use law::{
-    answers, begins, disciplined_runs, frees_by_rule, is_one_map, keeps_phases, knowledge_is_own,
-    opens, steps,
+    answers, begins, disciplined_runs, frees_by_rule, index_is_exact, is_one_map, keeps_phases,
+    knowledge_is_own, opens, steps,
 };

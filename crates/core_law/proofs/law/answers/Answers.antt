@@ -1,8 +1,5 @@
-use Rattle.core_law.proofs.Fitted.{fits, row_stands}
+use Rattle.core_law.proofs.Fitted.{fits}
 use Rattle.core_law.proofs.law.answers.Goals as goal
 
-pub returns-clause-stand : goal.returns-clause-stand
-returns-clause-stand c = λ limits entries actor row state may. row_stands limits entries state actor row may
-
-pub returns-clause-fit : goal.returns-clause-fit
-returns-clause-fit c = λ limits entries actor step answer state may is. fits limits entries state actor step answer may is
+pub returns : goal.returns
+returns c = λ limits entries actor step answer state may is. fits limits entries state actor step answer may is

@@ -1,8 +1,5 @@
-use Rattle.core_law.proofs.Runs.{disciplined, linearized}
+use Rattle.core_law.proofs.Runs.{disciplined}
 use Rattle.core_law.proofs.law.disciplined_runs.Goals as goal
 
-pub returns-clause-states : goal.returns-clause-states
-returns-clause-states c = disciplined
-
-pub returns-clause-linearized : goal.returns-clause-linearized
-returns-clause-linearized c = linearized
+pub returns : goal.returns
+returns c = disciplined

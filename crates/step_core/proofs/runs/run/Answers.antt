@@ -5,7 +5,7 @@ use Rattle.step_core.proofs.Stopping.{stops}
 use Rattle.step_core.proofs.runs.run.Goals as goal
 
 pub returns-in-Err-turn-clause-err : goal.returns-in-Err-turn-clause-err
-returns-in-Err-turn-clause-err c =
+returns-in-Err-turn-clause-err g c =
     let lt : c.loop-turn.turn-index < length c.args.turns.now = c.loop-turn-test.true in
     let item : slice_get c.args.turns.now c.loop-turn.turn-index ≡ Some c.turn-item.result = get_is _ _ _ lt c.turn-item.is in
     let same : c.turn-item.result ≡ c.unwrap.result = search rules in

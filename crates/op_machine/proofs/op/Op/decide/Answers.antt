@@ -1,11 +1,19 @@
-use Rattle.std.proofs.Common.{sym, ◌∙◌}
-use Rattle.op_machine.proofs.Moves.{goes, full_at_once, installs}
+use Rattle.std.proofs.Common.{refl, sym, ◌∙◌}
+use Rattle.chain_search.specs.Chains.{content_in}
+use Rattle.op_machine.proofs.Changes.{may_rebuild}
+use Rattle.op_machine.proofs.Commands.{reads, value_same}
+use Rattle.op_machine.proofs.Moves.{answers_at_once}
 use Rattle.op_machine.proofs.op.Op.decide.Goals as goal
 
-pub returns-then-lacks_room-clause-goes : goal.returns-then-lacks_room-clause-goes
-returns-then-lacks_room-clause-goes c = λ k a.
-    goes k c.args.self.now _ _ _ _ c.ask.ensures.moved c.ask.ensures.wanted (full_at_once k c.args.self.now _ _ _ (sym c.lacks_room.ensures ∙ c.if-lacks_room.true) a)
+pub returns-then-not-is_writer-clause-goes : goal.returns-then-not-is_writer-clause-goes
+returns-then-not-is_writer-clause-goes c = λ k a.
+    c.ask.ensures.goes k c.args.hand.now (answers_at_once k c.args.self.now c.args.hand.now c.args.pid c.args.head c.args.chain _
+    (reads 0 c.args.self.now.command _ (sym c.is_writer.ensures ∙ c.if-not-is_writer.true))
+    (rw (← c.self.view_is, ← c.key.ensures, ← value_same (content_in c.args.chain c.key.result.now), ← c.find.ensures) c.reply-reply.ensures) a)
 
-pub returns-then-changes-clause-goes : goal.returns-then-changes-clause-goes
-returns-then-changes-clause-goes c = λ k a.
-    c.install.ensures.goes k (installs k c.args.self.now _ _ _ (sym c.lacks_room.ensures ∙ c.if-lacks_room.false) (rw (← c.self.view_is, ← c.key.ensures, ← c.find-old.ensures, ← c.changes.ensures) c.if-changes.true) a) a.spare
+pub returns-then-deltas-ge-MANY_DELTAS-clause-goes : goal.returns-then-deltas-ge-MANY_DELTAS-clause-goes
+returns-then-deltas-ge-MANY_DELTAS-clause-goes c = λ k a.
+    c.install.ensures.goes k a.seeks
+    (record { chain = c.args.chain; whole = a.whole; page = c.consolidated.result; is = refl; writer = sym c.is_writer.ensures ∙ c.if-not-is_writer.false })
+    (may_rebuild c.args.self.now.actor k c.args.self.now.command c.args.chain c.args.pid c.args.head a.seeks a.whole c.consolidated.result c.consolidated.ensures.makes c.consolidated.ensures.alive c.consolidated.ensures.stands)
+    a.spare

@@ -1,10 +1,11 @@
-use Rattle.op_machine.proofs.Moves.{goes}
-use Rattle.op_machine.proofs.SpareLaws.{spare_taken, hand_taken}
+use Rattle.std.proofs.Common.{refl}
 use Rattle.op_machine.proofs.op.Op.install.Goals as goal
 
-pub returns-in-Some-clause-goes : goal.returns-in-Some-clause-goes
-returns-in-Some-clause-goes c = λ k i s.
-    goes _ c.args.self.now _ _ _ _ c.ask.ensures.moved c.ask.ensures.wanted (i, spare_taken _ _ _ (rw c.in-Some.ensures.last at s))
-
-pub returns-in-Some-clause-hand : goal.returns-in-Some-clause-hand
-returns-in-Some-clause-hand c = rw c.ask.ensures.moved (hand_taken _ _ _ _ c.in-Some.ensures.last c.requires.hand)
+pub returns-clause-goes : goal.returns-clause-goes
+returns-clause-goes c = λ k seeks brings may own.
+    c.ask.ensures.goes k c.new-install.new.spares (
+      seeks,
+      rw (c.new-install.ensures.pid, c.new-install.ensures.head, c.new-install.ensures.content) brings,
+      c.new-install.ensures.shows c.args.self.now.actor k may (rw c.hand.view_is own),
+      rw (c.new-install.ensures.limits, ← c.self.view_is) refl,
+    )

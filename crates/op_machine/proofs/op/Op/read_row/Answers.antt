@@ -1,16 +1,36 @@
 use Rattle.std.proofs.Common.{refl, sym, ◌∙◌}
-use Rattle.op_machine.proofs.Moves.{goes, read_on, read_whole}
+use Rattle.op_machine.proofs.Moves.{read_on, read_whole, whole_fits}
 use Rattle.op_machine.proofs.op.Op.read_row.Goals as goal
 
-pub returns-in-Some-clause-goes : goal.returns-in-Some-clause-goes
-returns-in-Some-clause-goes c = λ k h f.
-    let shows = rw (← c.self.view_is) at h in
-    let fits = rw (← c.self.view_is) at f in
-    goes _ (record { limits = c.self.inside.limits; actor = c.self.inside.actor; command = c.self.inside.command; chain = c.push.new.self; state = c.self.inside.state }) _ _ _ _ c.ask.ensures.moved c.ask.ensures.wanted
-    (rw c.push.ensures (read_on c.self.inside.limits c.self.inside.actor k _ _ _ _ _ _ _ _ (sym c.next-next.ensures ∙ c.in-Some.is) shows fits))
+pub over-requires : goal.over-requires
+over-requires c =
+    let told = c.requires.told in
+    let shows = rw (← c.self.view_is) at told.shows in
+    let fits = rw (← c.self.view_is) at told.fits in
+    let both = whole_fits c.self.inside.limits c.self.inside.actor told.k c.self.inside.command c.self.inside.part _ _ _ _ c.args.older (rw c.in_default-Base.is-1 refl) shows fits in
+    rw (c.replace-part.ensures.value, ← c.in_default-Base.is-1) both.0
 
-pub returns-in-None-clause-goes : goal.returns-in-None-clause-goes
-returns-in-None-clause-goes c = λ k h f.
+pub decide-requires-clause-leaf : goal.decide-requires-clause-leaf
+decide-requires-clause-leaf c =
+    let told = c.requires.told in
+    let shows = rw (← c.self.view_is) at told.shows in
+    let fits = rw (← c.self.view_is) at told.fits in
+    let both = whole_fits c.self.inside.limits c.self.inside.actor told.k c.self.inside.command c.self.inside.part _ _ _ _ c.args.older (rw c.in_default-Base.is-1 refl) shows fits in
+    rw (c.over.ensures, c.replace-part.ensures.value, ← c.in_default-Base.is-1) both.1
+
+pub returns-in_default-Base-clause-goes : goal.returns-in_default-Base-clause-goes
+returns-in_default-Base-clause-goes c = λ k h f.
     let shows = rw (← c.self.view_is) at h in
     let fits = rw (← c.self.view_is) at f in
-    c.decide.ensures.goes _ (read_whole c.self.inside.limits c.self.inside.actor k _ _ _ _ _ _ _ _ refl c.push.ensures (sym c.next-next.ensures ∙ c.in-None.is) shows fits)
+    c.decide.ensures.goes _ (rw (c.over.ensures, c.replace-part.ensures.value, ← c.in_default-Base.is-1) (read_whole c.self.inside.limits c.self.inside.actor k c.self.inside.command c.self.inside.part _ _ _ _ c.args.older (rw c.in_default-Base.is-1 refl) shows fits))
+
+pub returns-in-Some-default : goal.returns-in-Some-default
+returns-in-Some-default c = record {
+  goes = λ k h f.
+      let shows = rw (← c.self-in-Some-default.view_is) at h in
+      let fits = rw (← c.self-in-Some-default.view_is) at f in
+      c.ask.ensures.goes _ _ (rw c.push.ensures (read_on c.self-in-Some-default.inside.limits c.self-in-Some-default.inside.actor k c.self-in-Some-default.inside.command c.self-in-Some-default.inside.part _ _ _ _ c.args.older c.in-Some-default.row (sym c.next.ensures ∙ c.in-Some-default.is-0) shows fits));
+  within = rw (← c.self-in-Some-default.view_is) c.ask.ensures.within;
+  hand = rw c.ask.ensures.moved c.requires.hand;
+  same = rw (c.ask.ensures.moved, ← c.self-in-Some-default.view_is) (record { limits = refl; actor = refl; command = refl });
+}

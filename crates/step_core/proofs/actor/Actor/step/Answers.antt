@@ -3,16 +3,16 @@ use Rattle.step_core.proofs.Going.{left_idle, ready_some}
 use Rattle.step_core.proofs.actor.Actor.step.Goals as goal
 
 pub returns-then-is_some-clause-allowed : goal.returns-then-is_some-clause-allowed
-returns-then-is_some-clause-allowed c = λ k h.
+returns-then-is_some-clause-allowed g c = λ k h.
     let ready = ready_some _ _ _ _ _ _ c.in-Some.is h in
     c.step-stepped.ensures.allowed k ready.0 ready.1
 
 pub returns-then-is_some-clause-shows : goal.returns-then-is_some-clause-shows
-returns-then-is_some-clause-shows c = λ k h.
+returns-then-is_some-clause-shows g c = λ k h.
     let ready = ready_some _ _ _ _ _ _ c.in-Some.is h in
     left_idle _ _ _ _ _ _ (sym c.is_some.ensures ∙ c.if-is_some.true) (c.step-stepped.ensures.left k ready.0 ready.1)
 
 pub returns-else-is_some-clause-allowed : goal.returns-else-is_some-clause-allowed
-returns-else-is_some-clause-allowed c = λ k h.
+returns-else-is_some-clause-allowed g c = λ k h.
     let ready = ready_some _ _ _ _ _ _ c.in-Some.is h in
     c.step-stepped.ensures.allowed k ready.0 ready.1

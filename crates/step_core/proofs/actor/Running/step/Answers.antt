@@ -2,19 +2,19 @@ use Rattle.step_core.proofs.Going.{allowed_done, left_done, left_on}
 use Rattle.step_core.proofs.actor.Running.step.Goals as goal
 
 pub returns-in-Step-clause-left : goal.returns-in-Step-clause-left
-returns-in-Step-clause-left c = λ k running served.
+returns-in-Step-clause-left g c = λ k running served.
     let takes = rw c.replace-wanted.ensures.value at c.take-told.ensures.step in
     rw (c.copied_step-step.ensures, c.replace-wanted.ensures.value, c.copied_answer-answer.ensures)
     (left_on _ _ k _ _ c.args.self.now c.next.new.self c.take-told.result running (served _ _ takes) c.in-Step.wanted c.in-Step.ensures.obeys c.in-Step.ensures.same c.in-Step.ensures.within c.in-Step.ensures.hand)
 
 pub returns-in-Done-clause-allowed : goal.returns-in-Done-clause-allowed
-returns-in-Done-clause-allowed c = λ k running served.
+returns-in-Done-clause-allowed g c = λ k running served.
     let takes = rw c.replace-wanted.ensures.value at c.take-told.ensures.step in
     rw (c.copied_step-step.ensures, c.replace-wanted.ensures.value)
     (allowed_done _ _ k _ _ c.args.self.now c.next.new.self c.take-told.result running (served _ _ takes) c.in-Done.reply c.in-Done.ensures.obeys)
 
 pub returns-in-Done-clause-left : goal.returns-in-Done-clause-left
-returns-in-Done-clause-left c = λ k running served.
+returns-in-Done-clause-left g c = λ k running served.
     let takes = rw c.replace-wanted.ensures.value at c.take-told.ensures.step in
     rw (c.copied_step-step.ensures, c.replace-wanted.ensures.value, c.copied_answer-answer.ensures)
     (left_done _ _ k _ _ c.args.self.now c.next.new.self c.take-told.result running (served _ _ takes) c.in-Done.reply c.args.self.now c.in-Done.ensures.obeys c.in-Done.ensures.hand)

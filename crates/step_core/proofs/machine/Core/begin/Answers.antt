@@ -4,17 +4,17 @@ use Rattle.step_core.proofs.Cored.{core_begins, core_begun}
 use Rattle.step_core.proofs.machine.Core.begin.Goals as goal
 
 pub invariant_of-self : goal.invariant_of-self
-invariant_of-self c =
+invariant_of-self g c =
     let same : c.unwrap.result ≡ c.args.command = search rules in
     let begins = core_begins _ _ _ _ _ _ _ c.args.command c.self.invariant _ _ c.self.view_is c.requires.goes c.from.ensures c.index_mut-place.ensures.value in
     core_begun _ _ _ _ _ _ _ _ c.args.command c.self.invariant _ _ c.self.view_is c.requires.goes c.from.ensures (c.begin.ensures.shows _ begins.1) c.begin.ensures.command (rw (c.unwrap-2.ensures, same) at c.push.ensures.items)
 
 pub begin-requires-clause-shows : goal.begin-requires-clause-shows
-begin-requires-clause-shows c =
+begin-requires-clause-shows g c =
     let begins = core_begins _ _ _ _ _ _ _ c.args.command c.self.invariant _ _ c.self.view_is c.requires.goes c.from.ensures c.index_mut-place.ensures.value in
     (knows c.self.inside.trace.items c.args.actor, begins.1)
 
 pub begin-requires-clause-idle : goal.begin-requires-clause-idle
-begin-requires-clause-idle c =
+begin-requires-clause-idle g c =
     let begins = core_begins _ _ _ _ _ _ _ c.args.command c.self.invariant _ _ c.self.view_is c.requires.goes c.from.ensures c.index_mut-place.ensures.value in
     begins.2

@@ -7,18 +7,18 @@ use Rattle.step_core.proofs.Linked.{event_is, told_to}
 use Rattle.step_core.proofs.machine.Core.step.Goals as goal
 
 pub invariant_of-self : goal.invariant_of-self
-invariant_of-self c =
+invariant_of-self g c =
     let asks = core_asks _ _ _ _ _ _ _ c.self.invariant _ _ c.self.view_is c.requires.goes c.from.ensures c.index_mut-place.ensures.value in
     let allowed = c.step-stepped.ensures.allowed _ asks.2 in
-    let took = core_took _ _ _ _ _ _ c.step-stepped.result.step c.step-stepped.result.answer c.self.invariant asks.0 c.step-stepped.ensures.within c.step-stepped.ensures.takes allowed.may in
+    let took = core_took _ _ _ _ _ _ c.step-stepped.result.step c.step-stepped.result.answer c.self.invariant asks.0 c.step-stepped.ensures.within c.step-stepped.ensures.takes allowed.allowed.may allowed.plain in
     core_stepped _ _ _ _ _ _ _ _ _ _ c.step-stepped.result.step c.step-stepped.result.answer c.step-stepped.result.reply c.self.invariant c.from.ensures asks.1
     c.index_mut-place.ensures.value asks.3 allowed (c.step-stepped.ensures.shows _ asks.2) c.step-stepped.ensures.command c.step-stepped.ensures.memory took.1 took.2 (rw c.unwrap.ensures at c.push.ensures.items)
 
 pub returns : goal.returns
-returns c =
+returns g c =
     let asks = core_asks _ _ _ _ _ _ _ c.self.invariant _ _ c.self.view_is c.requires.goes c.from.ensures c.index_mut-place.ensures.value in
     let allowed = c.step-stepped.ensures.allowed _ asks.2 in
-    let took = core_took _ _ _ _ _ _ c.step-stepped.result.step c.step-stepped.result.answer c.self.invariant asks.0 c.step-stepped.ensures.within c.step-stepped.ensures.takes allowed.may in
+    let took = core_took _ _ _ _ _ _ c.step-stepped.result.step c.step-stepped.result.answer c.self.invariant asks.0 c.step-stepped.ensures.within c.step-stepped.ensures.takes allowed.allowed.may allowed.plain in
     record {
       added = Step c.args.actor c.step-stepped.result.step c.step-stepped.result.answer c.step-stepped.result.reply;
       entries = rw (← c.self.view_is) (rw c.unwrap.ensures at c.push.ensures.items);
@@ -29,6 +29,6 @@ returns c =
     }
 
 pub step-stepped-requires-clause-ready : goal.step-stepped-requires-clause-ready
-step-stepped-requires-clause-ready c =
+step-stepped-requires-clause-ready g c =
     let asks = core_asks _ _ _ _ _ _ _ c.self.invariant _ _ c.self.view_is c.requires.goes c.from.ensures c.index_mut-place.ensures.value in
     (knows c.self.inside.trace.items c.args.actor, asks.2)

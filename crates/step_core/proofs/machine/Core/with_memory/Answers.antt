@@ -4,12 +4,12 @@ use Rattle.step_core.proofs.Cored.{core_opens}
 use Rattle.step_core.proofs.machine.Core.with_memory.Goals as goal
 
 pub loop-preserved : goal.loop-preserved
-loop-preserved c = (
+loop-preserved g c = (
   omega (arith, c.in_ok-push.ensures.len, c.loop.invariant.0),
   λ a at e. elim (slice_get-push_cases _ _ a at (rw c.in_ok-push.ensures.items at e)) [ inl before ↦ c.loop.invariant.1 a at before | inr last ↦ last.1 ∙ c.idle.ensures ],
 )
 
 pub invariant_of-result : goal.invariant_of-result
-invariant_of-result c =
+invariant_of-result g c =
     let count : length c.loop.actors.items ≡ c.args.limits.actors = omega (arith, c.loop.invariant.0, c.loop.actors.ok.0, c.loop-test.false, c.loop.auto.counter-end) in
     core_opens _ _ _ _ c.in_ok-memory.ensures.sound c.in_ok-memory.ensures.opening count c.loop.invariant.1 c.new.ensures.items

@@ -7,6 +7,6 @@ use Rattle.deltas.specs.Records.{next_row}
 use Rattle.step_core.proofs.memory.Memory.open.Given as goal
 
 abbrev pub invariant-loop : goal.invariant-loop
-invariant-loop l =
+invariant-loop g l =
     (vec_len l.records ≡ l.counter) × ((r : ℕ) (d : Record) → r < l.counter → next_row (slice_index_or l.records.items r d) ≡ None)
     × ((r : ℕ) (d : Record) → r < l.counter → slice_index_or l.records.items r d ≡ Base empty_leaf)

@@ -1,0 +1,9 @@
+use Rattle.std.proofs.Common.{◌≡◌, false, ◌∙◌}
+use Rattle.deltas.specs.declared.record.Record.TheVariants.{Base}
+use Rattle.chain_search.proofs.chain.Chain.consolidated.Goals as goal
+
+pub returns-clause-base : goal.returns-clause-base
+returns-clause-base c =
+    let makes = c.page.ensures.makes in
+    let alive : c.page.result.removed ≡ false = makes.removed ∙ c.requires in
+    λ i. Base (record { level = makes.level i; low = makes.low i; high = makes.high i; right = makes.right i; removed = alive i; items = c.page.result.items })

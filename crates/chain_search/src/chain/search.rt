@@ -1,0 +1,93 @@
+//! What a chain decides for a key.
+ghost use Rattle.std.specs.Prelude.{◌≡◌, ◌<◌, ◌++◌, List, IsSome, IsTrue, MatchOption, not, option_copied};
+ghost use Rattle.bw_model.specs.Bytes.{is_below};
+ghost use Rattle.base_page.specs.Pages.{value_in};
+ghost use Rattle.base_page.specs.Places.{IsGreatestChild, HasNoChild};
+ghost use Rattle.deltas.specs.declared.record.Record.{Record};
+ghost use Rattle.deltas.specs.Records.{content_said};
+ghost use Rattle.chain_search.specs.Chains.{content_in, covers, level_in, low_in};
+
+use crate::Chain;
+use base_page::Content;
+use bw_model::{Key, Value};
+use deltas::Record;
+
+impl Chain {
+    /// What the page has at the key: the newest record that names the key says it.
+    pub fn content(&self, key: &Key) -> Option<Content>
+        ensures { result ≡ content_in self.now key.now }
+    {
+        match newest_of(self.deltas.as_slice(), key) {
+            Some(newest) => newest.content_said(key),
+            None => copied(self.base.content(key)),
+        }
+    }
+
+    /// The value of the key, which the newest record that names it says; an index page has none.
+    pub fn find(&self, key: &Key) -> Option<&Value>
+        ensures { option_copied result ≡ value_in (content_in self.now key.now) }
+    {
+        match newest_of(self.deltas.as_slice(), key) {
+            Some(newest) => value_said(newest, key),
+            None => self.base.find(key),
+        }
+    }
+
+    /// The child of the greatest term at or below the key, or none.
+    pub fn child_of(&self, key: &Key) -> Option<u16>
+        ensures child { MatchOption result
+            (HasNoChild (content_in self.now) (λ q. not (is_below key.now q)))
+            (IsGreatestChild (content_in self.now) (λ q. not (is_below key.now q))) }
+        ensures index { 0 < level_in self.now → IsTrue (covers self.now key.now) → IsSome result }
+    {
+        self.page().child_of(key)
+    }
+
+    /// The child of the greatest term below the key, or none.
+    pub fn child_below(&self, key: &Key) -> Option<u16>
+        ensures child { MatchOption result
+            (HasNoChild (content_in self.now) (λ q. is_below q key.now))
+            (IsGreatestChild (content_in self.now) (λ q. is_below q key.now)) }
+        ensures index { 0 < level_in self.now → IsTrue (is_below (low_in self.now) key.now) → IsSome result }
+    {
+        self.page().child_below(key)
+    }
+}
+
+/// The newest of the deltas that names the key, or none.
+fn newest_of<'a>(deltas: &'a [Record], key: &Key) -> Option<&'a Record>
+    ensures { (under : List Record) → MatchOption result
+        (content_in (deltas.now ++ under) key.now ≡ content_in under key.now)
+        (λ newest. content_in (deltas.now ++ under) key.now ≡ content_said newest.now key.now) }
+{
+    for newest in deltas {
+        if newest.names(key) {
+            return Some(newest);
+        }
+    }
+    None
+}
+
+fn copied(content: Option<&Content>) -> Option<Content>
+    ensures { result ≡ option_copied content.entry }
+{
+    match content {
+        None => None,
+        Some(content) => Some(content.copied()),
+    }
+}
+
+/// The value that a record says of a key that it names, where it says one.
+fn value_said<'a>(newest: &'a Record, key: &Key) -> Option<&'a Value>
+    ensures { option_copied result ≡ value_in (content_said newest.now key.now) }
+{
+    match newest {
+        Record::Base(page) => page.find(key),
+        Record::Put(put) => Some(&put.value),
+        Record::Merge(merge) => match merge.items.find(key) {
+            Some(Content::Value(value)) => Some(value),
+            _ => None,
+        },
+        _ => None,
+    }
+}

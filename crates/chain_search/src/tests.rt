@@ -1,0 +1,142 @@
+//! Chains by hand, which have all nine kinds of record.
+ghost use Rattle.std.specs.Prelude.{◌≡◌, ◌≤◌, [], ◌∷◌, length};
+ghost use Rattle.deltas.specs.declared.record.Record.TheVariants as kind;
+ghost use Rattle.chain_search.specs.Examples.{leaf, leaf_chain, index_chain};
+
+use crate::{Chain, ChainPart};
+use base_page::{Content, Items, Page};
+use bw_model::{Key, Value};
+use deltas::{Delete, Hold, Merge, Put, Record, Remove, Split, Term, Unterm};
+
+fn key(text: &[u8]) -> Key
+    requires { length text.now ≤ 32 }
+    ensures { result ≡ text.now }
+{
+    Key::from_slice(text).unwrap()
+}
+
+fn value(text: &[u8]) -> Value
+    requires { length text.now ≤ 32 }
+    ensures { result ≡ text.now }
+{
+    Value::from_slice(text).unwrap()
+}
+
+/// The items of one key.
+fn item(key: Key, content: Content) -> Items
+    ensures { result ≡ record { key = key; content = content } ∷ [] }
+{
+    let mut items = Items::new();
+    items.put(key, content);
+    items
+}
+
+fn term(next: u16, separator: Key, child: u16) -> Record
+    ensures { result ≡ kind.Term (record { level = 1; next = next; separator = separator; child = child }) }
+{
+    Record::Term(Term {
+        level: 1,
+        next,
+        separator,
+        child,
+    })
+}
+
+/// The leaf under the deltas.
+fn leaf() -> Page
+    ensures { result ≡ leaf }
+{
+    let mut items = item(key(b"k08"), Content::Value(value(b"v08")));
+    items.append(&item(key(b"k09"), Content::Value(value(b"v09"))));
+    Page::new(0, Key::default(), None, None, items)
+}
+
+fn leaf_chain() -> Chain
+    ensures { result ≡ leaf_chain }
+{
+    let separator = key(b"k09");
+    let mut part = ChainPart::new();
+    part.push(Record::Remove(Remove { level: 0, next: 15 }));
+    part.push(Record::Delete(Delete {
+        next: 14,
+        key: key(b"k08"),
+    }));
+    part.push(Record::Put(Put {
+        next: 13,
+        key: key(b"k07"),
+        value: value(b"v07"),
+    }));
+    part.push(Record::Merge(Merge {
+        level: 0,
+        next: 12,
+        low: separator.copied(),
+        high: None,
+        right: None,
+        items: item(separator.copied(), Content::Value(value(b"w09"))),
+    }));
+    part.push(Record::Split(Split {
+        level: 0,
+        next: 11,
+        separator,
+        page: 2,
+    }));
+    part.over(leaf())
+}
+
+fn index_chain() -> Chain
+    ensures { result ≡ index_chain }
+{
+    let separator = key(b"k09");
+    let mut part = ChainPart::new();
+    part.push(term(7, separator.copied(), 3));
+    part.push(Record::Unterm(Unterm {
+        level: 1,
+        next: 6,
+        separator: separator.copied(),
+        child: 2,
+    }));
+    part.push(Record::Hold(Hold {
+        level: 1,
+        next: 5,
+        separator: separator.copied(),
+        child: 2,
+    }));
+    part.push(term(4, separator, 2));
+    let first = Content::Child {
+        page: 1,
+        held: false,
+    };
+    let items = item(Key::default(), first);
+    part.over(Page::new(1, Key::default(), None, None, items))
+}
+
+#[test]
+fn decides_the_keys_of_a_leaf(rt: HostRuntime) {
+    let chain = leaf_chain();
+    assert_eq!(rt; chain.find(&key(b"k07")), Some(&value(b"v07")));
+    assert_eq!(rt; chain.find(&key(b"k08")), None);
+    assert_eq!(rt; chain.find(&key(b"k09")), Some(&value(b"w09")));
+    assert_eq!(rt; chain.content(&key(b"k10")), None);
+    assert!(rt; chain.is_removed());
+    assert_eq!(rt;
+        (chain.deltas(), chain.level(), chain.right()),
+        (5, 0, None)
+    );
+    assert_eq!(rt; chain.high(), None);
+    assert!(rt; chain.covers(&key(b"k09")));
+    let page = chain.page();
+    assert!(rt; page.is_removed());
+    assert_eq!(rt; page.items().len(), 2);
+}
+
+#[test]
+fn finds_the_children_of_an_index_page(rt: HostRuntime) {
+    let chain = index_chain();
+    assert_eq!(rt; chain.child_of(&key(b"k08")), Some(1));
+    assert_eq!(rt; chain.child_of(&key(b"k10")), Some(3));
+    assert_eq!(rt; chain.child_below(&key(b"k09")), Some(1));
+    assert_eq!(rt; chain.child_below(chain.low()), None);
+    let page = chain.consolidated();
+    assert_eq!(rt; page.items().len(), 2);
+    assert_eq!(rt; page.child_of(&key(b"k09")), Some(3));
+}

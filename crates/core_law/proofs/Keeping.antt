@@ -1,0 +1,234 @@
+-- A plain step keeps page 1 the only page, and what actors know of it.
+use Rattle.std.proofs.Common.{◌≡◌, ◌<◌, ◌≤◌, inl, inr, ℕ, zero, suc, List, [], ◌∷◌, ◌++◌, length, Option, Some, None, Bool, true, false, cond, eqb, refl, sym, ap, ◌∙◌, subst, arith}
+use Rattle.std.specs.Prelude.{IsSome}
+use Rattle.std.proofs.lemmas.Bool.{lt-leb}
+use Rattle.std.proofs.lemmas.Option.{same_Some}
+use Rattle.bw_model.specs.declared.command.Command.{Command}
+use Rattle.bw_model.specs.declared.command.Reply.{Reply}
+use Rattle.bw_model.specs.declared.limits.Limits.{Limits}
+use Rattle.bw_model.specs.declared.step.Answer.{Answer}
+use Rattle.bw_model.specs.declared.step.Answer.TheVariants.{Whether}
+use Rattle.bw_model.specs.declared.step.Step.{Step as StepOf}
+use Rattle.bw_model.specs.declared.step.Step.TheVariants.{Slot, Row, Epoch, Announce, PidBits, RowBits, Place, Exchange, TakePid, TakeRow, Enter, Leave, Retire, ReusePids, ReuseRows}
+use Rattle.bw_model.specs.Log.{Update}
+use Rattle.base_page.specs.Pages.{empty_leaf}
+use Rattle.deltas.specs.declared.record.Record.{Record}
+use Rattle.deltas.specs.declared.record.Record.TheVariants.{Base, Put, Delete, Split, Term, Hold, Remove, Merge, Unterm}
+use Rattle.deltas.specs.Memory.{Memory, opening}
+use Rattle.chain_search.specs.Chains.{IsChainFrom}
+use Rattle.chain_search.specs.Discipline.{IsAllowed, May, MayExchange, MayLink, record_of}
+use Rattle.chain_search.specs.Knowledge.{OwnRow, Written, Knowledge, begun, exchanged, finished, knows, learn, learn_slot, linked_over}
+use Rattle.chain_search.specs.Steps.{IsAnswer, memory_after}
+use Rattle.chain_search.specs.Trace.{command_of, memory_of}
+use Rattle.chain_search.specs.declared.trace.Entry.{Entry}
+use Rattle.chain_search.specs.declared.trace.Entry.TheVariants.{Begin, Step}
+use Rattle.chain_search.proofs.ChainLaws.{IsChainFrom-unique}
+use Rattle.chain_search.proofs.TraceLaws.{memory_of-push}
+use Rattle.op_machine.specs.OneLeaf.{IsLeafChain, IsPlainLink, IsPlainMove, IsPlainOver}
+use Rattle.tree_law.specs.Owners.{Linked, Owners, OwnFits, HeadFits, SeenFits, leaf_map}
+use Rattle.tree_law.specs.Put.{put}
+use Rattle.tree_law.specs.Shared.{shared}
+use Rattle.tree_law.specs.Tree.{Good, IsPart, Page}
+use Rattle.tree_law.proofs.Beginning as tree_begins
+use Rattle.tree_law.proofs.Beginning.{knows-push}
+use Rattle.tree_law.proofs.Chains.{chain_within}
+use Rattle.tree_law.proofs.Growth as tree_grows
+use Rattle.tree_law.proofs.Mapping.{leaves, slot_some}
+use Rattle.tree_law.proofs.Puts.{by_test, put_all, put_other}
+use Rattle.tree_law.proofs.Rows.{rows_kept}
+use Rattle.tree_law.proofs.Stepping.{step as tree_step}
+use Rattle.core_law.specs.State.{HasOneLeaf, IsShortLeaf, IsState, KnowsLeaf}
+use Rattle.core_law.proofs.Links.{base_leaf, over_chain, over_leaf, over_short}
+
+module _ (m : Memory) {log : List Update} {o : Owners} {ks : ℕ → Knowledge} {point : ℕ → Option (List Update)} {logs : ℕ → List (List Update)} (g : Good (shared m) log o ks point logs) where
+  -- the row in slot 1 is linked, and so is each row that was read in a slot
+  leaf_linked : o.row (m.slots 1) ≡ Linked
+  leaf_linked = go (leaves m g).side (leaves m g).whole
+    where
+      go : (side : List Page) → IsPart o (shared m) 0 (leaf_map log) side (Some 1) (Some []) None None → o.row (m.slots 1) ≡ Linked
+      go [] h = absurd (let e = h.0 in cc)
+      go (p ∷ ps) h =
+          let same : 1 ≡ p.page = same_Some 1 p.page h.0 in
+          let at : m.slots p.page ≡ p.row = (slot_some m.slots p.page p.row h.2.is_page.head).1 in
+          ap o.row (ap m.slots same ∙ at) ∙ h.2.linked
+
+  head_linked : (b page row : ℕ) → (ks b).heads page ≡ Some row → o.row row ≡ Linked
+  head_linked b page row e = (subst (λ (h : Option ℕ). HeadFits o (shared m) (logs b) page h) e ((g.sound b).heads_fit page)).2.linked
+
+  short_stays : (rows' : ℕ → Option Record) → ((row : ℕ) → o.row row ≡ Linked → rows' row ≡ m.rows row) → (x : ℕ) → o.row x ≡ Linked → IsShortLeaf m.rows x → IsShortLeaf rows' x
+  short_stays rows' stay x linked s = record { chain = s.chain; is_chain = rows_kept o (shared m) rows' g.closed stay x s.chain linked s.is_chain; leaf = s.leaf; short = s.short }
+
+  known_stays : (rows' : ℕ → Option Record) → ((row : ℕ) → o.row row ≡ Linked → rows' row ≡ m.rows row) → (b : ℕ) → KnowsLeaf m.rows (ks b) → KnowsLeaf rows' (ks b)
+  known_stays rows' stay b known = record { heads = λ page row e. short_stays rows' stay row (head_linked b page row e) (known.heads page row e); pageless = known.pageless }
+
+  module _ (a : ℕ) (one : HasOneLeaf m) (known : KnowsLeaf m.rows (ks a)) where
+    abbrev k : Knowledge
+    k = ks a
+
+    placed_stands : (row : ℕ) (w : Record) → k.rows row ≡ Written w → m.rows row ≡ Some w
+    placed_stands row w e = (subst (λ (own : OwnRow). OwnFits a (o.row row) (m.rows row) own) e (g.owns a row)).1
+
+    read_stands : (x : ℕ) (c : List Record) → IsChainFrom k.seen x c → IsChainFrom m.rows x c
+    read_stands x c h = chain_within k.seen m.rows (λ r w e. (subst (λ (seen : Option Record). SeenFits (o.row r) (m.rows r) seen) e ((g.sound a).seen_fits r)).1) c (Some x) h
+
+    plain_is : (x y : ℕ) (plain : IsPlainLink k x y) (w : Record) → k.rows y ≡ Written w → IsPlainOver plain.chain w
+    plain_is x y plain w e = subst (IsPlainOver plain.chain) (let f : Written plain.content ≡ Written w = sym plain.placed ∙ e in let same : plain.content ≡ w = cc in same) plain.plain
+
+    -- over a short chain goes an update or a base
+    linked_leaf : (p x y : ℕ) → MayLink a k p x y → IsPlainLink k x y → IsShortLeaf m.rows x → IsShortLeaf m.rows y
+    linked_leaf p x y (inl update) plain s = record {
+      chain = record_of update.update x ∷ s.chain;
+      is_chain = over_chain update.update m.rows x y s.chain (placed_stands y (record_of update.update x) update.placed) s.is_chain;
+      leaf = over_leaf update.update x s.chain s.leaf;
+      short =
+          let same : plain.chain ≡ s.chain = IsChainFrom-unique m.rows x plain.chain s.chain (read_stands x plain.chain plain.read) s.is_chain in
+          let few : length s.chain ≤ 8 = subst (λ c. length c ≤ 8) same (over_short update.update x plain.chain (plain_is x y plain (record_of update.update x) update.placed)) in
+          omega (arith, few);
+    }
+    linked_leaf p x y (inr (inl base)) plain s =
+        let same : s.chain ≡ base.basis.chain = IsChainFrom-unique m.rows x s.chain base.basis.chain s.is_chain (read_stands x base.basis.chain base.basis.read) in
+        record { chain = _; is_chain = (placed_stands y _ base.placed, refl); leaf = base_leaf base.basis.chain base.items (subst (λ c. IsLeafChain c) same s.leaf) base.alike; short = omega arith }
+    linked_leaf p x y (inr (inr (inl split))) plain s = absurd (plain_is x y plain _ split.placed)
+    linked_leaf p x y (inr (inr (inr (inl term)))) plain s = absurd (plain_is x y plain _ term.placed)
+    linked_leaf p x y (inr (inr (inr (inr (inl hold))))) plain s = absurd (plain_is x y plain _ hold.placed)
+    linked_leaf p x y (inr (inr (inr (inr (inr (inl remove)))))) plain s = absurd (plain_is x y plain _ remove.placed)
+    linked_leaf p x y (inr (inr (inr (inr (inr (inr (inl merge))))))) plain s = absurd (plain_is x y plain _ merge.placed)
+    linked_leaf p x y (inr (inr (inr (inr (inr (inr (inr unterm))))))) plain s = absurd (plain_is x y plain _ unterm.placed)
+
+    -- an exchange that won
+    exchanged_leaf : (p x y : ℕ) → MayExchange a k p x y → IsPlainLink k x y → m.slots p ≡ x → HasOneLeaf (record m { slots = put m.slots p y })
+    exchanged_leaf zero x y may plain e = absurd (let f = known.pageless y in let h = may.ready in cc)
+    exchanged_leaf (suc p) zero zero may plain e = absurd may
+    exchanged_leaf (suc p) zero (suc y) may plain e = absurd (let f = known.pageless (suc p) in let h = may.0 in cc)
+    exchanged_leaf (suc p) (suc x) zero (inl may) plain e = absurd (let f = known.pageless (suc p) in cc)
+    exchanged_leaf (suc p) (suc x) zero (inr may) plain e = absurd (let f = known.pageless (suc p) in cc)
+    exchanged_leaf (suc zero) (suc x) (suc y) may plain e = record {
+      root = one.root;
+      linked = omega arith;
+      others = λ page lt. put_other m.slots 1 (suc y) page (λ i. let f : page ≡ 1 = i in omega arith) ∙ one.others page lt;
+      leaf = linked_leaf 1 (suc x) (suc y) may.1 plain (subst (IsShortLeaf m.rows) e one.leaf);
+    }
+    exchanged_leaf (suc (suc p)) (suc x) (suc y) may plain e = absurd (let f = one.others (suc (suc p)) (omega arith) in omega arith)
+
+    leaf_after : (s : StepOf Record) → May a k s → IsPlainMove k s → ((row : ℕ) → o.row row ≡ Linked → (memory_after a s m).rows row ≡ m.rows row) → HasOneLeaf (memory_after a s m)
+    leaf_after (Slot p) may plain stay = one
+    leaf_after (Row q) may plain stay = one
+    leaf_after Epoch may plain stay = one
+    leaf_after (Announce b) may plain stay = one
+    leaf_after (PidBits w) may plain stay = one
+    leaf_after (RowBits w) may plain stay = one
+    leaf_after (Place q w) may plain stay = record { root = one.root; linked = one.linked; others = one.others; leaf = short_stays (memory_after a (Place q w) m).rows stay (m.slots 1) leaf_linked one.leaf }
+    leaf_after (Exchange p x y) may plain stay = by_test (m.slots p) x (λ t. HasOneLeaf (record m { slots = cond t (put m.slots p y) m.slots }))
+        (λ e. exchanged_leaf p x y may.1 plain e)
+        (λ ne. record { root = one.root; linked = one.linked; others = one.others; leaf = one.leaf })
+    leaf_after (TakePid p) may plain stay = absurd plain
+    leaf_after (TakeRow q) may plain stay = record { root = one.root; linked = one.linked; others = one.others; leaf = one.leaf }
+    leaf_after (Enter n) may plain stay = record { root = one.root; linked = one.linked; others = one.others; leaf = one.leaf }
+    leaf_after Leave may plain stay = record { root = one.root; linked = one.linked; others = one.others; leaf = one.leaf }
+    leaf_after (Retire n) may plain stay = absurd may
+    leaf_after (ReusePids w bits) may plain stay = absurd may
+    leaf_after (ReuseRows w bits) may plain stay = absurd may
+
+    -- what the actor learns
+    same : (k' : Knowledge) → k'.heads ≡ k.heads → k'.pages ≡ k.pages → KnowsLeaf m.rows k'
+    same k' e f = record { heads = λ page row h. known.heads page row (ap (λ heads. heads page) (sym e) ∙ h); pageless = λ page. ap (λ pages. pages page) f ∙ known.pageless page }
+
+    slot_known : (p n : ℕ) → m.slots p ≡ n → KnowsLeaf m.rows (learn_slot p n k)
+    slot_known zero n e = same (learn_slot zero n k) refl refl
+    slot_known (suc p) zero e = known
+    slot_known (suc zero) (suc n) e = record {
+      heads = λ page row h. by_test page 1 (λ t. cond t (Some (suc n)) (k.heads page) ≡ Some row → IsShortLeaf m.rows row)
+          (λ i f. subst (IsShortLeaf m.rows) (e ∙ same_Some (suc n) row f) one.leaf)
+          (λ ne f. known.heads page row f) h;
+      pageless = known.pageless;
+    }
+    slot_known (suc (suc p)) (suc n) e = absurd (let f = one.others (suc (suc p)) (omega arith) in omega arith)
+
+    linked_known : (x y : ℕ) (c : List Record) (w : Record) → IsPlainOver c w → KnowsLeaf m.rows (linked_over (Written w) x y k)
+    linked_known x y c (Base page) h = same (linked_over (Written (Base page)) x y k) refl refl
+    linked_known x y c (Put put) h = same (linked_over (Written (Put put)) x y k) refl refl
+    linked_known x y c (Delete delete) h = same (linked_over (Written (Delete delete)) x y k) refl refl
+    linked_known x y c (Split split) h = absurd h
+    linked_known x y c (Term term) h = absurd h
+    linked_known x y c (Hold hold) h = absurd h
+    linked_known x y c (Remove remove) h = absurd h
+    linked_known x y c (Merge merge) h = absurd h
+    linked_known x y c (Unterm unterm) h = absurd h
+
+    exchange_known : (p x y : ℕ) → MayExchange a k p x y → IsPlainLink k x y → KnowsLeaf m.rows (exchanged p x y k)
+    exchange_known zero x y may plain = absurd (let f = known.pageless y in let h = may.ready in cc)
+    exchange_known (suc p) zero zero may plain = absurd may
+    exchange_known (suc p) zero (suc y) may plain = absurd (let f = known.pageless (suc p) in let h = may.0 in cc)
+    exchange_known (suc p) (suc x) zero (inl may) plain = absurd (let f = known.pageless (suc p) in cc)
+    exchange_known (suc p) (suc x) zero (inr may) plain = absurd (let f = known.pageless (suc p) in cc)
+    exchange_known (suc p) (suc x) (suc y) may plain = rw (known.pageless (suc p), plain.placed) (linked_known (suc x) (suc y) plain.chain plain.content plain.plain)
+
+    won_known : (p x y : ℕ) (t : Bool) → MayExchange a k p x y → IsPlainLink k x y → KnowsLeaf m.rows (learn k (Exchange p x y) (Whether t))
+    won_known p x y true may plain = exchange_known p x y may plain
+    won_known p x y false may plain = known
+
+    taken_known : (q : ℕ) (t : Bool) → KnowsLeaf m.rows (learn k (TakeRow q) (Whether t))
+    taken_known q true = same (learn k (TakeRow q) (Whether true)) refl refl
+    taken_known q false = known
+
+    learnt : (s : StepOf Record) (x : Answer Record) → May a k s → IsPlainMove k s → IsAnswer m s x → ((row : ℕ) → o.row row ≡ Linked → (memory_after a s m).rows row ≡ m.rows row) → KnowsLeaf (memory_after a s m).rows (learn k s x)
+    learnt (Slot p) x may plain is stay = subst (λ y. KnowsLeaf m.rows (learn k (Slot p) y)) (sym is) (slot_known p (m.slots p) refl)
+    learnt (Row q) x may plain is stay = subst (λ y. KnowsLeaf m.rows (learn k (Row q) y)) (sym is.2) (same _ refl refl)
+    learnt Epoch x may plain is stay = subst (λ y. KnowsLeaf m.rows (learn k Epoch y)) (sym is) known
+    learnt (Announce b) x may plain is stay = subst (λ y. KnowsLeaf m.rows (learn k (Announce b) y)) (sym is) known
+    learnt (PidBits w) x may plain is stay = subst (λ y. KnowsLeaf m.rows (learn k (PidBits w) y)) (sym is.2) (same _ refl refl)
+    learnt (RowBits w) x may plain is stay = subst (λ y. KnowsLeaf m.rows (learn k (RowBits w) y)) (sym is.2) (same _ refl refl)
+    learnt (Place q w) x may plain is stay = let kept = known_stays (memory_after a (Place q w) m).rows stay a known in record { heads = kept.heads; pageless = kept.pageless }
+    learnt (Exchange p x y) z may plain is stay = subst (λ v. KnowsLeaf m.rows (learn k (Exchange p x y) v)) (sym is) (won_known p x y (eqb (m.slots p) x) may.1 plain)
+    learnt (TakePid p) x may plain is stay = absurd plain
+    learnt (TakeRow q) x may plain is stay = subst (λ y. KnowsLeaf m.rows (learn k (TakeRow q) y)) (sym is) (taken_known q (m.free_rows q))
+    learnt (Enter n) x may plain is stay = same _ refl refl
+    learnt Leave x may plain is stay = record { heads = λ page row e. absurd (cc); pageless = known.pageless }
+    learnt (Retire n) x may plain is stay = absurd may
+    learnt (ReusePids w bits) x may plain is stay = absurd may
+    learnt (ReuseRows w bits) x may plain is stay = absurd may
+
+pub opens : (limits : Limits) → IsState limits []
+opens limits = record {
+  tree = tree_begins.opens limits;
+  leaf = record {
+    root = refl;
+    linked = omega arith;
+    others = none;
+    leaf = record { chain = Base empty_leaf ∷ []; is_chain = (refl, refl); leaf = record { level = refl; low = refl; high = refl; right = refl; removed = refl; values = λ q page held e. cc }; short = omega arith };
+  };
+  known = λ a. record { heads = λ page row e. absurd (cc); pageless = λ page. refl };
+}
+  where
+    none : (page : ℕ) → 1 < page → (opening limits).slots page ≡ 0
+    none page h = rw (lt-leb page 1 h) refl
+
+pub begins : (limits : Limits) (entries : List Entry) (actor : ℕ) (command : Command) → IsState limits entries → actor < limits.actors → command_of entries actor ≡ None → IsState limits (entries ++ Begin actor command ∷ [])
+begins limits entries a c state below idle = record {
+  tree = tree_begins.begins limits entries a c state.tree below idle;
+  leaf = rw (memory_of-push limits entries (Begin a c)) state.leaf;
+  known = rw (memory_of-push limits entries (Begin a c), knows-push entries (Begin a c))
+      (put_all (λ b k. KnowsLeaf (memory_of limits entries).rows k) (knows entries) a (begun (knows entries a) c) (record { heads = λ page row e. absurd (cc); pageless = (state.known a).pageless }) (λ b ne. state.known b));
+}
+
+pub steps : (limits : Limits) (entries : List Entry) (actor : ℕ) (step : StepOf Record) (answer : Answer Record) (reply : Option Reply) → IsState limits entries → IsSome (command_of entries actor)
+    → IsAllowed limits actor (knows entries actor) step reply → IsPlainMove (knows entries actor) step → IsAnswer (memory_of limits entries) step answer → IsState limits (entries ++ Step actor step answer reply ∷ [])
+steps limits entries a s x r state busy allowed plain is = record {
+  tree = tree_grows.steps limits entries a s x r state.tree busy allowed is;
+  leaf = rw (memory_of-push limits entries last) (leaf_after m state.tree.good a state.leaf (state.known a) s allowed.may plain stay);
+  known = rw (memory_of-push limits entries last, knows-push entries last)
+      (put_all (λ b k. KnowsLeaf (memory_after a s m).rows k) (knows entries) a (finished (learn (knows entries a) s x) r) (record { heads = own.heads; pageless = own.pageless })
+      (λ b ne. known_stays m state.tree.good (memory_after a s m).rows stay b (state.known b)));
+}
+  where
+    last : Entry
+    last = Step a s x r
+
+    m : Memory
+    m = memory_of limits entries
+
+    stay : (row : ℕ) → state.tree.owners.row row ≡ Linked → (memory_after a s m).rows row ≡ m.rows row
+    stay row linked = ((tree_step m state.tree.good a s r allowed.may x is).kept row linked).1
+
+    own : KnowsLeaf (memory_after a s m).rows (learn (knows entries a) s x)
+    own = learnt m state.tree.good a state.leaf (state.known a) s x allowed.may plain is stay

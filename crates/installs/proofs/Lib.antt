@@ -1,0 +1,3 @@
+pub mod SpareLaws
+pub mod Knowing
+pub mod Installing

@@ -1,0 +1,3 @@
+pub mod Spares
+pub mod Within
+pub mod Installs

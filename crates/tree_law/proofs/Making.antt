@@ -1,0 +1,29 @@
+-- The page that a chain makes, as its records make it one on another.
+use Rattle.std.proofs.Common.{◌≡◌, true, List, [], ◌∷◌, is_some, refl, ap, ◌∙◌}
+use Rattle.std.specs.Prelude.{if◌then◌else◌}
+use Rattle.base_page.specs.Pages.{Page, IsPage}
+use Rattle.deltas.specs.declared.record.Record.{Record}
+use Rattle.deltas.specs.declared.record.Record.TheVariants.{Base}
+use Rattle.deltas.specs.Applies.{Applies}
+use Rattle.deltas.specs.Fits.{Fits}
+use Rattle.deltas.specs.Records.{names, next_row, content_said, level_after, low_after, high_after, right_after, removed_after}
+use Rattle.chain_search.specs.Fitted.{IsRuled, Makes, FitsOver}
+
+-- a base makes its own page
+pub base_makes : (page : Page) → IsPage page → Makes (Base page ∷ []) page
+base_makes page is = record { items = record { ascending = is.ordered.ascending; contents = λ key. refl }; level = refl; low = refl; high = refl; right = refl; removed = refl }
+
+-- a delta makes of the page that the chain makes what it makes of that page
+pub over_makes : {w : Record} {under : List Record} {old made : Page} → Makes under old → Applies old w made → Makes (w ∷ under) made
+over_makes {w} {under} {old} {made} makes applies = record {
+  items = record { ascending = applies.ascending; contents = λ key. applies.contents key ∙ ap (λ x. if names w key then content_said w key else x) (makes.items.contents key) };
+  level = applies.level ∙ ap (level_after w) makes.level;
+  low = applies.low ∙ ap (low_after w) makes.low;
+  high = applies.high ∙ ap (high_after w) makes.high;
+  right = applies.right ∙ ap (right_after w) makes.right;
+  removed = applies.removed ∙ ap (removed_after w) makes.removed;
+}
+
+-- so a delta that fits that page, and makes one that keeps the rules, fits the chain
+pub fits_over : {w : Record} {under : List Record} {old made : Page} → Makes under old → Fits old w → Applies old w made → IsRuled made → is_some (next_row w) ≡ true → FitsOver under w
+fits_over {w} {under} {old} {made} makes fits applies ruled delta = record { delta = delta; page = old; makes = makes; fits = fits; made = made; makes_now = over_makes makes applies; ruled = ruled }

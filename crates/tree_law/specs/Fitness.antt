@@ -1,0 +1,21 @@
+-- What the chains of linked rows are at every moment, and what a row is that a step links.
+use Rattle.std.specs.Prelude.{◌≡◌, ℕ, List, Option, IfSome, Some}
+use Rattle.deltas.specs.declared.record.Record.{Record}
+use Rattle.deltas.specs.Records.{next_row}
+use Rattle.chain_search.specs.Chains.{IsChainFrom}
+use Rattle.chain_search.specs.Discipline.{FitsOn}
+use Rattle.chain_search.specs.Fitted.{IsPageChain}
+use Rattle.tree_law.specs.Owners.{IsChain, Linked, Owners}
+
+-- the chain from each linked row is a page's chain
+abbrev pub AreFitted : Owners → (ℕ → Option Record) → Type 0
+AreFitted o rows = (row : ℕ) → o.row row ≡ Linked → (chain : List Record) → IsChainFrom rows row chain → IsPageChain chain
+
+-- The record of the row fits the chain of the linked row under it; a base has none under it.
+pub record IsAdded (o : Owners) (rows : ℕ → Option Record) (row : ℕ) : Type 0 where
+  pub content : Record
+  pub stands : rows row ≡ Some content
+  pub under : List Record
+  pub is_under : IsChain rows under (next_row content)
+  pub next : IfSome (next_row content) (λ n. o.row n ≡ Linked)
+  pub fits : FitsOn under content
