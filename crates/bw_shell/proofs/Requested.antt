@@ -1,20 +1,22 @@
 -- What fields request for, as a function, is what the grammar says.
-use Rattle.std.proofs.Common.{◌≡◌, ℕ, ◌≤◌, ◌<◌, List, [], ◌∷◌, length, refl, sym, subst, ◌∙◌, arith, ◌⊎◌, inl, inr, Option, Some, None, Result, Ok, Err, true, ◌&&◌, nat_le, IfOk, codes, option_map}
+use Rattle.std.proofs.Common.{◌≡◌, ℕ, ◌≤◌, ◌<◌, List, [], ◌∷◌, length, refl, sym, subst, ◌∙◌, arith, ◌⊎◌, inl, inr, Option, Some, None, Result, Ok, Err, true, cond, ◌&&◌, nat_le, IfOk, codes, option_map}
 use Rattle.std.specs.Option.{option_and_then}
 use Rattle.std.specs.Str.{bytes_eq}
 use Rattle.std.proofs.lemmas.Slice.Eq.{bytes_eq-Decides}
 use Rattle.std.proofs.lemmas.Bool.Decides.{nat_tests}
 use Rattle.bw_model.specs.declared.command.Command.{Command}
 use Rattle.bw_model.specs.declared.command.Command.TheVariants.{Get, Insert, Upsert, Delete}
+use Rattle.bw_model.specs.declared.step.Link.{Link}
+use Rattle.bw_model.specs.declared.step.Link.TheVariants as link
 use Rattle.bw_shell.specs.declared.request.Request.{Request}
-use Rattle.bw_shell.specs.declared.request.Request.TheVariants.{Begin, Turn, Finish, List as ListPairs}
+use Rattle.bw_shell.specs.declared.request.Request.TheVariants.{Begin, Turn, Until, Finish, List as ListPairs}
 use Rattle.bw_shell.specs.declared.token.LineError.{LineError}
 use Rattle.bw_shell.specs.declared.token.LineError.TheVariants.{Malformed, TooLong}
 use Rattle.bw_shell.specs.Token.{Means, token_value}
 use Rattle.bw_shell.specs.Number.{number_of, capped}
 use Rattle.bw_shell.specs.Fields.{fields_of}
-use Rattle.bw_shell.specs.Request.{Says, Asks, IsNumber, SpellsCommand, IsShort}
-use Rattle.bw_shell.specs.Reading.{key_in, pair_in, IsShortPair, command_of, actor_of, begin_of, turn_by, turn_of, finish_of, list_of, asked, GivesRequest}
+use Rattle.bw_shell.specs.Request.{Says, Asks, IsNumber, SpellsCommand, IsShort, word_of}
+use Rattle.bw_shell.specs.Reading.{key_in, pair_in, IsShortPair, command_of, actor_of, begin_of, turn_by, turn_of, link_of, until_of, finish_of, list_of, asked, GivesRequest}
 use Rattle.bw_shell.proofs.Tokens.{chosen, some_is, value_means, means_value}
 
 map_some : {A B : Type 0} (f : A → B) (o : Option A) (y : B) → option_map f o ≡ Some y → (x : A) × (o ≡ Some x) × (f x ≡ y)
@@ -33,6 +35,48 @@ number_is a n h = let m = map_some capped (number_of a) n h in (m.0, m.1, sym m.
 
 is_number : (a : List ℕ) (n : ℕ) → IsNumber a n → actor_of a ≡ Some n
 is_number a n h = rw (h.1, h.2) refl
+
+-- ---- links
+
+-- a test of one word more
+word_is : (w word : List ℕ) (made : Link) (rest : Option Link) (found : Link) → word_of made ≡ Some word → (rest ≡ Some found → word_of found ≡ Some w)
+    → cond (bytes_eq w word) (Some made) rest ≡ Some found → word_of found ≡ Some w
+word_is w word made rest found spelled others h =
+    elim (chosen (bytes_eq w word) (Some made) rest (Some found) h) [
+      | inl p ↦ rw (sym (some_is made found p.1), is_text w word p.0) spelled
+      | inr q ↦ others q.1
+    ]
+
+link_is : (w : List ℕ) (found : Link) → link_of w ≡ Some found → word_of found ≡ Some w
+unfolding link_of
+link_is w found =
+    word_is w (codes "put") link.Put _ found refl
+    (word_is w (codes "delete") link.Delete _ found refl
+    (word_is w (codes "base") link.Base _ found refl
+    (word_is w (codes "split") link.Split _ found refl
+    (word_is w (codes "term") link.Term _ found refl
+    (word_is w (codes "root") link.Root _ found refl
+    (word_is w (codes "hold") link.Hold _ found refl
+    (word_is w (codes "remove") link.Remove _ found refl
+    (word_is w (codes "merge") link.Merge _ found refl
+    (word_is w (codes "unterm") link.Unterm _ found refl
+    (word_is w (codes "clear") link.Clear _ found refl (λ h. cc h)))))))))))
+
+is_link : (w : List ℕ) (link : Link) → word_of link ≡ Some w → link_of w ≡ Some link
+unfolding link_of
+is_link w link.Put h = rw (sym (some_is _ w h)) refl
+is_link w link.Delete h = rw (sym (some_is _ w h)) refl
+is_link w link.Base h = rw (sym (some_is _ w h)) refl
+is_link w link.Split h = rw (sym (some_is _ w h)) refl
+is_link w link.Term h = rw (sym (some_is _ w h)) refl
+is_link w link.Root h = rw (sym (some_is _ w h)) refl
+is_link w link.Hold h = rw (sym (some_is _ w h)) refl
+is_link w link.Remove h = rw (sym (some_is _ w h)) refl
+is_link w link.Merge h = rw (sym (some_is _ w h)) refl
+is_link w link.Unterm h = rw (sym (some_is _ w h)) refl
+is_link w link.Clear h = rw (sym (some_is _ w h)) refl
+is_link w link.Ready h = cc h
+is_link w link.Undo h = cc h
 
 -- ---- commands
 
@@ -131,6 +175,16 @@ turn_is (a ∷ n ∷ []) request h =
     ]
 turn_is (a ∷ n ∷ x ∷ rest) request h = cc h
 
+until_is : (args : List (List ℕ)) (request : Request) → until_of args ≡ Some request → Asks (codes "until" ∷ args) request
+unfolding until_of
+until_is [] request h = cc h
+until_is (a ∷ []) request h = cc h
+until_is (a ∷ w ∷ []) request h =
+    let x = then_some (λ actor. option_map (Until actor) (link_of w)) (actor_of a) request h in
+    let y = map_some (Until x.0) (link_of w) request x.2 in
+    rw (sym y.2) (a, w, refl, number_is a x.0 x.1, link_is w y.0 y.1)
+until_is (a ∷ w ∷ x ∷ rest) request h = cc h
+
 finish_is : (args : List (List ℕ)) (request : Request) → finish_of args ≡ Some request → Asks (codes "finish" ∷ args) request
 unfolding finish_of
 finish_is [] request h = cc h
@@ -150,22 +204,26 @@ asked_is (verb ∷ args) request h =
       | inl p ↦ rw (is_text verb (codes "begin") p.0) (begin_is args request p.1)
       | inr q ↦ elim (chosen (bytes_eq verb (codes "turn")) _ _ (Some request) q.1) [
         | inl p ↦ rw (is_text verb (codes "turn") p.0) (turn_is args request p.1)
-        | inr r ↦ elim (chosen (bytes_eq verb (codes "finish")) _ _ (Some request) r.1) [
-          | inl p ↦ rw (is_text verb (codes "finish") p.0) (finish_is args request p.1)
-          | inr s ↦ elim (chosen (bytes_eq verb (codes "list")) _ _ (Some request) s.1) [
-            | inl p ↦ rw (is_text verb (codes "list") p.0) (list_is args request p.1)
-            | inr n ↦ cc n.1
+        | inr r ↦ elim (chosen (bytes_eq verb (codes "until")) _ _ (Some request) r.1) [
+          | inl p ↦ rw (is_text verb (codes "until") p.0) (until_is args request p.1)
+          | inr s ↦ elim (chosen (bytes_eq verb (codes "finish")) _ _ (Some request) s.1) [
+            | inl p ↦ rw (is_text verb (codes "finish") p.0) (finish_is args request p.1)
+            | inr t ↦ elim (chosen (bytes_eq verb (codes "list")) _ _ (Some request) t.1) [
+              | inl p ↦ rw (is_text verb (codes "list") p.0) (list_is args request p.1)
+              | inr n ↦ cc n.1
+            ]
           ]
         ]
       ]
     ]
 
 pub is_asked : (fs : List (List ℕ)) (request : Request) → Asks fs request → asked fs ≡ Some request
-unfolding asked begin_of turn_of finish_of list_of
+unfolding asked begin_of turn_of until_of finish_of list_of
 is_asked fs (Begin actor command) h = rw (h.2, is_number h.0 actor h.3, is_command h.1 command h.4) refl
 is_asked fs (Turn actor count) h =
     let fits : (nat_le 1 count && nat_le count 100000) ≡ true = grind (arith, nat_tests, h.5, h.6) in
     rw (h.2, is_number h.0 actor h.3, is_number h.1 count h.4, fits) refl
+is_asked fs (Until actor link) h = rw (h.2, is_number h.0 actor h.3, is_link h.1 link h.4) refl
 is_asked fs (Finish actor) h = rw (h.1, is_number h.0 actor h.2) refl
 is_asked fs ListPairs h = rw h refl
 

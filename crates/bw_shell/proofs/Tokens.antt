@@ -156,9 +156,12 @@ printed_means bytes h = at (is_word bytes) refl
 
 -- ---- pairs of digits
 
-pub no_digits : (s : List ℕ) (r : Result (List ℕ) FromHexError) → decode_of s ≡ r → list_all is_hex_digit s ≡ false → result_ok r ≡ None
-no_digits s (Ok bytes) e h = cc (sym (list_all-from_AllPass is_hex_digit s (decode_of-ok s bytes e).1) ∙ h)
-no_digits s (Err x) e h = refl
+pub no_digits : (s : List ℕ) → list_all is_hex_digit s ≡ false → result_ok (decode_of s) ≡ None
+no_digits s h = at (decode_of s) refl
+  where
+    at : (r : Result (List ℕ) FromHexError) → decode_of s ≡ r → result_ok r ≡ None
+    at (Ok bytes) e = cc (sym (list_all-from_AllPass is_hex_digit s (decode_of-ok s bytes e).1) ∙ h)
+    at (Err x) e = refl
 
 pub odd_digits : (s : List ℕ) → length s % 2 ≡ 1 → result_ok (decode_of s) ≡ None
 odd_digits s h = rw (decode_of-odd s h) refl

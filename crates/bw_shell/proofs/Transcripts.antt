@@ -1,20 +1,29 @@
 -- Laws of transcripts.
-use Rattle.std.proofs.Common.{◌≡◌, ℕ, ◌+◌, ◌<◌, List, [], ◌∷◌, ◌++◌, length, refl, sym, ap, ◌∙◌, arith, add-one, inl, inr, Bool, true, false, None}
+use Rattle.std.proofs.Common.{◌≡◌, ℕ, ◌+◌, ◌<◌, List, [], ◌∷◌, ◌++◌, length, refl, sym, ap, ◌∙◌, arith, add-one, inl, inr, Bool, true, false, Option, Some, None}
 use Rattle.std.proofs.lemmas.List.{append_assoc, append-nil}
-use Rattle.bw_shell.specs.Turns.{Trace, Takes}
-use Rattle.chain_search.specs.declared.trace.Turn.TheVariants.{Step}
-use Rattle.bw_shell.specs.Request.{Says, IsShort}
+use Rattle.bw_model.specs.declared.step.Link.{Link}
+use Rattle.bw_shell.specs.Turns.{Trace}
+use Rattle.bw_shell.specs.Request.{Says, IsShort, until_done}
 use Rattle.bw_shell.specs.declared.request.Request.{Request}
-use Rattle.bw_shell.specs.Text.{refused_text}
-use Rattle.bw_shell.specs.Transcript.{StepsOn, Performs, RefusesLine, Transcript, RequestTold}
+use Rattle.bw_shell.specs.declared.turns.Progress.{Progress}
+use Rattle.bw_shell.specs.declared.turns.Progress.TheVariants.{GoesOn}
+use Rattle.bw_shell.specs.Text.{finished_text, refused_text}
+use Rattle.bw_shell.specs.Transcript.{StepsOn, TakesOne, TakesUpTo, Performs, RefusesLine, Transcript, RequestTold}
 
-pub no_steps : (m : Trace) (actor : ℕ) → StepsOn m actor 0 m
+pub no_steps : (until : Option Link) (m : Trace) (actor : ℕ) → StepsOn until m actor 0 m
 unfolding StepsOn
-no_steps m actor = refl
+no_steps until m actor = refl
 
-pub steps_more : (m : Trace) (actor n : ℕ) (mid after : Trace) → StepsOn m actor n mid → Takes mid (Step actor) None after → StepsOn m actor (n + 1) after
+pub steps_more : (until : Option Link) (m : Trace) (actor n : ℕ) (mid after : Trace) → StepsOn until m actor n mid → TakesOne until mid actor GoesOn after
+    → StepsOn until m actor (n + 1) after
 unfolding StepsOn
-steps_more m actor n mid after s t = rw (add-one n) (mid, s, t)
+steps_more until m actor n mid after s t = rw (add-one n) (mid, s, t)
+
+-- what `until` and `finish` tell
+pub until_told : (n : ℕ) (m : Trace) (actor : ℕ) (until : Option Link) (after : Trace) (progress : Progress) → TakesUpTo until m actor 100000 progress after
+    → RequestTold n m (until_done actor until) after (finished_text actor progress) false
+until_told n m actor None after progress taken = (progress, taken, refl)
+until_told n m actor (Some link) after progress taken = (progress, taken, refl)
 
 -- ---- one line
 

@@ -49,9 +49,6 @@ no_items (x ∷ xs) h = absurd (omega arith)
 pub one_else : (status : ℕ) (P : Type 0) → status ≡ 1 → (P → ⊥) → (status ≡ 0) ↔ P
 one_else status P one no_p = (λ e. absurd (omega arith), λ p. absurd (no_p p))
 
-pub zero_then : (status : ℕ) (P : Type 0) → status ≡ 0 → P → (status ≡ 0) ↔ P
-zero_then status P zero_is p = (λ e. p, λ q. zero_is)
-
 -- all of a text that began with nothing held back, and has ended so
 pub writes_whole : (a b : Sink) (t : List ℕ) → Shows a b (t ++ []) → a.failed ≡ false → a.held ≡ [] → (b.failed ≡ false → b.held ≡ [])
     → Writes a.contents b.contents t (not b.failed)

@@ -4,8 +4,10 @@ use Rattle.std.specs.Option.{option_and_then}
 use Rattle.std.specs.Str.{bytes_eq}
 use Rattle.bw_model.specs.declared.command.Command.{Command}
 use Rattle.bw_model.specs.declared.command.Command.TheVariants.{Get, Insert, Upsert, Delete}
+use Rattle.bw_model.specs.declared.step.Link.{Link}
+use Rattle.bw_model.specs.declared.step.Link.TheVariants as link
 use Rattle.bw_shell.specs.declared.request.Request.{Request}
-use Rattle.bw_shell.specs.declared.request.Request.TheVariants.{Begin, Turn, Finish, List as ListPairs}
+use Rattle.bw_shell.specs.declared.request.Request.TheVariants.{Begin, Turn, Until, Finish, List as ListPairs}
 use Rattle.bw_shell.specs.declared.token.LineError.{LineError}
 use Rattle.bw_shell.specs.declared.token.LineError.TheVariants.{Malformed, TooLong}
 use Rattle.bw_shell.specs.Token.{token_value}
@@ -51,6 +53,28 @@ turn_of (a ∷ []) = None
 turn_of (a ∷ n ∷ []) = option_and_then (λ actor. option_and_then (turn_by actor) (actor_of n)) (actor_of a)
 turn_of (a ∷ n ∷ x ∷ rest) = None
 
+-- the link that a word stands for
+unfoldable pub link_of : List ℕ → Option Link
+link_of word =
+    if bytes_eq word (codes "put") then Some link.Put
+    else if bytes_eq word (codes "delete") then Some link.Delete
+    else if bytes_eq word (codes "base") then Some link.Base
+    else if bytes_eq word (codes "split") then Some link.Split
+    else if bytes_eq word (codes "term") then Some link.Term
+    else if bytes_eq word (codes "root") then Some link.Root
+    else if bytes_eq word (codes "hold") then Some link.Hold
+    else if bytes_eq word (codes "remove") then Some link.Remove
+    else if bytes_eq word (codes "merge") then Some link.Merge
+    else if bytes_eq word (codes "unterm") then Some link.Unterm
+    else if bytes_eq word (codes "clear") then Some link.Clear
+    else None
+
+unfoldable pub until_of : List (List ℕ) → Option Request
+until_of [] = None
+until_of (a ∷ []) = None
+until_of (a ∷ w ∷ []) = option_and_then (λ actor. option_map (Until actor) (link_of w)) (actor_of a)
+until_of (a ∷ w ∷ x ∷ rest) = None
+
 unfoldable pub finish_of : List (List ℕ) → Option Request
 finish_of [] = None
 finish_of (a ∷ []) = option_map Finish (actor_of a)
@@ -65,6 +89,7 @@ asked [] = None
 asked (verb ∷ args) =
     if bytes_eq verb (codes "begin") then begin_of args
     else if bytes_eq verb (codes "turn") then turn_of args
+    else if bytes_eq verb (codes "until") then until_of args
     else if bytes_eq verb (codes "finish") then finish_of args
     else if bytes_eq verb (codes "list") then list_of args
     else None

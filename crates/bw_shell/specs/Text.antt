@@ -1,8 +1,10 @@
 -- What is printed.
-use Rattle.std.specs.Prelude.{ℕ, List, [], ◌++◌, length, codes, decimal, Option, Some, None}
+use Rattle.std.specs.Prelude.{ℕ, List, [], ◌++◌, length, codes, decimal}
 use Rattle.std.specs.List.{flat_map}
 use Rattle.bw_model.specs.declared.command.Reply.{Reply}
 use Rattle.bw_model.specs.declared.command.Reply.TheVariants.{Value, None as NoValue, Inserted, Exists, Set, Replaced, Deleted, Absent, Full}
+use Rattle.bw_shell.specs.declared.turns.Progress.{Progress}
+use Rattle.bw_shell.specs.declared.turns.Progress.TheVariants.{GoesOn, Linked, Done}
 use Rattle.bw_shell.specs.Token.{printed}
 
 -- a reply, as it stands behind its actor
@@ -18,14 +20,16 @@ reply_text Absent = codes " absent\n"
 reply_text Full = codes " full\n"
 
 -- what a `turn` prints
-abbrev pub turned_text : ℕ → Option Reply → List ℕ
-turned_text actor None = []
-turned_text actor (Some reply) = decimal actor ++ reply_text reply
+abbrev pub turned_text : ℕ → Progress → List ℕ
+turned_text actor GoesOn = []
+turned_text actor Linked = []
+turned_text actor (Done reply) = decimal actor ++ reply_text reply
 
--- what a `finish` prints
-abbrev pub finished_text : ℕ → Option Reply → List ℕ
-finished_text actor None = decimal actor ++ codes " unfinished\n"
-finished_text actor (Some reply) = decimal actor ++ reply_text reply
+-- what an `until` or a `finish` prints
+abbrev pub finished_text : ℕ → Progress → List ℕ
+finished_text actor GoesOn = decimal actor ++ codes " unfinished\n"
+finished_text actor Linked = []
+finished_text actor (Done reply) = decimal actor ++ reply_text reply
 
 abbrev pub pair_text : List ℕ × List ℕ → List ℕ
 pair_text pair = printed pair.0 ++ codes " " ++ printed pair.1 ++ codes "\n"

@@ -1,40 +1,57 @@
 -- A text is a transcript of lines, for a trace of the core.
 use Rattle.std.specs.Prelude.{◌≡◌, ℕ, ◌+◌, ◌<◌, suc, zero, ◌⊎◌, List, [], ◌∷◌, ◌++◌, Bool, true, false, Option, Some, None, Result, Ok, Err}
-use Rattle.bw_model.specs.declared.command.Reply.{Reply}
+use Rattle.bw_model.specs.declared.step.Link.{Link}
 use Rattle.chain_search.specs.declared.trace.Turn.TheVariants.{Begin as BeginTurn, Step}
 use Rattle.step_core.specs.Listed.{IsListing}
+use Rattle.step_core.specs.declared.event.Event.{Event}
+use Rattle.step_core.specs.declared.event.Event.TheVariants as event
 use Rattle.bw_shell.specs.Request.{Says, IsShort}
 use Rattle.bw_shell.specs.declared.request.Request.{Request}
-use Rattle.bw_shell.specs.declared.request.Request.TheVariants.{Begin, Turn, Finish, List as ListPairs}
+use Rattle.bw_shell.specs.declared.request.Request.TheVariants.{Begin, Turn, Until, Finish, List as ListPairs}
+use Rattle.bw_shell.specs.declared.turns.Progress.{Progress}
+use Rattle.bw_shell.specs.declared.turns.Progress.TheVariants.{GoesOn, Linked, Done}
 use Rattle.bw_shell.specs.Text.{turned_text, finished_text, listing_text, refused_text}
 use Rattle.bw_shell.specs.Turns.{Trace, IsOneMap, Takes, Refuses}
 
--- the actor took so many turns, and none of them ended its operation
-unfoldable pub StepsOn : Trace → ℕ → ℕ → Trace → Type 0
-StepsOn before actor zero after = after ≡ before
-StepsOn before actor (suc n) after = (mid : Trace) × StepsOn before actor n mid × Takes mid (Step actor) None after
+-- What a turn comes to, where turns are to stop at an exchange that won with the link, if one is given: the operation goes on, and
+-- this was no such exchange; or it was one; or the operation is done.
+abbrev pub ComesTo : Option Link → Event → Progress → Type 0
+ComesTo until told GoesOn = (made : Option Link) × (told ≡ event.Stepped made) × ((link : Link) → until ≡ Some link → made ≡ Some link → ⊥)
+ComesTo until told Linked = (link : Link) × (until ≡ Some link) × (told ≡ event.Stepped (Some link))
+ComesTo until told (Done reply) = told ≡ event.Done reply
 
--- the actor took so many turns, fewer if it was done with this reply
-abbrev pub TakesUpTo : Trace → ℕ → ℕ → Option Reply → Trace → Type 0
-TakesUpTo before actor limit None after = StepsOn before actor limit after
-TakesUpTo before actor limit (Some reply) after = (n : ℕ) × (n < limit) × (mid : Trace) × StepsOn before actor n mid × Takes mid (Step actor) (Some reply) after
+-- the actor took a turn that comes to this
+abbrev pub TakesOne : Option Link → Trace → ℕ → Progress → Trace → Type 0
+TakesOne until before actor progress after = (event : Event) × Takes before (Step actor) event after × ComesTo until event progress
+
+-- the actor took so many turns, and none of them ended its operation or stops there
+unfoldable pub StepsOn : Option Link → Trace → ℕ → ℕ → Trace → Type 0
+StepsOn until before actor zero after = after ≡ before
+StepsOn until before actor (suc n) after = (mid : Trace) × StepsOn until before actor n mid × TakesOne until mid actor GoesOn after
+
+-- the actor took so many turns, fewer if one of them ended its operation or stops there
+abbrev pub TakesUpTo : Option Link → Trace → ℕ → ℕ → Progress → Trace → Type 0
+TakesUpTo until before actor limit GoesOn after = StepsOn until before actor limit after
+TakesUpTo until before actor limit progress after = (n : ℕ) × (n < limit) × (mid : Trace) × StepsOn until before actor n mid × TakesOne until mid actor progress after
 
 -- fewer turns than the limit were taken, and the next is refused
-abbrev pub RefusedWithin : Trace → ℕ → ℕ → ℕ → Trace → Type 0
-RefusedWithin before actor limit code after = (n : ℕ) × (n < limit) × StepsOn before actor n after × Refuses after (Step actor) code
+abbrev pub RefusedWithin : Option Link → Trace → ℕ → ℕ → ℕ → Trace → Type 0
+RefusedWithin until before actor limit code after = (n : ℕ) × (n < limit) × StepsOn until before actor n after × Refuses after (Step actor) code
 
 -- what is asked for is done, and this is printed; a listing has exactly the pairs that stand at that moment
 abbrev pub Performs : Trace → Request → Trace → List ℕ → Type 0
-Performs before (Begin actor command) after text = Takes before (BeginTurn actor command) None after × (text ≡ [])
-Performs before (Turn actor count) after text = (reply : Option Reply) × TakesUpTo before actor count reply after × (text ≡ turned_text actor reply)
-Performs before (Finish actor) after text = (reply : Option Reply) × TakesUpTo before actor 100000 reply after × (text ≡ finished_text actor reply)
+Performs before (Begin actor command) after text = Takes before (BeginTurn actor command) event.Began after × (text ≡ [])
+Performs before (Turn actor count) after text = (progress : Progress) × TakesUpTo None before actor count progress after × (text ≡ turned_text actor progress)
+Performs before (Until actor link) after text = (progress : Progress) × TakesUpTo (Some link) before actor 100000 progress after × (text ≡ finished_text actor progress)
+Performs before (Finish actor) after text = (progress : Progress) × TakesUpTo None before actor 100000 progress after × (text ≡ finished_text actor progress)
 Performs before ListPairs after text = (after ≡ before) × IsOneMap before × (pairs : List (List ℕ × List ℕ)) × IsListing before.limits before.entries pairs × (text ≡ listing_text pairs)
 
 -- what is asked for is refused
 abbrev pub RefusesRequest : Trace → Request → ℕ → Trace → Type 0
 RefusesRequest before (Begin actor command) code after = Refuses before (BeginTurn actor command) code × (after ≡ before)
-RefusesRequest before (Turn actor count) code after = RefusedWithin before actor count code after
-RefusesRequest before (Finish actor) code after = RefusedWithin before actor 100000 code after
+RefusesRequest before (Turn actor count) code after = RefusedWithin None before actor count code after
+RefusesRequest before (Until actor link) code after = RefusedWithin (Some link) before actor 100000 code after
+RefusesRequest before (Finish actor) code after = RefusedWithin None before actor 100000 code after
 RefusesRequest before ListPairs code after = (code ≡ 7) × (after ≡ before)
 
 -- the line is refused with this code: 11 outside the grammar, then 1 for a key or value that is too long, then what the core refuses
@@ -54,14 +71,14 @@ Transcript n before ((b ∷ bs) ∷ lines) after text refused =
     ⊎ ((code : ℕ) × RefusesLine before (b ∷ bs) code after × (text ≡ refused_text n code) × (refused ≡ true))
 
 -- what one turn answers
-abbrev pub StepTold : Trace → ℕ → Result (Option Reply) ℕ → Trace → Type 0
-StepTold before actor (Ok reply) after = Takes before (Step actor) reply after
-StepTold before actor (Err code) after = Refuses before (Step actor) code × (after ≡ before)
+abbrev pub StepTold : Option Link → Trace → ℕ → Result Progress ℕ → Trace → Type 0
+StepTold until before actor (Ok progress) after = TakesOne until before actor progress after
+StepTold until before actor (Err code) after = Refuses before (Step actor) code × (after ≡ before)
 
 -- what up to so many turns answer
-abbrev pub TurnsTold : Trace → ℕ → ℕ → Result (Option Reply) ℕ → Trace → Type 0
-TurnsTold before actor limit (Ok reply) after = TakesUpTo before actor limit reply after
-TurnsTold before actor limit (Err code) after = RefusedWithin before actor limit code after
+abbrev pub TurnsTold : Option Link → Trace → ℕ → ℕ → Result Progress ℕ → Trace → Type 0
+TurnsTold until before actor limit (Ok progress) after = TakesUpTo until before actor limit progress after
+TurnsTold until before actor limit (Err code) after = RefusedWithin until before actor limit code after
 
 -- what is printed for what is asked on line n, and whether that is a refusal
 abbrev pub RequestTold : ℕ → Trace → Request → Trace → List ℕ → Bool → Type 0

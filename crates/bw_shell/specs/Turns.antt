@@ -1,14 +1,13 @@
 -- Turns of a core, as its trace shows them, and why a turn is refused.
 use Rattle.std.specs.Prelude.{◌≡◌, ℕ, ◌⊎◌, List, [], ◌∷◌, ◌++◌, map, nat_lt, is_some, if◌then◌else◌, Option, None, Some}
-use Rattle.bw_model.specs.declared.command.Reply.{Reply}
 use Rattle.bw_model.specs.declared.limits.Limits.{Limits}
 use Rattle.chain_search.specs.declared.trace.Entry.{Entry}
-use Rattle.chain_search.specs.declared.trace.Entry.TheVariants as entry
 use Rattle.chain_search.specs.declared.trace.Turn.{Turn}
 use Rattle.chain_search.specs.declared.trace.Turn.TheVariants.{Begin, Step}
-use Rattle.chain_search.specs.Trace.{command_of, turn_of}
+use Rattle.chain_search.specs.Trace.{command_of, memory_of, turn_of}
 use Rattle.op_machine.specs.Linearized.{IsLinearized}
-use Rattle.step_core.specs.Turns.{Core}
+use Rattle.step_core.specs.Turns.{Core, IsEventOf}
+use Rattle.step_core.specs.declared.event.Event.{Event}
 use Rattle.step_core.specs.declared.event.RunError.{RunError}
 use Rattle.step_core.specs.declared.event.RunError.TheVariants.{NoActor, Unfinished, NoOperation, Memory}
 
@@ -40,17 +39,12 @@ code_of (Unfinished n) = 5
 code_of (NoOperation n) = 6
 code_of (Memory n) = 7
 
--- the reply at which an entry ends its operation
-abbrev pub reply_in : Entry → Option Reply
-reply_in (entry.Begin actor command) = None
-reply_in (entry.Step actor step answer reply) = reply
-
--- The turn isn't refused, and adds its entry to the trace, with this reply where its operation is done.
-pub record Takes (before : Trace) (turn : Turn) (reply : Option Reply) (after : Trace) : Type 0 where
+-- The turn isn't refused, and adds its entry to the trace. The event is the entry's: its reply, or the link of its exchange if that won.
+pub record Takes (before : Trace) (turn : Turn) (event : Event) (after : Trace) : Type 0 where
   pub free : refusal_of before turn ≡ None
   pub entry : Entry
   pub of_turn : turn_of entry ≡ turn
-  pub replies : reply_in entry ≡ reply
+  pub event_of : IsEventOf (memory_of before.limits before.entries) entry event
   pub adds : after.entries ≡ before.entries ++ entry ∷ []
   pub limits : after.limits ≡ before.limits
 

@@ -3,6 +3,8 @@
 
 mod command_line;
 mod fields;
+#[cfg(test)]
+mod interleaved;
 mod number;
 mod over_std;
 mod pieces;

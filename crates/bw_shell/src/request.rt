@@ -5,19 +5,20 @@ ghost use Rattle.std.specs.Option.{option_copied};
 ghost use Rattle.bw_shell.specs.Fields.{fields_in, fields_of};
 ghost use Rattle.bw_shell.specs.Gives.{Gives};
 ghost use Rattle.bw_shell.specs.Request.{Says, IsShort};
-ghost use Rattle.bw_shell.specs.Reading.{GivesCommand, GivesPair, GivesRequest, key_in, pair_in, command_of, begin_of, turn_of, finish_of, list_of, asked};
+ghost use Rattle.bw_shell.specs.Reading.{GivesCommand, GivesPair, GivesRequest, key_in, pair_in, command_of, begin_of, turn_of, link_of, until_of, finish_of, list_of, asked};
 ghost use Rattle.bw_shell.specs.declared.request.Request.{Request as RequestSeen};
 
 use crate::fields::next_field;
 use crate::number::read_number;
 use crate::token::{LineError, key_of, value_of};
-use bw_model::{Command, Key, Value};
+use bw_model::{Command, Key, Link, Value};
 
 /// What a line asks for.
 #[derive(Drop)]
 pub enum Request {
     Begin(u64, Command),
     Turn(u64, u64),
+    Until(u64, Link),
     Finish(u64),
     List,
 }
@@ -135,6 +136,68 @@ fn read_turn(args: Option<&[u8]>) -> Result<Request, LineError>
     Ok(Request::Turn(actor, count))
 }
 
+#[tactic(auto, unfolding(crate::specs::Reading::link_of))]
+fn read_link(word: &[u8]) -> Option<Link>
+    ensures { result ≡ link_of word.now }
+{
+    if word == b"put".as_slice() {
+        return Some(Link::Put);
+    }
+    if word == b"delete".as_slice() {
+        return Some(Link::Delete);
+    }
+    if word == b"base".as_slice() {
+        return Some(Link::Base);
+    }
+    if word == b"split".as_slice() {
+        return Some(Link::Split);
+    }
+    if word == b"term".as_slice() {
+        return Some(Link::Term);
+    }
+    if word == b"root".as_slice() {
+        return Some(Link::Root);
+    }
+    if word == b"hold".as_slice() {
+        return Some(Link::Hold);
+    }
+    if word == b"remove".as_slice() {
+        return Some(Link::Remove);
+    }
+    if word == b"merge".as_slice() {
+        return Some(Link::Merge);
+    }
+    if word == b"unterm".as_slice() {
+        return Some(Link::Unterm);
+    }
+    if word == b"clear".as_slice() {
+        return Some(Link::Clear);
+    }
+    None
+}
+
+#[tactic(auto, unfolding(crate::specs::Reading::until_of))]
+fn read_until(args: Option<&[u8]>) -> Result<Request, LineError>
+    ensures { GivesRequest result (until_of (fields_in (option_copied args.entry))) }
+{
+    let Some((actor, rest)) = next_field(args) else {
+        return Err(LineError::Malformed);
+    };
+    let Some((word, rest)) = next_field(rest) else {
+        return Err(LineError::Malformed);
+    };
+    if next_field(rest).is_some() {
+        return Err(LineError::Malformed);
+    }
+    let Some(actor) = read_number(actor) else {
+        return Err(LineError::Malformed);
+    };
+    let Some(link) = read_link(word) else {
+        return Err(LineError::Malformed);
+    };
+    Ok(Request::Until(actor, link))
+}
+
 #[tactic(auto, unfolding(crate::specs::Reading::finish_of))]
 fn read_finish(args: Option<&[u8]>) -> Result<Request, LineError>
     ensures { GivesRequest result (finish_of (fields_in (option_copied args.entry))) }
@@ -173,6 +236,9 @@ fn read_fields(line: &[u8]) -> Result<Request, LineError>
     }
     if verb == b"turn".as_slice() {
         return read_turn(args);
+    }
+    if verb == b"until".as_slice() {
+        return read_until(args);
     }
     if verb == b"finish".as_slice() {
         return read_finish(args);

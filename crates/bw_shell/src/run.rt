@@ -1,6 +1,7 @@
 //! One line.
 
 ghost use Rattle.std.specs.Prelude.{◌≡◌};
+ghost use Rattle.bw_shell.specs.Request.{until_done};
 ghost use Rattle.bw_shell.specs.Turns.{seen};
 ghost use Rattle.bw_shell.specs.Weave.{RequestRuns, LineRuns};
 
@@ -8,12 +9,12 @@ use crate::request::{Request, parse};
 use crate::streams::Output;
 use crate::texts::{show_listing, show_number, show_refused, show_reply};
 use crate::token::LineError;
-use crate::turns::{begin, pairs_of, steps};
-use bw_model::Command;
+use crate::turns::{Progress, begin, pairs_of, steps};
+use bw_model::{Command, Link};
 use std::alloc::Global;
 use step_core::Core;
 
-/// How many turns `finish` takes at most.
+/// How many turns `until` and `finish` take at most.
 const MANY: u64 = 100_000;
 
 fn run_begin<O: Output>(
@@ -37,9 +38,10 @@ fn run_begin<O: Output>(
 fn run_turn<O: Output>(core: &mut Core, number: u64, actor: u64, count: u64, out: &mut O) -> bool
     ensures { RequestRuns number (seen core.old) (Request.Turn actor count) (seen core.new) (O.state out.old) (O.state out.new) result }
 {
-    match steps(core, actor, count) {
-        Ok(None) => false,
-        Ok(Some(reply)) => {
+    match steps(core, actor, None, count) {
+        Ok(Progress::GoesOn) => false,
+        Ok(Progress::Linked) => false,
+        Ok(Progress::Done(reply)) => {
             show_number(out, actor);
             show_reply(out, &reply);
             false
@@ -51,16 +53,24 @@ fn run_turn<O: Output>(core: &mut Core, number: u64, actor: u64, count: u64, out
     }
 }
 
-fn run_finish<O: Output>(core: &mut Core, number: u64, actor: u64, out: &mut O) -> bool
-    ensures { RequestRuns number (seen core.old) (Request.Finish actor) (seen core.new) (O.state out.old) (O.state out.new) result }
+// Takes turns until an exchange won with the link, if one is given, or the operation is done.
+fn run_until<O: Output>(
+    core: &mut Core,
+    number: u64,
+    actor: u64,
+    link: Option<Link>,
+    out: &mut O,
+) -> bool
+    ensures { RequestRuns number (seen core.old) (until_done actor link) (seen core.new) (O.state out.old) (O.state out.new) result }
 {
-    match steps(core, actor, MANY) {
-        Ok(None) => {
+    match steps(core, actor, link, MANY) {
+        Ok(Progress::GoesOn) => {
             show_number(out, actor);
             out.show(b" unfinished\n");
             false
         }
-        Ok(Some(reply)) => {
+        Ok(Progress::Linked) => false,
+        Ok(Progress::Done(reply)) => {
             show_number(out, actor);
             show_reply(out, &reply);
             false
@@ -99,7 +109,8 @@ fn run_request<O: Output>(
     match request {
         Request::Begin(actor, command) => run_begin(core, number, actor, command, out),
         Request::Turn(actor, count) => run_turn(core, number, actor, count, out),
-        Request::Finish(actor) => run_finish(core, number, actor, out),
+        Request::Until(actor, link) => run_until(core, number, actor, Some(link), out),
+        Request::Finish(actor) => run_until(core, number, actor, None, out),
         Request::List => run_list(alloc, core, number, out),
     }
 }

@@ -58,9 +58,9 @@ const NEVER: u32 = 1_000_000;
 
 // What a run answered, what it wrote, and by how many writes.
 #[derive(Drop)]
-struct Woven {
-    status: u8,
-    output: Vec<u8>,
+pub struct Woven {
+    pub status: u8,
+    pub output: Vec<u8>,
     writes: u32,
 }
 
@@ -81,7 +81,7 @@ fn run(alloc: Global, limits: Limits, input: Choppy<'_>, size: usize, before_fau
 }
 
 // A run in which nothing fails.
-fn whole(alloc: Global, limits: Limits, input: &[u8]) -> Woven {
+pub fn whole(alloc: Global, limits: Limits, input: &[u8]) -> Woven {
     let input = Choppy {
         bytes: input,
         size: 4096,
@@ -210,7 +210,6 @@ fn odd_lines(rt: HostRuntime) {
         (b"begin 0 delete a b\n", b"refused line 1: 11\n", 1),
         (b"begin 0 page a\n", b"refused line 1: 11\n", 1),
         (b"begin 0 tidy a\n", b"refused line 1: 11\n", 1),
-        (b"until 0 put\n", b"refused line 1: 11\n", 1),
         (b"mix 1 2\n", b"refused line 1: 11\n", 1),
         (
             b"begin 0 insert =00fF =3d61\nfinish 0\nbegin 1 insert =6B k\nfinish 1\nlist\n",
@@ -221,22 +220,88 @@ fn odd_lines(rt: HostRuntime) {
     agree(&rt, rt.alloc(), rows);
 }
 
-#[test]
-fn a_page_is_consolidated(rt: HostRuntime) {
-    let input =
-        b"begin 0 insert k01 v01\nfinish 0\nbegin 0 insert k02 v02\nfinish 0\nbegin 0 insert k03 v03\nfinish 0\nbegin 0 insert k04 v04\nfinish 0\nbegin 0 insert k05 v05\nfinish 0\nbegin 0 insert k06 v06\nfinish 0\nbegin 0 insert k07 v07\nfinish 0\nbegin 0 insert k08 v08\nfinish 0\nbegin 0 insert k09 v09\nturn 0 24\nturn 0 1\nbegin 0 insert k10 v10\nturn 0 10\nturn 0 1\nlist\n";
-    let output =
-        b"0 inserted\n0 inserted\n0 inserted\n0 inserted\n0 inserted\n0 inserted\n0 inserted\n0 inserted\n0 inserted\n0 inserted\npairs 10\nk01 v01\nk02 v02\nk03 v03\nk04 v04\nk05 v05\nk06 v06\nk07 v07\nk08 v08\nk09 v09\nk10 v10\n";
-    agree(&rt, rt.alloc(), &[(input, output, 0)]);
+// Runs lines after those that insert the first keys: k01, k02 and so on, with the values v01, v02. They print this, and then the
+// listing of the first keys up to a number.
+fn after_inserts(
+    rt: &impl Abort,
+    alloc: Global,
+    count: u32,
+    lines: &str,
+    printed: &str,
+    listed: u32,
+) -> Result<(), Fail> {
+    let mut input = String::new(alloc);
+    let mut output = String::new(alloc);
+    for n in 1..=count {
+        writeln!(input, "begin 0 insert k{n:02} v{n:02}\nfinish 0")?;
+        writeln!(output, "0 inserted")?;
+    }
+    writeln!(input, "{lines}list")?;
+    writeln!(output, "{printed}pairs {listed}")?;
+    for n in 1..=listed {
+        writeln!(output, "k{n:02} v{n:02}")?;
+    }
+    let woven = whole(alloc, limits(rt), input.as_bytes());
+    assert_eq!(rt; woven.output.as_slice(), output.as_bytes());
+    assert_eq!(rt; woven.status, 0);
+    Ok(())
 }
 
 #[test]
-fn a_full_page(rt: HostRuntime) {
-    let input =
-        b"begin 0 insert k01 v01\nfinish 0\nbegin 0 insert k02 v02\nfinish 0\nbegin 0 insert k03 v03\nfinish 0\nbegin 0 insert k04 v04\nfinish 0\nbegin 0 insert k05 v05\nfinish 0\nbegin 0 insert k06 v06\nfinish 0\nbegin 0 insert k07 v07\nfinish 0\nbegin 0 insert k08 v08\nfinish 0\nbegin 0 insert k09 v09\nfinish 0\nbegin 0 insert k10 v10\nfinish 0\nbegin 0 insert k11 v11\nfinish 0\nbegin 0 insert k12 v12\nfinish 0\nbegin 0 insert k13 v13\nfinish 0\nbegin 0 insert k14 v14\nfinish 0\nbegin 0 insert k15 v15\nfinish 0\nbegin 0 insert k16 v16\nfinish 0\nbegin 0 insert k17 v17\nfinish 0\nbegin 0 delete k01\nfinish 0\nbegin 0 get k08\nfinish 0\nlist\n";
-    let output =
-        b"0 inserted\n0 inserted\n0 inserted\n0 inserted\n0 inserted\n0 inserted\n0 inserted\n0 inserted\n0 inserted\n0 inserted\n0 inserted\n0 inserted\n0 inserted\n0 inserted\n0 inserted\n0 inserted\n0 full\n0 full\n0 value v08\npairs 16\nk01 v01\nk02 v02\nk03 v03\nk04 v04\nk05 v05\nk06 v06\nk07 v07\nk08 v08\nk09 v09\nk10 v10\nk11 v11\nk12 v12\nk13 v13\nk14 v14\nk15 v15\nk16 v16\n";
-    agree(&rt, rt.alloc(), &[(input, output, 0)]);
+fn a_page_is_consolidated(rt: HostRuntime) -> Result<(), Fail> {
+    for turns in ["turn 0 24\nturn 0 1", "until 0 base\nfinish 0"] {
+        let lines = format!(in rt.alloc();
+            "begin 0 insert k09 v09\n{turns}\nbegin 0 insert k10 v10\nturn 0 10\nturn 0 1\n"
+        )?;
+        after_inserts(
+            &rt,
+            rt.alloc(),
+            8,
+            lines.as_str(),
+            "0 inserted\n0 inserted\n",
+            10,
+        )?;
+    }
+    Ok(())
+}
+
+#[test]
+fn a_full_page(rt: HostRuntime) -> Result<(), Fail> {
+    let lines = "begin 0 insert k17 v17\nuntil 0 base\nfinish 0\n";
+    after_inserts(&rt, rt.alloc(), 16, lines, "0 full\n", 16)?;
+    let lines = "begin 0 delete k01\nfinish 0\nbegin 0 get k08\nfinish 0\n";
+    after_inserts(&rt, rt.alloc(), 16, lines, "0 full\n0 value v08\n", 16)
+}
+
+#[test]
+fn until_a_link(rt: HostRuntime) -> Result<(), Fail> {
+    let rows: Rows<'_> = &[
+        (
+            b"begin 0 insert a 1\nuntil 0 put\nlist\nturn 0 1\n",
+            b"pairs 1\na 1\n0 inserted\n",
+            0,
+        ),
+        (
+            b"begin 0 insert a 1\nuntil 0 delete\nbegin 1 delete a\nuntil 1 delete\nlist\nuntil 1 delete\n",
+            b"0 inserted\npairs 0\n1 deleted 1\n",
+            0,
+        ),
+        (b"until 0 put\n", b"refused line 1: 6\n", 1),
+        (b"until 2 put\n", b"refused line 1: 4\n", 1),
+        (b"until 0\n", b"refused line 1: 11\n", 1),
+        (b"until 0 put put\n", b"refused line 1: 11\n", 1),
+        (b"until 0 PUT\n", b"refused line 1: 11\n", 1),
+        (b"until 0 ready\n", b"refused line 1: 11\n", 1),
+        (b"until 0 undo\n", b"refused line 1: 11\n", 1),
+    ];
+    agree(&rt, rt.alloc(), rows);
+    let words = "put delete base split term root hold remove merge unterm clear";
+    for word in words.split(' ') {
+        let input = format!(in rt.alloc(); "begin 0 get a\nuntil 0 {word}\n")?;
+        let woven = whole(rt.alloc(), limits(&rt), input.as_bytes());
+        assert_eq!(rt; woven.output.as_slice(), b"0 none\n".as_slice(), "{word}");
+    }
+    Ok(())
 }
 
 // Fifty-six updates and six consolidations use the 62 free rows; the next operation needs a row for a seventh one.

@@ -48,6 +48,7 @@ pub fn is_word(bytes: &[u8]) -> bool
 }
 
 // The bytes that pairs of digits spell.
+#[tactic(auto, using(crate::proofs::Tokens::no_digits, crate::proofs::Tokens::long_digits))]
 fn read_digits(digits: &[u8]) -> Result<Key, LineError>
     ensures { Gives result (result_ok (decode_of digits.now)) }
 {

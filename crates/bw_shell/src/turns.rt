@@ -1,14 +1,25 @@
 //! Turns of the core.
 
-ghost use Rattle.std.specs.Prelude.{◌≡◌, None, IfErr, IfOk, OnOk};
+ghost use Rattle.std.specs.Prelude.{◌≡◌, IfErr, IfOk, OnOk};
 ghost use Rattle.step_core.specs.Listed.{IsListing};
 ghost use Rattle.bw_shell.specs.Turns.{code_of, seen, IsOneMap, Takes, Refuses};
-ghost use Rattle.bw_shell.specs.Transcript.{StepTold, TurnsTold};
+ghost use Rattle.bw_shell.specs.Transcript.{ComesTo, StepTold, TurnsTold};
 
-use bw_model::{Command, Key, Reply, Value};
+use bw_model::{Command, Key, Link, Reply, Value};
 use chain_search::Turn;
 use std::alloc::Global;
 use step_core::{Core, Event, RunError};
+
+/// What turns of an actor come to.
+#[derive(Drop)]
+pub enum Progress {
+    /// The operation goes on.
+    GoesOn,
+    /// The operation goes on behind an exchange at which the turns were to stop.
+    Linked,
+    /// The operation is done with this reply.
+    Done(Reply),
+}
 
 fn code(error: RunError) -> u64
     ensures { result ≡ code_of error }
@@ -23,7 +34,7 @@ fn code(error: RunError) -> u64
 
 /// Begins an operation of an actor, or answers the code of its refusal.
 pub fn begin(core: &mut Core, actor: u64, command: Command) -> Result<(), u64>
-    ensures ok { OnOk result (Takes (seen core.old) (Turn.Begin actor command) None (seen core.new)) }
+    ensures ok { OnOk result (Takes (seen core.old) (Turn.Begin actor command) Event.Began (seen core.new)) }
     ensures refused { IfErr result (λ code. Refuses (seen core.old) (Turn.Begin actor command) code) }
     ensures unchanged { IfErr result (λ _. seen core.new ≡ seen core.old) }
 {
@@ -36,33 +47,49 @@ pub fn begin(core: &mut Core, actor: u64, command: Command) -> Result<(), u64>
     }
 }
 
-/// One step of an actor, with its reply if it is done, or the code of its refusal.
-pub fn step(core: &mut Core, actor: u64) -> Result<Option<Reply>, u64>
-    ensures { StepTold (seen core.old) actor result (seen core.new) }
+// What the turn of this event comes to.
+fn progress_of(event: Event, until: Option<Link>) -> Progress
+    requires { event ≡ Event.Began → ⊥ }
+    ensures { ComesTo until event result }
+{
+    match event {
+        Event::Done(reply) => Progress::Done(reply),
+        Event::Stepped(made) => {
+            if made.is_some() && made == until {
+                Progress::Linked
+            } else {
+                Progress::GoesOn
+            }
+        }
+        Event::Began => unreachable!(),
+    }
+}
+
+/// One step of an actor, or the code of its refusal. It stops at an exchange that won with the link, if one is given.
+pub fn step(core: &mut Core, actor: u64, until: Option<Link>) -> Result<Progress, u64>
+    ensures { StepTold until (seen core.old) actor result (seen core.new) }
 {
     let Ok(actor) = u8::try_from(actor) else {
         return Err(4);
     };
     match core.turn(Turn::Step(actor)) {
-        Ok(Event::Done(reply)) => Ok(Some(reply)),
-        Ok(Event::Stepped(_)) => Ok(None),
-        Ok(Event::Began) => unreachable!(),
+        Ok(event) => Ok(progress_of(event, until)),
         Err(error) => Err(code(error)),
     }
 }
 
-/// Up to so many steps of an actor, fewer if it is done.
-pub fn steps(core: &mut Core, actor: u64, limit: u64) -> Result<Option<Reply>, u64>
-    ensures { TurnsTold (seen core.old) actor limit result (seen core.new) }
+/// Up to so many steps of an actor, fewer if it is done, or an exchange won with the link, if one is given.
+pub fn steps(core: &mut Core, actor: u64, until: Option<Link>, limit: u64) -> Result<Progress, u64>
+    ensures { TurnsTold until (seen core.old) actor limit result (seen core.new) }
 {
     for _turn in 0..limit {
-        match step(core, actor) {
-            Ok(None) => {}
-            Ok(Some(reply)) => return Ok(Some(reply)),
-            Err(error) => return Err(error),
+        match step(core, actor, until)? {
+            Progress::GoesOn => {}
+            Progress::Linked => return Ok(Progress::Linked),
+            Progress::Done(reply) => return Ok(Progress::Done(reply)),
         }
     }
-    Ok(None)
+    Ok(Progress::GoesOn)
 }
 
 /// All pairs that stand, or the code of the refusal.

@@ -1,6 +1,6 @@
 //! A whole run.
 
-ghost use Rattle.std.specs.Prelude.{◌≡◌, ◌≤◌, ◌^◌, [], false};
+ghost use Rattle.std.specs.Prelude.{◌≡◌, ◌≤◌, ◌^◌, ◌⊎◌, ◌↔◌, [], false};
 ghost use Rattle.bw_shell.specs.Turns.{seen};
 ghost use Rattle.bw_shell.specs.Weave.{HasRun, IsWoven};
 
@@ -51,6 +51,13 @@ fn run<I: Input, O: Output>(alloc: Global, weaver: &mut Weaver, input: &mut I, o
     )
 }
 
+fn status(refused: bool, read_failed: bool, write_failed: bool) -> u8
+    ensures zero { (result ≡ 0) ↔ ((read_failed ≡ false) × (write_failed ≡ false) × (refused ≡ false)) }
+    ensures one { (result ≡ 0) ⊎ (result ≡ 1) }
+{
+    u8::from(refused || read_failed || write_failed)
+}
+
 /// Reads lines, runs them on a core of these limits, and writes a transcript. Answers the status: 0 where no read or write
 /// failed and no line was refused, else 1.
 pub fn weave<I: Input, O: Output>(alloc: Global, limits: Limits, input: &mut I, out: &mut O) -> u8
@@ -76,14 +83,5 @@ pub fn weave<I: Input, O: Output>(alloc: Global, limits: Limits, input: &mut I, 
     let refused = run(alloc, &mut weaver, input, out);
     weaver.core.linearized();
     out.finish();
-    if refused {
-        return 1;
-    }
-    if input.has_failed() {
-        return 1;
-    }
-    if out.has_failed() {
-        return 1;
-    }
-    0
+    status(refused, input.has_failed(), out.has_failed())
 }

@@ -79,7 +79,7 @@ module _ (limits : Limits) (entries : List Entry) (state : IsState limits entrie
 
   shows : (step : StepOf Record) (answer : Answer Record) → IsAnswer m step answer → ShowsLeaf k step answer
   shows (Row q) answer is = subst (ShowsLeaf k (Row q)) (sym is.2) (fits_leaf q is.0 is.1)
-  shows (Slot p) answer is = tt
+  shows (Slot p) answer is = subst (ShowsLeaf k (Slot p)) (sym is) (λ e. subst (λ q. 0 < m.slots q) (sym ((state.known a).roots p e)) state.leaf.linked)
   shows Epoch answer is = tt
   shows (Announce b) answer is = tt
   shows (PidBits w) answer is = tt

@@ -59,19 +59,19 @@ module _ (m : Memory) {log : List Update} {o : Owners} {ks : ℕ → Knowledge} 
   short_stays rows' stay x linked s = record { chain = s.chain; is_chain = rows_kept o (shared m) rows' g.closed stay x s.chain linked s.is_chain; leaf = s.leaf; short = s.short }
 
   known_stays : (rows' : ℕ → Option Record) → ((row : ℕ) → o.row row ≡ Linked → rows' row ≡ m.rows row) → (b : ℕ) → KnowsLeaf m.rows (ks b) → KnowsLeaf rows' (ks b)
-  known_stays rows' stay b known = record { heads = λ page row e. short_stays rows' stay row (head_linked b page row e) (known.heads page row e); pageless = known.pageless }
+  known_stays rows' stay b known = record { heads = λ page row e. short_stays rows' stay row (head_linked b page row e) (known.heads page row e); pageless = known.pageless; roots = known.roots }
 
   module _ (a : ℕ) (one : HasOneLeaf m) (known : KnowsLeaf m.rows (ks a)) where
     abbrev k : Knowledge
     k = ks a
 
-    placed_stands : (row : ℕ) (w : Record) → k.rows row ≡ Written w → m.rows row ≡ Some w
+    pub placed_stands : (row : ℕ) (w : Record) → k.rows row ≡ Written w → m.rows row ≡ Some w
     placed_stands row w e = (subst (λ (own : OwnRow). OwnFits a (o.row row) (m.rows row) own) e (g.owns a row)).1
 
-    read_stands : (x : ℕ) (c : List Record) → IsChainFrom k.seen x c → IsChainFrom m.rows x c
+    pub read_stands : (x : ℕ) (c : List Record) → IsChainFrom k.seen x c → IsChainFrom m.rows x c
     read_stands x c h = chain_within k.seen m.rows (λ r w e. (subst (λ (seen : Option Record). SeenFits (o.row r) (m.rows r) seen) e ((g.sound a).seen_fits r)).1) c (Some x) h
 
-    plain_is : (x y : ℕ) (plain : IsPlainLink k x y) (w : Record) → k.rows y ≡ Written w → IsPlainOver plain.chain w
+    pub plain_is : (x y : ℕ) (plain : IsPlainLink k x y) (w : Record) → k.rows y ≡ Written w → IsPlainOver plain.chain w
     plain_is x y plain w e = subst (IsPlainOver plain.chain) (let f : Written plain.content ≡ Written w = sym plain.placed ∙ e in let same : plain.content ≡ w = cc in same) plain.plain
 
     -- over a short chain goes an update or a base
@@ -130,24 +130,33 @@ module _ (m : Memory) {log : List Update} {o : Owners} {ks : ℕ → Knowledge} 
     leaf_after (ReuseRows w bits) may plain stay = absurd may
 
     -- what the actor learns
-    same : (k' : Knowledge) → k'.heads ≡ k.heads → k'.pages ≡ k.pages → KnowsLeaf m.rows k'
-    same k' e f = record { heads = λ page row h. known.heads page row (ap (λ heads. heads page) (sym e) ∙ h); pageless = λ page. ap (λ pages. pages page) f ∙ known.pageless page }
+    same : (k' : Knowledge) → k'.heads ≡ k.heads → k'.pages ≡ k.pages → k'.roots ≡ k.roots → KnowsLeaf m.rows k'
+    same k' e f g = record {
+      heads = λ page row h. known.heads page row (ap (λ heads. heads page) (sym e) ∙ h);
+      pageless = λ page. ap (λ pages. pages page) f ∙ known.pageless page;
+      roots = λ page h. known.roots page (ap (λ roots. roots page) (sym g) ∙ h);
+    }
 
     slot_known : (p n : ℕ) → m.slots p ≡ n → KnowsLeaf m.rows (learn_slot p n k)
-    slot_known zero n e = same (learn_slot zero n k) refl refl
+    slot_known zero n e = record {
+      heads = known.heads;
+      pageless = known.pageless;
+      roots = λ page h. by_test page n (λ t. cond t true (k.roots page) ≡ true → page ≡ 1) (λ i f. i ∙ sym e ∙ one.root) (λ ne f. known.roots page f) h;
+    }
     slot_known (suc p) zero e = known
     slot_known (suc zero) (suc n) e = record {
       heads = λ page row h. by_test page 1 (λ t. cond t (Some (suc n)) (k.heads page) ≡ Some row → IsShortLeaf m.rows row)
           (λ i f. subst (IsShortLeaf m.rows) (e ∙ same_Some (suc n) row f) one.leaf)
           (λ ne f. known.heads page row f) h;
       pageless = known.pageless;
+      roots = known.roots;
     }
     slot_known (suc (suc p)) (suc n) e = absurd (let f = one.others (suc (suc p)) (omega arith) in omega arith)
 
     linked_known : (x y : ℕ) (c : List Record) (w : Record) → IsPlainOver c w → KnowsLeaf m.rows (linked_over (Written w) x y k)
-    linked_known x y c (Base page) h = same (linked_over (Written (Base page)) x y k) refl refl
-    linked_known x y c (Put put) h = same (linked_over (Written (Put put)) x y k) refl refl
-    linked_known x y c (Delete delete) h = same (linked_over (Written (Delete delete)) x y k) refl refl
+    linked_known x y c (Base page) h = same (linked_over (Written (Base page)) x y k) refl refl refl
+    linked_known x y c (Put put) h = same (linked_over (Written (Put put)) x y k) refl refl refl
+    linked_known x y c (Delete delete) h = same (linked_over (Written (Delete delete)) x y k) refl refl refl
     linked_known x y c (Split split) h = absurd h
     linked_known x y c (Term term) h = absurd h
     linked_known x y c (Hold hold) h = absurd h
@@ -168,22 +177,22 @@ module _ (m : Memory) {log : List Update} {o : Owners} {ks : ℕ → Knowledge} 
     won_known p x y false may plain = known
 
     taken_known : (q : ℕ) (t : Bool) → KnowsLeaf m.rows (learn k (TakeRow q) (Whether t))
-    taken_known q true = same (learn k (TakeRow q) (Whether true)) refl refl
+    taken_known q true = same (learn k (TakeRow q) (Whether true)) refl refl refl
     taken_known q false = known
 
     learnt : (s : StepOf Record) (x : Answer Record) → May a k s → IsPlainMove k s → IsAnswer m s x → ((row : ℕ) → o.row row ≡ Linked → (memory_after a s m).rows row ≡ m.rows row) → KnowsLeaf (memory_after a s m).rows (learn k s x)
     learnt (Slot p) x may plain is stay = subst (λ y. KnowsLeaf m.rows (learn k (Slot p) y)) (sym is) (slot_known p (m.slots p) refl)
-    learnt (Row q) x may plain is stay = subst (λ y. KnowsLeaf m.rows (learn k (Row q) y)) (sym is.2) (same _ refl refl)
+    learnt (Row q) x may plain is stay = subst (λ y. KnowsLeaf m.rows (learn k (Row q) y)) (sym is.2) (same _ refl refl refl)
     learnt Epoch x may plain is stay = subst (λ y. KnowsLeaf m.rows (learn k Epoch y)) (sym is) known
     learnt (Announce b) x may plain is stay = subst (λ y. KnowsLeaf m.rows (learn k (Announce b) y)) (sym is) known
-    learnt (PidBits w) x may plain is stay = subst (λ y. KnowsLeaf m.rows (learn k (PidBits w) y)) (sym is.2) (same _ refl refl)
-    learnt (RowBits w) x may plain is stay = subst (λ y. KnowsLeaf m.rows (learn k (RowBits w) y)) (sym is.2) (same _ refl refl)
-    learnt (Place q w) x may plain is stay = let kept = known_stays (memory_after a (Place q w) m).rows stay a known in record { heads = kept.heads; pageless = kept.pageless }
+    learnt (PidBits w) x may plain is stay = subst (λ y. KnowsLeaf m.rows (learn k (PidBits w) y)) (sym is.2) (same _ refl refl refl)
+    learnt (RowBits w) x may plain is stay = subst (λ y. KnowsLeaf m.rows (learn k (RowBits w) y)) (sym is.2) (same _ refl refl refl)
+    learnt (Place q w) x may plain is stay = let kept = known_stays (memory_after a (Place q w) m).rows stay a known in record { heads = kept.heads; pageless = kept.pageless; roots = kept.roots }
     learnt (Exchange p x y) z may plain is stay = subst (λ v. KnowsLeaf m.rows (learn k (Exchange p x y) v)) (sym is) (won_known p x y (eqb (m.slots p) x) may.1 plain)
     learnt (TakePid p) x may plain is stay = absurd plain
     learnt (TakeRow q) x may plain is stay = subst (λ y. KnowsLeaf m.rows (learn k (TakeRow q) y)) (sym is) (taken_known q (m.free_rows q))
-    learnt (Enter n) x may plain is stay = same _ refl refl
-    learnt Leave x may plain is stay = record { heads = λ page row e. absurd (cc); pageless = known.pageless }
+    learnt (Enter n) x may plain is stay = same _ refl refl refl
+    learnt Leave x may plain is stay = record { heads = λ page row e. absurd (cc); pageless = known.pageless; roots = λ page e. absurd (cc) }
     learnt (Retire n) x may plain is stay = absurd may
     learnt (ReusePids w bits) x may plain is stay = absurd may
     learnt (ReuseRows w bits) x may plain is stay = absurd may
@@ -197,7 +206,7 @@ opens limits = record {
     others = none;
     leaf = record { chain = Base empty_leaf ∷ []; is_chain = (refl, refl); leaf = record { level = refl; low = refl; high = refl; right = refl; removed = refl; values = λ q page held e. cc }; short = omega arith };
   };
-  known = λ a. record { heads = λ page row e. absurd (cc); pageless = λ page. refl };
+  known = λ a. record { heads = λ page row e. absurd (cc); pageless = λ page. refl; roots = λ page e. absurd (cc) };
 }
   where
     none : (page : ℕ) → 1 < page → (opening limits).slots page ≡ 0
@@ -208,7 +217,7 @@ begins limits entries a c state below idle = record {
   tree = tree_begins.begins limits entries a c state.tree below idle;
   leaf = rw (memory_of-push limits entries (Begin a c)) state.leaf;
   known = rw (memory_of-push limits entries (Begin a c), knows-push entries (Begin a c))
-      (put_all (λ b k. KnowsLeaf (memory_of limits entries).rows k) (knows entries) a (begun (knows entries a) c) (record { heads = λ page row e. absurd (cc); pageless = (state.known a).pageless }) (λ b ne. state.known b));
+      (put_all (λ b k. KnowsLeaf (memory_of limits entries).rows k) (knows entries) a (begun (knows entries a) c) (record { heads = λ page row e. absurd (cc); pageless = (state.known a).pageless; roots = (state.known a).roots }) (λ b ne. state.known b));
 }
 
 pub steps : (limits : Limits) (entries : List Entry) (actor : ℕ) (step : StepOf Record) (answer : Answer Record) (reply : Option Reply) → IsState limits entries → IsSome (command_of entries actor)
@@ -217,7 +226,7 @@ steps limits entries a s x r state busy allowed plain is = record {
   tree = tree_grows.steps limits entries a s x r state.tree busy allowed is;
   leaf = rw (memory_of-push limits entries last) (leaf_after m state.tree.good a state.leaf (state.known a) s allowed.may plain stay);
   known = rw (memory_of-push limits entries last, knows-push entries last)
-      (put_all (λ b k. KnowsLeaf (memory_after a s m).rows k) (knows entries) a (finished (learn (knows entries a) s x) r) (record { heads = own.heads; pageless = own.pageless })
+      (put_all (λ b k. KnowsLeaf (memory_after a s m).rows k) (knows entries) a (finished (learn (knows entries a) s x) r) (record { heads = own.heads; pageless = own.pageless; roots = own.roots })
       (λ b ne. known_stays m state.tree.good (memory_after a s m).rows stay b (state.known b)));
 }
   where

@@ -1,3 +1,11 @@
+pub mod Appended
+pub mod Causes
+pub mod Changing
+pub mod Affording
+pub mod Directing
+pub mod Paying
+pub mod Counting
+pub mod Recollecting
 pub mod Fitted
 pub mod Links
 pub mod Runs

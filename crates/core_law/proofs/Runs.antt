@@ -1,6 +1,5 @@
 -- In a trace of plain steps in which each actor obeys its discipline, the state stands after each entry.
-use Rattle.std.proofs.Common.{◌≡◌, List, [], ◌∷◌, ◌++◌, length, take, Some, refl, sym, ap, subst, append_assoc}
-use Rattle.std.specs.Prelude.{slice_get}
+use Rattle.std.proofs.Common.{◌≡◌, List, [], ◌∷◌, ◌++◌, length, sym, subst, append_assoc}
 use Rattle.std.proofs.lemmas.List.{append-nil}
 use Rattle.bw_model.specs.declared.limits.Limits.{Limits}
 use Rattle.chain_search.specs.declared.trace.Entry.{Entry}
@@ -9,16 +8,8 @@ use Rattle.chain_search.specs.Disciplined.{MayStand, IsDisciplinedFrom, IsDiscip
 use Rattle.chain_search.specs.Knowledge.{knows}
 use Rattle.op_machine.specs.OneLeaf.{IsPlainMove}
 use Rattle.core_law.specs.State.{ArePlain, IsState}
+use Rattle.core_law.proofs.Appended.{at_length, take_length}
 use Rattle.core_law.proofs.Keeping.{opens, begins, steps}
-
--- the entry after these
-at_length : (before : List Entry) (entry : Entry) (entries : List Entry) → slice_get (before ++ entry ∷ entries) (length before) ≡ Some entry
-at_length [] entry entries = refl
-at_length (first ∷ before) entry entries = at_length before entry entries
-
-take_length : (before entries : List Entry) → take (length before) (before ++ entries) ≡ before
-take_length [] entries = refl
-take_length (first ∷ before) entries = ap (λ es. first ∷ es) (take_length before entries)
 
 one_more : (limits : Limits) (before : List Entry) (entry : Entry) (entries : List Entry) → IsState limits before → MayStand limits before entry → ArePlain (before ++ entry ∷ entries) → IsState limits (before ++ entry ∷ [])
 one_more limits before (Begin actor command) entries state may plain = begins limits before actor command state may.0 may.1

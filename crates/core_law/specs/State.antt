@@ -1,5 +1,5 @@
 -- What a trace of allowed and plain steps keeps true: the state of the tree, with page 1 as its only page.
-use Rattle.std.specs.Prelude.{◌≡◌, ◌<◌, ◌≤◌, ℕ, List, length, take, Option, Some}
+use Rattle.std.specs.Prelude.{◌≡◌, ◌<◌, ◌≤◌, ℕ, List, length, take, Option, Some, true}
 use Rattle.bw_model.specs.declared.limits.Limits.{Limits}
 use Rattle.bw_model.specs.declared.step.Answer.{Answer}
 use Rattle.bw_model.specs.declared.step.Step.{Step as StepOf}
@@ -26,10 +26,11 @@ pub record HasOneLeaf (memory : Memory) : Type 0 where
   pub others : (page : ℕ) → 1 < page → memory.slots page ≡ 0
   pub leaf : IsShortLeaf memory.rows (memory.slots 1)
 
--- Whatever row an actor has read in a slot has a short chain, and no page is its own.
+-- Whatever row an actor has read in a slot has a short chain, no page is its own, and it has read no other page than 1 as the root.
 pub record KnowsLeaf (rows : ℕ → Option Record) (k : Knowledge) : Type 0 where
   pub heads : (page row : ℕ) → k.heads page ≡ Some row → IsShortLeaf rows row
   pub pageless : (page : ℕ) → k.pages page ≡ Other
+  pub roots : (page : ℕ) → k.roots page ≡ true → page ≡ 1
 
 pub record IsState (limits : Limits) (entries : List Entry) : Type 0 where
   pub tree : tree.IsState limits entries

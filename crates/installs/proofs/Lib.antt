@@ -1,3 +1,4 @@
 pub mod SpareLaws
 pub mod Knowing
 pub mod Installing
+pub mod Spending

@@ -1,9 +1,11 @@
 //! The linking of one record over a page's newest row.
-ghost use Rattle.std.specs.Prelude.{◌≡◌, ◌<◌, ◌≤◌, ◌*◌, ℕ, List, []};
+ghost use Rattle.std.specs.Prelude.{◌≡◌, ◌<◌, ◌≤◌, ◌*◌, ℕ, List, [], Some, IfNone};
 ghost use Rattle.chain_search.specs.Discipline.{May};
 ghost use Rattle.chain_search.specs.Fitting.{Fits};
 ghost use Rattle.chain_search.specs.Knowledge.{Knowledge, learn};
+ghost use Rattle.installs.specs.Bounded.{Recalls, Spends, steps_left};
 ghost use Rattle.installs.specs.Installs.{Follows, GoesOn, IsSame, IsSoundState, IsTarget, IsTold, MayInstall, Shows, at, rows_flying, wanted};
+ghost use Rattle.installs.specs.Recalled.{Recalled};
 ghost use Rattle.installs.specs.Spares.{AreSpare, HaveRoom};
 ghost use Rattle.installs.specs.Within.{IsWithin};
 
@@ -69,6 +71,7 @@ impl Install {
         ensures pid { result.pid ≡ pid }
         ensures head { result.head ≡ head }
         ensures content { result.content ≡ content }
+        ensures recalls { (r : Recalled) → r.heads pid ≡ Some head → Recalls result r }
     {
         let state = match spares.take() {
             Some(row) => State::Place { row },
@@ -104,6 +107,8 @@ impl Install {
         ensures follows { (actor : ℕ) (k : Knowledge) → Shows actor self.old spares.old k → Fits self.old.limits k (wanted self.old) answer → Follows actor k self.old spares.old answer self.new spares.new result }
         ensures room { HaveRoom self.old.limits (rows_flying result) spares.new }
         ensures same { IsSame self.old self.new }
+        ensures left { 0 < steps_left self.old.state }
+        ensures spends { IfNone result (Spends self.old answer self.new) }
     {
         match self.state {
             State::Bits { word } => self.choose_row(word, answer.into_number()),
@@ -130,6 +135,7 @@ impl Install {
         requires word { 64 * word < self.old.limits.rows }
         ensures follows { (actor : ℕ) (k : Knowledge) (spares : List ℕ) → Shows actor (at self.old (State.Bits word)) spares k → Follows actor k (at self.old (State.Bits word)) spares (Answer.Number bits) self.new spares result }
         ensures same { IsSame self.old self.new }
+        ensures spends { IfNone result (Spends (at self.old (State.Bits word)) (Answer.Number bits) self.new) }
     {
         if bits != 0 {
             let row = 64 * u16::from(word) + bits.trailing_zeros() as u16;
@@ -148,6 +154,7 @@ impl Install {
         requires row { row < self.old.limits.rows }
         ensures goes { (actor : ℕ) (k : Knowledge) (spares : List ℕ) → Shows actor (at self.old (State.Take row)) spares k → Fits self.old.limits k (Step.TakeRow row) (Answer.Whether free) → GoesOn actor k (learn k (Step.TakeRow row) (Answer.Whether free)) self.new spares }
         ensures same { IsSame self.old self.new }
+        ensures spends { Spends (at self.old (State.Take row)) (Answer.Whether free) self.new }
     {
         self.state = if free {
             State::Place { row }

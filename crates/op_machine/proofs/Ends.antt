@@ -26,7 +26,7 @@ leaf_still k now pid head chain like h = record { page = h.page; linked = h.link
 
 brings_still : (actor : ℕ) (k now : Knowledge) (c : Command) (pid head : ℕ) (content : Record) (answered : Option Reply) → change.IsLike k now → Brings actor k c pid head content answered → Brings actor now c pid head content answered
 brings_still actor k now c pid head content (Some r) like b = record { chain = b.chain; whole = leaf_still k now pid head b.chain like b.whole; short = b.short; update = b.update; due = b.due; is = b.is; replies = b.replies }
-brings_still actor k now c pid head content None like b = record { chain = b.chain; whole = leaf_still k now pid head b.chain like b.whole; page = b.page; is = b.is; writer = b.writer }
+brings_still actor k now c pid head content None like b = record { chain = b.chain; whole = leaf_still k now pid head b.chain like b.whole; long = b.long; page = b.page; is = b.is; writer = b.writer }
 
 module _ (limits : Limits) (actor : ℕ) (k : Knowledge) (c : Command) (part : List Record) (had : List ℕ) (install : change.Install) where
   pub goes_on : (now : Knowledge) (new : change.Install) (has : List ℕ) (answered : Option Reply) → change.IsSame install new → Stands limits actor c part had k (Install install answered) → change.GoesOn actor k now new has → Stands limits actor c part has now (Install new answered)

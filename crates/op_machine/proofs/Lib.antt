@@ -15,3 +15,4 @@ pub mod Commands
 pub mod Changes
 pub mod Moves
 pub mod Ends
+pub mod Spending

@@ -56,7 +56,7 @@ module _ (limits : Limits) (actor : ℕ) (k : Knowledge) (c : Command) (part : L
 
   links_plainly : (pid head row : ℕ) (content : Record) (answered : Option Reply) → Brings actor k c pid head content answered → k.rows row ≡ Written content → IsPlainMove k (step.Exchange pid head row)
   links_plainly pid head row content (Some r) b placed = record { chain = b.chain; read = b.whole.read; content = content; placed = placed; plain = rw b.is (plain_update b.update head b.chain b.short) }
-  links_plainly pid head row content None b placed = record { chain = b.chain; read = b.whole.read; content = content; placed = placed; plain = rw b.is tt }
+  links_plainly pid head row content None b placed = record { chain = b.chain; read = b.whole.read; content = content; placed = placed; plain = rw b.is b.long }
 
   changes_plainly : (pid head : ℕ) (content : Record) (answered : Option Reply) → Brings actor k c pid head content answered → (state : at_change.State) → change.Stands spares k state content → IsPlainMove k (change.wanted_at pid head content state)
   changes_plainly pid head content answered b (Bits word) h = tt

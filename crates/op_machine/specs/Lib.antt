@@ -13,3 +13,4 @@ pub mod Examples
 pub mod OneLeaf
 pub mod Wants
 pub mod Shows
+pub mod Bounded

@@ -1,10 +1,10 @@
 -- While page 1 is the only page: what an actor may count on beside what fits in any tree, and what keeps it so.
-use Rattle.std.specs.Prelude.{◌≡◌, ◌<◌, ◌≤◌, ℕ, Bool, List, [], ◌∷◌, ◌++◌, length, Some, None, false, ⊤}
+use Rattle.std.specs.Prelude.{◌≡◌, ◌<◌, ◌≤◌, ℕ, Bool, List, [], ◌∷◌, ◌++◌, length, Some, None, true, false, ⊤}
 use Rattle.bw_model.specs.declared.limits.Limits.{Limits}
 use Rattle.bw_model.specs.declared.step.Step.{Step as StepOf}
-use Rattle.bw_model.specs.declared.step.Step.TheVariants.{Row, Exchange, TakePid}
+use Rattle.bw_model.specs.declared.step.Step.TheVariants.{Slot, Row, Exchange, TakePid}
 use Rattle.bw_model.specs.declared.step.Answer.{Answer}
-use Rattle.bw_model.specs.declared.step.Answer.TheVariants.{Content}
+use Rattle.bw_model.specs.declared.step.Answer.TheVariants.{Number, Content}
 use Rattle.base_page.specs.declared.item.Content.TheVariants.{Child}
 use Rattle.deltas.specs.declared.record.Record.{Record}
 use Rattle.deltas.specs.declared.record.Record.TheVariants.{Base, Put, Delete}
@@ -29,6 +29,7 @@ pub record FitsLeaf (k : Knowledge) (row : ℕ) (content : Record) : Type 0 wher
 
 -- what an answer shows of the only leaf
 abbrev pub ShowsLeaf : Knowledge → StepOf Record → Answer Record → Type 0
+ShowsLeaf k (Slot page) (Number row) = k.roots page ≡ true → 0 < row
 ShowsLeaf k (Row row) (Content content) = FitsLeaf k row content
 ShowsLeaf k step answer = ⊤
 
@@ -36,11 +37,11 @@ ShowsLeaf k step answer = ⊤
 abbrev pub FitsOneLeaf : Limits → Knowledge → StepOf Record → Answer Record → Type 0
 FitsOneLeaf limits k step answer = Fits limits k step answer × ShowsLeaf k step answer
 
--- an update over at most 8 records, or a base in a chain's place
+-- an update over at most 8 records, or a base in the place of a chain with deltas
 abbrev pub IsPlainOver : List Record → Record → Type 0
 IsPlainOver chain (Put put) = length chain ≤ 8
 IsPlainOver chain (Delete delete) = length chain ≤ 8
-IsPlainOver chain (Base page) = ⊤
+IsPlainOver chain (Base page) = 1 < length chain
 IsPlainOver chain other = ⊥
 
 -- The record that was placed in the new row is such a one, over a chain that was read.

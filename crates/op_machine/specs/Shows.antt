@@ -76,10 +76,11 @@ pub record IsUpdate (actor : ℕ) (k : Knowledge) (command : Command) (pid head 
   pub is : content ≡ record_of update head
   pub replies : reply_of command (found chain (command_key command)) ≡ Some answered
 
--- The content is a base in the place of the leaf's chain, and the command may change the map.
+-- The content is a base in the place of the leaf's chain, which has deltas, and the command may change the map.
 pub record IsRebuilt (k : Knowledge) (command : Command) (pid head : ℕ) (content : Record) : Type 0 where
   pub chain : List Record
   pub whole : HasLeaf k pid head chain
+  pub long : 1 < length chain
   pub page : Page
   pub is : content ≡ Base page
   pub writer : is_writer command ≡ true

@@ -1,10 +1,13 @@
 //! One operation as a machine, apart from the memory: it wants one step at a time, and goes on by the answer.
 ghost use Rattle.std.specs.Prelude.{◌≡◌, ◌<◌, ◌≤◌, ℕ, List, Some, IsSome, length, true};
 ghost use Rattle.chain_search.specs.Knowledge.{Knowledge, begun, learn};
+ghost use Rattle.installs.specs.Bounded as change;
 ghost use Rattle.installs.specs.Installs.{Follows, Install as InstallSeen, IsTarget, MayInstall, wanted};
+ghost use Rattle.installs.specs.Recalled.{Recalled};
 ghost use Rattle.installs.specs.Spares.{AreSpare, HaveRoom};
 ghost use Rattle.installs.specs.Within.{IsWithin};
 ghost use Rattle.op_machine.specs.Answered.{is_writer};
+ghost use Rattle.op_machine.specs.Bounded.{Recalls, Spends, steps_left};
 ghost use Rattle.op_machine.specs.OneLeaf.{IsLeafChain};
 ghost use Rattle.op_machine.specs.Shows.{Advances, Arrives, Brings, Goes, IsTold, Obeys, Rests, Seeks, Shows};
 ghost use Rattle.op_machine.specs.Wants.{IsChanging, IsPlace, IsSameOp, IsSoundState, IsStepWant, IsWantWithin, at, change_of, rows_flying, rows_in_flight, wanted_at};
@@ -107,6 +110,8 @@ impl Op {
         ensures hand { HaveRoom self.old.limits (rows_flying result self.new.state) hand.new }
         ensures same { IsSameOp self.old self.new }
         ensures begins { self.old.state ≡ State.Begun → IsStepWant result }
+        ensures spends { Spends self.old answer self.new result }
+        ensures bounded { steps_left self.new ≤ 279 }
     {
         match mem::replace(&mut self.state, State::Over) {
             State::Begun => Want::Step(self.ask(State::Epoch)),
@@ -195,6 +200,7 @@ impl Op {
         ensures within { IsWithin self.old.limits result }
         ensures flight { rows_in_flight self.new.state ≡ 0 }
         ensures same { IsSameOp self.old self.new }
+        ensures spends { 0 < head → Spends (at self.old (State.Slot pid)) (Answer.Number head) self.new (Want.Step result) }
     {
         self.part = ChainPart::new();
         if head == 0 {
@@ -223,6 +229,7 @@ impl Op {
         ensures within { IsWithin self.old.limits result }
         ensures hand { HaveRoom self.old.limits (rows_in_flight self.new.state) hand.new }
         ensures same { IsSameOp self.old self.new }
+        ensures spends { Spends (at self.old (State.Row pid head row)) (Answer.Content older) self.new (Want.Step result) }
     {
         let _ = row;
         match (older.next(), older) {
@@ -247,6 +254,8 @@ impl Op {
         ensures within { IsWithin self.old.limits result }
         ensures hand { HaveRoom self.old.limits (rows_in_flight self.new.state) hand.new }
         ensures same { IsSameOp self.old self.new }
+        ensures recalls { (r : Recalled) → r.heads pid ≡ Some head → Recalls self.new r }
+        ensures few { steps_left self.new ≤ 260 }
     {
         if !self.is_writer() {
             let reply = self.command.reply(chain.find(self.command.key()));
@@ -270,6 +279,8 @@ impl Op {
         ensures within { IsWithin self.old.limits result }
         ensures hand { HaveRoom self.old.limits (rows_in_flight self.new.state) hand.new }
         ensures same { IsSameOp self.old self.new }
+        ensures recalls { (r : Recalled) → r.heads pid ≡ Some head → Recalls self.new r }
+        ensures few { steps_left self.new ≤ 260 }
     {
         let page = chain.page();
         if page.items().len() >= MANY_ITEMS {
@@ -300,6 +311,8 @@ impl Op {
         ensures within { IsWithin self.old.limits result }
         ensures hand { HaveRoom self.old.limits (rows_in_flight self.new.state) hand.new }
         ensures same { IsSameOp self.old self.new }
+        ensures recalls { (r : Recalled) → r.heads pid ≡ Some head → Recalls self.new r }
+        ensures few { steps_left self.new ≤ 260 }
     {
         let install = Install::new(&self.limits, &mut hand.spares, pid, head, content);
         self.ask(State::Install { install, reply })
@@ -320,6 +333,7 @@ impl Op {
         ensures within { IsWithin self.old.limits result }
         ensures hand { HaveRoom self.old.limits (rows_in_flight self.new.state) hand.new }
         ensures same { IsSameOp self.old self.new }
+        ensures spends { Spends (at self.old (State.Install install reply)) answer self.new (Want.Step result) }
     {
         let mut install = install;
         match install.next(&mut hand.spares, answer) {
@@ -335,6 +349,7 @@ impl Op {
         ensures within { IsWithin self.old.limits result }
         ensures flight { rows_in_flight self.new.state ≡ 0 }
         ensures same { IsSameOp self.old self.new }
+        ensures spends { (k : Knowledge) (install : InstallSeen) (told : _) (had has : List ℕ) → Follows self.old.actor k install had told install has (Some end) → 0 < change.steps_left install.state → Spends (at self.old (State.Install install reply)) told self.new (Want.Step result) }
     {
         match (end, reply) {
             (End::Won, Some(reply)) => self.ask(State::Leave { reply }),

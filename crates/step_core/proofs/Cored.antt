@@ -1,6 +1,6 @@
 -- What a turn makes of a core.
-use Rattle.std.proofs.Common.{◌≡◌, ◌≢◌, ◌<◌, inl, inr, ℕ, List, [], ◌∷◌, ◌++◌, length, Some, None, Option, Bool, true, false, set, get_or, ltb, arith, refl, sym, ap, subst, ◌∙◌}
-use Rattle.std.specs.Prelude.{slice_get, is_some, if◌then◌else◌}
+use Rattle.std.proofs.Common.{◌≡◌, ◌≢◌, ◌<◌, ◌⊎◌, inl, inr, ℕ, List, [], ◌∷◌, ◌++◌, length, Some, None, Option, Bool, true, false, set, get_or, ltb, arith, refl, sym, ap, subst, ◌∙◌}
+use Rattle.std.specs.Prelude.{◌^◌, slice_get, is_some, if◌then◌else◌}
 use Rattle.std.proofs.lemmas.Bool.{ltb-true}
 use Rattle.bw_model.specs.declared.command.Command.{Command}
 use Rattle.bw_model.specs.declared.command.Reply.{Reply}
@@ -20,6 +20,8 @@ use Rattle.chain_search.specs.Discipline.{May}
 use Rattle.op_machine.specs.OneLeaf.{IsPlainMove}
 use Rattle.chain_search.specs.Knowledge.{Knowledge, begun, finished, knows, knows_after, learn}
 use Rattle.core_law.proofs.Keeping.{begins, opens, steps}
+use Rattle.core_law.specs.Direct.{Accounts, IsDirectState, StaysDirect}
+use Rattle.installs.specs.Recalled.{IsPaid, Recalled, blank, recall, recalls, recalls_after}
 use Rattle.installs.specs.Within.{IsWithin}
 use Rattle.step_core.specs.Actors.{IsActor, IsPlainlyAllowed, IsReady, command_left, knows_then, running_command}
 use Rattle.step_core.specs.Cells.{Cells, AreSound}
@@ -28,7 +30,8 @@ use Rattle.step_core.specs.Represents.{Asks, Represents, is_placed}
 use Rattle.tree_law.proofs.Beginning.{knows-push}
 use Rattle.step_core.proofs.Lawful.{asks, served_at}
 use Rattle.step_core.proofs.Representing.{takes}
-use Rattle.step_core.specs.Cores.{IsCore}
+use Rattle.step_core.specs.Cores.{IsCore, Pays}
+use Rattle.step_core.specs.Spending.{RecallsAt, Spends, left_at}
 use Rattle.step_core.specs.Turns.{Core, refused_by, refusal_of}
 use Rattle.step_core.proofs.Replaced.{get_is, replaced_other, replaced_same, set_cases, set_length}
 
@@ -66,16 +69,31 @@ shows_set limits actors i new old now each own others a at e = elim (set_cases a
   | inr h ↦ subst (λ k. IsActor limits a k at) (sym (others a h.0)) (each a at h.1)
 ]
 
+-- what each actor recalls after one entry more
+abbrev Recollects : List Entry → Entry → Type 0
+Recollects entries entry = recalls (entries ++ entry ∷ []) ≡ recalls_after (recalls entries) entry
+
+-- each operation is paid for after the longer trace too
+pays_set : (limits : Limits) (actors : List Actor) (entries : List Entry) (entry : Entry) (i : ℕ) (new : Actor) → Recollects entries entry → ((a : ℕ) (at : Actor) → slice_get actors a ≡ Some at → Pays limits entries a at.running)
+    → RecallsAt new.running (recalls_after (recalls entries) entry i) → ((a : ℕ) → a ≢ i → recalls_after (recalls entries) entry a ≡ recalls entries a) → StaysDirect limits entries entry i (left_at new.running)
+    → (a : ℕ) (at : Actor) → slice_get (set actors i new) a ≡ Some at → Pays limits (entries ++ entry ∷ []) a at.running
+pays_set limits actors entries entry i new grows each own others stays a at e = elim (set_cases actors i new a at e) [
+  | inl h ↦ rw (h.0, h.1) (rw grows own, stays.account)
+  | inr h ↦ let was = each a at h.1 in (rw (grows, others a h.0) was.0, stays.others a (left_at at.running) h.0 was.1)
+]
+
 module _ (limits : Limits) where
   pub core_opens : (cells : Cells) (actors : List Actor) (entries : List Entry) → AreSound limits cells → Represents limits cells (opening limits) → length actors ≡ limits.actors
-      → ((a : ℕ) (at : Actor) → slice_get actors a ≡ Some at → at ≡ record { hand = []; running = None }) → entries ≡ [] → IsCore limits cells actors entries
-  core_opens cells actors entries sound is count each none = rw none (record {
+      → ((a : ℕ) (at : Actor) → slice_get actors a ≡ Some at → at ≡ record { hand = []; running = None }) → IsDirectState limits [] → entries ≡ [] → IsCore limits cells actors entries
+  core_opens cells actors entries sound is count each direct none = rw none (record {
     state = opens limits;
+    direct = direct;
     cells_sound = sound;
     represented = is;
     count = count;
     each_shows = λ a at e. rw (each a at e) (record { hand = record { rows = λ k d h. absurd (omega arith); room = omega arith }; rests = record { outside = refl; pageless = λ page. refl; spare = tt } });
     each_running = λ a at e. rw (each a at e) refl;
+    each_pays = λ a at e. rw (each a at e) (tt, λ operation last own. cc);
   })
 
   -- the actor of a turn that isn't refused
@@ -100,11 +118,13 @@ module _ (limits : Limits) where
 
   pub core_begun : (cells : Cells) (actors : List Actor) (entries entries' : List Entry) (i j : ℕ) (new : Actor) (command : Command) → IsCore limits cells actors entries
       → (room : ℕ) (v : Core) → record { limits = limits; entries = entries; room = room } ≡ v → refusal_of v (turn.Begin i command) ≡ None → j ≡ i
-      → IsActor limits i (begun (knows entries i) command) new → running_command new ≡ Some command → entries' ≡ entries ++ Begin i command ∷ [] → IsCore limits cells (set actors j new) entries'
-  core_begun cells actors entries entries' i j new command core room v is refusal same shows runs grown =
+      → IsActor limits i (begun (knows entries i) command) new → running_command new ≡ Some command → ((r : Recalled) → RecallsAt new.running r) → Recollects entries (Begin i command) → StaysDirect limits entries (Begin i command) i (left_at new.running)
+      → entries' ≡ entries ++ Begin i command ∷ [] → IsCore limits cells (set actors j new) entries'
+  core_begun cells actors entries entries' i j new command core room v is refusal same shows runs recalled grows stays grown =
       let goes : (i < limits.actors) × (command_of entries i ≡ None) = begin_goes (record { limits = limits; entries = entries; room = room }) i command (subst (λ u. refusal_of u (turn.Begin i command) ≡ None) (sym is) refusal) in
       rw (grown, same) (record {
         state = begins limits entries i command core.state goes.0 goes.1;
+        direct = stays.state;
         cells_sound = core.cells_sound;
         represented = rw memory_of-push core.represented;
         count = set_length actors i new ∙ core.count;
@@ -114,6 +134,7 @@ module _ (limits : Limits) where
         each_running = rw command_of-push (each_set actors i new (command_of entries) (commands_after (command_of entries) (Begin i command)) core.each_running
             (runs ∙ sym (replaced_same i (Some command) (command_of entries)))
             (λ a other. replaced_other i (Some command) (command_of entries) a other));
+        each_pays = pays_set limits actors entries (Begin i command) i new grows core.each_pays (recalled (recalls_after (recalls entries) (Begin i command) i)) (λ a other. replaced_other i blank (recalls entries) a other) stays;
       })
 
   -- the commands after a step
@@ -133,15 +154,25 @@ module _ (limits : Limits) where
       let kept = takes limits cells cells' (memory_of limits entries) i step answer core.represented core.cells_sound within who asked took in
       (asked, kept.0, kept.1)
 
+  -- the actor can afford its step
+  pub core_affords : (cells : Cells) (actors : List Actor) (entries : List Entry) (i j : ℕ) (old new : Actor) (step : StepOf Record) (answer : Answer Record) → IsCore limits cells actors entries → j ≡ i → j < length actors → old ≡ get_or actors j old
+      → Spends old.running step answer new.running
+      → Accounts limits entries i (left_at old.running) × ((left_at new.running < left_at old.running) ⊎ (IsPaid (recalls entries i) step answer × (left_at new.running < 2 ^ 18))) × RecallsAt new.running (recall (recalls entries i) step answer)
+  core_affords cells actors entries i j old new step answer core same lt at spends =
+      let paid = core.each_pays i old (get_is actors i old (rw (sym same) lt) (subst (λ k. old ≡ get_or actors k old) same at)) in
+      let spent = spends (recalls entries i) paid.0 in
+      (paid.1, spent.1, spent.0)
+
   pub core_stepped : (cells cells' : Cells) (actors : List Actor) (entries entries' : List Entry) (i j : ℕ) (old new : Actor) (step : StepOf Record) (answer : Answer Record) (reply : Option Reply) → IsCore limits cells actors entries
       → j ≡ i → j < length actors → old ≡ get_or actors j old → is_some (running_command old) ≡ true → IsPlainlyAllowed limits i (knows entries i) step reply → IsActor limits i (knows_then (knows entries i) step answer reply) new
-      → running_command new ≡ command_left reply (running_command old) → AreSound limits cells' → IsAnswer (memory_of limits entries) step answer → Represents limits cells' (memory_after i step (memory_of limits entries))
-      → entries' ≡ entries ++ Step i step answer reply ∷ [] → IsCore limits cells' (set actors j new) entries'
-  core_stepped cells cells' actors entries entries' i j old new step answer reply core same lt at some allowed shows runs sound' answered kept grown =
+      → running_command new ≡ command_left reply (running_command old) → RecallsAt new.running (recall (recalls entries i) step answer) → Recollects entries (Step i step answer reply) → StaysDirect limits entries (Step i step answer reply) i (left_at new.running) → AreSound limits cells' → IsAnswer (memory_of limits entries) step answer
+      → Represents limits cells' (memory_after i step (memory_of limits entries)) → entries' ≡ entries ++ Step i step answer reply ∷ [] → IsCore limits cells' (set actors j new) entries'
+  core_stepped cells cells' actors entries entries' i j old new step answer reply core same lt at some allowed shows runs recalled grows stays sound' answered kept grown =
       let found : slice_get actors i ≡ Some old = get_is actors i old (rw (sym same) lt) (subst (λ k. old ≡ get_or actors k old) same at) in
       let going : is_some (command_of entries i) ≡ true = ap is_some (sym (core.each_running i old found)) ∙ some in
       rw (grown, same) (record {
         state = steps limits entries i step answer reply core.state going allowed.allowed allowed.plain answered;
+        direct = stays.state;
         cells_sound = sound';
         represented = rw memory_of-push kept;
         count = set_length actors i new ∙ core.count;
@@ -151,4 +182,6 @@ module _ (limits : Limits) where
         each_running = rw command_of-push (each_set actors i new (command_of entries) (commands_after (command_of entries) (Step i step answer reply)) core.each_running
             (runs ∙ ap (command_left reply) (core.each_running i old found) ∙ left_same (command_of entries) i step answer reply)
             (left_other (command_of entries) i step answer reply));
+        each_pays = pays_set limits actors entries (Step i step answer reply) i new grows core.each_pays (subst (RecallsAt new.running) (sym (replaced_same i (recall (recalls entries i) step answer) (recalls entries))) recalled)
+            (λ a other. replaced_other i (recall (recalls entries i) step answer) (recalls entries) a other) stays;
       })

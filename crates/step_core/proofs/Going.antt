@@ -85,6 +85,9 @@ module _ (limits : Limits) (actor : ℕ) (k : Knowledge) (had has : List ℕ) (o
       let last : old.wanted ≡ step.Leave = same_Some _ _ (sym running.goes.wanted ∙ ends.last) in
       record { allowed = record { may = rw (← running.own_actor) running.goes.may; replied = (last, rw (← running.own_limits, ← running.own_actor) ends.may) }; plain = running.goes.plain }
 
+  pub ends_at_leave : (reply : Reply) → Obeys old.op had a new has (Done reply) → wanted_of old.op ≡ Some step.Leave
+  ends_at_leave reply o = (o k running.goes.shows fits_last).last
+
   pub left_done : (reply : Reply) (left : Running) → Obeys old.op had a new has (Done reply) → HaveRoom old.op.limits 0 has → IsLeft limits actor (finished (learn k old.wanted a) (Some reply)) has left (Some reply)
   left_done reply left o hand =
       let ends = o k running.goes.shows fits_last in

@@ -11,3 +11,4 @@ pub mod Opening
 pub mod Replaced
 pub mod Representing
 pub mod Stopping
+pub mod Spending

@@ -2,6 +2,7 @@ pub mod Cells
 pub mod CellSteps
 pub mod CellLinks
 pub mod Actors
+pub mod Spending
 pub mod Cores
 pub mod Represents
 pub mod Listed

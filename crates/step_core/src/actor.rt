@@ -1,11 +1,13 @@
 //! One actor of a core.
-ghost use Rattle.std.specs.Prelude.{◌≡◌, ◌<◌, [], Some, None, is_some, true};
+ghost use Rattle.std.specs.Prelude.{◌≡◌, ◌<◌, ◌^◌, [], Some, None, is_some, true};
 ghost use Rattle.chain_search.specs.Knowledge.{Knowledge, begun};
+ghost use Rattle.installs.specs.Recalled.{Recalled};
 ghost use Rattle.installs.specs.Within.{IsWithin};
 ghost use Rattle.step_core.specs.Actors.{IsActor, IsLeft, IsPlainlyAllowed, IsReady, IsRunning, IsServed, command_left, knows_then, running_command};
 ghost use Rattle.step_core.specs.Cells.{AreSound};
 ghost use Rattle.step_core.specs.CellLinks.{link_in, step_event};
 ghost use Rattle.step_core.specs.CellSteps.{Takes};
+ghost use Rattle.step_core.specs.Spending.{RecallsAt, Spends, left_at, unless_done};
 
 use crate::copies::{copied_answer, copied_reply, copied_step};
 use crate::event::Event;
@@ -62,6 +64,8 @@ impl Actor {
         requires idle { running_command self.old ≡ None }
         ensures shows { (k : Knowledge) → IsActor limits.now actor k self.old → IsActor limits.now actor (begun k command) self.new }
         ensures command { running_command self.new ≡ Some command }
+        ensures recalls { (r : Recalled) → RecallsAt self.new.running r }
+        ensures bounded { left_at self.new.running < 2 ^ 18 }
     {
         let mut op = Op::begin(command, actor, limits);
         match op.next(&mut self.hand, Answer::Start) {
@@ -87,6 +91,7 @@ impl Actor {
         ensures within { IsWithin limits.now result.step }
         ensures takes { Takes actor memory.old result.step result.answer memory.new }
         ensures command { running_command self.new ≡ command_left result.reply (running_command self.old) }
+        ensures spends { Spends self.old.running result.step result.answer self.new.running }
     {
         let stepped = match &mut self.running {
             Some(running) => running.step(actor, limits, &mut self.hand, memory),
@@ -129,6 +134,7 @@ impl Running {
         ensures within { IsWithin limits.now result.step }
         ensures takes { Takes actor memory.old result.step result.answer memory.new }
         ensures command { self.new.op.command ≡ self.old.op.command }
+        ensures spends { Spends (Some self.old) result.step result.answer (unless_done self.new result.reply) }
     {
         let wanted = mem::replace(&mut self.wanted, Step::Leave);
         let step = copied_step(&wanted);

@@ -9,11 +9,7 @@ mod law;
 mod listing;
 mod machine;
 mod memory;
-#[cfg(test)]
-mod refusals;
 mod runs;
-#[cfg(test)]
-mod tests;
 
 pub use event::{Event, RunError, Trace};
 pub use law::disciplined_runs;

@@ -1,6 +1,7 @@
 //! The core: all actors over one memory, one turn at a time.
 ghost use Rattle.std.specs.Prelude.{◌≡◌, ◌<◌, ◌≤◌, ◌&&◌, [], length, map, nat_lt, is_some, IfOk, IfErr, OnErr, Some, None};
 ghost use Rattle.chain_search.specs.Trace.{command_of, turn_of};
+ghost use Rattle.op_machine.specs.Direct.{IsDirect};
 ghost use Rattle.op_machine.specs.Index.{IsExactIndex};
 ghost use Rattle.op_machine.specs.Linearized.{IsLinearized};
 ghost use Rattle.op_machine.specs.Phases.{KeepsPhases};
@@ -14,6 +15,7 @@ use crate::listing::pairs_in;
 use crate::memory::Memory;
 use bw_model::{Command, Key, Limits, OpenError, Value};
 use chain_search::{Entry, Turn};
+use core_law::{begins_directly, opens_directly, recalls_grow, steps_directly};
 use std::alloc::{AllocError, Allocator, Global};
 use std::marker::Model;
 
@@ -55,6 +57,7 @@ impl<A: Allocator + Copy> Core<A> {
         ensures entries { IfOk result (λ core. core.entries ≡ []) }
         ensures limits { IfOk result (λ core. core.limits ≡ limits) }
     {
+        opens_directly();
         let memory = Memory::<A>::open(alloc, &limits)?;
         let mut actors = Vec::with_capacity(alloc, limits.actors as usize)?;
         for _ in 0..limits.actors {
@@ -96,6 +99,7 @@ impl<A: Allocator> Core<A> {
         ensures linearized { IsLinearized self.new.limits (map turn_of self.new.entries) self.new.entries }
         ensures phases { KeepsPhases self.new.limits self.new.entries }
         ensures index { IsExactIndex self.new.limits self.new.entries }
+        ensures direct { IsDirect self.new.limits self.new.entries }
         ensures freed { IsFreedByRule self.new.limits self.new.entries }
     {
         let answer = self.take_turn(turn);
@@ -104,11 +108,12 @@ impl<A: Allocator> Core<A> {
     }
 
     /// Whatever was done so far, the operations took effect one at a time, on one ordered map, and beside that pages kept
-    /// their phases, the index is exact, and freeing was by the rule of epochs. It does nothing.
+    /// their phases, the index is exact, each operation took few steps, and freeing was by the rule of epochs. It does nothing.
     pub fn linearized(&self)
         ensures linearized { IsLinearized self.now.limits (map turn_of self.now.entries) self.now.entries }
         ensures phases { KeepsPhases self.now.limits self.now.entries }
         ensures index { IsExactIndex self.now.limits self.now.entries }
+        ensures direct { IsDirect self.now.limits self.now.entries }
         ensures freed { IsFreedByRule self.now.limits self.now.entries }
     {
         let _ = &self.limits;
@@ -167,6 +172,8 @@ impl<A: Allocator> Core<A> {
         requires room { length self.old.entries < self.old.room }
         ensures { AddsTurn self.old (Turn.Begin actor command) result self.new }
     {
+        begins_directly();
+        recalls_grow();
         let entry = Entry::Begin(actor, command.clone().unwrap());
         let place = &mut self.actors[usize::from(actor)];
         place.begin(command, actor, &self.limits);
@@ -180,6 +187,8 @@ impl<A: Allocator> Core<A> {
         requires room { length self.old.entries < self.old.room }
         ensures { AddsTurn self.old (Turn.Step actor) result self.new }
     {
+        steps_directly();
+        recalls_grow();
         let place = &mut self.actors[usize::from(actor)];
         let stepped = place.step(actor, &self.limits, &mut self.memory);
         let event = stepped.event(&self.memory);

@@ -4,4 +4,7 @@ pub returns-in-Turn : goal.returns-in-Turn
 returns-in-Turn g c = rw c.in-Turn.is c.run_turn.ensures
 
 pub returns-in-Finish : goal.returns-in-Finish
-returns-in-Finish g c = rw c.in-Finish.is c.run_finish.ensures
+returns-in-Finish g c = rw c.in-Finish.is c.run_until-in-Finish.ensures
+
+pub returns-in-Until : goal.returns-in-Until
+returns-in-Until g c = rw c.in-Until.is c.run_until.ensures

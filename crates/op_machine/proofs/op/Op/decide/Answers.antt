@@ -1,4 +1,4 @@
-use Rattle.std.proofs.Common.{refl, sym, ◌∙◌}
+use Rattle.std.proofs.Common.{◌<◌, length, refl, sym, ◌∙◌, arith}
 use Rattle.chain_search.specs.Chains.{content_in}
 use Rattle.op_machine.proofs.Changes.{may_rebuild}
 use Rattle.op_machine.proofs.Commands.{reads, value_same}
@@ -13,7 +13,8 @@ returns-then-not-is_writer-clause-goes c = λ k a.
 
 pub returns-then-deltas-ge-MANY_DELTAS-clause-goes : goal.returns-then-deltas-ge-MANY_DELTAS-clause-goes
 returns-then-deltas-ge-MANY_DELTAS-clause-goes c = λ k a.
+    let long : 1 < length c.args.chain = (let many = c.if-deltas-ge-MANY_DELTAS.true in let count = c.deltas.ensures in omega (arith, many, count)) in
     c.install.ensures.goes k a.seeks
-    (record { chain = c.args.chain; whole = a.whole; page = c.consolidated.result; is = refl; writer = sym c.is_writer.ensures ∙ c.if-not-is_writer.false })
+    (record { chain = c.args.chain; whole = a.whole; long = long; page = c.consolidated.result; is = refl; writer = sym c.is_writer.ensures ∙ c.if-not-is_writer.false })
     (may_rebuild c.args.self.now.actor k c.args.self.now.command c.args.chain c.args.pid c.args.head a.seeks a.whole c.consolidated.result c.consolidated.ensures.makes c.consolidated.ensures.alive c.consolidated.ensures.stands)
     a.spare

@@ -1,5 +1,10 @@
 use Rattle.std.proofs.Common.{refl, sym, ◌∙◌}
+use Rattle.bw_model.specs.declared.step.Answer.TheVariants.{Number}
+use Rattle.op_machine.specs.declared.op.State.TheVariants.{Slot}
+use Rattle.op_machine.specs.declared.op.Want.TheVariants.{Step}
+use Rattle.op_machine.specs.Wants.{Op}
 use Rattle.op_machine.proofs.Moves.{advances, entered, read_root}
+use Rattle.op_machine.proofs.Spending.{slot_held, spends_at}
 use Rattle.op_machine.proofs.op.Op.next.Goals as goal
 
 pub returns-in-Enter-clause-obeys : goal.returns-in-Enter-clause-obeys
@@ -9,3 +14,10 @@ returns-in-Enter-clause-obeys c =
 pub returns-in-Root-clause-obeys : goal.returns-in-Root-clause-obeys
 returns-in-Root-clause-obeys c =
     rw (← c.self.view_is) (advances _ _ _ _ _ _ _ _ (sym c.replace.ensures.value ∙ c.in-Root.is) c.into_number-pid.ensures (λ k h f. c.ask-in-Root.ensures.goes _ _ (read_root c.self.inside.limits c.self.inside.actor k c.self.inside.command c.self.inside.part _ c.into_number-pid.result f.0.0 h)))
+
+pub returns-in-Slot-clause-spends : goal.returns-in-Slot-clause-spends
+returns-in-Slot-clause-spends c =
+    let is = sym c.replace.ensures.value ∙ c.in-Slot.is in
+    let was : Op = record { limits = c.self.inside.limits; actor = c.self.inside.actor; command = c.self.inside.command; part = c.self.inside.part; state = c.self.inside.state } in
+    let some = slot_held c.args.self.now c.args.hand.now c.args.answer c.in-Slot.pid c.into_number-head.result (rw (← c.self.view_is) is) c.into_number-head.ensures c.requires.told in
+    rw (← c.self.view_is) (spends_at was (Slot c.in-Slot.pid) c.args.answer (Number c.into_number-head.result) c.read_slot.new.self (Step c.read_slot.result) is c.into_number-head.ensures (c.read_slot.ensures.spends some))

@@ -1,5 +1,7 @@
+use Rattle.std.proofs.Common.{arith}
 use Rattle.chain_search.specs.Knowledge.{begun}
 use Rattle.step_core.proofs.Going.{begun_left, idle_at, told_start}
+use Rattle.step_core.proofs.Spending.{begun_recalls}
 use Rattle.step_core.proofs.actor.Actor.begin.Goals as goal
 
 pub next-requires-clause-told : goal.next-requires-clause-told
@@ -12,3 +14,9 @@ returns-clause-shows c = λ k h.
     let idle = idle_at _ _ _ _ _ c.requires.idle h in
     begun_left (begun k c.args.command) c.args.self.now.hand c.begin-op.result c.begin-op.ensures.state (c.begin-op.ensures.shows _ _ idle.rests) _ _ _ _ c.begin-op.ensures.limits c.begin-op.ensures.actor c.in-Step.wanted c.in-Step.ensures.obeys
     c.in-Step.ensures.same c.in-Step.ensures.within c.in-Step.ensures.hand
+
+pub returns-clause-recalls : goal.returns-clause-recalls
+returns-clause-recalls c = begun_recalls c.begin-op.result c.next.new.self c.in-Step.wanted c.begin-op.ensures.state c.in-Step.ensures.spends
+
+pub returns-clause-bounded : goal.returns-clause-bounded
+returns-clause-bounded c = let few = c.in-Step.ensures.bounded in omega arith

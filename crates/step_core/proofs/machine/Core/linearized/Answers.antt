@@ -12,3 +12,6 @@ returns-clause-index g c = rw (← c.self.view_is) (index_is_exact _ _ c.self.in
 
 pub returns-clause-freed : goal.returns-clause-freed
 returns-clause-freed g c = rw (← c.self.view_is) (frees_by_rule _ _ c.self.invariant.state.tree)
+
+pub returns-clause-direct : goal.returns-clause-direct
+returns-clause-direct g c = rw (← c.self.view_is) c.self.invariant.direct.direct

@@ -1,7 +1,7 @@
 use Rattle.std.proofs.Common.{refl}
 use Rattle.chain_search.specs.Knowledge.{knows}
 use Rattle.chain_search.specs.declared.trace.Entry.TheVariants.{Step}
-use Rattle.step_core.proofs.Cored.{core_asks, core_stepped, core_took}
+use Rattle.step_core.proofs.Cored.{core_affords, core_asks, core_stepped, core_took}
 use Rattle.step_core.proofs.Lawful.{heads}
 use Rattle.step_core.proofs.Linked.{event_is, told_to}
 use Rattle.step_core.proofs.machine.Core.step.Goals as goal
@@ -11,8 +11,10 @@ invariant_of-self g c =
     let asks = core_asks _ _ _ _ _ _ _ c.self.invariant _ _ c.self.view_is c.requires.goes c.from.ensures c.index_mut-place.ensures.value in
     let allowed = c.step-stepped.ensures.allowed _ asks.2 in
     let took = core_took _ _ _ _ _ _ c.step-stepped.result.step c.step-stepped.result.answer c.self.invariant asks.0 c.step-stepped.ensures.within c.step-stepped.ensures.takes allowed.allowed.may allowed.plain in
+    let affords = core_affords _ _ _ _ _ _ _ c.step-stepped.new.self c.step-stepped.result.step c.step-stepped.result.answer c.self.invariant c.from.ensures asks.1 c.index_mut-place.ensures.value c.step-stepped.ensures.spends in
+    let stays = c.steps_directly.ensures _ _ _ _ _ _ _ _ c.self.invariant.state allowed.allowed allowed.plain took.1 c.self.invariant.direct affords.0 affords.1 in
     core_stepped _ _ _ _ _ _ _ _ _ _ c.step-stepped.result.step c.step-stepped.result.answer c.step-stepped.result.reply c.self.invariant c.from.ensures asks.1
-    c.index_mut-place.ensures.value asks.3 allowed (c.step-stepped.ensures.shows _ asks.2) c.step-stepped.ensures.command c.step-stepped.ensures.memory took.1 took.2 (rw c.unwrap.ensures at c.push.ensures.items)
+    c.index_mut-place.ensures.value asks.3 allowed (c.step-stepped.ensures.shows _ asks.2) c.step-stepped.ensures.command affords.2 (c.recalls_grow.ensures c.self.inside.trace.items (Step c.args.actor c.step-stepped.result.step c.step-stepped.result.answer c.step-stepped.result.reply)) stays c.step-stepped.ensures.memory took.1 took.2 (rw c.unwrap.ensures at c.push.ensures.items)
 
 pub returns : goal.returns
 returns g c =

@@ -1,0 +1,125 @@
+-- A direct trace stays direct with one entry more, where its operation can afford it.
+use Rattle.std.proofs.Common.{◌≡◌, ◌<◌, ◌≤◌, ◌+◌, ◌-◌, ◌*◌, ◌^◌, inl, inr, ℕ, suc, List, [], ◌∷◌, ◌++◌, length, take, drop, Option, Some, None, true, sym, ap, ◌∙◌, subst, arith}
+use Rattle.std.specs.Prelude.{IsSome, slice_range}
+use Rattle.std.specs.List.{All, count_by}
+use Rattle.std.specs.List.Sorted.{IsStrictlyIncreasing}
+use Rattle.std.proofs.lemmas.List.{take_rest}
+use Rattle.std.proofs.lemmas.List.Elements.{All-weaker}
+use Rattle.std.proofs.lemmas.Option.{same_Some}
+use Rattle.bw_model.specs.declared.command.Reply.{Reply}
+use Rattle.bw_model.specs.declared.limits.Limits.{Limits}
+use Rattle.bw_model.specs.declared.step.Answer.{Answer}
+use Rattle.bw_model.specs.declared.step.Answer.TheVariants.{Whether}
+use Rattle.bw_model.specs.declared.step.Link.{Link}
+use Rattle.bw_model.specs.declared.step.Link.TheVariants as link
+use Rattle.bw_model.specs.declared.step.Step.{Step as StepOf}
+use Rattle.bw_model.specs.declared.step.Step.TheVariants.{Exchange}
+use Rattle.deltas.specs.Links.{record_link}
+use Rattle.deltas.specs.Memory.{Memory}
+use Rattle.deltas.specs.declared.record.Record.{Record}
+use Rattle.chain_search.specs.Chains.{IsChainOf}
+use Rattle.chain_search.specs.Knowledge.{knows}
+use Rattle.chain_search.specs.Trace.{memory_at, memory_of}
+use Rattle.chain_search.specs.declared.trace.Entry.{Entry}
+use Rattle.chain_search.specs.declared.trace.Entry.TheVariants.{Step}
+use Rattle.op_machine.specs.Direct.{IsCause, IsDirect, Links, is_step_of}
+use Rattle.op_machine.specs.Links.{link_of}
+use Rattle.op_machine.specs.Operations.{Operation, IsOperation, IsOwnStep, TakesOwnStep}
+use Rattle.core_law.specs.Direct.{Affords, IsDirectState, IsLast, IsUpdateLink}
+use Rattle.core_law.proofs.Appended.{length-push, memory_kept, memory_last, operation_before, takes_below, takes_cases}
+use Rattle.core_law.proofs.Causes.{LinksLast, cause_kept, links_cases}
+use Rattle.core_law.proofs.Changing.{IsPlainChange, base_over}
+use Rattle.core_law.proofs.Counting.{range_kept}
+
+-- the causes until a step pay for the steps until then
+abbrev Few : Limits → List Entry → Operation → ℕ → Type 0
+Few limits trace op n = (causes : List ℕ) × IsStrictlyIncreasing causes × All (λ cause. (cause ≤ n) × IsCause limits trace op cause) causes
+    × (count_by (is_step_of op.actor) (slice_range trace op.start (suc n)) ≤ 2 ^ 18 * (length causes + 1))
+
+-- an operation that can afford its last step has taken few
+few_last : (limits : Limits) (trace : List Entry) (op : Operation) (n rest : ℕ) → suc n ≡ length trace → Affords limits trace op rest → Few limits trace op n
+few_last limits trace op n rest whole h = (
+  h.causes,
+  h.increasing,
+  All-weaker (λ cause. (cause < length trace) × IsCause limits trace op cause) (λ cause. (cause ≤ n) × IsCause limits trace op cause) (λ cause g. let below : cause < length trace = g.0 in (omega arith, g.1)) h.causes h.each,
+  (
+      let same : slice_range trace op.start (suc n) ≡ drop op.start trace = ap (λ end. take (end - op.start) (drop op.start trace)) whole ∙ take_rest trace op.start in
+      let counted : count_by (is_step_of op.actor) (slice_range trace op.start (suc n)) ≡ count_by (is_step_of op.actor) (drop op.start trace) = ap (count_by (is_step_of op.actor)) same in
+      let paid : count_by (is_step_of op.actor) (drop op.start trace) + rest ≤ 2 ^ 18 * (length h.causes + 1) = h.paid in
+      omega arith
+      ),
+)
+
+module _ (limits : Limits) (entries : List Entry) (last : Entry) (kept : IsDirectState limits entries) where
+  abbrev longer : List Entry
+  longer = entries ++ last ∷ []
+
+  few_kept : (op : Operation) (n : ℕ) → IsOperation entries op → IsOwnStep entries op n → Few limits longer op n
+  few_kept op n begun own =
+      let h = kept.direct.few op n begun own in
+      let below : n < length entries = takes_below entries last op n own.0 own.1 own.2 in
+      let start : op.start < n = own.2.1.begun in (
+        h.0,
+        h.1,
+        All-weaker (λ cause. (cause ≤ n) × IsCause limits entries op cause) (λ cause. (cause ≤ n) × IsCause limits longer op cause) (λ cause g. (g.0, cause_kept limits entries last op cause g.1)) h.0 h.2,
+        subst (λ part. count_by (is_step_of op.actor) part ≤ 2 ^ 18 * (length h.0 + 1)) (sym (range_kept entries last op.start (suc n) (omega arith) (omega arith))) h.3,
+      )
+
+  module _ (afford : (op : Operation) (s : StepOf Record) (x : Answer Record) (reply : Option Reply) → IsLast entries op → last ≡ Step op.actor s x reply → (rest : ℕ) × Affords limits longer op rest)
+      (change : (b slot old new : ℕ) (reply : Option Reply) → last ≡ Step b (Exchange slot old new) (Whether true) reply
+      → (made : IsPlainChange limits entries b slot old new) × ((chain : List Record) → IsChainOf (memory_of limits entries) slot chain → made.chain ≡ chain)) where
+    few : (op : Operation) (n : ℕ) → IsOperation longer op → IsOwnStep longer op n → Few limits longer op n
+    few op n begun own =
+        let before : IsOperation entries op = operation_before entries last op n own.0 own.1 begun own.2 in
+        elim (takes_cases entries last op n own.0 own.1 own.2) [
+          | inl old ↦ few_kept op n before (own.0, own.1, old)
+          | inr at ↦
+              let h = afford op own.0 own.1 at.1.0 (record { begun = before; unended = at.2 }) at.1.1 in
+              let long : length longer ≡ suc (length entries) = length-push entries last in
+              let same : n ≡ length entries = at.0 in
+              few_last limits longer op n h.0 (omega arith) h.1
+        ]
+
+    -- an operation that has linked an update links no other
+    apart : (op : Operation) (m : ℕ) (first second : Link) → IsLast entries op → Links limits entries op m first → LinksLast limits entries last op second → IsUpdateLink first → IsUpdateLink second → ⊥
+    apart op m first second latest before now one two =
+        let made = (change op.actor now.slot now.old now.new now.reply now.is).0 in
+        let some : IsSome (knows entries op.actor).linked = kept.linked op m first latest before one in
+        let same : record_link made.content ≡ second = same_Some _ _ (sym made.link ∙ now.link) in
+        let none : (knows entries op.actor).linked ≡ None = made.once (subst IsUpdateLink (sym same) two) in
+        let false : IsSome {T = ℕ} None = subst IsSome none some in
+        cc
+
+    once : (op : Operation) (m n : ℕ) (first second : Link) → IsOperation longer op → Links limits longer op m first → Links limits longer op n second → IsUpdateLink first → IsUpdateLink second → m ≡ n
+    once op m n first second begun one two is_one is_two =
+        let before : IsOperation entries op = operation_before entries last op m _ _ begun one.3 in
+        elim (links_cases limits entries last op m first one) [
+          | inl old ↦ elim (links_cases limits entries last op n second two) [
+            | inl other ↦ kept.direct.once op m n first second before old other is_one is_two
+            | inr at ↦ absurd (apart op m first second (record { begun = before; unended = at.2 }) old at.1 is_one is_two)
+          ]
+          | inr at ↦ elim (links_cases limits entries last op n second two) [
+            | inl other ↦ absurd (apart op n second first (record { begun = before; unended = at.2 }) other at.1 is_two is_one)
+            | inr also ↦ at.0 ∙ sym also.0
+          ]
+        ]
+
+    useful : (op : Operation) (n slot old new : ℕ) (chain : List Record) → IsOperation longer op → TakesOwnStep longer op n (Exchange slot old new) (Whether true) → link_of (memory_at limits longer n) slot old new ≡ Some link.Base
+        → IsChainOf (memory_at limits longer n) slot chain → 1 < length chain
+    useful op n slot old new chain begun took is is_chain =
+        let before : IsOperation entries op = operation_before entries last op n _ _ begun took in
+        elim (takes_cases entries last op n _ _ took) [
+          | inl own ↦
+              let below : n < length entries = takes_below entries last op n _ _ own in
+              let same : memory_at limits longer n ≡ memory_at limits entries n = memory_kept entries last limits n (omega arith) in
+              kept.direct.useful op n slot old new chain before own (subst (λ (m : Memory). link_of m slot old new ≡ Some link.Base) same is) (subst (λ (m : Memory). IsChainOf m slot chain) same is_chain)
+          | inr at ↦
+              let made = change op.actor slot old new at.1.0 at.1.1 in
+              let same : memory_at limits longer n ≡ memory_of limits entries = ap (memory_at limits longer) at.0 ∙ memory_last entries last limits in
+              let here : IsChainOf (memory_of limits entries) slot chain = subst (λ (m : Memory). IsChainOf m slot chain) same is_chain in
+              let kind : record_link made.0.content ≡ link.Base = same_Some _ _ (sym made.0.link ∙ subst (λ (m : Memory). link_of m slot old new ≡ Some link.Base) same is) in
+              subst (λ c. 1 < length c) (made.1 chain here) (base_over made.0.chain made.0.content made.0.plain kind)
+        ]
+
+    pub direct : IsDirect limits longer
+    direct = record { few = few; once = once; useful = useful }

@@ -1,0 +1,9 @@
+//! What runs of a core are to do, and what it does where memory is refused: tests alone, over its public calls.
+#![tactic(auto)]
+
+#[cfg(test)]
+mod refusals;
+#[cfg(test)]
+mod runs;
+#[cfg(test)]
+mod schedules;

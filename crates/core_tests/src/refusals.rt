@@ -1,0 +1,197 @@
+//! Each growth of memory refused in turn, by heaps that are too small: want of memory is answered, nothing is changed, and the
+//! same call made again is answered as if there had been no refusal.
+
+use bw_model::{Command, Key, Limits, OpenError, Value};
+use chain_search::Turn;
+use linked_list_allocator::LocalHeap;
+use std::alloc::{AllocError, Global};
+use std::test::Fail;
+use step_core::{Core, Event, RunError, run};
+
+/// How many bytes each heap has more than the one before: as many as a heap gives at least.
+const STEP: usize = 16;
+
+/// The same where only growths of the trace are to be told apart, each of an entry at least.
+const LONG_STEP: usize = 2048;
+
+fn insert(value: &[u8]) -> Turn {
+    let key = Key::from_slice(b"k").unwrap_or_default();
+    Turn::Begin(
+        0,
+        Command::Insert(key, Value::from_slice(value).unwrap_or_default()),
+    )
+}
+
+/// An insert of an absent key, of ten steps, and one of the same key, of seven.
+fn inserts(alloc: Global) -> Result<Vec<Turn>, AllocError> {
+    let mut turns = vec![in alloc; Turn::Step(0); 19]?;
+    turns[0] = insert(b"1");
+    turns[11] = insert(b"2");
+    Ok(turns)
+}
+
+/// Why no core opens on a heap of this size.
+fn open_error(alloc: Global, limits: Limits, size: usize) -> Result<Option<OpenError>, AllocError> {
+    let heap = LocalHeap::new(alloc, size)?;
+    Ok(Core::<&LocalHeap>::open(&heap, limits).err())
+}
+
+#[test]
+fn open_wants_memory(rt: HostRuntime) -> Result<(), Fail> {
+    let limits = Limits::new(2, 64, 64, 1)?;
+    for step in 1..100_000usize {
+        let Some(error) = open_error(rt.alloc(), limits, STEP * step)? else {
+            return Ok(());
+        };
+        assert_eq!(rt; error, OpenError::Memory);
+    }
+    assert!(rt; false);
+    Ok(())
+}
+
+/// Why the turns are not taken on a heap of this size.
+fn run_error(
+    alloc: Global,
+    limits: Limits,
+    turns: &[Turn],
+    size: usize,
+) -> Result<Option<RunError>, AllocError> {
+    let heap = LocalHeap::new(alloc, size)?;
+    Ok(run::<&LocalHeap>(&heap, limits, turns).err())
+}
+
+#[test]
+fn run_wants_memory(rt: HostRuntime) -> Result<(), Fail> {
+    let limits = Limits::new(1, 64, 64, 1)?;
+    let turns = inserts(rt.alloc())?;
+    let mut growths = [0, 1, 2, 4, 8, 16].as_slice().iter();
+    let mut last = None;
+    for step in 1..1_000usize {
+        let error = run_error(rt.alloc(), limits, turns.as_slice(), LONG_STEP * step)?;
+        if error != last {
+            assert_eq!(rt; error, growths.next().map(|turn| RunError::Memory(*turn)));
+        }
+        last = error;
+    }
+    assert_eq!(rt; last, None);
+    Ok(())
+}
+
+/// Takes what the heap has left, in pieces as large as it gives.
+fn filled<'a>(
+    alloc: Global,
+    heap: &'a LocalHeap,
+) -> Result<Vec<Vec<u8, &'a LocalHeap>>, AllocError> {
+    let mut pieces = Vec::new(alloc);
+    let mut size = heap.free();
+    for _ in 0..200u32 {
+        match Vec::with_capacity(heap, size) {
+            Ok(piece) => pieces.push(piece)?,
+            Err(_) => size /= 2,
+        }
+    }
+    Ok(pieces)
+}
+
+/// Takes a turn while the core's heap has nothing left.
+fn turn_when_full<'a>(
+    alloc: Global,
+    heap: &'a LocalHeap,
+    core: &mut Core<&'a LocalHeap>,
+    turn: Turn,
+) -> Result<Result<Event, RunError>, AllocError> {
+    let pieces = filled(alloc, heap)?;
+    let event = core.turn(turn);
+    drop(pieces);
+    Ok(event)
+}
+
+/// Whether both cores answer the same to what can be asked of them.
+fn are_alike(alloc: Global, core: &Core<&LocalHeap>, twin: &Core) -> bool {
+    let alike = core.turns() == twin.turns() && core.is_busy(0) == twin.is_busy(0);
+    match (core.listing(alloc), twin.listing(alloc)) {
+        (Ok(pairs), Ok(same)) => alike && pairs == same,
+        _ => false,
+    }
+}
+
+/// Takes a turn of both cores, first while the heap of the one has nothing left, and says whether it was refused so: for want of
+/// memory, after which both are alike still. Answers none where anything else comes.
+fn is_refused<'a>(
+    alloc: Global,
+    heap: &'a LocalHeap,
+    core: &mut Core<&'a LocalHeap>,
+    twin: &mut Core,
+    turn: &Turn,
+) -> Result<Option<bool>, AllocError> {
+    let mut event = turn_when_full(alloc, heap, core, turn.clone()?)?;
+    let refused = event.is_err();
+    if refused {
+        if event != Err(RunError::Memory(twin.turns())) || !are_alike(alloc, core, twin) {
+            return Ok(None);
+        }
+        event = core.turn(turn.clone()?);
+    }
+    Ok((event == twin.turn(turn.clone()?) && are_alike(alloc, core, twin)).then_some(refused))
+}
+
+/// Takes the turns so, up to one that is not refused exactly where the trace has to grow, and says how many were taken.
+fn all_refused<'a>(
+    alloc: Global,
+    heap: &'a LocalHeap,
+    core: &mut Core<&'a LocalHeap>,
+    twin: &mut Core,
+    turns: &[Turn],
+) -> Result<u64, AllocError> {
+    for turn in turns {
+        let grows = [0u64, 1, 2, 4, 8, 16].contains(&core.turns());
+        if is_refused(alloc, heap, core, twin, turn)? != Some(grows) {
+            break;
+        }
+    }
+    Ok(core.turns())
+}
+
+#[test]
+fn turn_wants_memory(rt: HostRuntime) -> Result<(), Fail> {
+    let limits = Limits::new(1, 64, 64, 1)?;
+    let turns = inserts(rt.alloc())?;
+    let heap = LocalHeap::new(rt.alloc(), 1 << 22)?;
+    let mut core = Core::<&LocalHeap>::open(&heap, limits)?;
+    let mut twin = Core::open(rt.alloc(), limits)?;
+    let taken = all_refused(rt.alloc(), &heap, &mut core, &mut twin, turns.as_slice())?;
+    assert_eq!(rt; taken, 19);
+    Ok(())
+}
+
+/// Whether the core takes the turns.
+fn are_taken(core: &mut Core, turns: &[Turn]) -> bool {
+    for turn in turns {
+        if core.turn(turn.clone().unwrap()).is_err() {
+            return false;
+        }
+    }
+    true
+}
+
+/// Why the pairs are not listed on a heap of this size.
+fn listing_error(alloc: Global, core: &Core, size: usize) -> Result<Option<RunError>, AllocError> {
+    let heap = LocalHeap::new(alloc, size)?;
+    Ok(core.listing::<&LocalHeap>(&heap).err())
+}
+
+#[test]
+fn listing_wants_memory(rt: HostRuntime) -> Result<(), Fail> {
+    let mut core = Core::open(rt.alloc(), Limits::new(1, 64, 64, 1)?)?;
+    let turns = inserts(rt.alloc())?;
+    assert!(rt; are_taken(&mut core, turns.as_slice()));
+    for step in 1..10_000usize {
+        let Some(error) = listing_error(rt.alloc(), &core, STEP * step)? else {
+            assert!(rt; step > 1);
+            return Ok(());
+        };
+        assert_eq!(rt; error, RunError::Memory(19));
+    }
+    assert!(rt; false);
+    Ok(())
+}
