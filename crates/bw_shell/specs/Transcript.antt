@@ -24,12 +24,12 @@ ComesTo until told (Done reply) = told ≡ event.Done reply
 abbrev pub TakesOne : Option Link → Trace → ℕ → Progress → Trace → Type 0
 TakesOne until before actor progress after = (event : Event) × Takes before (Step actor) event after × ComesTo until event progress
 
--- the actor took so many turns, and none of them ended its operation or stops there
+-- the actor took so many turns, and none of them ended its operation, or won an exchange with the link
 unfoldable pub StepsOn : Option Link → Trace → ℕ → ℕ → Trace → Type 0
 StepsOn until before actor zero after = after ≡ before
 StepsOn until before actor (suc n) after = (mid : Trace) × StepsOn until before actor n mid × TakesOne until mid actor GoesOn after
 
--- the actor took so many turns, fewer if one of them ended its operation or stops there
+-- the actor took so many turns, fewer if one of them ended its operation, or won an exchange with the link
 abbrev pub TakesUpTo : Option Link → Trace → ℕ → ℕ → Progress → Trace → Type 0
 TakesUpTo until before actor limit GoesOn after = StepsOn until before actor limit after
 TakesUpTo until before actor limit progress after = (n : ℕ) × (n < limit) × (mid : Trace) × StepsOn until before actor n mid × TakesOne until mid actor progress after

@@ -1,5 +1,5 @@
 -- A begin keeps a trace direct, and so does a plain step that its operation can afford.
-use Rattle.std.proofs.Common.{◌≡◌, ◌≢◌, ◌<◌, ◌≤◌, ◌^◌, ◌⊎◌, inl, inr, ℕ, List, [], ◌∷◌, ◌++◌, length, Option, true, false, cond, refl, sym, ap, ◌∙◌, subst, arith}
+use Rattle.std.proofs.Common.{◌≡◌, ◌≢◌, ◌<◌, ◌≤◌, ◌^◌, ◌⊎◌, inl, inr, ℕ, List, [], ◌∷◌, ◌++◌, length, Option, true, false, refl, sym, ap, ◌∙◌, subst, arith}
 use Rattle.std.specs.Prelude.{IsSome, ◌==◌}
 use Rattle.std.proofs.lemmas.Bool.Decides.{eqb_tells}
 use Rattle.std.proofs.lemmas.Option.{same_Some}
@@ -12,7 +12,7 @@ use Rattle.bw_model.specs.declared.step.Link.{Link}
 use Rattle.bw_model.specs.declared.step.Step.{Step as StepOf}
 use Rattle.bw_model.specs.declared.step.Step.TheVariants.{Exchange}
 use Rattle.deltas.specs.Links.{record_link}
-use Rattle.deltas.specs.Memory.{Memory, replaced_at}
+use Rattle.deltas.specs.Memory.{replaced_at}
 use Rattle.deltas.specs.declared.record.Record.{Record}
 use Rattle.chain_search.specs.Chains.{IsChainFrom, IsChainOf}
 use Rattle.chain_search.specs.Discipline.{May}
@@ -32,15 +32,10 @@ use Rattle.core_law.proofs.Causes.{LinksLast, links_cases}
 use Rattle.core_law.proofs.Changing.{IsPlainChange, linked_by_update, linked_kept, plain_change}
 use Rattle.core_law.proofs.Counting.{affords_begun, affords_cause, affords_kept, affords_less}
 use Rattle.core_law.proofs.Directing.{direct}
+use Rattle.core_law.proofs.Laws.{OneChain}
 use Rattle.core_law.proofs.Paying.{paid}
+use Rattle.core_law.proofs.Places.{at_place}
 use Rattle.core_law.proofs.Recollecting.{recollects_blank, recollects_other, recollects_own}
-
--- what holds of the new value at its place, and of the old one elsewhere
-at_place : {X : Type 0} (P : X → Type 0) (n : ℕ) (x : X) (f : ℕ → X) (k : ℕ) → (k ≡ n → P x) → (k ≢ n → P (f k)) → P (replaced_at n x f k)
-at_place {X} P n x f k here elsewhere = elim (eqb_tells k n) [
-  | inl same ↦ subst (λ t. P (cond t x (f k))) (sym same.0) (here same.1)
-  | inr apart ↦ subst (λ t. P (cond t x (f k))) (sym apart.0) (elsewhere apart.1)
-]
 
 not_step_of : (actor other : ℕ) (s : StepOf Record) (x : Answer Record) (reply : Option Reply) → actor ≢ other → is_step_of actor (Step other s x reply) ≡ false
 not_step_of actor other s x reply ne = elim (eqb_tells other actor) [ inl same ↦ absurd (ne (sym same.1)) | inr apart ↦ apart.0 ]
@@ -86,7 +81,7 @@ module _ (limits : Limits) (entries : List Entry) (a : ℕ) (c : Command) (kept 
   }
 
 module _ (limits : Limits) (entries : List Entry) (a : ℕ) (s : StepOf Record) (x : Answer Record) (reply : Option Reply) (state : IsState limits entries) (may : May a (knows entries a) s) (plain : IsPlainMove (knows entries a) s)
-    (is_answer : IsAnswer (memory_of limits entries) s x) (kept : IsDirectState limits entries) (unique : (memory : Memory) (pid : ℕ) (one two : List Record) → IsChainOf memory pid one → IsChainOf memory pid two → one ≡ two) where
+    (is_answer : IsAnswer (memory_of limits entries) s x) (kept : IsDirectState limits entries) (one_chain : OneChain) where
   abbrev next : Entry
   next = Step a s x reply
 
@@ -111,7 +106,7 @@ module _ (limits : Limits) (entries : List Entry) (a : ℕ) (s : StepOf Record) 
       let made = plain_change limits entries b state slot old new h.0.1 h.1 in
       let at : (memory_of limits entries).slots slot ≡ old = same_number _ _ h.2 in (
         made,
-        λ chain whole. unique (memory_of limits entries) slot made.chain chain
+        λ chain whole. one_chain (memory_of limits entries) slot made.chain chain
             (record { page = whole.page; linked = whole.linked; records = subst (λ row. IsChainFrom (memory_of limits entries).rows row made.chain) (sym at) made.stands }) whole,
       )
 

@@ -1,11 +1,8 @@
 -- A plain step keeps page 1 the only page, and what actors know of it.
-use Rattle.std.proofs.Common.{◌≡◌, ◌<◌, ◌≤◌, inl, inr, ℕ, zero, suc, List, [], ◌∷◌, ◌++◌, length, Option, Some, None, Bool, true, false, cond, eqb, refl, sym, ap, ◌∙◌, subst, arith}
-use Rattle.std.specs.Prelude.{IsSome}
+use Rattle.std.proofs.Common.{◌≡◌, ◌<◌, ◌≤◌, inl, inr, ℕ, zero, suc, List, [], ◌∷◌, length, Option, Some, None, Bool, true, false, cond, eqb, refl, sym, ap, ◌∙◌, subst, arith}
+use Rattle.std.specs.Prelude.{IfSome}
 use Rattle.std.proofs.lemmas.Bool.{lt-leb}
 use Rattle.std.proofs.lemmas.Option.{same_Some}
-use Rattle.bw_model.specs.declared.command.Command.{Command}
-use Rattle.bw_model.specs.declared.command.Reply.{Reply}
-use Rattle.bw_model.specs.declared.limits.Limits.{Limits}
 use Rattle.bw_model.specs.declared.step.Answer.{Answer}
 use Rattle.bw_model.specs.declared.step.Answer.TheVariants.{Whether}
 use Rattle.bw_model.specs.declared.step.Step.{Step as StepOf}
@@ -15,48 +12,56 @@ use Rattle.base_page.specs.Pages.{empty_leaf}
 use Rattle.deltas.specs.declared.record.Record.{Record}
 use Rattle.deltas.specs.declared.record.Record.TheVariants.{Base, Put, Delete, Split, Term, Hold, Remove, Merge, Unterm}
 use Rattle.deltas.specs.Memory.{Memory, opening}
-use Rattle.chain_search.specs.Chains.{IsChainFrom}
-use Rattle.chain_search.specs.Discipline.{IsAllowed, May, MayExchange, MayLink, record_of}
+use Rattle.deltas.specs.Records.{next_row}
+use Rattle.chain_search.specs.Chains.{IsChainFrom, IsChainOf}
+use Rattle.chain_search.specs.Discipline.{May, MayExchange, MayLink, record_of}
 use Rattle.chain_search.specs.Knowledge.{OwnRow, Written, Knowledge, begun, exchanged, finished, knows, learn, learn_slot, linked_over}
 use Rattle.chain_search.specs.Steps.{IsAnswer, memory_after}
-use Rattle.chain_search.specs.Trace.{command_of, memory_of}
+use Rattle.chain_search.specs.Trace.{memory_of}
 use Rattle.chain_search.specs.declared.trace.Entry.{Entry}
 use Rattle.chain_search.specs.declared.trace.Entry.TheVariants.{Begin, Step}
-use Rattle.chain_search.proofs.ChainLaws.{IsChainFrom-unique}
-use Rattle.chain_search.proofs.TraceLaws.{memory_of-push}
 use Rattle.op_machine.specs.OneLeaf.{IsLeafChain, IsPlainLink, IsPlainMove, IsPlainOver}
+use Rattle.tree_law.specs.Laws.{StepLaw}
 use Rattle.tree_law.specs.Owners.{Linked, Owners, OwnFits, HeadFits, SeenFits, leaf_map}
 use Rattle.tree_law.specs.Put.{put}
-use Rattle.tree_law.specs.Shared.{shared}
-use Rattle.tree_law.specs.Tree.{Good, IsPart, Page}
-use Rattle.tree_law.proofs.Beginning as tree_begins
-use Rattle.tree_law.proofs.Beginning.{knows-push}
-use Rattle.tree_law.proofs.Chains.{chain_within}
-use Rattle.tree_law.proofs.Growth as tree_grows
-use Rattle.tree_law.proofs.Mapping.{leaves, slot_some}
-use Rattle.tree_law.proofs.Puts.{by_test, put_all, put_other}
-use Rattle.tree_law.proofs.Rows.{rows_kept}
-use Rattle.tree_law.proofs.Stepping.{step as tree_step}
+use Rattle.tree_law.specs.Shared.{row_in, shared, slot_in}
+use Rattle.tree_law.specs.State as tree
+use Rattle.tree_law.specs.Tree.{Good, IsPart, Level, Page}
 use Rattle.core_law.specs.State.{HasOneLeaf, IsShortLeaf, IsState, KnowsLeaf}
+use Rattle.core_law.proofs.Appended.{knows-push}
+use Rattle.core_law.proofs.Chains.{chain_stays, read_chain_stands}
+use Rattle.core_law.proofs.Places.{at_place, by_test}
+use Rattle.core_law.proofs.Laws.{Begins, MemoryGrows, OneChain, Opens, Steps, TreeSteps}
 use Rattle.core_law.proofs.Links.{base_leaf, over_chain, over_leaf, over_short}
 
 module _ (m : Memory) {log : List Update} {o : Owners} {ks : ℕ → Knowledge} {point : ℕ → Option (List Update)} {logs : ℕ → List (List Update)} (g : Good (shared m) log o ks point logs) where
   -- the row in slot 1 is linked, and so is each row that was read in a slot
   leaf_linked : o.row (m.slots 1) ≡ Linked
-  leaf_linked = go (leaves m g).side (leaves m g).whole
+  leaf_linked = go leaves.side leaves.whole
     where
+      leaves : Level o (shared m) 0 (leaf_map log) 1
+      leaves = subst (λ first. Level o (shared m) 0 (leaf_map log) first) g.tree.leaf (g.tree.levels 0 (omega arith))
+
+      row_is : (n row : ℕ) → row_in n ≡ Some row → n ≡ row
+      row_is zero row e = absurd (cc)
+      row_is (suc n) row e = same_Some (suc n) row e
+
       go : (side : List Page) → IsPart o (shared m) 0 (leaf_map log) side (Some 1) (Some []) None None → o.row (m.slots 1) ≡ Linked
       go [] h = absurd (let e = h.0 in cc)
       go (p ∷ ps) h =
           let same : 1 ≡ p.page = same_Some 1 p.page h.0 in
-          let at : m.slots p.page ≡ p.row = (slot_some m.slots p.page p.row h.2.is_page.head).1 in
-          ap o.row (ap m.slots same ∙ at) ∙ h.2.linked
+          ap o.row (row_is (m.slots 1) p.row (ap (slot_in m.slots) same ∙ h.2.is_page.head)) ∙ h.2.linked
 
   head_linked : (b page row : ℕ) → (ks b).heads page ≡ Some row → o.row row ≡ Linked
   head_linked b page row e = (subst (λ (h : Option ℕ). HeadFits o (shared m) (logs b) page h) e ((g.sound b).heads_fit page)).2.linked
 
   short_stays : (rows' : ℕ → Option Record) → ((row : ℕ) → o.row row ≡ Linked → rows' row ≡ m.rows row) → (x : ℕ) → o.row x ≡ Linked → IsShortLeaf m.rows x → IsShortLeaf rows' x
-  short_stays rows' stay x linked s = record { chain = s.chain; is_chain = rows_kept o (shared m) rows' g.closed stay x s.chain linked s.is_chain; leaf = s.leaf; short = s.short }
+  short_stays rows' stay x linked s = record { chain = s.chain; is_chain = chain_stays (λ row. o.row row ≡ Linked) m.rows rows' next_stays x s.chain linked s.is_chain; leaf = s.leaf; short = s.short }
+    where
+      next_stays : (row : ℕ) (content : Record) → o.row row ≡ Linked → m.rows row ≡ Some content → (rows' row ≡ Some content) × IfSome (next_row content) (λ next. o.row next ≡ Linked)
+      next_stays row content is e =
+          let at = g.closed row is in
+          (stay row is ∙ e, subst (λ c. IfSome (next_row c) (λ next. o.row next ≡ Linked)) (same_Some at.content content (sym at.stands ∙ e)) at.next)
 
   known_stays : (rows' : ℕ → Option Record) → ((row : ℕ) → o.row row ≡ Linked → rows' row ≡ m.rows row) → (b : ℕ) → KnowsLeaf m.rows (ks b) → KnowsLeaf rows' (ks b)
   known_stays rows' stay b known = record { heads = λ page row e. short_stays rows' stay row (head_linked b page row e) (known.heads page row e); pageless = known.pageless; roots = known.roots }
@@ -69,65 +74,73 @@ module _ (m : Memory) {log : List Update} {o : Owners} {ks : ℕ → Knowledge} 
     placed_stands row w e = (subst (λ (own : OwnRow). OwnFits a (o.row row) (m.rows row) own) e (g.owns a row)).1
 
     pub read_stands : (x : ℕ) (c : List Record) → IsChainFrom k.seen x c → IsChainFrom m.rows x c
-    read_stands x c h = chain_within k.seen m.rows (λ r w e. (subst (λ (seen : Option Record). SeenFits (o.row r) (m.rows r) seen) e ((g.sound a).seen_fits r)).1) c (Some x) h
+    read_stands x c h = read_chain_stands k.seen m.rows (λ r w e. (subst (λ (seen : Option Record). SeenFits (o.row r) (m.rows r) seen) e ((g.sound a).seen_fits r)).1) x c h
 
     pub plain_is : (x y : ℕ) (plain : IsPlainLink k x y) (w : Record) → k.rows y ≡ Written w → IsPlainOver plain.chain w
     plain_is x y plain w e = subst (IsPlainOver plain.chain) (let f : Written plain.content ≡ Written w = sym plain.placed ∙ e in let same : plain.content ≡ w = cc in same) plain.plain
 
-    -- over a short chain goes an update or a base
-    linked_leaf : (p x y : ℕ) → MayLink a k p x y → IsPlainLink k x y → IsShortLeaf m.rows x → IsShortLeaf m.rows y
-    linked_leaf p x y (inl update) plain s = record {
-      chain = record_of update.update x ∷ s.chain;
-      is_chain = over_chain update.update m.rows x y s.chain (placed_stands y (record_of update.update x) update.placed) s.is_chain;
-      leaf = over_leaf update.update x s.chain s.leaf;
-      short =
-          let same : plain.chain ≡ s.chain = IsChainFrom-unique m.rows x plain.chain s.chain (read_stands x plain.chain plain.read) s.is_chain in
-          let few : length s.chain ≤ 8 = subst (λ c. length c ≤ 8) same (over_short update.update x plain.chain (plain_is x y plain (record_of update.update x) update.placed)) in
-          omega (arith, few);
-    }
-    linked_leaf p x y (inr (inl base)) plain s =
-        let same : s.chain ≡ base.basis.chain = IsChainFrom-unique m.rows x s.chain base.basis.chain s.is_chain (read_stands x base.basis.chain base.basis.read) in
-        record { chain = _; is_chain = (placed_stands y _ base.placed, refl); leaf = base_leaf base.basis.chain base.items (subst (λ c. IsLeafChain c) same s.leaf) base.alike; short = omega arith }
-    linked_leaf p x y (inr (inr (inl split))) plain s = absurd (plain_is x y plain _ split.placed)
-    linked_leaf p x y (inr (inr (inr (inl term)))) plain s = absurd (plain_is x y plain _ term.placed)
-    linked_leaf p x y (inr (inr (inr (inr (inl hold))))) plain s = absurd (plain_is x y plain _ hold.placed)
-    linked_leaf p x y (inr (inr (inr (inr (inr (inl remove)))))) plain s = absurd (plain_is x y plain _ remove.placed)
-    linked_leaf p x y (inr (inr (inr (inr (inr (inr (inl merge))))))) plain s = absurd (plain_is x y plain _ merge.placed)
-    linked_leaf p x y (inr (inr (inr (inr (inr (inr (inr unterm))))))) plain s = absurd (plain_is x y plain _ unterm.placed)
+    module _ (one_chain : OneChain) where
+      -- the only leaf has one chain
+      leaf_is : (x : ℕ) → m.slots 1 ≡ x → (c d : List Record) → IsChainFrom m.rows x c → IsChainFrom m.rows x d → c ≡ d
+      leaf_is x at c d is_c is_d = one_chain m 1 c d (whole c is_c) (whole d is_d)
+        where
+          whole : (chain : List Record) → IsChainFrom m.rows x chain → IsChainOf m 1 chain
+          whole chain is = record { page = omega arith; linked = one.linked; records = subst (λ row. IsChainFrom m.rows row chain) (sym at) is }
 
-    -- an exchange that won
-    exchanged_leaf : (p x y : ℕ) → MayExchange a k p x y → IsPlainLink k x y → m.slots p ≡ x → HasOneLeaf (record m { slots = put m.slots p y })
-    exchanged_leaf zero x y may plain e = absurd (let f = known.pageless y in let h = may.ready in cc)
-    exchanged_leaf (suc p) zero zero may plain e = absurd may
-    exchanged_leaf (suc p) zero (suc y) may plain e = absurd (let f = known.pageless (suc p) in let h = may.0 in cc)
-    exchanged_leaf (suc p) (suc x) zero (inl may) plain e = absurd (let f = known.pageless (suc p) in cc)
-    exchanged_leaf (suc p) (suc x) zero (inr may) plain e = absurd (let f = known.pageless (suc p) in cc)
-    exchanged_leaf (suc zero) (suc x) (suc y) may plain e = record {
-      root = one.root;
-      linked = omega arith;
-      others = λ page lt. put_other m.slots 1 (suc y) page (λ i. let f : page ≡ 1 = i in omega arith) ∙ one.others page lt;
-      leaf = linked_leaf 1 (suc x) (suc y) may.1 plain (subst (IsShortLeaf m.rows) e one.leaf);
-    }
-    exchanged_leaf (suc (suc p)) (suc x) (suc y) may plain e = absurd (let f = one.others (suc (suc p)) (omega arith) in omega arith)
+      -- over the leaf's short chain goes an update or a base
+      linked_leaf : (p x y : ℕ) → m.slots 1 ≡ x → MayLink a k p x y → IsPlainLink k x y → IsShortLeaf m.rows x → IsShortLeaf m.rows y
+      linked_leaf p x y at (inl update) plain s = record {
+        chain = record_of update.update x ∷ s.chain;
+        is_chain = over_chain update.update m.rows x y s.chain (placed_stands y (record_of update.update x) update.placed) s.is_chain;
+        leaf = over_leaf update.update x s.chain s.leaf;
+        short =
+            let same : plain.chain ≡ s.chain = leaf_is x at plain.chain s.chain (read_stands x plain.chain plain.read) s.is_chain in
+            let few : length s.chain ≤ 8 = subst (λ c. length c ≤ 8) same (over_short update.update x plain.chain (plain_is x y plain (record_of update.update x) update.placed)) in
+            omega (arith, few);
+      }
+      linked_leaf p x y at (inr (inl base)) plain s =
+          let same : s.chain ≡ base.basis.chain = leaf_is x at s.chain base.basis.chain s.is_chain (read_stands x base.basis.chain base.basis.read) in
+          record { chain = _; is_chain = (placed_stands y _ base.placed, refl); leaf = base_leaf base.basis.chain base.items (subst (λ c. IsLeafChain c) same s.leaf) base.alike; short = omega arith }
+      linked_leaf p x y at (inr (inr (inl split))) plain s = absurd (plain_is x y plain _ split.placed)
+      linked_leaf p x y at (inr (inr (inr (inl term)))) plain s = absurd (plain_is x y plain _ term.placed)
+      linked_leaf p x y at (inr (inr (inr (inr (inl hold))))) plain s = absurd (plain_is x y plain _ hold.placed)
+      linked_leaf p x y at (inr (inr (inr (inr (inr (inl remove)))))) plain s = absurd (plain_is x y plain _ remove.placed)
+      linked_leaf p x y at (inr (inr (inr (inr (inr (inr (inl merge))))))) plain s = absurd (plain_is x y plain _ merge.placed)
+      linked_leaf p x y at (inr (inr (inr (inr (inr (inr (inr unterm))))))) plain s = absurd (plain_is x y plain _ unterm.placed)
 
-    leaf_after : (s : StepOf Record) → May a k s → IsPlainMove k s → ((row : ℕ) → o.row row ≡ Linked → (memory_after a s m).rows row ≡ m.rows row) → HasOneLeaf (memory_after a s m)
-    leaf_after (Slot p) may plain stay = one
-    leaf_after (Row q) may plain stay = one
-    leaf_after Epoch may plain stay = one
-    leaf_after (Announce b) may plain stay = one
-    leaf_after (PidBits w) may plain stay = one
-    leaf_after (RowBits w) may plain stay = one
-    leaf_after (Place q w) may plain stay = record { root = one.root; linked = one.linked; others = one.others; leaf = short_stays (memory_after a (Place q w) m).rows stay (m.slots 1) leaf_linked one.leaf }
-    leaf_after (Exchange p x y) may plain stay = by_test (m.slots p) x (λ t. HasOneLeaf (record m { slots = cond t (put m.slots p y) m.slots }))
-        (λ e. exchanged_leaf p x y may.1 plain e)
-        (λ ne. record { root = one.root; linked = one.linked; others = one.others; leaf = one.leaf })
-    leaf_after (TakePid p) may plain stay = absurd plain
-    leaf_after (TakeRow q) may plain stay = record { root = one.root; linked = one.linked; others = one.others; leaf = one.leaf }
-    leaf_after (Enter n) may plain stay = record { root = one.root; linked = one.linked; others = one.others; leaf = one.leaf }
-    leaf_after Leave may plain stay = record { root = one.root; linked = one.linked; others = one.others; leaf = one.leaf }
-    leaf_after (Retire n) may plain stay = absurd may
-    leaf_after (ReusePids w bits) may plain stay = absurd may
-    leaf_after (ReuseRows w bits) may plain stay = absurd may
+      -- an exchange that won
+      exchanged_leaf : (p x y : ℕ) → MayExchange a k p x y → IsPlainLink k x y → m.slots p ≡ x → HasOneLeaf (record m { slots = put m.slots p y })
+      exchanged_leaf zero x y may plain e = absurd (let f = known.pageless y in let h = may.ready in cc)
+      exchanged_leaf (suc p) zero zero may plain e = absurd may
+      exchanged_leaf (suc p) zero (suc y) may plain e = absurd (let f = known.pageless (suc p) in let h = may.0 in cc)
+      exchanged_leaf (suc p) (suc x) zero (inl may) plain e = absurd (let f = known.pageless (suc p) in cc)
+      exchanged_leaf (suc p) (suc x) zero (inr may) plain e = absurd (let f = known.pageless (suc p) in cc)
+      exchanged_leaf (suc zero) (suc x) (suc y) may plain e = record {
+        root = one.root;
+        linked = omega arith;
+        others = λ page lt. at_place (λ row. row ≡ 0) 1 (suc y) m.slots page (λ i. let f : page ≡ 1 = i in absurd (omega arith)) (λ ne. one.others page lt);
+        leaf = linked_leaf 1 (suc x) (suc y) e may.1 plain (subst (IsShortLeaf m.rows) e one.leaf);
+      }
+      exchanged_leaf (suc (suc p)) (suc x) (suc y) may plain e = absurd (let f = one.others (suc (suc p)) (omega arith) in omega arith)
+
+      leaf_after : (s : StepOf Record) → May a k s → IsPlainMove k s → ((row : ℕ) → o.row row ≡ Linked → (memory_after a s m).rows row ≡ m.rows row) → HasOneLeaf (memory_after a s m)
+      leaf_after (Slot p) may plain stay = one
+      leaf_after (Row q) may plain stay = one
+      leaf_after Epoch may plain stay = one
+      leaf_after (Announce b) may plain stay = one
+      leaf_after (PidBits w) may plain stay = one
+      leaf_after (RowBits w) may plain stay = one
+      leaf_after (Place q w) may plain stay = record { root = one.root; linked = one.linked; others = one.others; leaf = short_stays (memory_after a (Place q w) m).rows stay (m.slots 1) leaf_linked one.leaf }
+      leaf_after (Exchange p x y) may plain stay = by_test (m.slots p) x (λ t. HasOneLeaf (record m { slots = cond t (put m.slots p y) m.slots }))
+          (λ e. exchanged_leaf p x y may.1 plain e)
+          (λ ne. record { root = one.root; linked = one.linked; others = one.others; leaf = one.leaf })
+      leaf_after (TakePid p) may plain stay = absurd plain
+      leaf_after (TakeRow q) may plain stay = record { root = one.root; linked = one.linked; others = one.others; leaf = one.leaf }
+      leaf_after (Enter n) may plain stay = record { root = one.root; linked = one.linked; others = one.others; leaf = one.leaf }
+      leaf_after Leave may plain stay = record { root = one.root; linked = one.linked; others = one.others; leaf = one.leaf }
+      leaf_after (Retire n) may plain stay = absurd may
+      leaf_after (ReusePids w bits) may plain stay = absurd may
+      leaf_after (ReuseRows w bits) may plain stay = absurd may
 
     -- what the actor learns
     same : (k' : Knowledge) → k'.heads ≡ k.heads → k'.pages ≡ k.pages → k'.roots ≡ k.roots → KnowsLeaf m.rows k'
@@ -197,9 +210,9 @@ module _ (m : Memory) {log : List Update} {o : Owners} {ks : ℕ → Knowledge} 
     learnt (ReusePids w bits) x may plain is stay = absurd may
     learnt (ReuseRows w bits) x may plain is stay = absurd may
 
-pub opens : (limits : Limits) → IsState limits []
-opens limits = record {
-  tree = tree_begins.opens limits;
+pub opens : Opens tree.IsState → Opens IsState
+opens tree_opens limits = record {
+  tree = tree_opens limits;
   leaf = record {
     root = refl;
     linked = omega arith;
@@ -212,22 +225,21 @@ opens limits = record {
     none : (page : ℕ) → 1 < page → (opening limits).slots page ≡ 0
     none page h = rw (lt-leb page 1 h) refl
 
-pub begins : (limits : Limits) (entries : List Entry) (actor : ℕ) (command : Command) → IsState limits entries → actor < limits.actors → command_of entries actor ≡ None → IsState limits (entries ++ Begin actor command ∷ [])
-begins limits entries a c state below idle = record {
-  tree = tree_begins.begins limits entries a c state.tree below idle;
-  leaf = rw (memory_of-push limits entries (Begin a c)) state.leaf;
-  known = rw (memory_of-push limits entries (Begin a c), knows-push entries (Begin a c))
-      (put_all (λ b k. KnowsLeaf (memory_of limits entries).rows k) (knows entries) a (begun (knows entries a) c) (record { heads = λ page row e. absurd (cc); pageless = (state.known a).pageless; roots = (state.known a).roots }) (λ b ne. state.known b));
+pub begins : Begins tree.IsState → MemoryGrows → Begins IsState
+begins tree_begins grows limits entries a c state below idle = record {
+  tree = tree_begins limits entries a c state.tree below idle;
+  leaf = rw (grows limits entries (Begin a c)) state.leaf;
+  known = rw (grows limits entries (Begin a c), knows-push entries (Begin a c))
+      (λ b. at_place (KnowsLeaf (memory_of limits entries).rows) a (begun (knows entries a) c) (knows entries) b (λ own. record { heads = λ page row e. absurd (cc); pageless = (state.known a).pageless; roots = (state.known a).roots }) (λ other. state.known b));
 }
 
-pub steps : (limits : Limits) (entries : List Entry) (actor : ℕ) (step : StepOf Record) (answer : Answer Record) (reply : Option Reply) → IsState limits entries → IsSome (command_of entries actor)
-    → IsAllowed limits actor (knows entries actor) step reply → IsPlainMove (knows entries actor) step → IsAnswer (memory_of limits entries) step answer → IsState limits (entries ++ Step actor step answer reply ∷ [])
-steps limits entries a s x r state busy allowed plain is = record {
-  tree = tree_grows.steps limits entries a s x r state.tree busy allowed is;
-  leaf = rw (memory_of-push limits entries last) (leaf_after m state.tree.good a state.leaf (state.known a) s allowed.may plain stay);
-  known = rw (memory_of-push limits entries last, knows-push entries last)
-      (put_all (λ b k. KnowsLeaf (memory_after a s m).rows k) (knows entries) a (finished (learn (knows entries a) s x) r) (record { heads = own.heads; pageless = own.pageless; roots = own.roots })
-      (λ b ne. known_stays m state.tree.good (memory_after a s m).rows stay b (state.known b)));
+pub steps : TreeSteps → StepLaw → MemoryGrows → OneChain → Steps
+steps tree_steps one_step grows one_chain limits entries a s x r state busy allowed plain is = record {
+  tree = tree_steps limits entries a s x r state.tree busy allowed is;
+  leaf = rw (grows limits entries last) (leaf_after m state.tree.good a state.leaf (state.known a) one_chain s allowed.may plain stay);
+  known = rw (grows limits entries last, knows-push entries last)
+      (λ b. at_place (KnowsLeaf (memory_after a s m).rows) a (finished (learn (knows entries a) s x) r) (knows entries) b (λ mine. record { heads = own.heads; pageless = own.pageless; roots = own.roots })
+      (λ other. known_stays m state.tree.good (memory_after a s m).rows stay b (state.known b)));
 }
   where
     last : Entry
@@ -237,7 +249,7 @@ steps limits entries a s x r state busy allowed plain is = record {
     m = memory_of limits entries
 
     stay : (row : ℕ) → state.tree.owners.row row ≡ Linked → (memory_after a s m).rows row ≡ m.rows row
-    stay row linked = ((tree_step m state.tree.good a s r allowed.may x is).kept row linked).1
+    stay row linked = ((one_step m _ _ _ _ _ state.tree.good limits a s x r allowed is).kept row linked).1
 
     own : KnowsLeaf (memory_after a s m).rows (learn (knows entries a) s x)
     own = learnt m state.tree.good a state.leaf (state.known a) s x allowed.may plain is stay

@@ -1,5 +1,6 @@
 pub mod Appended
 pub mod Causes
+pub mod Chains
 pub mod Changing
 pub mod Affording
 pub mod Directing
@@ -7,6 +8,8 @@ pub mod Paying
 pub mod Counting
 pub mod Recollecting
 pub mod Fitted
+pub mod Laws
 pub mod Links
+pub mod Places
 pub mod Runs
 pub mod Keeping

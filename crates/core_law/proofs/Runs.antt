@@ -9,19 +9,20 @@ use Rattle.chain_search.specs.Knowledge.{knows}
 use Rattle.op_machine.specs.OneLeaf.{IsPlainMove}
 use Rattle.core_law.specs.State.{ArePlain, IsState}
 use Rattle.core_law.proofs.Appended.{at_length, take_length}
-use Rattle.core_law.proofs.Keeping.{opens, begins, steps}
+use Rattle.core_law.proofs.Laws.{Begins, Opens, Steps}
 
-one_more : (limits : Limits) (before : List Entry) (entry : Entry) (entries : List Entry) → IsState limits before → MayStand limits before entry → ArePlain (before ++ entry ∷ entries) → IsState limits (before ++ entry ∷ [])
-one_more limits before (Begin actor command) entries state may plain = begins limits before actor command state may.0 may.1
-one_more limits before (Step actor step answer reply) entries state may plain =
-    steps limits before actor step answer reply state may.0 may.1
-    (subst (λ es. IsPlainMove (knows es actor) step) (take_length before (Step actor step answer reply ∷ entries)) (plain (length before) actor step answer (reply, at_length before (Step actor step answer reply) entries))) may.2
+module _ (opens : Opens IsState) (begins : Begins IsState) (steps : Steps) where
+  one_more : (limits : Limits) (before : List Entry) (entry : Entry) (entries : List Entry) → IsState limits before → MayStand limits before entry → ArePlain (before ++ entry ∷ entries) → IsState limits (before ++ entry ∷ [])
+  one_more limits before (Begin actor command) entries state may plain = begins limits before actor command state may.0 may.1
+  one_more limits before (Step actor step answer reply) entries state may plain =
+      steps limits before actor step answer reply state may.0 may.1
+      (subst (λ es. IsPlainMove (knows es actor) step) (take_length before (Step actor step answer reply ∷ entries)) (plain (length before) actor step answer (reply, at_length before (Step actor step answer reply) entries))) may.2
 
-state_along : (limits : Limits) (before entries : List Entry) → IsState limits before → IsDisciplinedFrom limits before entries → ArePlain (before ++ entries) → IsState limits (before ++ entries)
-state_along limits before [] state h plain = rw append-nil state
-state_along limits before (entry ∷ entries) state h plain =
-    let same : (before ++ entry ∷ []) ++ entries ≡ before ++ entry ∷ entries = append_assoc before (entry ∷ []) entries in
-    subst (IsState limits) same (state_along limits (before ++ entry ∷ []) entries (one_more limits before entry entries state h.0 plain) h.1 (subst ArePlain (sym same) plain))
+  state_along : (limits : Limits) (before entries : List Entry) → IsState limits before → IsDisciplinedFrom limits before entries → ArePlain (before ++ entries) → IsState limits (before ++ entries)
+  state_along limits before [] state h plain = rw append-nil state
+  state_along limits before (entry ∷ entries) state h plain =
+      let same : (before ++ entry ∷ []) ++ entries ≡ before ++ entry ∷ entries = append_assoc before (entry ∷ []) entries in
+      subst (IsState limits) same (state_along limits (before ++ entry ∷ []) entries (one_more limits before entry entries state h.0 plain) h.1 (subst ArePlain (sym same) plain))
 
-pub disciplined : (limits : Limits) (entries : List Entry) → IsDisciplined limits entries → ArePlain entries → IsState limits entries
-disciplined limits entries h plain = state_along limits [] entries (opens limits) h plain
+  pub disciplined : (limits : Limits) (entries : List Entry) → IsDisciplined limits entries → ArePlain entries → IsState limits entries
+  disciplined limits entries h plain = state_along limits [] entries (opens limits) h plain

@@ -17,21 +17,33 @@ ghost use Rattle.deltas.specs.declared.record.Record.{Record};
 ghost use Rattle.op_machine.specs.OneLeaf.{FitsOneLeaf, IsPlainMove};
 ghost use Rattle.tree_law.specs.State as tree;
 
+use chain_search::{chain_is_one, memory_grows};
+
 /// The empty trace is a state.
 pub fn opens()
     ensures { (limits : Limits) → IsState limits [] }
-{}
+{
+    tree_law::opens();
+}
 
 /// A begin keeps it, where the actor is there and has no operation.
 pub fn begins()
     ensures { (limits : Limits) (entries : List Entry) (actor : ℕ) (command : Command) → IsState limits entries → actor < limits.actors → command_of entries actor ≡ None → IsState limits (entries ++ Begin actor command ∷ []) }
-{}
+{
+    tree_law::begins();
+    memory_grows();
+}
 
 /// A plain step keeps it, where the actor's knowledge allows it and the memory gives its answer.
 pub fn steps()
     ensures { (limits : Limits) (entries : List Entry) (actor : ℕ) (step : StepOf Record) (answer : Answer Record) (reply : Option Reply) → IsState limits entries → IsSome (command_of entries actor)
         → IsAllowed limits actor (knows entries actor) step reply → IsPlainMove (knows entries actor) step → IsAnswer (memory_of limits entries) step answer → IsState limits (entries ++ Step actor step answer reply ∷ []) }
-{}
+{
+    tree_law::steps();
+    tree_law::one_step_keeps();
+    memory_grows();
+    chain_is_one();
+}
 
 /// It is a state of the whole tree, so the tree's law says the rest; and page 1 is its only page.
 pub fn is_one_leaf()
@@ -42,10 +54,16 @@ pub fn is_one_leaf()
 /// A trace of plain steps in which each actor obeys its discipline is a state.
 pub fn disciplined_runs()
     ensures { (limits : Limits) (entries : List Entry) → IsDisciplined limits entries → ArePlain entries → IsState limits entries }
-{}
+{
+    opens();
+    begins();
+    steps();
+}
 
 /// In a state, what the memory answers fits what the actor knows, and shows the only leaf.
 pub fn answers()
     ensures { (limits : Limits) (entries : List Entry) (actor : ℕ) (step : StepOf Record) (answer : Answer Record) → IsState limits entries
         → May actor (knows entries actor) step → IsAnswer (memory_of limits entries) step answer → FitsOneLeaf limits (knows entries actor) step answer }
-{}
+{
+    tree_law::answers();
+}

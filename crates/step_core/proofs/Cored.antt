@@ -14,23 +14,22 @@ use Rattle.chain_search.specs.declared.trace.Turn.TheVariants as turn
 use Rattle.deltas.specs.Memory.{opening}
 use Rattle.chain_search.specs.Steps.{IsAnswer, memory_after}
 use Rattle.chain_search.specs.Trace.{command_of, commands_after, memory_of}
-use Rattle.chain_search.proofs.TraceLaws.{command_of-push, memory_of-push}
 use Rattle.step_core.specs.declared.actor.Actor.{Actor}
 use Rattle.chain_search.specs.Discipline.{May}
 use Rattle.op_machine.specs.OneLeaf.{IsPlainMove}
 use Rattle.chain_search.specs.Knowledge.{Knowledge, begun, finished, knows, knows_after, learn}
-use Rattle.core_law.proofs.Keeping.{begins, opens, steps}
 use Rattle.core_law.specs.Direct.{Accounts, IsDirectState, StaysDirect}
+use Rattle.core_law.specs.State.{IsState}
 use Rattle.installs.specs.Recalled.{IsPaid, Recalled, blank, recall, recalls, recalls_after}
 use Rattle.installs.specs.Within.{IsWithin}
 use Rattle.step_core.specs.Actors.{IsActor, IsPlainlyAllowed, IsReady, command_left, knows_then, running_command}
 use Rattle.step_core.specs.Cells.{Cells, AreSound}
 use Rattle.step_core.specs.CellSteps.{Takes}
 use Rattle.step_core.specs.Represents.{Asks, Represents, is_placed}
-use Rattle.tree_law.proofs.Beginning.{knows-push}
 use Rattle.step_core.proofs.Lawful.{asks, served_at}
 use Rattle.step_core.proofs.Representing.{takes}
 use Rattle.step_core.specs.Cores.{IsCore, Pays}
+use Rattle.step_core.specs.Laws.{BeginLaw, Grows, StepLaw}
 use Rattle.step_core.specs.Spending.{RecallsAt, Spends, left_at}
 use Rattle.step_core.specs.Turns.{Core, refused_by, refusal_of}
 use Rattle.step_core.proofs.Replaced.{get_is, replaced_other, replaced_same, set_cases, set_length}
@@ -69,24 +68,20 @@ shows_set limits actors i new old now each own others a at e = elim (set_cases a
   | inr h ↦ subst (λ k. IsActor limits a k at) (sym (others a h.0)) (each a at h.1)
 ]
 
--- what each actor recalls after one entry more
-abbrev Recollects : List Entry → Entry → Type 0
-Recollects entries entry = recalls (entries ++ entry ∷ []) ≡ recalls_after (recalls entries) entry
-
 -- each operation is paid for after the longer trace too
-pays_set : (limits : Limits) (actors : List Actor) (entries : List Entry) (entry : Entry) (i : ℕ) (new : Actor) → Recollects entries entry → ((a : ℕ) (at : Actor) → slice_get actors a ≡ Some at → Pays limits entries a at.running)
+pays_set : (limits : Limits) (actors : List Actor) (entries : List Entry) (entry : Entry) (i : ℕ) (new : Actor) → Grows limits entries entry → ((a : ℕ) (at : Actor) → slice_get actors a ≡ Some at → Pays limits entries a at.running)
     → RecallsAt new.running (recalls_after (recalls entries) entry i) → ((a : ℕ) → a ≢ i → recalls_after (recalls entries) entry a ≡ recalls entries a) → StaysDirect limits entries entry i (left_at new.running)
     → (a : ℕ) (at : Actor) → slice_get (set actors i new) a ≡ Some at → Pays limits (entries ++ entry ∷ []) a at.running
 pays_set limits actors entries entry i new grows each own others stays a at e = elim (set_cases actors i new a at e) [
-  | inl h ↦ rw (h.0, h.1) (rw grows own, stays.account)
-  | inr h ↦ let was = each a at h.1 in (rw (grows, others a h.0) was.0, stays.others a (left_at at.running) h.0 was.1)
+  | inl h ↦ rw (h.0, h.1) (rw grows.recalled own, stays.account)
+  | inr h ↦ let was = each a at h.1 in (rw (grows.recalled, others a h.0) was.0, stays.others a (left_at at.running) h.0 was.1)
 ]
 
 module _ (limits : Limits) where
   pub core_opens : (cells : Cells) (actors : List Actor) (entries : List Entry) → AreSound limits cells → Represents limits cells (opening limits) → length actors ≡ limits.actors
-      → ((a : ℕ) (at : Actor) → slice_get actors a ≡ Some at → at ≡ record { hand = []; running = None }) → IsDirectState limits [] → entries ≡ [] → IsCore limits cells actors entries
-  core_opens cells actors entries sound is count each direct none = rw none (record {
-    state = opens limits;
+      → ((a : ℕ) (at : Actor) → slice_get actors a ≡ Some at → at ≡ record { hand = []; running = None }) → IsState limits [] → IsDirectState limits [] → entries ≡ [] → IsCore limits cells actors entries
+  core_opens cells actors entries sound is count each state direct none = rw none (record {
+    state = state;
     direct = direct;
     cells_sound = sound;
     represented = is;
@@ -106,32 +101,32 @@ module _ (limits : Limits) where
       let found : slice_get actors i ≡ Some old = get_is actors i old lt (subst (λ k. old ≡ get_or actors k old) same at) in
       (rw same lt, core.each_shows i old found, core.each_running i old found ∙ goes.1)
 
-  pub core_asks : (cells : Cells) (actors : List Actor) (entries : List Entry) (i j : ℕ) (old : Actor) → IsCore limits cells actors entries
+  pub core_asks : StepLaw → (cells : Cells) (actors : List Actor) (entries : List Entry) (i j : ℕ) (old : Actor) → IsCore limits cells actors entries
       → (room : ℕ) (v : Core) → record { limits = limits; entries = entries; room = room } ≡ v → refusal_of v (turn.Step i) ≡ None → j ≡ i → old ≡ get_or actors j old
       → (i < limits.actors) × (j < length actors) × IsReady limits i (knows entries i) cells old × (is_some (running_command old) ≡ true)
-  core_asks cells actors entries i j old core room v is refusal same at =
+  core_asks law cells actors entries i j old core room v is refusal same at =
       let goes : (i < limits.actors) × (is_some (command_of entries i) ≡ true) = step_goes (record { limits = limits; entries = entries; room = room }) i (subst (λ u. refusal_of u (turn.Step i) ≡ None) (sym is) refusal) in
       let lt : i < length actors = rw core.count goes.0 in
       let found : slice_get actors i ≡ Some old = get_is actors i old lt (subst (λ k. old ≡ get_or actors k old) same at) in
       let shows = core.each_shows i old found in
-      (goes.0, rw same lt, (shows, served_at limits entries core.state i cells core.represented core.cells_sound goes.0 old.hand old.running shows), ap is_some (core.each_running i old found) ∙ goes.1)
+      (goes.0, rw same lt, (shows, served_at limits entries core.state law i cells core.represented core.cells_sound goes.0 old.hand old.running shows), ap is_some (core.each_running i old found) ∙ goes.1)
 
-  pub core_begun : (cells : Cells) (actors : List Actor) (entries entries' : List Entry) (i j : ℕ) (new : Actor) (command : Command) → IsCore limits cells actors entries
+  pub core_begun : BeginLaw → (cells : Cells) (actors : List Actor) (entries entries' : List Entry) (i j : ℕ) (new : Actor) (command : Command) → IsCore limits cells actors entries
       → (room : ℕ) (v : Core) → record { limits = limits; entries = entries; room = room } ≡ v → refusal_of v (turn.Begin i command) ≡ None → j ≡ i
-      → IsActor limits i (begun (knows entries i) command) new → running_command new ≡ Some command → ((r : Recalled) → RecallsAt new.running r) → Recollects entries (Begin i command) → StaysDirect limits entries (Begin i command) i (left_at new.running)
+      → IsActor limits i (begun (knows entries i) command) new → running_command new ≡ Some command → ((r : Recalled) → RecallsAt new.running r) → Grows limits entries (Begin i command) → StaysDirect limits entries (Begin i command) i (left_at new.running)
       → entries' ≡ entries ++ Begin i command ∷ [] → IsCore limits cells (set actors j new) entries'
-  core_begun cells actors entries entries' i j new command core room v is refusal same shows runs recalled grows stays grown =
+  core_begun law cells actors entries entries' i j new command core room v is refusal same shows runs recalled grows stays grown =
       let goes : (i < limits.actors) × (command_of entries i ≡ None) = begin_goes (record { limits = limits; entries = entries; room = room }) i command (subst (λ u. refusal_of u (turn.Begin i command) ≡ None) (sym is) refusal) in
       rw (grown, same) (record {
-        state = begins limits entries i command core.state goes.0 goes.1;
+        state = law.state limits entries i command core.state goes.0 goes.1;
         direct = stays.state;
         cells_sound = core.cells_sound;
-        represented = rw memory_of-push core.represented;
+        represented = rw grows.memory core.represented;
         count = set_length actors i new ∙ core.count;
-        each_shows = rw knows-push (shows_set limits actors i new (knows entries) (knows_after (knows entries) (Begin i command)) core.each_shows
+        each_shows = rw grows.known (shows_set limits actors i new (knows entries) (knows_after (knows entries) (Begin i command)) core.each_shows
             (subst (λ k. IsActor limits i k new) (sym (replaced_same i (begun (knows entries i) command) (knows entries))) shows)
             (λ a other. replaced_other i (begun (knows entries i) command) (knows entries) a other));
-        each_running = rw command_of-push (each_set actors i new (command_of entries) (commands_after (command_of entries) (Begin i command)) core.each_running
+        each_running = rw grows.commands (each_set actors i new (command_of entries) (commands_after (command_of entries) (Begin i command)) core.each_running
             (runs ∙ sym (replaced_same i (Some command) (command_of entries)))
             (λ a other. replaced_other i (Some command) (command_of entries) a other));
         each_pays = pays_set limits actors entries (Begin i command) i new grows core.each_pays (recalled (recalls_after (recalls entries) (Begin i command) i)) (λ a other. replaced_other i blank (recalls entries) a other) stays;
@@ -147,10 +142,10 @@ module _ (limits : Limits) where
   left_other commands i step answer (Some reply) a other = replaced_other i None commands a other
 
   -- what the step of an actor was
-  pub core_took : (cells cells' : Cells) (actors : List Actor) (entries : List Entry) (i : ℕ) (step : StepOf Record) (answer : Answer Record) → IsCore limits cells actors entries → i < limits.actors → IsWithin limits step → Takes i cells step answer cells'
+  pub core_took : StepLaw → (cells cells' : Cells) (actors : List Actor) (entries : List Entry) (i : ℕ) (step : StepOf Record) (answer : Answer Record) → IsCore limits cells actors entries → i < limits.actors → IsWithin limits step → Takes i cells step answer cells'
       → May i (knows entries i) step → IsPlainMove (knows entries i) step → Asks (is_placed (memory_of limits entries)) step × IsAnswer (memory_of limits entries) step answer × Represents limits cells' (memory_after i step (memory_of limits entries))
-  core_took cells cells' actors entries i step answer core who within took may plain =
-      let asked : Asks (is_placed (memory_of limits entries)) step = asks limits entries core.state i step may plain in
+  core_took law cells cells' actors entries i step answer core who within took may plain =
+      let asked : Asks (is_placed (memory_of limits entries)) step = asks limits entries core.state law i step may plain in
       let kept = takes limits cells cells' (memory_of limits entries) i step answer core.represented core.cells_sound within who asked took in
       (asked, kept.0, kept.1)
 
@@ -163,23 +158,23 @@ module _ (limits : Limits) where
       let spent = spends (recalls entries i) paid.0 in
       (paid.1, spent.1, spent.0)
 
-  pub core_stepped : (cells cells' : Cells) (actors : List Actor) (entries entries' : List Entry) (i j : ℕ) (old new : Actor) (step : StepOf Record) (answer : Answer Record) (reply : Option Reply) → IsCore limits cells actors entries
+  pub core_stepped : StepLaw → (cells cells' : Cells) (actors : List Actor) (entries entries' : List Entry) (i j : ℕ) (old new : Actor) (step : StepOf Record) (answer : Answer Record) (reply : Option Reply) → IsCore limits cells actors entries
       → j ≡ i → j < length actors → old ≡ get_or actors j old → is_some (running_command old) ≡ true → IsPlainlyAllowed limits i (knows entries i) step reply → IsActor limits i (knows_then (knows entries i) step answer reply) new
-      → running_command new ≡ command_left reply (running_command old) → RecallsAt new.running (recall (recalls entries i) step answer) → Recollects entries (Step i step answer reply) → StaysDirect limits entries (Step i step answer reply) i (left_at new.running) → AreSound limits cells' → IsAnswer (memory_of limits entries) step answer
+      → running_command new ≡ command_left reply (running_command old) → RecallsAt new.running (recall (recalls entries i) step answer) → Grows limits entries (Step i step answer reply) → StaysDirect limits entries (Step i step answer reply) i (left_at new.running) → AreSound limits cells' → IsAnswer (memory_of limits entries) step answer
       → Represents limits cells' (memory_after i step (memory_of limits entries)) → entries' ≡ entries ++ Step i step answer reply ∷ [] → IsCore limits cells' (set actors j new) entries'
-  core_stepped cells cells' actors entries entries' i j old new step answer reply core same lt at some allowed shows runs recalled grows stays sound' answered kept grown =
+  core_stepped law cells cells' actors entries entries' i j old new step answer reply core same lt at some allowed shows runs recalled grows stays sound' answered kept grown =
       let found : slice_get actors i ≡ Some old = get_is actors i old (rw (sym same) lt) (subst (λ k. old ≡ get_or actors k old) same at) in
       let going : is_some (command_of entries i) ≡ true = ap is_some (sym (core.each_running i old found)) ∙ some in
       rw (grown, same) (record {
-        state = steps limits entries i step answer reply core.state going allowed.allowed allowed.plain answered;
+        state = law.state limits entries i step answer reply core.state going allowed.allowed allowed.plain answered;
         direct = stays.state;
         cells_sound = sound';
-        represented = rw memory_of-push kept;
+        represented = rw grows.memory kept;
         count = set_length actors i new ∙ core.count;
-        each_shows = rw knows-push (shows_set limits actors i new (knows entries) (knows_after (knows entries) (Step i step answer reply)) core.each_shows
+        each_shows = rw grows.known (shows_set limits actors i new (knows entries) (knows_after (knows entries) (Step i step answer reply)) core.each_shows
             (subst (λ k. IsActor limits i k new) (sym (replaced_same i (finished (learn (knows entries i) step answer) reply) (knows entries))) shows)
             (λ a other. replaced_other i (finished (learn (knows entries i) step answer) reply) (knows entries) a other));
-        each_running = rw command_of-push (each_set actors i new (command_of entries) (commands_after (command_of entries) (Step i step answer reply)) core.each_running
+        each_running = rw grows.commands (each_set actors i new (command_of entries) (commands_after (command_of entries) (Step i step answer reply)) core.each_running
             (runs ∙ ap (command_left reply) (core.each_running i old found) ∙ left_same (command_of entries) i step answer reply)
             (left_other (command_of entries) i step answer reply));
         each_pays = pays_set limits actors entries (Step i step answer reply) i new grows core.each_pays (subst (RecallsAt new.running) (sym (replaced_same i (recall (recalls entries i) step answer) (recalls entries))) recalled)

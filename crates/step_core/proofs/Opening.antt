@@ -14,7 +14,7 @@ use Rattle.deltas.specs.declared.record.Record.{Record}
 use Rattle.deltas.specs.declared.record.Record.TheVariants.{Base}
 use Rattle.deltas.specs.Memory.{opening}
 use Rattle.chain_search.specs.Steps.{IsWordOf}
-use Rattle.step_core.specs.Represents.{Represents}
+use Rattle.step_core.specs.Represents.{AreOpen, Represents}
 use Rattle.step_core.proofs.FreeBits.{same_or_not}
 
 le_true : (a b : ℕ) → a ≤ b → nat_le a b ≡ true
@@ -30,8 +30,7 @@ eqb_is : (a b : ℕ) → eqb a b ≡ true → a ≡ b
 eqb_is a b h = grind (arith, nat_tests)
 
 -- all numbers from 2 on are free
-words_open : (count : ℕ) (words : List ℕ) → words ≡ replicate (count / 64) 18446744073709551615 → count % 64 ≡ 0 → 64 ≤ count → (word : ℕ) → 64 * word < count
-    → IsWordOf (λ n. nat_le 2 n && nat_lt n count) word (slice_index (set words 0 18446744073709551612) word)
+pub words_open : (count : ℕ) (words : List ℕ) → words ≡ replicate (count / 64) 18446744073709551615 → count % 64 ≡ 0 → 64 ≤ count → AreOpen count (set words 0 18446744073709551612)
 words_open count words all whole some word within = elim (same_or_not word 0) [
   | inl first ↦
       let lt : 0 < length words = rw (all, length-replicate) (omega arith) in
@@ -65,14 +64,14 @@ slots_open count slots all some pid within = elim (same_or_not pid 1) [
     long : 1 < length (set slots 0 1)
     long = rw (length-set, all, length-replicate) (omega arith)
 
-pub opening_is : (limits : Limits) (slots pid_bits row_bits announced : List ℕ) (records : List Record) → slots ≡ replicate limits.pids 0 → pid_bits ≡ replicate (limits.pids / 64) 18446744073709551615
-    → row_bits ≡ replicate (limits.rows / 64) 18446744073709551615 → announced ≡ replicate limits.actors 0 → length records ≡ limits.rows → ((row : ℕ) (default : Record) → row < limits.rows → get_or records row default ≡ Base empty_leaf)
-    → Represents limits (record { slots = set (set slots 0 1) 1 1; records = records; pid_bits = set pid_bits 0 18446744073709551612; row_bits = set row_bits 0 18446744073709551612; epoch = limits.epoch; announced = announced }) (opening limits)
+pub opening_is : (limits : Limits) (slots pid_bits row_bits announced : List ℕ) (records : List Record) → slots ≡ replicate limits.pids 0 → AreOpen limits.pids pid_bits → AreOpen limits.rows row_bits
+    → announced ≡ replicate limits.actors 0 → length records ≡ limits.rows → ((row : ℕ) (default : Record) → row < limits.rows → get_or records row default ≡ Base empty_leaf)
+    → Represents limits (record { slots = set (set slots 0 1) 1 1; records = records; pid_bits = pid_bits; row_bits = row_bits; epoch = limits.epoch; announced = announced }) (opening limits)
 opening_is limits slots pid_bits row_bits announced records zeros pids rows outside long each = record {
   slots = slots_open limits.pids slots zeros limits.allowed.some_pids;
   rows = at;
-  free_pids = words_open limits.pids pid_bits pids limits.allowed.whole_pids limits.allowed.some_pids;
-  free_rows = words_open limits.rows row_bits rows limits.allowed.whole_rows limits.allowed.some_rows;
+  free_pids = pids;
+  free_rows = rows;
   same_epoch = refl;
   announced = λ actor within. rw outside (get_or-replicate limits.actors actor 0 0 within);
 }

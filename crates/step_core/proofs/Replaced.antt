@@ -1,5 +1,5 @@
--- A function or a list with one value replaced.
-use Rattle.std.proofs.Common.{◌≡◌, ◌≢◌, ◌<◌, ◌⊎◌, inl, inr, ℕ, zero, suc, List, [], ◌∷◌, length, Some, set, get_or, eq-eqb, ne_eqb, refl, sym, ap, arith}
+-- A function or a list with one value replaced, or a list with one more.
+use Rattle.std.proofs.Common.{◌≡◌, ◌≢◌, ◌<◌, ◌⊎◌, inl, inr, ℕ, zero, suc, List, [], ◌∷◌, ◌++◌, length, Some, set, get_or, eq-eqb, ne_eqb, refl, sym, ap, arith}
 use Rattle.std.specs.Prelude.{slice_get}
 use Rattle.deltas.specs.Memory.{replaced_at}
 
@@ -25,3 +25,10 @@ pub set_length : {X : Type 0} (xs : List X) (i : ℕ) (x : X) → length (set xs
 set_length [] i x = refl
 set_length (z ∷ xs) zero x = refl
 set_length (z ∷ xs) (suc i) x = ap suc (set_length xs i x)
+
+-- what stands in the longer list stood in the shorter one, or is the new value
+pub push_cases : {X : Type 0} (xs : List X) (x : X) (a : ℕ) (y : X) → slice_get (xs ++ x ∷ []) a ≡ Some y → (slice_get xs a ≡ Some y) ⊎ (y ≡ x)
+push_cases [] x zero y e = inr (cc)
+push_cases [] x (suc a) y e = cc
+push_cases (z ∷ xs) x zero y e = inl e
+push_cases (z ∷ xs) x (suc a) y e = push_cases xs x a y e

@@ -1,5 +1,5 @@
 -- One step of an operation: what it recalls, and how many steps it has left.
-use Rattle.std.proofs.Common.{◌≡◌, ◌<◌, ◌≤◌, ℕ, List, Option, Some, None, ◌⊎◌, inl, inr, true, false, refl, sym, subst, arith}
+use Rattle.std.proofs.Common.{◌≡◌, ◌<◌, ◌≤◌, List, Option, Some, None, ◌⊎◌, inl, inr, true, false, refl, sym, subst, arith}
 use Rattle.std.specs.Prelude.{is_some}
 use Rattle.bw_model.specs.declared.command.Reply.{Reply}
 use Rattle.bw_model.specs.declared.step.Answer.{Answer}
@@ -8,7 +8,6 @@ use Rattle.bw_model.specs.declared.step.Step.{Step as StepOf}
 use Rattle.bw_model.specs.declared.step.Step.TheVariants as step
 use Rattle.deltas.specs.declared.record.Record.{Record}
 use Rattle.installs.specs.Recalled.{Recalled, recall}
-use Rattle.installs.specs.declared.install.State.TheVariants.{Bits, Take, Place, Exchange}
 use Rattle.op_machine.specs.Bounded.{IsPaidLast, Recalls, RecallsAt, Spends as OpSpends, left_at as state_left, recall_last, steps_left}
 use Rattle.op_machine.specs.Wants.{Op, wanted_at, wanted_of}
 use Rattle.op_machine.specs.declared.op.State.{State}
@@ -28,7 +27,7 @@ begun_recalls old new asked begun spends = λ r.
 pub spends_on : (old : Running) (new : Op) (asked : StepOf Record) (a : Answer Record) → wanted_of old.op ≡ Some old.wanted → OpSpends old.op a new (Step asked) → steps_left new ≤ 279 → Spends (Some old) old.wanted a (Some (record { op = new; wanted = asked }))
 spends_on old new asked a e spends few = λ r h.
     let s : Recalls new (recall r old.wanted a) × ((steps_left new < steps_left old.op) ⊎ IsPaidLast r (Some old.wanted) a) =
-      subst (λ w. Recalls new (recall_last r w a) × ((steps_left new < steps_left old.op) ⊎ IsPaidLast r w a)) e (spends r h) in
+    subst (λ w. Recalls new (recall_last r w a) × ((steps_left new < steps_left old.op) ⊎ IsPaidLast r w a)) e (spends r h) in
     (s.0, elim s.1 [ inl fewer ↦ inl fewer | inr paid ↦ inr (paid, omega arith) ])
 
 -- a state that has asked for Leave has a step left

@@ -7,3 +7,4 @@ pub mod Cores
 pub mod Represents
 pub mod Listed
 pub mod Turns
+pub mod Laws

@@ -1,5 +1,5 @@
 -- The memory that cells stand for.
-use Rattle.std.specs.Prelude.{◌≡◌, ◌<◌, ◌*◌, ℕ, Bool, Some, IsTrue, is_some, slice_index, slice_get}
+use Rattle.std.specs.Prelude.{◌≡◌, ◌<◌, ◌*◌, ℕ, List, Bool, ◌&&◌, Some, IsTrue, is_some, nat_le, nat_lt, slice_index, slice_get}
 use Rattle.bw_model.specs.declared.limits.Limits.{Limits}
 use Rattle.bw_model.specs.declared.step.Step.{Step}
 use Rattle.bw_model.specs.declared.step.Step.TheVariants.{Row, Exchange}
@@ -16,6 +16,10 @@ pub record Represents (limits : Limits) (cells : Cells) (memory : Memory) : Type
   pub free_rows : (word : ℕ) → 64 * word < limits.rows → IsWordOf memory.free_rows word (slice_index cells.row_bits word)
   pub same_epoch : cells.epoch ≡ memory.epoch
   pub announced : (actor : ℕ) → actor < limits.actors → slice_index cells.announced actor ≡ memory.announced actor
+
+-- All numbers from 2 on, up to the count, are free.
+abbrev pub AreOpen : ℕ → List ℕ → Type 0
+AreOpen count words = (word : ℕ) → 64 * word < count → IsWordOf (λ n. nat_le 2 n && nat_lt n count) word (slice_index words word)
 
 -- whether a record was placed in the row
 abbrev pub is_placed : Memory → ℕ → Bool

@@ -1,4 +1,4 @@
-//! The law over runs, beside the code that comes under it.
+//! The law over runs, beside the code that comes under it, and what the core's turns rest on: laws of the crates below.
 ghost use Rattle.std.specs.Prelude.{List, map};
 ghost use Rattle.bw_model.specs.declared.limits.Limits.{Limits};
 ghost use Rattle.chain_search.specs.Disciplined.{IsDisciplined};
@@ -8,6 +8,10 @@ ghost use Rattle.op_machine.specs.Index.{IsExactIndex};
 ghost use Rattle.op_machine.specs.Linearized.{IsLinearized};
 ghost use Rattle.op_machine.specs.Phases.{KeepsPhases};
 ghost use Rattle.op_machine.specs.Reuse.{IsFreedByRule};
+ghost use Rattle.step_core.specs.Laws.{BeginLaw, Grows, StateLaw, StepLaw};
+
+use chain_search::{command_grows, memory_grows};
+use core_law::{begins_directly, recalls_grow, steps_directly};
 
 /// In every trace, of any number of actors and in any order of their turns, in which each actor obeys its discipline, the
 /// operations took effect one at a time, on one ordered map; pages kept their phases, the index is exact at each moment, and
@@ -19,6 +23,43 @@ pub fn disciplined_runs()
     ensures freed { (limits : Limits) (entries : List Entry) → IsDisciplined limits entries → IsFreedByRule limits entries }
 {
     tree_law::disciplined_runs();
+    tree_law::keeps_phases();
+    tree_law::index_is_exact();
+    tree_law::frees_by_rule();
+}
+
+/// What one more entry makes of a trace.
+pub(crate) fn entries_grow()
+    ensures { (limits : Limits) (entries : List Entry) (entry : Entry) → Grows limits entries entry }
+{
+    memory_grows();
+    command_grows();
+    recalls_grow();
+}
+
+/// A begin keeps the law of one leaf and that of few steps.
+pub(crate) fn begins_keep_laws()
+    ensures { BeginLaw }
+{
+    core_law::begins();
+    begins_directly();
+}
+
+/// What a plain step may count on, and that it keeps the law of one leaf and that of few steps.
+pub(crate) fn steps_keep_laws()
+    ensures { StepLaw }
+{
+    tree_law::answers();
+    core_law::answers();
+    core_law::steps();
+    steps_directly();
+}
+
+/// A state of one leaf is one of the tree, so all that the tree's law says of states is so of it.
+pub(crate) fn states_are_lawful()
+    ensures { StateLaw }
+{
+    tree_law::is_one_map();
     tree_law::keeps_phases();
     tree_law::index_is_exact();
     tree_law::frees_by_rule();

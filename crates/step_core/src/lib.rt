@@ -2,7 +2,6 @@
 #![tactic(auto)]
 
 mod actor;
-mod chain;
 mod copies;
 mod event;
 mod law;

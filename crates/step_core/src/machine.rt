@@ -11,11 +11,12 @@ ghost use Rattle.step_core.specs.Turns.{AddsTurn, busy_of, refusal_of};
 
 use crate::actor::{Actor, Stepped};
 use crate::event::{Event, RunError, Trace};
+use crate::law::{begins_keep_laws, entries_grow, states_are_lawful, steps_keep_laws};
 use crate::listing::pairs_in;
 use crate::memory::Memory;
 use bw_model::{Command, Key, Limits, OpenError, Value};
 use chain_search::{Entry, Turn};
-use core_law::{begins_directly, opens_directly, recalls_grow, steps_directly};
+use core_law::opens_directly;
 use std::alloc::{AllocError, Allocator, Global};
 use std::marker::Model;
 
@@ -57,6 +58,7 @@ impl<A: Allocator + Copy> Core<A> {
         ensures entries { IfOk result (λ core. core.entries ≡ []) }
         ensures limits { IfOk result (λ core. core.limits ≡ limits) }
     {
+        core_law::opens();
         opens_directly();
         let memory = Memory::<A>::open(alloc, &limits)?;
         let mut actors = Vec::with_capacity(alloc, limits.actors as usize)?;
@@ -116,6 +118,7 @@ impl<A: Allocator> Core<A> {
         ensures direct { IsDirect self.now.limits self.now.entries }
         ensures freed { IsFreedByRule self.now.limits self.now.entries }
     {
+        states_are_lawful();
         let _ = &self.limits;
     }
 
@@ -172,8 +175,8 @@ impl<A: Allocator> Core<A> {
         requires room { length self.old.entries < self.old.room }
         ensures { AddsTurn self.old (Turn.Begin actor command) result self.new }
     {
-        begins_directly();
-        recalls_grow();
+        begins_keep_laws();
+        entries_grow();
         let entry = Entry::Begin(actor, command.clone().unwrap());
         let place = &mut self.actors[usize::from(actor)];
         place.begin(command, actor, &self.limits);
@@ -187,8 +190,8 @@ impl<A: Allocator> Core<A> {
         requires room { length self.old.entries < self.old.room }
         ensures { AddsTurn self.old (Turn.Step actor) result self.new }
     {
-        steps_directly();
-        recalls_grow();
+        steps_keep_laws();
+        entries_grow();
         let place = &mut self.actors[usize::from(actor)];
         let stepped = place.step(actor, &self.limits, &mut self.memory);
         let event = stepped.event(&self.memory);

@@ -1,11 +1,13 @@
 //! The memory that all actors share, with typed records.
-ghost use Rattle.std.specs.Prelude.{◌≡◌, ◌<◌, ◌*◌, length, IfOk, slice_get, slice_index, option_copied};
+ghost use Rattle.std.specs.Prelude.{◌≡◌, ◌<◌, ◌≤◌, ◌*◌, ◌%◌, ℕ, length, IfOk, slice_get, slice_index, slice_index_or, option_copied};
+ghost use Rattle.base_page.specs.Pages.{empty_leaf};
+ghost use Rattle.deltas.specs.declared.record.Record.TheVariants.{Base};
 ghost use Rattle.deltas.specs.Memory.{opening};
 ghost use Rattle.op_machine.specs.Links.{link_without};
 ghost use Rattle.installs.specs.Within.{IsWithin};
 ghost use Rattle.step_core.specs.Cells.{AreSound, is_free, without};
 ghost use Rattle.step_core.specs.CellSteps.{Takes};
-ghost use Rattle.step_core.specs.Represents.{Represents};
+ghost use Rattle.step_core.specs.Represents.{AreOpen, Represents};
 ghost use Rattle.step_core.specs.CellLinks.{exchange_link, link_in};
 
 use base_page::Page;
@@ -42,19 +44,11 @@ impl<A: Allocator + Copy> Memory<A> {
         let mut slots = vec![in alloc; 0; limits.pids as usize]?;
         slots[0] = 1;
         slots[1] = 1;
-        let mut pid_bits = vec![in alloc; u64::MAX; (limits.pids / 64) as usize]?;
-        pid_bits[0] = u64::MAX - 3;
-        let mut row_bits = vec![in alloc; u64::MAX; (limits.rows / 64) as usize]?;
-        row_bits[0] = u64::MAX - 3;
-        let mut records = Vec::with_capacity(alloc, limits.rows as usize)?;
-        for _ in 0..limits.rows {
-            records.push(Record::Base(Page::empty_leaf()))?;
-        }
         Ok(Memory {
             slots,
-            records,
-            pid_bits,
-            row_bits,
+            records: empty_leaves(alloc, limits.rows)?,
+            pid_bits: free_bits(alloc, limits.pids)?,
+            row_bits: free_bits(alloc, limits.rows)?,
             epoch: limits.epoch,
             announced: vec![in alloc; 0; limits.actors as usize]?,
         })
@@ -157,6 +151,30 @@ impl<A: Allocator> Memory<A> {
             }
         }
     }
+}
+
+/// Words in which each number below the count is free, but 0 and 1.
+fn free_bits<A: Allocator>(alloc: A, count: u64) -> Result<Vec<u64, A>, AllocError>
+    requires some { 64 ≤ count }
+    requires whole { count % 64 ≡ 0 }
+    ensures len { IfOk result (λ words. 64 * length words.items ≡ count) }
+    ensures open { IfOk result (λ words. AreOpen count words.items) }
+{
+    let mut words = vec![in alloc; u64::MAX; (count / 64) as usize]?;
+    words[0] = u64::MAX - 3;
+    Ok(words)
+}
+
+/// So many empty leaves.
+fn empty_leaves<A: Allocator>(alloc: A, count: u64) -> Result<Vec<Record, A>, AllocError>
+    ensures len { IfOk result (λ records. length records.items ≡ count) }
+    ensures leaves { IfOk result (λ records. (row : ℕ) (default : Record) → row < count → slice_index_or records.items row default ≡ Base empty_leaf) }
+{
+    let mut records = Vec::with_capacity(alloc, count as usize)?;
+    for _ in 0..count {
+        records.push(Record::Base(Page::empty_leaf()))?;
+    }
+    Ok(records)
 }
 
 /// Clears the bit of a number, and says whether it was set.

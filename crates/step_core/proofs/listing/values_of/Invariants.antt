@@ -1,5 +1,6 @@
-use Rattle.step_core.proofs.Noting.{NotedRecords}
+use Rattle.std.proofs.Common.{◌≡◌, ◌++◌, drop}
+use Rattle.step_core.specs.Listed.{pairs_of}
 use Rattle.step_core.proofs.listing.values_of.Given as goal
 
-abbrev pub invariant-loop-newest : goal.invariant-loop-newest
-invariant-loop-newest g l = NotedRecords l.chain l.newest-index l.values
+abbrev pub invariant-loop-item : goal.invariant-loop-item
+invariant-loop-item g l = l.pairs.items ++ pairs_of (drop l.item-index l.item-items) ≡ pairs_of l.item-items
