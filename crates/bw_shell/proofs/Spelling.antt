@@ -3,7 +3,7 @@ use Rattle.std.proofs.Common.{◌≡◌, ℕ, List, [], Option, Some, None, sym,
 use Rattle.std.specs.Prelude.{option_map}
 use Rattle.std.specs.Option.{option_map_or}
 use Rattle.std.specs.Str.Parse.{digits_value, without_leading_plus}
-use Rattle.clap.specs.Words.{App, Row, Text, is_simple, one_text, rows_of, takes}
+use Rattle.clap.specs.Words.{App, Row, Text, is_simple, is_simple_and_free, one_text, rows_of, takes}
 use Rattle.clap.specs.declared.error.kind.ErrorKind.{ErrorKind}
 use Rattle.clap.specs.declared.error.kind.ErrorKind.TheVariants.{OutOfMemory}
 use Rattle.clap.specs.declared.parser.matches.Found.{Found}
@@ -28,6 +28,10 @@ reads_default default (Some t) some = absurd (some t refl)
 pub is_simple-bwtree_app : is_simple bwtree_app ≡ true
 unfolding clap_on_literals
 is_simple-bwtree_app = refl
+
+pub is_simple_and_free-bwtree_app : is_simple_and_free bwtree_app ≡ true
+unfolding clap_on_literals
+is_simple_and_free-bwtree_app = refl
 
 pub rows_of_some : (o : Option (Text × List Row)) (rows : List Row) → option_map (λ p. p.1) o ≡ Some rows → option_map_or (λ p. p.1) o [] ≡ rows
 rows_of_some None rows h = cc

@@ -2,7 +2,7 @@
 use Rattle.std.specs.Prelude.{◌≡◌, ℕ, List, [], Some, true, MatchOption, codes}
 use Rattle.std.specs.Option.{option_map_or}
 use Rattle.std.specs.Str.Parse.{digits_value, without_leading_plus}
-use Rattle.clap.specs.Words.{App, Row, Rule, Text, new_app, new_rule, one_of, subcommand_of, takes, with_rule, with_subcommand}
+use Rattle.clap.specs.Words.{IsAmong, fault_of, kind_of, App, Row, Rule, Text, new_app, new_rule, one_of, subcommand_of, takes, with_rule, with_subcommand}
 use Rattle.clap.specs.Simple.{on_top}
 use Rattle.clap.specs.declared.builder.value_parser.ValueParser.TheVariants as vp
 use Rattle.bw_shell.specs.declared.command_line.Settings.{Settings}
@@ -39,7 +39,11 @@ pub record IsSpelled (words : List Text) (line : Settings) : Type 0 where
 unfoldable pub AreTaken : List Text → Type 0
 AreTaken words = takes bwtree_app words ≡ true
 
--- clap's refusal comes only for words outside the grammar
+-- the grammar finds no fault with the words
+abbrev pub HasNoFault : List Text → Type 0
+HasNoFault words = fault_of bwtree_app words ≡ []
+
+-- clap's refusal comes only for words outside the grammar, and tells a fault that they have
 abbrev pub MayRefuse : List Text → Refused → Type 0
-MayRefuse words (Clap error) = AreTaken words → ⊥
+MayRefuse words (Clap error) = (AreTaken words → ⊥) × IsAmong (kind_of error) (fault_of bwtree_app words)
 MayRefuse words Memory = Unit {0}

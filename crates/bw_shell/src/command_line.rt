@@ -1,11 +1,13 @@
 //! The command line.
 
-ghost use Rattle.std.specs.Prelude.{◌≡◌, IfErr, IfOk, IfSome, map, false};
+ghost use Rattle.std.specs.Prelude.{◌≡◌, ◌↔◌, IfErr, IfOk, IfSome, IsOk, map, false};
+ghost use Rattle.bw_model.specs.Limits.{AreLimits};
 ghost use Rattle.std.specs.String.{string_bytes};
 ghost use Rattle.clap.specs.Words.{app_of, found_of, rows_of, rule_of};
 ghost use Rattle.clap.specs.declared.builder.command.Command.TheViews.{out-Command as fields_of};
-ghost use Rattle.bw_shell.specs.CommandLine.{number_rule, weave_app, bwtree_app, SpellsOr, IsSpelled, MayRefuse};
+ghost use Rattle.bw_shell.specs.CommandLine.{number_rule, weave_app, bwtree_app, SpellsOr, HasNoFault, IsSpelled, MayRefuse};
 
+use bw_model::{BadLimits, Limits};
 use clap::error::ErrorKind;
 use clap::{Arg, ArgMatches, Command, Error, value_parser};
 use std::alloc::{AllocError, Global};
@@ -25,6 +27,19 @@ pub struct Settings {
     pub pids: u64,
     pub rows: u64,
     pub epoch: u64,
+}
+
+impl Settings {
+    /// The limits of these numbers, refused exactly where one is outside its range.
+    pub fn limits(&self) -> Result<Limits, BadLimits>
+        ensures allowed { IsOk result ↔ AreLimits self.now.actors self.now.pids self.now.rows self.now.epoch }
+        ensures actors { IfOk result (λ limits. limits.actors ≡ self.now.actors) }
+        ensures pids { IfOk result (λ limits. limits.pids ≡ self.now.pids) }
+        ensures rows { IfOk result (λ limits. limits.rows ≡ self.now.rows) }
+        ensures epoch { IfOk result (λ limits. limits.epoch ≡ self.now.epoch) }
+    {
+        Limits::new(self.actors, self.pids, self.rows, self.epoch)
+    }
 }
 
 /// Why they say nothing.
@@ -121,6 +136,7 @@ fn chosen(matches: &ArgMatches<'_>, name: &str, default: u64) -> Option<u64>
 pub fn options(alloc: Global, words: &[String]) -> Result<Settings, Refused>
     ensures spelled { IfOk result (IsSpelled (map string_bytes words.now)) }
     ensures refused { IfErr result (MayRefuse (map string_bytes words.now)) }
+    ensures faultless { IfOk result (λ _. HasNoFault (map string_bytes words.now)) }
 {
     let Ok(command) = command(alloc) else {
         return Err(Refused::Memory);

@@ -1,6 +1,8 @@
 //! What a line asks for.
 
-ghost use Rattle.std.specs.Prelude.{◌≡◌, ◌<◌, ◌≤◌, ℕ, List, [], ◌∷◌, IfOk, IsErrOf, length};
+ghost use Rattle.std.specs.Prelude.{◌≡◌, ◌<◌, ◌≤◌, ℕ, List, [], ◌∷◌, ◌++◌, IfOk, IsErrOf, length};
+ghost use Rattle.std.specs.List.{AllByRecursion, flat_map};
+ghost use Rattle.bw_shell.specs.Lines.{lines_of, ended, HasNoFeed};
 ghost use Rattle.std.specs.Option.{option_copied};
 ghost use Rattle.bw_shell.specs.Fields.{fields_in, fields_of};
 ghost use Rattle.bw_shell.specs.Gives.{Gives};
@@ -261,7 +263,10 @@ pub fn parse(line: &[u8]) -> Result<Request, LineError>
     read_fields(line)
 }
 
-/// A line asks for one thing at most.
+/// An input has one list of lines, and a line asks for one thing at most.
 pub fn lines_are_exact()
-    ensures { (line : List ℕ) (a b : RequestSeen) → Says line a → Says line b → a ≡ b }
+    ensures one { (line : List ℕ) (a b : RequestSeen) → Says line a → Says line b → a ≡ b }
+    ensures whole { (lines : List (List ℕ)) → AllByRecursion HasNoFeed lines → lines_of (flat_map ended lines) ≡ lines }
+    ensures last { (lines : List (List ℕ)) (part : List ℕ) → AllByRecursion HasNoFeed lines → HasNoFeed part → 0 < length part
+        → lines_of (flat_map ended lines ++ part) ≡ lines ++ part ∷ [] }
 {}

@@ -28,13 +28,14 @@ impl Read for Choppy<'_> {
     }
 }
 
-// Takes a few bytes at a time, and fails at a write.
+// Takes a few bytes at a time, and fails at a write or at the flush.
 #[derive(Drop)]
 struct Breaking {
     held: Vec<u8>,
     size: usize,
     writes: u32,
     before_fault: u32,
+    flush_fails: bool,
 }
 
 impl Write for Breaking {
@@ -50,6 +51,9 @@ impl Write for Breaking {
     }
 
     fn flush(&mut self) -> io::Result<()> {
+        if self.flush_fails {
+            return Err(io::Error::from(ErrorKind::Other));
+        }
         Ok(())
     }
 }
@@ -64,20 +68,27 @@ pub struct Woven {
     writes: u32,
 }
 
-fn run(alloc: Global, limits: Limits, input: Choppy<'_>, size: usize, before_fault: u32) -> Woven {
+fn run_into(alloc: Global, limits: Limits, input: Choppy<'_>, out: Breaking) -> Woven {
     let mut reader = Reader::new(input);
-    let mut writer = Writer::new(Breaking {
-        held: Vec::new(alloc),
-        size,
-        writes: 0,
-        before_fault,
-    });
+    let mut writer = Writer::new(out);
     let status = weave(alloc, limits, &mut reader, &mut writer);
     Woven {
         status,
         output: writer.inner.held,
         writes: writer.inner.writes,
     }
+}
+
+// A run whose flush doesn't fail.
+fn run(alloc: Global, limits: Limits, input: Choppy<'_>, size: usize, before_fault: u32) -> Woven {
+    let out = Breaking {
+        held: Vec::new(alloc),
+        size,
+        writes: 0,
+        before_fault,
+        flush_fails: false,
+    };
+    run_into(alloc, limits, input, out)
 }
 
 // A run in which nothing fails.
@@ -325,6 +336,30 @@ fn rows_run_out(rt: HostRuntime) -> Result<(), Fail> {
     Ok(())
 }
 
+// A get stays at its second turn all the while. An insert that loses its exchange keeps the row that it took; the other insert,
+// fifty-four updates and six consolidations use the 61 others. The next update finds none, but the first actor still has its own.
+#[test]
+fn a_row_is_kept(rt: HostRuntime) -> Result<(), Fail> {
+    let limits = Limits::new(3, 64, 64, 1)?;
+    let mut input = Vec::new(rt.alloc());
+    let mut output = Vec::new(rt.alloc());
+    input.extend_from_slice(b"begin 2 get a\nturn 2 2\nbegin 0 insert a 1\nturn 0 8\n")?;
+    input.extend_from_slice(b"begin 1 insert a 2\nfinish 1\nfinish 0\n")?;
+    output.extend_from_slice(b"1 inserted\n0 exists 2\n1 replaced 2\n")?;
+    for _ in 0..55u32 {
+        input.extend_from_slice(b"begin 1 upsert a x\nfinish 1\n")?;
+    }
+    for _ in 0..53u32 {
+        output.extend_from_slice(b"1 replaced x\n")?;
+    }
+    input.extend_from_slice(b"begin 0 upsert a y\nfinish 0\n")?;
+    output.extend_from_slice(b"1 full\n0 replaced x\n")?;
+    let woven = whole(rt.alloc(), limits, input.as_slice());
+    assert_eq!(rt; woven.output.as_slice(), output.as_slice());
+    assert_eq!(rt; woven.status, 0);
+    Ok(())
+}
+
 #[test]
 fn long_lines(rt: HostRuntime) -> Result<(), Fail> {
     let limits = limits(&rt);
@@ -374,6 +409,25 @@ fn failed_writes(rt: HostRuntime) {
     }
 }
 
+#[test]
+fn failed_flush(rt: HostRuntime) {
+    let input = Choppy {
+        bytes: INPUT,
+        size: 7,
+        before_fault: NEVER,
+    };
+    let out = Breaking {
+        held: Vec::new(rt.alloc()),
+        size: 4096,
+        writes: 0,
+        before_fault: NEVER,
+        flush_fails: true,
+    };
+    let woven = run_into(rt.alloc(), limits(&rt), input, out);
+    assert_eq!(rt; woven.output.as_slice(), OUTPUT);
+    assert_eq!(rt; woven.status, 1);
+}
+
 // The output of the whole lines among the first bytes of the input.
 fn lines_before(alloc: Global, limits: Limits, bytes: usize) -> Woven {
     let mut end = 0;
@@ -401,6 +455,30 @@ fn failed_reads(rt: HostRuntime) {
         assert_eq!(rt; woven.output.as_slice(), before.output.as_slice());
         assert!(rt; OUTPUT.starts_with(woven.output.as_slice()));
     }
+}
+
+#[test]
+fn one_byte_a_read(rt: HostRuntime) -> Result<(), Fail> {
+    let mut lines = Vec::new(rt.alloc());
+    let mut output = Vec::new(rt.alloc());
+    lines.extend_from_slice(INPUT)?;
+    lines.extend_from_slice(b"\n")?;
+    output.extend_from_slice(OUTPUT)?;
+    for _ in 0..3000u32 {
+        lines.extend_from_slice(b"begin 0 get a\n\nfinish 0\n")?;
+        output.extend_from_slice(b"0 none\n")?;
+    }
+    let input = Choppy {
+        bytes: lines.as_slice(),
+        size: 1,
+        before_fault: NEVER,
+    };
+    let woven = run(rt.alloc(), limits(&rt), input, 4096, NEVER);
+    let at_once = whole(rt.alloc(), limits(&rt), lines.as_slice());
+    assert_eq!(rt; woven.output.as_slice(), output.as_slice());
+    assert_eq!(rt; at_once.output.as_slice(), output.as_slice());
+    assert_eq!(rt; (woven.status, at_once.status), (0, 0));
+    Ok(())
 }
 
 #[test]

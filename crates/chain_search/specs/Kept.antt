@@ -42,3 +42,11 @@ Answers table step answer = (memory : Memory) → Keeps table memory → IsAnswe
 -- The new table keeps what the actor's step makes of each memory that the old one keeps.
 abbrev pub Follows : Table → Table → ℕ → Step Record → Type 0
 Follows old new actor step = (memory : Memory) → Keeps old memory → Keeps new (memory_after actor step memory)
+
+-- The new table is as large as the old one.
+pub record IsAsLarge (old new : Table) : Type 0 where
+  pub slots : vec_len new.slots ≡ vec_len old.slots
+  pub rows : vec_len new.rows ≡ vec_len old.rows
+  pub free_pids : vec_len new.free_pids ≡ vec_len old.free_pids
+  pub free_rows : vec_len new.free_rows ≡ vec_len old.free_rows
+  pub announced : vec_len new.announced ≡ vec_len old.announced

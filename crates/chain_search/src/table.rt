@@ -19,7 +19,7 @@ impl Table {
     ghost use Rattle.std.specs.Prelude.{◌≡◌, ◌<◌, ◌≤◌, ◌*◌, ◌+◌, ◌^◌, ◌==◌, ℕ, length, vec_len, slice_get, Some};
     ghost use Rattle.bw_model.specs.declared.step.Step.TheVariants.{Slot, Row, Epoch, Announce, PidBits, RowBits, Place, Exchange, TakePid, TakeRow, Enter, Leave, Retire, ReusePids, ReuseRows};
     ghost use Rattle.deltas.specs.Memory.{Memory};
-    ghost use Rattle.chain_search.specs.Kept.{Answers, Follows, IsWithin, Keeps};
+    ghost use Rattle.chain_search.specs.Kept.{Answers, Follows, IsAsLarge, IsWithin, Keeps};
     ghost use Rattle.chain_search.specs.Steps.{IsWordOf};
 
     /// Takes one step of an actor, and answers it.
@@ -27,6 +27,7 @@ impl Table {
         requires { IsWithin self.old actor step }
         ensures answer { Answers self.old step result }
         ensures kept { Follows self.old self.new actor step }
+        ensures size { IsAsLarge self.old self.new }
     {
         match step {
             Step::Slot(pid) => Answer::Number(u64::from(self.slots[usize::from(pid)])),
@@ -68,6 +69,7 @@ impl Table {
         ensures answer { (memory : Memory) → Keeps self.old memory
             → result ≡ (memory.slots slot == old) }
         ensures kept { (actor : ℕ) → Follows self.old self.new actor (Exchange slot old new) }
+        ensures size { IsAsLarge self.old self.new }
     {
         let at = usize::from(slot);
         let won = self.slots[at] == old;
@@ -83,6 +85,7 @@ impl Table {
         ensures answer { (memory : Memory) → Keeps self.old memory
             → result ≡ memory.free_pids pid }
         ensures kept { (actor : ℕ) → Follows self.old self.new actor (TakePid pid) }
+        ensures size { IsAsLarge self.old self.new }
     {
         let at = usize::from(pid);
         let was_free = self.free_pids[at];
@@ -96,6 +99,7 @@ impl Table {
         ensures answer { (memory : Memory) → Keeps self.old memory
             → result ≡ memory.free_rows row }
         ensures kept { (actor : ℕ) → Follows self.old self.new actor (TakeRow row) }
+        ensures size { IsAsLarge self.old self.new }
     {
         let at = usize::from(row);
         let was_free = self.free_rows[at];
@@ -106,7 +110,8 @@ impl Table {
     /// Places a record into a row.
     fn place(&mut self, row: u16, content: Record)
         requires { row < vec_len self.old.rows }
-        ensures { (actor : ℕ) → Follows self.old self.new actor (Place row content) }
+        ensures kept { (actor : ℕ) → Follows self.old self.new actor (Place row content) }
+        ensures size { IsAsLarge self.old self.new }
     {
         self.rows[usize::from(row)] = Some(content);
     }
@@ -115,6 +120,7 @@ impl Table {
     fn announce(&mut self, actor: u8, epoch: u64)
         requires { actor < vec_len self.old.announced }
         ensures enter { Follows self.old self.new actor (Enter epoch) }
+        ensures size { IsAsLarge self.old self.new }
         ensures leave { epoch ≡ 0 → Follows self.old self.new actor Leave }
     {
         self.announced[usize::from(actor)] = epoch;
@@ -126,6 +132,7 @@ impl Table {
         ensures answer { (memory : Memory) → Keeps self.old memory
             → result ≡ (memory.epoch == epoch) }
         ensures kept { (actor : ℕ) → Follows self.old self.new actor (Retire epoch) }
+        ensures size { IsAsLarge self.old self.new }
     {
         let went = self.epoch == epoch;
         if went {
@@ -155,7 +162,8 @@ impl Table {
     /// Frees the PIDs whose bits are set in the word.
     fn reuse_pids(&mut self, word: u8, bits: u64)
         requires { 64 * word + 64 ≤ vec_len self.old.free_pids }
-        ensures { (actor : ℕ) → Follows self.old self.new actor (ReusePids word bits) }
+        ensures kept { (actor : ℕ) → Follows self.old self.new actor (ReusePids word bits) }
+        ensures size { IsAsLarge self.old self.new }
     {
         set_free(&mut self.free_pids, word, bits);
     }
@@ -163,7 +171,8 @@ impl Table {
     /// Frees the rows whose bits are set in the word.
     fn reuse_rows(&mut self, word: u8, bits: u64)
         requires { 64 * word + 64 ≤ vec_len self.old.free_rows }
-        ensures { (actor : ℕ) → Follows self.old self.new actor (ReuseRows word bits) }
+        ensures kept { (actor : ℕ) → Follows self.old self.new actor (ReuseRows word bits) }
+        ensures size { IsAsLarge self.old self.new }
     {
         set_free(&mut self.free_rows, word, bits);
     }

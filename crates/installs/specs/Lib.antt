@@ -3,3 +3,4 @@ pub mod Within
 pub mod Installs
 pub mod Recalled
 pub mod Bounded
+pub mod Held

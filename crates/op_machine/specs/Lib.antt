@@ -13,4 +13,5 @@ pub mod Examples
 pub mod OneLeaf
 pub mod Wants
 pub mod Shows
+pub mod Held
 pub mod Bounded

@@ -2,15 +2,17 @@
 ghost use Rattle.std.specs.Prelude.{◌≡◌, ◌<◌, ◌≤◌, ℕ, List, Some, IsSome, length, true};
 ghost use Rattle.chain_search.specs.Knowledge.{Knowledge, begun, learn};
 ghost use Rattle.installs.specs.Bounded as change;
+ghost use Rattle.installs.specs.Held as kept;
 ghost use Rattle.installs.specs.Installs.{Follows, Install as InstallSeen, IsTarget, MayInstall, wanted};
 ghost use Rattle.installs.specs.Recalled.{Recalled};
 ghost use Rattle.installs.specs.Spares.{AreSpare, HaveRoom};
 ghost use Rattle.installs.specs.Within.{IsWithin};
 ghost use Rattle.op_machine.specs.Answered.{is_writer};
 ghost use Rattle.op_machine.specs.Bounded.{Recalls, Spends, steps_left};
+ghost use Rattle.op_machine.specs.Held.{KeepsLast, held, held_then};
 ghost use Rattle.op_machine.specs.OneLeaf.{IsLeafChain};
 ghost use Rattle.op_machine.specs.Shows.{Advances, Arrives, Brings, Goes, IsTold, Obeys, Rests, Seeks, Shows};
-ghost use Rattle.op_machine.specs.Wants.{IsChanging, IsPlace, IsSameOp, IsSoundState, IsStepWant, IsWantWithin, at, change_of, rows_flying, rows_in_flight, wanted_at};
+ghost use Rattle.op_machine.specs.Wants.{IsChanging, IsPlace, IsSameOp, IsSoundState, IsStepWant, IsWantWithin, at, change_of, rows_flying, rows_in_flight, wanted_at, wanted_of};
 
 use crate::hand::Hand;
 use bw_model::{Answer, Command, Limits, Reply, Step};
@@ -109,6 +111,8 @@ impl Op {
         ensures within { IsWantWithin self.old.limits result }
         ensures hand { HaveRoom self.old.limits (rows_flying result self.new.state) hand.new }
         ensures same { IsSameOp self.old self.new }
+        ensures keeps { KeepsLast (wanted_of self.old) answer (held self.old.state hand.old) (held_then result self.new.state hand.new) }
+        ensures enters { (epoch : ℕ) → self.old.state ≡ State.Epoch → answer ≡ Answer.Number epoch → result ≡ Want.Step (Step.Enter epoch) }
         ensures begins { self.old.state ≡ State.Begun → IsStepWant result }
         ensures spends { Spends self.old answer self.new result }
         ensures bounded { steps_left self.new ≤ 279 }
@@ -199,6 +203,7 @@ impl Op {
         ensures goes { (spares : List ℕ) → Advances self.old spares (State.Slot pid) (Answer.Number head) self.new spares result }
         ensures within { IsWithin self.old.limits result }
         ensures flight { rows_in_flight self.new.state ≡ 0 }
+        ensures bare { (spares : List ℕ) → held self.new.state spares ≡ spares }
         ensures same { IsSameOp self.old self.new }
         ensures spends { 0 < head → Spends (at self.old (State.Slot pid)) (Answer.Number head) self.new (Want.Step result) }
     {
@@ -228,6 +233,7 @@ impl Op {
         ensures goes { Advances self.old hand.old (State.Row pid head row) (Answer.Content older) self.new hand.new result }
         ensures within { IsWithin self.old.limits result }
         ensures hand { HaveRoom self.old.limits (rows_in_flight self.new.state) hand.new }
+        ensures keeps { held self.new.state hand.new ≡ hand.old }
         ensures same { IsSameOp self.old self.new }
         ensures spends { Spends (at self.old (State.Row pid head row)) (Answer.Content older) self.new (Want.Step result) }
     {
@@ -253,6 +259,7 @@ impl Op {
         ensures goes { (k : Knowledge) → Arrives k self.old.command hand.old pid head chain → Goes k self.new hand.new result }
         ensures within { IsWithin self.old.limits result }
         ensures hand { HaveRoom self.old.limits (rows_in_flight self.new.state) hand.new }
+        ensures keeps { held self.new.state hand.new ≡ hand.old }
         ensures same { IsSameOp self.old self.new }
         ensures recalls { (r : Recalled) → r.heads pid ≡ Some head → Recalls self.new r }
         ensures few { steps_left self.new ≤ 260 }
@@ -278,6 +285,7 @@ impl Op {
         ensures goes { (k : Knowledge) → Arrives k self.old.command hand.old pid head chain → Goes k self.new hand.new result }
         ensures within { IsWithin self.old.limits result }
         ensures hand { HaveRoom self.old.limits (rows_in_flight self.new.state) hand.new }
+        ensures keeps { held self.new.state hand.new ≡ hand.old }
         ensures same { IsSameOp self.old self.new }
         ensures recalls { (r : Recalled) → r.heads pid ≡ Some head → Recalls self.new r }
         ensures few { steps_left self.new ≤ 260 }
@@ -310,6 +318,7 @@ impl Op {
         ensures goes { (k : Knowledge) → Seeks k self.old.command → Brings self.old.actor k self.old.command pid head content reply → MayInstall self.old.actor k pid head content → AreSpare k.rows hand.old → Goes k self.new hand.new result }
         ensures within { IsWithin self.old.limits result }
         ensures hand { HaveRoom self.old.limits (rows_in_flight self.new.state) hand.new }
+        ensures keeps { held self.new.state hand.new ≡ hand.old }
         ensures same { IsSameOp self.old self.new }
         ensures recalls { (r : Recalled) → r.heads pid ≡ Some head → Recalls self.new r }
         ensures few { steps_left self.new ≤ 260 }
@@ -332,6 +341,7 @@ impl Op {
         ensures goes { Advances self.old hand.old (State.Install install reply) answer self.new hand.new result }
         ensures within { IsWithin self.old.limits result }
         ensures hand { HaveRoom self.old.limits (rows_in_flight self.new.state) hand.new }
+        ensures keeps { kept.Keeps (wanted install) answer (kept.held install.state hand.old) (held self.new.state hand.new) }
         ensures same { IsSameOp self.old self.new }
         ensures spends { Spends (at self.old (State.Install install reply)) answer self.new (Want.Step result) }
     {
@@ -348,6 +358,7 @@ impl Op {
         ensures goes { (k : Knowledge) (install : InstallSeen) (told : _) (had has : List ℕ) → Shows (at self.old (State.Install install reply)) had k → Follows self.old.actor k install had told install has (Some end) → Goes (learn k (wanted install) told) self.new has result }
         ensures within { IsWithin self.old.limits result }
         ensures flight { rows_in_flight self.new.state ≡ 0 }
+        ensures bare { (spares : List ℕ) → held self.new.state spares ≡ spares }
         ensures same { IsSameOp self.old self.new }
         ensures spends { (k : Knowledge) (install : InstallSeen) (told : _) (had has : List ℕ) → Follows self.old.actor k install had told install has (Some end) → 0 < change.steps_left install.state → Spends (at self.old (State.Install install reply)) told self.new (Want.Step result) }
     {

@@ -1,5 +1,5 @@
 -- One step of an operation, from what `next` promises.
-use Rattle.std.proofs.Common.{◌≡◌, ℕ, List, Option, Some, None, is_some, true, sym, ◌∙◌, subst, refl}
+use Rattle.std.proofs.Common.{◌≡◌, ℕ, List, Option, Some, None, is_some, true, false, sym, ◌∙◌, subst, refl}
 use Rattle.std.proofs.lemmas.Option.{same_Some}
 use Rattle.bw_model.specs.declared.command.Reply.{Reply}
 use Rattle.bw_model.specs.declared.limits.Limits.{Limits}
@@ -36,6 +36,10 @@ ready_some limits actor k cells at running e h = let P : Option Running → Type
 pub left_idle : (limits : Limits) (actor : ℕ) (k : Knowledge) (spares : List ℕ) (running : Running) (reply : Option Reply) → is_some reply ≡ true → IsLeft limits actor k spares running reply → IsIdle limits k spares
 left_idle limits actor k spares running None e h = cc
 left_idle limits actor k spares running (Some reply) e h = h
+
+pub left_still : (limits : Limits) (actor : ℕ) (k : Knowledge) (spares : List ℕ) (running : Running) (reply : Option Reply) → is_some reply ≡ false → IsLeft limits actor k spares running reply → IsRunning limits actor k spares running
+left_still limits actor k spares running None e h = h
+left_still limits actor k spares running (Some reply) e h = cc
 
 -- the first step
 module _ (k : Knowledge) (had : List ℕ) (old : Op) (begun : old.state ≡ Begun) (shows : Shows old had k) where

@@ -11,3 +11,4 @@ pub mod Replaced
 pub mod Representing
 pub mod Stopping
 pub mod Spending
+pub mod Holding

@@ -3,6 +3,7 @@ pub mod CellSteps
 pub mod CellLinks
 pub mod Actors
 pub mod Spending
+pub mod Holding
 pub mod Cores
 pub mod Represents
 pub mod Listed

@@ -14,6 +14,7 @@ use Rattle.chain_search.specs.declared.trace.Turn.TheVariants.{Begin, Step}
 use Rattle.chain_search.specs.Steps.{IsAnswer}
 use Rattle.chain_search.specs.Trace.{command_of, memory_of, turn_of}
 use Rattle.deltas.specs.Memory.{Memory}
+use Rattle.op_machine.specs.Linearized.{IsLinearized}
 use Rattle.op_machine.specs.Links.{link_of}
 use Rattle.step_core.specs.declared.event.RunError.{RunError}
 use Rattle.step_core.specs.declared.event.RunError.TheVariants.{NoActor, Unfinished, NoOperation, Memory as OutOfMemory}
@@ -86,4 +87,4 @@ pub record Stops (limits : Limits) (turns : List Turn) (error : RunError) : Type
   pub entries : List Entry
   pub taken : map turn_of entries ≡ take (length entries) turns
   pub why : ((entries ≡ []) × (error ≡ OutOfMemory 0))
-      ⊎ ((next : Turn) × (refusal : Option RunError) × (slice_get turns (length entries) ≡ Some next) × IsRefusal limits entries next refusal × (error ≡ unwrap_or refusal (OutOfMemory (length entries))))
+      ⊎ ((next : Turn) × (refusal : Option RunError) × (slice_get turns (length entries) ≡ Some next) × IsLinearized limits (take (length entries) turns) entries × IsRefusal limits entries next refusal × (error ≡ unwrap_or refusal (OutOfMemory (length entries))))

@@ -1,12 +1,15 @@
 //! One actor of a core.
 ghost use Rattle.std.specs.Prelude.{◌≡◌, ◌<◌, ◌^◌, [], Some, None, is_some, true};
 ghost use Rattle.chain_search.specs.Knowledge.{Knowledge, begun};
+ghost use Rattle.installs.specs.Held.{Keeps};
 ghost use Rattle.installs.specs.Recalled.{Recalled};
 ghost use Rattle.installs.specs.Within.{IsWithin};
+ghost use Rattle.op_machine.specs.Held.{held};
 ghost use Rattle.step_core.specs.Actors.{IsActor, IsLeft, IsPlainlyAllowed, IsReady, IsRunning, IsServed, command_left, knows_then, running_command};
 ghost use Rattle.step_core.specs.Cells.{AreSound};
 ghost use Rattle.step_core.specs.CellLinks.{link_in, step_event};
 ghost use Rattle.step_core.specs.CellSteps.{Takes};
+ghost use Rattle.step_core.specs.Holding.{held_by};
 ghost use Rattle.step_core.specs.Spending.{RecallsAt, Spends, left_at, unless_done};
 
 use crate::copies::{copied_answer, copied_reply, copied_step};
@@ -64,6 +67,7 @@ impl Actor {
         requires idle { running_command self.old ≡ None }
         ensures shows { (k : Knowledge) → IsActor limits.now actor k self.old → IsActor limits.now actor (begun k command) self.new }
         ensures command { running_command self.new ≡ Some command }
+        ensures keeps { held_by self.new.running self.new.hand ≡ self.old.hand }
         ensures recalls { (r : Recalled) → RecallsAt self.new.running r }
         ensures bounded { left_at self.new.running < 2 ^ 18 }
     {
@@ -91,6 +95,7 @@ impl Actor {
         ensures within { IsWithin limits.now result.step }
         ensures takes { Takes actor memory.old result.step result.answer memory.new }
         ensures command { running_command self.new ≡ command_left result.reply (running_command self.old) }
+        ensures keeps { Keeps result.step result.answer (held_by self.old.running self.old.hand) (held_by self.new.running self.new.hand) }
         ensures spends { Spends self.old.running result.step result.answer self.new.running }
     {
         let stepped = match &mut self.running {
@@ -134,6 +139,7 @@ impl Running {
         ensures within { IsWithin limits.now result.step }
         ensures takes { Takes actor memory.old result.step result.answer memory.new }
         ensures command { self.new.op.command ≡ self.old.op.command }
+        ensures keeps { Keeps result.step result.answer (held self.old.op.state hand.old) (held_by (unless_done self.new result.reply) hand.new) }
         ensures spends { Spends (Some self.old) result.step result.answer (unless_done self.new result.reply) }
     {
         let wanted = mem::replace(&mut self.wanted, Step::Leave);

@@ -1,11 +1,7 @@
 //! The core: all actors over one memory, one turn at a time.
 ghost use Rattle.std.specs.Prelude.{◌≡◌, ◌<◌, ◌≤◌, ◌&&◌, [], length, map, nat_lt, is_some, IfOk, IfErr, OnErr, Some, None};
 ghost use Rattle.chain_search.specs.Trace.{command_of, turn_of};
-ghost use Rattle.op_machine.specs.Direct.{IsDirect};
-ghost use Rattle.op_machine.specs.Index.{IsExactIndex};
-ghost use Rattle.op_machine.specs.Linearized.{IsLinearized};
-ghost use Rattle.op_machine.specs.Phases.{KeepsPhases};
-ghost use Rattle.op_machine.specs.Reuse.{IsFreedByRule};
+ghost use Rattle.op_machine.specs.Linearized.{IsLinearized, IsOrderly};
 ghost use Rattle.step_core.specs.Listed.{IsListing};
 ghost use Rattle.step_core.specs.Turns.{AddsTurn, busy_of, refusal_of};
 
@@ -99,10 +95,7 @@ impl<A: Allocator> Core<A> {
         ensures ok { IfOk result (λ event. AddsTurn self.old turn event self.new) }
         ensures err { OnErr result (self.new ≡ self.old) }
         ensures linearized { IsLinearized self.new.limits (map turn_of self.new.entries) self.new.entries }
-        ensures phases { KeepsPhases self.new.limits self.new.entries }
-        ensures index { IsExactIndex self.new.limits self.new.entries }
-        ensures direct { IsDirect self.new.limits self.new.entries }
-        ensures freed { IsFreedByRule self.new.limits self.new.entries }
+        ensures orderly { IsOrderly self.new.limits self.new.entries }
     {
         let answer = self.take_turn(turn);
         self.linearized();
@@ -113,10 +106,7 @@ impl<A: Allocator> Core<A> {
     /// their phases, the index is exact, each operation took few steps, and freeing was by the rule of epochs. It does nothing.
     pub fn linearized(&self)
         ensures linearized { IsLinearized self.now.limits (map turn_of self.now.entries) self.now.entries }
-        ensures phases { KeepsPhases self.now.limits self.now.entries }
-        ensures index { IsExactIndex self.now.limits self.now.entries }
-        ensures direct { IsDirect self.now.limits self.now.entries }
-        ensures freed { IsFreedByRule self.now.limits self.now.entries }
+        ensures orderly { IsOrderly self.now.limits self.now.entries }
     {
         states_are_lawful();
         let _ = &self.limits;

@@ -1,10 +1,11 @@
-use Rattle.std.proofs.Common.{◌≡◌, ◌∙◌, ap, sym, subst, List, ℕ, map, codes}
+use Rattle.std.proofs.Common.{◌≡◌, ◌∙◌, ap, sym, subst, List, ℕ, map, codes, inl, inr}
 use Rattle.std.specs.Prelude.{option_map}
 use Rattle.std.specs.String.{string_bytes}
-use Rattle.clap.specs.Words.{App, Row, Text, app_of, kind_of, found_of, is_simple, rows_of, subcommand_of}
+use Rattle.clap.specs.declared.error.Error.{Error}
+use Rattle.clap.specs.Words.{HasKind, IsAmong, Kinds, App, Row, Text, app_of, kind_of, fault_of, found_of, is_simple, is_simple_and_free, rows_of, subcommand_of}
 use Rattle.clap.specs.declared.error.kind.ErrorKind.TheVariants.{OutOfMemory}
 use Rattle.bw_shell.specs.CommandLine.{bwtree_app, rows_in, SpellsOr}
-use Rattle.bw_shell.proofs.Spelling.{is_simple-bwtree_app, outside, rows_of_some}
+use Rattle.bw_shell.proofs.Spelling.{is_simple-bwtree_app, is_simple_and_free-bwtree_app, outside, rows_of_some}
 use Rattle.bw_shell.proofs.command_line.options.Goals as goal
 
 pub returns-clause-spelled : goal.returns-clause-spelled
@@ -25,10 +26,27 @@ returns-clause-spelled c =
       epoch = as_read (codes "epoch") 1 _ c.in-Some-chosen-4.ensures;
     }
 
+among : (kinds : Kinds) (e : Error) → (kind_of e ≡ OutOfMemory → ⊥) → HasKind kinds e → IsAmong (kind_of e) kinds
+among kinds e other (inl h) = absurd (other h)
+among kinds e other (inr h) = h
+
 pub returns-in-Err-2-clause-refused : goal.returns-in-Err-2-clause-refused
 returns-in-Err-2-clause-refused c =
-    outside _ _ _ c.in-Ok.ensures c.in-Err-2.ensures.passes
-    (λ h.
+    let words : List Text = map (λ s. string_bytes s) c.args.words.now in
+    let app : app_of c.in-Ok.command ≡ bwtree_app = c.in-Ok.ensures in
+    let other : (kind_of c.in-Err-2.error ≡ OutOfMemory) → ⊥ = λ h.
     let is : c.kind.result ≡ OutOfMemory = c.kind.ensures ∙ ap kind_of c.in-Err-2.error-is ∙ h in
     let same = rw is at c.eq.ensures in
-    cc (sym c.if-eq.false ∙ same))
+    cc (sym c.if-eq.false ∙ same) in
+    let kinds = c.in-Err-2.ensures.kinds (ap is_simple_and_free app ∙ is_simple_and_free-bwtree_app) in
+    let same_error : c.in-Err-2.error ≡ c.in-Err.error = cc in (
+      outside _ _ _ c.in-Ok.ensures c.in-Err-2.ensures.passes other,
+      subst (λ (e : Error). IsAmong (kind_of e) (fault_of bwtree_app words)) same_error (subst (λ (a : App). IsAmong (kind_of c.in-Err-2.error) (fault_of a words)) app (among _ c.in-Err-2.error other kinds)),
+    )
+
+pub returns-clause-faultless : goal.returns-clause-faultless
+returns-clause-faultless c =
+    let words : List Text = map (λ s. string_bytes s) c.args.words.now in
+    let app : app_of c.in-Ok.command ≡ bwtree_app = c.in-Ok.ensures in
+    let none = c.in-Ok-try_get_matches_from.ensures.kinds (ap is_simple_and_free app ∙ is_simple_and_free-bwtree_app) in
+    sym (ap (λ (a : App). fault_of a words) app) ∙ none

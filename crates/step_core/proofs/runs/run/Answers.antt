@@ -13,3 +13,4 @@ returns-in-Err-turn-clause-err g c =
     stops _ _ c.loop-turn.core _ c.unwrap.result _ c.loop-turn.invariant.0 c.loop-turn.invariant.1 lt at
     (λ f h. let e = c.in-Err-turn.ensures.refused f h in cc e)
     (λ h. (c.in-Err-turn.ensures.memory h).0)
+    (rw (← c.in-Err-turn.ensures.err) c.in-Err-turn.ensures.linearized)

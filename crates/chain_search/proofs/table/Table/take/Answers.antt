@@ -8,7 +8,7 @@ pub returns-in-RowBits-clause-answer : goal.returns-in-RowBits-clause-answer
 returns-in-RowBits-clause-answer c = rw (c.in-RowBits.is) (λ memory keeps. (c.row_bits.result, c.row_bits.ensures memory keeps, refl))
 
 pub returns-in-Place-clause-kept : goal.returns-in-Place-clause-kept
-returns-in-Place-clause-kept c = rw (c.in-Place.is) (λ memory keeps. c.place.ensures c.args.actor memory keeps)
+returns-in-Place-clause-kept c = rw (c.in-Place.is) (λ memory keeps. c.place.ensures.kept c.args.actor memory keeps)
 
 pub returns-in-Exchange-clause-kept : goal.returns-in-Exchange-clause-kept
 returns-in-Exchange-clause-kept c = rw (c.in-Exchange.is) (λ memory keeps. c.exchange.ensures.kept c.args.actor memory keeps)
@@ -29,7 +29,7 @@ pub returns-in-Leave-clause-kept : goal.returns-in-Leave-clause-kept
 returns-in-Leave-clause-kept c = rw (c.in-Leave.is) (λ memory keeps. c.announce-in-Leave.ensures.leave refl memory keeps)
 
 pub returns-in-ReusePids-clause-kept : goal.returns-in-ReusePids-clause-kept
-returns-in-ReusePids-clause-kept c = rw (c.in-ReusePids.is) (λ memory keeps. c.reuse_pids.ensures c.args.actor memory keeps)
+returns-in-ReusePids-clause-kept c = rw (c.in-ReusePids.is) (λ memory keeps. c.reuse_pids.ensures.kept c.args.actor memory keeps)
 
 pub returns-in-ReuseRows-clause-kept : goal.returns-in-ReuseRows-clause-kept
-returns-in-ReuseRows-clause-kept c = rw (c.in-ReuseRows.is) (λ memory keeps. c.reuse_rows.ensures c.args.actor memory keeps)
+returns-in-ReuseRows-clause-kept c = rw (c.in-ReuseRows.is) (λ memory keeps. c.reuse_rows.ensures.kept c.args.actor memory keeps)

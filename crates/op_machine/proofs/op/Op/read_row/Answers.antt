@@ -36,6 +36,7 @@ returns-in-Some-default c =
           c.ask.ensures.goes _ _ (rw c.push.ensures (read_on c.self-in-Some-default.inside.limits c.self-in-Some-default.inside.actor k c.self-in-Some-default.inside.command c.self-in-Some-default.inside.part _ _ _ _ c.args.older c.in-Some-default.row (sym c.next.ensures ∙ c.in-Some-default.is-0) shows fits));
       within = rw (← c.self-in-Some-default.view_is) c.ask.ensures.within;
       hand = rw c.ask.ensures.moved c.requires.hand;
+      keeps = rw c.ask.ensures.moved refl;
       same = rw (c.ask.ensures.moved, ← c.self-in-Some-default.view_is) (record { limits = refl; actor = refl; command = refl });
       spends =
           let few = few_read c.args.self.now c.args.hand.now c.args.pid c.args.head c.args.row c.args.older c.requires.told in

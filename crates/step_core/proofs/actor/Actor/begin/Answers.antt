@@ -1,6 +1,7 @@
 use Rattle.std.proofs.Common.{arith}
 use Rattle.chain_search.specs.Knowledge.{begun}
 use Rattle.step_core.proofs.Going.{begun_left, idle_at, told_start}
+use Rattle.step_core.proofs.Holding.{begun_keeps}
 use Rattle.step_core.proofs.Spending.{begun_recalls}
 use Rattle.step_core.proofs.actor.Actor.begin.Goals as goal
 
@@ -20,3 +21,6 @@ returns-clause-recalls c = begun_recalls c.begin-op.result c.next.new.self c.in-
 
 pub returns-clause-bounded : goal.returns-clause-bounded
 returns-clause-bounded c = let few = c.in-Step.ensures.bounded in omega arith
+
+pub returns-clause-keeps : goal.returns-clause-keeps
+returns-clause-keeps c = begun_keeps c.begin-op.result c.args.self.now.hand _ c.begin-op.ensures.state c.in-Step.ensures.keeps

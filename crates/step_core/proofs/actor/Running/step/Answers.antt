@@ -1,4 +1,5 @@
 use Rattle.step_core.proofs.Going.{allowed_done, ends_at_leave, left_done, left_on}
+use Rattle.step_core.proofs.Holding.{keeps_asked}
 use Rattle.step_core.proofs.Spending.{spends_last, spends_on}
 use Rattle.step_core.proofs.actor.Running.step.Goals as goal
 
@@ -31,3 +32,13 @@ returns-in-Done-clause-spends g c =
     let ready = c.requires.ready in
     rw (c.copied_step-step.ensures, c.replace-wanted.ensures.value, c.copied_answer-answer.ensures)
     (spends_last c.args.self.now c.take-told.result (ends_at_leave _ _ ready.0 _ _ c.args.self.now c.next.new.self c.take-told.result ready.1 (ready.2 _ _ takes) c.in-Done.reply c.in-Done.ensures.obeys))
+
+pub returns-in-Step-clause-keeps : goal.returns-in-Step-clause-keeps
+returns-in-Step-clause-keeps g c =
+    rw (c.copied_step-step.ensures, c.replace-wanted.ensures.value, c.copied_answer-answer.ensures)
+    (keeps_asked c.args.self.now c.take-told.result _ _ c.requires.ready.1.goes.wanted c.in-Step.ensures.keeps)
+
+pub returns-in-Done-clause-keeps : goal.returns-in-Done-clause-keeps
+returns-in-Done-clause-keeps g c =
+    rw (c.copied_step-step.ensures, c.replace-wanted.ensures.value, c.copied_answer-answer.ensures)
+    (keeps_asked c.args.self.now c.take-told.result _ _ c.requires.ready.1.goes.wanted c.in-Done.ensures.keeps)

@@ -1,0 +1,9 @@
+-- The rows that an actor of a core holds: it took them, and has not linked them.
+use Rattle.std.specs.Prelude.{ℕ, List, Option, None, Some}
+use Rattle.op_machine.specs.Held.{held}
+use Rattle.step_core.specs.declared.actor.Running.{Running}
+
+-- by its operation, if it has one, and its spares
+abbrev pub held_by : Option Running → List ℕ → List ℕ
+held_by None spares = spares
+held_by (Some running) spares = held running.op.state spares
