@@ -174,7 +174,7 @@ remove_applies = record { ascending = ruled_removed.is_page.ordered.ascending; c
 
 remove_fits : FitsOver (delete ∷ put ∷ merged_leaf) (remove 15)
 remove_fits = fits_over (delete ∷ put ∷ merged_leaf) (remove 15) without_08 removed refl delete_makes
-    (record { alive = refl; level = refl })
+    (record { alive = refl; level = refl; few = omega arith; inner = refl })
     remove_applies ruled_removed
 
 pub leaf_chain_fits : IsPageChain leaf_chain

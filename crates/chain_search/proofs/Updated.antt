@@ -21,10 +21,10 @@ use Rattle.deltas.specs.Fits.{FitsPut, FitsDelete}
 use Rattle.chain_search.specs.Fitted.{FitsOver, IsRuled, Makes}
 use Rattle.chain_search.proofs.FittedLaws.{by_order, all_below, ascends_after, fits_over, lacks_first}
 
-itself : (key : List ℕ) → key_cmp key key ≡ Equal
+pub itself : (key : List ℕ) → key_cmp key key ≡ Equal
 itself = tied_itself nat_list_cmp_total
 
-greater : (a b : List ℕ) → key_cmp b a ≡ Less → key_cmp a b ≡ Greater
+pub greater : (a b : List ℕ) → key_cmp b a ≡ Less → key_cmp a b ≡ Greater
 greater a b less = nat_list_cmp_total.antisymm a b ∙ ap ordering_reverse less
 
 -- what holds of the keys of items
@@ -53,17 +53,17 @@ past_other key said item items new q other h = by_order q item.key
 -- one item put at its key
 
 -- The new item beside the first one, as their keys compare; the rest has it already.
-abbrev put_beside : Ordering → Item → Item → List Item → List Item → List Item
+abbrev pub put_beside : Ordering → Item → Item → List Item → List Item → List Item
 put_beside Less new item items rest = new ∷ item ∷ items
 put_beside Equal new item items rest = new ∷ items
 put_beside Greater new item items rest = item ∷ rest
 
 -- the items with the new one before the first greater key, in the place of an equal one
-abbrev with_put : Item → List Item → List Item
+abbrev pub with_put : Item → List Item → List Item
 with_put new [] = new ∷ []
 with_put new (item ∷ items) = put_beside (key_cmp new.key item.key) new item items (with_put new items)
 
-all_put : (P : Item → Type 0) (new : Item) (items : List Item) → P new → AllByRecursion P items → AllByRecursion P (with_put new items)
+pub all_put : (P : Item → Type 0) (new : Item) (items : List Item) → P new → AllByRecursion P items → AllByRecursion P (with_put new items)
 all_put P new [] p h = (p, tt)
 all_put P new (item ∷ items) p h = beside (key_cmp new.key item.key) (all_put P new items p h.1)
   where
@@ -72,7 +72,7 @@ all_put P new (item ∷ items) p h = beside (key_cmp new.key item.key) (all_put 
     beside Equal rest = (p, h.1)
     beside Greater rest = (h.0, rest)
 
-put_ascends : (new : Item) (items : List Item) → IsAscending items → IsAscending (with_put new items)
+pub put_ascends : (new : Item) (items : List Item) → IsAscending items → IsAscending (with_put new items)
 unfolding IsStrictlySortedBy
 put_ascends new [] h = (tt, tt)
 put_ascends new (item ∷ items) h = by_order new.key item.key
@@ -83,7 +83,7 @@ put_ascends new (item ∷ items) h = by_order new.key item.key
     let kept = all_put (λ (other : Item). above other.key) new items more (from_keys above items h.0) in
     rw (greater new.key item.key more) (keys_from above (with_put new items) kept, put_ascends new items h.1))
 
-put_contents : (new : Item) (items : List Item) (q : List ℕ) → content_at (with_put new items) q ≡ (if is_eq (key_cmp q new.key) then Some new.content else content_at items q)
+pub put_contents : (new : Item) (items : List Item) (q : List ℕ) → content_at (with_put new items) q ≡ (if is_eq (key_cmp q new.key) then Some new.content else content_at items q)
 put_contents new [] q = refl
 put_contents new (item ∷ items) q = by_order new.key item.key
     (λ less. rw less refl)
@@ -91,7 +91,7 @@ put_contents new (item ∷ items) q = by_order new.key item.key
     (λ more. rw (greater new.key item.key more) (past_other new.key (Some new.content) item items (with_put new items) q (ap is_eq more) (put_contents new items q)))
 
 -- there are no more than the bound, if there is room for an item with a new key
-put_few : (new : Item) (items : List Item) (bound : ℕ) → IsAscending items → length items ≤ bound → (content_at items new.key ≡ None → length items < bound) → length (with_put new items) ≤ bound
+pub put_few : (new : Item) (items : List Item) (bound : ℕ) → IsAscending items → length items ≤ bound → (content_at items new.key ≡ None → length items < bound) → length (with_put new items) ≤ bound
 put_few new [] bound ascending few room = omega (arith, room refl)
 put_few new (item ∷ items) bound ascending few room = by_order new.key item.key
     (λ less. rw less (omega (arith, room (lacks_first item items new.key ascending less))))
@@ -103,22 +103,22 @@ put_few new (item ∷ items) bound ascending few room = by_order new.key item.ke
 
 -- the item of one key taken away
 
-abbrev without : List ℕ → List Item → List Item
+abbrev pub without : List ℕ → List Item → List Item
 without key [] = []
 without key (item ∷ items) = if is_eq (key_cmp key item.key) then without key items else item ∷ without key items
 
 -- what holds with the first item and without it
-chosen : {X : Type 0} (P : X → Type 0) (b : Bool) (x y : X) → P x → P y → P (if b then x else y)
+pub chosen : {X : Type 0} (P : X → Type 0) (b : Bool) (x y : X) → P x → P y → P (if b then x else y)
 chosen P true x y p q = p
 chosen P false x y p q = q
 
-all_without : (P : Item → Type 0) (key : List ℕ) (items : List Item) → AllByRecursion P items → AllByRecursion P (without key items)
+pub all_without : (P : Item → Type 0) (key : List ℕ) (items : List Item) → AllByRecursion P items → AllByRecursion P (without key items)
 all_without P key [] h = tt
 all_without P key (item ∷ items) h =
     let rest = all_without P key items h.1 in
     chosen (AllByRecursion P) (is_eq (key_cmp key item.key)) (without key items) (item ∷ without key items) rest (h.0, rest)
 
-without_ascends : (key : List ℕ) (items : List Item) → IsAscending items → IsAscending (without key items)
+pub without_ascends : (key : List ℕ) (items : List Item) → IsAscending items → IsAscending (without key items)
 unfolding IsStrictlySortedBy
 without_ascends key [] h = tt
 without_ascends key (item ∷ items) h =
@@ -127,14 +127,14 @@ without_ascends key (item ∷ items) h =
     let rest = without_ascends key items h.1 in
     chosen IsAscending (is_eq (key_cmp key item.key)) (without key items) (item ∷ without key items) rest (keys_from above (without key items) kept, rest)
 
-without_contents : (key : List ℕ) (items : List Item) (q : List ℕ) → content_at (without key items) q ≡ (if is_eq (key_cmp q key) then None else content_at items q)
+pub without_contents : (key : List ℕ) (items : List Item) (q : List ℕ) → content_at (without key items) q ≡ (if is_eq (key_cmp q key) then None else content_at items q)
 without_contents key [] q = by_order q key (λ less. rw less refl) (λ is. rw (is, itself key) refl) (λ more. rw (greater q key more) refl)
 without_contents key (item ∷ items) q = by_order key item.key
     (λ less. rw less (past_other key None item items (without key items) q (ap is_eq (greater item.key key less)) (without_contents key items q)))
     (λ same. rw (← same, itself key) (without_contents key items q ∙ twice (is_eq (key_cmp q key)) None (Some item.content) (content_at items q)))
     (λ more. rw (greater key item.key more) (past_other key None item items (without key items) q (ap is_eq more) (without_contents key items q)))
 
-without_few : (key : List ℕ) (items : List Item) → length (without key items) ≤ length items
+pub without_few : (key : List ℕ) (items : List Item) → length (without key items) ≤ length items
 without_few key [] = omega arith
 without_few key (item ∷ items) =
     let rest = without_few key items in

@@ -1,5 +1,5 @@
 -- What an actor may do, by what it knows from its own entries alone: no more than what the law needs.
-use Rattle.std.specs.Prelude.{◌≡◌, ◌<◌, ◌≤◌, ◌/◌, ℕ, zero, suc, ◌⊎◌, List, [], ◌∷◌, length, Option, None, Some, Bool, true, false, IsTrue, IsFalse, IfSome, MatchOption, ⊤}
+use Rattle.std.specs.Prelude.{◌≡◌, ◌≢◌, ◌<◌, ◌≤◌, ◌/◌, ◌^◌, ℕ, zero, suc, ◌⊎◌, List, [], ◌∷◌, length, Option, None, Some, Bool, true, false, IsTrue, IsFalse, IfSome, MatchOption, ⊤}
 use Rattle.bw_model.specs.declared.command.Command.{Command}
 use Rattle.bw_model.specs.declared.command.Reply.{Reply}
 use Rattle.bw_model.specs.declared.command.Reply.TheVariants.{Full}
@@ -18,7 +18,8 @@ use Rattle.deltas.specs.declared.record.Record.TheVariants.{Base, Put, Delete, S
 use Rattle.deltas.specs.Records.{next_row}
 use Rattle.chain_search.specs.Chains.{IsChainFrom, IsItemsOf, content_in, level_in, low_in, high_in, right_in, is_removed, covers}
 use Rattle.chain_search.specs.Fitted.{FitsOver, IsFitted}
-use Rattle.chain_search.specs.Knowledge.{OwnRow, Foreign, Taken, Written, Empty, Ready, Gone, Knowledge}
+use Rattle.chain_search.specs.Knowledge.{OwnRow, Foreign, Taken, Written, Empty, Ready, Gone, Limbo, Stamped, Knowledge}
+use Rattle.chain_search.specs.Steps.{is_among}
 
 abbrev pub IsOwn : OwnRow → Type 0
 IsOwn Foreign = ⊥
@@ -45,12 +46,25 @@ pub record HasRead (k : Knowledge) (page row : ℕ) : Type 0 where
   pub read : IsChainFrom k.seen row chain
   pub alive : IsFalse (is_removed chain)
 
--- a chain that was read names the page: as its right, or as a child
-pub record IsMet (k : Knowledge) (page : ℕ) : Type 0 where
+-- The page is the right of a removed page that stood right of the one whose chain this is: the removed one had been read before.
+pub record IsBeyond (k : Knowledge) (left : ℕ) (beside : List Record) (page : ℕ) : Type 0 where
+  pub removed : ℕ
   pub row : ℕ
   pub chain : List Record
+  pub right : right_in beside ≡ Some removed
+  pub order : k.before left removed ≡ Some row
   pub read : IsChainFrom k.seen row chain
-  pub named : (right_in chain ≡ Some page) ⊎ ((level : ℕ) × (key : List ℕ) × (held : Bool) × (level_in chain ≡ suc level) × IsTrue (covers chain key) × (content_in chain key ≡ Some (Child page held)))
+  pub gone : IsTrue (is_removed chain)
+  pub next : right_in chain ≡ Some page
+
+-- The whole chain of another page, as its slot was last read, names the page: as its right, or as a child, or its right does,
+-- which had been read removed before. What is under a head, and what else a removed page names, may be the name of a page that
+-- was used again.
+pub record IsMet (k : Knowledge) (page : ℕ) : Type 0 where
+  pub other : ℕ
+  pub row : ℕ
+  pub basis : HasRead k other row
+  pub named : (right_in basis.chain ≡ Some page) ⊎ ((level : ℕ) × (key : List ℕ) × (held : Bool) × (level_in basis.chain ≡ suc level) × IsTrue (covers basis.chain key) × (content_in basis.chain key ≡ Some (Child page held))) ⊎ IsBeyond k other basis.chain page
 
 -- the items decide each key of the chain's range as the chain does
 abbrev pub AreAlike : List Item → List Record → Type 0
@@ -146,12 +160,12 @@ pub record MayHold (k : Knowledge) (page old new : ℕ) : Type 0 where
 -- A Remove: of a page whose term was read held.
 pub record MayRemove (k : Knowledge) (page old new : ℕ) : Type 0 where
   pub basis : HasRead k page old
+  pub parent : ℕ
   pub row : ℕ
-  pub parent : List Record
-  pub read : IsChainFrom k.seen row parent
-  pub level : level_in parent ≡ suc (level_in basis.chain)
-  pub covers : IsTrue (covers parent (low_in basis.chain))
-  pub held : content_in parent (low_in basis.chain) ≡ Some (Child page true)
+  pub above : HasRead k parent row
+  pub level : level_in above.chain ≡ suc (level_in basis.chain)
+  pub covers : IsTrue (covers above.chain (low_in basis.chain))
+  pub held : content_in above.chain (low_in basis.chain) ≡ Some (Child page true)
   pub placed : k.rows new ≡ Written (Remove (record { level = level_in basis.chain; next = old }))
 
 -- A Merge: a page's right, which was read removed, comes into it.
@@ -210,16 +224,20 @@ abbrev pub IsOwnBase : OwnRow → Type 0
 IsOwnBase (Written (Base page)) = ⊤
 IsOwnBase _ = ⊥
 
+-- The row stands in the slot of no own page.
+abbrev pub IsUnset : Knowledge → ℕ → Type 0
+IsUnset k row = (page : ℕ) → k.pages page ≡ Ready row → ⊥
+
 -- Slot 0 goes from root to root. The slot of an own page goes from 0 to an own base (Ready) and back to 0 (Undo), and
--- that of a page whose term the actor took away to 0 (Clear).
+-- that of a page whose term the actor took away to 0 (Clear). No row comes into two slots.
 abbrev pub MayExchange : ℕ → Knowledge → ℕ → ℕ → ℕ → Type 0
 MayExchange actor k zero old new = MayRoot k old new
 MayExchange actor k (suc page) zero zero = ⊥
-MayExchange actor k (suc page) zero (suc row) = (k.pages (suc page) ≡ Empty) × IsOwnBase (k.rows (suc row))
+MayExchange actor k (suc page) zero (suc row) = (k.pages (suc page) ≡ Empty) × IsOwnBase (k.rows (suc row)) × IsUnset k (suc row)
 MayExchange actor k (suc page) (suc row) zero = (k.pages (suc page) ≡ Ready (suc row)) ⊎ (k.pages (suc page) ≡ Gone)
-MayExchange actor k (suc page) (suc old) (suc new) = MayAdd k (suc old) (suc new) × MayLink actor k (suc page) (suc old) (suc new)
+MayExchange actor k (suc page) (suc old) (suc new) = MayAdd k (suc old) (suc new) × MayLink actor k (suc page) (suc old) (suc new) × IsUnset k (suc new)
 
--- An own row is placed while it stands in no slot. Nothing is reused here: neither Retire nor Reuse may be taken.
+-- An own row is placed while it stands in no slot. The epoch that is announced was read. Only an actor that is outside frees.
 abbrev pub May : ℕ → Knowledge → StepOf Record → Type 0
 May actor k (Slot zero) = IsTrue k.inside
 May actor k (Slot (suc page)) = IsTrue k.inside × (IsTrue (k.roots (suc page)) ⊎ IsMet k (suc page))
@@ -230,13 +248,26 @@ May actor k (PidBits word) = ⊤
 May actor k (RowBits word) = ⊤
 May actor k (TakePid page) = ⊤
 May actor k (TakeRow row) = ⊤
-May actor k (Place row content) = IsTrue k.inside × IsOwn (k.rows row) × ((page : ℕ) → k.pages page ≡ Ready row → ⊥)
+May actor k (Place row content) = IsTrue k.inside × IsOwn (k.rows row) × IsUnset k row
 May actor k (Exchange slot old new) = IsTrue k.inside × MayExchange actor k slot old new
-May actor k (Enter epoch) = IsFalse k.inside × (0 < epoch)
+May actor k (Enter epoch) = IsFalse k.inside × (0 < epoch) × (k.epoch ≡ Some epoch)
 May actor k Leave = IsTrue k.inside
-May actor k (Retire epoch) = ⊥
-May actor k (ReusePids word bits) = ⊥
-May actor k (ReuseRows word bits) = ⊥
+May actor k (Retire epoch) = epoch < 2 ^ 62
+May actor k (ReusePids word bits) = IsFalse k.inside
+May actor k (ReuseRows word bits) = IsFalse k.inside
+
+-- Each other actor was read as outside, or in a later epoch than the stamp, after the stamp was read.
+pub record IsPassed (limits : Limits) (actor : ℕ) (limbo : Limbo) : Type 0 where
+  pub epoch : ℕ
+  pub passed : ℕ → Bool
+  pub stamped : limbo ≡ Stamped epoch passed
+  pub all : (other : ℕ) → other < limits.actors → other ≢ actor → IsTrue (passed other)
+
+-- What a step frees its actor took out of the tree, and no other actor can hold it.
+abbrev pub MayFree : Limits → ℕ → Knowledge → StepOf Record → Type 0
+MayFree limits actor k (ReusePids word bits) = (page : ℕ) → is_among word bits page ≡ true → IsPassed limits actor (k.limbo_pids page)
+MayFree limits actor k (ReuseRows word bits) = (row : ℕ) → is_among word bits row ≡ true → IsPassed limits actor (k.limbo_rows row)
+MayFree limits actor k step = ⊤
 
 -- after the other page was read as this row, the page left of it was read
 pub record IsBeside (k : Knowledge) (row : ℕ) : Type 0 where
@@ -251,7 +282,7 @@ pub record IsBeside (k : Knowledge) (row : ℕ) : Type 0 where
 -- row; or the page was removed, and its left page was read afterwards.
 abbrev pub HasBasis : ℕ → Knowledge → Command → ℕ → List Record → Type 0
 HasBasis actor k command row chain =
-    ((k.linked ≡ Some row) × IsFalse (is_removed chain))
+    ((k.linked ≡ Some (Some row)) × IsFalse (is_removed chain))
     ⊎ ((k.linked ≡ None) × ((page : ℕ) × (k.heads page ≡ Some row) × IsFalse (is_removed chain)) × (update_of actor command (found chain (command_key command)) ≡ None))
     ⊎ ((k.linked ≡ None) × IsBeside k row × IsTrue (is_removed chain) × (update_of actor command (found chain (command_key command)) ≡ None))
 
@@ -299,4 +330,5 @@ pub record MayReply (limits : Limits) (actor : ℕ) (k : Knowledge) (reply : Rep
 -- a step that the actor may take by what it knows, with its reply, if it has one
 pub record IsAllowed (limits : Limits) (actor : ℕ) (k : Knowledge) (step : StepOf Record) (reply : Option Reply) : Type 0 where
   pub may : May actor k step
+  pub frees : MayFree limits actor k step
   pub replied : IfSome reply (λ given. (step ≡ Leave) × MayReply limits actor k given)

@@ -13,7 +13,7 @@ abbrev pub deleted_leaf : List Record
 deleted_leaf = delta.Delete (record { next = 2; key = codes "a" }) ∷ put_leaf
 
 abbrev pub leaf : Page
-leaf = record { level = 0; low = []; high = None; right = None; removed = false; items = record { key = codes "k08"; content = Value (codes "v08") } ∷ record { key = codes "k09"; content = Value (codes "v09") } ∷ [] }
+leaf = record { level = 0; low = codes "a"; high = None; right = None; removed = false; items = record { key = codes "k08"; content = Value (codes "v08") } ∷ record { key = codes "k09"; content = Value (codes "v09") } ∷ [] }
 
 -- a leaf split at "k09" to the new page 2
 abbrev pub split : Record

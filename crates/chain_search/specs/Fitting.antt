@@ -1,17 +1,18 @@
 -- What an actor may count on of an answer, by what it knows.
-use Rattle.std.specs.Prelude.{◌≡◌, ◌<◌, ◌+◌, ◌*◌, ◌^◌, ℕ, zero, suc, List, [], ◌∷◌, ◌++◌, length, Bool, Some, None, IsTrue, IfSome, true, false, ⊤}
+use Rattle.std.specs.Prelude.{◌≡◌, ◌<◌, ◌≤◌, ◌+◌, ◌*◌, ◌^◌, ℕ, zero, suc, List, [], ◌∷◌, ◌++◌, length, Bool, Some, None, IsTrue, IsFalse, IfSome, true, false, ⊤}
 use Rattle.std.specs.Int.{bit_at}
 use Rattle.bw_model.specs.declared.limits.Limits.{Limits}
 use Rattle.bw_model.specs.declared.step.Step.{Step as StepOf}
-use Rattle.bw_model.specs.declared.step.Step.TheVariants.{Slot, Row, Epoch, Announce, PidBits, RowBits, Place, Exchange, TakePid, TakeRow, Enter, Leave}
+use Rattle.bw_model.specs.declared.step.Step.TheVariants.{Slot, Row, Epoch, Announce, PidBits, RowBits, Place, Exchange, TakePid, TakeRow, Enter, Leave, Retire, ReusePids, ReuseRows}
 use Rattle.bw_model.specs.declared.step.Answer.{Answer}
 use Rattle.bw_model.specs.declared.step.Answer.TheVariants.{Number, Content, Whether, Done}
 use Rattle.base_page.specs.declared.item.Content.TheVariants.{Child}
 use Rattle.deltas.specs.declared.record.Record.{Record}
 use Rattle.deltas.specs.Records.{next_row}
-use Rattle.chain_search.specs.Chains.{IsChainFrom, IsFront, content_in, level_in, low_in, high_in, right_in, covers}
+use Rattle.chain_search.specs.Chains.{IsChainFrom, IsFront, content_in, level_in, low_in, high_in, right_in, is_removed, covers}
 use Rattle.chain_search.specs.Fitted.{IsPageChain}
-use Rattle.chain_search.specs.Knowledge.{Foreign, Other, Ready, Knowledge}
+use Rattle.chain_search.specs.Knowledge.{Foreign, Other, Ready, Absent, Knowledge}
+use Rattle.chain_search.specs.Discipline.{HasRead, IsBeyond}
 
 -- a number that a word of free bits shows as free is above 0 and below the limit
 pub record FitsWord (limit word bits : ℕ) : Type 0 where
@@ -23,15 +24,24 @@ pub record SaysOf (naming : List Record) (page : ℕ) (chain : List Record) : Ty
   pub right : right_in naming ≡ Some page → (level_in chain ≡ level_in naming) × (high_in naming ≡ Some (low_in chain))
   pub child : (level : ℕ) (key : List ℕ) (held : Bool) → level_in naming ≡ suc level → IsTrue (covers naming key) → content_in naming key ≡ Some (Child page held) → (level_in chain ≡ level) × (low_in chain ≡ key)
 
--- What was read whole of a page is a page's chain, which is as was said of the page, by slot 0 or by a chain that was read;
--- what it says itself of pages that were read is so; and the pages that it names are below the limit.
+-- What a chain says of its right is so of the page's chain.
+abbrev pub SaysRight : List Record → List Record → Type 0
+SaysRight naming chain = (level_in chain ≡ level_in naming) × (high_in naming ≡ Some (low_in chain))
+
+-- What was read whole of a page is a page's chain, which is as was said of the page, by slot 0 or by the chain of a page that
+-- is not removed, as its slot was last read, or by its right that had been read removed; unless it is removed itself, what it says of pages that were read, and of its own, is so,
+-- and the pages that it names are below the limit.
 pub record IsWhole (limits : Limits) (k : Knowledge) (page : ℕ) (chain : List Record) : Type 0 where
   pub is_chain : IsPageChain chain
   pub root : IsTrue (k.roots page) → low_in chain ≡ []
-  pub named : (row : ℕ) (naming : List Record) → IsChainFrom k.seen row naming → SaysOf naming page chain
-  pub names : (other row : ℕ) (read : List Record) → k.heads other ≡ Some row → IsChainFrom k.seen row read → SaysOf chain other read
-  pub right : (other : ℕ) → right_in chain ≡ Some other → (0 < other) × (other < limits.pids)
-  pub child : (level other : ℕ) (key : List ℕ) (held : Bool) → level_in chain ≡ suc level → IsTrue (covers chain key) → content_in chain key ≡ Some (Child other held) → (0 < other) × (other < limits.pids)
+  pub named : (other row : ℕ) (basis : HasRead k other row) → SaysOf basis.chain page chain
+  pub beside : (other row : ℕ) (basis : HasRead k other row) (b : IsBeyond k other basis.chain page) → SaysRight b.chain chain
+  pub own : IsFalse (is_removed chain) → SaysOf chain page chain
+  pub names : IsFalse (is_removed chain) → (other row : ℕ) (read : List Record) → k.heads other ≡ Some row → IsChainFrom k.seen row read → SaysOf chain other read
+  pub right : IsFalse (is_removed chain) → (other : ℕ) → right_in chain ≡ Some other → (0 < other) × (other < limits.pids)
+  pub child : IsFalse (is_removed chain) → (level other : ℕ) (key : List ℕ) (held : Bool) → level_in chain ≡ suc level → IsTrue (covers chain key) → content_in chain key ≡ Some (Child other held) → (0 < other) × (other < limits.pids)
+  pub beyond : IsFalse (is_removed chain) → (next : ℕ) (b : IsBeyond k page chain next) → (0 < next) × (next < limits.pids) × (page ≡ next → SaysRight b.chain chain)
+      × ((other row : ℕ) (read : List Record) → k.heads other ≡ Some row → IsChainFrom k.seen row read → other ≡ next → SaysRight b.chain read)
 
 -- A record that is read is the one that was read there before, and leads to a row. A chain that is being read has no more
 -- than 13 records; where this is its last one, it was read whole.
@@ -41,19 +51,21 @@ pub record FitsRow (limits : Limits) (k : Knowledge) (row : ℕ) (content : Reco
   pub short : (page head : ℕ) (front : List Record) → k.heads page ≡ Some head → IsFront k.seen head front row → length front < 13
   pub whole : (page head : ℕ) (front : List Record) → k.heads page ≡ Some head → IsFront k.seen head front row → next_row content ≡ None → IsWhole limits k page (front ++ content ∷ [])
 
--- a row that was taken is below the limit, was not the actor's before, and is on no chain that it has read
+-- a row that was taken is below the limit, was not the actor's before nor in its limbo, and is on no chain that it has read
 pub record FitsTaken (limits : Limits) (k : Knowledge) (row : ℕ) : Type 0 where
   pub some : 0 < row
   pub below : row < limits.rows
   pub foreign : k.rows row ≡ Foreign
   pub unlearnt : k.learnt row ≡ false
   pub unseen : k.seen row ≡ None
+  pub freed : k.limbo_rows row ≡ Absent
 
--- a PID that was taken is below the limit, and was not the actor's before
+-- a PID that was taken is below the limit, and was not the actor's before nor in its limbo
 pub record FitsTakenPid (limits : Limits) (k : Knowledge) (pid : ℕ) : Type 0 where
   pub some : 0 < pid
   pub below : pid < limits.pids
   pub other : k.pages pid ≡ Other
+  pub freed : k.limbo_pids pid ≡ Absent
 
 -- An exchange of an own page's slot, from 0 or back to 0, wins. One that links a row does not win on an own page.
 abbrev pub FitsExchange : Knowledge → ℕ → ℕ → ℕ → Bool → Type 0
@@ -62,13 +74,13 @@ FitsExchange k (suc page) zero new went = went ≡ true
 FitsExchange k (suc page) (suc old) zero went = k.pages (suc page) ≡ Ready (suc old) → went ≡ true
 FitsExchange k (suc page) (suc old) (suc new) went = went ≡ true → k.pages (suc page) ≡ Other
 
--- Slot 0 has a PID; another slot that may be read has a row, or 0 if its page was cleared.
+-- Slot 0 has a PID, of a page that begins at the empty key; another slot that may be read has a row, or 0 if its page was cleared, which no page is that was the root.
 abbrev pub Fits : Limits → Knowledge → StepOf Record → Answer Record → Type 0
-Fits limits k (Slot zero) (Number n) = (0 < n) × (n < limits.pids)
-Fits limits k (Slot (suc page)) (Number n) = n < limits.rows
+Fits limits k (Slot zero) (Number n) = (0 < n) × (n < limits.pids) × ((head : ℕ) (chain : List Record) → k.heads n ≡ Some head → IsChainFrom k.seen head chain → low_in chain ≡ [])
+Fits limits k (Slot (suc page)) (Number n) = (n < limits.rows) × (IsTrue (k.roots (suc page)) → 0 < n)
 Fits limits k (Row row) (Content content) = FitsRow limits k row content
-Fits limits k Epoch (Number n) = (0 < n) × (n < 2 ^ 64)
-Fits limits k (Announce other) (Number n) = ⊤
+Fits limits k Epoch (Number n) = (0 < n) × (n ≤ 2 ^ 62)
+Fits limits k (Announce other) (Number n) = n ≤ 2 ^ 62
 Fits limits k (PidBits word) (Number bits) = FitsWord limits.pids word bits
 Fits limits k (RowBits word) (Number bits) = FitsWord limits.rows word bits
 Fits limits k (TakePid pid) (Whether true) = FitsTakenPid limits k pid
@@ -79,4 +91,7 @@ Fits limits k (Place row content) Done = ⊤
 Fits limits k (Exchange slot old new) (Whether went) = FitsExchange k slot old new went
 Fits limits k (Enter epoch) Done = ⊤
 Fits limits k Leave Done = ⊤
+Fits limits k (Retire epoch) (Whether went) = ⊤
+Fits limits k (ReusePids word bits) Done = ⊤
+Fits limits k (ReuseRows word bits) Done = ⊤
 Fits limits k step answer = ⊥

@@ -1,10 +1,10 @@
 -- What an actor knows from its own entries.
-use Rattle.std.specs.Prelude.{ℕ, zero, suc, List, Option, None, Some, Bool, true, false}
+use Rattle.std.specs.Prelude.{ℕ, zero, suc, ◌==◌, ltb, ◌||◌, List, Option, None, Some, Bool, true, false, if◌then◌else◌}
 use Rattle.std.specs.List.{fold}
 use Rattle.bw_model.specs.declared.command.Command.{Command}
 use Rattle.bw_model.specs.declared.command.Reply.{Reply}
 use Rattle.bw_model.specs.declared.step.Step.{Step as StepOf}
-use Rattle.bw_model.specs.declared.step.Step.TheVariants.{Slot, Row, PidBits, RowBits, Place, Exchange, TakePid, TakeRow, Enter, Leave}
+use Rattle.bw_model.specs.declared.step.Step.TheVariants.{Slot, Row, Epoch, Announce, PidBits, RowBits, Place, Exchange, TakePid, TakeRow, Enter, Leave, ReusePids, ReuseRows}
 use Rattle.bw_model.specs.declared.step.Answer.{Answer}
 use Rattle.bw_model.specs.declared.step.Answer.TheVariants.{Number, Content, Whether}
 use Rattle.deltas.specs.declared.record.Record.{Record}
@@ -13,6 +13,7 @@ use Rattle.deltas.specs.Records.{next_row}
 use Rattle.deltas.specs.Memory.{replaced_at}
 use Rattle.chain_search.specs.declared.trace.Entry.{Entry}
 use Rattle.chain_search.specs.declared.trace.Entry.TheVariants.{Begin, Step}
+use Rattle.chain_search.specs.Steps.{is_among}
 
 -- a row as its actor sees it: not its own, taken, or with what it placed there last
 pub data OwnRow : Type 0 where
@@ -27,20 +28,30 @@ pub data OwnPage : Type 0 where
   Ready : (row : ℕ) → OwnPage
   Gone : OwnPage
 
+-- a row or a page that its actor took out of the tree: without a stamp, or with an epoch that was read afterwards and the
+-- actors that were since read as outside or in a later epoch
+pub data Limbo : Type 0 where
+  Absent : Limbo
+  Unstamped : Limbo
+  Stamped : (epoch : ℕ) (passed : ℕ → Bool) → Limbo
+
 pub record Knowledge : Type 0 where
   pub inside : Bool
   pub learnt : ℕ → Bool  -- rows whose names it learnt since the last Enter
   pub roots : ℕ → Bool  -- pages read as the root since then
   pub seen : ℕ → Option Record  -- records read since then
   pub recent : ℕ → Option Record  -- those of them that it read after the last slot of a page
-  pub heads : ℕ → Option ℕ  -- slots, as last read in this operation
+  pub heads : ℕ → Option ℕ  -- slots, as last read since then in this operation
   pub before : ℕ → ℕ → Option ℕ  -- for each slot, the slots as they had last been read when it was read
   pub rows : ℕ → OwnRow
   pub pages : ℕ → OwnPage
   pub command : Option Command
-  pub linked : Option ℕ  -- the row over which this operation linked its update
+  pub linked : Option (Option ℕ)  -- whether this operation linked its update, and, until the next Leave, over which row
   pub no_pids : ℕ → Bool  -- words of free PIDs that it read as 0 in this operation
   pub no_rows : ℕ → Bool  -- words of free rows that it read as 0 in this operation
+  pub epoch : Option ℕ  -- the epoch, as last read
+  pub limbo_rows : ℕ → Limbo  -- rows that it took out of the tree and has not freed
+  pub limbo_pids : ℕ → Limbo  -- pages likewise
 
 abbrev pub nothing : Knowledge
 nothing = record {
@@ -57,6 +68,9 @@ nothing = record {
   linked = None;
   no_pids = λ word. false;
   no_rows = λ word. false;
+  epoch = None;
+  limbo_rows = λ row. Absent;
+  limbo_pids = λ page. Absent;
 }
 
 -- what an actor knows when an operation begins
@@ -82,6 +96,41 @@ abbrev pub learn_word : ℕ → ℕ → (ℕ → Bool) → ℕ → Bool
 learn_word word zero words = replaced_at word true words
 learn_word word (suc bits) words = words
 
+abbrev pub next_seen : Option Record → Option ℕ
+next_seen None = None
+next_seen (Some content) = next_row content
+
+-- The row is among the first n from this one on, by the records that were read.
+abbrev pub is_on_walk : ℕ → (ℕ → Option Record) → Option ℕ → ℕ → Bool
+is_on_walk zero seen start row = false
+is_on_walk (suc n) seen None row = false
+is_on_walk (suc n) seen (Some first) row = (row == first) || is_on_walk n seen (next_seen (seen first)) row
+
+-- The rows of the chain from this row on, as far as it was read, are out of the tree.
+abbrev pub taken_out : (ℕ → Option Record) → ℕ → (ℕ → Limbo) → ℕ → Limbo
+taken_out seen first limbo row = if is_on_walk 13 seen (Some first) row then Unstamped else limbo row
+
+-- after an epoch was read
+abbrev pub stamped : ℕ → Limbo → Limbo
+stamped epoch Absent = Absent
+stamped epoch Unstamped = Stamped epoch (λ actor. false)
+stamped epoch (Stamped stamp passed) = Stamped stamp passed
+
+-- after an actor's announced epoch was read
+abbrev pub passed_by : ℕ → ℕ → Limbo → Limbo
+passed_by actor announced Absent = Absent
+passed_by actor announced Unstamped = Unstamped
+passed_by actor announced (Stamped stamp passed) = Stamped stamp (if (announced == 0) || ltb stamp announced then replaced_at actor true passed else passed)
+
+-- after the numbers of the word's bits were freed
+abbrev pub freed : ℕ → ℕ → (ℕ → Limbo) → ℕ → Limbo
+freed word bits limbo n = if is_among word bits n then Absent else limbo n
+
+-- The operation has left: it no more knows over which row its update was linked.
+abbrev pub forgotten : Option (Option ℕ) → Option (Option ℕ)
+forgotten None = None
+forgotten (Some over) = Some None
+
 -- The row is linked: it is the actor's own no more.
 abbrev pub handed_over : ℕ → Knowledge → Knowledge
 handed_over row k = record k { rows = replaced_at row Foreign k.rows }
@@ -93,15 +142,15 @@ split_off _ page row k = k
 
 -- After a row with this record was linked over an old one.
 abbrev pub linked_over : OwnRow → ℕ → ℕ → Knowledge → Knowledge
-linked_over (Written (Put put)) old row k = record k { rows = replaced_at row Foreign k.rows; linked = Some old }
-linked_over (Written (Delete delete)) old row k = record k { rows = replaced_at row Foreign k.rows; linked = Some old }
+linked_over (Written (Put put)) old row k = record k { rows = replaced_at row Foreign k.rows; linked = Some (Some old) }
+linked_over (Written (Delete delete)) old row k = record k { rows = replaced_at row Foreign k.rows; linked = Some (Some old) }
 linked_over (Written (Split split)) old row k = split_off (k.pages split.page) split.page row k
 linked_over (Written (Unterm unterm)) old row k = record k { rows = replaced_at row Foreign k.rows; pages = replaced_at unterm.child Gone k.pages }
 linked_over (Written (Term term)) old row k = handed_over row k
 linked_over (Written (Hold hold)) old row k = handed_over row k
 linked_over (Written (Remove remove)) old row k = handed_over row k
 linked_over (Written (Merge merge)) old row k = handed_over row k
-linked_over (Written (Base page)) old row k = handed_over row k
+linked_over (Written (Base page)) old row k = record k { rows = replaced_at row Foreign k.rows; limbo_rows = taken_out k.seen old k.limbo_rows }
 linked_over Taken old row k = k
 linked_over Foreign old row k = k
 
@@ -112,10 +161,12 @@ filled Empty page old row k = record k { pages = replaced_at page (Ready row) k.
 filled (Ready base) page old row k = k
 filled Gone page old row k = k
 
--- After an exchange of a page's slot to 0 won: an own page that was ready is empty again.
-abbrev pub emptied : OwnPage → ℕ → Knowledge → Knowledge
-emptied (Ready base) page k = record k { pages = replaced_at page Empty k.pages }
-emptied _ page k = k
+-- After an exchange of a page's slot to 0 won: an own page that was ready is empty again; one whose term the actor took out is
+-- out of the tree, with its chain.
+abbrev pub emptied : OwnPage → ℕ → ℕ → Knowledge → Knowledge
+emptied (Ready base) page old k = record k { pages = replaced_at page Empty k.pages }
+emptied Gone page old k = record k { pages = replaced_at page Other k.pages; limbo_rows = taken_out k.seen old k.limbo_rows; limbo_pids = replaced_at page Unstamped k.limbo_pids }
+emptied _ page old k = k
 
 -- After a new root was linked, its base is linked too.
 abbrev pub rooted : OwnPage → ℕ → Knowledge → Knowledge
@@ -125,12 +176,14 @@ rooted _ page k = k
 -- After an exchange won: slot, the number that was there, the new number.
 abbrev pub exchanged : ℕ → ℕ → ℕ → Knowledge → Knowledge
 exchanged zero old new k = rooted (k.pages new) new k
-exchanged (suc page) old zero k = emptied (k.pages (suc page)) (suc page) k
+exchanged (suc page) old zero k = emptied (k.pages (suc page)) (suc page) old k
 exchanged (suc page) old (suc row) k = filled (k.pages (suc page)) (suc page) old (suc row) k
 
 abbrev pub learn : Knowledge → StepOf Record → Answer Record → Knowledge
 learn k (Slot page) (Number n) = learn_slot page n k
 learn k (Row row) (Content content) = record k { seen = replaced_at row (Some content) k.seen; recent = replaced_at row (Some content) k.recent; learnt = learnt_next (next_row content) k.learnt }
+learn k Epoch (Number epoch) = record k { epoch = Some epoch; limbo_rows = λ row. stamped epoch (k.limbo_rows row); limbo_pids = λ page. stamped epoch (k.limbo_pids page) }
+learn k (Announce actor) (Number announced) = record k { limbo_rows = λ row. passed_by actor announced (k.limbo_rows row); limbo_pids = λ page. passed_by actor announced (k.limbo_pids page) }
 learn k (PidBits word) (Number bits) = record k { no_pids = learn_word word bits k.no_pids }
 learn k (RowBits word) (Number bits) = record k { no_rows = learn_word word bits k.no_rows }
 learn k (TakePid page) (Whether true) = record k { pages = replaced_at page Empty k.pages }
@@ -138,7 +191,9 @@ learn k (TakeRow row) (Whether true) = record k { rows = replaced_at row Taken k
 learn k (Place row content) answer = record k { rows = replaced_at row (Written content) k.rows }
 learn k (Exchange slot old new) (Whether true) = exchanged slot old new k
 learn k (Enter epoch) answer = record k { inside = true; learnt = λ row. false }
-learn k Leave answer = record k { inside = false; learnt = λ row. false; roots = λ page. false; seen = λ row. None; recent = λ row. None; heads = λ page. None; before = λ page other. None }
+learn k Leave answer = record k { inside = false; learnt = λ row. false; roots = λ page. false; seen = λ row. None; recent = λ row. None; heads = λ page. None; before = λ page other. None; linked = forgotten k.linked }
+learn k (ReusePids word bits) answer = record k { limbo_pids = freed word bits k.limbo_pids }
+learn k (ReuseRows word bits) answer = record k { limbo_rows = freed word bits k.limbo_rows }
 learn k step answer = k
 
 abbrev pub going_on : Option Reply → Option Command → Option Command

@@ -48,7 +48,7 @@ fn leaf() -> Page
 {
     let mut items = item(key(b"k08"), Content::Value(value(b"v08")));
     items.append(&item(key(b"k09"), Content::Value(value(b"v09"))));
-    Page::new(0, Key::default(), None, None, items)
+    Page::new(0, key(b"a"), None, None, items)
 }
 
 fn leaf_chain() -> Chain

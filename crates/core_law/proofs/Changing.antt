@@ -1,5 +1,5 @@
 -- A plain exchange puts a record over a chain of the memory: an update, once in an operation, or a base over deltas.
-use Rattle.std.proofs.Common.{◌≡◌, ◌≢◌, ◌<◌, inl, inr, ℕ, zero, suc, List, length, Some, None, true, false, eqb, refl, sym, ap, ◌∙◌, subst, arith}
+use Rattle.std.proofs.Common.{◌≡◌, ◌≢◌, ◌<◌, inl, inr, ℕ, zero, suc, List, length, Some, None, true, false, eqb, refl, sym, ap, ◌∙◌, subst, arith, Option}
 use Rattle.std.specs.Prelude.{IsSome}
 use Rattle.std.specs.Option.{option_map}
 use Rattle.std.proofs.lemmas.Bool.Decides.{nat_tests}
@@ -8,14 +8,14 @@ use Rattle.bw_model.specs.declared.step.Answer.{Answer}
 use Rattle.bw_model.specs.declared.step.Answer.TheVariants.{Number, Content, Whether}
 use Rattle.bw_model.specs.declared.step.Link.TheVariants as link
 use Rattle.bw_model.specs.declared.step.Step.{Step as StepOf}
-use Rattle.bw_model.specs.declared.step.Step.TheVariants.{Slot, Row, PidBits, RowBits, Exchange, TakePid, TakeRow}
+use Rattle.bw_model.specs.declared.step.Step.TheVariants.{Slot, Row, Epoch, Announce, PidBits, RowBits, Exchange, TakePid, TakeRow, Leave}
 use Rattle.deltas.specs.Links.{record_link}
 use Rattle.deltas.specs.Memory.{Memory}
 use Rattle.deltas.specs.declared.record.Record.{Record}
 use Rattle.deltas.specs.declared.record.Record.TheVariants.{Base, Put, Delete, Split, Term, Hold, Remove, Merge, Unterm}
 use Rattle.chain_search.specs.Chains.{IsChainFrom}
 use Rattle.chain_search.specs.Discipline.{MayExchange, MayLink}
-use Rattle.chain_search.specs.Knowledge.{Written, Knowledge, knows, learn, linked_over}
+use Rattle.chain_search.specs.Knowledge.{Written, Knowledge, knows, learn, linked_over, forgotten}
 use Rattle.chain_search.specs.Trace.{memory_of}
 use Rattle.chain_search.specs.declared.trace.Entry.{Entry}
 use Rattle.op_machine.specs.Links.{link_of}
@@ -98,6 +98,13 @@ module _ (limits : Limits) (entries : List Entry) (a : ℕ) where
   linked_kept (Slot (suc page)) (Number zero) change h = h
   linked_kept (Slot (suc page)) (Number (suc row)) change h = h
   linked_kept (Row row) (Content content) change h = h
+  linked_kept Epoch (Number n) change h = h
+  linked_kept (Announce other) (Number n) change h = h
+  linked_kept Leave answer change h = forgotten_some k.linked h
+    where
+      forgotten_some : (l : Option (Option ℕ)) → IsSome l → IsSome (forgotten l)
+      forgotten_some None e = absurd (cc)
+      forgotten_some (Some over) e = refl
   linked_kept (PidBits word) (Number bits) change h = h
   linked_kept (RowBits word) (Number bits) change h = h
   linked_kept (TakePid pid) (Whether true) change h = h

@@ -1,8 +1,9 @@
 -- A plain step keeps page 1 the only page, and what actors know of it.
 use Rattle.std.proofs.Common.{◌≡◌, ◌<◌, ◌≤◌, inl, inr, ℕ, zero, suc, List, [], ◌∷◌, length, Option, Some, None, Bool, true, false, cond, eqb, refl, sym, ap, ◌∙◌, subst, arith}
-use Rattle.std.specs.Prelude.{IfSome}
+use Rattle.std.specs.Prelude.{IfSome, IsSome}
 use Rattle.std.proofs.lemmas.Bool.{lt-leb}
 use Rattle.std.proofs.lemmas.Option.{same_Some}
+use Rattle.bw_model.specs.declared.command.Command.{Command}
 use Rattle.bw_model.specs.declared.step.Answer.{Answer}
 use Rattle.bw_model.specs.declared.step.Answer.TheVariants.{Whether}
 use Rattle.bw_model.specs.declared.step.Step.{Step as StepOf}
@@ -17,7 +18,7 @@ use Rattle.chain_search.specs.Chains.{IsChainFrom, IsChainOf}
 use Rattle.chain_search.specs.Discipline.{May, MayExchange, MayLink, record_of}
 use Rattle.chain_search.specs.Knowledge.{OwnRow, Written, Knowledge, begun, exchanged, finished, knows, learn, learn_slot, linked_over}
 use Rattle.chain_search.specs.Steps.{IsAnswer, memory_after}
-use Rattle.chain_search.specs.Trace.{memory_of}
+use Rattle.chain_search.specs.Trace.{command_of, memory_of}
 use Rattle.chain_search.specs.declared.trace.Entry.{Entry}
 use Rattle.chain_search.specs.declared.trace.Entry.TheVariants.{Begin, Step}
 use Rattle.op_machine.specs.OneLeaf.{IsLeafChain, IsPlainLink, IsPlainMove, IsPlainOver}
@@ -138,9 +139,9 @@ module _ (m : Memory) {log : List Update} {o : Owners} {ks : ℕ → Knowledge} 
       leaf_after (TakeRow q) may plain stay = record { root = one.root; linked = one.linked; others = one.others; leaf = one.leaf }
       leaf_after (Enter n) may plain stay = record { root = one.root; linked = one.linked; others = one.others; leaf = one.leaf }
       leaf_after Leave may plain stay = record { root = one.root; linked = one.linked; others = one.others; leaf = one.leaf }
-      leaf_after (Retire n) may plain stay = absurd may
-      leaf_after (ReusePids w bits) may plain stay = absurd may
-      leaf_after (ReuseRows w bits) may plain stay = absurd may
+      leaf_after (Retire n) may plain stay = record { root = one.root; linked = one.linked; others = one.others; leaf = one.leaf }
+      leaf_after (ReusePids w bits) may plain stay = record { root = one.root; linked = one.linked; others = one.others; leaf = one.leaf }
+      leaf_after (ReuseRows w bits) may plain stay = record { root = one.root; linked = one.linked; others = one.others; leaf = one.leaf }
 
     -- what the actor learns
     same : (k' : Knowledge) → k'.heads ≡ k.heads → k'.pages ≡ k.pages → k'.roots ≡ k.roots → KnowsLeaf m.rows k'
@@ -196,8 +197,8 @@ module _ (m : Memory) {log : List Update} {o : Owners} {ks : ℕ → Knowledge} 
     learnt : (s : StepOf Record) (x : Answer Record) → May a k s → IsPlainMove k s → IsAnswer m s x → ((row : ℕ) → o.row row ≡ Linked → (memory_after a s m).rows row ≡ m.rows row) → KnowsLeaf (memory_after a s m).rows (learn k s x)
     learnt (Slot p) x may plain is stay = subst (λ y. KnowsLeaf m.rows (learn k (Slot p) y)) (sym is) (slot_known p (m.slots p) refl)
     learnt (Row q) x may plain is stay = subst (λ y. KnowsLeaf m.rows (learn k (Row q) y)) (sym is.2) (same _ refl refl refl)
-    learnt Epoch x may plain is stay = subst (λ y. KnowsLeaf m.rows (learn k Epoch y)) (sym is) known
-    learnt (Announce b) x may plain is stay = subst (λ y. KnowsLeaf m.rows (learn k (Announce b) y)) (sym is) known
+    learnt Epoch x may plain is stay = subst (λ y. KnowsLeaf m.rows (learn k Epoch y)) (sym is) (same _ refl refl refl)
+    learnt (Announce b) x may plain is stay = subst (λ y. KnowsLeaf m.rows (learn k (Announce b) y)) (sym is) (same _ refl refl refl)
     learnt (PidBits w) x may plain is stay = subst (λ y. KnowsLeaf m.rows (learn k (PidBits w) y)) (sym is.2) (same _ refl refl refl)
     learnt (RowBits w) x may plain is stay = subst (λ y. KnowsLeaf m.rows (learn k (RowBits w) y)) (sym is.2) (same _ refl refl refl)
     learnt (Place q w) x may plain is stay = let kept = known_stays (memory_after a (Place q w) m).rows stay a known in record { heads = kept.heads; pageless = kept.pageless; roots = kept.roots }
@@ -206,9 +207,9 @@ module _ (m : Memory) {log : List Update} {o : Owners} {ks : ℕ → Knowledge} 
     learnt (TakeRow q) x may plain is stay = subst (λ y. KnowsLeaf m.rows (learn k (TakeRow q) y)) (sym is) (taken_known q (m.free_rows q))
     learnt (Enter n) x may plain is stay = same _ refl refl refl
     learnt Leave x may plain is stay = record { heads = λ page row e. absurd (cc); pageless = known.pageless; roots = λ page e. absurd (cc) }
-    learnt (Retire n) x may plain is stay = absurd may
-    learnt (ReusePids w bits) x may plain is stay = absurd may
-    learnt (ReuseRows w bits) x may plain is stay = absurd may
+    learnt (Retire n) x may plain is stay = known
+    learnt (ReusePids w bits) x may plain is stay = same _ refl refl refl
+    learnt (ReuseRows w bits) x may plain is stay = same _ refl refl refl
 
 pub opens : Opens tree.IsState → Opens IsState
 opens tree_opens limits = record {
@@ -248,8 +249,13 @@ steps tree_steps one_step grows one_chain limits entries a s x r state busy allo
     m : Memory
     m = memory_of limits entries
 
+    -- the actor is one of the stated number
+    actor : (o : Option Command) → command_of entries a ≡ o → IsSome o → a < limits.actors
+    actor None e b = absurd (cc)
+    actor (Some asked) e b = (state.tree.run.each (state.tree.tells a asked e).start (Begin a asked) (state.tree.tells a asked e).begins).0
+
     stay : (row : ℕ) → state.tree.owners.row row ≡ Linked → (memory_after a s m).rows row ≡ m.rows row
-    stay row linked = ((one_step m _ _ _ _ _ state.tree.good limits a s x r allowed is).kept row linked).1
+    stay row linked = (one_step limits m _ _ _ _ _ _ state.tree.times state.tree.good state.tree.timed a (actor (command_of entries a) refl busy) s x r allowed is).after.same row linked
 
     own : KnowsLeaf (memory_after a s m).rows (learn (knows entries a) s x)
     own = learnt m state.tree.good a state.leaf (state.known a) s x allowed.may plain is stay

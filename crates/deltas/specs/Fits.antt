@@ -1,5 +1,5 @@
 -- What a record asks of the page under it.
-use Rattle.std.specs.Prelude.{◌≡◌, ℕ, ◌+◌, ◌<◌, ◌≤◌, IsTrue, false, true, None, Some, length}
+use Rattle.std.specs.Prelude.{◌≡◌, ℕ, ◌+◌, ◌<◌, ◌≤◌, IsTrue, false, true, [], None, Some, length}
 use Rattle.bw_model.specs.Bytes.{is_below, is_in_range}
 use Rattle.base_page.specs.declared.item.Content.TheVariants.{Child}
 use Rattle.base_page.specs.Pages.{Page, IsPage, content_at}
@@ -49,9 +49,12 @@ pub record FitsHold (page : Page) (hold : Hold) : Type 0 where
   pub level : page.level ≡ hold.level
   pub there : content_at page.items hold.separator ≡ Some (Child hold.child false)
 
+-- a page with few items, which isn't the first of its level
 pub record FitsRemove (page : Page) (remove : Remove) : Type 0 where
   pub alive : page.removed ≡ false
   pub level : page.level ≡ remove.level
+  pub few : length page.items ≤ 4
+  pub inner : IsTrue (is_below [] page.low)
 
 -- What is merged is a page, which begins where this one ends; there is room for its items.
 pub record FitsMerge (page : Page) (merge : Merge) : Type 0 where

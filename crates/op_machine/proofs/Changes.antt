@@ -1,5 +1,5 @@
 -- Which changes of the only leaf an actor may make.
-use Rattle.std.proofs.Common.{◌≡◌, inl, inr, ℕ, zero, suc, ◌<◌, ◌≤◌, ◌∙◌, false, List, [], ◌∷◌, length, Some, refl, arith}
+use Rattle.std.proofs.Common.{◌≡◌, inl, inr, ℕ, zero, suc, ◌<◌, ◌≤◌, ◌∙◌, false, List, [], ◌∷◌, length, Some, refl, sym, ap, arith}
 use Rattle.std.specs.Prelude.{IsTrue}
 use Rattle.bw_model.specs.declared.command.Command.{Command}
 use Rattle.bw_model.specs.Bytes.{is_below, is_in_range}
@@ -62,14 +62,15 @@ module _ (actor : ℕ) (k : Knowledge) (c : Command) (chain : List Record) where
       due = due;
       placed = placed;
     }),
+    λ other e. never_ready k seeks.pageless other (suc row) (ap (λ f. f other) (sym like.pages) ∙ e),
   )
 
-  rebuilds : (pid head : ℕ) → HasLeaf k pid head chain → (page : Page) → Makes chain page → page.removed ≡ false → IsPageChain (kind.Base page ∷ [])
+  rebuilds : HasNoPage k → (pid head : ℕ) → HasLeaf k pid head chain → (page : Page) → Makes chain page → page.removed ≡ false → IsPageChain (kind.Base page ∷ [])
       → (now : Knowledge) (row : ℕ) → IsLike k now → 0 < row → now.rows row ≡ Written (kind.Base page) → MayExchange actor now pid head row
-  rebuilds zero head whole page makes alive stands now row like some placed = let first = whole.page in absurd (omega arith)
-  rebuilds (suc pid) zero whole page makes alive stands now row like some placed = let linked = whole.linked in absurd (omega arith)
-  rebuilds (suc pid) (suc head) whole page makes alive stands now zero like some placed = absurd (omega arith)
-  rebuilds (suc pid) (suc head) whole page makes alive stands now (suc row) like some placed = (
+  rebuilds none zero head whole page makes alive stands now row like some placed = let first = whole.page in absurd (omega arith)
+  rebuilds none (suc pid) zero whole page makes alive stands now row like some placed = let linked = whole.linked in absurd (omega arith)
+  rebuilds none (suc pid) (suc head) whole page makes alive stands now zero like some placed = absurd (omega arith)
+  rebuilds none (suc pid) (suc head) whole page makes alive stands now (suc row) like some placed = (
     record { chain = chain; read = rw like.seen whole.read; content = kind.Base page; placed = placed; fits = stands.fitted },
     inr (inl (record {
       basis = record { head = rw like.heads whole.held; chain = chain; read = rw like.seen whole.read; alive = whole.leaf.removed };
@@ -77,10 +78,11 @@ module _ (actor : ℕ) (k : Knowledge) (c : Command) (chain : List Record) where
       alike = λ key within. makes.items.contents key;
       placed = rw (← makes.level, ← makes.low, ← makes.high, ← makes.right, ← alive) placed;
     })),
+    λ other e. never_ready k none other (suc row) (ap (λ f. f other) (sym like.pages) ∙ e),
   )
 
   pub may_update : (pid head : ℕ) → Seeks k c → HasLeaf k pid head chain → length chain ≤ 8 → (u : Update) → update_of actor c (found chain (command_key c)) ≡ Some u → FitsOver chain (record_of u head) → MayInstall actor k pid head (record_of u head)
   may_update pid head seeks whole short u due fits = record { inside = seeks.inside; unready = never_ready k seeks.pageless; links = updates pid head seeks whole short u due fits }
 
   pub may_rebuild : (pid head : ℕ) → Seeks k c → HasLeaf k pid head chain → (page : Page) → Makes chain page → page.removed ≡ false → IsPageChain (kind.Base page ∷ []) → MayInstall actor k pid head (kind.Base page)
-  may_rebuild pid head seeks whole page makes alive stands = record { inside = seeks.inside; unready = never_ready k seeks.pageless; links = rebuilds pid head whole page makes alive stands }
+  may_rebuild pid head seeks whole page makes alive stands = record { inside = seeks.inside; unready = never_ready k seeks.pageless; links = rebuilds seeks.pageless pid head whole page makes alive stands }

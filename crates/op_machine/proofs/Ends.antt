@@ -43,7 +43,7 @@ module _ (limits : Limits) (actor : ℕ) (k : Knowledge) (c : Command) (part : L
   linked (suc p) x zero some row none = absurd (omega arith)
   linked (suc p) x (suc y) some row none = rw (none (suc p)) refl
 
-  updated : (u : Update) (x y : ℕ) → linked_over (Written (record_of u x)) x y k ≡ record k { rows = replaced_at y Foreign k.rows; linked = Some x }
+  updated : (u : Update) (x y : ℕ) → linked_over (Written (record_of u x)) x y k ≡ record k { rows = replaced_at y Foreign k.rows; linked = Some (Some x) }
   updated (set who key value) x y = refl
   updated (unset who key) x y = refl
 

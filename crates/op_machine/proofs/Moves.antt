@@ -17,7 +17,7 @@ use Rattle.deltas.specs.declared.record.Record.{Record}
 use Rattle.deltas.specs.Memory.{replaced_at}
 use Rattle.deltas.specs.Records.{next_row}
 use Rattle.chain_search.specs.Chains.{IsFront}
-use Rattle.chain_search.specs.Discipline.{May, found, record_of}
+use Rattle.chain_search.specs.Discipline.{May, MayFree, found, record_of}
 use Rattle.chain_search.specs.Fitted.{IsPageChain, Makes}
 use Rattle.chain_search.specs.Knowledge.{Written, Knowledge, learn, learn_slot}
 use Rattle.installs.specs.Installs as change
@@ -46,13 +46,31 @@ module _ (limits : Limits) (actor : ℕ) (k : Knowledge) (c : Command) (part : L
   allowed : (state : State) (s : Step Record) → wanted_at state ≡ Some s → ((install : change.Install) (answered : Option Reply) → state ≡ Install install answered → change.Shows actor install spares k → May actor k s) → Stands limits actor c part spares k state → May actor k s
   allowed Begun s e f h = cc
   allowed Epoch s e f h = subst (May actor k) (same_Some _ _ e) tt
-  allowed (Enter epoch) s e f h = subst (May actor k) (same_Some _ _ e) (h.0.outside, h.2)
+  allowed (Enter epoch) s e f h = subst (May actor k) (same_Some _ _ e) (h.0.outside, h.2, h.3)
   allowed Root s e f h = subst (May actor k) (same_Some _ _ e) h.0.inside
   allowed (Slot pid) s e f h = subst (May actor k) (same_Some _ _ e) (reads_slot pid h.2 h.0.inside h.3)
   allowed (Row pid head row) s e f h = subst (May actor k) (same_Some _ _ e) (h.0.inside, h.2.named)
   allowed (Install install answered) s e f h = f install answered refl h.2
   allowed (Leave answered) s e f h = subst (May actor k) (same_Some _ _ e) h.0.inside
   allowed Over s e f h = cc
+
+  -- no step of the operation frees anything yet
+  freely : (state : State) (s : Step Record) → wanted_at state ≡ Some s → MayFree limits actor k s
+  freely Begun s e = cc
+  freely Epoch s e = subst (MayFree limits actor k) (same_Some _ _ e) tt
+  freely (Enter epoch) s e = subst (MayFree limits actor k) (same_Some _ _ e) tt
+  freely Root s e = subst (MayFree limits actor k) (same_Some _ _ e) tt
+  freely (Slot pid) s e = subst (MayFree limits actor k) (same_Some _ _ e) tt
+  freely (Row pid head row) s e = subst (MayFree limits actor k) (same_Some _ _ e) tt
+  freely (Install install answered) s e = subst (MayFree limits actor k) (same_Some _ _ e) (of_change install.state)
+    where
+      of_change : (t : at_change.State) → MayFree limits actor k (change.wanted_at install.pid install.head install.content t)
+      of_change (Bits word) = tt
+      of_change (Take row) = tt
+      of_change (Place row) = tt
+      of_change (Exchange row) = tt
+  freely (Leave answered) s e = subst (MayFree limits actor k) (same_Some _ _ e) tt
+  freely Over s e = cc
 
   links_plainly : (pid head row : ℕ) (content : Record) (answered : Option Reply) → Brings actor k c pid head content answered → k.rows row ≡ Written content → IsPlainMove k (step.Exchange pid head row)
   links_plainly pid head row content (Some r) b placed = record { chain = b.chain; read = b.whole.read; content = content; placed = placed; plain = rw b.is (plain_update b.update head b.chain b.short) }
@@ -88,7 +106,7 @@ pub goes : (k : Knowledge) (old new : Op) (spares : List ℕ) (state : State) (s
     → ((install : change.Install) (answered : Option Reply) → state ≡ Install install answered → change.Shows old.actor install spares k → May old.actor k s) → Shows (at old state) spares k → Goes k new spares s
 goes k old new spares state s e w f h =
     let P : Op → Type 0 = λ n. Goes k n spares s in
-    subst P (sym e) (record { wanted = w; may = allowed old.limits old.actor k old.command old.part spares state s w f h; plain = plainly old.limits old.actor k old.command old.part spares state s w h; shows = h })
+    subst P (sym e) (record { wanted = w; may = allowed old.limits old.actor k old.command old.part spares state s w f h; frees = freely old.limits old.actor k old.command old.part spares state s w; plain = plainly old.limits old.actor k old.command old.part spares state s w h; shows = h })
 
 -- the answer to the step wanted last is the one that the state was waiting for
 pub advances : (old : Op) (state : State) (a b : Answer Record) (had : List ℕ) (new : Op) (has : List ℕ) (s : Step Record) → old.state ≡ state → a ≡ b → Advances old had state b new has s
@@ -185,6 +203,9 @@ module _ (limits : Limits) (actor : ℕ) (k : Knowledge) (c : Command) (part : L
 
 -- the root was read, and a slot
 module _ (limits : Limits) (actor : ℕ) (k : Knowledge) (c : Command) (part : List Record) (spares : List ℕ) where
+  pub read_epoch : (epoch : ℕ) → 0 < epoch → Stands limits actor c part spares k Epoch → Stands limits actor c part spares (learn k step.Epoch (answer.Number epoch)) (Enter epoch)
+  read_epoch epoch some h = (record { outside = h.0.outside; pageless = h.0.pageless; going = h.0.going; unlinked = h.0.unlinked }, h.1, some, refl)
+
   pub entered : (epoch : ℕ) (told : Answer Record) → Stands limits actor c part spares k (Enter epoch) → Stands limits actor c part spares (learn k (step.Enter epoch) told) Root
   entered epoch told h = (record { inside = refl; pageless = h.0.pageless; going = h.0.going; unlinked = h.0.unlinked }, h.1)
 

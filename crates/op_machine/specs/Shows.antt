@@ -13,7 +13,7 @@ use Rattle.base_page.specs.Pages.{Page}
 use Rattle.deltas.specs.declared.record.Record.{Record}
 use Rattle.deltas.specs.declared.record.Record.TheVariants.{Base}
 use Rattle.chain_search.specs.Chains.{IsChainFrom, IsFront}
-use Rattle.chain_search.specs.Discipline.{May, MayReply, found, record_of}
+use Rattle.chain_search.specs.Discipline.{May, MayFree, MayReply, found, record_of}
 use Rattle.chain_search.specs.Knowledge.{Other, Knowledge, learn, finished}
 use Rattle.installs.specs.Installs as change
 use Rattle.installs.specs.Spares.{AreSpare}
@@ -94,7 +94,7 @@ Brings actor k command pid head content None = IsRebuilt k command pid head cont
 abbrev pub Stands : Limits → ℕ → Command → List Record → List ℕ → Knowledge → State → Type 0
 Stands limits actor command part spares k Begun = Waits k command × AreSpare k.rows spares
 Stands limits actor command part spares k Epoch = Waits k command × AreSpare k.rows spares
-Stands limits actor command part spares k (Enter epoch) = Waits k command × AreSpare k.rows spares × (0 < epoch)
+Stands limits actor command part spares k (Enter epoch) = Waits k command × AreSpare k.rows spares × (0 < epoch) × (k.epoch ≡ Some epoch)
 Stands limits actor command part spares k Root = Seeks k command × AreSpare k.rows spares
 Stands limits actor command part spares k (Slot pid) = Seeks k command × AreSpare k.rows spares × (0 < pid) × (k.roots pid ≡ true)
 Stands limits actor command part spares k (Row pid head row) = Seeks k command × AreSpare k.rows spares × Reads k pid head part row
@@ -131,6 +131,7 @@ pub record IsTold (op : Op) (spares : List ℕ) (told : Answer Record) : Type 0 
 pub record Goes (k : Knowledge) (op : Op) (spares : List ℕ) (asked : StepOf Record) : Type 0 where
   pub wanted : wanted_of op ≡ Some asked
   pub may : May op.actor k asked
+  pub frees : MayFree op.limits op.actor k asked
   pub plain : IsPlainMove k asked
   pub shows : Shows op spares k
 

@@ -71,7 +71,7 @@ module _ (limits : Limits) (actor : ℕ) (k : Knowledge) (had has : List ℕ) (o
   goes_on asked o = subst (λ w. Goes (learn_last k w a) new has asked) running.goes.wanted (o k running.goes.shows fits_last)
 
   pub allowed_on : IsPlainlyAllowed limits actor k old.wanted None
-  allowed_on = record { allowed = record { may = rw (← running.own_actor) running.goes.may; replied = tt }; plain = running.goes.plain }
+  allowed_on = record { allowed = record { may = rw (← running.own_actor) running.goes.may; frees = rw (← running.own_limits, ← running.own_actor) running.goes.frees; replied = tt }; plain = running.goes.plain }
 
   pub left_on : (asked : StepOf Record) → Obeys old.op had a new has (Step asked) → IsSameOp old.op new → IsWithin old.op.limits asked → HaveRoom old.op.limits (rows_in_flight new.state) has
       → IsLeft limits actor (finished (learn k old.wanted a) None) has (record { op = new; wanted = asked }) None
@@ -87,7 +87,7 @@ module _ (limits : Limits) (actor : ℕ) (k : Knowledge) (had has : List ℕ) (o
   allowed_done reply o =
       let ends = o k running.goes.shows fits_last in
       let last : old.wanted ≡ step.Leave = same_Some _ _ (sym running.goes.wanted ∙ ends.last) in
-      record { allowed = record { may = rw (← running.own_actor) running.goes.may; replied = (last, rw (← running.own_limits, ← running.own_actor) ends.may) }; plain = running.goes.plain }
+      record { allowed = record { may = rw (← running.own_actor) running.goes.may; frees = rw (← running.own_limits, ← running.own_actor) running.goes.frees; replied = (last, rw (← running.own_limits, ← running.own_actor) ends.may) }; plain = running.goes.plain }
 
   pub ends_at_leave : (reply : Reply) → Obeys old.op had a new has (Done reply) → wanted_of old.op ≡ Some step.Leave
   ends_at_leave reply o = (o k running.goes.shows fits_last).last

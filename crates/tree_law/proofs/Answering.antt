@@ -49,10 +49,10 @@ module _ {m : Shared} {log : List Update} {o : Owners} {knows : ℕ → Knowledg
       Beside = ((knows a).linked ≡ None) × IsBeside (knows a) h.row × IsTrue (is_removed h.chain) × (update_of a command (found h.chain (command_key command)) ≡ None)
 
       none : (knows a).linked ≡ None → point a ≡ None
-      none e = subst (λ (v : Option ℕ). LinkFits o m (point a) v) e (g.sound a).linked_fits
+      none e = subst (λ (v : Option (Option ℕ)). LinkFits o m (point a) v) e (g.sound a).linked_fits
 
-      by_link : ((knows a).linked ≡ Some h.row) × IsFalse (is_removed h.chain) → IsRepliedAt a command reply (point a) (logs a)
-      by_link u = let i = subst (λ (v : Option ℕ). LinkFits o m (point a) v) u.0 (g.sound a).linked_fits in replied command reply h i.0 (decides u.1 i.0 i.2) (inl i.1)
+      by_link : ((knows a).linked ≡ Some (Some h.row)) × IsFalse (is_removed h.chain) → IsRepliedAt a command reply (point a) (logs a)
+      by_link u = let i = subst (λ (v : Option (Option ℕ)). LinkFits o m (point a) v) u.0 (g.sound a).linked_fits in replied command reply h i.0 (decides u.1 i.0 i.2) (inl i.1)
 
       by_head : Unlinked → IsRepliedAt a command reply (point a) (logs a)
       by_head u =

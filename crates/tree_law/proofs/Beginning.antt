@@ -4,13 +4,14 @@ use Rattle.std.specs.Prelude.{slice_get}
 use Rattle.std.proofs.lemmas.Bool.{ltb-true}
 use Rattle.bw_model.specs.declared.command.Command.{Command}
 use Rattle.bw_model.specs.declared.limits.Limits.{Limits}
-use Rattle.deltas.specs.Memory.{opening}
+use Rattle.bw_model.specs.Log.{Update}
+use Rattle.deltas.specs.Memory.{Memory, opening}
 use Rattle.chain_search.specs.declared.trace.Entry.{Entry}
 use Rattle.chain_search.specs.declared.trace.Entry.TheVariants.{Begin}
 use Rattle.chain_search.specs.Learnt.{ShowsRow}
 use Rattle.chain_search.specs.Trace.{memory_of, memory_at, command_of}
 use Rattle.chain_search.proofs.Pushes.{slice_get-push, slice_get-push_cases, slice_get_below, slice_get_kept}
-use Rattle.chain_search.proofs.TraceLaws.{memory_of-push, command_of-push}
+use Rattle.chain_search.proofs.TraceLaws.{memory_of-push, command_of-push, TakesStep-push_cases}
 use Rattle.chain_search.proofs.RunLaws.{IsRun-none, IsRun-push}
 use Rattle.op_machine.specs.Operations.{Operation, IsOperation}
 use Rattle.op_machine.specs.Points.{log_of, log_at}
@@ -18,29 +19,66 @@ use Rattle.op_machine.specs.Quiet.{HasMapOf}
 use Rattle.op_machine.proofs.Listed.{same_operation, and_left, and_right}
 use Rattle.op_machine.proofs.LogLaws.{log_of-push}
 use Rattle.std.proofs.lemmas.List.Sums.{fold-append}
-use Rattle.chain_search.specs.Knowledge.{begun, knows_after, knows}
-use Rattle.tree_law.specs.Owners.{Free, Linked}
+use Rattle.chain_search.specs.Knowledge.{Knowledge, begun, knows_after, knows}
+use Rattle.tree_law.specs.Owners.{Free, Linked, Owners}
 use Rattle.tree_law.specs.Phase.{Indexed, Nobody, Placed}
 use Rattle.tree_law.specs.Put.{put}
 use Rattle.tree_law.specs.Shared.{slot_in, shared}
 use Rattle.tree_law.specs.State.{phase_of, IsUnended, operation_of, Tells, IsSearch, IsInTree, IsReady, IsState}
+use Rattle.bw_model.specs.declared.step.Step.TheVariants.{ReusePids, ReuseRows}
+use Rattle.op_machine.specs.Reuse.{HandsPid, HandsRow, UnlinksPid, UnlinksRow}
+use Rattle.tree_law.specs.Limbos.{IsInLimbo}
+use Rattle.tree_law.specs.Times.{Times, Timed}
+use Rattle.tree_law.proofs.Limbos.{limbo_push, freed_push, pid_longer, row_longer}
 use Rattle.tree_law.specs.Tree.{Good}
+use Rattle.tree_law.proofs.Timely.{calm_same, read_timed}
 use Rattle.tree_law.proofs.Keeping.{begins as good_begins}
 use Rattle.op_machine.specs.Phases.{free, indexed}
 use Rattle.tree_law.proofs.Exactness.{is_indexed, below_top, root_indexed}
 use Rattle.tree_law.proofs.Fitness.{opening_fitted}
 use Rattle.tree_law.proofs.Levels.{indexed_first, indexed_push}
 use Rattle.tree_law.proofs.Mapping.{map_of}
-use Rattle.tree_law.proofs.Lives.{begins_in_phase, begins_phases, begins_only, unused_push}
+use Rattle.tree_law.proofs.Lives.{begins_in_phase, begins_phases, begins_only}
 use Rattle.tree_law.proofs.Marks.{marked_push, tells_other, quiet_push}
 use Rattle.tree_law.proofs.Names.{faithful_push, named_begins}
 use Rattle.tree_law.proofs.Opening.{opening_slots, opening_owners, opening_good}
 use Rattle.tree_law.proofs.Owned.{pushed_length}
 use Rattle.tree_law.proofs.Puts.{by_test, put_same, put_other}
+use Rattle.tree_law.specs.Indexed.{IsFirst}
 use Rattle.tree_law.proofs.Searches.{search_new, search_other}
 
 pub knows-push : (entries : List Entry) (entry : Entry) → knows (entries ++ entry ∷ []) ≡ knows_after (knows entries) entry
 knows-push entries entry = fold-append _ _ entries (entry ∷ [])
+
+opening_times : Times
+opening_times = record { entered = λ a. 0; home = λ r. 1; row_out = λ r. None; page_out = λ p. None }
+
+opening_timed : (limits : Limits) → Timed limits (opening limits) (opening_owners limits) (knows []) 0 opening_times
+unfolding opening_times
+opening_timed limits = record {
+  within = λ b e. absurd (cc);
+  holds = λ b. record { learnt_inside = λ r e. absurd (cc); learnt_since = λ r e. absurd (cc); seen_learnt = λ r w e. absurd (cc); roots_inside = λ p e. absurd (cc); roots_since = λ p e. absurd (cc); heads_since = λ p x e. absurd (cc); before_since = λ p f x e. absurd (cc); beside_since = λ p f y x e. absurd (cc); linked_learnt = λ x e. absurd (cc) };
+  announced = λ b e. absurd (cc);
+  epochs = λ b v e. absurd (cc);
+  slots = λ p x l s h e. (by_test p 1 (λ t. cond {A = Option ℕ} t (Some 1) None ≡ Some x → 1 ≡ p) (λ i f. sym i) (λ ne f. absurd (cc)) (subst (λ (f : ℕ → Option ℕ). f p ≡ Some x) (opening_slots limits) e), refl);
+  together = λ r n w l e i. (refl, refl);
+  rows = λ r w e. absurd (cc);
+  pages = λ p w e. absurd (cc);
+  own_rows = λ b r e. refl;
+  gone_pages = λ b p e. refl;
+  limbo_rows = λ b r. tt;
+  limbo_pids = λ b p. tt;
+  ready = λ b p r e. absurd (cc);
+  apart = λ b p q r e f. absurd (cc);
+}
+
+-- what an actor holds when it begins it held before
+begin_timed : {limits : Limits} {m : Memory} {log : List Update} {o : Owners} {knows : ℕ → Knowledge} {point : ℕ → Option (List Update)} {logs : ℕ → List (List Update)} {now : ℕ} {t : Times} (g : Good (shared m) log o knows point logs) (T : Timed limits m o knows now t) (a : ℕ) (c : Command) → Timed limits m o (put knows a (begun (knows a) c)) (suc now) t
+begin_timed {m = m} {o = o} {knows = knows} g T a c =
+    let h = T.holds a in
+    read_timed g T a m o (begun (knows a) c) (calm_same g T a) refl refl
+    (record { learnt_inside = h.learnt_inside; learnt_since = h.learnt_since; seen_learnt = h.seen_learnt; roots_inside = h.roots_inside; roots_since = h.roots_since; heads_since = λ p x e. absurd (cc); before_since = λ p f x e. absurd (cc); beside_since = λ p f y x e. absurd (cc); linked_learnt = λ x e. absurd (cc) })
+    refl refl refl refl refl
 
 pub opens : (limits : Limits) → IsState limits []
 opens limits = record {
@@ -54,7 +92,8 @@ opens limits = record {
     shown = λ a r h. absurd (not_shown a r h.0 h.1);
     known = λ a r e. absurd (cc);
     announced = λ a e. absurd (cc);
-    epoch = refl;
+    epoch = (limits.allowed.some_epoch, limits.allowed.small_epoch);
+    posted = λ a. omega arith;
     commands = λ a. refl;
     recent = λ a r w e. absurd (cc);
     zero_free = refl;
@@ -77,8 +116,13 @@ opens limits = record {
     | inr rested ↦ rested.1 ∙ by_test pid 1 (λ t. cond t indexed free ≡ phase_of (cond t (Placed Indexed 0 []) Nobody)) (λ i. refl) (λ ne. refl)
   ];
   phases = record { in_order = λ n pid from to h. absurd (let e = h.at in cc); emptied = λ n actor pid old h. absurd (let e = h.at in cc) };
-  unused = λ n actor word bits answer. (λ h. let e = h.1 in cc, λ h. let e = h.1 in cc);
+  limbo_rows = λ a q. tt;
+  limbo_pids = λ a q. tt;
+  freed = record { pids = λ n a word bits pid x h among. absurd (let e = h.1 in cc); rows = λ n a word bits row x h among. absurd (let e = h.1 in cc) };
+  times = opening_times;
+  timed = opening_timed limits;
   indexed = indexed_first limits (opening_good limits) (λ l q h. by_test q 1 (λ t. cond t (Placed Indexed 0 []) Nobody ≡ Placed h.0 l [] → l ≡ 0) (λ i e. let f : 0 ≡ l = cc in sym f) (λ ne e. absurd (cc)) h.1);
+  rooted = λ b p e. absurd (cc);
 }
   where
     not_shown : (a r n : ℕ) → ShowsRow [] n a r → ⊥
@@ -131,13 +175,35 @@ begins limits entries a c state below idle = record {
   in_phase = λ pid. begins_in_phase limits entries a c pid (phase_of (state.owners.page pid)) (state.in_phase pid);
   only_phase = begins_only limits entries a c state.owners.page state.in_phase state.only_phase;
   phases = begins_phases limits entries a c state.phases;
-  unused = unused_push limits entries (Begin a c) state.unused (λ b word bits y. (λ h. let e = h.1 in cc, λ h. let e = h.1 in cc));
+  limbo_rows = rw (knows-push entries (Begin a c)) (λ b q. by_test b a (λ z. IsInLimbo (entries ++ Begin a c ∷ []) b (UnlinksRow limits (entries ++ Begin a c ∷ []) b q) (HandsRow q) ((cond z (begun (knows entries a) c) (knows entries b)).limbo_rows q)) (λ i. rw i (rows_longer a q)) (λ ne. rows_longer b q));
+  limbo_pids = rw (knows-push entries (Begin a c)) (λ b q. by_test b a (λ z. IsInLimbo (entries ++ Begin a c ∷ []) b (UnlinksPid limits (entries ++ Begin a c ∷ []) b q) (HandsPid q) ((cond z (begun (knows entries a) c) (knows entries b)).limbo_pids q)) (λ i. rw i (pids_longer a q)) (λ ne. pids_longer b q));
+  freed = record {
+    pids = λ n b word bits pid x h among. elim (TakesStep-push_cases entries (Begin a c) n b (ReusePids word bits) x h) [
+      | inl before ↦ freed_push entries (Begin a c) (UnlinksPid limits entries b pid) (UnlinksPid limits (entries ++ Begin a c ∷ []) b pid) (HandsPid pid) (pid_longer entries (Begin a c) limits b pid) limits b n (slice_get_below entries n _ before.1) (state.freed.pids n b word bits pid x before among)
+      | inr at ↦ absurd (let e = at.1.1 in cc)
+    ];
+    rows = λ n b word bits row x h among. elim (TakesStep-push_cases entries (Begin a c) n b (ReuseRows word bits) x h) [
+      | inl before ↦ freed_push entries (Begin a c) (UnlinksRow limits entries b row) (UnlinksRow limits (entries ++ Begin a c ∷ []) b row) (HandsRow row) (row_longer entries (Begin a c) limits b row) limits b n (slice_get_below entries n _ before.1) (state.freed.rows n b word bits row x before among)
+      | inr at ↦ absurd (let e = at.1.1 in cc)
+    ];
+  };
+  times = state.times;
+  timed = rw (memory_of-push limits entries (Begin a c), knows-push entries (Begin a c), pushed_length entries (Begin a c)) (begin_timed state.good state.timed a c);
   faithful = faithful_push limits entries (Begin a c) state.faithful (λ b row x h. let e = h.1 in absurd (cc)) (λ b s x h z. let e = h.1 in absurd (cc));
+  rooted = λ b p e. by_test b a (λ t. (cond t (begun (knows entries a) c) (knows entries b)).roots p ≡ true → (level : ℕ) × IsFirst state.owners level p)
+      (λ i f. state.rooted a p f) (λ ne f. state.rooted b p f)
+      (subst (λ (ks : ℕ → Knowledge). (ks b).roots p ≡ true) (knows-push entries (Begin a c)) e);
   indexed = indexed_push limits entries (Begin a c) state.good good_after (λ l q h. h)
       (let le = below_top (memory_of limits entries) state.good ((memory_of limits (entries ++ Begin a c ∷ [])).slots 0) ((is_indexed (memory_of limits (entries ++ Begin a c ∷ [])) good_after).top) [] Indexed (root_indexed (memory_of limits (entries ++ Begin a c ∷ [])) good_after) in omega arith)
       (λ pid. begins_in_phase limits entries a c pid (phase_of (state.owners.page pid)) (state.in_phase pid)) (begins_only limits entries a c state.owners.page state.in_phase state.only_phase) state.indexed;
 }
   where
+    rows_longer : (b q : ℕ) → IsInLimbo (entries ++ Begin a c ∷ []) b (UnlinksRow limits (entries ++ Begin a c ∷ []) b q) (HandsRow q) ((knows entries b).limbo_rows q)
+    rows_longer b q = limbo_push entries (Begin a c) (UnlinksRow limits entries b q) (UnlinksRow limits (entries ++ Begin a c ∷ []) b q) (HandsRow q) (row_longer entries (Begin a c) limits b q) b ((knows entries b).limbo_rows q) (λ f other s x h. absurd (let e = h.1 in cc)) (state.limbo_rows b q)
+
+    pids_longer : (b q : ℕ) → IsInLimbo (entries ++ Begin a c ∷ []) b (UnlinksPid limits (entries ++ Begin a c ∷ []) b q) (HandsPid q) ((knows entries b).limbo_pids q)
+    pids_longer b q = limbo_push entries (Begin a c) (UnlinksPid limits entries b q) (UnlinksPid limits (entries ++ Begin a c ∷ []) b q) (HandsPid q) (pid_longer entries (Begin a c) limits b q) b ((knows entries b).limbo_pids q) (λ f other s x h. absurd (let e = h.1 in cc)) (state.limbo_pids b q)
+
     now : Good (shared (memory_of limits entries)) (log_of entries state.points) state.owners (put (knows entries) a (begun (knows entries a) c)) (put state.point a None) (put state.logs a [])
     now = good_begins state.good a c
 

@@ -1,14 +1,14 @@
 -- A step keeps the first page of each level, and adds at most one level on top.
-use Rattle.std.proofs.Common.{◌≡◌, ◌≢◌, ◌≤◌, ◌⊎◌, inl, inr, ℕ, zero, suc, List, [], Option, true, false, sym, ap, ◌∙◌, subst, arith}
+use Rattle.std.proofs.Common.{◌≡◌, ◌≢◌, ◌≤◌, ◌⊎◌, inl, inr, ℕ, zero, suc, List, [], Option, Bool, true, false, refl, sym, ap, ◌∙◌, subst, arith}
 use Rattle.bw_model.specs.declared.step.Step.{Step as StepOf}
-use Rattle.bw_model.specs.declared.step.Step.TheVariants.{Exchange, TakePid}
+use Rattle.bw_model.specs.declared.step.Step.TheVariants.{Exchange, TakePid, ReusePids}
 use Rattle.bw_model.specs.declared.step.Answer.{Answer}
 use Rattle.bw_model.specs.declared.step.Answer.TheVariants.{Start, Number, Content, Whether, Done}
 use Rattle.bw_model.specs.Log.{Update}
 use Rattle.deltas.specs.declared.record.Record.{Record}
 use Rattle.deltas.specs.declared.record.Record.TheVariants.{Base, Put, Delete, Split, Term, Hold, Remove, Merge, Unterm}
 use Rattle.deltas.specs.Memory.{Memory}
-use Rattle.chain_search.specs.Steps.{IsAnswer}
+use Rattle.chain_search.specs.Steps.{is_among, IsAnswer}
 use Rattle.tree_law.specs.Indexed.{IsFirst}
 use Rattle.tree_law.specs.Keys.{Key}
 use Rattle.chain_search.specs.Knowledge.{Knowledge}
@@ -142,6 +142,11 @@ module _ (m : Memory) {log : List Update} {o : Owners} {knows : ℕ → Knowledg
       go (TakePid p) (Content w) e ph' = absurd (let f = e in cc)
       go (TakePid p) Done e ph' = absurd (let f = e in cc)
       go (TakePid p) Start e ph' = absurd (let f = e in cc)
+      go (ReusePids word bits) y e ph' = by_word (is_among word bits q) refl
+        where
+          by_word : (z : Bool) → is_among word bits q ≡ z → Stays o.page f' q l low
+          by_word true k = absurd (let v = (ph' q).0 k in let f = sym at ∙ v.3 in cc)
+          by_word false k = inl (st, (ph' q).1 k ∙ at, on)
       go t y e ph' = unchanged o.page f' q l low st at on ph'
 
   grown_by_one : Phased a (shared m) s x o.page f' → (q l : ℕ) (low : Key) (st : Stage) → f' q ≡ Placed st l low → Grown o.page l
@@ -167,6 +172,11 @@ module _ (m : Memory) {log : List Update} {o : Owners} {knows : ℕ → Knowledg
       go (TakePid p) (Content w) e ph' = absurd (let f = e in cc)
       go (TakePid p) Done e ph' = absurd (let f = e in cc)
       go (TakePid p) Start e ph' = absurd (let f = e in cc)
+      go (ReusePids word bits) y e ph' = by_word (is_among word bits q) refl
+        where
+          by_word : (z : Bool) → is_among word bits q ≡ z → Grown o.page l
+          by_word true k = absurd (let v = (ph' q).0 k in let f = sym at ∙ v.4 in cc)
+          by_word false k = (q, st, l, low, sym ((ph' q).1 k) ∙ at, omega arith)
       go t y e ph' = same ph'
 
 -- from one memory that meets the invariant to the next

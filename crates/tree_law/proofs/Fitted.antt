@@ -1,5 +1,5 @@
 -- What a state's memory answers fits what each actor knows.
-use Rattle.std.proofs.Common.{◌≡◌, ◌<◌, ◌≤◌, ◌+◌, ◌*◌, ◌^◌, ◌==◌, inl, inr, ℕ, zero, suc, List, Option, Some, None, Bool, true, false, refl, sym, ap, ◌∙◌, subst, arith}
+use Rattle.std.proofs.Common.{◌≡◌, ◌<◌, ◌≤◌, ◌+◌, ◌*◌, ◌==◌, inl, inr, ℕ, zero, suc, List, [], Option, Some, None, Bool, true, false, refl, sym, ap, ◌∙◌, subst, arith}
 use Rattle.std.specs.Prelude.{IfSome, if◌then◌else◌}
 use Rattle.std.specs.Int.{bit_at}
 use Rattle.std.proofs.lemmas.Bool.{eqb-true}
@@ -19,21 +19,24 @@ use Rattle.chain_search.specs.Steps.{IsWordOf, IsAnswer}
 use Rattle.chain_search.specs.Trace.{memory_of}
 use Rattle.chain_search.specs.Discipline.{MayExchange, May}
 use Rattle.chain_search.specs.Fitting.{FitsRow, FitsTaken, FitsTakenPid, FitsExchange, Fits}
-use Rattle.chain_search.specs.Knowledge.{OwnRow, Foreign, Taken, Written, OwnPage, Other, Empty, Ready, Gone, Knowledge, knows}
+use Rattle.chain_search.specs.Knowledge.{OwnRow, Foreign, Taken, Written, OwnPage, Other, Empty, Ready, Gone, Limbo, Absent, Unstamped, Stamped, Knowledge, knows}
 use Rattle.tree_law.specs.Owners.{Free, Linked, Reached, OwnFits, PageFits, SeenFits}
 use Rattle.op_machine.specs.Phases as phase
 use Rattle.tree_law.specs.Keys.{Key}
 use Rattle.tree_law.specs.Phase.{Fresh, Indexed, Held, Removed, Merged, PageOwner, Nobody, Keeps, Placed, Cleared}
 use Rattle.tree_law.specs.Shared.{row_in, slot_in, shared}
 use Rattle.tree_law.specs.State.{phase_of, IsInTree, IsState}
+use Rattle.tree_law.specs.Times.{Outing, LimboFits}
 use Rattle.tree_law.proofs.Keeping.{slot_of, met_placed}
+use Rattle.tree_law.proofs.Exactness.{is_indexed, below_top}
+use Rattle.tree_law.proofs.Kept.{placed_reached}
 use Rattle.tree_law.proofs.Mapping.{slot_some}
 use Rattle.tree_law.proofs.Names.{slot_none}
 use Rattle.tree_law.proofs.Puts.{by_test}
 use Rattle.tree_law.proofs.Relinking.{not_own, found, place_of}
 use Rattle.tree_law.proofs.Rows.{next_linked}
 use Rattle.tree_law.proofs.Slots.{link_read, reached_in_tree}
-use Rattle.tree_law.proofs.Whole.{short_front, whole_chain}
+use Rattle.tree_law.proofs.Whole.{reached_one, read_reached, short_front, whole_chain}
 
 in_tree_phase : (w : PageOwner) → IsInTree w → phase_of w ≡ phase.free → ⊥
 in_tree_phase Nobody h e = absurd h
@@ -94,6 +97,12 @@ module _ (limits : Limits) (entries : List Entry) (state : IsState limits entrie
       set_bit true n e f = refl
       set_bit false n e f = absurd (omega arith)
 
+  -- what is not out is in no limbo
+  not_in_limbo : (out : Option Outing) → out ≡ None → (l : Limbo) → LimboFits a (λ c. (knows entries c).inside) state.times.entered out l → l ≡ Absent
+  not_in_limbo out e Absent h = refl
+  not_in_limbo out e Unstamped h = absurd (let i = sym e ∙ h.1 in cc)
+  not_in_limbo out e (Stamped epoch passed) h = absurd (let i = sym e ∙ h.1 in cc)
+
   fits_taken : (q : ℕ) → m.free_rows q ≡ true → FitsTaken limits k q
   fits_taken q e = record {
     some = (free_some q e).0;
@@ -101,10 +110,15 @@ module _ (limits : Limits) (entries : List Entry) (state : IsState limits entrie
     foreign = is_foreign (k.rows q) (state.good.owns a q);
     unlearnt = is_unlearnt (k.learnt q) refl;
     unseen = is_unseen (k.seen q) ((state.good.sound a).seen_fits q);
+    freed = not_in_limbo (state.times.row_out q) (not_out (state.times.row_out q) refl) (k.limbo_rows q) (state.timed.limbo_rows a q);
   }
     where
       was : state.owners.row q ≡ Free
       was = state.good.frees.row q e
+
+      not_out : (out : Option Outing) → state.times.row_out q ≡ out → out ≡ None
+      not_out None i = refl
+      not_out (Some w) i = elim (state.timed.rows q w i).0 [ inl l ↦ (let f = was in absurd (cc)) | inr l ↦ (let f = was in absurd (cc)) ]
 
       is_foreign : (o : OwnRow) → OwnFits a (state.owners.row q) (m.rows q) o → o ≡ Foreign
       is_foreign Foreign h = refl
@@ -120,10 +134,14 @@ module _ (limits : Limits) (entries : List Entry) (state : IsState limits entrie
       is_unseen (Some w) h = let f = was in let g = h.0 in absurd (cc)
 
   fits_taken_pid : (q : ℕ) → m.free_pids q ≡ true → FitsTakenPid limits k q
-  fits_taken_pid q e = record { some = (state.named.free_pid_below q e).0; below = (state.named.free_pid_below q e).1; other = is_other (k.pages q) (state.good.owns_pages a q) }
+  fits_taken_pid q e = record { some = (state.named.free_pid_below q e).0; below = (state.named.free_pid_below q e).1; other = is_other (k.pages q) (state.good.owns_pages a q); freed = not_in_limbo (state.times.page_out q) (not_out (state.times.page_out q) refl) (k.limbo_pids q) (state.timed.limbo_pids a q) }
     where
       was : state.owners.page q ≡ Nobody
       was = (state.good.frees.page q e).0
+
+      not_out : (out : Option Outing) → state.times.page_out q ≡ out → out ≡ None
+      not_out None i = refl
+      not_out (Some w) i = let v = (state.timed.pages q w i).0.2 in let f = was in absurd (cc)
 
       is_other : (o : OwnPage) → PageFits a (state.owners.page q) (slot_in m.slots q) o → o ≡ Other
       is_other Other h = refl
@@ -131,14 +149,29 @@ module _ (limits : Limits) (entries : List Entry) (state : IsState limits entrie
       is_other (Ready row) h = let f = was in let g = h.0 in absurd (cc)
       is_other Gone h = let f = was in let g = h.2 in absurd (cc)
 
+  -- a page that was the root is in its place
+  root_linked : (p : ℕ) → k.roots p ≡ true → 0 < m.slots p
+  root_linked p root =
+      let first = state.rooted a p root in
+      let index = is_indexed m state.good in
+      let le = below_top m state.good p first.0 [] first.1.0 first.1.1 in
+      let same : p ≡ index.first first.0 = index.only p first.0 first.1.0 le first.1.1 first.1.2 in
+      let here = (index.begins first.0 le).1.linked in
+      rw same here
+
   fits_slot : (p : ℕ) → May a k (Slot p) → Fits limits k (Slot p) (Number (m.slots p))
   fits_slot zero may = elim (state.named.pid_below (m.slots 0)) [
     | inl f ↦ absurd (let e = ap phase_of state.good.tree.exact.is_root in cc)
-    | inr below ↦ below
+    | inr below ↦ (
+      below.0,
+      below.1,
+      λ head chain e h.
+          (reached_one 0 0 state.good.tree.top (level_in chain) [] (low_in chain) (state.owners.page (m.slots 0)) (placed_reached state.good.tree.top [] Indexed (state.owners.page (m.slots 0)) state.good.tree.exact.is_root) (read_reached state.good state.fitted a (m.slots 0) head chain e h)).1,
+    )
   ]
   fits_slot (suc p) may = let here = met_placed state.good a (suc p) may.1 in elim (slot_of state.good a (suc p) here.0 here.1 here.2) [
-    | inl none ↦ let z : m.slots (suc p) ≡ 0 = slot_none m.slots (suc p) (omega arith) none in let some : 64 ≤ limits.rows = limits.allowed.some_rows in omega arith
-    | inr found ↦ let at : m.slots (suc p) ≡ found.0 = (slot_some m.slots (suc p) found.0 found.1).1 in subst (λ n. n < limits.rows) (sym at) (linked_some found.0 found.2.linked).1
+    | inl none ↦ let z : m.slots (suc p) ≡ 0 = slot_none m.slots (suc p) (omega arith) none in let some : 64 ≤ limits.rows = limits.allowed.some_rows in (omega arith, λ root. root_linked (suc p) root)
+    | inr found ↦ let at : m.slots (suc p) ≡ found.0 = (slot_some m.slots (suc p) found.0 found.1).1 in let some = linked_some found.0 found.2.linked in (subst (λ n. n < limits.rows) (sym at) some.1, λ root. subst (λ n. 0 < n) (sym at) some.0)
   ]
 
   fits_take : (q : ℕ) (t : Bool) → m.free_rows q ≡ t → Fits limits k (TakeRow q) (Whether t)
@@ -169,10 +202,7 @@ module _ (limits : Limits) (entries : List Entry) (state : IsState limits entrie
   pub fits : (step : StepOf Record) (answer : Answer Record) → May a k step → IsAnswer m step answer → Fits limits k step answer
   fits (Slot p) answer may is = subst (Fits limits k (Slot p)) (sym is) (fits_slot p may)
   fits (Row q) answer may is = subst (Fits limits k (Row q)) (sym is.2) (fits_row q is.0 may.1 is.1)
-  fits Epoch answer may is = subst (Fits limits k Epoch) (sym is) (rw state.named.epoch (let some : 1 ≤ limits.epoch = limits.allowed.some_epoch in omega arith, small limits.epoch limits.allowed.small_epoch))
-    where
-      small : (n : ℕ) → n ≤ 2 ^ 62 → n < 2 ^ 64
-      small n le = omega arith
+  fits Epoch answer may is = subst (Fits limits k Epoch) (sym is) state.named.epoch
   fits (PidBits word) answer may is = subst (Fits limits k (PidBits word)) (sym is.2) (fits_word m.free_pids limits.pids word is.0 state.named.free_pid_below is.1)
   fits (RowBits word) answer may is = subst (Fits limits k (RowBits word)) (sym is.2) (fits_word m.free_rows limits.rows word is.0 free_some is.1)
   fits (Place q w) answer may is = subst (Fits limits k (Place q w)) (sym is) tt
@@ -181,10 +211,13 @@ module _ (limits : Limits) (entries : List Entry) (state : IsState limits entrie
   fits (TakePid q) answer may is = subst (Fits limits k (TakePid q)) (sym is) (fits_take_pid q (m.free_pids q) refl)
   fits (Enter e) answer may is = subst (Fits limits k (Enter e)) (sym is) tt
   fits Leave answer may is = subst (Fits limits k Leave) (sym is) tt
-  fits (Announce b) answer may is = subst (Fits limits k (Announce b)) (sym is) tt
-  fits (Retire e) answer may is = absurd may
-  fits (ReusePids w b) answer may is = absurd may
-  fits (ReuseRows w b) answer may is = absurd may
+  fits (Announce b) answer may is = subst (Fits limits k (Announce b)) (sym is) (at_most (state.named.posted b) state.named.epoch.1)
+    where
+      at_most : {x y z : ℕ} → x ≤ y → y ≤ z → x ≤ z
+      at_most i j = omega arith
+  fits (Retire e) answer may is = subst (Fits limits k (Retire e)) (sym is) tt
+  fits (ReusePids w b) answer may is = subst (Fits limits k (ReusePids w b)) (sym is) tt
+  fits (ReuseRows w b) answer may is = subst (Fits limits k (ReuseRows w b)) (sym is) tt
 
   -- a row that the actor may read has a record
   pub row_stands : (q : ℕ) → May a k (Row q) → (content : Record) × (m.rows q ≡ Some content)

@@ -7,10 +7,10 @@ use Rattle.deltas.specs.declared.record.Record.{Record}
 use Rattle.deltas.specs.Records.{next_row}
 use Rattle.chain_search.specs.Chains.{content_in, level_in, low_in, is_removed}
 use Rattle.tree_law.specs.Keys.{Key, Covers}
-use Rattle.tree_law.specs.Phase.{Stage, Fresh, Indexed, Held, Removed, Merged, PageOwner, Nobody, Keeps, Placed, Cleared, rank, child_of, rank_of}
+use Rattle.tree_law.specs.Phase.{Stage, Fresh, Indexed, Held, Removed, Merged, PageOwner, Nobody, Keeps, Placed, Cleared, rank}
 use Rattle.tree_law.specs.Put.{put}
 use Rattle.tree_law.specs.Shared.{Shared}
-use Rattle.tree_law.specs.Owners.{IsChain, Owner, Free, Spare, Linked, Owners, Reached, Forward, IsCleared, ChainNames, IsLinked, IsClosed, SeenFits, Spells, leaf_map, HeadFits, OrderFits, Knows}
+use Rattle.tree_law.specs.Owners.{IsChain, Owner, Free, Spare, Linked, Owners, Reached, Forward, IsCleared, IsLinked, IsClosed, SeenFits, Spells, leaf_map, HeadFits, OrderFits, Knows}
 use Rattle.tree_law.proofs.Puts.{by_test}
 use Rattle.tree_law.proofs.Chains.{chain_unique, chain_within}
 use Rattle.tree_law.proofs.Kept.{chain_kept, Kept, Spared}
@@ -137,12 +137,6 @@ spared_change a b o o' m m' ne c = record { row = λ r l. row r l (c.row r); pag
 pub change_none : (a : ℕ) (o : Owners) (m : Shared) → Change a o o m m
 change_none a o m = record { row = λ j. row_same refl refl; page = λ p. page_same refl refl }
 
-pub names_kept : (o o' : Owners) → ((p : ℕ) → Forward (o.page p) (o'.page p)) → (c : List Record) → ChainNames o c → ChainNames o' c
-names_kept o o' kept c n = record {
-  right = λ q e. let h = n.right q e in (h.0, h.1, kept q 0 (level_in c) h.0 h.2);
-  items = λ l s i e v f. kept (child_of i) (rank_of i) l s (n.items l s i e v f);
-}
-
 linked_kept : (o o' : Owners) (m m' : Shared) → IsClosed o m → Kept o o' m m' → (r : ℕ) → IsLinked o m r → IsLinked o' m' r
 linked_kept o o' m m' closed kept r h =
     record {
@@ -152,7 +146,6 @@ linked_kept o o' m m' closed kept r h =
       next = next (next_row h.content) h.next;
       rest = h.rest;
       is_rest = chain_kept o o' m m' closed kept h.rest (next_row h.content) h.next h.is_rest;
-      names = names_kept o o' kept.page (h.content ∷ h.rest) h.names;
     }
   where
     next : (x : Option ℕ) → IfSome x (λ n. o.row n ≡ Linked) → IfSome x (λ n. o'.row n ≡ Linked)
@@ -162,17 +155,13 @@ linked_kept o o' m m' closed kept r h =
 pub closed_kept : (o o' : Owners) (m m' : Shared) → Kept o o' m m' → IsClosed o m → ((r : ℕ) → o'.row r ≡ Linked → (o.row r ≡ Linked) ⊎ IsLinked o' m' r) → IsClosed o' m'
 closed_kept o o' m m' kept closed new r l = ⊎_elim (λ (i : o.row r ≡ Linked). linked_kept o o' m m' closed kept r (closed r i)) (λ (i : IsLinked o' m' r). i) (new r l)
 
--- what the chain of a linked row names
-pub names_of : (o : Owners) (m : Shared) → IsClosed o m → (x : ℕ) → o.row x ≡ Linked → (c : List Record) → IsChain m.rows c (Some x) → ChainNames o c
-names_of o m closed x l c h = let k = closed x l in subst (λ (d : List Record). ChainNames o d) (chain_unique m.rows (k.content ∷ k.rest) c (Some x) (k.stands, k.is_rest) h) k.names
-
 -- the row of a chain that was read is linked
 pub read_linked : (o : Owners) (m : Shared) (seen : ℕ → Option Record) → ((r : ℕ) → SeenFits (o.row r) (m.rows r) (seen r)) → (c : List Record) (x : ℕ) → IsChain seen c (Some x) → o.row x ≡ Linked
 read_linked o m seen fits [] x h = absurd h
 read_linked o m seen fits (w ∷ c) x h = (subst (λ (v : Option Record). SeenFits (o.row x) (m.rows x) v) h.0 (fits x)).0
 
 -- one more own step
-pub knows_more : (o : Owners) (m : Shared) (seen : ℕ → Option Record) (learnt roots : ℕ → Bool) (heads : ℕ → Option ℕ) (before : ℕ → ℕ → Option ℕ) (linked : Option ℕ) (point : Option (List Update)) (logs : List (List Update)) (l : List Update)
+pub knows_more : (o : Owners) (m : Shared) (seen : ℕ → Option Record) (learnt roots : ℕ → Bool) (heads : ℕ → Option ℕ) (before : ℕ → ℕ → Option ℕ) (linked : Option (Option ℕ)) (point : Option (List Update)) (logs : List (List Update)) (l : List Update)
     → Knows o m seen learnt roots heads before linked point logs → Knows o m seen learnt roots heads before linked point (l ∷ logs)
 knows_more o m seen learnt roots heads before linked point logs l k =
     record { seen_fits = k.seen_fits; learnt_fits = k.learnt_fits; roots_fit = k.roots_fit; heads_fit = λ p. go p (heads p) (k.heads_fit p); orders_fit = λ p f. order p f (heads p) (before p f) (k.orders_fit p f); linked_fits = k.linked_fits }
@@ -180,11 +169,11 @@ knows_more o m seen learnt roots heads before linked point logs l k =
     order : (p f : ℕ) (y x : Option ℕ) → OrderFits o m logs p f y x → OrderFits o m (l ∷ logs) p f y x
     order p f None x h = tt
     order p f (Some y) None h = tt
-    order p f (Some y) (Some x) h = record { above = h.above; below = h.below; chain = h.chain; is_chain = h.is_chain; placed = h.placed; uncleared = h.uncleared; merged = h.merged; spelled = λ c d ic id rc nd z r. let s = h.spelled c d ic id rc nd z r in (s.0, inr s.1, s.2) }
+    order p f (Some y) (Some x) h = record { above = h.above; below = h.below; chain = h.chain; is_chain = h.is_chain; placed = h.placed; uncleared = h.uncleared; merged = h.merged; beyond = h.beyond; spelled = λ c d ic id rc nd z r. let s = h.spelled c d ic id rc nd z r in (s.0, inr s.1, s.2) }
 
     go : (p : ℕ) (x : Option ℕ) → HeadFits o m logs p x → HeadFits o m (l ∷ logs) p x
     go p None h = tt
-    go p (Some x) h = (h.0, inr h.1, h.2, h.3, h.4)
+    go p (Some x) h = (h.0, inr h.1, h.2, h.3, h.4, h.5)
 
 -- one more name
 pub name_more : (o : Owners) (learnt : ℕ → Bool) (x : ℕ) → o.row x ≡ Linked → ((r : ℕ) → learnt r ≡ true → o.row r ≡ Linked) → (r : ℕ) → put learnt x true r ≡ true → o.row r ≡ Linked

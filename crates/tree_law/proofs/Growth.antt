@@ -11,7 +11,7 @@ use Rattle.bw_model.specs.declared.limits.Limits.{Limits}
 use Rattle.bw_model.specs.declared.step.Answer.{Answer}
 use Rattle.bw_model.specs.declared.step.Answer.TheVariants.{Number}
 use Rattle.bw_model.specs.declared.step.Step.{Step as StepOf}
-use Rattle.bw_model.specs.declared.step.Step.TheVariants.{Slot, Leave, ReusePids, ReuseRows}
+use Rattle.bw_model.specs.declared.step.Step.TheVariants.{Slot, Row, Epoch, Announce, PidBits, RowBits, Place, Exchange, TakePid, TakeRow, Enter, Leave, Retire, ReusePids, ReuseRows}
 use Rattle.bw_model.specs.Log.{Update, value_in}
 use Rattle.bw_model.specs.Replies.{command_key, reply_of, update_of}
 use Rattle.deltas.specs.declared.record.Record.{Record}
@@ -36,23 +36,33 @@ use Rattle.op_machine.proofs.Listed.{same_operation}
 use Rattle.op_machine.proofs.LogLaws.{log_of-push}
 use Rattle.chain_search.specs.Discipline.{May, MayAnswer, MayGiveUp, MayReply, IsAllowed}
 use Rattle.chain_search.specs.Knowledge.{Knowledge, learn, finished, knows}
-use Rattle.tree_law.specs.Next.{IsDue, grown, pointed as pointed', Next}
+use Rattle.tree_law.specs.Next.{IsReuse, IsDue, grown, pointed as pointed', After}
 use Rattle.tree_law.specs.Owners.{SeenFits, HeadFits, LinkFits}
 use Rattle.tree_law.specs.Put.{put}
 use Rattle.tree_law.specs.Replies.{IsRepliedAt}
-use Rattle.tree_law.specs.Shared.{shared}
-use Rattle.tree_law.specs.State.{phase_of, IsUnended, operation_of, Tells, IsSearch, Answers, IsMarked, IsState}
+use Rattle.tree_law.specs.Shared.{slot_in, shared}
+use Rattle.tree_law.specs.State.{phase_of, IsInTree, IsReady, IsUnended, operation_of, Tells, IsSearch, Answers, IsMarked, IsState}
+use Rattle.tree_law.specs.Times.{Times, Timed, times_after}
 use Rattle.tree_law.specs.Tree.{Good}
+use Rattle.tree_law.proofs.Freeing.{t1, t2, rows_after, rows_timed, pages_after, pages_timed}
+use Rattle.tree_law.proofs.Reused.{rows_numbers, rows_held, pages_numbers, pages_held}
+use Rattle.tree_law.proofs.Timewise.{timed_step}
+use Rattle.tree_law.proofs.Allowed.{after_of}
 use Rattle.tree_law.proofs.Answering.{answers}
 use Rattle.tree_law.proofs.Beginning.{knows-push}
+use Rattle.tree_law.specs.Indexed.{IsFirst}
+use Rattle.tree_law.specs.Phase.{Indexed}
+use Rattle.tree_law.proofs.Exactness.{is_indexed, root_indexed}
 use Rattle.tree_law.proofs.Firsts.{first_stays, grows}
+use Rattle.tree_law.proofs.Roots.{learns_root}
 use Rattle.tree_law.proofs.Fitness.{fitted_after}
+use Rattle.tree_law.proofs.Handed.{rows_in_limbo, pids_in_limbo, freed_after}
 use Rattle.tree_law.proofs.Keeping.{slot_of, met_placed}
 use Rattle.tree_law.proofs.Levels.{indexed_push}
 use Rattle.tree_law.proofs.Mapping.{slot_some, map_of}
-use Rattle.tree_law.proofs.Lives.{only_after, pid_below_after, steps_in_phase, steps_phases, unused_push, freed}
+use Rattle.tree_law.proofs.Lives.{only_after, pid_below_after, steps_in_phase, steps_phases}
 use Rattle.tree_law.proofs.Marks.{marked_push, tells_other, tells_own, quiet_push}
-use Rattle.tree_law.proofs.Names.{number_same, slot_none, faithful_push, named_steps, reads_known, touches_outside, may_take}
+use Rattle.tree_law.proofs.Names.{number_same, slot_none, faithful_push, Numbers, calm_numbers, named_steps, reads_known, touches_outside, may_take}
 use Rattle.tree_law.proofs.Owned.{pushed_length, same_start, own_new}
 use Rattle.tree_law.proofs.Phasing.{moves_between, clears_cleared, moves_or_rests}
 use Rattle.tree_law.proofs.Puts.{by_test, put_same, put_other}
@@ -98,7 +108,7 @@ module _ (limits : Limits) (entries : List Entry) (a : ℕ) (asked : Command) (s
   }
 
   no_point : (knows entries a).linked ≡ None → state.point a ≡ None
-  no_point e = subst (λ (v : Option ℕ). LinkFits state.owners (shared (memory_of limits entries)) (state.point a) v) e (state.good.sound a).linked_fits
+  no_point e = subst (λ (v : Option (Option ℕ)). LinkFits state.owners (shared (memory_of limits entries)) (state.point a) v) e (state.good.sound a).linked_fits
 
   by_value : (reply : Reply) → MayAnswer a (knows entries a) asked reply → Settled limits entries (log_of entries state.points) state.point state.logs a asked (Some reply)
   by_value reply may = elim at.own [
@@ -135,7 +145,10 @@ module _ (limits : Limits) (entries : List Entry) (a : ℕ) (asked : Command) (s
 
 module _ (limits : Limits) (entries : List Entry) (a : ℕ) (step : StepOf Record) (answer : Answer Record) (r : Option Reply) (asked : Command) (state : IsState limits entries) (asks : command_of entries a ≡ Some asked)
     (allowed : IsAllowed limits a (knows entries a) step r) (is : IsAnswer (memory_of limits entries) step answer)
-    (n : Next a (shared (memory_of limits entries)) (shared (memory_after a step (memory_of limits entries))) (log_of entries state.points) state.owners (knows entries) state.point state.logs step answer r)
+    (n : After a (shared (memory_of limits entries)) (shared (memory_after a step (memory_of limits entries))) (log_of entries state.points) state.owners (knows entries) state.point state.logs step answer r)
+    (numbers : Numbers limits entries state.owners (memory_of limits entries) (knows entries) (log_of entries state.points) state.point state.logs state.good state.named a step answer r allowed.may is n.owners)
+    (held' : (p q : ℕ) → slot_in (memory_after a step (memory_of limits entries)).slots p ≡ Some q → IsInTree (n.owners.page p) ⊎ IsReady n.owners (memory_after a step (memory_of limits entries)) (put (knows entries) a (finished (learn (knows entries a) step answer) r)) p q)
+    (times' : Times) (timed' : Timed limits (memory_after a step (memory_of limits entries)) n.owners (put (knows entries) a (finished (learn (knows entries a) step answer) r)) (suc (length entries)) times')
     (z : Settled limits entries (log_of entries state.points) state.point state.logs a asked r) where
   abbrev last : Entry
   last = Step a step answer r
@@ -228,7 +241,7 @@ module _ (limits : Limits) (entries : List Entry) (a : ℕ) (step : StepOf Recor
   head_stays : (b page row : ℕ) → (knows entries b).heads page ≡ Some row → (c : List Record) → IsChainFrom (memory_of limits entries).rows row c → IsChainFrom (memory_after a step (memory_of limits entries)).rows row c
   head_stays b page row e c h =
       let f = subst (λ (v : Option ℕ). HeadFits state.owners (shared (memory_of limits entries)) (state.logs b) page v) e ((state.good.sound b).heads_fit page) in
-      rows_kept state.owners (shared (memory_of limits entries)) (memory_after a step (memory_of limits entries)).rows state.good.closed (λ q l. (n.kept q l).1) row c f.2.linked h
+      rows_kept state.owners (shared (memory_of limits entries)) (memory_after a step (memory_of limits entries)).rows state.good.closed n.same row c f.2.linked h
 
   -- a slot that is read as a row has a chain
   slot_found : (page row : ℕ) → 0 < page → 0 < row → step ≡ Slot page → answer ≡ Number row → (c : List Record) × IsChainOf (memory_of limits entries) page c × IsChainFrom (memory_after a step (memory_of limits entries)).rows row c
@@ -297,6 +310,22 @@ module _ (limits : Limits) (entries : List Entry) (a : ℕ) (step : StepOf Recor
   only_phase_after : (pid : ℕ) (phase : Phase) → IsInPhase limits (entries ++ last ∷ []) (length (entries ++ last ∷ [])) pid phase → phase ≡ phase_of (n.owners.page pid)
   only_phase_after pid phase h = only_after limits entries last state.owners.page n.owners.page state.in_phase between lives state.only_phase pid phase (subst (λ k. IsInPhase limits (entries ++ last ∷ []) k pid phase) (pushed_length entries last) h)
 
+  rooted_after : (b p : ℕ) → (knows (entries ++ last ∷ []) b).roots p ≡ true → (level : ℕ) × IsFirst n.owners level p
+  rooted_after b p e = by_test b a (λ t. (cond t (finished (learn (knows entries a) step answer) r) (knows entries b)).roots p ≡ true → (level : ℕ) × IsFirst n.owners level p)
+      (λ i f. elim (learns_root (knows entries a) step answer p f) [ inl before ↦ stays (state.rooted a p before) | inr now ↦ stays (at_root p now.0 now.1) ])
+      (λ ne f. stays (state.rooted b p f))
+      (subst (λ (ks : ℕ → Knowledge). (ks b).roots p ≡ true) (knows-push entries last) e)
+    where
+      stays : (level : ℕ) × IsFirst state.owners level p → (level : ℕ) × IsFirst n.owners level p
+      stays h = (h.0, first_stays (memory_of limits entries) (memory_of limits (entries ++ last ∷ [])) state.good good_after a step answer is n.phased h.0 p h.1)
+
+      at_root : (q : ℕ) → step ≡ Slot 0 → answer ≡ Number q → (level : ℕ) × IsFirst state.owners level q
+      at_root q asked told =
+          let here : IsAnswer (memory_of limits entries) (Slot 0) (Number q) = subst (λ (s : StepOf Record). IsAnswer (memory_of limits entries) s (Number q)) asked (subst (IsAnswer (memory_of limits entries) step) told is) in
+          let same : q ≡ (memory_of limits entries).slots 0 = (let e = here in cc) in
+          let top = is_indexed (memory_of limits entries) state.good in
+          (top.top, (Indexed, rw same (root_indexed (memory_of limits entries) state.good), omega arith))
+
   state_after : IsState limits (entries ++ last ∷ [])
   state_after = record {
     points = z.points ++ mark ∷ [];
@@ -304,11 +333,11 @@ module _ (limits : Limits) (entries : List Entry) (a : ℕ) (step : StepOf Recor
     point = put state.point a (cond mark (Some (log_of entries state.points)) (state.point a));
     logs = put state.logs a (log_of entries state.points ∷ state.logs a);
     good = good_after;
-    fitted = rw (memory_of-push limits entries last) (fitted_after state.owners (shared (memory_of limits entries)) state.good.closed state.fitted n.owners (memory_after a step (memory_of limits entries)).rows (λ q l. (n.kept q l).1) n.added);
+    fitted = rw (memory_of-push limits entries last) (fitted_after state.owners (shared (memory_of limits entries)) state.good.closed state.fitted n.owners (memory_after a step (memory_of limits entries)).rows n.same n.added);
     named = rw (memory_of-push limits entries last, knows-push entries last)
-        (named_steps limits entries state.owners (memory_of limits entries) (knows entries) (log_of entries state.points) state.point state.logs state.good state.named a step answer r allowed.may is n.owners (λ q l. (n.kept q l).0) n.moved
+        (named_steps limits entries state.owners (memory_of limits entries) (knows entries) (log_of entries state.points) state.point state.logs state.good state.named a step answer r allowed.may is n.owners numbers (state.timed.holds a).learnt_inside (state.timed.epochs a)
         (pid_below_after limits state.owners.page n.owners.page is lives state.named.free_pid_below state.named.pid_below)
-        (held_after (memory_of limits entries) state.good state.named.held a n.owners (λ q l. (n.kept q l).0) n.moved step answer r allowed.may is n.phased) (command_of-push entries last));
+        held' (command_of-push entries last));
     searches = searches_after;
     tells = λ b c e. by_test b a (λ t. Tells (entries ++ last ∷ []) (z.points ++ mark ∷ []) b c (cond t (cond mark (Some (log_of entries state.points)) (state.point a)) (state.point b)) (cond t (log_of entries state.points ∷ state.logs a) (state.logs b)))
         (λ i. rw i (tells_mine r refl c (subst (λ k. commands_after (command_of entries) last k ≡ Some c) i (subst (λ k. k b ≡ Some c) (command_of-push entries last) e))))
@@ -330,13 +359,15 @@ module _ (limits : Limits) (entries : List Entry) (a : ℕ) (step : StepOf Recor
     only_phase = only_phase_after;
     phases = steps_phases limits entries last state.owners.page n.owners.page state.in_phase between state.phases
         (clears_cleared (memory_of limits entries) state.good state.named.held a step answer r allowed.may is n.owners.page n.phased);
-    unused = unused_push limits entries last state.unused (λ b word bits y. (
-      λ h. let e = h.1 in subst (May a (knows entries a)) (let i : step ≡ ReusePids word bits = cc in i) allowed.may,
-      λ h. let e = h.1 in subst (May a (knows entries a)) (let i : step ≡ ReuseRows word bits = cc in i) allowed.may,
-    ));
+    limbo_rows = rw (knows-push entries last) (rows_in_limbo limits entries a step answer r state allowed is n.good timed' held');
+    limbo_pids = rw (knows-push entries last) (pids_in_limbo limits entries a step answer r state allowed is n.good timed' held');
+    freed = freed_after limits entries a step answer r state allowed is;
+    times = times';
+    timed = rw (memory_of-push limits entries last, knows-push entries last, pushed_length entries last) timed';
     faithful = faithful_push limits entries last state.faithful
         (reads_known limits entries state.owners (memory_of limits entries) (knows entries) (log_of entries state.points) state.point state.logs state.good state.named a step answer r allowed.may is)
         (touches_outside limits entries state.owners (memory_of limits entries) (knows entries) (log_of entries state.points) state.point state.logs state.good state.named a step answer r allowed.may is);
+    rooted = rooted_after;
     indexed = indexed_push limits entries last state.good good_after
         (first_stays (memory_of limits entries) (memory_of limits (entries ++ last ∷ [])) state.good good_after a step answer is n.phased)
         (grows (memory_of limits entries) (memory_of limits (entries ++ last ∷ [])) state.good good_after a step answer is n.phased)
@@ -353,9 +384,53 @@ steps limits entries a step answer r state busy allowed is = go (command_of entr
 
     go : (o : Option Command) → command_of entries a ≡ o → IsSome o → IsState limits (entries ++ Step a step answer r ∷ [])
     go None e b = absurd (cc)
-    go (Some asked) e b = state_after limits entries a step answer r asked state e allowed is
-        (one_step (memory_of limits entries) state.good a step r allowed.may answer is)
-        (settled limits entries a asked state e r (replied r allowed.replied))
+    go (Some asked) e b = by_kind step r answer allowed is (settled limits entries a asked state e r (replied r allowed.replied))
+      where
+        m : Memory
+        m = memory_of limits entries
+
+        -- the actor is one of the stated number
+        actor : a < limits.actors
+        actor = (state.run.each (state.tells a asked e).start (Begin a asked) (state.tells a asked e).begins).0
+
+        calmly : (step : StepOf Record) → (IsReuse step → ⊥) → (r : Option Reply) (answer : Answer Record) (allowed : IsAllowed limits a (knows entries a) step r) (is : IsAnswer m step answer) → Settled limits entries (log_of entries state.points) state.point state.logs a asked r → IsState limits (entries ++ Step a step answer r ∷ [])
+        calmly step calm r answer allowed is z =
+            let n = one_step m state.good a step calm r allowed.may answer is in
+            state_after limits entries a step answer r asked state e allowed is (after_of n)
+            (calm_numbers limits entries state.owners m (knows entries) (log_of entries state.points) state.point state.logs state.good state.named a step answer r allowed.may is calm n.owners n.moved)
+            (held_after m state.good state.named.held a n.owners (λ q l. (n.kept q l).0) n.moved step calm answer r allowed.may is n.phased)
+            (times_after a m state.owners (length entries) step answer state.times)
+            (timed_step state.good state.timed a step calm answer r allowed.may is actor n)
+            z
+
+        by_kind : (step : StepOf Record) (r : Option Reply) (answer : Answer Record) (allowed : IsAllowed limits a (knows entries a) step r) (is : IsAnswer m step answer) → Settled limits entries (log_of entries state.points) state.point state.logs a asked r → IsState limits (entries ++ Step a step answer r ∷ [])
+        by_kind (ReuseRows word bits) r answer allowed is z = state_after limits entries a (ReuseRows word bits) answer r asked state e allowed is
+            (rows_after state.good state.timed a allowed.may word bits allowed.frees r answer)
+            (rows_numbers limits entries state.owners m (knows entries) (log_of entries state.points) state.point state.logs state.good state.timed state.named a allowed.may word bits answer r allowed.frees is)
+            (rows_held limits entries state.owners m (knows entries) (log_of entries state.points) state.point state.logs state.good state.timed state.named a allowed.may word bits answer r allowed.frees is)
+            (t1 state.good state.timed a allowed.may word bits allowed.frees r answer)
+            (rows_timed state.good state.timed a allowed.may word bits allowed.frees r answer)
+            z
+        by_kind (ReusePids word bits) r answer allowed is z = state_after limits entries a (ReusePids word bits) answer r asked state e allowed is
+            (pages_after state.good state.timed a allowed.may word bits allowed.frees r answer)
+            (pages_numbers limits entries state.owners m (knows entries) (log_of entries state.points) state.point state.logs state.good state.timed state.named a allowed.may word bits answer r allowed.frees is)
+            (pages_held limits entries state.owners m (knows entries) (log_of entries state.points) state.point state.logs state.good state.timed state.named a allowed.may word bits answer r allowed.frees is)
+            (t2 state.good state.timed a allowed.may word bits allowed.frees r answer)
+            (pages_timed state.good state.timed a allowed.may word bits allowed.frees r answer)
+            z
+        by_kind (Slot p) r answer allowed is z = calmly (Slot p) (λ h. h) r answer allowed is z
+        by_kind (Row q) r answer allowed is z = calmly (Row q) (λ h. h) r answer allowed is z
+        by_kind Epoch r answer allowed is z = calmly Epoch (λ h. h) r answer allowed is z
+        by_kind (Announce b) r answer allowed is z = calmly (Announce b) (λ h. h) r answer allowed is z
+        by_kind (PidBits w) r answer allowed is z = calmly (PidBits w) (λ h. h) r answer allowed is z
+        by_kind (RowBits w) r answer allowed is z = calmly (RowBits w) (λ h. h) r answer allowed is z
+        by_kind (Place q w) r answer allowed is z = calmly (Place q w) (λ h. h) r answer allowed is z
+        by_kind (Exchange p x y) r answer allowed is z = calmly (Exchange p x y) (λ h. h) r answer allowed is z
+        by_kind (TakePid q) r answer allowed is z = calmly (TakePid q) (λ h. h) r answer allowed is z
+        by_kind (TakeRow q) r answer allowed is z = calmly (TakeRow q) (λ h. h) r answer allowed is z
+        by_kind (Enter n) r answer allowed is z = calmly (Enter n) (λ h. h) r answer allowed is z
+        by_kind Leave r answer allowed is z = calmly Leave (λ h. h) r answer allowed is z
+        by_kind (Retire n) r answer allowed is z = calmly (Retire n) (λ h. h) r answer allowed is z
 
 no_full : (c : Command) (v : Option (List ℕ)) → reply_of c v ≡ Some reply.Full → ⊥
 no_full (Get k) None e = cc
@@ -416,7 +491,7 @@ pub keeps_phases : (limits : Limits) (entries : List Entry) → IsState limits e
 keeps_phases limits entries state = state.phases
 
 pub frees_by_rule : (limits : Limits) (entries : List Entry) → IsState limits entries → IsFreedByRule limits entries
-frees_by_rule limits entries state = freed limits entries state.unused
+frees_by_rule limits entries state = state.freed
 
 pub index_is_exact : (limits : Limits) (entries : List Entry) → IsState limits entries → IsExactIndex limits entries
 index_is_exact limits entries state = state.indexed.exact

@@ -9,7 +9,7 @@ use Rattle.deltas.specs.declared.record.Record.{Record}
 use Rattle.deltas.specs.declared.record.Record.TheVariants.{Term, Hold, Unterm}
 use Rattle.deltas.specs.Records.{next_row}
 use Rattle.chain_search.specs.Chains.{content_in, level_in, low_in, high_in, right_in, is_removed}
-use Rattle.tree_law.specs.Keys.{Key, IsUpTo, IsUnder, Covers, put_key}
+use Rattle.tree_law.specs.Keys.{Key, Covers, put_key}
 use Rattle.chain_search.specs.Knowledge.{OwnRow, Foreign, Gone, Knowledge, filled, finished}
 use Rattle.tree_law.specs.Phase.{Stage, Fresh, Indexed, Held, Removed, Merged, PageOwner, Placed, Cleared, mark, rank, child_of, rank_of}
 use Rattle.tree_law.specs.Put.{put}
@@ -24,7 +24,6 @@ use Rattle.tree_law.proofs.Puts.{by_test, put_same, put_other}
 use Rattle.tree_law.proofs.Kept.{reached_placed}
 use Rattle.tree_law.proofs.Sides.{same_page}
 use Rattle.tree_law.proofs.Terms.{exact_moved}
-use Rattle.tree_law.proofs.Frames.{names_kept}
 use Rattle.tree_law.proofs.Keeping.{mine, alive_place}
 use Rattle.tree_law.proofs.Relinking.{placed_level, Found, Moves, stay, go, clear, not_own, found, place_of, relink_one}
 
@@ -54,14 +53,6 @@ module _ {m : Shared} {log : List Update} {o : Owners} {knows : ℕ → Knowledg
       (λ j ne. by_test j q (λ t. Moves a o m p y (o.page j) (cond t n (o.page j))) (λ i. subst (λ (z : ℕ). Moves a o m p y (o.page z) n) (sym i) move) (λ i. stay refl))
       (exact_moved o.page o.index g.tree.top m.root q lv sep st n v e lt had fits full clears g.tree.exact)
       w wy (rw next f.linked) c (rw next f.stands)
-      (λ forward. let ns = names_kept o (record { row = put o.row y Linked; page = page'; index = index' }) forward c f.names in record {
-        right = λ z i. let r = ns.right z (sym wright ∙ i) in (r.0, whigh ∙ r.1, subst (λ (u : ℕ). Reached 0 u r.0 (page' z)) (sym wl) r.2);
-        items = λ l key i i2 cv d. by_key key sep (λ t. cond t v (content_in c key) ≡ Some i → Reached (rank_of i) l key (page' (child_of i)))
-            (λ j d'. let r = full i d' in let z = sym (sym wl ∙ i2) ∙ level in let lvl : lv ≡ l = omega arith in
-            subst (λ (u : ℕ). Reached (rank_of i) l key (page' u)) (sym r.1) (subst (λ (u : PageOwner). Reached (rank_of i) l key u) (sym (put_same o.page q n)) (subst (λ (u : ℕ). Reached (rank_of i) u key n) lvl (subst (λ (u : Key). Reached (rank_of i) lv u n) (sym j) (reach i d')))))
-            (λ j d'. ns.items l key i (sym wl ∙ i2) (record { low = subst (λ (b : Key). IsUpTo b key) wlow cv.low; high = subst (λ (b : Option Key). IsUnder key b) whigh cv.high }) d')
-            (sym (finds key) ∙ d);
-      })
       wl wlow wright whigh (wrem ∙ place.flagged)
       log
       (λ key cv. subst (λ (z : ℕ). content_in (w ∷ c) key ≡ spec log index' z key) (sym level)
@@ -243,7 +234,7 @@ module _ {m : Shared} {log : List Update} {o : Owners} {knows : ℕ → Knowledg
       order = subst (λ (v : Option ℕ). OrderFits o m (log ∷ logs a) h.left p (Some h.row) v) h.order (subst (λ (v : Option ℕ). OrderFits o m (log ∷ logs a) h.left p v ((knows a).before h.left p)) h.below.head ((mine g a).orders_fit h.left p))
 
       merged : Reached 4 lv sep (o.page q)
-      merged = order.merged c h.below.chain sep q f.stands d.stands h.below.alive h.level (covers_from c sep h.covers) h.present h.above h.within h.apart
+      merged = order.merged c h.below.chain sep q f.stands d.stands h.basis.alive h.below.alive h.level (covers_from c sep h.covers) h.present h.above h.within h.apart
 
       is_merged : (st : Stage) → 4 ≤ rank st → st ≡ Merged
       is_merged Fresh i = absurd (omega arith)

@@ -8,9 +8,9 @@ use Rattle.deltas.specs.Records.{next_row}
 use Rattle.chain_search.specs.Chains.{level_in, low_in, is_removed}
 use Rattle.tree_law.specs.Keys.{Key, Covers}
 use Rattle.chain_search.specs.Knowledge.{OwnRow, Foreign, Taken, Written, OwnPage, Other, Empty, Ready, Gone}
-use Rattle.tree_law.specs.Phase.{Stage, Fresh, Indexed, Held, Removed, Merged, PageOwner, Nobody, Keeps, Placed, Cleared, rank}
+use Rattle.tree_law.specs.Phase.{Stage, Fresh, Indexed, Held, Removed, Merged, PageOwner, Nobody, Keeps, Placed, Cleared, rank, child_of, rank_of}
 use Rattle.tree_law.specs.Shared.{Shared}
-use Rattle.tree_law.specs.Owners.{IsChain, Spare, Linked, Owners, Reached, Forward, IsClosed, OwnFits, Owns, PageFits, OwnsPages, SeenFits, Spells, IsCleared, HeadFits, LinkFits, InOrder, OrderFits, Knows}
+use Rattle.tree_law.specs.Owners.{IsChain, Spare, Linked, Owners, Reached, Forward, ChainNames, IsClosed, OwnFits, Owns, PageFits, OwnsPages, SeenFits, Spells, IsCleared, HeadFits, LinkFits, InOrder, OrderFits, Knows}
 use Rattle.tree_law.proofs.Chains.{chain_unique}
 
 -- linked rows stay, and pages go forward
@@ -74,13 +74,20 @@ abbrev pub spells_kept : (o o' : Owners) (m m' : Shared) → IsClosed o m → Ke
 spells_kept o o' m m' closed kept x l s =
     record { linked = (kept.row x s.linked).0; chain = s.chain; is_chain = chain_kept o o' m m' closed kept s.chain (Some x) s.linked s.is_chain; same = s.same }
 
-pub link_kept : (o o' : Owners) (m m' : Shared) → IsClosed o m → Kept o o' m m' → (point : Option (List Update)) (x : Option ℕ) → LinkFits o m point x → LinkFits o' m' point x
+pub link_kept : (o o' : Owners) (m m' : Shared) → IsClosed o m → Kept o o' m m' → (point : Option (List Update)) (x : Option (Option ℕ)) → LinkFits o m point x → LinkFits o' m' point x
 link_kept o o' m m' closed kept point None h = h
-link_kept o o' m m' closed kept point (Some x) h = (h.0, h.1, spells_kept o o' m m' closed kept x h.0 h.2)
+link_kept o o' m m' closed kept point (Some None) h = h
+link_kept o o' m m' closed kept point (Some (Some x)) h = (h.0, h.1, spells_kept o o' m m' closed kept x h.0 h.2)
+
+pub names_kept : (o o' : Owners) → ((p : ℕ) → Forward (o.page p) (o'.page p)) → (c : List Record) → ChainNames o c → ChainNames o' c
+names_kept o o' kept c n = record {
+  right = λ q e. let h = n.right q e in (h.0, h.1, kept q 0 (level_in c) h.0 h.2);
+  items = λ l s i e v f. kept (child_of i) (rank_of i) l s (n.items l s i e v f);
+}
 
 -- what an actor knows stays so
 pub knows_kept : (o o' : Owners) (m m' : Shared) → IsClosed o m → Kept o o' m m'
-    → (seen : ℕ → Option Record) (learnt roots : ℕ → Bool) (heads : ℕ → Option ℕ) (before : ℕ → ℕ → Option ℕ) (linked : Option ℕ) (point : Option (List Update)) (logs : List (List Update))
+    → (seen : ℕ → Option Record) (learnt roots : ℕ → Bool) (heads : ℕ → Option ℕ) (before : ℕ → ℕ → Option ℕ) (linked : Option (Option ℕ)) (point : Option (List Update)) (logs : List (List Update))
     → Knows o m seen learnt roots heads before linked point logs → Knows o' m' seen learnt roots heads before linked point logs
 knows_kept o o' m m' closed kept seen learnt roots heads before linked point logs k =
     record {
@@ -117,6 +124,7 @@ knows_kept o o' m m' closed kept seen learnt roots heads before linked point log
       spells_kept o o' m m' closed kept x h.0 h.2,
       kept.page p 0 (level_in h.2.chain) (low_in h.2.chain) h.3,
       λ e. ⊎_elim (λ (u : m.slots p ≡ Some x). kept.frozen p x (level_in h.2.chain) (low_in h.2.chain) h.2.chain h.3 u h.2.linked h.2.is_chain e) (λ (u : IsCleared (o.page p)). inr (cleared_kept p u)) (h.4 e),
+      λ e. names_kept o o' kept.page h.2.chain (h.5 e),
     )
 
     order_at : (p f : ℕ) (y x : Option ℕ) → HeadFits o m logs p y → OrderFits o m logs p f y x → OrderFits o' m' logs p f y x
@@ -133,7 +141,8 @@ knows_kept o o' m m' closed kept seen learnt roots heads before linked point log
           let id' = chain_back o o' m m' closed kept d y i.below id in
           still p f x y c d ic' id' nc nd e v s u h i;
       spelled = λ c d ic id. i.spelled c d (chain_back o o' m m' closed kept c x i.above ic) (chain_back o o' m m' closed kept d y i.below id);
-      merged = λ c d s q ic id nd e v t lo hi ne. kept.page q 4 (level_in d) s (i.merged c d s q (chain_back o o' m m' closed kept c x i.above ic) (chain_back o o' m m' closed kept d y i.below id) nd e v t lo hi ne);
+      beyond = λ c d q ic id rc nd e j. let r = i.beyond c d q (chain_back o o' m m' closed kept c x i.above ic) (chain_back o o' m m' closed kept d y i.below id) rc nd e j in (r.0, r.1, kept.page q 0 (level_in c) r.0 r.2);
+      merged = λ c d s q ic id nc nd e v t lo hi ne. kept.page q 4 (level_in d) s (i.merged c d s q (chain_back o o' m m' closed kept c x i.above ic) (chain_back o o' m m' closed kept d y i.below id) nc nd e v t lo hi ne);
     }
 
 -- what an actor has to itself stays so

@@ -165,7 +165,7 @@ pub hold_fits : FitsOn (root_a ∷ []) hold_a
 hold_fits = (fits_over root_makes (record { alive = refl; level = refl; there = refl }) hold_applies (both_ruled 2 true) refl, omega arith)
 
 pub remove_fits : FitsOn (upper_a ∷ []) remove_a
-remove_fits = (fits_over (base_makes upper upper_page) (record { alive = refl; level = refl }) remove_applies removed_ruled refl, omega arith)
+remove_fits = (fits_over (base_makes upper upper_page) (record { alive = refl; level = refl; few = omega arith; inner = refl }) remove_applies removed_ruled refl, omega arith)
 
 pub merge_fits : FitsOn (split_a ∷ put_a ∷ opening_leaf ∷ []) merge_a
 merge_fits = (fits_over split_makes (record { alive = refl; level = refl; meets = refl; merged = upper_page; room = omega arith }) merge_applies full_ruled refl, omega arith)

@@ -3,7 +3,7 @@ use Rattle.std.proofs.Common.{◌≡◌, ◌⊎◌, inl, inr, ℕ, suc, List, []
 use Rattle.bw_model.specs.declared.command.Command.{Command}
 use Rattle.bw_model.specs.declared.limits.Limits.{Limits}
 use Rattle.bw_model.specs.declared.step.Step.{Step as StepOf}
-use Rattle.bw_model.specs.declared.step.Step.TheVariants.{TakePid, ReusePids, ReuseRows}
+use Rattle.bw_model.specs.declared.step.Step.TheVariants.{TakePid}
 use Rattle.bw_model.specs.declared.command.Reply.{Reply}
 use Rattle.bw_model.specs.declared.step.Answer.{Answer}
 use Rattle.bw_model.specs.declared.step.Answer.TheVariants.{Whether}
@@ -13,13 +13,12 @@ use Rattle.deltas.specs.Memory.{Memory}
 use Rattle.chain_search.specs.declared.trace.Entry.{Entry}
 use Rattle.chain_search.specs.declared.trace.Entry.TheVariants.{Begin, Step}
 use Rattle.chain_search.specs.Steps.{IsAnswer}
-use Rattle.chain_search.specs.Trace.{memory_of, IsStep}
-use Rattle.chain_search.proofs.TraceLaws.{TakesStep-push_cases, Happens-below, Happens-kept, Happens-push_cases, Happens-last}
+use Rattle.chain_search.specs.Trace.{memory_of}
+use Rattle.chain_search.proofs.TraceLaws.{Happens-below, Happens-kept, Happens-push_cases, Happens-last}
 use Rattle.op_machine.specs.Links.{Wins}
 use Rattle.op_machine.specs.Phases.{Phase, free, cleared, Moves, takes, splits, becomes_root, terms, under_root, holds, removes, merges, unterms, reuses, IsInPhase, KeepsPhases}
-use Rattle.op_machine.specs.Reuse.{IsFreedByRule}
 use Rattle.op_machine.proofs.PhaseLaws.{IsInPhase-moved, IsInPhase-rested, KeepsPhases-push}
-use Rattle.tree_law.specs.State.{phase_of, IsUnused}
+use Rattle.tree_law.specs.State.{phase_of}
 use Rattle.tree_law.specs.Phase.{PageOwner}
 use Rattle.tree_law.proofs.Owned.{pushed_length}
 
@@ -119,18 +118,6 @@ module _ (limits : Limits) (entries : List Entry) where
     steps_phases keeps clears = KeepsPhases-push limits entries last keeps
         (λ pid from to moves. subst (λ p. IsInPhase limits entries (length entries) pid p) (between pid from to moves).0 (before pid))
         (λ b pid old won. subst (λ p. IsInPhase limits entries (length entries) pid p) (clears b pid old won) (before pid))
-
-  pub unused_push : (last : Entry) → IsUnused entries → ((b word bits : ℕ) (y : Answer Record) → (IsStep last b (ReusePids word bits) y → ⊥) × (IsStep last b (ReuseRows word bits) y → ⊥)) → IsUnused (entries ++ last ∷ [])
-  unused_push last old never n b word bits y = (
-    λ h. elim (TakesStep-push_cases entries last n b (ReusePids word bits) y h) [ inl before ↦ (old n b word bits y).0 before | inr at ↦ (never b word bits y).0 at.1 ],
-    λ h. elim (TakesStep-push_cases entries last n b (ReuseRows word bits) y h) [ inl before ↦ (old n b word bits y).1 before | inr at ↦ (never b word bits y).1 at.1 ],
-  )
-
-  pub freed : IsUnused entries → IsFreedByRule limits entries
-  freed none = record {
-    pids = λ n actor word bits pid answer takes among. absurd ((none n actor word bits answer).0 takes);
-    rows = λ n actor word bits row answer takes among. absurd ((none n actor word bits answer).1 takes);
-  }
 
 module _ (limits : Limits) (entries : List Entry) where
   pub begins_only : (a : ℕ) (c : Command) (f : ℕ → PageOwner) → ((pid : ℕ) → IsInPhase limits entries (length entries) pid (phase_of (f pid)))

@@ -8,11 +8,11 @@ use Rattle.deltas.specs.declared.record.Record.{Record}
 use Rattle.deltas.specs.declared.record.Record.TheVariants.{Merge}
 use Rattle.chain_search.specs.Chains.{content_in, level_in, low_in, high_in, right_in, is_removed}
 use Rattle.tree_law.specs.Keys.{Key, IsBelow, IsUnder, Covers}
-use Rattle.chain_search.specs.Knowledge.{OwnRow, Foreign, OwnPage, Gone, Knowledge, filled, emptied, finished}
-use Rattle.tree_law.specs.Phase.{Stage, Fresh, Indexed, Held, Removed, Merged, PageOwner, Placed, Cleared, rank, stage_removed, child_of, rank_of}
+use Rattle.chain_search.specs.Knowledge.{OwnRow, Foreign, OwnPage, Other, Gone, Unstamped, Knowledge, filled, emptied, finished, taken_out}
+use Rattle.tree_law.specs.Phase.{Stage, Fresh, Indexed, Held, Removed, Merged, PageOwner, Placed, Cleared, rank, stage_removed}
 use Rattle.tree_law.specs.Put.{put}
 use Rattle.tree_law.specs.Shared.{Shared}
-use Rattle.tree_law.specs.Owners.{IsChain, Spare, Linked, Owners, Reached, ChainNames, IsLinked, OwnFits, PageFits, IsCleared, HeadFits}
+use Rattle.tree_law.specs.Owners.{IsChain, Spare, Linked, Owners, IsLinked, OwnFits, PageFits, IsCleared, HeadFits}
 use Rattle.tree_law.specs.Tree.{spec, Page, InPlace, IsOff, IsOut, Off, Good}
 use Rattle.chain_search.specs.Discipline.{MayMerge}
 use Rattle.tree_law.proofs.KeyOrder.{not_below, upto_same, under_trans, by_range, covers_to}
@@ -27,10 +27,10 @@ use Rattle.tree_law.proofs.Relinking.{placed_level, not_off, Found, not_own, fou
 use Rattle.tree_law.proofs.Updating.{below_top}
 
 module _ {m : Shared} {log : List Update} {o : Owners} {knows : ℕ → Knowledge} {point : ℕ → Option (List Update)} {logs : ℕ → List (List Update)} (g : Good m log o knows point logs) (a : ℕ) where
-  pub clears : (p x : ℕ) → m.slots p ≡ Some x → (knows a).pages p ≡ Gone → (r : Option Reply) → Good (record m { slots = put m.slots p None }) log o (put knows a (finished (emptied ((knows a).pages p) p (knows a)) r)) (put point a (point a)) (put logs a (log ∷ logs a))
+  pub clears : (p x : ℕ) → m.slots p ≡ Some x → (knows a).pages p ≡ Gone → (r : Option Reply) → Good (record m { slots = put m.slots p None }) log o (put knows a (finished (emptied ((knows a).pages p) p x (knows a)) r)) (put point a (point a)) (put logs a (log ∷ logs a))
   clears p x s own r =
       subst (λ (k : Knowledge). Good m' log o (put knows a (finished k r)) (put point a (point a)) (put logs a (log ∷ logs a))) (sym learned)
-      (put_good g a m' log o (finished (knows a) r) (point a) (log ∷ logs a)
+      (put_good g a m' log o (finished k r) (point a) (log ∷ logs a)
       change
       (record { row = g.frees.row; page = λ j h. let f = g.frees.page j h in (f.0, put_other m.slots p None j (λ e. absurd (let i = sym f.0 ∙ ap o.page e ∙ was.2 in cc)) ∙ f.1) })
       (closed_kept o o m m' kept g.closed (λ j l. inl l))
@@ -38,7 +38,7 @@ module _ {m : Shared} {log : List Update} {o : Owners} {knows : ℕ → Knowledg
       (λ j l k i. by_test j p (λ t. IsOut (o.page j) (cond t None (m.slots j)) ⊎ Off o m' j l k) (λ e. inl (refl, (a, was.0, was.1, ap o.page e ∙ was.2)))
       (λ ne. subst (λ (v : Option ℕ). IsOut (o.page j) v ⊎ Off o m' j l k) (put_other m.slots p None j ne) (off_still g a o m' kept j l k (put_other m.slots p None j ne) (g.tree.off j l k i)))))
       (g.owns a)
-      (λ j. by_test j p (λ t. PageFits a (o.page j) (cond t None (m.slots j)) ((knows a).pages j)) (λ i. subst (λ (v : OwnPage). PageFits a (o.page j) None v) (sym (ap (knows a).pages i ∙ own)) (was.0, was.1, ap o.page i ∙ was.2)) (λ i. g.owns_pages a j))
+      (λ j. by_test j p (λ t. PageFits a (o.page j) (cond t None (m.slots j)) (cond t Other ((knows a).pages j))) (λ i. tt) (λ i. g.owns_pages a j))
       (mine_at g a o m' kept))
     where
       was : (l : ℕ) × (k : Key) × (o.page p ≡ Cleared a l k)
@@ -53,7 +53,10 @@ module _ {m : Shared} {log : List Update} {o : Owners} {knows : ℕ → Knowledg
       kept : Kept o o m m'
       kept = kept_change a o o m m' change
 
-      learned : emptied ((knows a).pages p) p (knows a) ≡ knows a
+      k : Knowledge
+      k = record (knows a) { pages = put (knows a).pages p Other; limbo_rows = taken_out (knows a).seen x (knows a).limbo_rows; limbo_pids = put (knows a).limbo_pids p Unstamped }
+
+      learned : emptied ((knows a).pages p) p x (knows a) ≡ k
       learned = rw own refl
 
   -- a page that was read removed is as it was read
@@ -73,7 +76,7 @@ module _ {m : Shared} {log : List Update} {o : Owners} {knows : ℕ → Knowledg
           page = λ j n. let v = g.frees.page j n in (put_other o.page q gone j (λ i. absurd (let z = sym v.0 ∙ ap o.page i ∙ was in cc)) ∙ v.0, put_other m.slots p (Some y) j (λ i. absurd (let z = sym v.0 ∙ ap o.page i ∙ place.placed in cc)) ∙ v.1);
         })
         (closed_kept o o' m m' kept g.closed (λ j. by_test j y (λ t. cond t Linked (o.row j) ≡ Linked → (o.row j ≡ Linked) ⊎ IsLinked o' m' j)
-        (λ i l. inr (subst (λ (n : ℕ). IsLinked o' m' n) (sym i) (record { linked = put_same o.row y Linked; content = w; stands = fits.1; next = (kept.row x f.linked).0; rest = c; is_rest = f.stands; names = names })))
+        (λ i l. inr (subst (λ (n : ℕ). IsLinked o' m' n) (sym i) (record { linked = put_same o.row y Linked; content = w; stands = fits.1; next = (kept.row x f.linked).0; rest = c; is_rest = f.stands })))
         (λ i l. inl l)))
         (tree_merged o o' m m' log g.closed kept g.tree p lv (low_in c) q sq place.stage Removed place.placed place.on was above
         (λ j l k st np nq e on. (put_other m.slots p (Some y) j np, (st, put_other o.page q gone j nq ∙ e, on, refl))) refl refl
@@ -209,14 +212,6 @@ module _ {m : Shared} {log : List Update} {o : Owners} {knows : ℕ → Knowledg
               (λ i. let v' : Covers d k = record { low = i; high = v.high } in h.alike k (covers_to d k v') ∙ removed_place.is_page.same k v')
               (λ i. place.is_page.same k (record { low = v.low; high = subst (λ (b : Option Key). IsUnder k b) (sym h.high) i }));
         };
-      }
-
-      names : ChainNames o' (w ∷ c)
-      names = record {
-        right = λ z e. let i = fd.names.right z e in (i.0, i.1, kept.page z 0 lv i.0 (subst (λ (n : ℕ). Reached 0 n i.0 (o.page z)) level i.2));
-        items = λ l k i e v. by_range sq k (high_in d) v.high (λ t. cond t (content_at h.items k) (content_in c k) ≡ Some i → Reached (rank_of i) l k (o'.page (child_of i)))
-            (λ u e'. let v' : Covers d k = record { low = u; high = v.high } in kept.page (child_of i) (rank_of i) l k (fd.names.items l k i (level ∙ e) v' (sym (h.alike k (covers_to d k v')) ∙ e')))
-            (λ u e'. kept.page (child_of i) (rank_of i) l k (f.names.items l k i e (record { low = v.low; high = subst (λ (b : Option Key). IsUnder k b) (sym h.high) u }) e'));
       }
 
       learned : filled ((knows a).pages p) p x y (knows a) ≡ record (knows a) { rows = put (knows a).rows y Foreign }

@@ -1,6 +1,6 @@
 -- One more entry: what the names that actors have learnt are, and what is read.
-use Rattle.std.proofs.Common.{◌≡◌, ◌≢◌, ◌<◌, ◌⊎◌, inl, inr, ℕ, zero, suc, List, [], ◌∷◌, ◌++◌, length, Option, Some, None, Bool, true, false, cond, eqb, refl, sym, ap, ◌∙◌, subst, arith}
-use Rattle.std.specs.Prelude.{IfSome, MatchOption, IsFalse, unwrap_or}
+use Rattle.std.proofs.Common.{◌≡◌, ◌≢◌, ◌<◌, ◌≤◌, ◌+◌, ◌^◌, ◌⊎◌, inl, inr, ℕ, zero, suc, List, [], ◌∷◌, ◌++◌, length, Option, Some, None, Bool, true, false, cond, eqb, refl, sym, ap, ◌∙◌, subst, arith}
+use Rattle.std.specs.Prelude.{MatchOption, IsFalse, unwrap_or}
 use Rattle.std.specs.List.{Contains}
 use Rattle.std.proofs.lemmas.Option.{same_Some}
 use Rattle.bw_model.specs.declared.command.Command.{Command}
@@ -30,18 +30,19 @@ use Rattle.op_machine.specs.Faithful.{IsFaithful, KnowsRow, Disturbs, touches_pa
 use Rattle.op_machine.proofs.FaithLaws.{KnowsRow-before, KnowsRow-kept, KnowsRow-shown}
 use Rattle.chain_search.specs.Discipline.{May}
 use Rattle.chain_search.specs.Knowledge.{Ready, Knowledge, begun, learnt_next, learn, going_on, finished, knows_after}
-use Rattle.tree_law.specs.Next.{IsMoved}
+use Rattle.tree_law.specs.Next.{IsReuse, IsMoved}
 use Rattle.tree_law.specs.Owners.{Free, Spare, Linked, Owners, Reached}
 use Rattle.tree_law.specs.Keys.{Key}
 use Rattle.tree_law.specs.Phase.{PageOwner, Nobody, Keeps, Placed, Cleared}
+use Rattle.tree_law.specs.Put.{put}
 use Rattle.tree_law.specs.Shared.{row_in, slot_in, shared}
 use Rattle.tree_law.specs.State.{phase_of, IsInTree, IsReady, IsNamed}
 use Rattle.tree_law.specs.Tree.{Good}
 use Rattle.tree_law.proofs.Puts.{by_test, put_same, put_other}
 use Rattle.tree_law.proofs.Exchanged.{exchanged_alike}
-use Rattle.tree_law.proofs.Keeping.{slot_of, met_placed}
+use Rattle.tree_law.proofs.Keeping.{slot_of}
 use Rattle.tree_law.proofs.Mapping.{slot_some}
-use Rattle.tree_law.proofs.Rows.{next_linked, chain_linked}
+use Rattle.tree_law.proofs.Rows.{chain_linked}
 use Rattle.tree_law.proofs.Taking.{own_spare}
 use Rattle.tree_law.proofs.Owned.{pushed_length}
 
@@ -68,13 +69,14 @@ pub named_begins : (limits : Limits) (entries : List Entry) (o : Owners) (m : Me
     → command_of (entries ++ Begin a c ∷ []) ≡ commands_after (command_of entries) (Begin a c)
     → IsNamed limits (entries ++ Begin a c ∷ []) o m (knows_after knows (Begin a c))
 named_begins limits entries o m knows a c old asks = record {
-  shown = λ b r h. elim (HasLearnt-push_cases entries (Begin a c) b r h) [ inl before ↦ old.shown b r before.0 | inr shows ↦ absurd (begin_shows entries a c b r shows) ];
+  shown = λ b r h. elim (HasLearnt-push_cases entries (Begin a c) b r h) [ inl before ↦ elim (old.shown b r before.0) [ inl z ↦ inl z | inr l ↦ inr (by_test b a (λ t. (cond t (begun (knows a) c) (knows b)).learnt r ≡ true) (λ i. subst (λ n. (knows n).learnt r ≡ true) i l) (λ ne. l)) ] | inr shows ↦ absurd (begin_shows entries a c b r shows) ];
   known = λ b r e. rw pushed_length (KnowsRow-kept entries (Begin a c) b r
       (old.known b r (by_test b a (λ t. (cond t (begun (knows a) c) (knows b)).learnt r ≡ true → (knows b).learnt r ≡ true) (λ i f. subst (λ n. (knows n).learnt r ≡ true) (sym i) f) (λ ne f. f) e))
       (λ epoch x. ((λ h. let is = h.1 in cc), (λ h. let is = h.1 in cc)))
       (λ other s x h. let is = h.1 in absurd (cc)));
   announced = λ b e. old.announced b (by_test b a (λ t. (cond t (begun (knows a) c) (knows b)).inside ≡ true → (knows b).inside ≡ true) (λ i f. subst (λ n. (knows n).inside ≡ true) (sym i) f) (λ ne f. f) e);
   epoch = old.epoch;
+  posted = old.posted;
   recent = λ b r w. by_test b a (λ t. (cond t (begun (knows a) c) (knows b)).recent r ≡ Some w → (cond t (begun (knows a) c) (knows b)).seen r ≡ Some w) (λ i. old.recent a r w) (λ ne. old.recent b r w);
   zero_free = old.zero_free;
   zero_taken = old.zero_taken;
@@ -105,6 +107,8 @@ learn_command k (Slot zero) (Number n) = refl
 learn_command k (Slot (suc p)) (Number zero) = refl
 learn_command k (Slot (suc p)) (Number (suc n)) = refl
 learn_command k (Row r) (Content w) = refl
+learn_command k Epoch (Number n) = refl
+learn_command k (Announce b) (Number n) = refl
 learn_command k (PidBits w) (Number n) = refl
 learn_command k (RowBits w) (Number n) = refl
 learn_command k (TakePid p) (Whether true) = refl
@@ -132,6 +136,8 @@ learnt_cases k (Row q) (Content w) r e = go (next_row w) refl e
     go None i f = inl (f, tt)
     go (Some n) i f = by_test r n (λ t. cond t true (k.learnt r) ≡ true → ((k.learnt r ≡ true) × Unit {0}) ⊎ Shown (Row q) (Content w) r)
         (λ j g. inr (inr (q, w, refl, refl, i ∙ ap Some (sym j)))) (λ ne g. inl (g, tt)) f
+learnt_cases k Epoch (Number n) r e = inl (e, tt)
+learnt_cases k (Announce b) (Number n) r e = inl (e, tt)
 learnt_cases k (PidBits w) (Number n) r e = inl (e, tt)
 learnt_cases k (RowBits w) (Number n) r e = inl (e, tt)
 learnt_cases k (TakePid p) (Whether true) r e = inl (e, tt)
@@ -164,6 +170,8 @@ learn_inside k (Slot zero) (Number n) h = refl
 learn_inside k (Slot (suc p)) (Number zero) h = refl
 learn_inside k (Slot (suc p)) (Number (suc n)) h = refl
 learn_inside k (Row r) (Content w) h = refl
+learn_inside k Epoch (Number n) h = refl
+learn_inside k (Announce b) (Number n) h = refl
 learn_inside k (PidBits w) (Number n) h = refl
 learn_inside k (RowBits w) (Number n) h = refl
 learn_inside k (TakePid p) (Whether true) h = refl
@@ -195,9 +203,9 @@ touches_inside a k (TakePid p) h = inr refl
 touches_inside a k (TakeRow r) h = inr refl
 touches_inside a k (Enter e) h = inr refl
 touches_inside a k Leave h = inr refl
-touches_inside a k (Retire e) h = absurd h
-touches_inside a k (ReusePids w b) h = absurd h
-touches_inside a k (ReuseRows w b) h = absurd h
+touches_inside a k (Retire e) h = inr refl
+touches_inside a k (ReusePids w b) h = inr refl
+touches_inside a k (ReuseRows w b) h = inr refl
 
 -- what was read last was read
 learn_recent : (k : Knowledge) → ((r : ℕ) (w : Record) → k.recent r ≡ Some w → k.seen r ≡ Some w) → (s : StepOf Record) (x : Answer Record) (r : ℕ) (w : Record) → (learn k s x).recent r ≡ Some w → (learn k s x).seen r ≡ Some w
@@ -205,6 +213,8 @@ learn_recent k h (Slot zero) (Number n) r w e = h r w e
 learn_recent k h (Slot (suc p)) (Number zero) r w e = h r w e
 learn_recent k h (Slot (suc p)) (Number (suc n)) r w e = absurd (cc)
 learn_recent k h (Row q) (Content v) r w e = by_test r q (λ t. cond t (Some v) (k.recent r) ≡ Some w → cond t (Some v) (k.seen r) ≡ Some w) (λ i f. f) (λ ne f. h r w f) e
+learn_recent k h Epoch (Number n) r w e = h r w e
+learn_recent k h (Announce b) (Number n) r w e = h r w e
 learn_recent k h (PidBits v) (Number n) r w e = h r w e
 learn_recent k h (RowBits v) (Number n) r w e = h r w e
 learn_recent k h (TakePid p) (Whether true) r w e = h r w e
@@ -235,16 +245,16 @@ module _ (limits : Limits) (entries : List Entry) (o : Owners) (m : Memory) (kno
   abbrev last : Entry
   last = Step a s x r
 
-  -- a step disturbs no linked row
-  calm : (t : StepOf Record) → May a (knows a) t → (y : Answer Record) → IsAnswer m t y → (q : ℕ) → o.row q ≡ Linked → Disturbs t y q → ⊥
-  calm (Place row w) h y i q l same =
+  -- a step but a reuse disturbs no linked row
+  pub calm : (t : StepOf Record) → (IsReuse t → ⊥) → May a (knows a) t → (y : Answer Record) → IsAnswer m t y → (q : ℕ) → o.row q ≡ Linked → Disturbs t y q → ⊥
+  calm (Place row w) still_so h y i q l same =
       let spare : o.row row ≡ Spare a = own_spare g a row ((knows a).rows row) (g.owns a row) h.1 in
       let l' : o.row row ≡ Linked = subst (λ n. o.row n ≡ Linked) (sym same) l in cc
-  calm (TakeRow row) h y i q l d =
+  calm (TakeRow row) still_so h y i q l d =
       let free : o.row row ≡ Free = g.frees.row row (whether_same (m.free_rows row) true y i d.0) in
       let l' : o.row row ≡ Linked = subst (λ n. o.row n ≡ Linked) (sym d.1) l in cc
-  calm (ReuseRows w b) h y i q l d = h
-  calm t h y i q l d = d
+  calm (ReuseRows w b) still_so h y i q l d = still_so tt
+  calm t still_so h y i q l d = d
 
   -- the slot of a page of the tree has a linked row
   tree_slot : (p : ℕ) → IsInTree (o.page p) → (q : ℕ) → slot_in m.slots p ≡ Some q → o.row q ≡ Linked
@@ -253,23 +263,47 @@ module _ (limits : Limits) (entries : List Entry) (o : Owners) (m : Memory) (kno
     | inr some ↦ let same : some.0 ≡ q = same_Some some.0 q (sym some.1 ∙ e) in subst (λ n. o.row n ≡ Linked) same some.2.linked
   ]
 
-  slot_shown : (p q : ℕ) → 0 < p → May a (knows a) (Slot p) → IsAnswer m (Slot p) x → x ≡ Number q → (q ≡ 0) ⊎ (o.row q ≡ Linked)
-  slot_shown zero q above h i e = absurd (omega arith)
-  slot_shown (suc p) q above h i e =
-      let at : m.slots (suc p) ≡ q = number_same (m.slots (suc p)) q x i e in
-      let here = met_placed g a (suc p) h.1 in
-      elim (slot_of g a (suc p) here.0 here.1 here.2) [
-        | inl none ↦ inl (sym at ∙ row_none (m.slots (suc p)) none)
-        | inr some ↦ inr (subst (λ n. o.row n ≡ Linked) (sym (slot_some m.slots (suc p) some.0 some.1).1 ∙ at) some.2.linked)
-      ]
+  -- what a step shows its actor learns
+  learnt_shown : (q : ℕ) → Shown s x q → (q ≡ 0) ⊎ ((learn (knows a) s x).learnt q ≡ true)
+  learnt_shown q (inl h) = subst (λ (t : StepOf Record). (q ≡ 0) ⊎ ((learn (knows a) t x).learnt q ≡ true)) (sym h.2) (subst (λ (y : Answer Record). (q ≡ 0) ⊎ ((learn (knows a) (Slot h.0) y).learnt q ≡ true)) (sym h.3) (by_slot h.0 q h.1))
+    where
+      by_slot : (p q : ℕ) → 0 < p → (q ≡ 0) ⊎ ((learn (knows a) (Slot p) (Number q)).learnt q ≡ true)
+      by_slot zero q above = absurd (omega arith)
+      by_slot (suc p) zero above = inl refl
+      by_slot (suc p) (suc q) above = inr (put_same (knows a).learnt (suc q) true)
+  learnt_shown q (inr h) = inr (subst (λ (t : StepOf Record). (learn (knows a) t x).learnt q ≡ true) (sym h.2) (subst (λ (y : Answer Record). (learn (knows a) (Row h.0) y).learnt q ≡ true) (sym h.3) (subst (λ (v : Option ℕ). learnt_next v (knows a).learnt q ≡ true) (sym h.4) (put_same (knows a).learnt q true))))
 
-  linked_shown : (q : ℕ) → Shown s x q → (q ≡ 0) ⊎ (o.row q ≡ Linked)
-  linked_shown q (inl h) = slot_shown h.0 q h.1 (subst (May a (knows a)) h.2 may) (subst (λ t. IsAnswer m t x) h.2 is) h.3
-  linked_shown q (inr h) =
-      let may' : May a (knows a) (Row h.0) = subst (May a (knows a)) h.2 may in
-      let is' : IsAnswer m (Row h.0) x = subst (λ t. IsAnswer m t x) h.2 is in
-      let same : h.1 ≡ is'.0 = content_same h.1 is'.0 x h.3 is'.2 in
-      inr (subst (λ n. IfSome n (λ n. o.row n ≡ Linked)) h.4 (next_linked o (shared m) g.closed h.0 h.1 ((g.sound a).learnt_fits h.0 may'.1) (is'.1 ∙ ap Some (sym same))))
+  grows : (f : ℕ → Bool) (n q : ℕ) → f q ≡ true → put f n true q ≡ true
+  grows f n q e = by_test q n (λ z. cond z true (f q) ≡ true) (λ i. refl) (λ ne. e)
+
+  grows_next : (v : Option ℕ) (f : ℕ → Bool) (q : ℕ) → f q ≡ true → learnt_next v f q ≡ true
+  grows_next None f q e = e
+  grows_next (Some n) f q e = grows f n q e
+
+  -- what an actor that goes on has learnt it knows still
+  learnt_stays : (k : Knowledge) (t : StepOf Record) (y : Answer Record) → Stays t → (q : ℕ) → k.learnt q ≡ true → (learn k t y).learnt q ≡ true
+  learnt_stays k (Slot zero) (Number n) st q e = e
+  learnt_stays k (Slot (suc p)) (Number zero) st q e = e
+  learnt_stays k (Slot (suc p)) (Number (suc n)) st q e = grows k.learnt (suc n) q e
+  learnt_stays k (Row r) (Content w) st q e = grows_next (next_row w) k.learnt q e
+  learnt_stays k Epoch (Number n) st q e = e
+  learnt_stays k (Announce b) (Number n) st q e = e
+  learnt_stays k (PidBits w) (Number n) st q e = e
+  learnt_stays k (RowBits w) (Number n) st q e = e
+  learnt_stays k (TakePid p) (Whether true) st q e = e
+  learnt_stays k (TakePid p) (Whether false) st q e = e
+  learnt_stays k (TakeRow r) (Whether true) st q e = e
+  learnt_stays k (TakeRow r) (Whether false) st q e = e
+  learnt_stays k (Exchange p x y) (Whether true) st q e = subst (λ (f : ℕ → Bool). f q ≡ true) (sym (exchanged_alike p x y k).learnt) e
+  learnt_stays k (Exchange p x y) (Whether false) st q e = e
+  learnt_stays k (Enter n) y st q e = absurd st
+  learnt_stays k Leave y st q e = absurd st
+  learnt_stays k t y st q e = e
+
+  stays_or : (t : StepOf Record) → May a (knows a) t → (q : ℕ) → (knows a).learnt q ≡ true → ((q : ℕ) → (knows a).learnt q ≡ true → (knows a).inside ≡ true) → (t ≡ Leave) ⊎ Stays t
+  stays_or (Enter n) h q e inside = absurd (let i = inside q e in let f = h.0 in cc)
+  stays_or Leave h q e inside = inl refl
+  stays_or t h q e inside = inr tt
 
   shown_cases : (b q : ℕ) → ShowsRow (entries ++ last ∷ []) (length entries) b q → (b ≡ a) × Shown s x q
   shown_cases b q (inl h) = let e = h.2.1 in let f = slice_get-push entries last in ((cc (e, f)), inl (h.0, h.1, (cc (e, f)), (cc (e, f))))
@@ -279,11 +313,11 @@ module _ (limits : Limits) (entries : List Entry) (o : Owners) (m : Memory) (kno
   shows_now q (inl h) = inl (h.0, h.1, (r, rw (sym h.2, sym h.3) (slice_get-push entries last)))
   shows_now q (inr h) = inr (h.0, h.1, (r, rw (sym h.2, sym h.3) (slice_get-push entries last)), h.4)
 
-  known_kept : (b q : ℕ) → (knows b).learnt q ≡ true → (b ≡ a → Stays s) → KnowsRow (entries ++ last ∷ []) (length (entries ++ last ∷ [])) b q
-  known_kept b q e stays = rw pushed_length (KnowsRow-kept entries last b q (old.known b q e)
+  known_kept : (b q : ℕ) → (knows b).learnt q ≡ true → (b ≡ a → Stays s) → (Disturbs s x q → ⊥) → KnowsRow (entries ++ last ∷ []) (length (entries ++ last ∷ [])) b q
+  known_kept b q e stays still = rw pushed_length (KnowsRow-kept entries last b q (old.known b q e)
       (λ epoch y. ((λ h. let i = h.1 in stays_no_enter s epoch (stays (let j : a ≡ b = cc in sym j)) (cc)), (λ h. let i = h.1 in stays_no_leave s (stays (let j : a ≡ b = cc in sym j)) (cc))))
       (λ other t y h d. let i = h.1 in let st : s ≡ t = cc in let xy : x ≡ y = cc in
-      calm s may x is q ((g.sound b).learnt_fits q e) (subst (λ z. Disturbs s z q) (sym xy) (subst (λ z. Disturbs z y q) (sym st) d))))
+      still (subst (λ z. Disturbs s z q) (sym xy) (subst (λ z. Disturbs z y q) (sym st) d))))
 
   at_rest : (t : StepOf Record) → Stays t → (y : Answer Record) → (b : ℕ) → (cond (eqb b a) (finished (learn (knows a) t y) r) (knows b)).inside ≡ true → 0 < (memory_after a t m).announced b
   at_rest t st y b e = rw (same_announced a m t st) (by_test b a (λ z. (cond z (finished (learn (knows a) t y) r) (knows b)).inside ≡ true → 0 < m.announced b)
@@ -294,14 +328,20 @@ module _ (limits : Limits) (entries : List Entry) (o : Owners) (m : Memory) (kno
   announced_after Leave h y b e = by_test b a (λ t. (cond t (finished (learn (knows a) Leave y) r) (knows b)).inside ≡ true → 0 < cond t 0 (m.announced b)) (λ i f. absurd (cc)) (λ ne f. old.announced b f) e
   announced_after t h y b e = at_rest t tt y b e
 
-  epoch_after : (t : StepOf Record) → May a (knows a) t → (memory_after a t m).epoch ≡ m.epoch
-  epoch_after (Retire q) h = absurd h
-  epoch_after t h = refl
+  epoch_after : (t : StepOf Record) → May a (knows a) t → (0 < (memory_after a t m).epoch) × ((memory_after a t m).epoch ≤ 2 ^ 62)
+  epoch_after (Retire q) h = by_test m.epoch q (λ t. (0 < cond t (q + 1) m.epoch) × (cond t (q + 1) m.epoch ≤ 2 ^ 62)) (λ i. ((let z : 0 < q + 1 = omega arith in z), (let z : q + 1 ≤ 2 ^ 62 = omega arith in z))) (λ ne. old.epoch)
+  epoch_after t h = old.epoch
 
-  zero_after : (t : StepOf Record) → May a (knows a) t → (memory_after a t m).free_rows 0 ≡ false
-  zero_after (TakeRow q) h = by_test 0 q (λ t. cond t false (m.free_rows 0) ≡ false) (λ i. refl) (λ ne. old.zero_taken)
-  zero_after (ReuseRows q w) h = absurd h
-  zero_after t h = old.zero_taken
+  posted_after : (t : StepOf Record) → May a (knows a) t → ((e : ℕ) → (knows a).epoch ≡ Some e → e ≤ m.epoch) → (b : ℕ) → (memory_after a t m).announced b ≤ (memory_after a t m).epoch
+  posted_after (Retire q) h read b = by_test m.epoch q (λ t. m.announced b ≤ cond t (q + 1) m.epoch) (λ i. let o = old.posted b in omega arith) (λ ne. old.posted b)
+  posted_after (Enter n) h read b = by_test b a (λ t. cond t n (m.announced b) ≤ m.epoch) (λ i. read n h.2) (λ ne. old.posted b)
+  posted_after Leave h read b = by_test b a (λ t. cond t 0 (m.announced b) ≤ m.epoch) (λ i. omega arith) (λ ne. old.posted b)
+  posted_after t h read b = old.posted b
+
+  pub zero_after : (t : StepOf Record) → (IsReuse t → ⊥) → May a (knows a) t → (memory_after a t m).free_rows 0 ≡ false
+  zero_after (TakeRow q) still_so h = by_test 0 q (λ t. cond t false (m.free_rows 0) ≡ false) (λ i. refl) (λ ne. old.zero_taken)
+  zero_after (ReuseRows q w) still_so h = absurd (still_so tt)
+  zero_after t still_so h = old.zero_taken
 
   going_command : (o : Option Reply) → going_on o (command_of entries a) ≡ commands_after (command_of entries) (Step a s x o) a
   going_command None = refl
@@ -311,17 +351,17 @@ module _ (limits : Limits) (entries : List Entry) (o : Owners) (m : Memory) (kno
   other_command None b ne = refl
   other_command (Some y) b ne = put_other (command_of entries) a None b ne
 
-  free_rows_before : (t : StepOf Record) → May a (knows a) t → (q : ℕ) → (memory_after a t m).free_rows q ≡ true → m.free_rows q ≡ true
-  free_rows_before (TakeRow n) h q e = by_test q n (λ t. cond t false (m.free_rows q) ≡ true → m.free_rows q ≡ true) (λ i f. absurd (cc)) (λ ne f. f) e
-  free_rows_before (ReuseRows n w) h q e = absurd h
-  free_rows_before t h q e = e
+  pub free_rows_before : (t : StepOf Record) → (IsReuse t → ⊥) → May a (knows a) t → (q : ℕ) → (memory_after a t m).free_rows q ≡ true → m.free_rows q ≡ true
+  free_rows_before (TakeRow n) still_so h q e = by_test q n (λ t. cond t false (m.free_rows q) ≡ true → m.free_rows q ≡ true) (λ i f. absurd (cc)) (λ ne f. f) e
+  free_rows_before (ReuseRows n w) still_so h q e = absurd (still_so tt)
+  free_rows_before t still_so h q e = e
 
-  free_pids_before : (t : StepOf Record) → May a (knows a) t → (q : ℕ) → (memory_after a t m).free_pids q ≡ true → m.free_pids q ≡ true
-  free_pids_before (TakePid n) h q e = by_test q n (λ t. cond t false (m.free_pids q) ≡ true → m.free_pids q ≡ true) (λ i f. absurd (cc)) (λ ne f. f) e
-  free_pids_before (ReusePids n w) h q e = absurd h
-  free_pids_before t h q e = e
+  pub free_pids_before : (t : StepOf Record) → (IsReuse t → ⊥) → May a (knows a) t → (q : ℕ) → (memory_after a t m).free_pids q ≡ true → m.free_pids q ≡ true
+  free_pids_before (TakePid n) still_so h q e = by_test q n (λ t. cond t false (m.free_pids q) ≡ true → m.free_pids q ≡ true) (λ i f. absurd (cc)) (λ ne f. f) e
+  free_pids_before (ReusePids n w) still_so h q e = absurd (still_so tt)
+  free_pids_before t still_so h q e = e
 
-  row_below_after : (o' : Owners) → ((q : ℕ) → IsMoved a (m.free_rows q) (o.row q) (o'.row q)) → (q : ℕ) → (o'.row q ≡ Free) ⊎ (q < limits.rows)
+  pub row_below_after : (o' : Owners) → ((q : ℕ) → IsMoved a (m.free_rows q) (o.row q) (o'.row q)) → (q : ℕ) → (o'.row q ≡ Free) ⊎ (q < limits.rows)
   row_below_after o' moved q = elim (moved q) [
     | inl same ↦ elim (old.row_below q) [ inl f ↦ inl (same ∙ f) | inr lt ↦ inr lt ]
     | inr more ↦ elim more [
@@ -330,34 +370,66 @@ module _ (limits : Limits) (entries : List Entry) (o : Owners) (m : Memory) (kno
     ]
   ]
 
-  zero_free_after : (o' : Owners) → IsMoved a (m.free_rows 0) (o.row 0) (o'.row 0) → o'.row 0 ≡ Free
+  pub zero_free_after : (o' : Owners) → IsMoved a (m.free_rows 0) (o.row 0) (o'.row 0) → o'.row 0 ≡ Free
   zero_free_after o' (inl e) = e ∙ old.zero_free
   zero_free_after o' (inr (inl h)) = absurd (let e = h.0 in let f = old.zero_taken in cc)
   zero_free_after o' (inr (inr h)) = absurd (let e = h.0 in let f = old.zero_free in cc)
 
-  pub named_steps : (o' : Owners) → ((q : ℕ) → o.row q ≡ Linked → o'.row q ≡ Linked) → ((q : ℕ) → IsMoved a (m.free_rows q) (o.row q) (o'.row q)) → ((p : ℕ) → (phase_of (o'.page p) ≡ phase.free) ⊎ ((0 < p) × (p < limits.pids)))
+  -- what the numbers are afterwards
+  pub record Numbers (o' : Owners) : Type 0 where
+    pub undisturbed : (b q : ℕ) → (knows b).learnt q ≡ true → Disturbs s x q → ⊥
+    pub zero_free : o'.row 0 ≡ Free
+    pub zero_taken : (memory_after a s m).free_rows 0 ≡ false
+    pub free_row_below : (q : ℕ) → (memory_after a s m).free_rows q ≡ true → q < limits.rows
+    pub row_below : (q : ℕ) → (o'.row q ≡ Free) ⊎ (q < limits.rows)
+    pub free_pid_below : (p : ℕ) → (memory_after a s m).free_pids p ≡ true → (0 < p) × (p < limits.pids)
+
+  -- of a step but a reuse
+  pub calm_numbers : (IsReuse s → ⊥) → (o' : Owners) → ((q : ℕ) → IsMoved a (m.free_rows q) (o.row q) (o'.row q)) → Numbers o'
+  calm_numbers still_so o' moved = record {
+    undisturbed = λ b q e d. calm s still_so may x is q ((g.sound b).learnt_fits q e) d;
+    zero_free = zero_free_after o' (moved 0);
+    zero_taken = zero_after s still_so may;
+    free_row_below = λ q e. old.free_row_below q (free_rows_before s still_so may q e);
+    row_below = row_below_after o' moved;
+    free_pid_below = λ p e. old.free_pid_below p (free_pids_before s still_so may p e);
+  }
+
+  pub named_steps : (o' : Owners) → Numbers o' → ((q : ℕ) → (knows a).learnt q ≡ true → (knows a).inside ≡ true) → ((e : ℕ) → (knows a).epoch ≡ Some e → e ≤ m.epoch) → ((p : ℕ) → (phase_of (o'.page p) ≡ phase.free) ⊎ ((0 < p) × (p < limits.pids)))
       → ((p q : ℕ) → slot_in (memory_after a s m).slots p ≡ Some q → IsInTree (o'.page p) ⊎ IsReady o' (memory_after a s m) (knows_after knows last) p q)
       → command_of (entries ++ last ∷ []) ≡ commands_after (command_of entries) last
       → IsNamed limits (entries ++ last ∷ []) o' (memory_after a s m) (knows_after knows last)
-  named_steps o' kept moved pid_below held asks = record {
+  named_steps o' numbers inside read pid_below held asks = record {
     shown = λ b q h. elim (HasLearnt-push_cases entries last b q h) [
-      | inl before ↦ elim (old.shown b q before.0) [ inl z ↦ inl z | inr l ↦ inr (kept q l) ]
-      | inr shows ↦ elim (linked_shown q (shown_cases b q shows).1) [ inl z ↦ inl z | inr l ↦ inr (kept q l) ]
+      | inl before ↦ elim (old.shown b q before.0) [
+        | inl z ↦ inl z
+        | inr l ↦ inr (by_test b a (λ t. (cond t (finished (learn (knows a) s x) r) (knows b)).learnt q ≡ true)
+            (λ i. let l' : (knows a).learnt q ≡ true = subst (λ n. (knows n).learnt q ≡ true) i l in
+            elim (stays_or s may q l' inside) [
+              | inl leaves ↦ let back = sym i in absurd (before.1 x (r, λ d. Step (back d) (leaves d) x r))
+              | inr st ↦ learnt_stays (knows a) s x st q l'
+            ])
+            (λ ne. l))
+      ]
+      | inr shows ↦
+          let v = shown_cases b q shows in
+          elim (learnt_shown q v.1) [ inl z ↦ inl z | inr l ↦ inr (by_test b a (λ t. (cond t (finished (learn (knows a) s x) r) (knows b)).learnt q ≡ true) (λ i. l) (λ ne. absurd (ne v.0))) ]
     ];
     known = λ b q. by_test b a (λ t. (cond t (finished (learn (knows a) s x) r) (knows b)).learnt q ≡ true → KnowsRow (entries ++ last ∷ []) (length (entries ++ last ∷ [])) b q)
         (λ i e. subst (λ n. KnowsRow (entries ++ last ∷ []) (length (entries ++ last ∷ [])) n q) (sym i) (elim (learnt_cases (knows a) s x q e) [
-          | inl h ↦ known_kept a q h.0 (λ j. h.1)
+          | inl h ↦ known_kept a q h.0 (λ j. h.1) (numbers.undisturbed a q h.0)
           | inr h ↦ rw pushed_length (KnowsRow-shown entries last a q (shows_now q h))
         ]))
-        (λ ne e. known_kept b q e (λ i. absurd (ne i)));
+        (λ ne e. known_kept b q e (λ i. absurd (ne i)) (numbers.undisturbed b q e));
     announced = announced_after s may x;
-    epoch = epoch_after s may ∙ old.epoch;
+    epoch = epoch_after s may;
+    posted = posted_after s may read;
     recent = λ b q w. by_test b a (λ t. (cond t (finished (learn (knows a) s x) r) (knows b)).recent q ≡ Some w → (cond t (finished (learn (knows a) s x) r) (knows b)).seen q ≡ Some w) (λ i. learn_recent (knows a) (old.recent a) s x q w) (λ ne. old.recent b q w);
-    zero_free = zero_free_after o' (moved 0);
-    zero_taken = zero_after s may;
-    free_row_below = λ q e. old.free_row_below q (free_rows_before s may q e);
-    row_below = row_below_after o' moved;
-    free_pid_below = λ p e. old.free_pid_below p (free_pids_before s may p e);
+    zero_free = numbers.zero_free;
+    zero_taken = numbers.zero_taken;
+    free_row_below = numbers.free_row_below;
+    row_below = numbers.row_below;
+    free_pid_below = numbers.free_pid_below;
     pid_below = pid_below;
     held = held;
     commands = λ b. rw asks (by_test b a (λ t. (cond t (finished (learn (knows a) s x) r) (knows b)).command ≡ commands_after (command_of entries) last b)
@@ -388,7 +460,7 @@ module _ (limits : Limits) (entries : List Entry) (o : Owners) (m : Memory) (kno
     unlinked = λ on. unlinked (subst (λ n. IsOnChain n row) same on);
     unlearnt = λ other ne learnt. elim (old.shown other row learnt) [
       | inl z ↦ let f : o.row row ≡ Free = ap o.row z ∙ old.zero_free in let sp = spare in absurd (cc)
-      | inr l ↦ let sp = spare in absurd (cc)
+      | inr l ↦ let l' = (g.sound other).learnt_fits row l in let sp = spare in absurd (cc)
     ];
   }
     where

@@ -47,7 +47,7 @@ module _ (free free_pages : ℕ → Bool) (taken : free 1 ≡ false) (taken_page
       page = λ r h. by_test r 1 (λ t. (cond t (Placed Indexed 0 []) Nobody ≡ Nobody) × (cond {A = Option ℕ} t (Some 1) None ≡ None)) (λ i. absurd (let e = sym (ap free_pages i) ∙ h in cc)) (λ ne. (refl, refl));
     };
     closed = λ r l. by_test r 1 (λ t. cond t Linked Free ≡ Linked → IsLinked o start r)
-        (λ i e. subst (λ (j : ℕ). IsLinked o start j) (sym i) (record { linked = refl; content = Base empty_leaf; stands = refl; next = tt; rest = []; is_rest = refl; names = record { right = λ q e. absurd (cc); items = λ l s i e v d. absurd (cc) } }))
+        (λ i e. subst (λ (j : ℕ). IsLinked o start j) (sym i) (record { linked = refl; content = Base empty_leaf; stands = refl; next = tt; rest = []; is_rest = refl }))
         (λ ne e. absurd (cc)) l;
     tree = record {
       top = 0;

@@ -21,7 +21,7 @@ use Rattle.deltas.specs.Memory.{Memory}
 use Rattle.chain_search.specs.declared.trace.Entry.{Entry}
 use Rattle.chain_search.specs.declared.trace.Entry.TheVariants.{Step}
 use Rattle.chain_search.specs.Chains.{IsChainFrom, IsChainOf, right_in}
-use Rattle.chain_search.specs.Steps.{IsAnswer}
+use Rattle.chain_search.specs.Steps.{is_among, IsAnswer}
 use Rattle.chain_search.proofs.ChainLaws.{IsChainFrom-unique}
 use Rattle.op_machine.specs.Links.{link_without, link_of, Wins, Installs}
 use Rattle.op_machine.specs.Phases.{Phase, free, owned, fresh, indexed, held, removed, merged, cleared, MakesRoot, Moves, takes, splits, becomes_root, terms, under_root, holds, removes, merges, unterms, reuses}
@@ -189,7 +189,12 @@ module _ (m : Memory) {log : List Update} {o : Owners} {knows : ℕ → Knowledg
   moves_between pid from to (unterms slot unterm installs at) =
       let h = (installed slot (Unterm unterm) installs).2 in
       subst (λ q. (phase_of (o.page q) ≡ merged) × (phase_of (f' q) ≡ cleared)) at (ap phase_of h.1, put_phase o.page f' unterm.child (Cleared a h.0 unterm.separator) h.2)
-  moves_between pid from to (reuses b word bits answer step among) = absurd (let e = step.1 in subst (May a (knows a)) (let i : s ≡ ReusePids word bits = cc in i) may)
+  moves_between pid from to (reuses b word bits answer step among) =
+      let e = step.1 in
+      let i : s ≡ ReusePids word bits = cc in
+      let h = subst (λ t. Phased a (shared m) t x o.page f') i ph in
+      let v = (h pid).0 among in
+      (ap phase_of v.3, ap phase_of v.4)
 
   -- the slot of a removed page is emptied only when it is cleared
   pub clears_cleared : (b pid old : ℕ) → Wins m last b pid old 0 link.Clear → phase_of (o.page pid) ≡ cleared
@@ -283,4 +288,9 @@ module _ (m : Memory) {log : List Update} {o : Owners} {knows : ℕ → Knowledg
       go (TakePid q) (Content w) i j h e ph' = absurd (let f = e in cc)
       go (TakePid q) Done i j h e ph' = absurd (let f = e in cc)
       go (TakePid q) Start i j h e ph' = absurd (let f = e in cc)
+      go (ReusePids word bits) y i j h e ph' = by_word (is_among word bits pid) refl
+        where
+          by_word : (z : Bool) → is_among word bits pid ≡ z → Moves m last pid (phase_of (o.page pid)) (phase_of (f' pid)) ⊎ (phase_of (f' pid) ≡ phase_of (o.page pid))
+          by_word true k = let v = (ph' pid).0 k in inl (subst (λ z. Moves m last pid z (phase_of (f' pid))) (sym (ap phase_of v.3)) (subst (λ z. Moves m last pid cleared z) (sym (ap phase_of v.4)) (reuses a word bits y (r, λ d. Step a (i d) (j d) r) k)))
+          by_word false k = inr (ap phase_of ((ph' pid).1 k))
       go t y i j h e ph' = same_phase pid ph'

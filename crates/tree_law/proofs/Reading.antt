@@ -14,14 +14,14 @@ use Rattle.chain_search.specs.Knowledge.{Knowledge, learnt_next, learn_head, lea
 use Rattle.tree_law.specs.Phase.{Stage, Indexed, Merged, PageOwner, Placed, Cleared, rank}
 use Rattle.tree_law.specs.Put.{put}
 use Rattle.tree_law.specs.Shared.{Shared}
-use Rattle.tree_law.specs.Owners.{Linked, Owners, Reached, IsLinked, SeenFits, Spells, IsCleared, HeadFits, OrderFits}
+use Rattle.tree_law.specs.Owners.{Linked, Owners, Reached, ChainNames, IsLinked, SeenFits, Spells, IsCleared, HeadFits, OrderFits}
 use Rattle.tree_law.specs.Tree.{spec, Good}
 use Rattle.tree_law.proofs.Puts.{by_test, put_all}
 use Rattle.tree_law.proofs.Chains.{chain_unique}
 use Rattle.tree_law.proofs.Kept.{reached_placed, placed_reached}
 use Rattle.tree_law.proofs.Sides.{in_level_as, no_gap, right_page}
-use Rattle.tree_law.proofs.Frames.{names_of, name_more}
-use Rattle.tree_law.proofs.Keeping.{spec_leaf, on_or_merged, quiet, mine, alive_place}
+use Rattle.tree_law.proofs.Frames.{name_more}
+use Rattle.tree_law.proofs.Keeping.{spec_leaf, on_or_merged, quiet, mine, alive_place, beyond_place, place_names}
 
 module _ {m : Shared} {log : List Update} {o : Owners} {knows : ℕ → Knowledge} {point : ℕ → Option (List Update)} {logs : ℕ → List (List Update)} (g : Good m log o knows point logs) (a : ℕ) where
   pub reads_root : (r : Option Reply) → Good m log o (put knows a (finished (record (knows a) { roots = put (knows a).roots m.root true }) r)) (put point a (point a)) (put logs a (log ∷ logs a))
@@ -43,16 +43,16 @@ module _ {m : Shared} {log : List Update} {o : Owners} {knows : ℕ → Knowledg
         seen_fits = (mine g a).seen_fits;
         learnt_fits = name_more o (knows a).learnt x s.linked (mine g a).learnt_fits;
         roots_fit = (mine g a).roots_fit;
-        heads_fit = put_all (λ q v. HeadFits o m (log ∷ logs a) q v) (knows a).heads p (Some x) (log, inl refl, s, e, (λ h. inl sx)) (λ q ne. (mine g a).heads_fit q);
+        heads_fit = put_all (λ q v. HeadFits o m (log ∷ logs a) q v) (knows a).heads p (Some x) (log, inl refl, s, e, (λ h. inl sx), (λ nr. place_names g a (record { page = p; row = x; chain = s.chain }) (alive_place g a p (level_in s.chain) (low_in s.chain) e x sx s.chain s.is_chain nr))) (λ q ne. (mine g a).heads_fit q);
         orders_fit = λ q f. by_test q p (λ t. OrderFits o m (log ∷ logs a) q f (cond t (Some x) ((knows a).heads q)) ((cond t (knows a).heads ((knows a).before q)) f))
-            (λ i. subst (λ (n : ℕ). OrderFits o m (log ∷ logs a) n f (Some x) ((knows a).heads f)) (sym i) (order f ((knows a).heads f) ((mine g a).heads_fit f)))
+            (λ i. subst (λ (n : ℕ). OrderFits o m (log ∷ logs a) n f (Some x) ((knows a).heads f)) (sym i) (order f ((knows a).heads f) refl ((mine g a).heads_fit f)))
             (λ i. (mine g a).orders_fit q f);
         linked_fits = (mine g a).linked_fits;
       })
     where
-      order : (f : ℕ) (v : Option ℕ) → HeadFits o m (log ∷ logs a) f v → OrderFits o m (log ∷ logs a) p f (Some x) v
-      order f None h = tt
-      order f (Some z') h = record {
+      order : (f : ℕ) (v : Option ℕ) → (knows a).heads f ≡ v → HeadFits o m (log ∷ logs a) f v → OrderFits o m (log ∷ logs a) p f (Some x) v
+      order f None at h = tt
+      order f (Some z') at h = record {
         above = h.2.linked;
         below = s.linked;
         chain = h.2.chain;
@@ -66,8 +66,13 @@ module _ {m : Shared} {log : List Update} {o : Owners} {knows : ℕ → Knowledg
             let slot : m.slots f ≡ Some z' = ⊎_elim (λ (u : m.slots f ≡ Some z'). u) (λ (u : IsCleared (o.page f)). absurd (let t = sym n.3.placed ∙ ap o.page n.1 ∙ u.3 in cc)) (h.4 (ap is_removed same ∙ rc)) in
             let r = (in_level_as o m (level_in d) (spec log o.index (level_in d)) (g.tree.first (level_in d)) (g.tree.levels (level_in d) (g.tree.exact.below p (level_in d) (low_in d) w.stage w.placed)) f (low_in n.0.chain) n.3.stage (ap o.page (sym n.1) ∙ n.3.placed) n.3.on z' slot c ic).place in
             (log, inl refl, λ k v. r.is_page.same k v ∙ spec_leaf log o.index (level_in d) (sym r.is_page.on_level ∙ z) k);
-        merged = λ c d k q ic id nd i v fd lo hi ne.
-            let n = names_of o m g.closed z' h.2.linked c ic in
+        beyond = λ c d q ic id rc nd i j.
+            let same : s.chain ≡ d = chain_unique m.rows s.chain d (Some x) s.is_chain id in
+            let r = beyond_place g a p x sx d id (subst (λ (d : List Record). Reached 0 (level_in d) (low_in d) (o.page p)) same e) nd f z' i at c ic rc q j in
+            (r.0, r.2, placed_reached (level_in c) r.0 r.1 (o.page q) r.3);
+        merged = λ c d k q ic id nc nd i v fd lo hi ne.
+            let same : h.2.chain ≡ c = chain_unique m.rows h.2.chain c (Some z') h.2.is_chain ic in
+            let n = subst (λ (d : List Record). ChainNames o d) same (h.5 (ap is_removed same ∙ nc)) in
             let r = n.items (level_in d) k (Child q true) i v fd in
             let w = alive_place g a p (level_in s.chain) (low_in s.chain) e x sx d id nd in
             ⊎_elim

@@ -12,13 +12,13 @@ use Rattle.chain_search.specs.Discipline.{HasRead}
 use Rattle.tree_law.specs.Phase.{Stage, Merged, PageOwner, Nobody, Placed, Cleared, rank, stage_removed}
 use Rattle.tree_law.specs.Put.{put}
 use Rattle.tree_law.specs.Shared.{Shared}
-use Rattle.tree_law.specs.Owners.{IsChain, Spare, Linked, Owners, Reached, Forward, ChainNames, IsLinked, OwnFits, PageFits, OwnsPages, HeadFits, LinkFits, Knows}
+use Rattle.tree_law.specs.Owners.{IsChain, Spare, Linked, Owners, Reached, IsLinked, OwnFits, PageFits, OwnsPages, HeadFits, LinkFits, Knows}
 use Rattle.tree_law.specs.Tree.{spec, InPlace, HasPage, IsOff, IsOut, Off, Exact, Good}
 use Rattle.tree_law.proofs.Puts.{by_test, put_same, put_other, put_all}
 use Rattle.tree_law.proofs.Chains.{chain_unique}
 use Rattle.tree_law.proofs.Kept.{Kept, link_kept}
 use Rattle.tree_law.proofs.Sides.{tree_relinked}
-use Rattle.tree_law.proofs.Frames.{RowChange, row_own, row_same, PageChange, page_same, page_stage, page_link, page_clear, Change, kept_change, closed_kept, names_of, read_linked, chain_stands}
+use Rattle.tree_law.proofs.Frames.{RowChange, row_own, row_same, PageChange, page_same, page_stage, page_link, page_clear, Change, kept_change, closed_kept, read_linked, chain_stands}
 use Rattle.tree_law.proofs.Keeping.{put_good, mine, mine_at, alive_place, off_still}
 
 pub placed_level : (st st' : Stage) (l l' : ℕ) (s s' : Key) → Placed st l s ≡ Placed st' l' s' → (l ≡ l') × (s ≡ s')
@@ -33,7 +33,6 @@ pub record Found (o : Owners) (m : Shared) (p x : ℕ) (c : List Record) : Type 
   pub reached : Reached 0 (level_in c) (low_in c) (o.page p)
   pub linked : o.row x ≡ Linked
   pub stands : IsChain m.rows c (Some x)
-  pub names : ChainNames o c
 
 -- a page stays, or goes on, or is cleared
 pub data Moves (a : ℕ) (o : Owners) (m : Shared) (p y : ℕ) (w n : PageOwner) : Type 0 where
@@ -56,7 +55,7 @@ module _ {m : Shared} {log : List Update} {o : Owners} {knows : ℕ → Knowledg
       let stands = chain_stands o m (knows a).seen (mine g a).seen_fits c (Some x) h in
       let linked = read_linked o m (knows a).seen (mine g a).seen_fits c x h in
       let same : f.2.chain ≡ c = chain_unique m.rows f.2.chain c (Some x) f.2.is_chain stands in
-      record { reached = subst (λ (d : List Record). Reached 0 (level_in d) (low_in d) (o.page p)) same f.3; linked = linked; stands = stands; names = names_of o m g.closed x linked c stands }
+      record { reached = subst (λ (d : List Record). Reached 0 (level_in d) (low_in d) (o.page p)) same f.3; linked = linked; stands = stands }
 
   pub found : (p x : ℕ) → (h : HasRead (knows a) p x) → Found o m p x h.chain
   found p x h = found_as p x h.head h.chain h.read
@@ -108,14 +107,13 @@ module _ {m : Shared} {log : List Update} {o : Owners} {knows : ℕ → Knowledg
       → (stage' : Stage) → rank place.stage ≤ rank stage' → rank stage' ≤ 3
       → (page' : ℕ → PageOwner) (index' : ℕ → Key → Option Content) → page' p ≡ Placed stage' (level_in c) (low_in c) → ((q : ℕ) → q ≢ p → Moves a o m p y (o.page q) (page' q)) → Exact page' index' g.tree.top m.root
       → (w : Record) → m.rows y ≡ Some w → IfSome (next_row w) (λ n. o.row n ≡ Linked) → (rest : List Record) → IsChain m.rows rest (next_row w)
-      → (((q : ℕ) → Forward (o.page q) (page' q)) → ChainNames (record { row = put o.row y Linked; page = page'; index = index' }) (w ∷ rest))
       → level_in (w ∷ rest) ≡ level_in c → low_in (w ∷ rest) ≡ low_in c → right_in (w ∷ rest) ≡ right_in c → high_in (w ∷ rest) ≡ high_in c → is_removed (w ∷ rest) ≡ stage_removed stage'
       → (log' : List Update) → ((k : Key) → Covers c k → content_in (w ∷ rest) k ≡ spec log' index' (level_in c) k) → ((l : ℕ) (k : Key) → (l ≡ level_in c → Covers c k → ⊥) → spec log' index' l k ≡ spec log o.index l k)
       → (k : Knowledge) → k.rows ≡ put (knows a).rows y Foreign → (OwnsPages a (record { row = put o.row y Linked; page = page'; index = index' }) (record m { slots = put m.slots p (Some y) }) (knows a).pages → OwnsPages a (record { row = put o.row y Linked; page = page'; index = index' }) (record m { slots = put m.slots p (Some y) }) k.pages)
       → k.seen ≡ (knows a).seen → k.learnt ≡ (knows a).learnt → k.roots ≡ (knows a).roots → k.heads ≡ (knows a).heads → k.before ≡ (knows a).before
       → (ps : Option (List Update)) → LinkFits o m ps k.linked
       → Good (record m { slots = put m.slots p (Some y) }) log' (record { row = put o.row y Linked; page = page'; index = index' }) (put knows a k) (put point a ps) (put logs a (log ∷ logs a))
-  relink_one p x y c f place alive s was stage' le on page' index' here moves exact w wy next rest is_rest names level low right high flagged log' same apart k e0 pages e2 e3 e4 e5 e6 ps link =
+  relink_one p x y c f place alive s was stage' le on page' index' here moves exact w wy next rest is_rest level low right high flagged log' same apart k e0 pages e2 e3 e4 e5 e6 ps link =
       put_good g a m' log' o' k ps (log ∷ logs a)
       change
       (record {
@@ -123,7 +121,7 @@ module _ {m : Shared} {log : List Update} {o : Owners} {knows : ℕ → Knowledg
         page = λ j h. let n = g.frees.page j h in let ne : j ≢ p = (λ i. absurd (let r = sym n.0 ∙ ap o.page i ∙ place.placed in cc)) in (moved_free p y (o.page j) (page' j) (moves j ne) n.0, put_other m.slots p (Some y) j ne ∙ n.1);
       })
       (closed_kept o o' m m' kept g.closed (λ j. by_test j y (λ t. cond t Linked (o.row j) ≡ Linked → (o.row j ≡ Linked) ⊎ IsLinked o' m' j)
-      (λ i l. inr (subst (λ (n : ℕ). IsLinked o' m' n) (sym i) (record { linked = put_same o.row y Linked; content = w; stands = wy; next = nexts (next_row w) next; rest = rest; is_rest = is_rest; names = names kept.page })))
+      (λ i l. inr (subst (λ (n : ℕ). IsLinked o' m' n) (sym i) (record { linked = put_same o.row y Linked; content = w; stands = wy; next = nexts (next_row w) next; rest = rest; is_rest = is_rest })))
       (λ i l. inl l)))
       (tree_relinked o o' m m' log log' g.closed kept g.tree p (level_in c) (low_in c) place.stage place.placed place.on x s c f.stands
       (λ q l n st ne e i. (put_other m.slots p (Some y) q ne, moved_rest p y (o.page q) (page' q) (moves q ne) st l n e i)) refl apart

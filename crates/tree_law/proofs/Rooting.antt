@@ -9,21 +9,19 @@ use Rattle.deltas.specs.declared.record.Record.{Record}
 use Rattle.chain_search.specs.Chains.{level_in, low_in}
 use Rattle.tree_law.specs.Keys.{Key, IsBelow, put_key}
 use Rattle.chain_search.specs.Knowledge.{OwnRow, Foreign, OwnPage, Other, Knowledge, rooted, finished}
-use Rattle.tree_law.specs.Phase.{Stage, Fresh, Indexed, PageOwner, Keeps, Placed, Cleared, rank, stage_removed, child_of, rank_of}
+use Rattle.tree_law.specs.Phase.{Stage, Fresh, Indexed, PageOwner, Keeps, Placed, Cleared, rank, stage_removed}
 use Rattle.tree_law.specs.Put.{put}
 use Rattle.tree_law.specs.Shared.{Shared}
-use Rattle.tree_law.specs.Owners.{Spare, Linked, Owners, Reached, ChainNames, IsLinked, OwnFits, PageFits}
+use Rattle.tree_law.specs.Owners.{Spare, Linked, Owners, Reached, IsLinked, OwnFits, PageFits}
 use Rattle.tree_law.specs.Tree.{spec, Page, HasPage, Level, IsOff, IsOut, Off, Good}
-use Rattle.std.specs.Ordering.{is_eq}
-use Rattle.bw_model.specs.Bytes.{key_cmp}
 use Rattle.chain_search.specs.Discipline.{MayRoot, root_over}
-use Rattle.tree_law.proofs.KeyOrder.{not_self, by_key}
+use Rattle.tree_law.proofs.KeyOrder.{not_self}
 use Rattle.tree_law.proofs.Puts.{by_test, put_same, put_other, put_all}
 use Rattle.tree_law.proofs.Kept.{Kept, reached_placed}
 use Rattle.tree_law.proofs.Sides.{level_kept}
 use Rattle.tree_law.proofs.Terms.{exact_root}
 use Rattle.tree_law.proofs.Frames.{RowChange, row_own, row_same, PageChange, page_own, page_same, page_stage, Change, kept_change, closed_kept}
-use Rattle.tree_law.proofs.Keeping.{put_good, mine_at, off_still}
+use Rattle.tree_law.proofs.Keeping.{read_names, put_good, mine_at, off_still}
 use Rattle.tree_law.proofs.Relinking.{placed_level, not_off, Found, Moves, stay, go, moved_own, found}
 use Rattle.tree_law.proofs.Splitting.{keeps_not}
 
@@ -39,7 +37,7 @@ module _ {m : Shared} {log : List Update} {o : Owners} {knows : ℕ → Knowledg
           page = λ j n. let v = g.frees.page j n in (put_other (put o.page b old) y new j (λ i. absurd (let w = ap o.page i ∙ ready.0 in let z = v.0 in cc)) ∙ put_other o.page b old j (λ i. absurd (let w = sym v.0 ∙ ap o.page i ∙ was in cc)) ∙ v.0, v.1);
         })
         (closed_kept o o' m m' kept g.closed (λ j. by_test j h.base_row (λ t. cond t Linked (o.row j) ≡ Linked → (o.row j ≡ Linked) ⊎ IsLinked o' m' j)
-        (λ i l. inr (subst (λ (n : ℕ). IsLinked o' m' n) (sym i) (record { linked = put_same o.row h.base_row Linked; content = base; stands = base_stands; next = tt; rest = []; is_rest = refl; names = names })))
+        (λ i l. inr (subst (λ (n : ℕ). IsLinked o' m' n) (sym i) (record { linked = put_same o.row h.base_row Linked; content = base; stands = base_stands; next = tt; rest = []; is_rest = refl })))
         (λ i l. inl l)))
         (record {
           top = suc top;
@@ -76,7 +74,7 @@ module _ {m : Shared} {log : List Update} {o : Owners} {knows : ℕ → Knowledg
       level = sym (subst (λ (v : PageOwner). Reached 0 (level_in c) (low_in c) v) (ap o.page (sym s) ∙ g.tree.exact.is_root) f.reached).0
 
       right : (st : Stage) × (o.page b ≡ Placed st top h.separator) × (0 ≤ rank st)
-      right = let i = f.names.right b h.is_right in
+      right = let i = (read_names g a x h.row h.basis).right b h.is_right in
           let j : i.0 ≡ h.separator = same_Some i.0 h.separator (sym i.1 ∙ h.is_high) in
           ⊎_elim (λ (u : (st : Stage) × (o.page b ≡ Placed st top h.separator) × (0 ≤ rank st)). u) (λ (u : (d : ℕ) × (o.page b ≡ Cleared d top h.separator)). absurd (let z = g.tree.exact.gone b u.0 top h.separator u.1 in omega arith))
           (reached_placed 0 top h.separator (o.page b) (subst (λ (n : ℕ). Reached 0 n h.separator (o.page b)) level (subst (λ (n : Key). Reached 0 (level_in c) n (o.page b)) j i.2)))
@@ -177,16 +175,6 @@ module _ {m : Shared} {log : List Update} {o : Owners} {knows : ℕ → Knowledg
 
       at_level : (l : ℕ) → suc (level_in c) ≡ suc l → top ≡ l
       at_level l e = let z = level in omega arith
-
-      names : ChainNames o' (base ∷ [])
-      names = record {
-        right = λ q e. absurd (cc);
-        items = λ l k i e v. by_key k [] (λ t. cond t (Some (Child x false)) (cond {A = Option Content} (is_eq (key_cmp k h.separator)) (Some (Child b false)) None) ≡ Some i → Reached (rank_of i) l k (o'.page (child_of i)))
-            (λ u d. subst (λ (w : Content). Reached (rank_of w) l k (o'.page (child_of w))) (same_Some (Child x false) i d) (rw at_x (at_level l e, sym u, (omega arith))))
-            (λ u. by_key k h.separator (λ t. cond {A = Option Content} t (Some (Child b false)) None ≡ Some i → Reached (rank_of i) l k (o'.page (child_of i)))
-            (λ u d. subst (λ (w : Content). Reached (rank_of w) l k (o'.page (child_of w))) (same_Some (Child b false) i d) (rw at_b (at_level l e, sym u, (omega arith))))
-            (λ u d. absurd (cc)));
-      }
 
       learned : rooted ((knows a).pages y) y (knows a) ≡ record (knows a) { rows = put (knows a).rows h.base_row Foreign; pages = put (knows a).pages y Other }
       learned = rw h.ready refl

@@ -7,7 +7,7 @@ use Rattle.bw_model.specs.declared.command.Reply.{Reply}
 use Rattle.bw_model.specs.declared.limits.Limits.{Limits}
 use Rattle.bw_model.specs.declared.step.Answer.{Answer}
 use Rattle.bw_model.specs.declared.step.Step.{Step as StepOf}
-use Rattle.bw_model.specs.declared.step.Step.TheVariants.{Slot, Row, PidBits, RowBits, Exchange, TakePid, TakeRow, Leave}
+use Rattle.bw_model.specs.declared.step.Step.TheVariants.{Slot, Row, Epoch, Announce, PidBits, RowBits, Exchange, TakePid, TakeRow, Leave}
 use Rattle.bw_model.specs.declared.step.Answer.TheVariants.{Number, Content, Whether}
 use Rattle.deltas.specs.declared.record.Record.{Record}
 use Rattle.deltas.specs.Records.{next_row}
@@ -48,6 +48,8 @@ heads_cases k (Row q) (Content v) page row e = inr (
   λ r w. by_test r q (λ t. cond t (Some v) (k.recent r) ≡ Some w → (k.recent r ≡ Some w) ⊎ Is (Row q) (Content v) (Row r) (Content w))
       (λ i f. inr (ap Row (sym i), ap Content (same_Some v w f))) (λ ne f. inl f),
 )
+heads_cases k Epoch (Number n) page row e = inr (e, λ r w f. inl f)
+heads_cases k (Announce b) (Number n) page row e = inr (e, λ r w f. inl f)
 heads_cases k (PidBits w) (Number n) page row e = inr (e, λ r w f. inl f)
 heads_cases k (RowBits w) (Number n) page row e = inr (e, λ r w f. inl f)
 heads_cases k (TakePid q) (Whether true) page row e = inr (e, λ r w f. inl f)
@@ -65,6 +67,8 @@ pids_cases : (k : Knowledge) (s : StepOf Record) (x : Answer Record) (word : ℕ
 pids_cases k (PidBits v) (Number zero) word e = by_test word v (λ t. cond t true (k.no_pids word) ≡ true → (k.no_pids word ≡ true) ⊎ Is (PidBits v) (Number 0) (PidBits word) (Number 0))
     (λ i f. inr (ap PidBits (sym i), refl)) (λ ne f. inl f) e
 pids_cases k (PidBits v) (Number (suc n)) word e = inl e
+pids_cases k Epoch (Number n) word e = inl e
+pids_cases k (Announce b) (Number n) word e = inl e
 pids_cases k (Slot zero) (Number n) word e = inl e
 pids_cases k (Slot (suc p)) (Number zero) word e = inl e
 pids_cases k (Slot (suc p)) (Number (suc n)) word e = inl e
@@ -82,6 +86,8 @@ rows_cases : (k : Knowledge) (s : StepOf Record) (x : Answer Record) (word : ℕ
 rows_cases k (RowBits v) (Number zero) word e = by_test word v (λ t. cond t true (k.no_rows word) ≡ true → (k.no_rows word ≡ true) ⊎ Is (RowBits v) (Number 0) (RowBits word) (Number 0))
     (λ i f. inr (ap RowBits (sym i), refl)) (λ ne f. inl f) e
 rows_cases k (RowBits v) (Number (suc n)) word e = inl e
+rows_cases k Epoch (Number n) word e = inl e
+rows_cases k (Announce b) (Number n) word e = inl e
 rows_cases k (Slot zero) (Number n) word e = inl e
 rows_cases k (Slot (suc p)) (Number zero) word e = inl e
 rows_cases k (Slot (suc p)) (Number (suc n)) word e = inl e

@@ -16,7 +16,7 @@ use Rattle.chain_search.specs.Steps.{IsAnswer, memory_after}
 use Rattle.chain_search.specs.Discipline.{IsOwn, IsOwnBase, HasRead, MayLink, MayExchange, May}
 use Rattle.tree_law.specs.Keys.{Key}
 use Rattle.chain_search.specs.Knowledge.{OwnRow, Foreign, Taken, Written, OwnPage, Other, Empty, Ready, Gone, Knowledge, split_off, linked_over, filled, emptied, rooted, exchanged, learn, finished}
-use Rattle.tree_law.specs.Next.{IsMoved}
+use Rattle.tree_law.specs.Next.{IsReuse, IsMoved}
 use Rattle.tree_law.specs.Owners.{Spare, Linked, Owners, OwnFits, Reached, HeadFits}
 use Rattle.tree_law.specs.Phase.{Stage, Fresh, Indexed, Held, Removed, Merged, PageOwner, Nobody, Keeps, Placed, Cleared}
 use Rattle.tree_law.specs.Phases.{Links, Phased}
@@ -187,18 +187,18 @@ module _ (m : Memory) {log : List Update} {o : Owners} {knows : ℕ → Knowledg
       k : Knowledge
       k = finished (filled Empty (suc n) zero (suc y) (knows a)) r
 
-  emptied_ready : (v : OwnPage) (n p q : ℕ) → p ≢ n → (knows a).pages p ≡ Ready q → (emptied v n (knows a)).pages p ≡ Ready q
-  emptied_ready (Ready base) n p q ne e = with_other Empty n p q ne e
-  emptied_ready Other n p q ne e = e
-  emptied_ready Empty n p q ne e = e
-  emptied_ready Gone n p q ne e = e
+  emptied_ready : (v : OwnPage) (n x p q : ℕ) → p ≢ n → (knows a).pages p ≡ Ready q → (emptied v n x (knows a)).pages p ≡ Ready q
+  emptied_ready (Ready base) n x p q ne e = with_other Empty n p q ne e
+  emptied_ready Other n x p q ne e = e
+  emptied_ready Empty n x p q ne e = e
+  emptied_ready Gone n x p q ne e = with_other Other n p q ne e
 
   empties : (n x : ℕ) (r : Option Reply) (m' : Memory) → m'.rows ≡ m.rows → o'.page ≡ o.page → (p q : ℕ) → put (slot_in m.slots) (suc n) None p ≡ Some q → IsInTree (o'.page p) ⊎ IsReady o' m' (put knows a (finished (exchanged (suc n) (suc x) zero (knows a)) r)) p q
   empties n x r m' rows same p q e = by_test p (suc n) (λ t. cond t None (slot_in m.slots p) ≡ Some q → IsInTree (o'.page p) ⊎ IsReady o' m' (put knows a (finished (exchanged (suc n) (suc x) zero (knows a)) r)) p q)
       (λ i f. absurd (cc))
       (λ ne f. elim (held p q f) [
         | inl h ↦ inl (subst (λ (f : ℕ → PageOwner). IsInTree (f p)) (sym same) h)
-        | inr h ↦ inr (ready_after m' (finished (exchanged (suc n) (suc x) zero (knows a)) r) p q h (λ j. ap (λ f. f q) rows) (λ j. emptied_ready ((knows a).pages (suc n)) (suc n) p q ne (subst (λ z. (knows z).pages p ≡ Ready q) j h.ready)))
+        | inr h ↦ inr (ready_after m' (finished (exchanged (suc n) (suc x) zero (knows a)) r) p q h (λ j. ap (λ f. f q) rows) (λ j. emptied_ready ((knows a).pages (suc n)) (suc n) (suc x) p q ne (subst (λ z. (knows z).pages p ≡ Ready q) j h.ready)))
       ]) e
 
   rooted_ready : (v : OwnPage) (n p q : ℕ) → p ≢ n → (knows a).pages p ≡ Ready q → (rooted v n (knows a)).pages p ≡ Ready q
@@ -252,56 +252,56 @@ module _ (m : Memory) {log : List Update} {o : Owners} {knows : ℕ → Knowledg
       spare = own_spare g a n ((knows a).rows n) (g.owns a n) own
 
   -- after an allowed step
-  pub held_after : (s : StepOf Record) (x : Answer Record) (r : Option Reply) → May a (knows a) s → IsAnswer m s x → Phased a (shared m) s x o.page o'.page → Holds (memory_after a s m) (finished (learn (knows a) s x) r)
-  held_after (Slot zero) (Number n) r may is ph = still m (finished (learn (knows a) (Slot zero) (Number n)) r) refl ph refl
-  held_after (Slot (suc p)) (Number zero) r may is ph = still m (finished (learn (knows a) (Slot (suc p)) (Number zero)) r) refl ph refl
-  held_after (Slot (suc p)) (Number (suc n)) r may is ph = still m (finished (learn (knows a) (Slot (suc p)) (Number (suc n))) r) refl ph refl
-  held_after (Row q) (Content w) r may is ph = still m (finished (learn (knows a) (Row q) (Content w)) r) refl ph refl
-  held_after (PidBits w) (Number n) r may is ph = still m (finished (learn (knows a) (PidBits w) (Number n)) r) refl ph refl
-  held_after (RowBits w) (Number n) r may is ph = still m (finished (learn (knows a) (RowBits w) (Number n)) r) refl ph refl
-  held_after (TakePid n) (Whether true) r may is ph = takes n r (let e = is in cc) ph
-  held_after (TakePid n) (Whether false) r may is ph = still (memory_after a (TakePid n) m) (finished (learn (knows a) (TakePid n) (Whether false)) r) refl ph refl
-  held_after (TakeRow n) (Whether true) r may is ph = still (memory_after a (TakeRow n) m) (finished (learn (knows a) (TakeRow n) (Whether true)) r) refl ph refl
-  held_after (TakeRow n) (Whether false) r may is ph = still (memory_after a (TakeRow n) m) (finished (learn (knows a) (TakeRow n) (Whether false)) r) refl ph refl
-  held_after (Place n w) x r may is ph = places n w x r may.1 may.2 ph
-  held_after (Exchange p x y) (Whether true) r may is ph =
+  pub held_after : (s : StepOf Record) → (IsReuse s → ⊥) → (x : Answer Record) (r : Option Reply) → May a (knows a) s → IsAnswer m s x → Phased a (shared m) s x o.page o'.page → Holds (memory_after a s m) (finished (learn (knows a) s x) r)
+  held_after (Slot zero) still_so (Number n) r may is ph = still m (finished (learn (knows a) (Slot zero) (Number n)) r) refl ph refl
+  held_after (Slot (suc p)) still_so (Number zero) r may is ph = still m (finished (learn (knows a) (Slot (suc p)) (Number zero)) r) refl ph refl
+  held_after (Slot (suc p)) still_so (Number (suc n)) r may is ph = still m (finished (learn (knows a) (Slot (suc p)) (Number (suc n))) r) refl ph refl
+  held_after (Row q) still_so (Content w) r may is ph = still m (finished (learn (knows a) (Row q) (Content w)) r) refl ph refl
+  held_after (PidBits w) still_so (Number n) r may is ph = still m (finished (learn (knows a) (PidBits w) (Number n)) r) refl ph refl
+  held_after (RowBits w) still_so (Number n) r may is ph = still m (finished (learn (knows a) (RowBits w) (Number n)) r) refl ph refl
+  held_after (TakePid n) still_so (Whether true) r may is ph = takes n r (let e = is in cc) ph
+  held_after (TakePid n) still_so (Whether false) r may is ph = still (memory_after a (TakePid n) m) (finished (learn (knows a) (TakePid n) (Whether false)) r) refl ph refl
+  held_after (TakeRow n) still_so (Whether true) r may is ph = still (memory_after a (TakeRow n) m) (finished (learn (knows a) (TakeRow n) (Whether true)) r) refl ph refl
+  held_after (TakeRow n) still_so (Whether false) r may is ph = still (memory_after a (TakeRow n) m) (finished (learn (knows a) (TakeRow n) (Whether false)) r) refl ph refl
+  held_after (Place n w) still_so x r may is ph = places n w x r may.1 may.2 ph
+  held_after (Exchange p x y) still_so (Whether true) r may is ph =
       let won : eqb (m.slots p) x ≡ true = let e = is in cc in
       subst (λ (t : Bool). Holds (record m { slots = cond t (replaced_at p y m.slots) m.slots }) (finished (exchanged p x y (knows a)) r)) (sym won) (exchange_won p x y r may.1 ph)
-  held_after (Exchange p x y) (Whether false) r may is ph =
+  held_after (Exchange p x y) still_so (Whether false) r may is ph =
       let lost : eqb (m.slots p) x ≡ false = let e = is in cc in
       subst (λ (t : Bool). Holds (record m { slots = cond t (replaced_at p y m.slots) m.slots }) (finished (knows a) r)) (sym lost) (still m (finished (knows a) r) refl ph refl)
-  held_after (Exchange p x y) (Number n) r may is ph = absurd (let e = is in cc)
-  held_after (Exchange p x y) (Content w) r may is ph = absurd (let e = is in cc)
-  held_after (Exchange p x y) Done r may is ph = absurd (let e = is in cc)
-  held_after (Retire e) x r may is ph = absurd may
-  held_after (ReusePids w b) x r may is ph = absurd may
-  held_after (ReuseRows w b) x r may is ph = absurd may
-  held_after (Slot p) (Content w) r may is ph = absurd (let e = is in cc)
-  held_after (Slot p) (Whether b) r may is ph = absurd (let e = is in cc)
-  held_after (Slot p) Done r may is ph = absurd (let e = is in cc)
-  held_after (TakePid q) (Number n) r may is ph = absurd (let e = is in cc)
-  held_after (TakePid q) (Content w) r may is ph = absurd (let e = is in cc)
-  held_after (TakePid q) Done r may is ph = absurd (let e = is in cc)
-  held_after (TakeRow q) (Number n) r may is ph = absurd (let e = is in cc)
-  held_after (TakeRow q) (Content w) r may is ph = absurd (let e = is in cc)
-  held_after (TakeRow q) Done r may is ph = absurd (let e = is in cc)
-  held_after (PidBits v) (Content w) r may is ph = absurd (let e = is.2 in cc)
-  held_after (PidBits v) (Whether b) r may is ph = absurd (let e = is.2 in cc)
-  held_after (PidBits v) Done r may is ph = absurd (let e = is.2 in cc)
-  held_after (RowBits v) (Content w) r may is ph = absurd (let e = is.2 in cc)
-  held_after (RowBits v) (Whether b) r may is ph = absurd (let e = is.2 in cc)
-  held_after (RowBits v) Done r may is ph = absurd (let e = is.2 in cc)
-  held_after (Row q) (Number n) r may is ph = absurd (let e = is.2 in cc)
-  held_after (Row q) (Whether b) r may is ph = absurd (let e = is.2 in cc)
-  held_after (Row q) Done r may is ph = absurd (let e = is.2 in cc)
-  held_after Epoch x r may is ph = still (memory_after a Epoch m) (finished (learn (knows a) Epoch x) r) refl ph refl
-  held_after (Announce b) x r may is ph = still (memory_after a (Announce b) m) (finished (learn (knows a) (Announce b) x) r) refl ph refl
-  held_after (Enter e) x r may is ph = still (memory_after a (Enter e) m) (finished (learn (knows a) (Enter e) x) r) refl ph refl
-  held_after Leave x r may is ph = still (memory_after a Leave m) (finished (learn (knows a) Leave x) r) refl ph refl
-  held_after (Slot p) Start r may is ph = absurd (let e = is in cc)
-  held_after (Exchange p x y) Start r may is ph = absurd (let e = is in cc)
-  held_after (TakePid n) Start r may is ph = absurd (let e = is in cc)
-  held_after (TakeRow n) Start r may is ph = absurd (let e = is in cc)
-  held_after (Row q) Start r may is ph = absurd (let e = is.2 in cc)
-  held_after (PidBits v) Start r may is ph = absurd (let e = is.2 in cc)
-  held_after (RowBits v) Start r may is ph = absurd (let e = is.2 in cc)
+  held_after (Exchange p x y) still_so (Number n) r may is ph = absurd (let e = is in cc)
+  held_after (Exchange p x y) still_so (Content w) r may is ph = absurd (let e = is in cc)
+  held_after (Exchange p x y) still_so Done r may is ph = absurd (let e = is in cc)
+  held_after (Retire e) still_so x r may is ph = still (memory_after a (Retire e) m) (finished (learn (knows a) (Retire e) x) r) refl ph refl
+  held_after (ReusePids w b) still_so x r may is ph = absurd (still_so tt)
+  held_after (ReuseRows w b) still_so x r may is ph = absurd (still_so tt)
+  held_after (Slot p) still_so (Content w) r may is ph = absurd (let e = is in cc)
+  held_after (Slot p) still_so (Whether b) r may is ph = absurd (let e = is in cc)
+  held_after (Slot p) still_so Done r may is ph = absurd (let e = is in cc)
+  held_after (TakePid q) still_so (Number n) r may is ph = absurd (let e = is in cc)
+  held_after (TakePid q) still_so (Content w) r may is ph = absurd (let e = is in cc)
+  held_after (TakePid q) still_so Done r may is ph = absurd (let e = is in cc)
+  held_after (TakeRow q) still_so (Number n) r may is ph = absurd (let e = is in cc)
+  held_after (TakeRow q) still_so (Content w) r may is ph = absurd (let e = is in cc)
+  held_after (TakeRow q) still_so Done r may is ph = absurd (let e = is in cc)
+  held_after (PidBits v) still_so (Content w) r may is ph = absurd (let e = is.2 in cc)
+  held_after (PidBits v) still_so (Whether b) r may is ph = absurd (let e = is.2 in cc)
+  held_after (PidBits v) still_so Done r may is ph = absurd (let e = is.2 in cc)
+  held_after (RowBits v) still_so (Content w) r may is ph = absurd (let e = is.2 in cc)
+  held_after (RowBits v) still_so (Whether b) r may is ph = absurd (let e = is.2 in cc)
+  held_after (RowBits v) still_so Done r may is ph = absurd (let e = is.2 in cc)
+  held_after (Row q) still_so (Number n) r may is ph = absurd (let e = is.2 in cc)
+  held_after (Row q) still_so (Whether b) r may is ph = absurd (let e = is.2 in cc)
+  held_after (Row q) still_so Done r may is ph = absurd (let e = is.2 in cc)
+  held_after Epoch still_so x r may is ph = subst (λ (y : Answer Record). Holds (memory_after a Epoch m) (finished (learn (knows a) Epoch y) r)) (sym is) (still (memory_after a Epoch m) (finished (learn (knows a) Epoch (Number m.epoch)) r) refl ph refl)
+  held_after (Announce b) still_so x r may is ph = subst (λ (y : Answer Record). Holds (memory_after a (Announce b) m) (finished (learn (knows a) (Announce b) y) r)) (sym is) (still (memory_after a (Announce b) m) (finished (learn (knows a) (Announce b) (Number (m.announced b))) r) refl ph refl)
+  held_after (Enter e) still_so x r may is ph = still (memory_after a (Enter e) m) (finished (learn (knows a) (Enter e) x) r) refl ph refl
+  held_after Leave still_so x r may is ph = still (memory_after a Leave m) (finished (learn (knows a) Leave x) r) refl ph refl
+  held_after (Slot p) still_so Start r may is ph = absurd (let e = is in cc)
+  held_after (Exchange p x y) still_so Start r may is ph = absurd (let e = is in cc)
+  held_after (TakePid n) still_so Start r may is ph = absurd (let e = is in cc)
+  held_after (TakeRow n) still_so Start r may is ph = absurd (let e = is in cc)
+  held_after (Row q) still_so Start r may is ph = absurd (let e = is.2 in cc)
+  held_after (PidBits v) still_so Start r may is ph = absurd (let e = is.2 in cc)
+  held_after (RowBits v) still_so Start r may is ph = absurd (let e = is.2 in cc)

@@ -1,6 +1,5 @@
 -- The exchange that links a split: the new page comes between the old one and its right.
 use Rattle.std.proofs.Common.{◌≡◌, ◌≢◌, ◌⊎◌, inl, inr, ℕ, ◌≤◌, List, [], ◌∷◌, Option, Some, None, cond, refl, sym, ap, ◌∙◌, subst, arith}
-use Rattle.std.proofs.lemmas.Option.{same_Some}
 use Rattle.bw_model.specs.declared.command.Reply.{Reply}
 use Rattle.bw_model.specs.Log.{Update}
 use Rattle.deltas.specs.declared.record.Record.{Record}
@@ -8,17 +7,17 @@ use Rattle.deltas.specs.declared.record.Record.TheVariants.{Split}
 use Rattle.chain_search.specs.Chains.{content_in, level_in, low_in, high_in}
 use Rattle.tree_law.specs.Keys.{Key, IsBelow, Covers}
 use Rattle.chain_search.specs.Knowledge.{OwnRow, Foreign, OwnPage, Other, Knowledge, filled, finished}
-use Rattle.tree_law.specs.Phase.{Stage, Fresh, PageOwner, Nobody, Keeps, Placed, rank, child_of, rank_of}
+use Rattle.tree_law.specs.Phase.{Stage, Fresh, PageOwner, Nobody, Keeps, Placed, rank}
 use Rattle.tree_law.specs.Put.{put}
 use Rattle.tree_law.specs.Shared.{Shared}
-use Rattle.tree_law.specs.Owners.{Free, Spare, Linked, Owners, Reached, ChainNames, IsLinked, OwnFits, PageFits}
+use Rattle.tree_law.specs.Owners.{Free, Spare, Linked, Owners, IsLinked, OwnFits, PageFits}
 use Rattle.tree_law.specs.Tree.{spec, InPlace, HasPage, IsOff, IsOut, Off, Good}
 use Rattle.std.specs.Prelude.{not}
 use Rattle.deltas.specs.declared.record.Split.{Split as SplitOf}
 use Rattle.chain_search.specs.Discipline.{MaySplit, base_from}
 use Rattle.tree_law.proofs.KeyOrder.{under_trans, upto_trans, below_not, covers_to}
 use Rattle.tree_law.proofs.Puts.{by_test, put_same, put_other}
-use Rattle.tree_law.proofs.Kept.{Kept, placed_reached}
+use Rattle.tree_law.proofs.Kept.{Kept}
 use Rattle.tree_law.proofs.Sides.{tree_relinked}
 use Rattle.tree_law.proofs.Terms.{exact_fresh}
 use Rattle.tree_law.proofs.Frames.{RowChange, row_own, row_same, PageChange, page_own, page_same, page_link, Change, kept_change, closed_kept}
@@ -46,9 +45,9 @@ module _ {m : Shared} {log : List Update} {o : Owners} {knows : ℕ → Knowledg
               (λ i. ((g.frees.page j n).0, put_other m.slots p (Some y) j (λ i. absurd (let v = sym (g.frees.page j n).0 ∙ ap o.page i ∙ place.placed in cc)) ∙ (g.frees.page j n).1));
         })
         (closed_kept o o' m m' kept g.closed (λ j. by_test j y (λ t. cond t Linked (put o.row h.row Linked j) ≡ Linked → (o.row j ≡ Linked) ⊎ IsLinked o' m' j)
-        (λ i l. inr (subst (λ (n : ℕ). IsLinked o' m' n) (sym i) (record { linked = put_same (put o.row h.row Linked) y Linked; content = Split split; stands = upper.1; next = (kept.row x f.linked).0; rest = c; is_rest = f.stands; names = upper_names })))
+        (λ i l. inr (subst (λ (n : ℕ). IsLinked o' m' n) (sym i) (record { linked = put_same (put o.row h.row Linked) y Linked; content = Split split; stands = upper.1; next = (kept.row x f.linked).0; rest = c; is_rest = f.stands })))
         (λ i. by_test j h.row (λ t. cond t Linked (o.row j) ≡ Linked → (o.row j ≡ Linked) ⊎ IsLinked o' m' j)
-        (λ i l. inr (subst (λ (n : ℕ). IsLinked o' m' n) (sym i) (record { linked = linked_lower; content = base; stands = lower.1; next = tt; rest = []; is_rest = refl; names = lower_names })))
+        (λ i l. inr (subst (λ (n : ℕ). IsLinked o' m' n) (sym i) (record { linked = linked_lower; content = base; stands = lower.1; next = tt; rest = []; is_rest = refl })))
         (λ i l. inl l))))
         (tree_relinked o o' m m' log log g.closed kept g.tree p (level_in c) (low_in c) place.stage place.placed place.on x s c f.stands (λ q l n st ne e on. (put_other m.slots p (Some y) q ne, (st, put_other o.page h.right (Placed Fresh (level_in c) h.separator) q (λ j. keeps_not h.right ready.0 l n st (sym (ap o.page j) ∙ e)) ∙ e, on, refl))) refl (λ l k n. refl)
         (record { page = p; row = y; chain = Split split ∷ c } ∷ record { page = h.right; row = h.row; chain = base ∷ [] } ∷ []) (
@@ -154,18 +153,6 @@ module _ {m : Shared} {log : List Update} {o : Owners} {knows : ℕ → Knowledg
 
       kept : Kept o o' m m'
       kept = kept_change a o o' m m' change
-
-      upper_names : ChainNames o' (Split split ∷ c)
-      upper_names = record {
-        right = λ q e. (h.separator, refl, subst (λ (n : ℕ). Reached 0 (level_in c) h.separator (o'.page n)) (same_Some h.right q e) (placed_reached (level_in c) h.separator Fresh (o'.page h.right) (put_same o.page h.right (Placed Fresh (level_in c) h.separator))));
-        items = λ l k i e v d. kept.page (child_of i) (rank_of i) l k (f.names.items l k i e (record { low = v.low; high = under_trans k h.separator (high_in c) v.high h.below }) (sym (split_below split c k v.high) ∙ d));
-      }
-
-      lower_names : ChainNames o' (base ∷ [])
-      lower_names = record {
-        right = λ q e. let i = f.names.right q e in (i.0, i.1, kept.page q 0 (level_in c) i.0 i.2);
-        items = λ l k i e v d. kept.page (child_of i) (rank_of i) l k (f.names.items l k i e (wider k v) (sym (h.alike k (covers_to c k (wider k v)) v.low) ∙ d));
-      }
 
       learned : filled ((knows a).pages p) p x y (knows a) ≡ record (knows a) { rows = put (put (knows a).rows h.row Foreign) y Foreign; pages = put (knows a).pages h.right Other }
       learned = rw (not_own g a p (level_in c) (low_in c) place.stage place.placed ((knows a).pages p) (g.owns_pages a p), h.placed, h.ready) refl

@@ -1,6 +1,6 @@
 -- Each allowed step with the memory's answer keeps the invariant.
 use Rattle.std.proofs.Common.{◌≡◌, ◌⊎◌, inl, inr, ℕ, zero, suc, List, [], ◌∷◌, Option, Some, None, Bool, true, false, cond, eqb, refl, sym, ap, ◌∙◌, subst, ⊎_elim}
-use Rattle.std.specs.Prelude.{IsTrue}
+use Rattle.std.specs.Prelude.{IsTrue, IfSome}
 use Rattle.std.proofs.lemmas.Option.{same_Some}
 use Rattle.bw_model.specs.declared.command.Reply.{Reply}
 use Rattle.bw_model.specs.declared.step.Step.{Step as StepOf}
@@ -27,7 +27,7 @@ use Rattle.tree_law.specs.Shared.{Shared, row_in, slot_in, shared}
 use Rattle.tree_law.specs.Owners.{Spare, Linked, Owners, OwnFits, PageFits, Reached, Spells}
 use Rattle.tree_law.specs.Tree.{Good}
 use Rattle.tree_law.specs.Fitness.{IsAdded}
-use Rattle.tree_law.specs.Next.{IsMoved, Next}
+use Rattle.tree_law.specs.Next.{IsReuse, IsMoved, IsHomed, Next}
 use Rattle.tree_law.proofs.Frames.{read_linked, chain_stands}
 use Rattle.tree_law.proofs.Puts.{by_test, put_other}
 use Rattle.tree_law.proofs.Keeping.{idles, enters, leaves, slot_of, met_placed}
@@ -113,12 +113,16 @@ module _ (memory : Memory) {log : List Update} {o : Owners} {knows : ℕ → Kno
   linked_added : (y : ℕ) → IsAdded o memory.rows y → (row : ℕ) → put o.row y Linked row ≡ Linked → (o.row row ≡ Linked) ⊎ IsAdded o memory.rows row
   linked_added y h row l = by_test row y (λ t. cond t Linked (o.row row) ≡ Linked → (o.row row ≡ Linked) ⊎ IsAdded o memory.rows row) (λ e i. inr (subst (IsAdded o memory.rows) (sym e) h)) (λ ne i. inl i) l
 
+  -- the new row of a slot is linked
+  linked_homed : (p x y : ℕ) (w : Record) → (knows a).rows (suc y) ≡ Written w → IfSome (next_row w) (λ n. n ≡ x) → (row : ℕ) → put o.row (suc y) Linked row ≡ Linked → (o.row row ≡ Linked) ⊎ IsHomed (shared memory) (Exchange (suc p) x (suc y)) (Whether true) row
+  linked_homed p x y w placed next row l = by_test row (suc y) (λ t. cond t Linked (o.row row) ≡ Linked → (o.row row ≡ Linked) ⊎ IsHomed (shared memory) (Exchange (suc p) x (suc y)) (Whether true) row) (λ e i. inr (inl (w, e, ap memory.rows e ∙ placed_row g a (suc y) w placed, next))) (λ ne i. inl i) l
+
   -- a row that was the actor's own is linked
   linked_rows : (y : ℕ) (row : ℕ) → o.row row ≡ Linked → (put o.row y Linked row ≡ Linked) × (memory.rows row ≡ memory.rows row)
   linked_rows y row l = (by_test row y (λ t. cond t Linked (o.row row) ≡ Linked) (λ e. refl) (λ ne. l), refl)
 
   reads : (p n : ℕ) (r : Option Reply) → memory.slots (suc p) ≡ n → IsTrue ((knows a).roots (suc p)) ⊎ IsMet (knows a) (suc p) → After memory (Slot (suc p)) (Number n) r
-  reads p zero r e met = record { update = None; due = tt; last = λ i. refl; owners = o; phased = refl; moved = same_moved; added = same_added; kept = same_rows; good = idles g a (finished (knows a) r) refl refl refl refl refl refl refl refl }
+  reads p zero r e met = record { update = None; due = tt; last = λ i. refl; owners = o; phased = refl; moved = same_moved; added = same_added; homed = λ row l. inl l; kept = same_rows; good = idles g a (finished (knows a) r) refl refl refl refl refl refl refl refl }
   reads p (suc n) r e met =
       let here = met_placed g a (suc p) met in
       let held : slot_in memory.slots (suc p) ≡ Some (suc n) = ap row_in e in
@@ -133,6 +137,7 @@ module _ (memory : Memory) {log : List Update} {o : Owners} {knows : ℕ → Kno
         phased = refl;
         moved = same_moved;
         added = same_added;
+        homed = λ row l. inl l;
         kept = same_rows;
         good = subst (λ (v : ℕ). Good (shared memory) log o (put knows a (finished (learn_head (suc p) v (knows a)) r)) (put point a (point a)) (put logs a (log ∷ logs a)))
             (same_Some u.0 (suc n) (sym u.1 ∙ held))
@@ -149,6 +154,7 @@ module _ (memory : Memory) {log : List Update} {o : Owners} {knows : ℕ → Kno
     phased = refl;
     moved = λ row. by_test row q (λ t. IsMoved a (memory.free_rows row) (o.row row) (cond t (Spare a) (o.row row))) (λ i. inr (inl (ap memory.free_rows i ∙ e, ap o.row i ∙ g.frees.row q e, refl))) (λ ne. inl refl);
     added = λ row. by_test row q (λ t. cond t (Spare a) (o.row row) ≡ Linked → (o.row row ≡ Linked) ⊎ IsAdded o memory.rows row) (λ i l. absurd (cc)) (λ ne l. inl l);
+    homed = λ row. by_test row q (λ t. cond t (Spare a) (o.row row) ≡ Linked → (o.row row ≡ Linked) ⊎ IsHomed (shared memory) (TakeRow q) (Whether true) row) (λ i l. absurd (cc)) (λ ne l. inl l);
     kept = λ row l. (put_other o.row q (Spare a) row (λ i. absurd (let f = g.frees.row q e in let l' = sym (ap o.row i) ∙ l in cc)) ∙ l, refl);
     good = takes_row g a q e r;
   }
@@ -160,12 +166,13 @@ module _ (memory : Memory) {log : List Update} {o : Owners} {knows : ℕ → Kno
     phased = refl;
     moved = same_moved;
     added = same_added;
+    homed = λ row l. inl l;
     kept = same_rows;
     good = subst (λ (f : ℕ → Bool). Good (record (shared memory) { free = f }) log o (put knows a (finished (knows a) r)) (put point a (point a)) (put logs a (log ∷ logs a))) (sym (cleared_again memory.free_rows q e)) (idles g a (finished (knows a) r) refl refl refl refl refl refl refl refl);
   }
 
   takes_pid : (q : ℕ) (r : Option Reply) (t : Bool) → memory.free_pids q ≡ t → After (memory_after a (TakePid q) memory) (TakePid q) (Whether t) r
-  takes_pid q r true e = record { update = None; due = tt; last = λ i. refl; owners = record o { page = put o.page q (Keeps a) }; phased = refl; moved = same_moved; added = same_added; kept = same_rows; good = takes_page g a q e r }
+  takes_pid q r true e = record { update = None; due = tt; last = λ i. refl; owners = record o { page = put o.page q (Keeps a) }; phased = refl; moved = same_moved; added = same_added; homed = λ row l. inl l; kept = same_rows; good = takes_page g a q e r }
   takes_pid q r false e = record {
     update = None;
     due = tt;
@@ -174,13 +181,14 @@ module _ (memory : Memory) {log : List Update} {o : Owners} {knows : ℕ → Kno
     phased = refl;
     moved = same_moved;
     added = same_added;
+    homed = λ row l. inl l;
     kept = same_rows;
     good = subst (λ (f : ℕ → Bool). Good (record (shared memory) { free_pages = f }) log o (put knows a (finished (knows a) r)) (put point a (point a)) (put logs a (log ∷ logs a))) (sym (cleared_again memory.free_pids q e)) (idles g a (finished (knows a) r) refl refl refl refl refl refl refl refl);
   }
 
   -- an exchange that lost teaches nothing
   loses : (p x y : ℕ) (r : Option Reply) → After memory (Exchange p x y) (Whether false) r
-  loses p x y r = record { update = None; due = tt; last = λ i. refl; owners = o; phased = refl; moved = same_moved; added = same_added; kept = same_rows; good = idles g a (finished (knows a) r) refl refl refl refl refl refl refl refl }
+  loses p x y r = record { update = None; due = tt; last = λ i. refl; owners = o; phased = refl; moved = same_moved; added = same_added; homed = λ row l. inl l; kept = same_rows; good = idles g a (finished (knows a) r) refl refl refl refl refl refl refl refl }
 
   module _ (p x y : ℕ) (r : Option Reply) (s : slot_in memory.slots (suc p) ≡ Some (suc x)) (add : MayAdd (knows a) (suc x) (suc y)) where
     -- the memory in which the row is linked on the page
@@ -196,6 +204,7 @@ module _ (memory : Memory) {log : List Update} {o : Owners} {knows : ℕ → Kno
       phased = (record_of h.update (suc x), placed_row g a (suc y) (record_of h.update (suc x)) h.placed, links_same (shared memory) a h.update (suc x) (suc p) o.page);
       moved = linked_moved (suc y) (spare_of (suc y) h.placed);
       added = linked_added (suc y) (adds (suc x) (suc y) (record_of h.update (suc x)) h.placed (record_next h.update (suc x)) add);
+      homed = linked_homed p (suc x) y (record_of h.update (suc x)) h.placed (rw (record_next h.update (suc x)) refl);
       kept = linked_rows (suc y);
       good = n.0;
     }
@@ -208,6 +217,7 @@ module _ (memory : Memory) {log : List Update} {o : Owners} {knows : ℕ → Kno
       owners = record o { row = put o.row (suc y) Linked };
       phased = (base_from h.basis.chain (low_in h.basis.chain) h.items, placed_row g a (suc y) (base_from h.basis.chain (low_in h.basis.chain) h.items) h.placed, refl);
       moved = linked_moved (suc y) (spare_of (suc y) h.placed);
+      homed = linked_homed p (suc x) y (base_from h.basis.chain (low_in h.basis.chain) h.items) h.placed tt;
       added = linked_added (suc y) (based (suc y) h.placed (let same : add.content ≡ base_from h.basis.chain (low_in h.basis.chain) h.items = let e = add.placed in let f = h.placed in cc in subst (FitsOn add.chain) same add.fits));
       kept = linked_rows (suc y);
       good = consolidates g a (suc p) (suc x) (suc y) s h r;
@@ -225,6 +235,11 @@ module _ (memory : Memory) {log : List Update} {o : Owners} {knows : ℕ → Kno
         (n.1.0, level_in h.basis.chain, low_in h.basis.chain, n.1.1, n.1.2, refl),
       );
       moved = λ row. by_test row (suc y) (λ t. IsMoved a (memory.free_rows row) (o.row row) (cond t Linked (put o.row h.row Linked row))) (λ e. inr (inr (ap o.row e ∙ spare_of (suc y) h.placed, refl))) (λ ne. linked_moved h.row (spare_of h.row h.base) row);
+      homed = λ row. by_test row (suc y) (λ t. cond t Linked (put o.row h.row Linked row) ≡ Linked → (o.row row ≡ Linked) ⊎ IsHomed (shared memory) (Exchange (suc p) (suc x) (suc y)) (Whether true) row)
+          (λ e i. inr (inl (Split (record { level = level_in h.basis.chain; next = suc x; separator = h.separator; page = h.right }), e, ap memory.rows e ∙ placed_row g a (suc y) (Split (record { level = level_in h.basis.chain; next = suc x; separator = h.separator; page = h.right })) h.placed, refl)))
+          (λ ne. by_test row h.row (λ t. cond t Linked (o.row row) ≡ Linked → (o.row row ≡ Linked) ⊎ IsHomed (shared memory) (Exchange (suc p) (suc x) (suc y)) (Whether true) row)
+          (λ e i. inr (inr (record { level = level_in h.basis.chain; next = suc x; separator = h.separator; page = h.right }, _, placed_row g a (suc y) (Split (record { level = level_in h.basis.chain; next = suc x; separator = h.separator; page = h.right })) h.placed, ready_slot h.right h.row h.ready ∙ ap Some (sym e), ap memory.rows e ∙ placed_row g a h.row (base_from h.basis.chain h.separator h.items) h.base)))
+          (λ ne i. inl i));
       added = λ row. by_test row (suc y) (λ t. cond t Linked (put o.row h.row Linked row) ≡ Linked → (o.row row ≡ Linked) ⊎ IsAdded o memory.rows row)
           (λ e i. inr (subst (IsAdded o memory.rows) (sym e) (adds (suc x) (suc y) (Split (record { level = level_in h.basis.chain; next = suc x; separator = h.separator; page = h.right })) h.placed refl add)))
           (λ ne. linked_added h.row (based h.row h.base h.ruled) row);
@@ -245,6 +260,7 @@ module _ (memory : Memory) {log : List Update} {o : Owners} {knows : ℕ → Kno
       );
       moved = linked_moved (suc y) (spare_of (suc y) h.placed);
       added = linked_added (suc y) (adds (suc x) (suc y) (Term (record { level = level_in h.basis.chain; next = suc x; separator = low_in h.below.chain; child = h.child })) h.placed refl add);
+      homed = linked_homed p (suc x) y (Term (record { level = level_in h.basis.chain; next = suc x; separator = low_in h.below.chain; child = h.child })) h.placed refl;
       kept = linked_rows (suc y);
       good = n.0;
     }
@@ -262,6 +278,7 @@ module _ (memory : Memory) {log : List Update} {o : Owners} {knows : ℕ → Kno
       );
       moved = linked_moved (suc y) (spare_of (suc y) h.placed);
       added = linked_added (suc y) (adds (suc x) (suc y) (Hold (record { level = level_in h.basis.chain; next = suc x; separator = h.key; child = h.child })) h.placed refl add);
+      homed = linked_homed p (suc x) y (Hold (record { level = level_in h.basis.chain; next = suc x; separator = h.key; child = h.child })) h.placed refl;
       kept = linked_rows (suc y);
       good = n.0;
     }
@@ -279,6 +296,7 @@ module _ (memory : Memory) {log : List Update} {o : Owners} {knows : ℕ → Kno
       );
       moved = linked_moved (suc y) (spare_of (suc y) h.placed);
       added = linked_added (suc y) (adds (suc x) (suc y) (Remove (record { level = level_in h.basis.chain; next = suc x })) h.placed refl add);
+      homed = linked_homed p (suc x) y (Remove (record { level = level_in h.basis.chain; next = suc x })) h.placed refl;
       kept = linked_rows (suc y);
       good = n.0;
     }
@@ -295,6 +313,7 @@ module _ (memory : Memory) {log : List Update} {o : Owners} {knows : ℕ → Kno
           phased = (w, placed_row g a (suc y) w h.placed, (h.other, level_in h.basis.chain, n.1, refl, (suc x, h.basis.chain, s, chain_stands o (shared memory) (knows a).seen (g.sound a).seen_fits h.basis.chain (Some (suc x)) h.basis.read, h.right)));
           moved = linked_moved (suc y) (spare_of (suc y) h.placed);
           added = linked_added (suc y) (adds (suc x) (suc y) w h.placed refl add);
+          homed = linked_homed p (suc x) y w h.placed refl;
           kept = linked_rows (suc y);
           good = n.0;
         }
@@ -312,6 +331,7 @@ module _ (memory : Memory) {log : List Update} {o : Owners} {knows : ℕ → Kno
       );
       moved = linked_moved (suc y) (spare_of (suc y) h.placed);
       added = linked_added (suc y) (adds (suc x) (suc y) (Unterm (record { level = level_in h.basis.chain; next = suc x; separator = h.key; child = h.child })) h.placed refl add);
+      homed = linked_homed p (suc x) y (Unterm (record { level = level_in h.basis.chain; next = suc x; separator = h.key; child = h.child })) h.placed refl;
       kept = linked_rows (suc y);
       good = n.0;
     }
@@ -340,6 +360,7 @@ module _ (memory : Memory) {log : List Update} {o : Owners} {knows : ℕ → Kno
     phased = (refl, (own_kept (suc p) Empty h.0).0);
     moved = same_moved;
     added = same_added;
+    homed = λ row l. inl l;
     kept = same_rows;
     good = subst (λ (v : OwnPage). Good (record (shared memory) { slots = put (slot_in memory.slots) (suc p) (Some (suc y)) }) log o (put knows a (finished (filled v (suc p) zero (suc y) (knows a)) r)) (put point a (point a)) (put logs a (log ∷ logs a))) (sym h.0)
         (own_slot g a (suc p) (Some (suc y)) (Ready (suc y)) (own_kept (suc p) Empty h.0).0 ((own_kept (suc p) Empty h.0).0, refl) (finished (filled Empty (suc p) zero (suc y) (knows a)) r) refl refl refl refl refl refl refl refl);
@@ -352,9 +373,10 @@ module _ (memory : Memory) {log : List Update} {o : Owners} {knows : ℕ → Kno
     phased = (refl, inl (own_kept (suc p) (Ready (suc x)) h).0);
     moved = same_moved;
     added = same_added;
+    homed = λ row l. inl l;
     kept = same_rows;
-    good = subst (λ (v : OwnPage). Good (record (shared memory) { slots = put (slot_in memory.slots) (suc p) None }) log o (put knows a (finished (emptied v (suc p) (knows a)) r)) (put point a (point a)) (put logs a (log ∷ logs a))) (sym h)
-        (own_slot g a (suc p) None Empty (own_kept (suc p) (Ready (suc x)) h).0 ((own_kept (suc p) (Ready (suc x)) h).0, refl) (finished (emptied (Ready (suc x)) (suc p) (knows a)) r) refl refl refl refl refl refl refl refl);
+    good = subst (λ (v : OwnPage). Good (record (shared memory) { slots = put (slot_in memory.slots) (suc p) None }) log o (put knows a (finished (emptied v (suc p) (suc x) (knows a)) r)) (put point a (point a)) (put logs a (log ∷ logs a))) (sym h)
+        (own_slot g a (suc p) None Empty (own_kept (suc p) (Ready (suc x)) h).0 ((own_kept (suc p) (Ready (suc x)) h).0, refl) (finished (emptied (Ready (suc x)) (suc p) (suc x) (knows a)) r) refl refl refl refl refl refl refl refl);
   }
   exchanges p (suc x) zero r s (inr h) = record {
     update = None;
@@ -364,6 +386,7 @@ module _ (memory : Memory) {log : List Update} {o : Owners} {knows : ℕ → Kno
     phased = (refl, inr (own_kept (suc p) Gone h));
     moved = same_moved;
     added = same_added;
+    homed = λ row l. inl l;
     kept = same_rows;
     good = clears g a (suc p) (suc x) s h r;
   }
@@ -383,6 +406,9 @@ module _ (memory : Memory) {log : List Update} {o : Owners} {knows : ℕ → Kno
     phased = (h.right, g.tree.top, h.separator, n.1.0, n.1.1, n.1.2, refl, (h.base_row, suc (level_in h.basis.chain), ready_slot y h.base_row h.ready, placed_row g a h.base_row (root_over (suc (level_in h.basis.chain)) x h.separator h.right) h.base));
     moved = linked_moved h.base_row (spare_of h.base_row h.base);
     added = linked_added h.base_row (based h.base_row h.base h.ruled);
+    homed = λ row. by_test row h.base_row (λ t. cond t Linked (o.row row) ≡ Linked → (o.row row ≡ Linked) ⊎ IsHomed (shared memory) (Exchange 0 x y) (Whether true) row)
+        (λ e i. inr (_, ready_slot y h.base_row h.ready ∙ ap Some (sym e), ap memory.rows e ∙ placed_row g a h.base_row (root_over (suc (level_in h.basis.chain)) x h.separator h.right) h.base))
+        (λ ne i. inl i);
     kept = linked_rows h.base_row;
     good = n.0;
   }
@@ -396,15 +422,15 @@ module _ (memory : Memory) {log : List Update} {o : Owners} {knows : ℕ → Kno
       (subst (λ (f : ℕ → Option ℕ). Next a (shared memory) (record (shared memory) { slots = f }) log o knows point logs (Exchange (suc p) x y) (Whether true) r) (sym (slot_put memory.slots p y)) (exchanges p x y r (ap row_in e) h)))
       (λ ne. loses (suc p) x y r)
 
-  pub step : (s : StepOf Record) (r : Option Reply) → May a (knows a) s → (x : Answer Record) → IsAnswer memory s x → After (memory_after a s memory) s x r
-  step (Slot zero) r h x e = subst (λ (v : Answer Record). After memory (Slot zero) v r) (sym e) (record { update = None; due = tt; last = λ i. refl; owners = o; phased = refl; moved = same_moved; added = same_added; kept = same_rows; good = reads_root g a r })
-  step (Slot (suc p)) r h x e = subst (λ (v : Answer Record). After memory (Slot (suc p)) v r) (sym e) (reads p (memory.slots (suc p)) r refl h.1)
-  step (Row q) r h x e = subst (λ (v : Answer Record). After memory (Row q) v r) (sym e.2) (record { update = None; due = tt; last = λ i. refl; owners = o; phased = refl; moved = same_moved; added = same_added; kept = same_rows; good = reads_row g a q e.0 h.1 e.1 r })
-  step Epoch r h x e = record { update = None; due = tt; last = λ i. refl; owners = o; phased = refl; moved = same_moved; added = same_added; kept = same_rows; good = idles g a (finished (knows a) r) refl refl refl refl refl refl refl refl }
-  step (Announce b) r h x e = record { update = None; due = tt; last = λ i. refl; owners = o; phased = refl; moved = same_moved; added = same_added; kept = same_rows; good = idles g a (finished (knows a) r) refl refl refl refl refl refl refl refl }
-  step (PidBits w) r h x e = subst (λ (v : Answer Record). After memory (PidBits w) v r) (sym e.2) (record { update = None; due = tt; last = λ i. refl; owners = o; phased = refl; moved = same_moved; added = same_added; kept = same_rows; good = idles g a (finished (learn (knows a) (PidBits w) (Number e.0)) r) refl refl refl refl refl refl refl refl })
-  step (RowBits w) r h x e = subst (λ (v : Answer Record). After memory (RowBits w) v r) (sym e.2) (record { update = None; due = tt; last = λ i. refl; owners = o; phased = refl; moved = same_moved; added = same_added; kept = same_rows; good = idles g a (finished (learn (knows a) (RowBits w) (Number e.0)) r) refl refl refl refl refl refl refl refl })
-  step (Place q w) r h x e = subst (λ (v : Answer Record). After (memory_after a (Place q w) memory) (Place q w) v r) (sym e) (record {
+  pub step : (s : StepOf Record) → (IsReuse s → ⊥) → (r : Option Reply) → May a (knows a) s → (x : Answer Record) → IsAnswer memory s x → After (memory_after a s memory) s x r
+  step (Slot zero) calm r h x e = subst (λ (v : Answer Record). After memory (Slot zero) v r) (sym e) (record { update = None; due = tt; last = λ i. refl; owners = o; phased = refl; moved = same_moved; added = same_added; homed = λ row l. inl l; kept = same_rows; good = reads_root g a r })
+  step (Slot (suc p)) calm r h x e = subst (λ (v : Answer Record). After memory (Slot (suc p)) v r) (sym e) (reads p (memory.slots (suc p)) r refl h.1)
+  step (Row q) calm r h x e = subst (λ (v : Answer Record). After memory (Row q) v r) (sym e.2) (record { update = None; due = tt; last = λ i. refl; owners = o; phased = refl; moved = same_moved; added = same_added; homed = λ row l. inl l; kept = same_rows; good = reads_row g a q e.0 h.1 e.1 r })
+  step Epoch calm r h x e = subst (λ (v : Answer Record). After memory Epoch v r) (sym e) (record { update = None; due = tt; last = λ i. refl; owners = o; phased = refl; moved = same_moved; added = same_added; homed = λ row l. inl l; kept = same_rows; good = idles g a (finished (learn (knows a) Epoch (Number memory.epoch)) r) refl refl refl refl refl refl refl refl })
+  step (Announce b) calm r h x e = subst (λ (v : Answer Record). After memory (Announce b) v r) (sym e) (record { update = None; due = tt; last = λ i. refl; owners = o; phased = refl; moved = same_moved; added = same_added; homed = λ row l. inl l; kept = same_rows; good = idles g a (finished (learn (knows a) (Announce b) (Number (memory.announced b))) r) refl refl refl refl refl refl refl refl })
+  step (PidBits w) calm r h x e = subst (λ (v : Answer Record). After memory (PidBits w) v r) (sym e.2) (record { update = None; due = tt; last = λ i. refl; owners = o; phased = refl; moved = same_moved; added = same_added; homed = λ row l. inl l; kept = same_rows; good = idles g a (finished (learn (knows a) (PidBits w) (Number e.0)) r) refl refl refl refl refl refl refl refl })
+  step (RowBits w) calm r h x e = subst (λ (v : Answer Record). After memory (RowBits w) v r) (sym e.2) (record { update = None; due = tt; last = λ i. refl; owners = o; phased = refl; moved = same_moved; added = same_added; homed = λ row l. inl l; kept = same_rows; good = idles g a (finished (learn (knows a) (RowBits w) (Number e.0)) r) refl refl refl refl refl refl refl refl })
+  step (Place q w) calm r h x e = subst (λ (v : Answer Record). After (memory_after a (Place q w) memory) (Place q w) v r) (sym e) (record {
     update = None;
     due = tt;
     last = λ i. refl;
@@ -412,14 +438,15 @@ module _ (memory : Memory) {log : List Update} {o : Owners} {knows : ℕ → Kno
     phased = refl;
     moved = same_moved;
     added = same_added;
+    homed = λ row l. inl l;
     kept = λ row l. (l, put_other memory.rows q (Some w) row (λ i. absurd (let f = own_spare g a q ((knows a).rows q) (g.owns a q) h.1 in let l' = sym (ap o.row i) ∙ l in cc)));
     good = places g a q w h.1 r;
   })
-  step (Exchange p old y) r h x e = subst (λ (v : Answer Record). After (memory_after a (Exchange p old y) memory) (Exchange p old y) v r) (sym e) (exchange p old y r h.1)
-  step (TakePid q) r h x e = subst (λ (v : Answer Record). After (memory_after a (TakePid q) memory) (TakePid q) v r) (sym e) (takes_pid q r (memory.free_pids q) refl)
-  step (TakeRow q) r h x e = subst (λ (v : Answer Record). After (memory_after a (TakeRow q) memory) (TakeRow q) v r) (sym e) (takes q r (memory.free_rows q) refl)
-  step (Enter n) r h x e = record { update = None; due = tt; last = λ i. refl; owners = o; phased = refl; moved = same_moved; added = same_added; kept = same_rows; good = enters g a n x r }
-  step Leave r h x e = subst (λ (v : Answer Record). After (memory_after a Leave memory) Leave v r) (sym e) (record { update = None; due = tt; last = λ i. refl; owners = o; phased = refl; moved = same_moved; added = same_added; kept = same_rows; good = leaves g a r })
-  step (Retire n) r h x e = absurd h
-  step (ReusePids w b) r h x e = absurd h
-  step (ReuseRows w b) r h x e = absurd h
+  step (Exchange p old y) calm r h x e = subst (λ (v : Answer Record). After (memory_after a (Exchange p old y) memory) (Exchange p old y) v r) (sym e) (exchange p old y r h.1)
+  step (TakePid q) calm r h x e = subst (λ (v : Answer Record). After (memory_after a (TakePid q) memory) (TakePid q) v r) (sym e) (takes_pid q r (memory.free_pids q) refl)
+  step (TakeRow q) calm r h x e = subst (λ (v : Answer Record). After (memory_after a (TakeRow q) memory) (TakeRow q) v r) (sym e) (takes q r (memory.free_rows q) refl)
+  step (Enter n) calm r h x e = record { update = None; due = tt; last = λ i. refl; owners = o; phased = refl; moved = same_moved; added = same_added; homed = λ row l. inl l; kept = same_rows; good = enters g a n x r }
+  step Leave calm r h x e = subst (λ (v : Answer Record). After (memory_after a Leave memory) Leave v r) (sym e) (record { update = None; due = tt; last = λ i. refl; owners = o; phased = refl; moved = same_moved; added = same_added; homed = λ row l. inl l; kept = same_rows; good = leaves g a r })
+  step (Retire n) calm r h x e = record { update = None; due = tt; last = λ i. refl; owners = o; phased = refl; moved = same_moved; added = same_added; homed = λ row l. inl l; kept = same_rows; good = idles g a (finished (knows a) r) refl refl refl refl refl refl refl refl }
+  step (ReusePids w b) calm r h x e = absurd (calm tt)
+  step (ReuseRows w b) calm r h x e = absurd (calm tt)

@@ -11,11 +11,11 @@ use Rattle.deltas.specs.declared.record.Record.TheVariants.{Remove}
 use Rattle.deltas.specs.Records.{next_row}
 use Rattle.chain_search.specs.Chains.{content_in, level_in, low_in, high_in, right_in, is_removed}
 use Rattle.tree_law.specs.Keys.{Key, Covers}
-use Rattle.chain_search.specs.Knowledge.{OwnRow, Foreign, Written, Knowledge, filled, linked_over, finished}
+use Rattle.chain_search.specs.Knowledge.{OwnRow, Foreign, Written, Knowledge, filled, linked_over, taken_out, finished}
 use Rattle.tree_law.specs.Phase.{Stage, Fresh, Indexed, Held, Removed, Merged, PageOwner, Placed, rank, stage_removed}
 use Rattle.tree_law.specs.Put.{put}
 use Rattle.tree_law.specs.Shared.{Shared}
-use Rattle.tree_law.specs.Owners.{Spare, Linked, Owners, Reached, ChainNames, OwnFits, leaf_map, Spells, LinkFits}
+use Rattle.tree_law.specs.Owners.{Spare, Linked, Owners, Reached, OwnFits, leaf_map, Spells, LinkFits}
 use Rattle.tree_law.specs.Tree.{spec, Good}
 use Rattle.std.specs.Ordering.{is_eq}
 use Rattle.std.specs.Option.{option_map}
@@ -29,8 +29,7 @@ use Rattle.chain_search.specs.Discipline.{MayUpdate, MayConsolidate, MayRemove, 
 use Rattle.tree_law.proofs.KeyOrder.{by_key, covers_from, covers_to}
 use Rattle.tree_law.proofs.Puts.{by_test, put_same, put_other}
 use Rattle.tree_law.proofs.Terms.{exact_going}
-use Rattle.tree_law.proofs.Frames.{names_of, names_kept, read_linked, chain_stands}
-use Rattle.tree_law.proofs.Keeping.{spec_leaf, mine}
+use Rattle.tree_law.proofs.Keeping.{spec_leaf, mine, read_names}
 use Rattle.tree_law.proofs.Relinking.{stay, not_own, found, place_of, relink_one, alive_stage}
 
 -- the record of an update over a chain
@@ -57,11 +56,6 @@ over_decides : (u : Update) (x : ℕ) (c : List Record) (l : List Update) (k : K
 over_decides (set b j v) x c l k e = by_key k j (λ t. cond t (Some (Value v)) (content_in c k) ≡ option_map Value (cond t (Some v) (value_in l k))) (λ i. refl) (λ i. e) ∙ sym (ap (option_map Value) (value_in_push l (set b j v) k))
 over_decides (unset b j) x c l k e = by_key k j (λ t. cond t None (content_in c k) ≡ option_map Value (cond t None (value_in l k))) (λ i. refl) (λ i. e) ∙ sym (ap (option_map Value) (value_in_push l (unset b j) k))
 
--- an update's record over a leaf names what the leaf names
-names_over : (o : Owners) (u : Update) (x : ℕ) (c : List Record) → level_in c ≡ 0 → ChainNames o c → ChainNames o (record_of u x ∷ c)
-names_over o (set b k v) x c z n = record { right = n.right; items = λ l s i e. absurd (let f = sym z ∙ e in omega arith) }
-names_over o (unset b k) x c z n = record { right = n.right; items = λ l s i e. absurd (let f = sym z ∙ e in omega arith) }
-
 -- an update's key is in its page, so the log changes there only
 log_outside : (u : Update) (log : List Update) (index : ℕ → Key → Option Content) (lv : ℕ) (c : List Record) → lv ≡ 0 → ((k : Key) → (Covers c k → ⊥) → leaf_map (log ++ u ∷ []) k ≡ leaf_map log k) → (l : ℕ) (k : Key) → (l ≡ lv → Covers c k → ⊥) → spec (log ++ u ∷ []) index l k ≡ spec log index l k
 log_outside u log index lv c z f zero k n = f k (n (sym z))
@@ -79,7 +73,7 @@ key_due b (Upsert k v) old u e = ap updated_key (sym (same_Some (set b k v) u e)
 key_due b (Delete k) None u e = absurd (cc)
 key_due b (Delete k) (Some x) u e = ap updated_key (sym (same_Some (unset b k) u e))
 
-linked_update : (u : Update) (x y : ℕ) (k : Knowledge) → linked_over (Written (record_of u x)) x y k ≡ record k { rows = put k.rows y Foreign; linked = Some x }
+linked_update : (u : Update) (x y : ℕ) (k : Knowledge) → linked_over (Written (record_of u x)) x y k ≡ record k { rows = put k.rows y Foreign; linked = Some (Some x) }
 linked_update (set b j v) x y k = refl
 linked_update (unset b j) x y k = refl
 
@@ -99,17 +93,16 @@ module _ {m : Shared} {log : List Update} {o : Owners} {knows : ℕ → Knowledg
       let over = is_over u x c in
       let inside : Covers c (command_key h.command) = covers_from c (command_key h.command) h.covers in
       let due : update_of a h.command (value_in log (command_key h.command)) ≡ Some u = subst (λ (v : Option Key). update_of a h.command v ≡ Some u) (ap value_of (is (command_key h.command) inside) ∙ value_of_map (value_in log (command_key h.command))) h.due in
-      let none : point a ≡ None = subst (λ (v : Option ℕ). LinkFits o m (point a) v) h.unlinked (mine g a).linked_fits in
-      let learned : filled ((knows a).pages p) p x y (knows a) ≡ record (knows a) { rows = put (knows a).rows y Foreign; linked = Some x } = rw (not_own g a p (level_in c) (low_in c) place.stage place.placed ((knows a).pages p) (g.owns_pages a p), h.placed) (linked_update u x y (knows a)) in (
+      let none : point a ≡ None = subst (λ (v : Option (Option ℕ)). LinkFits o m (point a) v) h.unlinked (mine g a).linked_fits in
+      let learned : filled ((knows a).pages p) p x y (knows a) ≡ record (knows a) { rows = put (knows a).rows y Foreign; linked = Some (Some x) } = rw (not_own g a p (level_in c) (low_in c) place.stage place.placed ((knows a).pages p) (g.owns_pages a p), h.placed) (linked_update u x y (knows a)) in (
         subst (λ (k : Knowledge). Good (record m { slots = put m.slots p (Some y) }) (log ++ u ∷ []) (record o { row = put o.row y Linked }) (put knows a (finished k r)) (put point a (Some log)) (put logs a (log ∷ logs a))) (sym learned)
             (relink_one g a p x y c f place h.basis.alive s fits.0 place.stage (omega arith) place.on o.page o.index place.placed (λ q ne. stay refl) g.tree.exact (record_of u x) fits.1
             (rw over.next f.linked) c (rw over.next f.stands)
-            (λ forward. names_kept o (record o { row = put o.row y Linked }) forward (record_of u x ∷ c) (names_over o u x c h.leaf f.names))
             over.level over.low over.right over.high (over.flag ∙ place.flagged)
             (log ++ u ∷ [])
             (λ k v. rw h.leaf (over_decides u x c log k (is k v)))
             (λ l k n. log_outside u log o.index (level_in c) c h.leaf (λ k n. key_apart u log k (λ i. n (subst (λ (z : Key). Covers c z) (sym (i ∙ key_due a h.command (value_in log (command_key h.command)) u due)) inside))) l k n)
-            (finished (record (knows a) { rows = put (knows a).rows y Foreign; linked = Some x }) r)
+            (finished (record (knows a) { rows = put (knows a).rows y Foreign; linked = Some (Some x) }) r)
             refl (λ v. v) refl refl refl refl refl
             (Some log) (log, refl, here)),
         due,
@@ -123,13 +116,12 @@ module _ {m : Shared} {log : List Update} {o : Owners} {knows : ℕ → Knowledg
       let place = place_of g a p x c f h.basis.alive s in
       let w = base_from c (low_in c) h.items in
       let fits : (o.row y ≡ Spare a) × (m.rows y ≡ Some w) = subst (λ (v : OwnRow). OwnFits a (o.row y) (m.rows y) v) h.placed (g.owns a y) in
-      let learned : filled ((knows a).pages p) p x y (knows a) ≡ record (knows a) { rows = put (knows a).rows y Foreign } = rw (not_own g a p (level_in c) (low_in c) place.stage place.placed ((knows a).pages p) (g.owns_pages a p), h.placed) refl in
+      let learned : filled ((knows a).pages p) p x y (knows a) ≡ record (knows a) { rows = put (knows a).rows y Foreign; limbo_rows = taken_out (knows a).seen x (knows a).limbo_rows } = rw (not_own g a p (level_in c) (low_in c) place.stage place.placed ((knows a).pages p) (g.owns_pages a p), h.placed) refl in
       subst (λ (k : Knowledge). Good (record m { slots = put m.slots p (Some y) }) log (record o { row = put o.row y Linked }) (put knows a (finished k r)) (put point a (point a)) (put logs a (log ∷ logs a))) (sym learned)
       (relink_one g a p x y c f place h.basis.alive s fits.0 place.stage (omega arith) place.on o.page o.index place.placed (λ q ne. stay refl) g.tree.exact w fits.1 tt [] refl
-      (λ forward. record { right = f.names.right; items = λ l k i e v d. let v' : Covers c k = record { low = v.low; high = v.high } in f.names.items l k i e v' (sym (h.alike k (covers_to c k v')) ∙ d) })
       refl refl refl refl (alive_stage g a p x c place h.basis.alive)
       log (λ k v. h.alike k (covers_to c k v) ∙ place.is_page.same k v) (λ l k n. refl)
-      (finished (record (knows a) { rows = put (knows a).rows y Foreign }) r)
+      (finished (record (knows a) { rows = put (knows a).rows y Foreign; limbo_rows = taken_out (knows a).seen x (knows a).limbo_rows }) r)
       refl (λ v. v) refl refl refl refl refl
       (point a) (mine g a).linked_fits)
 
@@ -149,8 +141,8 @@ module _ {m : Shared} {log : List Update} {o : Owners} {knows : ℕ → Knowledg
       let f = found g a p x h.basis in
       let place = place_of g a p x c f h.basis.alive s in
       let fits : (o.row y ≡ Spare a) × (m.rows y ≡ Some (Remove (record { level = level_in c; next = x }))) = subst (λ (v : OwnRow). OwnFits a (o.row y) (m.rows y) v) h.placed (g.owns a y) in
-      let above = names_of o m g.closed h.row (read_linked o m (knows a).seen (mine g a).seen_fits h.parent h.row h.read) h.parent (chain_stands o m (knows a).seen (mine g a).seen_fits h.parent (Some h.row) h.read) in
-      let least : 2 ≤ rank place.stage = ranked 2 (level_in c) (low_in c) (level_in c) (low_in c) place.stage (o.page p) place.placed (above.items (level_in c) (low_in c) (Child p true) h.level (covers_from h.parent (low_in c) h.covers) h.held) in
+      let above = read_names g a h.parent h.row h.above in
+      let least : 2 ≤ rank place.stage = ranked 2 (level_in c) (low_in c) (level_in c) (low_in c) place.stage (o.page p) place.placed (above.items (level_in c) (low_in c) (Child p true) h.level (covers_from h.above.chain (low_in c) h.covers) h.held) in
       let held : place.stage ≡ Held = is_held place.stage least (sym (alive_stage g a p x c place h.basis.alive)) in
       let was : o.page p ≡ Placed Held (level_in c) (low_in c) = place.placed ∙ ap (λ st. Placed st (level_in c) (low_in c)) held in
       let lt : level_in c < g.tree.top = below_top p (level_in c) (low_in c) place.stage place.placed least in
@@ -158,7 +150,6 @@ module _ {m : Shared} {log : List Update} {o : Owners} {knows : ℕ → Knowledg
         subst (λ (k : Knowledge). Good (record m { slots = put m.slots p (Some y) }) log (record { row = put o.row y Linked; page = put o.page p (Placed Removed (level_in h.basis.chain) (low_in h.basis.chain)); index = o.index }) (put knows a (finished k r)) (put point a (point a)) (put logs a (log ∷ logs a))) (sym learned)
             (relink_one g a p x y c f place h.basis.alive s fits.0 Removed (let i = ap rank held in omega arith) (omega arith) (put o.page p (Placed Removed (level_in c) (low_in c))) o.index (put_same o.page p (Placed Removed (level_in c) (low_in c))) (λ q ne. stay (put_other o.page p (Placed Removed (level_in c) (low_in c)) q ne))
             (exact_going o.page o.index g.tree.top m.root p (level_in c) (low_in c) Held Removed was lt refl g.tree.exact) (Remove (record { level = level_in c; next = x })) fits.1 f.linked c f.stands
-            (λ forward. let n = names_kept o (record { row = put o.row y Linked; page = put o.page p (Placed Removed (level_in c) (low_in c)); index = o.index }) forward c f.names in record { right = n.right; items = λ l k i e v d. n.items l k i e (record { low = v.low; high = v.high }) d })
             refl refl refl refl refl
             log (λ k v. place.is_page.same k v) (λ l k n. refl)
             (finished (record (knows a) { rows = put (knows a).rows y Foreign }) r)

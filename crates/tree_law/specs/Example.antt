@@ -6,7 +6,7 @@ use Rattle.bw_model.specs.declared.limits.Limits.{Limits}
 use Rattle.bw_model.specs.declared.command.Command.{Command}
 use Rattle.bw_model.specs.declared.command.Command.TheVariants.{Insert}
 use Rattle.bw_model.specs.declared.step.Step.{Step as StepOf}
-use Rattle.bw_model.specs.declared.step.Step.TheVariants.{Slot, Row, Place, Exchange, TakePid, TakeRow, Enter, Leave}
+use Rattle.bw_model.specs.declared.step.Step.TheVariants.{Slot, Row, Epoch, Place, Exchange, TakePid, TakeRow, Enter, Leave, Announce, Retire, ReusePids, ReuseRows}
 use Rattle.bw_model.specs.declared.step.Answer.{Answer}
 use Rattle.bw_model.specs.declared.step.Answer.TheVariants.{Number, Content, Whether, Done}
 use Rattle.base_page.specs.declared.item.Content.TheVariants.{Value}
@@ -17,7 +17,7 @@ use Rattle.deltas.specs.declared.record.Record.TheVariants as delta
 use Rattle.deltas.specs.Memory.{Memory, opening}
 use Rattle.chain_search.specs.Steps.{IsAnswer, memory_after}
 use Rattle.chain_search.specs.Knowledge.{Knowledge, nothing, begun, learn}
-use Rattle.chain_search.specs.Discipline.{May, base_from, root_over}
+use Rattle.chain_search.specs.Discipline.{May, MayFree, base_from, root_over}
 
 -- The actor may take each of the steps, and the memory gives the answers.
 abbrev pub Obeys : ℕ → Knowledge → Memory → List (StepOf Record × Answer Record) → Type 0
@@ -95,7 +95,8 @@ spare_base = delta.Base empty_leaf
 -- An insert, a split, a new root, a hold, a removal, a merge, an unterm and a clear, a second split with its term, a
 -- consolidation, and a page that is made ready and taken back.
 abbrev pub all_links : List (StepOf Record × Answer Record)
-all_links = (Enter 1, Done)
+all_links = (Epoch, Number 1)
+    ∷ (Enter 1, Done)
     ∷ (TakeRow 2, Whether true)
     ∷ (TakeRow 3, Whether true)
     ∷ (TakeRow 4, Whether true)
@@ -172,3 +173,37 @@ all_links = (Enter 1, Done)
 
 abbrev pub ExampleLaw : Type 0
 ExampleLaw = Obeys 0 (begun nothing insert_a) (opening small) all_links
+
+-- what the actor knows, and the memory, after steps
+abbrev pub knows_then : Knowledge → List (StepOf Record × Answer Record) → Knowledge
+knows_then k [] = k
+knows_then k (turn ∷ turns) = knows_then (learn k turn.0 turn.1) turns
+
+abbrev pub memory_then : ℕ → Memory → List (StepOf Record × Answer Record) → Memory
+memory_then actor memory [] = memory
+memory_then actor memory (turn ∷ turns) = memory_then actor (memory_after actor turn.0 memory) turns
+
+-- The same, where steps may free what nobody else can hold.
+abbrev pub ObeysFreely : ℕ → Knowledge → Memory → List (StepOf Record × Answer Record) → Type 0
+ObeysFreely actor k memory [] = ⊤
+ObeysFreely actor k memory (turn ∷ turns) = (May actor k turn.0 × MayFree small actor k turn.0 × IsAnswer memory turn.0 turn.1) × ObeysFreely actor (learn k turn.0 turn.1) (memory_after actor turn.0 memory) turns
+
+-- After the links the actor sweeps: it reads the epoch, goes on to the next one, and looks at the other actor, which is
+-- outside. Then page 2, which was cleared, and its two rows, 3 and 7, are free, and row 10, the base that was consolidated; it
+-- takes the page and a row again.
+abbrev pub sweep : List (StepOf Record × Answer Record)
+sweep = (Epoch, Number 1)
+    ∷ (Retire 1, Whether true)
+    ∷ (Announce 1, Number 0)
+    ∷ (ReuseRows 0 1160, Done)
+    ∷ (ReusePids 0 4, Done)
+    ∷ (Epoch, Number 2)
+    ∷ (Enter 2, Done)
+    ∷ (TakeRow 7, Whether true)
+    ∷ (TakePid 2, Whether true)
+    ∷ (Place 7 opening_leaf, Done)
+    ∷ (Exchange 2 0 7, Whether true)
+    ∷ []
+
+abbrev pub SweepLaw : Type 0
+SweepLaw = ObeysFreely 0 (knows_then (begun nothing insert_a) all_links) (memory_then 0 (opening small) all_links) sweep

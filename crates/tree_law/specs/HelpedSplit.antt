@@ -3,7 +3,7 @@ use Rattle.std.specs.Prelude.{codes, List, [], ◌∷◌, true, false, None, Som
 use Rattle.bw_model.specs.declared.command.Command.{Command}
 use Rattle.bw_model.specs.declared.command.Command.TheVariants.{Insert}
 use Rattle.bw_model.specs.declared.command.Reply.TheVariants as reply
-use Rattle.bw_model.specs.declared.step.Step.TheVariants.{Slot, Row, Place, Exchange, TakePid, TakeRow, Enter, Leave}
+use Rattle.bw_model.specs.declared.step.Step.TheVariants.{Slot, Row, Epoch, Place, Exchange, TakePid, TakeRow, Enter, Leave}
 use Rattle.bw_model.specs.declared.step.Answer.TheVariants.{Number, Content, Whether, Done}
 use Rattle.base_page.specs.declared.item.Content.TheVariants.{Value}
 use Rattle.base_page.specs.declared.item.Item.{Item}
@@ -54,6 +54,8 @@ helped_term = delta.Term (record { level = 1; next = 4; separator = b; child = 4
 abbrev pub helped_split : List Entry
 helped_split = Begin 0 insert_b
     ∷ Begin 1 insert_other
+    ∷ Step 0 Epoch (Number 1) None
+    ∷ Step 1 Epoch (Number 1) None
     ∷ Step 0 (Enter 1) Done None
     ∷ Step 1 (Enter 1) Done None
     ∷ Step 0 (Slot 0) (Number 1) None

@@ -1,6 +1,6 @@
 -- What is proved of the tree: the opening memory meets the invariant, and each step of an actor that obeys its discipline
 -- keeps it, whatever the other actors are about to do.
-use Rattle.std.specs.Prelude.{◌≡◌, ℕ, List, [], Option, None}
+use Rattle.std.specs.Prelude.{◌≡◌, ◌<◌, ℕ, suc, List, [], Option, None}
 use Rattle.bw_model.specs.declared.command.Command.{Command}
 use Rattle.bw_model.specs.declared.command.Reply.{Reply}
 use Rattle.bw_model.specs.declared.limits.Limits.{Limits}
@@ -12,13 +12,14 @@ use Rattle.deltas.specs.Memory.{Memory, opening}
 use Rattle.chain_search.specs.Steps.{IsAnswer, memory_after}
 use Rattle.tree_law.specs.Indexed.{IsIndexed}
 use Rattle.tree_law.specs.Keys.{Key, IsBelow, IsUpTo}
-use Rattle.chain_search.specs.Knowledge.{Knowledge, nothing, begun}
+use Rattle.chain_search.specs.Knowledge.{Knowledge, nothing, begun, learn, finished}
 use Rattle.chain_search.specs.Discipline.{MayAnswer, IsAllowed}
-use Rattle.tree_law.specs.Next.{Next}
+use Rattle.tree_law.specs.Next.{After}
 use Rattle.tree_law.specs.Owners.{Owners}
 use Rattle.tree_law.specs.Put.{put}
 use Rattle.tree_law.specs.Replies.{IsRepliedAt}
 use Rattle.tree_law.specs.Shared.{Shared, shared}
+use Rattle.tree_law.specs.Times.{Times, Timed}
 use Rattle.tree_law.specs.Tree.{Good}
 
 -- The order of keys is total, and the empty key is lowest.
@@ -38,11 +39,16 @@ abbrev pub BeginLaw : Type 0
 BeginLaw = (m : Shared) (log : List Update) (o : Owners) (knows : ℕ → Knowledge) (point : ℕ → Option (List Update)) (logs : ℕ → List (List Update)) → Good m log o knows point logs
     → (a : ℕ) (command : Command) → Good m log o (put knows a (begun (knows a) command)) (put point a None) (put logs a [])
 
--- Each allowed step with the memory's answer keeps it, with what the step adds to the log.
+-- What a step leaves, and what actors hold then.
+pub record Stepped (limits : Limits) (memory : Memory) (log : List Update) (o : Owners) (knows : ℕ → Knowledge) (point : ℕ → Option (List Update)) (logs : ℕ → List (List Update)) (now a : ℕ) (s : StepOf Record) (x : Answer Record) (r : Option Reply) : Type 0 where
+  pub after : After a (shared memory) (shared (memory_after a s memory)) log o knows point logs s x r
+  pub times : Times
+  pub timed : Timed limits (memory_after a s memory) after.owners (put knows a (finished (learn (knows a) s x) r)) (suc now) times
+
+-- Each allowed step with the memory's answer keeps the invariant, with what the step adds to the log, and what actors hold.
 abbrev pub StepLaw : Type 0
-StepLaw = (memory : Memory) (log : List Update) (o : Owners) (knows : ℕ → Knowledge) (point : ℕ → Option (List Update)) (logs : ℕ → List (List Update)) → Good (shared memory) log o knows point logs
-    → (limits : Limits) (a : ℕ) (s : StepOf Record) (x : Answer Record) (r : Option Reply) → IsAllowed limits a (knows a) s r → IsAnswer memory s x
-    → Next a (shared memory) (shared (memory_after a s memory)) log o knows point logs s x r
+StepLaw = (limits : Limits) (memory : Memory) (log : List Update) (o : Owners) (knows : ℕ → Knowledge) (point : ℕ → Option (List Update)) (logs : ℕ → List (List Update)) (now : ℕ) (t : Times) → Good (shared memory) log o knows point logs → Timed limits memory o knows now t
+    → (a : ℕ) → a < limits.actors → (s : StepOf Record) (x : Answer Record) (r : Option Reply) → IsAllowed limits a (knows a) s r → IsAnswer memory s x → Stepped limits memory log o knows point logs now a s x r
 
 -- A reply that an actor may give is its command's by a log of its operation.
 abbrev pub AnswerLaw : Type 0

@@ -4,6 +4,7 @@ pub mod HelpedSplit
 pub mod Indexed
 pub mod Keys
 pub mod Laws
+pub mod Limbos
 pub mod Next
 pub mod Owners
 pub mod Phase
@@ -12,4 +13,5 @@ pub mod Put
 pub mod Replies
 pub mod Shared
 pub mod State
+pub mod Times
 pub mod Tree

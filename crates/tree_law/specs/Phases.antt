@@ -1,15 +1,16 @@
 -- What a step makes of the lives of pages, and in which phase it has to find its page.
-use Rattle.std.specs.Prelude.{◌≡◌, ℕ, zero, suc, ◌⊎◌, List, [], Some, true}
+use Rattle.std.specs.Prelude.{◌≡◌, ℕ, zero, suc, ◌⊎◌, List, [], Some, true, false}
 use Rattle.bw_model.specs.declared.step.Step.{Step as StepOf}
-use Rattle.bw_model.specs.declared.step.Step.TheVariants.{Exchange, TakePid}
+use Rattle.bw_model.specs.declared.step.Step.TheVariants.{Exchange, TakePid, ReusePids}
 use Rattle.bw_model.specs.declared.step.Answer.{Answer}
 use Rattle.bw_model.specs.declared.step.Answer.TheVariants.{Whether}
 use Rattle.deltas.specs.declared.record.Record.{Record}
 use Rattle.deltas.specs.declared.record.Record.TheVariants.{Base, Put, Delete, Split, Term, Hold, Remove, Merge, Unterm}
 use Rattle.chain_search.specs.Chains.{IsChainFrom, right_in}
 use Rattle.chain_search.specs.Discipline.{root_over}
+use Rattle.chain_search.specs.Steps.{is_among}
 use Rattle.tree_law.specs.Keys.{Key}
-use Rattle.tree_law.specs.Phase.{Stage, Fresh, Indexed, Held, Removed, Merged, PageOwner, Keeps, Placed, Cleared}
+use Rattle.tree_law.specs.Phase.{Stage, Fresh, Indexed, Held, Removed, Merged, PageOwner, Nobody, Keeps, Placed, Cleared}
 use Rattle.tree_law.specs.Put.{put}
 use Rattle.tree_law.specs.Shared.{Shared}
 
@@ -40,4 +41,5 @@ Exchanged a m (suc p) (suc x) (suc y) f f' = (w : Record) × (m.rows (suc y) ≡
 abbrev pub Phased : ℕ → Shared → StepOf Record → Answer Record → (ℕ → PageOwner) → (ℕ → PageOwner) → Type 0
 Phased a m (TakePid q) (Whether true) f f' = f' ≡ put f q (Keeps a)
 Phased a m (Exchange p x y) (Whether true) f f' = Exchanged a m p x y f f'
+Phased a m (ReusePids word bits) x f f' = (q : ℕ) → (is_among word bits q ≡ true → (b l : ℕ) × (low : Key) × (f q ≡ Cleared b l low) × (f' q ≡ Nobody)) × (is_among word bits q ≡ false → f' q ≡ f q)
 Phased a m s x f f' = f' ≡ f

@@ -1,12 +1,11 @@
 -- What a trace of allowed steps keeps true.
-use Rattle.std.specs.Prelude.{◌≡◌, ◌<◌, ◌⊎◌, ℕ, List, length, take, Option, Some, MatchOption, Bool, true, false, slice_get, ⊤}
+use Rattle.std.specs.Prelude.{◌≡◌, ◌<◌, ◌≤◌, ◌^◌, ◌⊎◌, ℕ, List, length, take, Option, Some, MatchOption, Bool, true, false, slice_get, ⊤}
 use Rattle.bw_model.specs.declared.command.Command.{Command}
 use Rattle.bw_model.specs.declared.command.Reply.{Reply}
 use Rattle.bw_model.specs.declared.command.Reply.TheVariants.{Full}
 use Rattle.bw_model.specs.declared.limits.Limits.{Limits}
-use Rattle.bw_model.specs.declared.step.Answer.{Answer}
 use Rattle.bw_model.specs.declared.step.Answer.TheVariants.{Number, Content}
-use Rattle.bw_model.specs.declared.step.Step.TheVariants.{Slot, Row, PidBits, RowBits, ReusePids, ReuseRows}
+use Rattle.bw_model.specs.declared.step.Step.TheVariants.{Slot, Row, PidBits, RowBits}
 use Rattle.bw_model.specs.Log.{Update, value_in}
 use Rattle.bw_model.specs.Replies.{command_key, reply_of, update_of}
 use Rattle.base_page.specs.Pages as pages
@@ -18,7 +17,7 @@ use Rattle.chain_search.specs.declared.trace.Entry.{Entry}
 use Rattle.chain_search.specs.declared.trace.Entry.TheVariants.{Begin}
 use Rattle.chain_search.specs.Learnt.{HasLearnt}
 use Rattle.chain_search.specs.Run.{IsRun}
-use Rattle.chain_search.specs.Trace.{memory_of, memory_at, command_of, TakesStep}
+use Rattle.chain_search.specs.Trace.{memory_of, memory_at, command_of}
 use Rattle.op_machine.specs.Answered.{FindsNothingFree, FindsPageFull}
 use Rattle.op_machine.specs.Operations.{Operation, IsOperation, IsOwnStep, TakesOwnStep, Finishes}
 use Rattle.op_machine.specs.Points.{log_of, log_at, IsPoint}
@@ -26,12 +25,15 @@ use Rattle.op_machine.specs.Quiet.{IsQuiet}
 use Rattle.op_machine.specs.Faithful.{IsFaithful, KnowsRow}
 use Rattle.op_machine.specs.Phases as phase
 use Rattle.op_machine.specs.Phases.{Phase, IsInPhase, KeepsPhases}
+use Rattle.op_machine.specs.Reuse.{HandsPid, HandsRow, UnlinksPid, UnlinksRow, IsFreedByRule}
 use Rattle.tree_law.specs.Fitness.{AreFitted}
-use Rattle.tree_law.specs.Indexed.{IsIndexedAlong}
+use Rattle.tree_law.specs.Indexed.{IsFirst, IsIndexedAlong}
+use Rattle.tree_law.specs.Limbos.{IsInLimbo}
 use Rattle.chain_search.specs.Knowledge.{Ready, Knowledge, knows}
 use Rattle.tree_law.specs.Owners.{Free, Spare, Linked, Owners, Among}
 use Rattle.tree_law.specs.Phase.{Fresh, Indexed, Held, Removed, Merged, PageOwner, Nobody, Keeps, Placed, Cleared}
 use Rattle.tree_law.specs.Shared.{slot_in, shared}
+use Rattle.tree_law.specs.Times.{Times, Timed}
 use Rattle.tree_law.specs.Tree.{Good}
 
 -- the actor begins no operation after the one at the place
@@ -117,10 +119,11 @@ pub record IsReady (owners : Owners) (memory : Memory) (knows : ℕ → Knowledg
 
 -- What the names that actors have learnt are, and which slots hold rows.
 pub record IsNamed (limits : Limits) (entries : List Entry) (owners : Owners) (memory : Memory) (knows : ℕ → Knowledge) : Type 0 where
-  pub shown : (actor row : ℕ) → HasLearnt entries actor row → (row ≡ 0) ⊎ (owners.row row ≡ Linked)
+  pub shown : (actor row : ℕ) → HasLearnt entries actor row → (row ≡ 0) ⊎ ((knows actor).learnt row ≡ true)
   pub known : (actor row : ℕ) → (knows actor).learnt row ≡ true → KnowsRow entries (length entries) actor row
   pub announced : (actor : ℕ) → (knows actor).inside ≡ true → 0 < memory.announced actor
-  pub epoch : memory.epoch ≡ limits.epoch
+  pub epoch : (0 < memory.epoch) × (memory.epoch ≤ 2 ^ 62)
+  pub posted : (actor : ℕ) → memory.announced actor ≤ memory.epoch
   pub commands : (actor : ℕ) → (knows actor).command ≡ command_of entries actor
   pub recent : (actor row : ℕ) (content : Record) → (knows actor).recent row ≡ Some content → (knows actor).seen row ≡ Some content
   pub zero_free : owners.row 0 ≡ Free
@@ -130,10 +133,6 @@ pub record IsNamed (limits : Limits) (entries : List Entry) (owners : Owners) (m
   pub free_pid_below : (pid : ℕ) → memory.free_pids pid ≡ true → (0 < pid) × (pid < limits.pids)
   pub pid_below : (pid : ℕ) → (phase_of (owners.page pid) ≡ phase.free) ⊎ ((0 < pid) × (pid < limits.pids))
   pub held : (page row : ℕ) → slot_in memory.slots page ≡ Some row → IsInTree (owners.page page) ⊎ IsReady owners memory knows page row
-
--- nothing is used again
-abbrev pub IsUnused : List Entry → Type 0
-IsUnused entries = (n actor word bits : ℕ) (answer : Answer Record) → (TakesStep entries n actor (ReusePids word bits) answer → ⊥) × (TakesStep entries n actor (ReuseRows word bits) answer → ⊥)
 
 pub record IsState (limits : Limits) (entries : List Entry) : Type 0 where
   pub points : List Bool
@@ -153,5 +152,11 @@ pub record IsState (limits : Limits) (entries : List Entry) : Type 0 where
   pub in_phase : (pid : ℕ) → IsInPhase limits entries (length entries) pid (phase_of (owners.page pid))
   pub only_phase : (pid : ℕ) (phase : Phase) → IsInPhase limits entries (length entries) pid phase → phase ≡ phase_of (owners.page pid)
   pub phases : KeepsPhases limits entries
-  pub unused : IsUnused entries
+  pub times : Times
+  pub timed : Timed limits (memory_of limits entries) owners (knows entries) (length entries) times
+  -- what is in limbos was taken out, stamped and passed as the limbos say, and what was freed is freed by the rule
+  pub limbo_rows : (actor row : ℕ) → IsInLimbo entries actor (UnlinksRow limits entries actor row) (HandsRow row) ((knows entries actor).limbo_rows row)
+  pub limbo_pids : (actor pid : ℕ) → IsInLimbo entries actor (UnlinksPid limits entries actor pid) (HandsPid pid) ((knows entries actor).limbo_pids pid)
+  pub freed : IsFreedByRule limits entries
   pub indexed : IsIndexedAlong limits entries owners
+  pub rooted : (actor page : ℕ) → (knows entries actor).roots page ≡ true → (level : ℕ) × IsFirst owners level page

@@ -1,11 +1,22 @@
-use Rattle.std.proofs.Common.{refl, sym, ◌∙◌}
+use Rattle.std.proofs.Common.{refl, sym, ap, ◌∙◌}
 use Rattle.bw_model.specs.declared.step.Answer.TheVariants.{Number}
 use Rattle.op_machine.specs.declared.op.State.TheVariants.{Slot}
 use Rattle.op_machine.specs.declared.op.Want.TheVariants.{Step}
-use Rattle.op_machine.specs.Wants.{Op}
-use Rattle.op_machine.proofs.Moves.{advances, entered, read_root}
+use Rattle.op_machine.specs.Wants.{Op, wanted_of}
+use Rattle.op_machine.proofs.Moves.{advances, entered, read_epoch, read_root}
 use Rattle.op_machine.proofs.Spending.{slot_held, spends_at}
 use Rattle.op_machine.proofs.op.Op.next.Goals as goal
+
+pub returns-in-Epoch-clause-obeys : goal.returns-in-Epoch-clause-obeys
+returns-in-Epoch-clause-obeys c =
+    rw (← c.self.view_is) (advances _ _ _ _ _ _ _ _ (sym c.replace.ensures.value ∙ c.in-Epoch.is) c.into_number-epoch.ensures (λ k h f. c.ask-in-Epoch.ensures.goes _ _ (read_epoch c.self.inside.limits c.self.inside.actor k c.self.inside.command c.self.inside.part _ c.into_number-epoch.result f.0.0 h)))
+
+pub returns-in-Epoch-clause-enters : goal.returns-in-Epoch-clause-enters
+returns-in-Epoch-clause-enters c epoch is e =
+    let w = (returns-in-Epoch-clause-obeys c c.requires.told.k c.requires.told.shows c.requires.told.fits).wanted in
+    let n = sym e ∙ c.into_number-epoch.ensures in
+    let new = ap wanted_of c.ask-in-Epoch.ensures.moved in
+    cc
 
 pub returns-in-Enter-clause-obeys : goal.returns-in-Enter-clause-obeys
 returns-in-Enter-clause-obeys c =
