@@ -55,7 +55,7 @@ base_over chain (Merge merge) plain e = absurd plain
 base_over chain (Unterm unterm) plain e = absurd plain
 
 -- The actor knows of an update that it linked, and goes on knowing of it.
-pub linked_by_update : (chain : List Record) (content : Record) (old new : ℕ) (k : Knowledge) → IsPlainOver chain content → IsUpdateLink (record_link content) → IsSome (linked_over (Written content) old new k).linked
+pub linked_by_update : (chain : List Record) (content : Record) (old new : ℕ) (k : Knowledge) → IsPlainOver chain content → IsUpdateLink (record_link content) → IsSome (linked_over (Written content) old new k).asked.linked
 linked_by_update chain (Base page) old new k plain (inl e) = absurd (cc)
 linked_by_update chain (Base page) old new k plain (inr e) = absurd (cc)
 linked_by_update chain (Put put) old new k plain h = refl
@@ -67,7 +67,7 @@ linked_by_update chain (Remove remove) old new k plain h = absurd plain
 linked_by_update chain (Merge merge) old new k plain h = absurd plain
 linked_by_update chain (Unterm unterm) old new k plain h = absurd plain
 
-linked_stays : (chain : List Record) (content : Record) (old new : ℕ) (k : Knowledge) → IsPlainOver chain content → IsSome k.linked → IsSome (linked_over (Written content) old new k).linked
+linked_stays : (chain : List Record) (content : Record) (old new : ℕ) (k : Knowledge) → IsPlainOver chain content → IsSome k.asked.linked → IsSome (linked_over (Written content) old new k).asked.linked
 linked_stays chain (Base page) old new k plain h = h
 linked_stays chain (Put put) old new k plain h = refl
 linked_stays chain (Delete delete) old new k plain h = refl
@@ -89,18 +89,18 @@ module _ (limits : Limits) (entries : List Entry) (a : ℕ) where
     pub content : Record
     pub plain : IsPlainOver chain content
     pub link : link_of (memory_of limits entries) slot old new ≡ Some (record_link content)
-    pub once : IsUpdateLink (record_link content) → k.linked ≡ None
+    pub once : IsUpdateLink (record_link content) → k.asked.linked ≡ None
     pub learns : learn k (Exchange slot old new) (Whether true) ≡ linked_over (Written content) old new k
 
   -- what its actor has linked it goes on knowing
-  pub linked_kept : (s : StepOf Record) (x : Answer Record) → ((slot old new : ℕ) → s ≡ Exchange slot old new → x ≡ Whether true → IsPlainChange slot old new) → IsSome k.linked → IsSome (learn k s x).linked
+  pub linked_kept : (s : StepOf Record) (x : Answer Record) → ((slot old new : ℕ) → s ≡ Exchange slot old new → x ≡ Whether true → IsPlainChange slot old new) → IsSome k.asked.linked → IsSome (learn k s x).asked.linked
   linked_kept (Slot zero) (Number n) change h = h
   linked_kept (Slot (suc page)) (Number zero) change h = h
   linked_kept (Slot (suc page)) (Number (suc row)) change h = h
   linked_kept (Row row) (Content content) change h = h
   linked_kept Epoch (Number n) change h = h
   linked_kept (Announce other) (Number n) change h = h
-  linked_kept Leave answer change h = forgotten_some k.linked h
+  linked_kept Leave answer change h = forgotten_some k.asked.linked h
     where
       forgotten_some : (l : Option (Option ℕ)) → IsSome l → IsSome (forgotten l)
       forgotten_some None e = absurd (cc)
@@ -111,20 +111,20 @@ module _ (limits : Limits) (entries : List Entry) (a : ℕ) where
   linked_kept (TakeRow row) (Whether true) change h = h
   linked_kept (Exchange slot old new) (Whether true) change h =
       let c = change slot old new refl refl in
-      subst (λ (k' : Knowledge). IsSome k'.linked) (sym c.learns) (linked_stays c.chain c.content old new k c.plain h)
+      subst (λ (k' : Knowledge). IsSome k'.asked.linked) (sym c.learns) (linked_stays c.chain c.content old new k c.plain h)
   linked_kept s x change h = h
 
   module _ (state : IsState limits entries) where
     abbrev m : Memory
     m = memory_of limits entries
 
-    over : (x y : ℕ) (plain : IsPlainLink k x y) (w : Record) → k.rows y ≡ Written w → IsPlainOver plain.chain w
+    over : (x y : ℕ) (plain : IsPlainLink k x y) (w : Record) → k.own.rows y ≡ Written w → IsPlainOver plain.chain w
     over x y plain w e = plain_is m state.tree.good a state.leaf (state.known a) x y plain w e
 
     same_written : (v w : Record) → Written v ≡ Written w → v ≡ w
     same_written v w e = cc
 
-    once : (p x y : ℕ) → MayLink a k p x y → (plain : IsPlainLink k x y) → IsUpdateLink (record_link plain.content) → k.linked ≡ None
+    once : (p x y : ℕ) → MayLink a k p x y → (plain : IsPlainLink k x y) → IsUpdateLink (record_link plain.content) → k.asked.linked ≡ None
     once p x y (inl update) plain h = update.unlinked
     once p x y (inr (inl base)) plain h =
         elim (subst (λ w. IsUpdateLink (record_link w)) (same_written plain.content _ (sym plain.placed ∙ base.placed)) h) [ inl e ↦ absurd (cc) | inr e ↦ absurd (cc) ]

@@ -53,7 +53,7 @@ module _ (m : Memory) {log : List Update} {o : Owners} {ks : ℕ → Knowledge} 
           let same : 1 ≡ p.page = same_Some 1 p.page h.0 in
           ap o.row (row_is (m.slots 1) p.row (ap (slot_in m.slots) same ∙ h.2.is_page.head)) ∙ h.2.linked
 
-  head_linked : (b page row : ℕ) → (ks b).heads page ≡ Some row → o.row row ≡ Linked
+  head_linked : (b page row : ℕ) → (ks b).read.heads page ≡ Some row → o.row row ≡ Linked
   head_linked b page row e = (subst (λ (h : Option ℕ). HeadFits o (shared m) (logs b) page h) e ((g.sound b).heads_fit page)).2.linked
 
   short_stays : (rows' : ℕ → Option Record) → ((row : ℕ) → o.row row ≡ Linked → rows' row ≡ m.rows row) → (x : ℕ) → o.row x ≡ Linked → IsShortLeaf m.rows x → IsShortLeaf rows' x
@@ -71,13 +71,13 @@ module _ (m : Memory) {log : List Update} {o : Owners} {ks : ℕ → Knowledge} 
     abbrev k : Knowledge
     k = ks a
 
-    pub placed_stands : (row : ℕ) (w : Record) → k.rows row ≡ Written w → m.rows row ≡ Some w
+    pub placed_stands : (row : ℕ) (w : Record) → k.own.rows row ≡ Written w → m.rows row ≡ Some w
     placed_stands row w e = (subst (λ (own : OwnRow). OwnFits a (o.row row) (m.rows row) own) e (g.owns a row)).1
 
-    pub read_stands : (x : ℕ) (c : List Record) → IsChainFrom k.seen x c → IsChainFrom m.rows x c
-    read_stands x c h = read_chain_stands k.seen m.rows (λ r w e. (subst (λ (seen : Option Record). SeenFits (o.row r) (m.rows r) seen) e ((g.sound a).seen_fits r)).1) x c h
+    pub read_stands : (x : ℕ) (c : List Record) → IsChainFrom k.read.seen x c → IsChainFrom m.rows x c
+    read_stands x c h = read_chain_stands k.read.seen m.rows (λ r w e. (subst (λ (seen : Option Record). SeenFits (o.row r) (m.rows r) seen) e ((g.sound a).seen_fits r)).1) x c h
 
-    pub plain_is : (x y : ℕ) (plain : IsPlainLink k x y) (w : Record) → k.rows y ≡ Written w → IsPlainOver plain.chain w
+    pub plain_is : (x y : ℕ) (plain : IsPlainLink k x y) (w : Record) → k.own.rows y ≡ Written w → IsPlainOver plain.chain w
     plain_is x y plain w e = subst (IsPlainOver plain.chain) (let f : Written plain.content ≡ Written w = sym plain.placed ∙ e in let same : plain.content ≡ w = cc in same) plain.plain
 
     module _ (one_chain : OneChain) where
@@ -144,7 +144,7 @@ module _ (m : Memory) {log : List Update} {o : Owners} {ks : ℕ → Knowledge} 
       leaf_after (ReuseRows w bits) may plain stay = record { root = one.root; linked = one.linked; others = one.others; leaf = one.leaf }
 
     -- what the actor learns
-    same : (k' : Knowledge) → k'.heads ≡ k.heads → k'.pages ≡ k.pages → k'.roots ≡ k.roots → KnowsLeaf m.rows k'
+    same : (k' : Knowledge) → k'.read.heads ≡ k.read.heads → k'.own.pages ≡ k.own.pages → k'.read.roots ≡ k.read.roots → KnowsLeaf m.rows k'
     same k' e f g = record {
       heads = λ page row h. known.heads page row (ap (λ heads. heads page) (sym e) ∙ h);
       pageless = λ page. ap (λ pages. pages page) f ∙ known.pageless page;
@@ -155,11 +155,11 @@ module _ (m : Memory) {log : List Update} {o : Owners} {ks : ℕ → Knowledge} 
     slot_known zero n e = record {
       heads = known.heads;
       pageless = known.pageless;
-      roots = λ page h. by_test page n (λ t. cond t true (k.roots page) ≡ true → page ≡ 1) (λ i f. i ∙ sym e ∙ one.root) (λ ne f. known.roots page f) h;
+      roots = λ page h. by_test page n (λ t. cond t true (k.read.roots page) ≡ true → page ≡ 1) (λ i f. i ∙ sym e ∙ one.root) (λ ne f. known.roots page f) h;
     }
     slot_known (suc p) zero e = known
     slot_known (suc zero) (suc n) e = record {
-      heads = λ page row h. by_test page 1 (λ t. cond t (Some (suc n)) (k.heads page) ≡ Some row → IsShortLeaf m.rows row)
+      heads = λ page row h. by_test page 1 (λ t. cond t (Some (suc n)) (k.read.heads page) ≡ Some row → IsShortLeaf m.rows row)
           (λ i f. subst (IsShortLeaf m.rows) (e ∙ same_Some (suc n) row f) one.leaf)
           (λ ne f. known.heads page row f) h;
       pageless = known.pageless;

@@ -23,21 +23,21 @@ like_placed k row content told = record { inside = refl; learnt = refl; roots = 
 like_on : (a b c : Knowledge) → IsLike a b → IsLike b c → IsLike a c
 like_on a b c p q = record {
   inside = q.inside ∙ p.inside;
-  learnt = q.learnt ∙ p.learnt;
-  roots = q.roots ∙ p.roots;
-  seen = q.seen ∙ p.seen;
-  recent = q.recent ∙ p.recent;
-  heads = q.heads ∙ p.heads;
-  before = q.before ∙ p.before;
-  pages = q.pages ∙ p.pages;
-  command = q.command ∙ p.command;
-  linked = q.linked ∙ p.linked;
+  learnt = q.read.learnt ∙ p.read.learnt;
+  roots = q.read.roots ∙ p.read.roots;
+  seen = q.read.seen ∙ p.read.seen;
+  recent = q.read.recent ∙ p.read.recent;
+  heads = q.read.heads ∙ p.read.heads;
+  before = q.read.before ∙ p.read.before;
+  pages = q.own.pages ∙ p.own.pages;
+  command = q.asked.command ∙ p.asked.command;
+  linked = q.asked.linked ∙ p.asked.linked;
 }
 
 -- what may be linked stays so
 pub still_may : (actor : ℕ) (k now : Knowledge) (pid head : ℕ) (content : Record) → IsLike k now → MayInstall actor k pid head content → MayInstall actor now pid head content
 still_may actor k now pid head content like may = record {
   inside = like.inside ∙ may.inside;
-  unready = λ page row e. may.unready page row (rw (← like.pages) e);
+  unready = λ page row e. may.unready page row (rw (← like.own.pages) e);
   links = λ later row more some placed. may.links later row (like_on k now later like more) some placed;
 }

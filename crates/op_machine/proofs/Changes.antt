@@ -27,7 +27,7 @@ lowest (x ∷ xs) = refl
 pub covers_each : (chain : List Record) (key : List ℕ) → IsLeafChain chain → IsTrue (covers chain key)
 covers_each chain key leaf = rw (leaf.low, leaf.high, lowest key) refl
 
-never_ready : (k : Knowledge) → HasNoPage k → (page row : ℕ) → k.pages page ≡ Ready row → ⊥
+never_ready : (k : Knowledge) → HasNoPage k → (page row : ℕ) → k.own.pages page ≡ Ready row → ⊥
 never_ready k none page row e = let f = none page in cc
 
 -- an update fits a leaf with few items

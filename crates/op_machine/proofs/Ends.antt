@@ -38,12 +38,12 @@ module _ (limits : Limits) (actor : ℕ) (k : Knowledge) (c : Command) (part : L
   )
 
   -- what is known once a record was linked over another page's row
-  linked : (p x y : ℕ) → 0 < p → 0 < y → HasNoPage k → exchanged p x y k ≡ linked_over (k.rows y) x y k
+  linked : (p x y : ℕ) → 0 < p → 0 < y → HasNoPage k → exchanged p x y k ≡ linked_over (k.own.rows y) x y k
   linked zero x y some row none = absurd (omega arith)
   linked (suc p) x zero some row none = absurd (omega arith)
   linked (suc p) x (suc y) some row none = rw (none (suc p)) refl
 
-  updated : (u : Update) (x y : ℕ) → linked_over (Written (record_of u x)) x y k ≡ record k { rows = replaced_at y Foreign k.rows; linked = Some (Some x) }
+  updated : (u : Update) (x y : ℕ) → linked_over (Written (record_of u x)) x y k ≡ record k { own = record k.own { rows = replaced_at y Foreign k.own.rows }; asked = record k.asked { linked = Some (Some x) } }
   updated (set who key value) x y = refl
   updated (unset who key) x y = refl
 

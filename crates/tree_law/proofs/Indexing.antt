@@ -44,9 +44,9 @@ module _ {m : Shared} {log : List Update} {o : Owners} {knows : ℕ → Knowledg
       → ((i : Content) → v ≡ Some i → Reached (rank_of i) lv sep n)
       → (w : Record) → m.rows y ≡ Some w → next_row w ≡ Some x → level_in (w ∷ c) ≡ level_in c → low_in (w ∷ c) ≡ low_in c → right_in (w ∷ c) ≡ right_in c → high_in (w ∷ c) ≡ high_in c → is_removed (w ∷ c) ≡ is_removed c
       → ((k : Key) → content_in (w ∷ c) k ≡ cond (is_eq (key_cmp k sep)) v (content_in c k))
-      → (k : Knowledge) → k.rows ≡ put (knows a).rows y Foreign
-      → (OwnsPages a (record { row = put o.row y Linked; page = put o.page q n; index = put o.index lv (put_key (o.index lv) sep v) }) (record m { slots = put m.slots p (Some y) }) (knows a).pages → OwnsPages a (record { row = put o.row y Linked; page = put o.page q n; index = put o.index lv (put_key (o.index lv) sep v) }) (record m { slots = put m.slots p (Some y) }) k.pages)
-      → k.seen ≡ (knows a).seen → k.learnt ≡ (knows a).learnt → k.roots ≡ (knows a).roots → k.heads ≡ (knows a).heads → k.before ≡ (knows a).before → k.linked ≡ (knows a).linked
+      → (k : Knowledge) → k.own.rows ≡ put (knows a).own.rows y Foreign
+      → (OwnsPages a (record { row = put o.row y Linked; page = put o.page q n; index = put o.index lv (put_key (o.index lv) sep v) }) (record m { slots = put m.slots p (Some y) }) (knows a).own.pages → OwnsPages a (record { row = put o.row y Linked; page = put o.page q n; index = put o.index lv (put_key (o.index lv) sep v) }) (record m { slots = put m.slots p (Some y) }) k.own.pages)
+      → k.read.seen ≡ (knows a).read.seen → k.read.learnt ≡ (knows a).read.learnt → k.read.roots ≡ (knows a).read.roots → k.read.heads ≡ (knows a).read.heads → k.read.before ≡ (knows a).read.before → k.asked.linked ≡ (knows a).asked.linked
       → Good (record m { slots = put m.slots p (Some y) }) log (record { row = put o.row y Linked; page = put o.page q n; index = put o.index lv (put_key (o.index lv) sep v) }) (put knows a k) (put point a (point a)) (put logs a (log ∷ logs a))
   index_one p x y c f place alive s was lv sep q level covers st e had n v move fits full clears reach w wy next wl wlow wright whigh wrem finds k e0 pages e2 e3 e4 e5 e6 e7 =
       relink_one g a p x y c f place alive s was place.stage (omega arith) place.on page' index' (put_other o.page q n p (λ i. apart (sym i)) ∙ place.placed)
@@ -88,7 +88,7 @@ module _ {m : Shared} {log : List Update} {o : Owners} {knows : ℕ → Knowledg
 
   -- the exchange that links a term
   pub posts : (p x y : ℕ) → m.slots p ≡ Some x → (h : MayPost (knows a) p x y) → (r : Option Reply)
-      → Good (record m { slots = put m.slots p (Some y) }) log (record { row = put o.row y Linked; page = put o.page h.child (Placed Indexed (level_in h.below.chain) (low_in h.below.chain)); index = put o.index (level_in h.below.chain) (put_key (o.index (level_in h.below.chain)) (low_in h.below.chain) (Some (Child h.child false))) }) (put knows a (finished (filled ((knows a).pages p) p x y (knows a)) r)) (put point a (point a)) (put logs a (log ∷ logs a)) × (o.page h.child ≡ Placed Fresh (level_in h.below.chain) (low_in h.below.chain))
+      → Good (record m { slots = put m.slots p (Some y) }) log (record { row = put o.row y Linked; page = put o.page h.child (Placed Indexed (level_in h.below.chain) (low_in h.below.chain)); index = put o.index (level_in h.below.chain) (put_key (o.index (level_in h.below.chain)) (low_in h.below.chain) (Some (Child h.child false))) }) (put knows a (finished (filled ((knows a).own.pages p) p x y (knows a)) r)) (put point a (point a)) (put logs a (log ∷ logs a)) × (o.page h.child ≡ Placed Fresh (level_in h.below.chain) (low_in h.below.chain))
   posts p x y s h r = (
     subst (λ (k : Knowledge). Good (record m { slots = put m.slots p (Some y) }) log (record { row = put o.row y Linked; page = put o.page q (Placed Indexed lv sep); index = put o.index lv (put_key (o.index lv) sep (Some (Child q false))) }) (put knows a (finished k r)) (put point a (point a)) (put logs a (log ∷ logs a))) (sym learned)
         (index_one p x y c f place h.basis.alive s fits.0 lv sep q h.level (covers_from c sep h.covers) Fresh was absent (Placed Indexed lv sep) (Some (Child q false))
@@ -98,7 +98,7 @@ module _ {m : Shared} {log : List Update} {o : Owners} {knows : ℕ → Knowledg
         (λ b l' s' e. absurd (cc))
         (λ i e. subst (λ (u : Content). Reached (rank_of u) lv sep (Placed Indexed lv sep)) (same_Some (Child q false) i e) (refl, refl, (omega arith)))
         (Term (record { level = level_in c; next = x; separator = sep; child = q })) fits.1 refl refl refl refl refl refl (λ k. refl)
-        (finished (record (knows a) { rows = put (knows a).rows y Foreign }) r)
+        (finished (record (knows a) { own = record (knows a).own { rows = put (knows a).own.rows y Foreign } }) r)
         refl (λ v. v) refl refl refl refl refl refl),
     was,
   )
@@ -138,7 +138,7 @@ module _ {m : Shared} {log : List Update} {o : Owners} {knows : ℕ → Knowledg
       fresh st e (Some v) i = absurd (let j = sym absent ∙ g.tree.exact.posted q lv sep st v e lt i in cc)
 
       order : InOrder o m (log ∷ logs a) q h.row p x
-      order = subst (λ (v : Option ℕ). OrderFits o m (log ∷ logs a) q p (Some h.row) v) h.order (subst (λ (v : Option ℕ). OrderFits o m (log ∷ logs a) q p v ((knows a).before q p)) h.below.head ((mine g a).orders_fit q p))
+      order = subst (λ (v : Option ℕ). OrderFits o m (log ∷ logs a) q p (Some h.row) v) h.order (subst (λ (v : Option ℕ). OrderFits o m (log ∷ logs a) q p v ((knows a).read.before q p)) h.below.head ((mine g a).orders_fit q p))
 
       was : o.page q ≡ Placed Fresh lv sep
       was = ⊎_elim
@@ -146,12 +146,12 @@ module _ {m : Shared} {log : List Update} {o : Owners} {knows : ℕ → Knowledg
           (λ (u : (b : ℕ) × (o.page q ≡ Cleared b lv sep)). absurd (order.uncleared c h.below.chain f.stands d.stands h.basis.alive h.below.alive h.level (covers_from c sep h.covers) s (u.0, lv, sep, u.1)))
           (reached_placed 0 lv sep (o.page q) d.reached)
 
-      learned : filled ((knows a).pages p) p x y (knows a) ≡ record (knows a) { rows = put (knows a).rows y Foreign }
-      learned = rw (not_own g a p (level_in c) (low_in c) place.stage place.placed ((knows a).pages p) (g.owns_pages a p), h.placed) refl
+      learned : filled ((knows a).own.pages p) p x y (knows a) ≡ record (knows a) { own = record (knows a).own { rows = put (knows a).own.rows y Foreign } }
+      learned = rw (not_own g a p (level_in c) (low_in c) place.stage place.placed ((knows a).own.pages p) (g.owns_pages a p), h.placed) refl
 
   -- the exchange that holds a term
   pub holds : (p x y : ℕ) → m.slots p ≡ Some x → (h : MayHold (knows a) p x y) → (r : Option Reply)
-      → Good (record m { slots = put m.slots p (Some y) }) log (record { row = put o.row y Linked; page = put o.page h.child (Placed Held h.level h.key); index = put o.index h.level (put_key (o.index h.level) h.key (Some (Child h.child true))) }) (put knows a (finished (filled ((knows a).pages p) p x y (knows a)) r)) (put point a (point a)) (put logs a (log ∷ logs a)) × (o.page h.child ≡ Placed Indexed h.level h.key)
+      → Good (record m { slots = put m.slots p (Some y) }) log (record { row = put o.row y Linked; page = put o.page h.child (Placed Held h.level h.key); index = put o.index h.level (put_key (o.index h.level) h.key (Some (Child h.child true))) }) (put knows a (finished (filled ((knows a).own.pages p) p x y (knows a)) r)) (put point a (point a)) (put logs a (log ∷ logs a)) × (o.page h.child ≡ Placed Indexed h.level h.key)
   holds p x y s h r =
       let c = h.basis.chain in
       let q = h.child in
@@ -163,7 +163,7 @@ module _ {m : Shared} {log : List Update} {o : Owners} {knows : ℕ → Knowledg
       let present : o.index lv sep ≡ Some (Child q false) = term_at p x c place lv sep h.is_level (covers_from c sep h.covers) ∙ h.present in
       let n = (g.tree.exact.named lv sep (Child q false) present).1 in
       let was : o.page q ≡ Placed Indexed lv sep = n.1 ∙ ap (λ st. Placed st lv sep) (is_indexed n.0 q n.2) in
-      let learned : filled ((knows a).pages p) p x y (knows a) ≡ record (knows a) { rows = put (knows a).rows y Foreign } = rw (not_own g a p (level_in c) (low_in c) place.stage place.placed ((knows a).pages p) (g.owns_pages a p), h.placed) refl in (
+      let learned : filled ((knows a).own.pages p) p x y (knows a) ≡ record (knows a) { own = record (knows a).own { rows = put (knows a).own.rows y Foreign } } = rw (not_own g a p (level_in c) (low_in c) place.stage place.placed ((knows a).own.pages p) (g.owns_pages a p), h.placed) refl in (
         subst (λ (k : Knowledge). Good (record m { slots = put m.slots p (Some y) }) log (record { row = put o.row y Linked; page = put o.page q (Placed Held lv sep); index = put o.index lv (put_key (o.index lv) sep (Some (Child q true))) }) (put knows a (finished k r)) (put point a (point a)) (put logs a (log ∷ logs a))) (sym learned)
             (index_one p x y c f place h.basis.alive s fits.0 lv sep q h.is_level (covers_from c sep h.covers) Indexed was present (Placed Held lv sep) (Some (Child q true))
             (go Indexed Held lv sep was refl (omega arith) (omega arith) refl)
@@ -172,7 +172,7 @@ module _ {m : Shared} {log : List Update} {o : Owners} {knows : ℕ → Knowledg
             (λ b l' s' e. absurd (cc))
             (λ i e. subst (λ (u : Content). Reached (rank_of u) lv sep (Placed Held lv sep)) (same_Some (Child q true) i e) (refl, refl, (omega arith)))
             (Hold (record { level = level_in c; next = x; separator = sep; child = q })) fits.1 refl refl refl refl refl refl (λ k. refl)
-            (finished (record (knows a) { rows = put (knows a).rows y Foreign }) r)
+            (finished (record (knows a) { own = record (knows a).own { rows = put (knows a).own.rows y Foreign } }) r)
             refl (λ v. v) refl refl refl refl refl refl),
         was,
       )
@@ -186,7 +186,7 @@ module _ {m : Shared} {log : List Update} {o : Owners} {knows : ℕ → Knowledg
 
   -- the exchange that takes a held term away
   pub unterms : (p x y : ℕ) → m.slots p ≡ Some x → (h : MayUnterm (knows a) p x y) → (r : Option Reply)
-      → Good (record m { slots = put m.slots p (Some y) }) log (record { row = put o.row y Linked; page = put o.page h.child (Cleared a (level_in h.below.chain) h.key); index = put o.index (level_in h.below.chain) (put_key (o.index (level_in h.below.chain)) h.key None) }) (put knows a (finished (filled ((knows a).pages p) p x y (knows a)) r)) (put point a (point a)) (put logs a (log ∷ logs a)) × (o.page h.child ≡ Placed Merged (level_in h.below.chain) h.key)
+      → Good (record m { slots = put m.slots p (Some y) }) log (record { row = put o.row y Linked; page = put o.page h.child (Cleared a (level_in h.below.chain) h.key); index = put o.index (level_in h.below.chain) (put_key (o.index (level_in h.below.chain)) h.key None) }) (put knows a (finished (filled ((knows a).own.pages p) p x y (knows a)) r)) (put point a (point a)) (put logs a (log ∷ logs a)) × (o.page h.child ≡ Placed Merged (level_in h.below.chain) h.key)
   unterms p x y s h r = (
     subst (λ (k : Knowledge). Good (record m { slots = put m.slots p (Some y) }) log (record { row = put o.row y Linked; page = put o.page q (Cleared a lv sep); index = put o.index lv (put_key (o.index lv) sep None) }) (put knows a (finished k r)) (put point a (point a)) (put logs a (log ∷ logs a))) (sym learned)
         (index_one p x y c f place h.basis.alive s fits.0 lv sep q h.level (covers_from c sep h.covers) Merged was present (Cleared a lv sep) None
@@ -196,9 +196,9 @@ module _ {m : Shared} {log : List Update} {o : Owners} {knows : ℕ → Knowledg
         (λ b l' s' e. cc)
         (λ i e. absurd (cc))
         (Unterm (record { level = level_in c; next = x; separator = sep; child = q })) fits.1 refl refl refl refl refl refl (λ k. refl)
-        (finished (record (knows a) { rows = put (knows a).rows y Foreign; pages = put (knows a).pages q Gone }) r)
+        (finished (record (knows a) { own = record (knows a).own { rows = put (knows a).own.rows y Foreign; pages = put (knows a).own.pages q Gone } }) r)
         refl
-        (λ v j. by_test j q (λ t. PageFits a (cond t (Cleared a lv sep) (o.page j)) (put m.slots p (Some y) j) (cond t Gone ((knows a).pages j))) (λ i. (lv, sep, refl)) (λ ne. subst (λ (w : PageOwner). PageFits a w (put m.slots p (Some y) j) ((knows a).pages j)) (put_other o.page q (Cleared a lv sep) j ne) (v j)))
+        (λ v j. by_test j q (λ t. PageFits a (cond t (Cleared a lv sep) (o.page j)) (put m.slots p (Some y) j) (cond t Gone ((knows a).own.pages j))) (λ i. (lv, sep, refl)) (λ ne. subst (λ (w : PageOwner). PageFits a w (put m.slots p (Some y) j) ((knows a).own.pages j)) (put_other o.page q (Cleared a lv sep) j ne) (v j)))
         refl refl refl refl refl refl),
     was,
   )
@@ -231,7 +231,7 @@ module _ {m : Shared} {log : List Update} {o : Owners} {knows : ℕ → Knowledg
       present = term_at p x c place lv sep h.level (covers_from c sep h.covers) ∙ h.present
 
       order : InOrder o m (log ∷ logs a) h.left h.row p x
-      order = subst (λ (v : Option ℕ). OrderFits o m (log ∷ logs a) h.left p (Some h.row) v) h.order (subst (λ (v : Option ℕ). OrderFits o m (log ∷ logs a) h.left p v ((knows a).before h.left p)) h.below.head ((mine g a).orders_fit h.left p))
+      order = subst (λ (v : Option ℕ). OrderFits o m (log ∷ logs a) h.left p (Some h.row) v) h.order (subst (λ (v : Option ℕ). OrderFits o m (log ∷ logs a) h.left p v ((knows a).read.before h.left p)) h.below.head ((mine g a).orders_fit h.left p))
 
       merged : Reached 4 lv sep (o.page q)
       merged = order.merged c h.below.chain sep q f.stands d.stands h.basis.alive h.below.alive h.level (covers_from c sep h.covers) h.present h.above h.within h.apart
@@ -255,5 +255,5 @@ module _ {m : Shared} {log : List Update} {o : Owners} {knows : ℕ → Knowledg
           let z : y ≡ x' = same_Some y x' (sym (put_same m.slots p (Some y)) ∙ ap (put m.slots p (Some y)) same ∙ now) in
           absurd (let u = sym fits.0 ∙ ap o.row z ∙ l' in cc)
 
-      learned : filled ((knows a).pages p) p x y (knows a) ≡ record (knows a) { rows = put (knows a).rows y Foreign; pages = put (knows a).pages q Gone }
-      learned = rw (not_own g a p (level_in c) (low_in c) place.stage place.placed ((knows a).pages p) (g.owns_pages a p), h.placed) refl
+      learned : filled ((knows a).own.pages p) p x y (knows a) ≡ record (knows a) { own = record (knows a).own { rows = put (knows a).own.rows y Foreign; pages = put (knows a).own.pages q Gone } }
+      learned = rw (not_own g a p (level_in c) (low_in c) place.stage place.placed ((knows a).own.pages p) (g.owns_pages a p), h.placed) refl

@@ -27,7 +27,7 @@ use Rattle.tree_law.proofs.Relinking.{placed_level, not_off, Found, not_own, fou
 use Rattle.tree_law.proofs.Updating.{below_top}
 
 module _ {m : Shared} {log : List Update} {o : Owners} {knows : ℕ → Knowledge} {point : ℕ → Option (List Update)} {logs : ℕ → List (List Update)} (g : Good m log o knows point logs) (a : ℕ) where
-  pub clears : (p x : ℕ) → m.slots p ≡ Some x → (knows a).pages p ≡ Gone → (r : Option Reply) → Good (record m { slots = put m.slots p None }) log o (put knows a (finished (emptied ((knows a).pages p) p x (knows a)) r)) (put point a (point a)) (put logs a (log ∷ logs a))
+  pub clears : (p x : ℕ) → m.slots p ≡ Some x → (knows a).own.pages p ≡ Gone → (r : Option Reply) → Good (record m { slots = put m.slots p None }) log o (put knows a (finished (emptied ((knows a).own.pages p) p x (knows a)) r)) (put point a (point a)) (put logs a (log ∷ logs a))
   clears p x s own r =
       subst (λ (k : Knowledge). Good m' log o (put knows a (finished k r)) (put point a (point a)) (put logs a (log ∷ logs a))) (sym learned)
       (put_good g a m' log o (finished k r) (point a) (log ∷ logs a)
@@ -38,7 +38,7 @@ module _ {m : Shared} {log : List Update} {o : Owners} {knows : ℕ → Knowledg
       (λ j l k i. by_test j p (λ t. IsOut (o.page j) (cond t None (m.slots j)) ⊎ Off o m' j l k) (λ e. inl (refl, (a, was.0, was.1, ap o.page e ∙ was.2)))
       (λ ne. subst (λ (v : Option ℕ). IsOut (o.page j) v ⊎ Off o m' j l k) (put_other m.slots p None j ne) (off_still g a o m' kept j l k (put_other m.slots p None j ne) (g.tree.off j l k i)))))
       (g.owns a)
-      (λ j. by_test j p (λ t. PageFits a (o.page j) (cond t None (m.slots j)) (cond t Other ((knows a).pages j))) (λ i. tt) (λ i. g.owns_pages a j))
+      (λ j. by_test j p (λ t. PageFits a (o.page j) (cond t None (m.slots j)) (cond t Other ((knows a).own.pages j))) (λ i. tt) (λ i. g.owns_pages a j))
       (mine_at g a o m' kept))
     where
       was : (l : ℕ) × (k : Key) × (o.page p ≡ Cleared a l k)
@@ -54,22 +54,22 @@ module _ {m : Shared} {log : List Update} {o : Owners} {knows : ℕ → Knowledg
       kept = kept_change a o o m m' change
 
       k : Knowledge
-      k = record (knows a) { pages = put (knows a).pages p Other; limbo_rows = taken_out (knows a).seen x (knows a).limbo_rows; limbo_pids = put (knows a).limbo_pids p Unstamped }
+      k = record (knows a) { own = record (knows a).own { pages = put (knows a).own.pages p Other }; limbo = record (knows a).limbo { rows = taken_out (knows a).read.seen x (knows a).limbo.rows; pids = put (knows a).limbo.pids p Unstamped } }
 
-      learned : emptied ((knows a).pages p) p x (knows a) ≡ k
+      learned : emptied ((knows a).own.pages p) p x (knows a) ≡ k
       learned = rw own refl
 
   -- a page that was read removed is as it was read
-  pub frozen_as : (p x : ℕ) → (knows a).heads p ≡ Some x → (c : List Record) → IsChain (knows a).seen c (Some x) → is_removed c ≡ true → (m.slots p ≡ Some x) ⊎ IsCleared (o.page p)
+  pub frozen_as : (p x : ℕ) → (knows a).read.heads p ≡ Some x → (c : List Record) → IsChain (knows a).read.seen c (Some x) → is_removed c ≡ true → (m.slots p ≡ Some x) ⊎ IsCleared (o.page p)
   frozen_as p x e c h n =
       let f = subst (λ (v : Option ℕ). HeadFits o m (log ∷ logs a) p v) e ((mine g a).heads_fit p) in
-      f.4 (ap is_removed (chain_unique m.rows f.2.chain c (Some x) f.2.is_chain (chain_stands o m (knows a).seen (mine g a).seen_fits c (Some x) h)) ∙ n)
+      f.4 (ap is_removed (chain_unique m.rows f.2.chain c (Some x) f.2.is_chain (chain_stands o m (knows a).read.seen (mine g a).seen_fits c (Some x) h)) ∙ n)
 
   -- the exchange that merges a page's right into it
-  pub merges : (p x y : ℕ) → m.slots p ≡ Some x → (h : MayMerge (knows a) p x y) → (r : Option Reply) → Good (record m { slots = put m.slots p (Some y) }) log (record { row = put o.row y Linked; page = put o.page h.other (Placed Merged (level_in h.basis.chain) (low_in h.chain)); index = o.index }) (put knows a (finished (filled ((knows a).pages p) p x y (knows a)) r)) (put point a (point a)) (put logs a (log ∷ logs a)) × (o.page h.other ≡ Placed Removed (level_in h.basis.chain) (low_in h.chain))
+  pub merges : (p x y : ℕ) → m.slots p ≡ Some x → (h : MayMerge (knows a) p x y) → (r : Option Reply) → Good (record m { slots = put m.slots p (Some y) }) log (record { row = put o.row y Linked; page = put o.page h.other (Placed Merged (level_in h.basis.chain) (low_in h.chain)); index = o.index }) (put knows a (finished (filled ((knows a).own.pages p) p x y (knows a)) r)) (put point a (point a)) (put logs a (log ∷ logs a)) × (o.page h.other ≡ Placed Removed (level_in h.basis.chain) (low_in h.chain))
   merges p x y s h r = (
     subst (λ (k : Knowledge). Good m' log o' (put knows a (finished k r)) (put point a (point a)) (put logs a (log ∷ logs a))) (sym learned)
-        (put_good g a m' log o' (finished (record (knows a) { rows = put (knows a).rows y Foreign }) r) (point a) (log ∷ logs a)
+        (put_good g a m' log o' (finished (record (knows a) { own = record (knows a).own { rows = put (knows a).own.rows y Foreign } }) r) (point a) (log ∷ logs a)
         change
         (record {
           row = λ j f. put_other o.row y Linked j (λ i. absurd (let r = g.frees.row j f in let z = ap o.row i ∙ fits.0 in cc)) ∙ g.frees.row j f;
@@ -93,11 +93,11 @@ module _ {m : Shared} {log : List Update} {o : Owners} {knows : ℕ → Knowledg
         (λ j l k. by_test j q (λ t. IsOff (cond t gone (o.page j)) l k → IsOut (put o.page q gone j) (put m.slots p (Some y) j) ⊎ Off o' m' j l k)
         (λ i e. let z = at_off l k e in inr (record { row = h.row; chain = d; head = put_other m.slots p (Some y) j (λ u. apart (sym i ∙ u)) ∙ ap m.slots i ∙ slot; linked = (kept.row h.row fd.linked).0; is_chain = chain_kept o o' m m' g.closed kept d (Some h.row) fd.linked fd.stands; flagged = h.gone; level = level ∙ z.0; low = z.1 }))
         (λ i e. off_still g a o' m' kept j l k (put_other m.slots p (Some y) j (λ u. not_off place.stage lv (low_in c) l k place.on (subst (λ (v : PageOwner). IsOff v l k) (ap o.page u ∙ place.placed) e))) (g.tree.off j l k e))))
-        (put_all (λ j v. OwnFits a (o'.row j) (m.rows j) v) (knows a).rows y Foreign tt (λ j ne. rw (put_other o.row y Linked j ne) (g.owns a j)))
-        (λ j. by_test j q (λ t. PageFits a (cond t gone (o.page j)) (put m.slots p (Some y) j) ((knows a).pages j))
-        (λ i. subst (λ (v : OwnPage). PageFits a gone (put m.slots p (Some y) j) v) (sym (not_own g a j lv sq Removed (ap o.page i ∙ was) ((knows a).pages j) (g.owns_pages a j))) tt)
-        (λ i. by_test j p (λ t. PageFits a (o.page j) (cond t (Some y) (m.slots j)) ((knows a).pages j))
-        (λ i. subst (λ (v : OwnPage). PageFits a (o.page j) (Some y) v) (sym (not_own g a j lv (low_in c) place.stage (ap o.page i ∙ place.placed) ((knows a).pages j) (g.owns_pages a j))) tt)
+        (put_all (λ j v. OwnFits a (o'.row j) (m.rows j) v) (knows a).own.rows y Foreign tt (λ j ne. rw (put_other o.row y Linked j ne) (g.owns a j)))
+        (λ j. by_test j q (λ t. PageFits a (cond t gone (o.page j)) (put m.slots p (Some y) j) ((knows a).own.pages j))
+        (λ i. subst (λ (v : OwnPage). PageFits a gone (put m.slots p (Some y) j) v) (sym (not_own g a j lv sq Removed (ap o.page i ∙ was) ((knows a).own.pages j) (g.owns_pages a j))) tt)
+        (λ i. by_test j p (λ t. PageFits a (o.page j) (cond t (Some y) (m.slots j)) ((knows a).own.pages j))
+        (λ i. subst (λ (v : OwnPage). PageFits a (o.page j) (Some y) v) (sym (not_own g a j lv (low_in c) place.stage (ap o.page i ∙ place.placed) ((knows a).own.pages j) (g.owns_pages a j))) tt)
         (λ i. g.owns_pages a j)))
         (mine_at g a o' m' kept)),
     was,
@@ -214,5 +214,5 @@ module _ {m : Shared} {log : List Update} {o : Owners} {knows : ℕ → Knowledg
         };
       }
 
-      learned : filled ((knows a).pages p) p x y (knows a) ≡ record (knows a) { rows = put (knows a).rows y Foreign }
-      learned = rw (not_own g a p lv (low_in c) place.stage place.placed ((knows a).pages p) (g.owns_pages a p), h.placed) refl
+      learned : filled ((knows a).own.pages p) p x y (knows a) ≡ record (knows a) { own = record (knows a).own { rows = put (knows a).own.rows y Foreign } }
+      learned = rw (not_own g a p lv (low_in c) place.stage place.placed ((knows a).own.pages p) (g.owns_pages a p), h.placed) refl

@@ -33,10 +33,10 @@ module _ {m : Shared} {log : List Update} {o : Owners} {knows : ℕ → Knowledg
   keeps_not q e l s st f = absurd (let i = sym e ∙ f in cc)
 
   -- the exchange that links a split
-  pub splits : (p x y : ℕ) → m.slots p ≡ Some x → (h : MaySplit (knows a) p x y) → (r : Option Reply) → Good (record m { slots = put m.slots p (Some y) }) log (record { row = put (put o.row h.row Linked) y Linked; page = put o.page h.right (Placed Fresh (level_in h.basis.chain) h.separator); index = o.index }) (put knows a (finished (filled ((knows a).pages p) p x y (knows a)) r)) (put point a (point a)) (put logs a (log ∷ logs a)) × ((st : Stage) × (o.page p ≡ Placed st (level_in h.basis.chain) (low_in h.basis.chain)) × (o.page h.right ≡ Keeps a))
+  pub splits : (p x y : ℕ) → m.slots p ≡ Some x → (h : MaySplit (knows a) p x y) → (r : Option Reply) → Good (record m { slots = put m.slots p (Some y) }) log (record { row = put (put o.row h.row Linked) y Linked; page = put o.page h.right (Placed Fresh (level_in h.basis.chain) h.separator); index = o.index }) (put knows a (finished (filled ((knows a).own.pages p) p x y (knows a)) r)) (put point a (point a)) (put logs a (log ∷ logs a)) × ((st : Stage) × (o.page p ≡ Placed st (level_in h.basis.chain) (low_in h.basis.chain)) × (o.page h.right ≡ Keeps a))
   splits p x y s h r = (
     subst (λ (k : Knowledge). Good m' log o' (put knows a (finished k r)) (put point a (point a)) (put logs a (log ∷ logs a))) (sym learned)
-        (put_good g a m' log o' (finished (record (knows a) { rows = put (put (knows a).rows h.row Foreign) y Foreign; pages = put (knows a).pages h.right Other }) r) (point a) (log ∷ logs a)
+        (put_good g a m' log o' (finished (record (knows a) { own = record (knows a).own { rows = put (put (knows a).own.rows h.row Foreign) y Foreign; pages = put (knows a).own.pages h.right Other } }) r) (point a) (log ∷ logs a)
         change
         (record {
           row = λ j f. by_test j y (λ t. cond t Linked (put o.row h.row Linked j) ≡ Free) (λ i. absurd (let v = g.frees.row j f in let w = ap o.row i ∙ upper.0 in cc))
@@ -94,11 +94,11 @@ module _ {m : Shared} {log : List Update} {o : Owners} {knows : ℕ → Knowledg
         (λ q l k. by_test q h.right (λ t. IsOff (cond t (Placed Fresh (level_in c) h.separator) (o.page q)) l k → IsOut (o'.page q) (put m.slots p (Some y) q) ⊎ Off o' m' q l k)
         (λ i e. absurd (not_off Fresh (level_in c) h.separator l k (omega arith) e))
         (λ i e. off_still g a o' m' kept q l k (put_other m.slots p (Some y) q (λ j. not_off place.stage (level_in c) (low_in c) l k place.on (subst (λ (v : PageOwner). IsOff v l k) (ap o.page j ∙ place.placed) e))) (g.tree.off q l k e))))
-        (λ j. by_test j y (λ t. OwnFits a (cond t Linked (put o.row h.row Linked j)) (m.rows j) (cond t Foreign (put (knows a).rows h.row Foreign j))) (λ i. tt)
-        (λ i. by_test j h.row (λ t. OwnFits a (cond t Linked (o.row j)) (m.rows j) (cond t Foreign ((knows a).rows j))) (λ i. tt) (λ i. g.owns a j)))
-        (λ j. by_test j h.right (λ t. PageFits a (cond t (Placed Fresh (level_in c) h.separator) (o.page j)) (put m.slots p (Some y) j) (cond t Other ((knows a).pages j))) (λ i. tt)
-        (λ i. by_test j p (λ t. PageFits a (o.page j) (cond t (Some y) (m.slots j)) ((knows a).pages j))
-        (λ i. subst (λ (v : OwnPage). PageFits a (o.page j) (Some y) v) (sym (not_own g a j (level_in c) (low_in c) place.stage (ap o.page i ∙ place.placed) ((knows a).pages j) (g.owns_pages a j))) tt)
+        (λ j. by_test j y (λ t. OwnFits a (cond t Linked (put o.row h.row Linked j)) (m.rows j) (cond t Foreign (put (knows a).own.rows h.row Foreign j))) (λ i. tt)
+        (λ i. by_test j h.row (λ t. OwnFits a (cond t Linked (o.row j)) (m.rows j) (cond t Foreign ((knows a).own.rows j))) (λ i. tt) (λ i. g.owns a j)))
+        (λ j. by_test j h.right (λ t. PageFits a (cond t (Placed Fresh (level_in c) h.separator) (o.page j)) (put m.slots p (Some y) j) (cond t Other ((knows a).own.pages j))) (λ i. tt)
+        (λ i. by_test j p (λ t. PageFits a (o.page j) (cond t (Some y) (m.slots j)) ((knows a).own.pages j))
+        (λ i. subst (λ (v : OwnPage). PageFits a (o.page j) (Some y) v) (sym (not_own g a j (level_in c) (low_in c) place.stage (ap o.page i ∙ place.placed) ((knows a).own.pages j) (g.owns_pages a j))) tt)
         (λ i. g.owns_pages a j)))
         (mine_at g a o' m' kept)),
     (place.stage, place.placed, ready.0),
@@ -154,5 +154,5 @@ module _ {m : Shared} {log : List Update} {o : Owners} {knows : ℕ → Knowledg
       kept : Kept o o' m m'
       kept = kept_change a o o' m m' change
 
-      learned : filled ((knows a).pages p) p x y (knows a) ≡ record (knows a) { rows = put (put (knows a).rows h.row Foreign) y Foreign; pages = put (knows a).pages h.right Other }
-      learned = rw (not_own g a p (level_in c) (low_in c) place.stage place.placed ((knows a).pages p) (g.owns_pages a p), h.placed, h.ready) refl
+      learned : filled ((knows a).own.pages p) p x y (knows a) ≡ record (knows a) { own = record (knows a).own { rows = put (put (knows a).own.rows h.row Foreign) y Foreign; pages = put (knows a).own.pages h.right Other } }
+      learned = rw (not_own g a p (level_in c) (low_in c) place.stage place.placed ((knows a).own.pages p) (g.owns_pages a p), h.placed, h.ready) refl

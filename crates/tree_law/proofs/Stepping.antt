@@ -84,44 +84,44 @@ module _ (memory : Memory) {log : List Update} {o : Owners} {knows : ℕ → Kno
   same_added : {rows : ℕ → Option Record} (row : ℕ) → o.row row ≡ Linked → (o.row row ≡ Linked) ⊎ IsAdded o rows row
   same_added row l = inl l
 
-  spare_of : {w : Record} (y : ℕ) → (knows a).rows y ≡ Written w → o.row y ≡ Spare a
+  spare_of : {w : Record} (y : ℕ) → (knows a).own.rows y ≡ Written w → o.row y ≡ Spare a
   spare_of {w} y e = (subst (λ (v : OwnRow). OwnFits a (o.row y) (memory.rows y) v) e (g.owns a y)).0
 
-  ready_slot : (p r : ℕ) → (knows a).pages p ≡ Ready r → slot_in memory.slots p ≡ Some r
+  ready_slot : (p r : ℕ) → (knows a).own.pages p ≡ Ready r → slot_in memory.slots p ≡ Some r
   ready_slot p r e = (subst (λ (v : OwnPage). PageFits a (o.page p) (slot_in memory.slots p) v) e (g.owns_pages a p)).1
 
   linked_moved : (y : ℕ) → o.row y ≡ Spare a → (row : ℕ) → IsMoved a (memory.free_rows row) (o.row row) (put o.row y Linked row)
   linked_moved y spare row = by_test row y (λ t. IsMoved a (memory.free_rows row) (o.row row) (cond t Linked (o.row row))) (λ e. inr (inr (ap o.row e ∙ spare, refl))) (λ ne. inl refl)
 
   -- a delta is linked over the chain that was read
-  adds : (x y : ℕ) (w : Record) → (knows a).rows y ≡ Written w → next_row w ≡ Some x → MayAdd (knows a) x y → IsAdded o memory.rows y
+  adds : (x y : ℕ) (w : Record) → (knows a).own.rows y ≡ Written w → next_row w ≡ Some x → MayAdd (knows a) x y → IsAdded o memory.rows y
   adds x y w placed next h =
       let same : h.content ≡ w = let e = h.placed in let f = placed in cc in
       record {
         content = w;
         stands = placed_row g a y w placed;
         under = h.chain;
-        is_under = rw next (chain_stands o (shared memory) (knows a).seen (g.sound a).seen_fits h.chain (Some x) h.read);
-        next = rw next (read_linked o (shared memory) (knows a).seen (g.sound a).seen_fits h.chain x h.read);
+        is_under = rw next (chain_stands o (shared memory) (knows a).read.seen (g.sound a).seen_fits h.chain (Some x) h.read);
+        next = rw next (read_linked o (shared memory) (knows a).read.seen (g.sound a).seen_fits h.chain x h.read);
         fits = subst (FitsOn h.chain) same h.fits;
       }
 
   -- a base is linked
-  based : {page : Page} (y : ℕ) → (knows a).rows y ≡ Written (Base page) → IsFitted (Base page ∷ []) → IsAdded o memory.rows y
+  based : {page : Page} (y : ℕ) → (knows a).own.rows y ≡ Written (Base page) → IsFitted (Base page ∷ []) → IsAdded o memory.rows y
   based {page} y placed fits = record { content = Base page; stands = placed_row g a y (Base page) placed; under = []; is_under = refl; next = tt; fits = fits }
 
   linked_added : (y : ℕ) → IsAdded o memory.rows y → (row : ℕ) → put o.row y Linked row ≡ Linked → (o.row row ≡ Linked) ⊎ IsAdded o memory.rows row
   linked_added y h row l = by_test row y (λ t. cond t Linked (o.row row) ≡ Linked → (o.row row ≡ Linked) ⊎ IsAdded o memory.rows row) (λ e i. inr (subst (IsAdded o memory.rows) (sym e) h)) (λ ne i. inl i) l
 
   -- the new row of a slot is linked
-  linked_homed : (p x y : ℕ) (w : Record) → (knows a).rows (suc y) ≡ Written w → IfSome (next_row w) (λ n. n ≡ x) → (row : ℕ) → put o.row (suc y) Linked row ≡ Linked → (o.row row ≡ Linked) ⊎ IsHomed (shared memory) (Exchange (suc p) x (suc y)) (Whether true) row
+  linked_homed : (p x y : ℕ) (w : Record) → (knows a).own.rows (suc y) ≡ Written w → IfSome (next_row w) (λ n. n ≡ x) → (row : ℕ) → put o.row (suc y) Linked row ≡ Linked → (o.row row ≡ Linked) ⊎ IsHomed (shared memory) (Exchange (suc p) x (suc y)) (Whether true) row
   linked_homed p x y w placed next row l = by_test row (suc y) (λ t. cond t Linked (o.row row) ≡ Linked → (o.row row ≡ Linked) ⊎ IsHomed (shared memory) (Exchange (suc p) x (suc y)) (Whether true) row) (λ e i. inr (inl (w, e, ap memory.rows e ∙ placed_row g a (suc y) w placed, next))) (λ ne i. inl i) l
 
   -- a row that was the actor's own is linked
   linked_rows : (y : ℕ) (row : ℕ) → o.row row ≡ Linked → (put o.row y Linked row ≡ Linked) × (memory.rows row ≡ memory.rows row)
   linked_rows y row l = (by_test row y (λ t. cond t Linked (o.row row) ≡ Linked) (λ e. refl) (λ ne. l), refl)
 
-  reads : (p n : ℕ) (r : Option Reply) → memory.slots (suc p) ≡ n → IsTrue ((knows a).roots (suc p)) ⊎ IsMet (knows a) (suc p) → After memory (Slot (suc p)) (Number n) r
+  reads : (p n : ℕ) (r : Option Reply) → memory.slots (suc p) ≡ n → IsTrue ((knows a).read.roots (suc p)) ⊎ IsMet (knows a) (suc p) → After memory (Slot (suc p)) (Number n) r
   reads p zero r e met = record { update = None; due = tt; last = λ i. refl; owners = o; phased = refl; moved = same_moved; added = same_added; homed = λ row l. inl l; kept = same_rows; good = idles g a (finished (knows a) r) refl refl refl refl refl refl refl refl }
   reads p (suc n) r e met =
       let here = met_placed g a (suc p) met in
@@ -310,7 +310,7 @@ module _ (memory : Memory) {log : List Update} {o : Owners} {knows : ℕ → Kno
           due = tt;
           last = λ i. refl;
           owners = record { row = put o.row (suc y) Linked; page = put o.page h.other (Placed Merged (level_in h.basis.chain) (low_in h.chain)); index = o.index };
-          phased = (w, placed_row g a (suc y) w h.placed, (h.other, level_in h.basis.chain, n.1, refl, (suc x, h.basis.chain, s, chain_stands o (shared memory) (knows a).seen (g.sound a).seen_fits h.basis.chain (Some (suc x)) h.basis.read, h.right)));
+          phased = (w, placed_row g a (suc y) w h.placed, (h.other, level_in h.basis.chain, n.1, refl, (suc x, h.basis.chain, s, chain_stands o (shared memory) (knows a).read.seen (g.sound a).seen_fits h.basis.chain (Some (suc x)) h.basis.read, h.right)));
           moved = linked_moved (suc y) (spare_of (suc y) h.placed);
           added = linked_added (suc y) (adds (suc x) (suc y) w h.placed refl add);
           homed = linked_homed p (suc x) y w h.placed refl;
@@ -346,7 +346,7 @@ module _ (memory : Memory) {log : List Update} {o : Owners} {knows : ℕ → Kno
     by_link (inr (inr (inr (inr (inr (inr (inl h))))))) = by_merge h
     by_link (inr (inr (inr (inr (inr (inr (inr h))))))) = by_unterm h
 
-  own_kept : (p : ℕ) (v : OwnPage) → (knows a).pages p ≡ v → PageFits a (o.page p) (slot_in memory.slots p) v
+  own_kept : (p : ℕ) (v : OwnPage) → (knows a).own.pages p ≡ v → PageFits a (o.page p) (slot_in memory.slots p) v
   own_kept p v e = subst (λ (w : OwnPage). PageFits a (o.page p) (slot_in memory.slots p) w) e (g.owns_pages a p)
 
   -- an exchange of a page's slot that won
@@ -439,7 +439,7 @@ module _ (memory : Memory) {log : List Update} {o : Owners} {knows : ℕ → Kno
     moved = same_moved;
     added = same_added;
     homed = λ row l. inl l;
-    kept = λ row l. (l, put_other memory.rows q (Some w) row (λ i. absurd (let f = own_spare g a q ((knows a).rows q) (g.owns a q) h.1 in let l' = sym (ap o.row i) ∙ l in cc)));
+    kept = λ row l. (l, put_other memory.rows q (Some w) row (λ i. absurd (let f = own_spare g a q ((knows a).own.rows q) (g.owns a q) h.1 in let l' = sym (ap o.row i) ∙ l in cc)));
     good = places g a q w h.1 r;
   })
   step (Exchange p old y) calm r h x e = subst (λ (v : Answer Record). After (memory_after a (Exchange p old y) memory) (Exchange p old y) v r) (sym e) (exchange p old y r h.1)

@@ -39,9 +39,9 @@ use Rattle.tree_law.proofs.Emptying.{Emptying, undone_timed, cleared_timed, root
 record IsLink (k : Knowledge) (page old new : ℕ) : Type 0 where
   basis : HasRead k page old
   content : Record
-  placed : k.rows new ≡ Written content
+  placed : k.own.rows new ≡ Written content
   over : (n : ℕ) → next_row content ≡ Some n → n ≡ old
-  split : (s : SplitOf) → content ≡ Split s → (base : ℕ) × (k.pages s.page ≡ Ready base) × IsOwn (k.rows base) × (base ≢ new)
+  split : (s : SplitOf) → content ≡ Split s → (base : ℕ) × (k.own.pages s.page ≡ Ready base) × IsOwn (k.own.rows base) × (base ≢ new)
 
 no_split : (w : Record) (s : SplitOf) → (w ≡ Split s → ⊥) → {X : Type 0} → w ≡ Split s → X
 no_split w s f {X} e = absurd (f e)
@@ -65,7 +65,7 @@ link_of a k page old new (inr (inr (inl h))) =
       content = Split w;
       placed = h.placed;
       over = λ n e. sym (same_Some old n e);
-      split = λ s e. let same : w ≡ s = cc in (h.row, ap k.pages (ap (λ v. v.page) (sym same)) ∙ h.ready, rw h.base tt, λ i. let z : Written b ≡ Written (Split w) = sym h.base ∙ ap k.rows i ∙ h.placed in cc);
+      split = λ s e. let same : w ≡ s = cc in (h.row, ap k.own.pages (ap (λ v. v.page) (sym same)) ∙ h.ready, rw h.base tt, λ i. let z : Written b ≡ Written (Split w) = sym h.base ∙ ap k.own.rows i ∙ h.placed in cc);
     }
 link_of a k page old new (inr (inr (inr (inl h)))) = record { basis = h.basis; content = _; placed = h.placed; over = λ n e. sym (same_Some old n e); split = λ s e. absurd (cc) }
 link_of a k page old new (inr (inr (inr (inr (inl h))))) = record { basis = h.basis; content = _; placed = h.placed; over = λ n e. sym (same_Some old n e); split = λ s e. absurd (cc) }
@@ -131,7 +131,7 @@ module _ {limits : Limits} {m : Memory} {log : List Update} {o : Owners} {knows 
       ]
     where
       Holds' : ℕ → Type 0
-      Holds' j = Holds m.rows t.row_out t.page_out (t.entered a) (knows a).inside (knows a).seen (put (knows a).learnt j true) (knows a).roots (put (knows a).heads (suc p) (Some j)) (put (knows a).before (suc p) (knows a).heads) (knows a).linked
+      Holds' j = Holds m.rows t.row_out t.page_out (t.entered a) (knows a).inside (knows a).read.seen (put (knows a).read.learnt j true) (knows a).read.roots (put (knows a).read.heads (suc p) (Some j)) (put (knows a).read.before (suc p) (knows a).read.heads) (knows a).asked.linked
 
   own_base : (v : OwnRow) → IsOwnBase v → IsOwn v
   own_base Foreign h = absurd h
@@ -143,7 +143,7 @@ module _ {limits : Limits} {m : Memory} {log : List Update} {o : Owners} {knows 
   base_stands q _ h i w e = absurd i
 
   Reach : ℕ → ℕ → (ℕ → PageOwner) → Type 0
-  Reach p y f' = (q l : ℕ) (s : Key) → Reached 0 l s (f' q) → Reached 0 l s (o.page q) ⊎ ((z : ℕ) → slot_in m.slots q ≡ Some z → IsOwn ((knows a).rows z) × (z ≢ suc y) × (q ≡ split_page (m.rows (suc y))))
+  Reach p y f' = (q l : ℕ) (s : Key) → Reached 0 l s (f' q) → Reached 0 l s (o.page q) ⊎ ((z : ℕ) → slot_in m.slots q ≡ Some z → IsOwn ((knows a).own.rows z) × (z ≢ suc y) × (q ≡ split_page (m.rows (suc y))))
 
   Clears : (ℕ → PageOwner) → Type 0
   Clears f' = (q b l : ℕ) (s : Key) → o.page q ≡ Cleared b l s → f' q ≡ Cleared b l s
@@ -161,7 +161,7 @@ module _ {limits : Limits} {m : Memory} {log : List Update} {o : Owners} {knows 
   put_reach p y f' c l0 s0 st n was e at q l s r = inl (put_reached o.page f' c l0 s0 st n was e at q l s r)
 
   -- what a link does with pages
-  links_pages : (p x y : ℕ) (w : Record) (f' : ℕ → PageOwner) → m.rows (suc y) ≡ Some w → ((s : SplitOf) → w ≡ Split s → (base : ℕ) × ((knows a).pages s.page ≡ Ready base) × IsOwn ((knows a).rows base) × (base ≢ suc y)) → Links (shared m) a w (suc p) o.page f' → Reach p y f' × Clears f'
+  links_pages : (p x y : ℕ) (w : Record) (f' : ℕ → PageOwner) → m.rows (suc y) ≡ Some w → ((s : SplitOf) → w ≡ Split s → (base : ℕ) × ((knows a).own.pages s.page ≡ Ready base) × IsOwn ((knows a).own.rows base) × (base ≢ suc y)) → Links (shared m) a w (suc p) o.page f' → Reach p y f' × Clears f'
   unfolding Reach Clears
   links_pages p x y (Base w) f' st sp h = (same_reach p y f' h, same_clears f' h)
   links_pages p x y (Put w) f' st sp h = (same_reach p y f' h, same_clears f' h)
@@ -173,7 +173,7 @@ module _ {limits : Limits} {m : Memory} {log : List Update} {o : Owners} {knows 
   links_pages p x y (Merge w) f' st sp h = (put_reach p y f' h.0 h.1 w.low Removed (Placed Merged h.1 w.low) h.2 h.3 (λ l s r. (r.0, r.1)), put_cleared o.page f' h.0 h.1 w.low Removed (Placed Merged h.1 w.low) h.2 h.3)
   links_pages p x y (Split w) f' st sp h = (reach, cleared)
     where
-      b : (base : ℕ) × ((knows a).pages w.page ≡ Ready base) × IsOwn ((knows a).rows base) × (base ≢ suc y)
+      b : (base : ℕ) × ((knows a).own.pages w.page ≡ Ready base) × IsOwn ((knows a).own.rows base) × (base ≢ suc y)
       b = sp w refl
 
       held : slot_in m.slots w.page ≡ Some b.0
@@ -182,9 +182,9 @@ module _ {limits : Limits} {m : Memory} {log : List Update} {o : Owners} {knows 
       reach : Reach p y f'
       reach q l s r = go (subst (λ (f : ℕ → PageOwner). Reached 0 l s (f q)) h.5 r)
         where
-          go : Reached 0 l s (put o.page w.page (Placed Fresh h.1 w.separator) q) → Reached 0 l s (o.page q) ⊎ ((z : ℕ) → slot_in m.slots q ≡ Some z → IsOwn ((knows a).rows z) × (z ≢ suc y) × (q ≡ split_page (m.rows (suc y))))
-          go = by_test q w.page (λ z. Reached 0 l s (cond z (Placed Fresh h.1 w.separator) (o.page q)) → Reached 0 l s (o.page q) ⊎ ((z : ℕ) → slot_in m.slots q ≡ Some z → IsOwn ((knows a).rows z) × (z ≢ suc y) × (q ≡ split_page (m.rows (suc y)))))
-              (λ i v. inr (λ z e. let same : b.0 ≡ z = same_Some b.0 z (sym held ∙ ap (slot_in m.slots) (sym i) ∙ e) in (subst (λ j. IsOwn ((knows a).rows j)) same b.2, subst (λ j. j ≢ suc y) same b.3, i ∙ ap split_page (sym st))))
+          go : Reached 0 l s (put o.page w.page (Placed Fresh h.1 w.separator) q) → Reached 0 l s (o.page q) ⊎ ((z : ℕ) → slot_in m.slots q ≡ Some z → IsOwn ((knows a).own.rows z) × (z ≢ suc y) × (q ≡ split_page (m.rows (suc y))))
+          go = by_test q w.page (λ z. Reached 0 l s (cond z (Placed Fresh h.1 w.separator) (o.page q)) → Reached 0 l s (o.page q) ⊎ ((z : ℕ) → slot_in m.slots q ≡ Some z → IsOwn ((knows a).own.rows z) × (z ≢ suc y) × (q ≡ split_page (m.rows (suc y)))))
+              (λ i v. inr (λ z e. let same : b.0 ≡ z = same_Some b.0 z (sym held ∙ ap (slot_in m.slots) (sym i) ∙ e) in (subst (λ j. IsOwn ((knows a).own.rows j)) same b.2, subst (λ j. j ≢ suc y) same b.3, i ∙ ap split_page (sym st))))
               (λ ne v. inl v)
 
       cleared : Clears f'
@@ -199,9 +199,9 @@ module _ {limits : Limits} {m : Memory} {log : List Update} {o : Owners} {knows 
   unfolding Reach Clears
   fills p zero y r may held n = subst (λ (v : OwnPage). Timed limits m' n.owners (put knows a (finished (filled v (suc p) zero (suc y) (knows a)) r)) (suc now) (times_after a m o now (Exchange (suc p) zero (suc y)) (answer.Whether true) t)) (sym may.0)
       (ready_timed g T a p zero y n.owners (record {
-        own = own_base ((knows a).rows (suc y)) may.1;
+        own = own_base ((knows a).own.rows (suc y)) may.1;
         page_in = no_page_out (suc p) n.phased.1 (t.page_out (suc p)) refl;
-        under = λ j w e i. absurd (let z = sym (base_stands (suc y) ((knows a).rows (suc y)) (g.owns a (suc y)) may.1 w e) ∙ i in cc);
+        under = λ j w e i. absurd (let z = sym (base_stands (suc y) ((knows a).own.rows (suc y)) (g.owns a (suc y)) may.1 w e) ∙ i in cc);
         reached = same_reach p y n.owners.page n.phased.0;
         homed = n.homed;
         stay = λ j l. (n.kept j l).0;
@@ -215,7 +215,7 @@ module _ {limits : Limits} {m : Memory} {log : List Update} {o : Owners} {knows 
       let h = link_of a (knows a) (suc p) (suc x) (suc y) may.1 in
       let f = found g a (suc p) (suc x) h.basis in
       let place = place_of g a (suc p) (suc x) h.basis.chain f h.basis.alive held in
-      let other : (knows a).pages (suc p) ≡ Other = not_own g a (suc p) (level_in h.basis.chain) (low_in h.basis.chain) place.stage place.placed ((knows a).pages (suc p)) (g.owns_pages a (suc p)) in
+      let other : (knows a).own.pages (suc p) ≡ Other = not_own g a (suc p) (level_in h.basis.chain) (low_in h.basis.chain) place.stage place.placed ((knows a).own.pages (suc p)) (g.owns_pages a (suc p)) in
       let own : (o.row (suc y) ≡ Spare a) × (m.rows (suc y) ≡ Some h.content) = subst (λ (v : OwnRow). OwnFits a (o.row (suc y)) (m.rows (suc y)) v) h.placed (g.owns a (suc y)) in
       let same : n.phased.0 ≡ h.content = same_Some n.phased.0 h.content (sym n.phased.1 ∙ own.1) in
       let links = subst (λ (w : Record). Links (shared m) a w (suc p) o.page n.owners.page) same n.phased.2 in

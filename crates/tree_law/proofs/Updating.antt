@@ -73,14 +73,14 @@ key_due b (Upsert k v) old u e = ap updated_key (sym (same_Some (set b k v) u e)
 key_due b (Delete k) None u e = absurd (cc)
 key_due b (Delete k) (Some x) u e = ap updated_key (sym (same_Some (unset b k) u e))
 
-linked_update : (u : Update) (x y : ℕ) (k : Knowledge) → linked_over (Written (record_of u x)) x y k ≡ record k { rows = put k.rows y Foreign; linked = Some (Some x) }
+linked_update : (u : Update) (x y : ℕ) (k : Knowledge) → linked_over (Written (record_of u x)) x y k ≡ record k { own = record k.own { rows = put k.own.rows y Foreign }; asked = record k.asked { linked = Some (Some x) } }
 linked_update (set b j v) x y k = refl
 linked_update (unset b j) x y k = refl
 
 module _ {m : Shared} {log : List Update} {o : Owners} {knows : ℕ → Knowledge} {point : ℕ → Option (List Update)} {logs : ℕ → List (List Update)} (g : Good m log o knows point logs) (a : ℕ) where
   -- the exchange that links an update
   pub updates : (p x y : ℕ) → m.slots p ≡ Some x → (h : MayUpdate a (knows a) p x y) → (r : Option Reply)
-      → Good (record m { slots = put m.slots p (Some y) }) (log ++ h.update ∷ []) (record o { row = put o.row y Linked }) (put knows a (finished (filled ((knows a).pages p) p x y (knows a)) r)) (put point a (Some log)) (put logs a (log ∷ logs a))
+      → Good (record m { slots = put m.slots p (Some y) }) (log ++ h.update ∷ []) (record o { row = put o.row y Linked }) (put knows a (finished (filled ((knows a).own.pages p) p x y (knows a)) r)) (put point a (Some log)) (put logs a (log ∷ logs a))
       × (update_of a h.command (value_in log (command_key h.command)) ≡ Some h.update)
   updates p x y s h r =
       let u = h.update in
@@ -94,7 +94,7 @@ module _ {m : Shared} {log : List Update} {o : Owners} {knows : ℕ → Knowledg
       let inside : Covers c (command_key h.command) = covers_from c (command_key h.command) h.covers in
       let due : update_of a h.command (value_in log (command_key h.command)) ≡ Some u = subst (λ (v : Option Key). update_of a h.command v ≡ Some u) (ap value_of (is (command_key h.command) inside) ∙ value_of_map (value_in log (command_key h.command))) h.due in
       let none : point a ≡ None = subst (λ (v : Option (Option ℕ)). LinkFits o m (point a) v) h.unlinked (mine g a).linked_fits in
-      let learned : filled ((knows a).pages p) p x y (knows a) ≡ record (knows a) { rows = put (knows a).rows y Foreign; linked = Some (Some x) } = rw (not_own g a p (level_in c) (low_in c) place.stage place.placed ((knows a).pages p) (g.owns_pages a p), h.placed) (linked_update u x y (knows a)) in (
+      let learned : filled ((knows a).own.pages p) p x y (knows a) ≡ record (knows a) { own = record (knows a).own { rows = put (knows a).own.rows y Foreign }; asked = record (knows a).asked { linked = Some (Some x) } } = rw (not_own g a p (level_in c) (low_in c) place.stage place.placed ((knows a).own.pages p) (g.owns_pages a p), h.placed) (linked_update u x y (knows a)) in (
         subst (λ (k : Knowledge). Good (record m { slots = put m.slots p (Some y) }) (log ++ u ∷ []) (record o { row = put o.row y Linked }) (put knows a (finished k r)) (put point a (Some log)) (put logs a (log ∷ logs a))) (sym learned)
             (relink_one g a p x y c f place h.basis.alive s fits.0 place.stage (omega arith) place.on o.page o.index place.placed (λ q ne. stay refl) g.tree.exact (record_of u x) fits.1
             (rw over.next f.linked) c (rw over.next f.stands)
@@ -102,26 +102,26 @@ module _ {m : Shared} {log : List Update} {o : Owners} {knows : ℕ → Knowledg
             (log ++ u ∷ [])
             (λ k v. rw h.leaf (over_decides u x c log k (is k v)))
             (λ l k n. log_outside u log o.index (level_in c) c h.leaf (λ k n. key_apart u log k (λ i. n (subst (λ (z : Key). Covers c z) (sym (i ∙ key_due a h.command (value_in log (command_key h.command)) u due)) inside))) l k n)
-            (finished (record (knows a) { rows = put (knows a).rows y Foreign; linked = Some (Some x) }) r)
+            (finished (record (knows a) { own = record (knows a).own { rows = put (knows a).own.rows y Foreign }; asked = record (knows a).asked { linked = Some (Some x) } }) r)
             refl (λ v. v) refl refl refl refl refl
             (Some log) (log, refl, here)),
         due,
       )
 
   -- the exchange that puts a base in the chain's place
-  pub consolidates : (p x y : ℕ) → m.slots p ≡ Some x → MayConsolidate (knows a) p x y → (r : Option Reply) → Good (record m { slots = put m.slots p (Some y) }) log (record o { row = put o.row y Linked }) (put knows a (finished (filled ((knows a).pages p) p x y (knows a)) r)) (put point a (point a)) (put logs a (log ∷ logs a))
+  pub consolidates : (p x y : ℕ) → m.slots p ≡ Some x → MayConsolidate (knows a) p x y → (r : Option Reply) → Good (record m { slots = put m.slots p (Some y) }) log (record o { row = put o.row y Linked }) (put knows a (finished (filled ((knows a).own.pages p) p x y (knows a)) r)) (put point a (point a)) (put logs a (log ∷ logs a))
   consolidates p x y s h r =
       let c = h.basis.chain in
       let f = found g a p x h.basis in
       let place = place_of g a p x c f h.basis.alive s in
       let w = base_from c (low_in c) h.items in
       let fits : (o.row y ≡ Spare a) × (m.rows y ≡ Some w) = subst (λ (v : OwnRow). OwnFits a (o.row y) (m.rows y) v) h.placed (g.owns a y) in
-      let learned : filled ((knows a).pages p) p x y (knows a) ≡ record (knows a) { rows = put (knows a).rows y Foreign; limbo_rows = taken_out (knows a).seen x (knows a).limbo_rows } = rw (not_own g a p (level_in c) (low_in c) place.stage place.placed ((knows a).pages p) (g.owns_pages a p), h.placed) refl in
+      let learned : filled ((knows a).own.pages p) p x y (knows a) ≡ record (knows a) { own = record (knows a).own { rows = put (knows a).own.rows y Foreign }; limbo = record (knows a).limbo { rows = taken_out (knows a).read.seen x (knows a).limbo.rows } } = rw (not_own g a p (level_in c) (low_in c) place.stage place.placed ((knows a).own.pages p) (g.owns_pages a p), h.placed) refl in
       subst (λ (k : Knowledge). Good (record m { slots = put m.slots p (Some y) }) log (record o { row = put o.row y Linked }) (put knows a (finished k r)) (put point a (point a)) (put logs a (log ∷ logs a))) (sym learned)
       (relink_one g a p x y c f place h.basis.alive s fits.0 place.stage (omega arith) place.on o.page o.index place.placed (λ q ne. stay refl) g.tree.exact w fits.1 tt [] refl
       refl refl refl refl (alive_stage g a p x c place h.basis.alive)
       log (λ k v. h.alike k (covers_to c k v) ∙ place.is_page.same k v) (λ l k n. refl)
-      (finished (record (knows a) { rows = put (knows a).rows y Foreign; limbo_rows = taken_out (knows a).seen x (knows a).limbo_rows }) r)
+      (finished (record (knows a) { own = record (knows a).own { rows = put (knows a).own.rows y Foreign }; limbo = record (knows a).limbo { rows = taken_out (knows a).read.seen x (knows a).limbo.rows } }) r)
       refl (λ v. v) refl refl refl refl refl
       (point a) (mine g a).linked_fits)
 
@@ -135,7 +135,7 @@ module _ {m : Shared} {log : List Update} {o : Owners} {knows : ℕ → Knowledg
       (λ ne. grind (arith, nat_tests))
 
   -- the exchange that removes a page
-  pub removes : (p x y : ℕ) → m.slots p ≡ Some x → (h : MayRemove (knows a) p x y) → (r : Option Reply) → Good (record m { slots = put m.slots p (Some y) }) log (record { row = put o.row y Linked; page = put o.page p (Placed Removed (level_in h.basis.chain) (low_in h.basis.chain)); index = o.index }) (put knows a (finished (filled ((knows a).pages p) p x y (knows a)) r)) (put point a (point a)) (put logs a (log ∷ logs a)) × (o.page p ≡ Placed Held (level_in h.basis.chain) (low_in h.basis.chain))
+  pub removes : (p x y : ℕ) → m.slots p ≡ Some x → (h : MayRemove (knows a) p x y) → (r : Option Reply) → Good (record m { slots = put m.slots p (Some y) }) log (record { row = put o.row y Linked; page = put o.page p (Placed Removed (level_in h.basis.chain) (low_in h.basis.chain)); index = o.index }) (put knows a (finished (filled ((knows a).own.pages p) p x y (knows a)) r)) (put point a (point a)) (put logs a (log ∷ logs a)) × (o.page p ≡ Placed Held (level_in h.basis.chain) (low_in h.basis.chain))
   removes p x y s h r =
       let c = h.basis.chain in
       let f = found g a p x h.basis in
@@ -146,13 +146,13 @@ module _ {m : Shared} {log : List Update} {o : Owners} {knows : ℕ → Knowledg
       let held : place.stage ≡ Held = is_held place.stage least (sym (alive_stage g a p x c place h.basis.alive)) in
       let was : o.page p ≡ Placed Held (level_in c) (low_in c) = place.placed ∙ ap (λ st. Placed st (level_in c) (low_in c)) held in
       let lt : level_in c < g.tree.top = below_top p (level_in c) (low_in c) place.stage place.placed least in
-      let learned : filled ((knows a).pages p) p x y (knows a) ≡ record (knows a) { rows = put (knows a).rows y Foreign } = rw (not_own g a p (level_in c) (low_in c) place.stage place.placed ((knows a).pages p) (g.owns_pages a p), h.placed) refl in (
+      let learned : filled ((knows a).own.pages p) p x y (knows a) ≡ record (knows a) { own = record (knows a).own { rows = put (knows a).own.rows y Foreign } } = rw (not_own g a p (level_in c) (low_in c) place.stage place.placed ((knows a).own.pages p) (g.owns_pages a p), h.placed) refl in (
         subst (λ (k : Knowledge). Good (record m { slots = put m.slots p (Some y) }) log (record { row = put o.row y Linked; page = put o.page p (Placed Removed (level_in h.basis.chain) (low_in h.basis.chain)); index = o.index }) (put knows a (finished k r)) (put point a (point a)) (put logs a (log ∷ logs a))) (sym learned)
             (relink_one g a p x y c f place h.basis.alive s fits.0 Removed (let i = ap rank held in omega arith) (omega arith) (put o.page p (Placed Removed (level_in c) (low_in c))) o.index (put_same o.page p (Placed Removed (level_in c) (low_in c))) (λ q ne. stay (put_other o.page p (Placed Removed (level_in c) (low_in c)) q ne))
             (exact_going o.page o.index g.tree.top m.root p (level_in c) (low_in c) Held Removed was lt refl g.tree.exact) (Remove (record { level = level_in c; next = x })) fits.1 f.linked c f.stands
             refl refl refl refl refl
             log (λ k v. place.is_page.same k v) (λ l k n. refl)
-            (finished (record (knows a) { rows = put (knows a).rows y Foreign }) r)
+            (finished (record (knows a) { own = record (knows a).own { rows = put (knows a).own.rows y Foreign } }) r)
             refl (λ v. v) refl refl refl refl refl
             (point a) (mine g a).linked_fits),
         was,
