@@ -57,12 +57,7 @@ IsSoundState limits (Exchange row) = row < limits.rows
 -- The same is known but of own rows and of words of free bits.
 pub record IsLike (was now : Knowledge) : Type 0 where
   pub inside : now.inside ≡ was.inside
-  pub learnt : now.read.learnt ≡ was.read.learnt
-  pub roots : now.read.roots ≡ was.read.roots
-  pub seen : now.read.seen ≡ was.read.seen
-  pub recent : now.read.recent ≡ was.read.recent
-  pub heads : now.read.heads ≡ was.read.heads
-  pub before : now.read.before ≡ was.read.before
+  pub read : now.read ≡ was.read
   pub pages : now.own.pages ≡ was.own.pages
   pub command : now.asked.command ≡ was.asked.command
   pub linked : now.asked.linked ≡ was.asked.linked

@@ -45,14 +45,14 @@ fits_on chain (unset actor key) x fits short = (fits, omega (arith, short))
 
 module _ (actor : ℕ) (k : Knowledge) (c : Command) (chain : List Record) where
   updates : (pid head : ℕ) → Seeks k c → HasLeaf k pid head chain → length chain ≤ 8 → (u : Update) → update_of actor c (found chain (command_key c)) ≡ Some u → FitsOver chain (record_of u head)
-      → (now : Knowledge) (row : ℕ) → IsLike k now → 0 < row → now.rows row ≡ Written (record_of u head) → MayExchange actor now pid head row
+      → (now : Knowledge) (row : ℕ) → IsLike k now → 0 < row → now.own.rows row ≡ Written (record_of u head) → MayExchange actor now pid head row
   updates zero head seeks whole short u due fits now row like some placed = let page = whole.page in absurd (omega arith)
   updates (suc pid) zero seeks whole short u due fits now row like some placed = let linked = whole.linked in absurd (omega arith)
   updates (suc pid) (suc head) seeks whole short u due fits now zero like some placed = absurd (omega arith)
   updates (suc pid) (suc head) seeks whole short u due fits now (suc row) like some placed = (
-    record { chain = chain; read = rw like.seen whole.read; content = record_of u (suc head); placed = placed; fits = fits_on chain u (suc head) fits short },
+    record { chain = chain; read = rw like.read whole.read; content = record_of u (suc head); placed = placed; fits = fits_on chain u (suc head) fits short },
     inl (record {
-      basis = record { head = rw like.heads whole.held; chain = chain; read = rw like.seen whole.read; alive = whole.leaf.removed };
+      basis = record { head = rw like.read whole.held; chain = chain; read = rw like.read whole.read; alive = whole.leaf.removed };
       leaf = whole.leaf.level;
       command = c;
       going = like.command ∙ seeks.going;
@@ -66,14 +66,14 @@ module _ (actor : ℕ) (k : Knowledge) (c : Command) (chain : List Record) where
   )
 
   rebuilds : HasNoPage k → (pid head : ℕ) → HasLeaf k pid head chain → (page : Page) → Makes chain page → page.removed ≡ false → IsPageChain (kind.Base page ∷ [])
-      → (now : Knowledge) (row : ℕ) → IsLike k now → 0 < row → now.rows row ≡ Written (kind.Base page) → MayExchange actor now pid head row
+      → (now : Knowledge) (row : ℕ) → IsLike k now → 0 < row → now.own.rows row ≡ Written (kind.Base page) → MayExchange actor now pid head row
   rebuilds none zero head whole page makes alive stands now row like some placed = let first = whole.page in absurd (omega arith)
   rebuilds none (suc pid) zero whole page makes alive stands now row like some placed = let linked = whole.linked in absurd (omega arith)
   rebuilds none (suc pid) (suc head) whole page makes alive stands now zero like some placed = absurd (omega arith)
   rebuilds none (suc pid) (suc head) whole page makes alive stands now (suc row) like some placed = (
-    record { chain = chain; read = rw like.seen whole.read; content = kind.Base page; placed = placed; fits = stands.fitted },
+    record { chain = chain; read = rw like.read whole.read; content = kind.Base page; placed = placed; fits = stands.fitted },
     inr (inl (record {
-      basis = record { head = rw like.heads whole.held; chain = chain; read = rw like.seen whole.read; alive = whole.leaf.removed };
+      basis = record { head = rw like.read whole.held; chain = chain; read = rw like.read whole.read; alive = whole.leaf.removed };
       items = page.items;
       alike = λ key within. makes.items.contents key;
       placed = rw (← makes.level, ← makes.low, ← makes.high, ← makes.right, ← alive) placed;

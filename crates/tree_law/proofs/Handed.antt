@@ -230,7 +230,7 @@ module _ (limits : Limits) (entries : List Entry) (a : ℕ) (step : StepOf Recor
 
         out : (w : Outing) × (t'.row_out q ≡ Some w) × (w.who ≡ a)
         out = subst (λ (l : Limbo). LimboFits a (λ c. (put (knows entries) a (finished (learn k step answer) r) c).inside) t'.entered (t'.row_out q) l) new
-            (subst (λ (kk : Knowledge). LimboFits a (λ c. (put (knows entries) a (finished (learn k step answer) r) c).inside) t'.entered (t'.row_out q) (kk.limbo_rows q)) (put_same (knows entries) a (finished (learn k step answer) r)) (T'.limbo_rows a q))
+            (subst (λ (kk : Knowledge). LimboFits a (λ c. (put (knows entries) a (finished (learn k step answer) r) c).inside) t'.entered (t'.row_out q) (kk.limbo.rows q)) (put_same (knows entries) a (finished (learn k step answer) r)) (T'.limbo_rows a q))
 
         after : memory_at limits (entries ++ last ∷ []) (suc (length entries)) ≡ memory_after a step m
         after = ap (memory_of limits) (whole_take (entries ++ last ∷ []) (suc (length entries)) (pushed_length entries last)) ∙ memory_of-push limits entries last

@@ -84,18 +84,18 @@ module _ {m : Shared} {log : List Update} {o : Owners} {knows : ℕ → Knowledg
 
         seen_at : (r : ℕ) (v : Option Record) → (knows b).read.seen r ≡ v → SeenFits (o.row r) (m.rows r) v → SeenFits (row r) (m.rows r) v
         seen_at r None e f = tt
-        seen_at r (Some w) e f = (h.learnt b r ((known b).read.seen r w e) ∙ f.0, f.1)
+        seen_at r (Some w) e f = (h.learnt b r ((known b).seen r w e) ∙ f.0, f.1)
 
         head_at : (p : ℕ) (x : Option ℕ) → (knows b).read.heads p ≡ x → HeadFits o m (logs b) p x → HeadFits o1 m1 (logs b) p x
         head_at p None e f = tt
-        head_at p (Some x) e f = (f.0, f.1, spells_loose x f.0 (h.learnt b x ((known b).read.heads p x e)) f.2, f.3, f.4, λ i. let n = f.5 i in record { right = n.right; items = n.items })
+        head_at p (Some x) e f = (f.0, f.1, spells_loose x f.0 (h.learnt b x ((known b).heads p x e)) f.2, f.3, f.4, λ i. let n = f.5 i in record { right = n.right; items = n.items })
 
         order_at : (p f : ℕ) (y x : Option ℕ) → (knows b).read.heads p ≡ y → (knows b).read.before p f ≡ x → OrderFits o m (logs b) p f y x → OrderFits o1 m1 (logs b) p f y x
         order_at p f None x e i v = tt
         order_at p f (Some y) None e i v = tt
         order_at p f (Some y) (Some x) e i v = record {
-          above = h.learnt b x ((known b).read.before p f x i) ∙ v.above;
-          below = h.learnt b y ((known b).read.heads p y e) ∙ v.below;
+          above = h.learnt b x ((known b).before p f x i) ∙ v.above;
+          below = h.learnt b y ((known b).heads p y e) ∙ v.below;
           chain = v.chain;
           is_chain = v.is_chain;
           placed = v.placed;
@@ -108,7 +108,7 @@ module _ {m : Shared} {log : List Update} {o : Owners} {knows : ℕ → Knowledg
         link_at : (x : Option (Option ℕ)) → (knows b).asked.linked ≡ x → LinkFits o m (point b) x → LinkFits o1 m1 (point b) x
         link_at None e f = f
         link_at (Some None) e f = f
-        link_at (Some (Some x)) e f = (f.0, f.1, spells_loose x f.0 (h.learnt b x ((known b).asked.linked x e)) f.2)
+        link_at (Some (Some x)) e f = (f.0, f.1, spells_loose x f.0 (h.learnt b x ((known b).linked x e)) f.2)
 
     -- rows are let go, or freed
     pub lets_rows : Good m1 log o1 knows point logs
@@ -257,7 +257,7 @@ module _ {m : Shared} {log : List Update} {o : Owners} {knows : ℕ → Knowledg
     pub frees_pages : Good m2 log o2 knows point logs
     frees_pages = record {
       frees = record { row = g.frees.row; page = frees };
-      closed = λ r l. let k = g.closed r l in record { linked = k.asked.linked; content = k.content; stands = k.stands; next = k.next; rest = k.rest; is_rest = k.is_rest };
+      closed = λ r l. let k = g.closed r l in record { linked = k.linked; content = k.content; stands = k.stands; next = k.next; rest = k.rest; is_rest = k.is_rest };
       tree = record {
         top = g.tree.top;
         first = g.tree.first;

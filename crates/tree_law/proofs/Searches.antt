@@ -58,7 +58,7 @@ heads_cases k (TakeRow q) (Whether true) page row e = inr (e, λ r w f. inl f)
 heads_cases k (TakeRow q) (Whether false) page row e = inr (e, λ r w f. inl f)
 heads_cases k (Exchange p y z) (Whether true) page row e =
     let same = exchanged_alike p y z k in
-    inr (subst (λ f. f page ≡ Some row) same.heads e, λ r w f. inl (subst (λ g. g r ≡ Some w) same.recent f))
+    inr (subst (λ f. f page ≡ Some row) (ap (λ v. v.heads) same.read) e, λ r w f. inl (subst (λ g. g r ≡ Some w) (ap (λ v. v.recent) same.read) f))
 heads_cases k (Exchange p y z) (Whether false) page row e = inr (e, λ r w f. inl f)
 heads_cases k Leave x page row e = absurd (cc)
 heads_cases k s x page row e = inr (e, λ r w f. inl f)
@@ -78,7 +78,7 @@ pids_cases k (TakePid q) (Whether true) word e = inl e
 pids_cases k (TakePid q) (Whether false) word e = inl e
 pids_cases k (TakeRow q) (Whether true) word e = inl e
 pids_cases k (TakeRow q) (Whether false) word e = inl e
-pids_cases k (Exchange p y z) (Whether true) word e = inl (subst (λ f. f word ≡ true) (exchanged_alike p y z k).asked.no_pids e)
+pids_cases k (Exchange p y z) (Whether true) word e = inl (subst (λ f. f word ≡ true) (exchanged_alike p y z k).no_pids e)
 pids_cases k (Exchange p y z) (Whether false) word e = inl e
 pids_cases k s x word e = inl e
 
@@ -97,7 +97,7 @@ rows_cases k (TakePid q) (Whether true) word e = inl e
 rows_cases k (TakePid q) (Whether false) word e = inl e
 rows_cases k (TakeRow q) (Whether true) word e = inl e
 rows_cases k (TakeRow q) (Whether false) word e = inl e
-rows_cases k (Exchange p y z) (Whether true) word e = inl (subst (λ f. f word ≡ true) (exchanged_alike p y z k).asked.no_rows e)
+rows_cases k (Exchange p y z) (Whether true) word e = inl (subst (λ f. f word ≡ true) (exchanged_alike p y z k).no_rows e)
 rows_cases k (Exchange p y z) (Whether false) word e = inl e
 rows_cases k s x word e = inl e
 

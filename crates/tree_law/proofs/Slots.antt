@@ -174,7 +174,7 @@ module _ (m : Memory) {log : List Update} {o : Owners} {knows : ℕ → Knowledg
       (by_test p (suc n) (λ t. cond t (Some (suc y)) (slot_in m.slots p) ≡ Some q → IsInTree (o'.page p) ⊎ IsReady o' (record m { slots = replaced_at (suc n) (suc y) m.slots }) (put knows a k) p q)
       (λ i f. let at : suc y ≡ q = same_Some (suc y) q f in let own = own_base (suc y) ((knows a).own.rows (suc y)) (g.owns a (suc y)) base in inr (record {
         actor = a;
-        ready = subst (λ (z : Knowledge). z.pages p ≡ Ready q) (sym (put_same knows a k)) (rw i (put_same (knows a).own.pages (suc n) (Ready (suc y)) ∙ ap Ready at));
+        ready = subst (λ (z : Knowledge). z.own.pages p ≡ Ready q) (sym (put_same knows a k)) (rw i (put_same (knows a).own.pages (suc n) (Ready (suc y)) ∙ ap Ready at));
         owned = owned_after a q (inr (subst (λ z. o.row z ≡ Spare a) at own.0));
         base = own.1.0;
         stands = subst (λ z. m.rows z ≡ Some (Base own.1.0)) at own.1.1;

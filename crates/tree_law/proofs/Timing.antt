@@ -158,8 +158,8 @@ module _ {limits : Limits} {m : Memory} {o : Owners} {knows : ℕ → Knowledge}
       pages = λ p w i. let v = n.pages p w i in let u = since_then w (t.page_out p) (λ e. (T.pages p w e).2) (λ e. (T.pages p w e).3) (out_was now m.epoch a (t.page_out p) (t'.page_out p) w (n.pages_later p) i) in (v.0, v.1, u.0, u.1);
       own_rows = λ b r. by_test b a (λ z. IsOwn ((cond z k' (knows b)).own.rows r) → t'.row_out r ≡ None) (λ e. k.own_rows r) (λ ne. n.own_rows b r ne);
       gone_pages = λ b p. by_test b a (λ z. (cond z k' (knows b)).own.pages p ≡ Gone → t'.page_out p ≡ None) (λ e. k.gone_pages p) (λ ne. n.gone_pages b p ne);
-      limbo_rows = λ b r. by_test b a (λ z. LimboFits b (λ c. (put knows a k' c).inside) t'.entered (t'.row_out r) ((cond z k' (knows b)).limbo.rows r)) (λ e. subst (λ j. LimboFits j (λ c. (put knows a k' c).inside) t'.entered (t'.row_out r) (k'.limbo.rows r)) (sym e) (k.limbo.rows r)) (λ ne. limbo_row b r);
-      limbo_pids = λ b p. by_test b a (λ z. LimboFits b (λ c. (put knows a k' c).inside) t'.entered (t'.page_out p) ((cond z k' (knows b)).limbo.pids p)) (λ e. subst (λ j. LimboFits j (λ c. (put knows a k' c).inside) t'.entered (t'.page_out p) (k'.limbo.pids p)) (sym e) (k.limbo.pids p)) (λ ne. limbo_pid b p);
+      limbo_rows = λ b r. by_test b a (λ z. LimboFits b (λ c. (put knows a k' c).inside) t'.entered (t'.row_out r) ((cond z k' (knows b)).limbo.rows r)) (λ e. subst (λ j. LimboFits j (λ c. (put knows a k' c).inside) t'.entered (t'.row_out r) (k'.limbo.rows r)) (sym e) (k.limbo_rows r)) (λ ne. limbo_row b r);
+      limbo_pids = λ b p. by_test b a (λ z. LimboFits b (λ c. (put knows a k' c).inside) t'.entered (t'.page_out p) ((cond z k' (knows b)).limbo.pids p)) (λ e. subst (λ j. LimboFits j (λ c. (put knows a k' c).inside) t'.entered (t'.page_out p) (k'.limbo.pids p)) (sym e) (k.limbo_pids p)) (λ ne. limbo_pid b p);
       ready = λ b p r. by_test b a (λ z. (cond z k' (knows b)).own.pages p ≡ Ready r → IsOwnBase ((cond z k' (knows b)).own.rows r)) (λ e. k.ready p r) (λ ne. T.ready b p r);
       apart = λ b p q r. by_test b a (λ z. (cond z k' (knows b)).own.pages p ≡ Ready r → (cond z k' (knows b)).own.pages q ≡ Ready r → p ≡ q) (λ e. k.apart p q r) (λ ne. T.apart b p q r);
     }
