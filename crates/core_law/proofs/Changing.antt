@@ -14,7 +14,7 @@ use Rattle.deltas.specs.Memory.{Memory}
 use Rattle.deltas.specs.declared.record.Record.{Record}
 use Rattle.deltas.specs.declared.record.Record.TheVariants.{Base, Put, Delete, Split, Term, Hold, Remove, Merge, Unterm}
 use Rattle.chain_search.specs.Chains.{IsChainFrom}
-use Rattle.chain_search.specs.Discipline.{MayExchange, MayLink}
+use Rattle.chain_search.specs.Discipline.{MayAdd, MayExchange, MayLink}
 use Rattle.chain_search.specs.Knowledge.{Written, Knowledge, knows, learn, linked_over, forgotten}
 use Rattle.chain_search.specs.Trace.{memory_of}
 use Rattle.chain_search.specs.declared.trace.Entry.{Entry}
@@ -124,16 +124,20 @@ module _ (limits : Limits) (entries : List Entry) (a : ℕ) where
     same_written : (v w : Record) → Written v ≡ Written w → v ≡ w
     same_written v w e = cc
 
-    once : (p x y : ℕ) → MayLink a k p x y → (plain : IsPlainLink k x y) → IsUpdateLink (record_link plain.content) → k.asked.linked ≡ None
-    once p x y (inl update) plain h = update.unlinked
-    once p x y (inr (inl base)) plain h =
-        elim (subst (λ w. IsUpdateLink (record_link w)) (same_written plain.content _ (sym plain.placed ∙ base.placed)) h) [ inl e ↦ absurd (cc) | inr e ↦ absurd (cc) ]
-    once p x y (inr (inr (inl split))) plain h = absurd (over x y plain _ split.placed)
-    once p x y (inr (inr (inr (inl term)))) plain h = absurd (over x y plain _ term.placed)
-    once p x y (inr (inr (inr (inr (inl hold))))) plain h = absurd (over x y plain _ hold.placed)
-    once p x y (inr (inr (inr (inr (inr (inl remove)))))) plain h = absurd (over x y plain _ remove.placed)
-    once p x y (inr (inr (inr (inr (inr (inr (inl merge))))))) plain h = absurd (over x y plain _ merge.placed)
-    once p x y (inr (inr (inr (inr (inr (inr (inr unterm))))))) plain h = absurd (over x y plain _ unterm.placed)
+    once : (p x y : ℕ) → MayAdd a k p x y → (plain : IsPlainLink k x y) → IsUpdateLink (record_link plain.content) → k.asked.linked ≡ None
+    once p x y add plain h = by_kind add.content add.placed add.due
+      where
+        by_kind : (content : Record) → k.own.rows y ≡ Written content → MayLink a k p x add.basis.chain content → k.asked.linked ≡ None
+        by_kind (Base base) placed due =
+            elim (subst (λ w. IsUpdateLink (record_link w)) (same_written plain.content (Base base) (sym plain.placed ∙ placed)) h) [ inl e ↦ absurd (cc) | inr e ↦ absurd (cc) ]
+        by_kind (Put put) placed due = due.unlinked
+        by_kind (Delete delete) placed due = due.unlinked
+        by_kind (Split split) placed due = absurd (over x y plain (Split split) placed)
+        by_kind (Term term) placed due = absurd (over x y plain (Term term) placed)
+        by_kind (Hold hold) placed due = absurd (over x y plain (Hold hold) placed)
+        by_kind (Remove remove) placed due = absurd (over x y plain (Remove remove) placed)
+        by_kind (Merge merge) placed due = absurd (over x y plain (Merge merge) placed)
+        by_kind (Unterm unterm) placed due = absurd (over x y plain (Unterm unterm) placed)
 
     pub plain_change : (slot old new : ℕ) → MayExchange a k slot old new → IsPlainLink k old new → IsPlainChange slot old new
     plain_change zero x y may plain = absurd (let f = (state.known a).pageless y in let h = may.ready in cc)
@@ -147,6 +151,6 @@ module _ (limits : Limits) (entries : List Entry) (a : ℕ) where
       content = plain.content;
       plain = plain.plain;
       link = link_over m p x y ∙ ap (option_map record_link) (placed_stands m state.tree.good a state.leaf (state.known a) (suc y) plain.content plain.placed);
-      once = once (suc p) (suc x) (suc y) may.1 plain;
+      once = once (suc p) (suc x) (suc y) may plain;
       learns = rw ((state.known a).pageless (suc p), plain.placed) refl;
     }

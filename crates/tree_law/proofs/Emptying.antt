@@ -13,7 +13,7 @@ use Rattle.deltas.specs.declared.record.Record.TheVariants.{Base}
 use Rattle.deltas.specs.Memory.{Memory, replaced_at}
 use Rattle.deltas.specs.Records.{next_row}
 use Rattle.chain_search.specs.Discipline.{IsOwn, IsOwnBase}
-use Rattle.chain_search.specs.Knowledge.{OwnRow, Foreign, Taken, Written, OwnPage, Other, Empty, Ready, Gone, Unstamped, Knowledge, is_on_walk, taken_out, finished}
+use Rattle.chain_search.specs.Knowledge.{OwnRow, Foreign, Taken, Written, OwnPage, Other, Empty, Ready, Gone, Unstamped, Knowledge, is_on_walk, taken_out, finished, cleared, handed_page, set_page}
 use Rattle.tree_law.specs.Keys.{Key}
 use Rattle.tree_law.specs.Next.{IsHomed}
 use Rattle.tree_law.specs.Owners.{Spare, Linked, Owners, Reached, PageFits}
@@ -125,7 +125,7 @@ module _ {limits : Limits} {m : Memory} {log : List Update} {o : Owners} {knows 
         })
 
     -- an own page that was ready is empty again
-    pub undone_timed : (o' : Owners) (f : Emptying o') → (l : o.page (suc p) ≡ Keeps a) (r : Option Reply) → Timed limits m2 o' (put knows a (finished (record (knows a) { own = record (knows a).own { pages = put (knows a).own.pages (suc p) Empty } }) r)) (suc now) t2
+    pub undone_timed : (o' : Owners) (f : Emptying o') → (l : o.page (suc p) ≡ Keeps a) (r : Option Reply) → Timed limits m2 o' (put knows a (finished (set_page (suc p) Empty (knows a)) r)) (suc now) t2
     undone_timed o' f own r = emptied_timed o' f k' refl refl refl refl refl refl refl refl refl
         (λ q. by_test q (suc p) (λ z. cond z Empty ((knows a).own.pages q) ≡ Gone → out_after (t.page_out q) (z && is_cleared (o.page q)) (out_now g T a) ≡ None) (λ e i. absurd (cc)) (λ ne i. rw (T.gone_pages a q i) refl))
         (λ n. limbo_row T (linked g T a) a m2 o' k' t2 n a)
@@ -133,11 +133,11 @@ module _ {limits : Limits} {m : Memory} {log : List Update} {o : Owners} {knows 
         (λ q j. by_test q (suc p) (λ z. cond z Empty ((knows a).own.pages q) ≡ Ready j → (knows a).own.pages q ≡ Ready j) (λ e i. absurd (cc)) (λ ne i. i))
       where
         k' : Knowledge
-        k' = finished (record (knows a) { own = record (knows a).own { pages = put (knows a).own.pages (suc p) Empty } }) r
+        k' = finished (set_page (suc p) Empty (knows a)) r
 
     -- a page whose term the actor took out is out of the tree, with its chain
     pub cleared_timed : (o' : Owners) (f : Emptying o') → (own : (knows a).own.pages (suc p) ≡ Gone) (r : Option Reply)
-        → Timed limits m2 o' (put knows a (finished (record (knows a) { own = record (knows a).own { pages = put (knows a).own.pages (suc p) Other }; limbo = record (knows a).limbo { rows = taken_out (knows a).read.seen x (knows a).limbo.rows; pids = put (knows a).limbo.pids (suc p) Unstamped } }) r)) (suc now) t2
+        → Timed limits m2 o' (put knows a (finished (cleared (suc p) x (knows a)) r)) (suc now) t2
     cleared_timed o' f own r = emptied_timed o' f k' refl refl refl refl refl refl refl refl refl
         (λ q. by_test q (suc p) (λ z. cond z Other ((knows a).own.pages q) ≡ Gone → out_after (t.page_out q) (z && is_cleared (o.page q)) (out_now g T a) ≡ None) (λ e i. absurd (cc)) (λ ne i. rw (T.gone_pages a q i) refl))
         (λ n j. rows n j (is_on_walk 13 (knows a).read.seen (Some x) j) refl)
@@ -145,7 +145,7 @@ module _ {limits : Limits} {m : Memory} {log : List Update} {o : Owners} {knows 
         (λ q j. by_test q (suc p) (λ z. cond z Other ((knows a).own.pages q) ≡ Ready j → (knows a).own.pages q ≡ Ready j) (λ e i. absurd (cc)) (λ ne i. i))
       where
         k' : Knowledge
-        k' = finished (record (knows a) { own = record (knows a).own { pages = put (knows a).own.pages (suc p) Other }; limbo = record (knows a).limbo { rows = taken_out (knows a).read.seen x (knows a).limbo.rows; pids = put (knows a).limbo.pids (suc p) Unstamped } }) r
+        k' = finished (cleared (suc p) x (knows a)) r
 
         was : (l : ℕ) × (s : Key) × (o.page (suc p) ≡ Cleared a l s)
         was = subst (λ (v : OwnPage). PageFits a (o.page (suc p)) (slot_in m.slots (suc p)) v) own (g.owns_pages a (suc p))
@@ -195,7 +195,7 @@ module _ {limits : Limits} {m : Memory} {log : List Update} {o : Owners} {knows 
       held = (subst (λ (v : OwnPage). PageFits a (o.page y) (slot_in m.slots y) v) f.ready (g.owns_pages a y)).1
 
       k3 : Knowledge
-      k3 = finished (record (knows a) { own = record (knows a).own { rows = put (knows a).own.rows f.base Foreign; pages = put (knows a).own.pages y Other } }) r
+      k3 = finished (handed_page y Other f.base (knows a)) r
 
       slots_rooted : (q z l : ℕ) (s : Key) → Reached 0 l s (o'.page q) → slot_in m.slots q ≡ Some z → (t3.home z ≡ q) × (t3.row_out z ≡ None)
       slots_rooted q z l s h e = ⊎_elim
@@ -228,7 +228,7 @@ module _ {limits : Limits} {m : Memory} {log : List Update} {o : Owners} {knows 
         gone_pages = λ b q ne. T.gone_pages b q;
       }
 
-      pub rooted_timed : Timed limits m3 o' (put knows a (finished (record (knows a) { own = record (knows a).own { rows = put (knows a).own.rows f.base Foreign; pages = put (knows a).own.pages y Other } }) r)) (suc now) t3
+      pub rooted_timed : Timed limits m3 o' (put knows a (finished (handed_page y Other f.base (knows a)) r)) (suc now) t3
       unfolding k3
       rooted_timed = put_timed T (linked g T a) a m3 o' k3 t3 turn3 (record {
         within = T.within a;

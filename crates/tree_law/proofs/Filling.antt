@@ -10,7 +10,7 @@ use Rattle.deltas.specs.declared.record.Split.{Split as SplitOf}
 use Rattle.deltas.specs.declared.record.Unterm.{Unterm as UntermOf}
 use Rattle.deltas.specs.Memory.{Memory}
 use Rattle.chain_search.specs.Discipline.{IsOwn, IsOwnBase, IsUnset}
-use Rattle.chain_search.specs.Knowledge.{OwnRow, Foreign, Written, Other, Empty, Ready, Gone, Limbo, Knowledge, linked_over, split_off, taken_out, finished}
+use Rattle.chain_search.specs.Knowledge.{OwnRow, Foreign, Written, Other, Empty, Ready, Gone, Limbo, Knowledge, linked_over, split_off, taken_out, finished, handed_over, handed_page, rebuilt, set_page}
 use Rattle.tree_law.specs.Owners.{Linked, Owners}
 use Rattle.tree_law.specs.Put.{put}
 use Rattle.tree_law.specs.Shared.{shared}
@@ -91,7 +91,7 @@ module _ {limits : Limits} {m : Memory} {log : List Update} {o : Owners} {knows 
         still_ready (T.apart a)
       where
         k' : Knowledge
-        k' = finished (record (knows a) { own = record (knows a).own { rows = put (knows a).own.rows (suc y) Foreign }; limbo = record (knows a).limbo { rows = taken_out (knows a).read.seen x (knows a).limbo.rows } }) r
+        k' = finished (rebuilt x (suc y) (knows a)) r
     linked_timed (Unterm w) is child ready = filled_timed k' refl refl refl refl refl refl refl refl
         linked_before (own_less (knows a).own.rows (suc y))
         (λ q. by_test q w.child (λ z. cond z Gone ((knows a).own.pages q) ≡ Gone → t.page_out q ≡ None) (λ e i. ap t.page_out e ∙ child w refl) (λ ne. T.gone_pages a q))
@@ -100,7 +100,7 @@ module _ {limits : Limits} {m : Memory} {log : List Update} {o : Owners} {knows 
         (λ q s j e i. T.apart a q s j (was q j e) (was s j i))
       where
         k' : Knowledge
-        k' = finished (record (knows a) { own = record (knows a).own { rows = put (knows a).own.rows (suc y) Foreign; pages = put (knows a).own.pages w.child Gone } }) r
+        k' = finished (handed_page w.child Gone (suc y) (knows a)) r
 
         was : (q j : ℕ) → put (knows a).own.pages w.child Gone q ≡ Ready j → (knows a).own.pages q ≡ Ready j
         was q j = by_test q w.child (λ z. cond z Gone ((knows a).own.pages q) ≡ Ready j → (knows a).own.pages q ≡ Ready j) (λ e i. absurd (cc)) (λ ne i. i)
@@ -117,16 +117,16 @@ module _ {limits : Limits} {m : Memory} {log : List Update} {o : Owners} {knows 
         b = ready w refl
 
         k' : Knowledge
-        k' = finished (record (knows a) { own = record (knows a).own { rows = put (put (knows a).own.rows b.0 Foreign) (suc y) Foreign; pages = put (knows a).own.pages w.page Other } }) r
+        k' = finished (handed_page w.page Other (suc y) (handed_over b.0 (knows a))) r
 
-        learned : split_off ((knows a).own.pages w.page) w.page (suc y) (knows a) ≡ record (knows a) { own = record (knows a).own { rows = put (put (knows a).own.rows b.0 Foreign) (suc y) Foreign; pages = put (knows a).own.pages w.page Other } }
+        learned : split_off ((knows a).own.pages w.page) w.page (suc y) (knows a) ≡ handed_page w.page Other (suc y) (handed_over b.0 (knows a))
         learned = rw b.1 refl
 
         was : (q j : ℕ) → put (knows a).own.pages w.page Other q ≡ Ready j → (knows a).own.pages q ≡ Ready j
         was q j = by_test q w.page (λ z. cond z Other ((knows a).own.pages q) ≡ Ready j → (knows a).own.pages q ≡ Ready j) (λ e i. absurd (cc)) (λ ne i. i)
 
   -- an own page is ready with an own base
-  pub ready_timed : (knows a).own.pages (suc p) ≡ Empty → IsOwnBase ((knows a).own.rows (suc y)) → IsUnset (knows a) (suc y) → (r : Option Reply) → Timed limits (m1 g T a p x y) o' (put knows a (finished (record (knows a) { own = record (knows a).own { pages = put (knows a).own.pages (suc p) (Ready (suc y)) } }) r)) (suc now) (t1 g T a p x y)
+  pub ready_timed : (knows a).own.pages (suc p) ≡ Empty → IsOwnBase ((knows a).own.rows (suc y)) → IsUnset (knows a) (suc y) → (r : Option Reply) → Timed limits (m1 g T a p x y) o' (put knows a (finished (set_page (suc p) (Ready (suc y)) (knows a)) r)) (suc now) (t1 g T a p x y)
   ready_timed empty base unset r = filled_timed k' refl refl refl refl refl refl refl refl
       (T.holds a).linked_learnt (λ j i. i)
       (λ q. by_test q (suc p) (λ z. cond z (Ready (suc y)) ((knows a).own.pages q) ≡ Gone → t.page_out q ≡ None) (λ e i. absurd (cc)) (λ ne. T.gone_pages a q))
@@ -137,7 +137,7 @@ module _ {limits : Limits} {m : Memory} {log : List Update} {o : Owners} {knows 
       (λ ne i. by_test s (suc p) (λ z. cond z (Ready (suc y)) ((knows a).own.pages s) ≡ Ready j → q ≡ s) (λ d v. absurd (unset q (i ∙ ap Ready (sym (same_row (suc y) j v))))) (λ nd v. T.apart a q s j i v)))
     where
       k' : Knowledge
-      k' = finished (record (knows a) { own = record (knows a).own { pages = put (knows a).own.pages (suc p) (Ready (suc y)) } }) r
+      k' = finished (set_page (suc p) (Ready (suc y)) (knows a)) r
 
       same_row : (i j : ℕ) → Ready i ≡ Ready j → i ≡ j
       same_row i j e = let f : i ≡ j = cc in f

@@ -35,7 +35,7 @@ use Rattle.tree_law.proofs.Names.{slot_none}
 use Rattle.tree_law.proofs.Puts.{by_test}
 use Rattle.tree_law.proofs.Relinking.{not_own, found, place_of}
 use Rattle.tree_law.proofs.Rows.{next_linked}
-use Rattle.tree_law.proofs.Slots.{link_read, reached_in_tree}
+use Rattle.tree_law.proofs.Slots.{reached_in_tree}
 use Rattle.tree_law.proofs.Whole.{reached_one, read_reached, short_front, whole_chain}
 
 in_tree_phase : (w : PageOwner) → IsInTree w → phase_of w ≡ phase.free → ⊥
@@ -195,7 +195,7 @@ module _ (limits : Limits) (entries : List Entry) (state : IsState limits entrie
       sym e ∙ rw at (by_test (suc x) (suc x) (λ t. t ≡ true) (λ i. refl) (λ ne. absurd (ne refl)))
   fits_exchange (suc p) (suc x) (suc y) t may e = λ won.
       let at : m.slots (suc p) ≡ suc x = eqb-true (m.slots (suc p)) (suc x) (e ∙ won) in
-      let read = link_read a k (suc p) (suc x) (suc y) may.1 in
+      let read = may.basis in
       let place = place_of state.good a (suc p) (suc x) read.chain (found state.good a (suc p) (suc x) read) read.alive (ap row_in at) in
       not_own state.good a (suc p) (level_in read.chain) (low_in read.chain) place.stage place.placed (k.own.pages (suc p)) (state.good.owns_pages a (suc p))
 

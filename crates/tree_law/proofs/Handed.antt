@@ -43,7 +43,6 @@ use Rattle.tree_law.proofs.Names.{slot_none}
 use Rattle.tree_law.proofs.Owned.{pushed_length}
 use Rattle.tree_law.proofs.Puts.{by_test, put_same}
 use Rattle.tree_law.proofs.Rows.{next_linked}
-use Rattle.tree_law.proofs.Slots.{link_read}
 
 placed_at : (w : PageOwner) → IsInTree w → (l : ℕ) × (k : Key) × Reached 0 l k w
 placed_at Nobody h = absurd h
@@ -207,7 +206,7 @@ module _ (limits : Limits) (entries : List Entry) (a : ℕ) (step : StepOf Recor
             by_link : (x y : ℕ) → k.own.pages (suc h.page) ≡ Other → MayExchange a k (suc h.page) x (suc y) → (l : ℕ) × (s : Key) × Reached 0 l s (state.owners.page (suc h.page))
             by_link zero y other v = absurd (let e = v.0 in cc)
             by_link (suc x) y other v =
-                let read = link_read a k (suc h.page) (suc x) (suc y) v.1 in
+                let read = v.basis in
                 let f = subst (λ (z : Option ℕ). HeadFits state.owners (shared m) (state.logs a) (suc h.page) z) read.head ((state.good.sound a).heads_fit (suc h.page)) in
                 (level_in f.2.chain, low_in f.2.chain, f.3)
 

@@ -8,13 +8,13 @@ use Rattle.deltas.specs.declared.record.Record.{Record}
 use Rattle.deltas.specs.declared.record.Record.TheVariants.{Merge}
 use Rattle.chain_search.specs.Chains.{content_in, level_in, low_in, high_in, right_in, is_removed}
 use Rattle.tree_law.specs.Keys.{Key, IsBelow, IsUnder, Covers}
-use Rattle.chain_search.specs.Knowledge.{OwnRow, Foreign, OwnPage, Other, Gone, Unstamped, Knowledge, filled, emptied, finished, taken_out}
+use Rattle.chain_search.specs.Knowledge.{OwnRow, Foreign, OwnPage, Other, Gone, Unstamped, Knowledge, filled, emptied, finished, taken_out, cleared, handed_over, Written}
 use Rattle.tree_law.specs.Phase.{Stage, Fresh, Indexed, Held, Removed, Merged, PageOwner, Placed, Cleared, rank, stage_removed}
 use Rattle.tree_law.specs.Put.{put}
 use Rattle.tree_law.specs.Shared.{Shared}
 use Rattle.tree_law.specs.Owners.{IsChain, Spare, Linked, Owners, IsLinked, OwnFits, PageFits, IsCleared, HeadFits}
 use Rattle.tree_law.specs.Tree.{spec, Page, InPlace, IsOff, IsOut, Off, Good}
-use Rattle.chain_search.specs.Discipline.{MayMerge}
+use Rattle.chain_search.specs.Discipline.{MayMerge, HasRead}
 use Rattle.tree_law.proofs.KeyOrder.{not_below, upto_same, under_trans, by_range, covers_to}
 use Rattle.tree_law.proofs.Puts.{by_test, put_same, put_other, put_all}
 use Rattle.tree_law.proofs.Chains.{chain_unique}
@@ -54,7 +54,7 @@ module _ {m : Shared} {log : List Update} {o : Owners} {knows : ℕ → Knowledg
       kept = kept_change a o o m m' change
 
       k : Knowledge
-      k = record (knows a) { own = record (knows a).own { pages = put (knows a).own.pages p Other }; limbo = record (knows a).limbo { rows = taken_out (knows a).read.seen x (knows a).limbo.rows; pids = put (knows a).limbo.pids p Unstamped } }
+      k = cleared p x (knows a)
 
       learned : emptied ((knows a).own.pages p) p x (knows a) ≡ k
       learned = rw own refl
@@ -66,10 +66,10 @@ module _ {m : Shared} {log : List Update} {o : Owners} {knows : ℕ → Knowledg
       f.4 (ap is_removed (chain_unique m.rows f.2.chain c (Some x) f.2.is_chain (chain_stands o m (knows a).read.seen (mine g a).seen_fits c (Some x) h)) ∙ n)
 
   -- the exchange that merges a page's right into it
-  pub merges : (p x y : ℕ) → m.slots p ≡ Some x → (h : MayMerge (knows a) p x y) → (r : Option Reply) → Good (record m { slots = put m.slots p (Some y) }) log (record { row = put o.row y Linked; page = put o.page h.other (Placed Merged (level_in h.basis.chain) (low_in h.chain)); index = o.index }) (put knows a (finished (filled ((knows a).own.pages p) p x y (knows a)) r)) (put point a (point a)) (put logs a (log ∷ logs a)) × (o.page h.other ≡ Placed Removed (level_in h.basis.chain) (low_in h.chain))
-  merges p x y s h r = (
+  pub merges : (p x y : ℕ) → m.slots p ≡ Some x → (basis : HasRead (knows a) p x) (content : Record) → (knows a).own.rows y ≡ Written content → (h : MayMerge (knows a) x basis.chain content) → (r : Option Reply) → Good (record m { slots = put m.slots p (Some y) }) log (record { row = put o.row y Linked; page = put o.page h.other (Placed Merged (level_in basis.chain) (low_in h.merged)); index = o.index }) (put knows a (finished (filled ((knows a).own.pages p) p x y (knows a)) r)) (put point a (point a)) (put logs a (log ∷ logs a)) × (o.page h.other ≡ Placed Removed (level_in basis.chain) (low_in h.merged))
+  merges p x y s basis content written h r = (
     subst (λ (k : Knowledge). Good m' log o' (put knows a (finished k r)) (put point a (point a)) (put logs a (log ∷ logs a))) (sym learned)
-        (put_good g a m' log o' (finished (record (knows a) { own = record (knows a).own { rows = put (knows a).own.rows y Foreign } }) r) (point a) (log ∷ logs a)
+        (put_good g a m' log o' (finished (handed_over y (knows a)) r) (point a) (log ∷ logs a)
         change
         (record {
           row = λ j f. put_other o.row y Linked j (λ i. absurd (let r = g.frees.row j f in let z = ap o.row i ∙ fits.0 in cc)) ∙ g.frees.row j f;
@@ -104,10 +104,10 @@ module _ {m : Shared} {log : List Update} {o : Owners} {knows : ℕ → Knowledg
   )
     where
       c : List Record
-      c = h.basis.chain
+      c = basis.chain
 
       d : List Record
-      d = h.chain
+      d = h.merged
 
       q : ℕ
       q = h.other
@@ -119,13 +119,13 @@ module _ {m : Shared} {log : List Update} {o : Owners} {knows : ℕ → Knowledg
       sq = low_in d
 
       f : Found o m p x c
-      f = found g a p x h.basis
+      f = found g a p x basis
 
       here : Page
       here = record { page = p; row = x; chain = c }
 
       place : InPlace o m lv (spec log o.index lv) here
-      place = place_of g a p x c f h.basis.alive s
+      place = place_of g a p x c f basis.alive s
 
       fd : Found o m q h.row d
       fd = found_as g a q h.row h.head d h.read
@@ -175,7 +175,7 @@ module _ {m : Shared} {log : List Update} {o : Owners} {knows : ℕ → Knowledg
       new = record { page = p; row = y; chain = w ∷ c }
 
       fits : (o.row y ≡ Spare a) × (m.rows y ≡ Some w)
-      fits = subst (λ (v : OwnRow). OwnFits a (o.row y) (m.rows y) v) h.placed (g.owns a y)
+      fits = subst (λ (v : OwnRow). OwnFits a (o.row y) (m.rows y) v) (written ∙ ap Written h.is) (g.owns a y)
 
       m' : Shared
       m' = record m { slots = put m.slots p (Some y) }
@@ -189,7 +189,7 @@ module _ {m : Shared} {log : List Update} {o : Owners} {knows : ℕ → Knowledg
         page = λ j. by_test j q (λ t. PageChange a o m m' (o.page j) (cond t gone (o.page j)) (m.slots j) (put m.slots p (Some y) j))
             (λ i. page_stage Removed Merged lv sq (ap o.page i ∙ was) refl (omega arith) (put_other m.slots p (Some y) j (λ u. apart (sym i ∙ u))))
             (λ i. by_test j p (λ t. PageChange a o m m' (o.page j) (o.page j) (m.slots j) (cond t (Some y) (m.slots j)))
-            (λ i. page_link place.stage place.stage lv (low_in c) (ap o.page i ∙ place.placed) (ap o.page i ∙ place.placed) (omega arith) x y c (ap m.slots i ∙ s) f.stands h.basis.alive refl fits.0)
+            (λ i. page_link place.stage place.stage lv (low_in c) (ap o.page i ∙ place.placed) (ap o.page i ∙ place.placed) (omega arith) x y c (ap m.slots i ∙ s) f.stands basis.alive refl fits.0)
             (λ i. page_same refl refl));
       }
 
@@ -214,5 +214,5 @@ module _ {m : Shared} {log : List Update} {o : Owners} {knows : ℕ → Knowledg
         };
       }
 
-      learned : filled ((knows a).own.pages p) p x y (knows a) ≡ record (knows a) { own = record (knows a).own { rows = put (knows a).own.rows y Foreign } }
-      learned = rw (not_own g a p lv (low_in c) place.stage place.placed ((knows a).own.pages p) (g.owns_pages a p), h.placed) refl
+      learned : filled ((knows a).own.pages p) p x y (knows a) ≡ handed_over y (knows a)
+      learned = rw (not_own g a p lv (low_in c) place.stage place.placed ((knows a).own.pages p) (g.owns_pages a p), (written ∙ ap Written h.is)) refl

@@ -8,7 +8,7 @@ use Rattle.base_page.specs.declared.item.Content.TheVariants.{Child}
 use Rattle.deltas.specs.declared.record.Record.{Record}
 use Rattle.chain_search.specs.Chains.{level_in, low_in}
 use Rattle.tree_law.specs.Keys.{Key, IsBelow, put_key}
-use Rattle.chain_search.specs.Knowledge.{OwnRow, Foreign, OwnPage, Other, Knowledge, rooted, finished}
+use Rattle.chain_search.specs.Knowledge.{OwnRow, Foreign, OwnPage, Other, Knowledge, rooted, finished, handed_page}
 use Rattle.tree_law.specs.Phase.{Stage, Fresh, Indexed, PageOwner, Keeps, Placed, Cleared, rank, stage_removed}
 use Rattle.tree_law.specs.Put.{put}
 use Rattle.tree_law.specs.Shared.{Shared}
@@ -30,7 +30,7 @@ module _ {m : Shared} {log : List Update} {o : Owners} {knows : ℕ → Knowledg
       → Good (record m { root = y }) log (record { row = put o.row h.base_row Linked; page = put (put o.page h.right (Placed Indexed g.tree.top h.separator)) y (Placed Indexed (suc g.tree.top) []); index = put o.index g.tree.top (put_key (put_key (λ k. None) h.separator (Some (Child h.right false))) [] (Some (Child m.root false))) }) (put knows a (finished (rooted ((knows a).own.pages y) y (knows a)) r)) (put point a (point a)) (put logs a (log ∷ logs a)) × ((o.page x ≡ Placed Indexed g.tree.top []) × (o.page h.right ≡ Placed Fresh g.tree.top h.separator) × (o.page y ≡ Keeps a))
   roots x y s h r = (
     subst (λ (k : Knowledge). Good m' log o' (put knows a (finished k r)) (put point a (point a)) (put logs a (log ∷ logs a))) (sym learned)
-        (put_good g a m' log o' (finished (record (knows a) { own = record (knows a).own { rows = put (knows a).own.rows h.base_row Foreign; pages = put (knows a).own.pages y Other } }) r) (point a) (log ∷ logs a)
+        (put_good g a m' log o' (finished (handed_page y Other h.base_row (knows a)) r) (point a) (log ∷ logs a)
         change
         (record {
           row = λ j n. put_other o.row h.base_row Linked j (λ i. absurd (let v = g.frees.row j n in let w = ap o.row i ∙ fits.0 in cc)) ∙ g.frees.row j n;
@@ -176,6 +176,6 @@ module _ {m : Shared} {log : List Update} {o : Owners} {knows : ℕ → Knowledg
       at_level : (l : ℕ) → suc (level_in c) ≡ suc l → top ≡ l
       at_level l e = let z = level in omega arith
 
-      learned : rooted ((knows a).own.pages y) y (knows a) ≡ record (knows a) { own = record (knows a).own { rows = put (knows a).own.rows h.base_row Foreign; pages = put (knows a).own.pages y Other } }
+      learned : rooted ((knows a).own.pages y) y (knows a) ≡ handed_page y Other h.base_row (knows a)
       learned = rw h.ready refl
       -- the slot of a cleared page goes to none

@@ -13,7 +13,7 @@ use Rattle.deltas.specs.declared.record.Record.TheVariants.{Base, Put, Delete, S
 use Rattle.deltas.specs.Memory.{Memory, replaced_at}
 use Rattle.chain_search.specs.Chains.{level_in, low_in}
 use Rattle.chain_search.specs.Steps.{IsAnswer, memory_after}
-use Rattle.chain_search.specs.Discipline.{IsOwn, IsOwnBase, HasRead, MayLink, MayExchange, May}
+use Rattle.chain_search.specs.Discipline.{IsOwn, IsOwnBase, MayExchange, May}
 use Rattle.tree_law.specs.Keys.{Key}
 use Rattle.chain_search.specs.Knowledge.{OwnRow, Foreign, Taken, Written, OwnPage, Other, Empty, Ready, Gone, Knowledge, split_off, linked_over, filled, emptied, rooted, exchanged, learn, finished}
 use Rattle.tree_law.specs.Next.{IsReuse, IsMoved}
@@ -55,17 +55,6 @@ reached_in_tree r l k Nobody h = h
 reached_in_tree r l k (Keeps b) h = h
 reached_in_tree r l k (Placed st l' k') h = tt
 reached_in_tree r l k (Cleared b l' k') h = tt
-
--- the page that a link is made on was read
-pub link_read : (a : ℕ) (k : Knowledge) (p x y : ℕ) → MayLink a k p x y → HasRead k p x
-link_read a k p x y (inl h) = h.basis
-link_read a k p x y (inr (inl h)) = h.basis
-link_read a k p x y (inr (inr (inl h))) = h.basis
-link_read a k p x y (inr (inr (inr (inl h)))) = h.basis
-link_read a k p x y (inr (inr (inr (inr (inl h))))) = h.basis
-link_read a k p x y (inr (inr (inr (inr (inr (inl h)))))) = h.basis
-link_read a k p x y (inr (inr (inr (inr (inr (inr (inl h))))))) = h.basis
-link_read a k p x y (inr (inr (inr (inr (inr (inr (inr h))))))) = h.basis
 
 module _ (m : Memory) {log : List Update} {o : Owners} {knows : ℕ → Knowledge} {point : ℕ → Option (List Update)} {logs : ℕ → List (List Update)} (g : Good (shared m) log o knows point logs)
     (held : (p q : ℕ) → slot_in m.slots p ≡ Some q → IsInTree (o.page p) ⊎ IsReady o m knows p q) (a : ℕ) (o' : Owners) (kept : (q : ℕ) → o.row q ≡ Linked → (o'.row q ≡ Linked)) (moved : (q : ℕ) → IsMoved a (m.free_rows q) (o.row q) (o'.row q)) where
@@ -221,7 +210,7 @@ module _ (m : Memory) {log : List Update} {o : Owners} {knows : ℕ → Knowledg
   exchange_won (suc n) zero (suc y) r may ph p q e = readies n y r may.0 may.1 ph.0 p q (subst (λ (f : ℕ → Option ℕ). f p ≡ Some q) (slot_put m.slots n (suc y)) e)
   exchange_won (suc n) (suc x) zero r may ph p q e = empties n x r (record m { slots = replaced_at (suc n) zero m.slots }) refl ph.0 p q (subst (λ (f : ℕ → Option ℕ). f p ≡ Some q) (slot_put m.slots n zero) e)
   exchange_won (suc n) (suc x) (suc y) r may ph p q e =
-      let read = link_read a (knows a) (suc n) (suc x) (suc y) may.1 in
+      let read = may.basis in
       let h = subst (λ (v : Option ℕ). HeadFits o (shared m) (logs a) (suc n) v) read.head ((g.sound a).heads_fit (suc n)) in
       linking n x y r ph.0 ph.1 ph.2 (reached_in_tree 0 (level_in h.2.chain) (low_in h.2.chain) (o.page (suc n)) h.3) (record m { slots = replaced_at (suc n) (suc y) m.slots }) refl p q (subst (λ (f : ℕ → Option ℕ). f p ≡ Some q) (slot_put m.slots n (suc y)) e)
 

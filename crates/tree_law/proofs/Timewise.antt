@@ -14,7 +14,7 @@ use Rattle.deltas.specs.declared.record.Split.{Split as SplitOf}
 use Rattle.deltas.specs.Memory.{Memory, replaced_at}
 use Rattle.deltas.specs.Records.{next_row}
 use Rattle.chain_search.specs.Chains.{low_in, level_in}
-use Rattle.chain_search.specs.Discipline.{record_of, base_from, HasRead, IsOwn, IsOwnBase, MayLink, MayRoot, MayExchange, May}
+use Rattle.chain_search.specs.Discipline.{record_of, base_from, HasRead, IsOwn, IsOwnBase, MayAdd, MayLink, MayRoot, MayExchange, May}
 use Rattle.chain_search.specs.Knowledge.{OwnRow, Foreign, Taken, Written, OwnPage, Other, Ready, Knowledge, learn, filled, emptied, rooted, finished}
 use Rattle.chain_search.specs.Steps.{IsAnswer, memory_after}
 use Rattle.tree_law.specs.Keys.{Key}
@@ -54,24 +54,31 @@ update_split : (u : Update) (x : ℕ) (s : SplitOf) → record_of u x ≡ Split 
 update_split (set b k v) x s e = cc
 update_split (unset b k) x s e = cc
 
-link_of : (a : ℕ) (k : Knowledge) (page old new : ℕ) → MayLink a k page old new → IsLink k page old new
-link_of a k page old new (inl h) = record { basis = h.basis; content = record_of h.update old; placed = h.placed; over = update_over h.update old; split = λ s e. absurd (update_split h.update old s e) }
-link_of a k page old new (inr (inl h)) = record { basis = h.basis; content = base_from h.basis.chain (low_in h.basis.chain) h.items; placed = h.placed; over = λ n e. absurd (cc); split = λ s e. absurd (cc) }
-link_of a k page old new (inr (inr (inl h))) =
-    let w : SplitOf = record { level = level_in h.basis.chain; next = old; separator = h.separator; page = h.right } in
-    let b : Record = base_from h.basis.chain h.separator h.items in
-    record {
-      basis = h.basis;
-      content = Split w;
-      placed = h.placed;
-      over = λ n e. sym (same_Some old n e);
-      split = λ s e. let same : w ≡ s = cc in (h.row, ap k.own.pages (ap (λ v. v.page) (sym same)) ∙ h.ready, rw h.base tt, λ i. let z : Written b ≡ Written (Split w) = sym h.base ∙ ap k.own.rows i ∙ h.placed in cc);
-    }
-link_of a k page old new (inr (inr (inr (inl h)))) = record { basis = h.basis; content = _; placed = h.placed; over = λ n e. sym (same_Some old n e); split = λ s e. absurd (cc) }
-link_of a k page old new (inr (inr (inr (inr (inl h))))) = record { basis = h.basis; content = _; placed = h.placed; over = λ n e. sym (same_Some old n e); split = λ s e. absurd (cc) }
-link_of a k page old new (inr (inr (inr (inr (inr (inl h)))))) = record { basis = h.basis; content = _; placed = h.placed; over = λ n e. sym (same_Some old n e); split = λ s e. absurd (cc) }
-link_of a k page old new (inr (inr (inr (inr (inr (inr (inl h))))))) = record { basis = h.basis; content = _; placed = h.placed; over = λ n e. sym (same_Some old n e); split = λ s e. absurd (cc) }
-link_of a k page old new (inr (inr (inr (inr (inr (inr (inr h))))))) = record { basis = h.basis; content = _; placed = h.placed; over = λ n e. sym (same_Some old n e); split = λ s e. absurd (cc) }
+link_of : (a : ℕ) (k : Knowledge) (page old new : ℕ) → MayAdd a k page old new → IsLink k page old new
+link_of a k page old new add = by_kind add.content add.placed add.due
+  where
+    over : (content : Record) → k.own.rows new ≡ Written content → (w : Record) → content ≡ w → ((n : ℕ) → next_row w ≡ Some n → n ≡ old) → ((s : SplitOf) → w ≡ Split s → ⊥) → IsLink k page old new
+    over content placed w is next apart = record { basis = add.basis; content = w; placed = placed ∙ ap Written is; over = next; split = λ s e. absurd (apart s e) }
+
+    by_kind : (content : Record) → k.own.rows new ≡ Written content → MayLink a k page old add.basis.chain content → IsLink k page old new
+    by_kind (Base base) e h = over (Base base) e _ h.is (λ n f. absurd (cc)) (λ s f. absurd (cc))
+    by_kind (Put put) e h = over (Put put) e _ h.is (update_over h.update old) (update_split h.update old)
+    by_kind (Delete delete) e h = over (Delete delete) e _ h.is (update_over h.update old) (update_split h.update old)
+    by_kind (Split split) e h =
+        let w : SplitOf = record { level = level_in add.basis.chain; next = old; separator = h.separator; page = h.right } in
+        let b : Record = base_from add.basis.chain h.separator h.items in
+        record {
+          basis = add.basis;
+          content = Split w;
+          placed = e ∙ ap Written h.is;
+          over = λ n f. sym (same_Some old n f);
+          split = λ s f. let same : w ≡ s = cc in (h.row, ap k.own.pages (ap (λ v. v.page) (sym same)) ∙ h.ready, rw h.base tt, λ i. let z : Written b ≡ Written (Split w) = sym h.base ∙ ap k.own.rows i ∙ e ∙ ap Written h.is in cc);
+        }
+    by_kind (Term term) e h = over (Term term) e _ h.is (λ n f. sym (same_Some old n f)) (λ s f. cc)
+    by_kind (Hold hold) e h = over (Hold hold) e _ h.is (λ n f. sym (same_Some old n f)) (λ s f. cc)
+    by_kind (Remove remove) e h = over (Remove remove) e _ h.is (λ n f. sym (same_Some old n f)) (λ s f. cc)
+    by_kind (Merge merge) e h = over (Merge merge) e _ h.is (λ n f. sym (same_Some old n f)) (λ s f. cc)
+    by_kind (Unterm unterm) e h = over (Unterm unterm) e _ h.is (λ n f. sym (same_Some old n f)) (λ s f. cc)
 
 -- where a page goes on, it was in the tree before
 put_reached : (f f' : ℕ → PageOwner) (c l0 : ℕ) (s0 : Key) (st : Stage) (n : PageOwner) → f c ≡ Placed st l0 s0 → f' ≡ put f c n → ((l : ℕ) (s : Key) → Reached 0 l s n → (l0 ≡ l) × (s0 ≡ s)) → (q l : ℕ) (s : Key) → Reached 0 l s (f' q) → Reached 0 l s (f q)
@@ -212,7 +219,7 @@ module _ {limits : Limits} {m : Memory} {log : List Update} {o : Owners} {knows 
       m' : Memory
       m' = record m { slots = replaced_at (suc p) (suc y) m.slots }
   fills p (suc x) y r may held n =
-      let h = link_of a (knows a) (suc p) (suc x) (suc y) may.1 in
+      let h = link_of a (knows a) (suc p) (suc x) (suc y) may in
       let f = found g a (suc p) (suc x) h.basis in
       let place = place_of g a (suc p) (suc x) h.basis.chain f h.basis.alive held in
       let other : (knows a).own.pages (suc p) ≡ Other = not_own g a (suc p) (level_in h.basis.chain) (low_in h.basis.chain) place.stage place.placed ((knows a).own.pages (suc p)) (g.owns_pages a (suc p)) in
@@ -235,7 +242,7 @@ module _ {limits : Limits} {m : Memory} {log : List Update} {o : Owners} {knows 
         spare = λ j b e. spare_or b (m.free_rows j) (o.row j) (n.owners.row j) e (n.moved j);
         cleared = pages.1;
       })
-      may.2
+      may.unset
       ((T.holds a).heads_since (suc p) (suc x) h.basis.head).learnt_row
       (f.linked, at.0, at.1)
       r h.content own.1
