@@ -1,0 +1,3 @@
+pub mod TermFits
+pub mod SplitFits
+pub mod OtherFits
