@@ -1,3 +1,0 @@
-pub mod TermFits
-pub mod SplitFits
-pub mod OtherFits
