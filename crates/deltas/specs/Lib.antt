@@ -3,3 +3,4 @@ pub mod Fits
 pub mod Links
 pub mod Memory
 pub mod Records
+pub mod Spellable
