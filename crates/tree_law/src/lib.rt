@@ -5,6 +5,7 @@
 mod examples;
 mod invariant;
 mod law;
+mod own;
 
 pub use examples::{all_links_are_disciplined, helped_split_is_disciplined, sweep_is_disciplined};
 pub use invariant::{
@@ -15,3 +16,4 @@ pub use law::{
     answers, begins, disciplined_runs, frees_by_rule, index_is_exact, is_one_map, keeps_phases,
     knowledge_is_own, opens, steps,
 };
+pub use own::{own_lasts, rows_are_apart};
