@@ -2,4 +2,5 @@ pub mod Applies
 pub mod Fits
 pub mod Links
 pub mod Memory
+pub mod NamedPages
 pub mod Records

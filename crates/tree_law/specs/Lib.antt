@@ -1,3 +1,4 @@
+pub mod Direct
 pub mod Example
 pub mod Fitness
 pub mod HelpedSplit
