@@ -10,5 +10,5 @@ use Rattle.chain_search.specs.Knowledge.{Written, Knowledge}
 
 -- Over a chain that was read a base goes only where there are deltas.
 abbrev pub IsUseful : Knowledge → StepOf Record → Type 0
-IsUseful k (Exchange slot old new) = (basis : HasRead k slot old) (page : Page) → k.rows new ≡ Written (Base page) → 1 < length basis.chain
+IsUseful k (Exchange slot old new) = (basis : HasRead k slot old) (page : Page) → k.own.rows new ≡ Written (Base page) → 1 < length basis.chain
 IsUseful k step = ⊤

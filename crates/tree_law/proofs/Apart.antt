@@ -16,10 +16,10 @@ own_spare a o w Taken h own = h
 own_spare a o w (Written x) h own = h.0
 
 module _ (limits : Limits) (entries : List Entry) (state : IsState limits entries) where
-  spare : (a row : ℕ) → IsOwn ((knows entries a).rows row) → state.owners.row row ≡ Spare a
-  spare a row own = own_spare a (state.owners.row row) ((memory_of limits entries).rows row) ((knows entries a).rows row) (state.good.owns a row) own
+  spare : (a row : ℕ) → IsOwn ((knows entries a).own.rows row) → state.owners.row row ≡ Spare a
+  spare a row own = own_spare a (state.owners.row row) ((memory_of limits entries).rows row) ((knows entries a).own.rows row) (state.good.owns a row) own
 
-  linked : (a row : ℕ) → (knows entries a).learnt row ≡ true → state.owners.row row ≡ Linked
+  linked : (a row : ℕ) → (knows entries a).read.learnt row ≡ true → state.owners.row row ≡ Linked
   linked a row learnt = (state.good.sound a).learnt_fits row learnt
 
   pub apart : AreApart limits entries

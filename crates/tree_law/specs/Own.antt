@@ -12,11 +12,11 @@ use Rattle.tree_law.specs.State.{IsState}
 -- A row that an actor has taken has no other owner, and nobody has learnt it; a row that one has learnt has a record. Both
 -- are below the limit.
 pub record AreApart (limits : Limits) (entries : List Entry) : Type 0 where
-  pub one_owner : (actor other row : ℕ) → IsOwn ((knows entries actor).rows row) → IsOwn ((knows entries other).rows row) → actor ≡ other
-  pub unlearnt : (actor other row : ℕ) → IsOwn ((knows entries actor).rows row) → (knows entries other).learnt row ≡ true → ⊥
-  pub own_below : (actor row : ℕ) → IsOwn ((knows entries actor).rows row) → row < limits.rows
-  pub learnt_below : (actor row : ℕ) → (knows entries actor).learnt row ≡ true → row < limits.rows
-  pub placed : (actor row : ℕ) → (knows entries actor).learnt row ≡ true → (content : Record) × ((memory_of limits entries).rows row ≡ Some content)
+  pub one_owner : (actor other row : ℕ) → IsOwn ((knows entries actor).own.rows row) → IsOwn ((knows entries other).own.rows row) → actor ≡ other
+  pub unlearnt : (actor other row : ℕ) → IsOwn ((knows entries actor).own.rows row) → (knows entries other).read.learnt row ≡ true → ⊥
+  pub own_below : (actor row : ℕ) → IsOwn ((knows entries actor).own.rows row) → row < limits.rows
+  pub learnt_below : (actor row : ℕ) → (knows entries actor).read.learnt row ≡ true → row < limits.rows
+  pub placed : (actor row : ℕ) → (knows entries actor).read.learnt row ≡ true → (content : Record) × ((memory_of limits entries).rows row ≡ Some content)
 
 -- What an actor knows, and the command that it has under way, are as they were.
 pub record Lasts (actor : ℕ) (seen run : List Entry) : Type 0 where

@@ -33,7 +33,7 @@ use Rattle.tree_law.proofs.direct.Causes.{LinksLast, links_cases}
 use Rattle.tree_law.proofs.direct.Counting.{affords_begun, affords_cause, affords_kept, affords_less}
 use Rattle.tree_law.proofs.direct.Directing.{direct}
 use Rattle.tree_law.proofs.direct.Linking.{IsChange, change, linked_kept}
-use Rattle.tree_law.proofs.direct.Owning.{unread, was_ready}
+use Rattle.tree_law.proofs.direct.Owning.{never_read, was_ready}
 use Rattle.tree_law.proofs.direct.Paying.{paid}
 use Rattle.tree_law.proofs.direct.Recollecting.{heads_cases, recollects_blank, recollects_other, recollects_own}
 use Rattle.tree_law.proofs.direct.Walking.{walks_kept, walks_own}
@@ -52,7 +52,7 @@ opens limits = record {
 
 -- no slot that is recalled is that of a page which its actor has made ready
 abbrev AreForeign : Recalled → Knowledge → Type 0
-AreForeign r k = (page head base : ℕ) → r.heads page ≡ Some head → k.pages page ≡ Ready base → ⊥
+AreForeign r k = (page head base : ℕ) → r.heads page ≡ Some head → k.own.pages page ≡ Ready base → ⊥
 
 module _ (limits : Limits) (entries : List Entry) (a : ℕ) (c : Command) (kept : IsDirectState limits entries) where
   abbrev last : Entry
@@ -69,25 +69,25 @@ module _ (limits : Limits) (entries : List Entry) (a : ℕ) (c : Command) (kept 
         | inr at ↦ absurd (ne (let e = at.1 in cc))
       ]))
 
-  linked_begun : (op : Operation) (n : ℕ) (kind : Link) → IsLast longer op → Links limits longer op n kind → IsUpdateLink kind → IsSome (knows longer op.actor).linked
-  linked_begun op n kind latest links is = subst (λ (ks : ℕ → Knowledge). IsSome (ks op.actor).linked) (sym (knows-push entries last)) (elim (links_cases limits entries last op n kind links) [
+  linked_begun : (op : Operation) (n : ℕ) (kind : Link) → IsLast longer op → Links limits longer op n kind → IsUpdateLink kind → IsSome (knows longer op.actor).asked.linked
+  linked_begun op n kind latest links is = subst (λ (ks : ℕ → Knowledge). IsSome (ks op.actor).asked.linked) (sym (knows-push entries last)) (elim (links_cases limits entries last op n kind links) [
     | inl old ↦
         let below : n < length entries = takes_below entries last op n _ _ old.3 in
         let start : op.start < n = old.3.1.begun in
-        at_place (λ (k : Knowledge). IsSome k.linked) a (begun (knows entries a) c) (knows entries) op.actor
+        at_place (λ (k : Knowledge). IsSome k.asked.linked) a (begun (knows entries a) c) (knows entries) op.actor
         (λ same. absurd (let at : op.start ≡ length entries = last_begun entries last op c (ap (λ b. Begin b c) (sym same)) latest in omega arith))
         (λ ne. elim (last_cases entries last op latest) [ inl before ↦ kept.linked op n kind before old is | inr at ↦ let e : op.start ≡ length entries = at.0 in absurd (omega arith) ])
     | inr at ↦ let e = at.1.is in absurd (cc)
   ])
 
-  walks_begun : (op : Operation) → IsLast longer op → (recalls longer op.actor).walk.rooted ≡ true → Walks limits longer op (knows longer op.actor).seen (recalls longer op.actor).walk
+  walks_begun : (op : Operation) → IsLast longer op → (recalls longer op.actor).walk.rooted ≡ true → Walks limits longer op (knows longer op.actor).read.seen (recalls longer op.actor).walk
   walks_begun op latest =
-      subst (λ (rs : ℕ → Recalled). (rs op.actor).walk.rooted ≡ true → Walks limits longer op (knows longer op.actor).seen (rs op.actor).walk) (sym (recalls-push entries last))
-      (subst (λ (ks : ℕ → Knowledge). (replaced_at a blank (recalls entries) op.actor).walk.rooted ≡ true → Walks limits longer op (ks op.actor).seen (replaced_at a blank (recalls entries) op.actor).walk) (sym (knows-push entries last))
-      (by_test op.actor a (λ t. (cond t blank (recalls entries op.actor)).walk.rooted ≡ true → Walks limits longer op (cond t (begun (knows entries a) c) (knows entries op.actor)).seen (cond t blank (recalls entries op.actor)).walk)
+      subst (λ (rs : ℕ → Recalled). (rs op.actor).walk.rooted ≡ true → Walks limits longer op (knows longer op.actor).read.seen (rs op.actor).walk) (sym (recalls-push entries last))
+      (subst (λ (ks : ℕ → Knowledge). (replaced_at a blank (recalls entries) op.actor).walk.rooted ≡ true → Walks limits longer op (ks op.actor).read.seen (replaced_at a blank (recalls entries) op.actor).walk) (sym (knows-push entries last))
+      (by_test op.actor a (λ t. (cond t blank (recalls entries op.actor)).walk.rooted ≡ true → Walks limits longer op (cond t (begun (knows entries a) c) (knows entries op.actor)).read.seen (cond t blank (recalls entries op.actor)).walk)
       (λ same rooted. absurd (cc))
       (λ ne rooted. elim (last_cases entries last op latest) [
-        | inl before ↦ walks_kept limits entries last op (knows entries op.actor).seen (recalls entries op.actor).walk (λ step answer reply is. cc) (kept.walks op before rooted)
+        | inl before ↦ walks_kept limits entries last op (knows entries op.actor).read.seen (recalls entries op.actor).walk (λ step answer reply is. cc) (kept.walks op before rooted)
         | inr at ↦ absurd (ne (let e = at.1 in cc))
       ])))
 
@@ -145,15 +145,15 @@ module _ (limits : Limits) (entries : List Entry) (a : ℕ) (s : StepOf Record) 
     | inr at ↦ let e = at.1 in absurd (cc)
   ]
 
-  walks_stepped : (op : Operation) → IsLast grown op → (recalls grown op.actor).walk.rooted ≡ true → Walks limits grown op (knows grown op.actor).seen (recalls grown op.actor).walk
+  walks_stepped : (op : Operation) → IsLast grown op → (recalls grown op.actor).walk.rooted ≡ true → Walks limits grown op (knows grown op.actor).read.seen (recalls grown op.actor).walk
   walks_stepped op latest = elim (last_cases entries next op latest) [
     | inl before ↦
-        subst (λ (rs : ℕ → Recalled). (rs op.actor).walk.rooted ≡ true → Walks limits grown op (knows grown op.actor).seen (rs op.actor).walk) (sym (recalls-push entries next))
-        (subst (λ (ks : ℕ → Knowledge). (replaced_at a mine (recalls entries) op.actor).walk.rooted ≡ true → Walks limits grown op (ks op.actor).seen (replaced_at a mine (recalls entries) op.actor).walk) (sym (knows-push entries next))
-        (by_test op.actor a (λ t. (cond t mine (recalls entries op.actor)).walk.rooted ≡ true → Walks limits grown op (cond t (finished (learn (knows entries a) s x) reply) (knows entries op.actor)).seen (cond t mine (recalls entries op.actor)).walk)
+        subst (λ (rs : ℕ → Recalled). (rs op.actor).walk.rooted ≡ true → Walks limits grown op (knows grown op.actor).read.seen (rs op.actor).walk) (sym (recalls-push entries next))
+        (subst (λ (ks : ℕ → Knowledge). (replaced_at a mine (recalls entries) op.actor).walk.rooted ≡ true → Walks limits grown op (ks op.actor).read.seen (replaced_at a mine (recalls entries) op.actor).walk) (sym (knows-push entries next))
+        (by_test op.actor a (λ t. (cond t mine (recalls entries op.actor)).walk.rooted ≡ true → Walks limits grown op (cond t (finished (learn (knows entries a) s x) reply) (knows entries op.actor)).read.seen (cond t mine (recalls entries op.actor)).walk)
         (λ same. walks_own limits entries next op s x reply before (of_actor op same) (knows entries a) (recalls entries a) (memory_of limits entries) is_answer
-        (subst (λ b. (recalls entries b).walk.rooted ≡ true → Walks limits entries op (knows entries b).seen (recalls entries b).walk) same (kept.walks op before)))
-        (λ ne rooted. walks_kept limits entries next op (knows entries op.actor).seen (recalls entries op.actor).walk (λ step answer r is. absurd (ne (let e : op.actor ≡ a = cc in e))) (kept.walks op before rooted))))
+        (subst (λ b. (recalls entries b).walk.rooted ≡ true → Walks limits entries op (knows entries b).read.seen (recalls entries b).walk) same (kept.walks op before)))
+        (λ ne rooted. walks_kept limits entries next op (knows entries op.actor).read.seen (recalls entries op.actor).walk (λ step answer r is. absurd (ne (let e : op.actor ≡ a = cc in e))) (kept.walks op before rooted))))
     | inr at ↦ let e = at.1 in absurd (cc)
   ]
     where
@@ -166,38 +166,38 @@ module _ (limits : Limits) (entries : List Entry) (a : ℕ) (s : StepOf Record) 
     where
       own : AreForeign (recall (recalls entries a) s x) (learn (knows entries a) s x)
       own page head base e f = elim (heads_cases (recalls entries a) s x page head e) [
-        | inl now ↦ unread limits entries state a page base (subst (May a (knows entries a)) now.0 may) (was_ready page base (knows entries a) s x (λ i. subst (IsExchangeOf page) now.0 i) f)
+        | inl now ↦ never_read limits entries state a page base (subst (May a (knows entries a)) now.0 may) (was_ready page base (knows entries a) s x (λ i. subst (IsExchangeOf page) now.0 i) f)
         | inr old ↦ kept.foreign a page head base old.0 (was_ready page base (knows entries a) s x old.1 f)
       ]
 
-  linked_stepped : (op : Operation) (n : ℕ) (kind : Link) → IsLast grown op → Links limits grown op n kind → IsUpdateLink kind → IsSome (knows grown op.actor).linked
+  linked_stepped : (op : Operation) (n : ℕ) (kind : Link) → IsLast grown op → Links limits grown op n kind → IsUpdateLink kind → IsSome (knows grown op.actor).asked.linked
   linked_stepped op n kind latest links is = elim (last_cases entries next op latest) [
     | inr at ↦ let e = at.1 in absurd (cc)
-    | inl before ↦ subst (λ (ks : ℕ → Knowledge). IsSome (ks op.actor).linked) (sym (knows-push entries next)) (elim (links_cases limits entries next op n kind links) [
+    | inl before ↦ subst (λ (ks : ℕ → Knowledge). IsSome (ks op.actor).asked.linked) (sym (knows-push entries next)) (elim (links_cases limits entries next op n kind links) [
       | inl old ↦
-          let some : IsSome (knows entries op.actor).linked = kept.linked op n kind before old is in
-          at_place (λ (k : Knowledge). IsSome k.linked) a (finished (learn (knows entries a) s x) reply) (knows entries) op.actor
-          (λ same. linked_kept (knows entries a) s x (subst (λ b. IsSome (knows entries b).linked) same some))
+          let some : IsSome (knows entries op.actor).asked.linked = kept.linked op n kind before old is in
+          at_place (λ (k : Knowledge). IsSome k.asked.linked) a (finished (learn (knows entries a) s x) reply) (knows entries) op.actor
+          (λ same. linked_kept (knows entries a) s x (subst (λ b. IsSome (knows entries b).asked.linked) same some))
           (λ ne. some)
       | inr at ↦ now op kind at.1 is
     ])
   ]
     where
-      now : (op : Operation) (kind : Link) → LinksLast limits entries next op kind → IsUpdateLink kind → IsSome (replaced_at a (finished (learn (knows entries a) s x) reply) (knows entries) op.actor).linked
+      now : (op : Operation) (kind : Link) → LinksLast limits entries next op kind → IsUpdateLink kind → IsSome (replaced_at a (finished (learn (knows entries a) s x) reply) (knows entries) op.actor).asked.linked
       now op kind at is =
           let made = (changes op.actor at.slot at.old at.new at.reply at.is).0 in
           let same : made.kind ≡ kind = same_Some _ _ (sym made.is ∙ at.link) in
-          let some : IsSome (learn (knows entries op.actor) (Exchange at.slot at.old at.new) (Whether true)).linked = made.known (subst IsUpdateLink (sym same) is) in
-          at_place (λ (k : Knowledge). IsSome k.linked) a (finished (learn (knows entries a) s x) reply) (knows entries) op.actor
+          let some : IsSome (learn (knows entries op.actor) (Exchange at.slot at.old at.new) (Whether true)).asked.linked = made.known (subst IsUpdateLink (sym same) is) in
+          at_place (λ (k : Knowledge). IsSome k.asked.linked) a (finished (learn (knows entries a) s x) reply) (knows entries) op.actor
           (λ e. subst Learns (sym at.is) some)
           (λ ne. absurd (ne (let f = at.is in let e : op.actor ≡ a = cc in e)))
         where
           Learns : Entry → Type 0
           Learns (Begin b c) = ⊥
-          Learns (Step b t y r) = IsSome (learn (knows entries b) t y).linked
+          Learns (Step b t y r) = IsSome (learn (knows entries b) t y).asked.linked
 
   -- a record that is read again is the one that was read before
-  read_again : (row : ℕ) (content before : Record) → s ≡ Row row → x ≡ Content content → (knows entries a).seen row ≡ Some before → content ≡ before
+  read_again : (row : ℕ) (content before : Record) → s ≡ Row row → x ≡ Content content → (knows entries a).read.seen row ≡ Some before → content ≡ before
   read_again row content before i j e =
       let fit : Fits limits (knows entries a) (Row row) (Content content) = subst (λ y. Fits limits (knows entries a) (Row row) y) j (subst (λ t. Fits limits (knows entries a) t x) i (fits limits entries state a s x may is_answer)) in
       fit.same before e
@@ -207,12 +207,12 @@ module _ (limits : Limits) (entries : List Entry) (a : ℕ) (s : StepOf Record) 
     afford op latest same = elim spent [
       | inl less ↦ affords_less limits entries next op left rest latest.begun (accounts op latest same) less
       | inr h ↦ affords_cause limits entries next op left rest latest.begun (accounts op latest same)
-          (paid limits entries next op latest reply s x (recalls entries a) (knows entries a).seen (of_actor op same)
+          (paid limits entries next op latest reply s x (recalls entries a) (knows entries a).read.seen (of_actor op same)
           (λ slot old new is_step is_won. (changes op.actor slot old new reply (λ i. Step (same' same i) (is_step i) (is_won i) reply)).0)
-          (λ page head base e f. kept.foreign a page head base e (subst (λ b. (knows entries b).pages page ≡ Ready base) same f))
+          (λ page head base e f. kept.foreign a page head base e (subst (λ b. (knows entries b).own.pages page ≡ Ready base) same f))
           read_again
           (subst (λ b. Recollects limits entries op (recalls entries b)) same (kept.recollects op latest))
-          (subst (λ b. (recalls entries b).walk.rooted ≡ true → Walks limits entries op (knows entries b).seen (recalls entries b).walk) same (kept.walks op latest))
+          (subst (λ b. (recalls entries b).walk.rooted ≡ true → Walks limits entries op (knows entries b).read.seen (recalls entries b).walk) same (kept.walks op latest))
           h.0)
           h.1
     ]

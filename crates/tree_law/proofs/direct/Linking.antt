@@ -16,7 +16,7 @@ use Rattle.deltas.specs.Memory.{Memory}
 use Rattle.deltas.specs.declared.record.Record.{Record}
 use Rattle.deltas.specs.declared.record.Record.TheVariants.{Base, Put, Delete, Split, Term, Hold, Remove, Merge, Unterm}
 use Rattle.chain_search.specs.Chains.{IsChainFrom, IsChainOf, is_removed}
-use Rattle.chain_search.specs.Discipline.{HasRead, MayExchange, MayLink}
+use Rattle.chain_search.specs.Discipline.{MayExchange, MayLink}
 use Rattle.chain_search.specs.Fitted.{IsFitted}
 use Rattle.chain_search.specs.Knowledge.{OwnRow, Foreign, Taken, Written, OwnPage, Other, Empty, Ready, Gone, Knowledge, knows, learn, linked_over, filled, emptied, rooted, split_off, exchanged, forgotten}
 use Rattle.chain_search.specs.Steps.{IsAnswer}
@@ -32,7 +32,6 @@ use Rattle.tree_law.specs.State.{IsInTree, IsState}
 use Rattle.tree_law.proofs.Fitted.{fits}
 use Rattle.tree_law.proofs.Phasing.{link_empty, link_front, link_ready}
 use Rattle.tree_law.proofs.Relinking.{found, placed_row}
-use Rattle.tree_law.proofs.Slots.{link_read}
 
 -- no record's kind is that of a slot that is filled or emptied
 kind_of_record : (content : Record) → (record_link content ≢ link.Ready) × (record_link content ≢ link.Undo)
@@ -84,9 +83,6 @@ removed_newest : (rows : ℕ → Option Record) (row : ℕ) (chain : List Record
 removed_newest rows row [] h fitted gone = absurd h
 removed_newest rows row (w ∷ under) h fitted gone = (w, h.0, newest_removes w under fitted gone)
 
-same_written : (v w : Record) → Written v ≡ Written w → v ≡ w
-same_written v w e = cc
-
 base_is : (w : Record) → record_link w ≡ link.Base → (page : Page) × (w ≡ Base page)
 base_is (Base page) e = (page, refl)
 base_is (Put put) e = absurd (cc)
@@ -99,24 +95,19 @@ base_is (Merge merge) e = absurd (cc)
 base_is (Unterm unterm) e = absurd (cc)
 
 -- an update is linked where none was linked before
-update_unlinked : (a : ℕ) (k : Knowledge) (p x y : ℕ) (w : Record) → MayLink a k p x y → k.rows y ≡ Written w → IsUpdateLink (record_link w) → k.linked ≡ None
-update_unlinked a k p x y w may placed is = go may
-  where
-    other : (v : Record) → k.rows y ≡ Written v → IsUpdateLink (record_link v)
-    other v e = subst (λ u. IsUpdateLink (record_link u)) (same_written w v (sym placed ∙ e)) is
-
-    go : MayLink a k p x y → k.linked ≡ None
-    go (inl h) = h.unlinked
-    go (inr (inl h)) = elim (other _ h.placed) [ inl e ↦ absurd (cc) | inr e ↦ absurd (cc) ]
-    go (inr (inr (inl h))) = elim (other _ h.placed) [ inl e ↦ absurd (cc) | inr e ↦ absurd (cc) ]
-    go (inr (inr (inr (inl h)))) = elim (other _ h.placed) [ inl e ↦ absurd (cc) | inr e ↦ absurd (cc) ]
-    go (inr (inr (inr (inr (inl h))))) = elim (other _ h.placed) [ inl e ↦ absurd (cc) | inr e ↦ absurd (cc) ]
-    go (inr (inr (inr (inr (inr (inl h)))))) = elim (other _ h.placed) [ inl e ↦ absurd (cc) | inr e ↦ absurd (cc) ]
-    go (inr (inr (inr (inr (inr (inr (inl h))))))) = elim (other _ h.placed) [ inl e ↦ absurd (cc) | inr e ↦ absurd (cc) ]
-    go (inr (inr (inr (inr (inr (inr (inr h))))))) = elim (other _ h.placed) [ inl e ↦ absurd (cc) | inr e ↦ absurd (cc) ]
+update_unlinked : (a : ℕ) (k : Knowledge) (p x : ℕ) (chain : List Record) (w : Record) → MayLink a k p x chain w → IsUpdateLink (record_link w) → k.asked.linked ≡ None
+update_unlinked a k p x chain (Put put) due is = due.unlinked
+update_unlinked a k p x chain (Delete delete) due is = due.unlinked
+update_unlinked a k p x chain (Base page) due is = elim is [ inl e ↦ absurd (cc) | inr e ↦ absurd (cc) ]
+update_unlinked a k p x chain (Split split) due is = elim is [ inl e ↦ absurd (cc) | inr e ↦ absurd (cc) ]
+update_unlinked a k p x chain (Term term) due is = elim is [ inl e ↦ absurd (cc) | inr e ↦ absurd (cc) ]
+update_unlinked a k p x chain (Hold hold) due is = elim is [ inl e ↦ absurd (cc) | inr e ↦ absurd (cc) ]
+update_unlinked a k p x chain (Remove remove) due is = elim is [ inl e ↦ absurd (cc) | inr e ↦ absurd (cc) ]
+update_unlinked a k p x chain (Merge merge) due is = elim is [ inl e ↦ absurd (cc) | inr e ↦ absurd (cc) ]
+update_unlinked a k p x chain (Unterm unterm) due is = elim is [ inl e ↦ absurd (cc) | inr e ↦ absurd (cc) ]
 
 -- The actor knows of an update that it linked, and goes on knowing of it.
-linked_by_update : (w : Record) (old new : ℕ) (k : Knowledge) → IsUpdateLink (record_link w) → IsSome (linked_over (Written w) old new k).linked
+linked_by_update : (w : Record) (old new : ℕ) (k : Knowledge) → IsUpdateLink (record_link w) → IsSome (linked_over (Written w) old new k).asked.linked
 linked_by_update (Put put) old new k h = refl
 linked_by_update (Delete delete) old new k h = refl
 linked_by_update (Base page) old new k h = elim h [ inl e ↦ absurd (cc) | inr e ↦ absurd (cc) ]
@@ -127,18 +118,18 @@ linked_by_update (Remove remove) old new k h = elim h [ inl e ↦ absurd (cc) | 
 linked_by_update (Merge merge) old new k h = elim h [ inl e ↦ absurd (cc) | inr e ↦ absurd (cc) ]
 linked_by_update (Unterm unterm) old new k h = elim h [ inl e ↦ absurd (cc) | inr e ↦ absurd (cc) ]
 
-split_kept : (v : OwnPage) (page row : ℕ) (k : Knowledge) → IsSome k.linked → IsSome (split_off v page row k).linked
+split_kept : (v : OwnPage) (page row : ℕ) (k : Knowledge) → IsSome k.asked.linked → IsSome (split_off v page row k).asked.linked
 split_kept (Ready base) page row k h = h
 split_kept Other page row k h = h
 split_kept Empty page row k h = h
 split_kept Gone page row k h = h
 
-over_kept : (v : OwnRow) (old row : ℕ) (k : Knowledge) → IsSome k.linked → IsSome (linked_over v old row k).linked
+over_kept : (v : OwnRow) (old row : ℕ) (k : Knowledge) → IsSome k.asked.linked → IsSome (linked_over v old row k).asked.linked
 over_kept Foreign old row k h = h
 over_kept Taken old row k h = h
 over_kept (Written (Put put)) old row k h = refl
 over_kept (Written (Delete delete)) old row k h = refl
-over_kept (Written (Split split)) old row k h = split_kept (k.pages split.page) split.page row k h
+over_kept (Written (Split split)) old row k h = split_kept (k.own.pages split.page) split.page row k h
 over_kept (Written (Base page)) old row k h = h
 over_kept (Written (Term term)) old row k h = h
 over_kept (Written (Hold hold)) old row k h = h
@@ -146,41 +137,41 @@ over_kept (Written (Remove remove)) old row k h = h
 over_kept (Written (Merge merge)) old row k h = h
 over_kept (Written (Unterm unterm)) old row k h = h
 
-filled_kept : (v : OwnPage) (page old row : ℕ) (k : Knowledge) → IsSome k.linked → IsSome (filled v page old row k).linked
-filled_kept Other page old row k h = over_kept (k.rows row) old row k h
+filled_kept : (v : OwnPage) (page old row : ℕ) (k : Knowledge) → IsSome k.asked.linked → IsSome (filled v page old row k).asked.linked
+filled_kept Other page old row k h = over_kept (k.own.rows row) old row k h
 filled_kept Empty page old row k h = h
 filled_kept (Ready base) page old row k h = h
 filled_kept Gone page old row k h = h
 
-emptied_kept : (v : OwnPage) (page old : ℕ) (k : Knowledge) → IsSome k.linked → IsSome (emptied v page old k).linked
+emptied_kept : (v : OwnPage) (page old : ℕ) (k : Knowledge) → IsSome k.asked.linked → IsSome (emptied v page old k).asked.linked
 emptied_kept (Ready base) page old k h = h
 emptied_kept Other page old k h = h
 emptied_kept Empty page old k h = h
 emptied_kept Gone page old k h = h
 
-rooted_kept : (v : OwnPage) (page : ℕ) (k : Knowledge) → IsSome k.linked → IsSome (rooted v page k).linked
+rooted_kept : (v : OwnPage) (page : ℕ) (k : Knowledge) → IsSome k.asked.linked → IsSome (rooted v page k).asked.linked
 rooted_kept (Ready base) page k h = h
 rooted_kept Other page k h = h
 rooted_kept Empty page k h = h
 rooted_kept Gone page k h = h
 
-exchanged_kept : (p x y : ℕ) (k : Knowledge) → IsSome k.linked → IsSome (exchanged p x y k).linked
-exchanged_kept zero x y k h = rooted_kept (k.pages y) y k h
-exchanged_kept (suc p) x zero k h = emptied_kept (k.pages (suc p)) (suc p) x k h
-exchanged_kept (suc p) x (suc y) k h = filled_kept (k.pages (suc p)) (suc p) x (suc y) k h
+exchanged_kept : (p x y : ℕ) (k : Knowledge) → IsSome k.asked.linked → IsSome (exchanged p x y k).asked.linked
+exchanged_kept zero x y k h = rooted_kept (k.own.pages y) y k h
+exchanged_kept (suc p) x zero k h = emptied_kept (k.own.pages (suc p)) (suc p) x k h
+exchanged_kept (suc p) x (suc y) k h = filled_kept (k.own.pages (suc p)) (suc p) x (suc y) k h
 
 forgotten_some : (l : Option (Option ℕ)) → IsSome l → IsSome (forgotten l)
 forgotten_some None e = absurd (cc)
 forgotten_some (Some over) e = refl
 
-pub linked_kept : (k : Knowledge) (s : StepOf Record) (x : Answer Record) → IsSome k.linked → IsSome (learn k s x).linked
+pub linked_kept : (k : Knowledge) (s : StepOf Record) (x : Answer Record) → IsSome k.asked.linked → IsSome (learn k s x).asked.linked
 linked_kept k (Slot zero) (Number n) h = h
 linked_kept k (Slot (suc page)) (Number zero) h = h
 linked_kept k (Slot (suc page)) (Number (suc row)) h = h
 linked_kept k (Row row) (Content content) h = h
 linked_kept k Epoch (Number n) h = h
 linked_kept k (Announce other) (Number n) h = h
-linked_kept k Leave answer h = forgotten_some k.linked h
+linked_kept k Leave answer h = forgotten_some k.asked.linked h
 linked_kept k (PidBits word) (Number bits) h = h
 linked_kept k (RowBits word) (Number bits) h = h
 linked_kept k (TakePid pid) (Whether true) h = h
@@ -200,15 +191,15 @@ module _ (limits : Limits) (entries : List Entry) (a : ℕ) where
   pub record IsChange (slot old new : ℕ) : Type 0 where
     pub kind : Link
     pub is : link_of m slot old new ≡ Some kind
-    pub once : IsUpdateLink kind → k.linked ≡ None
-    pub known : IsUpdateLink kind → IsSome (learn k (Exchange slot old new) (Whether true)).linked
-    pub counts : 0 < old → ((base : ℕ) → k.pages slot ≡ Ready base → ⊥) → (kind ≢ link.Ready) × (kind ≢ link.Undo)
+    pub once : IsUpdateLink kind → k.asked.linked ≡ None
+    pub known : IsUpdateLink kind → IsSome (learn k (Exchange slot old new) (Whether true)).asked.linked
+    pub counts : 0 < old → ((base : ℕ) → k.own.pages slot ≡ Ready base → ⊥) → (kind ≢ link.Ready) × (kind ≢ link.Undo)
     pub useful : IsUseful k (Exchange slot old new) → kind ≡ link.Base → (chain : List Record) → IsChainOf m slot chain → 1 < length chain
 
   module _ (state : IsState limits entries) where
     -- the slot of an own page is emptied, or of one whose term the actor took out
-    emptying : (p x : ℕ) → m.slots (suc p) ≡ suc x → (k.pages (suc p) ≡ Ready (suc x)) ⊎ (k.pages (suc p) ≡ Gone)
-        → (w : Record) × (m.rows (suc x) ≡ Some w) × (((base : ℕ) → k.pages (suc p) ≡ Ready base → ⊥) → link_without w ≡ link.Clear)
+    emptying : (p x : ℕ) → m.slots (suc p) ≡ suc x → (k.own.pages (suc p) ≡ Ready (suc x)) ⊎ (k.own.pages (suc p) ≡ Gone)
+        → (w : Record) × (m.rows (suc x) ≡ Some w) × (((base : ℕ) → k.own.pages (suc p) ≡ Ready base → ⊥) → link_without w ≡ link.Clear)
     emptying p x at (inl ready) =
         let own = subst (λ (v : OwnPage). PageFits a (state.owners.page (suc p)) (slot_in m.slots (suc p)) v) ready (state.good.owns_pages a (suc p)) in
         elim (state.named.held (suc p) (suc x) (ap row_in at)) [
@@ -253,19 +244,17 @@ module _ (limits : Limits) (entries : List Entry) (a : ℕ) where
           useful = λ good e. absurd ((not_without h.0).1 e);
         }
     change (suc p) (suc x) (suc y) inside may is at =
-        let w = may.0.content in
-        let placed : k.rows (suc y) ≡ Written w = may.0.placed in
-        let other : k.pages (suc p) ≡ Other = fits limits entries state a (Exchange (suc p) (suc x) (suc y)) (Whether true) (inside, may) is refl in
+        let w = may.content in
+        let other : k.own.pages (suc p) ≡ Other = fits limits entries state a (Exchange (suc p) (suc x) (suc y)) (Whether true) (inside, may) is refl in
         record {
           kind = record_link w;
-          is = link_front m p x y ∙ ap (option_map record_link) (placed_row state.good a (suc y) w placed);
-          once = update_unlinked a k (suc p) (suc x) (suc y) w may.1 placed;
-          known = λ h. rw (other, placed) (linked_by_update w (suc x) (suc y) k h);
+          is = link_front m p x y ∙ ap (option_map record_link) (placed_row state.good a (suc y) w may.placed);
+          once = update_unlinked a k (suc p) (suc x) may.basis.chain w may.due;
+          known = λ h. rw (other, may.placed) (linked_by_update w (suc x) (suc y) k h);
           counts = λ some never. kind_of_record w;
           useful = λ good e chain is_chain.
               let base = base_is w e in
-              let basis : HasRead k (suc p) (suc x) = link_read a k (suc p) (suc x) (suc y) may.1 in
-              let stands : IsChainFrom m.rows (suc x) basis.chain = (found state.good a (suc p) (suc x) basis).stands in
-              let same : basis.chain ≡ chain = IsChainFrom-unique m.rows (suc x) basis.chain chain stands (subst (λ r. IsChainFrom m.rows r chain) at is_chain.records) in
-              subst (λ c. 1 < length c) same (good basis base.0 (placed ∙ ap Written base.1));
+              let stands : IsChainFrom m.rows (suc x) may.basis.chain = (found state.good a (suc p) (suc x) may.basis).stands in
+              let same : may.basis.chain ≡ chain = IsChainFrom-unique m.rows (suc x) may.basis.chain chain stands (subst (λ r. IsChainFrom m.rows r chain) at is_chain.records) in
+              subst (λ c. 1 < length c) same (good may.basis base.0 (may.placed ∙ ap Written base.1));
         }

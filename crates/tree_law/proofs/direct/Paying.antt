@@ -72,14 +72,14 @@ module _ (limits : Limits) (entries : List Entry) (last : Entry) (op : Operation
         ),
       )))
 
-  won : (slot old new : ℕ) → last ≡ Step op.actor (Exchange slot old new) (Whether true) reply → IsChange limits entries op.actor slot old new → 0 < old → ((base : ℕ) → (knows entries op.actor).pages slot ≡ Ready base → ⊥) → IsCause limits longer op (length entries)
+  won : (slot old new : ℕ) → last ≡ Step op.actor (Exchange slot old new) (Whether true) reply → IsChange limits entries op.actor slot old new → 0 < old → ((base : ℕ) → (knows entries op.actor).own.pages slot ≡ Ready base → ⊥) → IsCause limits longer op (length entries)
   won slot old new is change some foreign =
       let counts = change.counts some foreign in
       inl (change.kind, (slot, old, new, takes_last entries last op _ _ reply latest is, ap (λ (m : Memory). link_of m slot old new) (memory_last entries last limits) ∙ change.is), counts.0, counts.1)
 
   pub paid : (s : StepOf Record) (x : Answer Record) (r : Recalled) (seen : ℕ → Option Record) → last ≡ Step op.actor s x reply
       → ((slot old new : ℕ) → s ≡ Exchange slot old new → x ≡ Whether true → IsChange limits entries op.actor slot old new)
-      → ((page head base : ℕ) → r.heads page ≡ Some head → (knows entries op.actor).pages page ≡ Ready base → ⊥)
+      → ((page head base : ℕ) → r.heads page ≡ Some head → (knows entries op.actor).own.pages page ≡ Ready base → ⊥)
       → ((row : ℕ) (content before : Record) → s ≡ Row row → x ≡ Content content → seen row ≡ Some before → content ≡ before)
       → Recollects limits entries op r → (r.walk.rooted ≡ true → Walks limits entries op seen r.walk) → IsPaid r s x → IsCause limits longer op (length entries)
   paid (Exchange slot old new) (Whether true) r seen is change foreign same reads walks h = won slot old new is (change slot old new refl refl) h.0 (λ base e. foreign slot old base h.1 e)

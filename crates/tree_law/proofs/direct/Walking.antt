@@ -28,7 +28,7 @@ KeepsSeen (Row row) = ⊥
 KeepsSeen Leave = ⊥
 KeepsSeen step = Unit {0}
 
-seen_kept : (k : Knowledge) (s : StepOf Record) (x : Answer Record) → KeepsSeen s → (learn k s x).seen ≡ k.seen
+seen_kept : (k : Knowledge) (s : StepOf Record) (x : Answer Record) → KeepsSeen s → (learn k s x).read.seen ≡ k.read.seen
 seen_kept k (Slot zero) (Number n) h = refl
 seen_kept k (Slot (suc p)) (Number zero) h = refl
 seen_kept k (Slot (suc p)) (Number (suc n)) h = refl
@@ -40,7 +40,7 @@ seen_kept k (PidBits w) (Number n) h = refl
 seen_kept k (RowBits w) (Number n) h = refl
 seen_kept k (TakePid p) (Whether true) h = refl
 seen_kept k (TakeRow q) (Whether true) h = refl
-seen_kept k (Exchange p x y) (Whether true) h = (exchanged_alike p x y k).seen
+seen_kept k (Exchange p x y) (Whether true) h = ap (λ read. read.seen) (exchanged_alike p x y k).read
 seen_kept k s x h = refl
 
 -- what was read since slot 0 was read stays but for reads, and a leave
@@ -158,23 +158,23 @@ module _ (limits : Limits) (entries : List Entry) (last : Entry) (op : Operation
         }
 
     -- neither is read
-    still : (k : Knowledge) (r : Recalled) → IsStill s → (r.walk.rooted ≡ true → Walks limits entries op k.seen r.walk) → (recall r s x).walk.rooted ≡ true → Walks limits longer op (learn k s x).seen (recall r s x).walk
+    still : (k : Knowledge) (r : Recalled) → IsStill s → (r.walk.rooted ≡ true → Walks limits entries op k.read.seen r.walk) → (recall r s x).walk.rooted ≡ true → Walks limits longer op (learn k s x).read.seen (recall r s x).walk
     still k r rests h rooted =
         let same : (recall r s x).walk ≡ r.walk = walk_kept r s x rests in
-        let kept : Walks limits longer op k.seen r.walk = walks_kept k.seen r.walk
+        let kept : Walks limits longer op k.read.seen r.walk = walks_kept k.read.seen r.walk
             (λ step answer other own. (λ page e. subst IsStill (sym (is_step step answer other own).0 ∙ e) rests, λ row e. subst IsStill (sym (is_step step answer other own).0 ∙ e) rests))
             (h (ap (λ (walk : Walk). walk.rooted) (sym same) ∙ rooted)) in
-        subst (λ (seen : ℕ → Option Record). Walks limits longer op seen (recall r s x).walk) (sym (seen_kept k s x (still_seen s rests))) (subst (λ (walk : Walk). Walks limits longer op k.seen walk) (sym same) kept)
+        subst (λ (seen : ℕ → Option Record). Walks limits longer op seen (recall r s x).walk) (sym (seen_kept k s x (still_seen s rests))) (subst (λ (walk : Walk). Walks limits longer op k.read.seen walk) (sym same) kept)
 
   pub walks_own : (s : StepOf Record) (x : Answer Record) (reply : Option Reply) (latest : IsLast entries op) (is : last ≡ Step op.actor s x reply) (k : Knowledge) (r : Recalled) (memory : Memory) → IsAnswer memory s x
-      → (r.walk.rooted ≡ true → Walks limits entries op k.seen r.walk) → (recall r s x).walk.rooted ≡ true → Walks limits longer op (learn k s x).seen (recall r s x).walk
-  walks_own (Slot zero) x reply latest is k r memory says h rooted = subst (λ y. Walks limits longer op (learn k (Slot zero) y).seen (recall r (Slot zero) y).walk) (sym says) (begun (Slot zero) x reply latest is (memory.slots 0) k.seen r.walk refl says)
+      → (r.walk.rooted ≡ true → Walks limits entries op k.read.seen r.walk) → (recall r s x).walk.rooted ≡ true → Walks limits longer op (learn k s x).read.seen (recall r s x).walk
+  walks_own (Slot zero) x reply latest is k r memory says h rooted = subst (λ y. Walks limits longer op (learn k (Slot zero) y).read.seen (recall r (Slot zero) y).walk) (sym says) (begun (Slot zero) x reply latest is (memory.slots 0) k.read.seen r.walk refl says)
   walks_own (Slot (suc p)) x reply latest is k r memory says h rooted =
       let was : r.walk.rooted ≡ true = subst (λ y. (recall r (Slot (suc p)) y).walk.rooted ≡ true) says rooted in
-      subst (λ y. Walks limits longer op (learn k (Slot (suc p)) y).seen (recall r (Slot (suc p)) y).walk) (sym says)
-      (subst (λ (seen : ℕ → Option Record). Walks limits longer op seen (visit (suc p) r.walk)) (sym (seen_kept k (Slot (suc p)) (Number (memory.slots (suc p))) tt)) (visited (Slot (suc p)) x reply latest is p (memory.slots (suc p)) k.seen r.walk refl says (h was)))
+      subst (λ y. Walks limits longer op (learn k (Slot (suc p)) y).read.seen (recall r (Slot (suc p)) y).walk) (sym says)
+      (subst (λ (seen : ℕ → Option Record). Walks limits longer op seen (visit (suc p) r.walk)) (sym (seen_kept k (Slot (suc p)) (Number (memory.slots (suc p))) tt)) (visited (Slot (suc p)) x reply latest is p (memory.slots (suc p)) k.read.seen r.walk refl says (h was)))
   walks_own (Row q) x reply latest is k r memory says h rooted =
       let was : r.walk.rooted ≡ true = subst (λ y. (recall r (Row q) y).walk.rooted ≡ true) says.2 rooted in
-      subst (λ y. Walks limits longer op (learn k (Row q) y).seen (recall r (Row q) y).walk) (sym says.2) (noted (Row q) x reply latest is q says.0 k.seen r.walk refl says.2 (h was))
+      subst (λ y. Walks limits longer op (learn k (Row q) y).read.seen (recall r (Row q) y).walk) (sym says.2) (noted (Row q) x reply latest is q says.0 k.read.seen r.walk refl says.2 (h was))
   walks_own Leave x reply latest is k r memory says h rooted = absurd (cc)
   walks_own s x reply latest is k r memory says h rooted = still s x reply latest is k r tt h rooted
