@@ -30,3 +30,7 @@ is_entry_of actor (Step other step answer reply) = actor == other
 abbrev pub own_entries : ℕ → List Entry → List Entry
 own_entries actor [] = []
 own_entries actor (entry ∷ entries) = if is_entry_of actor entry then entry ∷ own_entries actor entries else own_entries actor entries
+
+-- The run begins with what was seen, and goes on with entries of other actors alone.
+abbrev pub Extends : ℕ → List Entry → List Entry → Type 0
+Extends actor seen run = (rest : List Entry) × (run ≡ seen ++ rest) × (own_entries actor rest ≡ [])

@@ -1,7 +1,8 @@
 -- A plain step keeps page 1 the only page, and what actors know of it.
-use Rattle.std.proofs.Common.{◌≡◌, ◌<◌, ◌≤◌, inl, inr, ℕ, zero, suc, List, [], ◌∷◌, length, Option, Some, None, Bool, true, false, cond, eqb, refl, sym, ap, ◌∙◌, subst, arith}
+use Rattle.std.proofs.Common.{◌≡◌, ◌<◌, ◌≤◌, inl, inr, ℕ, zero, suc, List, [], ◌∷◌, ◌++◌, length, Option, Some, None, Bool, true, false, cond, eqb, refl, sym, ap, ◌∙◌, subst, arith}
 use Rattle.std.specs.Prelude.{IfSome, IsSome}
 use Rattle.std.proofs.lemmas.Bool.{lt-leb}
+use Rattle.std.proofs.lemmas.List.Sums.{fold-append}
 use Rattle.std.proofs.lemmas.Option.{same_Some}
 use Rattle.bw_model.specs.declared.command.Command.{Command}
 use Rattle.bw_model.specs.declared.step.Answer.{Answer}
@@ -16,7 +17,7 @@ use Rattle.deltas.specs.Memory.{Memory, opening}
 use Rattle.deltas.specs.Records.{next_row}
 use Rattle.chain_search.specs.Chains.{IsChainFrom, IsChainOf}
 use Rattle.chain_search.specs.Discipline.{May, MayAdd, MayExchange, MayLink, MayUpdate, record_of}
-use Rattle.chain_search.specs.Knowledge.{OwnRow, Written, Knowledge, begun, exchanged, finished, knows, learn, learn_slot, linked_over}
+use Rattle.chain_search.specs.Knowledge.{OwnRow, Written, Knowledge, begun, exchanged, finished, knows, knows_after, learn, learn_slot, linked_over}
 use Rattle.chain_search.specs.Steps.{IsAnswer, memory_after}
 use Rattle.chain_search.specs.Trace.{command_of, memory_of}
 use Rattle.chain_search.specs.declared.trace.Entry.{Entry}
@@ -29,7 +30,6 @@ use Rattle.tree_law.specs.Shared.{row_in, shared, slot_in}
 use Rattle.tree_law.specs.State as tree
 use Rattle.tree_law.specs.Tree.{Good, IsPart, Level, Page}
 use Rattle.core_law.specs.State.{HasOneLeaf, IsShortLeaf, IsState, KnowsLeaf}
-use Rattle.core_law.proofs.Appended.{knows-push}
 use Rattle.core_law.proofs.Chains.{chain_stays, read_chain_stands}
 use Rattle.core_law.proofs.Places.{at_place, by_test}
 use Rattle.core_law.proofs.Laws.{Begins, MemoryGrows, OneChain, Opens, Steps, TreeSteps}
@@ -218,6 +218,9 @@ module _ (m : Memory) {log : List Update} {o : Owners} {ks : ℕ → Knowledge} 
     learnt (Retire n) x may plain is stay = known
     learnt (ReusePids w bits) x may plain is stay = same _ refl refl refl
     learnt (ReuseRows w bits) x may plain is stay = same _ refl refl refl
+
+knows-push : (entries : List Entry) (last : Entry) → knows (entries ++ last ∷ []) ≡ knows_after (knows entries) last
+knows-push entries last = fold-append _ _ entries (last ∷ [])
 
 pub opens : Opens tree.IsState → Opens IsState
 opens tree_opens limits = record {

@@ -1,15 +1,8 @@
-pub mod Appended
-pub mod Causes
 pub mod Chains
-pub mod Changing
-pub mod Affording
-pub mod Directing
-pub mod Paying
-pub mod Counting
-pub mod Recollecting
 pub mod Fitted
 pub mod Laws
 pub mod Links
 pub mod Places
+pub mod Plain
 pub mod Runs
 pub mod Keeping

@@ -1,5 +1,6 @@
 -- In a trace of plain steps in which each actor obeys its discipline, the state stands after each entry.
-use Rattle.std.proofs.Common.{◌≡◌, List, [], ◌∷◌, ◌++◌, length, sym, subst, append_assoc}
+use Rattle.std.proofs.Common.{◌≡◌, List, [], ◌∷◌, ◌++◌, length, Some, refl, sym, subst, append_assoc}
+use Rattle.std.specs.Prelude.{slice_get}
 use Rattle.std.proofs.lemmas.List.{append-nil}
 use Rattle.bw_model.specs.declared.limits.Limits.{Limits}
 use Rattle.chain_search.specs.declared.trace.Entry.{Entry}
@@ -7,16 +8,21 @@ use Rattle.chain_search.specs.declared.trace.Entry.TheVariants.{Begin, Step}
 use Rattle.chain_search.specs.Disciplined.{MayStand, IsDisciplinedFrom, IsDisciplined}
 use Rattle.chain_search.specs.Knowledge.{knows}
 use Rattle.op_machine.specs.OneLeaf.{IsPlainMove}
+use Rattle.chain_search.proofs.Pushes.{take-push_whole}
 use Rattle.core_law.specs.State.{ArePlain, IsState}
-use Rattle.core_law.proofs.Appended.{at_length, take_length}
 use Rattle.core_law.proofs.Laws.{Begins, Opens, Steps}
+
+-- the entry after these
+at_length : {X : Type 0} (xs : List X) (x : X) (more : List X) → slice_get (xs ++ x ∷ more) (length xs) ≡ Some x
+at_length [] x more = refl
+at_length (y ∷ xs) x more = at_length xs x more
 
 module _ (opens : Opens IsState) (begins : Begins IsState) (steps : Steps) where
   one_more : (limits : Limits) (before : List Entry) (entry : Entry) (entries : List Entry) → IsState limits before → MayStand limits before entry → ArePlain (before ++ entry ∷ entries) → IsState limits (before ++ entry ∷ [])
   one_more limits before (Begin actor command) entries state may plain = begins limits before actor command state may.0 may.1
   one_more limits before (Step actor step answer reply) entries state may plain =
       steps limits before actor step answer reply state may.0 may.1
-      (subst (λ es. IsPlainMove (knows es actor) step) (take_length before (Step actor step answer reply ∷ entries)) (plain (length before) actor step answer (reply, at_length before (Step actor step answer reply) entries))) may.2
+      (subst (λ es. IsPlainMove (knows es actor) step) (take-push_whole before (Step actor step answer reply ∷ entries)) (plain (length before) actor step answer (reply, at_length before (Step actor step answer reply) entries))) may.2
 
   state_along : (limits : Limits) (before entries : List Entry) → IsState limits before → IsDisciplinedFrom limits before entries → ArePlain (before ++ entries) → IsState limits (before ++ entries)
   state_along limits before [] state h plain = rw append-nil state

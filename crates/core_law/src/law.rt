@@ -7,9 +7,10 @@ ghost use Rattle.bw_model.specs.declared.step.Answer.{Answer};
 ghost use Rattle.bw_model.specs.declared.step.Step.{Step as StepOf};
 ghost use Rattle.chain_search.specs.Discipline.{IsAllowed, May};
 ghost use Rattle.chain_search.specs.Disciplined.{IsDisciplined};
-ghost use Rattle.chain_search.specs.Knowledge.{knows};
+ghost use Rattle.chain_search.specs.Knowledge.{Knowledge, knows};
 ghost use Rattle.chain_search.specs.Steps.{IsAnswer};
 ghost use Rattle.chain_search.specs.Trace.{memory_of, command_of};
+ghost use Rattle.chain_search.specs.Useful.{IsUseful};
 ghost use Rattle.chain_search.specs.declared.trace.Entry.{Entry};
 ghost use Rattle.chain_search.specs.declared.trace.Entry.TheVariants.{Begin, Step};
 ghost use Rattle.core_law.specs.State.{ArePlain, HasOneLeaf, IsState};
@@ -67,3 +68,8 @@ pub fn answers()
 {
     tree_law::answers();
 }
+
+/// A plain step puts no base over a base alone.
+pub fn plain_is_useful()
+    ensures { (k : Knowledge) (step : StepOf Record) → IsPlainMove k step → IsUseful k step }
+{}

@@ -2,5 +2,6 @@ pub mod Applies
 pub mod Fits
 pub mod Links
 pub mod Memory
+pub mod NamedPages
 pub mod Records
 pub mod Spellable

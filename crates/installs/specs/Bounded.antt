@@ -1,11 +1,11 @@
 -- How many steps a change takes at most, but for those that a cause pays for.
-use Rattle.std.specs.Prelude.{◌≡◌, ◌<◌, ◌-◌, ℕ, Some, ◌⊎◌, ⊤}
+use Rattle.std.specs.Prelude.{◌<◌, ◌-◌, ℕ, ◌⊎◌, ⊤}
 use Rattle.bw_model.specs.declared.step.Answer.{Answer}
 use Rattle.deltas.specs.declared.record.Record.{Record}
 use Rattle.installs.specs.declared.install.State.{State}
 use Rattle.installs.specs.declared.install.State.TheVariants.{Bits, Take, Place, Exchange}
 use Rattle.installs.specs.Installs.{Install, wanted}
-use Rattle.installs.specs.Recalled.{Recalled, WasFree, IsPaid, recall}
+use Rattle.chain_search.specs.Recalled.{Recalled, WasFree, WasHead, IsPaid, recall}
 
 -- how many steps a change takes at most from a state on, with the one that it has asked for
 abbrev pub steps_left : State → ℕ
@@ -20,7 +20,7 @@ RecallsAt r state = ⊤
 
 -- The page's slot was read as the row over which the record is linked; the row to take was read as free.
 pub record Recalls (install : Install) (r : Recalled) : Type 0 where
-  pub head : r.heads install.pid ≡ Some install.head
+  pub head : WasHead r install.pid install.head
   pub at : RecallsAt r install.state
 
 -- A change that goes on recalls what it has read, and has fewer steps left, or a cause paid for more.

@@ -1,6 +1,5 @@
 pub mod Spares
 pub mod Within
 pub mod Installs
-pub mod Recalled
 pub mod Bounded
 pub mod Held

@@ -7,7 +7,7 @@ ghost use Rattle.chain_search.specs.Knowledge.{Knowledge, learn};
 ghost use Rattle.installs.specs.Bounded.{Recalls, Spends, steps_left};
 ghost use Rattle.installs.specs.Held.{Keeps, held, held_then};
 ghost use Rattle.installs.specs.Installs.{Follows, GoesOn, IsSame, IsSoundState, IsTarget, IsTold, MayInstall, Shows, at, rows_flying, wanted};
-ghost use Rattle.installs.specs.Recalled.{Recalled};
+ghost use Rattle.chain_search.specs.Recalled.{Recalled, WasHead};
 ghost use Rattle.installs.specs.Spares.{AreSpare, HaveRoom};
 ghost use Rattle.installs.specs.Within.{IsWithin};
 
@@ -74,7 +74,7 @@ impl Install {
         ensures pid { result.pid ≡ pid }
         ensures head { result.head ≡ head }
         ensures content { result.content ≡ content }
-        ensures recalls { (r : Recalled) → r.heads pid ≡ Some head → Recalls result r }
+        ensures recalls { (r : Recalled) → WasHead r pid head → Recalls result r }
     {
         let state = match spares.take() {
             Some(row) => State::Place { row },

@@ -1,10 +1,10 @@
 -- How many steps an operation takes at most, but for those that a cause pays for.
-use Rattle.std.specs.Prelude.{◌≡◌, ◌<◌, ◌+◌, ◌-◌, ℕ, List, length, Option, None, Some, ◌⊎◌, ⊤}
+use Rattle.std.specs.Prelude.{◌<◌, ◌+◌, ◌-◌, ℕ, List, length, Option, None, Some, ◌⊎◌, ⊤}
 use Rattle.bw_model.specs.declared.step.Answer.{Answer}
 use Rattle.bw_model.specs.declared.step.Step.{Step as StepOf}
 use Rattle.deltas.specs.declared.record.Record.{Record}
 use Rattle.installs.specs.Bounded as change
-use Rattle.installs.specs.Recalled.{Recalled, IsPaid, recall}
+use Rattle.chain_search.specs.Recalled.{Recalled, WasHead, IsPaid, recall}
 use Rattle.op_machine.specs.declared.op.State.{State}
 use Rattle.op_machine.specs.declared.op.State.TheVariants.{Begun, Epoch, Enter, Root, Slot, Row, Install, Leave, Over}
 use Rattle.op_machine.specs.declared.op.Want.{Want}
@@ -28,7 +28,7 @@ steps_left op = left_at op.part op.state
 
 -- A page's slot was read as the row from which on its chain is read, or over which a record is linked.
 abbrev pub RecallsAt : Recalled → State → Type 0
-RecallsAt r (Row pid head row) = r.heads pid ≡ Some head
+RecallsAt r (Row pid head row) = WasHead r pid head
 RecallsAt r (Install install reply) = change.Recalls install r
 RecallsAt r state = ⊤
 

@@ -1,7 +1,7 @@
 -- An operation takes few steps but for those that another actor's change caused.
 use Rattle.std.specs.Prelude.{◌≡◌, ◌≢◌, ◌<◌, ◌≤◌, ◌+◌, ◌*◌, ◌/◌, ◌%◌, ◌^◌, ℕ, suc, List, length, Bool, true, false, Some, ◌⊎◌, slice_range, ◌==◌}
 use Rattle.std.specs.Int.{bit_at}
-use Rattle.std.specs.List.{All, Any, count_by}
+use Rattle.std.specs.List.{All, count_by}
 use Rattle.std.specs.List.Sorted.{IsStrictlyIncreasing}
 use Rattle.bw_model.specs.declared.limits.Limits.{Limits}
 use Rattle.bw_model.specs.declared.step.Answer.{Answer}
@@ -10,33 +10,16 @@ use Rattle.bw_model.specs.declared.step.Link.{Link}
 use Rattle.bw_model.specs.declared.step.Link.TheVariants as link
 use Rattle.bw_model.specs.declared.step.Step.{Step as StepOf}
 use Rattle.bw_model.specs.declared.step.Step.TheVariants.{Slot, Row, PidBits, RowBits, Exchange, TakePid, TakeRow}
-use Rattle.base_page.specs.declared.item.Content.TheVariants.{Child}
-use Rattle.base_page.specs.declared.item.Item.{Item}
 use Rattle.deltas.specs.declared.record.Record.{Record}
 use Rattle.deltas.specs.declared.record.Record.TheVariants as delta
 use Rattle.deltas.specs.declared.record.Remove.{Remove}
+use Rattle.deltas.specs.NamedPages.{NamesPage}
 use Rattle.chain_search.specs.declared.trace.Entry.{Entry}
 use Rattle.chain_search.specs.declared.trace.Entry.TheVariants.{Begin, Step}
 use Rattle.chain_search.specs.Chains.{IsChainOf}
 use Rattle.chain_search.specs.Trace.{memory_at}
 use Rattle.op_machine.specs.Links.{link_of}
 use Rattle.op_machine.specs.Operations.{Operation, IsOperation, IsOwnStep, TakesOwnStep}
-
--- the items have the page as a child
-abbrev pub HasChild : List Item → ℕ → Type 0
-HasChild items pid = Any (λ item. (held : Bool) × (item.content ≡ Child pid held)) items
-
--- The record names the page, as its right or as a child.
-abbrev pub NamesPage : Record → ℕ → Type 0
-NamesPage (delta.Base page) pid = (page.right ≡ Some pid) ⊎ HasChild page.items pid
-NamesPage (delta.Put put) pid = ⊥
-NamesPage (delta.Delete delete) pid = ⊥
-NamesPage (delta.Split split) pid = split.page ≡ pid
-NamesPage (delta.Term term) pid = term.child ≡ pid
-NamesPage (delta.Hold hold) pid = hold.child ≡ pid
-NamesPage (delta.Remove remove) pid = ⊥
-NamesPage (delta.Merge merge) pid = (merge.right ≡ Some pid) ⊎ HasChild merge.items pid
-NamesPage (delta.Unterm unterm) pid = unterm.child ≡ pid
 
 abbrev pub IsExchangeOf : ℕ → StepOf Record → Type 0
 IsExchangeOf slot (Exchange changed old new) = changed ≡ slot

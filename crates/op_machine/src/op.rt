@@ -4,7 +4,7 @@ ghost use Rattle.chain_search.specs.Knowledge.{Knowledge, begun, learn};
 ghost use Rattle.installs.specs.Bounded as change;
 ghost use Rattle.installs.specs.Held as kept;
 ghost use Rattle.installs.specs.Installs.{Follows, Install as InstallSeen, IsTarget, MayInstall, wanted};
-ghost use Rattle.installs.specs.Recalled.{Recalled};
+ghost use Rattle.chain_search.specs.Recalled.{Recalled, WasHead};
 ghost use Rattle.installs.specs.Spares.{AreSpare, HaveRoom};
 ghost use Rattle.installs.specs.Within.{IsWithin};
 ghost use Rattle.op_machine.specs.Answered.{is_writer};
@@ -261,7 +261,7 @@ impl Op {
         ensures hand { HaveRoom self.old.limits (rows_in_flight self.new.state) hand.new }
         ensures keeps { held self.new.state hand.new ≡ hand.old }
         ensures same { IsSameOp self.old self.new }
-        ensures recalls { (r : Recalled) → r.heads pid ≡ Some head → Recalls self.new r }
+        ensures recalls { (r : Recalled) → WasHead r pid head → Recalls self.new r }
         ensures few { steps_left self.new ≤ 260 }
     {
         if !self.is_writer() {
@@ -287,7 +287,7 @@ impl Op {
         ensures hand { HaveRoom self.old.limits (rows_in_flight self.new.state) hand.new }
         ensures keeps { held self.new.state hand.new ≡ hand.old }
         ensures same { IsSameOp self.old self.new }
-        ensures recalls { (r : Recalled) → r.heads pid ≡ Some head → Recalls self.new r }
+        ensures recalls { (r : Recalled) → WasHead r pid head → Recalls self.new r }
         ensures few { steps_left self.new ≤ 260 }
     {
         let page = chain.page();
@@ -320,7 +320,7 @@ impl Op {
         ensures hand { HaveRoom self.old.limits (rows_in_flight self.new.state) hand.new }
         ensures keeps { held self.new.state hand.new ≡ hand.old }
         ensures same { IsSameOp self.old self.new }
-        ensures recalls { (r : Recalled) → r.heads pid ≡ Some head → Recalls self.new r }
+        ensures recalls { (r : Recalled) → WasHead r pid head → Recalls self.new r }
         ensures few { steps_left self.new ≤ 260 }
     {
         let install = Install::new(&self.limits, &mut hand.spares, pid, head, content);

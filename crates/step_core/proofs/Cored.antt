@@ -18,9 +18,9 @@ use Rattle.step_core.specs.declared.actor.Actor.{Actor}
 use Rattle.chain_search.specs.Discipline.{May}
 use Rattle.op_machine.specs.OneLeaf.{IsPlainMove}
 use Rattle.chain_search.specs.Knowledge.{Knowledge, begun, finished, knows, knows_after, learn}
-use Rattle.core_law.specs.Direct.{Accounts, IsDirectState, StaysDirect}
+use Rattle.tree_law.specs.Direct.{Accounts, IsDirectState, StaysDirect}
 use Rattle.core_law.specs.State.{IsState}
-use Rattle.installs.specs.Recalled.{IsPaid, Recalled, blank, recall, recalls, recalls_after}
+use Rattle.chain_search.specs.Recalled.{IsPaid, Recalled, blank, recall, recalls, recalls_after}
 use Rattle.installs.specs.Within.{IsWithin}
 use Rattle.step_core.specs.Actors.{IsActor, IsPlainlyAllowed, IsReady, command_left, knows_then, running_command}
 use Rattle.step_core.specs.Cells.{Cells, AreSound}

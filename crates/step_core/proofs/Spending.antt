@@ -7,7 +7,7 @@ use Rattle.bw_model.specs.declared.step.Answer.TheVariants as answer
 use Rattle.bw_model.specs.declared.step.Step.{Step as StepOf}
 use Rattle.bw_model.specs.declared.step.Step.TheVariants as step
 use Rattle.deltas.specs.declared.record.Record.{Record}
-use Rattle.installs.specs.Recalled.{Recalled, recall}
+use Rattle.chain_search.specs.Recalled.{Recalled, recall}
 use Rattle.op_machine.specs.Bounded.{IsPaidLast, Recalls, RecallsAt, Spends as OpSpends, left_at as state_left, recall_last, steps_left}
 use Rattle.op_machine.specs.Wants.{Op, wanted_at, wanted_of}
 use Rattle.op_machine.specs.declared.op.State.{State}

@@ -4,9 +4,9 @@ use Rattle.bw_model.specs.declared.limits.Limits.{Limits}
 use Rattle.chain_search.specs.declared.trace.Entry.{Entry}
 use Rattle.chain_search.specs.Knowledge.{knows}
 use Rattle.chain_search.specs.Trace.{command_of, memory_of}
-use Rattle.core_law.specs.Direct.{Accounts, IsDirectState}
+use Rattle.tree_law.specs.Direct.{Accounts, IsDirectState}
 use Rattle.core_law.specs.State.{IsState}
-use Rattle.installs.specs.Recalled.{recalls}
+use Rattle.chain_search.specs.Recalled.{recalls}
 use Rattle.step_core.specs.declared.actor.Actor.{Actor}
 use Rattle.step_core.specs.declared.actor.Running.{Running}
 use Rattle.step_core.specs.Actors.{IsActor, running_command}

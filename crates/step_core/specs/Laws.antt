@@ -13,9 +13,9 @@ use Rattle.chain_search.specs.Steps.{IsAnswer}
 use Rattle.chain_search.specs.Trace.{command_of, commands_after, memory_after_entry, memory_of, turn_of}
 use Rattle.chain_search.specs.declared.trace.Entry.{Entry}
 use Rattle.chain_search.specs.declared.trace.Entry.TheVariants.{Begin, Step}
-use Rattle.core_law.specs.Direct.{Accounts, IsDirectState, StaysDirect}
+use Rattle.tree_law.specs.Direct.{Accounts, IsDirectState, StaysDirect}
 use Rattle.core_law.specs.State.{IsState}
-use Rattle.installs.specs.Recalled.{IsPaid, recalls, recalls_after}
+use Rattle.chain_search.specs.Recalled.{IsPaid, recalls, recalls_after}
 use Rattle.op_machine.specs.Index.{IsExactIndex}
 use Rattle.op_machine.specs.Linearized.{IsLinearized}
 use Rattle.op_machine.specs.OneLeaf.{FitsOneLeaf, IsPlainMove}

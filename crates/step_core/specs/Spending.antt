@@ -4,7 +4,7 @@ use Rattle.bw_model.specs.declared.command.Reply.{Reply}
 use Rattle.bw_model.specs.declared.step.Answer.{Answer}
 use Rattle.bw_model.specs.declared.step.Step.{Step as StepOf}
 use Rattle.deltas.specs.declared.record.Record.{Record}
-use Rattle.installs.specs.Recalled.{Recalled, IsPaid, recall}
+use Rattle.chain_search.specs.Recalled.{Recalled, IsPaid, recall}
 use Rattle.op_machine.specs.Bounded.{Recalls, steps_left}
 use Rattle.step_core.specs.declared.actor.Running.{Running}
 

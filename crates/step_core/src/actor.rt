@@ -2,7 +2,7 @@
 ghost use Rattle.std.specs.Prelude.{◌≡◌, ◌<◌, ◌^◌, [], Some, None, is_some, true};
 ghost use Rattle.chain_search.specs.Knowledge.{Knowledge, begun};
 ghost use Rattle.installs.specs.Held.{Keeps};
-ghost use Rattle.installs.specs.Recalled.{Recalled};
+ghost use Rattle.chain_search.specs.Recalled.{Recalled};
 ghost use Rattle.installs.specs.Within.{IsWithin};
 ghost use Rattle.op_machine.specs.Held.{held};
 ghost use Rattle.step_core.specs.Actors.{IsActor, IsLeft, IsPlainlyAllowed, IsReady, IsRunning, IsServed, command_left, knows_then, running_command};

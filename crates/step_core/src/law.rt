@@ -11,7 +11,8 @@ ghost use Rattle.op_machine.specs.Reuse.{IsFreedByRule};
 ghost use Rattle.step_core.specs.Laws.{BeginLaw, Grows, StateLaw, StepLaw};
 
 use chain_search::{command_grows, memory_grows};
-use core_law::{begins_directly, recalls_grow, steps_directly};
+use core_law::plain_is_useful;
+use tree_law::{begins_directly, recalls_grow, steps_directly};
 
 /// In every trace, of any number of actors and in any order of their turns, in which each actor obeys its discipline, the
 /// operations took effect one at a time, on one ordered map; pages kept their phases, the index is exact at each moment, and
@@ -52,6 +53,7 @@ pub(crate) fn steps_keep_laws()
     tree_law::answers();
     core_law::answers();
     core_law::steps();
+    plain_is_useful();
     steps_directly();
 }
 

@@ -12,9 +12,9 @@ use crate::listing::pairs_in;
 use crate::memory::Memory;
 use bw_model::{Command, Key, Limits, OpenError, Value};
 use chain_search::{Entry, Turn};
-use core_law::opens_directly;
 use std::alloc::{AllocError, Allocator, Global};
 use std::marker::Model;
+use tree_law::opens_directly;
 
 /// All actors over one memory, which an allocator gives.
 #[derive(Drop)]

@@ -1,5 +1,6 @@
 pub mod Allowed
 pub mod Answering
+pub mod Apart
 pub mod Beginning
 pub mod Chains
 pub mod Emptying
@@ -33,6 +34,7 @@ pub mod Merging
 pub mod Moments
 pub mod Names
 pub mod Opening
+pub mod Others
 pub mod OwnEntries
 pub mod Owned
 pub mod Phasing

@@ -9,7 +9,7 @@ use Rattle.chain_search.specs.Disciplined.{is_entry_of, own_entries}
 use Rattle.tree_law.proofs.Puts.{eqb_true, eqb_false, put_same, put_other}
 
 -- an entry of another actor leaves what the actor knows
-after_other : (ks : ℕ → Knowledge) (a : ℕ) (entry : Entry) → is_entry_of a entry ≡ false → knows_after ks entry a ≡ ks a
+pub after_other : (ks : ℕ → Knowledge) (a : ℕ) (entry : Entry) → is_entry_of a entry ≡ false → knows_after ks entry a ≡ ks a
 after_other ks a (Begin b command) e = put_other ks b (begun (ks b) command) a (eqb_false a b e)
 after_other ks a (Step b step answer reply) e = put_other ks b (finished (learn (ks b) step answer) reply) a (eqb_false a b e)
 

@@ -38,3 +38,7 @@ put_self {X} f i = λ d j. at j d
   where
     at : (j : ℕ) → put f i (f i) j ≡ f j
     at j = by_test j i (λ t. cond t (f i) (f j) ≡ f j) (λ e. ap f (sym e)) (λ ne. refl)
+
+-- what holds of the new value at its place, and of the old one elsewhere
+pub at_place : {X : Type 0} (P : X → Type 0) (n : ℕ) (x : X) (f : ℕ → X) (k : ℕ) → (k ≡ n → P x) → (k ≢ n → P (f k)) → P (put f n x k)
+at_place {X} P n x f k here elsewhere = by_test k n (λ t. P (cond t x (f k))) here elsewhere

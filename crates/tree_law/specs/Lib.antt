@@ -1,3 +1,4 @@
+pub mod Direct
 pub mod Example
 pub mod Fitness
 pub mod HelpedSplit
@@ -6,6 +7,7 @@ pub mod Keys
 pub mod Laws
 pub mod Limbos
 pub mod Next
+pub mod Own
 pub mod Owners
 pub mod Phase
 pub mod Phases

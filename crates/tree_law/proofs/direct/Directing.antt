@@ -14,22 +14,23 @@ use Rattle.bw_model.specs.declared.step.Link.{Link}
 use Rattle.bw_model.specs.declared.step.Link.TheVariants as link
 use Rattle.bw_model.specs.declared.step.Step.{Step as StepOf}
 use Rattle.bw_model.specs.declared.step.Step.TheVariants.{Exchange}
-use Rattle.deltas.specs.Links.{record_link}
 use Rattle.deltas.specs.Memory.{Memory}
 use Rattle.deltas.specs.declared.record.Record.{Record}
 use Rattle.chain_search.specs.Chains.{IsChainOf}
 use Rattle.chain_search.specs.Knowledge.{knows}
 use Rattle.chain_search.specs.Trace.{memory_at, memory_of}
+use Rattle.chain_search.specs.Useful.{IsUseful}
 use Rattle.chain_search.specs.declared.trace.Entry.{Entry}
 use Rattle.chain_search.specs.declared.trace.Entry.TheVariants.{Step}
 use Rattle.op_machine.specs.Direct.{IsCause, IsDirect, Links, is_step_of}
 use Rattle.op_machine.specs.Links.{link_of}
 use Rattle.op_machine.specs.Operations.{Operation, IsOperation, IsOwnStep, TakesOwnStep}
-use Rattle.core_law.specs.Direct.{Affords, IsDirectState, IsLast, IsUpdateLink}
-use Rattle.core_law.proofs.Appended.{length-push, memory_kept, memory_last, operation_before, takes_below, takes_cases}
-use Rattle.core_law.proofs.Causes.{LinksLast, cause_kept, links_cases}
-use Rattle.core_law.proofs.Changing.{IsPlainChange, base_over}
-use Rattle.core_law.proofs.Counting.{range_kept}
+use Rattle.tree_law.specs.Direct.{Affords, IsDirectState, IsLast, IsUpdateLink}
+use Rattle.tree_law.proofs.Owned.{pushed_length}
+use Rattle.tree_law.proofs.direct.Appended.{memory_kept, memory_last, operation_before, takes_below, takes_cases}
+use Rattle.tree_law.proofs.direct.Causes.{LinksLast, cause_kept, links_cases}
+use Rattle.tree_law.proofs.direct.Linking.{IsChange}
+use Rattle.tree_law.proofs.direct.Counting.{range_kept}
 
 -- the causes until a step pay for the steps until then
 abbrev Few : Limits → List Entry → Operation → ℕ → Type 0
@@ -66,8 +67,7 @@ module _ (limits : Limits) (entries : List Entry) (last : Entry) (kept : IsDirec
       )
 
   module _ (afford : (op : Operation) (s : StepOf Record) (x : Answer Record) (reply : Option Reply) → IsLast entries op → last ≡ Step op.actor s x reply → (rest : ℕ) × Affords limits longer op rest)
-      (change : (b slot old new : ℕ) (reply : Option Reply) → last ≡ Step b (Exchange slot old new) (Whether true) reply
-      → (made : IsPlainChange limits entries b slot old new) × ((chain : List Record) → IsChainOf (memory_of limits entries) slot chain → made.chain ≡ chain)) where
+      (change : (b slot old new : ℕ) (reply : Option Reply) → last ≡ Step b (Exchange slot old new) (Whether true) reply → IsChange limits entries b slot old new × IsUseful (knows entries b) (Exchange slot old new)) where
     few : (op : Operation) (n : ℕ) → IsOperation longer op → IsOwnStep longer op n → Few limits longer op n
     few op n begun own =
         let before : IsOperation entries op = operation_before entries last op n own.0 own.1 begun own.2 in
@@ -75,7 +75,7 @@ module _ (limits : Limits) (entries : List Entry) (last : Entry) (kept : IsDirec
           | inl old ↦ few_kept op n before (own.0, own.1, old)
           | inr at ↦
               let h = afford op own.0 own.1 at.1.0 (record { begun = before; unended = at.2 }) at.1.1 in
-              let long : length longer ≡ suc (length entries) = length-push entries last in
+              let long : length longer ≡ suc (length entries) = pushed_length entries last in
               let same : n ≡ length entries = at.0 in
               few_last limits longer op n h.0 (omega arith) h.1
         ]
@@ -85,7 +85,7 @@ module _ (limits : Limits) (entries : List Entry) (last : Entry) (kept : IsDirec
     apart op m first second latest before now one two =
         let made = (change op.actor now.slot now.old now.new now.reply now.is).0 in
         let some : IsSome (knows entries op.actor).asked.linked = kept.linked op m first latest before one in
-        let same : record_link made.content ≡ second = same_Some _ _ (sym made.link ∙ now.link) in
+        let same : made.kind ≡ second = same_Some _ _ (sym made.is ∙ now.link) in
         let none : (knows entries op.actor).asked.linked ≡ None = made.once (subst IsUpdateLink (sym same) two) in
         let false : IsSome {T = ℕ} None = subst IsSome none some in
         cc
@@ -117,8 +117,8 @@ module _ (limits : Limits) (entries : List Entry) (last : Entry) (kept : IsDirec
               let made = change op.actor slot old new at.1.0 at.1.1 in
               let same : memory_at limits longer n ≡ memory_of limits entries = ap (memory_at limits longer) at.0 ∙ memory_last entries last limits in
               let here : IsChainOf (memory_of limits entries) slot chain = subst (λ (m : Memory). IsChainOf m slot chain) same is_chain in
-              let kind : record_link made.0.content ≡ link.Base = same_Some _ _ (sym made.0.link ∙ subst (λ (m : Memory). link_of m slot old new ≡ Some link.Base) same is) in
-              subst (λ c. 1 < length c) (made.1 chain here) (base_over made.0.chain made.0.content made.0.plain kind)
+              let kind : made.0.kind ≡ link.Base = same_Some _ _ (sym made.0.is ∙ subst (λ (m : Memory). link_of m slot old new ≡ Some link.Base) same is) in
+              made.0.useful made.1 kind chain here
         ]
 
     pub direct : IsDirect limits longer

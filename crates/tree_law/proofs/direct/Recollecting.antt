@@ -4,21 +4,23 @@ use Rattle.std.proofs.lemmas.Bool.Decides.{eqb_tells}
 use Rattle.bw_model.specs.declared.command.Reply.{Reply}
 use Rattle.bw_model.specs.declared.limits.Limits.{Limits}
 use Rattle.bw_model.specs.declared.step.Answer.{Answer}
-use Rattle.bw_model.specs.declared.step.Answer.TheVariants.{Number}
+use Rattle.bw_model.specs.declared.step.Answer.TheVariants.{Number, Content}
 use Rattle.bw_model.specs.declared.step.Step.{Step as StepOf}
-use Rattle.bw_model.specs.declared.step.Step.TheVariants.{Slot, PidBits, RowBits, Exchange, TakePid, TakeRow}
+use Rattle.bw_model.specs.declared.step.Step.TheVariants.{Slot, Row, PidBits, RowBits, Exchange, TakePid, TakeRow}
 use Rattle.deltas.specs.declared.record.Record.{Record}
 use Rattle.deltas.specs.Memory.{replaced_at}
 use Rattle.chain_search.specs.declared.trace.Entry.{Entry}
 use Rattle.chain_search.specs.declared.trace.Entry.TheVariants.{Step}
-use Rattle.installs.specs.Recalled.{Recalled, blank, recall}
+use Rattle.chain_search.specs.Recalled.{Recalled, blank, recall}
 use Rattle.op_machine.specs.Direct.{IsExchangeOf, IsTake}
 use Rattle.op_machine.specs.Operations.{Operation}
-use Rattle.core_law.specs.Direct.{HasReadSince, IsLast, Recollects}
-use Rattle.core_law.proofs.Appended.{length-push, takes_below, takes_cases, takes_kept, takes_last}
+use Rattle.tree_law.specs.Direct.{HasReadSince, IsLast, Recollects}
+use Rattle.tree_law.proofs.Owned.{pushed_length}
+use Rattle.tree_law.proofs.Searches.{takes_kept}
+use Rattle.tree_law.proofs.direct.Appended.{takes_below, takes_cases, takes_last}
 
 -- a function changed at one place has there the new value, and elsewhere the old one
-pub at_cases : {X : Type 0} (n : ℕ) (x : X) (f : ℕ → X) (k : ℕ) (y : X) → replaced_at n x f k ≡ y → ((k ≡ n) × (x ≡ y)) ⊎ ((k ≢ n) × (f k ≡ y))
+at_cases : {X : Type 0} (n : ℕ) (x : X) (f : ℕ → X) (k : ℕ) (y : X) → replaced_at n x f k ≡ y → ((k ≡ n) × (x ≡ y)) ⊎ ((k ≢ n) × (f k ≡ y))
 at_cases {X} n x f k y e = elim (eqb_tells k n) [
   | inl same ↦ inl (same.1, sym (ap (λ t. cond t x (f k)) same.0) ∙ e)
   | inr apart ↦ inr (apart.1, sym (ap (λ t. cond t x (f k)) apart.0) ∙ e)
@@ -28,7 +30,7 @@ at_cases {X} n x f k y e = elim (eqb_tells k n) [
 abbrev Cases : StepOf Record → Answer Record → (ℕ → Option ℕ) → ℕ → ℕ → (ℕ → StepOf Record) → (StepOf Record → Type 0) → Type 0
 Cases s x recalled at n wanted Kind = ((s ≡ wanted at) × (x ≡ Number n)) ⊎ ((recalled at ≡ Some n) × (Kind s → ⊥))
 
-heads_cases : (r : Recalled) (s : StepOf Record) (x : Answer Record) (slot row : ℕ) → (recall r s x).heads slot ≡ Some row → Cases s x r.heads slot row Slot (IsExchangeOf slot)
+pub heads_cases : (r : Recalled) (s : StepOf Record) (x : Answer Record) (slot row : ℕ) → (recall r s x).heads slot ≡ Some row → Cases s x r.heads slot row Slot (IsExchangeOf slot)
 heads_cases r (Slot p) (Number n) slot row e = elim (at_cases p (Some n) r.heads slot (Some row) e) [
   | inl at ↦ inl (ap Slot (sym at.0), let same : Some n ≡ Some row = at.1 in cc)
   | inr old ↦ inr (old.1, λ h. h)
@@ -39,6 +41,7 @@ heads_cases r (Exchange p old new) x slot row e = elim (at_cases p None r.heads 
 ]
 heads_cases r (PidBits w) (Number n) slot row e = inr (e, λ h. h)
 heads_cases r (RowBits w) (Number n) slot row e = inr (e, λ h. h)
+heads_cases r (Row q) (Content w) slot row e = inr (e, λ h. h)
 heads_cases r s x slot row e = inr (e, λ h. h)
 
 pids_cases : (r : Recalled) (s : StepOf Record) (x : Answer Record) (word bits : ℕ) → (recall r s x).pids word ≡ Some bits → Cases s x r.pids word bits PidBits IsTake
@@ -50,6 +53,7 @@ pids_cases r (TakePid p) x word bits e = absurd (cc)
 pids_cases r (TakeRow q) x word bits e = absurd (cc)
 pids_cases r (Slot p) (Number n) word bits e = inr (e, λ h. h)
 pids_cases r (RowBits w) (Number n) word bits e = inr (e, λ h. h)
+pids_cases r (Row q) (Content w) word bits e = inr (e, λ h. h)
 pids_cases r s x word bits e = inr (e, λ h. h)
 
 rows_cases : (r : Recalled) (s : StepOf Record) (x : Answer Record) (word bits : ℕ) → (recall r s x).rows word ≡ Some bits → Cases s x r.rows word bits RowBits IsTake
@@ -61,6 +65,7 @@ rows_cases r (TakePid p) x word bits e = absurd (cc)
 rows_cases r (TakeRow q) x word bits e = absurd (cc)
 rows_cases r (Slot p) (Number n) word bits e = inr (e, λ h. h)
 rows_cases r (PidBits w) (Number n) word bits e = inr (e, λ h. h)
+rows_cases r (Row q) (Content w) word bits e = inr (e, λ h. h)
 rows_cases r s x word bits e = inr (e, λ h. h)
 
 module _ (limits : Limits) (entries : List Entry) (last : Entry) (op : Operation) where
@@ -84,7 +89,7 @@ module _ (limits : Limits) (entries : List Entry) (last : Entry) (op : Operation
   read_last Kind wanted number reply latest is = (
     length entries,
     takes_last entries last op wanted (Number number) reply latest is,
-    λ between step answer low high own kind. let long : length longer ≡ suc (length entries) = length-push entries last in omega arith,
+    λ between step answer low high own kind. let long : length longer ≡ suc (length entries) = pushed_length entries last in omega arith,
   )
 
   pub recollects_other : (r : Recalled) → ((step : StepOf Record) (answer : Answer Record) (reply : Option Reply) → last ≡ Step op.actor step answer reply → ⊥) → Recollects limits entries op r → Recollects limits longer op r

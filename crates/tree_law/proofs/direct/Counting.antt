@@ -13,13 +13,13 @@ use Rattle.bw_model.specs.declared.limits.Limits.{Limits}
 use Rattle.chain_search.specs.declared.trace.Entry.{Entry}
 use Rattle.op_machine.specs.Direct.{IsCause, is_step_of}
 use Rattle.op_machine.specs.Operations.{Operation, IsOperation}
-use Rattle.core_law.specs.Direct.{Affords}
-use Rattle.core_law.proofs.Appended.{length-push}
-use Rattle.core_law.proofs.Causes.{cause_kept}
+use Rattle.tree_law.specs.Direct.{Affords}
+use Rattle.tree_law.proofs.Owned.{pushed_length}
+use Rattle.tree_law.proofs.direct.Causes.{cause_kept}
 
 pub increasing_push : (xs : List ℕ) (x : ℕ) → IsStrictlyIncreasing xs → All (λ y. y < x) xs → IsStrictlyIncreasing (xs ++ x ∷ [])
 increasing_push xs x up below k h =
-    let long : length (xs ++ x ∷ []) ≡ suc (length xs) = length-push xs x in
+    let long : length (xs ++ x ∷ []) ≡ suc (length xs) = pushed_length xs x in
     elim (cases_lt (k + 1) (length xs)) [
       | inl lt ↦ rw (get_or_append_left xs (x ∷ []) 0 k (omega arith), get_or_append_left xs (x ∷ []) 0 (k + 1) lt) (up k lt)
       | inr ge ↦
@@ -51,7 +51,7 @@ module _ (limits : Limits) (entries : List Entry) (last : Entry) (op : Operation
 
   causes_kept : (causes : List ℕ) → All (λ cause. (cause < length entries) × IsCause limits entries op cause) causes → All (λ cause. (cause < length longer) × IsCause limits longer op cause) causes
   causes_kept causes each = All-weaker (λ cause. (cause < length entries) × IsCause limits entries op cause) (λ cause. (cause < length longer) × IsCause limits longer op cause)
-      (λ cause h. let long : length longer ≡ suc (length entries) = length-push entries last in let below : cause < length entries = h.0 in (omega arith, cause_kept limits entries last op cause h.1))
+      (λ cause h. let long : length longer ≡ suc (length entries) = pushed_length entries last in let below : cause < length entries = h.0 in (omega arith, cause_kept limits entries last op cause h.1))
       causes each
 
   -- an entry that is no step of its actor costs nothing
@@ -79,19 +79,19 @@ module _ (limits : Limits) (entries : List Entry) (last : Entry) (op : Operation
         omega arith;
   }
 
-  -- a cause more pays for itself and up to 2^18 - 1 steps more
-  pub affords_cause : (left rest : ℕ) → IsOperation entries op → Affords limits entries op left → IsCause limits longer op (length entries) → rest < 2 ^ 18 → Affords limits longer op rest
+  -- a cause more is worth 2^18 steps, itself among them
+  pub affords_cause : (left rest : ℕ) → IsOperation entries op → Affords limits entries op left → IsCause limits longer op (length entries) → rest < left + 2 ^ 18 → Affords limits longer op rest
   affords_cause left rest begun h cause less = record {
     causes = h.causes ++ length entries ∷ [];
     increasing = increasing_push h.causes (length entries) h.increasing (All-weaker (λ c. (c < length entries) × IsCause limits entries op c) (λ c. c < length entries) (λ c g. g.0) h.causes h.each);
     each =
-        let long : length longer ≡ suc (length entries) = length-push entries last in
+        let long : length longer ≡ suc (length entries) = pushed_length entries last in
         All-push (λ c. (c < length longer) × IsCause limits longer op c) h.causes (length entries) (causes_kept h.causes h.each) (omega arith, cause);
     paid =
         let same : count_by (is_step_of op.actor) (drop op.start longer) ≡ count_by (is_step_of op.actor) (drop op.start entries) + cond (is_step_of op.actor last) 1 0 = counted begun in
         let one : cond (is_step_of op.actor last) 1 0 ≤ 1 = one_at_most (is_step_of op.actor last) in
         let old : count_by (is_step_of op.actor) (drop op.start entries) + left ≤ 2 ^ 18 * (length h.causes + 1) = h.paid in
-        let more : length (h.causes ++ length entries ∷ []) ≡ suc (length h.causes) = length-push h.causes (length entries) in
+        let more : length (h.causes ++ length entries ∷ []) ≡ suc (length h.causes) = pushed_length h.causes (length entries) in
         omega arith;
   }
 

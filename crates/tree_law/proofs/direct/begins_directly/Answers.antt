@@ -1,5 +1,5 @@
-use Rattle.core_law.proofs.Affording.{begins}
-use Rattle.core_law.proofs.direct.begins_directly.Goals as goal
+use Rattle.tree_law.proofs.direct.Affording.{begins}
+use Rattle.tree_law.proofs.direct.begins_directly.Goals as goal
 
 pub returns : goal.returns
 returns c = λ limits entries actor left command kept few. begins limits entries actor command kept left few

@@ -1,0 +1,32 @@
+-- In a state, the rows that actors have taken are apart from each other and from those that anyone has learnt.
+use Rattle.std.proofs.Common.{◌≡◌, inl, inr, ℕ, List, Option, true}
+use Rattle.bw_model.specs.declared.limits.Limits.{Limits}
+use Rattle.deltas.specs.declared.record.Record.{Record}
+use Rattle.chain_search.specs.declared.trace.Entry.{Entry}
+use Rattle.chain_search.specs.Discipline.{IsOwn}
+use Rattle.chain_search.specs.Knowledge.{OwnRow, Foreign, Taken, Written, knows}
+use Rattle.chain_search.specs.Trace.{memory_of}
+use Rattle.tree_law.specs.Own.{AreApart}
+use Rattle.tree_law.specs.Owners.{Owner, Spare, Linked, OwnFits}
+use Rattle.tree_law.specs.State.{IsState}
+
+own_spare : (a : ℕ) (o : Owner) (w : Option Record) (v : OwnRow) → OwnFits a o w v → IsOwn v → o ≡ Spare a
+own_spare a o w Foreign h own = absurd own
+own_spare a o w Taken h own = h
+own_spare a o w (Written x) h own = h.0
+
+module _ (limits : Limits) (entries : List Entry) (state : IsState limits entries) where
+  spare : (a row : ℕ) → IsOwn ((knows entries a).own.rows row) → state.owners.row row ≡ Spare a
+  spare a row own = own_spare a (state.owners.row row) ((memory_of limits entries).rows row) ((knows entries a).own.rows row) (state.good.owns a row) own
+
+  linked : (a row : ℕ) → (knows entries a).read.learnt row ≡ true → state.owners.row row ≡ Linked
+  linked a row learnt = (state.good.sound a).learnt_fits row learnt
+
+  pub apart : AreApart limits entries
+  apart = record {
+    one_owner = λ a b row one two. let e = spare a row one in let f = spare b row two in cc;
+    unlearnt = λ a b row own learnt. let e = spare a row own in let f = linked b row learnt in absurd (cc);
+    own_below = λ a row own. elim (state.named.row_below row) [ inl free ↦ let e = spare a row own in absurd (cc) | inr below ↦ below ];
+    learnt_below = λ a row learnt. elim (state.named.row_below row) [ inl free ↦ let e = linked a row learnt in absurd (cc) | inr below ↦ below ];
+    placed = λ a row learnt. let l = state.good.closed row (linked a row learnt) in (l.content, l.stands);
+  }

@@ -1,0 +1,10 @@
+pub mod Affording
+pub mod Appended
+pub mod Causes
+pub mod Counting
+pub mod Directing
+pub mod Linking
+pub mod Owning
+pub mod Paying
+pub mod Recollecting
+pub mod Walking

@@ -1,0 +1,237 @@
+-- A begin keeps a trace direct, and so does a step that its operation can afford.
+use Rattle.std.proofs.Common.{◌≡◌, ◌≢◌, ◌<◌, ◌≤◌, ◌^◌, inl, inr, ℕ, List, [], ◌∷◌, ◌++◌, length, Option, Some, true, false, cond, refl, sym, ap, ◌∙◌, subst, arith}
+use Rattle.std.specs.Prelude.{IsSome, ◌==◌}
+use Rattle.std.proofs.lemmas.Bool.Decides.{eqb_tells}
+use Rattle.std.proofs.lemmas.Option.{same_Some}
+use Rattle.bw_model.specs.declared.command.Command.{Command}
+use Rattle.bw_model.specs.declared.command.Reply.{Reply}
+use Rattle.bw_model.specs.declared.limits.Limits.{Limits}
+use Rattle.bw_model.specs.declared.step.Answer.{Answer}
+use Rattle.bw_model.specs.declared.step.Answer.TheVariants.{Content, Whether}
+use Rattle.bw_model.specs.declared.step.Link.{Link}
+use Rattle.bw_model.specs.declared.step.Step.{Step as StepOf}
+use Rattle.bw_model.specs.declared.step.Step.TheVariants.{Row, Exchange}
+use Rattle.deltas.specs.Memory.{replaced_at}
+use Rattle.deltas.specs.declared.record.Record.{Record}
+use Rattle.chain_search.specs.Discipline.{May}
+use Rattle.chain_search.specs.Fitting.{Fits}
+use Rattle.chain_search.specs.Knowledge.{Ready, Knowledge, begun, finished, knows, learn}
+use Rattle.chain_search.specs.Recalled.{IsSpent, Recalled, blank, recall, recalls}
+use Rattle.chain_search.specs.Steps.{IsAnswer}
+use Rattle.chain_search.specs.Trace.{memory_of}
+use Rattle.chain_search.specs.Useful.{IsUseful}
+use Rattle.chain_search.specs.declared.trace.Entry.{Entry}
+use Rattle.chain_search.specs.declared.trace.Entry.TheVariants.{Begin, Step}
+use Rattle.op_machine.specs.Direct.{IsExchangeOf, Links, is_step_of}
+use Rattle.op_machine.specs.Operations.{Operation}
+use Rattle.tree_law.specs.Direct.{Accounts, Affords, IsDirectState, IsLast, IsUpdateLink, Recollects, StaysDirect, Walks}
+use Rattle.tree_law.specs.State.{IsState}
+use Rattle.tree_law.proofs.Fitted.{fits}
+use Rattle.tree_law.proofs.Puts.{at_place, by_test}
+use Rattle.tree_law.proofs.direct.Appended.{knows-push, last_begun, last_cases, recalls-push, takes_below}
+use Rattle.tree_law.proofs.direct.Causes.{LinksLast, links_cases}
+use Rattle.tree_law.proofs.direct.Counting.{affords_begun, affords_cause, affords_kept, affords_less}
+use Rattle.tree_law.proofs.direct.Directing.{direct}
+use Rattle.tree_law.proofs.direct.Linking.{IsChange, change, linked_kept}
+use Rattle.tree_law.proofs.direct.Owning.{never_read, was_ready}
+use Rattle.tree_law.proofs.direct.Paying.{paid}
+use Rattle.tree_law.proofs.direct.Recollecting.{heads_cases, recollects_blank, recollects_other, recollects_own}
+use Rattle.tree_law.proofs.direct.Walking.{walks_kept, walks_own}
+
+not_step_of : (actor other : ℕ) (s : StepOf Record) (x : Answer Record) (reply : Option Reply) → actor ≢ other → is_step_of actor (Step other s x reply) ≡ false
+not_step_of actor other s x reply ne = elim (eqb_tells other actor) [ inl same ↦ absurd (ne (sym same.1)) | inr apart ↦ apart.0 ]
+
+pub opens : (limits : Limits) → IsDirectState limits []
+opens limits = record {
+  direct = record { few = λ op n begun own. absurd (cc); once = λ op m n first second begun one two is_one is_two. absurd (cc); useful = λ op n slot old new chain begun took is is_chain. absurd (cc) };
+  recollects = λ op latest. absurd (let e = latest.begun in cc);
+  walks = λ op latest. absurd (let e = latest.begun in cc);
+  foreign = λ actor page head base e f. absurd (cc);
+  linked = λ op n kind latest. absurd (let e = latest.begun in cc);
+}
+
+-- no slot that is recalled is that of a page which its actor has made ready
+abbrev AreForeign : Recalled → Knowledge → Type 0
+AreForeign r k = (page head base : ℕ) → r.heads page ≡ Some head → k.own.pages page ≡ Ready base → ⊥
+
+module _ (limits : Limits) (entries : List Entry) (a : ℕ) (c : Command) (kept : IsDirectState limits entries) where
+  abbrev last : Entry
+  last = Begin a c
+
+  abbrev longer : List Entry
+  longer = entries ++ Begin a c ∷ []
+
+  recollects_begun : (op : Operation) → IsLast longer op → Recollects limits longer op (recalls longer op.actor)
+  recollects_begun op latest = subst (λ (rs : ℕ → Recalled). Recollects limits longer op (rs op.actor)) (sym (recalls-push entries last))
+      (at_place (Recollects limits longer op) a blank (recalls entries) op.actor (λ same. recollects_blank limits entries last op)
+      (λ ne. elim (last_cases entries last op latest) [
+        | inl before ↦ recollects_other limits entries last op (recalls entries op.actor) (λ step answer reply is. cc) (kept.recollects op before)
+        | inr at ↦ absurd (ne (let e = at.1 in cc))
+      ]))
+
+  linked_begun : (op : Operation) (n : ℕ) (kind : Link) → IsLast longer op → Links limits longer op n kind → IsUpdateLink kind → IsSome (knows longer op.actor).asked.linked
+  linked_begun op n kind latest links is = subst (λ (ks : ℕ → Knowledge). IsSome (ks op.actor).asked.linked) (sym (knows-push entries last)) (elim (links_cases limits entries last op n kind links) [
+    | inl old ↦
+        let below : n < length entries = takes_below entries last op n _ _ old.3 in
+        let start : op.start < n = old.3.1.begun in
+        at_place (λ (k : Knowledge). IsSome k.asked.linked) a (begun (knows entries a) c) (knows entries) op.actor
+        (λ same. absurd (let at : op.start ≡ length entries = last_begun entries last op c (ap (λ b. Begin b c) (sym same)) latest in omega arith))
+        (λ ne. elim (last_cases entries last op latest) [ inl before ↦ kept.linked op n kind before old is | inr at ↦ let e : op.start ≡ length entries = at.0 in absurd (omega arith) ])
+    | inr at ↦ let e = at.1.is in absurd (cc)
+  ])
+
+  walks_begun : (op : Operation) → IsLast longer op → (recalls longer op.actor).walk.rooted ≡ true → Walks limits longer op (knows longer op.actor).read.seen (recalls longer op.actor).walk
+  walks_begun op latest =
+      subst (λ (rs : ℕ → Recalled). (rs op.actor).walk.rooted ≡ true → Walks limits longer op (knows longer op.actor).read.seen (rs op.actor).walk) (sym (recalls-push entries last))
+      (subst (λ (ks : ℕ → Knowledge). (replaced_at a blank (recalls entries) op.actor).walk.rooted ≡ true → Walks limits longer op (ks op.actor).read.seen (replaced_at a blank (recalls entries) op.actor).walk) (sym (knows-push entries last))
+      (by_test op.actor a (λ t. (cond t blank (recalls entries op.actor)).walk.rooted ≡ true → Walks limits longer op (cond t (begun (knows entries a) c) (knows entries op.actor)).read.seen (cond t blank (recalls entries op.actor)).walk)
+      (λ same rooted. absurd (cc))
+      (λ ne rooted. elim (last_cases entries last op latest) [
+        | inl before ↦ walks_kept limits entries last op (knows entries op.actor).read.seen (recalls entries op.actor).walk (λ step answer reply is. cc) (kept.walks op before rooted)
+        | inr at ↦ absurd (ne (let e = at.1 in cc))
+      ])))
+
+  foreign_begun : (actor : ℕ) → AreForeign (recalls longer actor) (knows longer actor)
+  foreign_begun actor = subst (λ (rs : ℕ → Recalled). AreForeign (rs actor) (knows longer actor)) (sym (recalls-push entries last)) (subst (λ (ks : ℕ → Knowledge). AreForeign (replaced_at a blank (recalls entries) actor) (ks actor)) (sym (knows-push entries last))
+      (by_test actor a (λ t. AreForeign (cond t blank (recalls entries actor)) (cond t (begun (knows entries a) c) (knows entries actor))) (λ same page head base e f. absurd (cc)) (λ ne. kept.foreign actor)))
+
+  pub begins : (left : ℕ) → left ≤ 2 ^ 18 → StaysDirect limits entries (Begin a c) a left
+  begins left few = record {
+    state = record {
+      direct = direct limits entries last kept (λ op s x reply latest is. absurd (cc)) (λ b slot old new reply is. absurd (cc));
+      recollects = recollects_begun;
+      walks = walks_begun;
+      foreign = foreign_begun;
+      linked = linked_begun;
+    };
+    account = λ op latest same. affords_begun limits entries last op left (last_begun entries last op c (ap (λ b. Begin b c) (sym same)) latest) refl few;
+    others = λ other more ne accounts op latest same. elim (last_cases entries last op latest) [
+      | inl before ↦ affords_kept limits entries last op more before.begun refl (accounts op before same)
+      | inr at ↦ absurd (ne (sym same ∙ (let e : Begin a c ≡ Begin op.actor op.command = at.1 in let f : op.actor ≡ a = cc in f)))
+    ];
+  }
+
+same_number : (j k : ℕ) → ◌≡◌ {A = Answer Record} (Whether true) (Whether (j == k)) → j ≡ k
+same_number j k e = elim (eqb_tells j k) [ inl same ↦ same.1 | inr apart ↦ absurd (let f = apart.0 in cc) ]
+
+module _ (limits : Limits) (entries : List Entry) (a : ℕ) (s : StepOf Record) (x : Answer Record) (reply : Option Reply) (state : IsState limits entries) (may : May a (knows entries a) s) (useful : IsUseful (knows entries a) s)
+    (is_answer : IsAnswer (memory_of limits entries) s x) (kept : IsDirectState limits entries) where
+  abbrev next : Entry
+  next = Step a s x reply
+
+  abbrev grown : List Entry
+  grown = entries ++ Step a s x reply ∷ []
+
+  -- the entry is the actor's
+  of_actor : (op : Operation) → op.actor ≡ a → next ≡ Step op.actor s x reply
+  of_actor op same = ap (λ b. Step b s x reply) (sym same)
+
+  -- what is known of the entry
+  abbrev Stands : Entry → Type 0
+  Stands (Begin b c) = Unit {0}
+  Stands (Step b t y r) = May b (knows entries b) t × IsUseful (knows entries b) t × IsAnswer (memory_of limits entries) t y
+
+  changes : (b slot old new : ℕ) (r : Option Reply) → next ≡ Step b (Exchange slot old new) (Whether true) r → IsChange limits entries b slot old new × IsUseful (knows entries b) (Exchange slot old new)
+  changes b slot old new r is =
+      let h : May b (knows entries b) (Exchange slot old new) × IsUseful (knows entries b) (Exchange slot old new) × IsAnswer (memory_of limits entries) (Exchange slot old new) (Whether true) = subst Stands is (may, useful, is_answer) in
+      (change limits entries b state slot old new h.0.0 h.0.1 h.2 (same_number _ _ h.2), h.1)
+
+  recollects_stepped : (op : Operation) → IsLast grown op → Recollects limits grown op (recalls grown op.actor)
+  recollects_stepped op latest = elim (last_cases entries next op latest) [
+    | inl before ↦ subst (λ (rs : ℕ → Recalled). Recollects limits grown op (rs op.actor)) (sym (recalls-push entries next))
+        (at_place (Recollects limits grown op) a (recall (recalls entries a) s x) (recalls entries) op.actor
+        (λ same. recollects_own limits entries next op s x reply before (of_actor op same) (recalls entries a) (subst (λ b. Recollects limits entries op (recalls entries b)) same (kept.recollects op before)))
+        (λ ne. recollects_other limits entries next op (recalls entries op.actor) (λ step answer r is. ne (let e : op.actor ≡ a = cc in e)) (kept.recollects op before)))
+    | inr at ↦ let e = at.1 in absurd (cc)
+  ]
+
+  walks_stepped : (op : Operation) → IsLast grown op → (recalls grown op.actor).walk.rooted ≡ true → Walks limits grown op (knows grown op.actor).read.seen (recalls grown op.actor).walk
+  walks_stepped op latest = elim (last_cases entries next op latest) [
+    | inl before ↦
+        subst (λ (rs : ℕ → Recalled). (rs op.actor).walk.rooted ≡ true → Walks limits grown op (knows grown op.actor).read.seen (rs op.actor).walk) (sym (recalls-push entries next))
+        (subst (λ (ks : ℕ → Knowledge). (replaced_at a mine (recalls entries) op.actor).walk.rooted ≡ true → Walks limits grown op (ks op.actor).read.seen (replaced_at a mine (recalls entries) op.actor).walk) (sym (knows-push entries next))
+        (by_test op.actor a (λ t. (cond t mine (recalls entries op.actor)).walk.rooted ≡ true → Walks limits grown op (cond t (finished (learn (knows entries a) s x) reply) (knows entries op.actor)).read.seen (cond t mine (recalls entries op.actor)).walk)
+        (λ same. walks_own limits entries next op s x reply before (of_actor op same) (knows entries a) (recalls entries a) (memory_of limits entries) is_answer
+        (subst (λ b. (recalls entries b).walk.rooted ≡ true → Walks limits entries op (knows entries b).read.seen (recalls entries b).walk) same (kept.walks op before)))
+        (λ ne rooted. walks_kept limits entries next op (knows entries op.actor).read.seen (recalls entries op.actor).walk (λ step answer r is. absurd (ne (let e : op.actor ≡ a = cc in e))) (kept.walks op before rooted))))
+    | inr at ↦ let e = at.1 in absurd (cc)
+  ]
+    where
+      mine : Recalled
+      mine = recall (recalls entries a) s x
+
+  foreign_stepped : (actor : ℕ) → AreForeign (recalls grown actor) (knows grown actor)
+  foreign_stepped actor = subst (λ (rs : ℕ → Recalled). AreForeign (rs actor) (knows grown actor)) (sym (recalls-push entries next)) (subst (λ (ks : ℕ → Knowledge). AreForeign (replaced_at a (recall (recalls entries a) s x) (recalls entries) actor) (ks actor)) (sym (knows-push entries next))
+      (by_test actor a (λ t. AreForeign (cond t (recall (recalls entries a) s x) (recalls entries actor)) (cond t (finished (learn (knows entries a) s x) reply) (knows entries actor))) (λ same. own) (λ ne. kept.foreign actor)))
+    where
+      own : AreForeign (recall (recalls entries a) s x) (learn (knows entries a) s x)
+      own page head base e f = elim (heads_cases (recalls entries a) s x page head e) [
+        | inl now ↦ never_read limits entries state a page base (subst (May a (knows entries a)) now.0 may) (was_ready page base (knows entries a) s x (λ i. subst (IsExchangeOf page) now.0 i) f)
+        | inr old ↦ kept.foreign a page head base old.0 (was_ready page base (knows entries a) s x old.1 f)
+      ]
+
+  linked_stepped : (op : Operation) (n : ℕ) (kind : Link) → IsLast grown op → Links limits grown op n kind → IsUpdateLink kind → IsSome (knows grown op.actor).asked.linked
+  linked_stepped op n kind latest links is = elim (last_cases entries next op latest) [
+    | inr at ↦ let e = at.1 in absurd (cc)
+    | inl before ↦ subst (λ (ks : ℕ → Knowledge). IsSome (ks op.actor).asked.linked) (sym (knows-push entries next)) (elim (links_cases limits entries next op n kind links) [
+      | inl old ↦
+          let some : IsSome (knows entries op.actor).asked.linked = kept.linked op n kind before old is in
+          at_place (λ (k : Knowledge). IsSome k.asked.linked) a (finished (learn (knows entries a) s x) reply) (knows entries) op.actor
+          (λ same. linked_kept (knows entries a) s x (subst (λ b. IsSome (knows entries b).asked.linked) same some))
+          (λ ne. some)
+      | inr at ↦ now op kind at.1 is
+    ])
+  ]
+    where
+      now : (op : Operation) (kind : Link) → LinksLast limits entries next op kind → IsUpdateLink kind → IsSome (replaced_at a (finished (learn (knows entries a) s x) reply) (knows entries) op.actor).asked.linked
+      now op kind at is =
+          let made = (changes op.actor at.slot at.old at.new at.reply at.is).0 in
+          let same : made.kind ≡ kind = same_Some _ _ (sym made.is ∙ at.link) in
+          let some : IsSome (learn (knows entries op.actor) (Exchange at.slot at.old at.new) (Whether true)).asked.linked = made.known (subst IsUpdateLink (sym same) is) in
+          at_place (λ (k : Knowledge). IsSome k.asked.linked) a (finished (learn (knows entries a) s x) reply) (knows entries) op.actor
+          (λ e. subst Learns (sym at.is) some)
+          (λ ne. absurd (ne (let f = at.is in let e : op.actor ≡ a = cc in e)))
+        where
+          Learns : Entry → Type 0
+          Learns (Begin b c) = ⊥
+          Learns (Step b t y r) = IsSome (learn (knows entries b) t y).asked.linked
+
+  -- a record that is read again is the one that was read before
+  read_again : (row : ℕ) (content before : Record) → s ≡ Row row → x ≡ Content content → (knows entries a).read.seen row ≡ Some before → content ≡ before
+  read_again row content before i j e =
+      let fit : Fits limits (knows entries a) (Row row) (Content content) = subst (λ y. Fits limits (knows entries a) (Row row) y) j (subst (λ t. Fits limits (knows entries a) t x) i (fits limits entries state a s x may is_answer)) in
+      fit.same before e
+
+  module _ (left rest : ℕ) (accounts : Accounts limits entries a left) (spent : IsSpent (recalls entries a) s x left rest) where
+    afford : (op : Operation) → IsLast entries op → op.actor ≡ a → Affords limits grown op rest
+    afford op latest same = elim spent [
+      | inl less ↦ affords_less limits entries next op left rest latest.begun (accounts op latest same) less
+      | inr h ↦ affords_cause limits entries next op left rest latest.begun (accounts op latest same)
+          (paid limits entries next op latest reply s x (recalls entries a) (knows entries a).read.seen (of_actor op same)
+          (λ slot old new is_step is_won. (changes op.actor slot old new reply (λ i. Step (same' same i) (is_step i) (is_won i) reply)).0)
+          (λ page head base e f. kept.foreign a page head base e (subst (λ b. (knows entries b).own.pages page ≡ Ready base) same f))
+          read_again
+          (subst (λ b. Recollects limits entries op (recalls entries b)) same (kept.recollects op latest))
+          (subst (λ b. (recalls entries b).walk.rooted ≡ true → Walks limits entries op (knows entries b).read.seen (recalls entries b).walk) same (kept.walks op latest))
+          h.0)
+          h.1
+    ]
+      where
+        same' : {b : ℕ} → b ≡ a → a ≡ b
+        same' e = sym e
+
+    pub steps : StaysDirect limits entries next a rest
+    steps = record {
+      state = record {
+        direct = direct limits entries next kept (λ op t y r latest is. (rest, afford op latest (let e : op.actor ≡ a = cc in e))) changes;
+        recollects = recollects_stepped;
+        walks = walks_stepped;
+        foreign = foreign_stepped;
+        linked = linked_stepped;
+      };
+      account = λ op latest same. elim (last_cases entries next op latest) [ inl before ↦ afford op before same | inr at ↦ let e = at.1 in absurd (cc) ];
+      others = λ other more ne accounts_of op latest same. elim (last_cases entries next op latest) [
+        | inl before ↦ affords_kept limits entries next op more before.begun (not_step_of op.actor a s x reply (λ e. ne (sym same ∙ e))) (accounts_of op before same)
+        | inr at ↦ let e = at.1 in absurd (cc)
+      ];
+    }

@@ -1,0 +1,100 @@
+-- A step that is paid for is a cause of its operation.
+use Rattle.std.proofs.Common.{◌≡◌, ◌<◌, inl, inr, ℕ, zero, suc, List, [], ◌∷◌, ◌++◌, length, Option, Some, true, false, sym, ap, ◌∙◌, refl, subst, arith}
+use Rattle.bw_model.specs.declared.command.Reply.{Reply}
+use Rattle.bw_model.specs.declared.limits.Limits.{Limits}
+use Rattle.bw_model.specs.declared.step.Answer.{Answer}
+use Rattle.bw_model.specs.declared.step.Answer.TheVariants.{Number, Content, Whether}
+use Rattle.bw_model.specs.declared.step.Step.{Step as StepOf}
+use Rattle.bw_model.specs.declared.step.Step.TheVariants.{Slot, Row, Exchange, TakePid, TakeRow}
+use Rattle.deltas.specs.Memory.{Memory}
+use Rattle.deltas.specs.declared.record.Record.{Record}
+use Rattle.deltas.specs.declared.record.Record.TheVariants.{Remove}
+use Rattle.deltas.specs.declared.record.Remove.{Remove as Removal}
+use Rattle.chain_search.specs.Knowledge.{Ready, knows}
+use Rattle.chain_search.specs.Recalled.{AnyNames, IsPaid, IsUnread, Recalled, is_removal}
+use Rattle.chain_search.specs.declared.trace.Entry.{Entry}
+use Rattle.chain_search.specs.declared.trace.Entry.TheVariants.{Step}
+use Rattle.op_machine.specs.Direct.{IsCause, IsExchangeOf, IsTake, Reads, TakesNone}
+use Rattle.op_machine.specs.Links.{link_of}
+use Rattle.op_machine.specs.Operations.{Operation, TakesOwnStep}
+use Rattle.tree_law.specs.Direct.{IsLast, Recollects, Walks}
+use Rattle.tree_law.proofs.Searches.{takes_kept}
+use Rattle.tree_law.proofs.direct.Appended.{memory_last, takes_below, takes_last}
+use Rattle.tree_law.proofs.direct.Causes.{none_kept}
+use Rattle.tree_law.proofs.direct.Linking.{IsChange}
+
+module _ (limits : Limits) (entries : List Entry) (last : Entry) (op : Operation) (latest : IsLast entries op) (reply : Option Reply) where
+  abbrev longer : List Entry
+  longer = entries ++ last ∷ []
+
+  none : (m : ℕ) (Kind : StepOf Record → Type 0) → TakesNone limits entries op m (length entries) Kind → TakesNone limits longer op m (length entries) Kind
+  none m Kind h = none_kept limits entries last op m (length entries) Kind (omega arith) h
+
+  -- since slot 0 was last read, the first removal
+  removal : (row : ℕ) (remove : Removal) (r : Recalled) (seen : ℕ → Option Record) → last ≡ Step op.actor (Row row) (Content (Remove remove)) reply → ((before : Record) → seen row ≡ Some before → Remove remove ≡ before)
+      → Walks limits entries op seen r.walk → r.walk.removed ≡ false → IsCause limits longer op (length entries)
+  removal row remove r seen is same w fresh = inr (inr (inr (
+    w.at,
+    w.root,
+    takes_below entries last op w.at _ _ w.begins,
+    takes_kept entries last op w.at _ _ w.begins,
+    none w.at (Reads limits entries op (Slot 0)) w.last,
+    inl (row, remove, takes_last entries last op _ _ reply latest is, none w.at (Reads limits entries op (Row row)) first),
+  )))
+    where
+      first : TakesNone limits entries op w.at (length entries) (Reads limits entries op (Row row))
+      first between step answer low high own kind =
+          let was = w.rows between row answer low (subst (λ t. TakesOwnStep entries op between t answer) kind own) in
+          let removes : is_removal was.0 ≡ true = subst (λ content. is_removal content ≡ true) (same was.0 was.1) refl in
+          let f : true ≡ false = sym (was.2 removes) ∙ fresh in
+          cc
+
+  -- the slot of a page that a record names, which holds 0
+  emptied : (page : ℕ) (r : Recalled) (seen : ℕ → Option Record) → last ≡ Step op.actor (Slot page) (Number 0) reply → Walks limits entries op seen r.walk → IsUnread page r.walk.visited → AnyNames r.walk.records page → IsCause limits longer op (length entries)
+  emptied page r seen is w unread names =
+      let f = w.named page names in inr (inr (inr (
+        w.at,
+        w.root,
+        takes_below entries last op w.at _ _ w.begins,
+        takes_kept entries last op w.at _ _ w.begins,
+        none w.at (Reads limits entries op (Slot 0)) w.last,
+        inr (
+          page,
+          f.1,
+          f.0,
+          f.2,
+          takes_last entries last op _ _ reply latest is,
+          none w.at (Reads limits entries op (Slot page)) (w.slots page unread),
+          f.3,
+          takes_below entries last op f.0 _ _ f.4,
+          takes_kept entries last op f.0 _ _ f.4,
+          f.5,
+        ),
+      )))
+
+  won : (slot old new : ℕ) → last ≡ Step op.actor (Exchange slot old new) (Whether true) reply → IsChange limits entries op.actor slot old new → 0 < old → ((base : ℕ) → (knows entries op.actor).own.pages slot ≡ Ready base → ⊥) → IsCause limits longer op (length entries)
+  won slot old new is change some foreign =
+      let counts = change.counts some foreign in
+      inl (change.kind, (slot, old, new, takes_last entries last op _ _ reply latest is, ap (λ (m : Memory). link_of m slot old new) (memory_last entries last limits) ∙ change.is), counts.0, counts.1)
+
+  pub paid : (s : StepOf Record) (x : Answer Record) (r : Recalled) (seen : ℕ → Option Record) → last ≡ Step op.actor s x reply
+      → ((slot old new : ℕ) → s ≡ Exchange slot old new → x ≡ Whether true → IsChange limits entries op.actor slot old new)
+      → ((page head base : ℕ) → r.heads page ≡ Some head → (knows entries op.actor).own.pages page ≡ Ready base → ⊥)
+      → ((row : ℕ) (content before : Record) → s ≡ Row row → x ≡ Content content → seen row ≡ Some before → content ≡ before)
+      → Recollects limits entries op r → (r.walk.rooted ≡ true → Walks limits entries op seen r.walk) → IsPaid r s x → IsCause limits longer op (length entries)
+  paid (Exchange slot old new) (Whether true) r seen is change foreign same reads walks h = won slot old new is (change slot old new refl refl) h.0 (λ base e. foreign slot old base h.1 e)
+  paid (Exchange slot old new) (Whether false) r seen is change foreign same reads walks h =
+      let (m, took, none') = reads.heads slot old h.1 in
+      let under : m < length entries = takes_below entries last op m _ _ took in
+      inr (inl (slot, old, new, m, takes_last entries last op _ _ reply latest is, under, takes_kept entries last op m _ _ took, none m (IsExchangeOf slot) none'))
+  paid (TakePid pid) (Whether false) r seen is change foreign same reads walks h =
+      let (m, took, none') = reads.pids _ h.0 h.1 in
+      let under : m < length entries = takes_below entries last op m _ _ took in
+      inr (inr (inl (pid, h.0, m, under, h.2, none m IsTake none', inl (takes_last entries last op _ _ reply latest is, takes_kept entries last op m _ _ took))))
+  paid (TakeRow row) (Whether false) r seen is change foreign same reads walks h =
+      let (m, took, none') = reads.rows _ h.0 h.1 in
+      let under : m < length entries = takes_below entries last op m _ _ took in
+      inr (inr (inl (row, h.0, m, under, h.2, none m IsTake none', inr (takes_last entries last op _ _ reply latest is, takes_kept entries last op m _ _ took))))
+  paid (Slot (suc page)) (Number zero) r seen is change foreign same reads walks h = emptied (suc page) r seen is (walks h.0) h.1 h.2
+  paid (Row row) (Content (Remove remove)) r seen is change foreign same reads walks h = removal row remove r seen is (λ before e. same row (Remove remove) before refl refl e) (walks h.0) h.1
+  paid s x r seen is change foreign same reads walks h = absurd h

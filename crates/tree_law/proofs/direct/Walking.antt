@@ -1,0 +1,180 @@
+-- What an actor recalls of its reads since it last read slot 0, its last operation has read since then.
+use Rattle.std.proofs.Common.{◌≡◌, ◌≢◌, ◌<◌, ◌||◌, inl, inr, ℕ, zero, suc, List, [], ◌∷◌, ◌++◌, length, Option, Some, Bool, true, false, cond, refl, sym, ap, ◌∙◌, subst, arith}
+use Rattle.bw_model.specs.declared.command.Reply.{Reply}
+use Rattle.bw_model.specs.declared.limits.Limits.{Limits}
+use Rattle.bw_model.specs.declared.step.Answer.{Answer}
+use Rattle.bw_model.specs.declared.step.Answer.TheVariants.{Number, Content, Whether}
+use Rattle.bw_model.specs.declared.step.Step.{Step as StepOf}
+use Rattle.bw_model.specs.declared.step.Step.TheVariants.{Slot, Row, Epoch, Announce, PidBits, RowBits, Exchange, TakePid, TakeRow, Leave}
+use Rattle.deltas.specs.declared.record.Record.{Record}
+use Rattle.deltas.specs.Memory.{Memory, replaced_at}
+use Rattle.chain_search.specs.declared.trace.Entry.{Entry}
+use Rattle.chain_search.specs.declared.trace.Entry.TheVariants.{Step}
+use Rattle.chain_search.specs.Knowledge.{Knowledge, learn}
+use Rattle.chain_search.specs.Recalled.{Recalled, Walk, is_removal, note, recall, visit}
+use Rattle.chain_search.specs.Steps.{IsAnswer}
+use Rattle.op_machine.specs.Direct.{Reads, TakesNone}
+use Rattle.op_machine.specs.Operations.{Operation, TakesOwnStep}
+use Rattle.tree_law.specs.Direct.{IsLast, Walks}
+use Rattle.tree_law.proofs.Exchanged.{exchanged_alike}
+use Rattle.tree_law.proofs.Owned.{pushed_length}
+use Rattle.tree_law.proofs.Puts.{by_test}
+use Rattle.tree_law.proofs.Searches.{takes_kept}
+use Rattle.tree_law.proofs.direct.Appended.{takes_below, takes_cases, takes_last}
+
+-- what was read stays known but for a read of a row, and a leave
+abbrev KeepsSeen : StepOf Record → Type 0
+KeepsSeen (Row row) = ⊥
+KeepsSeen Leave = ⊥
+KeepsSeen step = Unit {0}
+
+seen_kept : (k : Knowledge) (s : StepOf Record) (x : Answer Record) → KeepsSeen s → (learn k s x).read.seen ≡ k.read.seen
+seen_kept k (Slot zero) (Number n) h = refl
+seen_kept k (Slot (suc p)) (Number zero) h = refl
+seen_kept k (Slot (suc p)) (Number (suc n)) h = refl
+seen_kept k (Row row) x h = absurd h
+seen_kept k Leave x h = absurd h
+seen_kept k Epoch (Number n) h = refl
+seen_kept k (Announce b) (Number n) h = refl
+seen_kept k (PidBits w) (Number n) h = refl
+seen_kept k (RowBits w) (Number n) h = refl
+seen_kept k (TakePid p) (Whether true) h = refl
+seen_kept k (TakeRow q) (Whether true) h = refl
+seen_kept k (Exchange p x y) (Whether true) h = ap (λ read. read.seen) (exchanged_alike p x y k).read
+seen_kept k s x h = refl
+
+-- what was read since slot 0 was read stays but for reads, and a leave
+abbrev IsStill : StepOf Record → Type 0
+IsStill (Slot page) = ⊥
+IsStill (Row row) = ⊥
+IsStill Leave = ⊥
+IsStill step = Unit {0}
+
+still_seen : (s : StepOf Record) → IsStill s → KeepsSeen s
+still_seen (Slot page) h = absurd h
+still_seen (Row row) h = absurd h
+still_seen Leave h = absurd h
+still_seen s h = tt
+
+walk_kept : (r : Recalled) (s : StepOf Record) (x : Answer Record) → IsStill s → (recall r s x).walk ≡ r.walk
+walk_kept r (Slot page) x h = absurd h
+walk_kept r (Row row) x h = absurd h
+walk_kept r Leave x h = absurd h
+walk_kept r (PidBits w) (Number n) h = refl
+walk_kept r (RowBits w) (Number n) h = refl
+walk_kept r s x h = refl
+
+or_left : (s t : Bool) → s ≡ true → (s || t) ≡ true
+or_left true t e = refl
+or_left false t e = absurd (cc)
+
+or_right : (s t : Bool) → t ≡ true → (s || t) ≡ true
+or_right true t e = refl
+or_right false t e = e
+
+module _ (limits : Limits) (entries : List Entry) (last : Entry) (op : Operation) where
+  abbrev longer : List Entry
+  longer = entries ++ last ∷ []
+
+  -- none was taken before, and the last entry is none
+  none_longer : (at : ℕ) (Kind : StepOf Record → Type 0) → ((step : StepOf Record) (answer : Answer Record) (reply : Option Reply) → last ≡ Step op.actor step answer reply → Kind step → ⊥) → TakesNone limits entries op at (length entries) Kind
+      → TakesNone limits longer op at (length longer) Kind
+  none_longer at Kind never none between step answer low high own kind = elim (takes_cases entries last op between step answer own) [
+    | inl before ↦ none between step answer low (takes_below entries last op between step answer before) before kind
+    | inr now ↦ never step answer now.1.0 now.1.1 kind
+  ]
+
+  -- The walk goes on with an entry that reads nothing.
+  pub walks_kept : (seen : ℕ → Option Record) (walk : Walk) → ((step : StepOf Record) (answer : Answer Record) (reply : Option Reply) → last ≡ Step op.actor step answer reply → ((page : ℕ) → step ≢ Slot page) × ((row : ℕ) → step ≢ Row row))
+      → Walks limits entries op seen walk → Walks limits longer op seen walk
+  walks_kept seen walk reads h = record {
+    at = h.at;
+    root = h.root;
+    begins = takes_kept entries last op h.at _ _ h.begins;
+    last = none_longer h.at (Reads limits entries op (Slot 0)) (λ step answer reply is kind. (reads step answer reply is).0 0 kind) h.last;
+    slots = λ page new. none_longer h.at (Reads limits entries op (Slot page)) (λ step answer reply is kind. (reads step answer reply is).0 page kind) (h.slots page new);
+    rows = λ n row answer low own. elim (takes_cases entries last op n (Row row) answer own) [
+      | inl before ↦ h.rows n row answer low before
+      | inr now ↦ absurd ((reads (Row row) answer now.1.0 now.1.1).1 row refl)
+    ];
+    named = λ page names. let f = h.named page names in (f.0, f.1, f.2, f.3, takes_kept entries last op f.0 _ _ f.4, f.5);
+  }
+
+  module _ (s : StepOf Record) (x : Answer Record) (reply : Option Reply) (latest : IsLast entries op) (is : last ≡ Step op.actor s x reply) where
+    -- the last entry is this step
+    is_step : (step : StepOf Record) (answer : Answer Record) (other : Option Reply) → last ≡ Step op.actor step answer other → (step ≡ s) × (answer ≡ x)
+    is_step step answer other own = let same : Step op.actor step answer other ≡ Step op.actor s x reply = sym own ∙ is in (cc, cc)
+
+    -- with slot 0 the walk begins
+    begun : (n : ℕ) (seen : ℕ → Option Record) (walk : Walk) → s ≡ Slot 0 → x ≡ Number n → Walks limits longer op seen (visit 0 walk)
+    begun n seen walk i j =
+        let long : length longer ≡ suc (length entries) = pushed_length entries last in
+        record {
+          at = length entries;
+          root = n;
+          begins = takes_last entries last op (Slot 0) (Number n) reply latest (is ∙ λ d. Step op.actor (i d) (j d) reply);
+          last = λ between step answer low high own kind. omega arith;
+          slots = λ page new between step answer low high own kind. omega arith;
+          rows = λ m row answer low own. let high : m < length longer = takes_below longer last op m (Row row) answer own in absurd (omega arith);
+          named = λ page names. absurd names;
+        }
+
+    -- the slot of a page is read
+    visited : (p n : ℕ) (seen : ℕ → Option Record) (walk : Walk) → s ≡ Slot (suc p) → x ≡ Number n → Walks limits entries op seen walk → Walks limits longer op seen (visit (suc p) walk)
+    visited p n seen walk i j h = record {
+      at = h.at;
+      root = h.root;
+      begins = takes_kept entries last op h.at _ _ h.begins;
+      last = none_longer h.at (Reads limits entries op (Slot 0)) (λ step answer other own kind. let e : Slot 0 ≡ Slot (suc p) = sym kind ∙ (is_step step answer other own).0 ∙ i in cc) h.last;
+      slots = λ page new. none_longer h.at (Reads limits entries op (Slot page)) (λ step answer other own kind. new.0 (let e : Slot page ≡ Slot (suc p) = sym kind ∙ (is_step step answer other own).0 ∙ i in cc)) (h.slots page new.1);
+      rows = λ m row answer low own. elim (takes_cases entries last op m (Row row) answer own) [
+        | inl before ↦ h.rows m row answer low before
+        | inr now ↦ absurd (let e : Row row ≡ Slot (suc p) = (is_step (Row row) answer now.1.0 now.1.1).0 ∙ i in cc)
+      ];
+      named = λ page names. let f = h.named page names in (f.0, f.1, f.2, f.3, takes_kept entries last op f.0 _ _ f.4, f.5);
+    }
+
+    -- a record is read
+    noted : (q : ℕ) (w : Record) (seen : ℕ → Option Record) (walk : Walk) → s ≡ Row q → x ≡ Content w → Walks limits entries op seen walk → Walks limits longer op (replaced_at q (Some w) seen) (note w walk)
+    noted q w seen walk i j h =
+        let took : TakesOwnStep longer op (length entries) (Row q) (Content w) = takes_last entries last op (Row q) (Content w) reply latest (is ∙ λ d. Step op.actor (i d) (j d) reply) in
+        let low : h.at < length entries = takes_below entries last op h.at _ _ h.begins in
+        record {
+          at = h.at;
+          root = h.root;
+          begins = takes_kept entries last op h.at _ _ h.begins;
+          last = none_longer h.at (Reads limits entries op (Slot 0)) (λ step answer other own kind. let e : Slot 0 ≡ Row q = sym kind ∙ (is_step step answer other own).0 ∙ i in cc) h.last;
+          slots = λ page new. none_longer h.at (Reads limits entries op (Slot page)) (λ step answer other own kind. let e : Slot page ≡ Row q = sym kind ∙ (is_step step answer other own).0 ∙ i in cc) (h.slots page new);
+          rows = λ m row answer after own. by_test row q (λ t. (content : Record) × (cond t (Some w) (seen row) ≡ Some content) × (is_removal content ≡ true → (is_removal w || walk.removed) ≡ true))
+              (λ same. (w, refl, or_left (is_removal w) walk.removed))
+              (λ ne. elim (takes_cases entries last op m (Row row) answer own) [
+                | inl before ↦ let f = h.rows m row answer after before in (f.0, f.1, λ e. or_right (is_removal w) walk.removed (f.2 e))
+                | inr now ↦ absurd (ne (let e : Row row ≡ Row q = (is_step (Row row) answer now.1.0 now.1.1).0 ∙ i in cc))
+              ]);
+          named = λ page names. elim names [
+            | inl here ↦ (length entries, q, w, low, took, here)
+            | inr old ↦ let f = h.named page old in (f.0, f.1, f.2, f.3, takes_kept entries last op f.0 _ _ f.4, f.5)
+          ];
+        }
+
+    -- neither is read
+    still : (k : Knowledge) (r : Recalled) → IsStill s → (r.walk.rooted ≡ true → Walks limits entries op k.read.seen r.walk) → (recall r s x).walk.rooted ≡ true → Walks limits longer op (learn k s x).read.seen (recall r s x).walk
+    still k r rests h rooted =
+        let same : (recall r s x).walk ≡ r.walk = walk_kept r s x rests in
+        let kept : Walks limits longer op k.read.seen r.walk = walks_kept k.read.seen r.walk
+            (λ step answer other own. (λ page e. subst IsStill (sym (is_step step answer other own).0 ∙ e) rests, λ row e. subst IsStill (sym (is_step step answer other own).0 ∙ e) rests))
+            (h (ap (λ (walk : Walk). walk.rooted) (sym same) ∙ rooted)) in
+        subst (λ (seen : ℕ → Option Record). Walks limits longer op seen (recall r s x).walk) (sym (seen_kept k s x (still_seen s rests))) (subst (λ (walk : Walk). Walks limits longer op k.read.seen walk) (sym same) kept)
+
+  pub walks_own : (s : StepOf Record) (x : Answer Record) (reply : Option Reply) (latest : IsLast entries op) (is : last ≡ Step op.actor s x reply) (k : Knowledge) (r : Recalled) (memory : Memory) → IsAnswer memory s x
+      → (r.walk.rooted ≡ true → Walks limits entries op k.read.seen r.walk) → (recall r s x).walk.rooted ≡ true → Walks limits longer op (learn k s x).read.seen (recall r s x).walk
+  walks_own (Slot zero) x reply latest is k r memory says h rooted = subst (λ y. Walks limits longer op (learn k (Slot zero) y).read.seen (recall r (Slot zero) y).walk) (sym says) (begun (Slot zero) x reply latest is (memory.slots 0) k.read.seen r.walk refl says)
+  walks_own (Slot (suc p)) x reply latest is k r memory says h rooted =
+      let was : r.walk.rooted ≡ true = subst (λ y. (recall r (Slot (suc p)) y).walk.rooted ≡ true) says rooted in
+      subst (λ y. Walks limits longer op (learn k (Slot (suc p)) y).read.seen (recall r (Slot (suc p)) y).walk) (sym says)
+      (subst (λ (seen : ℕ → Option Record). Walks limits longer op seen (visit (suc p) r.walk)) (sym (seen_kept k (Slot (suc p)) (Number (memory.slots (suc p))) tt)) (visited (Slot (suc p)) x reply latest is p (memory.slots (suc p)) k.read.seen r.walk refl says (h was)))
+  walks_own (Row q) x reply latest is k r memory says h rooted =
+      let was : r.walk.rooted ≡ true = subst (λ y. (recall r (Row q) y).walk.rooted ≡ true) says.2 rooted in
+      subst (λ y. Walks limits longer op (learn k (Row q) y).read.seen (recall r (Row q) y).walk) (sym says.2) (noted (Row q) x reply latest is q says.0 k.read.seen r.walk refl says.2 (h was))
+  walks_own Leave x reply latest is k r memory says h rooted = absurd (cc)
+  walks_own s x reply latest is k r memory says h rooted = still s x reply latest is k r tt h rooted

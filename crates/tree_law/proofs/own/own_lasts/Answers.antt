@@ -1,0 +1,5 @@
+use Rattle.tree_law.proofs.Others.{own_lasts}
+use Rattle.tree_law.proofs.own.own_lasts.Goals as goal
+
+pub returns : goal.returns
+returns c = own_lasts

@@ -1,0 +1,100 @@
+-- What a trace of allowed steps keeps true of how many steps an operation takes: the trace is direct, and the causes of each
+-- operation pay for the steps that it has left.
+use Rattle.std.specs.Prelude.{◌≡◌, ◌≢◌, ◌<◌, ◌≤◌, ◌+◌, ◌*◌, ◌^◌, ℕ, List, [], ◌∷◌, ◌++◌, length, drop, Option, Some, IsSome, true, ◌⊎◌}
+use Rattle.std.specs.List.{All, count_by}
+use Rattle.std.specs.List.Sorted.{IsStrictlyIncreasing}
+use Rattle.bw_model.specs.declared.command.Command.{Command}
+use Rattle.bw_model.specs.declared.command.Reply.{Reply}
+use Rattle.bw_model.specs.declared.limits.Limits.{Limits}
+use Rattle.bw_model.specs.declared.step.Answer.{Answer}
+use Rattle.bw_model.specs.declared.step.Answer.TheVariants.{Number, Content}
+use Rattle.bw_model.specs.declared.step.Link.{Link}
+use Rattle.bw_model.specs.declared.step.Link.TheVariants as link
+use Rattle.bw_model.specs.declared.step.Step.{Step as StepOf}
+use Rattle.bw_model.specs.declared.step.Step.TheVariants.{Slot, Row, PidBits, RowBits}
+use Rattle.deltas.specs.declared.record.Record.{Record}
+use Rattle.deltas.specs.NamedPages.{NamesPage}
+use Rattle.chain_search.specs.declared.trace.Entry.{Entry}
+use Rattle.chain_search.specs.declared.trace.Entry.TheVariants.{Begin, Step}
+use Rattle.chain_search.specs.Discipline.{IsAllowed}
+use Rattle.chain_search.specs.Knowledge.{Ready, knows}
+use Rattle.chain_search.specs.Recalled.{Recalled, Walk, AnyNames, IsSpent, IsUnread, is_removal, recalls, recalls_after}
+use Rattle.chain_search.specs.Steps.{IsAnswer}
+use Rattle.chain_search.specs.Trace.{memory_of}
+use Rattle.chain_search.specs.Useful.{IsUseful}
+use Rattle.op_machine.specs.Direct.{IsCause, IsDirect, IsExchangeOf, IsTake, Links, Reads, TakesNone, is_step_of}
+use Rattle.op_machine.specs.Operations.{Operation, IsOperation, TakesOwnStep}
+use Rattle.tree_law.specs.State.{IsState, IsUnended}
+
+-- The operation is the last that its actor has begun.
+pub record IsLast (entries : List Entry) (operation : Operation) : Type 0 where
+  pub begun : IsOperation entries operation
+  pub unended : IsUnended entries operation.start operation.actor
+
+abbrev pub IsUpdateLink : Link → Type 0
+IsUpdateLink kind = (kind ≡ link.Put) ⊎ (kind ≡ link.Delete)
+
+module _ (limits : Limits) (entries : List Entry) (operation : Operation) where
+  -- The step gave the operation the number, and it has taken no step of the kind since.
+  abbrev pub HasReadSince : (StepOf Record → Type 0) → StepOf Record → ℕ → Type 0
+  HasReadSince Kind step number = (m : ℕ) × TakesOwnStep entries operation m step (Number number) × TakesNone limits entries operation m (length entries) Kind
+
+  -- What is recalled, the operation has read.
+  pub record Recollects (recalled : Recalled) : Type 0 where
+    pub heads : (slot row : ℕ) → recalled.heads slot ≡ Some row → HasReadSince (IsExchangeOf slot) (Slot slot) row
+    pub pids : (word bits : ℕ) → recalled.pids word ≡ Some bits → HasReadSince IsTake (PidBits word) bits
+    pub rows : (word bits : ℕ) → recalled.rows word ≡ Some bits → HasReadSince IsTake (RowBits word) bits
+
+  -- Where it last read slot 0; what it recalls of its reads since, it has read since, and no slot or row besides.
+  pub record Walks (seen : ℕ → Option Record) (walk : Walk) : Type 0 where
+    pub at : ℕ
+    pub root : ℕ
+    pub begins : TakesOwnStep entries operation at (Slot 0) (Number root)
+    pub last : TakesNone limits entries operation at (length entries) (Reads limits entries operation (Slot 0))
+    pub slots : (page : ℕ) → IsUnread page walk.visited → TakesNone limits entries operation at (length entries) (Reads limits entries operation (Slot page))
+    pub rows : (n row : ℕ) (answer : Answer Record) → at < n → TakesOwnStep entries operation n (Row row) answer → (content : Record) × (seen row ≡ Some content) × (is_removal content ≡ true → walk.removed ≡ true)
+    pub named : (page : ℕ) → AnyNames walk.records page → (n row : ℕ) × (content : Record) × (at < n) × TakesOwnStep entries operation n (Row row) (Content content) × NamesPage content page
+
+  -- The causes so far pay for the steps that the operation has taken, and for this many more.
+  pub record Affords (left : ℕ) : Type 0 where
+    pub causes : List ℕ
+    pub increasing : IsStrictlyIncreasing causes
+    pub each : All (λ cause. (cause < length entries) × IsCause limits entries operation cause) causes
+    pub paid : count_by (is_step_of operation.actor) (drop operation.start entries) + left ≤ 2 ^ 18 * (length causes + 1)
+
+-- The trace is direct. What an actor recalls, its last operation has read, and not in the slot of a page that it has made
+-- ready itself; and where that operation has linked an update, the actor knows of it.
+pub record IsDirectState (limits : Limits) (entries : List Entry) : Type 0 where
+  pub direct : IsDirect limits entries
+  pub recollects : (operation : Operation) → IsLast entries operation → Recollects limits entries operation (recalls entries operation.actor)
+  pub walks : (operation : Operation) → IsLast entries operation → (recalls entries operation.actor).walk.rooted ≡ true → Walks limits entries operation (knows entries operation.actor).read.seen (recalls entries operation.actor).walk
+  pub foreign : (actor page head base : ℕ) → (recalls entries actor).heads page ≡ Some head → (knows entries actor).own.pages page ≡ Ready base → ⊥
+  pub linked : (operation : Operation) (n : ℕ) (kind : Link) → IsLast entries operation → Links limits entries operation n kind → IsUpdateLink kind → IsSome (knows entries operation.actor).asked.linked
+
+-- The actor's last operation, if it has begun one, can afford this many steps more.
+abbrev pub Accounts : Limits → List Entry → ℕ → ℕ → Type 0
+Accounts limits entries actor left = (operation : Operation) → IsLast entries operation → operation.actor ≡ actor → Affords limits entries operation left
+
+-- After the entry, which is the actor's, the trace is a direct state still, in which the actor can afford this many steps more, and each other one as many as before.
+pub record StaysDirect (limits : Limits) (entries : List Entry) (entry : Entry) (actor left : ℕ) : Type 0 where
+  pub state : IsDirectState limits (entries ++ entry ∷ [])
+  pub account : Accounts limits (entries ++ entry ∷ []) actor left
+  pub others : (other more : ℕ) → other ≢ actor → Accounts limits entries other more → Accounts limits (entries ++ entry ∷ []) other more
+
+-- one more entry changes what its actor recalls
+abbrev pub RecallsGrow : Type 0
+RecallsGrow = (entries : List Entry) (entry : Entry) → recalls (entries ++ entry ∷ []) ≡ recalls_after (recalls entries) entry
+
+-- the empty trace is a direct state
+abbrev pub OpensDirectly : Type 0
+OpensDirectly = (limits : Limits) → IsDirectState limits []
+
+-- A begin keeps one, with 2^18 steps at most.
+abbrev pub BeginsDirectly : Type 0
+BeginsDirectly = (limits : Limits) (entries : List Entry) (actor left : ℕ) (command : Command) → IsDirectState limits entries → left ≤ 2 ^ 18 → StaysDirect limits entries (Begin actor command) actor left
+
+-- A step that is allowed, and of use, keeps one, where its operation has spent a step, or was paid.
+abbrev pub StepsDirectly : Type 0
+StepsDirectly = (limits : Limits) (entries : List Entry) (actor left rest : ℕ) (step : StepOf Record) (answer : Answer Record) (reply : Option Reply) → IsState limits entries
+    → IsAllowed limits actor (knows entries actor) step reply → IsUseful (knows entries actor) step → IsAnswer (memory_of limits entries) step answer → IsDirectState limits entries → Accounts limits entries actor left
+    → IsSpent (recalls entries actor) step answer left rest → StaysDirect limits entries (Step actor step answer reply) actor rest

@@ -1,0 +1,31 @@
+-- What is an actor's own: rows that nobody else has or learns, and what lasts whatever the others do.
+use Rattle.std.specs.Prelude.{◌≡◌, ◌<◌, ℕ, List, Some, true}
+use Rattle.bw_model.specs.declared.limits.Limits.{Limits}
+use Rattle.deltas.specs.declared.record.Record.{Record}
+use Rattle.chain_search.specs.declared.trace.Entry.{Entry}
+use Rattle.chain_search.specs.Discipline.{IsOwn}
+use Rattle.chain_search.specs.Disciplined.{Extends}
+use Rattle.chain_search.specs.Knowledge.{knows}
+use Rattle.chain_search.specs.Trace.{command_of, memory_of}
+use Rattle.tree_law.specs.State.{IsState}
+
+-- A row that an actor has taken has no other owner, and nobody has learnt it; a row that one has learnt has a record. Both
+-- are below the limit.
+pub record AreApart (limits : Limits) (entries : List Entry) : Type 0 where
+  pub one_owner : (actor other row : ℕ) → IsOwn ((knows entries actor).own.rows row) → IsOwn ((knows entries other).own.rows row) → actor ≡ other
+  pub unlearnt : (actor other row : ℕ) → IsOwn ((knows entries actor).own.rows row) → (knows entries other).read.learnt row ≡ true → ⊥
+  pub own_below : (actor row : ℕ) → IsOwn ((knows entries actor).own.rows row) → row < limits.rows
+  pub learnt_below : (actor row : ℕ) → (knows entries actor).read.learnt row ≡ true → row < limits.rows
+  pub placed : (actor row : ℕ) → (knows entries actor).read.learnt row ≡ true → (content : Record) × ((memory_of limits entries).rows row ≡ Some content)
+
+-- What an actor knows, and the command that it has under way, are as they were.
+pub record Lasts (actor : ℕ) (seen run : List Entry) : Type 0 where
+  pub known : knows run actor ≡ knows seen actor
+  pub command : command_of run actor ≡ command_of seen actor
+
+abbrev pub RowsLaw : Type 0
+RowsLaw = (limits : Limits) (entries : List Entry) → IsState limits entries → AreApart limits entries
+
+-- what is an actor's own outlasts the entries of others
+abbrev pub OthersLaw : Type 0
+OthersLaw = (actor : ℕ) (seen run : List Entry) → Extends actor seen run → Lasts actor seen run
