@@ -18,8 +18,8 @@ use Rattle.chain_search.specs.Trace.{memory_of}
 use Rattle.op_machine.specs.OneLeaf.{FitsLeaf, FitsOneLeaf, IsLeafChain, ShowsLeaf}
 use Rattle.chain_search.specs.Chains.{IsFront}
 use Rattle.tree_law.specs.Owners.{SeenFits}
+use Rattle.tree_law.specs.TraceLaws.{AnswersFit}
 use Rattle.core_law.specs.State.{IsState}
-use Rattle.core_law.proofs.Laws.{TreeAnswers}
 
 -- what was read of a chain is its front
 front_of : (seen rows : ℕ → Option Record) → ((r : ℕ) (w : Record) → seen r ≡ Some w → rows r ≡ Some w) → (x : ℕ) (front : List Record) (n : ℕ) (c : List Record) → IsFront seen x front n → IsChainFrom rows x c
@@ -94,5 +94,5 @@ module _ (limits : Limits) (entries : List Entry) (state : IsState limits entrie
   shows (ReusePids w bits) answer is = tt
   shows (ReuseRows w bits) answer is = tt
 
-  pub fits : TreeAnswers → (step : StepOf Record) (answer : Answer Record) → May a k step → IsAnswer m step answer → FitsOneLeaf limits k step answer
+  pub fits : AnswersFit → (step : StepOf Record) (answer : Answer Record) → May a k step → IsAnswer m step answer → FitsOneLeaf limits k step answer
   fits tree_answers step answer may is = (tree_answers limits entries a step answer state.tree may is, shows step answer is)

@@ -1,8 +1,7 @@
 -- A plain step keeps page 1 the only page, and what actors know of it.
-use Rattle.std.proofs.Common.{◌≡◌, ◌<◌, ◌≤◌, inl, inr, ℕ, zero, suc, List, [], ◌∷◌, ◌++◌, length, Option, Some, None, Bool, true, false, cond, eqb, refl, sym, ap, ◌∙◌, subst, arith}
+use Rattle.std.proofs.Common.{◌≡◌, ◌<◌, ◌≤◌, inl, inr, ℕ, zero, suc, List, [], ◌∷◌, length, Option, Some, None, Bool, true, false, cond, eqb, refl, sym, ap, ◌∙◌, subst, arith}
 use Rattle.std.specs.Prelude.{IfSome, IsSome}
 use Rattle.std.proofs.lemmas.Bool.{lt-leb}
-use Rattle.std.proofs.lemmas.List.Sums.{fold-append}
 use Rattle.std.proofs.lemmas.Option.{same_Some}
 use Rattle.bw_model.specs.declared.command.Command.{Command}
 use Rattle.bw_model.specs.declared.step.Answer.{Answer}
@@ -15,24 +14,26 @@ use Rattle.deltas.specs.declared.record.Record.{Record}
 use Rattle.deltas.specs.declared.record.Record.TheVariants.{Base, Put, Delete, Split, Term, Hold, Remove, Merge, Unterm}
 use Rattle.deltas.specs.Memory.{Memory, opening}
 use Rattle.deltas.specs.Records.{next_row}
-use Rattle.chain_search.specs.Chains.{IsChainFrom, IsChainOf}
+use Rattle.chain_search.specs.Chains.{IsChainFrom}
 use Rattle.chain_search.specs.Discipline.{May, MayAdd, MayExchange, MayLink, MayUpdate, record_of}
-use Rattle.chain_search.specs.Knowledge.{OwnRow, Written, Knowledge, begun, exchanged, finished, knows, knows_after, learn, learn_slot, linked_over}
+use Rattle.chain_search.specs.Knowledge.{OwnRow, Written, Knowledge, begun, exchanged, finished, knows, learn, learn_slot, linked_over}
 use Rattle.chain_search.specs.Steps.{IsAnswer, memory_after}
 use Rattle.chain_search.specs.Trace.{command_of, memory_of}
 use Rattle.chain_search.specs.declared.trace.Entry.{Entry}
 use Rattle.chain_search.specs.declared.trace.Entry.TheVariants.{Begin, Step}
+use Rattle.chain_search.proofs.ChainLaws.{IsChainFrom-unique}
 use Rattle.op_machine.specs.OneLeaf.{IsLeafChain, IsPlainLink, IsPlainMove, IsPlainOver}
 use Rattle.tree_law.specs.Laws.{StepLaw}
 use Rattle.tree_law.specs.Owners.{Linked, Owners, OwnFits, HeadFits, SeenFits, leaf_map}
 use Rattle.tree_law.specs.Put.{put}
 use Rattle.tree_law.specs.Shared.{row_in, shared, slot_in}
 use Rattle.tree_law.specs.State as tree
+use Rattle.tree_law.specs.TraceLaws.{Begins, EntriesGrow, Opens, Steps}
 use Rattle.tree_law.specs.Tree.{Good, IsPart, Level, Page}
+use Rattle.core_law.specs.Laws.{LeafStands, PlainSteps}
 use Rattle.core_law.specs.State.{HasOneLeaf, IsShortLeaf, IsState, KnowsLeaf}
 use Rattle.core_law.proofs.Chains.{chain_stays, read_chain_stands}
 use Rattle.core_law.proofs.Places.{at_place, by_test}
-use Rattle.core_law.proofs.Laws.{Begins, MemoryGrows, OneChain, Opens, Steps, TreeSteps}
 use Rattle.core_law.proofs.Links.{base_leaf, over_chain, over_leaf, over_short}
 
 module _ (m : Memory) {log : List Update} {o : Owners} {ks : ℕ → Knowledge} {point : ℕ → Option (List Update)} {logs : ℕ → List (List Update)} (g : Good (shared m) log o ks point logs) where
@@ -80,76 +81,68 @@ module _ (m : Memory) {log : List Update} {o : Owners} {ks : ℕ → Knowledge} 
     pub plain_is : (x y : ℕ) (plain : IsPlainLink k x y) (w : Record) → k.own.rows y ≡ Written w → IsPlainOver plain.chain w
     plain_is x y plain w e = subst (IsPlainOver plain.chain) (let f : Written plain.content ≡ Written w = sym plain.placed ∙ e in let same : plain.content ≡ w = cc in same) plain.plain
 
-    module _ (one_chain : OneChain) where
-      -- the only leaf has one chain
-      leaf_is : (x : ℕ) → m.slots 1 ≡ x → (c d : List Record) → IsChainFrom m.rows x c → IsChainFrom m.rows x d → c ≡ d
-      leaf_is x at c d is_c is_d = one_chain m 1 c d (whole c is_c) (whole d is_d)
-        where
-          whole : (chain : List Record) → IsChainFrom m.rows x chain → IsChainOf m 1 chain
-          whole chain is = record { page = omega arith; linked = one.linked; records = subst (λ row. IsChainFrom m.rows row chain) (sym at) is }
+    -- over the leaf's short chain goes an update or a base
+    linked_leaf : (p x y : ℕ) → MayAdd a k p x y → IsPlainLink k x y → IsShortLeaf m.rows x → IsShortLeaf m.rows y
+    linked_leaf p x y add plain s = by_kind add.content add.placed add.due
+      where
+        same : s.chain ≡ add.basis.chain
+        same = IsChainFrom-unique m.rows x s.chain add.basis.chain s.is_chain (read_stands x add.basis.chain add.basis.read)
 
-      -- over the leaf's short chain goes an update or a base
-      linked_leaf : (p x y : ℕ) → m.slots 1 ≡ x → MayAdd a k p x y → IsPlainLink k x y → IsShortLeaf m.rows x → IsShortLeaf m.rows y
-      linked_leaf p x y at add plain s = by_kind add.content add.placed add.due
-        where
-          same : s.chain ≡ add.basis.chain
-          same = leaf_is x at s.chain add.basis.chain s.is_chain (read_stands x add.basis.chain add.basis.read)
+        by_update : (content : Record) → k.own.rows y ≡ Written content → MayUpdate a k x add.basis.chain content → IsShortLeaf m.rows y
+        by_update content placed h = record {
+          chain = record_of h.update x ∷ s.chain;
+          is_chain = over_chain h.update m.rows x y s.chain (placed_stands y (record_of h.update x) (placed ∙ ap Written h.is)) s.is_chain;
+          leaf = over_leaf h.update x s.chain s.leaf;
+          short =
+              let same : plain.chain ≡ s.chain = IsChainFrom-unique m.rows x plain.chain s.chain (read_stands x plain.chain plain.read) s.is_chain in
+              let few : length s.chain ≤ 8 = subst (λ c. length c ≤ 8) same (over_short h.update x plain.chain (plain_is x y plain (record_of h.update x) (placed ∙ ap Written h.is))) in
+              omega (arith, few);
+        }
 
-          by_update : (content : Record) → k.own.rows y ≡ Written content → MayUpdate a k x add.basis.chain content → IsShortLeaf m.rows y
-          by_update content placed h = record {
-            chain = record_of h.update x ∷ s.chain;
-            is_chain = over_chain h.update m.rows x y s.chain (placed_stands y (record_of h.update x) (placed ∙ ap Written h.is)) s.is_chain;
-            leaf = over_leaf h.update x s.chain s.leaf;
-            short =
-                let same : plain.chain ≡ s.chain = leaf_is x at plain.chain s.chain (read_stands x plain.chain plain.read) s.is_chain in
-                let few : length s.chain ≤ 8 = subst (λ c. length c ≤ 8) same (over_short h.update x plain.chain (plain_is x y plain (record_of h.update x) (placed ∙ ap Written h.is))) in
-                omega (arith, few);
-          }
+        by_kind : (content : Record) → k.own.rows y ≡ Written content → MayLink a k p x add.basis.chain content → IsShortLeaf m.rows y
+        by_kind (Base base) placed h = record { chain = _; is_chain = (placed_stands y _ (placed ∙ ap Written h.is), refl); leaf = base_leaf add.basis.chain h.items (subst (λ c. IsLeafChain c) same s.leaf) h.alike; short = omega arith }
+        by_kind (Put put) placed h = by_update (Put put) placed h
+        by_kind (Delete delete) placed h = by_update (Delete delete) placed h
+        by_kind (Split split) placed h = absurd (plain_is x y plain (Split split) placed)
+        by_kind (Term term) placed h = absurd (plain_is x y plain (Term term) placed)
+        by_kind (Hold hold) placed h = absurd (plain_is x y plain (Hold hold) placed)
+        by_kind (Remove remove) placed h = absurd (plain_is x y plain (Remove remove) placed)
+        by_kind (Merge merge) placed h = absurd (plain_is x y plain (Merge merge) placed)
+        by_kind (Unterm unterm) placed h = absurd (plain_is x y plain (Unterm unterm) placed)
 
-          by_kind : (content : Record) → k.own.rows y ≡ Written content → MayLink a k p x add.basis.chain content → IsShortLeaf m.rows y
-          by_kind (Base base) placed h = record { chain = _; is_chain = (placed_stands y _ (placed ∙ ap Written h.is), refl); leaf = base_leaf add.basis.chain h.items (subst (λ c. IsLeafChain c) same s.leaf) h.alike; short = omega arith }
-          by_kind (Put put) placed h = by_update (Put put) placed h
-          by_kind (Delete delete) placed h = by_update (Delete delete) placed h
-          by_kind (Split split) placed h = absurd (plain_is x y plain (Split split) placed)
-          by_kind (Term term) placed h = absurd (plain_is x y plain (Term term) placed)
-          by_kind (Hold hold) placed h = absurd (plain_is x y plain (Hold hold) placed)
-          by_kind (Remove remove) placed h = absurd (plain_is x y plain (Remove remove) placed)
-          by_kind (Merge merge) placed h = absurd (plain_is x y plain (Merge merge) placed)
-          by_kind (Unterm unterm) placed h = absurd (plain_is x y plain (Unterm unterm) placed)
+    -- an exchange that won
+    exchanged_leaf : (p x y : ℕ) → MayExchange a k p x y → IsPlainLink k x y → m.slots p ≡ x → HasOneLeaf (record m { slots = put m.slots p y })
+    exchanged_leaf zero x y may plain e = absurd (let f = known.pageless y in let h = may.ready in cc)
+    exchanged_leaf (suc p) zero zero may plain e = absurd may
+    exchanged_leaf (suc p) zero (suc y) may plain e = absurd (let f = known.pageless (suc p) in let h = may.0 in cc)
+    exchanged_leaf (suc p) (suc x) zero (inl may) plain e = absurd (let f = known.pageless (suc p) in cc)
+    exchanged_leaf (suc p) (suc x) zero (inr may) plain e = absurd (let f = known.pageless (suc p) in cc)
+    exchanged_leaf (suc zero) (suc x) (suc y) may plain e = record {
+      root = one.root;
+      linked = omega arith;
+      others = λ page lt. at_place (λ row. row ≡ 0) 1 (suc y) m.slots page (λ i. let f : page ≡ 1 = i in absurd (omega arith)) (λ ne. one.others page lt);
+      leaf = linked_leaf 1 (suc x) (suc y) may plain (subst (IsShortLeaf m.rows) e one.leaf);
+    }
+    exchanged_leaf (suc (suc p)) (suc x) (suc y) may plain e = absurd (let f = one.others (suc (suc p)) (omega arith) in omega arith)
 
-      -- an exchange that won
-      exchanged_leaf : (p x y : ℕ) → MayExchange a k p x y → IsPlainLink k x y → m.slots p ≡ x → HasOneLeaf (record m { slots = put m.slots p y })
-      exchanged_leaf zero x y may plain e = absurd (let f = known.pageless y in let h = may.ready in cc)
-      exchanged_leaf (suc p) zero zero may plain e = absurd may
-      exchanged_leaf (suc p) zero (suc y) may plain e = absurd (let f = known.pageless (suc p) in let h = may.0 in cc)
-      exchanged_leaf (suc p) (suc x) zero (inl may) plain e = absurd (let f = known.pageless (suc p) in cc)
-      exchanged_leaf (suc p) (suc x) zero (inr may) plain e = absurd (let f = known.pageless (suc p) in cc)
-      exchanged_leaf (suc zero) (suc x) (suc y) may plain e = record {
-        root = one.root;
-        linked = omega arith;
-        others = λ page lt. at_place (λ row. row ≡ 0) 1 (suc y) m.slots page (λ i. let f : page ≡ 1 = i in absurd (omega arith)) (λ ne. one.others page lt);
-        leaf = linked_leaf 1 (suc x) (suc y) e may plain (subst (IsShortLeaf m.rows) e one.leaf);
-      }
-      exchanged_leaf (suc (suc p)) (suc x) (suc y) may plain e = absurd (let f = one.others (suc (suc p)) (omega arith) in omega arith)
-
-      leaf_after : (s : StepOf Record) → May a k s → IsPlainMove k s → ((row : ℕ) → o.row row ≡ Linked → (memory_after a s m).rows row ≡ m.rows row) → HasOneLeaf (memory_after a s m)
-      leaf_after (Slot p) may plain stay = one
-      leaf_after (Row q) may plain stay = one
-      leaf_after Epoch may plain stay = one
-      leaf_after (Announce b) may plain stay = one
-      leaf_after (PidBits w) may plain stay = one
-      leaf_after (RowBits w) may plain stay = one
-      leaf_after (Place q w) may plain stay = record { root = one.root; linked = one.linked; others = one.others; leaf = short_stays (memory_after a (Place q w) m).rows stay (m.slots 1) leaf_linked one.leaf }
-      leaf_after (Exchange p x y) may plain stay = by_test (m.slots p) x (λ t. HasOneLeaf (record m { slots = cond t (put m.slots p y) m.slots }))
-          (λ e. exchanged_leaf p x y may.1 plain e)
-          (λ ne. record { root = one.root; linked = one.linked; others = one.others; leaf = one.leaf })
-      leaf_after (TakePid p) may plain stay = absurd plain
-      leaf_after (TakeRow q) may plain stay = record { root = one.root; linked = one.linked; others = one.others; leaf = one.leaf }
-      leaf_after (Enter n) may plain stay = record { root = one.root; linked = one.linked; others = one.others; leaf = one.leaf }
-      leaf_after Leave may plain stay = record { root = one.root; linked = one.linked; others = one.others; leaf = one.leaf }
-      leaf_after (Retire n) may plain stay = record { root = one.root; linked = one.linked; others = one.others; leaf = one.leaf }
-      leaf_after (ReusePids w bits) may plain stay = record { root = one.root; linked = one.linked; others = one.others; leaf = one.leaf }
-      leaf_after (ReuseRows w bits) may plain stay = record { root = one.root; linked = one.linked; others = one.others; leaf = one.leaf }
+    leaf_after : (s : StepOf Record) → May a k s → IsPlainMove k s → ((row : ℕ) → o.row row ≡ Linked → (memory_after a s m).rows row ≡ m.rows row) → HasOneLeaf (memory_after a s m)
+    leaf_after (Slot p) may plain stay = one
+    leaf_after (Row q) may plain stay = one
+    leaf_after Epoch may plain stay = one
+    leaf_after (Announce b) may plain stay = one
+    leaf_after (PidBits w) may plain stay = one
+    leaf_after (RowBits w) may plain stay = one
+    leaf_after (Place q w) may plain stay = record { root = one.root; linked = one.linked; others = one.others; leaf = short_stays (memory_after a (Place q w) m).rows stay (m.slots 1) leaf_linked one.leaf }
+    leaf_after (Exchange p x y) may plain stay = by_test (m.slots p) x (λ t. HasOneLeaf (record m { slots = cond t (put m.slots p y) m.slots }))
+        (λ e. exchanged_leaf p x y may.1 plain e)
+        (λ ne. record { root = one.root; linked = one.linked; others = one.others; leaf = one.leaf })
+    leaf_after (TakePid p) may plain stay = absurd plain
+    leaf_after (TakeRow q) may plain stay = record { root = one.root; linked = one.linked; others = one.others; leaf = one.leaf }
+    leaf_after (Enter n) may plain stay = record { root = one.root; linked = one.linked; others = one.others; leaf = one.leaf }
+    leaf_after Leave may plain stay = record { root = one.root; linked = one.linked; others = one.others; leaf = one.leaf }
+    leaf_after (Retire n) may plain stay = record { root = one.root; linked = one.linked; others = one.others; leaf = one.leaf }
+    leaf_after (ReusePids w bits) may plain stay = record { root = one.root; linked = one.linked; others = one.others; leaf = one.leaf }
+    leaf_after (ReuseRows w bits) may plain stay = record { root = one.root; linked = one.linked; others = one.others; leaf = one.leaf }
 
     -- what the actor learns
     same : (k' : Knowledge) → k'.read.heads ≡ k.read.heads → k'.own.pages ≡ k.own.pages → k'.read.roots ≡ k.read.roots → KnowsLeaf m.rows k'
@@ -219,9 +212,6 @@ module _ (m : Memory) {log : List Update} {o : Owners} {ks : ℕ → Knowledge} 
     learnt (ReusePids w bits) x may plain is stay = same _ refl refl refl
     learnt (ReuseRows w bits) x may plain is stay = same _ refl refl refl
 
-knows-push : (entries : List Entry) (last : Entry) → knows (entries ++ last ∷ []) ≡ knows_after (knows entries) last
-knows-push entries last = fold-append _ _ entries (last ∷ [])
-
 pub opens : Opens tree.IsState → Opens IsState
 opens tree_opens limits = record {
   tree = tree_opens limits;
@@ -237,19 +227,19 @@ opens tree_opens limits = record {
     none : (page : ℕ) → 1 < page → (opening limits).slots page ≡ 0
     none page h = rw (lt-leb page 1 h) refl
 
-pub begins : Begins tree.IsState → MemoryGrows → Begins IsState
+pub begins : Begins tree.IsState → EntriesGrow → Begins IsState
 begins tree_begins grows limits entries a c state below idle = record {
   tree = tree_begins limits entries a c state.tree below idle;
-  leaf = rw (grows limits entries (Begin a c)) state.leaf;
-  known = rw (grows limits entries (Begin a c), knows-push entries (Begin a c))
+  leaf = rw ((grows limits entries (Begin a c)).memory) state.leaf;
+  known = rw ((grows limits entries (Begin a c)).memory, (grows limits entries (Begin a c)).known)
       (λ b. at_place (KnowsLeaf (memory_of limits entries).rows) a (begun (knows entries a) c) (knows entries) b (λ own. record { heads = λ page row e. absurd (cc); pageless = (state.known a).pageless; roots = (state.known a).roots }) (λ other. state.known b));
 }
 
-pub steps : TreeSteps → StepLaw → MemoryGrows → OneChain → Steps
-steps tree_steps one_step grows one_chain limits entries a s x r state busy allowed plain is = record {
+pub steps : Steps → StepLaw → EntriesGrow → PlainSteps
+steps tree_steps one_step grows limits entries a s x r state busy allowed plain is = record {
   tree = tree_steps limits entries a s x r state.tree busy allowed is;
-  leaf = rw (grows limits entries last) (leaf_after m state.tree.good a state.leaf (state.known a) one_chain s allowed.may plain stay);
-  known = rw (grows limits entries last, knows-push entries last)
+  leaf = rw ((grows limits entries last).memory) (leaf_after m state.tree.good a state.leaf (state.known a) s allowed.may plain stay);
+  known = rw ((grows limits entries last).memory, (grows limits entries last).known)
       (λ b. at_place (KnowsLeaf (memory_after a s m).rows) a (finished (learn (knows entries a) s x) r) (knows entries) b (λ mine. record { heads = own.heads; pageless = own.pageless; roots = own.roots })
       (λ other. known_stays m state.tree.good (memory_after a s m).rows stay b (state.known b)));
 }
@@ -270,3 +260,14 @@ steps tree_steps one_step grows one_chain limits entries a s x r state busy allo
 
     own : KnowsLeaf (memory_after a s m).rows (learn (knows entries a) s x)
     own = learnt m state.tree.good a state.leaf (state.known a) s x allowed.may plain is stay
+
+pub leaf_stands : LeafStands
+leaf_stands limits entries state =
+    let memory = memory_of limits entries in
+    let short = state.leaf.leaf in
+    record {
+      chain = short.chain;
+      is_chain = record { page = omega arith; linked = state.leaf.linked; records = short.is_chain };
+      fits = state.tree.fitted (memory.slots 1) (leaf_linked memory state.tree.good) short.chain short.is_chain;
+      leaf = short.leaf;
+    }

@@ -1,6 +1,5 @@
 pub mod Chains
 pub mod Fitted
-pub mod Laws
 pub mod Links
 pub mod Places
 pub mod Plain

@@ -1,15 +1,13 @@
 -- A plain step puts no base over a base alone.
 use Rattle.std.proofs.Common.{◌≡◌, ◌<◌, ℕ, length, sym, subst, ◌∙◌}
-use Rattle.bw_model.specs.declared.step.Step.{Step as StepOf}
 use Rattle.bw_model.specs.declared.step.Step.TheVariants.{Exchange}
 use Rattle.base_page.specs.Pages.{Page}
-use Rattle.deltas.specs.declared.record.Record.{Record}
 use Rattle.deltas.specs.declared.record.Record.TheVariants.{Base}
 use Rattle.chain_search.specs.Discipline.{HasRead}
 use Rattle.chain_search.specs.Knowledge.{Written, Knowledge}
-use Rattle.chain_search.specs.Useful.{IsUseful}
 use Rattle.chain_search.proofs.ChainLaws.{IsChainFrom-unique}
-use Rattle.op_machine.specs.OneLeaf.{IsPlainLink, IsPlainMove, IsPlainOver}
+use Rattle.core_law.specs.Laws.{PlainIsUseful}
+use Rattle.op_machine.specs.OneLeaf.{IsPlainLink, IsPlainOver}
 
 over_deltas : (k : Knowledge) (slot old new : ℕ) → IsPlainLink k old new → (basis : HasRead k slot old) (page : Page) → k.own.rows new ≡ Written (Base page) → 1 < length basis.chain
 over_deltas k slot old new plain basis page placed =
@@ -18,6 +16,6 @@ over_deltas k slot old new plain basis page placed =
     let long : 1 < length plain.chain = subst (IsPlainOver plain.chain) is plain.plain in
     subst (λ chain. 1 < length chain) (IsChainFrom-unique k.read.seen old plain.chain basis.chain plain.read basis.read) long
 
-pub useful : (k : Knowledge) (step : StepOf Record) → IsPlainMove k step → IsUseful k step
+pub useful : PlainIsUseful
 useful k (Exchange slot old new) plain = over_deltas k slot old new plain
 useful k step plain = tt

@@ -5,19 +5,20 @@ use Rattle.std.proofs.lemmas.List.{append-nil}
 use Rattle.bw_model.specs.declared.limits.Limits.{Limits}
 use Rattle.chain_search.specs.declared.trace.Entry.{Entry}
 use Rattle.chain_search.specs.declared.trace.Entry.TheVariants.{Begin, Step}
-use Rattle.chain_search.specs.Disciplined.{MayStand, IsDisciplinedFrom, IsDisciplined}
+use Rattle.chain_search.specs.Disciplined.{MayStand, IsDisciplinedFrom}
 use Rattle.chain_search.specs.Knowledge.{knows}
 use Rattle.op_machine.specs.OneLeaf.{IsPlainMove}
 use Rattle.chain_search.proofs.Pushes.{take-push_whole}
+use Rattle.tree_law.specs.TraceLaws.{Begins, Opens}
+use Rattle.core_law.specs.Laws.{PlainRuns, PlainSteps}
 use Rattle.core_law.specs.State.{ArePlain, IsState}
-use Rattle.core_law.proofs.Laws.{Begins, Opens, Steps}
 
 -- the entry after these
 at_length : {X : Type 0} (xs : List X) (x : X) (more : List X) → slice_get (xs ++ x ∷ more) (length xs) ≡ Some x
 at_length [] x more = refl
 at_length (y ∷ xs) x more = at_length xs x more
 
-module _ (opens : Opens IsState) (begins : Begins IsState) (steps : Steps) where
+module _ (opens : Opens IsState) (begins : Begins IsState) (steps : PlainSteps) where
   one_more : (limits : Limits) (before : List Entry) (entry : Entry) (entries : List Entry) → IsState limits before → MayStand limits before entry → ArePlain (before ++ entry ∷ entries) → IsState limits (before ++ entry ∷ [])
   one_more limits before (Begin actor command) entries state may plain = begins limits before actor command state may.0 may.1
   one_more limits before (Step actor step answer reply) entries state may plain =
@@ -30,5 +31,5 @@ module _ (opens : Opens IsState) (begins : Begins IsState) (steps : Steps) where
       let same : (before ++ entry ∷ []) ++ entries ≡ before ++ entry ∷ entries = append_assoc before (entry ∷ []) entries in
       subst (IsState limits) same (state_along limits (before ++ entry ∷ []) entries (one_more limits before entry entries state h.0 plain) h.1 (subst ArePlain (sym same) plain))
 
-  pub disciplined : (limits : Limits) (entries : List Entry) → IsDisciplined limits entries → ArePlain entries → IsState limits entries
+  pub disciplined : PlainRuns
   disciplined limits entries h plain = state_along limits [] entries (opens limits) h plain

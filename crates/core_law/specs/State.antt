@@ -5,7 +5,8 @@ use Rattle.bw_model.specs.declared.step.Answer.{Answer}
 use Rattle.bw_model.specs.declared.step.Step.{Step as StepOf}
 use Rattle.deltas.specs.declared.record.Record.{Record}
 use Rattle.deltas.specs.Memory.{Memory}
-use Rattle.chain_search.specs.Chains.{IsChainFrom}
+use Rattle.chain_search.specs.Chains.{IsChainFrom, IsChainOf}
+use Rattle.chain_search.specs.Fitted.{IsPageChain}
 use Rattle.chain_search.specs.declared.trace.Entry.{Entry}
 use Rattle.chain_search.specs.Knowledge.{Other, Knowledge, knows}
 use Rattle.chain_search.specs.Trace.{TakesStep, memory_of}
@@ -25,6 +26,13 @@ pub record HasOneLeaf (memory : Memory) : Type 0 where
   pub linked : 0 < memory.slots 1
   pub others : (page : ℕ) → 1 < page → memory.slots page ≡ 0
   pub leaf : IsShortLeaf memory.rows (memory.slots 1)
+
+-- the chain that page 1 has, which fits, and is the only leaf's
+pub record HasLeafChain (memory : Memory) : Type 0 where
+  pub chain : List Record
+  pub is_chain : IsChainOf memory 1 chain
+  pub fits : IsPageChain chain
+  pub leaf : IsLeafChain chain
 
 -- Whatever row an actor has read in a slot has a short chain, no page is its own, and it has read no other page than 1 as the root.
 pub record KnowsLeaf (rows : ℕ → Option Record) (k : Knowledge) : Type 0 where

@@ -3,4 +3,6 @@
 
 mod law;
 
-pub use law::{answers, begins, disciplined_runs, is_one_leaf, opens, plain_is_useful, steps};
+pub use law::{
+    answers, begins, disciplined_runs, is_one_leaf, leaf_stands, opens, plain_is_useful, steps,
+};

@@ -1,6 +1,6 @@
 -- What a turn makes of a core.
-use Rattle.std.proofs.Common.{◌≡◌, ◌≢◌, ◌<◌, ◌⊎◌, inl, inr, ℕ, List, [], ◌∷◌, ◌++◌, length, Some, None, Option, Bool, true, false, set, get_or, ltb, arith, refl, sym, ap, subst, ◌∙◌}
-use Rattle.std.specs.Prelude.{◌^◌, slice_get, is_some, if◌then◌else◌}
+use Rattle.std.proofs.Common.{◌≡◌, ◌≢◌, ◌<◌, inl, inr, ℕ, List, [], ◌∷◌, ◌++◌, length, Some, None, Option, Bool, true, false, set, get_or, ltb, arith, refl, sym, ap, subst, ◌∙◌}
+use Rattle.std.specs.Prelude.{slice_get, is_some, if◌then◌else◌}
 use Rattle.std.proofs.lemmas.Bool.{ltb-true}
 use Rattle.bw_model.specs.declared.command.Command.{Command}
 use Rattle.bw_model.specs.declared.command.Reply.{Reply}
@@ -19,8 +19,11 @@ use Rattle.chain_search.specs.Discipline.{May}
 use Rattle.op_machine.specs.OneLeaf.{IsPlainMove}
 use Rattle.chain_search.specs.Knowledge.{Knowledge, begun, finished, knows, knows_after, learn}
 use Rattle.tree_law.specs.Direct.{Accounts, IsDirectState, StaysDirect}
+use Rattle.core_law.specs.Laws.{AnswersShowLeaf, PlainSteps}
 use Rattle.core_law.specs.State.{IsState}
-use Rattle.chain_search.specs.Recalled.{IsPaid, Recalled, blank, recall, recalls, recalls_after}
+use Rattle.tree_law.specs.Own.{RowsAreApart}
+use Rattle.tree_law.specs.TraceLaws.{Begins, Grows}
+use Rattle.chain_search.specs.Recalled.{IsSpent, Recalled, blank, recall, recalls, recalls_after}
 use Rattle.installs.specs.Within.{IsWithin}
 use Rattle.step_core.specs.Actors.{IsActor, IsPlainlyAllowed, IsReady, command_left, knows_then, running_command}
 use Rattle.step_core.specs.Cells.{Cells, AreSound}
@@ -29,7 +32,6 @@ use Rattle.step_core.specs.Represents.{Asks, Represents, is_placed}
 use Rattle.step_core.proofs.Lawful.{asks, served_at}
 use Rattle.step_core.proofs.Representing.{takes}
 use Rattle.step_core.specs.Cores.{IsCore, Pays}
-use Rattle.step_core.specs.Laws.{BeginLaw, Grows, StepLaw}
 use Rattle.step_core.specs.Spending.{RecallsAt, Spends, left_at}
 use Rattle.step_core.specs.Turns.{Core, refused_by, refusal_of}
 use Rattle.step_core.proofs.Replaced.{get_is, replaced_other, replaced_same, set_cases, set_length}
@@ -101,24 +103,24 @@ module _ (limits : Limits) where
       let found : slice_get actors i ≡ Some old = get_is actors i old lt (subst (λ k. old ≡ get_or actors k old) same at) in
       (rw same lt, core.each_shows i old found, core.each_running i old found ∙ goes.1)
 
-  pub core_asks : StepLaw → (cells : Cells) (actors : List Actor) (entries : List Entry) (i j : ℕ) (old : Actor) → IsCore limits cells actors entries
+  pub core_asks : RowsAreApart → AnswersShowLeaf → (cells : Cells) (actors : List Actor) (entries : List Entry) (i j : ℕ) (old : Actor) → IsCore limits cells actors entries
       → (room : ℕ) (v : Core) → record { limits = limits; entries = entries; room = room } ≡ v → refusal_of v (turn.Step i) ≡ None → j ≡ i → old ≡ get_or actors j old
       → (i < limits.actors) × (j < length actors) × IsReady limits i (knows entries i) cells old × (is_some (running_command old) ≡ true)
-  core_asks law cells actors entries i j old core room v is refusal same at =
+  core_asks apart fit cells actors entries i j old core room v is refusal same at =
       let goes : (i < limits.actors) × (is_some (command_of entries i) ≡ true) = step_goes (record { limits = limits; entries = entries; room = room }) i (subst (λ u. refusal_of u (turn.Step i) ≡ None) (sym is) refusal) in
       let lt : i < length actors = rw core.count goes.0 in
       let found : slice_get actors i ≡ Some old = get_is actors i old lt (subst (λ k. old ≡ get_or actors k old) same at) in
       let shows = core.each_shows i old found in
-      (goes.0, rw same lt, (shows, served_at limits entries core.state law i cells core.represented core.cells_sound goes.0 old.hand old.running shows), ap is_some (core.each_running i old found) ∙ goes.1)
+      (goes.0, rw same lt, (shows, served_at limits entries core.state apart i fit cells core.represented core.cells_sound goes.0 old.hand old.running shows), ap is_some (core.each_running i old found) ∙ goes.1)
 
-  pub core_begun : BeginLaw → (cells : Cells) (actors : List Actor) (entries entries' : List Entry) (i j : ℕ) (new : Actor) (command : Command) → IsCore limits cells actors entries
+  pub core_begun : Begins IsState → (cells : Cells) (actors : List Actor) (entries entries' : List Entry) (i j : ℕ) (new : Actor) (command : Command) → IsCore limits cells actors entries
       → (room : ℕ) (v : Core) → record { limits = limits; entries = entries; room = room } ≡ v → refusal_of v (turn.Begin i command) ≡ None → j ≡ i
       → IsActor limits i (begun (knows entries i) command) new → running_command new ≡ Some command → ((r : Recalled) → RecallsAt new.running r) → Grows limits entries (Begin i command) → StaysDirect limits entries (Begin i command) i (left_at new.running)
       → entries' ≡ entries ++ Begin i command ∷ [] → IsCore limits cells (set actors j new) entries'
-  core_begun law cells actors entries entries' i j new command core room v is refusal same shows runs recalled grows stays grown =
+  core_begun begins cells actors entries entries' i j new command core room v is refusal same shows runs recalled grows stays grown =
       let goes : (i < limits.actors) × (command_of entries i ≡ None) = begin_goes (record { limits = limits; entries = entries; room = room }) i command (subst (λ u. refusal_of u (turn.Begin i command) ≡ None) (sym is) refusal) in
       rw (grown, same) (record {
-        state = law.state limits entries i command core.state goes.0 goes.1;
+        state = begins limits entries i command core.state goes.0 goes.1;
         direct = stays.state;
         cells_sound = core.cells_sound;
         represented = rw grows.memory core.represented;
@@ -142,31 +144,31 @@ module _ (limits : Limits) where
   left_other commands i step answer (Some reply) a other = replaced_other i None commands a other
 
   -- what the step of an actor was
-  pub core_took : StepLaw → (cells cells' : Cells) (actors : List Actor) (entries : List Entry) (i : ℕ) (step : StepOf Record) (answer : Answer Record) → IsCore limits cells actors entries → i < limits.actors → IsWithin limits step → Takes i cells step answer cells'
+  pub core_took : RowsAreApart → (cells cells' : Cells) (actors : List Actor) (entries : List Entry) (i : ℕ) (step : StepOf Record) (answer : Answer Record) → IsCore limits cells actors entries → i < limits.actors → IsWithin limits step → Takes i cells step answer cells'
       → May i (knows entries i) step → IsPlainMove (knows entries i) step → Asks (is_placed (memory_of limits entries)) step × IsAnswer (memory_of limits entries) step answer × Represents limits cells' (memory_after i step (memory_of limits entries))
-  core_took law cells cells' actors entries i step answer core who within took may plain =
-      let asked : Asks (is_placed (memory_of limits entries)) step = asks limits entries core.state law i step may plain in
+  core_took apart cells cells' actors entries i step answer core who within took may plain =
+      let asked : Asks (is_placed (memory_of limits entries)) step = asks limits entries core.state apart i step may plain in
       let kept = takes limits cells cells' (memory_of limits entries) i step answer core.represented core.cells_sound within who asked took in
       (asked, kept.0, kept.1)
 
   -- the actor can afford its step
   pub core_affords : (cells : Cells) (actors : List Actor) (entries : List Entry) (i j : ℕ) (old new : Actor) (step : StepOf Record) (answer : Answer Record) → IsCore limits cells actors entries → j ≡ i → j < length actors → old ≡ get_or actors j old
       → Spends old.running step answer new.running
-      → Accounts limits entries i (left_at old.running) × ((left_at new.running < left_at old.running) ⊎ (IsPaid (recalls entries i) step answer × (left_at new.running < 2 ^ 18))) × RecallsAt new.running (recall (recalls entries i) step answer)
+      → Accounts limits entries i (left_at old.running) × IsSpent (recalls entries i) step answer (left_at old.running) (left_at new.running) × RecallsAt new.running (recall (recalls entries i) step answer)
   core_affords cells actors entries i j old new step answer core same lt at spends =
       let paid = core.each_pays i old (get_is actors i old (rw (sym same) lt) (subst (λ k. old ≡ get_or actors k old) same at)) in
       let spent = spends (recalls entries i) paid.0 in
       (paid.1, spent.1, spent.0)
 
-  pub core_stepped : StepLaw → (cells cells' : Cells) (actors : List Actor) (entries entries' : List Entry) (i j : ℕ) (old new : Actor) (step : StepOf Record) (answer : Answer Record) (reply : Option Reply) → IsCore limits cells actors entries
+  pub core_stepped : PlainSteps → (cells cells' : Cells) (actors : List Actor) (entries entries' : List Entry) (i j : ℕ) (old new : Actor) (step : StepOf Record) (answer : Answer Record) (reply : Option Reply) → IsCore limits cells actors entries
       → j ≡ i → j < length actors → old ≡ get_or actors j old → is_some (running_command old) ≡ true → IsPlainlyAllowed limits i (knows entries i) step reply → IsActor limits i (knows_then (knows entries i) step answer reply) new
       → running_command new ≡ command_left reply (running_command old) → RecallsAt new.running (recall (recalls entries i) step answer) → Grows limits entries (Step i step answer reply) → StaysDirect limits entries (Step i step answer reply) i (left_at new.running) → AreSound limits cells' → IsAnswer (memory_of limits entries) step answer
       → Represents limits cells' (memory_after i step (memory_of limits entries)) → entries' ≡ entries ++ Step i step answer reply ∷ [] → IsCore limits cells' (set actors j new) entries'
-  core_stepped law cells cells' actors entries entries' i j old new step answer reply core same lt at some allowed shows runs recalled grows stays sound' answered kept grown =
+  core_stepped plain_steps cells cells' actors entries entries' i j old new step answer reply core same lt at some allowed shows runs recalled grows stays sound' answered kept grown =
       let found : slice_get actors i ≡ Some old = get_is actors i old (rw (sym same) lt) (subst (λ k. old ≡ get_or actors k old) same at) in
       let going : is_some (command_of entries i) ≡ true = ap is_some (sym (core.each_running i old found)) ∙ some in
       rw (grown, same) (record {
-        state = law.state limits entries i step answer reply core.state going allowed.allowed allowed.plain answered;
+        state = plain_steps limits entries i step answer reply core.state going allowed.allowed allowed.plain answered;
         direct = stays.state;
         cells_sound = sound';
         represented = rw grows.memory kept;

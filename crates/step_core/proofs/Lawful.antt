@@ -9,16 +9,16 @@ use Rattle.deltas.specs.Memory.{Memory}
 use Rattle.chain_search.specs.declared.trace.Entry.{Entry}
 use Rattle.chain_search.specs.Chains.{IsChainFrom}
 use Rattle.chain_search.specs.Discipline.{May}
-use Rattle.chain_search.specs.Knowledge.{OwnRow, Written, knows}
+use Rattle.chain_search.specs.Knowledge.{Written, knows}
 use Rattle.chain_search.specs.Trace.{memory_of}
 use Rattle.op_machine.specs.OneLeaf.{IsPlainMove}
-use Rattle.tree_law.specs.Owners.{OwnFits}
+use Rattle.tree_law.specs.Own.{RowsAreApart}
+use Rattle.core_law.specs.Laws.{AnswersShowLeaf}
 use Rattle.core_law.specs.State.{IsState}
 use Rattle.installs.specs.Within.{IsWithin}
 use Rattle.step_core.specs.declared.actor.Running.{Running}
 use Rattle.step_core.specs.Actors.{IsAt, IsServed, IsServedAt}
 use Rattle.step_core.specs.Cells.{Cells, AreSound}
-use Rattle.step_core.specs.Laws.{StepLaw}
 use Rattle.step_core.specs.Represents.{Asks, HasHeads, Represents, is_placed}
 use Rattle.step_core.proofs.Representing.{takes}
 
@@ -38,20 +38,21 @@ module _ (limits : Limits) (entries : List Entry) (state : IsState limits entrie
   heads (suc zero) some held = first_placed m.rows (m.slots 1) state.leaf.leaf.chain state.leaf.leaf.is_chain
   heads (suc (suc pid)) some held = let none : m.slots (suc (suc pid)) ≡ 0 = state.leaf.others (suc (suc pid)) (omega arith) in absurd (omega arith)
 
-  module _ (law : StepLaw) (a : ℕ) where
+  module _ (apart : RowsAreApart) (a : ℕ) where
     own_placed : (row : ℕ) (content : Record) → (knows entries a).own.rows row ≡ Written content → IsTrue (is_placed m row)
-    own_placed row content e = placed (m.rows row) content (subst (λ (o : OwnRow). OwnFits a (state.tree.owners.row row) (m.rows row) o) e (state.tree.good.owns a row)).1
+    own_placed row content e = placed (m.rows row) content ((apart limits entries state.tree).written a row content e)
 
     -- the row that an allowed step reads or links was placed
     pub asks : (step : StepOf Record) → May a (knows entries a) step → IsPlainMove (knows entries a) step → Asks (is_placed m) step
-    asks (Row row) may plain = let stands = law.stand limits entries a row state may in placed (m.rows row) stands.0 stands.1
+    asks (Row row) may plain = let stands = (apart limits entries state.tree).placed a row may.1 in placed (m.rows row) stands.0 stands.1
     asks (Exchange slot old new) may plain = own_placed new plain.content plain.placed
     asks step may plain = tt
 
-    served : (cells : Cells) → Represents limits cells m → AreSound limits cells → a < limits.actors → (step : StepOf Record) → IsWithin limits step → May a (knows entries a) step → IsPlainMove (knows entries a) step
-        → IsServed limits a (knows entries a) cells step
-    served cells is sound who step within may plain = λ answer after took. law.fit limits entries a step answer state may (takes limits cells after m a step answer is sound within who (asks step may plain) took).0
+    module _ (fit : AnswersShowLeaf) where
+      served : (cells : Cells) → Represents limits cells m → AreSound limits cells → a < limits.actors → (step : StepOf Record) → IsWithin limits step → May a (knows entries a) step → IsPlainMove (knows entries a) step
+          → IsServed limits a (knows entries a) cells step
+      served cells is sound who step within may plain = λ answer after took. fit limits entries a step answer state may (takes limits cells after m a step answer is sound within who (asks step may plain) took).0
 
-    pub served_at : (cells : Cells) → Represents limits cells m → AreSound limits cells → a < limits.actors → (spares : List ℕ) (running : Option Running) → IsAt limits a (knows entries a) spares running → IsServedAt limits a (knows entries a) cells running
-    served_at cells is sound who spares None at = tt
-    served_at cells is sound who spares (Some running) at = served cells is sound who running.wanted at.within (subst (λ n. May n (knows entries a) running.wanted) at.own_actor at.goes.may) at.goes.plain
+      pub served_at : (cells : Cells) → Represents limits cells m → AreSound limits cells → a < limits.actors → (spares : List ℕ) (running : Option Running) → IsAt limits a (knows entries a) spares running → IsServedAt limits a (knows entries a) cells running
+      served_at cells is sound who spares None at = tt
+      served_at cells is sound who spares (Some running) at = served cells is sound who running.wanted at.within (subst (λ n. May n (knows entries a) running.wanted) at.own_actor at.goes.may) at.goes.plain

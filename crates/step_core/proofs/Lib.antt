@@ -5,7 +5,6 @@ pub mod Going
 pub mod Lawful
 pub mod Linked
 pub mod Listings
-pub mod OneLeaf
 pub mod Opening
 pub mod Replaced
 pub mod Representing

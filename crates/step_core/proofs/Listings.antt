@@ -21,6 +21,8 @@ use Rattle.deltas.specs.declared.record.Record.{Record}
 use Rattle.chain_search.specs.declared.trace.Entry.{Entry}
 use Rattle.chain_search.specs.Chains.{IsChainFrom, content_in, level_in}
 use Rattle.chain_search.specs.Trace.{memory_of}
+use Rattle.core_law.specs.Laws.{LeafStands}
+use Rattle.core_law.specs.State.{HasLeafChain}
 use Rattle.op_machine.proofs.MapLaws.{none_below_empty, one_leaf_spells}
 use Rattle.op_machine.specs.Points.{log_of}
 use Rattle.op_machine.specs.Quiet.{HasMapOf}
@@ -31,7 +33,6 @@ use Rattle.step_core.specs.Listed.{HasPage, IsListing, StandsAt, pairs_of, with_
 use Rattle.step_core.specs.Represents.{Represents}
 use Rattle.step_core.specs.Turns.{Core}
 use Rattle.step_core.proofs.Chaining.{chain_kept}
-use Rattle.step_core.proofs.OneLeaf.{HasOneLeaf, one_leaf_stands}
 
 everywhere : (key : List ℕ) → IsTrue (is_in_range [] None key)
 everywhere key = rw none_below_empty refl
@@ -84,7 +85,7 @@ module _ (chain : List Record) (leaf : level_in chain ≡ 0) (pairs : List (List
 
 module _ (limits : Limits) (entries : List Entry) where
   -- what the only leaf's chain decides is what the log says, by whatever points
-  leaf_is_listed : (only : HasOneLeaf (memory_of limits entries)) (pairs : List (List ℕ × List ℕ)) → HasPage only.chain pairs → IsListing limits entries pairs
+  leaf_is_listed : (only : HasLeafChain (memory_of limits entries)) (pairs : List (List ℕ × List ℕ)) → HasPage only.chain pairs → IsListing limits entries pairs
   leaf_is_listed only pairs has linear =
       let there : HasMapOf (memory_of limits entries) (log_of entries linear.points) = rw (take_all (length entries) entries (omega arith), take_all (length entries) linear.points (omega (arith, linear.pointed.beside))) at (linear.quiet.at_each (length entries) (omega arith)) in
       let spells = one_leaf_spells (memory_of limits entries) only.chain only.is_chain only.leaf.right only.leaf.low only.leaf.high in
@@ -97,7 +98,7 @@ module _ (limits : Limits) (entries : List Entry) where
       }
 
   -- the leaf's chain stands in the cells
-  leaf_in_cells : (cells : Cells) → AreSound limits cells → Represents limits cells (memory_of limits entries) → (only : HasOneLeaf (memory_of limits entries)) → StandsAt cells 1 only.chain
+  leaf_in_cells : (cells : Cells) → AreSound limits cells → Represents limits cells (memory_of limits entries) → (only : HasLeafChain (memory_of limits entries)) → StandsAt cells 1 only.chain
   leaf_in_cells cells sound is only =
       let below : 1 < limits.pids = omega (arith, sound.some_root, sound.root) in
       record {
@@ -105,12 +106,12 @@ module _ (limits : Limits) (entries : List Entry) where
         fits = only.fits;
       }
 
-  module _ (cells : Cells) (actors : List Actor) (core : IsCore limits cells actors entries) where
-    pub leaf_stands : (chain : List Record) × StandsAt cells 1 chain
-    leaf_stands = let only = one_leaf_stands limits entries core.state in (only.chain, leaf_in_cells cells core.cells_sound core.represented only)
+  module _ (stands : LeafStands) (cells : Cells) (actors : List Actor) (core : IsCore limits cells actors entries) where
+    pub leaf_in_place : (chain : List Record) × StandsAt cells 1 chain
+    leaf_in_place = let only = stands limits entries core.state in (only.chain, leaf_in_cells cells core.cells_sound core.represented only)
 
     pub core_lists : (room : ℕ) (view : Core) (pairs : List (List ℕ × List ℕ)) → record { limits = limits; entries = entries; room = room } ≡ view
         → ((chain : List Record) → StandsAt cells 1 chain → HasPage chain pairs) → IsListing view.limits view.entries pairs
     core_lists room view pairs is lists =
-        let only = one_leaf_stands limits entries core.state in
+        let only = stands limits entries core.state in
         subst (λ v. IsListing v.limits v.entries pairs) is (leaf_is_listed only pairs (lists only.chain (leaf_in_cells cells core.cells_sound core.represented only)))

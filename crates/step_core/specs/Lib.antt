@@ -8,4 +8,3 @@ pub mod Cores
 pub mod Represents
 pub mod Listed
 pub mod Turns
-pub mod Laws

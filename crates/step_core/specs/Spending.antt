@@ -1,10 +1,10 @@
 -- What an actor's operation recalls of its reads, and how many steps it has left.
-use Rattle.std.specs.Prelude.{◌<◌, ◌^◌, ℕ, Option, None, Some, ◌⊎◌, ⊤}
+use Rattle.std.specs.Prelude.{ℕ, Option, None, Some, ⊤}
 use Rattle.bw_model.specs.declared.command.Reply.{Reply}
 use Rattle.bw_model.specs.declared.step.Answer.{Answer}
 use Rattle.bw_model.specs.declared.step.Step.{Step as StepOf}
 use Rattle.deltas.specs.declared.record.Record.{Record}
-use Rattle.chain_search.specs.Recalled.{Recalled, IsPaid, recall}
+use Rattle.chain_search.specs.Recalled.{Recalled, IsSpent, recall}
 use Rattle.op_machine.specs.Bounded.{Recalls, steps_left}
 use Rattle.step_core.specs.declared.actor.Running.{Running}
 
@@ -23,6 +23,6 @@ abbrev pub unless_done : Running → Option Reply → Option Running
 unless_done running None = Some running
 unless_done running (Some reply) = None
 
--- A step is taken: what was recalled before it is recalled with it, and fewer steps are left, or a cause paid for more.
+-- A step is taken: what was recalled before it is recalled with it, and of the steps that were left it has spent one, or a cause paid for more.
 abbrev pub Spends : Option Running → StepOf Record → Answer Record → Option Running → Type 0
-Spends old step answer new = (r : Recalled) → RecallsAt old r → RecallsAt new (recall r step answer) × ((left_at new < left_at old) ⊎ (IsPaid r step answer × (left_at new < 2 ^ 18)))
+Spends old step answer new = (r : Recalled) → RecallsAt old r → RecallsAt new (recall r step answer) × IsSpent r step answer (left_at old) (left_at new)

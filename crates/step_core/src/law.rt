@@ -8,11 +8,14 @@ ghost use Rattle.op_machine.specs.Index.{IsExactIndex};
 ghost use Rattle.op_machine.specs.Linearized.{IsLinearized};
 ghost use Rattle.op_machine.specs.Phases.{KeepsPhases};
 ghost use Rattle.op_machine.specs.Reuse.{IsFreedByRule};
-ghost use Rattle.step_core.specs.Laws.{BeginLaw, Grows, StateLaw, StepLaw};
+ghost use Rattle.core_law.specs.Laws.{AnswersShowLeaf, PlainIsUseful, PlainSteps};
+ghost use Rattle.core_law.specs.State.{IsState};
+ghost use Rattle.tree_law.specs.Direct.{BeginsDirectly, StepsDirectly};
+ghost use Rattle.tree_law.specs.Own.{RowsAreApart};
+ghost use Rattle.tree_law.specs.TraceLaws.{Begins, FreesByRule, IndexIsExact, IsOneMap, StatesKeepPhases};
 
-use chain_search::{command_grows, memory_grows};
 use core_law::plain_is_useful;
-use tree_law::{begins_directly, recalls_grow, steps_directly};
+use tree_law::{begins_directly, rows_are_apart, steps_directly};
 
 /// In every trace, of any number of actors and in any order of their turns, in which each actor obeys its discipline, the
 /// operations took effect one at a time, on one ordered map; pages kept their phases, the index is exact at each moment, and
@@ -29,18 +32,10 @@ pub fn disciplined_runs()
     tree_law::frees_by_rule();
 }
 
-/// What one more entry makes of a trace.
-pub(crate) fn entries_grow()
-    ensures { (limits : Limits) (entries : List Entry) (entry : Entry) → Grows limits entries entry }
-{
-    memory_grows();
-    command_grows();
-    recalls_grow();
-}
-
 /// A begin keeps the law of one leaf and that of few steps.
 pub(crate) fn begins_keep_laws()
-    ensures { BeginLaw }
+    ensures state { Begins IsState }
+    ensures direct { BeginsDirectly }
 {
     core_law::begins();
     begins_directly();
@@ -48,18 +43,25 @@ pub(crate) fn begins_keep_laws()
 
 /// What a plain step may count on, and that it keeps the law of one leaf and that of few steps.
 pub(crate) fn steps_keep_laws()
-    ensures { StepLaw }
+    ensures apart { RowsAreApart }
+    ensures fit { AnswersShowLeaf }
+    ensures state { PlainSteps }
+    ensures useful { PlainIsUseful }
+    ensures direct { StepsDirectly }
 {
-    tree_law::answers();
+    rows_are_apart();
     core_law::answers();
     core_law::steps();
     plain_is_useful();
     steps_directly();
 }
 
-/// A state of one leaf is one of the tree, so all that the tree's law says of states is so of it.
+/// What the tree's law says of states.
 pub(crate) fn states_are_lawful()
-    ensures { StateLaw }
+    ensures linearized { IsOneMap }
+    ensures phases { StatesKeepPhases }
+    ensures index { IndexIsExact }
+    ensures freed { FreesByRule }
 {
     tree_law::is_one_map();
     tree_law::keeps_phases();

@@ -7,14 +7,15 @@ ghost use Rattle.step_core.specs.Turns.{AddsTurn, busy_of, refusal_of};
 
 use crate::actor::{Actor, Stepped};
 use crate::event::{Event, RunError, Trace};
-use crate::law::{begins_keep_laws, entries_grow, states_are_lawful, steps_keep_laws};
+use crate::law::{begins_keep_laws, states_are_lawful, steps_keep_laws};
 use crate::listing::pairs_in;
 use crate::memory::Memory;
 use bw_model::{Command, Key, Limits, OpenError, Value};
 use chain_search::{Entry, Turn};
+use core_law::leaf_stands;
 use std::alloc::{AllocError, Allocator, Global};
 use std::marker::Model;
-use tree_law::opens_directly;
+use tree_law::{entries_grow, opens_directly};
 
 /// All actors over one memory, which an allocator gives.
 #[derive(Drop)]
@@ -201,6 +202,7 @@ impl<A: Allocator> Core<A> {
         ensures ok { IfOk result (λ pairs. IsListing self.now.limits self.now.entries pairs.items) }
         ensures err { IfErr result (λ error. error ≡ RunError.Memory (length self.now.entries)) }
     {
+        leaf_stands();
         match pairs_in(alloc, &self.memory) {
             Ok(pairs) => Ok(pairs),
             Err(_) => Err(RunError::Memory(self.turns())),

@@ -1,5 +1,5 @@
 -- In a state, the rows that actors have taken are apart from each other and from those that anyone has learnt.
-use Rattle.std.proofs.Common.{◌≡◌, inl, inr, ℕ, List, Option, true}
+use Rattle.std.proofs.Common.{◌≡◌, inl, inr, ℕ, List, Option, true, subst}
 use Rattle.bw_model.specs.declared.limits.Limits.{Limits}
 use Rattle.deltas.specs.declared.record.Record.{Record}
 use Rattle.chain_search.specs.declared.trace.Entry.{Entry}
@@ -28,5 +28,6 @@ module _ (limits : Limits) (entries : List Entry) (state : IsState limits entrie
     unlearnt = λ a b row own learnt. let e = spare a row own in let f = linked b row learnt in absurd (cc);
     own_below = λ a row own. elim (state.named.row_below row) [ inl free ↦ let e = spare a row own in absurd (cc) | inr below ↦ below ];
     learnt_below = λ a row learnt. elim (state.named.row_below row) [ inl free ↦ let e = linked a row learnt in absurd (cc) | inr below ↦ below ];
+    written = λ a row content is. (subst (λ (v : OwnRow). OwnFits a (state.owners.row row) ((memory_of limits entries).rows row) v) is (state.good.owns a row)).1;
     placed = λ a row learnt. let l = state.good.closed row (linked a row learnt) in (l.content, l.stands);
   }

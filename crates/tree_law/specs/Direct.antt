@@ -18,7 +18,7 @@ use Rattle.chain_search.specs.declared.trace.Entry.{Entry}
 use Rattle.chain_search.specs.declared.trace.Entry.TheVariants.{Begin, Step}
 use Rattle.chain_search.specs.Discipline.{IsAllowed}
 use Rattle.chain_search.specs.Knowledge.{Ready, knows}
-use Rattle.chain_search.specs.Recalled.{Recalled, Walk, AnyNames, IsSpent, IsUnread, is_removal, recalls, recalls_after}
+use Rattle.chain_search.specs.Recalled.{Recalled, Walk, AnyNames, IsSpent, IsUnread, is_removal, recalls}
 use Rattle.chain_search.specs.Steps.{IsAnswer}
 use Rattle.chain_search.specs.Trace.{memory_of}
 use Rattle.chain_search.specs.Useful.{IsUseful}
@@ -80,14 +80,6 @@ pub record StaysDirect (limits : Limits) (entries : List Entry) (entry : Entry) 
   pub state : IsDirectState limits (entries ++ entry ∷ [])
   pub account : Accounts limits (entries ++ entry ∷ []) actor left
   pub others : (other more : ℕ) → other ≢ actor → Accounts limits entries other more → Accounts limits (entries ++ entry ∷ []) other more
-
--- one more entry changes what its actor recalls
-abbrev pub RecallsGrow : Type 0
-RecallsGrow = (entries : List Entry) (entry : Entry) → recalls (entries ++ entry ∷ []) ≡ recalls_after (recalls entries) entry
-
--- the empty trace is a direct state
-abbrev pub OpensDirectly : Type 0
-OpensDirectly = (limits : Limits) → IsDirectState limits []
 
 -- A begin keeps one, with 2^18 steps at most.
 abbrev pub BeginsDirectly : Type 0

@@ -16,4 +16,5 @@ pub mod Replies
 pub mod Shared
 pub mod State
 pub mod Times
+pub mod TraceLaws
 pub mod Tree

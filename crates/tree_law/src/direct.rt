@@ -1,15 +1,11 @@
 //! The law of few steps: a trace of allowed steps is direct where each operation says how many steps it has left, and a cause
 //! pays for whatever it takes beyond.
-ghost use Rattle.tree_law.specs.Direct.{BeginsDirectly, OpensDirectly, RecallsGrow, StepsDirectly};
-
-/// One more entry changes what its actor recalls, and what no other does.
-pub fn recalls_grow()
-    ensures { RecallsGrow }
-{}
+ghost use Rattle.tree_law.specs.Direct.{BeginsDirectly, IsDirectState, StepsDirectly};
+ghost use Rattle.tree_law.specs.TraceLaws.{Opens};
 
 /// The empty trace is direct.
 pub fn opens_directly()
-    ensures { OpensDirectly }
+    ensures { Opens IsDirectState }
 {}
 
 /// A begin keeps it, and the operation that begins can afford 2^18 steps before any cause.

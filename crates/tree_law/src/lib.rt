@@ -8,14 +8,14 @@ mod invariant;
 mod law;
 mod own;
 
-pub use direct::{begins_directly, opens_directly, recalls_grow, steps_directly};
+pub use direct::{begins_directly, opens_directly, steps_directly};
 pub use examples::{all_links_are_disciplined, helped_split_is_disciplined, sweep_is_disciplined};
 pub use invariant::{
     key_order, levels_are_indexed, one_begin_keeps, one_step_keeps, opening_is_good,
     reply_is_by_a_log,
 };
 pub use law::{
-    answers, begins, disciplined_runs, frees_by_rule, index_is_exact, is_one_map, keeps_phases,
-    knowledge_is_own, opens, steps,
+    answers, begins, disciplined_runs, entries_grow, frees_by_rule, index_is_exact, is_one_map,
+    keeps_phases, knowledge_is_own, opens, steps,
 };
 pub use own::{own_lasts, rows_are_apart};

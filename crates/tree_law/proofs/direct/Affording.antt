@@ -38,7 +38,7 @@ use Rattle.tree_law.proofs.direct.Paying.{paid}
 use Rattle.tree_law.proofs.direct.Recollecting.{heads_cases, recollects_blank, recollects_other, recollects_own}
 use Rattle.tree_law.proofs.direct.Walking.{walks_kept, walks_own}
 
-not_step_of : (actor other : ℕ) (s : StepOf Record) (x : Answer Record) (reply : Option Reply) → actor ≢ other → is_step_of actor (Step other s x reply) ≡ false
+pub not_step_of : (actor other : ℕ) (s : StepOf Record) (x : Answer Record) (reply : Option Reply) → actor ≢ other → is_step_of actor (Step other s x reply) ≡ false
 not_step_of actor other s x reply ne = elim (eqb_tells other actor) [ inl same ↦ absurd (ne (sym same.1)) | inr apart ↦ apart.0 ]
 
 pub opens : (limits : Limits) → IsDirectState limits []

@@ -8,19 +8,19 @@ use Rattle.step_core.proofs.machine.Core.step.Goals as goal
 
 pub invariant_of-self : goal.invariant_of-self
 invariant_of-self g c =
-    let asks = core_asks _ c.steps_keep_laws.ensures _ _ _ _ _ _ c.self.invariant _ _ c.self.view_is c.requires.goes c.from.ensures c.index_mut-place.ensures.value in
+    let asks = core_asks _ c.steps_keep_laws.ensures.apart c.steps_keep_laws.ensures.fit _ _ _ _ _ _ c.self.invariant _ _ c.self.view_is c.requires.goes c.from.ensures c.index_mut-place.ensures.value in
     let allowed = c.step-stepped.ensures.allowed _ asks.2 in
-    let took = core_took _ c.steps_keep_laws.ensures _ _ _ _ _ c.step-stepped.result.step c.step-stepped.result.answer c.self.invariant asks.0 c.step-stepped.ensures.within c.step-stepped.ensures.takes allowed.allowed.may allowed.plain in
+    let took = core_took _ c.steps_keep_laws.ensures.apart _ _ _ _ _ c.step-stepped.result.step c.step-stepped.result.answer c.self.invariant asks.0 c.step-stepped.ensures.within c.step-stepped.ensures.takes allowed.allowed.may allowed.plain in
     let affords = core_affords _ _ _ _ _ _ _ c.step-stepped.new.self c.step-stepped.result.step c.step-stepped.result.answer c.self.invariant c.from.ensures asks.1 c.index_mut-place.ensures.value c.step-stepped.ensures.spends in
-    let stays = c.steps_keep_laws.ensures.direct _ _ _ _ _ _ _ _ c.self.invariant.state allowed.allowed allowed.plain took.1 c.self.invariant.direct affords.0 affords.1 in
-    core_stepped _ c.steps_keep_laws.ensures _ _ _ _ _ _ _ _ _ c.step-stepped.result.step c.step-stepped.result.answer c.step-stepped.result.reply c.self.invariant c.from.ensures asks.1
+    let stays = c.steps_keep_laws.ensures.direct _ _ _ _ _ _ _ _ c.self.invariant.state.tree allowed.allowed (c.steps_keep_laws.ensures.useful (knows c.self.inside.trace.items c.args.actor) c.step-stepped.result.step allowed.plain) took.1 c.self.invariant.direct affords.0 affords.1 in
+    core_stepped _ c.steps_keep_laws.ensures.state _ _ _ _ _ _ _ _ _ c.step-stepped.result.step c.step-stepped.result.answer c.step-stepped.result.reply c.self.invariant c.from.ensures asks.1
     c.index_mut-place.ensures.value asks.3 allowed (c.step-stepped.ensures.shows _ asks.2) c.step-stepped.ensures.command affords.2 (c.entries_grow.ensures _ c.self.inside.trace.items (Step c.args.actor c.step-stepped.result.step c.step-stepped.result.answer c.step-stepped.result.reply)) stays c.step-stepped.ensures.memory took.1 took.2 (rw c.unwrap.ensures at c.push.ensures.items)
 
 pub returns : goal.returns
 returns g c =
-    let asks = core_asks _ c.steps_keep_laws.ensures _ _ _ _ _ _ c.self.invariant _ _ c.self.view_is c.requires.goes c.from.ensures c.index_mut-place.ensures.value in
+    let asks = core_asks _ c.steps_keep_laws.ensures.apart c.steps_keep_laws.ensures.fit _ _ _ _ _ _ c.self.invariant _ _ c.self.view_is c.requires.goes c.from.ensures c.index_mut-place.ensures.value in
     let allowed = c.step-stepped.ensures.allowed _ asks.2 in
-    let took = core_took _ c.steps_keep_laws.ensures _ _ _ _ _ c.step-stepped.result.step c.step-stepped.result.answer c.self.invariant asks.0 c.step-stepped.ensures.within c.step-stepped.ensures.takes allowed.allowed.may allowed.plain in
+    let took = core_took _ c.steps_keep_laws.ensures.apart _ _ _ _ _ c.step-stepped.result.step c.step-stepped.result.answer c.self.invariant asks.0 c.step-stepped.ensures.within c.step-stepped.ensures.takes allowed.allowed.may allowed.plain in
     record {
       added = Step c.args.actor c.step-stepped.result.step c.step-stepped.result.answer c.step-stepped.result.reply;
       entries = rw (← c.self.view_is) (rw c.unwrap.ensures at c.push.ensures.items);
@@ -32,5 +32,5 @@ returns g c =
 
 pub step-stepped-requires-clause-ready : goal.step-stepped-requires-clause-ready
 step-stepped-requires-clause-ready g c =
-    let asks = core_asks _ c.steps_keep_laws.ensures _ _ _ _ _ _ c.self.invariant _ _ c.self.view_is c.requires.goes c.from.ensures c.index_mut-place.ensures.value in
+    let asks = core_asks _ c.steps_keep_laws.ensures.apart c.steps_keep_laws.ensures.fit _ _ _ _ _ _ c.self.invariant _ _ c.self.view_is c.requires.goes c.from.ensures c.index_mut-place.ensures.value in
     (knows c.self.inside.trace.items c.args.actor, asks.2)

@@ -1,0 +1,76 @@
+-- The laws over traces, each the contract of a function: what an entry changes, what allowed entries keep, and what is so of
+-- each state.
+use Rattle.std.specs.Prelude.{◌≡◌, ◌<◌, ◌++◌, ◌∷◌, [], List, ℕ, None, Option, Some, IsSome, map}
+use Rattle.bw_model.specs.declared.command.Command.{Command}
+use Rattle.bw_model.specs.declared.command.Reply.{Reply}
+use Rattle.bw_model.specs.declared.limits.Limits.{Limits}
+use Rattle.bw_model.specs.declared.step.Answer.{Answer}
+use Rattle.bw_model.specs.declared.step.Step.{Step as StepOf}
+use Rattle.bw_model.specs.declared.step.Step.TheVariants.{Row}
+use Rattle.deltas.specs.declared.record.Record.{Record}
+use Rattle.chain_search.specs.Discipline.{IsAllowed, May}
+use Rattle.chain_search.specs.Disciplined.{IsDisciplined, own_entries}
+use Rattle.chain_search.specs.Fitting.{Fits}
+use Rattle.chain_search.specs.Knowledge.{knows, knows_after}
+use Rattle.chain_search.specs.Recalled.{recalls, recalls_after}
+use Rattle.chain_search.specs.Steps.{IsAnswer}
+use Rattle.chain_search.specs.Trace.{command_of, commands_after, memory_after_entry, memory_of, turn_of}
+use Rattle.chain_search.specs.declared.trace.Entry.{Entry}
+use Rattle.chain_search.specs.declared.trace.Entry.TheVariants.{Begin, Step}
+use Rattle.op_machine.specs.Index.{IsExactIndex}
+use Rattle.op_machine.specs.Linearized.{IsLinearized}
+use Rattle.op_machine.specs.Phases.{KeepsPhases}
+use Rattle.op_machine.specs.Reuse.{IsFreedByRule}
+use Rattle.tree_law.specs.State.{IsState}
+
+-- The entry changes the memory, the commands under way, and what actors know and recall, each by what it was before.
+pub record Grows (limits : Limits) (entries : List Entry) (entry : Entry) : Type 0 where
+  pub memory : memory_of limits (entries ++ entry ∷ []) ≡ memory_after_entry (memory_of limits entries) entry
+  pub commands : command_of (entries ++ entry ∷ []) ≡ commands_after (command_of entries) entry
+  pub known : knows (entries ++ entry ∷ []) ≡ knows_after (knows entries) entry
+  pub recalled : recalls (entries ++ entry ∷ []) ≡ recalls_after (recalls entries) entry
+
+abbrev pub EntriesGrow : Type 0
+EntriesGrow = (limits : Limits) (entries : List Entry) (entry : Entry) → Grows limits entries entry
+
+-- The same own entries let an actor know the same.
+abbrev pub KnowledgeIsOwn : Type 0
+KnowledgeIsOwn = (entries others : List Entry) (actor : ℕ) → own_entries actor entries ≡ own_entries actor others → knows entries actor ≡ knows others actor
+
+-- the empty trace is such a state
+abbrev pub Opens : (Limits → List Entry → Type 0) → Type 0
+Opens IsSuch = (limits : Limits) → IsSuch limits []
+
+-- a begin keeps one, where the actor is there and has no operation
+abbrev pub Begins : (Limits → List Entry → Type 0) → Type 0
+Begins IsSuch = (limits : Limits) (entries : List Entry) (actor : ℕ) (command : Command) → IsSuch limits entries → actor < limits.actors → command_of entries actor ≡ None → IsSuch limits (entries ++ Begin actor command ∷ [])
+
+-- an allowed step keeps one of the tree, with the memory's answer
+abbrev pub Steps : Type 0
+Steps = (limits : Limits) (entries : List Entry) (actor : ℕ) (step : StepOf Record) (answer : Answer Record) (reply : Option Reply) → IsState limits entries → IsSome (command_of entries actor)
+    → IsAllowed limits actor (knows entries actor) step reply → IsAnswer (memory_of limits entries) step answer → IsState limits (entries ++ Step actor step answer reply ∷ [])
+
+-- where each actor obeys its discipline, the trace is one
+abbrev pub DisciplinedRuns : Type 0
+DisciplinedRuns = (limits : Limits) (entries : List Entry) → IsDisciplined limits entries → IsState limits entries
+
+abbrev pub IsOneMap : Type 0
+IsOneMap = (limits : Limits) (entries : List Entry) → IsState limits entries → IsLinearized limits (map turn_of entries) entries
+
+abbrev pub StatesKeepPhases : Type 0
+StatesKeepPhases = (limits : Limits) (entries : List Entry) → IsState limits entries → KeepsPhases limits entries
+
+abbrev pub IndexIsExact : Type 0
+IndexIsExact = (limits : Limits) (entries : List Entry) → IsState limits entries → IsExactIndex limits entries
+
+abbrev pub FreesByRule : Type 0
+FreesByRule = (limits : Limits) (entries : List Entry) → IsState limits entries → IsFreedByRule limits entries
+
+-- a row that an actor may read has a record
+abbrev pub RowsStand : Type 0
+RowsStand = (limits : Limits) (entries : List Entry) (actor row : ℕ) → IsState limits entries → May actor (knows entries actor) (Row row) → (content : Record) × ((memory_of limits entries).rows row ≡ Some content)
+
+-- what the memory answers fits what the actor knows
+abbrev pub AnswersFit : Type 0
+AnswersFit = (limits : Limits) (entries : List Entry) (actor : ℕ) (step : StepOf Record) (answer : Answer Record) → IsState limits entries
+    → May actor (knows entries actor) step → IsAnswer (memory_of limits entries) step answer → Fits limits (knows entries actor) step answer
