@@ -9,7 +9,6 @@ use Rattle.bw_model.specs.declared.limits.Limits.{Limits}
 use Rattle.bw_model.specs.declared.step.Answer.{Answer}
 use Rattle.bw_model.specs.declared.step.Answer.TheVariants.{Number, Content}
 use Rattle.bw_model.specs.declared.step.Link.{Link}
-use Rattle.bw_model.specs.declared.step.Link.TheVariants as link
 use Rattle.bw_model.specs.declared.step.Step.{Step as StepOf}
 use Rattle.bw_model.specs.declared.step.Step.TheVariants.{Slot, Row, PidBits, RowBits}
 use Rattle.deltas.specs.declared.record.Record.{Record}
@@ -23,6 +22,7 @@ use Rattle.chain_search.specs.Steps.{IsAnswer}
 use Rattle.chain_search.specs.Trace.{memory_of}
 use Rattle.chain_search.specs.Useful.{IsUseful}
 use Rattle.op_machine.specs.Direct.{IsCause, IsDirect, IsExchangeOf, IsTake, Links, Reads, TakesNone, is_step_of}
+use Rattle.op_machine.specs.Updates.{IsUpdateLink}
 use Rattle.op_machine.specs.Operations.{Operation, IsOperation, TakesOwnStep}
 use Rattle.tree_law.specs.State.{IsState, IsUnended}
 
@@ -30,9 +30,6 @@ use Rattle.tree_law.specs.State.{IsState, IsUnended}
 pub record IsLast (entries : List Entry) (operation : Operation) : Type 0 where
   pub begun : IsOperation entries operation
   pub unended : IsUnended entries operation.start operation.actor
-
-abbrev pub IsUpdateLink : Link → Type 0
-IsUpdateLink kind = (kind ≡ link.Put) ⊎ (kind ≡ link.Delete)
 
 module _ (limits : Limits) (entries : List Entry) (operation : Operation) where
   -- The step gave the operation the number, and it has taken no step of the kind since.

@@ -24,7 +24,8 @@ use Rattle.chain_search.specs.declared.trace.Entry.{Entry}
 use Rattle.chain_search.specs.declared.trace.Entry.TheVariants.{Begin, Step}
 use Rattle.op_machine.specs.Direct.{IsExchangeOf, Links, is_step_of}
 use Rattle.op_machine.specs.Operations.{Operation}
-use Rattle.tree_law.specs.Direct.{Accounts, Affords, IsDirectState, IsLast, IsUpdateLink, Recollects, StaysDirect, Walks}
+use Rattle.op_machine.specs.Updates.{IsUpdateLink}
+use Rattle.tree_law.specs.Direct.{Accounts, Affords, IsDirectState, IsLast, Recollects, StaysDirect, Walks}
 use Rattle.tree_law.specs.State.{IsState}
 use Rattle.tree_law.proofs.Fitted.{fits}
 use Rattle.tree_law.proofs.Puts.{at_place, by_test}

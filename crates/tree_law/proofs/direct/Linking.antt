@@ -25,7 +25,8 @@ use Rattle.chain_search.specs.Useful.{IsUseful}
 use Rattle.chain_search.specs.declared.trace.Entry.{Entry}
 use Rattle.chain_search.proofs.ChainLaws.{IsChainFrom-unique}
 use Rattle.op_machine.specs.Links.{link_of, link_without}
-use Rattle.tree_law.specs.Direct.{IsUpdateLink}
+use Rattle.op_machine.specs.Updates.{IsUpdateLink}
+
 use Rattle.tree_law.specs.Owners.{PageFits}
 use Rattle.tree_law.specs.Shared.{row_in, slot_in}
 use Rattle.tree_law.specs.State.{IsInTree, IsState}
