@@ -6,6 +6,7 @@ use Rattle.std.proofs.lemmas.Grind.{flat_map-append}
 use Rattle.std.specs.List.{AllByRecursion, flat_map}
 use Rattle.bw_shell.specs.Turns.{Trace}
 use Rattle.bw_shell.specs.Lines.{lines_of, HasNoFeed, ended}
+use Rattle.bw_shell.specs.declared.refusal.Refusal.TheVariants.{Malformed}
 use Rattle.bw_shell.specs.Text.{refused_text}
 use Rattle.bw_shell.specs.Transcript.{Transcript}
 use Rattle.bw_shell.specs.Weave.{Weaves, Stops}
@@ -82,18 +83,18 @@ stop_line n m q more after u r h t rest = (
   t,
 )
 
-long_line : (n : ℕ) (m : Trace) (line : List ℕ) → 1024 < length line → Transcript n m (line ∷ []) m (refused_text n 11) true
-long_line n m line long = refused n m line 11 m (omega arith) (inl (refl, refl, λ request says. let fits = says.0 in omega arith))
+long_line : (n : ℕ) (m : Trace) (line : List ℕ) → 1024 < length line → Transcript n m (line ∷ []) m (refused_text n Malformed) true
+long_line n m line long = refused n m line Malformed m (omega arith) (inl (refl, refl, λ request says. let fits = says.0 in omega arith))
 
 pub stop_long : (n : ℕ) (m : Trace) (q : List ℕ) (b : ℕ) (more : List ℕ) → HasNoFeed q → (b ≡ 10 → ⊥) → 1024 < length (q ++ b ∷ [])
-    → Stops n m q (b ∷ more) m (refused_text n 11) true
+    → Stops n m q (b ∷ more) m (refused_text n Malformed) true
 stop_long n m q b more h other long rest = at (q ++ b ∷ []) refl (all_then (λ x. x ≢ 10) q (b ∷ []) h (other, tt))
   where
     regroup : (q ++ b ∷ more) ++ rest ≡ (q ++ b ∷ []) ++ (more ++ rest)
     regroup = append_assoc q (b ∷ more) rest ∙ sym (append_assoc q (b ∷ []) (more ++ rest))
 
     at : (x : List ℕ) → q ++ b ∷ [] ≡ x → HasNoFeed x
-        → (front : List (List ℕ)) × (others : List (List ℕ)) × (lines_of ((q ++ b ∷ more) ++ rest) ≡ front ++ others) × Transcript n m front m (refused_text n 11) true
+        → (front : List (List ℕ)) × (others : List (List ℕ)) × (lines_of ((q ++ b ∷ more) ++ rest) ≡ front ++ others) × Transcript n m front m (refused_text n Malformed) true
     at [] e clean = let len = ap length e in absurd (omega (arith, long, len))
     at (y ∷ ys) e clean =
         let opened = line_open y ys (more ++ rest) clean in

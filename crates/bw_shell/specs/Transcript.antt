@@ -5,11 +5,13 @@ use Rattle.chain_search.specs.declared.trace.Turn.TheVariants.{Begin as BeginTur
 use Rattle.step_core.specs.Listed.{IsListing}
 use Rattle.step_core.specs.declared.event.Event.{Event}
 use Rattle.step_core.specs.declared.event.Event.TheVariants as event
-use Rattle.bw_shell.specs.Request.{Says, IsShort}
-use Rattle.bw_shell.specs.declared.request.Request.{Request}
-use Rattle.bw_shell.specs.declared.request.Request.TheVariants.{Begin, Turn, Until, Finish, List as ListPairs}
+use Rattle.shell_lines.specs.Request.{Says, IsShort}
+use Rattle.shell_lines.specs.declared.request.Request.{Request}
+use Rattle.shell_lines.specs.declared.request.Request.TheVariants.{Begin, Turn, Until, Finish, List as ListPairs}
 use Rattle.bw_shell.specs.declared.turns.Progress.{Progress}
 use Rattle.bw_shell.specs.declared.turns.Progress.TheVariants.{GoesOn, Linked, Done}
+use Rattle.bw_shell.specs.declared.refusal.Refusal.{Refusal}
+use Rattle.bw_shell.specs.declared.refusal.Refusal.TheVariants.{TooLong, Memory, Malformed}
 use Rattle.bw_shell.specs.Text.{turned_text, finished_text, listing_text, refused_text}
 use Rattle.bw_shell.specs.Turns.{Trace, IsOneMap, Takes, Refuses}
 
@@ -35,8 +37,8 @@ TakesUpTo until before actor limit GoesOn after = StepsOn until before actor lim
 TakesUpTo until before actor limit progress after = (n : ℕ) × (n < limit) × (mid : Trace) × StepsOn until before actor n mid × TakesOne until mid actor progress after
 
 -- fewer turns than the limit were taken, and the next is refused
-abbrev pub RefusedWithin : Option Link → Trace → ℕ → ℕ → ℕ → Trace → Type 0
-RefusedWithin until before actor limit code after = (n : ℕ) × (n < limit) × StepsOn until before actor n after × Refuses after (Step actor) code
+abbrev pub RefusedWithin : Option Link → Trace → ℕ → ℕ → Refusal → Trace → Type 0
+RefusedWithin until before actor limit refusal after = (n : ℕ) × (n < limit) × StepsOn until before actor n after × Refuses after (Step actor) refusal
 
 -- what is asked for is done, and this is printed; a listing has exactly the pairs that stand at that moment
 abbrev pub Performs : Trace → Request → Trace → List ℕ → Type 0
@@ -47,19 +49,19 @@ Performs before (Finish actor) after text = (progress : Progress) × TakesUpTo N
 Performs before ListPairs after text = (after ≡ before) × IsOneMap before × (pairs : List (List ℕ × List ℕ)) × IsListing before.limits before.entries pairs × (text ≡ listing_text pairs)
 
 -- what is asked for is refused
-abbrev pub RefusesRequest : Trace → Request → ℕ → Trace → Type 0
-RefusesRequest before (Begin actor command) code after = Refuses before (BeginTurn actor command) code × (after ≡ before)
-RefusesRequest before (Turn actor count) code after = RefusedWithin None before actor count code after
-RefusesRequest before (Until actor link) code after = RefusedWithin (Some link) before actor 100000 code after
-RefusesRequest before (Finish actor) code after = RefusedWithin None before actor 100000 code after
-RefusesRequest before ListPairs code after = (code ≡ 7) × (after ≡ before)
+abbrev pub RefusesRequest : Trace → Request → Refusal → Trace → Type 0
+RefusesRequest before (Begin actor command) refusal after = Refuses before (BeginTurn actor command) refusal × (after ≡ before)
+RefusesRequest before (Turn actor count) refusal after = RefusedWithin None before actor count refusal after
+RefusesRequest before (Until actor link) refusal after = RefusedWithin (Some link) before actor 100000 refusal after
+RefusesRequest before (Finish actor) refusal after = RefusedWithin None before actor 100000 refusal after
+RefusesRequest before ListPairs refusal after = (refusal ≡ Memory) × (after ≡ before)
 
--- the line is refused with this code: 11 outside the grammar, then 1 for a key or value that is too long, then what the core refuses
-abbrev pub RefusesLine : Trace → List ℕ → ℕ → Trace → Type 0
-RefusesLine before line code after =
-    ((code ≡ 11) × (after ≡ before) × ((request : Request) → Says line request → ⊥))
-    ⊎ ((code ≡ 1) × (after ≡ before) × (request : Request) × Says line request × (IsShort request → ⊥))
-    ⊎ ((request : Request) × Says line request × IsShort request × RefusesRequest before request code after)
+-- Why the line is refused: first that it is outside the grammar, then that a key or value is too long, then what the core refuses.
+abbrev pub RefusesLine : Trace → List ℕ → Refusal → Trace → Type 0
+RefusesLine before line refusal after =
+    ((refusal ≡ Malformed) × (after ≡ before) × ((request : Request) → Says line request → ⊥))
+    ⊎ ((refusal ≡ TooLong) × (after ≡ before) × (request : Request) × Says line request × (IsShort request → ⊥))
+    ⊎ ((request : Request) × Says line request × IsShort request × RefusesRequest before request refusal after)
 
 -- From line number n on: an empty line is skipped; another is performed, and the rest goes on from there; or it is refused, which
 -- is the last line of the text, and nothing behind it counts.
@@ -68,19 +70,19 @@ Transcript n before [] after text refused = (after ≡ before) × (text ≡ []) 
 Transcript n before ([] ∷ lines) after text refused = Transcript (n + 1) before lines after text refused
 Transcript n before ((b ∷ bs) ∷ lines) after text refused =
     ((request : Request) × (mid : Trace) × (shown : List ℕ) × (rest : List ℕ) × Says (b ∷ bs) request × IsShort request × Performs before request mid shown × Transcript (n + 1) mid lines after rest refused × (text ≡ shown ++ rest))
-    ⊎ ((code : ℕ) × RefusesLine before (b ∷ bs) code after × (text ≡ refused_text n code) × (refused ≡ true))
+    ⊎ ((refusal : Refusal) × RefusesLine before (b ∷ bs) refusal after × (text ≡ refused_text n refusal) × (refused ≡ true))
 
 -- what one turn answers
-abbrev pub StepTold : Option Link → Trace → ℕ → Result Progress ℕ → Trace → Type 0
+abbrev pub StepTold : Option Link → Trace → ℕ → Result Progress Refusal → Trace → Type 0
 StepTold until before actor (Ok progress) after = TakesOne until before actor progress after
-StepTold until before actor (Err code) after = Refuses before (Step actor) code × (after ≡ before)
+StepTold until before actor (Err refusal) after = Refuses before (Step actor) refusal × (after ≡ before)
 
 -- what up to so many turns answer
-abbrev pub TurnsTold : Option Link → Trace → ℕ → ℕ → Result Progress ℕ → Trace → Type 0
+abbrev pub TurnsTold : Option Link → Trace → ℕ → ℕ → Result Progress Refusal → Trace → Type 0
 TurnsTold until before actor limit (Ok progress) after = TakesUpTo until before actor limit progress after
-TurnsTold until before actor limit (Err code) after = RefusedWithin until before actor limit code after
+TurnsTold until before actor limit (Err refusal) after = RefusedWithin until before actor limit refusal after
 
 -- what is printed for what is asked on line n, and whether that is a refusal
 abbrev pub RequestTold : ℕ → Trace → Request → Trace → List ℕ → Bool → Type 0
 RequestTold n before request after text false = Performs before request after text
-RequestTold n before request after text true = (code : ℕ) × RefusesRequest before request code after × (text ≡ refused_text n code)
+RequestTold n before request after text true = (refusal : Refusal) × RefusesRequest before request refusal after × (text ≡ refused_text n refusal)

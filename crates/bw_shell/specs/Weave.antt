@@ -1,9 +1,11 @@
 -- What a run over an input does.
-use Rattle.std.specs.Prelude.{◌≡◌, ℕ, ◌+◌, ◌⊎◌, ◌↔◌, List, [], ◌∷◌, ◌++◌, length, Bool, true, false, codes, not, ◌||◌, MatchBool, Option}
+use Rattle.std.specs.Prelude.{◌≡◌, ℕ, ◌+◌, ◌⊎◌, ◌↔◌, List, [], ◌∷◌, ◌++◌, length, Bool, true, false, not, ◌||◌, MatchBool, Option}
 use Rattle.std.specs.Io.KnownBytes.{Consumes, IsAtEnd}
 use Rattle.bw_model.specs.declared.limits.Limits.{Limits}
-use Rattle.bw_shell.specs.declared.request.Request.{Request}
+use Rattle.shell_lines.specs.declared.request.Request.{Request}
 use Rattle.bw_shell.specs.Lines.{lines_of, Splits}
+use Rattle.bw_shell.specs.declared.refusal.Refusal.TheVariants.{NotOpened}
+use Rattle.bw_shell.specs.Text.{lone_refusal_text}
 use Rattle.bw_shell.specs.Output.{Sink, Shows, Writes}
 use Rattle.bw_shell.specs.Transcript.{Transcript, RequestTold}
 use Rattle.bw_shell.specs.Turns.{Trace, IsOneMap, opening}
@@ -54,7 +56,7 @@ pub record HasRun (before : Trace) (in_old in_new : Option (List ℕ)) (read_fai
 abbrev pub IsTranscriptOf : Limits → Option (List ℕ) → List ℕ → Bool → Trace → List ℕ → Bool → Bool → Type 0
 IsTranscriptOf limits left taken read_failed after text refused write_failed =
     -- no core could be opened
-    ((taken ≡ []) × (read_failed ≡ false) × (refused ≡ true) × (after ≡ opening limits) × (text ≡ codes "refused: 12\n"))
+    ((taken ≡ []) × (read_failed ≡ false) × (refused ≡ true) × (after ≡ opening limits) × (text ≡ lone_refusal_text NotOpened))
     ⊎ (IsTranscriptFrom (opening limits) left taken read_failed after text refused write_failed × IsOneMap after)
 
 -- The whole run: what is taken from the reader, the core's trace, the text for them, and how much of it was written.

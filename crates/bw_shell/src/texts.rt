@@ -3,14 +3,15 @@
 ghost use Rattle.std.specs.Prelude.{◌≡◌, ◌+◌, ◌<◌, ◌≤◌, ◌++◌, ◌∷◌, [], length, decimal, codes, map};
 ghost use Rattle.std.specs.List.{flat_map};
 ghost use Rattle.hex.specs.Hex.{encode_lower};
-ghost use Rattle.bw_shell.specs.Token.{printed};
+ghost use Rattle.shell_lines.specs.Token.{printed};
 ghost use Rattle.bw_shell.specs.Output.{Shows};
-ghost use Rattle.bw_shell.specs.Text.{reply_text, pair_text, listing_text, refused_text};
+ghost use Rattle.bw_shell.specs.Text.{reply_text, pair_text, listing_text, refused_text, lone_refusal_text};
 
+use crate::refusal::Refusal;
 use crate::streams::Output;
-use crate::token::is_word;
 use bw_model::{Key, Reply, Value};
 use itoa::Buffer;
+use shell_lines::is_word;
 
 /// A number in digits.
 pub fn show_number<O: Output>(out: &mut O, n: u64)
@@ -75,13 +76,22 @@ pub fn show_reply<O: Output>(out: &mut O, reply: &Reply)
 }
 
 /// A refused line.
-pub fn show_refused<O: Output>(out: &mut O, number: u64, code: u64)
-    ensures { Shows (O.state out.old) (O.state out.new) (refused_text number code) }
+pub fn show_refused<O: Output>(out: &mut O, number: u64, refusal: Refusal)
+    ensures { Shows (O.state out.old) (O.state out.new) (refused_text number refusal) }
 {
     out.show(b"refused line ");
     show_number(out, number);
     out.show(b": ");
-    show_number(out, code);
+    show_number(out, refusal.code());
+    out.show(b"\n");
+}
+
+/// A refusal that belongs to no line.
+pub fn show_lone_refusal<O: Output>(out: &mut O, refusal: Refusal)
+    ensures { Shows (O.state out.old) (O.state out.new) (lone_refusal_text refusal) }
+{
+    out.show(b"refused: ");
+    show_number(out, refusal.code());
     out.show(b"\n");
 }
 
