@@ -107,7 +107,7 @@ module _ (limits : Limits) (entries : List Entry) (a : ℕ) (asked : Command) (s
     replied = replied;
   }
 
-  no_point : (knows entries a).linked ≡ None → state.point a ≡ None
+  no_point : (knows entries a).asked.linked ≡ None → state.point a ≡ None
   no_point e = subst (λ (v : Option (Option ℕ)). LinkFits state.owners (shared (memory_of limits entries)) (state.point a) v) e (state.good.sound a).linked_fits
 
   by_value : (reply : Reply) → MayAnswer a (knows entries a) asked reply → Settled limits entries (log_of entries state.points) state.point state.logs a asked (Some reply)
@@ -131,7 +131,7 @@ module _ (limits : Limits) (entries : List Entry) (a : ℕ) (asked : Command) (s
       at : IsRepliedAt a asked reply (state.point a) (state.logs a)
       at = answers state.good a asked reply may
 
-  same_asked : (c : Command) → (knows entries a).command ≡ Some c → c ≡ asked
+  same_asked : (c : Command) → (knows entries a).asked.command ≡ Some c → c ≡ asked
   same_asked c going = same_Some c asked (sym going ∙ state.named.commands a ∙ asks)
 
   settled : (r : Option Reply) → IfSome r (MayReply limits a (knows entries a)) → Settled limits entries (log_of entries state.points) state.point state.logs a asked r
@@ -184,7 +184,7 @@ module _ (limits : Limits) (entries : List Entry) (a : ℕ) (step : StepOf Recor
       let b = z.mine.begins in
       same_operation op (operation_of z.mine.start a asked) start actor (cc (there, b))
 
-  recent_stands : (q : ℕ) (w : Record) → (knows entries a).recent q ≡ Some w → (memory_of limits entries).rows q ≡ Some w
+  recent_stands : (q : ℕ) (w : Record) → (knows entries a).read.recent q ≡ Some w → (memory_of limits entries).rows q ≡ Some w
   recent_stands q w e = (subst (λ (v : Option Record). SeenFits (state.owners.row q) ((memory_of limits entries).rows q) v) (state.named.recent a q w e) ((state.good.sound a).seen_fits q)).1
 
   justified : (op : Operation) (reply : Reply) → IsOperation entries op → op.actor ≡ a → IsUnended entries op.start op.actor → r ≡ Some reply → Answers limits entries z.points op reply
@@ -238,7 +238,7 @@ module _ (limits : Limits) (entries : List Entry) (a : ℕ) (step : StepOf Recor
   tells_mine (Some y) i c f = let e = put_same (command_of entries) a None in let g : None ≡ Some c = sym e ∙ f in absurd (cc)
 
   -- the chain of a head stays
-  head_stays : (b page row : ℕ) → (knows entries b).heads page ≡ Some row → (c : List Record) → IsChainFrom (memory_of limits entries).rows row c → IsChainFrom (memory_after a step (memory_of limits entries)).rows row c
+  head_stays : (b page row : ℕ) → (knows entries b).read.heads page ≡ Some row → (c : List Record) → IsChainFrom (memory_of limits entries).rows row c → IsChainFrom (memory_after a step (memory_of limits entries)).rows row c
   head_stays b page row e c h =
       let f = subst (λ (v : Option ℕ). HeadFits state.owners (shared (memory_of limits entries)) (state.logs b) page v) e ((state.good.sound b).heads_fit page) in
       rows_kept state.owners (shared (memory_of limits entries)) (memory_after a step (memory_of limits entries)).rows state.good.closed n.same row c f.2.linked h
@@ -310,11 +310,11 @@ module _ (limits : Limits) (entries : List Entry) (a : ℕ) (step : StepOf Recor
   only_phase_after : (pid : ℕ) (phase : Phase) → IsInPhase limits (entries ++ last ∷ []) (length (entries ++ last ∷ [])) pid phase → phase ≡ phase_of (n.owners.page pid)
   only_phase_after pid phase h = only_after limits entries last state.owners.page n.owners.page state.in_phase between lives state.only_phase pid phase (subst (λ k. IsInPhase limits (entries ++ last ∷ []) k pid phase) (pushed_length entries last) h)
 
-  rooted_after : (b p : ℕ) → (knows (entries ++ last ∷ []) b).roots p ≡ true → (level : ℕ) × IsFirst n.owners level p
-  rooted_after b p e = by_test b a (λ t. (cond t (finished (learn (knows entries a) step answer) r) (knows entries b)).roots p ≡ true → (level : ℕ) × IsFirst n.owners level p)
+  rooted_after : (b p : ℕ) → (knows (entries ++ last ∷ []) b).read.roots p ≡ true → (level : ℕ) × IsFirst n.owners level p
+  rooted_after b p e = by_test b a (λ t. (cond t (finished (learn (knows entries a) step answer) r) (knows entries b)).read.roots p ≡ true → (level : ℕ) × IsFirst n.owners level p)
       (λ i f. elim (learns_root (knows entries a) step answer p f) [ inl before ↦ stays (state.rooted a p before) | inr now ↦ stays (at_root p now.0 now.1) ])
       (λ ne f. stays (state.rooted b p f))
-      (subst (λ (ks : ℕ → Knowledge). (ks b).roots p ≡ true) (knows-push entries last) e)
+      (subst (λ (ks : ℕ → Knowledge). (ks b).read.roots p ≡ true) (knows-push entries last) e)
     where
       stays : (level : ℕ) × IsFirst state.owners level p → (level : ℕ) × IsFirst n.owners level p
       stays h = (h.0, first_stays (memory_of limits entries) (memory_of limits (entries ++ last ∷ [])) state.good good_after a step answer is n.phased h.0 p h.1)

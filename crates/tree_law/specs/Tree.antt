@@ -99,6 +99,6 @@ pub record Good (m : Shared) (log : List Update) (o : Owners) (knows : ℕ → K
   pub frees : Frees o m
   pub closed : IsClosed o m
   pub tree : Tree o m log
-  pub owns : (a : ℕ) → Owns a o m (knows a).rows
-  pub owns_pages : (a : ℕ) → OwnsPages a o m (knows a).pages
-  pub sound : (a : ℕ) → Knows o m (knows a).seen (knows a).learnt (knows a).roots (knows a).heads (knows a).before (knows a).linked (point a) (logs a)
+  pub owns : (a : ℕ) → Owns a o m (knows a).own.rows
+  pub owns_pages : (a : ℕ) → OwnsPages a o m (knows a).own.pages
+  pub sound : (a : ℕ) → Knows o m (knows a).read.seen (knows a).read.learnt (knows a).read.roots (knows a).read.heads (knows a).read.before (knows a).asked.linked (point a) (logs a)
