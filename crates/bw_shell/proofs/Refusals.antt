@@ -11,7 +11,7 @@ use Rattle.step_core.specs.declared.event.RunError.TheVariants.{Memory}
 use Rattle.step_core.specs.declared.event.Event.{Event}
 use Rattle.bw_shell.specs.declared.refusal.Refusal.TheVariants.{NoActor, Unfinished, NoOperation}
 use Rattle.bw_shell.specs.Refusal.{refusal_by}
-use Rattle.bw_shell.specs.Turns.{seen, refusal_of, Refuses}
+use Rattle.bw_shell.specs.Turns.{seen, refusal_in, Refuses}
 
 begin_is : (n actor : ℕ) (command : Command) (b c : Bool) → cond b (cond c (Some Unfinished) None) (Some NoActor) ≡ option_map refusal_by (refused_by n (Begin actor command) (cond b (Some c) None))
 begin_is n actor command true true = refl
@@ -24,7 +24,7 @@ step_is n actor true false = refl
 step_is n actor false c = refl
 
 -- both look for the same
-pub refusal_is : (core : Core) (turn : Turn) → refusal_of (seen core) turn ≡ option_map refusal_by (core_refusal_of core turn)
+pub refusal_is : (core : Core) (turn : Turn) → refusal_in (seen core) turn ≡ option_map refusal_by (core_refusal_of core turn)
 refusal_is core (Begin actor command) = begin_is (length core.entries) actor command (nat_lt actor core.limits.actors) (is_some (command_of core.entries actor))
 refusal_is core (Step actor) = step_is (length core.entries) actor (nat_lt actor core.limits.actors) (is_some (command_of core.entries actor))
 

@@ -5,7 +5,7 @@ use Rattle.chain_search.specs.declared.trace.Turn.TheVariants.{Begin as BeginTur
 use Rattle.step_core.specs.Listed.{IsListing}
 use Rattle.step_core.specs.declared.event.Event.{Event}
 use Rattle.step_core.specs.declared.event.Event.TheVariants as event
-use Rattle.shell_lines.specs.Request.{Says, IsShort}
+use Rattle.shell_lines.specs.Request.{Says, IsShortRequest}
 use Rattle.shell_lines.specs.declared.request.Request.{Request}
 use Rattle.shell_lines.specs.declared.request.Request.TheVariants.{Begin, Turn, Until, Finish, List as ListPairs}
 use Rattle.bw_shell.specs.declared.turns.Progress.{Progress}
@@ -13,7 +13,7 @@ use Rattle.bw_shell.specs.declared.turns.Progress.TheVariants.{GoesOn, Linked, D
 use Rattle.bw_shell.specs.declared.refusal.Refusal.{Refusal}
 use Rattle.bw_shell.specs.declared.refusal.Refusal.TheVariants.{TooLong, Memory, Malformed}
 use Rattle.bw_shell.specs.Text.{turned_text, finished_text, listing_text, refused_text}
-use Rattle.bw_shell.specs.Turns.{Trace, IsOneMap, Takes, Refuses}
+use Rattle.bw_shell.specs.Turns.{Trace, IsOneMap, TakesTurn, Refuses}
 
 -- What a turn comes to, where turns are to stop at an exchange that won with the link, if one is given: the operation goes on, and
 -- this was no such exchange; or it was one; or the operation is done.
@@ -24,7 +24,7 @@ ComesTo until told (Done reply) = told ≡ event.Done reply
 
 -- the actor took a turn that comes to this
 abbrev pub TakesOne : Option Link → Trace → ℕ → Progress → Trace → Type 0
-TakesOne until before actor progress after = (event : Event) × Takes before (Step actor) event after × ComesTo until event progress
+TakesOne until before actor progress after = (event : Event) × TakesTurn before (Step actor) event after × ComesTo until event progress
 
 -- the actor took so many turns, and none of them ended its operation, or won an exchange with the link
 unfoldable pub StepsOn : Option Link → Trace → ℕ → ℕ → Trace → Type 0
@@ -42,7 +42,7 @@ RefusedWithin until before actor limit refusal after = (n : ℕ) × (n < limit) 
 
 -- what is asked for is done, and this is printed; a listing has exactly the pairs that stand at that moment
 abbrev pub Performs : Trace → Request → Trace → List ℕ → Type 0
-Performs before (Begin actor command) after text = Takes before (BeginTurn actor command) event.Began after × (text ≡ [])
+Performs before (Begin actor command) after text = TakesTurn before (BeginTurn actor command) event.Began after × (text ≡ [])
 Performs before (Turn actor count) after text = (progress : Progress) × TakesUpTo None before actor count progress after × (text ≡ turned_text actor progress)
 Performs before (Until actor link) after text = (progress : Progress) × TakesUpTo (Some link) before actor 100000 progress after × (text ≡ finished_text actor progress)
 Performs before (Finish actor) after text = (progress : Progress) × TakesUpTo None before actor 100000 progress after × (text ≡ finished_text actor progress)
@@ -60,8 +60,8 @@ RefusesRequest before ListPairs refusal after = (refusal ≡ Memory) × (after �
 abbrev pub RefusesLine : Trace → List ℕ → Refusal → Trace → Type 0
 RefusesLine before line refusal after =
     ((refusal ≡ Malformed) × (after ≡ before) × ((request : Request) → Says line request → ⊥))
-    ⊎ ((refusal ≡ TooLong) × (after ≡ before) × (request : Request) × Says line request × (IsShort request → ⊥))
-    ⊎ ((request : Request) × Says line request × IsShort request × RefusesRequest before request refusal after)
+    ⊎ ((refusal ≡ TooLong) × (after ≡ before) × (request : Request) × Says line request × (IsShortRequest request → ⊥))
+    ⊎ ((request : Request) × Says line request × IsShortRequest request × RefusesRequest before request refusal after)
 
 -- From line number n on: an empty line is skipped; another is performed, and the rest goes on from there; or it is refused, which
 -- is the last line of the text, and nothing behind it counts.
@@ -69,7 +69,7 @@ unfoldable pub Transcript : ℕ → Trace → List (List ℕ) → Trace → List
 Transcript n before [] after text refused = (after ≡ before) × (text ≡ []) × (refused ≡ false)
 Transcript n before ([] ∷ lines) after text refused = Transcript (n + 1) before lines after text refused
 Transcript n before ((b ∷ bs) ∷ lines) after text refused =
-    ((request : Request) × (mid : Trace) × (shown : List ℕ) × (rest : List ℕ) × Says (b ∷ bs) request × IsShort request × Performs before request mid shown × Transcript (n + 1) mid lines after rest refused × (text ≡ shown ++ rest))
+    ((request : Request) × (mid : Trace) × (shown : List ℕ) × (rest : List ℕ) × Says (b ∷ bs) request × IsShortRequest request × Performs before request mid shown × Transcript (n + 1) mid lines after rest refused × (text ≡ shown ++ rest))
     ⊎ ((refusal : Refusal) × RefusesLine before (b ∷ bs) refusal after × (text ≡ refused_text n refusal) × (refused ≡ true))
 
 -- what one turn answers

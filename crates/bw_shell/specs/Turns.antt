@@ -19,8 +19,8 @@ pub record Trace : Type 0 where
 abbrev pub seen : Core → Trace
 seen core = record { limits = core.limits; entries = core.entries }
 
-abbrev pub opening : Limits → Trace
-opening limits = record { limits = limits; entries = [] }
+abbrev pub opening_trace : Limits → Trace
+opening_trace limits = record { limits = limits; entries = [] }
 
 -- The turns so far took effect one at a time, on one ordered map.
 abbrev pub IsOneMap : Trace → Type 0
@@ -28,15 +28,15 @@ IsOneMap trace = IsLinearized trace.limits (map turn_of trace.entries) trace.ent
 
 -- Why the trace refuses a turn: there is no such actor, an operation begins before the actor's last one is done, or the
 -- actor has no operation that could take a step.
-abbrev pub refusal_of : Trace → Turn → Option Refusal
-refusal_of trace (Begin actor command) =
+abbrev pub refusal_in : Trace → Turn → Option Refusal
+refusal_in trace (Begin actor command) =
     if nat_lt actor trace.limits.actors then (if is_some (command_of trace.entries actor) then Some Unfinished else None) else Some NoActor
-refusal_of trace (Step actor) =
+refusal_in trace (Step actor) =
     if nat_lt actor trace.limits.actors then (if is_some (command_of trace.entries actor) then None else Some NoOperation) else Some NoActor
 
 -- The turn isn't refused, and adds its entry to the trace. The event is the entry's: its reply, or the link of its exchange if that won.
-pub record Takes (before : Trace) (turn : Turn) (event : Event) (after : Trace) : Type 0 where
-  pub free : refusal_of before turn ≡ None
+pub record TakesTurn (before : Trace) (turn : Turn) (event : Event) (after : Trace) : Type 0 where
+  pub free : refusal_in before turn ≡ None
   pub entry : Entry
   pub of_turn : turn_of entry ≡ turn
   pub event_of : IsEventOf (memory_of before.limits before.entries) entry event
@@ -45,4 +45,4 @@ pub record Takes (before : Trace) (turn : Turn) (event : Event) (after : Trace) 
 
 -- The turn is refused for this reason: as the trace says, or for want of memory.
 abbrev pub Refuses : Trace → Turn → Refusal → Type 0
-Refuses trace turn refusal = (refusal_of trace turn ≡ Some refusal) ⊎ ((refusal_of trace turn ≡ None) × (refusal ≡ Memory))
+Refuses trace turn refusal = (refusal_in trace turn ≡ Some refusal) ⊎ ((refusal_in trace turn ≡ None) × (refusal ≡ Memory))

@@ -53,7 +53,7 @@ fn run_turn<O: Output>(core: &mut Core, number: u64, actor: u64, count: u64, out
     }
 }
 
-// Takes turns until an exchange won with the link, if one is given, or the operation is done.
+// TakesTurn turns until an exchange won with the link, if one is given, or the operation is done.
 fn run_until<O: Output>(
     core: &mut Core,
     number: u64,

@@ -2,7 +2,7 @@
 
 ghost use Rattle.std.specs.Prelude.{◌≡◌, IfErr, IfOk, OnOk};
 ghost use Rattle.step_core.specs.Listed.{IsListing};
-ghost use Rattle.bw_shell.specs.Turns.{seen, IsOneMap, Takes, Refuses};
+ghost use Rattle.bw_shell.specs.Turns.{seen, IsOneMap, TakesTurn, Refuses};
 ghost use Rattle.bw_shell.specs.Transcript.{ComesTo, StepTold, TurnsTold};
 
 use crate::refusal::Refusal;
@@ -24,7 +24,7 @@ pub enum Progress {
 
 /// Begins an operation of an actor.
 pub fn begin(core: &mut Core, actor: u64, command: Command) -> Result<(), Refusal>
-    ensures ok { OnOk result (Takes (seen core.old) (Turn.Begin actor command) Event.Began (seen core.new)) }
+    ensures ok { OnOk result (TakesTurn (seen core.old) (Turn.Begin actor command) Event.Began (seen core.new)) }
     ensures refused { IfErr result (λ refusal. Refuses (seen core.old) (Turn.Begin actor command) refusal) }
     ensures unchanged { IfErr result (λ _. seen core.new ≡ seen core.old) }
 {

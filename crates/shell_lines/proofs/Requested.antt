@@ -15,8 +15,8 @@ use Rattle.shell_lines.specs.declared.token.LineError.TheVariants.{Malformed, To
 use Rattle.shell_lines.specs.Token.{Means, token_value}
 use Rattle.shell_lines.specs.Number.{number_of, capped}
 use Rattle.shell_lines.specs.Fields.{fields_of}
-use Rattle.shell_lines.specs.Request.{Says, Asks, IsNumber, SpellsCommand, IsShort, word_of}
-use Rattle.shell_lines.specs.Reading.{key_in, pair_in, IsShortPair, command_of, actor_of, begin_of, turn_by, turn_of, link_of, until_of, finish_of, list_of, asked, GivesRequest}
+use Rattle.shell_lines.specs.Request.{Says, SpellsRequest, SpellsNumber, SpellsCommand, IsShortRequest, word_of}
+use Rattle.shell_lines.specs.Reading.{key_in, pair_in, IsShortPair, command_in, capped_number, begin_in, turn_by, turn_in, link_in, until_in, finish_in, list_in, asked, GivesRequest}
 use Rattle.shell_lines.proofs.Tokens.{chosen, some_is, value_means, means_value}
 
 map_some : {A B : Type 0} (f : A → B) (o : Option A) (y : B) → option_map f o ≡ Some y → (x : A) × (o ≡ Some x) × (f x ≡ y)
@@ -30,10 +30,10 @@ then_some f None y h = cc h
 is_text : (a b : List ℕ) → bytes_eq a b ≡ true → a ≡ b
 is_text a b h = (bytes_eq-Decides a b).0 h
 
-number_is : (a : List ℕ) (n : ℕ) → actor_of a ≡ Some n → IsNumber a n
+number_is : (a : List ℕ) (n : ℕ) → capped_number a ≡ Some n → SpellsNumber a n
 number_is a n h = let m = map_some capped (number_of a) n h in (m.0, m.1, sym m.2)
 
-is_number : (a : List ℕ) (n : ℕ) → IsNumber a n → actor_of a ≡ Some n
+is_number : (a : List ℕ) (n : ℕ) → SpellsNumber a n → capped_number a ≡ Some n
 is_number a n h = rw (h.1, h.2) refl
 
 -- ---- links
@@ -47,8 +47,8 @@ word_is w word made rest found spelled others h =
       | inr q ↦ others q.1
     ]
 
-link_is : (w : List ℕ) (found : Link) → link_of w ≡ Some found → word_of found ≡ Some w
-unfolding link_of
+link_is : (w : List ℕ) (found : Link) → link_in w ≡ Some found → word_of found ≡ Some w
+unfolding link_in
 link_is w found =
     word_is w (codes "put") link.Put _ found refl
     (word_is w (codes "delete") link.Delete _ found refl
@@ -62,8 +62,8 @@ link_is w found =
     (word_is w (codes "unterm") link.Unterm _ found refl
     (word_is w (codes "clear") link.Clear _ found refl (λ h. cc h)))))))))))
 
-is_link : (w : List ℕ) (link : Link) → word_of link ≡ Some w → link_of w ≡ Some link
-unfolding link_of
+is_link : (w : List ℕ) (link : Link) → word_of link ≡ Some w → link_in w ≡ Some link
+unfolding link_in
 is_link w link.Put h = rw (sym (some_is _ w h)) refl
 is_link w link.Delete h = rw (sym (some_is _ w h)) refl
 is_link w link.Base h = rw (sym (some_is _ w h)) refl
@@ -104,8 +104,8 @@ one_field verb word k args e f = rw (e, f) refl
 two_fields : (verb word k v : List ℕ) (args : List (List ℕ)) → verb ≡ word → args ≡ k ∷ v ∷ [] → verb ∷ args ≡ word ∷ k ∷ v ∷ []
 two_fields verb word k v args e f = rw (e, f) refl
 
-command_is : (fs : List (List ℕ)) (c : Command) → command_of fs ≡ Some c → SpellsCommand fs c
-unfolding command_of
+command_is : (fs : List (List ℕ)) (c : Command) → command_in fs ≡ Some c → SpellsCommand fs c
+unfolding command_in
 command_is [] c h = cc h
 command_is (verb ∷ args) c h =
     elim (chosen (bytes_eq verb (codes "get")) _ _ (Some c) h) [
@@ -134,8 +134,8 @@ command_is (verb ∷ args) c h =
       ]
     ]
 
-is_command : (fs : List (List ℕ)) (c : Command) → SpellsCommand fs c → command_of fs ≡ Some c
-unfolding command_of key_in pair_in
+is_command : (fs : List (List ℕ)) (c : Command) → SpellsCommand fs c → command_in fs ≡ Some c
+unfolding command_in key_in pair_in
 is_command fs (Get key) h = rw (h.1, means_value h.0 key h.2) refl
 is_command fs (Insert key value) h = rw (h.2, means_value h.0 key h.3, means_value h.1 value h.4) refl
 is_command fs (Upsert key value) h = rw (h.2, means_value h.0 key h.3, means_value h.1 value h.4) refl
@@ -150,21 +150,21 @@ too_long_pair k v key value a b (inr long) = ((key, value), rw (a, b) refl, λ s
 
 -- ---- lines
 
-begin_is : (args : List (List ℕ)) (request : Request) → begin_of args ≡ Some request → Asks (codes "begin" ∷ args) request
-unfolding begin_of
+begin_is : (args : List (List ℕ)) (request : Request) → begin_in args ≡ Some request → SpellsRequest (codes "begin" ∷ args) request
+unfolding begin_in
 begin_is [] request h = cc h
 begin_is (a ∷ rest) request h =
-    let n = then_some (λ actor. option_map (Begin actor) (command_of rest)) (actor_of a) request h in
-    let c = map_some (Begin n.0) (command_of rest) request n.2 in
+    let n = then_some (λ actor. option_map (Begin actor) (command_in rest)) (capped_number a) request h in
+    let c = map_some (Begin n.0) (command_in rest) request n.2 in
     rw (sym c.2) (a, rest, refl, number_is a n.0 n.1, command_is rest c.0 c.1)
 
-turn_is : (args : List (List ℕ)) (request : Request) → turn_of args ≡ Some request → Asks (codes "turn" ∷ args) request
-unfolding turn_of
+turn_is : (args : List (List ℕ)) (request : Request) → turn_in args ≡ Some request → SpellsRequest (codes "turn" ∷ args) request
+unfolding turn_in
 turn_is [] request h = cc h
 turn_is (a ∷ []) request h = cc h
 turn_is (a ∷ n ∷ []) request h =
-    let x = then_some (λ actor. option_and_then (turn_by actor) (actor_of n)) (actor_of a) request h in
-    let y = then_some (turn_by x.0) (actor_of n) request x.2 in
+    let x = then_some (λ actor. option_and_then (turn_by actor) (capped_number n)) (capped_number a) request h in
+    let y = then_some (turn_by x.0) (capped_number n) request x.2 in
     elim (chosen (nat_le 1 y.0 && nat_le y.0 100000) _ _ (Some request) y.2) [
       | inl p ↦
           let same = some_is (Turn x.0 y.0) request p.1 in
@@ -175,28 +175,28 @@ turn_is (a ∷ n ∷ []) request h =
     ]
 turn_is (a ∷ n ∷ x ∷ rest) request h = cc h
 
-until_is : (args : List (List ℕ)) (request : Request) → until_of args ≡ Some request → Asks (codes "until" ∷ args) request
-unfolding until_of
+until_is : (args : List (List ℕ)) (request : Request) → until_in args ≡ Some request → SpellsRequest (codes "until" ∷ args) request
+unfolding until_in
 until_is [] request h = cc h
 until_is (a ∷ []) request h = cc h
 until_is (a ∷ w ∷ []) request h =
-    let x = then_some (λ actor. option_map (Until actor) (link_of w)) (actor_of a) request h in
-    let y = map_some (Until x.0) (link_of w) request x.2 in
+    let x = then_some (λ actor. option_map (Until actor) (link_in w)) (capped_number a) request h in
+    let y = map_some (Until x.0) (link_in w) request x.2 in
     rw (sym y.2) (a, w, refl, number_is a x.0 x.1, link_is w y.0 y.1)
 until_is (a ∷ w ∷ x ∷ rest) request h = cc h
 
-finish_is : (args : List (List ℕ)) (request : Request) → finish_of args ≡ Some request → Asks (codes "finish" ∷ args) request
-unfolding finish_of
+finish_is : (args : List (List ℕ)) (request : Request) → finish_in args ≡ Some request → SpellsRequest (codes "finish" ∷ args) request
+unfolding finish_in
 finish_is [] request h = cc h
-finish_is (a ∷ []) request h = let n = map_some Finish (actor_of a) request h in rw (sym n.2) (a, refl, number_is a n.0 n.1)
+finish_is (a ∷ []) request h = let n = map_some Finish (capped_number a) request h in rw (sym n.2) (a, refl, number_is a n.0 n.1)
 finish_is (a ∷ x ∷ rest) request h = cc h
 
-list_is : (args : List (List ℕ)) (request : Request) → list_of args ≡ Some request → Asks (codes "list" ∷ args) request
-unfolding list_of
+list_is : (args : List (List ℕ)) (request : Request) → list_in args ≡ Some request → SpellsRequest (codes "list" ∷ args) request
+unfolding list_in
 list_is [] request h = rw (sym (some_is ListPairs request h)) refl
 list_is (x ∷ rest) request h = cc h
 
-pub asked_is : (fs : List (List ℕ)) (request : Request) → asked fs ≡ Some request → Asks fs request
+pub asked_is : (fs : List (List ℕ)) (request : Request) → asked fs ≡ Some request → SpellsRequest fs request
 unfolding asked
 asked_is [] request h = cc h
 asked_is (verb ∷ args) request h =
@@ -217,8 +217,8 @@ asked_is (verb ∷ args) request h =
       ]
     ]
 
-pub is_asked : (fs : List (List ℕ)) (request : Request) → Asks fs request → asked fs ≡ Some request
-unfolding asked begin_of turn_of until_of finish_of list_of
+pub is_asked : (fs : List (List ℕ)) (request : Request) → SpellsRequest fs request → asked fs ≡ Some request
+unfolding asked begin_in turn_in until_in finish_in list_in
 is_asked fs (Begin actor command) h = rw (h.2, is_number h.0 actor h.3, is_command h.1 command h.4) refl
 is_asked fs (Turn actor count) h =
     let fits : (nat_le 1 count && nat_le count 100000) ≡ true = grind (arith, nat_tests, h.5, h.6) in
@@ -229,7 +229,7 @@ is_asked fs ListPairs h = rw h refl
 
 -- ---- what reading a line answers
 
-pub parse_ok : (line : List ℕ) (r : Result Request LineError) → length line ≤ 1024 → GivesRequest r (asked (fields_of line)) → IfOk r (λ request. Says line request × IsShort request)
+pub parse_ok : (line : List ℕ) (r : Result Request LineError) → length line ≤ 1024 → GivesRequest r (asked (fields_of line)) → IfOk r (λ request. Says line request × IsShortRequest request)
 parse_ok line (Ok request) fits h = ((fits, asked_is (fields_of line) request h.0), h.1)
 parse_ok line (Err e) fits h = tt
 
@@ -239,7 +239,7 @@ parse_malformed line (Err Malformed) h e request says = cc (sym h ∙ is_asked (
 parse_malformed line (Err TooLong) h e request says = cc e
 
 pub parse_too_long : (line : List ℕ) (r : Result Request LineError) → length line ≤ 1024 → GivesRequest r (asked (fields_of line)) → r ≡ Err TooLong
-    → (request : Request) × Says line request × (IsShort request → ⊥)
+    → (request : Request) × Says line request × (IsShortRequest request → ⊥)
 parse_too_long line (Ok request) fits h e = cc e
 parse_too_long line (Err Malformed) fits h e = cc e
 parse_too_long line (Err TooLong) fits h e = (h.0, (fits, asked_is (fields_of line) h.0 h.1), h.2)

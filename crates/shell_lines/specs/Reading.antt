@@ -1,4 +1,4 @@
--- What fields ask for, as a function: the way of the code. `Asks` of Request is the grammar.
+-- What fields ask for, as a function: the way of the code. `SpellsRequest` of Request is the grammar.
 use Rattle.std.specs.Prelude.{◌≡◌, ℕ, ◌≤◌, length, ◌&&◌, nat_le, if◌then◌else◌, List, [], ◌∷◌, codes, option_map, Option, Some, None, Result, Ok, Err}
 use Rattle.std.specs.Option.{option_and_then}
 use Rattle.std.specs.Str.{bytes_eq}
@@ -12,7 +12,7 @@ use Rattle.shell_lines.specs.declared.token.LineError.{LineError}
 use Rattle.shell_lines.specs.declared.token.LineError.TheVariants.{Malformed, TooLong}
 use Rattle.shell_lines.specs.Token.{token_value}
 use Rattle.shell_lines.specs.Number.{number_of, capped}
-use Rattle.shell_lines.specs.Request.{IsShort, IsShortCommand}
+use Rattle.shell_lines.specs.Request.{IsShortRequest, IsShortCommand}
 
 -- the key that the fields after a verb give, if they are one token
 unfoldable pub key_in : List (List ℕ) → Option (List ℕ)
@@ -27,9 +27,9 @@ pair_in (k ∷ []) = None
 pair_in (k ∷ v ∷ []) = option_and_then (λ key. option_map (λ value. (key, value)) (token_value v)) (token_value k)
 pair_in (k ∷ v ∷ x ∷ rest) = None
 
-unfoldable pub command_of : List (List ℕ) → Option Command
-command_of [] = None
-command_of (verb ∷ args) =
+unfoldable pub command_in : List (List ℕ) → Option Command
+command_in [] = None
+command_in (verb ∷ args) =
     if bytes_eq verb (codes "get") then option_map Get (key_in args)
     else if bytes_eq verb (codes "insert") then option_map (λ pair. Insert pair.0 pair.1) (pair_in args)
     else if bytes_eq verb (codes "upsert") then option_map (λ pair. Upsert pair.0 pair.1) (pair_in args)
@@ -37,25 +37,25 @@ command_of (verb ∷ args) =
     else None
 
 -- an actor's number
-abbrev pub actor_of : List ℕ → Option ℕ
-actor_of text = option_map capped (number_of text)
+abbrev pub capped_number : List ℕ → Option ℕ
+capped_number text = option_map capped (number_of text)
 
-unfoldable pub begin_of : List (List ℕ) → Option Request
-begin_of [] = None
-begin_of (a ∷ rest) = option_and_then (λ actor. option_map (Begin actor) (command_of rest)) (actor_of a)
+unfoldable pub begin_in : List (List ℕ) → Option Request
+begin_in [] = None
+begin_in (a ∷ rest) = option_and_then (λ actor. option_map (Begin actor) (command_in rest)) (capped_number a)
 
 abbrev pub turn_by : ℕ → ℕ → Option Request
 turn_by actor count = if nat_le 1 count && nat_le count 100000 then Some (Turn actor count) else None
 
-unfoldable pub turn_of : List (List ℕ) → Option Request
-turn_of [] = None
-turn_of (a ∷ []) = None
-turn_of (a ∷ n ∷ []) = option_and_then (λ actor. option_and_then (turn_by actor) (actor_of n)) (actor_of a)
-turn_of (a ∷ n ∷ x ∷ rest) = None
+unfoldable pub turn_in : List (List ℕ) → Option Request
+turn_in [] = None
+turn_in (a ∷ []) = None
+turn_in (a ∷ n ∷ []) = option_and_then (λ actor. option_and_then (turn_by actor) (capped_number n)) (capped_number a)
+turn_in (a ∷ n ∷ x ∷ rest) = None
 
 -- the link that a word stands for
-unfoldable pub link_of : List ℕ → Option Link
-link_of word =
+unfoldable pub link_in : List ℕ → Option Link
+link_in word =
     if bytes_eq word (codes "put") then Some link.Put
     else if bytes_eq word (codes "delete") then Some link.Delete
     else if bytes_eq word (codes "base") then Some link.Base
@@ -69,29 +69,29 @@ link_of word =
     else if bytes_eq word (codes "clear") then Some link.Clear
     else None
 
-unfoldable pub until_of : List (List ℕ) → Option Request
-until_of [] = None
-until_of (a ∷ []) = None
-until_of (a ∷ w ∷ []) = option_and_then (λ actor. option_map (Until actor) (link_of w)) (actor_of a)
-until_of (a ∷ w ∷ x ∷ rest) = None
+unfoldable pub until_in : List (List ℕ) → Option Request
+until_in [] = None
+until_in (a ∷ []) = None
+until_in (a ∷ w ∷ []) = option_and_then (λ actor. option_map (Until actor) (link_in w)) (capped_number a)
+until_in (a ∷ w ∷ x ∷ rest) = None
 
-unfoldable pub finish_of : List (List ℕ) → Option Request
-finish_of [] = None
-finish_of (a ∷ []) = option_map Finish (actor_of a)
-finish_of (a ∷ x ∷ rest) = None
+unfoldable pub finish_in : List (List ℕ) → Option Request
+finish_in [] = None
+finish_in (a ∷ []) = option_map Finish (capped_number a)
+finish_in (a ∷ x ∷ rest) = None
 
-unfoldable pub list_of : List (List ℕ) → Option Request
-list_of [] = Some ListPairs
-list_of (x ∷ rest) = None
+unfoldable pub list_in : List (List ℕ) → Option Request
+list_in [] = Some ListPairs
+list_in (x ∷ rest) = None
 
 unfoldable pub asked : List (List ℕ) → Option Request
 asked [] = None
 asked (verb ∷ args) =
-    if bytes_eq verb (codes "begin") then begin_of args
-    else if bytes_eq verb (codes "turn") then turn_of args
-    else if bytes_eq verb (codes "until") then until_of args
-    else if bytes_eq verb (codes "finish") then finish_of args
-    else if bytes_eq verb (codes "list") then list_of args
+    if bytes_eq verb (codes "begin") then begin_in args
+    else if bytes_eq verb (codes "turn") then turn_in args
+    else if bytes_eq verb (codes "until") then until_in args
+    else if bytes_eq verb (codes "finish") then finish_in args
+    else if bytes_eq verb (codes "list") then list_in args
     else None
 
 -- no key or value of a pair is too long
@@ -110,6 +110,6 @@ GivesCommand (Err Malformed) found = found ≡ None
 GivesCommand (Err TooLong) found = (command : Command) × (found ≡ Some command) × (IsShortCommand command → ⊥)
 
 abbrev pub GivesRequest : Result Request LineError → Option Request → Type 0
-GivesRequest (Ok request) found = (found ≡ Some request) × IsShort request
+GivesRequest (Ok request) found = (found ≡ Some request) × IsShortRequest request
 GivesRequest (Err Malformed) found = found ≡ None
-GivesRequest (Err TooLong) found = (request : Request) × (found ≡ Some request) × (IsShort request → ⊥)
+GivesRequest (Err TooLong) found = (request : Request) × (found ≡ Some request) × (IsShortRequest request → ⊥)

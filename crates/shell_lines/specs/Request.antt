@@ -11,8 +11,8 @@ use Rattle.shell_lines.specs.Number.{number_of, capped}
 use Rattle.shell_lines.specs.Fields.{fields_of}
 
 -- the text is a number, and n stands for it
-abbrev pub IsNumber : List ℕ → ℕ → Type 0
-IsNumber text n = (m : ℕ) × (number_of text ≡ Some m) × (n ≡ capped m)
+abbrev pub SpellsNumber : List ℕ → ℕ → Type 0
+SpellsNumber text n = (m : ℕ) × (number_of text ≡ Some m) × (n ≡ capped m)
 
 -- the fields spell this command, its keys of any length
 abbrev pub SpellsCommand : List (List ℕ) → Command → Type 0
@@ -38,12 +38,12 @@ word_of link.Ready = None
 word_of link.Undo = None
 
 -- the fields ask for this
-abbrev pub Asks : List (List ℕ) → Request → Type 0
-Asks fields (Begin actor command) = (a : List ℕ) × (rest : List (List ℕ)) × (fields ≡ codes "begin" ∷ a ∷ rest) × IsNumber a actor × SpellsCommand rest command
-Asks fields (Turn actor count) = (a : List ℕ) × (n : List ℕ) × (fields ≡ codes "turn" ∷ a ∷ n ∷ []) × IsNumber a actor × IsNumber n count × (1 ≤ count) × (count ≤ 100000)
-Asks fields (Until actor link) = (a : List ℕ) × (w : List ℕ) × (fields ≡ codes "until" ∷ a ∷ w ∷ []) × IsNumber a actor × (word_of link ≡ Some w)
-Asks fields (Finish actor) = (a : List ℕ) × (fields ≡ codes "finish" ∷ a ∷ []) × IsNumber a actor
-Asks fields ListPairs = fields ≡ codes "list" ∷ []
+abbrev pub SpellsRequest : List (List ℕ) → Request → Type 0
+SpellsRequest fields (Begin actor command) = (a : List ℕ) × (rest : List (List ℕ)) × (fields ≡ codes "begin" ∷ a ∷ rest) × SpellsNumber a actor × SpellsCommand rest command
+SpellsRequest fields (Turn actor count) = (a : List ℕ) × (n : List ℕ) × (fields ≡ codes "turn" ∷ a ∷ n ∷ []) × SpellsNumber a actor × SpellsNumber n count × (1 ≤ count) × (count ≤ 100000)
+SpellsRequest fields (Until actor link) = (a : List ℕ) × (w : List ℕ) × (fields ≡ codes "until" ∷ a ∷ w ∷ []) × SpellsNumber a actor × (word_of link ≡ Some w)
+SpellsRequest fields (Finish actor) = (a : List ℕ) × (fields ≡ codes "finish" ∷ a ∷ []) × SpellsNumber a actor
+SpellsRequest fields ListPairs = fields ≡ codes "list" ∷ []
 
 -- the request to go on until an exchange won with the link, if one is given, or the operation is done
 abbrev pub until_done : ℕ → Option Link → Request
@@ -52,7 +52,7 @@ until_done actor (Some link) = Until actor link
 
 -- the line is of the grammar, and asks for this
 abbrev pub Says : List ℕ → Request → Type 0
-Says line request = (length line ≤ 1024) × Asks (fields_of line) request
+Says line request = (length line ≤ 1024) × SpellsRequest (fields_of line) request
 
 -- no key or value is too long
 abbrev pub IsShortCommand : Command → Type 0
@@ -61,9 +61,9 @@ IsShortCommand (Insert key value) = (length key ≤ 32) × (length value ≤ 32)
 IsShortCommand (Upsert key value) = (length key ≤ 32) × (length value ≤ 32)
 IsShortCommand (Delete key) = length key ≤ 32
 
-abbrev pub IsShort : Request → Type 0
-IsShort (Begin actor command) = IsShortCommand command
-IsShort (Turn actor count) = Unit {0}
-IsShort (Until actor link) = Unit {0}
-IsShort (Finish actor) = Unit {0}
-IsShort ListPairs = Unit {0}
+abbrev pub IsShortRequest : Request → Type 0
+IsShortRequest (Begin actor command) = IsShortCommand command
+IsShortRequest (Turn actor count) = Unit {0}
+IsShortRequest (Until actor link) = Unit {0}
+IsShortRequest (Finish actor) = Unit {0}
+IsShortRequest ListPairs = Unit {0}

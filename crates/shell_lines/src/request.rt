@@ -4,8 +4,8 @@ ghost use Rattle.std.specs.Prelude.{◌≡◌, ℕ, List, [], ◌∷◌, IfOk, I
 ghost use Rattle.std.specs.Option.{option_copied};
 ghost use Rattle.shell_lines.specs.Fields.{fields_in, fields_of};
 ghost use Rattle.shell_lines.specs.Gives.{Gives};
-ghost use Rattle.shell_lines.specs.Request.{Says, IsShort};
-ghost use Rattle.shell_lines.specs.Reading.{GivesCommand, GivesPair, GivesRequest, key_in, pair_in, command_of, begin_of, turn_of, link_of, until_of, finish_of, list_of, asked};
+ghost use Rattle.shell_lines.specs.Request.{Says, IsShortRequest};
+ghost use Rattle.shell_lines.specs.Reading.{GivesCommand, GivesPair, GivesRequest, key_in, pair_in, command_in, begin_in, turn_in, link_in, until_in, finish_in, list_in, asked};
 ghost use Rattle.shell_lines.specs.declared.request.Request.{Request as RequestSeen};
 
 use crate::fields::next_field;
@@ -71,9 +71,9 @@ fn read_pair(args: Option<&[u8]>) -> Result<(Key, Value), LineError>
     pair_by(key, value)
 }
 
-#[tactic(auto, unfolding(crate::specs::Reading::command_of))]
+#[tactic(auto, unfolding(crate::specs::Reading::command_in))]
 fn read_command(fields: Option<&[u8]>) -> Result<Command, LineError>
-    ensures { GivesCommand result (command_of (fields_in (option_copied fields.entry))) }
+    ensures { GivesCommand result (command_in (fields_in (option_copied fields.entry))) }
 {
     let Some((verb, args)) = next_field(fields) else {
         return Err(LineError::Malformed);
@@ -95,9 +95,9 @@ fn read_command(fields: Option<&[u8]>) -> Result<Command, LineError>
     Err(LineError::Malformed)
 }
 
-#[tactic(auto, unfolding(crate::specs::Reading::begin_of))]
+#[tactic(auto, unfolding(crate::specs::Reading::begin_in))]
 fn read_begin(args: Option<&[u8]>) -> Result<Request, LineError>
-    ensures { GivesRequest result (begin_of (fields_in (option_copied args.entry))) }
+    ensures { GivesRequest result (begin_in (fields_in (option_copied args.entry))) }
 {
     let Some((actor, rest)) = next_field(args) else {
         return Err(LineError::Malformed);
@@ -111,9 +111,9 @@ fn read_begin(args: Option<&[u8]>) -> Result<Request, LineError>
     }
 }
 
-#[tactic(auto, unfolding(crate::specs::Reading::turn_of))]
+#[tactic(auto, unfolding(crate::specs::Reading::turn_in))]
 fn read_turn(args: Option<&[u8]>) -> Result<Request, LineError>
-    ensures { GivesRequest result (turn_of (fields_in (option_copied args.entry))) }
+    ensures { GivesRequest result (turn_in (fields_in (option_copied args.entry))) }
 {
     let Some((actor, rest)) = next_field(args) else {
         return Err(LineError::Malformed);
@@ -136,9 +136,9 @@ fn read_turn(args: Option<&[u8]>) -> Result<Request, LineError>
     Ok(Request::Turn(actor, count))
 }
 
-#[tactic(auto, unfolding(crate::specs::Reading::link_of))]
+#[tactic(auto, unfolding(crate::specs::Reading::link_in))]
 fn read_link(word: &[u8]) -> Option<Link>
-    ensures { result ≡ link_of word.now }
+    ensures { result ≡ link_in word.now }
 {
     if word == b"put".as_slice() {
         return Some(Link::Put);
@@ -176,9 +176,9 @@ fn read_link(word: &[u8]) -> Option<Link>
     None
 }
 
-#[tactic(auto, unfolding(crate::specs::Reading::until_of))]
+#[tactic(auto, unfolding(crate::specs::Reading::until_in))]
 fn read_until(args: Option<&[u8]>) -> Result<Request, LineError>
-    ensures { GivesRequest result (until_of (fields_in (option_copied args.entry))) }
+    ensures { GivesRequest result (until_in (fields_in (option_copied args.entry))) }
 {
     let Some((actor, rest)) = next_field(args) else {
         return Err(LineError::Malformed);
@@ -198,9 +198,9 @@ fn read_until(args: Option<&[u8]>) -> Result<Request, LineError>
     Ok(Request::Until(actor, link))
 }
 
-#[tactic(auto, unfolding(crate::specs::Reading::finish_of))]
+#[tactic(auto, unfolding(crate::specs::Reading::finish_in))]
 fn read_finish(args: Option<&[u8]>) -> Result<Request, LineError>
-    ensures { GivesRequest result (finish_of (fields_in (option_copied args.entry))) }
+    ensures { GivesRequest result (finish_in (fields_in (option_copied args.entry))) }
 {
     let Some((actor, rest)) = next_field(args) else {
         return Err(LineError::Malformed);
@@ -214,9 +214,9 @@ fn read_finish(args: Option<&[u8]>) -> Result<Request, LineError>
     }
 }
 
-#[tactic(auto, unfolding(crate::specs::Reading::list_of))]
+#[tactic(auto, unfolding(crate::specs::Reading::list_in))]
 fn read_list(args: Option<&[u8]>) -> Result<Request, LineError>
-    ensures { GivesRequest result (list_of (fields_in (option_copied args.entry))) }
+    ensures { GivesRequest result (list_in (fields_in (option_copied args.entry))) }
 {
     if next_field(args).is_some() {
         return Err(LineError::Malformed);
@@ -251,9 +251,9 @@ fn read_fields(line: &[u8]) -> Result<Request, LineError>
 
 /// What a line asks for, by the grammar.
 pub fn parse(line: &[u8]) -> Result<Request, LineError>
-    ensures ok { IfOk result (λ request. Says line.now request × IsShort request) }
+    ensures ok { IfOk result (λ request. Says line.now request × IsShortRequest request) }
     ensures malformed { IsErrOf result LineError.Malformed → (request : RequestSeen) → Says line.now request → ⊥ }
-    ensures too_long { IsErrOf result LineError.TooLong → (request : RequestSeen) × Says line.now request × (IsShort request → ⊥) }
+    ensures too_long { IsErrOf result LineError.TooLong → (request : RequestSeen) × Says line.now request × (IsShortRequest request → ⊥) }
 {
     if line.len() > 1024 {
         return Err(LineError::Malformed);

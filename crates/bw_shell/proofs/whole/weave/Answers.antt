@@ -1,7 +1,7 @@
 use Rattle.std.proofs.Common.{[], refl, inl, inr, true}
 use Rattle.bw_shell.specs.declared.refusal.Refusal.TheVariants.{NotOpened}
 use Rattle.bw_shell.specs.Text.{lone_refusal_text}
-use Rattle.bw_shell.specs.Turns.{opening}
+use Rattle.bw_shell.specs.Turns.{opening_trace}
 use Rattle.bw_shell.proofs.Showing.{shows_then}
 use Rattle.bw_shell.proofs.Weaving.{consumes_none, writes_whole, one_else, is_woven}
 use Rattle.bw_shell.proofs.whole.weave.Goals as goal
@@ -9,7 +9,7 @@ use Rattle.bw_shell.proofs.whole.weave.Goals as goal
 pub returns-in-Err : goal.returns-in-Err
 returns-in-Err g c = record {
   taken = [];
-  after = opening c.args.limits;
+  after = opening_trace c.args.limits;
   text = lone_refusal_text NotOpened;
   refused = true;
   reads = consumes_none _;
