@@ -5,9 +5,11 @@ ghost use Rattle.bw_model.specs.declared.key.TheConstants.{MAX_LENGTH};
 use arrayvec::ArrayVec;
 use std::alloc::AllocError;
 use std::marker::Model;
+use thiserror::Error;
 
 /// A slice has more than 32 bytes.
-#[derive(Clone, Copy, Debug, PartialEq, Eq)]
+#[derive(Clone, Copy, Debug, PartialEq, Eq, Error)]
+#[error("more than {MAX_LENGTH} bytes")]
 pub struct TooLong;
 
 /// How many bytes a key or a value has at most.

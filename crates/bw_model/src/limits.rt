@@ -2,16 +2,21 @@
 ghost use Rattle.std.specs.Prelude.{◌≡◌, ◌↔◌, IsOk, IfOk};
 ghost use Rattle.bw_model.specs.Limits.{AreLimits};
 
+use thiserror::Error;
+
 /// A number is outside the range that is stated for it.
-#[derive(Clone, Copy, Debug, PartialEq, Eq)]
+#[derive(Clone, Copy, Debug, PartialEq, Eq, Error)]
+#[error("a limit is outside its range")]
 pub struct BadLimits;
 
 /// Why nothing was opened.
-#[derive(Clone, Copy, Debug, PartialEq, Eq)]
+#[derive(Clone, Copy, Debug, PartialEq, Eq, Error)]
 pub enum OpenError {
     /// A growth of memory was refused.
+    #[error("no memory for the tree")]
     Memory,
     /// The opening epoch is outside its range.
+    #[error("the opening epoch is outside its range")]
     BadEpoch,
 }
 

@@ -6,9 +6,10 @@ use Rattle.std.proofs.lemmas.Grind.{flat_map-append}
 use Rattle.std.specs.List.{AllByRecursion, flat_map}
 use Rattle.bw_shell.specs.Turns.{Trace}
 use Rattle.bw_shell.specs.Lines.{lines_of, HasNoFeed, ended}
+use Rattle.bw_shell.specs.declared.refusal.Refusal.TheVariants.{Malformed}
 use Rattle.bw_shell.specs.Text.{refused_text}
 use Rattle.bw_shell.specs.Transcript.{Transcript}
-use Rattle.bw_shell.specs.Weave.{Weaves, Stops}
+use Rattle.bw_shell.specs.Weave.{Weaves, StopsAmong}
 use Rattle.bw_shell.proofs.Transcripts.{transcript_then, refused}
 
 all_then : {A : Type 0} (P : A → Type 0) (xs ys : List A) → AllByRecursion P xs → AllByRecursion P ys → AllByRecursion P (xs ++ ys)
@@ -74,7 +75,7 @@ no_bytes n m q h = record {
   count = omega arith;
 }
 
-pub stop_line : (n : ℕ) (m : Trace) (q more : List ℕ) (after : Trace) (u : List ℕ) (r : Bool) → HasNoFeed q → Transcript n m (q ∷ []) after u r → Stops n m q (10 ∷ more) after u r
+pub stop_line : (n : ℕ) (m : Trace) (q more : List ℕ) (after : Trace) (u : List ℕ) (r : Bool) → HasNoFeed q → Transcript n m (q ∷ []) after u r → StopsAmong n m q (10 ∷ more) after u r
 stop_line n m q more after u r h t rest = (
   q ∷ [],
   lines_of (more ++ rest),
@@ -82,18 +83,18 @@ stop_line n m q more after u r h t rest = (
   t,
 )
 
-long_line : (n : ℕ) (m : Trace) (line : List ℕ) → 1024 < length line → Transcript n m (line ∷ []) m (refused_text n 11) true
-long_line n m line long = refused n m line 11 m (omega arith) (inl (refl, refl, λ request says. let fits = says.0 in omega arith))
+long_line : (n : ℕ) (m : Trace) (line : List ℕ) → 1024 < length line → Transcript n m (line ∷ []) m (refused_text n Malformed) true
+long_line n m line long = refused n m line Malformed m (omega arith) (inl (refl, refl, λ request says. let fits = says.0 in omega arith))
 
 pub stop_long : (n : ℕ) (m : Trace) (q : List ℕ) (b : ℕ) (more : List ℕ) → HasNoFeed q → (b ≡ 10 → ⊥) → 1024 < length (q ++ b ∷ [])
-    → Stops n m q (b ∷ more) m (refused_text n 11) true
+    → StopsAmong n m q (b ∷ more) m (refused_text n Malformed) true
 stop_long n m q b more h other long rest = at (q ++ b ∷ []) refl (all_then (λ x. x ≢ 10) q (b ∷ []) h (other, tt))
   where
     regroup : (q ++ b ∷ more) ++ rest ≡ (q ++ b ∷ []) ++ (more ++ rest)
     regroup = append_assoc q (b ∷ more) rest ∙ sym (append_assoc q (b ∷ []) (more ++ rest))
 
     at : (x : List ℕ) → q ++ b ∷ [] ≡ x → HasNoFeed x
-        → (front : List (List ℕ)) × (others : List (List ℕ)) × (lines_of ((q ++ b ∷ more) ++ rest) ≡ front ++ others) × Transcript n m front m (refused_text n 11) true
+        → (front : List (List ℕ)) × (others : List (List ℕ)) × (lines_of ((q ++ b ∷ more) ++ rest) ≡ front ++ others) × Transcript n m front m (refused_text n Malformed) true
     at [] e clean = let len = ap length e in absurd (omega (arith, long, len))
     at (y ∷ ys) e clean =
         let opened = line_open y ys (more ++ rest) clean in
@@ -125,7 +126,7 @@ weaves_then n m p bs n' m' q t cs n'' m'' q' u v w = record {
 }
 
 pub weaves_stops : (n : ℕ) (m : Trace) (p bs : List ℕ) (n' : ℕ) (m' : Trace) (q t : List ℕ) (tail : List ℕ) (m'' : Trace) (u : List ℕ) (r : Bool)
-    → Weaves n m p bs n' m' q t → Stops n' m' q tail m'' u r → Stops n m p (bs ++ tail) m'' (t ++ u) r
+    → Weaves n m p bs n' m' q t → StopsAmong n' m' q tail m'' u r → StopsAmong n m p (bs ++ tail) m'' (t ++ u) r
 weaves_stops n m p bs n' m' q t tail m'' u r v s rest =
     let end = s rest in
     let e : (p ++ (bs ++ tail)) ++ rest ≡ flat_map ended v.lines ++ ((q ++ tail) ++ rest)
@@ -159,9 +160,9 @@ piece bytes i b h is =
     rw (sym is, sym d) (take-append-drop i bytes)
 
 pub stop_at : (n : ℕ) (m : Trace) (p bytes : List ℕ) (i b : ℕ) (n' : ℕ) (m' : Trace) (q t : List ℕ) (m'' : Trace) (u : List ℕ) (r : Bool)
-    → i < length bytes → get_or bytes i 0 ≡ b → Weaves n m p (take i bytes) n' m' q t → Stops n' m' q (b ∷ drop (i + 1) bytes) m'' u r → Stops n m p bytes m'' (t ++ u) r
+    → i < length bytes → get_or bytes i 0 ≡ b → Weaves n m p (take i bytes) n' m' q t → StopsAmong n' m' q (b ∷ drop (i + 1) bytes) m'' u r → StopsAmong n m p bytes m'' (t ++ u) r
 stop_at n m p bytes i b n' m' q t m'' u r h is v s =
-    subst (λ (bs : List ℕ). Stops n m p bs m'' (t ++ u) r) (piece bytes i b h is) (weaves_stops n m p (take i bytes) n' m' q t (b ∷ drop (i + 1) bytes) m'' u r v s)
+    subst (λ (bs : List ℕ). StopsAmong n m p bs m'' (t ++ u) r) (piece bytes i b h is) (weaves_stops n m p (take i bytes) n' m' q t (b ∷ drop (i + 1) bytes) m'' u r v s)
 
 pub more_at : (n : ℕ) (m : Trace) (p bytes : List ℕ) (i b : ℕ) (n' : ℕ) (m' : Trace) (q t : List ℕ) (n'' : ℕ) (m'' : Trace) (q' u : List ℕ)
     → i < length bytes → get_or bytes i 0 ≡ b → Weaves n m p (take i bytes) n' m' q t → Weaves n' m' q (b ∷ []) n'' m'' q' u → Weaves n m p (take (i + 1) bytes) n'' m'' q' (t ++ u)

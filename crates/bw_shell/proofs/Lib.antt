@@ -1,9 +1,5 @@
-pub mod Tokens
-pub mod Splits
-pub mod Requested
 pub mod Showing
 pub mod Transcripts
 pub mod Feeding
 pub mod Weaving
 pub mod Refusals
-pub mod Spelling

@@ -4,7 +4,7 @@ use Rattle.std.proofs.lemmas.List.{append_assoc, append-nil, take-append-drop, t
 use Rattle.std.proofs.lemmas.Grind.{flat_map-append}
 use Rattle.std.specs.List.{flat_map}
 use Rattle.std.specs.Io.KnownBytes.{Appends, Keeps}
-use Rattle.bw_shell.specs.Output.{Sink, Puts, Shows, Writes}
+use Rattle.bw_shell.specs.Output.{Sink, Puts, Prints, Writes}
 
 pub appends_nothing : (a : Option (List ℕ)) → Appends a a []
 appends_nothing None = tt
@@ -48,7 +48,7 @@ wrote_part a b c bytes rest s kept =
 
 -- ---- one text behind another
 
-pub no_text : (a : Sink) → Shows a a []
+pub no_text : (a : Sink) → Prints a a []
 no_text a = record {
   puts = λ _. record { written = []; rest = a.held; splits = append-nil a.held; appends = appends_nothing a.contents; all = λ _. refl };
   stays = λ e. (refl, e);
@@ -78,7 +78,7 @@ puts_short a b c t u p same = record {
   all = λ e. cc e;
 }
 
-shows_at : (a b c : Sink) (t u : List ℕ) (f g : Bool) → b.failed ≡ f → c.failed ≡ g → Shows a b t → Shows b c u → Shows a c (t ++ u)
+shows_at : (a b c : Sink) (t u : List ℕ) (f g : Bool) → b.failed ≡ f → c.failed ≡ g → Prints a b t → Prints b c u → Prints a c (t ++ u)
 shows_at a b c t u true g is_f is_g p q =
     let end = q.stays is_f in record {
       puts = λ e. subst (λ (f : Bool). Puts a c (t ++ u) (not f)) (sym end.1) (puts_short a b c t u (subst (λ (f : Bool). Puts a b t (not f)) is_f (p.puts e)) end.0);
@@ -89,7 +89,7 @@ shows_at a b c t u false g is_f is_g p q = record {
   stays = λ e. cc (sym is_f ∙ (p.stays e).1);
 }
 
-pub shows_then : {a b c : Sink} {t u : List ℕ} → Shows a b t → Shows b c u → Shows a c (t ++ u)
+pub shows_then : {a b c : Sink} {t u : List ℕ} → Prints a b t → Prints b c u → Prints a c (t ++ u)
 shows_then {a} {b} {c} {t} {u} p q = shows_at a b c t u b.failed c.failed refl refl p q
 
 -- ---- pieces that don't fit
@@ -100,7 +100,7 @@ err_holds (Err x) P e h = h
 
 -- what was held back is written, and then the bytes, as far as that goes
 pub passed_on : (a b : Sink) (mid : Option (List ℕ)) (bytes : List ℕ) (whole : Bool) → Writes a.contents mid a.held true → Writes mid b.contents bytes whole
-    → a.failed ≡ false → b.held ≡ [] → b.failed ≡ not whole → Shows a b bytes
+    → a.failed ≡ false → b.held ≡ [] → b.failed ≡ not whole → Prints a b bytes
 passed_on a b mid bytes whole p q sound none is_failed = record {
   puts = λ _. record {
     written = a.held ++ q.written;

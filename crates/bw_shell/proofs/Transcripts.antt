@@ -3,10 +3,11 @@ use Rattle.std.proofs.Common.{◌≡◌, ℕ, ◌+◌, ◌<◌, List, [], ◌∷
 use Rattle.std.proofs.lemmas.List.{append_assoc, append-nil}
 use Rattle.bw_model.specs.declared.step.Link.{Link}
 use Rattle.bw_shell.specs.Turns.{Trace}
-use Rattle.bw_shell.specs.Request.{Says, IsShort, until_done}
-use Rattle.bw_shell.specs.declared.request.Request.{Request}
+use Rattle.shell_lines.specs.Request.{Says, IsShortRequest, until_done}
+use Rattle.shell_lines.specs.declared.request.Request.{Request}
 use Rattle.bw_shell.specs.declared.turns.Progress.{Progress}
 use Rattle.bw_shell.specs.declared.turns.Progress.TheVariants.{GoesOn}
+use Rattle.bw_shell.specs.declared.refusal.Refusal.{Refusal}
 use Rattle.bw_shell.specs.Text.{finished_text, refused_text}
 use Rattle.bw_shell.specs.Transcript.{StepsOn, TakesOne, TakesUpTo, Performs, RefusesLine, Transcript, RequestTold}
 
@@ -33,19 +34,19 @@ skipped n m [] h = (refl, refl, refl)
 skipped n m (b ∷ bs) h = absurd (omega arith)
 
 pub performed : (n : ℕ) (m : Trace) (line : List ℕ) (request : Request) (after : Trace) (text : List ℕ) → 0 < length line
-    → Says line request → IsShort request → Performs m request after text → Transcript n m (line ∷ []) after text false
+    → Says line request → IsShortRequest request → Performs m request after text → Transcript n m (line ∷ []) after text false
 unfolding Transcript
 performed n m [] request after text some says short p = absurd (omega arith)
 performed n m (b ∷ bs) request after text some says short p = inl (request, after, text, [], says, short, p, (refl, refl, refl), sym (append-nil text))
 
-pub refused : (n : ℕ) (m : Trace) (line : List ℕ) (code : ℕ) (after : Trace) → 0 < length line
-    → RefusesLine m line code after → Transcript n m (line ∷ []) after (refused_text n code) true
+pub refused : (n : ℕ) (m : Trace) (line : List ℕ) (refusal : Refusal) (after : Trace) → 0 < length line
+    → RefusesLine m line refusal after → Transcript n m (line ∷ []) after (refused_text n refusal) true
 unfolding Transcript
-refused n m [] code after some r = absurd (omega arith)
-refused n m (b ∷ bs) code after some r = inr (code, r, refl, refl)
+refused n m [] refusal after some r = absurd (omega arith)
+refused n m (b ∷ bs) refusal after some r = inr (refusal, r, refl, refl)
 
 pub asked : (n : ℕ) (m : Trace) (line : List ℕ) (request : Request) (after : Trace) (text : List ℕ) (no : Bool) → 0 < length line
-    → Says line request → IsShort request → RequestTold n m request after text no → Transcript n m (line ∷ []) after text no
+    → Says line request → IsShortRequest request → RequestTold n m request after text no → Transcript n m (line ∷ []) after text no
 asked n m line request after text false some says short told = performed n m line request after text some says short told
 asked n m line request after text true some says short told =
     rw told.2 (refused n m line told.0 after some (inr (inr (request, says, short, told.1))))

@@ -1,10 +1,10 @@
 -- Laws of whole runs.
 use Rattle.std.proofs.Common.{◌≡◌, ℕ, List, [], ◌∷◌, ◌++◌, length, refl, sym, ap, ◌∙◌, arith, ◌⊎◌, inl, inr, Bool, true, false, not, Option, Some, None, append_assoc, ◌↔◌}
 use Rattle.std.specs.Io.KnownBytes.{Consumes, Keeps}
-use Rattle.bw_shell.specs.Turns.{Trace, IsOneMap, opening}
+use Rattle.bw_shell.specs.Turns.{Trace, IsOneMap, opening_trace}
 use Rattle.bw_model.specs.declared.limits.Limits.{Limits}
 use Rattle.std.proofs.lemmas.List.{append-nil}
-use Rattle.bw_shell.specs.Output.{Sink, Puts, Shows, Writes}
+use Rattle.bw_shell.specs.Output.{Sink, Puts, Prints, Writes}
 use Rattle.bw_shell.specs.Weave.{IsTranscriptFrom, HasRun, IsWoven}
 use Rattle.bw_shell.proofs.Showing.{shows_then}
 
@@ -50,7 +50,7 @@ pub one_else : (status : ℕ) (P : Type 0) → status ≡ 1 → (P → ⊥) → 
 one_else status P one no_p = (λ e. absurd (omega arith), λ p. absurd (no_p p))
 
 -- all of a text that began with nothing held back, and has ended so
-pub writes_whole : (a b : Sink) (t : List ℕ) → Shows a b (t ++ []) → a.failed ≡ false → a.held ≡ [] → (b.failed ≡ false → b.held ≡ [])
+pub writes_whole : (a b : Sink) (t : List ℕ) → Prints a b (t ++ []) → a.failed ≡ false → a.held ≡ [] → (b.failed ≡ false → b.held ≡ [])
     → Writes a.contents b.contents t (not b.failed)
 writes_whole a b t s sound fresh ends = at b.failed refl
   where
@@ -71,7 +71,7 @@ writes_whole a b t s sound fresh ends = at b.failed refl
     }
 
 pub is_woven : (limits : Limits) (in_old in_new : Option (List ℕ)) (rf : Bool) (a b c : Sink) (after : Trace) (refused : Bool) (status : ℕ)
-    → HasRun (opening limits) in_old in_new rf a b after refused → IsOneMap after → Shows b c [] → a.failed ≡ false → a.held ≡ [] → (c.failed ≡ false → c.held ≡ [])
+    → HasRun (opening_trace limits) in_old in_new rf a b after refused → IsOneMap after → Prints b c [] → a.failed ≡ false → a.held ≡ [] → (c.failed ≡ false → c.held ≡ [])
     → (status ≡ 0) ↔ ((rf ≡ false) × (c.failed ≡ false) × (refused ≡ false)) → (status ≡ 0) ⊎ (status ≡ 1)
     → IsWoven limits in_old in_new rf a.contents c.contents c.failed status
 is_woven limits in_old in_new rf a b c after refused status h one last sound fresh ends is either = record {
@@ -80,7 +80,7 @@ is_woven limits in_old in_new rf a b c after refused status h one last sound fre
   text = h.text;
   refused = refused;
   reads = h.reads;
-  says = inr (later_cut (opening limits) in_new h.taken rf after h.text refused b.failed c.failed (λ e. (last.stays e).1) h.says, one);
+  says = inr (later_cut (opening_trace limits) in_new h.taken rf after h.text refused b.failed c.failed (λ e. (last.stays e).1) h.says, one);
   writes = writes_whole a c h.text (shows_then h.shows last) sound fresh ends;
   status_is = is;
   status_else = either;

@@ -1,13 +1,7 @@
-pub mod Token
-pub mod Gives
-pub mod Number
-pub mod Fields
-pub mod Request
-pub mod Reading
 pub mod Lines
 pub mod Output
+pub mod Refusal
 pub mod Text
 pub mod Turns
 pub mod Transcript
 pub mod Weave
-pub mod CommandLine

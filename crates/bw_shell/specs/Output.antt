@@ -17,7 +17,7 @@ pub record Puts (old new : Sink) (text : List ℕ) (whole : Bool) : Type 0 where
   pub all : whole ≡ true → rest ≡ new.held
 
 -- The text was put unless a write failed, before or now. Where one had failed before, nothing is written.
-pub record Shows (old new : Sink) (text : List ℕ) : Type 0 where
+pub record Prints (old new : Sink) (text : List ℕ) : Type 0 where
   pub puts : old.failed ≡ false → Puts old new text (not new.failed)
   pub stays : old.failed ≡ true → (new.contents ≡ old.contents) × (new.failed ≡ true)
 

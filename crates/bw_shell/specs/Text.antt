@@ -5,7 +5,9 @@ use Rattle.bw_model.specs.declared.command.Reply.{Reply}
 use Rattle.bw_model.specs.declared.command.Reply.TheVariants.{Value, None as NoValue, Inserted, Exists, Set, Replaced, Deleted, Absent, Full}
 use Rattle.bw_shell.specs.declared.turns.Progress.{Progress}
 use Rattle.bw_shell.specs.declared.turns.Progress.TheVariants.{GoesOn, Linked, Done}
-use Rattle.bw_shell.specs.Token.{printed}
+use Rattle.shell_lines.specs.Token.{printed}
+use Rattle.bw_shell.specs.declared.refusal.Refusal.{Refusal}
+use Rattle.bw_shell.specs.Refusal.{code_of}
 
 -- a reply, as it stands behind its actor
 abbrev pub reply_text : Reply → List ℕ
@@ -37,5 +39,10 @@ pair_text pair = printed pair.0 ++ codes " " ++ printed pair.1 ++ codes "\n"
 abbrev pub listing_text : List (List ℕ × List ℕ) → List ℕ
 listing_text pairs = codes "pairs " ++ decimal (length pairs) ++ codes "\n" ++ flat_map pair_text pairs
 
-abbrev pub refused_text : ℕ → ℕ → List ℕ
-refused_text number code = codes "refused line " ++ decimal number ++ codes ": " ++ decimal code ++ codes "\n"
+-- a refused line
+abbrev pub refused_text : ℕ → Refusal → List ℕ
+refused_text number refusal = codes "refused line " ++ decimal number ++ codes ": " ++ decimal (code_of refusal) ++ codes "\n"
+
+-- a refusal that belongs to no line
+abbrev pub lone_refusal_text : Refusal → List ℕ
+lone_refusal_text refusal = codes "refused: " ++ decimal (code_of refusal) ++ codes "\n"

@@ -5,13 +5,15 @@ use Rattle.chain_search.specs.declared.trace.Turn.TheVariants.{Begin as BeginTur
 use Rattle.step_core.specs.Listed.{IsListing}
 use Rattle.step_core.specs.declared.event.Event.{Event}
 use Rattle.step_core.specs.declared.event.Event.TheVariants as event
-use Rattle.bw_shell.specs.Request.{Says, IsShort}
-use Rattle.bw_shell.specs.declared.request.Request.{Request}
-use Rattle.bw_shell.specs.declared.request.Request.TheVariants.{Begin, Turn, Until, Finish, List as ListPairs}
+use Rattle.shell_lines.specs.Request.{Says, IsShortRequest}
+use Rattle.shell_lines.specs.declared.request.Request.{Request}
+use Rattle.shell_lines.specs.declared.request.Request.TheVariants.{Begin, Turn, Until, Finish, List as ListPairs}
 use Rattle.bw_shell.specs.declared.turns.Progress.{Progress}
 use Rattle.bw_shell.specs.declared.turns.Progress.TheVariants.{GoesOn, Linked, Done}
+use Rattle.bw_shell.specs.declared.refusal.Refusal.{Refusal}
+use Rattle.bw_shell.specs.declared.refusal.Refusal.TheVariants.{TooLong, Memory, Malformed}
 use Rattle.bw_shell.specs.Text.{turned_text, finished_text, listing_text, refused_text}
-use Rattle.bw_shell.specs.Turns.{Trace, IsOneMap, Takes, Refuses}
+use Rattle.bw_shell.specs.Turns.{Trace, IsOneMap, TakesTurn, Refuses}
 
 -- What a turn comes to, where turns are to stop at an exchange that won with the link, if one is given: the operation goes on, and
 -- this was no such exchange; or it was one; or the operation is done.
@@ -22,7 +24,7 @@ ComesTo until told (Done reply) = told ≡ event.Done reply
 
 -- the actor took a turn that comes to this
 abbrev pub TakesOne : Option Link → Trace → ℕ → Progress → Trace → Type 0
-TakesOne until before actor progress after = (event : Event) × Takes before (Step actor) event after × ComesTo until event progress
+TakesOne until before actor progress after = (event : Event) × TakesTurn before (Step actor) event after × ComesTo until event progress
 
 -- the actor took so many turns, and none of them ended its operation, or won an exchange with the link
 unfoldable pub StepsOn : Option Link → Trace → ℕ → ℕ → Trace → Type 0
@@ -35,31 +37,31 @@ TakesUpTo until before actor limit GoesOn after = StepsOn until before actor lim
 TakesUpTo until before actor limit progress after = (n : ℕ) × (n < limit) × (mid : Trace) × StepsOn until before actor n mid × TakesOne until mid actor progress after
 
 -- fewer turns than the limit were taken, and the next is refused
-abbrev pub RefusedWithin : Option Link → Trace → ℕ → ℕ → ℕ → Trace → Type 0
-RefusedWithin until before actor limit code after = (n : ℕ) × (n < limit) × StepsOn until before actor n after × Refuses after (Step actor) code
+abbrev pub RefusedWithin : Option Link → Trace → ℕ → ℕ → Refusal → Trace → Type 0
+RefusedWithin until before actor limit refusal after = (n : ℕ) × (n < limit) × StepsOn until before actor n after × Refuses after (Step actor) refusal
 
 -- what is asked for is done, and this is printed; a listing has exactly the pairs that stand at that moment
 abbrev pub Performs : Trace → Request → Trace → List ℕ → Type 0
-Performs before (Begin actor command) after text = Takes before (BeginTurn actor command) event.Began after × (text ≡ [])
+Performs before (Begin actor command) after text = TakesTurn before (BeginTurn actor command) event.Began after × (text ≡ [])
 Performs before (Turn actor count) after text = (progress : Progress) × TakesUpTo None before actor count progress after × (text ≡ turned_text actor progress)
 Performs before (Until actor link) after text = (progress : Progress) × TakesUpTo (Some link) before actor 100000 progress after × (text ≡ finished_text actor progress)
 Performs before (Finish actor) after text = (progress : Progress) × TakesUpTo None before actor 100000 progress after × (text ≡ finished_text actor progress)
 Performs before ListPairs after text = (after ≡ before) × IsOneMap before × (pairs : List (List ℕ × List ℕ)) × IsListing before.limits before.entries pairs × (text ≡ listing_text pairs)
 
 -- what is asked for is refused
-abbrev pub RefusesRequest : Trace → Request → ℕ → Trace → Type 0
-RefusesRequest before (Begin actor command) code after = Refuses before (BeginTurn actor command) code × (after ≡ before)
-RefusesRequest before (Turn actor count) code after = RefusedWithin None before actor count code after
-RefusesRequest before (Until actor link) code after = RefusedWithin (Some link) before actor 100000 code after
-RefusesRequest before (Finish actor) code after = RefusedWithin None before actor 100000 code after
-RefusesRequest before ListPairs code after = (code ≡ 7) × (after ≡ before)
+abbrev pub RefusesRequest : Trace → Request → Refusal → Trace → Type 0
+RefusesRequest before (Begin actor command) refusal after = Refuses before (BeginTurn actor command) refusal × (after ≡ before)
+RefusesRequest before (Turn actor count) refusal after = RefusedWithin None before actor count refusal after
+RefusesRequest before (Until actor link) refusal after = RefusedWithin (Some link) before actor 100000 refusal after
+RefusesRequest before (Finish actor) refusal after = RefusedWithin None before actor 100000 refusal after
+RefusesRequest before ListPairs refusal after = (refusal ≡ Memory) × (after ≡ before)
 
--- the line is refused with this code: 11 outside the grammar, then 1 for a key or value that is too long, then what the core refuses
-abbrev pub RefusesLine : Trace → List ℕ → ℕ → Trace → Type 0
-RefusesLine before line code after =
-    ((code ≡ 11) × (after ≡ before) × ((request : Request) → Says line request → ⊥))
-    ⊎ ((code ≡ 1) × (after ≡ before) × (request : Request) × Says line request × (IsShort request → ⊥))
-    ⊎ ((request : Request) × Says line request × IsShort request × RefusesRequest before request code after)
+-- Why the line is refused: first that it is outside the grammar, then that a key or value is too long, then what the core refuses.
+abbrev pub RefusesLine : Trace → List ℕ → Refusal → Trace → Type 0
+RefusesLine before line refusal after =
+    ((refusal ≡ Malformed) × (after ≡ before) × ((request : Request) → Says line request → ⊥))
+    ⊎ ((refusal ≡ TooLong) × (after ≡ before) × (request : Request) × Says line request × (IsShortRequest request → ⊥))
+    ⊎ ((request : Request) × Says line request × IsShortRequest request × RefusesRequest before request refusal after)
 
 -- From line number n on: an empty line is skipped; another is performed, and the rest goes on from there; or it is refused, which
 -- is the last line of the text, and nothing behind it counts.
@@ -67,20 +69,20 @@ unfoldable pub Transcript : ℕ → Trace → List (List ℕ) → Trace → List
 Transcript n before [] after text refused = (after ≡ before) × (text ≡ []) × (refused ≡ false)
 Transcript n before ([] ∷ lines) after text refused = Transcript (n + 1) before lines after text refused
 Transcript n before ((b ∷ bs) ∷ lines) after text refused =
-    ((request : Request) × (mid : Trace) × (shown : List ℕ) × (rest : List ℕ) × Says (b ∷ bs) request × IsShort request × Performs before request mid shown × Transcript (n + 1) mid lines after rest refused × (text ≡ shown ++ rest))
-    ⊎ ((code : ℕ) × RefusesLine before (b ∷ bs) code after × (text ≡ refused_text n code) × (refused ≡ true))
+    ((request : Request) × (mid : Trace) × (shown : List ℕ) × (rest : List ℕ) × Says (b ∷ bs) request × IsShortRequest request × Performs before request mid shown × Transcript (n + 1) mid lines after rest refused × (text ≡ shown ++ rest))
+    ⊎ ((refusal : Refusal) × RefusesLine before (b ∷ bs) refusal after × (text ≡ refused_text n refusal) × (refused ≡ true))
 
 -- what one turn answers
-abbrev pub StepTold : Option Link → Trace → ℕ → Result Progress ℕ → Trace → Type 0
+abbrev pub StepTold : Option Link → Trace → ℕ → Result Progress Refusal → Trace → Type 0
 StepTold until before actor (Ok progress) after = TakesOne until before actor progress after
-StepTold until before actor (Err code) after = Refuses before (Step actor) code × (after ≡ before)
+StepTold until before actor (Err refusal) after = Refuses before (Step actor) refusal × (after ≡ before)
 
 -- what up to so many turns answer
-abbrev pub TurnsTold : Option Link → Trace → ℕ → ℕ → Result Progress ℕ → Trace → Type 0
+abbrev pub TurnsTold : Option Link → Trace → ℕ → ℕ → Result Progress Refusal → Trace → Type 0
 TurnsTold until before actor limit (Ok progress) after = TakesUpTo until before actor limit progress after
-TurnsTold until before actor limit (Err code) after = RefusedWithin until before actor limit code after
+TurnsTold until before actor limit (Err refusal) after = RefusedWithin until before actor limit refusal after
 
 -- what is printed for what is asked on line n, and whether that is a refusal
 abbrev pub RequestTold : ℕ → Trace → Request → Trace → List ℕ → Bool → Type 0
 RequestTold n before request after text false = Performs before request after text
-RequestTold n before request after text true = (code : ℕ) × RefusesRequest before request code after × (text ≡ refused_text n code)
+RequestTold n before request after text true = (refusal : Refusal) × RefusesRequest before request refusal after × (text ≡ refused_text n refusal)

@@ -8,8 +8,8 @@ use Rattle.chain_search.specs.Trace.{command_of, memory_of, turn_of}
 use Rattle.op_machine.specs.Linearized.{IsLinearized}
 use Rattle.step_core.specs.Turns.{Core, IsEventOf}
 use Rattle.step_core.specs.declared.event.Event.{Event}
-use Rattle.step_core.specs.declared.event.RunError.{RunError}
-use Rattle.step_core.specs.declared.event.RunError.TheVariants.{NoActor, Unfinished, NoOperation, Memory}
+use Rattle.bw_shell.specs.declared.refusal.Refusal.{Refusal}
+use Rattle.bw_shell.specs.declared.refusal.Refusal.TheVariants.{NoActor, Unfinished, NoOperation, Memory}
 
 -- a core's limits, and what its turns did
 pub record Trace : Type 0 where
@@ -19,35 +19,30 @@ pub record Trace : Type 0 where
 abbrev pub seen : Core → Trace
 seen core = record { limits = core.limits; entries = core.entries }
 
-abbrev pub opening : Limits → Trace
-opening limits = record { limits = limits; entries = [] }
+abbrev pub opening_trace : Limits → Trace
+opening_trace limits = record { limits = limits; entries = [] }
 
 -- The turns so far took effect one at a time, on one ordered map.
 abbrev pub IsOneMap : Trace → Type 0
 IsOneMap trace = IsLinearized trace.limits (map turn_of trace.entries) trace.entries
 
--- The code of a turn that the trace refuses: 4 where there is no such actor, 5 where an operation begins before the
--- actor's last one is done, 6 where the actor has no operation that could take a step.
-abbrev pub refusal_of : Trace → Turn → Option ℕ
-refusal_of trace (Begin actor command) = if nat_lt actor trace.limits.actors then (if is_some (command_of trace.entries actor) then Some 5 else None) else Some 4
-refusal_of trace (Step actor) = if nat_lt actor trace.limits.actors then (if is_some (command_of trace.entries actor) then None else Some 6) else Some 4
-
--- the number of a refusal
-abbrev pub code_of : RunError → ℕ
-code_of (NoActor n) = 4
-code_of (Unfinished n) = 5
-code_of (NoOperation n) = 6
-code_of (Memory n) = 7
+-- Why the trace refuses a turn: there is no such actor, an operation begins before the actor's last one is done, or the
+-- actor has no operation that could take a step.
+abbrev pub refusal_in : Trace → Turn → Option Refusal
+refusal_in trace (Begin actor command) =
+    if nat_lt actor trace.limits.actors then (if is_some (command_of trace.entries actor) then Some Unfinished else None) else Some NoActor
+refusal_in trace (Step actor) =
+    if nat_lt actor trace.limits.actors then (if is_some (command_of trace.entries actor) then None else Some NoOperation) else Some NoActor
 
 -- The turn isn't refused, and adds its entry to the trace. The event is the entry's: its reply, or the link of its exchange if that won.
-pub record Takes (before : Trace) (turn : Turn) (event : Event) (after : Trace) : Type 0 where
-  pub free : refusal_of before turn ≡ None
+pub record TakesTurn (before : Trace) (turn : Turn) (event : Event) (after : Trace) : Type 0 where
+  pub free : refusal_in before turn ≡ None
   pub entry : Entry
   pub of_turn : turn_of entry ≡ turn
   pub event_of : IsEventOf (memory_of before.limits before.entries) entry event
   pub adds : after.entries ≡ before.entries ++ entry ∷ []
   pub limits : after.limits ≡ before.limits
 
--- The turn is refused with this code: as the trace says, or 7 for want of memory.
-abbrev pub Refuses : Trace → Turn → ℕ → Type 0
-Refuses trace turn code = (refusal_of trace turn ≡ Some code) ⊎ ((refusal_of trace turn ≡ None) × (code ≡ 7))
+-- The turn is refused for this reason: as the trace says, or for want of memory.
+abbrev pub Refuses : Trace → Turn → Refusal → Type 0
+Refuses trace turn refusal = (refusal_in trace turn ≡ Some refusal) ⊎ ((refusal_in trace turn ≡ None) × (refusal ≡ Memory))

@@ -1,12 +1,14 @@
 -- What a run over an input does.
-use Rattle.std.specs.Prelude.{◌≡◌, ℕ, ◌+◌, ◌⊎◌, ◌↔◌, List, [], ◌∷◌, ◌++◌, length, Bool, true, false, codes, not, ◌||◌, MatchBool, Option}
+use Rattle.std.specs.Prelude.{◌≡◌, ℕ, ◌+◌, ◌⊎◌, ◌↔◌, List, [], ◌∷◌, ◌++◌, length, Bool, true, false, not, ◌||◌, MatchBool, Option}
 use Rattle.std.specs.Io.KnownBytes.{Consumes, IsAtEnd}
 use Rattle.bw_model.specs.declared.limits.Limits.{Limits}
-use Rattle.bw_shell.specs.declared.request.Request.{Request}
+use Rattle.shell_lines.specs.declared.request.Request.{Request}
 use Rattle.bw_shell.specs.Lines.{lines_of, Splits}
-use Rattle.bw_shell.specs.Output.{Sink, Shows, Writes}
+use Rattle.bw_shell.specs.declared.refusal.Refusal.TheVariants.{NotOpened}
+use Rattle.bw_shell.specs.Text.{lone_refusal_text}
+use Rattle.bw_shell.specs.Output.{Sink, Prints, Writes}
 use Rattle.bw_shell.specs.Transcript.{Transcript, RequestTold}
-use Rattle.bw_shell.specs.Turns.{Trace, IsOneMap, opening}
+use Rattle.bw_shell.specs.Turns.{Trace, IsOneMap, opening_trace}
 
 -- With part of line n in hand the bytes are read: their whole lines are run, and part' is in hand.
 pub record Weaves (n : ℕ) (before : Trace) (part bytes : List ℕ) (n' : ℕ) (after : Trace) (part' text : List ℕ) : Type 0 where
@@ -16,21 +18,21 @@ pub record Weaves (n : ℕ) (before : Trace) (part bytes : List ℕ) (n' : ℕ) 
   pub count : n' ≡ n + length lines
 
 -- Whatever follows the bytes, the text is a transcript of the first lines.
-abbrev pub Stops : ℕ → Trace → List ℕ → List ℕ → Trace → List ℕ → Bool → Type 0
-Stops n before part bytes after text refused = (rest : List ℕ) → (front : List (List ℕ)) × (others : List (List ℕ)) × (lines_of ((part ++ bytes) ++ rest) ≡ front ++ others) × Transcript n before front after text refused
+abbrev pub StopsAmong : ℕ → Trace → List ℕ → List ℕ → Trace → List ℕ → Bool → Type 0
+StopsAmong n before part bytes after text refused = (rest : List ℕ) → (front : List (List ℕ)) × (others : List (List ℕ)) × (lines_of ((part ++ bytes) ++ rest) ≡ front ++ others) × Transcript n before front after text refused
 
 -- what is asked for was run, and this is shown
 abbrev pub RequestRuns : ℕ → Trace → Request → Trace → Sink → Sink → Bool → Type 0
-RequestRuns n before request after old new refused = (text : List ℕ) × RequestTold n before request after text refused × Shows old new text
+RequestRuns n before request after old new refused = (text : List ℕ) × RequestTold n before request after text refused × Prints old new text
 
 -- a line was run, and this is shown
 abbrev pub LineRuns : ℕ → Trace → List ℕ → Trace → Sink → Sink → Bool → Type 0
-LineRuns n before line after old new refused = (text : List ℕ) × Transcript n before (line ∷ []) after text refused × Shows old new text
+LineRuns n before line after old new refused = (text : List ℕ) × Transcript n before (line ∷ []) after text refused × Prints old new text
 
 -- Bytes were read with part of line n in hand: all were run, or the run stops among them.
 abbrev pub Feeds : ℕ → Trace → List ℕ → List ℕ → ℕ → Trace → List ℕ → Sink → Sink → Bool → Type 0
-Feeds n before part bytes n' after part' old new refused = (text : List ℕ) × Shows old new text
-    × MatchBool (refused || new.failed) (Stops n before part bytes after text refused) (Weaves n before part bytes n' after part' text)
+Feeds n before part bytes n' after part' old new refused = (text : List ℕ) × Prints old new text
+    × MatchBool (refused || new.failed) (StopsAmong n before part bytes after text refused) (Weaves n before part bytes n' after part' text)
 
 -- The text is a transcript of what is read, as far as it goes, from this trace on.
 abbrev pub IsTranscriptFrom : Trace → Option (List ℕ) → List ℕ → Bool → Trace → List ℕ → Bool → Bool → Type 0
@@ -40,7 +42,7 @@ IsTranscriptFrom before left taken read_failed after text refused write_failed =
     -- a read failed behind these whole lines
     ⊎ ((read_failed ≡ true) × (refused ≡ false) × (lines : List (List ℕ)) × (part : List ℕ) × Splits taken lines part × Transcript 1 before lines after text false)
     -- a line was refused, or a write failed; whatever follows isn't read
-    ⊎ ((read_failed ≡ false) × ((refused ≡ true) ⊎ (write_failed ≡ true)) × Stops 1 before [] taken after text refused)
+    ⊎ ((read_failed ≡ false) × ((refused ≡ true) ⊎ (write_failed ≡ true)) × StopsAmong 1 before [] taken after text refused)
 
 -- all reads of a run
 pub record HasRun (before : Trace) (in_old in_new : Option (List ℕ)) (read_failed : Bool) (old new : Sink) (after : Trace) (refused : Bool) : Type 0 where
@@ -48,14 +50,14 @@ pub record HasRun (before : Trace) (in_old in_new : Option (List ℕ)) (read_fai
   pub text : List ℕ
   pub reads : Consumes in_old in_new taken
   pub says : IsTranscriptFrom before in_new taken read_failed after text refused new.failed
-  pub shows : Shows old new text
+  pub shows : Prints old new text
 
 -- The text is a transcript of what is read, as far as it goes, of turns that took effect one at a time, on one ordered map.
 abbrev pub IsTranscriptOf : Limits → Option (List ℕ) → List ℕ → Bool → Trace → List ℕ → Bool → Bool → Type 0
 IsTranscriptOf limits left taken read_failed after text refused write_failed =
     -- no core could be opened
-    ((taken ≡ []) × (read_failed ≡ false) × (refused ≡ true) × (after ≡ opening limits) × (text ≡ codes "refused: 12\n"))
-    ⊎ (IsTranscriptFrom (opening limits) left taken read_failed after text refused write_failed × IsOneMap after)
+    ((taken ≡ []) × (read_failed ≡ false) × (refused ≡ true) × (after ≡ opening_trace limits) × (text ≡ lone_refusal_text NotOpened))
+    ⊎ (IsTranscriptFrom (opening_trace limits) left taken read_failed after text refused write_failed × IsOneMap after)
 
 -- The whole run: what is taken from the reader, the core's trace, the text for them, and how much of it was written.
 pub record IsWoven (limits : Limits) (in_old in_new : Option (List ℕ)) (read_failed : Bool) (out_old out_new : Option (List ℕ)) (write_failed : Bool) (status : ℕ) : Type 0 where

@@ -6,6 +6,7 @@ ghost use Rattle.bw_shell.specs.Lines.{HasNoFeed};
 ghost use Rattle.bw_shell.specs.Turns.{seen};
 ghost use Rattle.bw_shell.specs.Weave.{Feeds};
 
+use crate::refusal::Refusal;
 use crate::run::run_line;
 use crate::streams::Output;
 use crate::texts::show_refused;
@@ -51,7 +52,7 @@ pub fn feed<O: Output>(alloc: Global, weaver: &mut Weaver, bytes: &[u8], out: &m
         } else {
             weaver.part.push(*b);
             if weaver.part.len() > 1024 {
-                show_refused(out, weaver.number, 11);
+                show_refused(out, weaver.number, Refusal::Malformed);
                 return true;
             }
         }

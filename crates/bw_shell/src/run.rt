@@ -1,16 +1,16 @@
 //! One line.
 
 ghost use Rattle.std.specs.Prelude.{◌≡◌};
-ghost use Rattle.bw_shell.specs.Request.{until_done};
+ghost use Rattle.shell_lines.specs.Request.{until_done};
 ghost use Rattle.bw_shell.specs.Turns.{seen};
 ghost use Rattle.bw_shell.specs.Weave.{RequestRuns, LineRuns};
 
-use crate::request::{Request, parse};
+use crate::refusal::Refusal;
 use crate::streams::Output;
 use crate::texts::{show_listing, show_number, show_refused, show_reply};
-use crate::token::LineError;
 use crate::turns::{Progress, begin, pairs_of, steps};
 use bw_model::{Command, Link};
+use shell_lines::{LineError, Request, parse};
 use std::alloc::Global;
 use step_core::Core;
 
@@ -28,8 +28,8 @@ fn run_begin<O: Output>(
 {
     match begin(core, actor, command) {
         Ok(()) => false,
-        Err(code) => {
-            show_refused(out, number, code);
+        Err(refusal) => {
+            show_refused(out, number, refusal);
             true
         }
     }
@@ -46,14 +46,14 @@ fn run_turn<O: Output>(core: &mut Core, number: u64, actor: u64, count: u64, out
             show_reply(out, &reply);
             false
         }
-        Err(code) => {
-            show_refused(out, number, code);
+        Err(refusal) => {
+            show_refused(out, number, refusal);
             true
         }
     }
 }
 
-// Takes turns until an exchange won with the link, if one is given, or the operation is done.
+// TakesTurn turns until an exchange won with the link, if one is given, or the operation is done.
 fn run_until<O: Output>(
     core: &mut Core,
     number: u64,
@@ -75,8 +75,8 @@ fn run_until<O: Output>(
             show_reply(out, &reply);
             false
         }
-        Err(code) => {
-            show_refused(out, number, code);
+        Err(refusal) => {
+            show_refused(out, number, refusal);
             true
         }
     }
@@ -90,8 +90,8 @@ fn run_list<O: Output>(alloc: Global, core: &mut Core, number: u64, out: &mut O)
             show_listing(out, pairs.as_slice());
             false
         }
-        Err(code) => {
-            show_refused(out, number, code);
+        Err(refusal) => {
+            show_refused(out, number, refusal);
             true
         }
     }
@@ -130,11 +130,11 @@ pub fn run_line<O: Output>(
     }
     match parse(line) {
         Err(LineError::Malformed) => {
-            show_refused(out, number, 11);
+            show_refused(out, number, Refusal::Malformed);
             true
         }
         Err(LineError::TooLong) => {
-            show_refused(out, number, 1);
+            show_refused(out, number, Refusal::TooLong);
             true
         }
         Ok(request) => run_request(alloc, core, number, request, out),

@@ -3,10 +3,13 @@
 ghost use Rattle.std.specs.Prelude.{◌≡◌, ℕ, ◌+◌, List, [], Bool, true, false, Option, OnOk, MatchResult};
 ghost use Rattle.std.specs.Io.{ReadsAtMost};
 ghost use Rattle.std.specs.Io.KnownBytes.{ReadConsumes};
-ghost use Rattle.bw_shell.specs.Output.{Sink, Shows};
+ghost use Rattle.bw_shell.specs.Output.{Sink, Prints};
+
+use thiserror::Error;
 
 /// A read has failed.
-#[derive(Clone, Copy, Debug, PartialEq, Eq)]
+#[derive(Clone, Copy, Debug, PartialEq, Eq, Error)]
+#[error("a read failed")]
 pub struct Failed;
 
 /// A reader.
@@ -43,10 +46,10 @@ pub trait Output {
 
     /// Writes all bytes, now or later, unless a write has failed.
     fn show(&mut self, bytes: &[u8])
-        ensures { Shows (state self.old) (state self.new) bytes.now };
+        ensures { Prints (state self.old) (state self.new) bytes.now };
 
     /// Writes what is held back, unless a write has failed.
     fn finish(&mut self)
-        ensures shows { Shows (state self.old) (state self.new) [] }
+        ensures shows { Prints (state self.old) (state self.new) [] }
         ensures ends { (state self.new).failed ≡ false → (state self.new).held ≡ [] };
 }

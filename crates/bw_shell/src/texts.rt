@@ -3,18 +3,19 @@
 ghost use Rattle.std.specs.Prelude.{◌≡◌, ◌+◌, ◌<◌, ◌≤◌, ◌++◌, ◌∷◌, [], length, decimal, codes, map};
 ghost use Rattle.std.specs.List.{flat_map};
 ghost use Rattle.hex.specs.Hex.{encode_lower};
-ghost use Rattle.bw_shell.specs.Token.{printed};
-ghost use Rattle.bw_shell.specs.Output.{Shows};
-ghost use Rattle.bw_shell.specs.Text.{reply_text, pair_text, listing_text, refused_text};
+ghost use Rattle.shell_lines.specs.Token.{printed};
+ghost use Rattle.bw_shell.specs.Output.{Prints};
+ghost use Rattle.bw_shell.specs.Text.{reply_text, pair_text, listing_text, refused_text, lone_refusal_text};
 
+use crate::refusal::Refusal;
 use crate::streams::Output;
-use crate::token::is_word;
 use bw_model::{Key, Reply, Value};
 use itoa::Buffer;
+use shell_lines::is_word;
 
 /// A number in digits.
 pub fn show_number<O: Output>(out: &mut O, n: u64)
-    ensures { Shows (O.state out.old) (O.state out.new) (decimal n) }
+    ensures { Prints (O.state out.old) (O.state out.new) (decimal n) }
 {
     let mut buffer = Buffer::new();
     out.show(buffer.format(n).as_bytes());
@@ -23,7 +24,7 @@ pub fn show_number<O: Output>(out: &mut O, n: u64)
 // Bytes in digits, behind '='.
 fn show_digits<O: Output>(out: &mut O, bytes: &[u8])
     requires { length bytes.now ≤ 32 }
-    ensures { Shows (O.state out.old) (O.state out.new) (61 ∷ encode_lower bytes.now) }
+    ensures { Prints (O.state out.old) (O.state out.new) (61 ∷ encode_lower bytes.now) }
 {
     let mut digits = [0u8; 64];
     let text = &mut digits[..2 * bytes.len()];
@@ -39,7 +40,7 @@ fn show_digits<O: Output>(out: &mut O, bytes: &[u8])
 /// A token for the bytes.
 pub fn show_token<O: Output>(out: &mut O, bytes: &[u8])
     requires { length bytes.now ≤ 32 }
-    ensures { Shows (O.state out.old) (O.state out.new) (printed bytes.now) }
+    ensures { Prints (O.state out.old) (O.state out.new) (printed bytes.now) }
 {
     if is_word(bytes) {
         out.show(bytes)
@@ -50,7 +51,7 @@ pub fn show_token<O: Output>(out: &mut O, bytes: &[u8])
 
 // A word, and a value behind it.
 fn show_with<O: Output>(out: &mut O, word: &[u8], value: &Value)
-    ensures { Shows (O.state out.old) (O.state out.new) (word.now ++ printed value.now ++ codes "\n") }
+    ensures { Prints (O.state out.old) (O.state out.new) (word.now ++ printed value.now ++ codes "\n") }
 {
     out.show(word);
     show_token(out, value.as_slice());
@@ -59,7 +60,7 @@ fn show_with<O: Output>(out: &mut O, word: &[u8], value: &Value)
 
 /// A reply, as it stands behind its actor.
 pub fn show_reply<O: Output>(out: &mut O, reply: &Reply)
-    ensures { Shows (O.state out.old) (O.state out.new) (reply_text reply.now) }
+    ensures { Prints (O.state out.old) (O.state out.new) (reply_text reply.now) }
 {
     match reply {
         Reply::Value(value) => show_with(out, b" value ", value),
@@ -75,18 +76,27 @@ pub fn show_reply<O: Output>(out: &mut O, reply: &Reply)
 }
 
 /// A refused line.
-pub fn show_refused<O: Output>(out: &mut O, number: u64, code: u64)
-    ensures { Shows (O.state out.old) (O.state out.new) (refused_text number code) }
+pub fn show_refused<O: Output>(out: &mut O, number: u64, refusal: Refusal)
+    ensures { Prints (O.state out.old) (O.state out.new) (refused_text number refusal) }
 {
     out.show(b"refused line ");
     show_number(out, number);
     out.show(b": ");
-    show_number(out, code);
+    show_number(out, refusal.code());
+    out.show(b"\n");
+}
+
+/// A refusal that belongs to no line.
+pub fn show_lone_refusal<O: Output>(out: &mut O, refusal: Refusal)
+    ensures { Prints (O.state out.old) (O.state out.new) (lone_refusal_text refusal) }
+{
+    out.show(b"refused: ");
+    show_number(out, refusal.code());
     out.show(b"\n");
 }
 
 fn show_pair<O: Output>(out: &mut O, pair: &(Key, Value))
-    ensures { Shows (O.state out.old) (O.state out.new) (pair_text pair.now) }
+    ensures { Prints (O.state out.old) (O.state out.new) (pair_text pair.now) }
 {
     show_token(out, pair.0.as_slice());
     out.show(b" ");
@@ -96,7 +106,7 @@ fn show_pair<O: Output>(out: &mut O, pair: &(Key, Value))
 
 // Each pair on a line.
 fn show_pairs<O: Output>(out: &mut O, pairs: &[(Key, Value)])
-    ensures { Shows (O.state out.old) (O.state out.new) (flat_map pair_text pairs.now) }
+    ensures { Prints (O.state out.old) (O.state out.new) (flat_map pair_text pairs.now) }
 {
     for pair in pairs {
         show_pair(out, pair);
@@ -105,7 +115,7 @@ fn show_pairs<O: Output>(out: &mut O, pairs: &[(Key, Value)])
 
 /// All pairs.
 pub fn show_listing<O: Output>(out: &mut O, pairs: &[(Key, Value)])
-    ensures { Shows (O.state out.old) (O.state out.new) (listing_text pairs.now) }
+    ensures { Prints (O.state out.old) (O.state out.new) (listing_text pairs.now) }
 {
     out.show(b"pairs ");
     show_number(out, pairs.len() as u64);

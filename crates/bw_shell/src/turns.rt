@@ -2,13 +2,14 @@
 
 ghost use Rattle.std.specs.Prelude.{◌≡◌, IfErr, IfOk, OnOk};
 ghost use Rattle.step_core.specs.Listed.{IsListing};
-ghost use Rattle.bw_shell.specs.Turns.{code_of, seen, IsOneMap, Takes, Refuses};
+ghost use Rattle.bw_shell.specs.Turns.{seen, IsOneMap, TakesTurn, Refuses};
 ghost use Rattle.bw_shell.specs.Transcript.{ComesTo, StepTold, TurnsTold};
 
+use crate::refusal::Refusal;
 use bw_model::{Command, Key, Link, Reply, Value};
 use chain_search::Turn;
 use std::alloc::Global;
-use step_core::{Core, Event, RunError};
+use step_core::{Core, Event};
 
 /// What turns of an actor come to.
 #[derive(Drop)]
@@ -21,29 +22,18 @@ pub enum Progress {
     Done(Reply),
 }
 
-fn code(error: RunError) -> u64
-    ensures { result ≡ code_of error }
-{
-    match error {
-        RunError::NoActor(_) => 4,
-        RunError::Unfinished(_) => 5,
-        RunError::NoOperation(_) => 6,
-        RunError::Memory(_) => 7,
-    }
-}
-
-/// Begins an operation of an actor, or answers the code of its refusal.
-pub fn begin(core: &mut Core, actor: u64, command: Command) -> Result<(), u64>
-    ensures ok { OnOk result (Takes (seen core.old) (Turn.Begin actor command) Event.Began (seen core.new)) }
-    ensures refused { IfErr result (λ code. Refuses (seen core.old) (Turn.Begin actor command) code) }
+/// Begins an operation of an actor.
+pub fn begin(core: &mut Core, actor: u64, command: Command) -> Result<(), Refusal>
+    ensures ok { OnOk result (TakesTurn (seen core.old) (Turn.Begin actor command) Event.Began (seen core.new)) }
+    ensures refused { IfErr result (λ refusal. Refuses (seen core.old) (Turn.Begin actor command) refusal) }
     ensures unchanged { IfErr result (λ _. seen core.new ≡ seen core.old) }
 {
     let Ok(actor) = u8::try_from(actor) else {
-        return Err(4);
+        return Err(Refusal::NoActor);
     };
     match core.turn(Turn::Begin(actor, command)) {
         Ok(_) => Ok(()),
-        Err(error) => Err(code(error)),
+        Err(error) => Err(Refusal::of_turn(error)),
     }
 }
 
@@ -65,21 +55,26 @@ fn progress_of(event: Event, until: Option<Link>) -> Progress
     }
 }
 
-/// One step of an actor, or the code of its refusal. It stops at an exchange that won with the link, if one is given.
-pub fn step(core: &mut Core, actor: u64, until: Option<Link>) -> Result<Progress, u64>
+/// One step of an actor. It stops at an exchange that won with the link, if one is given.
+pub fn step(core: &mut Core, actor: u64, until: Option<Link>) -> Result<Progress, Refusal>
     ensures { StepTold until (seen core.old) actor result (seen core.new) }
 {
     let Ok(actor) = u8::try_from(actor) else {
-        return Err(4);
+        return Err(Refusal::NoActor);
     };
     match core.turn(Turn::Step(actor)) {
         Ok(event) => Ok(progress_of(event, until)),
-        Err(error) => Err(code(error)),
+        Err(error) => Err(Refusal::of_turn(error)),
     }
 }
 
 /// Up to so many steps of an actor, fewer if it is done, or an exchange won with the link, if one is given.
-pub fn steps(core: &mut Core, actor: u64, until: Option<Link>, limit: u64) -> Result<Progress, u64>
+pub fn steps(
+    core: &mut Core,
+    actor: u64,
+    until: Option<Link>,
+    limit: u64,
+) -> Result<Progress, Refusal>
     ensures { TurnsTold until (seen core.old) actor limit result (seen core.new) }
 {
     for _turn in 0..limit {
@@ -92,15 +87,15 @@ pub fn steps(core: &mut Core, actor: u64, until: Option<Link>, limit: u64) -> Re
     Ok(Progress::GoesOn)
 }
 
-/// All pairs that stand, or the code of the refusal.
-pub fn pairs_of(alloc: Global, core: &Core) -> Result<Vec<(Key, Value)>, u64>
+/// All pairs that stand.
+pub fn pairs_of(alloc: Global, core: &Core) -> Result<Vec<(Key, Value)>, Refusal>
     ensures pairs { IfOk result (λ pairs. IsListing core.now.limits core.now.entries pairs.items) }
     ensures linearized { IsOneMap (seen core.now) }
-    ensures refused { IfErr result (λ code. code ≡ 7) }
+    ensures refused { IfErr result (λ refusal. refusal ≡ Refusal.Memory) }
 {
     core.linearized();
     match core.listing(alloc) {
         Ok(pairs) => Ok(pairs),
-        Err(_) => Err(7),
+        Err(error) => Err(Refusal::of_turn(error)),
     }
 }

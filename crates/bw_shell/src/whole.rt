@@ -5,8 +5,10 @@ ghost use Rattle.bw_shell.specs.Turns.{seen};
 ghost use Rattle.bw_shell.specs.Weave.{HasRun, IsWoven};
 
 use crate::pieces::{Weaver, feed};
+use crate::refusal::Refusal;
 use crate::run::run_line;
 use crate::streams::{Input, Output};
+use crate::texts::show_lone_refusal;
 use arrayvec::ArrayVec;
 use bw_model::Limits;
 use std::alloc::Global;
@@ -75,7 +77,7 @@ pub fn weave<I: Input, O: Output>(alloc: Global, limits: Limits, input: &mut I, 
             part: ArrayVec::new(),
         },
         Err(_) => {
-            out.show(b"refused: 12\n");
+            show_lone_refusal(out, Refusal::NotOpened);
             out.finish();
             return 1;
         }

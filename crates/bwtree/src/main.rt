@@ -1,7 +1,8 @@
 //! The program `bwtree`.
 #![tactic(auto)]
 
-use bw_shell::{Program, Reader, Refused, Settings, Writer, options, weave};
+use bw_shell::{Reader, Refusal, Writer, weave};
+use shell_options::{OptionsError, Program, Settings, options};
 use std::alloc::Global;
 use std::io::ErrorKind;
 use std::process::ExitCode;
@@ -15,7 +16,7 @@ fn main(rt: HostRuntime) -> ExitCode {
     };
     match options(alloc, words.as_slice()) {
         Ok(settings) => ExitCode::from(run(rt, settings)),
-        Err(refused) => ExitCode::from(refuse(&rt, refused)),
+        Err(error) => ExitCode::from(refuse(&rt, error)),
     }
 }
 
@@ -27,34 +28,36 @@ fn words(rt: &HostRuntime, alloc: Global) -> io::Result<Vec<String>> {
 /// Tells why the words can't be read, and answers the status.
 fn unread(rt: &HostRuntime, kind: ErrorKind) -> u8 {
     if kind == ErrorKind::OutOfMemory {
-        let _ = println!(rt; "refused: 7");
-        return 1;
+        return no_memory(rt);
     }
     let _ = eprintln!(rt; "error: invalid UTF-8 was detected in one or more arguments");
     2
 }
 
+/// Tells that a growth of memory was refused, and answers the status.
+fn no_memory(rt: &HostRuntime) -> u8 {
+    let _ = println!(rt; "refused: {}", Refusal::Memory.code());
+    1
+}
+
 /// Tells why the words are refused, or what was asked of them, and answers the status.
-fn refuse(rt: &HostRuntime, refused: Refused) -> u8 {
-    match refused {
-        Refused::Clap(error) => {
+fn refuse(rt: &HostRuntime, error: OptionsError) -> u8 {
+    match error {
+        OptionsError::Clap(error) => {
             let told = error.print(rt).is_ok();
             if error.use_stderr() {
                 return 2;
             }
             if told { 0 } else { 1 }
         }
-        Refused::Memory => {
-            let _ = println!(rt; "refused: 7");
-            1
-        }
+        OptionsError::Memory => no_memory(rt),
     }
 }
 
 /// Runs a program, and answers the status.
 fn run(rt: HostRuntime, settings: Settings) -> u8 {
     let Ok(limits) = settings.limits() else {
-        let _ = eprintln!(rt; "refused: 2");
+        let _ = eprintln!(rt; "refused: {}", Refusal::BadLimits.code());
         return 2;
     };
     let mut input = Reader::new(rt.reader());

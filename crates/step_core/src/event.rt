@@ -3,6 +3,7 @@
 use bw_model::{Link, Reply};
 use chain_search::Entry;
 use std::alloc::{Allocator, Global};
+use thiserror::Error;
 
 /// What a turn did.
 #[derive(Clone, Debug, PartialEq, Eq, Drop)]
@@ -16,15 +17,15 @@ pub enum Event {
 }
 
 /// Why a turn was refused, with the number of the turn from 0.
-#[derive(Clone, Copy, Debug, PartialEq, Eq)]
+#[derive(Clone, Copy, Debug, PartialEq, Eq, Error)]
 pub enum RunError {
-    /// There is no such actor.
+    #[error("turn {0}: there is no such actor")]
     NoActor(u64),
-    /// The actor's operation is not finished yet.
+    #[error("turn {0}: the actor's operation is not finished")]
     Unfinished(u64),
-    /// The actor has no operation.
+    #[error("turn {0}: the actor has no operation")]
     NoOperation(u64),
-    /// A growth of memory was refused.
+    #[error("turn {0}: a growth of memory was refused")]
     Memory(u64),
 }
 

@@ -1,4 +1,5 @@
 use Rattle.std.proofs.Common.{◌<◌, [], ◌∷◌, ◌++◌, length, refl, sym, ap, ◌∙◌, arith, get_or}
+use Rattle.bw_shell.specs.declared.refusal.Refusal.TheVariants.{Malformed}
 use Rattle.bw_shell.specs.Text.{refused_text}
 use Rattle.bw_shell.proofs.Showing.{no_text, shows_then}
 use Rattle.bw_shell.proofs.Feeding.{no_bytes, one_line, one_byte, stop_line, stop_long, stop_at, more_at, match_true}
@@ -43,7 +44,7 @@ returns-then-len-gt1024-clause-fed g c =
     let inv = c.loop-b.invariant.woven in
     let long : 1024 < length (c.loop-b.weaver.part.items ++ get_or c.args.bytes.now c.loop-b.b-index 0 ∷ []) =
     rw (sym c.push.ensures.items) (omega (arith, c.len.ensures.value)) in (
-      inv.0 ++ refused_text c.loop-b.weaver.number 11,
+      inv.0 ++ refused_text c.loop-b.weaver.number Malformed,
       shows_then inv.2 c.show_refused.ensures,
       stop_at _ _ _ _ c.loop-b.b-index (get_or c.args.bytes.now c.loop-b.b-index 0) _ _ _ inv.0 _ _ _ c.loop-b-test.true refl inv.1
           (stop_long _ _ _ _ _ inv.1.splits.open_end c.if-b-eq10.false long),

@@ -2,4 +2,4 @@ use Rattle.bw_shell.proofs.Showing.{shows_then}
 use Rattle.bw_shell.proofs.texts.show_refused.Goals as goal
 
 pub returns : goal.returns
-returns g c = shows_then (shows_then (shows_then (shows_then c.show.ensures c.show_number.ensures) c.show-2.ensures) c.show_number-2.ensures) c.show-3.ensures
+returns g c = shows_then (shows_then (shows_then (shows_then c.show.ensures c.show_number.ensures) c.show-2.ensures) (rw c.code.ensures at c.show_number-2.ensures)) c.show-3.ensures

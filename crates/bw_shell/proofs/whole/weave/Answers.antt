@@ -1,5 +1,7 @@
-use Rattle.std.proofs.Common.{[], refl, inl, inr, true, codes}
-use Rattle.bw_shell.specs.Turns.{opening}
+use Rattle.std.proofs.Common.{[], refl, inl, inr, true}
+use Rattle.bw_shell.specs.declared.refusal.Refusal.TheVariants.{NotOpened}
+use Rattle.bw_shell.specs.Text.{lone_refusal_text}
+use Rattle.bw_shell.specs.Turns.{opening_trace}
 use Rattle.bw_shell.proofs.Showing.{shows_then}
 use Rattle.bw_shell.proofs.Weaving.{consumes_none, writes_whole, one_else, is_woven}
 use Rattle.bw_shell.proofs.whole.weave.Goals as goal
@@ -7,12 +9,12 @@ use Rattle.bw_shell.proofs.whole.weave.Goals as goal
 pub returns-in-Err : goal.returns-in-Err
 returns-in-Err g c = record {
   taken = [];
-  after = opening c.args.limits;
-  text = codes "refused: 12\n";
+  after = opening_trace c.args.limits;
+  text = lone_refusal_text NotOpened;
   refused = true;
   reads = consumes_none _;
   says = inl (refl, c.requires.sound_in, refl, refl, refl);
-  writes = writes_whole _ _ _ (shows_then c.show.ensures c.finish.ensures.shows) c.requires.sound_out c.requires.fresh c.finish.ensures.ends;
+  writes = writes_whole _ _ _ (shows_then c.show_lone_refusal.ensures c.finish.ensures.shows) c.requires.sound_out c.requires.fresh c.finish.ensures.ends;
   status_is = one_else 1 _ refl (λ all. cc all.2);
   status_else = inr refl;
 }

@@ -1,0 +1,58 @@
+//! Why the program refuses, and the numbers that it prints for that.
+
+ghost use Rattle.std.specs.Prelude.{◌≡◌};
+ghost use Rattle.bw_shell.specs.Refusal.{code_of, refusal_by};
+
+use step_core::RunError;
+use thiserror::Error;
+
+/// Why a line, a command line or a whole run is refused.
+#[derive(Clone, Copy, Debug, PartialEq, Eq, Error)]
+pub enum Refusal {
+    #[error("a key or a value has more than 32 bytes")]
+    TooLong,
+    #[error("a limit is outside its range")]
+    BadLimits,
+    #[error("there is no such actor")]
+    NoActor,
+    #[error("the actor's operation is not done")]
+    Unfinished,
+    #[error("the actor has no operation")]
+    NoOperation,
+    #[error("a growth of memory was refused")]
+    Memory,
+    #[error("the line is outside the grammar")]
+    Malformed,
+    #[error("no memory for the map")]
+    NotOpened,
+}
+
+impl Refusal {
+    /// The number that is printed for it.
+    pub fn code(self) -> u64
+        ensures { result ≡ code_of self }
+    {
+        match self {
+            Refusal::TooLong => 1,
+            Refusal::BadLimits => 2,
+            Refusal::NoActor => 4,
+            Refusal::Unfinished => 5,
+            Refusal::NoOperation => 6,
+            Refusal::Memory => 7,
+            Refusal::Malformed => 11,
+            Refusal::NotOpened => 12,
+        }
+    }
+
+    /// Why a line is refused whose turn the core refuses.
+    pub fn of_turn(error: RunError) -> Refusal
+        ensures { result ≡ refusal_by error }
+    {
+        match error {
+            RunError::NoActor(_) => Refusal::NoActor,
+            RunError::Unfinished(_) => Refusal::Unfinished,
+            RunError::NoOperation(_) => Refusal::NoOperation,
+            RunError::Memory(_) => Refusal::Memory,
+        }
+    }
+}

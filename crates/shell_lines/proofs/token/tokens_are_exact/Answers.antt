@@ -1,0 +1,8 @@
+use Rattle.shell_lines.proofs.Tokens.{printed_means, one_meaning}
+use Rattle.shell_lines.proofs.token.tokens_are_exact.Goals as goal
+
+pub returns-clause-printed : goal.returns-clause-printed
+returns-clause-printed c = printed_means
+
+pub returns-clause-one : goal.returns-clause-one
+returns-clause-one c = one_meaning

@@ -1,0 +1,6 @@
+pub mod Token
+pub mod Gives
+pub mod Number
+pub mod Fields
+pub mod Request
+pub mod Reading

@@ -1,0 +1,115 @@
+-- What fields ask for, as a function: the way of the code. `SpellsRequest` of Request is the grammar.
+use Rattle.std.specs.Prelude.{◌≡◌, ℕ, ◌≤◌, length, ◌&&◌, nat_le, if◌then◌else◌, List, [], ◌∷◌, codes, option_map, Option, Some, None, Result, Ok, Err}
+use Rattle.std.specs.Option.{option_and_then}
+use Rattle.std.specs.Str.{bytes_eq}
+use Rattle.bw_model.specs.declared.command.Command.{Command}
+use Rattle.bw_model.specs.declared.command.Command.TheVariants.{Get, Insert, Upsert, Delete}
+use Rattle.bw_model.specs.declared.step.Link.{Link}
+use Rattle.bw_model.specs.declared.step.Link.TheVariants as link
+use Rattle.shell_lines.specs.declared.request.Request.{Request}
+use Rattle.shell_lines.specs.declared.request.Request.TheVariants.{Begin, Turn, Until, Finish, List as ListPairs}
+use Rattle.shell_lines.specs.declared.token.LineError.{LineError}
+use Rattle.shell_lines.specs.declared.token.LineError.TheVariants.{Malformed, TooLong}
+use Rattle.shell_lines.specs.Token.{token_value}
+use Rattle.shell_lines.specs.Number.{number_of, capped}
+use Rattle.shell_lines.specs.Request.{IsShortRequest, IsShortCommand}
+
+-- the key that the fields after a verb give, if they are one token
+unfoldable pub key_in : List (List ℕ) → Option (List ℕ)
+key_in [] = None
+key_in (k ∷ []) = token_value k
+key_in (k ∷ x ∷ rest) = None
+
+-- the key and the value that they give, if they are two
+unfoldable pub pair_in : List (List ℕ) → Option (List ℕ × List ℕ)
+pair_in [] = None
+pair_in (k ∷ []) = None
+pair_in (k ∷ v ∷ []) = option_and_then (λ key. option_map (λ value. (key, value)) (token_value v)) (token_value k)
+pair_in (k ∷ v ∷ x ∷ rest) = None
+
+unfoldable pub command_in : List (List ℕ) → Option Command
+command_in [] = None
+command_in (verb ∷ args) =
+    if bytes_eq verb (codes "get") then option_map Get (key_in args)
+    else if bytes_eq verb (codes "insert") then option_map (λ pair. Insert pair.0 pair.1) (pair_in args)
+    else if bytes_eq verb (codes "upsert") then option_map (λ pair. Upsert pair.0 pair.1) (pair_in args)
+    else if bytes_eq verb (codes "delete") then option_map Delete (key_in args)
+    else None
+
+-- an actor's number
+abbrev pub capped_number : List ℕ → Option ℕ
+capped_number text = option_map capped (number_of text)
+
+unfoldable pub begin_in : List (List ℕ) → Option Request
+begin_in [] = None
+begin_in (a ∷ rest) = option_and_then (λ actor. option_map (Begin actor) (command_in rest)) (capped_number a)
+
+abbrev pub turn_by : ℕ → ℕ → Option Request
+turn_by actor count = if nat_le 1 count && nat_le count 100000 then Some (Turn actor count) else None
+
+unfoldable pub turn_in : List (List ℕ) → Option Request
+turn_in [] = None
+turn_in (a ∷ []) = None
+turn_in (a ∷ n ∷ []) = option_and_then (λ actor. option_and_then (turn_by actor) (capped_number n)) (capped_number a)
+turn_in (a ∷ n ∷ x ∷ rest) = None
+
+-- the link that a word stands for
+unfoldable pub link_in : List ℕ → Option Link
+link_in word =
+    if bytes_eq word (codes "put") then Some link.Put
+    else if bytes_eq word (codes "delete") then Some link.Delete
+    else if bytes_eq word (codes "base") then Some link.Base
+    else if bytes_eq word (codes "split") then Some link.Split
+    else if bytes_eq word (codes "term") then Some link.Term
+    else if bytes_eq word (codes "root") then Some link.Root
+    else if bytes_eq word (codes "hold") then Some link.Hold
+    else if bytes_eq word (codes "remove") then Some link.Remove
+    else if bytes_eq word (codes "merge") then Some link.Merge
+    else if bytes_eq word (codes "unterm") then Some link.Unterm
+    else if bytes_eq word (codes "clear") then Some link.Clear
+    else None
+
+unfoldable pub until_in : List (List ℕ) → Option Request
+until_in [] = None
+until_in (a ∷ []) = None
+until_in (a ∷ w ∷ []) = option_and_then (λ actor. option_map (Until actor) (link_in w)) (capped_number a)
+until_in (a ∷ w ∷ x ∷ rest) = None
+
+unfoldable pub finish_in : List (List ℕ) → Option Request
+finish_in [] = None
+finish_in (a ∷ []) = option_map Finish (capped_number a)
+finish_in (a ∷ x ∷ rest) = None
+
+unfoldable pub list_in : List (List ℕ) → Option Request
+list_in [] = Some ListPairs
+list_in (x ∷ rest) = None
+
+unfoldable pub asked : List (List ℕ) → Option Request
+asked [] = None
+asked (verb ∷ args) =
+    if bytes_eq verb (codes "begin") then begin_in args
+    else if bytes_eq verb (codes "turn") then turn_in args
+    else if bytes_eq verb (codes "until") then until_in args
+    else if bytes_eq verb (codes "finish") then finish_in args
+    else if bytes_eq verb (codes "list") then list_in args
+    else None
+
+-- no key or value of a pair is too long
+abbrev pub IsShortPair : List ℕ × List ℕ → Type 0
+IsShortPair pair = (length pair.0 ≤ 32) × (length pair.1 ≤ 32)
+
+-- what is answered, given what the fields request for
+abbrev pub GivesPair : Result (List ℕ × List ℕ) LineError → Option (List ℕ × List ℕ) → Type 0
+GivesPair (Ok pair) found = (found ≡ Some pair) × IsShortPair pair
+GivesPair (Err Malformed) found = found ≡ None
+GivesPair (Err TooLong) found = (pair : List ℕ × List ℕ) × (found ≡ Some pair) × (IsShortPair pair → ⊥)
+
+abbrev pub GivesCommand : Result Command LineError → Option Command → Type 0
+GivesCommand (Ok command) found = (found ≡ Some command) × IsShortCommand command
+GivesCommand (Err Malformed) found = found ≡ None
+GivesCommand (Err TooLong) found = (command : Command) × (found ≡ Some command) × (IsShortCommand command → ⊥)
+
+abbrev pub GivesRequest : Result Request LineError → Option Request → Type 0
+GivesRequest (Ok request) found = (found ≡ Some request) × IsShortRequest request
+GivesRequest (Err Malformed) found = found ≡ None
+GivesRequest (Err TooLong) found = (request : Request) × (found ≡ Some request) × (IsShortRequest request → ⊥)

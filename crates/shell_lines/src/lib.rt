@@ -1,0 +1,11 @@
+//! What a line asks for: its fields, numbers and tokens.
+#![tactic(auto)]
+
+mod fields;
+mod number;
+mod request;
+mod token;
+
+pub use number::read_number;
+pub use request::{Request, parse, requests_are_exact};
+pub use token::{LineError, is_word, read_token, tokens_are_exact};

@@ -1,0 +1,22 @@
+//! Decimal numbers.
+
+ghost use Rattle.std.specs.Prelude.{◌≡◌, ℕ};
+ghost use Rattle.std.specs.Option.{option_map};
+ghost use Rattle.shell_lines.specs.Number.{number_of, capped};
+
+/// The number that digits spell, or the greatest of 64 bits for one that is greater.
+pub fn read_number(text: &[u8]) -> Option<u64>
+    ensures { result ≡ option_map capped (number_of text.now) }
+{
+    if text.is_empty() {
+        return None;
+    }
+    let mut n = 0u64;
+    for c in text {
+        if *c < b'0' || *c > b'9' {
+            return None;
+        }
+        n = n.saturating_mul(10).saturating_add(u64::from(*c - b'0'));
+    }
+    Some(n)
+}

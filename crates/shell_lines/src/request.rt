@@ -1,0 +1,267 @@
+//! What a line asks for.
+
+ghost use Rattle.std.specs.Prelude.{◌≡◌, ℕ, List, [], ◌∷◌, IfOk, IsErrOf};
+ghost use Rattle.std.specs.Option.{option_copied};
+ghost use Rattle.shell_lines.specs.Fields.{fields_in, fields_of};
+ghost use Rattle.shell_lines.specs.Gives.{Gives};
+ghost use Rattle.shell_lines.specs.Request.{Says, IsShortRequest};
+ghost use Rattle.shell_lines.specs.Reading.{GivesCommand, GivesPair, GivesRequest, key_in, pair_in, command_in, begin_in, turn_in, link_in, until_in, finish_in, list_in, asked};
+ghost use Rattle.shell_lines.specs.declared.request.Request.{Request as RequestSeen};
+
+use crate::fields::next_field;
+use crate::number::read_number;
+use crate::token::{LineError, key_of, value_of};
+use bw_model::{Command, Key, Link, Value};
+
+/// What a line asks for.
+#[derive(Drop)]
+pub enum Request {
+    Begin(u64, Command),
+    Turn(u64, u64),
+    Until(u64, Link),
+    Finish(u64),
+    List,
+}
+
+#[tactic(auto, unfolding(crate::specs::Reading::key_in))]
+fn read_key(args: Option<&[u8]>) -> Result<Key, LineError>
+    ensures { Gives result (key_in (fields_in (option_copied args.entry))) }
+{
+    let Some((key, rest)) = next_field(args) else {
+        return Err(LineError::Malformed);
+    };
+    if next_field(rest).is_some() {
+        return Err(LineError::Malformed);
+    }
+    key_of(key)
+}
+
+// A token outside the grammar comes before one that is too long.
+#[tactic(auto, unfolding(crate::specs::Reading::pair_in))]
+fn pair_by(key: &[u8], value: &[u8]) -> Result<(Key, Value), LineError>
+    ensures { GivesPair result (pair_in (key.now ∷ value.now ∷ [])) }
+{
+    match key_of(key) {
+        Err(LineError::Malformed) => Err(LineError::Malformed),
+        Err(LineError::TooLong) => match value_of(value) {
+            Err(LineError::Malformed) => Err(LineError::Malformed),
+            Err(LineError::TooLong) => Err(LineError::TooLong),
+            Ok(_) => Err(LineError::TooLong),
+        },
+        Ok(key) => match value_of(value) {
+            Ok(value) => Ok((key, value)),
+            Err(error) => Err(error),
+        },
+    }
+}
+
+#[tactic(auto, unfolding(crate::specs::Reading::pair_in))]
+fn read_pair(args: Option<&[u8]>) -> Result<(Key, Value), LineError>
+    ensures { GivesPair result (pair_in (fields_in (option_copied args.entry))) }
+{
+    let Some((key, rest)) = next_field(args) else {
+        return Err(LineError::Malformed);
+    };
+    let Some((value, rest)) = next_field(rest) else {
+        return Err(LineError::Malformed);
+    };
+    if next_field(rest).is_some() {
+        return Err(LineError::Malformed);
+    }
+    pair_by(key, value)
+}
+
+#[tactic(auto, unfolding(crate::specs::Reading::command_in))]
+fn read_command(fields: Option<&[u8]>) -> Result<Command, LineError>
+    ensures { GivesCommand result (command_in (fields_in (option_copied fields.entry))) }
+{
+    let Some((verb, args)) = next_field(fields) else {
+        return Err(LineError::Malformed);
+    };
+    if verb == b"get".as_slice() {
+        return Ok(Command::Get(read_key(args)?));
+    }
+    if verb == b"insert".as_slice() {
+        let (key, value) = read_pair(args)?;
+        return Ok(Command::Insert(key, value));
+    }
+    if verb == b"upsert".as_slice() {
+        let (key, value) = read_pair(args)?;
+        return Ok(Command::Upsert(key, value));
+    }
+    if verb == b"delete".as_slice() {
+        return Ok(Command::Delete(read_key(args)?));
+    }
+    Err(LineError::Malformed)
+}
+
+#[tactic(auto, unfolding(crate::specs::Reading::begin_in))]
+fn read_begin(args: Option<&[u8]>) -> Result<Request, LineError>
+    ensures { GivesRequest result (begin_in (fields_in (option_copied args.entry))) }
+{
+    let Some((actor, rest)) = next_field(args) else {
+        return Err(LineError::Malformed);
+    };
+    let Some(actor) = read_number(actor) else {
+        return Err(LineError::Malformed);
+    };
+    match read_command(rest) {
+        Ok(command) => Ok(Request::Begin(actor, command)),
+        Err(error) => Err(error),
+    }
+}
+
+#[tactic(auto, unfolding(crate::specs::Reading::turn_in))]
+fn read_turn(args: Option<&[u8]>) -> Result<Request, LineError>
+    ensures { GivesRequest result (turn_in (fields_in (option_copied args.entry))) }
+{
+    let Some((actor, rest)) = next_field(args) else {
+        return Err(LineError::Malformed);
+    };
+    let Some((count, rest)) = next_field(rest) else {
+        return Err(LineError::Malformed);
+    };
+    if next_field(rest).is_some() {
+        return Err(LineError::Malformed);
+    }
+    let Some(actor) = read_number(actor) else {
+        return Err(LineError::Malformed);
+    };
+    let Some(count) = read_number(count) else {
+        return Err(LineError::Malformed);
+    };
+    if count < 1 || count > 100_000 {
+        return Err(LineError::Malformed);
+    }
+    Ok(Request::Turn(actor, count))
+}
+
+#[tactic(auto, unfolding(crate::specs::Reading::link_in))]
+fn read_link(word: &[u8]) -> Option<Link>
+    ensures { result ≡ link_in word.now }
+{
+    if word == b"put".as_slice() {
+        return Some(Link::Put);
+    }
+    if word == b"delete".as_slice() {
+        return Some(Link::Delete);
+    }
+    if word == b"base".as_slice() {
+        return Some(Link::Base);
+    }
+    if word == b"split".as_slice() {
+        return Some(Link::Split);
+    }
+    if word == b"term".as_slice() {
+        return Some(Link::Term);
+    }
+    if word == b"root".as_slice() {
+        return Some(Link::Root);
+    }
+    if word == b"hold".as_slice() {
+        return Some(Link::Hold);
+    }
+    if word == b"remove".as_slice() {
+        return Some(Link::Remove);
+    }
+    if word == b"merge".as_slice() {
+        return Some(Link::Merge);
+    }
+    if word == b"unterm".as_slice() {
+        return Some(Link::Unterm);
+    }
+    if word == b"clear".as_slice() {
+        return Some(Link::Clear);
+    }
+    None
+}
+
+#[tactic(auto, unfolding(crate::specs::Reading::until_in))]
+fn read_until(args: Option<&[u8]>) -> Result<Request, LineError>
+    ensures { GivesRequest result (until_in (fields_in (option_copied args.entry))) }
+{
+    let Some((actor, rest)) = next_field(args) else {
+        return Err(LineError::Malformed);
+    };
+    let Some((word, rest)) = next_field(rest) else {
+        return Err(LineError::Malformed);
+    };
+    if next_field(rest).is_some() {
+        return Err(LineError::Malformed);
+    }
+    let Some(actor) = read_number(actor) else {
+        return Err(LineError::Malformed);
+    };
+    let Some(link) = read_link(word) else {
+        return Err(LineError::Malformed);
+    };
+    Ok(Request::Until(actor, link))
+}
+
+#[tactic(auto, unfolding(crate::specs::Reading::finish_in))]
+fn read_finish(args: Option<&[u8]>) -> Result<Request, LineError>
+    ensures { GivesRequest result (finish_in (fields_in (option_copied args.entry))) }
+{
+    let Some((actor, rest)) = next_field(args) else {
+        return Err(LineError::Malformed);
+    };
+    if next_field(rest).is_some() {
+        return Err(LineError::Malformed);
+    }
+    match read_number(actor) {
+        None => Err(LineError::Malformed),
+        Some(actor) => Ok(Request::Finish(actor)),
+    }
+}
+
+#[tactic(auto, unfolding(crate::specs::Reading::list_in))]
+fn read_list(args: Option<&[u8]>) -> Result<Request, LineError>
+    ensures { GivesRequest result (list_in (fields_in (option_copied args.entry))) }
+{
+    if next_field(args).is_some() {
+        return Err(LineError::Malformed);
+    }
+    Ok(Request::List)
+}
+
+#[tactic(auto, unfolding(crate::specs::Reading::asked))]
+fn read_fields(line: &[u8]) -> Result<Request, LineError>
+    ensures { GivesRequest result (asked (fields_of line.now)) }
+{
+    let Some((verb, args)) = next_field(Some(line)) else {
+        return Err(LineError::Malformed);
+    };
+    if verb == b"begin".as_slice() {
+        return read_begin(args);
+    }
+    if verb == b"turn".as_slice() {
+        return read_turn(args);
+    }
+    if verb == b"until".as_slice() {
+        return read_until(args);
+    }
+    if verb == b"finish".as_slice() {
+        return read_finish(args);
+    }
+    if verb == b"list".as_slice() {
+        return read_list(args);
+    }
+    Err(LineError::Malformed)
+}
+
+/// What a line asks for, by the grammar.
+pub fn parse(line: &[u8]) -> Result<Request, LineError>
+    ensures ok { IfOk result (λ request. Says line.now request × IsShortRequest request) }
+    ensures malformed { IsErrOf result LineError.Malformed → (request : RequestSeen) → Says line.now request → ⊥ }
+    ensures too_long { IsErrOf result LineError.TooLong → (request : RequestSeen) × Says line.now request × (IsShortRequest request → ⊥) }
+{
+    if line.len() > 1024 {
+        return Err(LineError::Malformed);
+    }
+    read_fields(line)
+}
+
+/// A line asks for one thing at most.
+pub fn requests_are_exact()
+    ensures { (line : List ℕ) (a b : RequestSeen) → Says line a → Says line b → a ≡ b }
+{}

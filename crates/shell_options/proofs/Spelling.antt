@@ -1,0 +1,43 @@
+-- What a number that was read says of the words.
+use Rattle.std.proofs.Common.{◌≡◌, ℕ, List, [], Option, Some, None, sym, refl, subst, true, MatchOption}
+use Rattle.std.specs.Prelude.{option_map}
+use Rattle.std.specs.Option.{option_map_or}
+use Rattle.std.specs.Str.Parse.{digits_value, without_leading_plus}
+use Rattle.clap.specs.Words.{App, Row, Text, is_simple, is_simple_and_free, one_text, rows_of, takes}
+use Rattle.clap.specs.declared.error.kind.ErrorKind.{ErrorKind}
+use Rattle.clap.specs.declared.error.kind.ErrorKind.TheVariants.{OutOfMemory}
+use Rattle.clap.specs.declared.parser.matches.Found.{Found}
+use Rattle.clap.proofs.WalkLemmas.{one_text-rows}
+use Rattle.clap.proofs.OnLiterals.{clap_on_literals}
+use Rattle.shell_options.specs.Words.{bwtree_app, AreTaken, SpellsOr}
+
+abbrev pub Reads : ℕ → ℕ → Option Text → Type 0
+Reads default n o = MatchOption o (n ≡ default) (λ text. digits_value 10 (without_leading_plus text) ≡ n)
+
+pub spells : (found : Found) (id : Text) (default n : ℕ) → Reads default n (one_text found id) → SpellsOr (rows_of found) id default n
+spells found id default n r = subst (Reads default n) (one_text-rows found id) r
+
+pub reads_given : (default n : ℕ) (o : Option Text) → (o ≡ None → ⊥) → ((t : Text) → o ≡ Some t → n ≡ digits_value 10 (without_leading_plus t)) → Reads default n o
+reads_given default n None none some = absurd (none refl)
+reads_given default n (Some t) none some = sym (some t refl)
+
+pub reads_default : (default : ℕ) (o : Option Text) → ((t : Text) → o ≡ Some t → ⊥) → Reads default default o
+reads_default default None some = refl
+reads_default default (Some t) some = absurd (some t refl)
+
+pub is_simple-bwtree_app : is_simple bwtree_app ≡ true
+unfolding clap_on_literals
+is_simple-bwtree_app = refl
+
+pub is_simple_and_free-bwtree_app : is_simple_and_free bwtree_app ≡ true
+unfolding clap_on_literals
+is_simple_and_free-bwtree_app = refl
+
+pub rows_of_some : (o : Option (Text × List Row)) (rows : List Row) → option_map (λ p. p.1) o ≡ Some rows → option_map_or (λ p. p.1) o [] ≡ rows
+rows_of_some None rows h = cc
+rows_of_some (Some p) rows h = cc
+
+-- what is refused, and not for want of memory, is outside the grammar
+pub outside : (app : App) (words : List Text) (kind : ErrorKind) → app ≡ bwtree_app → (takes app words ≡ true → kind ≡ OutOfMemory) → (kind ≡ OutOfMemory → ⊥) → AreTaken words → ⊥
+unfolding AreTaken
+outside app words kind is only other taken = other (only (subst (λ (a : App). takes a words ≡ true) (sym is) taken))

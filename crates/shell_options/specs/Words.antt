@@ -1,0 +1,49 @@
+-- what the words of a command line mean, by clap's own words
+use Rattle.std.specs.Prelude.{◌≡◌, ℕ, List, [], Some, true, MatchOption, codes}
+use Rattle.std.specs.Option.{option_map_or}
+use Rattle.std.specs.Str.Parse.{digits_value, without_leading_plus}
+use Rattle.clap.specs.Words.{IsAmong, fault_of, kind_of, App, Row, Rule, Text, new_app, new_rule, one_of, subcommand_of, takes, with_rule, with_subcommand}
+use Rattle.clap.specs.Simple.{on_top}
+use Rattle.clap.specs.declared.builder.value_parser.ValueParser.TheVariants as vp
+use Rattle.shell_options.specs.declared.words.Settings.{Settings}
+use Rattle.shell_options.specs.declared.words.OptionsError.{OptionsError}
+use Rattle.shell_options.specs.declared.words.OptionsError.TheVariants.{Clap, Memory}
+
+-- an option with a number
+abbrev pub number_rule : Text → Rule
+number_rule id = record (new_rule id) { long = Some id; parser = Some (vp.Unsigned 0 18446744073709551615) }
+
+abbrev pub weave_app : App
+weave_app =
+    with_rule (with_rule (with_rule (with_rule (new_app (codes "weave")) (number_rule (codes "actors"))) (number_rule (codes "pids"))) (number_rule (codes "rows"))) (number_rule (codes "epoch"))
+
+abbrev pub bwtree_app : App
+bwtree_app = with_subcommand (on_top (λ s. record s { subcommand_required = true }) (new_app (codes "bwtree"))) weave_app.top
+
+-- what the words after the subcommand's name are, by option
+unfoldable pub rows_in : List Text → List Row
+rows_in words = option_map_or (λ p. p.1) (subcommand_of bwtree_app words) []
+
+-- n is the number that the word of the option spells, or the default where there is no such word
+abbrev pub SpellsOr : List Row → Text → ℕ → ℕ → Type 0
+SpellsOr rows id default n =
+    MatchOption (one_of id rows) (n ≡ default) (λ text. digits_value 10 (without_leading_plus text) ≡ n)
+
+pub record IsSpelled (words : List Text) (line : Settings) : Type 0 where
+  pub actors : SpellsOr (rows_in words) (codes "actors") 2 line.actors
+  pub pids : SpellsOr (rows_in words) (codes "pids") 64 line.pids
+  pub rows : SpellsOr (rows_in words) (codes "rows") 256 line.rows
+  pub epoch : SpellsOr (rows_in words) (codes "epoch") 1 line.epoch
+
+-- The words are in the grammar of the command line.
+unfoldable pub AreTaken : List Text → Type 0
+AreTaken words = takes bwtree_app words ≡ true
+
+-- the grammar finds no fault with the words
+abbrev pub HasNoFault : List Text → Type 0
+HasNoFault words = fault_of bwtree_app words ≡ []
+
+-- clap's refusal comes only for words outside the grammar, and tells a fault that they have
+abbrev pub MayRefuse : List Text → OptionsError → Type 0
+MayRefuse words (Clap error) = (AreTaken words → ⊥) × IsAmong (kind_of error) (fault_of bwtree_app words)
+MayRefuse words Memory = Unit {0}

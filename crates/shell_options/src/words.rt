@@ -1,0 +1,173 @@
+//! The command line's words.
+
+ghost use Rattle.std.specs.Prelude.{◌≡◌, ◌↔◌, IfErr, IfOk, IfSome, IsOk, map, false};
+ghost use Rattle.bw_model.specs.Limits.{AreLimits};
+ghost use Rattle.std.specs.String.{string_bytes};
+ghost use Rattle.clap.specs.Words.{app_of, found_of, rows_of, rule_of};
+ghost use Rattle.clap.specs.declared.builder.command.Command.TheViews.{out-Command as fields_of};
+ghost use Rattle.shell_options.specs.Words.{number_rule, weave_app, bwtree_app, SpellsOr, HasNoFault, IsSpelled, MayRefuse};
+
+use bw_model::{BadLimits, Limits};
+use clap::error::ErrorKind;
+use clap::{Arg, ArgMatches, Command, Error, value_parser};
+use std::alloc::{AllocError, Global};
+
+/// What the program is to do.
+#[derive(Clone, Copy, Debug, PartialEq, Eq)]
+pub enum Program {
+    /// Runs lines, turn by turn.
+    Weave,
+}
+
+/// What the words of a command line say.
+#[derive(Clone, Copy, Debug, PartialEq, Eq)]
+pub struct Settings {
+    pub program: Program,
+    pub actors: u64,
+    pub pids: u64,
+    pub rows: u64,
+    pub epoch: u64,
+}
+
+impl Settings {
+    /// The limits of these numbers, refused exactly where one is outside its range.
+    pub fn limits(&self) -> Result<Limits, BadLimits>
+        ensures allowed { IsOk result ↔ AreLimits self.now.actors self.now.pids self.now.rows self.now.epoch }
+        ensures actors { IfOk result (λ limits. limits.actors ≡ self.now.actors) }
+        ensures pids { IfOk result (λ limits. limits.pids ≡ self.now.pids) }
+        ensures rows { IfOk result (λ limits. limits.rows ≡ self.now.rows) }
+        ensures epoch { IfOk result (λ limits. limits.epoch ≡ self.now.epoch) }
+    {
+        Limits::new(self.actors, self.pids, self.rows, self.epoch)
+    }
+}
+
+/// Why they say nothing.
+#[derive(Debug, Drop, thiserror::Error)]
+pub enum OptionsError {
+    /// The words are outside the grammar, or ask for help.
+    #[error(transparent)]
+    Clap(Error),
+    /// A growth of memory was refused.
+    #[error("no memory to read the command line")]
+    Memory,
+}
+
+// An option with a number.
+fn option<'a>(alloc: Global, name: &'a str) -> Arg<'a>
+    ensures rule { rule_of result ≡ number_rule name.entry.now }
+    ensures local { result.global ≡ false }
+{
+    Arg::new(alloc, name)
+        .long(name)
+        .value_parser(value_parser!(u64))
+}
+
+// The same, with what help says of it.
+fn number<'a>(alloc: Global, name: &'a str, help: &'a str) -> Arg<'a>
+    ensures rule { rule_of result ≡ number_rule name.entry.now }
+    ensures local { result.global ≡ false }
+{
+    option(alloc, name).help(help)
+}
+
+fn weave_words<'a>(alloc: Global) -> Result<Command<'a>, AllocError>
+    ensures shape { IfOk result (λ c. app_of c ≡ weave_app) }
+    ensures local { IfOk result (λ c. (fields_of c).has_globals ≡ false) }
+{
+    let actors = number(alloc, "actors", "Actors, 1 to 16 [default: 2]");
+    let pids = number(
+        alloc,
+        "pids",
+        "Page identifiers, 64 to 4096, a multiple of 64 [default: 64]",
+    );
+    let rows = number(
+        alloc,
+        "rows",
+        "Rows for records, 64 to 16384, a multiple of 64 [default: 256]",
+    );
+    let epoch = number(
+        alloc,
+        "epoch",
+        "The opening epoch, 1 to 4611686018427387904 [default: 1]",
+    );
+    let weave = Command::new(alloc, "weave");
+    let weave = weave.arg(actors)?;
+    let weave = weave.arg(pids)?;
+    let weave = weave.arg(rows)?;
+    let weave = weave.arg(epoch)?;
+    Ok(weave)
+}
+
+fn weave_command<'a>(alloc: Global) -> Result<Command<'a>, AllocError>
+    ensures shape { IfOk result (λ c. app_of c ≡ weave_app) }
+    ensures local { IfOk result (λ c. (fields_of c).has_globals ≡ false) }
+{
+    let weave = weave_words(alloc)?;
+    Ok(weave.about("Runs the lines of standard input, turn by turn, and prints what they answer"))
+}
+
+fn plain_command<'a>(alloc: Global) -> Result<Command<'a>, AllocError>
+    ensures { IfOk result (λ c. app_of c ≡ bwtree_app) }
+{
+    let weave = weave_command(alloc)?;
+    let command = Command::new(alloc, "bwtree").subcommand_required(true);
+    let command = command.subcommand(weave)?;
+    Ok(command)
+}
+
+fn command<'a>(alloc: Global) -> Result<Command<'a>, AllocError>
+    ensures { IfOk result (λ c. app_of c ≡ bwtree_app) }
+{
+    let command = plain_command(alloc)?;
+    Ok(command.about("An ordered map of keys to values, kept in a latch-free Bw-tree"))
+}
+
+// The number of the option `name`, or `default` where it isn't there.
+fn chosen(matches: &ArgMatches<'_>, name: &str, default: u64) -> Option<u64>
+    ensures { IfSome result (SpellsOr (rows_of (found_of matches.now)) name.now default) }
+{
+    match matches.try_get_one::<u64>(name) {
+        Ok(Some(number)) => Some(number),
+        Ok(None) => Some(default),
+        Err(_) => None,
+    }
+}
+
+/// Reads the words of a command line, the program's name first.
+pub fn options(alloc: Global, words: &[String]) -> Result<Settings, OptionsError>
+    ensures spelled { IfOk result (IsSpelled (map string_bytes words.now)) }
+    ensures refused { IfErr result (MayRefuse (map string_bytes words.now)) }
+    ensures faultless { IfOk result (λ _. HasNoFault (map string_bytes words.now)) }
+{
+    let Ok(command) = command(alloc) else {
+        return Err(OptionsError::Memory);
+    };
+    let matches = match command.try_get_matches_from(words) {
+        Ok(matches) => matches,
+        Err(error) if error.kind() == ErrorKind::OutOfMemory => return Err(OptionsError::Memory),
+        Err(error) => return Err(OptionsError::Clap(error)),
+    };
+    let Some(weave) = matches.subcommand_matches("weave") else {
+        return Err(OptionsError::Memory);
+    };
+    let Some(actors) = chosen(weave, "actors", 2) else {
+        return Err(OptionsError::Memory);
+    };
+    let Some(pids) = chosen(weave, "pids", 64) else {
+        return Err(OptionsError::Memory);
+    };
+    let Some(rows) = chosen(weave, "rows", 256) else {
+        return Err(OptionsError::Memory);
+    };
+    let Some(epoch) = chosen(weave, "epoch", 1) else {
+        return Err(OptionsError::Memory);
+    };
+    Ok(Settings {
+        program: Program::Weave,
+        actors,
+        pids,
+        rows,
+        epoch,
+    })
+}

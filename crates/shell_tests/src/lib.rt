@@ -1,0 +1,17 @@
+//! What the program is to print, and what it does where a stream fails: tests alone, over the shell's public calls.
+#![tactic(auto)]
+
+#[cfg(test)]
+mod faults;
+#[cfg(test)]
+mod interleaved;
+#[cfg(test)]
+mod lines;
+#[cfg(test)]
+mod pages;
+#[cfg(test)]
+mod runs;
+#[cfg(test)]
+mod streams;
+#[cfg(test)]
+mod words;

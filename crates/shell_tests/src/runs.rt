@@ -1,0 +1,125 @@
+//! Whole runs over streams that give and take few bytes at a time, and fail.
+
+use bw_model::Limits;
+use bw_shell::{Reader, Writer, weave};
+use std::alloc::Global;
+use std::io;
+use std::io::{ErrorKind, Read, Write};
+use std::process::Abort;
+
+// Gives a few bytes at a time, and fails at a read.
+#[derive(Drop)]
+pub struct Choppy<'a> {
+    pub bytes: &'a [u8],
+    pub size: usize,
+    pub before_fault: u32,
+}
+
+impl Read for Choppy<'_> {
+    fn read(&mut self, buf: &mut [u8]) -> io::Result<usize> {
+        if self.before_fault == 0 {
+            return Err(io::Error::from(ErrorKind::Other));
+        }
+        self.before_fault -= 1;
+        let n = self.size.min(buf.len()).min(self.bytes.len());
+        let (front, back) = self.bytes.split_at(n);
+        buf[..n].copy_from_slice(front);
+        self.bytes = back;
+        Ok(n)
+    }
+}
+
+// Takes a few bytes at a time, and fails at a write or at the flush.
+#[derive(Drop)]
+pub struct Breaking {
+    pub held: Vec<u8>,
+    pub size: usize,
+    pub writes: u32,
+    pub before_fault: u32,
+    pub flush_fails: bool,
+}
+
+impl Write for Breaking {
+    fn write(&mut self, buf: &[u8]) -> io::Result<usize> {
+        if self.before_fault == 0 {
+            return Err(io::Error::from(ErrorKind::Other));
+        }
+        self.before_fault -= 1;
+        self.writes = self.writes.saturating_add(1);
+        let n = self.size.min(buf.len());
+        self.held.extend_from_slice(buf.split_at(n).0)?;
+        Ok(n)
+    }
+
+    fn flush(&mut self) -> io::Result<()> {
+        if self.flush_fails {
+            return Err(io::Error::from(ErrorKind::Other));
+        }
+        Ok(())
+    }
+}
+
+pub const NEVER: u32 = 1_000_000;
+
+// What a run answered, what it wrote, and by how many writes.
+#[derive(Drop)]
+pub struct Woven {
+    pub status: u8,
+    pub output: Vec<u8>,
+    pub writes: u32,
+}
+
+pub fn run_into(alloc: Global, limits: Limits, input: Choppy<'_>, out: Breaking) -> Woven {
+    let mut reader = Reader::new(input);
+    let mut writer = Writer::new(out);
+    let status = weave(alloc, limits, &mut reader, &mut writer);
+    Woven {
+        status,
+        output: writer.inner.held,
+        writes: writer.inner.writes,
+    }
+}
+
+// A run whose flush doesn't fail.
+pub fn run(
+    alloc: Global,
+    limits: Limits,
+    input: Choppy<'_>,
+    size: usize,
+    before_fault: u32,
+) -> Woven {
+    let out = Breaking {
+        held: Vec::new(alloc),
+        size,
+        writes: 0,
+        before_fault,
+        flush_fails: false,
+    };
+    run_into(alloc, limits, input, out)
+}
+
+// A run in which nothing fails.
+pub fn whole(alloc: Global, limits: Limits, input: &[u8]) -> Woven {
+    let input = Choppy {
+        bytes: input,
+        size: 4096,
+        before_fault: NEVER,
+    };
+    run(alloc, limits, input, 4096, NEVER)
+}
+
+pub fn limits(rt: &impl Abort) -> Limits {
+    Limits::new(2, 64, 256, 1).expect(rt, "the default limits")
+}
+
+// Each input, its output and its status.
+pub type Rows<'a> = &'a [(&'a [u8], &'a [u8], u8)];
+
+pub fn agree(rt: &impl Abort, alloc: Global, rows: Rows<'_>) {
+    let limits = limits(rt);
+    for (input, output, status) in rows {
+        let woven = whole(alloc, limits, input);
+        assert_eq!(rt; woven.output.as_slice(), *output);
+        assert_eq!(rt; woven.status, *status);
+    }
+}

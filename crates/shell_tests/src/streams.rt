@@ -1,0 +1,142 @@
+//! Long lines, and streams that fail.
+
+use crate::runs::{Breaking, Choppy, NEVER, Woven, limits, run, run_into, whole};
+use bw_model::Limits;
+use std::alloc::Global;
+use std::test::Fail;
+
+#[test]
+fn long_lines(rt: HostRuntime) -> Result<(), Fail> {
+    let limits = limits(&rt);
+    let mut line = vec![in rt.alloc(); b'0'; 1025]?;
+    let woven = whole(rt.alloc(), limits, line.as_slice());
+    assert_eq!(rt; woven.output.as_slice(), b"refused line 1: 11\n".as_slice());
+    let (front, _) = line.as_mut_slice().split_at_mut(5);
+    front.copy_from_slice(b"turn ");
+    line.truncate(1022);
+    line.extend_from_slice(b" 1")?;
+    let woven = whole(rt.alloc(), limits, line.as_slice());
+    assert_eq!(rt; woven.output.as_slice(), b"refused line 1: 6\n".as_slice());
+    line.extend_from_slice(b"1")?;
+    let woven = whole(rt.alloc(), limits, line.as_slice());
+    assert_eq!(rt; woven.output.as_slice(), b"refused line 1: 11\n".as_slice());
+    Ok(())
+}
+
+// About thirty lines, with empty ones, and without a last LF.
+const INPUT: &[u8] =
+    b"begin 0 insert k01 v01\nfinish 0\n\nbegin 1 insert k02 =\nfinish 1\nbegin 0 get k01\nturn 0 2\nturn 0 1\nturn 0 1\nturn 0 1\nturn 0 1\nturn 0 1\n\nturn 0 1\nbegin 0 insert k02 v02\nfinish 0\nlist\nbegin 0 insert k03 v03\nturn 0 2\nbegin 1 insert k04 v04\nturn 1 4\nturn 0 3\nfinish 1\nfinish 0\nbegin 1 get k04\nbegin 0 get k05\nfinish 1\nfinish 0\n\nlist";
+
+const OUTPUT: &[u8] =
+    b"0 inserted\n1 inserted\n0 value v01\n0 exists =\npairs 2\nk01 v01\nk02 =\n1 inserted\n0 inserted\n1 value v04\n0 none\npairs 4\nk01 v01\nk02 =\nk03 v03\nk04 v04\n";
+
+#[test]
+fn failed_writes(rt: HostRuntime) {
+    let limits = limits(&rt);
+    let input = Choppy {
+        bytes: INPUT,
+        size: 7,
+        before_fault: NEVER,
+    };
+    let all = run(rt.alloc(), limits, input, 5, NEVER);
+    assert_eq!(rt; all.output.as_slice(), OUTPUT);
+    assert_eq!(rt; all.status, 0);
+    for n in 0..all.writes {
+        let input = Choppy {
+            bytes: INPUT,
+            size: 7,
+            before_fault: NEVER,
+        };
+        let woven = run(rt.alloc(), limits, input, 5, n);
+        assert_eq!(rt; woven.status, 1);
+        let written = (n as usize).saturating_mul(5).min(OUTPUT.len());
+        assert_eq!(rt; woven.output.as_slice(), OUTPUT.split_at(written).0);
+    }
+}
+
+#[test]
+fn failed_flush(rt: HostRuntime) {
+    let input = Choppy {
+        bytes: INPUT,
+        size: 7,
+        before_fault: NEVER,
+    };
+    let out = Breaking {
+        held: Vec::new(rt.alloc()),
+        size: 4096,
+        writes: 0,
+        before_fault: NEVER,
+        flush_fails: true,
+    };
+    let woven = run_into(rt.alloc(), limits(&rt), input, out);
+    assert_eq!(rt; woven.output.as_slice(), OUTPUT);
+    assert_eq!(rt; woven.status, 1);
+}
+
+// The output of the whole lines among the first bytes of the input.
+fn lines_before(alloc: Global, limits: Limits, bytes: usize) -> Woven {
+    let mut end = 0;
+    for (i, b) in INPUT.split_at(bytes.min(INPUT.len())).0.iter().enumerate() {
+        if *b == b'\n' {
+            end = i + 1;
+        }
+    }
+    whole(alloc, limits, INPUT.split_at(end.min(INPUT.len())).0)
+}
+
+#[test]
+fn failed_reads(rt: HostRuntime) {
+    let limits = limits(&rt);
+    let reads = (INPUT.len() / 7) as u32 + 2;
+    for n in 0..reads {
+        let input = Choppy {
+            bytes: INPUT,
+            size: 7,
+            before_fault: n,
+        };
+        let woven = run(rt.alloc(), limits, input, 4096, NEVER);
+        let before = lines_before(rt.alloc(), limits, (n as usize).saturating_mul(7));
+        assert_eq!(rt; woven.status, 1);
+        assert_eq!(rt; woven.output.as_slice(), before.output.as_slice());
+        assert!(rt; OUTPUT.starts_with(woven.output.as_slice()));
+    }
+}
+
+#[test]
+fn one_byte_a_read(rt: HostRuntime) -> Result<(), Fail> {
+    let mut lines = Vec::new(rt.alloc());
+    let mut output = Vec::new(rt.alloc());
+    lines.extend_from_slice(INPUT)?;
+    lines.extend_from_slice(b"\n")?;
+    output.extend_from_slice(OUTPUT)?;
+    for _ in 0..3000u32 {
+        lines.extend_from_slice(b"begin 0 get a\n\nfinish 0\n")?;
+        output.extend_from_slice(b"0 none\n")?;
+    }
+    let input = Choppy {
+        bytes: lines.as_slice(),
+        size: 1,
+        before_fault: NEVER,
+    };
+    let woven = run(rt.alloc(), limits(&rt), input, 4096, NEVER);
+    let at_once = whole(rt.alloc(), limits(&rt), lines.as_slice());
+    assert_eq!(rt; woven.output.as_slice(), output.as_slice());
+    assert_eq!(rt; at_once.output.as_slice(), output.as_slice());
+    assert_eq!(rt; (woven.status, at_once.status), (0, 0));
+    Ok(())
+}
+
+#[test]
+fn few_writes(rt: HostRuntime) -> Result<(), Fail> {
+    let mut input = Vec::new(rt.alloc());
+    let mut output = Vec::new(rt.alloc());
+    for _ in 0..3000u32 {
+        input.extend_from_slice(b"begin 0 get a\nfinish 0\n")?;
+        output.extend_from_slice(b"0 none\n")?;
+    }
+    let woven = whole(rt.alloc(), limits(&rt), input.as_slice());
+    assert_eq!(rt; woven.status, 0);
+    assert_eq!(rt; woven.output.as_slice(), output.as_slice());
+    assert!(rt; woven.writes <= 6);
+    Ok(())
+}
