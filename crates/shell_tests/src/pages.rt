@@ -1,13 +1,29 @@
 //! A page that is consolidated, that is full, and that has no row left.
 
-use crate::runs::{limits, whole};
+use crate::runs::{add, limits, prints};
 use bw_model::Limits;
 use std::alloc::Global;
 use std::process::Abort;
 use std::test::Fail;
 
-// Runs lines after those that insert the first keys: k01, k02 and so on, with the values v01, v02. They print this, and then the
-// listing of the first keys up to a number.
+// Lines that insert the first keys: k01, k02 and so on, with the values v01, v02.
+fn insert_first(input: &mut String, count: u32) -> Result<(), Fail> {
+    for n in 1..=count {
+        writeln!(input, "begin 0 insert k{n:02} v{n:02}\nfinish 0")?;
+    }
+    Ok(())
+}
+
+// The listing of the first keys.
+fn list_first(output: &mut String, count: u32) -> Result<(), Fail> {
+    writeln!(output, "pairs {count}")?;
+    for n in 1..=count {
+        writeln!(output, "k{n:02} v{n:02}")?;
+    }
+    Ok(())
+}
+
+// Runs lines after those that insert the first keys. They print this, and then the listing of the first keys up to a number.
 fn after_inserts(
     rt: &impl Abort,
     alloc: Global,
@@ -17,19 +33,15 @@ fn after_inserts(
     listed: u32,
 ) -> Result<(), Fail> {
     let mut input = String::new(alloc);
-    let mut output = String::new(alloc);
-    for n in 1..=count {
-        writeln!(input, "begin 0 insert k{n:02} v{n:02}\nfinish 0")?;
-        writeln!(output, "0 inserted")?;
-    }
+    insert_first(&mut input, count)?;
     writeln!(input, "{lines}list")?;
-    writeln!(output, "{printed}pairs {listed}")?;
-    for n in 1..=listed {
-        writeln!(output, "k{n:02} v{n:02}")?;
+    let mut output = String::new(alloc);
+    for _ in 0..count {
+        output.push_str("0 inserted\n")?;
     }
-    let woven = whole(alloc, limits(rt), input.as_bytes());
-    assert_eq!(rt; woven.output.as_slice(), output.as_bytes());
-    assert_eq!(rt; woven.status, 0);
+    output.push_str(printed)?;
+    list_first(&mut output, listed)?;
+    prints(rt, alloc, limits(rt), input.as_bytes(), output.as_bytes());
     Ok(())
 }
 
@@ -64,19 +76,12 @@ fn a_full_page(rt: HostRuntime) -> Result<(), Fail> {
 fn rows_run_out(rt: HostRuntime) -> Result<(), Fail> {
     let limits = Limits::new(1, 64, 64, 1)?;
     let mut input = Vec::new(rt.alloc());
+    add(&mut input, b"begin 0 upsert a x\nfinish 0\n", 57)?;
     let mut output = Vec::new(rt.alloc());
-    output.extend_from_slice(b"0 set\n")?;
-    for _ in 0..56u32 {
-        input.extend_from_slice(b"begin 0 upsert a x\nfinish 0\n")?;
-    }
-    for _ in 0..55u32 {
-        output.extend_from_slice(b"0 replaced x\n")?;
-    }
-    input.extend_from_slice(b"begin 0 upsert a x\nfinish 0\n")?;
-    output.extend_from_slice(b"0 full\n")?;
-    let woven = whole(rt.alloc(), limits, input.as_slice());
-    assert_eq!(rt; woven.output.as_slice(), output.as_slice());
-    assert_eq!(rt; woven.status, 0);
+    add(&mut output, b"0 set\n", 1)?;
+    add(&mut output, b"0 replaced x\n", 55)?;
+    add(&mut output, b"0 full\n", 1)?;
+    prints(&rt, rt.alloc(), limits, input.as_slice(), output.as_slice());
     Ok(())
 }
 
@@ -86,20 +91,18 @@ fn rows_run_out(rt: HostRuntime) -> Result<(), Fail> {
 fn a_row_is_kept(rt: HostRuntime) -> Result<(), Fail> {
     let limits = Limits::new(3, 64, 64, 1)?;
     let mut input = Vec::new(rt.alloc());
+    add(
+        &mut input,
+        b"begin 2 get a\nturn 2 2\nbegin 0 insert a 1\nturn 0 8\n",
+        1,
+    )?;
+    add(&mut input, b"begin 1 insert a 2\nfinish 1\nfinish 0\n", 1)?;
+    add(&mut input, b"begin 1 upsert a x\nfinish 1\n", 55)?;
+    add(&mut input, b"begin 0 upsert a y\nfinish 0\n", 1)?;
     let mut output = Vec::new(rt.alloc());
-    input.extend_from_slice(b"begin 2 get a\nturn 2 2\nbegin 0 insert a 1\nturn 0 8\n")?;
-    input.extend_from_slice(b"begin 1 insert a 2\nfinish 1\nfinish 0\n")?;
-    output.extend_from_slice(b"1 inserted\n0 exists 2\n1 replaced 2\n")?;
-    for _ in 0..55u32 {
-        input.extend_from_slice(b"begin 1 upsert a x\nfinish 1\n")?;
-    }
-    for _ in 0..53u32 {
-        output.extend_from_slice(b"1 replaced x\n")?;
-    }
-    input.extend_from_slice(b"begin 0 upsert a y\nfinish 0\n")?;
-    output.extend_from_slice(b"1 full\n0 replaced x\n")?;
-    let woven = whole(rt.alloc(), limits, input.as_slice());
-    assert_eq!(rt; woven.output.as_slice(), output.as_slice());
-    assert_eq!(rt; woven.status, 0);
+    add(&mut output, b"1 inserted\n0 exists 2\n1 replaced 2\n", 1)?;
+    add(&mut output, b"1 replaced x\n", 53)?;
+    add(&mut output, b"1 full\n0 replaced x\n", 1)?;
+    prints(&rt, rt.alloc(), limits, input.as_slice(), output.as_slice());
     Ok(())
 }

@@ -2,7 +2,7 @@
 
 use bw_model::Limits;
 use bw_shell::{Reader, Writer, weave};
-use std::alloc::Global;
+use std::alloc::{AllocError, Global};
 use std::io;
 use std::io::{ErrorKind, Read, Write};
 use std::process::Abort;
@@ -122,4 +122,19 @@ pub fn agree(rt: &impl Abort, alloc: Global, rows: Rows<'_>) {
         assert_eq!(rt; woven.output.as_slice(), *output);
         assert_eq!(rt; woven.status, *status);
     }
+}
+
+// Adds a text so many times.
+pub fn add(text: &mut Vec<u8>, part: &[u8], times: u32) -> Result<(), AllocError> {
+    for _ in 0..times {
+        text.extend_from_slice(part)?;
+    }
+    Ok(())
+}
+
+// One run, what it is to write, and that nothing is refused.
+pub fn prints(rt: &impl Abort, alloc: Global, limits: Limits, input: &[u8], output: &[u8]) {
+    let woven = whole(alloc, limits, input);
+    assert_eq!(rt; woven.output.as_slice(), output);
+    assert_eq!(rt; woven.status, 0);
 }
