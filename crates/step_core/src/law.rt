@@ -12,7 +12,7 @@ ghost use Rattle.core_law.specs.Laws.{AnswersShowLeaf, PlainIsUseful, PlainSteps
 ghost use Rattle.core_law.specs.State.{IsState};
 ghost use Rattle.tree_law.specs.Direct.{BeginsDirectly, StepsDirectly};
 ghost use Rattle.tree_law.specs.Own.{RowsAreApart};
-ghost use Rattle.tree_law.specs.TraceLaws.{Begins, FreesByRule, IndexIsExact, IsOneMap, StatesKeepPhases};
+ghost use Rattle.tree_law.specs.TraceLaws.{Begins, StatesFreeByRule, StatesAreIndexed, StatesAreLinearized, StatesKeepPhases};
 
 use core_law::plain_is_useful;
 use tree_law::{begins_directly, rows_are_apart, steps_directly};
@@ -58,10 +58,10 @@ pub(crate) fn steps_keep_laws()
 
 /// What the tree's law says of states.
 pub(crate) fn states_are_lawful()
-    ensures linearized { IsOneMap }
+    ensures linearized { StatesAreLinearized }
     ensures phases { StatesKeepPhases }
-    ensures index { IndexIsExact }
-    ensures freed { FreesByRule }
+    ensures index { StatesAreIndexed }
+    ensures freed { StatesFreeByRule }
 {
     tree_law::is_one_map();
     tree_law::keeps_phases();

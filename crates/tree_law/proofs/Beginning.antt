@@ -30,6 +30,7 @@ use Rattle.op_machine.specs.Reuse.{HandsPid, HandsRow, UnlinksPid, UnlinksRow}
 use Rattle.tree_law.specs.Limbos.{IsInLimbo}
 use Rattle.tree_law.specs.Times.{Times, Timed}
 use Rattle.tree_law.proofs.Limbos.{limbo_push, freed_push, pid_longer, row_longer}
+use Rattle.tree_law.specs.TraceLaws.{Begins, Opens}
 use Rattle.tree_law.specs.Tree.{Good}
 use Rattle.tree_law.proofs.Timely.{calm_same, read_timed}
 use Rattle.tree_law.proofs.Keeping.{begins as good_begins}
@@ -81,7 +82,7 @@ begin_timed {m = m} {o = o} {knows = knows} g T a c =
     (record { learnt_inside = h.learnt_inside; learnt_since = h.learnt_since; seen_learnt = h.seen_learnt; roots_inside = h.roots_inside; roots_since = h.roots_since; heads_since = λ p x e. absurd (cc); before_since = λ p f x e. absurd (cc); beside_since = λ p f y x e. absurd (cc); linked_learnt = λ x e. absurd (cc) })
     refl refl refl refl refl
 
-pub opens : (limits : Limits) → IsState limits []
+pub opens : Opens IsState
 opens limits = record {
   points = [];
   owners = opening_owners limits;
@@ -156,7 +157,7 @@ tells_new entries points a c = record {
     past : (n : ℕ) → length entries < n → n < length (entries ++ Begin a c ∷ []) → ⊥
     past n low high = let long : length (entries ++ Begin a c ∷ []) ≡ suc (length entries) = pushed_length entries (Begin a c) in omega arith
 
-pub begins : (limits : Limits) (entries : List Entry) (actor : ℕ) (command : Command) → IsState limits entries → actor < limits.actors → command_of entries actor ≡ None → IsState limits (entries ++ Begin actor command ∷ [])
+pub begins : Begins IsState
 begins limits entries a c state below idle = record {
   points = state.points ++ false ∷ [];
   owners = state.owners;

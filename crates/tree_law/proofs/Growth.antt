@@ -1,6 +1,6 @@
 -- A step keeps a state, and a state is linearized.
 use Rattle.std.proofs.Common.{◌≡◌, ◌≢◌, ◌<◌, inl, inr, ℕ, zero, suc, List, [], ◌∷◌, ◌++◌, length, Option, Some, None, Bool, true, false, cond, ◌⊎◌, refl, sym, ap, ◌∙◌, subst, arith}
-use Rattle.std.specs.Prelude.{IsSome, IfSome, MatchOption, slice_get, IsTrue, IsFalse, map, ◌↔◌}
+use Rattle.std.specs.Prelude.{IsSome, IfSome, MatchOption, slice_get, IsTrue, IsFalse, ◌↔◌}
 use Rattle.std.specs.Option.{option_to_list}
 use Rattle.std.proofs.lemmas.Option.{same_Some}
 use Rattle.bw_model.specs.declared.command.Command.{Command}
@@ -20,19 +20,16 @@ use Rattle.chain_search.specs.Chains.{IsChainFrom, IsChainOf}
 use Rattle.chain_search.specs.declared.trace.Entry.{Entry}
 use Rattle.chain_search.specs.declared.trace.Entry.TheVariants.{Begin, Step}
 use Rattle.chain_search.specs.Steps.{IsAnswer, memory_after}
-use Rattle.chain_search.specs.Trace.{memory_of, command_of, commands_after, turn_of}
+use Rattle.chain_search.specs.Trace.{memory_of, command_of, commands_after}
 use Rattle.chain_search.proofs.Pushes.{slice_get-push_cases, slice_get_kept}
 use Rattle.chain_search.proofs.TraceLaws.{memory_of-push, command_of-push}
 use Rattle.chain_search.proofs.RunLaws.{IsRun-push}
 use Rattle.op_machine.specs.Answered.{IsTrueReply, is_writer}
-use Rattle.op_machine.specs.Index.{IsExactIndex}
-use Rattle.op_machine.specs.Linearized.{IsLinearized}
 use Rattle.op_machine.specs.Updates.{LinksUpdate, UpdatesAtLinks}
 use Rattle.op_machine.specs.Operations.{Operation, IsOperation, IsOwnStep, Finishes}
-use Rattle.op_machine.specs.Phases.{Phase, Moves, IsInPhase, KeepsPhases}
+use Rattle.op_machine.specs.Phases.{Phase, Moves, IsInPhase}
 use Rattle.op_machine.specs.Points.{IsPoint, log_of, log_at, updates_by, has_point}
 use Rattle.op_machine.specs.Quiet.{IsQuiet}
-use Rattle.op_machine.specs.Reuse.{IsFreedByRule}
 use Rattle.op_machine.proofs.Listed.{same_operation}
 use Rattle.op_machine.proofs.LogLaws.{log_of-push}
 use Rattle.chain_search.specs.Discipline.{May, MayAnswer, MayGiveUp, MayReply, IsAllowed}
@@ -43,6 +40,7 @@ use Rattle.tree_law.specs.Put.{put}
 use Rattle.tree_law.specs.Replies.{IsRepliedAt}
 use Rattle.tree_law.specs.Shared.{slot_in, shared}
 use Rattle.tree_law.specs.State.{phase_of, IsInTree, IsReady, IsUnended, operation_of, Tells, IsSearch, Answers, IsMarked, IsState}
+use Rattle.tree_law.specs.TraceLaws.{StatesAreIndexed, StatesAreLinearized, StatesFreeByRule, StatesKeepPhases, Steps}
 use Rattle.tree_law.specs.Times.{Times, Timed, times_after}
 use Rattle.tree_law.specs.Tree.{Good}
 use Rattle.tree_law.proofs.Freeing.{t1, t2, rows_after, rows_timed, pages_after, pages_timed}
@@ -399,8 +397,7 @@ module _ (limits : Limits) (entries : List Entry) (a : ℕ) (step : StepOf Recor
         in_phase_after only_phase_after state.indexed;
   }
 
-pub steps : (limits : Limits) (entries : List Entry) (actor : ℕ) (step : StepOf Record) (answer : Answer Record) (reply : Option Reply) → IsState limits entries → IsSome (command_of entries actor)
-    → IsAllowed limits actor (knows entries actor) step reply → IsAnswer (memory_of limits entries) step answer → IsState limits (entries ++ Step actor step answer reply ∷ [])
+pub steps : Steps
 steps limits entries a step answer r state busy allowed is = go (command_of entries a) refl busy
   where
     replied : (o : Option Reply) → IfSome o (λ y. (step ≡ Leave) × MayReply limits a (knows entries a) y) → IfSome o (MayReply limits a (knows entries a))
@@ -496,7 +493,7 @@ pointless limits entries points op reply.Full (inl h) e m own p = no_full op.com
 pointless limits entries points op answer (inl h) e m own p = cc
 pointless limits entries points op answer (inr h) e m own p = h.1.unmarked m own p
 
-pub is_one_map : (limits : Limits) (entries : List Entry) → IsState limits entries → IsLinearized limits (map turn_of entries) entries
+pub is_one_map : StatesAreLinearized
 is_one_map limits entries state = record {
   run = record { in_turn = refl; run = state.run };
   points = state.points;
@@ -513,11 +510,11 @@ is_one_map limits entries state = record {
   faithful = state.faithful;
 }
 
-pub keeps_phases : (limits : Limits) (entries : List Entry) → IsState limits entries → KeepsPhases limits entries
+pub keeps_phases : StatesKeepPhases
 keeps_phases limits entries state = state.phases
 
-pub frees_by_rule : (limits : Limits) (entries : List Entry) → IsState limits entries → IsFreedByRule limits entries
+pub frees_by_rule : StatesFreeByRule
 frees_by_rule limits entries state = state.freed
 
-pub index_is_exact : (limits : Limits) (entries : List Entry) → IsState limits entries → IsExactIndex limits entries
+pub index_is_exact : StatesAreIndexed
 index_is_exact limits entries state = state.indexed.exact

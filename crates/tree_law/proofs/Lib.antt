@@ -1,6 +1,5 @@
 pub mod Allowed
 pub mod Answering
-pub mod Apart
 pub mod Beginning
 pub mod Chains
 pub mod Emptying
@@ -50,6 +49,7 @@ pub mod Rows
 pub mod Runs
 pub mod Searches
 pub mod Seasons
+pub mod Separate
 pub mod Sides
 pub mod Slots
 pub mod Splitting

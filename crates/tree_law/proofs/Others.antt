@@ -13,7 +13,7 @@ use Rattle.chain_search.specs.Knowledge.{knows_after, nothing}
 use Rattle.chain_search.specs.Recalled.{Recalled, blank, recall, recalls_after}
 use Rattle.chain_search.specs.Trace.{commands_after}
 use Rattle.tree_law.specs.Direct.{Accounts}
-use Rattle.tree_law.specs.Own.{Lasts}
+use Rattle.tree_law.specs.Own.{OwnLasts}
 use Rattle.tree_law.proofs.OwnEntries.{after_other}
 use Rattle.tree_law.proofs.Puts.{eqb_false, put_other}
 use Rattle.tree_law.proofs.direct.Affording.{not_step_of}
@@ -60,7 +60,7 @@ accounts_along limits a left seen (entry ∷ rest) none accounts = elim (is_entr
   | false ↦ λ e f. subst (λ es. Accounts limits es a left) (append_assoc seen (entry ∷ []) rest) (accounts_along limits a left (seen ++ entry ∷ []) rest f (accounts_other limits seen entry a left e accounts))
 ] refl none
 
-pub own_lasts : (limits : Limits) (a : ℕ) (seen run : List Entry) → Extends a seen run → Lasts limits a seen run
+pub own_lasts : OwnLasts
 own_lasts limits a seen run x = record {
   known = lasts knows_after a (λ ks entry e. after_other ks a entry e) (λ b. nothing) seen run x;
   recalled = lasts recalls_after a (λ rs entry e. recalls_other rs a entry e) (λ b. blank) seen run x;

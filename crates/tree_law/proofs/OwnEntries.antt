@@ -4,8 +4,9 @@ use Rattle.std.specs.Prelude.{if◌then◌else◌}
 use Rattle.std.specs.List.{fold}
 use Rattle.chain_search.specs.declared.trace.Entry.{Entry}
 use Rattle.chain_search.specs.declared.trace.Entry.TheVariants.{Begin, Step}
-use Rattle.chain_search.specs.Knowledge.{Knowledge, nothing, begun, learn, finished, knows_after, knows}
+use Rattle.chain_search.specs.Knowledge.{Knowledge, nothing, begun, learn, finished, knows_after}
 use Rattle.chain_search.specs.Disciplined.{is_entry_of, own_entries}
+use Rattle.tree_law.specs.TraceLaws.{KnowledgeIsOwn}
 use Rattle.tree_law.proofs.Puts.{eqb_true, eqb_false, put_same, put_other}
 
 -- an entry of another actor leaves what the actor knows
@@ -30,6 +31,6 @@ fold_own (entry ∷ entries) ks ks' a same = elim (is_entry_of a entry) as (λ t
 ] refl
 
 -- two traces with the same own entries let the actor know the same
-pub knows_own : (entries others : List Entry) (a : ℕ) → own_entries a entries ≡ own_entries a others → knows entries a ≡ knows others a
+pub knows_own : KnowledgeIsOwn
 knows_own entries others a same =
     fold_own entries (λ b. nothing) (λ b. nothing) a refl ∙ ap (λ es. fold knows_after (λ b. nothing) es a) same ∙ sym (fold_own others (λ b. nothing) (λ b. nothing) a refl)

@@ -9,6 +9,7 @@ use Rattle.chain_search.specs.Disciplined.{MayStand, IsDisciplinedFrom, IsDiscip
 use Rattle.chain_search.specs.Trace.{turn_of}
 use Rattle.op_machine.specs.Linearized.{IsLinearized}
 use Rattle.tree_law.specs.State.{IsState}
+use Rattle.tree_law.specs.TraceLaws.{DisciplinedRuns}
 use Rattle.tree_law.proofs.Beginning.{opens, begins}
 use Rattle.tree_law.proofs.Growth.{steps, is_one_map}
 
@@ -20,7 +21,7 @@ pub state_along : (limits : Limits) (before entries : List Entry) → IsState li
 state_along limits before [] state h = rw append-nil state
 state_along limits before (entry ∷ entries) state h = subst (IsState limits) (append_assoc before (entry ∷ []) entries) (state_along limits (before ++ entry ∷ []) entries (one_more limits before entry state h.0) h.1)
 
-pub disciplined : (limits : Limits) (entries : List Entry) → IsDisciplined limits entries → IsState limits entries
+pub disciplined : DisciplinedRuns
 disciplined limits entries h = state_along limits [] entries (opens limits) h
 
 pub linearized : (limits : Limits) (entries : List Entry) → IsDisciplined limits entries → IsLinearized limits (map turn_of entries) entries

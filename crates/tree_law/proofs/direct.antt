@@ -1,4 +1,5 @@
 pub mod Affording
+pub mod Along
 pub mod Appended
 pub mod Causes
 pub mod Counting

@@ -1,6 +1,6 @@
 -- What a trace of allowed steps keeps true of how many steps an operation takes: the trace is direct, and the causes of each
 -- operation pay for the steps that it has left.
-use Rattle.std.specs.Prelude.{◌≡◌, ◌≢◌, ◌<◌, ◌≤◌, ◌+◌, ◌*◌, ◌^◌, ℕ, List, [], ◌∷◌, ◌++◌, length, drop, Option, Some, IsSome, true, ◌⊎◌}
+use Rattle.std.specs.Prelude.{◌≡◌, ◌≢◌, ◌<◌, ◌≤◌, ◌+◌, ◌*◌, ◌^◌, ℕ, List, [], ◌∷◌, ◌++◌, length, drop, Option, Some, IsSome, true, ◌⊎◌, ⊤}
 use Rattle.std.specs.List.{All, count_by}
 use Rattle.std.specs.List.Sorted.{IsStrictlyIncreasing}
 use Rattle.bw_model.specs.declared.command.Command.{Command}
@@ -12,10 +12,12 @@ use Rattle.bw_model.specs.declared.step.Link.{Link}
 use Rattle.bw_model.specs.declared.step.Step.{Step as StepOf}
 use Rattle.bw_model.specs.declared.step.Step.TheVariants.{Slot, Row, PidBits, RowBits}
 use Rattle.deltas.specs.declared.record.Record.{Record}
+use Rattle.deltas.specs.Memory.{replaced_at}
 use Rattle.deltas.specs.NamedPages.{NamesPage}
 use Rattle.chain_search.specs.declared.trace.Entry.{Entry}
 use Rattle.chain_search.specs.declared.trace.Entry.TheVariants.{Begin, Step}
 use Rattle.chain_search.specs.Discipline.{IsAllowed}
+use Rattle.chain_search.specs.Disciplined.{IsDisciplined}
 use Rattle.chain_search.specs.Knowledge.{Ready, knows}
 use Rattle.chain_search.specs.Recalled.{Recalled, Walk, AnyNames, IsSpent, IsUnread, is_removal, recalls}
 use Rattle.chain_search.specs.Steps.{IsAnswer}
@@ -87,3 +89,14 @@ abbrev pub StepsDirectly : Type 0
 StepsDirectly = (limits : Limits) (entries : List Entry) (actor left rest : ℕ) (step : StepOf Record) (answer : Answer Record) (reply : Option Reply) → IsState limits entries
     → IsAllowed limits actor (knows entries actor) step reply → IsUseful (knows entries actor) step → IsAnswer (memory_of limits entries) step answer → IsDirectState limits entries → Accounts limits entries actor left
     → IsSpent (recalls entries actor) step answer left rest → StaysDirect limits entries (Step actor step answer reply) actor rest
+
+-- Along these entries each operation says how many steps it has left: 2^18 at most when it begins; and with each step, which is
+-- of use, it has spent one, or was paid.
+abbrev pub SpendsFrom : (ℕ → ℕ) → List Entry → List Entry → Type 0
+SpendsFrom left before [] = ⊤
+SpendsFrom left before (Begin actor command ∷ entries) = (rest : ℕ) × (rest ≤ 2 ^ 18) × SpendsFrom (replaced_at actor rest left) (before ++ Begin actor command ∷ []) entries
+SpendsFrom left before (Step actor step answer reply ∷ entries) = (rest : ℕ) × IsUseful (knows before actor) step × IsSpent (recalls before actor) step answer (left actor) rest × SpendsFrom (replaced_at actor rest left) (before ++ Step actor step answer reply ∷ []) entries
+
+-- Then a trace in which each actor obeys its discipline is direct.
+abbrev pub DirectRuns : Type 0
+DirectRuns = (limits : Limits) (entries : List Entry) → IsDisciplined limits entries → SpendsFrom (λ actor. 0) [] entries → IsDirect limits entries

@@ -13,7 +13,7 @@ use Rattle.tree_law.specs.State.{IsState}
 
 -- A row that an actor has taken has no other owner, and nobody has learnt it; it has what it has placed there. A row that one has learnt
 -- has a record. Both are below the limit.
-pub record AreApart (limits : Limits) (entries : List Entry) : Type 0 where
+pub record AreSeparate (limits : Limits) (entries : List Entry) : Type 0 where
   pub one_owner : (actor other row : ℕ) → IsOwn ((knows entries actor).own.rows row) → IsOwn ((knows entries other).own.rows row) → actor ≡ other
   pub unlearnt : (actor other row : ℕ) → IsOwn ((knows entries actor).own.rows row) → (knows entries other).read.learnt row ≡ true → ⊥
   pub own_below : (actor row : ℕ) → IsOwn ((knows entries actor).own.rows row) → row < limits.rows
@@ -29,7 +29,7 @@ pub record Lasts (limits : Limits) (actor : ℕ) (seen run : List Entry) : Type 
   pub affords : (left : ℕ) → Accounts limits seen actor left → Accounts limits run actor left
 
 abbrev pub RowsAreApart : Type 0
-RowsAreApart = (limits : Limits) (entries : List Entry) → IsState limits entries → AreApart limits entries
+RowsAreApart = (limits : Limits) (entries : List Entry) → IsState limits entries → AreSeparate limits entries
 
 -- what is an actor's own outlasts the entries of others
 abbrev pub OwnLasts : Type 0

@@ -54,17 +54,17 @@ Steps = (limits : Limits) (entries : List Entry) (actor : ℕ) (step : StepOf Re
 abbrev pub DisciplinedRuns : Type 0
 DisciplinedRuns = (limits : Limits) (entries : List Entry) → IsDisciplined limits entries → IsState limits entries
 
-abbrev pub IsOneMap : Type 0
-IsOneMap = (limits : Limits) (entries : List Entry) → IsState limits entries → IsLinearized limits (map turn_of entries) entries
+abbrev pub StatesAreLinearized : Type 0
+StatesAreLinearized = (limits : Limits) (entries : List Entry) → IsState limits entries → IsLinearized limits (map turn_of entries) entries
 
 abbrev pub StatesKeepPhases : Type 0
 StatesKeepPhases = (limits : Limits) (entries : List Entry) → IsState limits entries → KeepsPhases limits entries
 
-abbrev pub IndexIsExact : Type 0
-IndexIsExact = (limits : Limits) (entries : List Entry) → IsState limits entries → IsExactIndex limits entries
+abbrev pub StatesAreIndexed : Type 0
+StatesAreIndexed = (limits : Limits) (entries : List Entry) → IsState limits entries → IsExactIndex limits entries
 
-abbrev pub FreesByRule : Type 0
-FreesByRule = (limits : Limits) (entries : List Entry) → IsState limits entries → IsFreedByRule limits entries
+abbrev pub StatesFreeByRule : Type 0
+StatesFreeByRule = (limits : Limits) (entries : List Entry) → IsState limits entries → IsFreedByRule limits entries
 
 -- a row that an actor may read has a record
 abbrev pub RowsStand : Type 0

@@ -6,7 +6,7 @@ ghost use Rattle.chain_search.specs.Trace.{turn_of};
 ghost use Rattle.chain_search.specs.declared.trace.Entry.{Entry};
 ghost use Rattle.op_machine.specs.Linearized.{IsLinearized};
 ghost use Rattle.tree_law.specs.State.{IsState};
-ghost use Rattle.tree_law.specs.TraceLaws.{AnswersFit, Begins, DisciplinedRuns, EntriesGrow, FreesByRule, IndexIsExact, IsOneMap, KnowledgeIsOwn, Opens, RowsStand, StatesKeepPhases, Steps};
+ghost use Rattle.tree_law.specs.TraceLaws.{AnswersFit, Begins, DisciplinedRuns, EntriesGrow, StatesFreeByRule, StatesAreIndexed, StatesAreLinearized, KnowledgeIsOwn, Opens, RowsStand, StatesKeepPhases, Steps};
 
 /// What one more entry makes of a trace.
 pub fn entries_grow()
@@ -30,7 +30,7 @@ pub fn steps()
 
 /// A state is linearized.
 pub fn is_one_map()
-    ensures { IsOneMap }
+    ensures { StatesAreLinearized }
 {}
 
 /// A state keeps the phases of pages.
@@ -40,12 +40,12 @@ pub fn keeps_phases()
 
 /// A state has an exact index at each moment.
 pub fn index_is_exact()
-    ensures { IndexIsExact }
+    ensures { StatesAreIndexed }
 {}
 
 /// A state frees by the rule of epochs.
 pub fn frees_by_rule()
-    ensures { FreesByRule }
+    ensures { StatesFreeByRule }
 {}
 
 /// A trace in which each actor obeys its discipline is a state, and so linearized.

@@ -8,7 +8,7 @@ mod invariant;
 mod law;
 mod own;
 
-pub use direct::{begins_directly, opens_directly, steps_directly};
+pub use direct::{begins_directly, opens_directly, runs_directly, steps_directly};
 pub use examples::{all_links_are_disciplined, helped_split_is_disciplined, sweep_is_disciplined};
 pub use invariant::{
     key_order, levels_are_indexed, one_begin_keeps, one_step_keeps, opening_is_good,

@@ -27,6 +27,7 @@ use Rattle.op_machine.specs.Operations.{Operation}
 use Rattle.op_machine.specs.Updates.{IsUpdateLink}
 use Rattle.tree_law.specs.Direct.{Accounts, Affords, IsDirectState, IsLast, Recollects, StaysDirect, Walks}
 use Rattle.tree_law.specs.State.{IsState}
+use Rattle.tree_law.specs.TraceLaws.{Opens}
 use Rattle.tree_law.proofs.Fitted.{fits}
 use Rattle.tree_law.proofs.Puts.{at_place, by_test}
 use Rattle.tree_law.proofs.direct.Appended.{knows-push, last_begun, last_cases, recalls-push, takes_below}
@@ -42,7 +43,7 @@ use Rattle.tree_law.proofs.direct.Walking.{walks_kept, walks_own}
 pub not_step_of : (actor other : ℕ) (s : StepOf Record) (x : Answer Record) (reply : Option Reply) → actor ≢ other → is_step_of actor (Step other s x reply) ≡ false
 not_step_of actor other s x reply ne = elim (eqb_tells other actor) [ inl same ↦ absurd (ne (sym same.1)) | inr apart ↦ apart.0 ]
 
-pub opens : (limits : Limits) → IsDirectState limits []
+pub opens : Opens IsDirectState
 opens limits = record {
   direct = record { few = λ op n begun own. absurd (cc); once = λ op m n first second begun one two is_one is_two. absurd (cc); useful = λ op n slot old new chain begun took is is_chain. absurd (cc) };
   recollects = λ op latest. absurd (let e = latest.begun in cc);

@@ -1,5 +1,5 @@
-use Rattle.tree_law.proofs.Apart.{apart}
+use Rattle.tree_law.proofs.Separate.{separate}
 use Rattle.tree_law.proofs.own.rows_are_apart.Goals as goal
 
 pub returns : goal.returns
-returns c = apart
+returns c = separate

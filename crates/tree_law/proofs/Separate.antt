@@ -6,7 +6,7 @@ use Rattle.chain_search.specs.declared.trace.Entry.{Entry}
 use Rattle.chain_search.specs.Discipline.{IsOwn}
 use Rattle.chain_search.specs.Knowledge.{OwnRow, Foreign, Taken, Written, knows}
 use Rattle.chain_search.specs.Trace.{memory_of}
-use Rattle.tree_law.specs.Own.{AreApart}
+use Rattle.tree_law.specs.Own.{AreSeparate}
 use Rattle.tree_law.specs.Owners.{Owner, Spare, Linked, OwnFits}
 use Rattle.tree_law.specs.State.{IsState}
 
@@ -22,8 +22,8 @@ module _ (limits : Limits) (entries : List Entry) (state : IsState limits entrie
   linked : (a row : ℕ) → (knows entries a).read.learnt row ≡ true → state.owners.row row ≡ Linked
   linked a row learnt = (state.good.sound a).learnt_fits row learnt
 
-  pub apart : AreApart limits entries
-  apart = record {
+  pub separate : AreSeparate limits entries
+  separate = record {
     one_owner = λ a b row one two. let e = spare a row one in let f = spare b row two in cc;
     unlearnt = λ a b row own learnt. let e = spare a row own in let f = linked b row learnt in absurd (cc);
     own_below = λ a row own. elim (state.named.row_below row) [ inl free ↦ let e = spare a row own in absurd (cc) | inr below ↦ below ];
