@@ -41,9 +41,9 @@ found chain key = value_of (content_in chain key)
 
 -- the page's slot was read as this row, and the whole chain from there, which is not removed
 pub record HasRead (k : Knowledge) (page row : ℕ) : Type 0 where
-  pub head : k.heads page ≡ Some row
+  pub head : k.read.heads page ≡ Some row
   pub chain : List Record
-  pub read : IsChainFrom k.seen row chain
+  pub read : IsChainFrom k.read.seen row chain
   pub alive : IsFalse (is_removed chain)
 
 -- The page is the right of a removed page that stood right of the one whose chain this is: the removed one had been read before.
@@ -52,8 +52,8 @@ pub record IsBeyond (k : Knowledge) (left : ℕ) (beside : List Record) (page : 
   pub row : ℕ
   pub chain : List Record
   pub right : right_in beside ≡ Some removed
-  pub order : k.before left removed ≡ Some row
-  pub read : IsChainFrom k.seen row chain
+  pub order : k.read.before left removed ≡ Some row
+  pub read : IsChainFrom k.read.seen row chain
   pub gone : IsTrue (is_removed chain)
   pub next : right_in chain ≡ Some page
 
@@ -90,116 +90,126 @@ root_over level page separator right = Base (record {
 abbrev pub FitsOn : List Record → Record → Type 0
 FitsOn chain content = MatchOption (next_row content) (IsFitted (content ∷ [])) (λ next. FitsOver chain content × (length chain ≤ 12))
 
--- What is placed in the new row fits the chain that was read from the old one.
-pub record MayAdd (k : Knowledge) (old new : ℕ) : Type 0 where
-  pub chain : List Record
-  pub read : IsChainFrom k.seen old chain
-  pub content : Record
-  pub placed : k.rows new ≡ Written content
-  pub fits : FitsOn chain content
-
--- A Put or a Delete: an update may be linked over a leaf that was read and has the key in its range, where the command
--- makes it there, once in an operation.
-pub record MayUpdate (actor : ℕ) (k : Knowledge) (page old new : ℕ) : Type 0 where
-  pub basis : HasRead k page old
-  pub leaf : level_in basis.chain ≡ 0
+-- A Put or a Delete: an update may be linked over a leaf that has the key in its range, where the command makes it there,
+-- once in an operation.
+pub record MayUpdate (actor : ℕ) (k : Knowledge) (old : ℕ) (chain : List Record) (content : Record) : Type 0 where
+  pub leaf : level_in chain ≡ 0
   pub command : Command
-  pub going : k.command ≡ Some command
-  pub unlinked : k.linked ≡ None
-  pub covers : IsTrue (covers basis.chain (command_key command))
+  pub going : k.asked.command ≡ Some command
+  pub unlinked : k.asked.linked ≡ None
+  pub covers : IsTrue (covers chain (command_key command))
   pub update : Update
-  pub due : update_of actor command (found basis.chain (command_key command)) ≡ Some update
-  pub placed : k.rows new ≡ Written (record_of update old)
+  pub due : update_of actor command (found chain (command_key command)) ≡ Some update
+  pub is : content ≡ record_of update old
 
 -- A Base: consolidation puts a base in the chain's place that spells what the chain spells.
-pub record MayConsolidate (k : Knowledge) (page old new : ℕ) : Type 0 where
-  pub basis : HasRead k page old
+pub record MayConsolidate (chain : List Record) (content : Record) : Type 0 where
   pub items : List Item
-  pub alike : AreAlike items basis.chain
-  pub placed : k.rows new ≡ Written (base_from basis.chain (low_in basis.chain) items)
+  pub alike : AreAlike items chain
+  pub is : content ≡ base_from chain (low_in chain) items
 
 -- A Split: where the new page is ready and spells the upper part.
-pub record MaySplit (k : Knowledge) (page old new : ℕ) : Type 0 where
-  pub basis : HasRead k page old
+pub record MaySplit (k : Knowledge) (old : ℕ) (chain : List Record) (content : Record) : Type 0 where
   pub separator : List ℕ
-  pub above : IsTrue (is_below (low_in basis.chain) separator)
-  pub below : IsTrue (is_under separator (high_in basis.chain))
+  pub above : IsTrue (is_below (low_in chain) separator)
+  pub below : IsTrue (is_under separator (high_in chain))
   pub right : ℕ
   pub row : ℕ
-  pub ready : k.pages right ≡ Ready row
+  pub ready : k.own.pages right ≡ Ready row
   pub items : List Item
-  pub alike : (key : List ℕ) → IsTrue (covers basis.chain key) → IsFalse (is_below key separator) → content_at items key ≡ content_in basis.chain key
-  pub base : k.rows row ≡ Written (base_from basis.chain separator items)
-  pub ruled : IsFitted (base_from basis.chain separator items ∷ [])
-  pub placed : k.rows new ≡ Written (Split (record { level = level_in basis.chain; next = old; separator = separator; page = right }))
+  pub alike : (key : List ℕ) → IsTrue (covers chain key) → IsFalse (is_below key separator) → content_at items key ≡ content_in chain key
+  pub base : k.own.rows row ≡ Written (base_from chain separator items)
+  pub ruled : IsFitted (base_from chain separator items ∷ [])
+  pub is : content ≡ Split (record { level = level_in chain; next = old; separator = separator; page = right })
 
 -- A Term: of a page that was read after its parent, which is one level up, has the page's low key in its range and no
 -- term there.
-pub record MayPost (k : Knowledge) (page old new : ℕ) : Type 0 where
-  pub basis : HasRead k page old
+pub record MayPost (k : Knowledge) (page old : ℕ) (chain : List Record) (content : Record) : Type 0 where
   pub child : ℕ
   pub row : ℕ
   pub below : HasRead k child row
-  pub level : level_in basis.chain ≡ suc (level_in below.chain)
-  pub covers : IsTrue (covers basis.chain (low_in below.chain))
-  pub absent : content_in basis.chain (low_in below.chain) ≡ None
-  pub order : k.before child page ≡ Some old
-  pub placed : k.rows new ≡ Written (Term (record { level = level_in basis.chain; next = old; separator = low_in below.chain; child = child }))
+  pub level : level_in chain ≡ suc (level_in below.chain)
+  pub covers : IsTrue (covers chain (low_in below.chain))
+  pub absent : content_in chain (low_in below.chain) ≡ None
+  pub order : k.read.before child page ≡ Some old
+  pub is : content ≡ Term (record { level = level_in chain; next = old; separator = low_in below.chain; child = child })
 
 -- A Hold: of an unheld term.
-pub record MayHold (k : Knowledge) (page old new : ℕ) : Type 0 where
-  pub basis : HasRead k page old
+pub record MayHold (old : ℕ) (chain : List Record) (content : Record) : Type 0 where
   pub level : ℕ
-  pub is_level : level_in basis.chain ≡ suc level
+  pub is_level : level_in chain ≡ suc level
   pub key : List ℕ
-  pub covers : IsTrue (covers basis.chain key)
+  pub covers : IsTrue (covers chain key)
   pub child : ℕ
-  pub present : content_in basis.chain key ≡ Some (Child child false)
-  pub placed : k.rows new ≡ Written (Hold (record { level = level_in basis.chain; next = old; separator = key; child = child }))
+  pub present : content_in chain key ≡ Some (Child child false)
+  pub is : content ≡ Hold (record { level = level_in chain; next = old; separator = key; child = child })
 
 -- A Remove: of a page whose term was read held.
-pub record MayRemove (k : Knowledge) (page old new : ℕ) : Type 0 where
-  pub basis : HasRead k page old
+pub record MayRemove (k : Knowledge) (page old : ℕ) (chain : List Record) (content : Record) : Type 0 where
   pub parent : ℕ
   pub row : ℕ
   pub above : HasRead k parent row
-  pub level : level_in above.chain ≡ suc (level_in basis.chain)
-  pub covers : IsTrue (covers above.chain (low_in basis.chain))
-  pub held : content_in above.chain (low_in basis.chain) ≡ Some (Child page true)
-  pub placed : k.rows new ≡ Written (Remove (record { level = level_in basis.chain; next = old }))
+  pub level : level_in above.chain ≡ suc (level_in chain)
+  pub covers : IsTrue (covers above.chain (low_in chain))
+  pub held : content_in above.chain (low_in chain) ≡ Some (Child page true)
+  pub is : content ≡ Remove (record { level = level_in chain; next = old })
 
 -- A Merge: a page's right, which was read removed, comes into it.
-pub record MayMerge (k : Knowledge) (page old new : ℕ) : Type 0 where
-  pub basis : HasRead k page old
+pub record MayMerge (k : Knowledge) (old : ℕ) (chain : List Record) (content : Record) : Type 0 where
   pub other : ℕ
   pub row : ℕ
-  pub head : k.heads other ≡ Some row
-  pub chain : List Record
-  pub read : IsChainFrom k.seen row chain
-  pub gone : IsTrue (is_removed chain)
-  pub right : right_in basis.chain ≡ Some other
-  pub high : high_in basis.chain ≡ Some (low_in chain)
+  pub head : k.read.heads other ≡ Some row
+  pub merged : List Record
+  pub read : IsChainFrom k.read.seen row merged
+  pub gone : IsTrue (is_removed merged)
+  pub right : right_in chain ≡ Some other
+  pub high : high_in chain ≡ Some (low_in merged)
   pub items : List Item
-  pub alike : AreAlike items chain
-  pub placed : k.rows new ≡ Written (Merge (record { level = level_in basis.chain; next = old; low = low_in chain; high = high_in chain; right = right_in chain; items = items }))
+  pub alike : AreAlike items merged
+  pub is : content ≡ Merge (record { level = level_in chain; next = old; low = low_in merged; high = high_in merged; right = right_in merged; items = items })
 
 -- An Unterm: a held term goes where, after its page, a page was read in whose range or at whose end the child would
 -- have to be, and is not.
-pub record MayUnterm (k : Knowledge) (page old new : ℕ) : Type 0 where
-  pub basis : HasRead k page old
+pub record MayUnterm (k : Knowledge) (page old : ℕ) (chain : List Record) (content : Record) : Type 0 where
   pub key : List ℕ
-  pub covers : IsTrue (covers basis.chain key)
+  pub covers : IsTrue (covers chain key)
   pub child : ℕ
-  pub present : content_in basis.chain key ≡ Some (Child child true)
+  pub present : content_in chain key ≡ Some (Child child true)
   pub left : ℕ
   pub row : ℕ
   pub below : HasRead k left row
-  pub level : level_in basis.chain ≡ suc (level_in below.chain)
+  pub level : level_in chain ≡ suc (level_in below.chain)
   pub above : IsTrue (is_below (low_in below.chain) key)
   pub within : IfSome (high_in below.chain) (λ high. IsFalse (is_below high key))
   pub apart : high_in below.chain ≡ Some key → right_in below.chain ≡ Some child → ⊥
-  pub order : k.before left page ≡ Some old
-  pub placed : k.rows new ≡ Written (Unterm (record { level = level_in basis.chain; next = old; separator = key; child = child }))
+  pub order : k.read.before left page ≡ Some old
+  pub is : content ≡ Unterm (record { level = level_in chain; next = old; separator = key; child = child })
+
+-- what a record is asked, to be linked on a page over the old row's chain
+abbrev pub MayLink : ℕ → Knowledge → ℕ → ℕ → List Record → Record → Type 0
+MayLink actor k page old chain (Base base) = MayConsolidate chain (Base base)
+MayLink actor k page old chain (Put put) = MayUpdate actor k old chain (Put put)
+MayLink actor k page old chain (Delete delete) = MayUpdate actor k old chain (Delete delete)
+MayLink actor k page old chain (Split split) = MaySplit k old chain (Split split)
+MayLink actor k page old chain (Term term) = MayPost k page old chain (Term term)
+MayLink actor k page old chain (Hold hold) = MayHold old chain (Hold hold)
+MayLink actor k page old chain (Remove remove) = MayRemove k page old chain (Remove remove)
+MayLink actor k page old chain (Merge merge) = MayMerge k old chain (Merge merge)
+MayLink actor k page old chain (Unterm unterm) = MayUnterm k page old chain (Unterm unterm)
+
+-- The row stands in the slot of no own page.
+abbrev pub IsUnset : Knowledge → ℕ → Type 0
+IsUnset k row = (page : ℕ) → k.own.pages page ≡ Ready row → ⊥
+
+-- A new row comes over a page's old one: the page was read with the old row's chain, what was placed in the new row fits that
+-- chain and is due there, and the row stands in no slot.
+pub record MayAdd (actor : ℕ) (k : Knowledge) (page old new : ℕ) : Type 0 where
+  pub basis : HasRead k page old
+  pub content : Record
+  pub placed : k.own.rows new ≡ Written content
+  pub fits : FitsOn basis.chain content
+  pub due : MayLink actor k page old basis.chain content
+  pub unset : IsUnset k new
 
 -- A Root: over the page that slot 0 has, and its right, where the new page is ready with the two terms.
 pub record MayRoot (k : Knowledge) (old new : ℕ) : Type 0 where
@@ -211,46 +221,38 @@ pub record MayRoot (k : Knowledge) (old new : ℕ) : Type 0 where
   pub is_high : high_in basis.chain ≡ Some separator
   pub some : IsTrue (is_below [] separator)
   pub base_row : ℕ
-  pub ready : k.pages new ≡ Ready base_row
-  pub base : k.rows base_row ≡ Written (root_over (suc (level_in basis.chain)) old separator right)
+  pub ready : k.own.pages new ≡ Ready base_row
+  pub base : k.own.rows base_row ≡ Written (root_over (suc (level_in basis.chain)) old separator right)
   pub ruled : IsFitted (root_over (suc (level_in basis.chain)) old separator right ∷ [])
-
--- a row may be linked over another on a page of the tree
-abbrev pub MayLink : ℕ → Knowledge → ℕ → ℕ → ℕ → Type 0
-MayLink actor k page old new = MayUpdate actor k page old new ⊎ MayConsolidate k page old new ⊎ MaySplit k page old new ⊎ MayPost k page old new ⊎ MayHold k page old new ⊎ MayRemove k page old new ⊎ MayMerge k page old new ⊎ MayUnterm k page old new
 
 -- a base that the actor placed in an own row
 abbrev pub IsOwnBase : OwnRow → Type 0
 IsOwnBase (Written (Base page)) = ⊤
 IsOwnBase _ = ⊥
 
--- The row stands in the slot of no own page.
-abbrev pub IsUnset : Knowledge → ℕ → Type 0
-IsUnset k row = (page : ℕ) → k.pages page ≡ Ready row → ⊥
-
 -- Slot 0 goes from root to root. The slot of an own page goes from 0 to an own base (Ready) and back to 0 (Undo), and
 -- that of a page whose term the actor took away to 0 (Clear). No row comes into two slots.
 abbrev pub MayExchange : ℕ → Knowledge → ℕ → ℕ → ℕ → Type 0
 MayExchange actor k zero old new = MayRoot k old new
 MayExchange actor k (suc page) zero zero = ⊥
-MayExchange actor k (suc page) zero (suc row) = (k.pages (suc page) ≡ Empty) × IsOwnBase (k.rows (suc row)) × IsUnset k (suc row)
-MayExchange actor k (suc page) (suc row) zero = (k.pages (suc page) ≡ Ready (suc row)) ⊎ (k.pages (suc page) ≡ Gone)
-MayExchange actor k (suc page) (suc old) (suc new) = MayAdd k (suc old) (suc new) × MayLink actor k (suc page) (suc old) (suc new) × IsUnset k (suc new)
+MayExchange actor k (suc page) zero (suc row) = (k.own.pages (suc page) ≡ Empty) × IsOwnBase (k.own.rows (suc row)) × IsUnset k (suc row)
+MayExchange actor k (suc page) (suc row) zero = (k.own.pages (suc page) ≡ Ready (suc row)) ⊎ (k.own.pages (suc page) ≡ Gone)
+MayExchange actor k (suc page) (suc old) (suc new) = MayAdd actor k (suc page) (suc old) (suc new)
 
 -- An own row is placed while it stands in no slot. The epoch that is announced was read. Only an actor that is outside frees.
 abbrev pub May : ℕ → Knowledge → StepOf Record → Type 0
 May actor k (Slot zero) = IsTrue k.inside
-May actor k (Slot (suc page)) = IsTrue k.inside × (IsTrue (k.roots (suc page)) ⊎ IsMet k (suc page))
-May actor k (Row row) = IsTrue k.inside × IsTrue (k.learnt row)
+May actor k (Slot (suc page)) = IsTrue k.inside × (IsTrue (k.read.roots (suc page)) ⊎ IsMet k (suc page))
+May actor k (Row row) = IsTrue k.inside × IsTrue (k.read.learnt row)
 May actor k Epoch = ⊤
 May actor k (Announce other) = ⊤
 May actor k (PidBits word) = ⊤
 May actor k (RowBits word) = ⊤
 May actor k (TakePid page) = ⊤
 May actor k (TakeRow row) = ⊤
-May actor k (Place row content) = IsTrue k.inside × IsOwn (k.rows row) × IsUnset k row
+May actor k (Place row content) = IsTrue k.inside × IsOwn (k.own.rows row) × IsUnset k row
 May actor k (Exchange slot old new) = IsTrue k.inside × MayExchange actor k slot old new
-May actor k (Enter epoch) = IsFalse k.inside × (0 < epoch) × (k.epoch ≡ Some epoch)
+May actor k (Enter epoch) = IsFalse k.inside × (0 < epoch) × (k.limbo.epoch ≡ Some epoch)
 May actor k Leave = IsTrue k.inside
 May actor k (Retire epoch) = epoch < 2 ^ 62
 May actor k (ReusePids word bits) = IsFalse k.inside
@@ -265,8 +267,8 @@ pub record IsPassed (limits : Limits) (actor : ℕ) (limbo : Limbo) : Type 0 whe
 
 -- What a step frees its actor took out of the tree, and no other actor can hold it.
 abbrev pub MayFree : Limits → ℕ → Knowledge → StepOf Record → Type 0
-MayFree limits actor k (ReusePids word bits) = (page : ℕ) → is_among word bits page ≡ true → IsPassed limits actor (k.limbo_pids page)
-MayFree limits actor k (ReuseRows word bits) = (row : ℕ) → is_among word bits row ≡ true → IsPassed limits actor (k.limbo_rows row)
+MayFree limits actor k (ReusePids word bits) = (page : ℕ) → is_among word bits page ≡ true → IsPassed limits actor (k.limbo.pids page)
+MayFree limits actor k (ReuseRows word bits) = (row : ℕ) → is_among word bits row ≡ true → IsPassed limits actor (k.limbo.rows row)
 MayFree limits actor k step = ⊤
 
 -- after the other page was read as this row, the page left of it was read
@@ -276,21 +278,21 @@ pub record IsBeside (k : Knowledge) (row : ℕ) : Type 0 where
   pub basis : HasRead k left head
   pub other : ℕ
   pub right : right_in basis.chain ≡ Some other
-  pub order : k.before left other ≡ Some row
+  pub order : k.read.before left other ≡ Some row
 
 -- The chain of the row gives the reply: the update was linked over it; or there is none to link, and a slot held the
 -- row; or the page was removed, and its left page was read afterwards.
 abbrev pub HasBasis : ℕ → Knowledge → Command → ℕ → List Record → Type 0
 HasBasis actor k command row chain =
-    ((k.linked ≡ Some (Some row)) × IsFalse (is_removed chain))
-    ⊎ ((k.linked ≡ None) × ((page : ℕ) × (k.heads page ≡ Some row) × IsFalse (is_removed chain)) × (update_of actor command (found chain (command_key command)) ≡ None))
-    ⊎ ((k.linked ≡ None) × IsBeside k row × IsTrue (is_removed chain) × (update_of actor command (found chain (command_key command)) ≡ None))
+    ((k.asked.linked ≡ Some (Some row)) × IsFalse (is_removed chain))
+    ⊎ ((k.asked.linked ≡ None) × ((page : ℕ) × (k.read.heads page ≡ Some row) × IsFalse (is_removed chain)) × (update_of actor command (found chain (command_key command)) ≡ None))
+    ⊎ ((k.asked.linked ≡ None) × IsBeside k row × IsTrue (is_removed chain) × (update_of actor command (found chain (command_key command)) ≡ None))
 
 -- a reply by the value of the command's key
 pub record MayAnswer (actor : ℕ) (k : Knowledge) (command : Command) (reply : Reply) : Type 0 where
   pub row : ℕ
   pub chain : List Record
-  pub read : IsChainFrom k.seen row chain
+  pub read : IsChainFrom k.read.seen row chain
   pub leaf : level_in chain ≡ 0
   pub covers : IsTrue (covers chain (command_key command))
   pub is : reply_of command (found chain (command_key command)) ≡ Some reply
@@ -305,13 +307,13 @@ pub record ReadsNoRoom (k : Knowledge) : Type 0 where
   pub page : ℕ
   pub row : ℕ
   pub chain : List Record
-  pub head : k.heads page ≡ Some row
-  pub read : IsChainFrom k.recent row chain
+  pub head : k.read.heads page ≡ Some row
+  pub read : IsChainFrom k.read.recent row chain
   pub full : HasNoRoom chain
 
 -- Each word of the free PIDs, or of the free rows, was read as 0, or a page was read that has no room.
 abbrev pub LacksRoom : Limits → Knowledge → Type 0
-LacksRoom limits k = (((word : ℕ) → word < limits.pids / 64 → IsTrue (k.no_pids word)) ⊎ ((word : ℕ) → word < limits.rows / 64 → IsTrue (k.no_rows word))) ⊎ ReadsNoRoom k
+LacksRoom limits k = (((word : ℕ) → word < limits.pids / 64 → IsTrue (k.asked.no_pids word)) ⊎ ((word : ℕ) → word < limits.rows / 64 → IsTrue (k.asked.no_rows word))) ⊎ ReadsNoRoom k
 
 -- Full: the command may change the map, nothing was linked, and there is no room for the change.
 pub record MayGiveUp (limits : Limits) (actor : ℕ) (k : Knowledge) (command : Command) (reply : Reply) : Type 0 where
@@ -319,12 +321,12 @@ pub record MayGiveUp (limits : Limits) (actor : ℕ) (k : Knowledge) (command : 
   pub old : Option (List ℕ)
   pub update : Update
   pub writes : update_of actor command old ≡ Some update
-  pub unlinked : k.linked ≡ None
+  pub unlinked : k.asked.linked ≡ None
   pub lacks : LacksRoom limits k
 
 pub record MayReply (limits : Limits) (actor : ℕ) (k : Knowledge) (reply : Reply) : Type 0 where
   pub command : Command
-  pub going : k.command ≡ Some command
+  pub going : k.asked.command ≡ Some command
   pub justified : MayAnswer actor k command reply ⊎ MayGiveUp limits actor k command reply
 
 -- a step that the actor may take by what it knows, with its reply, if it has one

@@ -1,5 +1,5 @@
 -- What an actor may count on of an answer, by what it knows.
-use Rattle.std.specs.Prelude.{◌≡◌, ◌<◌, ◌≤◌, ◌+◌, ◌*◌, ◌^◌, ℕ, zero, suc, List, [], ◌∷◌, ◌++◌, length, Bool, Some, None, IsTrue, IsFalse, IfSome, true, false, ⊤}
+use Rattle.std.specs.Prelude.{◌≡◌, ◌⊎◌, ◌<◌, ◌≤◌, ◌+◌, ◌*◌, ◌^◌, ℕ, zero, suc, List, [], ◌∷◌, ◌++◌, length, Bool, Some, None, IsTrue, IsFalse, IfSome, true, false, ⊤}
 use Rattle.std.specs.Int.{bit_at}
 use Rattle.bw_model.specs.declared.limits.Limits.{Limits}
 use Rattle.bw_model.specs.declared.step.Step.{Step as StepOf}
@@ -11,7 +11,7 @@ use Rattle.deltas.specs.declared.record.Record.{Record}
 use Rattle.deltas.specs.Records.{next_row}
 use Rattle.chain_search.specs.Chains.{IsChainFrom, IsFront, content_in, level_in, low_in, high_in, right_in, is_removed, covers}
 use Rattle.chain_search.specs.Fitted.{IsPageChain}
-use Rattle.chain_search.specs.Knowledge.{Foreign, Other, Ready, Absent, Knowledge}
+use Rattle.chain_search.specs.Knowledge.{Foreign, Other, Ready, Gone, Absent, Knowledge}
 use Rattle.chain_search.specs.Discipline.{HasRead, IsBeyond}
 
 -- a number that a word of free bits shows as free is above 0 and below the limit
@@ -33,51 +33,60 @@ SaysRight naming chain = (level_in chain ≡ level_in naming) × (high_in naming
 -- and the pages that it names are below the limit.
 pub record IsWhole (limits : Limits) (k : Knowledge) (page : ℕ) (chain : List Record) : Type 0 where
   pub is_chain : IsPageChain chain
-  pub root : IsTrue (k.roots page) → low_in chain ≡ []
+  pub root : IsTrue (k.read.roots page) → low_in chain ≡ []
   pub named : (other row : ℕ) (basis : HasRead k other row) → SaysOf basis.chain page chain
   pub beside : (other row : ℕ) (basis : HasRead k other row) (b : IsBeyond k other basis.chain page) → SaysRight b.chain chain
   pub own : IsFalse (is_removed chain) → SaysOf chain page chain
-  pub names : IsFalse (is_removed chain) → (other row : ℕ) (read : List Record) → k.heads other ≡ Some row → IsChainFrom k.seen row read → SaysOf chain other read
+  pub names : IsFalse (is_removed chain) → (other row : ℕ) (read : List Record) → k.read.heads other ≡ Some row → IsChainFrom k.read.seen row read → SaysOf chain other read
   pub right : IsFalse (is_removed chain) → (other : ℕ) → right_in chain ≡ Some other → (0 < other) × (other < limits.pids)
   pub child : IsFalse (is_removed chain) → (level other : ℕ) (key : List ℕ) (held : Bool) → level_in chain ≡ suc level → IsTrue (covers chain key) → content_in chain key ≡ Some (Child other held) → (0 < other) × (other < limits.pids)
   pub beyond : IsFalse (is_removed chain) → (next : ℕ) (b : IsBeyond k page chain next) → (0 < next) × (next < limits.pids) × (page ≡ next → SaysRight b.chain chain)
-      × ((other row : ℕ) (read : List Record) → k.heads other ≡ Some row → IsChainFrom k.seen row read → other ≡ next → SaysRight b.chain read)
+      × ((other row : ℕ) (read : List Record) → k.read.heads other ≡ Some row → IsChainFrom k.read.seen row read → other ≡ next → SaysRight b.chain read)
+
+-- the page's slot was last read as this row, from which a removed chain was read
+pub record ReadsRemoved (k : Knowledge) (page row : ℕ) : Type 0 where
+  pub head : k.read.heads page ≡ Some row
+  pub chain : List Record
+  pub read : IsChainFrom k.read.seen row chain
+  pub gone : IsTrue (is_removed chain)
 
 -- A record that is read is the one that was read there before, and leads to a row. A chain that is being read has no more
 -- than 13 records; where this is its last one, it was read whole.
 pub record FitsRow (limits : Limits) (k : Knowledge) (row : ℕ) (content : Record) : Type 0 where
-  pub same : (before : Record) → k.seen row ≡ Some before → content ≡ before
+  pub same : (before : Record) → k.read.seen row ≡ Some before → content ≡ before
   pub next : IfSome (next_row content) (λ under. (0 < under) × (under < limits.rows))
-  pub short : (page head : ℕ) (front : List Record) → k.heads page ≡ Some head → IsFront k.seen head front row → length front < 13
-  pub whole : (page head : ℕ) (front : List Record) → k.heads page ≡ Some head → IsFront k.seen head front row → next_row content ≡ None → IsWhole limits k page (front ++ content ∷ [])
+  pub short : (page head : ℕ) (front : List Record) → k.read.heads page ≡ Some head → IsFront k.read.seen head front row → length front < 13
+  pub whole : (page head : ℕ) (front : List Record) → k.read.heads page ≡ Some head → IsFront k.read.seen head front row → next_row content ≡ None → IsWhole limits k page (front ++ content ∷ [])
 
 -- a row that was taken is below the limit, was not the actor's before nor in its limbo, and is on no chain that it has read
 pub record FitsTaken (limits : Limits) (k : Knowledge) (row : ℕ) : Type 0 where
   pub some : 0 < row
   pub below : row < limits.rows
-  pub foreign : k.rows row ≡ Foreign
-  pub unlearnt : k.learnt row ≡ false
-  pub unseen : k.seen row ≡ None
-  pub freed : k.limbo_rows row ≡ Absent
+  pub foreign : k.own.rows row ≡ Foreign
+  pub unlearnt : k.read.learnt row ≡ false
+  pub unseen : k.read.seen row ≡ None
+  pub freed : k.limbo.rows row ≡ Absent
 
 -- a PID that was taken is below the limit, and was not the actor's before nor in its limbo
 pub record FitsTakenPid (limits : Limits) (k : Knowledge) (pid : ℕ) : Type 0 where
   pub some : 0 < pid
   pub below : pid < limits.pids
-  pub other : k.pages pid ≡ Other
-  pub freed : k.limbo_pids pid ≡ Absent
+  pub other : k.own.pages pid ≡ Other
+  pub freed : k.limbo.pids pid ≡ Absent
 
--- An exchange of an own page's slot, from 0 or back to 0, wins. One that links a row does not win on an own page.
+-- An exchange of an own page's slot, from 0 or back to 0, wins; so does the one to 0 of a page whose term the actor took out,
+-- where its slot was read as this removed chain. One that links a row does not win on an own page.
 abbrev pub FitsExchange : Knowledge → ℕ → ℕ → ℕ → Bool → Type 0
 FitsExchange k zero old new went = ⊤
 FitsExchange k (suc page) zero new went = went ≡ true
-FitsExchange k (suc page) (suc old) zero went = k.pages (suc page) ≡ Ready (suc old) → went ≡ true
-FitsExchange k (suc page) (suc old) (suc new) went = went ≡ true → k.pages (suc page) ≡ Other
+FitsExchange k (suc page) (suc old) zero went = (k.own.pages (suc page) ≡ Ready (suc old) → went ≡ true) × (k.own.pages (suc page) ≡ Gone → ReadsRemoved k (suc page) (suc old) → went ≡ true)
+FitsExchange k (suc page) (suc old) (suc new) went = went ≡ true → k.own.pages (suc page) ≡ Other
 
--- Slot 0 has a PID, of a page that begins at the empty key; another slot that may be read has a row, or 0 if its page was cleared, which no page is that was the root.
+-- Slot 0 has a PID, of a page that begins at the empty key; another slot that may be read has a row, or 0 if its page was cleared,
+-- which no page is that was the root; one that was read removed stays as it was until then.
 abbrev pub Fits : Limits → Knowledge → StepOf Record → Answer Record → Type 0
-Fits limits k (Slot zero) (Number n) = (0 < n) × (n < limits.pids) × ((head : ℕ) (chain : List Record) → k.heads n ≡ Some head → IsChainFrom k.seen head chain → low_in chain ≡ [])
-Fits limits k (Slot (suc page)) (Number n) = (n < limits.rows) × (IsTrue (k.roots (suc page)) → 0 < n)
+Fits limits k (Slot zero) (Number n) = (0 < n) × (n < limits.pids) × ((head : ℕ) (chain : List Record) → k.read.heads n ≡ Some head → IsChainFrom k.read.seen head chain → low_in chain ≡ [])
+Fits limits k (Slot (suc page)) (Number n) = (n < limits.rows) × (IsTrue (k.read.roots (suc page)) → 0 < n) × ((head : ℕ) → ReadsRemoved k (suc page) head → (n ≡ head) ⊎ (n ≡ 0))
 Fits limits k (Row row) (Content content) = FitsRow limits k row content
 Fits limits k Epoch (Number n) = (0 < n) × (n ≤ 2 ^ 62)
 Fits limits k (Announce other) (Number n) = n ≤ 2 ^ 62

@@ -35,47 +35,58 @@ pub data Limbo : Type 0 where
   Unstamped : Limbo
   Stamped : (epoch : ℕ) (passed : ℕ → Bool) → Limbo
 
-pub record Knowledge : Type 0 where
-  pub inside : Bool
-  pub learnt : ℕ → Bool  -- rows whose names it learnt since the last Enter
-  pub roots : ℕ → Bool  -- pages read as the root since then
-  pub seen : ℕ → Option Record  -- records read since then
+-- what it has read since it entered last
+pub record Readings : Type 0 where
+  pub learnt : ℕ → Bool  -- rows whose names it learnt
+  pub roots : ℕ → Bool  -- pages read as the root
+  pub seen : ℕ → Option Record  -- records
   pub recent : ℕ → Option Record  -- those of them that it read after the last slot of a page
-  pub heads : ℕ → Option ℕ  -- slots, as last read since then in this operation
+  pub heads : ℕ → Option ℕ  -- slots, as last read in this operation
   pub before : ℕ → ℕ → Option ℕ  -- for each slot, the slots as they had last been read when it was read
+
+-- what it took and has not linked
+pub record Belongings : Type 0 where
   pub rows : ℕ → OwnRow
   pub pages : ℕ → OwnPage
+
+-- what it was asked, and how far it has come
+pub record Asked : Type 0 where
   pub command : Option Command
   pub linked : Option (Option ℕ)  -- whether this operation linked its update, and, until the next Leave, over which row
   pub no_pids : ℕ → Bool  -- words of free PIDs that it read as 0 in this operation
   pub no_rows : ℕ → Bool  -- words of free rows that it read as 0 in this operation
+
+-- what it took out of the tree and has not freed
+pub record Limbos : Type 0 where
   pub epoch : Option ℕ  -- the epoch, as last read
-  pub limbo_rows : ℕ → Limbo  -- rows that it took out of the tree and has not freed
-  pub limbo_pids : ℕ → Limbo  -- pages likewise
+  pub rows : ℕ → Limbo
+  pub pids : ℕ → Limbo
+
+pub record Knowledge : Type 0 where
+  pub inside : Bool
+  pub read : Readings
+  pub own : Belongings
+  pub asked : Asked
+  pub limbo : Limbos
+
+abbrev pub unread : Readings
+unread = record { learnt = λ row. false; roots = λ page. false; seen = λ row. None; recent = λ row. None; heads = λ page. None; before = λ page other. None }
 
 abbrev pub nothing : Knowledge
 nothing = record {
   inside = false;
-  learnt = λ row. false;
-  roots = λ page. false;
-  seen = λ row. None;
-  recent = λ row. None;
-  heads = λ page. None;
-  before = λ page other. None;
-  rows = λ row. Foreign;
-  pages = λ page. Other;
-  command = None;
-  linked = None;
-  no_pids = λ word. false;
-  no_rows = λ word. false;
-  epoch = None;
-  limbo_rows = λ row. Absent;
-  limbo_pids = λ page. Absent;
+  read = unread;
+  own = record { rows = λ row. Foreign; pages = λ page. Other };
+  asked = record { command = None; linked = None; no_pids = λ word. false; no_rows = λ word. false };
+  limbo = record { epoch = None; rows = λ row. Absent; pids = λ page. Absent };
 }
 
 -- what an actor knows when an operation begins
 abbrev pub begun : Knowledge → Command → Knowledge
-begun k command = record k { heads = λ page. None; before = λ page other. None; command = Some command; linked = None; no_pids = λ word. false; no_rows = λ word. false }
+begun k command = record k {
+  read = record k.read { heads = λ page. None; before = λ page other. None };
+  asked = record { command = Some command; linked = None; no_pids = λ word. false; no_rows = λ word. false };
+}
 
 abbrev pub learnt_next : Option ℕ → (ℕ → Bool) → ℕ → Bool
 learnt_next None learnt = learnt
@@ -83,11 +94,18 @@ learnt_next (Some next) learnt = replaced_at next true learnt
 
 -- after the page's slot was read as this row
 abbrev pub learn_head : ℕ → ℕ → Knowledge → Knowledge
-learn_head page row k = record k { before = replaced_at page k.heads k.before; heads = replaced_at page (Some row) k.heads; recent = λ other. None; learnt = replaced_at row true k.learnt }
+learn_head page row k = record k {
+  read = record k.read {
+    before = replaced_at page k.read.heads k.read.before;
+    heads = replaced_at page (Some row) k.read.heads;
+    recent = λ other. None;
+    learnt = replaced_at row true k.read.learnt;
+  };
+}
 
 -- Slot 0 has the root's PID. A slot that holds 0 names no row.
 abbrev pub learn_slot : ℕ → ℕ → Knowledge → Knowledge
-learn_slot zero pid k = record k { roots = replaced_at pid true k.roots }
+learn_slot zero pid k = record k { read = record k.read { roots = replaced_at pid true k.read.roots } }
 learn_slot (suc page) zero k = k
 learn_slot (suc page) (suc row) k = learn_head (suc page) (suc row) k
 
@@ -133,67 +151,102 @@ forgotten (Some over) = Some None
 
 -- The row is linked: it is the actor's own no more.
 abbrev pub handed_over : ℕ → Knowledge → Knowledge
-handed_over row k = record k { rows = replaced_at row Foreign k.rows }
+handed_over row k = record k { own = record k.own { rows = replaced_at row Foreign k.own.rows } }
+
+-- the same, and the page goes on
+abbrev pub handed_page : ℕ → OwnPage → ℕ → Knowledge → Knowledge
+handed_page page now row k = record k { own = record { rows = replaced_at row Foreign k.own.rows; pages = replaced_at page now k.own.pages } }
+
+-- The row has the update: the operation has linked it over the old row.
+abbrev pub updated : ℕ → ℕ → Knowledge → Knowledge
+updated old row k = record k { own = record k.own { rows = replaced_at row Foreign k.own.rows }; asked = record k.asked { linked = Some (Some old) } }
+
+-- The row has a base in the old chain's place.
+abbrev pub rebuilt : ℕ → ℕ → Knowledge → Knowledge
+rebuilt old row k = record k { own = record k.own { rows = replaced_at row Foreign k.own.rows }; limbo = record k.limbo { rows = taken_out k.read.seen old k.limbo.rows } }
+
+-- An own page's slot is set, or empty again.
+abbrev pub set_page : ℕ → OwnPage → Knowledge → Knowledge
+set_page page now k = record k { own = record k.own { pages = replaced_at page now k.own.pages } }
+
+-- The page is out of the tree, with its chain.
+abbrev pub cleared : ℕ → ℕ → Knowledge → Knowledge
+cleared page old k = record k {
+  own = record k.own { pages = replaced_at page Other k.own.pages };
+  limbo = record k.limbo { rows = taken_out k.read.seen old k.limbo.rows; pids = replaced_at page Unstamped k.limbo.pids };
+}
 
 -- After a split was linked, the new page and its base are linked too.
 abbrev pub split_off : OwnPage → ℕ → ℕ → Knowledge → Knowledge
-split_off (Ready base) page row k = record k { rows = replaced_at row Foreign (replaced_at base Foreign k.rows); pages = replaced_at page Other k.pages }
+split_off (Ready base) page row k = handed_page page Other row (handed_over base k)
 split_off _ page row k = k
 
 -- After a row with this record was linked over an old one.
 abbrev pub linked_over : OwnRow → ℕ → ℕ → Knowledge → Knowledge
-linked_over (Written (Put put)) old row k = record k { rows = replaced_at row Foreign k.rows; linked = Some (Some old) }
-linked_over (Written (Delete delete)) old row k = record k { rows = replaced_at row Foreign k.rows; linked = Some (Some old) }
-linked_over (Written (Split split)) old row k = split_off (k.pages split.page) split.page row k
-linked_over (Written (Unterm unterm)) old row k = record k { rows = replaced_at row Foreign k.rows; pages = replaced_at unterm.child Gone k.pages }
+linked_over (Written (Base page)) old row k = rebuilt old row k
+linked_over (Written (Put put)) old row k = updated old row k
+linked_over (Written (Delete delete)) old row k = updated old row k
+linked_over (Written (Split split)) old row k = split_off (k.own.pages split.page) split.page row k
+linked_over (Written (Unterm unterm)) old row k = handed_page unterm.child Gone row k
 linked_over (Written (Term term)) old row k = handed_over row k
 linked_over (Written (Hold hold)) old row k = handed_over row k
 linked_over (Written (Remove remove)) old row k = handed_over row k
 linked_over (Written (Merge merge)) old row k = handed_over row k
-linked_over (Written (Base page)) old row k = record k { rows = replaced_at row Foreign k.rows; limbo_rows = taken_out k.seen old k.limbo_rows }
 linked_over Taken old row k = k
 linked_over Foreign old row k = k
 
 -- After an exchange of a page's slot to a row won: the slot of an own page is set; on another page the row is linked.
 abbrev pub filled : OwnPage → ℕ → ℕ → ℕ → Knowledge → Knowledge
-filled Other page old row k = linked_over (k.rows row) old row k
-filled Empty page old row k = record k { pages = replaced_at page (Ready row) k.pages }
+filled Other page old row k = linked_over (k.own.rows row) old row k
+filled Empty page old row k = set_page page (Ready row) k
 filled (Ready base) page old row k = k
 filled Gone page old row k = k
 
 -- After an exchange of a page's slot to 0 won: an own page that was ready is empty again; one whose term the actor took out is
 -- out of the tree, with its chain.
 abbrev pub emptied : OwnPage → ℕ → ℕ → Knowledge → Knowledge
-emptied (Ready base) page old k = record k { pages = replaced_at page Empty k.pages }
-emptied Gone page old k = record k { pages = replaced_at page Other k.pages; limbo_rows = taken_out k.seen old k.limbo_rows; limbo_pids = replaced_at page Unstamped k.limbo_pids }
+emptied (Ready base) page old k = set_page page Empty k
+emptied Gone page old k = cleared page old k
 emptied _ page old k = k
 
 -- After a new root was linked, its base is linked too.
 abbrev pub rooted : OwnPage → ℕ → Knowledge → Knowledge
-rooted (Ready base) page k = record k { rows = replaced_at base Foreign k.rows; pages = replaced_at page Other k.pages }
+rooted (Ready base) page k = handed_page page Other base k
 rooted _ page k = k
 
 -- After an exchange won: slot, the number that was there, the new number.
 abbrev pub exchanged : ℕ → ℕ → ℕ → Knowledge → Knowledge
-exchanged zero old new k = rooted (k.pages new) new k
-exchanged (suc page) old zero k = emptied (k.pages (suc page)) (suc page) old k
-exchanged (suc page) old (suc row) k = filled (k.pages (suc page)) (suc page) old (suc row) k
+exchanged zero old new k = rooted (k.own.pages new) new k
+exchanged (suc page) old zero k = emptied (k.own.pages (suc page)) (suc page) old k
+exchanged (suc page) old (suc row) k = filled (k.own.pages (suc page)) (suc page) old (suc row) k
+
+-- After the record in a row was read, it is known, and the name of the row under it.
+abbrev pub learn_record : ℕ → Record → Readings → Readings
+learn_record row content read = record read {
+  seen = replaced_at row (Some content) read.seen;
+  recent = replaced_at row (Some content) read.recent;
+  learnt = learnt_next (next_row content) read.learnt;
+}
+
+-- It is outside: nothing that was read counts.
+abbrev pub departed : Knowledge → Knowledge
+departed k = record k { inside = false; read = unread; asked = record k.asked { linked = forgotten k.asked.linked } }
 
 abbrev pub learn : Knowledge → StepOf Record → Answer Record → Knowledge
 learn k (Slot page) (Number n) = learn_slot page n k
-learn k (Row row) (Content content) = record k { seen = replaced_at row (Some content) k.seen; recent = replaced_at row (Some content) k.recent; learnt = learnt_next (next_row content) k.learnt }
-learn k Epoch (Number epoch) = record k { epoch = Some epoch; limbo_rows = λ row. stamped epoch (k.limbo_rows row); limbo_pids = λ page. stamped epoch (k.limbo_pids page) }
-learn k (Announce actor) (Number announced) = record k { limbo_rows = λ row. passed_by actor announced (k.limbo_rows row); limbo_pids = λ page. passed_by actor announced (k.limbo_pids page) }
-learn k (PidBits word) (Number bits) = record k { no_pids = learn_word word bits k.no_pids }
-learn k (RowBits word) (Number bits) = record k { no_rows = learn_word word bits k.no_rows }
-learn k (TakePid page) (Whether true) = record k { pages = replaced_at page Empty k.pages }
-learn k (TakeRow row) (Whether true) = record k { rows = replaced_at row Taken k.rows }
-learn k (Place row content) answer = record k { rows = replaced_at row (Written content) k.rows }
+learn k (Row row) (Content content) = record k { read = learn_record row content k.read }
+learn k Epoch (Number epoch) = record k { limbo = record { epoch = Some epoch; rows = λ row. stamped epoch (k.limbo.rows row); pids = λ page. stamped epoch (k.limbo.pids page) } }
+learn k (Announce actor) (Number announced) = record k { limbo = record k.limbo { rows = λ row. passed_by actor announced (k.limbo.rows row); pids = λ page. passed_by actor announced (k.limbo.pids page) } }
+learn k (PidBits word) (Number bits) = record k { asked = record k.asked { no_pids = learn_word word bits k.asked.no_pids } }
+learn k (RowBits word) (Number bits) = record k { asked = record k.asked { no_rows = learn_word word bits k.asked.no_rows } }
+learn k (TakePid page) (Whether true) = set_page page Empty k
+learn k (TakeRow row) (Whether true) = record k { own = record k.own { rows = replaced_at row Taken k.own.rows } }
+learn k (Place row content) answer = record k { own = record k.own { rows = replaced_at row (Written content) k.own.rows } }
 learn k (Exchange slot old new) (Whether true) = exchanged slot old new k
-learn k (Enter epoch) answer = record k { inside = true; learnt = λ row. false }
-learn k Leave answer = record k { inside = false; learnt = λ row. false; roots = λ page. false; seen = λ row. None; recent = λ row. None; heads = λ page. None; before = λ page other. None; linked = forgotten k.linked }
-learn k (ReusePids word bits) answer = record k { limbo_pids = freed word bits k.limbo_pids }
-learn k (ReuseRows word bits) answer = record k { limbo_rows = freed word bits k.limbo_rows }
+learn k (Enter epoch) answer = record k { inside = true; read = record k.read { learnt = λ row. false } }
+learn k Leave answer = departed k
+learn k (ReusePids word bits) answer = record k { limbo = record k.limbo { pids = freed word bits k.limbo.pids } }
+learn k (ReuseRows word bits) answer = record k { limbo = record k.limbo { rows = freed word bits k.limbo.rows } }
 learn k step answer = k
 
 abbrev pub going_on : Option Reply → Option Command → Option Command
@@ -202,7 +255,7 @@ going_on (Some reply) command = None
 
 -- what an actor knows after a step with which it replied, or not
 abbrev pub finished : Knowledge → Option Reply → Knowledge
-finished k reply = record k { command = going_on reply k.command }
+finished k reply = record k { asked = record k.asked { command = going_on reply k.asked.command } }
 
 abbrev pub knows_after : (ℕ → Knowledge) → Entry → ℕ → Knowledge
 knows_after ks (Begin actor command) = replaced_at actor (begun (ks actor) command) ks

@@ -55,12 +55,12 @@ module _ (limits : Limits) (entries : List Entry) (a : ℕ) (c : Command) (kept 
         | inr at ↦ absurd (ne (let e = at.1 in cc))
       ]))
 
-  linked_begun : (op : Operation) (n : ℕ) (kind : Link) → IsLast longer op → Links limits longer op n kind → IsUpdateLink kind → IsSome (knows longer op.actor).linked
-  linked_begun op n kind latest links is = subst (λ (ks : ℕ → Knowledge). IsSome (ks op.actor).linked) (sym (knows-push entries last)) (elim (links_cases limits entries last op n kind links) [
+  linked_begun : (op : Operation) (n : ℕ) (kind : Link) → IsLast longer op → Links limits longer op n kind → IsUpdateLink kind → IsSome (knows longer op.actor).asked.linked
+  linked_begun op n kind latest links is = subst (λ (ks : ℕ → Knowledge). IsSome (ks op.actor).asked.linked) (sym (knows-push entries last)) (elim (links_cases limits entries last op n kind links) [
     | inl old ↦
         let below : n < length entries = takes_below entries last op n _ _ old.3 in
         let start : op.start < n = old.3.1.begun in
-        at_place (λ (k : Knowledge). IsSome k.linked) a (begun (knows entries a) c) (knows entries) op.actor
+        at_place (λ (k : Knowledge). IsSome k.asked.linked) a (begun (knows entries a) c) (knows entries) op.actor
         (λ same. absurd (let at : op.start ≡ length entries = last_begun entries last op c (ap (λ b. Begin b c) (sym same)) latest in omega arith))
         (λ ne. elim (last_cases entries last op latest) [ inl before ↦ kept.linked op n kind before old is | inr at ↦ let e : op.start ≡ length entries = at.0 in absurd (omega arith) ])
     | inr at ↦ let e = at.1.is in absurd (cc)
@@ -119,32 +119,32 @@ module _ (limits : Limits) (entries : List Entry) (a : ℕ) (s : StepOf Record) 
     | inr at ↦ let e = at.1 in absurd (cc)
   ]
 
-  linked_stepped : (op : Operation) (n : ℕ) (kind : Link) → IsLast grown op → Links limits grown op n kind → IsUpdateLink kind → IsSome (knows grown op.actor).linked
+  linked_stepped : (op : Operation) (n : ℕ) (kind : Link) → IsLast grown op → Links limits grown op n kind → IsUpdateLink kind → IsSome (knows grown op.actor).asked.linked
   linked_stepped op n kind latest links is = elim (last_cases entries next op latest) [
     | inr at ↦ let e = at.1 in absurd (cc)
-    | inl before ↦ subst (λ (ks : ℕ → Knowledge). IsSome (ks op.actor).linked) (sym (knows-push entries next)) (elim (links_cases limits entries next op n kind links) [
+    | inl before ↦ subst (λ (ks : ℕ → Knowledge). IsSome (ks op.actor).asked.linked) (sym (knows-push entries next)) (elim (links_cases limits entries next op n kind links) [
       | inl old ↦
-          let some : IsSome (knows entries op.actor).linked = kept.linked op n kind before old is in
-          at_place (λ (k : Knowledge). IsSome k.linked) a (finished (learn (knows entries a) s x) reply) (knows entries) op.actor
-          (λ same. linked_kept limits entries a s x (λ slot old new is_step is_won. (change a slot old new reply (λ i. Step a (is_step i) (is_won i) reply)).0) (subst (λ b. IsSome (knows entries b).linked) same some))
+          let some : IsSome (knows entries op.actor).asked.linked = kept.linked op n kind before old is in
+          at_place (λ (k : Knowledge). IsSome k.asked.linked) a (finished (learn (knows entries a) s x) reply) (knows entries) op.actor
+          (λ same. linked_kept limits entries a s x (λ slot old new is_step is_won. (change a slot old new reply (λ i. Step a (is_step i) (is_won i) reply)).0) (subst (λ b. IsSome (knows entries b).asked.linked) same some))
           (λ ne. some)
       | inr at ↦ now op kind at.1 is
     ])
   ]
     where
-      now : (op : Operation) (kind : Link) → LinksLast limits entries next op kind → IsUpdateLink kind → IsSome (replaced_at a (finished (learn (knows entries a) s x) reply) (knows entries) op.actor).linked
+      now : (op : Operation) (kind : Link) → LinksLast limits entries next op kind → IsUpdateLink kind → IsSome (replaced_at a (finished (learn (knows entries a) s x) reply) (knows entries) op.actor).asked.linked
       now op kind at is =
           let made = (change op.actor at.slot at.old at.new at.reply at.is).0 in
           let same : record_link made.content ≡ kind = same_Some _ _ (sym made.link ∙ at.link) in
-          let some : IsSome (learn (knows entries op.actor) (Exchange at.slot at.old at.new) (Whether true)).linked =
-          subst (λ (k : Knowledge). IsSome k.linked) (sym made.learns) (linked_by_update made.chain made.content at.old at.new (knows entries op.actor) made.plain (subst IsUpdateLink (sym same) is)) in
-          at_place (λ (k : Knowledge). IsSome k.linked) a (finished (learn (knows entries a) s x) reply) (knows entries) op.actor
+          let some : IsSome (learn (knows entries op.actor) (Exchange at.slot at.old at.new) (Whether true)).asked.linked =
+          subst (λ (k : Knowledge). IsSome k.asked.linked) (sym made.learns) (linked_by_update made.chain made.content at.old at.new (knows entries op.actor) made.plain (subst IsUpdateLink (sym same) is)) in
+          at_place (λ (k : Knowledge). IsSome k.asked.linked) a (finished (learn (knows entries a) s x) reply) (knows entries) op.actor
           (λ e. subst Learns (sym at.is) some)
           (λ ne. absurd (ne (let f = at.is in let e : op.actor ≡ a = cc in e)))
         where
           Learns : Entry → Type 0
           Learns (Begin b c) = ⊥
-          Learns (Step b t y r) = IsSome (learn (knows entries b) t y).linked
+          Learns (Step b t y r) = IsSome (learn (knows entries b) t y).asked.linked
 
   module _ (left rest : ℕ) (accounts : Accounts limits entries a left) (pays : (rest < left) ⊎ (IsPaid (recalls entries a) s x × (rest < 2 ^ 18))) where
     afford : (op : Operation) → IsLast entries op → op.actor ≡ a → Affords limits grown op rest

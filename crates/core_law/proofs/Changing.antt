@@ -14,7 +14,7 @@ use Rattle.deltas.specs.Memory.{Memory}
 use Rattle.deltas.specs.declared.record.Record.{Record}
 use Rattle.deltas.specs.declared.record.Record.TheVariants.{Base, Put, Delete, Split, Term, Hold, Remove, Merge, Unterm}
 use Rattle.chain_search.specs.Chains.{IsChainFrom}
-use Rattle.chain_search.specs.Discipline.{MayExchange, MayLink}
+use Rattle.chain_search.specs.Discipline.{MayAdd, MayExchange, MayLink}
 use Rattle.chain_search.specs.Knowledge.{Written, Knowledge, knows, learn, linked_over, forgotten}
 use Rattle.chain_search.specs.Trace.{memory_of}
 use Rattle.chain_search.specs.declared.trace.Entry.{Entry}
@@ -55,7 +55,7 @@ base_over chain (Merge merge) plain e = absurd plain
 base_over chain (Unterm unterm) plain e = absurd plain
 
 -- The actor knows of an update that it linked, and goes on knowing of it.
-pub linked_by_update : (chain : List Record) (content : Record) (old new : ℕ) (k : Knowledge) → IsPlainOver chain content → IsUpdateLink (record_link content) → IsSome (linked_over (Written content) old new k).linked
+pub linked_by_update : (chain : List Record) (content : Record) (old new : ℕ) (k : Knowledge) → IsPlainOver chain content → IsUpdateLink (record_link content) → IsSome (linked_over (Written content) old new k).asked.linked
 linked_by_update chain (Base page) old new k plain (inl e) = absurd (cc)
 linked_by_update chain (Base page) old new k plain (inr e) = absurd (cc)
 linked_by_update chain (Put put) old new k plain h = refl
@@ -67,7 +67,7 @@ linked_by_update chain (Remove remove) old new k plain h = absurd plain
 linked_by_update chain (Merge merge) old new k plain h = absurd plain
 linked_by_update chain (Unterm unterm) old new k plain h = absurd plain
 
-linked_stays : (chain : List Record) (content : Record) (old new : ℕ) (k : Knowledge) → IsPlainOver chain content → IsSome k.linked → IsSome (linked_over (Written content) old new k).linked
+linked_stays : (chain : List Record) (content : Record) (old new : ℕ) (k : Knowledge) → IsPlainOver chain content → IsSome k.asked.linked → IsSome (linked_over (Written content) old new k).asked.linked
 linked_stays chain (Base page) old new k plain h = h
 linked_stays chain (Put put) old new k plain h = refl
 linked_stays chain (Delete delete) old new k plain h = refl
@@ -89,18 +89,18 @@ module _ (limits : Limits) (entries : List Entry) (a : ℕ) where
     pub content : Record
     pub plain : IsPlainOver chain content
     pub link : link_of (memory_of limits entries) slot old new ≡ Some (record_link content)
-    pub once : IsUpdateLink (record_link content) → k.linked ≡ None
+    pub once : IsUpdateLink (record_link content) → k.asked.linked ≡ None
     pub learns : learn k (Exchange slot old new) (Whether true) ≡ linked_over (Written content) old new k
 
   -- what its actor has linked it goes on knowing
-  pub linked_kept : (s : StepOf Record) (x : Answer Record) → ((slot old new : ℕ) → s ≡ Exchange slot old new → x ≡ Whether true → IsPlainChange slot old new) → IsSome k.linked → IsSome (learn k s x).linked
+  pub linked_kept : (s : StepOf Record) (x : Answer Record) → ((slot old new : ℕ) → s ≡ Exchange slot old new → x ≡ Whether true → IsPlainChange slot old new) → IsSome k.asked.linked → IsSome (learn k s x).asked.linked
   linked_kept (Slot zero) (Number n) change h = h
   linked_kept (Slot (suc page)) (Number zero) change h = h
   linked_kept (Slot (suc page)) (Number (suc row)) change h = h
   linked_kept (Row row) (Content content) change h = h
   linked_kept Epoch (Number n) change h = h
   linked_kept (Announce other) (Number n) change h = h
-  linked_kept Leave answer change h = forgotten_some k.linked h
+  linked_kept Leave answer change h = forgotten_some k.asked.linked h
     where
       forgotten_some : (l : Option (Option ℕ)) → IsSome l → IsSome (forgotten l)
       forgotten_some None e = absurd (cc)
@@ -111,29 +111,33 @@ module _ (limits : Limits) (entries : List Entry) (a : ℕ) where
   linked_kept (TakeRow row) (Whether true) change h = h
   linked_kept (Exchange slot old new) (Whether true) change h =
       let c = change slot old new refl refl in
-      subst (λ (k' : Knowledge). IsSome k'.linked) (sym c.learns) (linked_stays c.chain c.content old new k c.plain h)
+      subst (λ (k' : Knowledge). IsSome k'.asked.linked) (sym c.learns) (linked_stays c.chain c.content old new k c.plain h)
   linked_kept s x change h = h
 
   module _ (state : IsState limits entries) where
     abbrev m : Memory
     m = memory_of limits entries
 
-    over : (x y : ℕ) (plain : IsPlainLink k x y) (w : Record) → k.rows y ≡ Written w → IsPlainOver plain.chain w
+    over : (x y : ℕ) (plain : IsPlainLink k x y) (w : Record) → k.own.rows y ≡ Written w → IsPlainOver plain.chain w
     over x y plain w e = plain_is m state.tree.good a state.leaf (state.known a) x y plain w e
 
     same_written : (v w : Record) → Written v ≡ Written w → v ≡ w
     same_written v w e = cc
 
-    once : (p x y : ℕ) → MayLink a k p x y → (plain : IsPlainLink k x y) → IsUpdateLink (record_link plain.content) → k.linked ≡ None
-    once p x y (inl update) plain h = update.unlinked
-    once p x y (inr (inl base)) plain h =
-        elim (subst (λ w. IsUpdateLink (record_link w)) (same_written plain.content _ (sym plain.placed ∙ base.placed)) h) [ inl e ↦ absurd (cc) | inr e ↦ absurd (cc) ]
-    once p x y (inr (inr (inl split))) plain h = absurd (over x y plain _ split.placed)
-    once p x y (inr (inr (inr (inl term)))) plain h = absurd (over x y plain _ term.placed)
-    once p x y (inr (inr (inr (inr (inl hold))))) plain h = absurd (over x y plain _ hold.placed)
-    once p x y (inr (inr (inr (inr (inr (inl remove)))))) plain h = absurd (over x y plain _ remove.placed)
-    once p x y (inr (inr (inr (inr (inr (inr (inl merge))))))) plain h = absurd (over x y plain _ merge.placed)
-    once p x y (inr (inr (inr (inr (inr (inr (inr unterm))))))) plain h = absurd (over x y plain _ unterm.placed)
+    once : (p x y : ℕ) → MayAdd a k p x y → (plain : IsPlainLink k x y) → IsUpdateLink (record_link plain.content) → k.asked.linked ≡ None
+    once p x y add plain h = by_kind add.content add.placed add.due
+      where
+        by_kind : (content : Record) → k.own.rows y ≡ Written content → MayLink a k p x add.basis.chain content → k.asked.linked ≡ None
+        by_kind (Base base) placed due =
+            elim (subst (λ w. IsUpdateLink (record_link w)) (same_written plain.content (Base base) (sym plain.placed ∙ placed)) h) [ inl e ↦ absurd (cc) | inr e ↦ absurd (cc) ]
+        by_kind (Put put) placed due = due.unlinked
+        by_kind (Delete delete) placed due = due.unlinked
+        by_kind (Split split) placed due = absurd (over x y plain (Split split) placed)
+        by_kind (Term term) placed due = absurd (over x y plain (Term term) placed)
+        by_kind (Hold hold) placed due = absurd (over x y plain (Hold hold) placed)
+        by_kind (Remove remove) placed due = absurd (over x y plain (Remove remove) placed)
+        by_kind (Merge merge) placed due = absurd (over x y plain (Merge merge) placed)
+        by_kind (Unterm unterm) placed due = absurd (over x y plain (Unterm unterm) placed)
 
     pub plain_change : (slot old new : ℕ) → MayExchange a k slot old new → IsPlainLink k old new → IsPlainChange slot old new
     plain_change zero x y may plain = absurd (let f = (state.known a).pageless y in let h = may.ready in cc)
@@ -147,6 +151,6 @@ module _ (limits : Limits) (entries : List Entry) (a : ℕ) where
       content = plain.content;
       plain = plain.plain;
       link = link_over m p x y ∙ ap (option_map record_link) (placed_stands m state.tree.good a state.leaf (state.known a) (suc y) plain.content plain.placed);
-      once = once (suc p) (suc x) (suc y) may.1 plain;
+      once = once (suc p) (suc x) (suc y) may plain;
       learns = rw ((state.known a).pageless (suc p), plain.placed) refl;
     }

@@ -84,9 +84,9 @@ module _ (limits : Limits) (entries : List Entry) (last : Entry) (kept : IsDirec
     apart : (op : Operation) (m : ℕ) (first second : Link) → IsLast entries op → Links limits entries op m first → LinksLast limits entries last op second → IsUpdateLink first → IsUpdateLink second → ⊥
     apart op m first second latest before now one two =
         let made = (change op.actor now.slot now.old now.new now.reply now.is).0 in
-        let some : IsSome (knows entries op.actor).linked = kept.linked op m first latest before one in
+        let some : IsSome (knows entries op.actor).asked.linked = kept.linked op m first latest before one in
         let same : record_link made.content ≡ second = same_Some _ _ (sym made.link ∙ now.link) in
-        let none : (knows entries op.actor).linked ≡ None = made.once (subst IsUpdateLink (sym same) two) in
+        let none : (knows entries op.actor).asked.linked ≡ None = made.once (subst IsUpdateLink (sym same) two) in
         let false : IsSome {T = ℕ} None = subst IsSome none some in
         cc
 

@@ -58,21 +58,21 @@ module _ (limits : Limits) (entries : List Entry) (state : IsState limits entrie
   abbrev k : Knowledge
   k = knows entries a
 
-  stands : (r : ℕ) (w : Record) → k.seen r ≡ Some w → m.rows r ≡ Some w
+  stands : (r : ℕ) (w : Record) → k.read.seen r ≡ Some w → m.rows r ≡ Some w
   stands r w e = (subst (λ (o : Option Record). SeenFits (state.tree.owners.row r) (m.rows r) o) e ((state.tree.good.sound a).seen_fits r)).1
 
   fits_leaf : (q : ℕ) (w : Record) → m.rows q ≡ Some w → FitsLeaf k q w
   fits_leaf q w e = record {
     short = λ page head front at part.
         let s = (state.known a).heads page head at in
-        let h = front_of k.seen m.rows stands head front q s.chain part s.is_chain in
+        let h = front_of k.read.seen m.rows stands head front q s.chain part s.is_chain in
         let some : 0 < length h.0 = rest_longer m.rows q h.0 h.1 in
         let sum : length s.chain ≡ length front + length h.0 = ap length h.2 ∙ length-append front h.0 in
         let few : length s.chain ≤ 9 = s.short in
         omega arith;
     whole = λ page head front at part last.
         let s = (state.known a).heads page head at in
-        let h = front_of k.seen m.rows stands head front q s.chain part s.is_chain in
+        let h = front_of k.read.seen m.rows stands head front q s.chain part s.is_chain in
         let ends : h.0 ≡ w ∷ [] = rest_last m.rows q h.0 w h.1 e last in
         subst IsLeafChain (h.2 ∙ ap (λ r. front ++ r) ends) s.leaf;
   }

@@ -15,7 +15,7 @@ use Rattle.deltas.specs.declared.record.Record.TheVariants.{Base, Put, Delete, S
 use Rattle.deltas.specs.Memory.{Memory, opening}
 use Rattle.deltas.specs.Records.{next_row}
 use Rattle.chain_search.specs.Chains.{IsChainFrom, IsChainOf}
-use Rattle.chain_search.specs.Discipline.{May, MayExchange, MayLink, record_of}
+use Rattle.chain_search.specs.Discipline.{May, MayAdd, MayExchange, MayLink, MayUpdate, record_of}
 use Rattle.chain_search.specs.Knowledge.{OwnRow, Written, Knowledge, begun, exchanged, finished, knows, learn, learn_slot, linked_over}
 use Rattle.chain_search.specs.Steps.{IsAnswer, memory_after}
 use Rattle.chain_search.specs.Trace.{command_of, memory_of}
@@ -53,7 +53,7 @@ module _ (m : Memory) {log : List Update} {o : Owners} {ks : ℕ → Knowledge} 
           let same : 1 ≡ p.page = same_Some 1 p.page h.0 in
           ap o.row (row_is (m.slots 1) p.row (ap (slot_in m.slots) same ∙ h.2.is_page.head)) ∙ h.2.linked
 
-  head_linked : (b page row : ℕ) → (ks b).heads page ≡ Some row → o.row row ≡ Linked
+  head_linked : (b page row : ℕ) → (ks b).read.heads page ≡ Some row → o.row row ≡ Linked
   head_linked b page row e = (subst (λ (h : Option ℕ). HeadFits o (shared m) (logs b) page h) e ((g.sound b).heads_fit page)).2.linked
 
   short_stays : (rows' : ℕ → Option Record) → ((row : ℕ) → o.row row ≡ Linked → rows' row ≡ m.rows row) → (x : ℕ) → o.row x ≡ Linked → IsShortLeaf m.rows x → IsShortLeaf rows' x
@@ -71,13 +71,13 @@ module _ (m : Memory) {log : List Update} {o : Owners} {ks : ℕ → Knowledge} 
     abbrev k : Knowledge
     k = ks a
 
-    pub placed_stands : (row : ℕ) (w : Record) → k.rows row ≡ Written w → m.rows row ≡ Some w
+    pub placed_stands : (row : ℕ) (w : Record) → k.own.rows row ≡ Written w → m.rows row ≡ Some w
     placed_stands row w e = (subst (λ (own : OwnRow). OwnFits a (o.row row) (m.rows row) own) e (g.owns a row)).1
 
-    pub read_stands : (x : ℕ) (c : List Record) → IsChainFrom k.seen x c → IsChainFrom m.rows x c
-    read_stands x c h = read_chain_stands k.seen m.rows (λ r w e. (subst (λ (seen : Option Record). SeenFits (o.row r) (m.rows r) seen) e ((g.sound a).seen_fits r)).1) x c h
+    pub read_stands : (x : ℕ) (c : List Record) → IsChainFrom k.read.seen x c → IsChainFrom m.rows x c
+    read_stands x c h = read_chain_stands k.read.seen m.rows (λ r w e. (subst (λ (seen : Option Record). SeenFits (o.row r) (m.rows r) seen) e ((g.sound a).seen_fits r)).1) x c h
 
-    pub plain_is : (x y : ℕ) (plain : IsPlainLink k x y) (w : Record) → k.rows y ≡ Written w → IsPlainOver plain.chain w
+    pub plain_is : (x y : ℕ) (plain : IsPlainLink k x y) (w : Record) → k.own.rows y ≡ Written w → IsPlainOver plain.chain w
     plain_is x y plain w e = subst (IsPlainOver plain.chain) (let f : Written plain.content ≡ Written w = sym plain.placed ∙ e in let same : plain.content ≡ w = cc in same) plain.plain
 
     module _ (one_chain : OneChain) where
@@ -89,25 +89,33 @@ module _ (m : Memory) {log : List Update} {o : Owners} {ks : ℕ → Knowledge} 
           whole chain is = record { page = omega arith; linked = one.linked; records = subst (λ row. IsChainFrom m.rows row chain) (sym at) is }
 
       -- over the leaf's short chain goes an update or a base
-      linked_leaf : (p x y : ℕ) → m.slots 1 ≡ x → MayLink a k p x y → IsPlainLink k x y → IsShortLeaf m.rows x → IsShortLeaf m.rows y
-      linked_leaf p x y at (inl update) plain s = record {
-        chain = record_of update.update x ∷ s.chain;
-        is_chain = over_chain update.update m.rows x y s.chain (placed_stands y (record_of update.update x) update.placed) s.is_chain;
-        leaf = over_leaf update.update x s.chain s.leaf;
-        short =
-            let same : plain.chain ≡ s.chain = leaf_is x at plain.chain s.chain (read_stands x plain.chain plain.read) s.is_chain in
-            let few : length s.chain ≤ 8 = subst (λ c. length c ≤ 8) same (over_short update.update x plain.chain (plain_is x y plain (record_of update.update x) update.placed)) in
-            omega (arith, few);
-      }
-      linked_leaf p x y at (inr (inl base)) plain s =
-          let same : s.chain ≡ base.basis.chain = leaf_is x at s.chain base.basis.chain s.is_chain (read_stands x base.basis.chain base.basis.read) in
-          record { chain = _; is_chain = (placed_stands y _ base.placed, refl); leaf = base_leaf base.basis.chain base.items (subst (λ c. IsLeafChain c) same s.leaf) base.alike; short = omega arith }
-      linked_leaf p x y at (inr (inr (inl split))) plain s = absurd (plain_is x y plain _ split.placed)
-      linked_leaf p x y at (inr (inr (inr (inl term)))) plain s = absurd (plain_is x y plain _ term.placed)
-      linked_leaf p x y at (inr (inr (inr (inr (inl hold))))) plain s = absurd (plain_is x y plain _ hold.placed)
-      linked_leaf p x y at (inr (inr (inr (inr (inr (inl remove)))))) plain s = absurd (plain_is x y plain _ remove.placed)
-      linked_leaf p x y at (inr (inr (inr (inr (inr (inr (inl merge))))))) plain s = absurd (plain_is x y plain _ merge.placed)
-      linked_leaf p x y at (inr (inr (inr (inr (inr (inr (inr unterm))))))) plain s = absurd (plain_is x y plain _ unterm.placed)
+      linked_leaf : (p x y : ℕ) → m.slots 1 ≡ x → MayAdd a k p x y → IsPlainLink k x y → IsShortLeaf m.rows x → IsShortLeaf m.rows y
+      linked_leaf p x y at add plain s = by_kind add.content add.placed add.due
+        where
+          same : s.chain ≡ add.basis.chain
+          same = leaf_is x at s.chain add.basis.chain s.is_chain (read_stands x add.basis.chain add.basis.read)
+
+          by_update : (content : Record) → k.own.rows y ≡ Written content → MayUpdate a k x add.basis.chain content → IsShortLeaf m.rows y
+          by_update content placed h = record {
+            chain = record_of h.update x ∷ s.chain;
+            is_chain = over_chain h.update m.rows x y s.chain (placed_stands y (record_of h.update x) (placed ∙ ap Written h.is)) s.is_chain;
+            leaf = over_leaf h.update x s.chain s.leaf;
+            short =
+                let same : plain.chain ≡ s.chain = leaf_is x at plain.chain s.chain (read_stands x plain.chain plain.read) s.is_chain in
+                let few : length s.chain ≤ 8 = subst (λ c. length c ≤ 8) same (over_short h.update x plain.chain (plain_is x y plain (record_of h.update x) (placed ∙ ap Written h.is))) in
+                omega (arith, few);
+          }
+
+          by_kind : (content : Record) → k.own.rows y ≡ Written content → MayLink a k p x add.basis.chain content → IsShortLeaf m.rows y
+          by_kind (Base base) placed h = record { chain = _; is_chain = (placed_stands y _ (placed ∙ ap Written h.is), refl); leaf = base_leaf add.basis.chain h.items (subst (λ c. IsLeafChain c) same s.leaf) h.alike; short = omega arith }
+          by_kind (Put put) placed h = by_update (Put put) placed h
+          by_kind (Delete delete) placed h = by_update (Delete delete) placed h
+          by_kind (Split split) placed h = absurd (plain_is x y plain (Split split) placed)
+          by_kind (Term term) placed h = absurd (plain_is x y plain (Term term) placed)
+          by_kind (Hold hold) placed h = absurd (plain_is x y plain (Hold hold) placed)
+          by_kind (Remove remove) placed h = absurd (plain_is x y plain (Remove remove) placed)
+          by_kind (Merge merge) placed h = absurd (plain_is x y plain (Merge merge) placed)
+          by_kind (Unterm unterm) placed h = absurd (plain_is x y plain (Unterm unterm) placed)
 
       -- an exchange that won
       exchanged_leaf : (p x y : ℕ) → MayExchange a k p x y → IsPlainLink k x y → m.slots p ≡ x → HasOneLeaf (record m { slots = put m.slots p y })
@@ -120,7 +128,7 @@ module _ (m : Memory) {log : List Update} {o : Owners} {ks : ℕ → Knowledge} 
         root = one.root;
         linked = omega arith;
         others = λ page lt. at_place (λ row. row ≡ 0) 1 (suc y) m.slots page (λ i. let f : page ≡ 1 = i in absurd (omega arith)) (λ ne. one.others page lt);
-        leaf = linked_leaf 1 (suc x) (suc y) e may.1 plain (subst (IsShortLeaf m.rows) e one.leaf);
+        leaf = linked_leaf 1 (suc x) (suc y) e may plain (subst (IsShortLeaf m.rows) e one.leaf);
       }
       exchanged_leaf (suc (suc p)) (suc x) (suc y) may plain e = absurd (let f = one.others (suc (suc p)) (omega arith) in omega arith)
 
@@ -144,7 +152,7 @@ module _ (m : Memory) {log : List Update} {o : Owners} {ks : ℕ → Knowledge} 
       leaf_after (ReuseRows w bits) may plain stay = record { root = one.root; linked = one.linked; others = one.others; leaf = one.leaf }
 
     -- what the actor learns
-    same : (k' : Knowledge) → k'.heads ≡ k.heads → k'.pages ≡ k.pages → k'.roots ≡ k.roots → KnowsLeaf m.rows k'
+    same : (k' : Knowledge) → k'.read.heads ≡ k.read.heads → k'.own.pages ≡ k.own.pages → k'.read.roots ≡ k.read.roots → KnowsLeaf m.rows k'
     same k' e f g = record {
       heads = λ page row h. known.heads page row (ap (λ heads. heads page) (sym e) ∙ h);
       pageless = λ page. ap (λ pages. pages page) f ∙ known.pageless page;
@@ -155,11 +163,11 @@ module _ (m : Memory) {log : List Update} {o : Owners} {ks : ℕ → Knowledge} 
     slot_known zero n e = record {
       heads = known.heads;
       pageless = known.pageless;
-      roots = λ page h. by_test page n (λ t. cond t true (k.roots page) ≡ true → page ≡ 1) (λ i f. i ∙ sym e ∙ one.root) (λ ne f. known.roots page f) h;
+      roots = λ page h. by_test page n (λ t. cond t true (k.read.roots page) ≡ true → page ≡ 1) (λ i f. i ∙ sym e ∙ one.root) (λ ne f. known.roots page f) h;
     }
     slot_known (suc p) zero e = known
     slot_known (suc zero) (suc n) e = record {
-      heads = λ page row h. by_test page 1 (λ t. cond t (Some (suc n)) (k.heads page) ≡ Some row → IsShortLeaf m.rows row)
+      heads = λ page row h. by_test page 1 (λ t. cond t (Some (suc n)) (k.read.heads page) ≡ Some row → IsShortLeaf m.rows row)
           (λ i f. subst (IsShortLeaf m.rows) (e ∙ same_Some (suc n) row f) one.leaf)
           (λ ne f. known.heads page row f) h;
       pageless = known.pageless;

@@ -47,7 +47,7 @@ module _ (limits : Limits) (entries : List Entry) (operation : Operation) where
 pub record IsDirectState (limits : Limits) (entries : List Entry) : Type 0 where
   pub direct : IsDirect limits entries
   pub recollects : (operation : Operation) → IsLast entries operation → Recollects limits entries operation (recalls entries operation.actor)
-  pub linked : (operation : Operation) (n : ℕ) (kind : Link) → IsLast entries operation → Links limits entries operation n kind → IsUpdateLink kind → IsSome (knows entries operation.actor).linked
+  pub linked : (operation : Operation) (n : ℕ) (kind : Link) → IsLast entries operation → Links limits entries operation n kind → IsUpdateLink kind → IsSome (knows entries operation.actor).asked.linked
 
 -- The actor's last operation, if it has begun one, can afford this many steps more.
 abbrev pub Accounts : Limits → List Entry → ℕ → ℕ → Type 0

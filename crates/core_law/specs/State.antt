@@ -28,9 +28,9 @@ pub record HasOneLeaf (memory : Memory) : Type 0 where
 
 -- Whatever row an actor has read in a slot has a short chain, no page is its own, and it has read no other page than 1 as the root.
 pub record KnowsLeaf (rows : ℕ → Option Record) (k : Knowledge) : Type 0 where
-  pub heads : (page row : ℕ) → k.heads page ≡ Some row → IsShortLeaf rows row
-  pub pageless : (page : ℕ) → k.pages page ≡ Other
-  pub roots : (page : ℕ) → k.roots page ≡ true → page ≡ 1
+  pub heads : (page row : ℕ) → k.read.heads page ≡ Some row → IsShortLeaf rows row
+  pub pageless : (page : ℕ) → k.own.pages page ≡ Other
+  pub roots : (page : ℕ) → k.read.roots page ≡ true → page ≡ 1
 
 pub record IsState (limits : Limits) (entries : List Entry) : Type 0 where
   pub tree : tree.IsState limits entries

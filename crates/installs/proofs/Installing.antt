@@ -22,10 +22,10 @@ some_free zero word words some = absurd (some refl)
 some_free (suc n) word words some = refl
 
 module _ (actor : ℕ) (k : Knowledge) (install : Install) (spares : List ℕ) where
-  none_free : (word below : ℕ) → below ≤ word → AreFull k word → replaced_at word true k.no_rows below ≡ true
+  none_free : (word below : ℕ) → below ≤ word → AreFull k word → replaced_at word true k.asked.no_rows below ≡ true
   none_free word below le full = go (below == word) refl
     where
-      go : (t : Bool) → (below == word) ≡ t → cond t true (k.no_rows below) ≡ true
+      go : (t : Bool) → (below == word) ≡ t → cond t true (k.asked.no_rows below) ≡ true
       go true e = refl
       go false e = full below (let other : below ≢ word = eqb-false below word e in omega (arith, other))
 
@@ -34,7 +34,7 @@ module _ (actor : ℕ) (k : Knowledge) (install : Install) (spares : List ℕ) w
   chosen word bits row some place h = record {
     shows = record {
       may = still_may actor k (learn k (step.RowBits word) (answer.Number bits)) install.pid install.head install.content (like_word k word bits) h.may;
-      stands = rw (some_free bits word k.no_rows some, place) h.stands;
+      stands = rw (some_free bits word k.asked.no_rows some, place) h.stands;
     };
     like = like_word k word bits;
   }
@@ -72,7 +72,7 @@ module _ (actor : ℕ) (k : Knowledge) (install : Install) (spares : List ℕ) w
   placed row told h = record {
     shows = record {
       may = still_may actor k (learn k (step.Place row install.content) told) install.pid install.head install.content (like_placed k row install.content told) h.may;
-      stands = (spare_placed k.rows row (Written install.content) (row ∷ spares) tt h.stands, (let e : (row == row) ≡ true = eq-eqb row row refl in rw e refl));
+      stands = (spare_placed k.own.rows row (Written install.content) (row ∷ spares) tt h.stands, (let e : (row == row) ≡ true = eq-eqb row row refl in rw e refl));
     };
     like = like_placed k row install.content told;
   }
@@ -80,8 +80,8 @@ module _ (actor : ℕ) (k : Knowledge) (install : Install) (spares : List ℕ) w
 -- an exchange was answered
 pub ended : (actor : ℕ) (k : Knowledge) (install : Install) (had has : List ℕ) (row : ℕ) (won : Bool) → has ≡ (if won then had else had ++ row ∷ []) → Shows actor (at install (Exchange row)) had k
     → Follows actor k (at install (Exchange row)) had (answer.Whether won) (at install (Exchange row)) has (Some (if won then Won else Lost))
-ended actor k install had has row true e h = record { exchanged = record { row = row; asked = refl; some = h.stands.0.0.1; placed = h.stands.1; left = rw e (spare_left k.rows row had h.stands.0.1 h.stands.0.2) }; won = refl; same = e }
-ended actor k install had has row false e h = record { row = row; asked = refl; lost = refl; kept = e; spare = rw e (spare_kept k.rows row had h.stands.0) }
+ended actor k install had has row true e h = record { exchanged = record { row = row; asked = refl; some = h.stands.0.0.1; placed = h.stands.1; left = rw e (spare_left k.own.rows row had h.stands.0.1 h.stands.0.2) }; won = refl; same = e }
+ended actor k install had has row false e h = record { row = row; asked = refl; lost = refl; kept = e; spare = rw e (spare_kept k.own.rows row had h.stands.0) }
 
 -- the answer to the step wanted last is the one that the state was waiting for
 pub follows_at : (actor : ℕ) (k : Knowledge) (old : Install) (state : State) (a b : Answer Record) (had : List ℕ) (new : Install) (has : List ℕ) (r : Option End) → old.state ≡ state → a ≡ b
@@ -92,8 +92,8 @@ follows_at actor k old state a b had new has r e i h =
     (subst (λ (x : Answer Record). Shows actor (at old state) had k → Fits old.limits k (wanted (at old state)) x → Follows actor k (at old state) had x new has r) (sym i) h)
 
 -- a change begins with the last spare, or without one
-pub begun_spare : (actor : ℕ) (k : Knowledge) (install : Install) (had has : List ℕ) (row : ℕ) → had ≡ has ++ row ∷ [] → MayInstall actor k install.pid install.head install.content → AreSpare k.rows had → Shows actor (at install (Place row)) has k
-begun_spare actor k install had has row e may own = record { may = may; stands = spare_taken k.rows row has (rw (← e) own) }
+pub begun_spare : (actor : ℕ) (k : Knowledge) (install : Install) (had has : List ℕ) (row : ℕ) → had ≡ has ++ row ∷ [] → MayInstall actor k install.pid install.head install.content → AreSpare k.own.rows had → Shows actor (at install (Place row)) has k
+begun_spare actor k install had has row e may own = record { may = may; stands = spare_taken k.own.rows row has (rw (← e) own) }
 
 pub begun_bare : (actor : ℕ) (k : Knowledge) (install : Install) (has : List ℕ) → has ≡ [] → MayInstall actor k install.pid install.head install.content → Shows actor (at install (Bits 0)) has k
 begun_bare actor k install has e may = record { may = may; stands = (e, λ below lt. absurd (omega (arith, lt))) }

@@ -57,32 +57,27 @@ IsSoundState limits (Exchange row) = row < limits.rows
 -- The same is known but of own rows and of words of free bits.
 pub record IsLike (was now : Knowledge) : Type 0 where
   pub inside : now.inside ≡ was.inside
-  pub learnt : now.learnt ≡ was.learnt
-  pub roots : now.roots ≡ was.roots
-  pub seen : now.seen ≡ was.seen
-  pub recent : now.recent ≡ was.recent
-  pub heads : now.heads ≡ was.heads
-  pub before : now.before ≡ was.before
-  pub pages : now.pages ≡ was.pages
-  pub command : now.command ≡ was.command
-  pub linked : now.linked ≡ was.linked
+  pub read : now.read ≡ was.read
+  pub pages : now.own.pages ≡ was.own.pages
+  pub command : now.asked.command ≡ was.asked.command
+  pub linked : now.asked.linked ≡ was.asked.linked
 
 -- The actor may link the content once it has placed it in a row of its own, whichever that is.
 pub record MayInstall (actor : ℕ) (k : Knowledge) (pid head : ℕ) (content : Record) : Type 0 where
   pub inside : k.inside ≡ true
-  pub unready : (page row : ℕ) → k.pages page ≡ Ready row → ⊥
-  pub links : (now : Knowledge) (row : ℕ) → IsLike k now → 0 < row → now.rows row ≡ Written content → MayExchange actor now pid head row
+  pub unready : (page row : ℕ) → k.own.pages page ≡ Ready row → ⊥
+  pub links : (now : Knowledge) (row : ℕ) → IsLike k now → 0 < row → now.own.rows row ≡ Written content → MayExchange actor now pid head row
 
 -- Each word of free rows below this one was read as 0.
 abbrev pub AreFull : Knowledge → ℕ → Type 0
-AreFull k word = (below : ℕ) → below < word → k.no_rows below ≡ true
+AreFull k word = (below : ℕ) → below < word → k.asked.no_rows below ≡ true
 
 -- By the state of a change: what its actor knows, and that the spares, with the row in flight, are the actor's own.
 abbrev pub Stands : List ℕ → Knowledge → State → Record → Type 0
 Stands spares k (Bits word) content = (spares ≡ []) × AreFull k word
 Stands spares k (Take row) content = (spares ≡ []) × AreFull k (row / 64)
-Stands spares k (Place row) content = AreSpare k.rows (row ∷ spares)
-Stands spares k (Exchange row) content = AreSpare k.rows (row ∷ spares) × (k.rows row ≡ Written content)
+Stands spares k (Place row) content = AreSpare k.own.rows (row ∷ spares)
+Stands spares k (Exchange row) content = AreSpare k.own.rows (row ∷ spares) × (k.own.rows row ≡ Written content)
 
 pub record Shows (actor : ℕ) (install : Install) (spares : List ℕ) (k : Knowledge) : Type 0 where
   pub may : MayInstall actor k install.pid install.head install.content
@@ -105,8 +100,8 @@ pub record IsExchanged (k : Knowledge) (install : Install) (spares : List ℕ) :
   pub row : ℕ
   pub asked : install.state ≡ Exchange row
   pub some : 0 < row
-  pub placed : k.rows row ≡ Written install.content
-  pub left : AreSpare (replaced_at row Foreign k.rows) spares
+  pub placed : k.own.rows row ≡ Written install.content
+  pub left : AreSpare (replaced_at row Foreign k.own.rows) spares
 
 -- The exchange won, and the spares are as they were.
 pub record HasWon (k : Knowledge) (install : Install) (had : List ℕ) (told : Answer Record) (has : List ℕ) : Type 0 where
@@ -120,13 +115,13 @@ pub record HasLost (k : Knowledge) (install : Install) (had : List ℕ) (told : 
   pub asked : install.state ≡ Exchange row
   pub lost : told ≡ Whether false
   pub kept : has ≡ had ++ row ∷ []
-  pub spare : AreSpare k.rows has
+  pub spare : AreSpare k.own.rows has
 
 -- Nothing was spare, and each word of free rows has been read as 0.
 pub record IsFull (k now : Knowledge) (install : Install) (has : List ℕ) : Type 0 where
   pub none : has ≡ []
   pub like : IsLike k now
-  pub full : (word : ℕ) → word < install.limits.rows / 64 → now.no_rows word ≡ true
+  pub full : (word : ℕ) → word < install.limits.rows / 64 → now.asked.no_rows word ≡ true
 
 -- what follows from an answer
 abbrev pub Follows : ℕ → Knowledge → Install → List ℕ → Answer Record → Install → List ℕ → Option End → Type 0

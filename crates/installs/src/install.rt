@@ -67,7 +67,7 @@ impl Install {
     ) -> Install
         requires target { IsTarget limits.now pid head content }
         requires room { HaveRoom limits.now 0 spares.old }
-        ensures shows { (actor : ℕ) (k : Knowledge) → MayInstall actor k pid head content → AreSpare k.rows spares.old → Shows actor result spares.new k }
+        ensures shows { (actor : ℕ) (k : Knowledge) → MayInstall actor k pid head content → AreSpare k.own.rows spares.old → Shows actor result spares.new k }
         ensures room { HaveRoom limits.now 1 spares.new }
         ensures held { held result.state spares.new ≡ spares.old }
         ensures limits { result.limits ≡ limits.now }

@@ -22,7 +22,7 @@ seeks_still : (k now : Knowledge) (c : Command) → change.IsLike k now → Seek
 seeks_still k now c like s = record { inside = like.inside ∙ s.inside; pageless = rw like.pages s.pageless; going = like.command ∙ s.going; unlinked = like.linked ∙ s.unlinked }
 
 leaf_still : (k now : Knowledge) (pid head : ℕ) (chain : List Record) → change.IsLike k now → HasLeaf k pid head chain → HasLeaf now pid head chain
-leaf_still k now pid head chain like h = record { page = h.page; linked = h.linked; held = rw like.heads h.held; read = rw like.seen h.read; leaf = h.leaf }
+leaf_still k now pid head chain like h = record { page = h.page; linked = h.linked; held = rw like.read h.held; read = rw like.read h.read; leaf = h.leaf }
 
 brings_still : (actor : ℕ) (k now : Knowledge) (c : Command) (pid head : ℕ) (content : Record) (answered : Option Reply) → change.IsLike k now → Brings actor k c pid head content answered → Brings actor now c pid head content answered
 brings_still actor k now c pid head content (Some r) like b = record { chain = b.chain; whole = leaf_still k now pid head b.chain like b.whole; short = b.short; update = b.update; due = b.due; is = b.is; replies = b.replies }
@@ -38,12 +38,12 @@ module _ (limits : Limits) (actor : ℕ) (k : Knowledge) (c : Command) (part : L
   )
 
   -- what is known once a record was linked over another page's row
-  linked : (p x y : ℕ) → 0 < p → 0 < y → HasNoPage k → exchanged p x y k ≡ linked_over (k.rows y) x y k
+  linked : (p x y : ℕ) → 0 < p → 0 < y → HasNoPage k → exchanged p x y k ≡ linked_over (k.own.rows y) x y k
   linked zero x y some row none = absurd (omega arith)
   linked (suc p) x zero some row none = absurd (omega arith)
   linked (suc p) x (suc y) some row none = rw (none (suc p)) refl
 
-  updated : (u : Update) (x y : ℕ) → linked_over (Written (record_of u x)) x y k ≡ record k { rows = replaced_at y Foreign k.rows; linked = Some (Some x) }
+  updated : (u : Update) (x y : ℕ) → linked_over (Written (record_of u x)) x y k ≡ record k { own = record k.own { rows = replaced_at y Foreign k.own.rows }; asked = record k.asked { linked = Some (Some x) } }
   updated (set who key value) x y = refl
   updated (unset who key) x y = refl
 

@@ -39,7 +39,7 @@ plain_update (set actor key value) next chain short = short
 plain_update (unset actor key) next chain short = short
 
 module _ (limits : Limits) (actor : ℕ) (k : Knowledge) (c : Command) (part : List Record) (spares : List ℕ) where
-  reads_slot : (pid : ℕ) → 0 < pid → k.inside ≡ true → k.roots pid ≡ true → May actor k (step.Slot pid)
+  reads_slot : (pid : ℕ) → 0 < pid → k.inside ≡ true → k.read.roots pid ≡ true → May actor k (step.Slot pid)
   reads_slot zero some inside root = absurd (omega arith)
   reads_slot (suc pid) some inside root = (inside, inl root)
 
@@ -72,7 +72,7 @@ module _ (limits : Limits) (actor : ℕ) (k : Knowledge) (c : Command) (part : L
   freely (Leave answered) s e = subst (MayFree limits actor k) (same_Some _ _ e) tt
   freely Over s e = cc
 
-  links_plainly : (pid head row : ℕ) (content : Record) (answered : Option Reply) → Brings actor k c pid head content answered → k.rows row ≡ Written content → IsPlainMove k (step.Exchange pid head row)
+  links_plainly : (pid head row : ℕ) (content : Record) (answered : Option Reply) → Brings actor k c pid head content answered → k.own.rows row ≡ Written content → IsPlainMove k (step.Exchange pid head row)
   links_plainly pid head row content (Some r) b placed = record { chain = b.chain; read = b.whole.read; content = content; placed = placed; plain = rw b.is (plain_update b.update head b.chain b.short) }
   links_plainly pid head row content None b placed = record { chain = b.chain; read = b.whole.read; content = content; placed = placed; plain = rw b.is b.long }
 
@@ -163,11 +163,11 @@ module _ (limits : Limits) (actor : ℕ) (k : Knowledge) (c : Command) (part : L
   replaced_same : {X : Type 0} (f : ℕ → X) (i : ℕ) (x : X) → replaced_at i x f i ≡ x
   replaced_same {X} f i x = let e : (i == i) ≡ true = eq-eqb i i refl in rw e refl
 
-  seen_more : Reads k pid head part row → FitsOneLeaf limits k (step.Row row) (answer.Content w) → IsFront (replaced_at row (Some w) k.seen) head part row
-  seen_more r f = front_more k.seen k.seen row w f.0.same part head row r.seen r.seen
+  seen_more : Reads k pid head part row → FitsOneLeaf limits k (step.Row row) (answer.Content w) → IsFront (replaced_at row (Some w) k.read.seen) head part row
+  seen_more r f = front_more k.read.seen k.read.seen row w f.0.same part head row r.seen r.seen
 
-  recent_more : Reads k pid head part row → FitsOneLeaf limits k (step.Row row) (answer.Content w) → IsFront (replaced_at row (Some w) k.recent) head part row
-  recent_more r f = front_more k.seen k.recent row w f.0.same part head row r.seen r.recent
+  recent_more : Reads k pid head part row → FitsOneLeaf limits k (step.Row row) (answer.Content w) → IsFront (replaced_at row (Some w) k.read.recent) head part row
+  recent_more r f = front_more k.read.seen k.read.recent row w f.0.same part head row r.seen r.recent
 
   pub read_on : (m : ℕ) → next_row w ≡ Some m → Stands limits actor c part spares k (Row pid head row) → FitsOneLeaf limits k (step.Row row) (answer.Content w) → Stands limits actor c (part ++ w ∷ []) spares read (Row pid head m)
   read_on m i h f = (
@@ -177,9 +177,9 @@ module _ (limits : Limits) (actor : ℕ) (k : Knowledge) (c : Command) (part : L
       page = h.2.page;
       linked = h.2.linked;
       held = h.2.held;
-      seen = front_next (replaced_at row (Some w) k.seen) w part head row m (seen_more h.2 f) (replaced_same k.seen row (Some w)) i;
-      recent = front_next (replaced_at row (Some w) k.recent) w part head row m (recent_more h.2 f) (replaced_same k.recent row (Some w)) i;
-      named = rw i (replaced_same k.learnt m true);
+      seen = front_next (replaced_at row (Some w) k.read.seen) w part head row m (seen_more h.2 f) (replaced_same k.read.seen row (Some w)) i;
+      recent = front_next (replaced_at row (Some w) k.read.recent) w part head row m (recent_more h.2 f) (replaced_same k.read.recent row (Some w)) i;
+      named = rw i (replaced_same k.read.learnt m true);
     },
   )
 
@@ -191,10 +191,10 @@ module _ (limits : Limits) (actor : ℕ) (k : Knowledge) (c : Command) (part : L
       page = h.2.page;
       linked = h.2.linked;
       held = h.2.held;
-      read = front_end (replaced_at row (Some w) k.seen) w part head row (seen_more h.2 f) (replaced_same k.seen row (Some w)) i;
+      read = front_end (replaced_at row (Some w) k.read.seen) w part head row (seen_more h.2 f) (replaced_same k.read.seen row (Some w)) i;
       leaf = f.1.whole pid head part h.2.held h.2.seen i;
     };
-    recent = front_end (replaced_at row (Some w) k.recent) w part head row (recent_more h.2 f) (replaced_same k.recent row (Some w)) i;
+    recent = front_end (replaced_at row (Some w) k.read.recent) w part head row (recent_more h.2 f) (replaced_same k.read.recent row (Some w)) i;
   }
 
   -- the chain is a page's, and that of the only leaf

@@ -24,12 +24,12 @@ pub record IsLeafChain (chain : List Record) : Type 0 where
 
 -- A chain that is being read has no more than 9 records; where this is its last one, it is the chain of the only leaf.
 pub record FitsLeaf (k : Knowledge) (row : ℕ) (content : Record) : Type 0 where
-  pub short : (page head : ℕ) (front : List Record) → k.heads page ≡ Some head → IsFront k.seen head front row → length front < 9
-  pub whole : (page head : ℕ) (front : List Record) → k.heads page ≡ Some head → IsFront k.seen head front row → next_row content ≡ None → IsLeafChain (front ++ content ∷ [])
+  pub short : (page head : ℕ) (front : List Record) → k.read.heads page ≡ Some head → IsFront k.read.seen head front row → length front < 9
+  pub whole : (page head : ℕ) (front : List Record) → k.read.heads page ≡ Some head → IsFront k.read.seen head front row → next_row content ≡ None → IsLeafChain (front ++ content ∷ [])
 
 -- what an answer shows of the only leaf
 abbrev pub ShowsLeaf : Knowledge → StepOf Record → Answer Record → Type 0
-ShowsLeaf k (Slot page) (Number row) = k.roots page ≡ true → 0 < row
+ShowsLeaf k (Slot page) (Number row) = k.read.roots page ≡ true → 0 < row
 ShowsLeaf k (Row row) (Content content) = FitsLeaf k row content
 ShowsLeaf k step answer = ⊤
 
@@ -47,9 +47,9 @@ IsPlainOver chain other = ⊥
 -- The record that was placed in the new row is such a one, over a chain that was read.
 pub record IsPlainLink (k : Knowledge) (old new : ℕ) : Type 0 where
   pub chain : List Record
-  pub read : IsChainFrom k.seen old chain
+  pub read : IsChainFrom k.read.seen old chain
   pub content : Record
-  pub placed : k.rows new ≡ Written content
+  pub placed : k.own.rows new ≡ Written content
   pub plain : IsPlainOver chain content
 
 -- The step makes no second page, and keeps the chain of the first one short.

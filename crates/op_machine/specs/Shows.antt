@@ -27,43 +27,43 @@ use Rattle.op_machine.specs.Wants.{Op, at, wanted_of}
 
 -- No page is its actor's own.
 abbrev pub HasNoPage : Knowledge → Type 0
-HasNoPage k = (page : ℕ) → k.pages page ≡ Other
+HasNoPage k = (page : ℕ) → k.own.pages page ≡ Other
 
 -- outside, with a command, and no update linked
 pub record Waits (k : Knowledge) (command : Command) : Type 0 where
   pub outside : k.inside ≡ false
   pub pageless : HasNoPage k
-  pub going : k.command ≡ Some command
-  pub unlinked : k.linked ≡ None
+  pub going : k.asked.command ≡ Some command
+  pub unlinked : k.asked.linked ≡ None
 
 -- inside, with a command
 pub record Busy (k : Knowledge) (command : Command) : Type 0 where
   pub inside : k.inside ≡ true
   pub pageless : HasNoPage k
-  pub going : k.command ≡ Some command
+  pub going : k.asked.command ≡ Some command
 
 -- inside, with a command, and no update linked
 pub record Seeks (k : Knowledge) (command : Command) : Type 0 where
   pub inside : k.inside ≡ true
   pub pageless : HasNoPage k
-  pub going : k.command ≡ Some command
-  pub unlinked : k.linked ≡ None
+  pub going : k.asked.command ≡ Some command
+  pub unlinked : k.asked.linked ≡ None
 
 -- A page's slot was read, and the records from its row on as far as the next row to read, each after the slot.
 pub record Reads (k : Knowledge) (pid head : ℕ) (part : List Record) (row : ℕ) : Type 0 where
   pub page : 0 < pid
   pub linked : 0 < head
-  pub held : k.heads pid ≡ Some head
-  pub seen : IsFront k.seen head part row
-  pub recent : IsFront k.recent head part row
-  pub named : k.learnt row ≡ true
+  pub held : k.read.heads pid ≡ Some head
+  pub seen : IsFront k.read.seen head part row
+  pub recent : IsFront k.read.recent head part row
+  pub named : k.read.learnt row ≡ true
 
 -- A page's slot was read, and its whole chain, which is that of the only leaf.
 pub record HasLeaf (k : Knowledge) (pid head : ℕ) (chain : List Record) : Type 0 where
   pub page : 0 < pid
   pub linked : 0 < head
-  pub held : k.heads pid ≡ Some head
-  pub read : IsChainFrom k.seen head chain
+  pub held : k.read.heads pid ≡ Some head
+  pub read : IsChainFrom k.read.seen head chain
   pub leaf : IsLeafChain chain
 
 -- The content is an update that is due over the leaf's chain, which is short; where it is linked, this is the reply.
@@ -92,14 +92,14 @@ Brings actor k command pid head content None = IsRebuilt k command pid head cont
 
 -- By the state of an operation: what its actor knows, and that the spares, with the row that is in flight, are the actor's own.
 abbrev pub Stands : Limits → ℕ → Command → List Record → List ℕ → Knowledge → State → Type 0
-Stands limits actor command part spares k Begun = Waits k command × AreSpare k.rows spares
-Stands limits actor command part spares k Epoch = Waits k command × AreSpare k.rows spares
-Stands limits actor command part spares k (Enter epoch) = Waits k command × AreSpare k.rows spares × (0 < epoch) × (k.epoch ≡ Some epoch)
-Stands limits actor command part spares k Root = Seeks k command × AreSpare k.rows spares
-Stands limits actor command part spares k (Slot pid) = Seeks k command × AreSpare k.rows spares × (0 < pid) × (k.roots pid ≡ true)
-Stands limits actor command part spares k (Row pid head row) = Seeks k command × AreSpare k.rows spares × Reads k pid head part row
+Stands limits actor command part spares k Begun = Waits k command × AreSpare k.own.rows spares
+Stands limits actor command part spares k Epoch = Waits k command × AreSpare k.own.rows spares
+Stands limits actor command part spares k (Enter epoch) = Waits k command × AreSpare k.own.rows spares × (0 < epoch) × (k.limbo.epoch ≡ Some epoch)
+Stands limits actor command part spares k Root = Seeks k command × AreSpare k.own.rows spares
+Stands limits actor command part spares k (Slot pid) = Seeks k command × AreSpare k.own.rows spares × (0 < pid) × (k.read.roots pid ≡ true)
+Stands limits actor command part spares k (Row pid head row) = Seeks k command × AreSpare k.own.rows spares × Reads k pid head part row
 Stands limits actor command part spares k (Install install reply) = Seeks k command × Brings actor k command install.pid install.head install.content reply × change.Shows actor install spares k × (install.limits ≡ limits)
-Stands limits actor command part spares k (Leave reply) = Busy k command × AreSpare k.rows spares × MayReply limits actor k reply
+Stands limits actor command part spares k (Leave reply) = Busy k command × AreSpare k.own.rows spares × MayReply limits actor k reply
 Stands limits actor command part spares k Over = ⊥
 
 abbrev pub Shows : Op → List ℕ → Knowledge → Type 0
@@ -109,7 +109,7 @@ Shows op spares k = Stands op.limits op.actor op.command op.part spares k op.sta
 pub record Rests (spares : List ℕ) (k : Knowledge) : Type 0 where
   pub outside : k.inside ≡ false
   pub pageless : HasNoPage k
-  pub spare : AreSpare k.rows spares
+  pub spare : AreSpare k.own.rows spares
 
 -- the answer fits the step wanted last; before the first step there is none
 abbrev pub FitsLast : Limits → Knowledge → Option (StepOf Record) → Answer Record → Type 0
@@ -153,6 +153,6 @@ Advances old had state told new has asked = Obeys (at old state) had told new ha
 -- A page's chain was read whole, each record after the slot.
 pub record Arrives (k : Knowledge) (command : Command) (spares : List ℕ) (pid head : ℕ) (chain : List Record) : Type 0 where
   pub seeks : Seeks k command
-  pub spare : AreSpare k.rows spares
+  pub spare : AreSpare k.own.rows spares
   pub whole : HasLeaf k pid head chain
-  pub recent : IsChainFrom k.recent head chain
+  pub recent : IsChainFrom k.read.recent head chain

@@ -315,7 +315,7 @@ impl Op {
     ) -> Step<Record>
         requires target { IsTarget self.old.limits pid head content }
         requires hand { HaveRoom self.old.limits 0 hand.old }
-        ensures goes { (k : Knowledge) → Seeks k self.old.command → Brings self.old.actor k self.old.command pid head content reply → MayInstall self.old.actor k pid head content → AreSpare k.rows hand.old → Goes k self.new hand.new result }
+        ensures goes { (k : Knowledge) → Seeks k self.old.command → Brings self.old.actor k self.old.command pid head content reply → MayInstall self.old.actor k pid head content → AreSpare k.own.rows hand.old → Goes k self.new hand.new result }
         ensures within { IsWithin self.old.limits result }
         ensures hand { HaveRoom self.old.limits (rows_in_flight self.new.state) hand.new }
         ensures keeps { held self.new.state hand.new ≡ hand.old }

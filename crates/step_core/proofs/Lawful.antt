@@ -39,7 +39,7 @@ module _ (limits : Limits) (entries : List Entry) (state : IsState limits entrie
   heads (suc (suc pid)) some held = let none : m.slots (suc (suc pid)) ≡ 0 = state.leaf.others (suc (suc pid)) (omega arith) in absurd (omega arith)
 
   module _ (law : StepLaw) (a : ℕ) where
-    own_placed : (row : ℕ) (content : Record) → (knows entries a).rows row ≡ Written content → IsTrue (is_placed m row)
+    own_placed : (row : ℕ) (content : Record) → (knows entries a).own.rows row ≡ Written content → IsTrue (is_placed m row)
     own_placed row content e = placed (m.rows row) content (subst (λ (o : OwnRow). OwnFits a (state.tree.owners.row row) (m.rows row) o) e (state.tree.good.owns a row)).1
 
     -- the row that an allowed step reads or links was placed

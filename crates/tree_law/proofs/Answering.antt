@@ -40,18 +40,18 @@ module _ {m : Shared} {log : List Update} {o : Owners} {knows : ℕ → Knowledg
       inside = covers_from h.chain (command_key command) h.covers
 
       decides : is_removed h.chain ≡ false → (l : List Update) → Spells o m h.row l → content_in h.chain (command_key command) ≡ leaf_map l (command_key command)
-      decides alive l s = chain_decides o m (knows a).seen (g.sound a).seen_fits h.row h.chain h.read l s h.leaf alive (command_key command) inside
+      decides alive l s = chain_decides o m (knows a).read.seen (g.sound a).seen_fits h.row h.chain h.read l s h.leaf alive (command_key command) inside
 
       Unlinked : Type 0
-      Unlinked = ((knows a).linked ≡ None) × ((page : ℕ) × ((knows a).heads page ≡ Some h.row) × IsFalse (is_removed h.chain)) × (update_of a command (found h.chain (command_key command)) ≡ None)
+      Unlinked = ((knows a).asked.linked ≡ None) × ((page : ℕ) × ((knows a).read.heads page ≡ Some h.row) × IsFalse (is_removed h.chain)) × (update_of a command (found h.chain (command_key command)) ≡ None)
 
       Beside : Type 0
-      Beside = ((knows a).linked ≡ None) × IsBeside (knows a) h.row × IsTrue (is_removed h.chain) × (update_of a command (found h.chain (command_key command)) ≡ None)
+      Beside = ((knows a).asked.linked ≡ None) × IsBeside (knows a) h.row × IsTrue (is_removed h.chain) × (update_of a command (found h.chain (command_key command)) ≡ None)
 
-      none : (knows a).linked ≡ None → point a ≡ None
+      none : (knows a).asked.linked ≡ None → point a ≡ None
       none e = subst (λ (v : Option (Option ℕ)). LinkFits o m (point a) v) e (g.sound a).linked_fits
 
-      by_link : ((knows a).linked ≡ Some (Some h.row)) × IsFalse (is_removed h.chain) → IsRepliedAt a command reply (point a) (logs a)
+      by_link : ((knows a).asked.linked ≡ Some (Some h.row)) × IsFalse (is_removed h.chain) → IsRepliedAt a command reply (point a) (logs a)
       by_link u = let i = subst (λ (v : Option (Option ℕ)). LinkFits o m (point a) v) u.0 (g.sound a).linked_fits in replied command reply h i.0 (decides u.1 i.0 i.2) (inl i.1)
 
       by_head : Unlinked → IsRepliedAt a command reply (point a) (logs a)
@@ -62,6 +62,6 @@ module _ {m : Shared} {log : List Update} {o : Owners} {knows : ℕ → Knowledg
       by_left : Beside → IsRepliedAt a command reply (point a) (logs a)
       by_left u =
           let b = u.1 in
-          let e : InOrder o m (logs a) b.left b.head b.other h.row = subst (λ (v : Option ℕ). OrderFits o m (logs a) b.left b.other (Some b.head) v) b.order (subst (λ (v : Option ℕ). OrderFits o m (logs a) b.left b.other v ((knows a).before b.left b.other)) b.basis.head ((g.sound a).orders_fit b.left b.other)) in
-          let i = e.spelled h.chain b.basis.chain (chain_stands o m (knows a).seen (g.sound a).seen_fits h.chain (Some h.row) h.read) (chain_stands o m (knows a).seen (g.sound a).seen_fits b.basis.chain (Some b.head) b.basis.read) u.2 b.basis.alive h.leaf b.right in
+          let e : InOrder o m (logs a) b.left b.head b.other h.row = subst (λ (v : Option ℕ). OrderFits o m (logs a) b.left b.other (Some b.head) v) b.order (subst (λ (v : Option ℕ). OrderFits o m (logs a) b.left b.other v ((knows a).read.before b.left b.other)) b.basis.head ((g.sound a).orders_fit b.left b.other)) in
+          let i = e.spelled h.chain b.basis.chain (chain_stands o m (knows a).read.seen (g.sound a).seen_fits h.chain (Some h.row) h.read) (chain_stands o m (knows a).read.seen (g.sound a).seen_fits b.basis.chain (Some b.head) b.basis.read) u.2 b.basis.alive h.leaf b.right in
           replied command reply h i.0 (i.2 (command_key command) inside) (inr (none u.0, u.3, i.1))

@@ -39,6 +39,7 @@ use Rattle.tree_law.proofs.Fitness.{opening_fitted}
 use Rattle.tree_law.proofs.Levels.{indexed_first, indexed_push}
 use Rattle.tree_law.proofs.Mapping.{map_of}
 use Rattle.tree_law.proofs.Lives.{begins_in_phase, begins_phases, begins_only}
+use Rattle.tree_law.proofs.Updates.{updates_push}
 use Rattle.tree_law.proofs.Marks.{marked_push, tells_other, quiet_push}
 use Rattle.tree_law.proofs.Names.{faithful_push, named_begins}
 use Rattle.tree_law.proofs.Opening.{opening_slots, opening_owners, opening_good}
@@ -108,6 +109,7 @@ opens limits = record {
   searches = λ op is u e. absurd (cc);
   marked = record { beside = refl; own = λ n e. absurd (cc); one = λ op m n is own own' p q. absurd (cc); answered = λ op n r is ends. absurd (let e = ends.2.entry in cc) };
   run = IsRun-none limits;
+  updates = λ n. (λ h. absurd (let e = h.0 in cc), λ h. absurd (let e = h.at in cc));
   quiet = record { at_each = λ n h. at_zero n h };
   faithful = record { known = λ n a row x h. absurd (let e = h.1 in cc); outside = λ n a s x h. absurd (let e = h.1 in cc) };
   in_phase = λ pid. inr (λ k from to low high. absurd (omega arith), by_test pid 1 (λ t. phase_of (cond t (Placed Indexed 0 []) Nobody) ≡ cond t indexed free) (λ i. refl) (λ ne. refl));
@@ -170,13 +172,14 @@ begins limits entries a c state below idle = record {
   searches = searches_begin;
   marked = marked_push entries state.points (Begin a c) false state.marked.beside limits state.marked (λ e. absurd (cc)) (λ e. absurd (cc)) (λ op s x r is e u. absurd (cc)) (λ e. absurd (cc));
   run = IsRun-push limits entries (Begin a c) state.run (below, idle);
+  updates = updates_push limits entries state.points (Begin a c) false state.marked.beside state.updates (λ h. absurd (let e = h.0 in cc), λ h. absurd (let e = h.5.0.1 in cc));
   quiet = quiet_push entries state.points (Begin a c) false state.marked.beside limits state.quiet
       (rw (memory_of-push limits entries (Begin a c), log_of-push entries state.points (Begin a c) false state.marked.beside) (map_of state.good));
   in_phase = λ pid. begins_in_phase limits entries a c pid (phase_of (state.owners.page pid)) (state.in_phase pid);
   only_phase = begins_only limits entries a c state.owners.page state.in_phase state.only_phase;
   phases = begins_phases limits entries a c state.phases;
-  limbo_rows = rw (knows-push entries (Begin a c)) (λ b q. by_test b a (λ z. IsInLimbo (entries ++ Begin a c ∷ []) b (UnlinksRow limits (entries ++ Begin a c ∷ []) b q) (HandsRow q) ((cond z (begun (knows entries a) c) (knows entries b)).limbo_rows q)) (λ i. rw i (rows_longer a q)) (λ ne. rows_longer b q));
-  limbo_pids = rw (knows-push entries (Begin a c)) (λ b q. by_test b a (λ z. IsInLimbo (entries ++ Begin a c ∷ []) b (UnlinksPid limits (entries ++ Begin a c ∷ []) b q) (HandsPid q) ((cond z (begun (knows entries a) c) (knows entries b)).limbo_pids q)) (λ i. rw i (pids_longer a q)) (λ ne. pids_longer b q));
+  limbo_rows = rw (knows-push entries (Begin a c)) (λ b q. by_test b a (λ z. IsInLimbo (entries ++ Begin a c ∷ []) b (UnlinksRow limits (entries ++ Begin a c ∷ []) b q) (HandsRow q) ((cond z (begun (knows entries a) c) (knows entries b)).limbo.rows q)) (λ i. rw i (rows_longer a q)) (λ ne. rows_longer b q));
+  limbo_pids = rw (knows-push entries (Begin a c)) (λ b q. by_test b a (λ z. IsInLimbo (entries ++ Begin a c ∷ []) b (UnlinksPid limits (entries ++ Begin a c ∷ []) b q) (HandsPid q) ((cond z (begun (knows entries a) c) (knows entries b)).limbo.pids q)) (λ i. rw i (pids_longer a q)) (λ ne. pids_longer b q));
   freed = record {
     pids = λ n b word bits pid x h among. elim (TakesStep-push_cases entries (Begin a c) n b (ReusePids word bits) x h) [
       | inl before ↦ freed_push entries (Begin a c) (UnlinksPid limits entries b pid) (UnlinksPid limits (entries ++ Begin a c ∷ []) b pid) (HandsPid pid) (pid_longer entries (Begin a c) limits b pid) limits b n (slice_get_below entries n _ before.1) (state.freed.pids n b word bits pid x before among)
@@ -190,19 +193,19 @@ begins limits entries a c state below idle = record {
   times = state.times;
   timed = rw (memory_of-push limits entries (Begin a c), knows-push entries (Begin a c), pushed_length entries (Begin a c)) (begin_timed state.good state.timed a c);
   faithful = faithful_push limits entries (Begin a c) state.faithful (λ b row x h. let e = h.1 in absurd (cc)) (λ b s x h z. let e = h.1 in absurd (cc));
-  rooted = λ b p e. by_test b a (λ t. (cond t (begun (knows entries a) c) (knows entries b)).roots p ≡ true → (level : ℕ) × IsFirst state.owners level p)
+  rooted = λ b p e. by_test b a (λ t. (cond t (begun (knows entries a) c) (knows entries b)).read.roots p ≡ true → (level : ℕ) × IsFirst state.owners level p)
       (λ i f. state.rooted a p f) (λ ne f. state.rooted b p f)
-      (subst (λ (ks : ℕ → Knowledge). (ks b).roots p ≡ true) (knows-push entries (Begin a c)) e);
+      (subst (λ (ks : ℕ → Knowledge). (ks b).read.roots p ≡ true) (knows-push entries (Begin a c)) e);
   indexed = indexed_push limits entries (Begin a c) state.good good_after (λ l q h. h)
       (let le = below_top (memory_of limits entries) state.good ((memory_of limits (entries ++ Begin a c ∷ [])).slots 0) ((is_indexed (memory_of limits (entries ++ Begin a c ∷ [])) good_after).top) [] Indexed (root_indexed (memory_of limits (entries ++ Begin a c ∷ [])) good_after) in omega arith)
       (λ pid. begins_in_phase limits entries a c pid (phase_of (state.owners.page pid)) (state.in_phase pid)) (begins_only limits entries a c state.owners.page state.in_phase state.only_phase) state.indexed;
 }
   where
-    rows_longer : (b q : ℕ) → IsInLimbo (entries ++ Begin a c ∷ []) b (UnlinksRow limits (entries ++ Begin a c ∷ []) b q) (HandsRow q) ((knows entries b).limbo_rows q)
-    rows_longer b q = limbo_push entries (Begin a c) (UnlinksRow limits entries b q) (UnlinksRow limits (entries ++ Begin a c ∷ []) b q) (HandsRow q) (row_longer entries (Begin a c) limits b q) b ((knows entries b).limbo_rows q) (λ f other s x h. absurd (let e = h.1 in cc)) (state.limbo_rows b q)
+    rows_longer : (b q : ℕ) → IsInLimbo (entries ++ Begin a c ∷ []) b (UnlinksRow limits (entries ++ Begin a c ∷ []) b q) (HandsRow q) ((knows entries b).limbo.rows q)
+    rows_longer b q = limbo_push entries (Begin a c) (UnlinksRow limits entries b q) (UnlinksRow limits (entries ++ Begin a c ∷ []) b q) (HandsRow q) (row_longer entries (Begin a c) limits b q) b ((knows entries b).limbo.rows q) (λ f other s x h. absurd (let e = h.1 in cc)) (state.limbo_rows b q)
 
-    pids_longer : (b q : ℕ) → IsInLimbo (entries ++ Begin a c ∷ []) b (UnlinksPid limits (entries ++ Begin a c ∷ []) b q) (HandsPid q) ((knows entries b).limbo_pids q)
-    pids_longer b q = limbo_push entries (Begin a c) (UnlinksPid limits entries b q) (UnlinksPid limits (entries ++ Begin a c ∷ []) b q) (HandsPid q) (pid_longer entries (Begin a c) limits b q) b ((knows entries b).limbo_pids q) (λ f other s x h. absurd (let e = h.1 in cc)) (state.limbo_pids b q)
+    pids_longer : (b q : ℕ) → IsInLimbo (entries ++ Begin a c ∷ []) b (UnlinksPid limits (entries ++ Begin a c ∷ []) b q) (HandsPid q) ((knows entries b).limbo.pids q)
+    pids_longer b q = limbo_push entries (Begin a c) (UnlinksPid limits entries b q) (UnlinksPid limits (entries ++ Begin a c ∷ []) b q) (HandsPid q) (pid_longer entries (Begin a c) limits b q) b ((knows entries b).limbo.pids q) (λ f other s x h. absurd (let e = h.1 in cc)) (state.limbo_pids b q)
 
     now : Good (shared (memory_of limits entries)) (log_of entries state.points) state.owners (put (knows entries) a (begun (knows entries a) c)) (put state.point a None) (put state.logs a [])
     now = good_begins state.good a c

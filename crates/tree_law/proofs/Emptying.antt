@@ -13,7 +13,7 @@ use Rattle.deltas.specs.declared.record.Record.TheVariants.{Base}
 use Rattle.deltas.specs.Memory.{Memory, replaced_at}
 use Rattle.deltas.specs.Records.{next_row}
 use Rattle.chain_search.specs.Discipline.{IsOwn, IsOwnBase}
-use Rattle.chain_search.specs.Knowledge.{OwnRow, Foreign, Taken, Written, OwnPage, Other, Empty, Ready, Gone, Unstamped, Knowledge, is_on_walk, taken_out, finished}
+use Rattle.chain_search.specs.Knowledge.{OwnRow, Foreign, Taken, Written, OwnPage, Other, Empty, Ready, Gone, Unstamped, Knowledge, is_on_walk, taken_out, finished, cleared, handed_page, set_page}
 use Rattle.tree_law.specs.Keys.{Key}
 use Rattle.tree_law.specs.Next.{IsHomed}
 use Rattle.tree_law.specs.Owners.{Spare, Linked, Owners, Reached, PageFits}
@@ -46,7 +46,7 @@ module _ {limits : Limits} {m : Memory} {log : List Update} {o : Owners} {knows 
       pub stay : (r : ℕ) → o.row r ≡ Linked → o'.row r ≡ Linked
       pub spare : (r b : ℕ) → o.row r ≡ Spare b → o'.row r ≡ Spare b
 
-    pub own_in : (b r : ℕ) → IsOwn ((knows b).rows r) → t2.row_out r ≡ None
+    pub own_in : (b r : ℕ) → IsOwn ((knows b).own.rows r) → t2.row_out r ≡ None
     own_in b r i = rw (T.own_rows b r i, own_spare g T a b r i) refl
 
     module _ (o' : Owners) (k' : Knowledge) (inside : k'.inside ≡ (knows a).inside) (f : Emptying o') where
@@ -98,16 +98,16 @@ module _ {limits : Limits} {m : Memory} {log : List Update} {o : Owners} {knows 
         pages = λ q w e. (page_cases q w e, ap (λ v. v q) (slot_put m.slots p 0) ∙ slot_out q w e);
         own_rows = λ b r ne i. own_in b r i;
         gone_pages = λ b q ne i. by_test q (suc p) (λ z. out_after (t.page_out q) (z && is_cleared (o.page q)) (out_now g T a) ≡ None)
-            (λ e. let own : (l : ℕ) × (k : Key) × (o.page q ≡ Cleared b l k) = subst (λ (v : OwnPage). PageFits b (o.page q) (slot_in m.slots q) v) i (g.owns_pages b q) in absurd (ne (f.whose b own.0 own.1 (ap o.page (sym e) ∙ own.2))))
+            (λ e. let own : PageFits b (o.page q) (slot_in m.slots q) Gone = subst (λ (v : OwnPage). PageFits b (o.page q) (slot_in m.slots q) v) i (g.owns_pages b q) in absurd (ne (f.whose b own.0 own.1 (ap o.page (sym e) ∙ own.2))))
             (λ nq. rw (T.gone_pages b q i) refl);
       }
 
     -- the exchange leaves the actor this knowledge
-    pub emptied_timed : (o' : Owners) (f : Emptying o') (k' : Knowledge) → k'.inside ≡ (knows a).inside → k'.seen ≡ (knows a).seen → k'.learnt ≡ (knows a).learnt → k'.roots ≡ (knows a).roots → k'.heads ≡ (knows a).heads → k'.before ≡ (knows a).before → k'.linked ≡ (knows a).linked → k'.epoch ≡ (knows a).epoch → k'.rows ≡ (knows a).rows
-        → ((q : ℕ) → k'.pages q ≡ Gone → t2.page_out q ≡ None)
-        → ((n : Turn T (linked g T a) a m2 o' k' t2) (r : ℕ) → LimboFits a (λ c. (put knows a k' c).inside) t.entered (t2.row_out r) (k'.limbo_rows r))
-        → ((n : Turn T (linked g T a) a m2 o' k' t2) (q : ℕ) → LimboFits a (λ c. (put knows a k' c).inside) t.entered (t2.page_out q) (k'.limbo_pids q))
-        → ((q r : ℕ) → k'.pages q ≡ Ready r → (knows a).pages q ≡ Ready r)
+    pub emptied_timed : (o' : Owners) (f : Emptying o') (k' : Knowledge) → k'.inside ≡ (knows a).inside → k'.read.seen ≡ (knows a).read.seen → k'.read.learnt ≡ (knows a).read.learnt → k'.read.roots ≡ (knows a).read.roots → k'.read.heads ≡ (knows a).read.heads → k'.read.before ≡ (knows a).read.before → k'.asked.linked ≡ (knows a).asked.linked → k'.limbo.epoch ≡ (knows a).limbo.epoch → k'.own.rows ≡ (knows a).own.rows
+        → ((q : ℕ) → k'.own.pages q ≡ Gone → t2.page_out q ≡ None)
+        → ((n : Turn T (linked g T a) a m2 o' k' t2) (r : ℕ) → LimboFits a (λ c. (put knows a k' c).inside) t.entered (t2.row_out r) (k'.limbo.rows r))
+        → ((n : Turn T (linked g T a) a m2 o' k' t2) (q : ℕ) → LimboFits a (λ c. (put knows a k' c).inside) t.entered (t2.page_out q) (k'.limbo.pids q))
+        → ((q r : ℕ) → k'.own.pages q ≡ Ready r → (knows a).own.pages q ≡ Ready r)
         → Timed limits m2 o' (put knows a k') (suc now) t2
     emptied_timed o' f k' e0 e1 e2 e3 e4 e5 e6 e7 e8 gone rows pids was =
         let n = emptying_turn o' k' e0 f in
@@ -125,29 +125,29 @@ module _ {limits : Limits} {m : Memory} {log : List Update} {o : Owners} {knows 
         })
 
     -- an own page that was ready is empty again
-    pub undone_timed : (o' : Owners) (f : Emptying o') → (l : o.page (suc p) ≡ Keeps a) (r : Option Reply) → Timed limits m2 o' (put knows a (finished (record (knows a) { pages = put (knows a).pages (suc p) Empty }) r)) (suc now) t2
+    pub undone_timed : (o' : Owners) (f : Emptying o') → (l : o.page (suc p) ≡ Keeps a) (r : Option Reply) → Timed limits m2 o' (put knows a (finished (set_page (suc p) Empty (knows a)) r)) (suc now) t2
     undone_timed o' f own r = emptied_timed o' f k' refl refl refl refl refl refl refl refl refl
-        (λ q. by_test q (suc p) (λ z. cond z Empty ((knows a).pages q) ≡ Gone → out_after (t.page_out q) (z && is_cleared (o.page q)) (out_now g T a) ≡ None) (λ e i. absurd (cc)) (λ ne i. rw (T.gone_pages a q i) refl))
+        (λ q. by_test q (suc p) (λ z. cond z Empty ((knows a).own.pages q) ≡ Gone → out_after (t.page_out q) (z && is_cleared (o.page q)) (out_now g T a) ≡ None) (λ e i. absurd (cc)) (λ ne i. rw (T.gone_pages a q i) refl))
         (λ n. limbo_row T (linked g T a) a m2 o' k' t2 n a)
         (λ n. limbo_pid T (linked g T a) a m2 o' k' t2 n a)
-        (λ q j. by_test q (suc p) (λ z. cond z Empty ((knows a).pages q) ≡ Ready j → (knows a).pages q ≡ Ready j) (λ e i. absurd (cc)) (λ ne i. i))
+        (λ q j. by_test q (suc p) (λ z. cond z Empty ((knows a).own.pages q) ≡ Ready j → (knows a).own.pages q ≡ Ready j) (λ e i. absurd (cc)) (λ ne i. i))
       where
         k' : Knowledge
-        k' = finished (record (knows a) { pages = put (knows a).pages (suc p) Empty }) r
+        k' = finished (set_page (suc p) Empty (knows a)) r
 
     -- a page whose term the actor took out is out of the tree, with its chain
-    pub cleared_timed : (o' : Owners) (f : Emptying o') → (own : (knows a).pages (suc p) ≡ Gone) (r : Option Reply)
-        → Timed limits m2 o' (put knows a (finished (record (knows a) { pages = put (knows a).pages (suc p) Other; limbo_rows = taken_out (knows a).seen x (knows a).limbo_rows; limbo_pids = put (knows a).limbo_pids (suc p) Unstamped }) r)) (suc now) t2
+    pub cleared_timed : (o' : Owners) (f : Emptying o') → (own : (knows a).own.pages (suc p) ≡ Gone) (r : Option Reply)
+        → Timed limits m2 o' (put knows a (finished (cleared (suc p) x (knows a)) r)) (suc now) t2
     cleared_timed o' f own r = emptied_timed o' f k' refl refl refl refl refl refl refl refl refl
-        (λ q. by_test q (suc p) (λ z. cond z Other ((knows a).pages q) ≡ Gone → out_after (t.page_out q) (z && is_cleared (o.page q)) (out_now g T a) ≡ None) (λ e i. absurd (cc)) (λ ne i. rw (T.gone_pages a q i) refl))
-        (λ n j. rows n j (is_on_walk 13 (knows a).seen (Some x) j) refl)
+        (λ q. by_test q (suc p) (λ z. cond z Other ((knows a).own.pages q) ≡ Gone → out_after (t.page_out q) (z && is_cleared (o.page q)) (out_now g T a) ≡ None) (λ e i. absurd (cc)) (λ ne i. rw (T.gone_pages a q i) refl))
+        (λ n j. rows n j (is_on_walk 13 (knows a).read.seen (Some x) j) refl)
         (λ n q. pids n q)
-        (λ q j. by_test q (suc p) (λ z. cond z Other ((knows a).pages q) ≡ Ready j → (knows a).pages q ≡ Ready j) (λ e i. absurd (cc)) (λ ne i. i))
+        (λ q j. by_test q (suc p) (λ z. cond z Other ((knows a).own.pages q) ≡ Ready j → (knows a).own.pages q ≡ Ready j) (λ e i. absurd (cc)) (λ ne i. i))
       where
         k' : Knowledge
-        k' = finished (record (knows a) { pages = put (knows a).pages (suc p) Other; limbo_rows = taken_out (knows a).seen x (knows a).limbo_rows; limbo_pids = put (knows a).limbo_pids (suc p) Unstamped }) r
+        k' = finished (cleared (suc p) x (knows a)) r
 
-        was : (l : ℕ) × (s : Key) × (o.page (suc p) ≡ Cleared a l s)
+        was : PageFits a (o.page (suc p)) (slot_in m.slots (suc p)) Gone
         was = subst (λ (v : OwnPage). PageFits a (o.page (suc p)) (slot_in m.slots (suc p)) v) own (g.owns_pages a (suc p))
 
         reached : Reached 0 was.0 was.1 (o.page (suc p))
@@ -156,12 +156,12 @@ module _ {limits : Limits} {m : Memory} {log : List Update} {o : Owners} {knows 
         old : (o.row x ≡ Linked) × (t.home x ≡ suc p) × (t.row_out x ≡ None)
         old = let b = T.slots (suc p) x was.0 was.1 reached f.held in (slot_linked g T a (suc p) x was.0 was.1 reached f.held, b.0, b.1)
 
-        rows : (n : Turn T (linked g T a) a m2 o' k' t2) (j : ℕ) (z : Bool) → is_on_walk 13 (knows a).seen (Some x) j ≡ z → LimboFits a (λ c. (put knows a k' c).inside) t.entered (t2.row_out j) (cond z Unstamped ((knows a).limbo_rows j))
+        rows : (n : Turn T (linked g T a) a m2 o' k' t2) (j : ℕ) (z : Bool) → is_on_walk 13 (knows a).read.seen (Some x) j ≡ z → LimboFits a (λ c. (put knows a k' c).inside) t.entered (t2.row_out j) (cond z Unstamped ((knows a).limbo.rows j))
         rows n j true e = let w = on_walk g T a (suc p) 13 (Some x) j old e in (out_now g T a, rw (w.2, w.0, w.1, eqb_same (suc p)) refl, refl)
         rows n j false e = limbo_row T (linked g T a) a m2 o' k' t2 n a j
 
-        pids : (n : Turn T (linked g T a) a m2 o' k' t2) (q : ℕ) → LimboFits a (λ c. (put knows a k' c).inside) t.entered (t2.page_out q) (put (knows a).limbo_pids (suc p) Unstamped q)
-        pids n = put_all (λ q l. LimboFits a (λ c. (put knows a k' c).inside) t.entered (t2.page_out q) l) (knows a).limbo_pids (suc p) Unstamped
+        pids : (n : Turn T (linked g T a) a m2 o' k' t2) (q : ℕ) → LimboFits a (λ c. (put knows a k' c).inside) t.entered (t2.page_out q) (put (knows a).limbo.pids (suc p) Unstamped q)
+        pids n = put_all (λ q l. LimboFits a (λ c. (put knows a k' c).inside) t.entered (t2.page_out q) l) (knows a).limbo.pids (suc p) Unstamped
             (out_now g T a, rw (T.gone_pages a (suc p) own, eqb_same (suc p), was.2) refl, refl)
             (λ q ne. limbo_pid T (linked g T a) a m2 o' k' t2 n a q)
 
@@ -175,7 +175,7 @@ module _ {limits : Limits} {m : Memory} {log : List Update} {o : Owners} {knows 
 
     pub record Rooting (o' : Owners) : Type 0 where
       pub base : ℕ
-      pub ready : (knows a).pages y ≡ Ready base
+      pub ready : (knows a).own.pages y ≡ Ready base
       pub reached : (q l : ℕ) (s : Key) → Reached 0 l s (o'.page q) → Reached 0 l s (o.page q) ⊎ (q ≡ y)
       pub homed : (r : ℕ) → o'.row r ≡ Linked → (o.row r ≡ Linked) ⊎ IsHomed (shared m) (Exchange 0 x y) (answer.Whether true) r
       pub stay : (r : ℕ) → o.row r ≡ Linked → o'.row r ≡ Linked
@@ -188,14 +188,14 @@ module _ {limits : Limits} {m : Memory} {log : List Update} {o : Owners} {knows 
     own_base (Written w) h = tt
 
     module _ (o' : Owners) (f : Rooting o') (r : Option Reply) where
-      own : IsOwn ((knows a).rows f.base)
-      own = own_base ((knows a).rows f.base) (T.ready a y f.base f.ready)
+      own : IsOwn ((knows a).own.rows f.base)
+      own = own_base ((knows a).own.rows f.base) (T.ready a y f.base f.ready)
 
       held : slot_in m.slots y ≡ Some f.base
       held = (subst (λ (v : OwnPage). PageFits a (o.page y) (slot_in m.slots y) v) f.ready (g.owns_pages a y)).1
 
       k3 : Knowledge
-      k3 = finished (record (knows a) { rows = put (knows a).rows f.base Foreign; pages = put (knows a).pages y Other }) r
+      k3 = finished (handed_page y Other f.base (knows a)) r
 
       slots_rooted : (q z l : ℕ) (s : Key) → Reached 0 l s (o'.page q) → slot_in m.slots q ≡ Some z → (t3.home z ≡ q) × (t3.row_out z ≡ None)
       slots_rooted q z l s h e = ⊎_elim
@@ -228,20 +228,20 @@ module _ {limits : Limits} {m : Memory} {log : List Update} {o : Owners} {knows 
         gone_pages = λ b q ne. T.gone_pages b q;
       }
 
-      pub rooted_timed : Timed limits m3 o' (put knows a (finished (record (knows a) { rows = put (knows a).rows f.base Foreign; pages = put (knows a).pages y Other }) r)) (suc now) t3
+      pub rooted_timed : Timed limits m3 o' (put knows a (finished (handed_page y Other f.base (knows a)) r)) (suc now) t3
       unfolding k3
       rooted_timed = put_timed T (linked g T a) a m3 o' k3 t3 turn3 (record {
         within = T.within a;
         holds = held_later T (linked g T a) a m3 o' k3 t3 turn3 a;
         announced = announced_still T (linked g T a) a m3 o' k3 t3 turn3 a refl;
         epochs = T.epochs a;
-        own_rows = λ j. by_test j f.base (λ z. IsOwn (cond z Foreign ((knows a).rows j)) → t.row_out j ≡ None) (λ e i. absurd i) (λ ne. T.own_rows a j);
-        gone_pages = λ q. by_test q y (λ z. cond z Other ((knows a).pages q) ≡ Gone → t.page_out q ≡ None) (λ e i. absurd (cc)) (λ ne. T.gone_pages a q);
+        own_rows = λ j. by_test j f.base (λ z. IsOwn (cond z Foreign ((knows a).own.rows j)) → t.row_out j ≡ None) (λ e i. absurd i) (λ ne. T.own_rows a j);
+        gone_pages = λ q. by_test q y (λ z. cond z Other ((knows a).own.pages q) ≡ Gone → t.page_out q ≡ None) (λ e i. absurd (cc)) (λ ne. T.gone_pages a q);
         limbo_rows = limbo_row T (linked g T a) a m3 o' k3 t3 turn3 a;
         limbo_pids = limbo_pid T (linked g T a) a m3 o' k3 t3 turn3 a;
-        ready = λ q j. by_test q y (λ z. cond z Other ((knows a).pages q) ≡ Ready j → IsOwnBase (put (knows a).rows f.base Foreign j)) (λ e i. absurd (cc)) (λ ne e. subst IsOwnBase (sym (put_other (knows a).rows f.base Foreign j (λ i. ne (T.apart a q y j e (f.ready ∙ ap Ready (sym i)))))) (T.ready a q j e));
+        ready = λ q j. by_test q y (λ z. cond z Other ((knows a).own.pages q) ≡ Ready j → IsOwnBase (put (knows a).own.rows f.base Foreign j)) (λ e i. absurd (cc)) (λ ne e. subst IsOwnBase (sym (put_other (knows a).own.rows f.base Foreign j (λ i. ne (T.apart a q y j e (f.ready ∙ ap Ready (sym i)))))) (T.ready a q j e));
         apart = λ q s j e i. T.apart a q s j (was q j e) (was s j i);
       })
         where
-          was : (q j : ℕ) → put (knows a).pages y Other q ≡ Ready j → (knows a).pages q ≡ Ready j
-          was q j = by_test q y (λ z. cond z Other ((knows a).pages q) ≡ Ready j → (knows a).pages q ≡ Ready j) (λ e i. absurd (cc)) (λ ne i. i)
+          was : (q j : ℕ) → put (knows a).own.pages y Other q ≡ Ready j → (knows a).own.pages q ≡ Ready j
+          was q j = by_test q y (λ z. cond z Other ((knows a).own.pages q) ≡ Ready j → (knows a).own.pages q ≡ Ready j) (λ e i. absurd (cc)) (λ ne i. i)

@@ -69,8 +69,8 @@ module _ {limits : Limits} {m : Memory} {log : List Update} {o : Owners} {knows 
   out_cases None true w e = inr (refl, refl, sym (same_Some out_now w e))
   out_cases None false w e = absurd (cc)
 
-  pub own_spare : (b q : ℕ) → IsOwn ((knows b).rows q) → o.row q ≡ Spare b
-  own_spare b q i = go ((knows b).rows q) (g.owns b q) i
+  pub own_spare : (b q : ℕ) → IsOwn ((knows b).own.rows q) → o.row q ≡ Spare b
+  own_spare b q i = go ((knows b).own.rows q) (g.owns b q) i
     where
       go : (v : OwnRow) → OwnFits b (o.row q) (m.rows q) v → IsOwn v → o.row q ≡ Spare b
       go Foreign h i = absurd i
@@ -85,12 +85,12 @@ module _ {limits : Limits} {m : Memory} {log : List Update} {o : Owners} {knows 
   ]
 
   -- the rows of a chain as far as it was read are linked, and where its first one is
-  pub on_walk : (h n : ℕ) (start : Option ℕ) (r : ℕ) → IfSome start (λ s. (o.row s ≡ Linked) × (t.home s ≡ h) × (t.row_out s ≡ None)) → is_on_walk n (knows a).seen start r ≡ true → (o.row r ≡ Linked) × (t.home r ≡ h) × (t.row_out r ≡ None)
+  pub on_walk : (h n : ℕ) (start : Option ℕ) (r : ℕ) → IfSome start (λ s. (o.row s ≡ Linked) × (t.home s ≡ h) × (t.row_out s ≡ None)) → is_on_walk n (knows a).read.seen start r ≡ true → (o.row r ≡ Linked) × (t.home r ≡ h) × (t.row_out r ≡ None)
   on_walk h zero start r f e = absurd (cc)
   on_walk h (suc n) None r f e = absurd (cc)
-  on_walk h (suc n) (Some s) r f e = by_test r s (λ z. (z || is_on_walk n (knows a).seen (next_seen ((knows a).seen s)) r) ≡ true → (o.row r ≡ Linked) × (t.home r ≡ h) × (t.row_out r ≡ None))
+  on_walk h (suc n) (Some s) r f e = by_test r s (λ z. (z || is_on_walk n (knows a).read.seen (next_seen ((knows a).read.seen s)) r) ≡ true → (o.row r ≡ Linked) × (t.home r ≡ h) × (t.row_out r ≡ None))
       (λ i v. subst (λ j. (o.row j ≡ Linked) × (t.home j ≡ h) × (t.row_out j ≡ None)) (sym i) f)
-      (λ ne v. on_walk h n (next_seen ((knows a).seen s)) r (under ((knows a).seen s) ((g.sound a).seen_fits s)) v) e
+      (λ ne v. on_walk h n (next_seen ((knows a).read.seen s)) r (under ((knows a).read.seen s) ((g.sound a).seen_fits s)) v) e
     where
       at : (w : Record) → m.rows s ≡ Some w → (v : Option ℕ) → next_row w ≡ v → IfSome v (λ j. o.row j ≡ Linked) → IfSome v (λ j. (o.row j ≡ Linked) × (t.home j ≡ h) × (t.row_out j ≡ None))
       at w stands None i l = tt
@@ -110,10 +110,10 @@ module _ {limits : Limits} {m : Memory} {log : List Update} {o : Owners} {knows 
 
     -- what the exchange does with owners
     pub record Filling (o' : Owners) : Type 0 where
-      pub own : IsOwn ((knows a).rows (suc y))
+      pub own : IsOwn ((knows a).own.rows (suc y))
       pub page_in : t.page_out (suc p) ≡ None
       pub under : (n : ℕ) (w : Record) → m.rows (suc y) ≡ Some w → next_row w ≡ Some n → (t.home n ≡ suc p) × (t.row_out n ≡ None) × (o.row n ≡ Linked)
-      pub reached : (q l : ℕ) (s : Key) → Reached 0 l s (o'.page q) → Reached 0 l s (o.page q) ⊎ ((z : ℕ) → slot_in m.slots q ≡ Some z → IsOwn ((knows a).rows z) × (z ≢ suc y) × (q ≡ split_page (m.rows (suc y))))
+      pub reached : (q l : ℕ) (s : Key) → Reached 0 l s (o'.page q) → Reached 0 l s (o.page q) ⊎ ((z : ℕ) → slot_in m.slots q ≡ Some z → IsOwn ((knows a).own.rows z) × (z ≢ suc y) × (q ≡ split_page (m.rows (suc y))))
       pub homed : (r : ℕ) → o'.row r ≡ Linked → (o.row r ≡ Linked) ⊎ IsHomed (shared m) (Exchange (suc p) x (suc y)) (answer.Whether true) r
       pub stay : (r : ℕ) → o.row r ≡ Linked → o'.row r ≡ Linked
       pub spare : (r b : ℕ) → o.row r ≡ Spare b → (o'.row r ≡ Spare b) ⊎ (o'.row r ≡ Linked)
@@ -122,7 +122,7 @@ module _ {limits : Limits} {m : Memory} {log : List Update} {o : Owners} {knows 
     pub home_linked : (r : ℕ) → o.row r ≡ Linked → t1.home r ≡ t.home r
     home_linked r l = rw l refl
 
-    pub in_own : (b r : ℕ) → IsOwn ((knows b).rows r) → t1.row_out r ≡ None
+    pub in_own : (b r : ℕ) → IsOwn ((knows b).own.rows r) → t1.row_out r ≡ None
     in_own b r i = rw (T.own_rows b r i, own_spare b r i, and-false (is_base (m.rows (suc y)))) refl
 
     in_beside : (r : ℕ) → t.row_out r ≡ None → t.home r ≢ suc p → t1.row_out r ≡ None
@@ -132,7 +132,7 @@ module _ {limits : Limits} {m : Memory} {log : List Update} {o : Owners} {knows 
       home_new : t1.home (suc y) ≡ suc p
       home_new = rw (own_spare a (suc y) f.own, eqb_same (suc y)) refl
 
-      home_split : (z : ℕ) → IsOwn ((knows a).rows z) → z ≢ suc y → t1.home z ≡ split_page (m.rows (suc y))
+      home_split : (z : ℕ) → IsOwn ((knows a).own.rows z) → z ≢ suc y → t1.home z ≡ split_page (m.rows (suc y))
       home_split z i ne = rw (own_spare a z i, eqb_apart z (suc y) ne) refl
 
       slots_after : (q z l : ℕ) (s : Key) → Reached 0 l s (o'.page q) → put (slot_in m.slots) (suc p) (Some (suc y)) q ≡ Some z → (t1.home z ≡ q) × (t1.row_out z ≡ None)
@@ -140,7 +140,7 @@ module _ {limits : Limits} {m : Memory} {log : List Update} {o : Owners} {knows 
           (λ i e. subst (λ j. (t1.home j ≡ q) × (t1.row_out j ≡ None)) (same_Some (suc y) z e) (home_new ∙ sym i, in_own a (suc y) f.own))
           (λ ne e. ⊎_elim
           (λ (old : Reached 0 l s (o.page q)). let b = T.slots q z l s old e in (home_linked z (slot_linked q z l s old e) ∙ b.0, in_beside z b.1 (λ i. ne (sym b.0 ∙ i))))
-          (λ (new : (z : ℕ) → slot_in m.slots q ≡ Some z → IsOwn ((knows a).rows z) × (z ≢ suc y) × (q ≡ split_page (m.rows (suc y)))). let b = new z e in (home_split z b.0 b.1 ∙ sym b.2, in_own a z b.0))
+          (λ (new : (z : ℕ) → slot_in m.slots q ≡ Some z → IsOwn ((knows a).own.rows z) × (z ≢ suc y) × (q ≡ split_page (m.rows (suc y)))). let b = new z e in (home_split z b.0 b.1 ∙ sym b.2, in_own a z b.0))
           (f.reached q l s r))
 
       together_after : (r n : ℕ) (w : Record) → o'.row r ≡ Linked → m.rows r ≡ Some w → next_row w ≡ Some n → (t1.home n ≡ t1.home r) × (t1.row_out n ≡ t1.row_out r)
@@ -183,9 +183,9 @@ module _ {limits : Limits} {m : Memory} {log : List Update} {o : Owners} {knows 
       }
 
       -- the rows of the chain that a base is linked in the place of are in the actor's limbo
-      pub base_limbo : is_base (m.rows (suc y)) ≡ true → (h : (o.row x ≡ Linked) × (t.home x ≡ suc p) × (t.row_out x ≡ None)) → (r : ℕ) → LimboFits a (λ c. (put knows a k' c).inside) t1.entered (t1.row_out r) (taken_out (knows a).seen x (knows a).limbo_rows r)
-      base_limbo is h r = go (is_on_walk 13 (knows a).seen (Some x) r) refl
+      pub base_limbo : is_base (m.rows (suc y)) ≡ true → (h : (o.row x ≡ Linked) × (t.home x ≡ suc p) × (t.row_out x ≡ None)) → (r : ℕ) → LimboFits a (λ c. (put knows a k' c).inside) t1.entered (t1.row_out r) (taken_out (knows a).read.seen x (knows a).limbo.rows r)
+      base_limbo is h r = go (is_on_walk 13 (knows a).read.seen (Some x) r) refl
         where
-          go : (z : Bool) → is_on_walk 13 (knows a).seen (Some x) r ≡ z → LimboFits a (λ c. (put knows a k' c).inside) t1.entered (t1.row_out r) (cond z Unstamped ((knows a).limbo_rows r))
+          go : (z : Bool) → is_on_walk 13 (knows a).read.seen (Some x) r ≡ z → LimboFits a (λ c. (put knows a k' c).inside) t1.entered (t1.row_out r) (cond z Unstamped ((knows a).limbo.rows r))
           go true e = let w = on_walk (suc p) 13 (Some x) r h e in (out_now, rw (w.2, is, w.0, w.1, eqb_same (suc p)) refl, refl)
           go false e = limbo_row T (linked g T a) a m1 o' k' t1 filling_turn a r

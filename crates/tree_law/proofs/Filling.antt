@@ -10,7 +10,7 @@ use Rattle.deltas.specs.declared.record.Split.{Split as SplitOf}
 use Rattle.deltas.specs.declared.record.Unterm.{Unterm as UntermOf}
 use Rattle.deltas.specs.Memory.{Memory}
 use Rattle.chain_search.specs.Discipline.{IsOwn, IsOwnBase, IsUnset}
-use Rattle.chain_search.specs.Knowledge.{OwnRow, Foreign, Written, Other, Empty, Ready, Gone, Limbo, Knowledge, linked_over, split_off, taken_out, finished}
+use Rattle.chain_search.specs.Knowledge.{OwnRow, Foreign, Written, Other, Empty, Ready, Gone, Limbo, Knowledge, linked_over, split_off, taken_out, finished, handed_over, handed_page, rebuilt, set_page}
 use Rattle.tree_law.specs.Owners.{Linked, Owners}
 use Rattle.tree_law.specs.Put.{put}
 use Rattle.tree_law.specs.Shared.{shared}
@@ -23,11 +23,11 @@ use Rattle.tree_law.proofs.Exchanging.{m1, t1, Filling, in_own, filling_turn, ba
 
 module _ {limits : Limits} {m : Memory} {log : List Update} {o : Owners} {knows : ℕ → Knowledge} {point : ℕ → Option (List Update)} {logs : ℕ → List (List Update)} {now : ℕ} {t : Times} (g : Good (shared m) log o knows point logs) (T : Timed limits m o knows now t) (a : ℕ) (p x y : ℕ) (o' : Owners) (f : Filling g T a p x y o') where
   -- the exchange leaves the actor this knowledge
-  pub filled_timed : (k' : Knowledge) → k'.inside ≡ (knows a).inside → k'.seen ≡ (knows a).seen → k'.learnt ≡ (knows a).learnt → k'.roots ≡ (knows a).roots → k'.heads ≡ (knows a).heads → k'.before ≡ (knows a).before → k'.epoch ≡ (knows a).epoch → k'.limbo_pids ≡ (knows a).limbo_pids
-      → ((q : ℕ) → k'.linked ≡ Some (Some q) → (knows a).learnt q ≡ true)
-      → ((r : ℕ) → IsOwn (k'.rows r) → IsOwn ((knows a).rows r)) → ((q : ℕ) → k'.pages q ≡ Gone → t.page_out q ≡ None)
-      → ((n : Turn T (linked g T a) a (m1 g T a p x y) o' k' (t1 g T a p x y)) (r : ℕ) → LimboFits a (λ c. (put knows a k' c).inside) t.entered ((t1 g T a p x y).row_out r) (k'.limbo_rows r))
-      → ((q r : ℕ) → k'.pages q ≡ Ready r → IsOwnBase (k'.rows r)) → ((q s r : ℕ) → k'.pages q ≡ Ready r → k'.pages s ≡ Ready r → q ≡ s)
+  pub filled_timed : (k' : Knowledge) → k'.inside ≡ (knows a).inside → k'.read.seen ≡ (knows a).read.seen → k'.read.learnt ≡ (knows a).read.learnt → k'.read.roots ≡ (knows a).read.roots → k'.read.heads ≡ (knows a).read.heads → k'.read.before ≡ (knows a).read.before → k'.limbo.epoch ≡ (knows a).limbo.epoch → k'.limbo.pids ≡ (knows a).limbo.pids
+      → ((q : ℕ) → k'.asked.linked ≡ Some (Some q) → (knows a).read.learnt q ≡ true)
+      → ((r : ℕ) → IsOwn (k'.own.rows r) → IsOwn ((knows a).own.rows r)) → ((q : ℕ) → k'.own.pages q ≡ Gone → t.page_out q ≡ None)
+      → ((n : Turn T (linked g T a) a (m1 g T a p x y) o' k' (t1 g T a p x y)) (r : ℕ) → LimboFits a (λ c. (put knows a k' c).inside) t.entered ((t1 g T a p x y).row_out r) (k'.limbo.rows r))
+      → ((q r : ℕ) → k'.own.pages q ≡ Ready r → IsOwnBase (k'.own.rows r)) → ((q s r : ℕ) → k'.own.pages q ≡ Ready r → k'.own.pages s ≡ Ready r → q ≡ s)
       → Timed limits (m1 g T a p x y) o' (put knows a k') (suc now) (t1 g T a p x y)
   filled_timed k' e0 e1 e2 e3 e4 e5 e6 e7 learnt own gone limbo ready apart =
       let n = filling_turn g T a p x y o' k' e0 f in
@@ -58,86 +58,86 @@ module _ {limits : Limits} {m : Memory} {log : List Update} {o : Owners} {knows 
   own_less : (f : ℕ → OwnRow) (q r : ℕ) → IsOwn (put f q Foreign r) → IsOwn (f r)
   own_less f q r = by_test r q (λ z. IsOwn (cond z Foreign (f r)) → IsOwn (f r)) (λ e i. absurd i) (λ ne i. i)
 
-  same_limbo : (k' : Knowledge) → k'.limbo_rows ≡ (knows a).limbo_rows → (n : Turn T (linked g T a) a (m1 g T a p x y) o' k' (t1 g T a p x y)) (r : ℕ) → LimboFits a (λ c. (put knows a k' c).inside) t.entered ((t1 g T a p x y).row_out r) (k'.limbo_rows r)
+  same_limbo : (k' : Knowledge) → k'.limbo.rows ≡ (knows a).limbo.rows → (n : Turn T (linked g T a) a (m1 g T a p x y) o' k' (t1 g T a p x y)) (r : ℕ) → LimboFits a (λ c. (put knows a k' c).inside) t.entered ((t1 g T a p x y).row_out r) (k'.limbo.rows r)
   same_limbo k' e n r = subst (λ (l : ℕ → Limbo). LimboFits a (λ c. (put knows a k' c).inside) t.entered ((t1 g T a p x y).row_out r) (l r)) (sym e) (limbo_row T (linked g T a) a (m1 g T a p x y) o' k' (t1 g T a p x y) n a r)
 
   -- a row is linked over another
-  module _ (unset : IsUnset (knows a) (suc y)) (learnt_old : (knows a).learnt x ≡ true) (old_in : (o.row x ≡ Linked) × (t.home x ≡ suc p) × (t.row_out x ≡ None)) (r : Option Reply) where
-    still_ready : (q j : ℕ) → (knows a).pages q ≡ Ready j → IsOwnBase (put (knows a).rows (suc y) Foreign j)
-    still_ready q j e = subst IsOwnBase (sym (put_other (knows a).rows (suc y) Foreign j (λ i. unset q (e ∙ ap Ready i)))) (T.ready a q j e)
+  module _ (unset : IsUnset (knows a) (suc y)) (learnt_old : (knows a).read.learnt x ≡ true) (old_in : (o.row x ≡ Linked) × (t.home x ≡ suc p) × (t.row_out x ≡ None)) (r : Option Reply) where
+    still_ready : (q j : ℕ) → (knows a).own.pages q ≡ Ready j → IsOwnBase (put (knows a).own.rows (suc y) Foreign j)
+    still_ready q j e = subst IsOwnBase (sym (put_other (knows a).own.rows (suc y) Foreign j (λ i. unset q (e ∙ ap Ready i)))) (T.ready a q j e)
 
     -- the row is handed over, and nothing else
-    handed : (l : Option (Option ℕ)) → ((q : ℕ) → l ≡ Some (Some q) → (knows a).learnt q ≡ true) → Timed limits (m1 g T a p x y) o' (put knows a (finished (record (knows a) { rows = put (knows a).rows (suc y) Foreign; linked = l }) r)) (suc now) (t1 g T a p x y)
-    handed l learnt = filled_timed (finished (record (knows a) { rows = put (knows a).rows (suc y) Foreign; linked = l }) r) refl refl refl refl refl refl refl refl
-        learnt (own_less (knows a).rows (suc y)) (T.gone_pages a) (same_limbo (finished (record (knows a) { rows = put (knows a).rows (suc y) Foreign; linked = l }) r) refl) still_ready (T.apart a)
+    handed : (l : Option (Option ℕ)) → ((q : ℕ) → l ≡ Some (Some q) → (knows a).read.learnt q ≡ true) → Timed limits (m1 g T a p x y) o' (put knows a (finished (record (knows a) { own = record (knows a).own { rows = put (knows a).own.rows (suc y) Foreign }; asked = record (knows a).asked { linked = l } }) r)) (suc now) (t1 g T a p x y)
+    handed l learnt = filled_timed (finished (record (knows a) { own = record (knows a).own { rows = put (knows a).own.rows (suc y) Foreign }; asked = record (knows a).asked { linked = l } }) r) refl refl refl refl refl refl refl refl
+        learnt (own_less (knows a).own.rows (suc y)) (T.gone_pages a) (same_limbo (finished (record (knows a) { own = record (knows a).own { rows = put (knows a).own.rows (suc y) Foreign }; asked = record (knows a).asked { linked = l } }) r) refl) still_ready (T.apart a)
 
-    linked_before : (q : ℕ) → (knows a).linked ≡ Some (Some q) → (knows a).learnt q ≡ true
+    linked_before : (q : ℕ) → (knows a).asked.linked ≡ Some (Some q) → (knows a).read.learnt q ≡ true
     linked_before = (T.holds a).linked_learnt
 
-    linked_old : (q : ℕ) → Some (Some x) ≡ Some (Some q) → (knows a).learnt q ≡ true
-    linked_old q e = subst (λ j. (knows a).learnt j ≡ true) (same_Some x q (same_Some (Some x) (Some q) e)) learnt_old
+    linked_old : (q : ℕ) → Some (Some x) ≡ Some (Some q) → (knows a).read.learnt q ≡ true
+    linked_old q e = subst (λ j. (knows a).read.learnt j ≡ true) (same_Some x q (same_Some (Some x) (Some q) e)) learnt_old
 
-    pub linked_timed : (w : Record) → m.rows (suc y) ≡ Some w → ((unterm : UntermOf) → w ≡ Unterm unterm → t.page_out unterm.child ≡ None) → ((split : SplitOf) → w ≡ Split split → (base : ℕ) × ((knows a).pages split.page ≡ Ready base))
+    pub linked_timed : (w : Record) → m.rows (suc y) ≡ Some w → ((unterm : UntermOf) → w ≡ Unterm unterm → t.page_out unterm.child ≡ None) → ((split : SplitOf) → w ≡ Split split → (base : ℕ) × ((knows a).own.pages split.page ≡ Ready base))
         → Timed limits (m1 g T a p x y) o' (put knows a (finished (linked_over (Written w) x (suc y) (knows a)) r)) (suc now) (t1 g T a p x y)
     linked_timed (Put w) is child ready = handed (Some (Some x)) linked_old
     linked_timed (Delete w) is child ready = handed (Some (Some x)) linked_old
-    linked_timed (Term w) is child ready = handed (knows a).linked linked_before
-    linked_timed (Hold w) is child ready = handed (knows a).linked linked_before
-    linked_timed (Remove w) is child ready = handed (knows a).linked linked_before
-    linked_timed (Merge w) is child ready = handed (knows a).linked linked_before
+    linked_timed (Term w) is child ready = handed (knows a).asked.linked linked_before
+    linked_timed (Hold w) is child ready = handed (knows a).asked.linked linked_before
+    linked_timed (Remove w) is child ready = handed (knows a).asked.linked linked_before
+    linked_timed (Merge w) is child ready = handed (knows a).asked.linked linked_before
     linked_timed (Base w) is child ready = filled_timed k' refl refl refl refl refl refl refl refl
-        linked_before (own_less (knows a).rows (suc y)) (T.gone_pages a)
+        linked_before (own_less (knows a).own.rows (suc y)) (T.gone_pages a)
         (λ n. base_limbo g T a p x y o' k' refl f (ap is_base is) old_in)
         still_ready (T.apart a)
       where
         k' : Knowledge
-        k' = finished (record (knows a) { rows = put (knows a).rows (suc y) Foreign; limbo_rows = taken_out (knows a).seen x (knows a).limbo_rows }) r
+        k' = finished (rebuilt x (suc y) (knows a)) r
     linked_timed (Unterm w) is child ready = filled_timed k' refl refl refl refl refl refl refl refl
-        linked_before (own_less (knows a).rows (suc y))
-        (λ q. by_test q w.child (λ z. cond z Gone ((knows a).pages q) ≡ Gone → t.page_out q ≡ None) (λ e i. ap t.page_out e ∙ child w refl) (λ ne. T.gone_pages a q))
+        linked_before (own_less (knows a).own.rows (suc y))
+        (λ q. by_test q w.child (λ z. cond z Gone ((knows a).own.pages q) ≡ Gone → t.page_out q ≡ None) (λ e i. ap t.page_out e ∙ child w refl) (λ ne. T.gone_pages a q))
         (same_limbo k' refl)
         (λ q j e. still_ready q j (was q j e))
         (λ q s j e i. T.apart a q s j (was q j e) (was s j i))
       where
         k' : Knowledge
-        k' = finished (record (knows a) { rows = put (knows a).rows (suc y) Foreign; pages = put (knows a).pages w.child Gone }) r
+        k' = finished (handed_page w.child Gone (suc y) (knows a)) r
 
-        was : (q j : ℕ) → put (knows a).pages w.child Gone q ≡ Ready j → (knows a).pages q ≡ Ready j
-        was q j = by_test q w.child (λ z. cond z Gone ((knows a).pages q) ≡ Ready j → (knows a).pages q ≡ Ready j) (λ e i. absurd (cc)) (λ ne i. i)
+        was : (q j : ℕ) → put (knows a).own.pages w.child Gone q ≡ Ready j → (knows a).own.pages q ≡ Ready j
+        was q j = by_test q w.child (λ z. cond z Gone ((knows a).own.pages q) ≡ Ready j → (knows a).own.pages q ≡ Ready j) (λ e i. absurd (cc)) (λ ne i. i)
     linked_timed (Split w) is child ready = subst (λ (k : Knowledge). Timed limits (m1 g T a p x y) o' (put knows a (finished k r)) (suc now) (t1 g T a p x y)) (sym learned)
         (filled_timed k' refl refl refl refl refl refl refl refl
-        linked_before (λ j i. own_less (knows a).rows b.0 j (own_less (put (knows a).rows b.0 Foreign) (suc y) j i))
-        (λ q. by_test q w.page (λ z. cond z Other ((knows a).pages q) ≡ Gone → t.page_out q ≡ None) (λ e i. absurd (cc)) (λ ne. T.gone_pages a q))
+        linked_before (λ j i. own_less (knows a).own.rows b.0 j (own_less (put (knows a).own.rows b.0 Foreign) (suc y) j i))
+        (λ q. by_test q w.page (λ z. cond z Other ((knows a).own.pages q) ≡ Gone → t.page_out q ≡ None) (λ e i. absurd (cc)) (λ ne. T.gone_pages a q))
         (same_limbo k' refl)
-        (λ q j. by_test q w.page (λ z. cond z Other ((knows a).pages q) ≡ Ready j → IsOwnBase (put (put (knows a).rows b.0 Foreign) (suc y) Foreign j)) (λ e i. absurd (cc))
-        (λ ne e. subst IsOwnBase (sym (put_other (put (knows a).rows b.0 Foreign) (suc y) Foreign j (λ i. unset q (e ∙ ap Ready i)) ∙ put_other (knows a).rows b.0 Foreign j (λ i. ne (T.apart a q w.page j e (b.1 ∙ ap Ready (sym i)))))) (T.ready a q j e)))
+        (λ q j. by_test q w.page (λ z. cond z Other ((knows a).own.pages q) ≡ Ready j → IsOwnBase (put (put (knows a).own.rows b.0 Foreign) (suc y) Foreign j)) (λ e i. absurd (cc))
+        (λ ne e. subst IsOwnBase (sym (put_other (put (knows a).own.rows b.0 Foreign) (suc y) Foreign j (λ i. unset q (e ∙ ap Ready i)) ∙ put_other (knows a).own.rows b.0 Foreign j (λ i. ne (T.apart a q w.page j e (b.1 ∙ ap Ready (sym i)))))) (T.ready a q j e)))
         (λ q s j e i. T.apart a q s j (was q j e) (was s j i)))
       where
-        b : (base : ℕ) × ((knows a).pages w.page ≡ Ready base)
+        b : (base : ℕ) × ((knows a).own.pages w.page ≡ Ready base)
         b = ready w refl
 
         k' : Knowledge
-        k' = finished (record (knows a) { rows = put (put (knows a).rows b.0 Foreign) (suc y) Foreign; pages = put (knows a).pages w.page Other }) r
+        k' = finished (handed_page w.page Other (suc y) (handed_over b.0 (knows a))) r
 
-        learned : split_off ((knows a).pages w.page) w.page (suc y) (knows a) ≡ record (knows a) { rows = put (put (knows a).rows b.0 Foreign) (suc y) Foreign; pages = put (knows a).pages w.page Other }
+        learned : split_off ((knows a).own.pages w.page) w.page (suc y) (knows a) ≡ handed_page w.page Other (suc y) (handed_over b.0 (knows a))
         learned = rw b.1 refl
 
-        was : (q j : ℕ) → put (knows a).pages w.page Other q ≡ Ready j → (knows a).pages q ≡ Ready j
-        was q j = by_test q w.page (λ z. cond z Other ((knows a).pages q) ≡ Ready j → (knows a).pages q ≡ Ready j) (λ e i. absurd (cc)) (λ ne i. i)
+        was : (q j : ℕ) → put (knows a).own.pages w.page Other q ≡ Ready j → (knows a).own.pages q ≡ Ready j
+        was q j = by_test q w.page (λ z. cond z Other ((knows a).own.pages q) ≡ Ready j → (knows a).own.pages q ≡ Ready j) (λ e i. absurd (cc)) (λ ne i. i)
 
   -- an own page is ready with an own base
-  pub ready_timed : (knows a).pages (suc p) ≡ Empty → IsOwnBase ((knows a).rows (suc y)) → IsUnset (knows a) (suc y) → (r : Option Reply) → Timed limits (m1 g T a p x y) o' (put knows a (finished (record (knows a) { pages = put (knows a).pages (suc p) (Ready (suc y)) }) r)) (suc now) (t1 g T a p x y)
+  pub ready_timed : (knows a).own.pages (suc p) ≡ Empty → IsOwnBase ((knows a).own.rows (suc y)) → IsUnset (knows a) (suc y) → (r : Option Reply) → Timed limits (m1 g T a p x y) o' (put knows a (finished (set_page (suc p) (Ready (suc y)) (knows a)) r)) (suc now) (t1 g T a p x y)
   ready_timed empty base unset r = filled_timed k' refl refl refl refl refl refl refl refl
       (T.holds a).linked_learnt (λ j i. i)
-      (λ q. by_test q (suc p) (λ z. cond z (Ready (suc y)) ((knows a).pages q) ≡ Gone → t.page_out q ≡ None) (λ e i. absurd (cc)) (λ ne. T.gone_pages a q))
+      (λ q. by_test q (suc p) (λ z. cond z (Ready (suc y)) ((knows a).own.pages q) ≡ Gone → t.page_out q ≡ None) (λ e i. absurd (cc)) (λ ne. T.gone_pages a q))
       (same_limbo k' refl)
-      (λ q j. by_test q (suc p) (λ z. cond z (Ready (suc y)) ((knows a).pages q) ≡ Ready j → IsOwnBase ((knows a).rows j)) (λ e i. subst (λ n. IsOwnBase ((knows a).rows n)) (same_row (suc y) j i) base) (λ ne. T.ready a q j))
-      (λ q s j. by_test q (suc p) (λ z. cond z (Ready (suc y)) ((knows a).pages q) ≡ Ready j → put (knows a).pages (suc p) (Ready (suc y)) s ≡ Ready j → q ≡ s)
-      (λ e i. by_test s (suc p) (λ z. cond z (Ready (suc y)) ((knows a).pages s) ≡ Ready j → q ≡ s) (λ d v. e ∙ sym d) (λ ne v. absurd (unset s (v ∙ ap Ready (sym (same_row (suc y) j i))))))
-      (λ ne i. by_test s (suc p) (λ z. cond z (Ready (suc y)) ((knows a).pages s) ≡ Ready j → q ≡ s) (λ d v. absurd (unset q (i ∙ ap Ready (sym (same_row (suc y) j v))))) (λ nd v. T.apart a q s j i v)))
+      (λ q j. by_test q (suc p) (λ z. cond z (Ready (suc y)) ((knows a).own.pages q) ≡ Ready j → IsOwnBase ((knows a).own.rows j)) (λ e i. subst (λ n. IsOwnBase ((knows a).own.rows n)) (same_row (suc y) j i) base) (λ ne. T.ready a q j))
+      (λ q s j. by_test q (suc p) (λ z. cond z (Ready (suc y)) ((knows a).own.pages q) ≡ Ready j → put (knows a).own.pages (suc p) (Ready (suc y)) s ≡ Ready j → q ≡ s)
+      (λ e i. by_test s (suc p) (λ z. cond z (Ready (suc y)) ((knows a).own.pages s) ≡ Ready j → q ≡ s) (λ d v. e ∙ sym d) (λ ne v. absurd (unset s (v ∙ ap Ready (sym (same_row (suc y) j i))))))
+      (λ ne i. by_test s (suc p) (λ z. cond z (Ready (suc y)) ((knows a).own.pages s) ≡ Ready j → q ≡ s) (λ d v. absurd (unset q (i ∙ ap Ready (sym (same_row (suc y) j v))))) (λ nd v. T.apart a q s j i v)))
     where
       k' : Knowledge
-      k' = finished (record (knows a) { pages = put (knows a).pages (suc p) (Ready (suc y)) }) r
+      k' = finished (set_page (suc p) (Ready (suc y)) (knows a)) r
 
       same_row : (i j : ℕ) → Ready i ≡ Ready j → i ≡ j
       same_row i j e = let f : i ≡ j = cc in f

@@ -1,5 +1,6 @@
 -- What a state's memory answers fits what each actor knows.
-use Rattle.std.proofs.Common.{◌≡◌, ◌<◌, ◌≤◌, ◌+◌, ◌*◌, ◌==◌, inl, inr, ℕ, zero, suc, List, [], Option, Some, None, Bool, true, false, refl, sym, ap, ◌∙◌, subst, arith}
+use Rattle.tree_law.proofs.Merging.{frozen_as}
+use Rattle.std.proofs.Common.{◌≡◌, ◌<◌, ◌≤◌, ◌+◌, ◌*◌, ◌==◌, inl, inr, ℕ, zero, suc, List, [], Option, Some, None, Bool, true, false, refl, sym, ap, ◌∙◌, subst, arith, ◌⊎◌, ⊎_elim}
 use Rattle.std.specs.Prelude.{IfSome, if◌then◌else◌}
 use Rattle.std.specs.Int.{bit_at}
 use Rattle.std.proofs.lemmas.Bool.{eqb-true}
@@ -14,13 +15,13 @@ use Rattle.deltas.specs.Records.{next_row}
 use Rattle.deltas.specs.Memory.{Memory}
 use Rattle.chain_search.specs.declared.trace.Entry.{Entry}
 use Rattle.chain_search.specs.Chains.{level_in, low_in}
-use Rattle.chain_search.specs.Fitting.{FitsWord}
+use Rattle.chain_search.specs.Fitting.{FitsWord, ReadsRemoved}
 use Rattle.chain_search.specs.Steps.{IsWordOf, IsAnswer}
 use Rattle.chain_search.specs.Trace.{memory_of}
 use Rattle.chain_search.specs.Discipline.{MayExchange, May}
 use Rattle.chain_search.specs.Fitting.{FitsRow, FitsTaken, FitsTakenPid, FitsExchange, Fits}
 use Rattle.chain_search.specs.Knowledge.{OwnRow, Foreign, Taken, Written, OwnPage, Other, Empty, Ready, Gone, Limbo, Absent, Unstamped, Stamped, Knowledge, knows}
-use Rattle.tree_law.specs.Owners.{Free, Linked, Reached, OwnFits, PageFits, SeenFits}
+use Rattle.tree_law.specs.Owners.{Free, Linked, Reached, OwnFits, PageFits, SeenFits, IsOut}
 use Rattle.op_machine.specs.Phases as phase
 use Rattle.tree_law.specs.Keys.{Key}
 use Rattle.tree_law.specs.Phase.{Fresh, Indexed, Held, Removed, Merged, PageOwner, Nobody, Keeps, Placed, Cleared}
@@ -35,7 +36,7 @@ use Rattle.tree_law.proofs.Names.{slot_none}
 use Rattle.tree_law.proofs.Puts.{by_test}
 use Rattle.tree_law.proofs.Relinking.{not_own, found, place_of}
 use Rattle.tree_law.proofs.Rows.{next_linked}
-use Rattle.tree_law.proofs.Slots.{link_read, reached_in_tree}
+use Rattle.tree_law.proofs.Slots.{reached_in_tree}
 use Rattle.tree_law.proofs.Whole.{reached_one, read_reached, short_front, whole_chain}
 
 in_tree_phase : (w : PageOwner) → IsInTree w → phase_of w ≡ phase.free → ⊥
@@ -59,7 +60,7 @@ module _ (limits : Limits) (entries : List Entry) (state : IsState limits entrie
   abbrev k : Knowledge
   k = knows entries a
 
-  stands : (r : ℕ) (w : Record) → k.seen r ≡ Some w → m.rows r ≡ Some w
+  stands : (r : ℕ) (w : Record) → k.read.seen r ≡ Some w → m.rows r ≡ Some w
   stands r w e = (subst (λ (o : Option Record). SeenFits (state.owners.row r) (m.rows r) o) e ((state.good.sound a).seen_fits r)).1
 
   -- a linked row is a row
@@ -79,7 +80,7 @@ module _ (limits : Limits) (entries : List Entry) (state : IsState limits entrie
   placed_below : (r p l : ℕ) (s : Key) → Reached r l s (state.owners.page p) → (0 < p) × (p < limits.pids)
   placed_below r p l s h = elim (state.named.pid_below p) [ inl f ↦ absurd (in_tree_phase (state.owners.page p) (reached_in_tree r l s (state.owners.page p) h) f) | inr below ↦ below ]
 
-  fits_row : (q : ℕ) (w : Record) → k.learnt q ≡ true → m.rows q ≡ Some w → FitsRow limits k q w
+  fits_row : (q : ℕ) (w : Record) → k.read.learnt q ≡ true → m.rows q ≡ Some w → FitsRow limits k q w
   fits_row q w learnt e = record {
     same = λ before seen. same_Some w before (sym e ∙ stands q before seen);
     next = next_some w (next_linked state.owners (shared m) state.good.closed q w ((state.good.sound a).learnt_fits q learnt) e);
@@ -107,10 +108,10 @@ module _ (limits : Limits) (entries : List Entry) (state : IsState limits entrie
   fits_taken q e = record {
     some = (free_some q e).0;
     below = (free_some q e).1;
-    foreign = is_foreign (k.rows q) (state.good.owns a q);
-    unlearnt = is_unlearnt (k.learnt q) refl;
-    unseen = is_unseen (k.seen q) ((state.good.sound a).seen_fits q);
-    freed = not_in_limbo (state.times.row_out q) (not_out (state.times.row_out q) refl) (k.limbo_rows q) (state.timed.limbo_rows a q);
+    foreign = is_foreign (k.own.rows q) (state.good.owns a q);
+    unlearnt = is_unlearnt (k.read.learnt q) refl;
+    unseen = is_unseen (k.read.seen q) ((state.good.sound a).seen_fits q);
+    freed = not_in_limbo (state.times.row_out q) (not_out (state.times.row_out q) refl) (k.limbo.rows q) (state.timed.limbo_rows a q);
   }
     where
       was : state.owners.row q ≡ Free
@@ -125,7 +126,7 @@ module _ (limits : Limits) (entries : List Entry) (state : IsState limits entrie
       is_foreign Taken h = let f = was in absurd (cc)
       is_foreign (Written w) h = let f = was in let g = h.0 in absurd (cc)
 
-      is_unlearnt : (t : Bool) → k.learnt q ≡ t → k.learnt q ≡ false
+      is_unlearnt : (t : Bool) → k.read.learnt q ≡ t → k.read.learnt q ≡ false
       is_unlearnt true i = let f = was in let g : state.owners.row q ≡ Linked = (state.good.sound a).learnt_fits q i in absurd (cc)
       is_unlearnt false i = i
 
@@ -134,7 +135,7 @@ module _ (limits : Limits) (entries : List Entry) (state : IsState limits entrie
       is_unseen (Some w) h = let f = was in let g = h.0 in absurd (cc)
 
   fits_taken_pid : (q : ℕ) → m.free_pids q ≡ true → FitsTakenPid limits k q
-  fits_taken_pid q e = record { some = (state.named.free_pid_below q e).0; below = (state.named.free_pid_below q e).1; other = is_other (k.pages q) (state.good.owns_pages a q); freed = not_in_limbo (state.times.page_out q) (not_out (state.times.page_out q) refl) (k.limbo_pids q) (state.timed.limbo_pids a q) }
+  fits_taken_pid q e = record { some = (state.named.free_pid_below q e).0; below = (state.named.free_pid_below q e).1; other = is_other (k.own.pages q) (state.good.owns_pages a q); freed = not_in_limbo (state.times.page_out q) (not_out (state.times.page_out q) refl) (k.limbo.pids q) (state.timed.limbo_pids a q) }
     where
       was : state.owners.page q ≡ Nobody
       was = (state.good.frees.page q e).0
@@ -150,7 +151,7 @@ module _ (limits : Limits) (entries : List Entry) (state : IsState limits entrie
       is_other Gone h = let f = was in let g = h.2 in absurd (cc)
 
   -- a page that was the root is in its place
-  root_linked : (p : ℕ) → k.roots p ≡ true → 0 < m.slots p
+  root_linked : (p : ℕ) → k.read.roots p ≡ true → 0 < m.slots p
   root_linked p root =
       let first = state.rooted a p root in
       let index = is_indexed m state.good in
@@ -158,6 +159,13 @@ module _ (limits : Limits) (entries : List Entry) (state : IsState limits entrie
       let same : p ≡ index.first first.0 = index.only p first.0 first.1.0 le first.1.1 first.1.2 in
       let here = (index.begins first.0 le).1.linked in
       rw same here
+
+  -- a page that was read removed is as it was, or its slot is empty
+  stays : (p head : ℕ) → ReadsRemoved k (suc p) head → (m.slots (suc p) ≡ head) ⊎ (m.slots (suc p) ≡ 0)
+  stays p head h = ⊎_elim
+      (λ (u : slot_in m.slots (suc p) ≡ Some head). inl (slot_some m.slots (suc p) head u).1)
+      (λ (u : IsOut (state.owners.page (suc p)) (slot_in m.slots (suc p))). inr (slot_none m.slots (suc p) (omega arith) u.0))
+      (frozen_as state.good a (suc p) head h.head h.chain h.read h.gone)
 
   fits_slot : (p : ℕ) → May a k (Slot p) → Fits limits k (Slot p) (Number (m.slots p))
   fits_slot zero may = elim (state.named.pid_below (m.slots 0)) [
@@ -170,8 +178,8 @@ module _ (limits : Limits) (entries : List Entry) (state : IsState limits entrie
     )
   ]
   fits_slot (suc p) may = let here = met_placed state.good a (suc p) may.1 in elim (slot_of state.good a (suc p) here.0 here.1 here.2) [
-    | inl none ↦ let z : m.slots (suc p) ≡ 0 = slot_none m.slots (suc p) (omega arith) none in let some : 64 ≤ limits.rows = limits.allowed.some_rows in (omega arith, λ root. root_linked (suc p) root)
-    | inr found ↦ let at : m.slots (suc p) ≡ found.0 = (slot_some m.slots (suc p) found.0 found.1).1 in let some = linked_some found.0 found.2.linked in (subst (λ n. n < limits.rows) (sym at) some.1, λ root. subst (λ n. 0 < n) (sym at) some.0)
+    | inl none ↦ let z : m.slots (suc p) ≡ 0 = slot_none m.slots (suc p) (omega arith) none in let some : 64 ≤ limits.rows = limits.allowed.some_rows in (omega arith, λ root. root_linked (suc p) root, λ head h. inr z)
+    | inr found ↦ let at : m.slots (suc p) ≡ found.0 = (slot_some m.slots (suc p) found.0 found.1).1 in let some = linked_some found.0 found.2.linked in (subst (λ n. n < limits.rows) (sym at) some.1, λ root. subst (λ n. 0 < n) (sym at) some.0, λ head h. stays p head h)
   ]
 
   fits_take : (q : ℕ) (t : Bool) → m.free_rows q ≡ t → Fits limits k (TakeRow q) (Whether t)
@@ -189,15 +197,25 @@ module _ (limits : Limits) (entries : List Entry) (state : IsState limits entrie
       let own = subst (λ (v : OwnPage). PageFits a (state.owners.page (suc p)) (slot_in m.slots (suc p)) v) may.0 (state.good.owns_pages a (suc p)) in
       let none : m.slots (suc p) ≡ 0 = slot_none m.slots (suc p) (omega arith) own.1 in
       sym e ∙ rw none refl
-  fits_exchange (suc p) (suc x) zero t may e = λ ready.
-      let own = subst (λ (v : OwnPage). PageFits a (state.owners.page (suc p)) (slot_in m.slots (suc p)) v) ready (state.good.owns_pages a (suc p)) in
-      let at : m.slots (suc p) ≡ suc x = (slot_some m.slots (suc p) (suc x) own.1).1 in
-      sym e ∙ rw at (by_test (suc x) (suc x) (λ t. t ≡ true) (λ i. refl) (λ ne. absurd (ne refl)))
+  fits_exchange (suc p) (suc x) zero t may e = (
+    λ ready.
+        let own = subst (λ (v : OwnPage). PageFits a (state.owners.page (suc p)) (slot_in m.slots (suc p)) v) ready (state.good.owns_pages a (suc p)) in
+        wins (slot_some m.slots (suc p) (suc x) own.1).1,
+    λ gone h.
+        let own = subst (λ (v : OwnPage). PageFits a (state.owners.page (suc p)) (slot_in m.slots (suc p)) v) gone (state.good.owns_pages a (suc p)) in
+        ⊎_elim
+        (λ (u : slot_in m.slots (suc p) ≡ Some (suc x)). wins (slot_some m.slots (suc p) (suc x) u).1)
+        (λ (u : IsOut (state.owners.page (suc p)) (slot_in m.slots (suc p))). absurd (let f = u.0 in let g = own.3 in cc))
+        (frozen_as state.good a (suc p) (suc x) h.head h.chain h.read h.gone),
+  )
+    where
+      wins : m.slots (suc p) ≡ suc x → t ≡ true
+      wins at = sym e ∙ rw at (by_test (suc x) (suc x) (λ t. t ≡ true) (λ i. refl) (λ ne. absurd (ne refl)))
   fits_exchange (suc p) (suc x) (suc y) t may e = λ won.
       let at : m.slots (suc p) ≡ suc x = eqb-true (m.slots (suc p)) (suc x) (e ∙ won) in
-      let read = link_read a k (suc p) (suc x) (suc y) may.1 in
+      let read = may.basis in
       let place = place_of state.good a (suc p) (suc x) read.chain (found state.good a (suc p) (suc x) read) read.alive (ap row_in at) in
-      not_own state.good a (suc p) (level_in read.chain) (low_in read.chain) place.stage place.placed (k.pages (suc p)) (state.good.owns_pages a (suc p))
+      not_own state.good a (suc p) (level_in read.chain) (low_in read.chain) place.stage place.placed (k.own.pages (suc p)) (state.good.owns_pages a (suc p))
 
   pub fits : (step : StepOf Record) (answer : Answer Record) → May a k step → IsAnswer m step answer → Fits limits k step answer
   fits (Slot p) answer may is = subst (Fits limits k (Slot p)) (sym is) (fits_slot p may)

@@ -140,7 +140,7 @@ module _ {limits : Limits} {m : Memory} {log : List Update} {o : Owners} {knows 
     among : ℕ → Bool
     among r = is_among word bits r
 
-    module _ (may : (r : ℕ) → is_among word bits r ≡ true → IsPassed limits a ((knows a).limbo_rows r)) (r0 : Option Reply) (x : Answer Record) where
+    module _ (may : (r : ℕ) → is_among word bits r ≡ true → IsPassed limits a ((knows a).limbo.rows r)) (r0 : Option Reply) (x : Answer Record) where
       abbrev pub first : Oldest limits.actors (λ c. (knows c).inside) t.entered now
       first = oldest limits.actors (λ c. (knows c).inside) t.entered now
 
@@ -160,7 +160,7 @@ module _ {limits : Limits} {m : Memory} {log : List Update} {o : Owners} {knows 
       k1 = finished (learn (knows a) (ReuseRows word bits) x) r0
 
       pub freed : (r : ℕ) → is_among word bits r ≡ true → Freed (t.row_out r)
-      freed r e = freed_of (t.row_out r) ((knows a).limbo_rows r) (T.limbo_rows a r) (may r e)
+      freed r e = freed_of (t.row_out r) ((knows a).limbo.rows r) (T.limbo_rows a r) (may r e)
 
       freed_old : (r : ℕ) → is_among word bits r ≡ true → (w : Outing) → t.row_out r ≡ Some w → first.at ≤ w.at → ⊥
       freed_old r e w i le =
@@ -184,7 +184,7 @@ module _ {limits : Limits} {m : Memory} {log : List Update} {o : Owners} {knows 
       pub in_tree : (r : ℕ) → t.row_out r ≡ None → (w : Outing) → t.row_out r ≡ Some w → first.at ≤ w.at
       in_tree r e w i = absurd (let f = sym e ∙ i in cc)
 
-      pub held : (b r : ℕ) → (knows b).learnt r ≡ true → (w : Outing) → t.row_out r ≡ Some w → first.at ≤ w.at
+      pub held : (b r : ℕ) → (knows b).read.learnt r ≡ true → (w : Outing) → t.row_out r ≡ Some w → first.at ≤ w.at
       held b r e w i =
           let h = T.holds b in
           let s : t.entered b ≤ w.at = subst (IsSince (t.entered b)) i (h.learnt_since r e) in
@@ -234,8 +234,8 @@ module _ {limits : Limits} {m : Memory} {log : List Update} {o : Owners} {knows 
       limbo_kept : (b r : ℕ) (l : Limbo) → is_among word bits r ≡ false → LimboFits b (λ c. (knows c).inside) t.entered (t.row_out r) l → LimboFits b (λ c. (put knows a k1 c).inside) t.entered (t1.row_out r) l
       limbo_kept b r l e h = limbo_later b now (λ c. (knows c).inside) (λ c. (put knows a k1 c).inside) t.entered t.entered (t.row_out r) (t1.row_out r) l (λ w i. (rw e i, (T.rows r w i).1)) (λ c u lt f i. f (same_inside c i)) h
 
-      limbo_pid : (b p : ℕ) → LimboFits b (λ c. (put knows a k1 c).inside) t.entered (t.page_out p) ((knows b).limbo_pids p)
-      limbo_pid b p = limbo_later b now (λ c. (knows c).inside) (λ c. (put knows a k1 c).inside) t.entered t.entered (t.page_out p) (t.page_out p) ((knows b).limbo_pids p) (λ w i. (i, (T.pages p w i).2)) (λ c u lt f i. f (same_inside c i)) (T.limbo_pids b p)
+      limbo_pid : (b p : ℕ) → LimboFits b (λ c. (put knows a k1 c).inside) t.entered (t.page_out p) ((knows b).limbo.pids p)
+      limbo_pid b p = limbo_later b now (λ c. (knows c).inside) (λ c. (put knows a k1 c).inside) t.entered t.entered (t.page_out p) (t.page_out p) ((knows b).limbo.pids p) (λ w i. (i, (T.pages p w i).2)) (λ c u lt f i. f (same_inside c i)) (T.limbo_pids b p)
 
       apart : (b r : ℕ) → b ≢ a → (w : Outing) → t.row_out r ≡ Some w → w.who ≡ b → is_among word bits r ≡ false
       apart b r ne w e who = go (is_among word bits r) refl
@@ -253,10 +253,10 @@ module _ {limits : Limits} {m : Memory} {log : List Update} {o : Owners} {knows 
       pub rows_timed : Timed limits m1 o1 (put knows a k1) (suc now) t1
       rows_timed = record {
         within = λ b i. T.within b (same_inside b i);
-        holds = λ b. by_test b a (λ z. Holds m.rows t1.row_out t.page_out (t.entered b) (cond z k1 (knows b)).inside (cond z k1 (knows b)).seen (cond z k1 (knows b)).learnt (cond z k1 (knows b)).roots (cond z k1 (knows b)).heads (cond z k1 (knows b)).before (cond z k1 (knows b)).linked)
-            (λ e. subst (λ j. Holds m.rows t1.row_out t.page_out (t.entered j) (knows a).inside (knows a).seen (knows a).learnt (knows a).roots (knows a).heads (knows a).before (knows a).linked) (sym e) (holds a)) (λ ne. holds b);
+        holds = λ b. by_test b a (λ z. Holds m.rows t1.row_out t.page_out (t.entered b) (cond z k1 (knows b)).inside (cond z k1 (knows b)).read.seen (cond z k1 (knows b)).read.learnt (cond z k1 (knows b)).read.roots (cond z k1 (knows b)).read.heads (cond z k1 (knows b)).read.before (cond z k1 (knows b)).asked.linked)
+            (λ e. subst (λ j. Holds m.rows t1.row_out t.page_out (t.entered j) (knows a).inside (knows a).read.seen (knows a).read.learnt (knows a).read.roots (knows a).read.heads (knows a).read.before (knows a).asked.linked) (sym e) (holds a)) (λ ne. holds b);
         announced = λ b i. let h = T.announced b (same_inside b i) in record { some = h.some; old = h.old; past = (let p = h.past in omega arith); rows = λ r w e. h.rows r w (freed_out (is_among word bits r) (t.row_out r) w e).1; pages = h.pages };
-        epochs = λ b e. by_test b a (λ z. (cond z k1 (knows b)).epoch ≡ Some e → e ≤ m.epoch) (λ i. T.epochs a e) (λ ne. T.epochs b e);
+        epochs = λ b e. by_test b a (λ z. (cond z k1 (knows b)).limbo.epoch ≡ Some e → e ≤ m.epoch) (λ i. T.epochs a e) (λ ne. T.epochs b e);
         slots = λ p q l s h e. let v = T.slots p q l s h e in (v.0, freed_none (is_among word bits q) (t.row_out q) v.1);
         together = λ r n w l e i.
             let h = row_linked first.at (is_among word bits r) (o.row r) (t.row_out r) l in
@@ -264,22 +264,22 @@ module _ {limits : Limits} {m : Memory} {log : List Update} {o : Owners} {knows 
             (c.0, rw (h.0, not_among n (under r n w l e i)) c.1);
         rows = λ r w e. let v = freed_out (is_among word bits r) (t.row_out r) w e in let u = T.rows r w v.1 in (rw (v.0, v.1) (row_of first.at (o.row r) w u.0), (let z = u.1 in let y : w.at < suc now = omega arith in y), u.2);
         pages = λ p w e. let v = T.pages p w e in (v.0, v.1, (let z = v.2 in let y : w.at < suc now = omega arith in y), v.3);
-        own_rows = λ b r. by_test b a (λ z. IsOwn ((cond z k1 (knows b)).rows r) → t1.row_out r ≡ None) (λ i h. freed_none (is_among word bits r) (t.row_out r) (T.own_rows a r h)) (λ ne h. freed_none (is_among word bits r) (t.row_out r) (T.own_rows b r h));
-        gone_pages = λ b p. by_test b a (λ z. (cond z k1 (knows b)).pages p ≡ Gone → t.page_out p ≡ None) (λ i. T.gone_pages a p) (λ ne. T.gone_pages b p);
-        limbo_rows = λ b r. by_test b a (λ z. LimboFits b (λ c. (put knows a k1 c).inside) t.entered (t1.row_out r) ((cond z k1 (knows b)).limbo_rows r)) (λ i. subst (λ j. LimboFits j (λ c. (put knows a k1 c).inside) t.entered (t1.row_out r) (cond (is_among word bits r) Absent ((knows a).limbo_rows r))) (sym i) (own_limbo r (is_among word bits r) refl)) (λ ne. others_limbo b r ne ((knows b).limbo_rows r) (T.limbo_rows b r));
-        limbo_pids = λ b p. by_test b a (λ z. LimboFits b (λ c. (put knows a k1 c).inside) t.entered (t.page_out p) ((cond z k1 (knows b)).limbo_pids p)) (λ i. subst (λ j. LimboFits j (λ c. (put knows a k1 c).inside) t.entered (t.page_out p) ((knows a).limbo_pids p)) (sym i) (limbo_pid a p)) (λ ne. limbo_pid b p);
-        ready = λ b p r. by_test b a (λ z. (cond z k1 (knows b)).pages p ≡ Ready r → IsOwnBase ((cond z k1 (knows b)).rows r)) (λ i. T.ready a p r) (λ ne. T.ready b p r);
-        apart = λ b p q r. by_test b a (λ z. (cond z k1 (knows b)).pages p ≡ Ready r → (cond z k1 (knows b)).pages q ≡ Ready r → p ≡ q) (λ i. T.apart a p q r) (λ ne. T.apart b p q r);
+        own_rows = λ b r. by_test b a (λ z. IsOwn ((cond z k1 (knows b)).own.rows r) → t1.row_out r ≡ None) (λ i h. freed_none (is_among word bits r) (t.row_out r) (T.own_rows a r h)) (λ ne h. freed_none (is_among word bits r) (t.row_out r) (T.own_rows b r h));
+        gone_pages = λ b p. by_test b a (λ z. (cond z k1 (knows b)).own.pages p ≡ Gone → t.page_out p ≡ None) (λ i. T.gone_pages a p) (λ ne. T.gone_pages b p);
+        limbo_rows = λ b r. by_test b a (λ z. LimboFits b (λ c. (put knows a k1 c).inside) t.entered (t1.row_out r) ((cond z k1 (knows b)).limbo.rows r)) (λ i. subst (λ j. LimboFits j (λ c. (put knows a k1 c).inside) t.entered (t1.row_out r) (cond (is_among word bits r) Absent ((knows a).limbo.rows r))) (sym i) (own_limbo r (is_among word bits r) refl)) (λ ne. others_limbo b r ne ((knows b).limbo.rows r) (T.limbo_rows b r));
+        limbo_pids = λ b p. by_test b a (λ z. LimboFits b (λ c. (put knows a k1 c).inside) t.entered (t.page_out p) ((cond z k1 (knows b)).limbo.pids p)) (λ i. subst (λ j. LimboFits j (λ c. (put knows a k1 c).inside) t.entered (t.page_out p) ((knows a).limbo.pids p)) (sym i) (limbo_pid a p)) (λ ne. limbo_pid b p);
+        ready = λ b p r. by_test b a (λ z. (cond z k1 (knows b)).own.pages p ≡ Ready r → IsOwnBase ((cond z k1 (knows b)).own.rows r)) (λ i. T.ready a p r) (λ ne. T.ready b p r);
+        apart = λ b p q r. by_test b a (λ z. (cond z k1 (knows b)).own.pages p ≡ Ready r → (cond z k1 (knows b)).own.pages q ≡ Ready r → p ≡ q) (λ i. T.apart a p q r) (λ ne. T.apart b p q r);
       }
         where
-          holds : (b : ℕ) → Holds m.rows t1.row_out t.page_out (t.entered b) (knows b).inside (knows b).seen (knows b).learnt (knows b).roots (knows b).heads (knows b).before (knows b).linked
-          holds b = holds_later m.rows m.rows t.row_out t1.row_out t.page_out t.page_out (t.entered b) (knows b).inside (knows b).seen (knows b).learnt (knows b).roots (knows b).heads (knows b).before (knows b).linked (λ i r. freed_since (is_among word bits r) (t.row_out r) (t.entered b)) (λ i p h. h) (λ x c e h. h) (T.holds b)
+          holds : (b : ℕ) → Holds m.rows t1.row_out t.page_out (t.entered b) (knows b).inside (knows b).read.seen (knows b).read.learnt (knows b).read.roots (knows b).read.heads (knows b).read.before (knows b).asked.linked
+          holds b = holds_later m.rows m.rows t.row_out t1.row_out t.page_out t.page_out (t.entered b) (knows b).inside (knows b).read.seen (knows b).read.learnt (knows b).read.roots (knows b).read.heads (knows b).read.before (knows b).asked.linked (λ i r. freed_since (is_among word bits r) (t.row_out r) (t.entered b)) (λ i p h. h) (λ x c e h. h) (T.holds b)
 
-          own_limbo : (r : ℕ) (z : Bool) → is_among word bits r ≡ z → LimboFits a (λ c. (put knows a k1 c).inside) t.entered (t1.row_out r) (cond z Absent ((knows a).limbo_rows r))
+          own_limbo : (r : ℕ) (z : Bool) → is_among word bits r ≡ z → LimboFits a (λ c. (put knows a k1 c).inside) t.entered (t1.row_out r) (cond z Absent ((knows a).limbo.rows r))
           own_limbo r true e = tt
-          own_limbo r false e = limbo_kept a r ((knows a).limbo_rows r) e (T.limbo_rows a r)
+          own_limbo r false e = limbo_kept a r ((knows a).limbo.rows r) e (T.limbo_rows a r)
 
-    module _ (may : (p : ℕ) → is_among word bits p ≡ true → IsPassed limits a ((knows a).limbo_pids p)) (r0 : Option Reply) (x : Answer Record) where
+    module _ (may : (p : ℕ) → is_among word bits p ≡ true → IsPassed limits a ((knows a).limbo.pids p)) (r0 : Option Reply) (x : Answer Record) where
       abbrev pub page2 : ℕ → PageOwner
       page2 p = cond (is_among word bits p) Nobody (o.page p)
 
@@ -296,7 +296,7 @@ module _ {limits : Limits} {m : Memory} {log : List Update} {o : Owners} {knows 
       k2 = finished (learn (knows a) (ReusePids word bits) x) r0
 
       pub freed_page : (p : ℕ) → is_among word bits p ≡ true → Freed (t.page_out p)
-      freed_page p e = freed_of (t.page_out p) ((knows a).limbo_pids p) (T.limbo_pids a p) (may p e)
+      freed_page p e = freed_of (t.page_out p) ((knows a).limbo.pids p) (T.limbo_pids a p) (may p e)
 
       pub same_page : (p : ℕ) → (is_among word bits p ≡ true → ⊥) → page2 p ≡ o.page p
       same_page p f = go (is_among word bits p) refl
@@ -311,16 +311,16 @@ module _ {limits : Limits} {m : Memory} {log : List Update} {o : Owners} {knows 
       page_held : (b p : ℕ) → (knows b).inside ≡ true → IsSince (t.entered b) (t.page_out p) → page2 p ≡ o.page p
       page_held b p i s = same_page p (λ e. unheld b (t.page_out p) i s (freed_page p e))
 
-      head_inside : (b p x : ℕ) → HeldHead m.rows t.page_out (t.entered b) (knows b).learnt p x → (knows b).inside ≡ true
+      head_inside : (b p x : ℕ) → HeldHead m.rows t.page_out (t.entered b) (knows b).read.learnt p x → (knows b).inside ≡ true
       head_inside b p x h = (T.holds b).learnt_inside x h.learnt_row
 
-      head_items : (b p x : ℕ) (h : HeldHead m.rows t.page_out (t.entered b) (knows b).learnt p x) (l : ℕ) (s : Key) (i : Content) (c : List Record) → IsChain m.rows c (Some x) → is_removed c ≡ false → level_in c ≡ suc l → Covers c s → content_in c s ≡ Some i → page2 (child_of i) ≡ o.page (child_of i)
+      head_items : (b p x : ℕ) (h : HeldHead m.rows t.page_out (t.entered b) (knows b).read.learnt p x) (l : ℕ) (s : Key) (i : Content) (c : List Record) → IsChain m.rows c (Some x) → is_removed c ≡ false → level_in c ≡ suc l → Covers c s → content_in c s ≡ Some i → page2 (child_of i) ≡ o.page (child_of i)
       head_items b p x h l s i c is alive at v d =
           let same : h.chain ≡ c = chain_unique m.rows h.chain c (Some x) h.is_chain is in
           let n = subst (λ (e : List Record). NamesSince t.page_out (t.entered b) e) same (h.names (ap is_removed same ∙ alive)) in
           page_held b (child_of i) (head_inside b p x h) (n.items l s i at v d)
 
-      head_right : (b p x : ℕ) (h : HeldHead m.rows t.page_out (t.entered b) (knows b).learnt p x) (q : ℕ) (c : List Record) → IsChain m.rows c (Some x) → is_removed c ≡ false → right_in c ≡ Some q → page2 q ≡ o.page q
+      head_right : (b p x : ℕ) (h : HeldHead m.rows t.page_out (t.entered b) (knows b).read.learnt p x) (q : ℕ) (c : List Record) → IsChain m.rows c (Some x) → is_removed c ≡ false → right_in c ≡ Some q → page2 q ≡ o.page q
       head_right b p x h q c is alive e =
           let same : h.chain ≡ c = chain_unique m.rows h.chain c (Some x) h.is_chain is in
           let n = subst (λ (e : List Record). NamesSince t.page_out (t.entered b) e) same (h.names (ap is_removed same ∙ alive)) in
@@ -343,7 +343,7 @@ module _ {limits : Limits} {m : Memory} {log : List Update} {o : Owners} {knows 
           nobody true i = refl
           nobody false i = i
 
-      beyond_held : (b p f y x q : ℕ) (c d : List Record) → (knows b).heads p ≡ Some y → (knows b).before p f ≡ Some x → IsChain m.rows c (Some x) → IsChain m.rows d (Some y) → is_removed c ≡ true → is_removed d ≡ false → right_in d ≡ Some f → right_in c ≡ Some q → page2 q ≡ o.page q
+      beyond_held : (b p f y x q : ℕ) (c d : List Record) → (knows b).read.heads p ≡ Some y → (knows b).read.before p f ≡ Some x → IsChain m.rows c (Some x) → IsChain m.rows d (Some y) → is_removed c ≡ true → is_removed d ≡ false → right_in d ≡ Some f → right_in c ≡ Some q → page2 q ≡ o.page q
       beyond_held b p f y x q c d i j ic id rc nd e n =
           let h = (T.holds b).beside_since p f y x i j in
           let above : h.chain ≡ c = chain_unique m.rows h.chain c (Some x) h.is_chain ic in
@@ -382,8 +382,8 @@ module _ {limits : Limits} {m : Memory} {log : List Update} {o : Owners} {knows 
       limbo2_kept : (b p : ℕ) (l : Limbo) → is_among word bits p ≡ false → LimboFits b (λ c. (knows c).inside) t.entered (t.page_out p) l → LimboFits b (λ c. (put knows a k2 c).inside) t.entered (t2.page_out p) l
       limbo2_kept b p l e h = limbo_later b now (λ c. (knows c).inside) (λ c. (put knows a k2 c).inside) t.entered t.entered (t.page_out p) (t2.page_out p) l (λ w i. (rw e i, (T.pages p w i).2)) (λ c u lt f i. f (inside2 c i)) h
 
-      limbo2_row : (b r : ℕ) → LimboFits b (λ c. (put knows a k2 c).inside) t.entered (t.row_out r) ((knows b).limbo_rows r)
-      limbo2_row b r = limbo_later b now (λ c. (knows c).inside) (λ c. (put knows a k2 c).inside) t.entered t.entered (t.row_out r) (t.row_out r) ((knows b).limbo_rows r) (λ w i. (i, (T.rows r w i).1)) (λ c u lt f i. f (inside2 c i)) (T.limbo_rows b r)
+      limbo2_row : (b r : ℕ) → LimboFits b (λ c. (put knows a k2 c).inside) t.entered (t.row_out r) ((knows b).limbo.rows r)
+      limbo2_row b r = limbo_later b now (λ c. (knows c).inside) (λ c. (put knows a k2 c).inside) t.entered t.entered (t.row_out r) (t.row_out r) ((knows b).limbo.rows r) (λ w i. (i, (T.rows r w i).1)) (λ c u lt f i. f (inside2 c i)) (T.limbo_rows b r)
 
       apart2 : (b p : ℕ) → b ≢ a → (w : Outing) → t.page_out p ≡ Some w → w.who ≡ b → is_among word bits p ≡ false
       apart2 b p ne w e who = go (is_among word bits p) refl
@@ -400,29 +400,29 @@ module _ {limits : Limits} {m : Memory} {log : List Update} {o : Owners} {knows 
       pub pages_timed : Timed limits m2 o2 (put knows a k2) (suc now) t2
       pages_timed = record {
         within = λ b i. T.within b (inside2 b i);
-        holds = λ b. by_test b a (λ z. Holds m.rows t.row_out t2.page_out (t.entered b) (cond z k2 (knows b)).inside (cond z k2 (knows b)).seen (cond z k2 (knows b)).learnt (cond z k2 (knows b)).roots (cond z k2 (knows b)).heads (cond z k2 (knows b)).before (cond z k2 (knows b)).linked)
-            (λ e. subst (λ j. Holds m.rows t.row_out t2.page_out (t.entered j) (knows a).inside (knows a).seen (knows a).learnt (knows a).roots (knows a).heads (knows a).before (knows a).linked) (sym e) (holds a)) (λ ne. holds b);
+        holds = λ b. by_test b a (λ z. Holds m.rows t.row_out t2.page_out (t.entered b) (cond z k2 (knows b)).inside (cond z k2 (knows b)).read.seen (cond z k2 (knows b)).read.learnt (cond z k2 (knows b)).read.roots (cond z k2 (knows b)).read.heads (cond z k2 (knows b)).read.before (cond z k2 (knows b)).asked.linked)
+            (λ e. subst (λ j. Holds m.rows t.row_out t2.page_out (t.entered j) (knows a).inside (knows a).read.seen (knows a).read.learnt (knows a).read.roots (knows a).read.heads (knows a).read.before (knows a).asked.linked) (sym e) (holds a)) (λ ne. holds b);
         announced = λ b i. let h = T.announced b (inside2 b i) in record { some = h.some; old = h.old; past = (let p = h.past in omega arith); rows = h.rows; pages = λ p w e. h.pages p w (freed_out (is_among word bits p) (t.page_out p) w e).1 };
-        epochs = λ b e. by_test b a (λ z. (cond z k2 (knows b)).epoch ≡ Some e → e ≤ m.epoch) (λ i. T.epochs a e) (λ ne. T.epochs b e);
+        epochs = λ b e. by_test b a (λ z. (cond z k2 (knows b)).limbo.epoch ≡ Some e → e ≤ m.epoch) (λ i. T.epochs a e) (λ ne. T.epochs b e);
         slots = λ p q l s h e. T.slots p q l s (reached p l s (is_among word bits p) h) e;
         together = T.together;
         rows = λ r w e. let v = T.rows r w e in (v.0, (let z = v.1 in let y : w.at < suc now = omega arith in y), v.2);
         pages = λ p w e. let v = freed_out (is_among word bits p) (t.page_out p) w e in let u = T.pages p w v.1 in ((u.0.0, u.0.1, same_page p (λ i. absurd (let z = v.0 in cc)) ∙ u.0.2), u.1, (let z = u.2 in let y : w.at < suc now = omega arith in y), u.3);
-        own_rows = λ b r. by_test b a (λ z. IsOwn ((cond z k2 (knows b)).rows r) → t.row_out r ≡ None) (λ i. T.own_rows a r) (λ ne. T.own_rows b r);
-        gone_pages = λ b p. by_test b a (λ z. (cond z k2 (knows b)).pages p ≡ Gone → t2.page_out p ≡ None) (λ i h. freed_none (is_among word bits p) (t.page_out p) (T.gone_pages a p h)) (λ ne h. freed_none (is_among word bits p) (t.page_out p) (T.gone_pages b p h));
-        limbo_rows = λ b r. by_test b a (λ z. LimboFits b (λ c. (put knows a k2 c).inside) t.entered (t.row_out r) ((cond z k2 (knows b)).limbo_rows r)) (λ i. subst (λ j. LimboFits j (λ c. (put knows a k2 c).inside) t.entered (t.row_out r) ((knows a).limbo_rows r)) (sym i) (limbo2_row a r)) (λ ne. limbo2_row b r);
-        limbo_pids = λ b p. by_test b a (λ z. LimboFits b (λ c. (put knows a k2 c).inside) t.entered (t2.page_out p) ((cond z k2 (knows b)).limbo_pids p)) (λ i. subst (λ j. LimboFits j (λ c. (put knows a k2 c).inside) t.entered (t2.page_out p) (cond (is_among word bits p) Absent ((knows a).limbo_pids p))) (sym i) (own_limbo p (is_among word bits p) refl)) (λ ne. others2_limbo b p ne ((knows b).limbo_pids p) (T.limbo_pids b p));
-        ready = λ b p r. by_test b a (λ z. (cond z k2 (knows b)).pages p ≡ Ready r → IsOwnBase ((cond z k2 (knows b)).rows r)) (λ i. T.ready a p r) (λ ne. T.ready b p r);
-        apart = λ b p q r. by_test b a (λ z. (cond z k2 (knows b)).pages p ≡ Ready r → (cond z k2 (knows b)).pages q ≡ Ready r → p ≡ q) (λ i. T.apart a p q r) (λ ne. T.apart b p q r);
+        own_rows = λ b r. by_test b a (λ z. IsOwn ((cond z k2 (knows b)).own.rows r) → t.row_out r ≡ None) (λ i. T.own_rows a r) (λ ne. T.own_rows b r);
+        gone_pages = λ b p. by_test b a (λ z. (cond z k2 (knows b)).own.pages p ≡ Gone → t2.page_out p ≡ None) (λ i h. freed_none (is_among word bits p) (t.page_out p) (T.gone_pages a p h)) (λ ne h. freed_none (is_among word bits p) (t.page_out p) (T.gone_pages b p h));
+        limbo_rows = λ b r. by_test b a (λ z. LimboFits b (λ c. (put knows a k2 c).inside) t.entered (t.row_out r) ((cond z k2 (knows b)).limbo.rows r)) (λ i. subst (λ j. LimboFits j (λ c. (put knows a k2 c).inside) t.entered (t.row_out r) ((knows a).limbo.rows r)) (sym i) (limbo2_row a r)) (λ ne. limbo2_row b r);
+        limbo_pids = λ b p. by_test b a (λ z. LimboFits b (λ c. (put knows a k2 c).inside) t.entered (t2.page_out p) ((cond z k2 (knows b)).limbo.pids p)) (λ i. subst (λ j. LimboFits j (λ c. (put knows a k2 c).inside) t.entered (t2.page_out p) (cond (is_among word bits p) Absent ((knows a).limbo.pids p))) (sym i) (own_limbo p (is_among word bits p) refl)) (λ ne. others2_limbo b p ne ((knows b).limbo.pids p) (T.limbo_pids b p));
+        ready = λ b p r. by_test b a (λ z. (cond z k2 (knows b)).own.pages p ≡ Ready r → IsOwnBase ((cond z k2 (knows b)).own.rows r)) (λ i. T.ready a p r) (λ ne. T.ready b p r);
+        apart = λ b p q r. by_test b a (λ z. (cond z k2 (knows b)).own.pages p ≡ Ready r → (cond z k2 (knows b)).own.pages q ≡ Ready r → p ≡ q) (λ i. T.apart a p q r) (λ ne. T.apart b p q r);
       }
         where
-          holds : (b : ℕ) → Holds m.rows t.row_out t2.page_out (t.entered b) (knows b).inside (knows b).seen (knows b).learnt (knows b).roots (knows b).heads (knows b).before (knows b).linked
-          holds b = holds_later m.rows m.rows t.row_out t.row_out t.page_out t2.page_out (t.entered b) (knows b).inside (knows b).seen (knows b).learnt (knows b).roots (knows b).heads (knows b).before (knows b).linked (λ i r h. h) (λ i p. freed_since (is_among word bits p) (t.page_out p) (t.entered b)) (λ x c e h. h) (T.holds b)
+          holds : (b : ℕ) → Holds m.rows t.row_out t2.page_out (t.entered b) (knows b).inside (knows b).read.seen (knows b).read.learnt (knows b).read.roots (knows b).read.heads (knows b).read.before (knows b).asked.linked
+          holds b = holds_later m.rows m.rows t.row_out t.row_out t.page_out t2.page_out (t.entered b) (knows b).inside (knows b).read.seen (knows b).read.learnt (knows b).read.roots (knows b).read.heads (knows b).read.before (knows b).asked.linked (λ i r h. h) (λ i p. freed_since (is_among word bits p) (t.page_out p) (t.entered b)) (λ x c e h. h) (T.holds b)
 
           reached : (p l : ℕ) (s : Key) (z : Bool) → Reached 0 l s (cond z Nobody (o.page p)) → Reached 0 l s (o.page p)
           reached p l s true h = absurd h
           reached p l s false h = h
 
-          own_limbo : (p : ℕ) (z : Bool) → is_among word bits p ≡ z → LimboFits a (λ c. (put knows a k2 c).inside) t.entered (t2.page_out p) (cond z Absent ((knows a).limbo_pids p))
+          own_limbo : (p : ℕ) (z : Bool) → is_among word bits p ≡ z → LimboFits a (λ c. (put knows a k2 c).inside) t.entered (t2.page_out p) (cond z Absent ((knows a).limbo.pids p))
           own_limbo p true e = tt
-          own_limbo p false e = limbo2_kept a p ((knows a).limbo_pids p) e (T.limbo_pids a p)
+          own_limbo p false e = limbo2_kept a p ((knows a).limbo.pids p) e (T.limbo_pids a p)

@@ -5,7 +5,7 @@ use Rattle.bw_model.specs.declared.command.Reply.TheVariants as reply
 use Rattle.bw_model.specs.declared.step.Step.{Step as StepOf}
 use Rattle.bw_model.specs.Log.{set}
 use Rattle.deltas.specs.declared.record.Record.{Record}
-use Rattle.chain_search.specs.Discipline.{IsMet, MayAdd, MayUpdate, MaySplit, MayPost, MayRoot, MayReply, IsAllowed, May, MayFree}
+use Rattle.chain_search.specs.Discipline.{IsMet, MayUpdate, MaySplit, MayPost, MayRoot, MayReply, IsAllowed, May, MayFree}
 use Rattle.chain_search.specs.Disciplined.{IsDisciplinedFrom, IsDisciplined}
 use Rattle.chain_search.specs.Knowledge.{Other, Empty, Ready, Knowledge, knows}
 use Rattle.tree_law.specs.Example.{small, a, opening_leaf, root_a}
@@ -21,8 +21,8 @@ quietly may frees = record { may = may; frees = frees; replied = tt }
 abbrev before : ℕ → ℕ → Knowledge
 before n actor = knows (take n helped_split) actor
 
-splits_first : MaySplit (before 23 0) 1 1 3
-splits_first = record { basis = record { head = refl; chain = opening_leaf ∷ []; read = (refl, refl); alive = refl }; separator = a; above = refl; below = refl; right = 2; row = 2; ready = refl; items = []; alike = λ key c n. refl; base = refl; ruled = first_ruled; placed = refl }
+splits_first : MaySplit (before 23 0) 1 (opening_leaf ∷ []) first_split
+splits_first = record { separator = a; above = refl; below = refl; right = 2; row = 2; ready = refl; items = []; alike = λ key c n. refl; base = refl; ruled = first_ruled; is = refl }
 
 roots : MayRoot (before 28 0) 1 3
 roots = record { row = 3; basis = record { head = refl; chain = first_split ∷ opening_leaf ∷ []; read = (refl, (refl, refl)); alive = refl }; right = 2; is_right = refl; separator = a; is_high = refl; some = refl; base_row = 4; ready = refl; base = refl; ruled = root_fitted }
@@ -43,39 +43,33 @@ child_of_root = record { other = 3; row = 4; basis = record { head = refl; chain
 right_seen : IsMet (before 43 1) 4
 right_seen = record { other = 2; row = 6; basis = record { head = refl; chain = second_split ∷ upper_b ∷ []; read = (refl, (refl, refl)); alive = refl }; named = inl refl }
 
-splits_second : MaySplit (before 36 0) 2 2 6
-splits_second = record { basis = record { head = refl; chain = upper_b ∷ []; read = (refl, refl); alive = refl }; separator = b; above = refl; below = refl; right = 4; row = 5; ready = refl; items = []; alike = λ key c n. refl; base = refl; ruled = second_ruled; placed = refl }
+splits_second : MaySplit (before 36 0) 2 (upper_b ∷ []) second_split
+splits_second = record { separator = b; above = refl; below = refl; right = 4; row = 5; ready = refl; items = []; alike = λ key c n. refl; base = refl; ruled = second_ruled; is = refl }
 
 -- the term that the second actor posts
-adds_term : MayAdd (before 47 1) 4 8
-adds_term = record { chain = root_a ∷ []; read = (refl, refl); content = helped_term; placed = refl; fits = term_fits }
+helps : MayPost (before 47 1) 3 4 (root_a ∷ []) helped_term
+helps = record { child = 4; row = 5; below = record { head = refl; chain = upper_c ∷ []; read = (refl, refl); alive = refl }; level = refl; covers = refl; absent = refl; order = refl; is = refl }
 
-helps : MayPost (before 47 1) 3 4 8
-helps = record { basis = record { head = refl; chain = root_a ∷ []; read = (refl, refl); alive = refl }; child = 4; row = 5; below = record { head = refl; chain = upper_c ∷ []; read = (refl, refl); alive = refl }; level = refl; covers = refl; absent = refl; order = refl; placed = refl }
-
-updates : MayUpdate 1 (before 50 1) 4 5 9
-updates = record { basis = record { head = refl; chain = upper_c ∷ []; read = (refl, refl); alive = refl }; leaf = refl; command = insert_other; going = refl; unlinked = refl; covers = refl; update = set 1 b (codes "2"); due = refl; placed = refl }
+updates : MayUpdate 1 (before 50 1) 5 (upper_c ∷ []) other_put
+updates = record { leaf = refl; command = insert_other; going = refl; unlinked = refl; covers = refl; update = set 1 b (codes "2"); due = refl; is = refl }
 
 inserted : MayReply small 1 (before 51 1) reply.Inserted
 inserted = record { command = insert_other; going = refl; justified = inl (record { row = 5; chain = upper_c ∷ []; read = (refl, refl); leaf = refl; covers = refl; is = refl; basis = inl (refl, refl) }) }
 
 -- the first actor's own try
-adds_late : MayAdd (before 57 0) 4 7
-adds_late = record { chain = root_a ∷ []; read = (refl, refl); content = helped_term; placed = refl; fits = term_fits }
-
-late : MayPost (before 57 0) 3 4 7
-late = record { basis = record { head = refl; chain = root_a ∷ []; read = (refl, refl); alive = refl }; child = 4; row = 9; below = record { head = refl; chain = other_put ∷ upper_c ∷ []; read = (refl, (refl, refl)); alive = refl }; level = refl; covers = refl; absent = refl; order = refl; placed = refl }
+late : MayPost (before 57 0) 3 4 (root_a ∷ []) helped_term
+late = record { child = 4; row = 9; below = record { head = refl; chain = other_put ∷ upper_c ∷ []; read = (refl, (refl, refl)); alive = refl }; level = refl; covers = refl; absent = refl; order = refl; is = refl }
 
 exists : MayReply small 0 (before 58 0) (reply.Exists (codes "2"))
 exists = record { command = insert_b; going = refl; justified = inl (record { row = 9; chain = other_put ∷ upper_c ∷ []; read = (refl, (refl, refl)); leaf = refl; covers = refl; is = refl; basis = inr (inl (refl, (4, refl, refl), refl)) }) }
 
 -- the first's exchange loses, and it finds the key
 comes_late : IsDisciplinedFrom small (take 52 helped_split) (drop 52 helped_split)
-comes_late = ((refl, quietly (refl, inr right_again) tt, refl), ((refl, quietly (refl, refl) tt, (second_split, refl, refl)), ((refl, quietly (refl, inr right_known) tt, refl), ((refl, quietly (refl, refl) tt, (other_put, refl, refl)), ((refl, quietly (refl, refl) tt, (upper_c, refl, refl)), ((refl, quietly (refl, (adds_late, inr (inr (inr (inl late))), set_by _ 4 Other _ (λ e. cc) (set_by _ 4 (Ready 5) _ (λ e. cc) (set_by _ 4 Empty _ (λ e. cc) (set_by _ 3 Other _ (λ e. cc) (set_by _ 3 (Ready 4) _ (λ e. cc) (set_by _ 3 Empty _ (λ e. cc) (set_by _ 2 Other _ (λ e. cc) (set_by _ 2 (Ready 2) _ (λ e. cc) (set_by _ 2 Empty _ (λ e. cc) (λ page e. absurd (cc)))))))))))) tt, refl), ((refl, record { may = refl; frees = tt; replied = (refl, exists) }, refl), tt)))))))
+comes_late = ((refl, quietly (refl, inr right_again) tt, refl), ((refl, quietly (refl, refl) tt, (second_split, refl, refl)), ((refl, quietly (refl, inr right_known) tt, refl), ((refl, quietly (refl, refl) tt, (other_put, refl, refl)), ((refl, quietly (refl, refl) tt, (upper_c, refl, refl)), ((refl, quietly (refl, record { basis = record { head = refl; chain = root_a ∷ []; read = (refl, refl); alive = refl }; content = helped_term; placed = refl; fits = term_fits; due = late; unset = set_by _ 4 Other _ (λ e. cc) (set_by _ 4 (Ready 5) _ (λ e. cc) (set_by _ 4 Empty _ (λ e. cc) (set_by _ 3 Other _ (λ e. cc) (set_by _ 3 (Ready 4) _ (λ e. cc) (set_by _ 3 Empty _ (λ e. cc) (set_by _ 2 Other _ (λ e. cc) (set_by _ 2 (Ready 2) _ (λ e. cc) (set_by _ 2 Empty _ (λ e. cc) (λ page e. absurd (cc)))))))))) }) tt, refl), ((refl, record { may = refl; frees = tt; replied = (refl, exists) }, refl), tt)))))))
 
 -- it posts the term and puts its key
 finishes : IsDisciplinedFrom small (take 45 helped_split) (drop 45 helped_split)
-finishes = ((refl, quietly tt tt, refl), ((refl, quietly (refl, tt, λ page e. absurd (cc)) tt, refl), ((refl, quietly (refl, (adds_term, inr (inr (inr (inl helps))), λ page e. absurd (cc))) tt, refl), ((refl, quietly tt tt, refl), ((refl, quietly (refl, tt, λ page e. absurd (cc)) tt, refl), ((refl, quietly (refl, (record { chain = upper_c ∷ []; read = (refl, refl); content = other_put; placed = refl; fits = put_fits }, inl updates, λ page e. absurd (cc))) tt, refl), ((refl, record { may = refl; frees = tt; replied = (refl, inserted) }, refl), comes_late)))))))
+finishes = ((refl, quietly tt tt, refl), ((refl, quietly (refl, tt, λ page e. absurd (cc)) tt, refl), ((refl, quietly (refl, record { basis = record { head = refl; chain = root_a ∷ []; read = (refl, refl); alive = refl }; content = helped_term; placed = refl; fits = term_fits; due = helps; unset = λ page e. absurd (cc) }) tt, refl), ((refl, quietly tt tt, refl), ((refl, quietly (refl, tt, λ page e. absurd (cc)) tt, refl), ((refl, quietly (refl, record { basis = record { head = refl; chain = upper_c ∷ []; read = (refl, refl); alive = refl }; content = other_put; placed = refl; fits = put_fits; due = updates; unset = λ page e. absurd (cc) }) tt, refl), ((refl, record { may = refl; frees = tt; replied = (refl, inserted) }, refl), comes_late)))))))
 
 -- the second goes from the root to the new leaf
 descends : IsDisciplinedFrom small (take 37 helped_split) (drop 37 helped_split)
@@ -83,11 +77,11 @@ descends = ((refl, quietly refl tt, refl), ((refl, quietly (refl, inl refl) tt, 
 
 -- it splits the upper leaf
 divides : IsDisciplinedFrom small (take 29 helped_split) (drop 29 helped_split)
-divides = ((refl, quietly refl tt, refl), ((refl, quietly (refl, inl refl) tt, refl), ((refl, quietly (refl, refl) tt, (root_a, refl, refl)), ((refl, quietly (refl, inr right_of_first) tt, refl), ((refl, quietly (refl, refl) tt, (upper_b, refl, refl)), ((refl, quietly tt tt, refl), ((refl, quietly (refl, (refl, tt, set_by _ 4 Empty _ (λ e. cc) (set_by _ 3 Other _ (λ e. cc) (set_by _ 3 (Ready 4) _ (λ e. cc) (set_by _ 3 Empty _ (λ e. cc) (set_by _ 2 Other _ (λ e. cc) (set_by _ 2 (Ready 2) _ (λ e. cc) (set_by _ 2 Empty _ (λ e. cc) (λ page e. absurd (cc)))))))))) tt, refl), ((refl, quietly (refl, (record { chain = upper_b ∷ []; read = (refl, refl); content = second_split; placed = refl; fits = second_fits }, inr (inr (inl splits_second)), set_by _ 4 (Ready 5) _ (λ e. cc) (set_by _ 4 Empty _ (λ e. cc) (set_by _ 3 Other _ (λ e. cc) (set_by _ 3 (Ready 4) _ (λ e. cc) (set_by _ 3 Empty _ (λ e. cc) (set_by _ 2 Other _ (λ e. cc) (set_by _ 2 (Ready 2) _ (λ e. cc) (set_by _ 2 Empty _ (λ e. cc) (λ page e. absurd (cc))))))))))) tt, refl), descends))))))))
+divides = ((refl, quietly refl tt, refl), ((refl, quietly (refl, inl refl) tt, refl), ((refl, quietly (refl, refl) tt, (root_a, refl, refl)), ((refl, quietly (refl, inr right_of_first) tt, refl), ((refl, quietly (refl, refl) tt, (upper_b, refl, refl)), ((refl, quietly tt tt, refl), ((refl, quietly (refl, (refl, tt, set_by _ 4 Empty _ (λ e. cc) (set_by _ 3 Other _ (λ e. cc) (set_by _ 3 (Ready 4) _ (λ e. cc) (set_by _ 3 Empty _ (λ e. cc) (set_by _ 2 Other _ (λ e. cc) (set_by _ 2 (Ready 2) _ (λ e. cc) (set_by _ 2 Empty _ (λ e. cc) (λ page e. absurd (cc)))))))))) tt, refl), ((refl, quietly (refl, record { basis = record { head = refl; chain = upper_b ∷ []; read = (refl, refl); alive = refl }; content = second_split; placed = refl; fits = second_fits; due = splits_second; unset = set_by _ 4 (Ready 5) _ (λ e. cc) (set_by _ 4 Empty _ (λ e. cc) (set_by _ 3 Other _ (λ e. cc) (set_by _ 3 (Ready 4) _ (λ e. cc) (set_by _ 3 Empty _ (λ e. cc) (set_by _ 2 Other _ (λ e. cc) (set_by _ 2 (Ready 2) _ (λ e. cc) (set_by _ 2 Empty _ (λ e. cc) (λ page e. absurd (cc))))))))) }) tt, refl), descends))))))))
 
 -- it splits the leaf and makes a root
 grows : IsDisciplinedFrom small (take 21 helped_split) (drop 21 helped_split)
-grows = ((refl, quietly tt tt, refl), ((refl, quietly (refl, (refl, tt, set_by _ 2 Empty _ (λ e. cc) (λ page e. absurd (cc)))) tt, refl), ((refl, quietly (refl, (record { chain = opening_leaf ∷ []; read = (refl, refl); content = first_split; placed = refl; fits = first_fits }, inr (inr (inl splits_first)), set_by _ 2 (Ready 2) _ (λ e. cc) (set_by _ 2 Empty _ (λ e. cc) (λ page e. absurd (cc))))) tt, refl), ((refl, quietly (refl, inl refl) tt, refl), ((refl, quietly (refl, refl) tt, (first_split, refl, refl)), ((refl, quietly tt tt, refl), ((refl, quietly (refl, (refl, tt, set_by _ 3 Empty _ (λ e. cc) (set_by _ 2 Other _ (λ e. cc) (set_by _ 2 (Ready 2) _ (λ e. cc) (set_by _ 2 Empty _ (λ e. cc) (λ page e. absurd (cc))))))) tt, refl), ((refl, quietly (refl, roots) tt, refl), divides))))))))
+grows = ((refl, quietly tt tt, refl), ((refl, quietly (refl, (refl, tt, set_by _ 2 Empty _ (λ e. cc) (λ page e. absurd (cc)))) tt, refl), ((refl, quietly (refl, record { basis = record { head = refl; chain = opening_leaf ∷ []; read = (refl, refl); alive = refl }; content = first_split; placed = refl; fits = first_fits; due = splits_first; unset = set_by _ 2 (Ready 2) _ (λ e. cc) (set_by _ 2 Empty _ (λ e. cc) (λ page e. absurd (cc))) }) tt, refl), ((refl, quietly (refl, inl refl) tt, refl), ((refl, quietly (refl, refl) tt, (first_split, refl, refl)), ((refl, quietly tt tt, refl), ((refl, quietly (refl, (refl, tt, set_by _ 3 Empty _ (λ e. cc) (set_by _ 2 Other _ (λ e. cc) (set_by _ 2 (Ready 2) _ (λ e. cc) (set_by _ 2 Empty _ (λ e. cc) (λ page e. absurd (cc))))))) tt, refl), ((refl, quietly (refl, roots) tt, refl), divides))))))))
 
 -- and writes them
 places : IsDisciplinedFrom small (take 15 helped_split) (drop 15 helped_split)

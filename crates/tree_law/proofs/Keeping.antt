@@ -18,8 +18,8 @@ use Rattle.chain_search.specs.Discipline.{HasRead, IsBeyond, IsMet}
 use Rattle.tree_law.specs.Phase.{Stage, Fresh, Indexed, Held, Removed, Merged, PageOwner, Placed, Cleared, mark, rank, child_of, rank_of}
 use Rattle.tree_law.specs.Put.{put}
 use Rattle.tree_law.specs.Shared.{Shared}
-use Rattle.tree_law.specs.Owners.{IsChain, Owner, Owners, Reached, ChainNames, IsClosed, IsCleared, Owns, OwnsPages, Spells, leaf_map, HeadFits, LinkFits, InOrder, OrderFits, Knows}
-use Rattle.tree_law.specs.Tree.{Page, InPlace, spec, IsOff, IsOut, Off, Tree, Frees, Good}
+use Rattle.tree_law.specs.Owners.{IsChain, Owner, Owners, Reached, ChainNames, IsClosed, IsCleared, Owns, OwnsPages, Spells, leaf_map, HeadFits, LinkFits, InOrder, OrderFits, Knows, IsOut}
+use Rattle.tree_law.specs.Tree.{Page, InPlace, spec, IsOff, Off, Tree, Frees, Good}
 use Rattle.tree_law.proofs.KeyOrder.{covers_from}
 use Rattle.tree_law.proofs.Puts.{by_test}
 use Rattle.tree_law.proofs.Chains.{chain_unique}
@@ -49,41 +49,41 @@ module _ {m : Shared} {log : List Update} {o : Owners} {knows : ℕ → Knowledg
   -- what a step of the actor leaves
   pub put_good : (m' : Shared) (log' : List Update) (o' : Owners) (k : Knowledge) (p : Option (List Update)) (s : List (List Update))
       → Change a o o' m m' → Frees o' m' → IsClosed o' m' → Tree o' m' log'
-      → Owns a o' m' k.rows → OwnsPages a o' m' k.pages → Knows o' m' k.seen k.learnt k.roots k.heads k.before k.linked p s
+      → Owns a o' m' k.own.rows → OwnsPages a o' m' k.own.pages → Knows o' m' k.read.seen k.read.learnt k.read.roots k.read.heads k.read.before k.asked.linked p s
       → Good m' log' o' (put knows a k) (put point a p) (put logs a s)
   put_good m' log' o' k p s change frees closed tree own pages kn =
       record {
         frees = frees;
         closed = closed;
         tree = tree;
-        owns = λ b. by_test b a (λ t. Owns b o' m' (cond t k (knows b)).rows)
-            (λ e. subst (λ (n : ℕ). Owns n o' m' k.rows) (sym e) own)
-            (λ ne. owns_spared b o o' m m' (spared_change a b o o' m m' ne change) (knows b).rows (g.owns b));
-        owns_pages = λ b. by_test b a (λ t. OwnsPages b o' m' (cond t k (knows b)).pages)
-            (λ e. subst (λ (n : ℕ). OwnsPages n o' m' k.pages) (sym e) pages)
-            (λ ne. pages_spared b o o' m m' (spared_change a b o o' m m' ne change) (knows b).pages (g.owns_pages b));
-        sound = λ b. by_test b a (λ t. Knows o' m' (cond t k (knows b)).seen (cond t k (knows b)).learnt (cond t k (knows b)).roots (cond t k (knows b)).heads (cond t k (knows b)).before (cond t k (knows b)).linked (cond t p (point b)) (cond t s (logs b)))
+        owns = λ b. by_test b a (λ t. Owns b o' m' (cond t k (knows b)).own.rows)
+            (λ e. subst (λ (n : ℕ). Owns n o' m' k.own.rows) (sym e) own)
+            (λ ne. owns_spared b o o' m m' (spared_change a b o o' m m' ne change) (knows b).own.rows (g.owns b));
+        owns_pages = λ b. by_test b a (λ t. OwnsPages b o' m' (cond t k (knows b)).own.pages)
+            (λ e. subst (λ (n : ℕ). OwnsPages n o' m' k.own.pages) (sym e) pages)
+            (λ ne. pages_spared b o o' m m' (spared_change a b o o' m m' ne change) (knows b).own.pages (g.owns_pages b));
+        sound = λ b. by_test b a (λ t. Knows o' m' (cond t k (knows b)).read.seen (cond t k (knows b)).read.learnt (cond t k (knows b)).read.roots (cond t k (knows b)).read.heads (cond t k (knows b)).read.before (cond t k (knows b)).asked.linked (cond t p (point b)) (cond t s (logs b)))
             (λ e. kn)
-            (λ ne. knows_kept o o' m m' g.closed (kept_change a o o' m m' change) (knows b).seen (knows b).learnt (knows b).roots (knows b).heads (knows b).before (knows b).linked (point b) (logs b) (g.sound b));
+            (λ ne. knows_kept o o' m m' g.closed (kept_change a o o' m m' change) (knows b).read.seen (knows b).read.learnt (knows b).read.roots (knows b).read.heads (knows b).read.before (knows b).asked.linked (point b) (logs b) (g.sound b));
       }
 
   -- a step that leaves memory and log
-  pub quiet : (k : Knowledge) (p : Option (List Update)) (s : List (List Update)) → Owns a o m k.rows → OwnsPages a o m k.pages → Knows o m k.seen k.learnt k.roots k.heads k.before k.linked p s
+  pub quiet : (k : Knowledge) (p : Option (List Update)) (s : List (List Update)) → Owns a o m k.own.rows → OwnsPages a o m k.own.pages → Knows o m k.read.seen k.read.learnt k.read.roots k.read.heads k.read.before k.asked.linked p s
       → Good m log o (put knows a k) (put point a p) (put logs a s)
   quiet k p s own pages kn = put_good m log o k p s (change_none a o m) g.frees g.closed g.tree own pages kn
 
-  pub mine : Knows o m (knows a).seen (knows a).learnt (knows a).roots (knows a).heads (knows a).before (knows a).linked (point a) (log ∷ logs a)
-  mine = knows_more o m (knows a).seen (knows a).learnt (knows a).roots (knows a).heads (knows a).before (knows a).linked (point a) (logs a) log (g.sound a)
+  pub mine : Knows o m (knows a).read.seen (knows a).read.learnt (knows a).read.roots (knows a).read.heads (knows a).read.before (knows a).asked.linked (point a) (log ∷ logs a)
+  mine = knows_more o m (knows a).read.seen (knows a).read.learnt (knows a).read.roots (knows a).read.heads (knows a).read.before (knows a).asked.linked (point a) (logs a) log (g.sound a)
 
   -- what the actor knows stays so at a step of its own
-  pub mine_at : (o' : Owners) (m' : Shared) → Kept o o' m m' → Knows o' m' (knows a).seen (knows a).learnt (knows a).roots (knows a).heads (knows a).before (knows a).linked (point a) (log ∷ logs a)
-  mine_at o' m' kept = knows_kept o o' m m' g.closed kept (knows a).seen (knows a).learnt (knows a).roots (knows a).heads (knows a).before (knows a).linked (point a) (log ∷ logs a) mine
+  pub mine_at : (o' : Owners) (m' : Shared) → Kept o o' m m' → Knows o' m' (knows a).read.seen (knows a).read.learnt (knows a).read.roots (knows a).read.heads (knows a).read.before (knows a).asked.linked (point a) (log ∷ logs a)
+  mine_at o' m' kept = knows_kept o o' m m' g.closed kept (knows a).read.seen (knows a).read.learnt (knows a).read.roots (knows a).read.heads (knows a).read.before (knows a).asked.linked (point a) (log ∷ logs a) mine
 
   pub begins : (c : Command) → Good m log o (put knows a (begun (knows a) c)) (put point a None) (put logs a [])
   begins c = quiet (begun (knows a) c) None [] (g.owns a) (g.owns_pages a) (record { seen_fits = mine.seen_fits; learnt_fits = mine.learnt_fits; roots_fit = mine.roots_fit; heads_fit = λ p. tt; orders_fit = λ p f. tt; linked_fits = refl })
 
   -- a step after which the actor knows what it knew
-  pub idles : (k : Knowledge) → k.rows ≡ (knows a).rows → k.pages ≡ (knows a).pages → k.seen ≡ (knows a).seen → k.learnt ≡ (knows a).learnt → k.roots ≡ (knows a).roots → k.heads ≡ (knows a).heads → k.before ≡ (knows a).before → k.linked ≡ (knows a).linked
+  pub idles : (k : Knowledge) → k.own.rows ≡ (knows a).own.rows → k.own.pages ≡ (knows a).own.pages → k.read.seen ≡ (knows a).read.seen → k.read.learnt ≡ (knows a).read.learnt → k.read.roots ≡ (knows a).read.roots → k.read.heads ≡ (knows a).read.heads → k.read.before ≡ (knows a).read.before → k.asked.linked ≡ (knows a).asked.linked
       → Good m log o (put knows a k) (put point a (point a)) (put logs a (log ∷ logs a))
   idles k e0 e1 e2 e3 e4 e5 e7 e6 = quiet k (point a) (log ∷ logs a) (rw e0 (g.owns a)) (rw e1 (g.owns_pages a)) (rw (e2, e3, e4, e5, e7, e6) mine)
 
@@ -96,7 +96,7 @@ module _ {m : Shared} {log : List Update} {o : Owners} {knows : ℕ → Knowledg
   forgets (Some (Some x)) h = (h.0, h.1)
 
   pub leaves : (r : Option Reply) → Good m log o (put knows a (finished (learn (knows a) Leave Done) r)) (put point a (point a)) (put logs a (log ∷ logs a))
-  leaves r = quiet (finished (learn (knows a) Leave Done) r) (point a) (log ∷ logs a) (g.owns a) (g.owns_pages a) (record { seen_fits = λ q. tt; learnt_fits = λ q e. absurd (cc); roots_fit = λ p e. absurd (cc); heads_fit = λ p. tt; orders_fit = λ p f. tt; linked_fits = forgets (knows a).linked mine.linked_fits })
+  leaves r = quiet (finished (learn (knows a) Leave Done) r) (point a) (log ∷ logs a) (g.owns a) (g.owns_pages a) (record { seen_fits = λ q. tt; learnt_fits = λ q e. absurd (cc); roots_fit = λ p e. absurd (cc); heads_fit = λ p. tt; orders_fit = λ p f. tt; linked_fits = forgets (knows a).asked.linked mine.linked_fits })
 
   -- a page whose slot has a chain that is not removed is on its side chain
   pub alive_place : (p l : ℕ) (s : Key) → Reached 0 l s (o.page p) → (y : ℕ) → m.slots p ≡ Some y → (d : List Record) → IsChain m.rows d (Some y) → is_removed d ≡ false → InPlace o m (level_in d) (spec log o.index (level_in d)) (record { page = p; row = y; chain = d })
@@ -153,7 +153,7 @@ module _ {m : Shared} {log : List Update} {o : Owners} {knows : ℕ → Knowledg
   pub read_names : (p x : ℕ) → (h : HasRead (knows a) p x) → ChainNames o h.chain
   read_names p x h =
       let f = subst (λ (v : Option ℕ). HeadFits o m (log ∷ logs a) p v) h.head (mine.heads_fit p) in
-      let same : f.2.chain ≡ h.chain = chain_unique m.rows f.2.chain h.chain (Some x) f.2.is_chain (chain_stands o m (knows a).seen mine.seen_fits h.chain (Some x) h.read) in
+      let same : f.2.chain ≡ h.chain = chain_unique m.rows f.2.chain h.chain (Some x) f.2.is_chain (chain_stands o m (knows a).read.seen mine.seen_fits h.chain (Some x) h.read) in
       subst (λ (d : List Record). ChainNames o d) same (f.5 (ap is_removed same ∙ h.alive))
 
   -- what a page on its side chain names
@@ -168,7 +168,7 @@ module _ {m : Shared} {log : List Update} {o : Owners} {knows : ℕ → Knowledg
   }
 
   -- the right of a removed page that stands right of a page
-  pub beyond_place : (p x : ℕ) → m.slots p ≡ Some x → (d : List Record) → IsChain m.rows d (Some x) → Reached 0 (level_in d) (low_in d) (o.page p) → is_removed d ≡ false → (f z : ℕ) → right_in d ≡ Some f → (knows a).heads f ≡ Some z → (c : List Record) → IsChain m.rows c (Some z) → is_removed c ≡ true
+  pub beyond_place : (p x : ℕ) → m.slots p ≡ Some x → (d : List Record) → IsChain m.rows d (Some x) → Reached 0 (level_in d) (low_in d) (o.page p) → is_removed d ≡ false → (f z : ℕ) → right_in d ≡ Some f → (knows a).read.heads f ≡ Some z → (c : List Record) → IsChain m.rows c (Some z) → is_removed c ≡ true
       → (q : ℕ) → right_in c ≡ Some q → (s : Key) × (st : Stage) × (high_in c ≡ Some s) × (o.page q ≡ Placed st (level_in c) s)
   beyond_place p x sx d id e nd f z i ez c ic rc q j =
       let h = subst (λ (v : Option ℕ). HeadFits o m (log ∷ logs a) f v) ez (mine.heads_fit f) in
@@ -176,22 +176,22 @@ module _ {m : Shared} {log : List Update} {o : Owners} {knows : ℕ → Knowledg
       let on = g.tree.levels (level_in d) (g.tree.exact.below p (level_in d) (low_in d) w.stage w.placed) in
       let n = right_page o m (level_in d) (spec log o.index (level_in d)) (g.tree.first (level_in d)) on (record { page = p; row = x; chain = d }) w f i in
       let same : h.2.chain ≡ c = chain_unique m.rows h.2.chain c (Some z) h.2.is_chain ic in
-      let slot : m.slots f ≡ Some z = ⊎_elim (λ (u : m.slots f ≡ Some z). u) (λ (u : IsCleared (o.page f)). absurd (let t = sym n.3.placed ∙ ap o.page n.1 ∙ u.3 in cc)) (h.4 (ap is_removed same ∙ rc)) in
+      let slot : m.slots f ≡ Some z = ⊎_elim (λ (u : m.slots f ≡ Some z). u) (λ (u : IsOut (o.page f) (m.slots f)). absurd (let t = sym n.3.placed ∙ ap o.page n.1 ∙ u.1.3 in cc)) (h.4 (ap is_removed same ∙ rc)) in
       let r = (in_level_as o m (level_in d) (spec log o.index (level_in d)) (g.tree.first (level_in d)) on f (low_in n.0.chain) n.3.stage (ap o.page (sym n.1) ∙ n.3.placed) n.3.on z slot c ic).place in
       let t = right_page o m (level_in d) (spec log o.index (level_in d)) (g.tree.first (level_in d)) on (record { page = f; row = z; chain = c }) r q j in
       (low_in t.0.chain, t.3.stage, t.2, subst (λ (l : ℕ). o.page q ≡ Placed t.3.stage l (low_in t.0.chain)) (sym r.is_page.on_level) (ap o.page (sym t.1) ∙ t.3.placed))
 
   -- that page once both were read
-  pub beyond_reached : (p y : ℕ) → (knows a).heads p ≡ Some y → (d : List Record) → IsChain m.rows d (Some y) → is_removed d ≡ false → (q : ℕ) (b : IsBeyond (knows a) p d q) → (s : Key) × (high_in b.chain ≡ Some s) × Reached 0 (level_in b.chain) s (o.page q)
+  pub beyond_reached : (p y : ℕ) → (knows a).read.heads p ≡ Some y → (d : List Record) → IsChain m.rows d (Some y) → is_removed d ≡ false → (q : ℕ) (b : IsBeyond (knows a) p d q) → (s : Key) × (high_in b.chain ≡ Some s) × Reached 0 (level_in b.chain) s (o.page q)
   beyond_reached p y e d id nd q b =
-      let i : InOrder o m (log ∷ logs a) p y b.removed b.row = subst (λ (v : Option ℕ). OrderFits o m (log ∷ logs a) p b.removed (Some y) v) b.order (subst (λ (v : Option ℕ). OrderFits o m (log ∷ logs a) p b.removed v ((knows a).before p b.removed)) e (mine.orders_fit p b.removed)) in
-      i.beyond b.chain d q (chain_stands o m (knows a).seen mine.seen_fits b.chain (Some b.row) b.read) id b.gone nd b.right b.next
+      let i : InOrder o m (log ∷ logs a) p y b.removed b.row = subst (λ (v : Option ℕ). OrderFits o m (log ∷ logs a) p b.removed (Some y) v) b.order (subst (λ (v : Option ℕ). OrderFits o m (log ∷ logs a) p b.removed v ((knows a).read.before p b.removed)) e (mine.orders_fit p b.removed)) in
+      i.beyond b.chain d q (chain_stands o m (knows a).read.seen mine.seen_fits b.chain (Some b.row) b.read) id b.gone nd b.right b.next
 
   -- a page that was met is in the tree
   pub lower : (r l : ℕ) (s : Key) (w : PageOwner) → Reached r l s w → Reached 0 l s w
   lower r l s w h = ⊎_elim (λ (u : (st : Stage) × (w ≡ Placed st l s) × (r ≤ rank st)). placed_reached l s u.0 w u.1) (λ (u : (b : ℕ) × (w ≡ Cleared b l s)). subst (λ (v : PageOwner). Reached 0 l s v) (sym u.1) (refl, refl)) (reached_placed r l s w h)
 
-  pub met_placed : (p : ℕ) → ((knows a).roots p ≡ true) ⊎ IsMet (knows a) p → (l : ℕ) × (s : Key) × Reached 0 l s (o.page p)
+  pub met_placed : (p : ℕ) → ((knows a).read.roots p ≡ true) ⊎ IsMet (knows a) p → (l : ℕ) × (s : Key) × Reached 0 l s (o.page p)
   met_placed p (inl e) = let i = mine.roots_fit p e in (i.0, [], i.1)
   met_placed p (inr h) = by_name h.named
     where
@@ -201,7 +201,7 @@ module _ {m : Shared} {log : List Update} {o : Owners} {knows : ℕ → Knowledg
       by_name : (right_in h.basis.chain ≡ Some p) ⊎ ((level : ℕ) × (key : Key) × (held : Bool) × (level_in h.basis.chain ≡ suc level) × IsTrue (covers h.basis.chain key) × (content_in h.basis.chain key ≡ Some (Child p held))) ⊎ IsBeyond (knows a) h.other h.basis.chain p → (l : ℕ) × (s : Key) × Reached 0 l s (o.page p)
       by_name (inl u) = let r = n.right p u in (level_in h.basis.chain, r.0, r.2)
       by_name (inr (inl u)) = (u.0, u.1, lower (rank_of (Child p u.2)) u.0 u.1 (o.page p) (n.items u.0 u.1 (Child p u.2) u.3 (covers_from h.basis.chain u.1 u.4) u.5))
-      by_name (inr (inr b)) = let r = beyond_reached h.other h.row h.basis.head h.basis.chain (chain_stands o m (knows a).seen mine.seen_fits h.basis.chain (Some h.row) h.basis.read) h.basis.alive p b in (level_in b.chain, r.0, r.2)
+      by_name (inr (inr b)) = let r = beyond_reached h.other h.row h.basis.head h.basis.chain (chain_stands o m (knows a).read.seen mine.seen_fits h.basis.chain (Some h.row) h.basis.read) h.basis.alive p b in (level_in b.chain, r.0, r.2)
 
   pub off_still : (o' : Owners) (m' : Shared) → Kept o o' m m' → (q l : ℕ) (k : Key) → m'.slots q ≡ m.slots q → IsOut (o.page q) (m.slots q) ⊎ Off o m q l k → IsOut (o'.page q) (m'.slots q) ⊎ Off o' m' q l k
   off_still o' m' kept q l k s (inl e) = inl (s ∙ e.0, cleared_forward (o.page q) (o'.page q) (kept.page q) e.1)

@@ -75,7 +75,7 @@ makes_all_links = (
                                                             (
                                                               ((refl, refl), (opening_leaf, refl, refl)),
                                                               (
-                                                                ((refl, (record { chain = opening_leaf ∷ []; read = (refl, refl); content = put_a; placed = refl; fits = put_fits }, (inl (record { basis = record { head = refl; chain = (opening_leaf ∷ []); read = (refl, refl); alive = refl }; leaf = refl; command = insert_a; going = refl; unlinked = refl; covers = refl; update = set 0 a (codes "1"); due = refl; placed = refl })), λ page e. cc)), refl),
+                                                                ((refl, record { basis = record { head = refl; chain = (opening_leaf ∷ []); read = (refl, refl); alive = refl }; content = put_a; placed = refl; fits = put_fits; due = record { leaf = refl; command = insert_a; going = refl; unlinked = refl; covers = refl; update = set 0 a (codes "1"); due = refl; is = refl }; unset = λ page e. cc }), refl),
                                                                 (
                                                                   ((refl, inl refl), refl),
                                                                   (
@@ -85,7 +85,7 @@ makes_all_links = (
                                                                       (
                                                                         ((refl, (refl, tt, set_by _ 2 Empty _ (λ e. cc) (λ page e. cc))), refl),
                                                                         (
-                                                                          ((refl, (record { chain = put_a ∷ opening_leaf ∷ []; read = (refl, (refl, refl)); content = split_a; placed = refl; fits = split_fits }, (inr (inr (inl (record { basis = record { head = refl; chain = (put_a ∷ opening_leaf ∷ []); read = (refl, (refl, refl)); alive = refl }; separator = a; above = refl; below = refl; right = 2; row = 3; ready = refl; items = item_a ∷ []; alike = λ key c n. refl; base = refl; ruled = upper_fitted; placed = refl })))), set_by _ 2 (Ready 3) _ (λ e. cc) (set_by _ 2 Empty _ (λ e. cc) (λ page e. cc)))), refl),
+                                                                          ((refl, record { basis = record { head = refl; chain = (put_a ∷ opening_leaf ∷ []); read = (refl, (refl, refl)); alive = refl }; content = split_a; placed = refl; fits = split_fits; due = record { separator = a; above = refl; below = refl; right = 2; row = 3; ready = refl; items = item_a ∷ []; alike = λ key c n. refl; base = refl; ruled = upper_fitted; is = refl }; unset = set_by _ 2 (Ready 3) _ (λ e. cc) (set_by _ 2 Empty _ (λ e. cc) (λ page e. cc)) }), refl),
                                                                           (
                                                                             ((refl, inl refl), refl),
                                                                             (
@@ -103,7 +103,7 @@ makes_all_links = (
                                                                                         (
                                                                                           ((refl, refl), (root_a, refl, refl)),
                                                                                           (
-                                                                                            ((refl, (record { chain = root_a ∷ []; read = (refl, refl); content = hold_a; placed = refl; fits = hold_fits }, (inr (inr (inr (inr (inl (record { basis = record { head = refl; chain = (root_a ∷ []); read = (refl, refl); alive = refl }; level = 0; is_level = refl; key = a; covers = refl; child = 2; present = refl; placed = refl })))))), set_by _ 3 Other _ (λ e. cc) (set_by _ 3 (Ready 5) _ (λ e. cc) (set_by _ 3 Empty _ (λ e. cc) (set_by _ 2 Other _ (λ e. cc) (set_by _ 2 (Ready 3) _ (λ e. cc) (set_by _ 2 Empty _ (λ e. cc) (λ page e. cc)))))))), refl),
+                                                                                            ((refl, record { basis = record { head = refl; chain = (root_a ∷ []); read = (refl, refl); alive = refl }; content = hold_a; placed = refl; fits = hold_fits; due = record { level = 0; is_level = refl; key = a; covers = refl; child = 2; present = refl; is = refl }; unset = set_by _ 3 Other _ (λ e. cc) (set_by _ 3 (Ready 5) _ (λ e. cc) (set_by _ 3 Empty _ (λ e. cc) (set_by _ 2 Other _ (λ e. cc) (set_by _ 2 (Ready 3) _ (λ e. cc) (set_by _ 2 Empty _ (λ e. cc) (λ page e. cc)))))) }), refl),
                                                                                             (
                                                                                               ((refl, inl refl), refl),
                                                                                               (
@@ -113,13 +113,13 @@ makes_all_links = (
                                                                                                   (
                                                                                                     ((refl, refl), (upper_a, refl, refl)),
                                                                                                     (
-                                                                                                      ((refl, (record { chain = upper_a ∷ []; read = (refl, refl); content = remove_a; placed = refl; fits = remove_fits }, (inr (inr (inr (inr (inr (inl (record { basis = record { head = refl; chain = (upper_a ∷ []); read = (refl, refl); alive = refl }; parent = 3; row = 6; above = record { head = refl; chain = hold_a ∷ root_a ∷ []; read = (refl, (refl, refl)); alive = refl }; level = refl; covers = refl; held = refl; placed = refl }))))))), set_by _ 3 Other _ (λ e. cc) (set_by _ 3 (Ready 5) _ (λ e. cc) (set_by _ 3 Empty _ (λ e. cc) (set_by _ 2 Other _ (λ e. cc) (set_by _ 2 (Ready 3) _ (λ e. cc) (set_by _ 2 Empty _ (λ e. cc) (λ page e. cc)))))))), refl),
+                                                                                                      ((refl, record { basis = record { head = refl; chain = (upper_a ∷ []); read = (refl, refl); alive = refl }; content = remove_a; placed = refl; fits = remove_fits; due = record { parent = 3; row = 6; above = record { head = refl; chain = hold_a ∷ root_a ∷ []; read = (refl, (refl, refl)); alive = refl }; level = refl; covers = refl; held = refl; is = refl }; unset = set_by _ 3 Other _ (λ e. cc) (set_by _ 3 (Ready 5) _ (λ e. cc) (set_by _ 3 Empty _ (λ e. cc) (set_by _ 2 Other _ (λ e. cc) (set_by _ 2 (Ready 3) _ (λ e. cc) (set_by _ 2 Empty _ (λ e. cc) (λ page e. cc)))))) }), refl),
                                                                                                       (
                                                                                                         ((refl, inr (record { other = 1; row = 4; basis = record { head = refl; chain = split_a ∷ put_a ∷ opening_leaf ∷ []; read = (refl, (refl, (refl, refl))); alive = refl }; named = inl refl })), refl),
                                                                                                         (
                                                                                                           ((refl, refl), (remove_a, refl, refl)),
                                                                                                           (
-                                                                                                            ((refl, (record { chain = split_a ∷ put_a ∷ opening_leaf ∷ []; read = (refl, (refl, (refl, refl))); content = merge_a; placed = refl; fits = merge_fits }, (inr (inr (inr (inr (inr (inr (inl (record { basis = record { head = refl; chain = (split_a ∷ put_a ∷ opening_leaf ∷ []); read = (refl, (refl, (refl, refl))); alive = refl }; other = 2; row = 7; head = refl; chain = remove_a ∷ upper_a ∷ []; read = (refl, (refl, refl)); gone = refl; right = refl; high = refl; items = item_a ∷ []; alike = λ key c. refl; placed = refl })))))))), set_by _ 3 Other _ (λ e. cc) (set_by _ 3 (Ready 5) _ (λ e. cc) (set_by _ 3 Empty _ (λ e. cc) (set_by _ 2 Other _ (λ e. cc) (set_by _ 2 (Ready 3) _ (λ e. cc) (set_by _ 2 Empty _ (λ e. cc) (λ page e. cc)))))))), refl),
+                                                                                                            ((refl, record { basis = record { head = refl; chain = (split_a ∷ put_a ∷ opening_leaf ∷ []); read = (refl, (refl, (refl, refl))); alive = refl }; content = merge_a; placed = refl; fits = merge_fits; due = record { other = 2; row = 7; head = refl; merged = remove_a ∷ upper_a ∷ []; read = (refl, (refl, refl)); gone = refl; right = refl; high = refl; items = item_a ∷ []; alike = λ key c. refl; is = refl }; unset = set_by _ 3 Other _ (λ e. cc) (set_by _ 3 (Ready 5) _ (λ e. cc) (set_by _ 3 Empty _ (λ e. cc) (set_by _ 2 Other _ (λ e. cc) (set_by _ 2 (Ready 3) _ (λ e. cc) (set_by _ 2 Empty _ (λ e. cc) (λ page e. cc)))))) }), refl),
                                                                                                             (
                                                                                                               ((refl, inl refl), refl),
                                                                                                               (
@@ -127,7 +127,7 @@ makes_all_links = (
                                                                                                                 (
                                                                                                                   ((refl, refl), (merge_a, refl, refl)),
                                                                                                                   (
-                                                                                                                    ((refl, (record { chain = hold_a ∷ root_a ∷ []; read = (refl, (refl, refl)); content = unterm_a; placed = refl; fits = unterm_fits }, (inr (inr (inr (inr (inr (inr (inr (record { basis = record { head = refl; chain = (hold_a ∷ root_a ∷ []); read = (refl, (refl, refl)); alive = refl }; key = a; covers = refl; child = 2; present = refl; left = 1; row = 8; below = record { head = refl; chain = (merge_a ∷ split_a ∷ put_a ∷ opening_leaf ∷ []); read = (refl, (refl, (refl, (refl, refl)))); alive = refl }; level = refl; above = refl; within = tt; apart = λ e. absurd (cc); order = refl; placed = refl })))))))), set_by _ 3 Other _ (λ e. cc) (set_by _ 3 (Ready 5) _ (λ e. cc) (set_by _ 3 Empty _ (λ e. cc) (set_by _ 2 Other _ (λ e. cc) (set_by _ 2 (Ready 3) _ (λ e. cc) (set_by _ 2 Empty _ (λ e. cc) (λ page e. cc)))))))), refl),
+                                                                                                                    ((refl, record { basis = record { head = refl; chain = (hold_a ∷ root_a ∷ []); read = (refl, (refl, refl)); alive = refl }; content = unterm_a; placed = refl; fits = unterm_fits; due = record { key = a; covers = refl; child = 2; present = refl; left = 1; row = 8; below = record { head = refl; chain = (merge_a ∷ split_a ∷ put_a ∷ opening_leaf ∷ []); read = (refl, (refl, (refl, (refl, refl)))); alive = refl }; level = refl; above = refl; within = tt; apart = λ e. absurd (cc); order = refl; is = refl }; unset = set_by _ 3 Other _ (λ e. cc) (set_by _ 3 (Ready 5) _ (λ e. cc) (set_by _ 3 Empty _ (λ e. cc) (set_by _ 2 Other _ (λ e. cc) (set_by _ 2 (Ready 3) _ (λ e. cc) (set_by _ 2 Empty _ (λ e. cc) (λ page e. cc)))))) }), refl),
                                                                                                                     (
                                                                                                                       ((refl, (inr refl)), refl),
                                                                                                                       (
@@ -135,7 +135,7 @@ makes_all_links = (
                                                                                                                         (
                                                                                                                           ((refl, (refl, tt, set_by _ 4 Empty _ (λ e. cc) (set_by _ 2 Other _ (λ e. cc) (set_by _ 2 Gone _ (λ e. cc) (set_by _ 3 Other _ (λ e. cc) (set_by _ 3 (Ready 5) _ (λ e. cc) (set_by _ 3 Empty _ (λ e. cc) (set_by _ 2 Other _ (λ e. cc) (set_by _ 2 (Ready 3) _ (λ e. cc) (set_by _ 2 Empty _ (λ e. cc) (λ page e. cc))))))))))), refl),
                                                                                                                           (
-                                                                                                                            ((refl, (record { chain = merge_a ∷ split_a ∷ put_a ∷ opening_leaf ∷ []; read = (refl, (refl, (refl, (refl, refl)))); content = split_b; placed = refl; fits = second_fits }, (inr (inr (inl (record { basis = record { head = refl; chain = (merge_a ∷ split_a ∷ put_a ∷ opening_leaf ∷ []); read = (refl, (refl, (refl, (refl, refl)))); alive = refl }; separator = a; above = refl; below = refl; right = 4; row = 10; ready = refl; items = item_a ∷ []; alike = λ key c n. rw n refl; base = refl; ruled = upper_fitted; placed = refl })))), set_by _ 4 (Ready 10) _ (λ e. cc) (set_by _ 4 Empty _ (λ e. cc) (set_by _ 2 Other _ (λ e. cc) (set_by _ 2 Gone _ (λ e. cc) (set_by _ 3 Other _ (λ e. cc) (set_by _ 3 (Ready 5) _ (λ e. cc) (set_by _ 3 Empty _ (λ e. cc) (set_by _ 2 Other _ (λ e. cc) (set_by _ 2 (Ready 3) _ (λ e. cc) (set_by _ 2 Empty _ (λ e. cc) (λ page e. cc)))))))))))), refl),
+                                                                                                                            ((refl, record { basis = record { head = refl; chain = (merge_a ∷ split_a ∷ put_a ∷ opening_leaf ∷ []); read = (refl, (refl, (refl, (refl, refl)))); alive = refl }; content = split_b; placed = refl; fits = second_fits; due = record { separator = a; above = refl; below = refl; right = 4; row = 10; ready = refl; items = item_a ∷ []; alike = λ key c n. rw n refl; base = refl; ruled = upper_fitted; is = refl }; unset = set_by _ 4 (Ready 10) _ (λ e. cc) (set_by _ 4 Empty _ (λ e. cc) (set_by _ 2 Other _ (λ e. cc) (set_by _ 2 Gone _ (λ e. cc) (set_by _ 3 Other _ (λ e. cc) (set_by _ 3 (Ready 5) _ (λ e. cc) (set_by _ 3 Empty _ (λ e. cc) (set_by _ 2 Other _ (λ e. cc) (set_by _ 2 (Ready 3) _ (λ e. cc) (set_by _ 2 Empty _ (λ e. cc) (λ page e. cc)))))))))) }), refl),
                                                                                                                             (
                                                                                                                               ((refl, inl refl), refl),
                                                                                                                               (
@@ -149,9 +149,9 @@ makes_all_links = (
                                                                                                                                       (
                                                                                                                                         ((refl, refl), (lower_a, refl, refl)),
                                                                                                                                         (
-                                                                                                                                          ((refl, (record { chain = unterm_a ∷ hold_a ∷ root_a ∷ []; read = (refl, (refl, (refl, refl))); content = term_b; placed = refl; fits = term_fits }, (inr (inr (inr (inl (record { basis = record { head = refl; chain = (unterm_a ∷ hold_a ∷ root_a ∷ []); read = (refl, (refl, (refl, refl))); alive = refl }; child = 4; row = 10; below = record { head = refl; chain = (lower_a ∷ []); read = (refl, refl); alive = refl }; level = refl; covers = refl; absent = refl; order = refl; placed = refl }))))), set_by _ 4 Other _ (λ e. cc) (set_by _ 4 (Ready 10) _ (λ e. cc) (set_by _ 4 Empty _ (λ e. cc) (set_by _ 2 Other _ (λ e. cc) (set_by _ 2 Gone _ (λ e. cc) (set_by _ 3 Other _ (λ e. cc) (set_by _ 3 (Ready 5) _ (λ e. cc) (set_by _ 3 Empty _ (λ e. cc) (set_by _ 2 Other _ (λ e. cc) (set_by _ 2 (Ready 3) _ (λ e. cc) (set_by _ 2 Empty _ (λ e. cc) (λ page e. cc))))))))))))), refl),
+                                                                                                                                          ((refl, record { basis = record { head = refl; chain = (unterm_a ∷ hold_a ∷ root_a ∷ []); read = (refl, (refl, (refl, refl))); alive = refl }; content = term_b; placed = refl; fits = term_fits; due = record { child = 4; row = 10; below = record { head = refl; chain = (lower_a ∷ []); read = (refl, refl); alive = refl }; level = refl; covers = refl; absent = refl; order = refl; is = refl }; unset = set_by _ 4 Other _ (λ e. cc) (set_by _ 4 (Ready 10) _ (λ e. cc) (set_by _ 4 Empty _ (λ e. cc) (set_by _ 2 Other _ (λ e. cc) (set_by _ 2 Gone _ (λ e. cc) (set_by _ 3 Other _ (λ e. cc) (set_by _ 3 (Ready 5) _ (λ e. cc) (set_by _ 3 Empty _ (λ e. cc) (set_by _ 2 Other _ (λ e. cc) (set_by _ 2 (Ready 3) _ (λ e. cc) (set_by _ 2 Empty _ (λ e. cc) (λ page e. cc))))))))))) }), refl),
                                                                                                                                           (
-                                                                                                                                            ((refl, (record { chain = lower_a ∷ []; read = (refl, refl); content = base_b; placed = refl; fits = upper_fitted }, (inr (inl (record { basis = record { head = refl; chain = (lower_a ∷ []); read = (refl, refl); alive = refl }; items = item_a ∷ []; alike = λ key c. refl; placed = refl }))), set_by _ 4 Other _ (λ e. cc) (set_by _ 4 (Ready 10) _ (λ e. cc) (set_by _ 4 Empty _ (λ e. cc) (set_by _ 2 Other _ (λ e. cc) (set_by _ 2 Gone _ (λ e. cc) (set_by _ 3 Other _ (λ e. cc) (set_by _ 3 (Ready 5) _ (λ e. cc) (set_by _ 3 Empty _ (λ e. cc) (set_by _ 2 Other _ (λ e. cc) (set_by _ 2 (Ready 3) _ (λ e. cc) (set_by _ 2 Empty _ (λ e. cc) (λ page e. cc))))))))))))), refl),
+                                                                                                                                            ((refl, record { basis = record { head = refl; chain = (lower_a ∷ []); read = (refl, refl); alive = refl }; content = base_b; placed = refl; fits = upper_fitted; due = record { items = item_a ∷ []; alike = λ key c. refl; is = refl }; unset = set_by _ 4 Other _ (λ e. cc) (set_by _ 4 (Ready 10) _ (λ e. cc) (set_by _ 4 Empty _ (λ e. cc) (set_by _ 2 Other _ (λ e. cc) (set_by _ 2 Gone _ (λ e. cc) (set_by _ 3 Other _ (λ e. cc) (set_by _ 3 (Ready 5) _ (λ e. cc) (set_by _ 3 Empty _ (λ e. cc) (set_by _ 2 Other _ (λ e. cc) (set_by _ 2 (Ready 3) _ (λ e. cc) (set_by _ 2 Empty _ (λ e. cc) (λ page e. cc))))))))))) }), refl),
                                                                                                                                             (
                                                                                                                                               (tt, refl),
                                                                                                                                               (

@@ -1,4 +1,5 @@
 -- The exchanges that merge a removed page into its left one, and that clear a merged page's slot.
+use Rattle.std.specs.Prelude.{IsSome}
 use Rattle.std.proofs.Common.{◌≡◌, ◌≢◌, ◌⊎◌, inl, inr, ℕ, ◌≤◌, List, ◌∷◌, Option, Some, None, true, cond, refl, sym, ap, ◌∙◌, subst, ⊎_elim, arith}
 use Rattle.std.proofs.lemmas.Option.{same_Some}
 use Rattle.bw_model.specs.declared.command.Reply.{Reply}
@@ -8,13 +9,13 @@ use Rattle.deltas.specs.declared.record.Record.{Record}
 use Rattle.deltas.specs.declared.record.Record.TheVariants.{Merge}
 use Rattle.chain_search.specs.Chains.{content_in, level_in, low_in, high_in, right_in, is_removed}
 use Rattle.tree_law.specs.Keys.{Key, IsBelow, IsUnder, Covers}
-use Rattle.chain_search.specs.Knowledge.{OwnRow, Foreign, OwnPage, Other, Gone, Unstamped, Knowledge, filled, emptied, finished, taken_out}
+use Rattle.chain_search.specs.Knowledge.{OwnRow, Foreign, OwnPage, Other, Gone, Unstamped, Knowledge, filled, emptied, finished, taken_out, cleared, handed_over, Written}
 use Rattle.tree_law.specs.Phase.{Stage, Fresh, Indexed, Held, Removed, Merged, PageOwner, Placed, Cleared, rank, stage_removed}
 use Rattle.tree_law.specs.Put.{put}
 use Rattle.tree_law.specs.Shared.{Shared}
-use Rattle.tree_law.specs.Owners.{IsChain, Spare, Linked, Owners, IsLinked, OwnFits, PageFits, IsCleared, HeadFits}
-use Rattle.tree_law.specs.Tree.{spec, Page, InPlace, IsOff, IsOut, Off, Good}
-use Rattle.chain_search.specs.Discipline.{MayMerge}
+use Rattle.tree_law.specs.Owners.{IsChain, Spare, Linked, Owners, IsLinked, OwnFits, PageFits, IsCleared, HeadFits, IsOut}
+use Rattle.tree_law.specs.Tree.{spec, Page, InPlace, IsOff, Off, Good}
+use Rattle.chain_search.specs.Discipline.{MayMerge, HasRead}
 use Rattle.tree_law.proofs.KeyOrder.{not_below, upto_same, under_trans, by_range, covers_to}
 use Rattle.tree_law.proofs.Puts.{by_test, put_same, put_other, put_all}
 use Rattle.tree_law.proofs.Chains.{chain_unique}
@@ -27,7 +28,7 @@ use Rattle.tree_law.proofs.Relinking.{placed_level, not_off, Found, not_own, fou
 use Rattle.tree_law.proofs.Updating.{below_top}
 
 module _ {m : Shared} {log : List Update} {o : Owners} {knows : ℕ → Knowledge} {point : ℕ → Option (List Update)} {logs : ℕ → List (List Update)} (g : Good m log o knows point logs) (a : ℕ) where
-  pub clears : (p x : ℕ) → m.slots p ≡ Some x → (knows a).pages p ≡ Gone → (r : Option Reply) → Good (record m { slots = put m.slots p None }) log o (put knows a (finished (emptied ((knows a).pages p) p x (knows a)) r)) (put point a (point a)) (put logs a (log ∷ logs a))
+  pub clears : (p x : ℕ) → m.slots p ≡ Some x → (knows a).own.pages p ≡ Gone → (r : Option Reply) → Good (record m { slots = put m.slots p None }) log o (put knows a (finished (emptied ((knows a).own.pages p) p x (knows a)) r)) (put point a (point a)) (put logs a (log ∷ logs a))
   clears p x s own r =
       subst (λ (k : Knowledge). Good m' log o (put knows a (finished k r)) (put point a (point a)) (put logs a (log ∷ logs a))) (sym learned)
       (put_good g a m' log o (finished k r) (point a) (log ∷ logs a)
@@ -38,10 +39,10 @@ module _ {m : Shared} {log : List Update} {o : Owners} {knows : ℕ → Knowledg
       (λ j l k i. by_test j p (λ t. IsOut (o.page j) (cond t None (m.slots j)) ⊎ Off o m' j l k) (λ e. inl (refl, (a, was.0, was.1, ap o.page e ∙ was.2)))
       (λ ne. subst (λ (v : Option ℕ). IsOut (o.page j) v ⊎ Off o m' j l k) (put_other m.slots p None j ne) (off_still g a o m' kept j l k (put_other m.slots p None j ne) (g.tree.off j l k i)))))
       (g.owns a)
-      (λ j. by_test j p (λ t. PageFits a (o.page j) (cond t None (m.slots j)) (cond t Other ((knows a).pages j))) (λ i. tt) (λ i. g.owns_pages a j))
+      (λ j. by_test j p (λ t. PageFits a (o.page j) (cond t None (m.slots j)) (cond t Other ((knows a).own.pages j))) (λ i. tt) (λ i. g.owns_pages a j))
       (mine_at g a o m' kept))
     where
-      was : (l : ℕ) × (k : Key) × (o.page p ≡ Cleared a l k)
+      was : (l : ℕ) × (k : Key) × (o.page p ≡ Cleared a l k) × IsSome (m.slots p)
       was = subst (λ (v : OwnPage). PageFits a (o.page p) (m.slots p) v) own (g.owns_pages a p)
 
       m' : Shared
@@ -54,22 +55,22 @@ module _ {m : Shared} {log : List Update} {o : Owners} {knows : ℕ → Knowledg
       kept = kept_change a o o m m' change
 
       k : Knowledge
-      k = record (knows a) { pages = put (knows a).pages p Other; limbo_rows = taken_out (knows a).seen x (knows a).limbo_rows; limbo_pids = put (knows a).limbo_pids p Unstamped }
+      k = cleared p x (knows a)
 
-      learned : emptied ((knows a).pages p) p x (knows a) ≡ k
+      learned : emptied ((knows a).own.pages p) p x (knows a) ≡ k
       learned = rw own refl
 
   -- a page that was read removed is as it was read
-  pub frozen_as : (p x : ℕ) → (knows a).heads p ≡ Some x → (c : List Record) → IsChain (knows a).seen c (Some x) → is_removed c ≡ true → (m.slots p ≡ Some x) ⊎ IsCleared (o.page p)
+  pub frozen_as : (p x : ℕ) → (knows a).read.heads p ≡ Some x → (c : List Record) → IsChain (knows a).read.seen c (Some x) → is_removed c ≡ true → (m.slots p ≡ Some x) ⊎ IsOut (o.page p) (m.slots p)
   frozen_as p x e c h n =
       let f = subst (λ (v : Option ℕ). HeadFits o m (log ∷ logs a) p v) e ((mine g a).heads_fit p) in
-      f.4 (ap is_removed (chain_unique m.rows f.2.chain c (Some x) f.2.is_chain (chain_stands o m (knows a).seen (mine g a).seen_fits c (Some x) h)) ∙ n)
+      f.4 (ap is_removed (chain_unique m.rows f.2.chain c (Some x) f.2.is_chain (chain_stands o m (knows a).read.seen (mine g a).seen_fits c (Some x) h)) ∙ n)
 
   -- the exchange that merges a page's right into it
-  pub merges : (p x y : ℕ) → m.slots p ≡ Some x → (h : MayMerge (knows a) p x y) → (r : Option Reply) → Good (record m { slots = put m.slots p (Some y) }) log (record { row = put o.row y Linked; page = put o.page h.other (Placed Merged (level_in h.basis.chain) (low_in h.chain)); index = o.index }) (put knows a (finished (filled ((knows a).pages p) p x y (knows a)) r)) (put point a (point a)) (put logs a (log ∷ logs a)) × (o.page h.other ≡ Placed Removed (level_in h.basis.chain) (low_in h.chain))
-  merges p x y s h r = (
+  pub merges : (p x y : ℕ) → m.slots p ≡ Some x → (basis : HasRead (knows a) p x) (content : Record) → (knows a).own.rows y ≡ Written content → (h : MayMerge (knows a) x basis.chain content) → (r : Option Reply) → Good (record m { slots = put m.slots p (Some y) }) log (record { row = put o.row y Linked; page = put o.page h.other (Placed Merged (level_in basis.chain) (low_in h.merged)); index = o.index }) (put knows a (finished (filled ((knows a).own.pages p) p x y (knows a)) r)) (put point a (point a)) (put logs a (log ∷ logs a)) × (o.page h.other ≡ Placed Removed (level_in basis.chain) (low_in h.merged))
+  merges p x y s basis content written h r = (
     subst (λ (k : Knowledge). Good m' log o' (put knows a (finished k r)) (put point a (point a)) (put logs a (log ∷ logs a))) (sym learned)
-        (put_good g a m' log o' (finished (record (knows a) { rows = put (knows a).rows y Foreign }) r) (point a) (log ∷ logs a)
+        (put_good g a m' log o' (finished (handed_over y (knows a)) r) (point a) (log ∷ logs a)
         change
         (record {
           row = λ j f. put_other o.row y Linked j (λ i. absurd (let r = g.frees.row j f in let z = ap o.row i ∙ fits.0 in cc)) ∙ g.frees.row j f;
@@ -93,21 +94,21 @@ module _ {m : Shared} {log : List Update} {o : Owners} {knows : ℕ → Knowledg
         (λ j l k. by_test j q (λ t. IsOff (cond t gone (o.page j)) l k → IsOut (put o.page q gone j) (put m.slots p (Some y) j) ⊎ Off o' m' j l k)
         (λ i e. let z = at_off l k e in inr (record { row = h.row; chain = d; head = put_other m.slots p (Some y) j (λ u. apart (sym i ∙ u)) ∙ ap m.slots i ∙ slot; linked = (kept.row h.row fd.linked).0; is_chain = chain_kept o o' m m' g.closed kept d (Some h.row) fd.linked fd.stands; flagged = h.gone; level = level ∙ z.0; low = z.1 }))
         (λ i e. off_still g a o' m' kept j l k (put_other m.slots p (Some y) j (λ u. not_off place.stage lv (low_in c) l k place.on (subst (λ (v : PageOwner). IsOff v l k) (ap o.page u ∙ place.placed) e))) (g.tree.off j l k e))))
-        (put_all (λ j v. OwnFits a (o'.row j) (m.rows j) v) (knows a).rows y Foreign tt (λ j ne. rw (put_other o.row y Linked j ne) (g.owns a j)))
-        (λ j. by_test j q (λ t. PageFits a (cond t gone (o.page j)) (put m.slots p (Some y) j) ((knows a).pages j))
-        (λ i. subst (λ (v : OwnPage). PageFits a gone (put m.slots p (Some y) j) v) (sym (not_own g a j lv sq Removed (ap o.page i ∙ was) ((knows a).pages j) (g.owns_pages a j))) tt)
-        (λ i. by_test j p (λ t. PageFits a (o.page j) (cond t (Some y) (m.slots j)) ((knows a).pages j))
-        (λ i. subst (λ (v : OwnPage). PageFits a (o.page j) (Some y) v) (sym (not_own g a j lv (low_in c) place.stage (ap o.page i ∙ place.placed) ((knows a).pages j) (g.owns_pages a j))) tt)
+        (put_all (λ j v. OwnFits a (o'.row j) (m.rows j) v) (knows a).own.rows y Foreign tt (λ j ne. rw (put_other o.row y Linked j ne) (g.owns a j)))
+        (λ j. by_test j q (λ t. PageFits a (cond t gone (o.page j)) (put m.slots p (Some y) j) ((knows a).own.pages j))
+        (λ i. subst (λ (v : OwnPage). PageFits a gone (put m.slots p (Some y) j) v) (sym (not_own g a j lv sq Removed (ap o.page i ∙ was) ((knows a).own.pages j) (g.owns_pages a j))) tt)
+        (λ i. by_test j p (λ t. PageFits a (o.page j) (cond t (Some y) (m.slots j)) ((knows a).own.pages j))
+        (λ i. subst (λ (v : OwnPage). PageFits a (o.page j) (Some y) v) (sym (not_own g a j lv (low_in c) place.stage (ap o.page i ∙ place.placed) ((knows a).own.pages j) (g.owns_pages a j))) tt)
         (λ i. g.owns_pages a j)))
         (mine_at g a o' m' kept)),
     was,
   )
     where
       c : List Record
-      c = h.basis.chain
+      c = basis.chain
 
       d : List Record
-      d = h.chain
+      d = h.merged
 
       q : ℕ
       q = h.other
@@ -119,13 +120,13 @@ module _ {m : Shared} {log : List Update} {o : Owners} {knows : ℕ → Knowledg
       sq = low_in d
 
       f : Found o m p x c
-      f = found g a p x h.basis
+      f = found g a p x basis
 
       here : Page
       here = record { page = p; row = x; chain = c }
 
       place : InPlace o m lv (spec log o.index lv) here
-      place = place_of g a p x c f h.basis.alive s
+      place = place_of g a p x c f basis.alive s
 
       fd : Found o m q h.row d
       fd = found_as g a q h.row h.head d h.read
@@ -134,7 +135,7 @@ module _ {m : Shared} {log : List Update} {o : Owners} {knows : ℕ → Knowledg
       next = right_page o m lv (spec log o.index lv) (g.tree.first lv) (g.tree.levels lv (g.tree.exact.below p lv (low_in c) place.stage place.placed)) here place q h.right
 
       slot : m.slots q ≡ Some h.row
-      slot = ⊎_elim (λ (u : m.slots q ≡ Some h.row). u) (λ (u : IsCleared (o.page q)). absurd (let e = sym next.3.placed ∙ ap o.page next.1 ∙ u.3 in cc)) (frozen_as q h.row h.head d h.read h.gone)
+      slot = ⊎_elim (λ (u : m.slots q ≡ Some h.row). u) (λ (u : IsOut (o.page q) (m.slots q)). absurd (let e = sym next.3.placed ∙ ap o.page next.1 ∙ u.1.3 in cc)) (frozen_as q h.row h.head d h.read h.gone)
 
       there : Page
       there = record { page = q; row = h.row; chain = d }
@@ -175,7 +176,7 @@ module _ {m : Shared} {log : List Update} {o : Owners} {knows : ℕ → Knowledg
       new = record { page = p; row = y; chain = w ∷ c }
 
       fits : (o.row y ≡ Spare a) × (m.rows y ≡ Some w)
-      fits = subst (λ (v : OwnRow). OwnFits a (o.row y) (m.rows y) v) h.placed (g.owns a y)
+      fits = subst (λ (v : OwnRow). OwnFits a (o.row y) (m.rows y) v) (written ∙ ap Written h.is) (g.owns a y)
 
       m' : Shared
       m' = record m { slots = put m.slots p (Some y) }
@@ -189,7 +190,7 @@ module _ {m : Shared} {log : List Update} {o : Owners} {knows : ℕ → Knowledg
         page = λ j. by_test j q (λ t. PageChange a o m m' (o.page j) (cond t gone (o.page j)) (m.slots j) (put m.slots p (Some y) j))
             (λ i. page_stage Removed Merged lv sq (ap o.page i ∙ was) refl (omega arith) (put_other m.slots p (Some y) j (λ u. apart (sym i ∙ u))))
             (λ i. by_test j p (λ t. PageChange a o m m' (o.page j) (o.page j) (m.slots j) (cond t (Some y) (m.slots j)))
-            (λ i. page_link place.stage place.stage lv (low_in c) (ap o.page i ∙ place.placed) (ap o.page i ∙ place.placed) (omega arith) x y c (ap m.slots i ∙ s) f.stands h.basis.alive refl fits.0)
+            (λ i. page_link place.stage place.stage lv (low_in c) (ap o.page i ∙ place.placed) (ap o.page i ∙ place.placed) (omega arith) x y c (ap m.slots i ∙ s) f.stands basis.alive refl fits.0)
             (λ i. page_same refl refl));
       }
 
@@ -214,5 +215,5 @@ module _ {m : Shared} {log : List Update} {o : Owners} {knows : ℕ → Knowledg
         };
       }
 
-      learned : filled ((knows a).pages p) p x y (knows a) ≡ record (knows a) { rows = put (knows a).rows y Foreign }
-      learned = rw (not_own g a p lv (low_in c) place.stage place.placed ((knows a).pages p) (g.owns_pages a p), h.placed) refl
+      learned : filled ((knows a).own.pages p) p x y (knows a) ≡ handed_over y (knows a)
+      learned = rw (not_own g a p lv (low_in c) place.stage place.placed ((knows a).own.pages p) (g.owns_pages a p), (written ∙ ap Written h.is)) refl

@@ -69,15 +69,15 @@ pub named_begins : (limits : Limits) (entries : List Entry) (o : Owners) (m : Me
     → command_of (entries ++ Begin a c ∷ []) ≡ commands_after (command_of entries) (Begin a c)
     → IsNamed limits (entries ++ Begin a c ∷ []) o m (knows_after knows (Begin a c))
 named_begins limits entries o m knows a c old asks = record {
-  shown = λ b r h. elim (HasLearnt-push_cases entries (Begin a c) b r h) [ inl before ↦ elim (old.shown b r before.0) [ inl z ↦ inl z | inr l ↦ inr (by_test b a (λ t. (cond t (begun (knows a) c) (knows b)).learnt r ≡ true) (λ i. subst (λ n. (knows n).learnt r ≡ true) i l) (λ ne. l)) ] | inr shows ↦ absurd (begin_shows entries a c b r shows) ];
+  shown = λ b r h. elim (HasLearnt-push_cases entries (Begin a c) b r h) [ inl before ↦ elim (old.shown b r before.0) [ inl z ↦ inl z | inr l ↦ inr (by_test b a (λ t. (cond t (begun (knows a) c) (knows b)).read.learnt r ≡ true) (λ i. subst (λ n. (knows n).read.learnt r ≡ true) i l) (λ ne. l)) ] | inr shows ↦ absurd (begin_shows entries a c b r shows) ];
   known = λ b r e. rw pushed_length (KnowsRow-kept entries (Begin a c) b r
-      (old.known b r (by_test b a (λ t. (cond t (begun (knows a) c) (knows b)).learnt r ≡ true → (knows b).learnt r ≡ true) (λ i f. subst (λ n. (knows n).learnt r ≡ true) (sym i) f) (λ ne f. f) e))
+      (old.known b r (by_test b a (λ t. (cond t (begun (knows a) c) (knows b)).read.learnt r ≡ true → (knows b).read.learnt r ≡ true) (λ i f. subst (λ n. (knows n).read.learnt r ≡ true) (sym i) f) (λ ne f. f) e))
       (λ epoch x. ((λ h. let is = h.1 in cc), (λ h. let is = h.1 in cc)))
       (λ other s x h. let is = h.1 in absurd (cc)));
   announced = λ b e. old.announced b (by_test b a (λ t. (cond t (begun (knows a) c) (knows b)).inside ≡ true → (knows b).inside ≡ true) (λ i f. subst (λ n. (knows n).inside ≡ true) (sym i) f) (λ ne f. f) e);
   epoch = old.epoch;
   posted = old.posted;
-  recent = λ b r w. by_test b a (λ t. (cond t (begun (knows a) c) (knows b)).recent r ≡ Some w → (cond t (begun (knows a) c) (knows b)).seen r ≡ Some w) (λ i. old.recent a r w) (λ ne. old.recent b r w);
+  recent = λ b r w. by_test b a (λ t. (cond t (begun (knows a) c) (knows b)).read.recent r ≡ Some w → (cond t (begun (knows a) c) (knows b)).read.seen r ≡ Some w) (λ i. old.recent a r w) (λ ne. old.recent b r w);
   zero_free = old.zero_free;
   zero_taken = old.zero_taken;
   free_row_below = old.free_row_below;
@@ -85,14 +85,14 @@ named_begins limits entries o m knows a c old asks = record {
   free_pid_below = old.free_pid_below;
   pid_below = old.pid_below;
   held = λ p r e. held_begins (old.held p r e);
-  commands = λ b. rw asks (by_test b a (λ t. (cond t (begun (knows a) c) (knows b)).command ≡ cond t (Some c) (command_of entries b)) (λ i. refl) (λ ne. old.commands b));
+  commands = λ b. rw asks (by_test b a (λ t. (cond t (begun (knows a) c) (knows b)).asked.command ≡ cond t (Some c) (command_of entries b)) (λ i. refl) (λ ne. old.commands b));
 }
   where
     held_begins : {p r : ℕ} → IsInTree (o.page p) ⊎ IsReady o m knows p r → IsInTree (o.page p) ⊎ IsReady o m (knows_after knows (Begin a c)) p r
     held_begins {p} {r} (inl h) = inl h
     held_begins {p} {r} (inr h) = inr (record {
       actor = h.actor;
-      ready = by_test h.actor a (λ t. (cond t (begun (knows a) c) (knows h.actor)).pages p ≡ Ready r) (λ i. subst (λ n. (knows n).pages p ≡ Ready r) i h.ready) (λ ne. h.ready);
+      ready = by_test h.actor a (λ t. (cond t (begun (knows a) c) (knows h.actor)).own.pages p ≡ Ready r) (λ i. subst (λ n. (knows n).own.pages p ≡ Ready r) i h.ready) (λ ne. h.ready);
       owned = h.owned;
       base = h.base;
       stands = h.stands;
@@ -102,7 +102,7 @@ named_begins limits entries o m knows a c old asks = record {
 abbrev Shown : StepOf Record → Answer Record → ℕ → Type 0
 Shown s x r = ((p : ℕ) × (0 < p) × (s ≡ Slot p) × (x ≡ Number r)) ⊎ ((above : ℕ) × (w : Record) × (s ≡ Row above) × (x ≡ Content w) × (next_row w ≡ Some r))
 
-learn_command : (k : Knowledge) (s : StepOf Record) (x : Answer Record) → (learn k s x).command ≡ k.command
+learn_command : (k : Knowledge) (s : StepOf Record) (x : Answer Record) → (learn k s x).asked.command ≡ k.asked.command
 learn_command k (Slot zero) (Number n) = refl
 learn_command k (Slot (suc p)) (Number zero) = refl
 learn_command k (Slot (suc p)) (Number (suc n)) = refl
@@ -125,16 +125,16 @@ Stays (Enter e) = ⊥
 Stays Leave = ⊥
 Stays s = Unit {0}
 
-learnt_cases : (k : Knowledge) (s : StepOf Record) (x : Answer Record) (r : ℕ) → (learn k s x).learnt r ≡ true → ((k.learnt r ≡ true) × Stays s) ⊎ Shown s x r
+learnt_cases : (k : Knowledge) (s : StepOf Record) (x : Answer Record) (r : ℕ) → (learn k s x).read.learnt r ≡ true → ((k.read.learnt r ≡ true) × Stays s) ⊎ Shown s x r
 learnt_cases k (Slot zero) (Number n) r e = inl (e, tt)
 learnt_cases k (Slot (suc p)) (Number zero) r e = inl (e, tt)
-learnt_cases k (Slot (suc p)) (Number (suc n)) r e = by_test r (suc n) (λ t. cond t true (k.learnt r) ≡ true → ((k.learnt r ≡ true) × Unit {0}) ⊎ Shown (Slot (suc p)) (Number (suc n)) r)
+learnt_cases k (Slot (suc p)) (Number (suc n)) r e = by_test r (suc n) (λ t. cond t true (k.read.learnt r) ≡ true → ((k.read.learnt r ≡ true) × Unit {0}) ⊎ Shown (Slot (suc p)) (Number (suc n)) r)
     (λ i f. inr (inl (suc p, omega arith, refl, ap Number (sym i)))) (λ ne f. inl (f, tt)) e
 learnt_cases k (Row q) (Content w) r e = go (next_row w) refl e
   where
-    go : (o : Option ℕ) → next_row w ≡ o → learnt_next o k.learnt r ≡ true → ((k.learnt r ≡ true) × Unit {0}) ⊎ Shown (Row q) (Content w) r
+    go : (o : Option ℕ) → next_row w ≡ o → learnt_next o k.read.learnt r ≡ true → ((k.read.learnt r ≡ true) × Unit {0}) ⊎ Shown (Row q) (Content w) r
     go None i f = inl (f, tt)
-    go (Some n) i f = by_test r n (λ t. cond t true (k.learnt r) ≡ true → ((k.learnt r ≡ true) × Unit {0}) ⊎ Shown (Row q) (Content w) r)
+    go (Some n) i f = by_test r n (λ t. cond t true (k.read.learnt r) ≡ true → ((k.read.learnt r ≡ true) × Unit {0}) ⊎ Shown (Row q) (Content w) r)
         (λ j g. inr (inr (q, w, refl, refl, i ∙ ap Some (sym j)))) (λ ne g. inl (g, tt)) f
 learnt_cases k Epoch (Number n) r e = inl (e, tt)
 learnt_cases k (Announce b) (Number n) r e = inl (e, tt)
@@ -144,7 +144,7 @@ learnt_cases k (TakePid p) (Whether true) r e = inl (e, tt)
 learnt_cases k (TakePid p) (Whether false) r e = inl (e, tt)
 learnt_cases k (TakeRow q) (Whether true) r e = inl (e, tt)
 learnt_cases k (TakeRow q) (Whether false) r e = inl (e, tt)
-learnt_cases k (Exchange p x y) (Whether true) r e = inl (subst (λ f. f r ≡ true) (exchanged_alike p x y k).learnt e, tt)
+learnt_cases k (Exchange p x y) (Whether true) r e = inl (subst (λ f. f r ≡ true) (ap (λ v. v.learnt) (exchanged_alike p x y k).read) e, tt)
 learnt_cases k (Exchange p x y) (Whether false) r e = inl (e, tt)
 learnt_cases k (Enter n) x r e = absurd (cc)
 learnt_cases k Leave x r e = absurd (cc)
@@ -208,11 +208,11 @@ touches_inside a k (ReusePids w b) h = inr refl
 touches_inside a k (ReuseRows w b) h = inr refl
 
 -- what was read last was read
-learn_recent : (k : Knowledge) → ((r : ℕ) (w : Record) → k.recent r ≡ Some w → k.seen r ≡ Some w) → (s : StepOf Record) (x : Answer Record) (r : ℕ) (w : Record) → (learn k s x).recent r ≡ Some w → (learn k s x).seen r ≡ Some w
+learn_recent : (k : Knowledge) → ((r : ℕ) (w : Record) → k.read.recent r ≡ Some w → k.read.seen r ≡ Some w) → (s : StepOf Record) (x : Answer Record) (r : ℕ) (w : Record) → (learn k s x).read.recent r ≡ Some w → (learn k s x).read.seen r ≡ Some w
 learn_recent k h (Slot zero) (Number n) r w e = h r w e
 learn_recent k h (Slot (suc p)) (Number zero) r w e = h r w e
 learn_recent k h (Slot (suc p)) (Number (suc n)) r w e = absurd (cc)
-learn_recent k h (Row q) (Content v) r w e = by_test r q (λ t. cond t (Some v) (k.recent r) ≡ Some w → cond t (Some v) (k.seen r) ≡ Some w) (λ i f. f) (λ ne f. h r w f) e
+learn_recent k h (Row q) (Content v) r w e = by_test r q (λ t. cond t (Some v) (k.read.recent r) ≡ Some w → cond t (Some v) (k.read.seen r) ≡ Some w) (λ i f. f) (λ ne f. h r w f) e
 learn_recent k h Epoch (Number n) r w e = h r w e
 learn_recent k h (Announce b) (Number n) r w e = h r w e
 learn_recent k h (PidBits v) (Number n) r w e = h r w e
@@ -221,7 +221,7 @@ learn_recent k h (TakePid p) (Whether true) r w e = h r w e
 learn_recent k h (TakePid p) (Whether false) r w e = h r w e
 learn_recent k h (TakeRow q) (Whether true) r w e = h r w e
 learn_recent k h (TakeRow q) (Whether false) r w e = h r w e
-learn_recent k h (Exchange p x y) (Whether true) r w e = subst (λ f. f r ≡ Some w) (sym (exchanged_alike p x y k).seen) (h r w (subst (λ f. f r ≡ Some w) (exchanged_alike p x y k).recent e))
+learn_recent k h (Exchange p x y) (Whether true) r w e = subst (λ f. f r ≡ Some w) (sym (ap (λ v. v.seen) (exchanged_alike p x y k).read)) (h r w (subst (λ f. f r ≡ Some w) (ap (λ v. v.recent) (exchanged_alike p x y k).read) e))
 learn_recent k h (Exchange p x y) (Whether false) r w e = h r w e
 learn_recent k h Leave x r w e = absurd (cc)
 learn_recent k h s x r w e = h r w e
@@ -248,7 +248,7 @@ module _ (limits : Limits) (entries : List Entry) (o : Owners) (m : Memory) (kno
   -- a step but a reuse disturbs no linked row
   pub calm : (t : StepOf Record) → (IsReuse t → ⊥) → May a (knows a) t → (y : Answer Record) → IsAnswer m t y → (q : ℕ) → o.row q ≡ Linked → Disturbs t y q → ⊥
   calm (Place row w) still_so h y i q l same =
-      let spare : o.row row ≡ Spare a = own_spare g a row ((knows a).rows row) (g.owns a row) h.1 in
+      let spare : o.row row ≡ Spare a = own_spare g a row ((knows a).own.rows row) (g.owns a row) h.1 in
       let l' : o.row row ≡ Linked = subst (λ n. o.row n ≡ Linked) (sym same) l in cc
   calm (TakeRow row) still_so h y i q l d =
       let free : o.row row ≡ Free = g.frees.row row (whether_same (m.free_rows row) true y i d.0) in
@@ -264,14 +264,14 @@ module _ (limits : Limits) (entries : List Entry) (o : Owners) (m : Memory) (kno
   ]
 
   -- what a step shows its actor learns
-  learnt_shown : (q : ℕ) → Shown s x q → (q ≡ 0) ⊎ ((learn (knows a) s x).learnt q ≡ true)
-  learnt_shown q (inl h) = subst (λ (t : StepOf Record). (q ≡ 0) ⊎ ((learn (knows a) t x).learnt q ≡ true)) (sym h.2) (subst (λ (y : Answer Record). (q ≡ 0) ⊎ ((learn (knows a) (Slot h.0) y).learnt q ≡ true)) (sym h.3) (by_slot h.0 q h.1))
+  learnt_shown : (q : ℕ) → Shown s x q → (q ≡ 0) ⊎ ((learn (knows a) s x).read.learnt q ≡ true)
+  learnt_shown q (inl h) = subst (λ (t : StepOf Record). (q ≡ 0) ⊎ ((learn (knows a) t x).read.learnt q ≡ true)) (sym h.2) (subst (λ (y : Answer Record). (q ≡ 0) ⊎ ((learn (knows a) (Slot h.0) y).read.learnt q ≡ true)) (sym h.3) (by_slot h.0 q h.1))
     where
-      by_slot : (p q : ℕ) → 0 < p → (q ≡ 0) ⊎ ((learn (knows a) (Slot p) (Number q)).learnt q ≡ true)
+      by_slot : (p q : ℕ) → 0 < p → (q ≡ 0) ⊎ ((learn (knows a) (Slot p) (Number q)).read.learnt q ≡ true)
       by_slot zero q above = absurd (omega arith)
       by_slot (suc p) zero above = inl refl
-      by_slot (suc p) (suc q) above = inr (put_same (knows a).learnt (suc q) true)
-  learnt_shown q (inr h) = inr (subst (λ (t : StepOf Record). (learn (knows a) t x).learnt q ≡ true) (sym h.2) (subst (λ (y : Answer Record). (learn (knows a) (Row h.0) y).learnt q ≡ true) (sym h.3) (subst (λ (v : Option ℕ). learnt_next v (knows a).learnt q ≡ true) (sym h.4) (put_same (knows a).learnt q true))))
+      by_slot (suc p) (suc q) above = inr (put_same (knows a).read.learnt (suc q) true)
+  learnt_shown q (inr h) = inr (subst (λ (t : StepOf Record). (learn (knows a) t x).read.learnt q ≡ true) (sym h.2) (subst (λ (y : Answer Record). (learn (knows a) (Row h.0) y).read.learnt q ≡ true) (sym h.3) (subst (λ (v : Option ℕ). learnt_next v (knows a).read.learnt q ≡ true) (sym h.4) (put_same (knows a).read.learnt q true))))
 
   grows : (f : ℕ → Bool) (n q : ℕ) → f q ≡ true → put f n true q ≡ true
   grows f n q e = by_test q n (λ z. cond z true (f q) ≡ true) (λ i. refl) (λ ne. e)
@@ -281,11 +281,11 @@ module _ (limits : Limits) (entries : List Entry) (o : Owners) (m : Memory) (kno
   grows_next (Some n) f q e = grows f n q e
 
   -- what an actor that goes on has learnt it knows still
-  learnt_stays : (k : Knowledge) (t : StepOf Record) (y : Answer Record) → Stays t → (q : ℕ) → k.learnt q ≡ true → (learn k t y).learnt q ≡ true
+  learnt_stays : (k : Knowledge) (t : StepOf Record) (y : Answer Record) → Stays t → (q : ℕ) → k.read.learnt q ≡ true → (learn k t y).read.learnt q ≡ true
   learnt_stays k (Slot zero) (Number n) st q e = e
   learnt_stays k (Slot (suc p)) (Number zero) st q e = e
-  learnt_stays k (Slot (suc p)) (Number (suc n)) st q e = grows k.learnt (suc n) q e
-  learnt_stays k (Row r) (Content w) st q e = grows_next (next_row w) k.learnt q e
+  learnt_stays k (Slot (suc p)) (Number (suc n)) st q e = grows k.read.learnt (suc n) q e
+  learnt_stays k (Row r) (Content w) st q e = grows_next (next_row w) k.read.learnt q e
   learnt_stays k Epoch (Number n) st q e = e
   learnt_stays k (Announce b) (Number n) st q e = e
   learnt_stays k (PidBits w) (Number n) st q e = e
@@ -294,13 +294,13 @@ module _ (limits : Limits) (entries : List Entry) (o : Owners) (m : Memory) (kno
   learnt_stays k (TakePid p) (Whether false) st q e = e
   learnt_stays k (TakeRow r) (Whether true) st q e = e
   learnt_stays k (TakeRow r) (Whether false) st q e = e
-  learnt_stays k (Exchange p x y) (Whether true) st q e = subst (λ (f : ℕ → Bool). f q ≡ true) (sym (exchanged_alike p x y k).learnt) e
+  learnt_stays k (Exchange p x y) (Whether true) st q e = subst (λ (f : ℕ → Bool). f q ≡ true) (sym (ap (λ v. v.learnt) (exchanged_alike p x y k).read)) e
   learnt_stays k (Exchange p x y) (Whether false) st q e = e
   learnt_stays k (Enter n) y st q e = absurd st
   learnt_stays k Leave y st q e = absurd st
   learnt_stays k t y st q e = e
 
-  stays_or : (t : StepOf Record) → May a (knows a) t → (q : ℕ) → (knows a).learnt q ≡ true → ((q : ℕ) → (knows a).learnt q ≡ true → (knows a).inside ≡ true) → (t ≡ Leave) ⊎ Stays t
+  stays_or : (t : StepOf Record) → May a (knows a) t → (q : ℕ) → (knows a).read.learnt q ≡ true → ((q : ℕ) → (knows a).read.learnt q ≡ true → (knows a).inside ≡ true) → (t ≡ Leave) ⊎ Stays t
   stays_or (Enter n) h q e inside = absurd (let i = inside q e in let f = h.0 in cc)
   stays_or Leave h q e inside = inl refl
   stays_or t h q e inside = inr tt
@@ -313,7 +313,7 @@ module _ (limits : Limits) (entries : List Entry) (o : Owners) (m : Memory) (kno
   shows_now q (inl h) = inl (h.0, h.1, (r, rw (sym h.2, sym h.3) (slice_get-push entries last)))
   shows_now q (inr h) = inr (h.0, h.1, (r, rw (sym h.2, sym h.3) (slice_get-push entries last)), h.4)
 
-  known_kept : (b q : ℕ) → (knows b).learnt q ≡ true → (b ≡ a → Stays s) → (Disturbs s x q → ⊥) → KnowsRow (entries ++ last ∷ []) (length (entries ++ last ∷ [])) b q
+  known_kept : (b q : ℕ) → (knows b).read.learnt q ≡ true → (b ≡ a → Stays s) → (Disturbs s x q → ⊥) → KnowsRow (entries ++ last ∷ []) (length (entries ++ last ∷ [])) b q
   known_kept b q e stays still = rw pushed_length (KnowsRow-kept entries last b q (old.known b q e)
       (λ epoch y. ((λ h. let i = h.1 in stays_no_enter s epoch (stays (let j : a ≡ b = cc in sym j)) (cc)), (λ h. let i = h.1 in stays_no_leave s (stays (let j : a ≡ b = cc in sym j)) (cc))))
       (λ other t y h d. let i = h.1 in let st : s ≡ t = cc in let xy : x ≡ y = cc in
@@ -332,7 +332,7 @@ module _ (limits : Limits) (entries : List Entry) (o : Owners) (m : Memory) (kno
   epoch_after (Retire q) h = by_test m.epoch q (λ t. (0 < cond t (q + 1) m.epoch) × (cond t (q + 1) m.epoch ≤ 2 ^ 62)) (λ i. ((let z : 0 < q + 1 = omega arith in z), (let z : q + 1 ≤ 2 ^ 62 = omega arith in z))) (λ ne. old.epoch)
   epoch_after t h = old.epoch
 
-  posted_after : (t : StepOf Record) → May a (knows a) t → ((e : ℕ) → (knows a).epoch ≡ Some e → e ≤ m.epoch) → (b : ℕ) → (memory_after a t m).announced b ≤ (memory_after a t m).epoch
+  posted_after : (t : StepOf Record) → May a (knows a) t → ((e : ℕ) → (knows a).limbo.epoch ≡ Some e → e ≤ m.epoch) → (b : ℕ) → (memory_after a t m).announced b ≤ (memory_after a t m).epoch
   posted_after (Retire q) h read b = by_test m.epoch q (λ t. m.announced b ≤ cond t (q + 1) m.epoch) (λ i. let o = old.posted b in omega arith) (λ ne. old.posted b)
   posted_after (Enter n) h read b = by_test b a (λ t. cond t n (m.announced b) ≤ m.epoch) (λ i. read n h.2) (λ ne. old.posted b)
   posted_after Leave h read b = by_test b a (λ t. cond t 0 (m.announced b) ≤ m.epoch) (λ i. omega arith) (λ ne. old.posted b)
@@ -377,7 +377,7 @@ module _ (limits : Limits) (entries : List Entry) (o : Owners) (m : Memory) (kno
 
   -- what the numbers are afterwards
   pub record Numbers (o' : Owners) : Type 0 where
-    pub undisturbed : (b q : ℕ) → (knows b).learnt q ≡ true → Disturbs s x q → ⊥
+    pub undisturbed : (b q : ℕ) → (knows b).read.learnt q ≡ true → Disturbs s x q → ⊥
     pub zero_free : o'.row 0 ≡ Free
     pub zero_taken : (memory_after a s m).free_rows 0 ≡ false
     pub free_row_below : (q : ℕ) → (memory_after a s m).free_rows q ≡ true → q < limits.rows
@@ -395,7 +395,7 @@ module _ (limits : Limits) (entries : List Entry) (o : Owners) (m : Memory) (kno
     free_pid_below = λ p e. old.free_pid_below p (free_pids_before s still_so may p e);
   }
 
-  pub named_steps : (o' : Owners) → Numbers o' → ((q : ℕ) → (knows a).learnt q ≡ true → (knows a).inside ≡ true) → ((e : ℕ) → (knows a).epoch ≡ Some e → e ≤ m.epoch) → ((p : ℕ) → (phase_of (o'.page p) ≡ phase.free) ⊎ ((0 < p) × (p < limits.pids)))
+  pub named_steps : (o' : Owners) → Numbers o' → ((q : ℕ) → (knows a).read.learnt q ≡ true → (knows a).inside ≡ true) → ((e : ℕ) → (knows a).limbo.epoch ≡ Some e → e ≤ m.epoch) → ((p : ℕ) → (phase_of (o'.page p) ≡ phase.free) ⊎ ((0 < p) × (p < limits.pids)))
       → ((p q : ℕ) → slot_in (memory_after a s m).slots p ≡ Some q → IsInTree (o'.page p) ⊎ IsReady o' (memory_after a s m) (knows_after knows last) p q)
       → command_of (entries ++ last ∷ []) ≡ commands_after (command_of entries) last
       → IsNamed limits (entries ++ last ∷ []) o' (memory_after a s m) (knows_after knows last)
@@ -403,8 +403,8 @@ module _ (limits : Limits) (entries : List Entry) (o : Owners) (m : Memory) (kno
     shown = λ b q h. elim (HasLearnt-push_cases entries last b q h) [
       | inl before ↦ elim (old.shown b q before.0) [
         | inl z ↦ inl z
-        | inr l ↦ inr (by_test b a (λ t. (cond t (finished (learn (knows a) s x) r) (knows b)).learnt q ≡ true)
-            (λ i. let l' : (knows a).learnt q ≡ true = subst (λ n. (knows n).learnt q ≡ true) i l in
+        | inr l ↦ inr (by_test b a (λ t. (cond t (finished (learn (knows a) s x) r) (knows b)).read.learnt q ≡ true)
+            (λ i. let l' : (knows a).read.learnt q ≡ true = subst (λ n. (knows n).read.learnt q ≡ true) i l in
             elim (stays_or s may q l' inside) [
               | inl leaves ↦ let back = sym i in absurd (before.1 x (r, λ d. Step (back d) (leaves d) x r))
               | inr st ↦ learnt_stays (knows a) s x st q l'
@@ -413,9 +413,9 @@ module _ (limits : Limits) (entries : List Entry) (o : Owners) (m : Memory) (kno
       ]
       | inr shows ↦
           let v = shown_cases b q shows in
-          elim (learnt_shown q v.1) [ inl z ↦ inl z | inr l ↦ inr (by_test b a (λ t. (cond t (finished (learn (knows a) s x) r) (knows b)).learnt q ≡ true) (λ i. l) (λ ne. absurd (ne v.0))) ]
+          elim (learnt_shown q v.1) [ inl z ↦ inl z | inr l ↦ inr (by_test b a (λ t. (cond t (finished (learn (knows a) s x) r) (knows b)).read.learnt q ≡ true) (λ i. l) (λ ne. absurd (ne v.0))) ]
     ];
-    known = λ b q. by_test b a (λ t. (cond t (finished (learn (knows a) s x) r) (knows b)).learnt q ≡ true → KnowsRow (entries ++ last ∷ []) (length (entries ++ last ∷ [])) b q)
+    known = λ b q. by_test b a (λ t. (cond t (finished (learn (knows a) s x) r) (knows b)).read.learnt q ≡ true → KnowsRow (entries ++ last ∷ []) (length (entries ++ last ∷ [])) b q)
         (λ i e. subst (λ n. KnowsRow (entries ++ last ∷ []) (length (entries ++ last ∷ [])) n q) (sym i) (elim (learnt_cases (knows a) s x q e) [
           | inl h ↦ known_kept a q h.0 (λ j. h.1) (numbers.undisturbed a q h.0)
           | inr h ↦ rw pushed_length (KnowsRow-shown entries last a q (shows_now q h))
@@ -424,7 +424,7 @@ module _ (limits : Limits) (entries : List Entry) (o : Owners) (m : Memory) (kno
     announced = announced_after s may x;
     epoch = epoch_after s may;
     posted = posted_after s may read;
-    recent = λ b q w. by_test b a (λ t. (cond t (finished (learn (knows a) s x) r) (knows b)).recent q ≡ Some w → (cond t (finished (learn (knows a) s x) r) (knows b)).seen q ≡ Some w) (λ i. learn_recent (knows a) (old.recent a) s x q w) (λ ne. old.recent b q w);
+    recent = λ b q w. by_test b a (λ t. (cond t (finished (learn (knows a) s x) r) (knows b)).read.recent q ≡ Some w → (cond t (finished (learn (knows a) s x) r) (knows b)).read.seen q ≡ Some w) (λ i. learn_recent (knows a) (old.recent a) s x q w) (λ ne. old.recent b q w);
     zero_free = numbers.zero_free;
     zero_taken = numbers.zero_taken;
     free_row_below = numbers.free_row_below;
@@ -432,8 +432,8 @@ module _ (limits : Limits) (entries : List Entry) (o : Owners) (m : Memory) (kno
     free_pid_below = numbers.free_pid_below;
     pid_below = pid_below;
     held = held;
-    commands = λ b. rw asks (by_test b a (λ t. (cond t (finished (learn (knows a) s x) r) (knows b)).command ≡ commands_after (command_of entries) last b)
-        (λ i. subst (λ n. going_on r (learn (knows a) s x).command ≡ commands_after (command_of entries) last n) (sym i) (ap (going_on r) (learn_command (knows a) s x ∙ old.commands a) ∙ going_command r))
+    commands = λ b. rw asks (by_test b a (λ t. (cond t (finished (learn (knows a) s x) r) (knows b)).asked.command ≡ commands_after (command_of entries) last b)
+        (λ i. subst (λ n. going_on r (learn (knows a) s x).asked.command ≡ commands_after (command_of entries) last n) (sym i) (ap (going_on r) (learn_command (knows a) s x ∙ old.commands a) ∙ going_command r))
         (λ ne. old.commands b ∙ sym (other_command r b ne)));
   }
 
@@ -465,7 +465,7 @@ module _ (limits : Limits) (entries : List Entry) (o : Owners) (m : Memory) (kno
   }
     where
       spare : o.row row ≡ Spare a
-      spare = own_spare g a row ((knows a).rows row) (g.owns a row) h.1
+      spare = own_spare g a row ((knows a).own.rows row) (g.owns a row) h.1
 
       not_free : (t : Bool) → m.free_rows row ≡ t → m.free_rows row ≡ false
       not_free true e = let f : o.row row ≡ Free = g.frees.row row e in let sp = spare in absurd (cc)
@@ -476,7 +476,7 @@ module _ (limits : Limits) (entries : List Entry) (o : Owners) (m : Memory) (kno
       apart x c chain among l = let l' : o.row row ≡ Linked = chain_linked o (shared m) g.closed x c l chain row among in let sp = spare in cc
 
       -- nor is it the base in the slot of a page that is ready
-      in_base : (b : ℕ) (page : pages.Page) (p x : ℕ) (c : List Record) → IsChainFrom m.rows x c → Contains (chain_rows x c) row → m.rows x ≡ Some (Base page) → o.row x ≡ Spare b → (knows b).pages p ≡ Ready x → ⊥
+      in_base : (b : ℕ) (page : pages.Page) (p x : ℕ) (c : List Record) → IsChainFrom m.rows x c → Contains (chain_rows x c) row → m.rows x ≡ Some (Base page) → o.row x ≡ Spare b → (knows b).own.pages p ≡ Ready x → ⊥
       in_base b page p x [] chain among e sp ready = chain
       in_base b page p x (v ∷ c) chain (suc k, lt, at) e sp ready =
           let same : v ≡ Base page = cc (chain.0, e) in
@@ -488,7 +488,7 @@ module _ (limits : Limits) (entries : List Entry) (o : Owners) (m : Memory) (kno
           let owner : o.row row ≡ Spare b = subst (λ n. o.row n ≡ Spare b) here sp in
           let sp' = spare in
           let mine : b ≡ a = cc in
-          h.2 p (subst (λ n. (knows n).pages p ≡ Ready row) mine (ready ∙ ap Ready here))
+          h.2 p (subst (λ n. (knows n).own.pages p ≡ Ready row) mine (ready ∙ ap Ready here))
 
       unlinked : IsOnChain m row → ⊥
       unlinked (p, c, chain, among) = in_slot (slot_in m.slots p) refl

@@ -85,13 +85,13 @@ not_zero n = eqb_apart (suc n) 0 (λ e. absurd (cc))
 link_page : (m : Memory) (p old new : ℕ) → link_of m (suc p) old new ≡ cond (eqb old 0) (Some link.Ready) (cond (eqb new 0) (option_map link_without (m.rows old)) (option_map record_link (m.rows new)))
 link_page m p old new = ap (λ t. cond t (Some link.Root) (cond (eqb old 0) (Some link.Ready) (cond (eqb new 0) (option_map link_without (m.rows old)) (option_map record_link (m.rows new))))) (not_zero p)
 
-link_ready : (m : Memory) (p new : ℕ) → link_of m (suc p) 0 new ≡ Some link.Ready
+pub link_ready : (m : Memory) (p new : ℕ) → link_of m (suc p) 0 new ≡ Some link.Ready
 link_ready m p new = link_page m p 0 new
 
-link_empty : (m : Memory) (p old : ℕ) → link_of m (suc p) (suc old) 0 ≡ option_map link_without (m.rows (suc old))
+pub link_empty : (m : Memory) (p old : ℕ) → link_of m (suc p) (suc old) 0 ≡ option_map link_without (m.rows (suc old))
 link_empty m p old = link_page m p (suc old) 0 ∙ ap (λ t. cond t (Some link.Ready) (option_map link_without (m.rows (suc old)))) (not_zero old)
 
-link_front : (m : Memory) (p old new : ℕ) → link_of m (suc p) (suc old) (suc new) ≡ option_map record_link (m.rows (suc new))
+pub link_front : (m : Memory) (p old new : ℕ) → link_of m (suc p) (suc old) (suc new) ≡ option_map record_link (m.rows (suc new))
 link_front m p old new = link_page m p (suc old) (suc new) ∙ ap (λ t. cond t (Some link.Ready) (cond (eqb (suc new) 0) (option_map link_without (m.rows (suc old))) (option_map record_link (m.rows (suc new))))) (not_zero old)
     ∙ ap (λ t. cond t (option_map link_without (m.rows (suc old))) (option_map record_link (m.rows (suc new)))) (not_zero new)
 

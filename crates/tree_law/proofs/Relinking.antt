@@ -12,8 +12,8 @@ use Rattle.chain_search.specs.Discipline.{HasRead}
 use Rattle.tree_law.specs.Phase.{Stage, Merged, PageOwner, Nobody, Placed, Cleared, rank, stage_removed}
 use Rattle.tree_law.specs.Put.{put}
 use Rattle.tree_law.specs.Shared.{Shared}
-use Rattle.tree_law.specs.Owners.{IsChain, Spare, Linked, Owners, Reached, IsLinked, OwnFits, PageFits, OwnsPages, HeadFits, LinkFits, Knows}
-use Rattle.tree_law.specs.Tree.{spec, InPlace, HasPage, IsOff, IsOut, Off, Exact, Good}
+use Rattle.tree_law.specs.Owners.{IsChain, Spare, Linked, Owners, Reached, IsLinked, OwnFits, PageFits, OwnsPages, HeadFits, LinkFits, Knows, IsOut}
+use Rattle.tree_law.specs.Tree.{spec, InPlace, HasPage, IsOff, Off, Exact, Good}
 use Rattle.tree_law.proofs.Puts.{by_test, put_same, put_other, put_all}
 use Rattle.tree_law.proofs.Chains.{chain_unique}
 use Rattle.tree_law.proofs.Kept.{Kept, link_kept}
@@ -49,11 +49,11 @@ module _ {m : Shared} {log : List Update} {o : Owners} {knows : ℕ → Knowledg
   not_own p l s st e Gone f = absurd (let i = sym e ∙ f.2 in cc)
 
   -- a page that was read
-  pub found_as : (p x : ℕ) → (knows a).heads p ≡ Some x → (c : List Record) → IsChain (knows a).seen c (Some x) → Found o m p x c
+  pub found_as : (p x : ℕ) → (knows a).read.heads p ≡ Some x → (c : List Record) → IsChain (knows a).read.seen c (Some x) → Found o m p x c
   found_as p x e c h =
       let f = subst (λ (v : Option ℕ). HeadFits o m (log ∷ logs a) p v) e ((mine g a).heads_fit p) in
-      let stands = chain_stands o m (knows a).seen (mine g a).seen_fits c (Some x) h in
-      let linked = read_linked o m (knows a).seen (mine g a).seen_fits c x h in
+      let stands = chain_stands o m (knows a).read.seen (mine g a).seen_fits c (Some x) h in
+      let linked = read_linked o m (knows a).read.seen (mine g a).seen_fits c x h in
       let same : f.2.chain ≡ c = chain_unique m.rows f.2.chain c (Some x) f.2.is_chain stands in
       record { reached = subst (λ (d : List Record). Reached 0 (level_in d) (low_in d) (o.page p)) same f.3; linked = linked; stands = stands }
 
@@ -83,7 +83,7 @@ module _ {m : Shared} {log : List Update} {o : Owners} {knows : ℕ → Knowledg
   moved_own p y w n h s Other f = tt
   moved_own p y w n (stay u) s Empty f = (u ∙ f.0, f.1)
   moved_own p y w n (stay u) s (Ready r) f = (u ∙ f.0, f.1)
-  moved_own p y w n (stay u) s Gone f = (f.0, f.1, u ∙ f.2)
+  moved_own p y w n (stay u) s Gone f = (f.0, f.1, u ∙ f.2, f.3)
   moved_own p y w n (go st0 st1 l0 s0 i j le on r) s Empty f = absurd (let e = sym f.0 ∙ i in cc)
   moved_own p y w n (go st0 st1 l0 s0 i j le on r) s (Ready q) f = absurd (let e = sym f.0 ∙ i in cc)
   moved_own p y w n (go st0 st1 l0 s0 i j le on r) s Gone f = absurd (let e = sym f.2 ∙ i in cc)
@@ -109,9 +109,9 @@ module _ {m : Shared} {log : List Update} {o : Owners} {knows : ℕ → Knowledg
       → (w : Record) → m.rows y ≡ Some w → IfSome (next_row w) (λ n. o.row n ≡ Linked) → (rest : List Record) → IsChain m.rows rest (next_row w)
       → level_in (w ∷ rest) ≡ level_in c → low_in (w ∷ rest) ≡ low_in c → right_in (w ∷ rest) ≡ right_in c → high_in (w ∷ rest) ≡ high_in c → is_removed (w ∷ rest) ≡ stage_removed stage'
       → (log' : List Update) → ((k : Key) → Covers c k → content_in (w ∷ rest) k ≡ spec log' index' (level_in c) k) → ((l : ℕ) (k : Key) → (l ≡ level_in c → Covers c k → ⊥) → spec log' index' l k ≡ spec log o.index l k)
-      → (k : Knowledge) → k.rows ≡ put (knows a).rows y Foreign → (OwnsPages a (record { row = put o.row y Linked; page = page'; index = index' }) (record m { slots = put m.slots p (Some y) }) (knows a).pages → OwnsPages a (record { row = put o.row y Linked; page = page'; index = index' }) (record m { slots = put m.slots p (Some y) }) k.pages)
-      → k.seen ≡ (knows a).seen → k.learnt ≡ (knows a).learnt → k.roots ≡ (knows a).roots → k.heads ≡ (knows a).heads → k.before ≡ (knows a).before
-      → (ps : Option (List Update)) → LinkFits o m ps k.linked
+      → (k : Knowledge) → k.own.rows ≡ put (knows a).own.rows y Foreign → (OwnsPages a (record { row = put o.row y Linked; page = page'; index = index' }) (record m { slots = put m.slots p (Some y) }) (knows a).own.pages → OwnsPages a (record { row = put o.row y Linked; page = page'; index = index' }) (record m { slots = put m.slots p (Some y) }) k.own.pages)
+      → k.read.seen ≡ (knows a).read.seen → k.read.learnt ≡ (knows a).read.learnt → k.read.roots ≡ (knows a).read.roots → k.read.heads ≡ (knows a).read.heads → k.read.before ≡ (knows a).read.before
+      → (ps : Option (List Update)) → LinkFits o m ps k.asked.linked
       → Good (record m { slots = put m.slots p (Some y) }) log' (record { row = put o.row y Linked; page = page'; index = index' }) (put knows a k) (put point a ps) (put logs a (log ∷ logs a))
   relink_one p x y c f place alive s was stage' le on page' index' here moves exact w wy next rest is_rest level low right high flagged log' same apart k e0 pages e2 e3 e4 e5 e6 ps link =
       put_good g a m' log' o' k ps (log ∷ logs a)
@@ -152,9 +152,9 @@ module _ {m : Shared} {log : List Update} {o : Owners} {knows : ℕ → Knowledg
       (λ q l n i. by_test q p (λ t. IsOut (page' q) (cond t (Some y) (m.slots q)) ⊎ Off o' m' q l n)
       (λ j. absurd (not_off stage' (level_in c) (low_in c) l n on (subst (λ (v : PageOwner). IsOff v l n) (ap page' j ∙ here) i)))
       (λ ne. subst (λ (v : Option ℕ). IsOut (page' q) v ⊎ Off o' m' q l n) (put_other m.slots p (Some y) q ne) (off_still g a o' m' kept q l n (put_other m.slots p (Some y) q ne) (g.tree.off q l n (moved_off p y (o.page q) (page' q) (moves q ne) l n i))))))
-      (rw e0 (put_all (λ j v. OwnFits a (o'.row j) (m.rows j) v) (knows a).rows y Foreign tt (λ j ne. rw (put_other o.row y Linked j ne) (g.owns a j))))
+      (rw e0 (put_all (λ j v. OwnFits a (o'.row j) (m.rows j) v) (knows a).own.rows y Foreign tt (λ j ne. rw (put_other o.row y Linked j ne) (g.owns a j))))
       (pages owned)
-      (rw (e2, e3, e4, e5, e6) (record { seen_fits = mine'.seen_fits; learnt_fits = mine'.learnt_fits; roots_fit = mine'.roots_fit; heads_fit = mine'.heads_fit; orders_fit = mine'.orders_fit; linked_fits = link_kept o o' m m' g.closed kept ps k.linked link }))
+      (rw (e2, e3, e4, e5, e6) (record { seen_fits = mine'.seen_fits; learnt_fits = mine'.learnt_fits; roots_fit = mine'.roots_fit; heads_fit = mine'.heads_fit; orders_fit = mine'.orders_fit; linked_fits = link_kept o o' m m' g.closed kept ps k.asked.linked link }))
     where
       m' : Shared
       m' = record m { slots = put m.slots p (Some y) }
@@ -173,20 +173,20 @@ module _ {m : Shared} {log : List Update} {o : Owners} {knows : ℕ → Knowledg
       kept : Kept o o' m m'
       kept = kept_change a o o' m m' change
 
-      mine' : Knows o' m' (knows a).seen (knows a).learnt (knows a).roots (knows a).heads (knows a).before (knows a).linked (point a) (log ∷ logs a)
+      mine' : Knows o' m' (knows a).read.seen (knows a).read.learnt (knows a).read.roots (knows a).read.heads (knows a).read.before (knows a).asked.linked (point a) (log ∷ logs a)
       mine' = mine_at g a o' m' kept
 
       nexts : (v : Option ℕ) → IfSome v (λ n. o.row n ≡ Linked) → IfSome v (λ n. put o.row y Linked n ≡ Linked)
       nexts None i = tt
       nexts (Some n) i = (kept.row n i).0
 
-      owned : OwnsPages a o' m' (knows a).pages
-      owned j = by_test j p (λ t. PageFits a (page' j) (cond t (Some y) (m.slots j)) ((knows a).pages j))
-          (λ i. subst (λ (v : OwnPage). PageFits a (page' j) (Some y) v) (sym (not_own j (level_in c) (low_in c) place.stage (ap o.page i ∙ place.placed) ((knows a).pages j) (g.owns_pages a j))) tt)
-          (λ ne. moved_own p y (o.page j) (page' j) (moves j ne) (m.slots j) ((knows a).pages j) (g.owns_pages a j))
+      owned : OwnsPages a o' m' (knows a).own.pages
+      owned j = by_test j p (λ t. PageFits a (page' j) (cond t (Some y) (m.slots j)) ((knows a).own.pages j))
+          (λ i. subst (λ (v : OwnPage). PageFits a (page' j) (Some y) v) (sym (not_own j (level_in c) (low_in c) place.stage (ap o.page i ∙ place.placed) ((knows a).own.pages j) (g.owns_pages a j))) tt)
+          (λ ne. moved_own p y (o.page j) (page' j) (moves j ne) (m.slots j) ((knows a).own.pages j) (g.owns_pages a j))
 
   -- what was placed in a row of its own
-  pub placed_row : (y : ℕ) (w : Record) → (knows a).rows y ≡ Written w → m.rows y ≡ Some w
+  pub placed_row : (y : ℕ) (w : Record) → (knows a).own.rows y ≡ Written w → m.rows y ≡ Some w
   placed_row y w e = let f : (o.row y ≡ Spare a) × (m.rows y ≡ Some w) = subst (λ (v : OwnRow). OwnFits a (o.row y) (m.rows y) v) e (g.owns a y) in f.1
 
   pub alive_stage : (p x : ℕ) (c : List Record) → (place : InPlace o m (level_in c) (spec log o.index (level_in c)) (record { page = p; row = x; chain = c })) → is_removed c ≡ false → false ≡ stage_removed place.stage

@@ -29,7 +29,7 @@ in_row_after first false v out e = rw e refl
 
 module _ (limits : Limits) (entries : List Entry) (o : Owners) (m : Memory) (knows : ℕ → Knowledge) (log : List Update) (point : ℕ → Option (List Update)) (logs : ℕ → List (List Update)) {now : ℕ} {t : Times}
     (g : Good (shared m) log o knows point logs) (T : Timed limits m o knows now t) (old : IsNamed limits entries o m knows) (a : ℕ) (outside : (knows a).inside ≡ false) (word bits : ℕ) (x : Answer Record) (r : Option Reply) where
-  module _ (may : (q : ℕ) → is_among word bits q ≡ true → IsPassed limits a ((knows a).limbo_rows q)) (is : IsAnswer m (ReuseRows word bits) x) where
+  module _ (may : (q : ℕ) → is_among word bits q ≡ true → IsPassed limits a ((knows a).limbo.rows q)) (is : IsAnswer m (ReuseRows word bits) x) where
     abbrev pub rows_owners : Owners
     rows_owners = o1 g T a outside word bits may r x
 
@@ -61,16 +61,16 @@ module _ (limits : Limits) (entries : List Entry) (o : Owners) (m : Memory) (kno
     -- slots hold what they held
     pub rows_held : (p q : ℕ) → slot_in m.slots p ≡ Some q → IsInTree (o.page p) ⊎ IsReady rows_owners (memory_after a (ReuseRows word bits) m) (put knows a (finished (learn (knows a) (ReuseRows word bits) x) r)) p q
     rows_held p q e = ⊎_elim (λ (h : IsInTree (o.page p)). inl h) (λ (h : IsReady o m knows p q). inr (
-        let own = own_of h.actor q ((knows h.actor).rows q) (g.owns h.actor q) (T.ready h.actor p q h.ready) in
+        let own = own_of h.actor q ((knows h.actor).own.rows q) (g.owns h.actor q) (T.ready h.actor p q h.ready) in
         record {
           actor = h.actor;
-          ready = by_test h.actor a (λ z. (cond z (finished (learn (knows a) (ReuseRows word bits) x) r) (knows h.actor)).pages p ≡ Ready q) (λ i. subst (λ n. (knows n).pages p ≡ Ready q) i h.ready) (λ ne. h.ready);
+          ready = by_test h.actor a (λ z. (cond z (finished (learn (knows a) (ReuseRows word bits) x) r) (knows h.actor)).own.pages p ≡ Ready q) (λ i. subst (λ n. (knows n).own.pages p ≡ Ready q) i h.ready) (λ ne. h.ready);
           owned = inr (stays g T a outside word bits may r x q (in_tree g T a outside word bits may r x q (T.own_rows h.actor q own.0)) ∙ own.1);
           base = h.base;
           stands = h.stands;
         })) (old.held p q e)
 
-  module _ (may : (q : ℕ) → is_among word bits q ≡ true → IsPassed limits a ((knows a).limbo_pids q)) (is : IsAnswer m (ReusePids word bits) x) where
+  module _ (may : (q : ℕ) → is_among word bits q ≡ true → IsPassed limits a ((knows a).limbo.pids q)) (is : IsAnswer m (ReusePids word bits) x) where
     abbrev pub pages_owners : Owners
     pages_owners = o2 g T a outside word bits may r x
 
@@ -92,7 +92,7 @@ module _ (limits : Limits) (entries : List Entry) (o : Owners) (m : Memory) (kno
         (λ (h : IsInTree (o.page p)). inl (subst IsInTree (sym (same_page g T a outside word bits may r x p (λ i. let f = freed_page g T a outside word bits may r x p i in absurd (let z = sym e ∙ (T.pages p f.outing f.is).1 in cc)))) h))
         (λ (h : IsReady o m knows p q). inr (record {
           actor = h.actor;
-          ready = by_test h.actor a (λ z. (cond z (finished (learn (knows a) (ReusePids word bits) x) r) (knows h.actor)).pages p ≡ Ready q) (λ i. subst (λ n. (knows n).pages p ≡ Ready q) i h.ready) (λ ne. h.ready);
+          ready = by_test h.actor a (λ z. (cond z (finished (learn (knows a) (ReusePids word bits) x) r) (knows h.actor)).own.pages p ≡ Ready q) (λ i. subst (λ n. (knows n).own.pages p ≡ Ready q) i h.ready) (λ ne. h.ready);
           owned = h.owned;
           base = h.base;
           stands = h.stands;

@@ -11,25 +11,25 @@ use Rattle.chain_search.specs.Discipline.{IsOwn}
 use Rattle.chain_search.specs.Knowledge.{OwnRow, Foreign, Taken, Written, OwnPage, Other, Empty, Ready, Gone, Knowledge}
 use Rattle.tree_law.specs.Keys.{Key, Covers}
 use Rattle.tree_law.specs.Phase.{Stage, Indexed, Merged, PageOwner, Nobody, Keeps, Placed, Cleared, child_of, rank_of}
-use Rattle.tree_law.specs.Owners.{IsChain, Owner, Free, Linked, Owners, Reached, OwnFits, PageFits, SeenFits, Spells, IsCleared, HeadFits, LinkFits, OrderFits, Knows}
+use Rattle.tree_law.specs.Owners.{IsChain, Owner, Free, Linked, Owners, Reached, OwnFits, PageFits, SeenFits, Spells, IsCleared, HeadFits, LinkFits, OrderFits, Knows, IsOut}
 use Rattle.tree_law.specs.Shared.{Shared}
-use Rattle.tree_law.specs.Tree.{spec, Page, InPlace, IsPart, Exact, IsOff, IsOut, Off, Good}
+use Rattle.tree_law.specs.Tree.{spec, Page, InPlace, IsPart, Exact, IsOff, Off, Good}
 use Rattle.tree_law.proofs.Kept.{placed_reached}
 
 -- What actors know, they know of rows whose names they have learnt.
 pub record Learnt (k : Knowledge) : Type 0 where
-  pub seen : (r : ℕ) (w : Record) → k.seen r ≡ Some w → k.learnt r ≡ true
-  pub heads : (p x : ℕ) → k.heads p ≡ Some x → k.learnt x ≡ true
-  pub before : (p f x : ℕ) → k.before p f ≡ Some x → k.learnt x ≡ true
-  pub linked : (x : ℕ) → k.linked ≡ Some (Some x) → k.learnt x ≡ true
+  pub seen : (r : ℕ) (w : Record) → k.read.seen r ≡ Some w → k.read.learnt r ≡ true
+  pub heads : (p x : ℕ) → k.read.heads p ≡ Some x → k.read.learnt x ≡ true
+  pub before : (p f x : ℕ) → k.read.before p f ≡ Some x → k.read.learnt x ≡ true
+  pub linked : (x : ℕ) → k.asked.linked ≡ Some (Some x) → k.read.learnt x ≡ true
 
 -- The rows whose owner changes nobody has learnt, stand in no slot, are under no linked row, and are no one's own.
 pub record AreLoose (o : Owners) (m : Shared) (knows : ℕ → Knowledge) (row : ℕ → Owner) (bits : ℕ → Bool) : Type 0 where
   pub linked : (r : ℕ) → row r ≡ Linked → o.row r ≡ Linked
-  pub learnt : (b r : ℕ) → (knows b).learnt r ≡ true → row r ≡ o.row r
+  pub learnt : (b r : ℕ) → (knows b).read.learnt r ≡ true → row r ≡ o.row r
   pub slots : (p r l : ℕ) (s : Key) → Reached 0 l s (o.page p) → m.slots p ≡ Some r → row r ≡ o.row r
   pub next : (r n : ℕ) (w : Record) → row r ≡ Linked → m.rows r ≡ Some w → next_row w ≡ Some n → row n ≡ o.row n
-  pub own : (b r : ℕ) → IsOwn ((knows b).rows r) → row r ≡ o.row r
+  pub own : (b r : ℕ) → IsOwn ((knows b).own.rows r) → row r ≡ o.row r
   pub freed : (r : ℕ) → bits r ≡ true → row r ≡ Free
 
 module _ {m : Shared} {log : List Update} {o : Owners} {knows : ℕ → Knowledge} {point : ℕ → Option (List Update)} {logs : ℕ → List (List Update)} (g : Good m log o knows point logs) where
@@ -69,28 +69,28 @@ module _ {m : Shared} {log : List Update} {o : Owners} {knows : ℕ → Knowledg
     nexts r w l e None i f = tt
     nexts r w l e (Some n) i f = h.next r n w l e i ∙ f
 
-    knows_loose : (b : ℕ) → Knows o1 m1 (knows b).seen (knows b).learnt (knows b).roots (knows b).heads (knows b).before (knows b).linked (point b) (logs b)
+    knows_loose : (b : ℕ) → Knows o1 m1 (knows b).read.seen (knows b).read.learnt (knows b).read.roots (knows b).read.heads (knows b).read.before (knows b).asked.linked (point b) (logs b)
     knows_loose b = record {
-      seen_fits = λ r. seen_at r ((knows b).seen r) refl (s.seen_fits r);
+      seen_fits = λ r. seen_at r ((knows b).read.seen r) refl (s.seen_fits r);
       learnt_fits = λ r e. h.learnt b r e ∙ s.learnt_fits r e;
       roots_fit = s.roots_fit;
-      heads_fit = λ p. head_at p ((knows b).heads p) refl (s.heads_fit p);
-      orders_fit = λ p f. order_at p f ((knows b).heads p) ((knows b).before p f) refl refl (s.orders_fit p f);
-      linked_fits = link_at ((knows b).linked) refl s.linked_fits;
+      heads_fit = λ p. head_at p ((knows b).read.heads p) refl (s.heads_fit p);
+      orders_fit = λ p f. order_at p f ((knows b).read.heads p) ((knows b).read.before p f) refl refl (s.orders_fit p f);
+      linked_fits = link_at ((knows b).asked.linked) refl s.linked_fits;
     }
       where
-        s : Knows o m (knows b).seen (knows b).learnt (knows b).roots (knows b).heads (knows b).before (knows b).linked (point b) (logs b)
+        s : Knows o m (knows b).read.seen (knows b).read.learnt (knows b).read.roots (knows b).read.heads (knows b).read.before (knows b).asked.linked (point b) (logs b)
         s = g.sound b
 
-        seen_at : (r : ℕ) (v : Option Record) → (knows b).seen r ≡ v → SeenFits (o.row r) (m.rows r) v → SeenFits (row r) (m.rows r) v
+        seen_at : (r : ℕ) (v : Option Record) → (knows b).read.seen r ≡ v → SeenFits (o.row r) (m.rows r) v → SeenFits (row r) (m.rows r) v
         seen_at r None e f = tt
         seen_at r (Some w) e f = (h.learnt b r ((known b).seen r w e) ∙ f.0, f.1)
 
-        head_at : (p : ℕ) (x : Option ℕ) → (knows b).heads p ≡ x → HeadFits o m (logs b) p x → HeadFits o1 m1 (logs b) p x
+        head_at : (p : ℕ) (x : Option ℕ) → (knows b).read.heads p ≡ x → HeadFits o m (logs b) p x → HeadFits o1 m1 (logs b) p x
         head_at p None e f = tt
         head_at p (Some x) e f = (f.0, f.1, spells_loose x f.0 (h.learnt b x ((known b).heads p x e)) f.2, f.3, f.4, λ i. let n = f.5 i in record { right = n.right; items = n.items })
 
-        order_at : (p f : ℕ) (y x : Option ℕ) → (knows b).heads p ≡ y → (knows b).before p f ≡ x → OrderFits o m (logs b) p f y x → OrderFits o1 m1 (logs b) p f y x
+        order_at : (p f : ℕ) (y x : Option ℕ) → (knows b).read.heads p ≡ y → (knows b).read.before p f ≡ x → OrderFits o m (logs b) p f y x → OrderFits o1 m1 (logs b) p f y x
         order_at p f None x e i v = tt
         order_at p f (Some y) None e i v = tt
         order_at p f (Some y) (Some x) e i v = record {
@@ -105,7 +105,7 @@ module _ {m : Shared} {log : List Update} {o : Owners} {knows : ℕ → Knowledg
           spelled = v.spelled;
         }
 
-        link_at : (x : Option (Option ℕ)) → (knows b).linked ≡ x → LinkFits o m (point b) x → LinkFits o1 m1 (point b) x
+        link_at : (x : Option (Option ℕ)) → (knows b).asked.linked ≡ x → LinkFits o m (point b) x → LinkFits o1 m1 (point b) x
         link_at None e f = f
         link_at (Some None) e f = f
         link_at (Some (Some x)) e f = (f.0, f.1, spells_loose x f.0 (h.learnt b x ((known b).linked x e)) f.2)
@@ -124,12 +124,12 @@ module _ {m : Shared} {log : List Update} {o : Owners} {knows : ℕ → Knowledg
         exact = g.tree.exact;
         off = λ q l s i. off_loose q l s i (g.tree.off q l s i);
       };
-      owns = λ b r. own_at b r ((knows b).rows r) refl (g.owns b r);
+      owns = λ b r. own_at b r ((knows b).own.rows r) refl (g.owns b r);
       owns_pages = g.owns_pages;
       sound = knows_loose;
     }
       where
-        own_at : (b r : ℕ) (v : OwnRow) → (knows b).rows r ≡ v → OwnFits b (o.row r) (m.rows r) v → OwnFits b (row r) (m.rows r) v
+        own_at : (b r : ℕ) (v : OwnRow) → (knows b).own.rows r ≡ v → OwnFits b (o.row r) (m.rows r) v → OwnFits b (row r) (m.rows r) v
         own_at b r Foreign e f = tt
         own_at b r Taken e f = h.own b r (rw e tt) ∙ f
         own_at b r (Written w) e f = (h.own b r (rw e tt) ∙ f.0, f.1)
@@ -137,14 +137,14 @@ module _ {m : Shared} {log : List Update} {o : Owners} {knows : ℕ → Knowledg
   -- The pages whose owner changes were cleared, their slots are empty, and nobody can reach them.
   module _ (page : ℕ → PageOwner) (free : ℕ → Bool)
       (gone : (q : ℕ) → (page q ≡ o.page q) ⊎ ((page q ≡ Nobody) × IsCleared (o.page q)))
-      (roots : (b p : ℕ) → (knows b).roots p ≡ true → page p ≡ o.page p)
-      (heads : (b p x : ℕ) → (knows b).heads p ≡ Some x → page p ≡ o.page p)
-      (before : (b p f x : ℕ) → (knows b).before p f ≡ Some x → page f ≡ o.page f)
-      (heads_right : (b p x q : ℕ) (c : List Record) → (knows b).heads p ≡ Some x → IsChain m.rows c (Some x) → is_removed c ≡ false → right_in c ≡ Some q → page q ≡ o.page q)
-      (heads_items : (b p x l : ℕ) (s : Key) (i : Content) (c : List Record) → (knows b).heads p ≡ Some x → IsChain m.rows c (Some x) → is_removed c ≡ false → level_in c ≡ suc l → Covers c s → content_in c s ≡ Some i → page (child_of i) ≡ o.page (child_of i))
-      (before_items : (b p f x l : ℕ) (s : Key) (i : Content) (c : List Record) → (knows b).before p f ≡ Some x → IsChain m.rows c (Some x) → is_removed c ≡ false → level_in c ≡ suc l → Covers c s → content_in c s ≡ Some i → page (child_of i) ≡ o.page (child_of i))
-      (beyond : (b p f y x q : ℕ) (c d : List Record) → (knows b).heads p ≡ Some y → (knows b).before p f ≡ Some x → IsChain m.rows c (Some x) → IsChain m.rows d (Some y) → is_removed c ≡ true → is_removed d ≡ false → right_in d ≡ Some f → right_in c ≡ Some q → page q ≡ o.page q)
-      (gone_own : (b p : ℕ) → (knows b).pages p ≡ Gone → page p ≡ o.page p)
+      (roots : (b p : ℕ) → (knows b).read.roots p ≡ true → page p ≡ o.page p)
+      (heads : (b p x : ℕ) → (knows b).read.heads p ≡ Some x → page p ≡ o.page p)
+      (before : (b p f x : ℕ) → (knows b).read.before p f ≡ Some x → page f ≡ o.page f)
+      (heads_right : (b p x q : ℕ) (c : List Record) → (knows b).read.heads p ≡ Some x → IsChain m.rows c (Some x) → is_removed c ≡ false → right_in c ≡ Some q → page q ≡ o.page q)
+      (heads_items : (b p x l : ℕ) (s : Key) (i : Content) (c : List Record) → (knows b).read.heads p ≡ Some x → IsChain m.rows c (Some x) → is_removed c ≡ false → level_in c ≡ suc l → Covers c s → content_in c s ≡ Some i → page (child_of i) ≡ o.page (child_of i))
+      (before_items : (b p f x l : ℕ) (s : Key) (i : Content) (c : List Record) → (knows b).read.before p f ≡ Some x → IsChain m.rows c (Some x) → is_removed c ≡ false → level_in c ≡ suc l → Covers c s → content_in c s ≡ Some i → page (child_of i) ≡ o.page (child_of i))
+      (beyond : (b p f y x q : ℕ) (c d : List Record) → (knows b).read.heads p ≡ Some y → (knows b).read.before p f ≡ Some x → IsChain m.rows c (Some x) → IsChain m.rows d (Some y) → is_removed c ≡ true → is_removed d ≡ false → right_in d ≡ Some f → right_in c ≡ Some q → page q ≡ o.page q)
+      (gone_own : (b p : ℕ) → (knows b).own.pages p ≡ Gone → page p ≡ o.page p)
       (frees : (q : ℕ) → free q ≡ true → (page q ≡ Nobody) × (m.slots q ≡ None)) where
     abbrev pub o2 : Owners
     o2 = record o { page = page }
@@ -204,37 +204,37 @@ module _ {m : Shared} {log : List Update} {o : Owners} {knows : ℕ → Knowledg
     cleared_was : (p : ℕ) → IsCleared (page p) → IsCleared (o.page p)
     cleared_was p c = (c.0, c.1, c.2, was_cleared p c.0 c.1 c.2 c.3)
 
-    knows_free : (b : ℕ) → Knows o2 m2 (knows b).seen (knows b).learnt (knows b).roots (knows b).heads (knows b).before (knows b).linked (point b) (logs b)
+    knows_free : (b : ℕ) → Knows o2 m2 (knows b).read.seen (knows b).read.learnt (knows b).read.roots (knows b).read.heads (knows b).read.before (knows b).asked.linked (point b) (logs b)
     knows_free b = record {
       seen_fits = s.seen_fits;
       learnt_fits = s.learnt_fits;
       roots_fit = λ p e. let i = s.roots_fit p e in (i.0, subst (λ (w : PageOwner). Reached 0 i.0 [] w) (sym (roots b p e)) i.1);
-      heads_fit = λ p. head_at p ((knows b).heads p) refl (s.heads_fit p);
-      orders_fit = λ p f. order_at p f ((knows b).heads p) ((knows b).before p f) refl refl (s.orders_fit p f);
-      linked_fits = link_at ((knows b).linked) s.linked_fits;
+      heads_fit = λ p. head_at p ((knows b).read.heads p) refl (s.heads_fit p);
+      orders_fit = λ p f. order_at p f ((knows b).read.heads p) ((knows b).read.before p f) refl refl (s.orders_fit p f);
+      linked_fits = link_at ((knows b).asked.linked) s.linked_fits;
     }
       where
-        s : Knows o m (knows b).seen (knows b).learnt (knows b).roots (knows b).heads (knows b).before (knows b).linked (point b) (logs b)
+        s : Knows o m (knows b).read.seen (knows b).read.learnt (knows b).read.roots (knows b).read.heads (knows b).read.before (knows b).asked.linked (point b) (logs b)
         s = g.sound b
 
         spells_free : (x : ℕ) (l : List Update) → Spells o m x l → Spells o2 m2 x l
         spells_free x l v = record { linked = v.linked; chain = v.chain; is_chain = v.is_chain; same = v.same }
 
-        head_at : (p : ℕ) (x : Option ℕ) → (knows b).heads p ≡ x → HeadFits o m (logs b) p x → HeadFits o2 m2 (logs b) p x
+        head_at : (p : ℕ) (x : Option ℕ) → (knows b).read.heads p ≡ x → HeadFits o m (logs b) p x → HeadFits o2 m2 (logs b) p x
         head_at p None e f = tt
         head_at p (Some x) e f = (
           f.0,
           f.1,
           spells_free x f.0 f.2,
           subst (λ (w : PageOwner). Reached 0 (level_in f.2.chain) (low_in f.2.chain) w) (sym (heads b p x e)) f.3,
-          λ i. ⊎_elim (λ (u : m.slots p ≡ Some x). inl u) (λ (u : IsCleared (o.page p)). inr (subst IsCleared (sym (heads b p x e)) u)) (f.4 i),
+          λ i. ⊎_elim (λ (u : m.slots p ≡ Some x). inl u) (λ (u : IsOut (o.page p) (m.slots p)). inr (u.0, subst IsCleared (sym (heads b p x e)) u.1)) (f.4 i),
           λ i. record {
             right = λ q j. let n = (f.5 i).right q j in (n.0, n.1, subst (λ (w : PageOwner). Reached 0 (level_in f.2.chain) n.0 w) (sym (heads_right b p x q f.2.chain e f.2.is_chain i j)) n.2);
             items = λ l k c j v d. subst (λ (w : PageOwner). Reached (rank_of c) l k w) (sym (heads_items b p x l k c f.2.chain e f.2.is_chain i j v d)) ((f.5 i).items l k c j v d);
           },
         )
 
-        order_at : (p f : ℕ) (y x : Option ℕ) → (knows b).heads p ≡ y → (knows b).before p f ≡ x → OrderFits o m (logs b) p f y x → OrderFits o2 m2 (logs b) p f y x
+        order_at : (p f : ℕ) (y x : Option ℕ) → (knows b).read.heads p ≡ y → (knows b).read.before p f ≡ x → OrderFits o m (logs b) p f y x → OrderFits o2 m2 (logs b) p f y x
         order_at p f None x e i v = tt
         order_at p f (Some y) None e i v = tt
         order_at p f (Some y) (Some x) e i v = record {
@@ -268,15 +268,15 @@ module _ {m : Shared} {log : List Update} {o : Owners} {knows : ℕ → Knowledg
         off = λ q l s i. off_free q l s i (g.tree.off q l s (off_was q l s i));
       };
       owns = g.owns;
-      owns_pages = λ b p. own_at b p ((knows b).pages p) refl (g.owns_pages b p);
+      owns_pages = λ b p. own_at b p ((knows b).own.pages p) refl (g.owns_pages b p);
       sound = knows_free;
     }
       where
         kept : (b p : ℕ) → o.page p ≡ Keeps b → page p ≡ Keeps b
         kept b p e = ⊎_elim (λ (u : page p ≡ o.page p). u ∙ e) (λ (u : (page p ≡ Nobody) × IsCleared (o.page p)). absurd (let f = sym e ∙ u.1.3 in cc)) (gone p)
 
-        own_at : (b p : ℕ) (v : OwnPage) → (knows b).pages p ≡ v → PageFits b (o.page p) (m.slots p) v → PageFits b (page p) (m.slots p) v
+        own_at : (b p : ℕ) (v : OwnPage) → (knows b).own.pages p ≡ v → PageFits b (o.page p) (m.slots p) v → PageFits b (page p) (m.slots p) v
         own_at b p Other e f = tt
         own_at b p Empty e f = (kept b p f.0, f.1)
         own_at b p (Ready r) e f = (kept b p f.0, f.1)
-        own_at b p Gone e f = (f.0, f.1, gone_own b p e ∙ f.2)
+        own_at b p Gone e f = (f.0, f.1, gone_own b p e ∙ f.2, f.3)

@@ -8,12 +8,12 @@ use Rattle.base_page.specs.declared.item.Content.TheVariants.{Child}
 use Rattle.deltas.specs.declared.record.Record.{Record}
 use Rattle.chain_search.specs.Chains.{level_in, low_in}
 use Rattle.tree_law.specs.Keys.{Key, IsBelow, put_key}
-use Rattle.chain_search.specs.Knowledge.{OwnRow, Foreign, OwnPage, Other, Knowledge, rooted, finished}
+use Rattle.chain_search.specs.Knowledge.{OwnRow, Foreign, OwnPage, Other, Knowledge, rooted, finished, handed_page}
 use Rattle.tree_law.specs.Phase.{Stage, Fresh, Indexed, PageOwner, Keeps, Placed, Cleared, rank, stage_removed}
 use Rattle.tree_law.specs.Put.{put}
 use Rattle.tree_law.specs.Shared.{Shared}
-use Rattle.tree_law.specs.Owners.{Spare, Linked, Owners, Reached, IsLinked, OwnFits, PageFits}
-use Rattle.tree_law.specs.Tree.{spec, Page, HasPage, Level, IsOff, IsOut, Off, Good}
+use Rattle.tree_law.specs.Owners.{Spare, Linked, Owners, Reached, IsLinked, OwnFits, PageFits, IsOut}
+use Rattle.tree_law.specs.Tree.{spec, Page, HasPage, Level, IsOff, Off, Good}
 use Rattle.chain_search.specs.Discipline.{MayRoot, root_over}
 use Rattle.tree_law.proofs.KeyOrder.{not_self}
 use Rattle.tree_law.proofs.Puts.{by_test, put_same, put_other, put_all}
@@ -27,10 +27,10 @@ use Rattle.tree_law.proofs.Splitting.{keeps_not}
 
 module _ {m : Shared} {log : List Update} {o : Owners} {knows : ℕ → Knowledge} {point : ℕ → Option (List Update)} {logs : ℕ → List (List Update)} (g : Good m log o knows point logs) (a : ℕ) where
   pub roots : (x y : ℕ) → m.root ≡ x → (h : MayRoot (knows a) x y) → (r : Option Reply)
-      → Good (record m { root = y }) log (record { row = put o.row h.base_row Linked; page = put (put o.page h.right (Placed Indexed g.tree.top h.separator)) y (Placed Indexed (suc g.tree.top) []); index = put o.index g.tree.top (put_key (put_key (λ k. None) h.separator (Some (Child h.right false))) [] (Some (Child m.root false))) }) (put knows a (finished (rooted ((knows a).pages y) y (knows a)) r)) (put point a (point a)) (put logs a (log ∷ logs a)) × ((o.page x ≡ Placed Indexed g.tree.top []) × (o.page h.right ≡ Placed Fresh g.tree.top h.separator) × (o.page y ≡ Keeps a))
+      → Good (record m { root = y }) log (record { row = put o.row h.base_row Linked; page = put (put o.page h.right (Placed Indexed g.tree.top h.separator)) y (Placed Indexed (suc g.tree.top) []); index = put o.index g.tree.top (put_key (put_key (λ k. None) h.separator (Some (Child h.right false))) [] (Some (Child m.root false))) }) (put knows a (finished (rooted ((knows a).own.pages y) y (knows a)) r)) (put point a (point a)) (put logs a (log ∷ logs a)) × ((o.page x ≡ Placed Indexed g.tree.top []) × (o.page h.right ≡ Placed Fresh g.tree.top h.separator) × (o.page y ≡ Keeps a))
   roots x y s h r = (
     subst (λ (k : Knowledge). Good m' log o' (put knows a (finished k r)) (put point a (point a)) (put logs a (log ∷ logs a))) (sym learned)
-        (put_good g a m' log o' (finished (record (knows a) { rows = put (knows a).rows h.base_row Foreign; pages = put (knows a).pages y Other }) r) (point a) (log ∷ logs a)
+        (put_good g a m' log o' (finished (handed_page y Other h.base_row (knows a)) r) (point a) (log ∷ logs a)
         change
         (record {
           row = λ j n. put_other o.row h.base_row Linked j (λ i. absurd (let v = g.frees.row j n in let w = ap o.row i ∙ fits.0 in cc)) ∙ g.frees.row j n;
@@ -51,9 +51,9 @@ module _ {m : Shared} {log : List Update} {o : Owners} {knows : ℕ → Knowledg
           off = λ q l k. by_test q y (λ t. IsOff (cond t new (put o.page b old q)) l k → IsOut (o'.page q) (m.slots q) ⊎ Off o' m' q l k) (λ i e. absurd (not_off Indexed (suc top) [] l k (omega arith) e))
               (λ i. by_test q b (λ t. IsOff (cond t old (o.page q)) l k → IsOut (o'.page q) (m.slots q) ⊎ Off o' m' q l k) (λ i e. absurd (not_off Indexed top h.separator l k (omega arith) e)) (λ i e. off_still g a o' m' kept q l k refl (g.tree.off q l k e)));
         })
-        (put_all (λ j v. OwnFits a (o'.row j) (m.rows j) v) (knows a).rows h.base_row Foreign tt (λ j ne. rw (put_other o.row h.base_row Linked j ne) (g.owns a j)))
-        (λ j. by_test j y (λ t. PageFits a (cond t new (put o.page b old j)) (m.slots j) (cond t Other ((knows a).pages j))) (λ i. tt)
-        (λ i. moved_own g a x y (o.page j) (put o.page b old j) (by_test j b (λ t. Moves a o m x y (o.page j) (cond t old (o.page j))) (λ i. go Fresh Indexed top h.separator (ap o.page i ∙ was) refl (omega arith) (omega arith) refl) (λ i. stay refl)) (m.slots j) ((knows a).pages j) (g.owns_pages a j)))
+        (put_all (λ j v. OwnFits a (o'.row j) (m.rows j) v) (knows a).own.rows h.base_row Foreign tt (λ j ne. rw (put_other o.row h.base_row Linked j ne) (g.owns a j)))
+        (λ j. by_test j y (λ t. PageFits a (cond t new (put o.page b old j)) (m.slots j) (cond t Other ((knows a).own.pages j))) (λ i. tt)
+        (λ i. moved_own g a x y (o.page j) (put o.page b old j) (by_test j b (λ t. Moves a o m x y (o.page j) (cond t old (o.page j))) (λ i. go Fresh Indexed top h.separator (ap o.page i ∙ was) refl (omega arith) (omega arith) refl) (λ i. stay refl)) (m.slots j) ((knows a).own.pages j) (g.owns_pages a j)))
         (mine_at g a o' m' kept)),
     (ap o.page (sym s) ∙ g.tree.exact.is_root, was, ready.0),
   )
@@ -176,6 +176,6 @@ module _ {m : Shared} {log : List Update} {o : Owners} {knows : ℕ → Knowledg
       at_level : (l : ℕ) → suc (level_in c) ≡ suc l → top ≡ l
       at_level l e = let z = level in omega arith
 
-      learned : rooted ((knows a).pages y) y (knows a) ≡ record (knows a) { rows = put (knows a).rows h.base_row Foreign; pages = put (knows a).pages y Other }
+      learned : rooted ((knows a).own.pages y) y (knows a) ≡ handed_page y Other h.base_row (knows a)
       learned = rw h.ready refl
       -- the slot of a cleared page goes to none

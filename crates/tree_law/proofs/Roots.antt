@@ -9,56 +9,56 @@ use Rattle.deltas.specs.declared.record.Record.{Record}
 use Rattle.deltas.specs.declared.record.Record.TheVariants.{Base, Put, Delete, Split, Term, Hold, Remove, Merge, Unterm}
 use Rattle.chain_search.specs.Knowledge.{Knowledge, OwnRow, Foreign, Taken, Written, OwnPage, Other, Empty, Ready, Gone, emptied, exchanged, filled, learn, linked_over, rooted, split_off}
 
-split_roots : (own : OwnPage) (page row : ℕ) (k : Knowledge) → (split_off own page row k).roots ≡ k.roots
+split_roots : (own : OwnPage) (page row : ℕ) (k : Knowledge) → (split_off own page row k).read.roots ≡ k.read.roots
 split_roots Other page row k = refl
 split_roots Empty page row k = refl
 split_roots (Ready base) page row k = refl
 split_roots Gone page row k = refl
 
-over_roots : (own : OwnRow) (old row : ℕ) (k : Knowledge) → (linked_over own old row k).roots ≡ k.roots
+over_roots : (own : OwnRow) (old row : ℕ) (k : Knowledge) → (linked_over own old row k).read.roots ≡ k.read.roots
 over_roots Foreign old row k = refl
 over_roots Taken old row k = refl
 over_roots (Written (Base page)) old row k = refl
 over_roots (Written (Put put)) old row k = refl
 over_roots (Written (Delete delete)) old row k = refl
-over_roots (Written (Split split)) old row k = split_roots (k.pages split.page) split.page row k
+over_roots (Written (Split split)) old row k = split_roots (k.own.pages split.page) split.page row k
 over_roots (Written (Term term)) old row k = refl
 over_roots (Written (Hold hold)) old row k = refl
 over_roots (Written (Remove remove)) old row k = refl
 over_roots (Written (Merge merge)) old row k = refl
 over_roots (Written (Unterm unterm)) old row k = refl
 
-filled_roots : (own : OwnPage) (page old row : ℕ) (k : Knowledge) → (filled own page old row k).roots ≡ k.roots
-filled_roots Other page old row k = over_roots (k.rows row) old row k
+filled_roots : (own : OwnPage) (page old row : ℕ) (k : Knowledge) → (filled own page old row k).read.roots ≡ k.read.roots
+filled_roots Other page old row k = over_roots (k.own.rows row) old row k
 filled_roots Empty page old row k = refl
 filled_roots (Ready base) page old row k = refl
 filled_roots Gone page old row k = refl
 
-emptied_roots : (own : OwnPage) (page old : ℕ) (k : Knowledge) → (emptied own page old k).roots ≡ k.roots
+emptied_roots : (own : OwnPage) (page old : ℕ) (k : Knowledge) → (emptied own page old k).read.roots ≡ k.read.roots
 emptied_roots Other page old k = refl
 emptied_roots Empty page old k = refl
 emptied_roots (Ready base) page old k = refl
 emptied_roots Gone page old k = refl
 
-rooted_roots : (own : OwnPage) (page : ℕ) (k : Knowledge) → (rooted own page k).roots ≡ k.roots
+rooted_roots : (own : OwnPage) (page : ℕ) (k : Knowledge) → (rooted own page k).read.roots ≡ k.read.roots
 rooted_roots Other page k = refl
 rooted_roots Empty page k = refl
 rooted_roots (Ready base) page k = refl
 rooted_roots Gone page k = refl
 
-exchanged_roots : (slot old new : ℕ) (k : Knowledge) → (exchanged slot old new k).roots ≡ k.roots
-exchanged_roots zero old new k = rooted_roots (k.pages new) new k
-exchanged_roots (suc page) old zero k = emptied_roots (k.pages (suc page)) (suc page) old k
-exchanged_roots (suc page) old (suc row) k = filled_roots (k.pages (suc page)) (suc page) old (suc row) k
+exchanged_roots : (slot old new : ℕ) (k : Knowledge) → (exchanged slot old new k).read.roots ≡ k.read.roots
+exchanged_roots zero old new k = rooted_roots (k.own.pages new) new k
+exchanged_roots (suc page) old zero k = emptied_roots (k.own.pages (suc page)) (suc page) old k
+exchanged_roots (suc page) old (suc row) k = filled_roots (k.own.pages (suc page)) (suc page) old (suc row) k
 
 -- A page that is known as the root was so before, or was read in slot 0 now.
 abbrev Learns : Knowledge → StepOf Record → Answer Record → ℕ → Type 0
-Learns k s x p = (k.roots p ≡ true) ⊎ ((s ≡ Slot 0) × (x ≡ Number p))
+Learns k s x p = (k.read.roots p ≡ true) ⊎ ((s ≡ Slot 0) × (x ≡ Number p))
 
-same_roots : (k k' : Knowledge) (s : StepOf Record) (x : Answer Record) (p : ℕ) → k'.roots ≡ k.roots → k'.roots p ≡ true → Learns k s x p
+same_roots : (k k' : Knowledge) (s : StepOf Record) (x : Answer Record) (p : ℕ) → k'.read.roots ≡ k.read.roots → k'.read.roots p ≡ true → Learns k s x p
 same_roots k k' s x p e h = inl (sym (ap (λ (f : ℕ → Bool). f p) e) ∙ h)
 
-pub learns_root : (k : Knowledge) (s : StepOf Record) (x : Answer Record) (p : ℕ) → (learn k s x).roots p ≡ true → Learns k s x p
+pub learns_root : (k : Knowledge) (s : StepOf Record) (x : Answer Record) (p : ℕ) → (learn k s x).read.roots p ≡ true → Learns k s x p
 learns_root k (Slot zero) (Number n) p h = elim (eqb_tells p n) [ inl same ↦ inr (refl, ap Number (sym same.1)) | inr differs ↦ inl (rw differs.0 at h) ]
 learns_root k (Slot (suc page)) (Number zero) p h = inl h
 learns_root k (Slot (suc page)) (Number (suc row)) p h = inl h

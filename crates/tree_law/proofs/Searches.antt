@@ -35,17 +35,17 @@ Is s x t y = (s ≡ t) × (x ≡ y)
 -- Where a head is known after a step: the step read the slot, or it was known before.
 abbrev HeadCases : Knowledge → StepOf Record → Answer Record → ℕ → ℕ → Type 0
 HeadCases k s x page row =
-    ((0 < page) × (0 < row) × Is s x (Slot page) (Number row) × ((r : ℕ) (w : Record) → (learn k s x).recent r ≡ Some w → ⊥))
-    ⊎ ((k.heads page ≡ Some row) × ((r : ℕ) (w : Record) → (learn k s x).recent r ≡ Some w → (k.recent r ≡ Some w) ⊎ Is s x (Row r) (Content w)))
+    ((0 < page) × (0 < row) × Is s x (Slot page) (Number row) × ((r : ℕ) (w : Record) → (learn k s x).read.recent r ≡ Some w → ⊥))
+    ⊎ ((k.read.heads page ≡ Some row) × ((r : ℕ) (w : Record) → (learn k s x).read.recent r ≡ Some w → (k.read.recent r ≡ Some w) ⊎ Is s x (Row r) (Content w)))
 
-heads_cases : (k : Knowledge) (s : StepOf Record) (x : Answer Record) (page row : ℕ) → (learn k s x).heads page ≡ Some row → HeadCases k s x page row
+heads_cases : (k : Knowledge) (s : StepOf Record) (x : Answer Record) (page row : ℕ) → (learn k s x).read.heads page ≡ Some row → HeadCases k s x page row
 heads_cases k (Slot zero) (Number n) page row e = inr (e, λ r w f. inl f)
 heads_cases k (Slot (suc p)) (Number zero) page row e = inr (e, λ r w f. inl f)
-heads_cases k (Slot (suc p)) (Number (suc n)) page row e = by_test page (suc p) (λ t. cond t (Some (suc n)) (k.heads page) ≡ Some row → HeadCases k (Slot (suc p)) (Number (suc n)) page row)
+heads_cases k (Slot (suc p)) (Number (suc n)) page row e = by_test page (suc p) (λ t. cond t (Some (suc n)) (k.read.heads page) ≡ Some row → HeadCases k (Slot (suc p)) (Number (suc n)) page row)
     (λ i f. let at : suc n ≡ row = same_Some (suc n) row f in inl (rw i (omega arith), omega arith, (ap Slot (sym i), ap Number at), λ r w g. absurd (cc))) (λ ne f. inr (f, λ r w g. absurd (cc))) e
 heads_cases k (Row q) (Content v) page row e = inr (
   e,
-  λ r w. by_test r q (λ t. cond t (Some v) (k.recent r) ≡ Some w → (k.recent r ≡ Some w) ⊎ Is (Row q) (Content v) (Row r) (Content w))
+  λ r w. by_test r q (λ t. cond t (Some v) (k.read.recent r) ≡ Some w → (k.read.recent r ≡ Some w) ⊎ Is (Row q) (Content v) (Row r) (Content w))
       (λ i f. inr (ap Row (sym i), ap Content (same_Some v w f))) (λ ne f. inl f),
 )
 heads_cases k Epoch (Number n) page row e = inr (e, λ r w f. inl f)
@@ -58,13 +58,13 @@ heads_cases k (TakeRow q) (Whether true) page row e = inr (e, λ r w f. inl f)
 heads_cases k (TakeRow q) (Whether false) page row e = inr (e, λ r w f. inl f)
 heads_cases k (Exchange p y z) (Whether true) page row e =
     let same = exchanged_alike p y z k in
-    inr (subst (λ f. f page ≡ Some row) same.heads e, λ r w f. inl (subst (λ g. g r ≡ Some w) same.recent f))
+    inr (subst (λ f. f page ≡ Some row) (ap (λ v. v.heads) same.read) e, λ r w f. inl (subst (λ g. g r ≡ Some w) (ap (λ v. v.recent) same.read) f))
 heads_cases k (Exchange p y z) (Whether false) page row e = inr (e, λ r w f. inl f)
 heads_cases k Leave x page row e = absurd (cc)
 heads_cases k s x page row e = inr (e, λ r w f. inl f)
 
-pids_cases : (k : Knowledge) (s : StepOf Record) (x : Answer Record) (word : ℕ) → (learn k s x).no_pids word ≡ true → (k.no_pids word ≡ true) ⊎ Is s x (PidBits word) (Number 0)
-pids_cases k (PidBits v) (Number zero) word e = by_test word v (λ t. cond t true (k.no_pids word) ≡ true → (k.no_pids word ≡ true) ⊎ Is (PidBits v) (Number 0) (PidBits word) (Number 0))
+pids_cases : (k : Knowledge) (s : StepOf Record) (x : Answer Record) (word : ℕ) → (learn k s x).asked.no_pids word ≡ true → (k.asked.no_pids word ≡ true) ⊎ Is s x (PidBits word) (Number 0)
+pids_cases k (PidBits v) (Number zero) word e = by_test word v (λ t. cond t true (k.asked.no_pids word) ≡ true → (k.asked.no_pids word ≡ true) ⊎ Is (PidBits v) (Number 0) (PidBits word) (Number 0))
     (λ i f. inr (ap PidBits (sym i), refl)) (λ ne f. inl f) e
 pids_cases k (PidBits v) (Number (suc n)) word e = inl e
 pids_cases k Epoch (Number n) word e = inl e
@@ -82,8 +82,8 @@ pids_cases k (Exchange p y z) (Whether true) word e = inl (subst (λ f. f word �
 pids_cases k (Exchange p y z) (Whether false) word e = inl e
 pids_cases k s x word e = inl e
 
-rows_cases : (k : Knowledge) (s : StepOf Record) (x : Answer Record) (word : ℕ) → (learn k s x).no_rows word ≡ true → (k.no_rows word ≡ true) ⊎ Is s x (RowBits word) (Number 0)
-rows_cases k (RowBits v) (Number zero) word e = by_test word v (λ t. cond t true (k.no_rows word) ≡ true → (k.no_rows word ≡ true) ⊎ Is (RowBits v) (Number 0) (RowBits word) (Number 0))
+rows_cases : (k : Knowledge) (s : StepOf Record) (x : Answer Record) (word : ℕ) → (learn k s x).asked.no_rows word ≡ true → (k.asked.no_rows word ≡ true) ⊎ Is s x (RowBits word) (Number 0)
+rows_cases k (RowBits v) (Number zero) word e = by_test word v (λ t. cond t true (k.asked.no_rows word) ≡ true → (k.asked.no_rows word ≡ true) ⊎ Is (RowBits v) (Number 0) (RowBits word) (Number 0))
     (λ i f. inr (ap RowBits (sym i), refl)) (λ ne f. inl f) e
 rows_cases k (RowBits v) (Number (suc n)) word e = inl e
 rows_cases k Epoch (Number n) word e = inl e
@@ -153,11 +153,11 @@ module _ (entries : List Entry) (last : Entry) where
   -- what an operation has found stays found at an entry that isn't its own
   pub search_other : (limits : Limits) (op : Operation) (rows rows' : ℕ → Option Record) (k : Knowledge) → IsSearch limits entries op rows k
       → ((step : StepOf Record) (answer : Answer Record) (reply : Option Reply) → last ≡ Step op.actor step answer reply → ⊥)
-      → ((page row : ℕ) → k.heads page ≡ Some row → (c : List Record) → IsChainFrom rows row c → IsChainFrom rows' row c)
+      → ((page row : ℕ) → k.read.heads page ≡ Some row → (c : List Record) → IsChainFrom rows row c → IsChainFrom rows' row c)
       → IsSearch limits (entries ++ last ∷ []) op rows' k
   search_other limits op rows rows' k h never stays = record {
     unfinished = λ n reply ends. elim (own_cases entries last op n ends.0 ends.1 (Some reply) ends.2) [ inl own ↦ h.unfinished n reply (ends.0, ends.1, own) | inr at ↦ never ends.0 ends.1 (Some reply) at.1 ];
-    heads_at = λ page row e. head_kept limits op rows rows' k.recent k.recent page row (h.heads_at page row e) (stays page row e) (λ r w f. inl f);
+    heads_at = λ page row e. head_kept limits op rows rows' k.read.recent k.read.recent page row (h.heads_at page row e) (stays page row e) (λ r w f. inl f);
     pids_at = λ word e. let f = h.pids_at word e in (f.0, takes_kept op f.0 _ _ f.1);
     rows_at = λ word e. let f = h.rows_at word e in (f.0, takes_kept op f.0 _ _ f.1);
   }
@@ -178,7 +178,7 @@ module _ (entries : List Entry) (last : Entry) where
   -- and an own step that does not end it adds what it read
   pub search_own : (limits : Limits) (start a : ℕ) (c : Command) (s : StepOf Record) (x : Answer Record) (rows rows' : ℕ → Option Record) (k : Knowledge) → slice_get entries start ≡ Some (Begin a c) → IsUnended entries start a
       → last ≡ Step a s x None → IsSearch limits entries (operation_of start a c) rows k
-      → ((page row : ℕ) → k.heads page ≡ Some row → (d : List Record) → IsChainFrom rows row d → IsChainFrom rows' row d)
+      → ((page row : ℕ) → k.read.heads page ≡ Some row → (d : List Record) → IsChainFrom rows row d → IsChainFrom rows' row d)
       → ((page row : ℕ) → 0 < page → 0 < row → s ≡ Slot page → x ≡ Number row → (d : List Record) × IsChainOf (memory_of limits entries) page d × IsChainFrom rows' row d)
       → IsSearch limits (entries ++ last ∷ []) (operation_of start a c) rows' (finished (learn k s x) None)
   search_own limits start a c s x rows rows' k begins unended is h stays slots = record {
@@ -192,7 +192,7 @@ module _ (entries : List Entry) (last : Entry) where
         stands = d.2;
         since = λ r w f. absurd (new.3 r w f);
       }
-      | inr old ↦ head_kept limits (operation_of start a c) rows rows' k.recent (learn k s x).recent page row (h.heads_at page row old.0) (stays page row old.0)
+      | inr old ↦ head_kept limits (operation_of start a c) rows rows' k.read.recent (learn k s x).read.recent page row (h.heads_at page row old.0) (stays page row old.0)
           (λ r w f. elim (old.1 r w f) [ inl g ↦ inl g | inr g ↦ inr (takes (Row r) (Content w) g.0 g.1) ])
     ];
     pids_at = λ word e. elim (pids_cases k s x word e) [ inl f ↦ let g = h.pids_at word f in (g.0, takes_kept (operation_of start a c) g.0 _ _ g.1) | inr new ↦ (length entries, takes (PidBits word) (Number 0) new.0 new.1) ];
@@ -203,13 +203,13 @@ module _ (entries : List Entry) (last : Entry) where
       takes t y i j = takes_new entries last start a c t y None begins unended (is ∙ λ d. Step a (i d) (j d) None)
 
 -- what an actor may take for want of room, its operation has found
-pub lacks : (limits : Limits) (entries : List Entry) (op : Operation) (rows : ℕ → Option Record) (k : Knowledge) → ((r : ℕ) (w : Record) → k.recent r ≡ Some w → rows r ≡ Some w) → IsSearch limits entries op rows k
+pub lacks : (limits : Limits) (entries : List Entry) (op : Operation) (rows : ℕ → Option Record) (k : Knowledge) → ((r : ℕ) (w : Record) → k.read.recent r ≡ Some w → rows r ≡ Some w) → IsSearch limits entries op rows k
     → LacksRoom limits k → FindsNothingFree limits entries op ⊎ FindsPageFull limits entries op
 lacks limits entries op rows k stand h (inl (inl words)) = inl (inl (λ word lt. h.pids_at word (words word lt)))
 lacks limits entries op rows k stand h (inl (inr words)) = inl (inr (λ word lt. h.rows_at word (words word lt)))
 lacks limits entries op rows k stand h (inr page) =
     let at = h.heads_at page.page page.row page.head in
-    let same : at.chain ≡ page.chain = IsChainFrom-unique rows page.row at.chain page.chain at.stands (chain_within k.recent rows stand page.chain (Some page.row) page.read) in
+    let same : at.chain ≡ page.chain = IsChainFrom-unique rows page.row at.chain page.chain at.stands (chain_within k.read.recent rows stand page.chain (Some page.row) page.read) in
     inr (
       at.at,
       page.page,
@@ -217,6 +217,6 @@ lacks limits entries op rows k stand h (inr page) =
       page.chain,
       at.took,
       subst (λ c. IsChainOf (memory_at limits entries at.at) page.page c) same at.stood,
-      (λ i r w e f. at.since r w (chain_at k.recent page.row page.chain page.read i r w e f)),
+      (λ i r w e f. at.since r w (chain_at k.read.recent page.row page.chain page.read i r w e f)),
       page.full,
     )

@@ -61,7 +61,7 @@ module _ {limits : Limits} {m : Memory} {log : List Update} {o : Owners} {knows 
     blind : (knows a).inside ≡ true → ⊥
     blind i = let e = outside in cc
 
-    pub blank_holds : (e : ℕ) → Holds m.rows t.row_out t.page_out e true (knows a).seen (λ r. false) (knows a).roots (knows a).heads (knows a).before (knows a).linked
+    pub blank_holds : (e : ℕ) → Holds m.rows t.row_out t.page_out e true (knows a).read.seen (λ r. false) (knows a).read.roots (knows a).read.heads (knows a).read.before (knows a).asked.linked
     blank_holds e = record {
       learnt_inside = λ r i. refl;
       learnt_since = λ r i. absurd (cc);
@@ -74,10 +74,10 @@ module _ {limits : Limits} {m : Memory} {log : List Update} {o : Owners} {knows 
       linked_learnt = λ x i. absurd (blind (h.learnt_inside x (h.linked_learnt x i)));
     }
       where
-        h : Holds m.rows t.row_out t.page_out (t.entered a) (knows a).inside (knows a).seen (knows a).learnt (knows a).roots (knows a).heads (knows a).before (knows a).linked
+        h : Holds m.rows t.row_out t.page_out (t.entered a) (knows a).inside (knows a).read.seen (knows a).read.learnt (knows a).read.roots (knows a).read.heads (knows a).read.before (knows a).asked.linked
         h = T.holds a
 
-  pub enter_timed : (e : ℕ) (x : Answer Record) (r : Option Reply) (o' : Owners) → Calm g T a (memory_after a (Enter e) m) o' → (knows a).inside ≡ false → 0 < e → (knows a).epoch ≡ Some e → a < limits.actors
+  pub enter_timed : (e : ℕ) (x : Answer Record) (r : Option Reply) (o' : Owners) → Calm g T a (memory_after a (Enter e) m) o' → (knows a).inside ≡ false → 0 < e → (knows a).limbo.epoch ≡ Some e → a < limits.actors
       → Timed limits (memory_after a (Enter e) m) o' (put knows a (finished (learn (knows a) (Enter e) x) r)) (suc now) (record t { entered = put t.entered a now })
   enter_timed e x r o' c outside some read actor = put_timed T (linked g T a) a (memory_after a (Enter e) m) o' k' t' turn (record {
     within = λ i. actor;
@@ -128,7 +128,7 @@ module _ {limits : Limits} {m : Memory} {log : List Update} {o : Owners} {knows 
   pub leave_timed : (r : Option Reply) (o' : Owners) → Calm g T a (memory_after a Leave m) o' → Timed limits (memory_after a Leave m) o' (put knows a (finished (learn (knows a) Leave answer.Done) r)) (suc now) t
   leave_timed r o' c = put_timed T (linked g T a) a (memory_after a Leave m) o' k' t turn (record {
     within = λ i. absurd (cc);
-    holds = record { learnt_inside = λ q i. absurd (cc); learnt_since = λ q i. absurd (cc); seen_learnt = λ q w i. absurd (cc); roots_inside = λ p i. absurd (cc); roots_since = λ p i. absurd (cc); heads_since = λ p x i. absurd (cc); before_since = λ p f x i. absurd (cc); beside_since = λ p f y x i. absurd (cc); linked_learnt = λ x i. absurd (forgotten_none (knows a).linked x i) };
+    holds = record { learnt_inside = λ q i. absurd (cc); learnt_since = λ q i. absurd (cc); seen_learnt = λ q w i. absurd (cc); roots_inside = λ p i. absurd (cc); roots_since = λ p i. absurd (cc); heads_since = λ p x i. absurd (cc); before_since = λ p f x i. absurd (cc); beside_since = λ p f y x i. absurd (cc); linked_learnt = λ x i. absurd (forgotten_none (knows a).asked.linked x i) };
     announced = λ i. absurd (cc);
     epochs = T.epochs a;
     own_rows = T.own_rows a;
@@ -150,8 +150,8 @@ module _ {limits : Limits} {m : Memory} {log : List Update} {o : Owners} {knows 
   epoch_timed r o' c = idle_timed g T a m o' k' c refl refl refl refl refl refl refl refl
       (λ e i. let f = same_Some m.epoch e i in omega arith)
       (T.own_rows a) (T.gone_pages a)
-      (λ n q. stamped_fits a m.epoch (λ b. (put knows a k' b).inside) t.entered (t.row_out q) ((knows a).limbo_rows q) (λ w e. (T.rows q w e).2) (limbo_row T (linked g T a) a m o' k' t n a q))
-      (λ n p. stamped_fits a m.epoch (λ b. (put knows a k' b).inside) t.entered (t.page_out p) ((knows a).limbo_pids p) (λ w e. (T.pages p w e).3) (limbo_pid T (linked g T a) a m o' k' t n a p))
+      (λ n q. stamped_fits a m.epoch (λ b. (put knows a k' b).inside) t.entered (t.row_out q) ((knows a).limbo.rows q) (λ w e. (T.rows q w e).2) (limbo_row T (linked g T a) a m o' k' t n a q))
+      (λ n p. stamped_fits a m.epoch (λ b. (put knows a k' b).inside) t.entered (t.page_out p) ((knows a).limbo.pids p) (λ w e. (T.pages p w e).3) (limbo_pid T (linked g T a) a m o' k' t n a p))
       (T.ready a) (T.apart a)
     where
       k' : Knowledge
@@ -162,8 +162,8 @@ module _ {limits : Limits} {m : Memory} {log : List Update} {o : Owners} {knows 
   announce_timed b r o' c = idle_timed g T a m o' k' c refl refl refl refl refl refl refl refl
       (T.epochs a)
       (T.own_rows a) (T.gone_pages a)
-      (λ n q. passed_fits a b (m.announced b) (λ c. (put knows a k' c).inside) t.entered (t.row_out q) ((knows a).limbo_rows q) (λ w e i. let h = T.announced b (was_inside i) in (h.some, h.rows q w e)) (limbo_row T (linked g T a) a m o' k' t n a q))
-      (λ n p. passed_fits a b (m.announced b) (λ c. (put knows a k' c).inside) t.entered (t.page_out p) ((knows a).limbo_pids p) (λ w e i. let h = T.announced b (was_inside i) in (h.some, h.pages p w e)) (limbo_pid T (linked g T a) a m o' k' t n a p))
+      (λ n q. passed_fits a b (m.announced b) (λ c. (put knows a k' c).inside) t.entered (t.row_out q) ((knows a).limbo.rows q) (λ w e i. let h = T.announced b (was_inside i) in (h.some, h.rows q w e)) (limbo_row T (linked g T a) a m o' k' t n a q))
+      (λ n p. passed_fits a b (m.announced b) (λ c. (put knows a k' c).inside) t.entered (t.page_out p) ((knows a).limbo.pids p) (λ w e i. let h = T.announced b (was_inside i) in (h.some, h.pages p w e)) (limbo_pid T (linked g T a) a m o' k' t n a p))
       (T.ready a) (T.apart a)
     where
       k' : Knowledge
@@ -173,8 +173,8 @@ module _ {limits : Limits} {m : Memory} {log : List Update} {o : Owners} {knows 
       was_inside = by_test b a (λ z. (cond z k' (knows b)).inside ≡ true → (knows b).inside ≡ true) (λ e i. subst (λ n. (knows n).inside ≡ true) (sym e) i) (λ ne i. i)
 
   -- a row that is the actor's own is a spare
-  own_spare : (q : ℕ) → IsOwn ((knows a).rows q) → o.row q ≡ Spare a
-  own_spare q i = go ((knows a).rows q) (g.owns a q) i
+  own_spare : (q : ℕ) → IsOwn ((knows a).own.rows q) → o.row q ≡ Spare a
+  own_spare q i = go ((knows a).own.rows q) (g.owns a q) i
     where
       go : (v : OwnRow) → OwnFits a (o.row q) (m.rows q) v → IsOwn v → o.row q ≡ Spare a
       go Foreign h i = absurd i
@@ -187,14 +187,14 @@ module _ {limits : Limits} {m : Memory} {log : List Update} {o : Owners} {knows 
   own_base (Written w) h = tt
 
   -- a record is placed in an own row that stands in no slot
-  pub place_timed : (q : ℕ) (w : Record) (r : Option Reply) (o' : Owners) → Calm g T a (memory_after a (Place q w) m) o' → IsOwn ((knows a).rows q) → IsUnset (knows a) q → Timed limits (memory_after a (Place q w) m) o' (put knows a (finished (learn (knows a) (Place q w) answer.Done) r)) (suc now) t
+  pub place_timed : (q : ℕ) (w : Record) (r : Option Reply) (o' : Owners) → Calm g T a (memory_after a (Place q w) m) o' → IsOwn ((knows a).own.rows q) → IsUnset (knows a) q → Timed limits (memory_after a (Place q w) m) o' (put knows a (finished (learn (knows a) (Place q w) answer.Done) r)) (suc now) t
   place_timed q w r o' c own unset = idle_timed g T a m' o' k' c refl refl refl refl refl refl refl refl
       (T.epochs a)
-      (λ j. by_test j q (λ z. IsOwn (cond z (Written w) ((knows a).rows j)) → t.row_out j ≡ None) (λ e i. ap t.row_out e ∙ T.own_rows a q own) (λ ne. T.own_rows a j))
+      (λ j. by_test j q (λ z. IsOwn (cond z (Written w) ((knows a).own.rows j)) → t.row_out j ≡ None) (λ e i. ap t.row_out e ∙ T.own_rows a q own) (λ ne. T.own_rows a j))
       (T.gone_pages a)
       (λ n. limbo_row T (linked g T a) a m' o' k' t n a)
       (λ n. limbo_pid T (linked g T a) a m' o' k' t n a)
-      (λ p j i. subst IsOwnBase (sym (put_other (knows a).rows q (Written w) j (λ e. unset p (subst (λ n. (knows a).pages p ≡ Ready n) e i)))) (T.ready a p j i))
+      (λ p j i. subst IsOwnBase (sym (put_other (knows a).own.rows q (Written w) j (λ e. unset p (subst (λ n. (knows a).own.pages p ≡ Ready n) e i)))) (T.ready a p j i))
       (T.apart a)
     where
       m' : Memory
@@ -208,11 +208,11 @@ module _ {limits : Limits} {m : Memory} {log : List Update} {o : Owners} {knows 
       → Timed limits (memory_after a (TakeRow q) m) o' (put knows a (finished (learn (knows a) (TakeRow q) (answer.Whether true)) r)) (suc now) t
   take_row_timed q r f o' c = idle_timed g T a m' o' k' c refl refl refl refl refl refl refl refl
       (T.epochs a)
-      (λ j. by_test j q (λ z. IsOwn (cond z Taken ((knows a).rows j)) → t.row_out j ≡ None) (λ e i. ap t.row_out e ∙ not_out (t.row_out q) refl) (λ ne. T.own_rows a j))
+      (λ j. by_test j q (λ z. IsOwn (cond z Taken ((knows a).own.rows j)) → t.row_out j ≡ None) (λ e i. ap t.row_out e ∙ not_out (t.row_out q) refl) (λ ne. T.own_rows a j))
       (T.gone_pages a)
       (λ n. limbo_row T (linked g T a) a m' o' k' t n a)
       (λ n. limbo_pid T (linked g T a) a m' o' k' t n a)
-      (λ p j i. subst IsOwnBase (sym (put_other (knows a).rows q Taken j (λ e. absurd (let h = own_spare j (own_base ((knows a).rows j) (T.ready a p j i)) in let v = ap o.row e ∙ was in cc)))) (T.ready a p j i))
+      (λ p j i. subst IsOwnBase (sym (put_other (knows a).own.rows q Taken j (λ e. absurd (let h = own_spare j (own_base ((knows a).own.rows j) (T.ready a p j i)) in let v = ap o.row e ∙ was in cc)))) (T.ready a p j i))
       (T.apart a)
     where
       m' : Memory
@@ -232,7 +232,7 @@ module _ {limits : Limits} {m : Memory} {log : List Update} {o : Owners} {knows 
   pub take_pid_timed : (q : ℕ) (r : Option Reply) (o' : Owners) → Calm g T a (memory_after a (TakePid q) m) o' → Timed limits (memory_after a (TakePid q) m) o' (put knows a (finished (learn (knows a) (TakePid q) (answer.Whether true)) r)) (suc now) t
   take_pid_timed q r o' c = idle_timed g T a m' o' k' c refl refl refl refl refl refl refl refl
       (T.epochs a) (T.own_rows a)
-      (λ p. by_test p q (λ z. cond z Empty ((knows a).pages p) ≡ Gone → t.page_out p ≡ None) (λ e i. absurd (cc)) (λ ne. T.gone_pages a p))
+      (λ p. by_test p q (λ z. cond z Empty ((knows a).own.pages p) ≡ Gone → t.page_out p ≡ None) (λ e i. absurd (cc)) (λ ne. T.gone_pages a p))
       (λ n. limbo_row T (linked g T a) a m' o' k' t n a)
       (λ n. limbo_pid T (linked g T a) a m' o' k' t n a)
       (λ p j i. T.ready a p j (was p j i))
@@ -244,5 +244,5 @@ module _ {limits : Limits} {m : Memory} {log : List Update} {o : Owners} {knows 
       k' : Knowledge
       k' = finished (learn (knows a) (TakePid q) (answer.Whether true)) r
 
-      was : (p j : ℕ) → put (knows a).pages q Empty p ≡ Ready j → (knows a).pages p ≡ Ready j
-      was p j = by_test p q (λ z. cond z Empty ((knows a).pages p) ≡ Ready j → (knows a).pages p ≡ Ready j) (λ e i. absurd (cc)) (λ ne i. i)
+      was : (p j : ℕ) → put (knows a).own.pages q Empty p ≡ Ready j → (knows a).own.pages p ≡ Ready j
+      was p j = by_test p q (λ z. cond z Empty ((knows a).own.pages p) ≡ Ready j → (knows a).own.pages p ≡ Ready j) (λ e i. absurd (cc)) (λ ne i. i)

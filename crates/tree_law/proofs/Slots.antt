@@ -13,7 +13,7 @@ use Rattle.deltas.specs.declared.record.Record.TheVariants.{Base, Put, Delete, S
 use Rattle.deltas.specs.Memory.{Memory, replaced_at}
 use Rattle.chain_search.specs.Chains.{level_in, low_in}
 use Rattle.chain_search.specs.Steps.{IsAnswer, memory_after}
-use Rattle.chain_search.specs.Discipline.{IsOwn, IsOwnBase, HasRead, MayLink, MayExchange, May}
+use Rattle.chain_search.specs.Discipline.{IsOwn, IsOwnBase, MayExchange, May}
 use Rattle.tree_law.specs.Keys.{Key}
 use Rattle.chain_search.specs.Knowledge.{OwnRow, Foreign, Taken, Written, OwnPage, Other, Empty, Ready, Gone, Knowledge, split_off, linked_over, filled, emptied, rooted, exchanged, learn, finished}
 use Rattle.tree_law.specs.Next.{IsReuse, IsMoved}
@@ -56,17 +56,6 @@ reached_in_tree r l k (Keeps b) h = h
 reached_in_tree r l k (Placed st l' k') h = tt
 reached_in_tree r l k (Cleared b l' k') h = tt
 
--- the page that a link is made on was read
-pub link_read : (a : ℕ) (k : Knowledge) (p x y : ℕ) → MayLink a k p x y → HasRead k p x
-link_read a k p x y (inl h) = h.basis
-link_read a k p x y (inr (inl h)) = h.basis
-link_read a k p x y (inr (inr (inl h))) = h.basis
-link_read a k p x y (inr (inr (inr (inl h)))) = h.basis
-link_read a k p x y (inr (inr (inr (inr (inl h))))) = h.basis
-link_read a k p x y (inr (inr (inr (inr (inr (inl h)))))) = h.basis
-link_read a k p x y (inr (inr (inr (inr (inr (inr (inl h))))))) = h.basis
-link_read a k p x y (inr (inr (inr (inr (inr (inr (inr h))))))) = h.basis
-
 module _ (m : Memory) {log : List Update} {o : Owners} {knows : ℕ → Knowledge} {point : ℕ → Option (List Update)} {logs : ℕ → List (List Update)} (g : Good (shared m) log o knows point logs)
     (held : (p q : ℕ) → slot_in m.slots p ≡ Some q → IsInTree (o.page p) ⊎ IsReady o m knows p q) (a : ℕ) (o' : Owners) (kept : (q : ℕ) → o.row q ≡ Linked → (o'.row q ≡ Linked)) (moved : (q : ℕ) → IsMoved a (m.free_rows q) (o.row q) (o'.row q)) where
   -- whose the row is that is a base in a slot
@@ -81,35 +70,35 @@ module _ (m : Memory) {log : List Update} {o : Owners} {knows : ℕ → Knowledg
   owned_after b q (inr e) = spare_after b q e
 
   -- What is ready stays so for the other actors, and for this one where it still knows it so.
-  ready_after : (m' : Memory) (k : Knowledge) (p q : ℕ) → (h : IsReady o m knows p q) → ((o.row q ≡ Linked) ⊎ (o.row q ≡ Spare h.actor) → m'.rows q ≡ m.rows q) → (h.actor ≡ a → k.pages p ≡ Ready q) → IsReady o' m' (put knows a k) p q
+  ready_after : (m' : Memory) (k : Knowledge) (p q : ℕ) → (h : IsReady o m knows p q) → ((o.row q ≡ Linked) ⊎ (o.row q ≡ Spare h.actor) → m'.rows q ≡ m.rows q) → (h.actor ≡ a → k.own.pages p ≡ Ready q) → IsReady o' m' (put knows a k) p q
   ready_after m' k p q h same still = record {
     actor = h.actor;
-    ready = by_test h.actor a (λ t. (cond t k (knows h.actor)).pages p ≡ Ready q) still (λ ne. h.ready);
+    ready = by_test h.actor a (λ t. (cond t k (knows h.actor)).own.pages p ≡ Ready q) still (λ ne. h.ready);
     owned = owned_after h.actor q h.owned;
     base = h.base;
     stands = same h.owned ∙ h.stands;
   }
 
   -- after a step that leaves slots, and pages of the actor
-  still : (m' : Memory) (k : Knowledge) → m'.rows ≡ m.rows → o'.page ≡ o.page → k.pages ≡ (knows a).pages → (p q : ℕ) → slot_in m.slots p ≡ Some q → IsInTree (o'.page p) ⊎ IsReady o' m' (put knows a k) p q
+  still : (m' : Memory) (k : Knowledge) → m'.rows ≡ m.rows → o'.page ≡ o.page → k.own.pages ≡ (knows a).own.pages → (p q : ℕ) → slot_in m.slots p ≡ Some q → IsInTree (o'.page p) ⊎ IsReady o' m' (put knows a k) p q
   still m' k rows same pages p q e = elim (held p q e) [
     | inl h ↦ inl (subst (λ (f : ℕ → PageOwner). IsInTree (f p)) (sym same) h)
-    | inr h ↦ inr (ready_after m' k p q h (λ i. ap (λ f. f q) rows) (λ i. ap (λ f. f p) pages ∙ subst (λ n. (knows n).pages p ≡ Ready q) i h.ready))
+    | inr h ↦ inr (ready_after m' k p q h (λ i. ap (λ f. f q) rows) (λ i. ap (λ f. f p) pages ∙ subst (λ n. (knows n).own.pages p ≡ Ready q) i h.ready))
   ]
 
   -- a page whose kind is known to the actor after a change at another page
-  with_other : (v : OwnPage) (n p q : ℕ) → p ≢ n → (knows a).pages p ≡ Ready q → put (knows a).pages n v p ≡ Ready q
-  with_other v n p q ne e = put_other (knows a).pages n v p ne ∙ e
+  with_other : (v : OwnPage) (n p q : ℕ) → p ≢ n → (knows a).own.pages p ≡ Ready q → put (knows a).own.pages n v p ≡ Ready q
+  with_other v n p q ne e = put_other (knows a).own.pages n v p ne ∙ e
 
   -- a row that is linked on a page
   module _ (n x y : ℕ) (r : Option Reply) (w : Record) (stands : m.rows (suc y) ≡ Some w) (links : Links (shared m) a w (suc n) o.page o'.page) (in_tree : IsInTree (o.page (suc n))) where
     -- a page that is ready is so afterwards, or in the tree
-    linked_ready : (v : OwnRow) → OwnFits a (o.row (suc y)) (m.rows (suc y)) v → (p q : ℕ) → (knows a).pages p ≡ Ready q → IsInTree (o'.page p) ⊎ ((linked_over v (suc x) (suc y) (knows a)).pages p ≡ Ready q)
+    linked_ready : (v : OwnRow) → OwnFits a (o.row (suc y)) (m.rows (suc y)) v → (p q : ℕ) → (knows a).own.pages p ≡ Ready q → IsInTree (o'.page p) ⊎ ((linked_over v (suc x) (suc y) (knows a)).own.pages p ≡ Ready q)
     linked_ready (Written (Split split)) fits p q e =
         let same : w ≡ Split split = same_Some w (Split split) (sym stands ∙ fits.1) in
         let h = subst (λ (u : Record). Links (shared m) a u (suc n) o.page o'.page) same links in
-        elim ((knows a).pages split.page) as (λ z. IsInTree (o'.page p) ⊎ ((split_off z split.page (suc y) (knows a)).pages p ≡ Ready q)) [
-          | Ready base ↦ by_test p split.page (λ t. IsInTree (o'.page p) ⊎ (cond t Other ((knows a).pages p) ≡ Ready q))
+        elim ((knows a).own.pages split.page) as (λ z. IsInTree (o'.page p) ⊎ ((split_off z split.page (suc y) (knows a)).own.pages p ≡ Ready q)) [
+          | Ready base ↦ by_test p split.page (λ t. IsInTree (o'.page p) ⊎ (cond t Other ((knows a).own.pages p) ≡ Ready q))
               (λ i. inl (subst (λ (f : ℕ → PageOwner). IsInTree (f p)) (sym h.5) (rw i (here_in_tree o.page split.page Fresh h.1 split.separator))))
               (λ ne. inr e)
           | Other ↦ inr e
@@ -119,7 +108,7 @@ module _ (m : Memory) {log : List Update} {o : Owners} {knows : ℕ → Knowledg
     linked_ready (Written (Unterm unterm)) fits p q e =
         let same : w ≡ Unterm unterm = same_Some w (Unterm unterm) (sym stands ∙ fits.1) in
         let h = subst (λ (u : Record). Links (shared m) a u (suc n) o.page o'.page) same links in
-        by_test p unterm.child (λ t. IsInTree (o'.page p) ⊎ (cond t Gone ((knows a).pages p) ≡ Ready q))
+        by_test p unterm.child (λ t. IsInTree (o'.page p) ⊎ (cond t Gone ((knows a).own.pages p) ≡ Ready q))
         (λ i. inl (subst (λ (f : ℕ → PageOwner). IsInTree (f p)) (sym h.2) (rw i (subst IsInTree (sym (put_same o.page unterm.child (Cleared a h.0 unterm.separator))) tt))))
         (λ ne. inr e)
     linked_ready (Written (Base page)) fits p q e = inr e
@@ -132,8 +121,8 @@ module _ (m : Memory) {log : List Update} {o : Owners} {knows : ℕ → Knowledg
     linked_ready Taken fits p q e = inr e
     linked_ready Foreign fits p q e = inr e
 
-    filled_ready : (v : OwnPage) (p q : ℕ) → p ≢ suc n → (knows a).pages p ≡ Ready q → IsInTree (o'.page p) ⊎ ((filled v (suc n) (suc x) (suc y) (knows a)).pages p ≡ Ready q)
-    filled_ready Other p q ne e = linked_ready ((knows a).rows (suc y)) (g.owns a (suc y)) p q e
+    filled_ready : (v : OwnPage) (p q : ℕ) → p ≢ suc n → (knows a).own.pages p ≡ Ready q → IsInTree (o'.page p) ⊎ ((filled v (suc n) (suc x) (suc y) (knows a)).own.pages p ≡ Ready q)
+    filled_ready Other p q ne e = linked_ready ((knows a).own.rows (suc y)) (g.owns a (suc y)) p q e
     filled_ready Empty p q ne e = inr (with_other (Ready (suc y)) (suc n) p q ne e)
     filled_ready (Ready base) p q ne e = inr e
     filled_ready Gone p q ne e = inr e
@@ -144,7 +133,7 @@ module _ (m : Memory) {log : List Update} {o : Owners} {knows : ℕ → Knowledg
         (λ ne f. elim (held p q f) [
           | inl h ↦ inl (links_in_tree (shared m) a w (suc n) o.page o'.page links p h)
           | inr h ↦ by_test h.actor a (λ t. IsInTree (o'.page p) ⊎ IsReady o' m' (put knows a (finished (exchanged (suc n) (suc x) (suc y) (knows a)) r)) p q)
-              (λ i. elim (filled_ready ((knows a).pages (suc n)) p q ne (subst (λ z. (knows z).pages p ≡ Ready q) i h.ready)) [
+              (λ i. elim (filled_ready ((knows a).own.pages (suc n)) p q ne (subst (λ z. (knows z).own.pages p ≡ Ready q) i h.ready)) [
                 | inl tree ↦ inl tree
                 | inr known ↦ inr (ready_after m' (finished (exchanged (suc n) (suc x) (suc y) (knows a)) r) p q h (λ j. ap (λ f. f q) rows) (λ j. known))
               ])
@@ -168,26 +157,26 @@ module _ (m : Memory) {log : List Update} {o : Owners} {knows : ℕ → Knowledg
   own_base q Taken fits h = absurd h
   own_base q Foreign fits h = absurd h
 
-  readies : (n y : ℕ) (r : Option Reply) → (knows a).pages (suc n) ≡ Empty → IsOwnBase ((knows a).rows (suc y)) → o'.page ≡ o.page → (p q : ℕ) → put (slot_in m.slots) (suc n) (Some (suc y)) p ≡ Some q
+  readies : (n y : ℕ) (r : Option Reply) → (knows a).own.pages (suc n) ≡ Empty → IsOwnBase ((knows a).own.rows (suc y)) → o'.page ≡ o.page → (p q : ℕ) → put (slot_in m.slots) (suc n) (Some (suc y)) p ≡ Some q
       → IsInTree (o'.page p) ⊎ IsReady o' (record m { slots = replaced_at (suc n) (suc y) m.slots }) (put knows a (finished (exchanged (suc n) zero (suc y) (knows a)) r)) p q
   readies n y r empty base same p q e = subst (λ (v : OwnPage). IsInTree (o'.page p) ⊎ IsReady o' (record m { slots = replaced_at (suc n) (suc y) m.slots }) (put knows a (finished (filled v (suc n) zero (suc y) (knows a)) r)) p q) (sym empty)
       (by_test p (suc n) (λ t. cond t (Some (suc y)) (slot_in m.slots p) ≡ Some q → IsInTree (o'.page p) ⊎ IsReady o' (record m { slots = replaced_at (suc n) (suc y) m.slots }) (put knows a k) p q)
-      (λ i f. let at : suc y ≡ q = same_Some (suc y) q f in let own = own_base (suc y) ((knows a).rows (suc y)) (g.owns a (suc y)) base in inr (record {
+      (λ i f. let at : suc y ≡ q = same_Some (suc y) q f in let own = own_base (suc y) ((knows a).own.rows (suc y)) (g.owns a (suc y)) base in inr (record {
         actor = a;
-        ready = subst (λ (z : Knowledge). z.pages p ≡ Ready q) (sym (put_same knows a k)) (rw i (put_same (knows a).pages (suc n) (Ready (suc y)) ∙ ap Ready at));
+        ready = subst (λ (z : Knowledge). z.own.pages p ≡ Ready q) (sym (put_same knows a k)) (rw i (put_same (knows a).own.pages (suc n) (Ready (suc y)) ∙ ap Ready at));
         owned = owned_after a q (inr (subst (λ z. o.row z ≡ Spare a) at own.0));
         base = own.1.0;
         stands = subst (λ z. m.rows z ≡ Some (Base own.1.0)) at own.1.1;
       }))
       (λ ne f. elim (held p q f) [
         | inl h ↦ inl (subst (λ (f : ℕ → PageOwner). IsInTree (f p)) (sym same) h)
-        | inr h ↦ inr (ready_after (record m { slots = replaced_at (suc n) (suc y) m.slots }) k p q h (λ j. refl) (λ j. with_other (Ready (suc y)) (suc n) p q ne (subst (λ z. (knows z).pages p ≡ Ready q) j h.ready)))
+        | inr h ↦ inr (ready_after (record m { slots = replaced_at (suc n) (suc y) m.slots }) k p q h (λ j. refl) (λ j. with_other (Ready (suc y)) (suc n) p q ne (subst (λ z. (knows z).own.pages p ≡ Ready q) j h.ready)))
       ]) e)
     where
       k : Knowledge
       k = finished (filled Empty (suc n) zero (suc y) (knows a)) r
 
-  emptied_ready : (v : OwnPage) (n x p q : ℕ) → p ≢ n → (knows a).pages p ≡ Ready q → (emptied v n x (knows a)).pages p ≡ Ready q
+  emptied_ready : (v : OwnPage) (n x p q : ℕ) → p ≢ n → (knows a).own.pages p ≡ Ready q → (emptied v n x (knows a)).own.pages p ≡ Ready q
   emptied_ready (Ready base) n x p q ne e = with_other Empty n p q ne e
   emptied_ready Other n x p q ne e = e
   emptied_ready Empty n x p q ne e = e
@@ -198,10 +187,10 @@ module _ (m : Memory) {log : List Update} {o : Owners} {knows : ℕ → Knowledg
       (λ i f. absurd (cc))
       (λ ne f. elim (held p q f) [
         | inl h ↦ inl (subst (λ (f : ℕ → PageOwner). IsInTree (f p)) (sym same) h)
-        | inr h ↦ inr (ready_after m' (finished (exchanged (suc n) (suc x) zero (knows a)) r) p q h (λ j. ap (λ f. f q) rows) (λ j. emptied_ready ((knows a).pages (suc n)) (suc n) (suc x) p q ne (subst (λ z. (knows z).pages p ≡ Ready q) j h.ready)))
+        | inr h ↦ inr (ready_after m' (finished (exchanged (suc n) (suc x) zero (knows a)) r) p q h (λ j. ap (λ f. f q) rows) (λ j. emptied_ready ((knows a).own.pages (suc n)) (suc n) (suc x) p q ne (subst (λ z. (knows z).own.pages p ≡ Ready q) j h.ready)))
       ]) e
 
-  rooted_ready : (v : OwnPage) (n p q : ℕ) → p ≢ n → (knows a).pages p ≡ Ready q → (rooted v n (knows a)).pages p ≡ Ready q
+  rooted_ready : (v : OwnPage) (n p q : ℕ) → p ≢ n → (knows a).own.pages p ≡ Ready q → (rooted v n (knows a)).own.pages p ≡ Ready q
   rooted_ready (Ready base) n p q ne e = with_other Other n p q ne e
   rooted_ready Other n p q ne e = e
   rooted_ready Empty n p q ne e = e
@@ -212,7 +201,7 @@ module _ (m : Memory) {log : List Update} {o : Owners} {knows : ℕ → Knowledg
     | inl h ↦ inl (subst (λ (f : ℕ → PageOwner). IsInTree (f p)) (sym same) (put_in_tree (put o.page b (Placed Indexed l k)) y p Indexed (suc l) [] (put_in_tree o.page b p Indexed l k h)))
     | inr h ↦ by_test p y (λ t. IsInTree (o'.page p) ⊎ IsReady o' m' (put knows a (finished (exchanged zero x y (knows a)) r)) p q)
         (λ i. inl (subst (λ (f : ℕ → PageOwner). IsInTree (f p)) (sym same) (rw i (here_in_tree (put o.page b (Placed Indexed l k)) y Indexed (suc l) []))))
-        (λ ne. inr (ready_after m' (finished (exchanged zero x y (knows a)) r) p q h (λ j. ap (λ f. f q) rows) (λ j. rooted_ready ((knows a).pages y) y p q ne (subst (λ z. (knows z).pages p ≡ Ready q) j h.ready))))
+        (λ ne. inr (ready_after m' (finished (exchanged zero x y (knows a)) r) p q h (λ j. ap (λ f. f q) rows) (λ j. rooted_ready ((knows a).own.pages y) y p q ne (subst (λ z. (knows z).own.pages p ≡ Ready q) j h.ready))))
   ]
 
   exchange_won : (p x y : ℕ) (r : Option Reply) → MayExchange a (knows a) p x y → Phased a (shared m) (Exchange p x y) (Whether true) o.page o'.page → Holds (record m { slots = replaced_at p y m.slots }) (finished (exchanged p x y (knows a)) r)
@@ -221,7 +210,7 @@ module _ (m : Memory) {log : List Update} {o : Owners} {knows : ℕ → Knowledg
   exchange_won (suc n) zero (suc y) r may ph p q e = readies n y r may.0 may.1 ph.0 p q (subst (λ (f : ℕ → Option ℕ). f p ≡ Some q) (slot_put m.slots n (suc y)) e)
   exchange_won (suc n) (suc x) zero r may ph p q e = empties n x r (record m { slots = replaced_at (suc n) zero m.slots }) refl ph.0 p q (subst (λ (f : ℕ → Option ℕ). f p ≡ Some q) (slot_put m.slots n zero) e)
   exchange_won (suc n) (suc x) (suc y) r may ph p q e =
-      let read = link_read a (knows a) (suc n) (suc x) (suc y) may.1 in
+      let read = may.basis in
       let h = subst (λ (v : Option ℕ). HeadFits o (shared m) (logs a) (suc n) v) read.head ((g.sound a).heads_fit (suc n)) in
       linking n x y r ph.0 ph.1 ph.2 (reached_in_tree 0 (level_in h.2.chain) (low_in h.2.chain) (o.page (suc n)) h.3) (record m { slots = replaced_at (suc n) (suc y) m.slots }) refl p q (subst (λ (f : ℕ → Option ℕ). f p ≡ Some q) (slot_put m.slots n (suc y)) e)
 
@@ -230,10 +219,10 @@ module _ (m : Memory) {log : List Update} {o : Owners} {knows : ℕ → Knowledg
       (λ i. absurd (let none = (g.frees.page n free).1 in let f : slot_in m.slots n ≡ Some q = subst (λ z. slot_in m.slots z ≡ Some q) i e in cc))
       (λ ne. elim (held p q e) [
         | inl h ↦ inl (subst (λ (f : ℕ → PageOwner). IsInTree (f p)) (sym same) (subst IsInTree (sym (put_other o.page n (Keeps a) p ne)) h))
-        | inr h ↦ inr (ready_after (memory_after a (TakePid n) m) (finished (learn (knows a) (TakePid n) (Whether true)) r) p q h (λ j. refl) (λ j. with_other Empty n p q ne (subst (λ z. (knows z).pages p ≡ Ready q) j h.ready)))
+        | inr h ↦ inr (ready_after (memory_after a (TakePid n) m) (finished (learn (knows a) (TakePid n) (Whether true)) r) p q h (λ j. refl) (λ j. with_other Empty n p q ne (subst (λ z. (knows z).own.pages p ≡ Ready q) j h.ready)))
       ])
 
-  places : (n : ℕ) (w : Record) (x : Answer Record) (r : Option Reply) → IsOwn ((knows a).rows n) → ((page : ℕ) → (knows a).pages page ≡ Ready n → ⊥) → o'.page ≡ o.page → Holds (memory_after a (Place n w) m) (finished (learn (knows a) (Place n w) x) r)
+  places : (n : ℕ) (w : Record) (x : Answer Record) (r : Option Reply) → IsOwn ((knows a).own.rows n) → ((page : ℕ) → (knows a).own.pages page ≡ Ready n → ⊥) → o'.page ≡ o.page → Holds (memory_after a (Place n w) m) (finished (learn (knows a) (Place n w) x) r)
   places n w x r own never same p q e = elim (held p q e) [
     | inl h ↦ inl (subst (λ (f : ℕ → PageOwner). IsInTree (f p)) (sym same) h)
     | inr h ↦ inr (ready_after (memory_after a (Place n w) m) (finished (learn (knows a) (Place n w) x) r) p q h
@@ -243,13 +232,13 @@ module _ (m : Memory) {log : List Update} {o : Owners} {knows : ℕ → Knowledg
               let mine = spare in
               let his : o.row n ≡ Spare h.actor = subst (λ z. o.row z ≡ Spare h.actor) i s in
               let actors : h.actor ≡ a = cc in
-              never p (subst (λ z. (knows z).pages p ≡ Ready n) actors (h.ready ∙ ap Ready i))
+              never p (subst (λ z. (knows z).own.pages p ≡ Ready n) actors (h.ready ∙ ap Ready i))
         ]))
-        (λ j. subst (λ z. (knows z).pages p ≡ Ready q) j h.ready))
+        (λ j. subst (λ z. (knows z).own.pages p ≡ Ready q) j h.ready))
   ]
     where
       spare : o.row n ≡ Spare a
-      spare = own_spare g a n ((knows a).rows n) (g.owns a n) own
+      spare = own_spare g a n ((knows a).own.rows n) (g.owns a n) own
 
   -- after an allowed step
   pub held_after : (s : StepOf Record) → (IsReuse s → ⊥) → (x : Answer Record) (r : Option Reply) → May a (knows a) s → IsAnswer m s x → Phased a (shared m) s x o.page o'.page → Holds (memory_after a s m) (finished (learn (knows a) s x) r)

@@ -6,15 +6,15 @@ use Rattle.deltas.specs.declared.record.Record.{Record}
 use Rattle.deltas.specs.declared.record.Record.TheVariants.{Split}
 use Rattle.chain_search.specs.Chains.{content_in, level_in, low_in, high_in}
 use Rattle.tree_law.specs.Keys.{Key, IsBelow, Covers}
-use Rattle.chain_search.specs.Knowledge.{OwnRow, Foreign, OwnPage, Other, Knowledge, filled, finished}
+use Rattle.chain_search.specs.Knowledge.{OwnRow, Foreign, OwnPage, Other, Knowledge, filled, finished, handed_over, handed_page, Written}
 use Rattle.tree_law.specs.Phase.{Stage, Fresh, PageOwner, Nobody, Keeps, Placed, rank}
 use Rattle.tree_law.specs.Put.{put}
 use Rattle.tree_law.specs.Shared.{Shared}
-use Rattle.tree_law.specs.Owners.{Free, Spare, Linked, Owners, IsLinked, OwnFits, PageFits}
-use Rattle.tree_law.specs.Tree.{spec, InPlace, HasPage, IsOff, IsOut, Off, Good}
+use Rattle.tree_law.specs.Owners.{Free, Spare, Linked, Owners, IsLinked, OwnFits, PageFits, IsOut}
+use Rattle.tree_law.specs.Tree.{spec, InPlace, HasPage, IsOff, Off, Good}
 use Rattle.std.specs.Prelude.{not}
 use Rattle.deltas.specs.declared.record.Split.{Split as SplitOf}
-use Rattle.chain_search.specs.Discipline.{MaySplit, base_from}
+use Rattle.chain_search.specs.Discipline.{MaySplit, base_from, HasRead}
 use Rattle.tree_law.proofs.KeyOrder.{under_trans, upto_trans, below_not, covers_to}
 use Rattle.tree_law.proofs.Puts.{by_test, put_same, put_other}
 use Rattle.tree_law.proofs.Kept.{Kept}
@@ -33,10 +33,10 @@ module _ {m : Shared} {log : List Update} {o : Owners} {knows : ℕ → Knowledg
   keeps_not q e l s st f = absurd (let i = sym e ∙ f in cc)
 
   -- the exchange that links a split
-  pub splits : (p x y : ℕ) → m.slots p ≡ Some x → (h : MaySplit (knows a) p x y) → (r : Option Reply) → Good (record m { slots = put m.slots p (Some y) }) log (record { row = put (put o.row h.row Linked) y Linked; page = put o.page h.right (Placed Fresh (level_in h.basis.chain) h.separator); index = o.index }) (put knows a (finished (filled ((knows a).pages p) p x y (knows a)) r)) (put point a (point a)) (put logs a (log ∷ logs a)) × ((st : Stage) × (o.page p ≡ Placed st (level_in h.basis.chain) (low_in h.basis.chain)) × (o.page h.right ≡ Keeps a))
-  splits p x y s h r = (
+  pub splits : (p x y : ℕ) → m.slots p ≡ Some x → (basis : HasRead (knows a) p x) (content : Record) → (knows a).own.rows y ≡ Written content → (h : MaySplit (knows a) x basis.chain content) → (r : Option Reply) → Good (record m { slots = put m.slots p (Some y) }) log (record { row = put (put o.row h.row Linked) y Linked; page = put o.page h.right (Placed Fresh (level_in basis.chain) h.separator); index = o.index }) (put knows a (finished (filled ((knows a).own.pages p) p x y (knows a)) r)) (put point a (point a)) (put logs a (log ∷ logs a)) × ((st : Stage) × (o.page p ≡ Placed st (level_in basis.chain) (low_in basis.chain)) × (o.page h.right ≡ Keeps a))
+  splits p x y s basis content written h r = (
     subst (λ (k : Knowledge). Good m' log o' (put knows a (finished k r)) (put point a (point a)) (put logs a (log ∷ logs a))) (sym learned)
-        (put_good g a m' log o' (finished (record (knows a) { rows = put (put (knows a).rows h.row Foreign) y Foreign; pages = put (knows a).pages h.right Other }) r) (point a) (log ∷ logs a)
+        (put_good g a m' log o' (finished (handed_page h.right Other y (handed_over h.row (knows a))) r) (point a) (log ∷ logs a)
         change
         (record {
           row = λ j f. by_test j y (λ t. cond t Linked (put o.row h.row Linked j) ≡ Free) (λ i. absurd (let v = g.frees.row j f in let w = ap o.row i ∙ upper.0 in cc))
@@ -94,24 +94,24 @@ module _ {m : Shared} {log : List Update} {o : Owners} {knows : ℕ → Knowledg
         (λ q l k. by_test q h.right (λ t. IsOff (cond t (Placed Fresh (level_in c) h.separator) (o.page q)) l k → IsOut (o'.page q) (put m.slots p (Some y) q) ⊎ Off o' m' q l k)
         (λ i e. absurd (not_off Fresh (level_in c) h.separator l k (omega arith) e))
         (λ i e. off_still g a o' m' kept q l k (put_other m.slots p (Some y) q (λ j. not_off place.stage (level_in c) (low_in c) l k place.on (subst (λ (v : PageOwner). IsOff v l k) (ap o.page j ∙ place.placed) e))) (g.tree.off q l k e))))
-        (λ j. by_test j y (λ t. OwnFits a (cond t Linked (put o.row h.row Linked j)) (m.rows j) (cond t Foreign (put (knows a).rows h.row Foreign j))) (λ i. tt)
-        (λ i. by_test j h.row (λ t. OwnFits a (cond t Linked (o.row j)) (m.rows j) (cond t Foreign ((knows a).rows j))) (λ i. tt) (λ i. g.owns a j)))
-        (λ j. by_test j h.right (λ t. PageFits a (cond t (Placed Fresh (level_in c) h.separator) (o.page j)) (put m.slots p (Some y) j) (cond t Other ((knows a).pages j))) (λ i. tt)
-        (λ i. by_test j p (λ t. PageFits a (o.page j) (cond t (Some y) (m.slots j)) ((knows a).pages j))
-        (λ i. subst (λ (v : OwnPage). PageFits a (o.page j) (Some y) v) (sym (not_own g a j (level_in c) (low_in c) place.stage (ap o.page i ∙ place.placed) ((knows a).pages j) (g.owns_pages a j))) tt)
+        (λ j. by_test j y (λ t. OwnFits a (cond t Linked (put o.row h.row Linked j)) (m.rows j) (cond t Foreign (put (knows a).own.rows h.row Foreign j))) (λ i. tt)
+        (λ i. by_test j h.row (λ t. OwnFits a (cond t Linked (o.row j)) (m.rows j) (cond t Foreign ((knows a).own.rows j))) (λ i. tt) (λ i. g.owns a j)))
+        (λ j. by_test j h.right (λ t. PageFits a (cond t (Placed Fresh (level_in c) h.separator) (o.page j)) (put m.slots p (Some y) j) (cond t Other ((knows a).own.pages j))) (λ i. tt)
+        (λ i. by_test j p (λ t. PageFits a (o.page j) (cond t (Some y) (m.slots j)) ((knows a).own.pages j))
+        (λ i. subst (λ (v : OwnPage). PageFits a (o.page j) (Some y) v) (sym (not_own g a j (level_in c) (low_in c) place.stage (ap o.page i ∙ place.placed) ((knows a).own.pages j) (g.owns_pages a j))) tt)
         (λ i. g.owns_pages a j)))
         (mine_at g a o' m' kept)),
     (place.stage, place.placed, ready.0),
   )
     where
       c : List Record
-      c = h.basis.chain
+      c = basis.chain
 
       f : Found o m p x c
-      f = found g a p x h.basis
+      f = found g a p x basis
 
       place : InPlace o m (level_in c) (spec log o.index (level_in c)) (record { page = p; row = x; chain = c })
-      place = place_of g a p x c f h.basis.alive s
+      place = place_of g a p x c f basis.alive s
 
       split : SplitOf
       split = record { level = level_in c; next = x; separator = h.separator; page = h.right }
@@ -120,7 +120,7 @@ module _ {m : Shared} {log : List Update} {o : Owners} {knows : ℕ → Knowledg
       base = base_from c h.separator h.items
 
       upper : (o.row y ≡ Spare a) × (m.rows y ≡ Some (Split split))
-      upper = subst (λ (v : OwnRow). OwnFits a (o.row y) (m.rows y) v) h.placed (g.owns a y)
+      upper = subst (λ (v : OwnRow). OwnFits a (o.row y) (m.rows y) v) (written ∙ ap Written h.is) (g.owns a y)
 
       lower : (o.row h.row ≡ Spare a) × (m.rows h.row ≡ Some base)
       lower = subst (λ (v : OwnRow). OwnFits a (o.row h.row) (m.rows h.row) v) h.base (g.owns a h.row)
@@ -148,11 +148,11 @@ module _ {m : Shared} {log : List Update} {o : Owners} {knows : ℕ → Knowledg
         row = λ j. by_test j y (λ t. RowChange a (o.row j) (cond t Linked (put o.row h.row Linked j)) (m.rows j) (m.rows j)) (λ i. row_own (ap o.row i ∙ upper.0))
             (λ i. by_test j h.row (λ t. RowChange a (o.row j) (cond t Linked (o.row j)) (m.rows j) (m.rows j)) (λ i. row_own (ap o.row i ∙ lower.0)) (λ i. row_same refl refl));
         page = λ j. by_test j h.right (λ t. PageChange a o m m' (o.page j) (cond t (Placed Fresh (level_in c) h.separator) (o.page j)) (m.slots j) (put m.slots p (Some y) j)) (λ i. page_own (ap o.page i ∙ ready.0))
-            (λ i. by_test j p (λ t. PageChange a o m m' (o.page j) (o.page j) (m.slots j) (cond t (Some y) (m.slots j))) (λ i. page_link place.stage place.stage (level_in c) (low_in c) (ap o.page i ∙ place.placed) (ap o.page i ∙ place.placed) (omega arith) x y c (ap m.slots i ∙ s) f.stands h.basis.alive refl upper.0) (λ i. page_same refl refl));
+            (λ i. by_test j p (λ t. PageChange a o m m' (o.page j) (o.page j) (m.slots j) (cond t (Some y) (m.slots j))) (λ i. page_link place.stage place.stage (level_in c) (low_in c) (ap o.page i ∙ place.placed) (ap o.page i ∙ place.placed) (omega arith) x y c (ap m.slots i ∙ s) f.stands basis.alive refl upper.0) (λ i. page_same refl refl));
       }
 
       kept : Kept o o' m m'
       kept = kept_change a o o' m m' change
 
-      learned : filled ((knows a).pages p) p x y (knows a) ≡ record (knows a) { rows = put (put (knows a).rows h.row Foreign) y Foreign; pages = put (knows a).pages h.right Other }
-      learned = rw (not_own g a p (level_in c) (low_in c) place.stage place.placed ((knows a).pages p) (g.owns_pages a p), h.placed, h.ready) refl
+      learned : filled ((knows a).own.pages p) p x y (knows a) ≡ handed_page h.right Other y (handed_over h.row (knows a))
+      learned = rw (not_own g a p (level_in c) (low_in c) place.stage place.placed ((knows a).own.pages p) (g.owns_pages a p), (written ∙ ap Written h.is), h.ready) refl

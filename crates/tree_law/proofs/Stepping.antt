@@ -11,7 +11,7 @@ use Rattle.bw_model.specs.Log.{Update, set, unset}
 use Rattle.base_page.specs.declared.item.Content.TheVariants.{Child}
 use Rattle.base_page.specs.Pages.{Page}
 use Rattle.deltas.specs.declared.record.Record.{Record}
-use Rattle.deltas.specs.declared.record.Record.TheVariants.{Base, Split, Term, Hold, Remove, Merge, Unterm}
+use Rattle.deltas.specs.declared.record.Record.TheVariants.{Base, Put, Delete, Split, Term, Hold, Remove, Merge, Unterm}
 use Rattle.deltas.specs.Memory.{Memory, replaced_at}
 use Rattle.deltas.specs.Records.{next_row}
 use Rattle.chain_search.specs.Chains.{level_in, low_in, high_in, right_in}
@@ -19,7 +19,7 @@ use Rattle.chain_search.specs.Fitted.{IsFitted}
 use Rattle.chain_search.specs.Steps.{IsAnswer, memory_after}
 use Rattle.tree_law.specs.Keys.{put_key}
 use Rattle.chain_search.specs.Knowledge.{OwnRow, Written, OwnPage, Empty, Ready, Gone, Knowledge, learn_head, filled, emptied, learn, finished}
-use Rattle.chain_search.specs.Discipline.{record_of, base_from, root_over, IsMet, FitsOn, MayAdd, MayUpdate, MayConsolidate, MaySplit, MayPost, MayHold, MayRemove, MayMerge, MayUnterm, MayRoot, MayLink, MayExchange, May}
+use Rattle.chain_search.specs.Discipline.{record_of, base_from, root_over, IsMet, HasRead, FitsOn, MayUpdate, MayConsolidate, MaySplit, MayPost, MayHold, MayRemove, MayMerge, MayUnterm, MayRoot, MayLink, MayExchange, May}
 use Rattle.tree_law.specs.Phase.{Fresh, Indexed, Held, Removed, Merged, PageOwner, Keeps, Placed, Cleared}
 use Rattle.tree_law.specs.Phases.{Links}
 use Rattle.tree_law.specs.Put.{put}
@@ -84,44 +84,42 @@ module _ (memory : Memory) {log : List Update} {o : Owners} {knows : ℕ → Kno
   same_added : {rows : ℕ → Option Record} (row : ℕ) → o.row row ≡ Linked → (o.row row ≡ Linked) ⊎ IsAdded o rows row
   same_added row l = inl l
 
-  spare_of : {w : Record} (y : ℕ) → (knows a).rows y ≡ Written w → o.row y ≡ Spare a
+  spare_of : {w : Record} (y : ℕ) → (knows a).own.rows y ≡ Written w → o.row y ≡ Spare a
   spare_of {w} y e = (subst (λ (v : OwnRow). OwnFits a (o.row y) (memory.rows y) v) e (g.owns a y)).0
 
-  ready_slot : (p r : ℕ) → (knows a).pages p ≡ Ready r → slot_in memory.slots p ≡ Some r
+  ready_slot : (p r : ℕ) → (knows a).own.pages p ≡ Ready r → slot_in memory.slots p ≡ Some r
   ready_slot p r e = (subst (λ (v : OwnPage). PageFits a (o.page p) (slot_in memory.slots p) v) e (g.owns_pages a p)).1
 
   linked_moved : (y : ℕ) → o.row y ≡ Spare a → (row : ℕ) → IsMoved a (memory.free_rows row) (o.row row) (put o.row y Linked row)
   linked_moved y spare row = by_test row y (λ t. IsMoved a (memory.free_rows row) (o.row row) (cond t Linked (o.row row))) (λ e. inr (inr (ap o.row e ∙ spare, refl))) (λ ne. inl refl)
 
   -- a delta is linked over the chain that was read
-  adds : (x y : ℕ) (w : Record) → (knows a).rows y ≡ Written w → next_row w ≡ Some x → MayAdd (knows a) x y → IsAdded o memory.rows y
-  adds x y w placed next h =
-      let same : h.content ≡ w = let e = h.placed in let f = placed in cc in
-      record {
-        content = w;
-        stands = placed_row g a y w placed;
-        under = h.chain;
-        is_under = rw next (chain_stands o (shared memory) (knows a).seen (g.sound a).seen_fits h.chain (Some x) h.read);
-        next = rw next (read_linked o (shared memory) (knows a).seen (g.sound a).seen_fits h.chain x h.read);
-        fits = subst (FitsOn h.chain) same h.fits;
-      }
+  adds : (p x y : ℕ) (w : Record) → (knows a).own.rows y ≡ Written w → next_row w ≡ Some x → (basis : HasRead (knows a) p x) → FitsOn basis.chain w → IsAdded o memory.rows y
+  adds p x y w placed next basis fits = record {
+    content = w;
+    stands = placed_row g a y w placed;
+    under = basis.chain;
+    is_under = rw next (chain_stands o (shared memory) (knows a).read.seen (g.sound a).seen_fits basis.chain (Some x) basis.read);
+    next = rw next (read_linked o (shared memory) (knows a).read.seen (g.sound a).seen_fits basis.chain x basis.read);
+    fits = fits;
+  }
 
   -- a base is linked
-  based : {page : Page} (y : ℕ) → (knows a).rows y ≡ Written (Base page) → IsFitted (Base page ∷ []) → IsAdded o memory.rows y
+  based : {page : Page} (y : ℕ) → (knows a).own.rows y ≡ Written (Base page) → IsFitted (Base page ∷ []) → IsAdded o memory.rows y
   based {page} y placed fits = record { content = Base page; stands = placed_row g a y (Base page) placed; under = []; is_under = refl; next = tt; fits = fits }
 
   linked_added : (y : ℕ) → IsAdded o memory.rows y → (row : ℕ) → put o.row y Linked row ≡ Linked → (o.row row ≡ Linked) ⊎ IsAdded o memory.rows row
   linked_added y h row l = by_test row y (λ t. cond t Linked (o.row row) ≡ Linked → (o.row row ≡ Linked) ⊎ IsAdded o memory.rows row) (λ e i. inr (subst (IsAdded o memory.rows) (sym e) h)) (λ ne i. inl i) l
 
   -- the new row of a slot is linked
-  linked_homed : (p x y : ℕ) (w : Record) → (knows a).rows (suc y) ≡ Written w → IfSome (next_row w) (λ n. n ≡ x) → (row : ℕ) → put o.row (suc y) Linked row ≡ Linked → (o.row row ≡ Linked) ⊎ IsHomed (shared memory) (Exchange (suc p) x (suc y)) (Whether true) row
+  linked_homed : (p x y : ℕ) (w : Record) → (knows a).own.rows (suc y) ≡ Written w → IfSome (next_row w) (λ n. n ≡ x) → (row : ℕ) → put o.row (suc y) Linked row ≡ Linked → (o.row row ≡ Linked) ⊎ IsHomed (shared memory) (Exchange (suc p) x (suc y)) (Whether true) row
   linked_homed p x y w placed next row l = by_test row (suc y) (λ t. cond t Linked (o.row row) ≡ Linked → (o.row row ≡ Linked) ⊎ IsHomed (shared memory) (Exchange (suc p) x (suc y)) (Whether true) row) (λ e i. inr (inl (w, e, ap memory.rows e ∙ placed_row g a (suc y) w placed, next))) (λ ne i. inl i) l
 
   -- a row that was the actor's own is linked
   linked_rows : (y : ℕ) (row : ℕ) → o.row row ≡ Linked → (put o.row y Linked row ≡ Linked) × (memory.rows row ≡ memory.rows row)
   linked_rows y row l = (by_test row y (λ t. cond t Linked (o.row row) ≡ Linked) (λ e. refl) (λ ne. l), refl)
 
-  reads : (p n : ℕ) (r : Option Reply) → memory.slots (suc p) ≡ n → IsTrue ((knows a).roots (suc p)) ⊎ IsMet (knows a) (suc p) → After memory (Slot (suc p)) (Number n) r
+  reads : (p n : ℕ) (r : Option Reply) → memory.slots (suc p) ≡ n → IsTrue ((knows a).read.roots (suc p)) ⊎ IsMet (knows a) (suc p) → After memory (Slot (suc p)) (Number n) r
   reads p zero r e met = record { update = None; due = tt; last = λ i. refl; owners = o; phased = refl; moved = same_moved; added = same_added; homed = λ row l. inl l; kept = same_rows; good = idles g a (finished (knows a) r) refl refl refl refl refl refl refl refl }
   reads p (suc n) r e met =
       let here = met_placed g a (suc p) met in
@@ -190,163 +188,165 @@ module _ (memory : Memory) {log : List Update} {o : Owners} {knows : ℕ → Kno
   loses : (p x y : ℕ) (r : Option Reply) → After memory (Exchange p x y) (Whether false) r
   loses p x y r = record { update = None; due = tt; last = λ i. refl; owners = o; phased = refl; moved = same_moved; added = same_added; homed = λ row l. inl l; kept = same_rows; good = idles g a (finished (knows a) r) refl refl refl refl refl refl refl refl }
 
-  module _ (p x y : ℕ) (r : Option Reply) (s : slot_in memory.slots (suc p) ≡ Some (suc x)) (add : MayAdd (knows a) (suc x) (suc y)) where
+  module _ (p x y : ℕ) (r : Option Reply) (s : slot_in memory.slots (suc p) ≡ Some (suc x)) (basis : HasRead (knows a) (suc p) (suc x)) (content : Record) (written : (knows a).own.rows (suc y) ≡ Written content) (fits : FitsOn basis.chain content) where
     -- the memory in which the row is linked on the page
     abbrev pub Linking : Type 0
     Linking = Next a (shared memory) (record (shared memory) { slots = put (slot_in memory.slots) (suc p) (Some (suc y)) }) log o knows point logs (Exchange (suc p) (suc x) (suc y)) (Whether true) r
 
-    by_update : MayUpdate a (knows a) (suc p) (suc x) (suc y) → Linking
-    by_update h = let n = updates g a (suc p) (suc x) (suc y) s h r in record {
+    by_update : MayUpdate a (knows a) (suc x) basis.chain content → Linking
+    by_update h = let n = updates g a (suc p) (suc x) (suc y) s basis content written h r in record {
       update = Some h.update;
       due = (h.command, h.going, h.unlinked, n.1);
       last = λ i. absurd (cc);
       owners = record o { row = put o.row (suc y) Linked };
-      phased = (record_of h.update (suc x), placed_row g a (suc y) (record_of h.update (suc x)) h.placed, links_same (shared memory) a h.update (suc x) (suc p) o.page);
-      moved = linked_moved (suc y) (spare_of (suc y) h.placed);
-      added = linked_added (suc y) (adds (suc x) (suc y) (record_of h.update (suc x)) h.placed (record_next h.update (suc x)) add);
-      homed = linked_homed p (suc x) y (record_of h.update (suc x)) h.placed (rw (record_next h.update (suc x)) refl);
+      phased = (record_of h.update (suc x), placed_row g a (suc y) (record_of h.update (suc x)) (written ∙ ap Written h.is), links_same (shared memory) a h.update (suc x) (suc p) o.page);
+      moved = linked_moved (suc y) (spare_of (suc y) (written ∙ ap Written h.is));
+      added = linked_added (suc y) (adds (suc p) (suc x) (suc y) (record_of h.update (suc x)) (written ∙ ap Written h.is) (record_next h.update (suc x)) basis (subst (FitsOn basis.chain) h.is fits));
+      homed = linked_homed p (suc x) y (record_of h.update (suc x)) (written ∙ ap Written h.is) (rw (record_next h.update (suc x)) refl);
       kept = linked_rows (suc y);
       good = n.0;
     }
 
-    by_base : MayConsolidate (knows a) (suc p) (suc x) (suc y) → Linking
+    by_base : MayConsolidate basis.chain content → Linking
     by_base h = record {
       update = None;
       due = tt;
       last = λ i. refl;
       owners = record o { row = put o.row (suc y) Linked };
-      phased = (base_from h.basis.chain (low_in h.basis.chain) h.items, placed_row g a (suc y) (base_from h.basis.chain (low_in h.basis.chain) h.items) h.placed, refl);
-      moved = linked_moved (suc y) (spare_of (suc y) h.placed);
-      homed = linked_homed p (suc x) y (base_from h.basis.chain (low_in h.basis.chain) h.items) h.placed tt;
-      added = linked_added (suc y) (based (suc y) h.placed (let same : add.content ≡ base_from h.basis.chain (low_in h.basis.chain) h.items = let e = add.placed in let f = h.placed in cc in subst (FitsOn add.chain) same add.fits));
+      phased = (base_from basis.chain (low_in basis.chain) h.items, placed_row g a (suc y) (base_from basis.chain (low_in basis.chain) h.items) (written ∙ ap Written h.is), refl);
+      moved = linked_moved (suc y) (spare_of (suc y) (written ∙ ap Written h.is));
+      homed = linked_homed p (suc x) y (base_from basis.chain (low_in basis.chain) h.items) (written ∙ ap Written h.is) tt;
+      added = linked_added (suc y) (based (suc y) (written ∙ ap Written h.is) (subst (FitsOn basis.chain) h.is fits));
       kept = linked_rows (suc y);
-      good = consolidates g a (suc p) (suc x) (suc y) s h r;
+      good = consolidates g a (suc p) (suc x) (suc y) s basis content written h r;
     }
 
-    by_split : MaySplit (knows a) (suc p) (suc x) (suc y) → Linking
-    by_split h = let n = splits g a (suc p) (suc x) (suc y) s h r in record {
+    by_split : MaySplit (knows a) (suc x) basis.chain content → Linking
+    by_split h = let n = splits g a (suc p) (suc x) (suc y) s basis content written h r in record {
       update = None;
       due = tt;
       last = λ i. refl;
-      owners = record { row = put (put o.row h.row Linked) (suc y) Linked; page = put o.page h.right (Placed Fresh (level_in h.basis.chain) h.separator); index = o.index };
+      owners = record { row = put (put o.row h.row Linked) (suc y) Linked; page = put o.page h.right (Placed Fresh (level_in basis.chain) h.separator); index = o.index };
       phased = (
-        Split (record { level = level_in h.basis.chain; next = suc x; separator = h.separator; page = h.right }),
-        placed_row g a (suc y) (Split (record { level = level_in h.basis.chain; next = suc x; separator = h.separator; page = h.right })) h.placed,
-        (n.1.0, level_in h.basis.chain, low_in h.basis.chain, n.1.1, n.1.2, refl),
+        Split (record { level = level_in basis.chain; next = suc x; separator = h.separator; page = h.right }),
+        placed_row g a (suc y) (Split (record { level = level_in basis.chain; next = suc x; separator = h.separator; page = h.right })) (written ∙ ap Written h.is),
+        (n.1.0, level_in basis.chain, low_in basis.chain, n.1.1, n.1.2, refl),
       );
-      moved = λ row. by_test row (suc y) (λ t. IsMoved a (memory.free_rows row) (o.row row) (cond t Linked (put o.row h.row Linked row))) (λ e. inr (inr (ap o.row e ∙ spare_of (suc y) h.placed, refl))) (λ ne. linked_moved h.row (spare_of h.row h.base) row);
+      moved = λ row. by_test row (suc y) (λ t. IsMoved a (memory.free_rows row) (o.row row) (cond t Linked (put o.row h.row Linked row))) (λ e. inr (inr (ap o.row e ∙ spare_of (suc y) (written ∙ ap Written h.is), refl))) (λ ne. linked_moved h.row (spare_of h.row h.base) row);
       homed = λ row. by_test row (suc y) (λ t. cond t Linked (put o.row h.row Linked row) ≡ Linked → (o.row row ≡ Linked) ⊎ IsHomed (shared memory) (Exchange (suc p) (suc x) (suc y)) (Whether true) row)
-          (λ e i. inr (inl (Split (record { level = level_in h.basis.chain; next = suc x; separator = h.separator; page = h.right }), e, ap memory.rows e ∙ placed_row g a (suc y) (Split (record { level = level_in h.basis.chain; next = suc x; separator = h.separator; page = h.right })) h.placed, refl)))
+          (λ e i. inr (inl (Split (record { level = level_in basis.chain; next = suc x; separator = h.separator; page = h.right }), e, ap memory.rows e ∙ placed_row g a (suc y) (Split (record { level = level_in basis.chain; next = suc x; separator = h.separator; page = h.right })) (written ∙ ap Written h.is), refl)))
           (λ ne. by_test row h.row (λ t. cond t Linked (o.row row) ≡ Linked → (o.row row ≡ Linked) ⊎ IsHomed (shared memory) (Exchange (suc p) (suc x) (suc y)) (Whether true) row)
-          (λ e i. inr (inr (record { level = level_in h.basis.chain; next = suc x; separator = h.separator; page = h.right }, _, placed_row g a (suc y) (Split (record { level = level_in h.basis.chain; next = suc x; separator = h.separator; page = h.right })) h.placed, ready_slot h.right h.row h.ready ∙ ap Some (sym e), ap memory.rows e ∙ placed_row g a h.row (base_from h.basis.chain h.separator h.items) h.base)))
+          (λ e i. inr (inr (record { level = level_in basis.chain; next = suc x; separator = h.separator; page = h.right }, _, placed_row g a (suc y) (Split (record { level = level_in basis.chain; next = suc x; separator = h.separator; page = h.right })) (written ∙ ap Written h.is), ready_slot h.right h.row h.ready ∙ ap Some (sym e), ap memory.rows e ∙ placed_row g a h.row (base_from basis.chain h.separator h.items) h.base)))
           (λ ne i. inl i));
       added = λ row. by_test row (suc y) (λ t. cond t Linked (put o.row h.row Linked row) ≡ Linked → (o.row row ≡ Linked) ⊎ IsAdded o memory.rows row)
-          (λ e i. inr (subst (IsAdded o memory.rows) (sym e) (adds (suc x) (suc y) (Split (record { level = level_in h.basis.chain; next = suc x; separator = h.separator; page = h.right })) h.placed refl add)))
+          (λ e i. inr (subst (IsAdded o memory.rows) (sym e) (adds (suc p) (suc x) (suc y) (Split (record { level = level_in basis.chain; next = suc x; separator = h.separator; page = h.right })) (written ∙ ap Written h.is) refl basis (subst (FitsOn basis.chain) h.is fits))))
           (λ ne. linked_added h.row (based h.row h.base h.ruled) row);
       kept = λ row l. (by_test row (suc y) (λ t. cond t Linked (put o.row h.row Linked row) ≡ Linked) (λ e. refl) (λ ne. (linked_rows h.row row l).0), refl);
       good = n.0;
     }
 
-    by_post : MayPost (knows a) (suc p) (suc x) (suc y) → Linking
-    by_post h = let n = posts g a (suc p) (suc x) (suc y) s h r in record {
+    by_post : MayPost (knows a) (suc p) (suc x) basis.chain content → Linking
+    by_post h = let n = posts g a (suc p) (suc x) (suc y) s basis content written h r in record {
       update = None;
       due = tt;
       last = λ i. refl;
       owners = record { row = put o.row (suc y) Linked; page = put o.page h.child (Placed Indexed (level_in h.below.chain) (low_in h.below.chain)); index = put o.index (level_in h.below.chain) (put_key (o.index (level_in h.below.chain)) (low_in h.below.chain) (Some (Child h.child false))) };
       phased = (
-        Term (record { level = level_in h.basis.chain; next = suc x; separator = low_in h.below.chain; child = h.child }),
-        placed_row g a (suc y) (Term (record { level = level_in h.basis.chain; next = suc x; separator = low_in h.below.chain; child = h.child })) h.placed,
+        Term (record { level = level_in basis.chain; next = suc x; separator = low_in h.below.chain; child = h.child }),
+        placed_row g a (suc y) (Term (record { level = level_in basis.chain; next = suc x; separator = low_in h.below.chain; child = h.child })) (written ∙ ap Written h.is),
         (level_in h.below.chain, n.1, refl),
       );
-      moved = linked_moved (suc y) (spare_of (suc y) h.placed);
-      added = linked_added (suc y) (adds (suc x) (suc y) (Term (record { level = level_in h.basis.chain; next = suc x; separator = low_in h.below.chain; child = h.child })) h.placed refl add);
-      homed = linked_homed p (suc x) y (Term (record { level = level_in h.basis.chain; next = suc x; separator = low_in h.below.chain; child = h.child })) h.placed refl;
+      moved = linked_moved (suc y) (spare_of (suc y) (written ∙ ap Written h.is));
+      added = linked_added (suc y) (adds (suc p) (suc x) (suc y) (Term (record { level = level_in basis.chain; next = suc x; separator = low_in h.below.chain; child = h.child })) (written ∙ ap Written h.is) refl basis (subst (FitsOn basis.chain) h.is fits));
+      homed = linked_homed p (suc x) y (Term (record { level = level_in basis.chain; next = suc x; separator = low_in h.below.chain; child = h.child })) (written ∙ ap Written h.is) refl;
       kept = linked_rows (suc y);
       good = n.0;
     }
 
-    by_hold : MayHold (knows a) (suc p) (suc x) (suc y) → Linking
-    by_hold h = let n = holds g a (suc p) (suc x) (suc y) s h r in record {
+    by_hold : MayHold (suc x) basis.chain content → Linking
+    by_hold h = let n = holds g a (suc p) (suc x) (suc y) s basis content written h r in record {
       update = None;
       due = tt;
       last = λ i. refl;
       owners = record { row = put o.row (suc y) Linked; page = put o.page h.child (Placed Held h.level h.key); index = put o.index h.level (put_key (o.index h.level) h.key (Some (Child h.child true))) };
       phased = (
-        Hold (record { level = level_in h.basis.chain; next = suc x; separator = h.key; child = h.child }),
-        placed_row g a (suc y) (Hold (record { level = level_in h.basis.chain; next = suc x; separator = h.key; child = h.child })) h.placed,
+        Hold (record { level = level_in basis.chain; next = suc x; separator = h.key; child = h.child }),
+        placed_row g a (suc y) (Hold (record { level = level_in basis.chain; next = suc x; separator = h.key; child = h.child })) (written ∙ ap Written h.is),
         (h.level, n.1, refl),
       );
-      moved = linked_moved (suc y) (spare_of (suc y) h.placed);
-      added = linked_added (suc y) (adds (suc x) (suc y) (Hold (record { level = level_in h.basis.chain; next = suc x; separator = h.key; child = h.child })) h.placed refl add);
-      homed = linked_homed p (suc x) y (Hold (record { level = level_in h.basis.chain; next = suc x; separator = h.key; child = h.child })) h.placed refl;
+      moved = linked_moved (suc y) (spare_of (suc y) (written ∙ ap Written h.is));
+      added = linked_added (suc y) (adds (suc p) (suc x) (suc y) (Hold (record { level = level_in basis.chain; next = suc x; separator = h.key; child = h.child })) (written ∙ ap Written h.is) refl basis (subst (FitsOn basis.chain) h.is fits));
+      homed = linked_homed p (suc x) y (Hold (record { level = level_in basis.chain; next = suc x; separator = h.key; child = h.child })) (written ∙ ap Written h.is) refl;
       kept = linked_rows (suc y);
       good = n.0;
     }
 
-    by_remove : MayRemove (knows a) (suc p) (suc x) (suc y) → Linking
-    by_remove h = let n = removes g a (suc p) (suc x) (suc y) s h r in record {
+    by_remove : MayRemove (knows a) (suc p) (suc x) basis.chain content → Linking
+    by_remove h = let n = removes g a (suc p) (suc x) (suc y) s basis content written h r in record {
       update = None;
       due = tt;
       last = λ i. refl;
-      owners = record { row = put o.row (suc y) Linked; page = put o.page (suc p) (Placed Removed (level_in h.basis.chain) (low_in h.basis.chain)); index = o.index };
+      owners = record { row = put o.row (suc y) Linked; page = put o.page (suc p) (Placed Removed (level_in basis.chain) (low_in basis.chain)); index = o.index };
       phased = (
-        Remove (record { level = level_in h.basis.chain; next = suc x }),
-        placed_row g a (suc y) (Remove (record { level = level_in h.basis.chain; next = suc x })) h.placed,
-        (level_in h.basis.chain, low_in h.basis.chain, n.1, refl),
+        Remove (record { level = level_in basis.chain; next = suc x }),
+        placed_row g a (suc y) (Remove (record { level = level_in basis.chain; next = suc x })) (written ∙ ap Written h.is),
+        (level_in basis.chain, low_in basis.chain, n.1, refl),
       );
-      moved = linked_moved (suc y) (spare_of (suc y) h.placed);
-      added = linked_added (suc y) (adds (suc x) (suc y) (Remove (record { level = level_in h.basis.chain; next = suc x })) h.placed refl add);
-      homed = linked_homed p (suc x) y (Remove (record { level = level_in h.basis.chain; next = suc x })) h.placed refl;
+      moved = linked_moved (suc y) (spare_of (suc y) (written ∙ ap Written h.is));
+      added = linked_added (suc y) (adds (suc p) (suc x) (suc y) (Remove (record { level = level_in basis.chain; next = suc x })) (written ∙ ap Written h.is) refl basis (subst (FitsOn basis.chain) h.is fits));
+      homed = linked_homed p (suc x) y (Remove (record { level = level_in basis.chain; next = suc x })) (written ∙ ap Written h.is) refl;
       kept = linked_rows (suc y);
       good = n.0;
     }
 
-    by_merge : MayMerge (knows a) (suc p) (suc x) (suc y) → Linking
+    by_merge : MayMerge (knows a) (suc x) basis.chain content → Linking
     by_merge h =
-        let n = merges g a (suc p) (suc x) (suc y) s h r in
-        let w : Record = Merge (record { level = level_in h.basis.chain; next = suc x; low = low_in h.chain; high = high_in h.chain; right = right_in h.chain; items = h.items }) in
+        let n = merges g a (suc p) (suc x) (suc y) s basis content written h r in
+        let w : Record = Merge (record { level = level_in basis.chain; next = suc x; low = low_in h.merged; high = high_in h.merged; right = right_in h.merged; items = h.items }) in
         record {
           update = None;
           due = tt;
           last = λ i. refl;
-          owners = record { row = put o.row (suc y) Linked; page = put o.page h.other (Placed Merged (level_in h.basis.chain) (low_in h.chain)); index = o.index };
-          phased = (w, placed_row g a (suc y) w h.placed, (h.other, level_in h.basis.chain, n.1, refl, (suc x, h.basis.chain, s, chain_stands o (shared memory) (knows a).seen (g.sound a).seen_fits h.basis.chain (Some (suc x)) h.basis.read, h.right)));
-          moved = linked_moved (suc y) (spare_of (suc y) h.placed);
-          added = linked_added (suc y) (adds (suc x) (suc y) w h.placed refl add);
-          homed = linked_homed p (suc x) y w h.placed refl;
+          owners = record { row = put o.row (suc y) Linked; page = put o.page h.other (Placed Merged (level_in basis.chain) (low_in h.merged)); index = o.index };
+          phased = (w, placed_row g a (suc y) w (written ∙ ap Written h.is), (h.other, level_in basis.chain, n.1, refl, (suc x, basis.chain, s, chain_stands o (shared memory) (knows a).read.seen (g.sound a).seen_fits basis.chain (Some (suc x)) basis.read, h.right)));
+          moved = linked_moved (suc y) (spare_of (suc y) (written ∙ ap Written h.is));
+          added = linked_added (suc y) (adds (suc p) (suc x) (suc y) w (written ∙ ap Written h.is) refl basis (subst (FitsOn basis.chain) h.is fits));
+          homed = linked_homed p (suc x) y w (written ∙ ap Written h.is) refl;
           kept = linked_rows (suc y);
           good = n.0;
         }
 
-    by_unterm : MayUnterm (knows a) (suc p) (suc x) (suc y) → Linking
-    by_unterm h = let n = unterms g a (suc p) (suc x) (suc y) s h r in record {
+    by_unterm : MayUnterm (knows a) (suc p) (suc x) basis.chain content → Linking
+    by_unterm h = let n = unterms g a (suc p) (suc x) (suc y) s basis content written h r in record {
       update = None;
       due = tt;
       last = λ i. refl;
       owners = record { row = put o.row (suc y) Linked; page = put o.page h.child (Cleared a (level_in h.below.chain) h.key); index = put o.index (level_in h.below.chain) (put_key (o.index (level_in h.below.chain)) h.key None) };
       phased = (
-        Unterm (record { level = level_in h.basis.chain; next = suc x; separator = h.key; child = h.child }),
-        placed_row g a (suc y) (Unterm (record { level = level_in h.basis.chain; next = suc x; separator = h.key; child = h.child })) h.placed,
+        Unterm (record { level = level_in basis.chain; next = suc x; separator = h.key; child = h.child }),
+        placed_row g a (suc y) (Unterm (record { level = level_in basis.chain; next = suc x; separator = h.key; child = h.child })) (written ∙ ap Written h.is),
         (level_in h.below.chain, n.1, refl),
       );
-      moved = linked_moved (suc y) (spare_of (suc y) h.placed);
-      added = linked_added (suc y) (adds (suc x) (suc y) (Unterm (record { level = level_in h.basis.chain; next = suc x; separator = h.key; child = h.child })) h.placed refl add);
-      homed = linked_homed p (suc x) y (Unterm (record { level = level_in h.basis.chain; next = suc x; separator = h.key; child = h.child })) h.placed refl;
+      moved = linked_moved (suc y) (spare_of (suc y) (written ∙ ap Written h.is));
+      added = linked_added (suc y) (adds (suc p) (suc x) (suc y) (Unterm (record { level = level_in basis.chain; next = suc x; separator = h.key; child = h.child })) (written ∙ ap Written h.is) refl basis (subst (FitsOn basis.chain) h.is fits));
+      homed = linked_homed p (suc x) y (Unterm (record { level = level_in basis.chain; next = suc x; separator = h.key; child = h.child })) (written ∙ ap Written h.is) refl;
       kept = linked_rows (suc y);
       good = n.0;
     }
 
-    by_link : MayLink a (knows a) (suc p) (suc x) (suc y) → Linking
-    by_link (inl h) = by_update h
-    by_link (inr (inl h)) = by_base h
-    by_link (inr (inr (inl h))) = by_split h
-    by_link (inr (inr (inr (inl h)))) = by_post h
-    by_link (inr (inr (inr (inr (inl h))))) = by_hold h
-    by_link (inr (inr (inr (inr (inr (inl h)))))) = by_remove h
-    by_link (inr (inr (inr (inr (inr (inr (inl h))))))) = by_merge h
-    by_link (inr (inr (inr (inr (inr (inr (inr h))))))) = by_unterm h
+  -- what is placed is linked, by its kind
+  links : (p x y : ℕ) (r : Option Reply) (s : slot_in memory.slots (suc p) ≡ Some (suc x)) (basis : HasRead (knows a) (suc p) (suc x)) (content : Record) (written : (knows a).own.rows (suc y) ≡ Written content) (fits : FitsOn basis.chain content) → MayLink a (knows a) (suc p) (suc x) basis.chain content → Linking p x y r s basis content written fits
+  links p x y r s basis (Base base) = by_base p x y r s basis (Base base)
+  links p x y r s basis (Put put) = by_update p x y r s basis (Put put)
+  links p x y r s basis (Delete delete) = by_update p x y r s basis (Delete delete)
+  links p x y r s basis (Split split) = by_split p x y r s basis (Split split)
+  links p x y r s basis (Term term) = by_post p x y r s basis (Term term)
+  links p x y r s basis (Hold hold) = by_hold p x y r s basis (Hold hold)
+  links p x y r s basis (Remove remove) = by_remove p x y r s basis (Remove remove)
+  links p x y r s basis (Merge merge) = by_merge p x y r s basis (Merge merge)
+  links p x y r s basis (Unterm unterm) = by_unterm p x y r s basis (Unterm unterm)
 
-  own_kept : (p : ℕ) (v : OwnPage) → (knows a).pages p ≡ v → PageFits a (o.page p) (slot_in memory.slots p) v
+  own_kept : (p : ℕ) (v : OwnPage) → (knows a).own.pages p ≡ v → PageFits a (o.page p) (slot_in memory.slots p) v
   own_kept p v e = subst (λ (w : OwnPage). PageFits a (o.page p) (slot_in memory.slots p) w) e (g.owns_pages a p)
 
   -- an exchange of a page's slot that won
@@ -383,14 +383,14 @@ module _ (memory : Memory) {log : List Update} {o : Owners} {knows : ℕ → Kno
     due = tt;
     last = λ i. refl;
     owners = o;
-    phased = (refl, inr (own_kept (suc p) Gone h));
+    phased = (refl, inr (let w = own_kept (suc p) Gone h in (w.0, w.1, w.2)));
     moved = same_moved;
     added = same_added;
     homed = λ row l. inl l;
     kept = same_rows;
     good = clears g a (suc p) (suc x) s h r;
   }
-  exchanges p (suc x) (suc y) r s h = by_link p x y r s h.0 h.1
+  exchanges p (suc x) (suc y) r s h = links p x y r s h.basis h.content h.placed h.fits h.due
 
   -- an exchange of slot 0 that won
   exchanges_root : (x y : ℕ) (r : Option Reply) → memory.slots 0 ≡ x → MayRoot (knows a) x y → Next a (shared memory) (record (shared memory) { root = y }) log o knows point logs (Exchange 0 x y) (Whether true) r
@@ -439,7 +439,7 @@ module _ (memory : Memory) {log : List Update} {o : Owners} {knows : ℕ → Kno
     moved = same_moved;
     added = same_added;
     homed = λ row l. inl l;
-    kept = λ row l. (l, put_other memory.rows q (Some w) row (λ i. absurd (let f = own_spare g a q ((knows a).rows q) (g.owns a q) h.1 in let l' = sym (ap o.row i) ∙ l in cc)));
+    kept = λ row l. (l, put_other memory.rows q (Some w) row (λ i. absurd (let f = own_spare g a q ((knows a).own.rows q) (g.owns a q) h.1 in let l' = sym (ap o.row i) ∙ l in cc)));
     good = places g a q w h.1 r;
   })
   step (Exchange p old y) calm r h x e = subst (λ (v : Answer Record). After (memory_after a (Exchange p old y) memory) (Exchange p old y) v r) (sym e) (exchange p old y r h.1)

@@ -52,14 +52,14 @@ sweeps = (
       (
         (
           refl,
-          (λ row e. ⊎_elim (λ (u : row ≡ 3). passed_at k3.limbo_rows row 3 (replaced_at 1 true (λ actor. false)) u refl refl)
-              (λ u. ⊎_elim (λ (v : row ≡ 7). passed_at k3.limbo_rows row 7 (replaced_at 1 true (λ actor. false)) v refl refl)
-              (λ (v : row ≡ 10). passed_at k3.limbo_rows row 10 (replaced_at 1 true (λ actor. false)) v refl refl) u)
+          (λ row e. ⊎_elim (λ (u : row ≡ 3). passed_at k3.limbo.rows row 3 (replaced_at 1 true (λ actor. false)) u refl refl)
+              (λ u. ⊎_elim (λ (v : row ≡ 7). passed_at k3.limbo.rows row 7 (replaced_at 1 true (λ actor. false)) v refl refl)
+              (λ (v : row ≡ 10). passed_at k3.limbo.rows row 10 (replaced_at 1 true (λ actor. false)) v refl refl) u)
               (among 1160 3 7 10 row (λ m lt. all_below-at (λ m. not (bit_at 1160 m == 1) || ((m == 3) || ((m == 7) || (m == 10)))) 64 refl m lt) e)),
           refl,
         ),
         (
-          (refl, (λ page e. let two : page ≡ 2 = ⊎_elim (λ (u : page ≡ 2). u) (λ u. ⊎_elim (λ (v : page ≡ 2). v) (λ (v : page ≡ 2). v) u) (among 4 2 2 2 page (λ m lt. all_below-at (λ m. not (bit_at 4 m == 1) || ((m == 2) || ((m == 2) || (m == 2)))) 64 refl m lt) e) in passed_at k3.limbo_pids page 2 (replaced_at 1 true (λ actor. false)) two refl refl), refl),
+          (refl, (λ page e. let two : page ≡ 2 = ⊎_elim (λ (u : page ≡ 2). u) (λ u. ⊎_elim (λ (v : page ≡ 2). v) (λ (v : page ≡ 2). v) u) (among 4 2 2 2 page (λ m lt. all_below-at (λ m. not (bit_at 4 m == 1) || ((m == 2) || ((m == 2) || (m == 2)))) 64 refl m lt) e) in passed_at k3.limbo.pids page 2 (replaced_at 1 true (λ actor. false)) two refl refl), refl),
           (
             (tt, tt, refl),
             (

@@ -31,7 +31,7 @@ module _ {m : Shared} {log : List Update} {o : Owners} {knows : ℕ → Knowledg
       })
       (closed_kept o o' m m' kept g.closed (λ j. by_test j q (λ t. cond t (Spare a) (o.row j) ≡ Linked → (o.row j ≡ Linked) ⊎ IsLinked o' m' j) (λ i h. absurd (cc)) (λ i h. inl h)))
       (tree_at g a o'.row m' kept refl refl)
-      (put_all (λ j v. OwnFits a (o'.row j) (m.rows j) v) (knows a).rows q Taken (put_same o.row q (Spare a)) (λ j ne. rw (put_other o.row q (Spare a) j ne) (g.owns a j)))
+      (put_all (λ j v. OwnFits a (o'.row j) (m.rows j) v) (knows a).own.rows q Taken (put_same o.row q (Spare a)) (λ j ne. rw (put_other o.row q (Spare a) j ne) (g.owns a j)))
       (g.owns_pages a)
       (mine_at g a o' m' kept)
     where
@@ -59,7 +59,7 @@ module _ {m : Shared} {log : List Update} {o : Owners} {knows : ℕ → Knowledg
       (tree_kept o o' m m' log g.closed kept (λ p l s st e on. (refl, (st, new p l s st e, on, refl))) refl refl (λ p l s st e on. (st, old p l s st e, on)) g.tree
       (exact_same o.page o'.page o.index g.tree.top m.root old new cleared g.tree.exact) (λ p l s i. off_still g a o' m' kept p l s refl (g.tree.off p l s (⊎_elim (λ (u : put o.page q (Keeps a) p ≡ Placed Merged l s). inl (old p l s Merged u)) (λ (u : (b : ℕ) × (put o.page q (Keeps a) p ≡ Cleared b l s)). inr (u.0, cleared p u.0 l s u.1)) i))))
       (g.owns a)
-      (put_all (λ j v. PageFits a (o'.page j) (m.slots j) v) (knows a).pages q Empty (put_same o.page q (Keeps a), was.1) (λ j ne. rw (put_other o.page q (Keeps a) j ne) (g.owns_pages a j)))
+      (put_all (λ j v. PageFits a (o'.page j) (m.slots j) v) (knows a).own.pages q Empty (put_same o.page q (Keeps a), was.1) (λ j ne. rw (put_other o.page q (Keeps a) j ne) (g.owns_pages a j)))
       (mine_at g a o' m' kept)
     where
       was : (o.page q ≡ Nobody) × (m.slots q ≡ None)
@@ -92,19 +92,19 @@ module _ {m : Shared} {log : List Update} {o : Owners} {knows : ℕ → Knowledg
   own_spare q Taken h i = h
   own_spare q (Written w) h i = h.0
 
-  pub places : (q : ℕ) (w : Record) → IsOwn ((knows a).rows q) → (r : Option Reply) → Good (record m { rows = put m.rows q (Some w) }) log o (put knows a (finished (learn (knows a) (Place q w) Done) r)) (put point a (point a)) (put logs a (log ∷ logs a))
+  pub places : (q : ℕ) (w : Record) → IsOwn ((knows a).own.rows q) → (r : Option Reply) → Good (record m { rows = put m.rows q (Some w) }) log o (put knows a (finished (learn (knows a) (Place q w) Done) r)) (put point a (point a)) (put logs a (log ∷ logs a))
   places q w i r =
       put_good g a m' log o (finished (learn (knows a) (Place q w) Done) r) (point a) (log ∷ logs a)
       change
       (record { row = g.frees.row; page = g.frees.page })
       (closed_kept o o m m' kept g.closed (λ j l. inl l))
       (tree_at g a o.row m' kept refl refl)
-      (put_all (λ j v. OwnFits a (o.row j) (m'.rows j) v) (knows a).rows q (Written w) (was, put_same m.rows q (Some w)) (λ j ne. rw (put_other m.rows q (Some w) j ne) (g.owns a j)))
+      (put_all (λ j v. OwnFits a (o.row j) (m'.rows j) v) (knows a).own.rows q (Written w) (was, put_same m.rows q (Some w)) (λ j ne. rw (put_other m.rows q (Some w) j ne) (g.owns a j)))
       (g.owns_pages a)
       (mine_at g a o m' kept)
     where
       was : o.row q ≡ Spare a
-      was = own_spare q ((knows a).rows q) (g.owns a q) i
+      was = own_spare q ((knows a).own.rows q) (g.owns a q) i
 
       m' : Shared
       m' = record m { rows = put m.rows q (Some w) }
@@ -116,7 +116,7 @@ module _ {m : Shared} {log : List Update} {o : Owners} {knows : ℕ → Knowledg
       kept = kept_change a o o m m' change
 
   -- the slot of a page of its own is changed
-  pub own_slot : (p : ℕ) (x : Option ℕ) (v : OwnPage) → o.page p ≡ Keeps a → PageFits a (o.page p) x v → (k : Knowledge) → k.rows ≡ (knows a).rows → k.pages ≡ put (knows a).pages p v → k.seen ≡ (knows a).seen → k.learnt ≡ (knows a).learnt → k.roots ≡ (knows a).roots → k.heads ≡ (knows a).heads → k.before ≡ (knows a).before → k.linked ≡ (knows a).linked
+  pub own_slot : (p : ℕ) (x : Option ℕ) (v : OwnPage) → o.page p ≡ Keeps a → PageFits a (o.page p) x v → (k : Knowledge) → k.own.rows ≡ (knows a).own.rows → k.own.pages ≡ put (knows a).own.pages p v → k.read.seen ≡ (knows a).read.seen → k.read.learnt ≡ (knows a).read.learnt → k.read.roots ≡ (knows a).read.roots → k.read.heads ≡ (knows a).read.heads → k.read.before ≡ (knows a).read.before → k.asked.linked ≡ (knows a).asked.linked
       → Good (record m { slots = put m.slots p x }) log o (put knows a k) (put point a (point a)) (put logs a (log ∷ logs a))
   own_slot p x v was fits k e0 e1 e2 e3 e4 e5 e7 e6 =
       put_good g a m' log o k (point a) (log ∷ logs a)
@@ -126,7 +126,7 @@ module _ {m : Shared} {log : List Update} {o : Owners} {knows : ℕ → Knowledg
       (tree_kept o o m m' log g.closed kept (λ j l s st h on. (put_other m.slots p x j (λ e. absurd (let i = sym (ap o.page e ∙ was) ∙ h in cc)), (st, h, on, refl))) refl refl (λ j l s st h on. (st, h, on)) g.tree g.tree.exact
       (λ j l s i. off_still g a o m' kept j l s (put_other m.slots p x j (λ e. ⊎_elim (λ (u : o.page j ≡ Placed Merged l s). absurd (let i = sym (ap o.page e ∙ was) ∙ u in cc)) (λ (u : (b : ℕ) × (o.page j ≡ Cleared b l s)). absurd (let i = sym (ap o.page e ∙ was) ∙ u.1 in cc)) i)) (g.tree.off j l s i)))
       (rw e0 (g.owns a))
-      (rw e1 (put_all (λ j w. PageFits a (o.page j) (m'.slots j) w) (knows a).pages p v (rw (put_same m.slots p x) fits) (λ j ne. rw (put_other m.slots p x j ne) (g.owns_pages a j))))
+      (rw e1 (put_all (λ j w. PageFits a (o.page j) (m'.slots j) w) (knows a).own.pages p v (rw (put_same m.slots p x) fits) (λ j ne. rw (put_other m.slots p x j ne) (g.owns_pages a j))))
       (rw (e2, e3, e4, e5, e7, e6) (mine_at g a o m' kept))
     where
       m' : Shared

@@ -23,7 +23,7 @@ use Rattle.tree_law.proofs.Sides.{right_page}
 use Rattle.tree_law.proofs.Timing.{none_since, head_more, Turn, limbo_row, limbo_pid, held_later, announced_still, put_timed}
 
 module _ {limits : Limits} {m : Memory} {log : List Update} {o : Owners} {knows : ℕ → Knowledge} {point : ℕ → Option (List Update)} {logs : ℕ → List (List Update)} {now : ℕ} {t : Times} (g : Good (shared m) log o knows point logs) (T : Timed limits m o knows now t) (a : ℕ) where
-  abbrev pub linked : (b r : ℕ) → (knows b).learnt r ≡ true → o.row r ≡ Linked
+  abbrev pub linked : (b r : ℕ) → (knows b).read.learnt r ≡ true → o.row r ≡ Linked
   linked b = (g.sound b).learnt_fits
 
   -- a step that takes nothing out of the tree, and links nothing
@@ -58,10 +58,10 @@ module _ {limits : Limits} {m : Memory} {log : List Update} {o : Owners} {knows 
     }
 
     -- a step after which the actor holds what it held
-    pub idle_timed : m'.announced a ≡ m.announced a → k'.inside ≡ (knows a).inside → k'.seen ≡ (knows a).seen → k'.learnt ≡ (knows a).learnt → k'.roots ≡ (knows a).roots → k'.heads ≡ (knows a).heads → k'.before ≡ (knows a).before → k'.linked ≡ (knows a).linked
-        → ((e : ℕ) → k'.epoch ≡ Some e → e ≤ m'.epoch) → ((r : ℕ) → IsOwn (k'.rows r) → t.row_out r ≡ None) → ((p : ℕ) → k'.pages p ≡ Gone → t.page_out p ≡ None)
-        → ((n : Turn T linked a m' o' k' t) (r : ℕ) → LimboFits a (λ b. (put knows a k' b).inside) t.entered (t.row_out r) (k'.limbo_rows r)) → ((n : Turn T linked a m' o' k' t) (p : ℕ) → LimboFits a (λ b. (put knows a k' b).inside) t.entered (t.page_out p) (k'.limbo_pids p))
-        → ((p r : ℕ) → k'.pages p ≡ Ready r → IsOwnBase (k'.rows r)) → ((p q r : ℕ) → k'.pages p ≡ Ready r → k'.pages q ≡ Ready r → p ≡ q)
+    pub idle_timed : m'.announced a ≡ m.announced a → k'.inside ≡ (knows a).inside → k'.read.seen ≡ (knows a).read.seen → k'.read.learnt ≡ (knows a).read.learnt → k'.read.roots ≡ (knows a).read.roots → k'.read.heads ≡ (knows a).read.heads → k'.read.before ≡ (knows a).read.before → k'.asked.linked ≡ (knows a).asked.linked
+        → ((e : ℕ) → k'.limbo.epoch ≡ Some e → e ≤ m'.epoch) → ((r : ℕ) → IsOwn (k'.own.rows r) → t.row_out r ≡ None) → ((p : ℕ) → k'.own.pages p ≡ Gone → t.page_out p ≡ None)
+        → ((n : Turn T linked a m' o' k' t) (r : ℕ) → LimboFits a (λ b. (put knows a k' b).inside) t.entered (t.row_out r) (k'.limbo.rows r)) → ((n : Turn T linked a m' o' k' t) (p : ℕ) → LimboFits a (λ b. (put knows a k' b).inside) t.entered (t.page_out p) (k'.limbo.pids p))
+        → ((p r : ℕ) → k'.own.pages p ≡ Ready r → IsOwnBase (k'.own.rows r)) → ((p q r : ℕ) → k'.own.pages p ≡ Ready r → k'.own.pages q ≡ Ready r → p ≡ q)
         → Timed limits m' o' (put knows a k') (suc now) t
     idle_timed an e0 e1 e2 e3 e4 e5 e6 epochs own gone rows pids ready apart =
         let n = calm_turn (λ i. sym e0 ∙ i) in
@@ -79,8 +79,8 @@ module _ {limits : Limits} {m : Memory} {log : List Update} {o : Owners} {knows 
         })
 
     -- a step after which it also has and has taken out what it had
-    pub still_timed : m'.announced a ≡ m.announced a → k'.inside ≡ (knows a).inside → k'.seen ≡ (knows a).seen → k'.learnt ≡ (knows a).learnt → k'.roots ≡ (knows a).roots → k'.heads ≡ (knows a).heads → k'.before ≡ (knows a).before → k'.linked ≡ (knows a).linked
-        → k'.epoch ≡ (knows a).epoch → k'.rows ≡ (knows a).rows → k'.pages ≡ (knows a).pages → k'.limbo_rows ≡ (knows a).limbo_rows → k'.limbo_pids ≡ (knows a).limbo_pids → Timed limits m' o' (put knows a k') (suc now) t
+    pub still_timed : m'.announced a ≡ m.announced a → k'.inside ≡ (knows a).inside → k'.read.seen ≡ (knows a).read.seen → k'.read.learnt ≡ (knows a).read.learnt → k'.read.roots ≡ (knows a).read.roots → k'.read.heads ≡ (knows a).read.heads → k'.read.before ≡ (knows a).read.before → k'.asked.linked ≡ (knows a).asked.linked
+        → k'.limbo.epoch ≡ (knows a).limbo.epoch → k'.own.rows ≡ (knows a).own.rows → k'.own.pages ≡ (knows a).own.pages → k'.limbo.rows ≡ (knows a).limbo.rows → k'.limbo.pids ≡ (knows a).limbo.pids → Timed limits m' o' (put knows a k') (suc now) t
     still_timed an e0 e1 e2 e3 e4 e5 e6 f0 f1 f2 f3 f4 = idle_timed an e0 e1 e2 e3 e4 e5 e6
         (λ e i. let j = T.epochs a e (ap (λ (v : Option ℕ). v) (sym f0) ∙ i) in let l = c.epoch in omega arith)
         (λ r i. T.own_rows a r (subst (λ (f : ℕ → OwnRow). IsOwn (f r)) f1 i))
@@ -92,8 +92,8 @@ module _ {limits : Limits} {m : Memory} {log : List Update} {o : Owners} {knows 
 
     -- a read after which it holds more
     pub read_timed : m'.announced a ≡ m.announced a → k'.inside ≡ (knows a).inside
-        → Holds m'.rows t.row_out t.page_out (t.entered a) k'.inside k'.seen k'.learnt k'.roots k'.heads k'.before k'.linked
-        → k'.epoch ≡ (knows a).epoch → k'.rows ≡ (knows a).rows → k'.pages ≡ (knows a).pages → k'.limbo_rows ≡ (knows a).limbo_rows → k'.limbo_pids ≡ (knows a).limbo_pids → Timed limits m' o' (put knows a k') (suc now) t
+        → Holds m'.rows t.row_out t.page_out (t.entered a) k'.inside k'.read.seen k'.read.learnt k'.read.roots k'.read.heads k'.read.before k'.asked.linked
+        → k'.limbo.epoch ≡ (knows a).limbo.epoch → k'.own.rows ≡ (knows a).own.rows → k'.own.pages ≡ (knows a).own.pages → k'.limbo.rows ≡ (knows a).limbo.rows → k'.limbo.pids ≡ (knows a).limbo.pids → Timed limits m' o' (put knows a k') (suc now) t
     read_timed an e0 holds f0 f1 f2 f3 f4 =
         let n = calm_turn (λ i. sym e0 ∙ i) in
         put_timed T linked a m' o' k' t n (record {
@@ -134,49 +134,49 @@ module _ {limits : Limits} {m : Memory} {log : List Update} {o : Owners} {knows 
   }
 
   -- the actor reads the root
-  pub root_holds : (knows a).inside ≡ true → Holds m.rows t.row_out t.page_out (t.entered a) (knows a).inside (knows a).seen (knows a).learnt (put (knows a).roots (m.slots 0) true) (knows a).heads (knows a).before (knows a).linked
+  pub root_holds : (knows a).inside ≡ true → Holds m.rows t.row_out t.page_out (t.entered a) (knows a).inside (knows a).read.seen (knows a).read.learnt (put (knows a).read.roots (m.slots 0) true) (knows a).read.heads (knows a).read.before (knows a).asked.linked
   root_holds inside = record {
     learnt_inside = h.learnt_inside;
     learnt_since = h.learnt_since;
     seen_learnt = h.seen_learnt;
     roots_inside = λ p i. inside;
-    roots_since = λ p. by_test p (m.slots 0) (λ z. cond z true ((knows a).roots p) ≡ true → IsSince (t.entered a) (t.page_out p)) (λ e i. none_since (t.entered a) (t.page_out p) (placed_in p g.tree.top [] Indexed (ap o.page e ∙ g.tree.exact.is_root) (t.page_out p) refl)) (λ ne. h.roots_since p);
+    roots_since = λ p. by_test p (m.slots 0) (λ z. cond z true ((knows a).read.roots p) ≡ true → IsSince (t.entered a) (t.page_out p)) (λ e i. none_since (t.entered a) (t.page_out p) (placed_in p g.tree.top [] Indexed (ap o.page e ∙ g.tree.exact.is_root) (t.page_out p) refl)) (λ ne. h.roots_since p);
     heads_since = h.heads_since;
     before_since = h.before_since;
     beside_since = h.beside_since;
     linked_learnt = h.linked_learnt;
   }
     where
-      h : Holds m.rows t.row_out t.page_out (t.entered a) (knows a).inside (knows a).seen (knows a).learnt (knows a).roots (knows a).heads (knows a).before (knows a).linked
+      h : Holds m.rows t.row_out t.page_out (t.entered a) (knows a).inside (knows a).read.seen (knows a).read.learnt (knows a).read.roots (knows a).read.heads (knows a).read.before (knows a).asked.linked
       h = T.holds a
 
   more : (learnt : ℕ → Bool) (x : ℕ) (r : ℕ) → learnt r ≡ true → put learnt x true r ≡ true
   more learnt x r e = by_test r x (λ z. cond z true (learnt r) ≡ true) (λ i. refl) (λ ne. e)
 
   -- the actor reads the slot of a page
-  pub head_holds : (knows a).inside ≡ true → (p x : ℕ) → slot_in m.slots p ≡ Some x → (l : ℕ) (s : Key) → Reached 0 l s (o.page p) → (spells : Spells o (shared m) x log) → Reached 0 (level_in spells.chain) (low_in spells.chain) (o.page p) → Holds m.rows t.row_out t.page_out (t.entered a) (knows a).inside (knows a).seen (put (knows a).learnt x true) (knows a).roots (put (knows a).heads p (Some x)) (put (knows a).before p (knows a).heads) (knows a).linked
+  pub head_holds : (knows a).inside ≡ true → (p x : ℕ) → slot_in m.slots p ≡ Some x → (l : ℕ) (s : Key) → Reached 0 l s (o.page p) → (spells : Spells o (shared m) x log) → Reached 0 (level_in spells.chain) (low_in spells.chain) (o.page p) → Holds m.rows t.row_out t.page_out (t.entered a) (knows a).inside (knows a).read.seen (put (knows a).read.learnt x true) (knows a).read.roots (put (knows a).read.heads p (Some x)) (put (knows a).read.before p (knows a).read.heads) (knows a).asked.linked
   head_holds inside p x sx l s reached spells there = record {
     learnt_inside = λ r i. inside;
-    learnt_since = λ r. by_test r x (λ z. cond z true ((knows a).learnt r) ≡ true → IsSince (t.entered a) (t.row_out r)) (λ e i. none_since (t.entered a) (t.row_out r) (ap t.row_out e ∙ (T.slots p x l s reached sx).1)) (λ ne. h.learnt_since r);
-    seen_learnt = λ r w e. more (knows a).learnt x r (h.seen_learnt r w e);
+    learnt_since = λ r. by_test r x (λ z. cond z true ((knows a).read.learnt r) ≡ true → IsSince (t.entered a) (t.row_out r)) (λ e i. none_since (t.entered a) (t.row_out r) (ap t.row_out e ∙ (T.slots p x l s reached sx).1)) (λ ne. h.learnt_since r);
+    seen_learnt = λ r w e. more (knows a).read.learnt x r (h.seen_learnt r w e);
     roots_inside = h.roots_inside;
     roots_since = h.roots_since;
-    heads_since = λ q y. by_test q p (λ z. cond z (Some x) ((knows a).heads q) ≡ Some y → HeldHead m.rows t.page_out (t.entered a) (put (knows a).learnt x true) q y)
-        (λ e i. subst (λ j. HeldHead m.rows t.page_out (t.entered a) (put (knows a).learnt x true) j y) (sym e) (subst (λ j. HeldHead m.rows t.page_out (t.entered a) (put (knows a).learnt x true) p j) (same_Some x y i) here))
-        (λ ne i. head_more m.rows t.page_out (t.entered a) (knows a).learnt (put (knows a).learnt x true) q y (more (knows a).learnt x) (h.heads_since q y i));
-    before_since = λ q f y. by_test q p (λ z. cond z (knows a).heads ((knows a).before q) f ≡ Some y → HeldHead m.rows t.page_out (t.entered a) (put (knows a).learnt x true) f y)
-        (λ e i. head_more m.rows t.page_out (t.entered a) (knows a).learnt (put (knows a).learnt x true) f y (more (knows a).learnt x) (h.heads_since f y i))
-        (λ ne i. head_more m.rows t.page_out (t.entered a) (knows a).learnt (put (knows a).learnt x true) f y (more (knows a).learnt x) (h.before_since q f y i));
-    beside_since = λ q f y z. by_test q p (λ u. cond u (Some x) ((knows a).heads q) ≡ Some y → cond u (knows a).heads ((knows a).before q) f ≡ Some z → HeldBeside m.rows t.page_out (t.entered a) f y z)
+    heads_since = λ q y. by_test q p (λ z. cond z (Some x) ((knows a).read.heads q) ≡ Some y → HeldHead m.rows t.page_out (t.entered a) (put (knows a).read.learnt x true) q y)
+        (λ e i. subst (λ j. HeldHead m.rows t.page_out (t.entered a) (put (knows a).read.learnt x true) j y) (sym e) (subst (λ j. HeldHead m.rows t.page_out (t.entered a) (put (knows a).read.learnt x true) p j) (same_Some x y i) here))
+        (λ ne i. head_more m.rows t.page_out (t.entered a) (knows a).read.learnt (put (knows a).read.learnt x true) q y (more (knows a).read.learnt x) (h.heads_since q y i));
+    before_since = λ q f y. by_test q p (λ z. cond z (knows a).read.heads ((knows a).read.before q) f ≡ Some y → HeldHead m.rows t.page_out (t.entered a) (put (knows a).read.learnt x true) f y)
+        (λ e i. head_more m.rows t.page_out (t.entered a) (knows a).read.learnt (put (knows a).read.learnt x true) f y (more (knows a).read.learnt x) (h.heads_since f y i))
+        (λ ne i. head_more m.rows t.page_out (t.entered a) (knows a).read.learnt (put (knows a).read.learnt x true) f y (more (knows a).read.learnt x) (h.before_since q f y i));
+    beside_since = λ q f y z. by_test q p (λ u. cond u (Some x) ((knows a).read.heads q) ≡ Some y → cond u (knows a).read.heads ((knows a).read.before q) f ≡ Some z → HeldBeside m.rows t.page_out (t.entered a) f y z)
         (λ e i j. subst (λ v. HeldBeside m.rows t.page_out (t.entered a) f v z) (same_Some x y i) (beside f z j))
         (λ ne. h.beside_since q f y z);
-    linked_learnt = λ y i. more (knows a).learnt x y (h.linked_learnt y i);
+    linked_learnt = λ y i. more (knows a).read.learnt x y (h.linked_learnt y i);
   }
     where
-      h : Holds m.rows t.row_out t.page_out (t.entered a) (knows a).inside (knows a).seen (knows a).learnt (knows a).roots (knows a).heads (knows a).before (knows a).linked
+      h : Holds m.rows t.row_out t.page_out (t.entered a) (knows a).inside (knows a).read.seen (knows a).read.learnt (knows a).read.roots (knows a).read.heads (knows a).read.before (knows a).asked.linked
       h = T.holds a
 
-      at_chain : Reached 0 (level_in spells.chain) (low_in spells.chain) (o.page p) → (f z : ℕ) → (knows a).heads f ≡ Some z → HeldBeside m.rows t.page_out (t.entered a) f x z
+      at_chain : Reached 0 (level_in spells.chain) (low_in spells.chain) (o.page p) → (f z : ℕ) → (knows a).read.heads f ≡ Some z → HeldBeside m.rows t.page_out (t.entered a) f x z
       at_chain there f z j =
           let d = h.heads_since f z j in
           record {
@@ -189,12 +189,12 @@ module _ {limits : Limits} {m : Memory} {log : List Update} {o : Owners} {knows 
                 none_since (t.entered a) (t.page_out n) (placed_in n (level_in d.chain) r.0 r.1 r.3 (t.page_out n) refl);
           }
 
-      beside : (f z : ℕ) → (knows a).heads f ≡ Some z → HeldBeside m.rows t.page_out (t.entered a) f x z
+      beside : (f z : ℕ) → (knows a).read.heads f ≡ Some z → HeldBeside m.rows t.page_out (t.entered a) f x z
       beside = at_chain there
 
-      here : HeldHead m.rows t.page_out (t.entered a) (put (knows a).learnt x true) p x
+      here : HeldHead m.rows t.page_out (t.entered a) (put (knows a).read.learnt x true) p x
       here = record {
-        learnt_row = put_same (knows a).learnt x true;
+        learnt_row = put_same (knows a).read.learnt x true;
         page = none_since (t.entered a) (t.page_out p) (not_out p x sx (t.page_out p) refl);
         chain = spells.chain;
         is_chain = spells.is_chain;
@@ -202,26 +202,26 @@ module _ {limits : Limits} {m : Memory} {log : List Update} {o : Owners} {knows 
       }
 
   -- the actor reads a row
-  pub row_holds : (q : ℕ) (w : Record) → (knows a).learnt q ≡ true → m.rows q ≡ Some w → Holds m.rows t.row_out t.page_out (t.entered a) (knows a).inside (put (knows a).seen q (Some w)) (learnt_next (next_row w) (knows a).learnt) (knows a).roots (knows a).heads (knows a).before (knows a).linked
+  pub row_holds : (q : ℕ) (w : Record) → (knows a).read.learnt q ≡ true → m.rows q ≡ Some w → Holds m.rows t.row_out t.page_out (t.entered a) (knows a).inside (put (knows a).read.seen q (Some w)) (learnt_next (next_row w) (knows a).read.learnt) (knows a).read.roots (knows a).read.heads (knows a).read.before (knows a).asked.linked
   row_holds q w l e = record {
     learnt_inside = λ r i. h.learnt_inside q l;
     learnt_since = since (next_row w) refl;
-    seen_learnt = λ r v. by_test r q (λ z. cond z (Some w) ((knows a).seen r) ≡ Some v → learnt_next (next_row w) (knows a).learnt r ≡ true) (λ i j. grows (next_row w) r (ap (knows a).learnt i ∙ l)) (λ ne j. grows (next_row w) r (h.seen_learnt r v j));
+    seen_learnt = λ r v. by_test r q (λ z. cond z (Some w) ((knows a).read.seen r) ≡ Some v → learnt_next (next_row w) (knows a).read.learnt r ≡ true) (λ i j. grows (next_row w) r (ap (knows a).read.learnt i ∙ l)) (λ ne j. grows (next_row w) r (h.seen_learnt r v j));
     roots_inside = h.roots_inside;
     roots_since = h.roots_since;
-    heads_since = λ p x i. head_more m.rows t.page_out (t.entered a) (knows a).learnt (learnt_next (next_row w) (knows a).learnt) p x (grows (next_row w)) (h.heads_since p x i);
-    before_since = λ p f x i. head_more m.rows t.page_out (t.entered a) (knows a).learnt (learnt_next (next_row w) (knows a).learnt) f x (grows (next_row w)) (h.before_since p f x i);
+    heads_since = λ p x i. head_more m.rows t.page_out (t.entered a) (knows a).read.learnt (learnt_next (next_row w) (knows a).read.learnt) p x (grows (next_row w)) (h.heads_since p x i);
+    before_since = λ p f x i. head_more m.rows t.page_out (t.entered a) (knows a).read.learnt (learnt_next (next_row w) (knows a).read.learnt) f x (grows (next_row w)) (h.before_since p f x i);
     beside_since = h.beside_since;
     linked_learnt = λ x i. grows (next_row w) x (h.linked_learnt x i);
   }
     where
-      h : Holds m.rows t.row_out t.page_out (t.entered a) (knows a).inside (knows a).seen (knows a).learnt (knows a).roots (knows a).heads (knows a).before (knows a).linked
+      h : Holds m.rows t.row_out t.page_out (t.entered a) (knows a).inside (knows a).read.seen (knows a).read.learnt (knows a).read.roots (knows a).read.heads (knows a).read.before (knows a).asked.linked
       h = T.holds a
 
-      grows : (n : Option ℕ) (r : ℕ) → (knows a).learnt r ≡ true → learnt_next n (knows a).learnt r ≡ true
+      grows : (n : Option ℕ) (r : ℕ) → (knows a).read.learnt r ≡ true → learnt_next n (knows a).read.learnt r ≡ true
       grows None r i = i
-      grows (Some n) r i = more (knows a).learnt n r i
+      grows (Some n) r i = more (knows a).read.learnt n r i
 
-      since : (n : Option ℕ) → next_row w ≡ n → (r : ℕ) → learnt_next n (knows a).learnt r ≡ true → IsSince (t.entered a) (t.row_out r)
+      since : (n : Option ℕ) → next_row w ≡ n → (r : ℕ) → learnt_next n (knows a).read.learnt r ≡ true → IsSince (t.entered a) (t.row_out r)
       since None i r = h.learnt_since r
-      since (Some n) i r = by_test r n (λ z. cond z true ((knows a).learnt r) ≡ true → IsSince (t.entered a) (t.row_out r)) (λ j v. subst (IsSince (t.entered a)) (sym (ap t.row_out j ∙ (T.together q n w (linked a q l) e i).1)) (h.learnt_since q l)) (λ ne. h.learnt_since r)
+      since (Some n) i r = by_test r n (λ z. cond z true ((knows a).read.learnt r) ≡ true → IsSince (t.entered a) (t.row_out r)) (λ j v. subst (IsSince (t.entered a)) (sym (ap t.row_out j ∙ (T.together q n w (linked a q l) e i).1)) (h.learnt_since q l)) (λ ne. h.learnt_since r)

@@ -14,7 +14,7 @@ use Rattle.deltas.specs.declared.record.Split.{Split as SplitOf}
 use Rattle.deltas.specs.Memory.{Memory, replaced_at}
 use Rattle.deltas.specs.Records.{next_row}
 use Rattle.chain_search.specs.Chains.{low_in, level_in}
-use Rattle.chain_search.specs.Discipline.{record_of, base_from, HasRead, IsOwn, IsOwnBase, MayLink, MayRoot, MayExchange, May}
+use Rattle.chain_search.specs.Discipline.{record_of, base_from, HasRead, IsOwn, IsOwnBase, MayAdd, MayLink, MayRoot, MayExchange, May}
 use Rattle.chain_search.specs.Knowledge.{OwnRow, Foreign, Taken, Written, OwnPage, Other, Ready, Knowledge, learn, filled, emptied, rooted, finished}
 use Rattle.chain_search.specs.Steps.{IsAnswer, memory_after}
 use Rattle.tree_law.specs.Keys.{Key}
@@ -39,9 +39,9 @@ use Rattle.tree_law.proofs.Emptying.{Emptying, undone_timed, cleared_timed, root
 record IsLink (k : Knowledge) (page old new : ℕ) : Type 0 where
   basis : HasRead k page old
   content : Record
-  placed : k.rows new ≡ Written content
+  placed : k.own.rows new ≡ Written content
   over : (n : ℕ) → next_row content ≡ Some n → n ≡ old
-  split : (s : SplitOf) → content ≡ Split s → (base : ℕ) × (k.pages s.page ≡ Ready base) × IsOwn (k.rows base) × (base ≢ new)
+  split : (s : SplitOf) → content ≡ Split s → (base : ℕ) × (k.own.pages s.page ≡ Ready base) × IsOwn (k.own.rows base) × (base ≢ new)
 
 no_split : (w : Record) (s : SplitOf) → (w ≡ Split s → ⊥) → {X : Type 0} → w ≡ Split s → X
 no_split w s f {X} e = absurd (f e)
@@ -54,24 +54,31 @@ update_split : (u : Update) (x : ℕ) (s : SplitOf) → record_of u x ≡ Split 
 update_split (set b k v) x s e = cc
 update_split (unset b k) x s e = cc
 
-link_of : (a : ℕ) (k : Knowledge) (page old new : ℕ) → MayLink a k page old new → IsLink k page old new
-link_of a k page old new (inl h) = record { basis = h.basis; content = record_of h.update old; placed = h.placed; over = update_over h.update old; split = λ s e. absurd (update_split h.update old s e) }
-link_of a k page old new (inr (inl h)) = record { basis = h.basis; content = base_from h.basis.chain (low_in h.basis.chain) h.items; placed = h.placed; over = λ n e. absurd (cc); split = λ s e. absurd (cc) }
-link_of a k page old new (inr (inr (inl h))) =
-    let w : SplitOf = record { level = level_in h.basis.chain; next = old; separator = h.separator; page = h.right } in
-    let b : Record = base_from h.basis.chain h.separator h.items in
-    record {
-      basis = h.basis;
-      content = Split w;
-      placed = h.placed;
-      over = λ n e. sym (same_Some old n e);
-      split = λ s e. let same : w ≡ s = cc in (h.row, ap k.pages (ap (λ v. v.page) (sym same)) ∙ h.ready, rw h.base tt, λ i. let z : Written b ≡ Written (Split w) = sym h.base ∙ ap k.rows i ∙ h.placed in cc);
-    }
-link_of a k page old new (inr (inr (inr (inl h)))) = record { basis = h.basis; content = _; placed = h.placed; over = λ n e. sym (same_Some old n e); split = λ s e. absurd (cc) }
-link_of a k page old new (inr (inr (inr (inr (inl h))))) = record { basis = h.basis; content = _; placed = h.placed; over = λ n e. sym (same_Some old n e); split = λ s e. absurd (cc) }
-link_of a k page old new (inr (inr (inr (inr (inr (inl h)))))) = record { basis = h.basis; content = _; placed = h.placed; over = λ n e. sym (same_Some old n e); split = λ s e. absurd (cc) }
-link_of a k page old new (inr (inr (inr (inr (inr (inr (inl h))))))) = record { basis = h.basis; content = _; placed = h.placed; over = λ n e. sym (same_Some old n e); split = λ s e. absurd (cc) }
-link_of a k page old new (inr (inr (inr (inr (inr (inr (inr h))))))) = record { basis = h.basis; content = _; placed = h.placed; over = λ n e. sym (same_Some old n e); split = λ s e. absurd (cc) }
+link_of : (a : ℕ) (k : Knowledge) (page old new : ℕ) → MayAdd a k page old new → IsLink k page old new
+link_of a k page old new add = by_kind add.content add.placed add.due
+  where
+    over : (content : Record) → k.own.rows new ≡ Written content → (w : Record) → content ≡ w → ((n : ℕ) → next_row w ≡ Some n → n ≡ old) → ((s : SplitOf) → w ≡ Split s → ⊥) → IsLink k page old new
+    over content placed w is next apart = record { basis = add.basis; content = w; placed = placed ∙ ap Written is; over = next; split = λ s e. absurd (apart s e) }
+
+    by_kind : (content : Record) → k.own.rows new ≡ Written content → MayLink a k page old add.basis.chain content → IsLink k page old new
+    by_kind (Base base) e h = over (Base base) e _ h.is (λ n f. absurd (cc)) (λ s f. absurd (cc))
+    by_kind (Put put) e h = over (Put put) e _ h.is (update_over h.update old) (update_split h.update old)
+    by_kind (Delete delete) e h = over (Delete delete) e _ h.is (update_over h.update old) (update_split h.update old)
+    by_kind (Split split) e h =
+        let w : SplitOf = record { level = level_in add.basis.chain; next = old; separator = h.separator; page = h.right } in
+        let b : Record = base_from add.basis.chain h.separator h.items in
+        record {
+          basis = add.basis;
+          content = Split w;
+          placed = e ∙ ap Written h.is;
+          over = λ n f. sym (same_Some old n f);
+          split = λ s f. let same : w ≡ s = cc in (h.row, ap k.own.pages (ap (λ v. v.page) (sym same)) ∙ h.ready, rw h.base tt, λ i. let z : Written b ≡ Written (Split w) = sym h.base ∙ ap k.own.rows i ∙ e ∙ ap Written h.is in cc);
+        }
+    by_kind (Term term) e h = over (Term term) e _ h.is (λ n f. sym (same_Some old n f)) (λ s f. cc)
+    by_kind (Hold hold) e h = over (Hold hold) e _ h.is (λ n f. sym (same_Some old n f)) (λ s f. cc)
+    by_kind (Remove remove) e h = over (Remove remove) e _ h.is (λ n f. sym (same_Some old n f)) (λ s f. cc)
+    by_kind (Merge merge) e h = over (Merge merge) e _ h.is (λ n f. sym (same_Some old n f)) (λ s f. cc)
+    by_kind (Unterm unterm) e h = over (Unterm unterm) e _ h.is (λ n f. sym (same_Some old n f)) (λ s f. cc)
 
 -- where a page goes on, it was in the tree before
 put_reached : (f f' : ℕ → PageOwner) (c l0 : ℕ) (s0 : Key) (st : Stage) (n : PageOwner) → f c ≡ Placed st l0 s0 → f' ≡ put f c n → ((l : ℕ) (s : Key) → Reached 0 l s n → (l0 ≡ l) × (s0 ≡ s)) → (q l : ℕ) (s : Key) → Reached 0 l s (f' q) → Reached 0 l s (f q)
@@ -131,7 +138,7 @@ module _ {limits : Limits} {m : Memory} {log : List Update} {o : Owners} {knows 
       ]
     where
       Holds' : ℕ → Type 0
-      Holds' j = Holds m.rows t.row_out t.page_out (t.entered a) (knows a).inside (knows a).seen (put (knows a).learnt j true) (knows a).roots (put (knows a).heads (suc p) (Some j)) (put (knows a).before (suc p) (knows a).heads) (knows a).linked
+      Holds' j = Holds m.rows t.row_out t.page_out (t.entered a) (knows a).inside (knows a).read.seen (put (knows a).read.learnt j true) (knows a).read.roots (put (knows a).read.heads (suc p) (Some j)) (put (knows a).read.before (suc p) (knows a).read.heads) (knows a).asked.linked
 
   own_base : (v : OwnRow) → IsOwnBase v → IsOwn v
   own_base Foreign h = absurd h
@@ -143,7 +150,7 @@ module _ {limits : Limits} {m : Memory} {log : List Update} {o : Owners} {knows 
   base_stands q _ h i w e = absurd i
 
   Reach : ℕ → ℕ → (ℕ → PageOwner) → Type 0
-  Reach p y f' = (q l : ℕ) (s : Key) → Reached 0 l s (f' q) → Reached 0 l s (o.page q) ⊎ ((z : ℕ) → slot_in m.slots q ≡ Some z → IsOwn ((knows a).rows z) × (z ≢ suc y) × (q ≡ split_page (m.rows (suc y))))
+  Reach p y f' = (q l : ℕ) (s : Key) → Reached 0 l s (f' q) → Reached 0 l s (o.page q) ⊎ ((z : ℕ) → slot_in m.slots q ≡ Some z → IsOwn ((knows a).own.rows z) × (z ≢ suc y) × (q ≡ split_page (m.rows (suc y))))
 
   Clears : (ℕ → PageOwner) → Type 0
   Clears f' = (q b l : ℕ) (s : Key) → o.page q ≡ Cleared b l s → f' q ≡ Cleared b l s
@@ -161,7 +168,7 @@ module _ {limits : Limits} {m : Memory} {log : List Update} {o : Owners} {knows 
   put_reach p y f' c l0 s0 st n was e at q l s r = inl (put_reached o.page f' c l0 s0 st n was e at q l s r)
 
   -- what a link does with pages
-  links_pages : (p x y : ℕ) (w : Record) (f' : ℕ → PageOwner) → m.rows (suc y) ≡ Some w → ((s : SplitOf) → w ≡ Split s → (base : ℕ) × ((knows a).pages s.page ≡ Ready base) × IsOwn ((knows a).rows base) × (base ≢ suc y)) → Links (shared m) a w (suc p) o.page f' → Reach p y f' × Clears f'
+  links_pages : (p x y : ℕ) (w : Record) (f' : ℕ → PageOwner) → m.rows (suc y) ≡ Some w → ((s : SplitOf) → w ≡ Split s → (base : ℕ) × ((knows a).own.pages s.page ≡ Ready base) × IsOwn ((knows a).own.rows base) × (base ≢ suc y)) → Links (shared m) a w (suc p) o.page f' → Reach p y f' × Clears f'
   unfolding Reach Clears
   links_pages p x y (Base w) f' st sp h = (same_reach p y f' h, same_clears f' h)
   links_pages p x y (Put w) f' st sp h = (same_reach p y f' h, same_clears f' h)
@@ -173,7 +180,7 @@ module _ {limits : Limits} {m : Memory} {log : List Update} {o : Owners} {knows 
   links_pages p x y (Merge w) f' st sp h = (put_reach p y f' h.0 h.1 w.low Removed (Placed Merged h.1 w.low) h.2 h.3 (λ l s r. (r.0, r.1)), put_cleared o.page f' h.0 h.1 w.low Removed (Placed Merged h.1 w.low) h.2 h.3)
   links_pages p x y (Split w) f' st sp h = (reach, cleared)
     where
-      b : (base : ℕ) × ((knows a).pages w.page ≡ Ready base) × IsOwn ((knows a).rows base) × (base ≢ suc y)
+      b : (base : ℕ) × ((knows a).own.pages w.page ≡ Ready base) × IsOwn ((knows a).own.rows base) × (base ≢ suc y)
       b = sp w refl
 
       held : slot_in m.slots w.page ≡ Some b.0
@@ -182,9 +189,9 @@ module _ {limits : Limits} {m : Memory} {log : List Update} {o : Owners} {knows 
       reach : Reach p y f'
       reach q l s r = go (subst (λ (f : ℕ → PageOwner). Reached 0 l s (f q)) h.5 r)
         where
-          go : Reached 0 l s (put o.page w.page (Placed Fresh h.1 w.separator) q) → Reached 0 l s (o.page q) ⊎ ((z : ℕ) → slot_in m.slots q ≡ Some z → IsOwn ((knows a).rows z) × (z ≢ suc y) × (q ≡ split_page (m.rows (suc y))))
-          go = by_test q w.page (λ z. Reached 0 l s (cond z (Placed Fresh h.1 w.separator) (o.page q)) → Reached 0 l s (o.page q) ⊎ ((z : ℕ) → slot_in m.slots q ≡ Some z → IsOwn ((knows a).rows z) × (z ≢ suc y) × (q ≡ split_page (m.rows (suc y)))))
-              (λ i v. inr (λ z e. let same : b.0 ≡ z = same_Some b.0 z (sym held ∙ ap (slot_in m.slots) (sym i) ∙ e) in (subst (λ j. IsOwn ((knows a).rows j)) same b.2, subst (λ j. j ≢ suc y) same b.3, i ∙ ap split_page (sym st))))
+          go : Reached 0 l s (put o.page w.page (Placed Fresh h.1 w.separator) q) → Reached 0 l s (o.page q) ⊎ ((z : ℕ) → slot_in m.slots q ≡ Some z → IsOwn ((knows a).own.rows z) × (z ≢ suc y) × (q ≡ split_page (m.rows (suc y))))
+          go = by_test q w.page (λ z. Reached 0 l s (cond z (Placed Fresh h.1 w.separator) (o.page q)) → Reached 0 l s (o.page q) ⊎ ((z : ℕ) → slot_in m.slots q ≡ Some z → IsOwn ((knows a).own.rows z) × (z ≢ suc y) × (q ≡ split_page (m.rows (suc y)))))
+              (λ i v. inr (λ z e. let same : b.0 ≡ z = same_Some b.0 z (sym held ∙ ap (slot_in m.slots) (sym i) ∙ e) in (subst (λ j. IsOwn ((knows a).own.rows j)) same b.2, subst (λ j. j ≢ suc y) same b.3, i ∙ ap split_page (sym st))))
               (λ ne v. inl v)
 
       cleared : Clears f'
@@ -199,9 +206,9 @@ module _ {limits : Limits} {m : Memory} {log : List Update} {o : Owners} {knows 
   unfolding Reach Clears
   fills p zero y r may held n = subst (λ (v : OwnPage). Timed limits m' n.owners (put knows a (finished (filled v (suc p) zero (suc y) (knows a)) r)) (suc now) (times_after a m o now (Exchange (suc p) zero (suc y)) (answer.Whether true) t)) (sym may.0)
       (ready_timed g T a p zero y n.owners (record {
-        own = own_base ((knows a).rows (suc y)) may.1;
+        own = own_base ((knows a).own.rows (suc y)) may.1;
         page_in = no_page_out (suc p) n.phased.1 (t.page_out (suc p)) refl;
-        under = λ j w e i. absurd (let z = sym (base_stands (suc y) ((knows a).rows (suc y)) (g.owns a (suc y)) may.1 w e) ∙ i in cc);
+        under = λ j w e i. absurd (let z = sym (base_stands (suc y) ((knows a).own.rows (suc y)) (g.owns a (suc y)) may.1 w e) ∙ i in cc);
         reached = same_reach p y n.owners.page n.phased.0;
         homed = n.homed;
         stay = λ j l. (n.kept j l).0;
@@ -212,10 +219,10 @@ module _ {limits : Limits} {m : Memory} {log : List Update} {o : Owners} {knows 
       m' : Memory
       m' = record m { slots = replaced_at (suc p) (suc y) m.slots }
   fills p (suc x) y r may held n =
-      let h = link_of a (knows a) (suc p) (suc x) (suc y) may.1 in
+      let h = link_of a (knows a) (suc p) (suc x) (suc y) may in
       let f = found g a (suc p) (suc x) h.basis in
       let place = place_of g a (suc p) (suc x) h.basis.chain f h.basis.alive held in
-      let other : (knows a).pages (suc p) ≡ Other = not_own g a (suc p) (level_in h.basis.chain) (low_in h.basis.chain) place.stage place.placed ((knows a).pages (suc p)) (g.owns_pages a (suc p)) in
+      let other : (knows a).own.pages (suc p) ≡ Other = not_own g a (suc p) (level_in h.basis.chain) (low_in h.basis.chain) place.stage place.placed ((knows a).own.pages (suc p)) (g.owns_pages a (suc p)) in
       let own : (o.row (suc y) ≡ Spare a) × (m.rows (suc y) ≡ Some h.content) = subst (λ (v : OwnRow). OwnFits a (o.row (suc y)) (m.rows (suc y)) v) h.placed (g.owns a (suc y)) in
       let same : n.phased.0 ≡ h.content = same_Some n.phased.0 h.content (sym n.phased.1 ∙ own.1) in
       let links = subst (λ (w : Record). Links (shared m) a w (suc p) o.page n.owners.page) same n.phased.2 in
@@ -235,7 +242,7 @@ module _ {limits : Limits} {m : Memory} {log : List Update} {o : Owners} {knows 
         spare = λ j b e. spare_or b (m.free_rows j) (o.row j) (n.owners.row j) e (n.moved j);
         cleared = pages.1;
       })
-      may.2
+      may.unset
       ((T.holds a).heads_since (suc p) (suc x) h.basis.head).learnt_row
       (f.linked, at.0, at.1)
       r h.content own.1

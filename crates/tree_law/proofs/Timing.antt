@@ -82,7 +82,7 @@ announced_later t t' epoch epoch' an an' now a e le same rows pages h = record {
   pages = λ r w i j. subst (λ n. n ≤ w.epoch) (sym same) (⊎_elim (λ (u : t.page_out r ≡ Some w). h.pages r w u j) (λ (u : (t.page_out r ≡ None) × (w.at ≡ now) × (w.epoch ≡ epoch) × (w.who ≡ a)). let o = h.old in let q = u.2 in omega arith) (out_was now epoch a (t.page_out r) (t'.page_out r) w (pages r) i));
 }
 
-module _ {limits : Limits} {m : Memory} {o : Owners} {knows : ℕ → Knowledge} {now : ℕ} {t : Times} (T : Timed limits m o knows now t) (linked : (b r : ℕ) → (knows b).learnt r ≡ true → o.row r ≡ Linked) (a : ℕ) where
+module _ {limits : Limits} {m : Memory} {o : Owners} {knows : ℕ → Knowledge} {now : ℕ} {t : Times} (T : Timed limits m o knows now t) (linked : (b r : ℕ) → (knows b).read.learnt r ≡ true → o.row r ≡ Linked) (a : ℕ) where
   -- what a step of the actor makes of the memory, the owners and the times
   pub record Turn (m' : Memory) (o' : Owners) (k' : Knowledge) (t' : Times) : Type 0 where
     pub rows_later : (r : ℕ) → IsLater now m.epoch a (t.row_out r) (t'.row_out r)
@@ -96,21 +96,21 @@ module _ {limits : Limits} {m : Memory} {o : Owners} {knows : ℕ → Knowledge}
     pub together : (r n : ℕ) (w : Record) → o'.row r ≡ Linked → m'.rows r ≡ Some w → next_row w ≡ Some n → (t'.home n ≡ t'.home r) × (t'.row_out n ≡ t'.row_out r)
     pub rows : (r : ℕ) (w : Outing) → t'.row_out r ≡ Some w → (o'.row r ≡ Linked) ⊎ (o'.row r ≡ Spare w.who)
     pub pages : (p : ℕ) (w : Outing) → t'.page_out p ≡ Some w → ((l : ℕ) × (s : Key) × (o'.page p ≡ Cleared w.who l s)) × (slot_in m'.slots p ≡ None)
-    pub own_rows : (b r : ℕ) → b ≢ a → IsOwn ((knows b).rows r) → t'.row_out r ≡ None
-    pub gone_pages : (b p : ℕ) → b ≢ a → (knows b).pages p ≡ Gone → t'.page_out p ≡ None
+    pub own_rows : (b r : ℕ) → b ≢ a → IsOwn ((knows b).own.rows r) → t'.row_out r ≡ None
+    pub gone_pages : (b p : ℕ) → b ≢ a → (knows b).own.pages p ≡ Gone → t'.page_out p ≡ None
 
   -- what the actor itself then knows
   pub record Mine (m' : Memory) (k' : Knowledge) (t' : Times) : Type 0 where
     pub within : k'.inside ≡ true → a < limits.actors
-    pub holds : Holds m'.rows t'.row_out t'.page_out (t'.entered a) k'.inside k'.seen k'.learnt k'.roots k'.heads k'.before k'.linked
+    pub holds : Holds m'.rows t'.row_out t'.page_out (t'.entered a) k'.inside k'.read.seen k'.read.learnt k'.read.roots k'.read.heads k'.read.before k'.asked.linked
     pub announced : k'.inside ≡ true → IsAnnounced t' m'.epoch (m'.announced a) (suc now) (t'.entered a)
-    pub epochs : (e : ℕ) → k'.epoch ≡ Some e → e ≤ m'.epoch
-    pub own_rows : (r : ℕ) → IsOwn (k'.rows r) → t'.row_out r ≡ None
-    pub gone_pages : (p : ℕ) → k'.pages p ≡ Gone → t'.page_out p ≡ None
-    pub limbo_rows : (r : ℕ) → LimboFits a (λ c. (put knows a k' c).inside) t'.entered (t'.row_out r) (k'.limbo_rows r)
-    pub limbo_pids : (p : ℕ) → LimboFits a (λ c. (put knows a k' c).inside) t'.entered (t'.page_out p) (k'.limbo_pids p)
-    pub ready : (p r : ℕ) → k'.pages p ≡ Ready r → IsOwnBase (k'.rows r)
-    pub apart : (p q r : ℕ) → k'.pages p ≡ Ready r → k'.pages q ≡ Ready r → p ≡ q
+    pub epochs : (e : ℕ) → k'.limbo.epoch ≡ Some e → e ≤ m'.epoch
+    pub own_rows : (r : ℕ) → IsOwn (k'.own.rows r) → t'.row_out r ≡ None
+    pub gone_pages : (p : ℕ) → k'.own.pages p ≡ Gone → t'.page_out p ≡ None
+    pub limbo_rows : (r : ℕ) → LimboFits a (λ c. (put knows a k' c).inside) t'.entered (t'.row_out r) (k'.limbo.rows r)
+    pub limbo_pids : (p : ℕ) → LimboFits a (λ c. (put knows a k' c).inside) t'.entered (t'.page_out p) (k'.limbo.pids p)
+    pub ready : (p r : ℕ) → k'.own.pages p ≡ Ready r → IsOwnBase (k'.own.rows r)
+    pub apart : (p q r : ℕ) → k'.own.pages p ≡ Ready r → k'.own.pages q ≡ Ready r → p ≡ q
 
   module _ (m' : Memory) (o' : Owners) (k' : Knowledge) (t' : Times) (n : Turn m' o' k' t') where
     pub pass : (c u : ℕ) → u < now → ((knows c).inside ≡ true → u < t.entered c) → (put knows a k' c).inside ≡ true → u < t'.entered c
@@ -125,15 +125,15 @@ module _ {limits : Limits} {m : Memory} {o : Owners} {knows : ℕ → Knowledge}
     page_stays p w e = (out_stays now m.epoch a (t.page_out p) (t'.page_out p) w (n.pages_later p) e, (T.pages p w e).2)
 
     -- what is in the limbo of an actor stays there
-    pub limbo_row : (b r : ℕ) → LimboFits b (λ c. (put knows a k' c).inside) t'.entered (t'.row_out r) ((knows b).limbo_rows r)
-    limbo_row b r = limbo_later b now (λ c. (knows c).inside) (λ c. (put knows a k' c).inside) t.entered t'.entered (t.row_out r) (t'.row_out r) ((knows b).limbo_rows r) (row_stays r) pass (T.limbo_rows b r)
+    pub limbo_row : (b r : ℕ) → LimboFits b (λ c. (put knows a k' c).inside) t'.entered (t'.row_out r) ((knows b).limbo.rows r)
+    limbo_row b r = limbo_later b now (λ c. (knows c).inside) (λ c. (put knows a k' c).inside) t.entered t'.entered (t.row_out r) (t'.row_out r) ((knows b).limbo.rows r) (row_stays r) pass (T.limbo_rows b r)
 
-    pub limbo_pid : (b p : ℕ) → LimboFits b (λ c. (put knows a k' c).inside) t'.entered (t'.page_out p) ((knows b).limbo_pids p)
-    limbo_pid b p = limbo_later b now (λ c. (knows c).inside) (λ c. (put knows a k' c).inside) t.entered t'.entered (t.page_out p) (t'.page_out p) ((knows b).limbo_pids p) (page_stays p) pass (T.limbo_pids b p)
+    pub limbo_pid : (b p : ℕ) → LimboFits b (λ c. (put knows a k' c).inside) t'.entered (t'.page_out p) ((knows b).limbo.pids p)
+    limbo_pid b p = limbo_later b now (λ c. (knows c).inside) (λ c. (put knows a k' c).inside) t.entered t'.entered (t.page_out p) (t'.page_out p) ((knows b).limbo.pids p) (page_stays p) pass (T.limbo_pids b p)
 
     -- what an actor held it still holds
-    pub held_later : (b : ℕ) → Holds m'.rows t'.row_out t'.page_out (t.entered b) (knows b).inside (knows b).seen (knows b).learnt (knows b).roots (knows b).heads (knows b).before (knows b).linked
-    held_later b = holds_later m.rows m'.rows t.row_out t'.row_out t.page_out t'.page_out (t.entered b) (knows b).inside (knows b).seen (knows b).learnt (knows b).roots (knows b).heads (knows b).before (knows b).linked
+    pub held_later : (b : ℕ) → Holds m'.rows t'.row_out t'.page_out (t.entered b) (knows b).inside (knows b).read.seen (knows b).read.learnt (knows b).read.roots (knows b).read.heads (knows b).read.before (knows b).asked.linked
+    held_later b = holds_later m.rows m'.rows t.row_out t'.row_out t.page_out t'.page_out (t.entered b) (knows b).inside (knows b).read.seen (knows b).read.learnt (knows b).read.roots (knows b).read.heads (knows b).read.before (knows b).asked.linked
         (λ i r. since_later (t.entered b) now m.epoch a (t.row_out r) (t'.row_out r) (let p = (T.announced b i).past in omega arith) (n.rows_later r))
         (λ i p. since_later (t.entered b) now m.epoch a (t.page_out p) (t'.page_out p) (let q = (T.announced b i).past in omega arith) (n.pages_later p))
         (λ x c e. n.chains x c (linked b x e))
@@ -145,23 +145,23 @@ module _ {limits : Limits} {m : Memory} {o : Owners} {knows : ℕ → Knowledge}
     pub put_timed : Mine m' k' t' → Timed limits m' o' (put knows a k') (suc now) t'
     put_timed k = record {
       within = λ b. by_test b a (λ z. (cond z k' (knows b)).inside ≡ true → b < limits.actors) (λ e i. subst (λ j. j < limits.actors) (sym e) (k.within i)) (λ ne. T.within b);
-      holds = λ b. by_test b a (λ z. Holds m'.rows t'.row_out t'.page_out (t'.entered b) (cond z k' (knows b)).inside (cond z k' (knows b)).seen (cond z k' (knows b)).learnt (cond z k' (knows b)).roots (cond z k' (knows b)).heads (cond z k' (knows b)).before (cond z k' (knows b)).linked)
-          (λ e. subst (λ j. Holds m'.rows t'.row_out t'.page_out (t'.entered j) k'.inside k'.seen k'.learnt k'.roots k'.heads k'.before k'.linked) (sym e) k.holds)
-          (λ ne. subst (λ j. Holds m'.rows t'.row_out t'.page_out j (knows b).inside (knows b).seen (knows b).learnt (knows b).roots (knows b).heads (knows b).before (knows b).linked) (sym (n.entered b ne)) (held_later b));
+      holds = λ b. by_test b a (λ z. Holds m'.rows t'.row_out t'.page_out (t'.entered b) (cond z k' (knows b)).inside (cond z k' (knows b)).read.seen (cond z k' (knows b)).read.learnt (cond z k' (knows b)).read.roots (cond z k' (knows b)).read.heads (cond z k' (knows b)).read.before (cond z k' (knows b)).asked.linked)
+          (λ e. subst (λ j. Holds m'.rows t'.row_out t'.page_out (t'.entered j) k'.inside k'.read.seen k'.read.learnt k'.read.roots k'.read.heads k'.read.before k'.asked.linked) (sym e) k.holds)
+          (λ ne. subst (λ j. Holds m'.rows t'.row_out t'.page_out j (knows b).inside (knows b).read.seen (knows b).read.learnt (knows b).read.roots (knows b).read.heads (knows b).read.before (knows b).asked.linked) (sym (n.entered b ne)) (held_later b));
       announced = λ b. by_test b a (λ z. (cond z k' (knows b)).inside ≡ true → IsAnnounced t' m'.epoch (m'.announced b) (suc now) (t'.entered b))
           (λ e i. subst (λ j. IsAnnounced t' m'.epoch (m'.announced j) (suc now) (t'.entered j)) (sym e) (k.announced i))
           (λ ne i. subst (λ j. IsAnnounced t' m'.epoch (m'.announced b) (suc now) j) (sym (n.entered b ne)) (announced_still b (n.announced b ne) i));
-      epochs = λ b v. by_test b a (λ z. (cond z k' (knows b)).epoch ≡ Some v → v ≤ m'.epoch) (λ e. k.epochs v) (λ ne i. let j = T.epochs b v i in let l = n.epoch in omega arith);
+      epochs = λ b v. by_test b a (λ z. (cond z k' (knows b)).limbo.epoch ≡ Some v → v ≤ m'.epoch) (λ e. k.epochs v) (λ ne i. let j = T.epochs b v i in let l = n.epoch in omega arith);
       slots = n.slots;
       together = n.together;
       rows = λ r w i. let v = since_then w (t.row_out r) (λ e. (T.rows r w e).1) (λ e. (T.rows r w e).2) (out_was now m.epoch a (t.row_out r) (t'.row_out r) w (n.rows_later r) i) in (n.rows r w i, v.0, v.1);
       pages = λ p w i. let v = n.pages p w i in let u = since_then w (t.page_out p) (λ e. (T.pages p w e).2) (λ e. (T.pages p w e).3) (out_was now m.epoch a (t.page_out p) (t'.page_out p) w (n.pages_later p) i) in (v.0, v.1, u.0, u.1);
-      own_rows = λ b r. by_test b a (λ z. IsOwn ((cond z k' (knows b)).rows r) → t'.row_out r ≡ None) (λ e. k.own_rows r) (λ ne. n.own_rows b r ne);
-      gone_pages = λ b p. by_test b a (λ z. (cond z k' (knows b)).pages p ≡ Gone → t'.page_out p ≡ None) (λ e. k.gone_pages p) (λ ne. n.gone_pages b p ne);
-      limbo_rows = λ b r. by_test b a (λ z. LimboFits b (λ c. (put knows a k' c).inside) t'.entered (t'.row_out r) ((cond z k' (knows b)).limbo_rows r)) (λ e. subst (λ j. LimboFits j (λ c. (put knows a k' c).inside) t'.entered (t'.row_out r) (k'.limbo_rows r)) (sym e) (k.limbo_rows r)) (λ ne. limbo_row b r);
-      limbo_pids = λ b p. by_test b a (λ z. LimboFits b (λ c. (put knows a k' c).inside) t'.entered (t'.page_out p) ((cond z k' (knows b)).limbo_pids p)) (λ e. subst (λ j. LimboFits j (λ c. (put knows a k' c).inside) t'.entered (t'.page_out p) (k'.limbo_pids p)) (sym e) (k.limbo_pids p)) (λ ne. limbo_pid b p);
-      ready = λ b p r. by_test b a (λ z. (cond z k' (knows b)).pages p ≡ Ready r → IsOwnBase ((cond z k' (knows b)).rows r)) (λ e. k.ready p r) (λ ne. T.ready b p r);
-      apart = λ b p q r. by_test b a (λ z. (cond z k' (knows b)).pages p ≡ Ready r → (cond z k' (knows b)).pages q ≡ Ready r → p ≡ q) (λ e. k.apart p q r) (λ ne. T.apart b p q r);
+      own_rows = λ b r. by_test b a (λ z. IsOwn ((cond z k' (knows b)).own.rows r) → t'.row_out r ≡ None) (λ e. k.own_rows r) (λ ne. n.own_rows b r ne);
+      gone_pages = λ b p. by_test b a (λ z. (cond z k' (knows b)).own.pages p ≡ Gone → t'.page_out p ≡ None) (λ e. k.gone_pages p) (λ ne. n.gone_pages b p ne);
+      limbo_rows = λ b r. by_test b a (λ z. LimboFits b (λ c. (put knows a k' c).inside) t'.entered (t'.row_out r) ((cond z k' (knows b)).limbo.rows r)) (λ e. subst (λ j. LimboFits j (λ c. (put knows a k' c).inside) t'.entered (t'.row_out r) (k'.limbo.rows r)) (sym e) (k.limbo_rows r)) (λ ne. limbo_row b r);
+      limbo_pids = λ b p. by_test b a (λ z. LimboFits b (λ c. (put knows a k' c).inside) t'.entered (t'.page_out p) ((cond z k' (knows b)).limbo.pids p)) (λ e. subst (λ j. LimboFits j (λ c. (put knows a k' c).inside) t'.entered (t'.page_out p) (k'.limbo.pids p)) (sym e) (k.limbo_pids p)) (λ ne. limbo_pid b p);
+      ready = λ b p r. by_test b a (λ z. (cond z k' (knows b)).own.pages p ≡ Ready r → IsOwnBase ((cond z k' (knows b)).own.rows r)) (λ e. k.ready p r) (λ ne. T.ready b p r);
+      apart = λ b p q r. by_test b a (λ z. (cond z k' (knows b)).own.pages p ≡ Ready r → (cond z k' (knows b)).own.pages q ≡ Ready r → p ≡ q) (λ e. k.apart p q r) (λ ne. T.apart b p q r);
     }
       where
         since_then : (w : Outing) (out : Option Outing) → (out ≡ Some w → w.at < now) → (out ≡ Some w → w.epoch ≤ m.epoch) → (out ≡ Some w) ⊎ ((out ≡ None) × (w.at ≡ now) × (w.epoch ≡ m.epoch) × (w.who ≡ a)) → (w.at < suc now) × (w.epoch ≤ m'.epoch)

@@ -11,7 +11,7 @@ use Rattle.deltas.specs.declared.record.Record.TheVariants.{Remove}
 use Rattle.deltas.specs.Records.{next_row}
 use Rattle.chain_search.specs.Chains.{content_in, level_in, low_in, high_in, right_in, is_removed}
 use Rattle.tree_law.specs.Keys.{Key, Covers}
-use Rattle.chain_search.specs.Knowledge.{OwnRow, Foreign, Written, Knowledge, filled, linked_over, taken_out, finished}
+use Rattle.chain_search.specs.Knowledge.{OwnRow, Foreign, Written, Knowledge, filled, linked_over, taken_out, finished, handed_over, rebuilt, updated}
 use Rattle.tree_law.specs.Phase.{Stage, Fresh, Indexed, Held, Removed, Merged, PageOwner, Placed, rank, stage_removed}
 use Rattle.tree_law.specs.Put.{put}
 use Rattle.tree_law.specs.Shared.{Shared}
@@ -25,7 +25,7 @@ use Rattle.bw_model.specs.declared.command.Command.TheVariants.{Get, Insert, Ups
 use Rattle.bw_model.specs.Bytes.{key_cmp}
 use Rattle.bw_model.specs.Log.{set, unset, updated_key, updated_value, value_in}
 use Rattle.bw_model.specs.Replies.{command_key, update_of}
-use Rattle.chain_search.specs.Discipline.{MayUpdate, MayConsolidate, MayRemove, record_of, value_of, base_from}
+use Rattle.chain_search.specs.Discipline.{MayUpdate, MayConsolidate, MayRemove, record_of, value_of, base_from, HasRead}
 use Rattle.tree_law.proofs.KeyOrder.{by_key, covers_from, covers_to}
 use Rattle.tree_law.proofs.Puts.{by_test, put_same, put_other}
 use Rattle.tree_law.proofs.Terms.{exact_going}
@@ -73,55 +73,55 @@ key_due b (Upsert k v) old u e = ap updated_key (sym (same_Some (set b k v) u e)
 key_due b (Delete k) None u e = absurd (cc)
 key_due b (Delete k) (Some x) u e = ap updated_key (sym (same_Some (unset b k) u e))
 
-linked_update : (u : Update) (x y : ℕ) (k : Knowledge) → linked_over (Written (record_of u x)) x y k ≡ record k { rows = put k.rows y Foreign; linked = Some (Some x) }
+linked_update : (u : Update) (x y : ℕ) (k : Knowledge) → linked_over (Written (record_of u x)) x y k ≡ updated x y k
 linked_update (set b j v) x y k = refl
 linked_update (unset b j) x y k = refl
 
 module _ {m : Shared} {log : List Update} {o : Owners} {knows : ℕ → Knowledge} {point : ℕ → Option (List Update)} {logs : ℕ → List (List Update)} (g : Good m log o knows point logs) (a : ℕ) where
   -- the exchange that links an update
-  pub updates : (p x y : ℕ) → m.slots p ≡ Some x → (h : MayUpdate a (knows a) p x y) → (r : Option Reply)
-      → Good (record m { slots = put m.slots p (Some y) }) (log ++ h.update ∷ []) (record o { row = put o.row y Linked }) (put knows a (finished (filled ((knows a).pages p) p x y (knows a)) r)) (put point a (Some log)) (put logs a (log ∷ logs a))
+  pub updates : (p x y : ℕ) → m.slots p ≡ Some x → (basis : HasRead (knows a) p x) (content : Record) → (knows a).own.rows y ≡ Written content → (h : MayUpdate a (knows a) x basis.chain content) → (r : Option Reply)
+      → Good (record m { slots = put m.slots p (Some y) }) (log ++ h.update ∷ []) (record o { row = put o.row y Linked }) (put knows a (finished (filled ((knows a).own.pages p) p x y (knows a)) r)) (put point a (Some log)) (put logs a (log ∷ logs a))
       × (update_of a h.command (value_in log (command_key h.command)) ≡ Some h.update)
-  updates p x y s h r =
+  updates p x y s basis content written h r =
       let u = h.update in
-      let c = h.basis.chain in
-      let f = found g a p x h.basis in
-      let place = place_of g a p x c f h.basis.alive s in
+      let c = basis.chain in
+      let f = found g a p x basis in
+      let place = place_of g a p x c f basis.alive s in
       let is : (k : Key) → Covers c k → content_in c k ≡ leaf_map log k = λ k v. place.is_page.same k v ∙ spec_leaf log o.index (level_in c) h.leaf k in
       let here : Spells o m x log = record { linked = f.linked; chain = c; is_chain = f.stands; same = λ z n. is } in
-      let fits : (o.row y ≡ Spare a) × (m.rows y ≡ Some (record_of u x)) = subst (λ (v : OwnRow). OwnFits a (o.row y) (m.rows y) v) h.placed (g.owns a y) in
+      let fits : (o.row y ≡ Spare a) × (m.rows y ≡ Some (record_of u x)) = subst (λ (v : OwnRow). OwnFits a (o.row y) (m.rows y) v) (written ∙ ap Written h.is) (g.owns a y) in
       let over = is_over u x c in
       let inside : Covers c (command_key h.command) = covers_from c (command_key h.command) h.covers in
       let due : update_of a h.command (value_in log (command_key h.command)) ≡ Some u = subst (λ (v : Option Key). update_of a h.command v ≡ Some u) (ap value_of (is (command_key h.command) inside) ∙ value_of_map (value_in log (command_key h.command))) h.due in
       let none : point a ≡ None = subst (λ (v : Option (Option ℕ)). LinkFits o m (point a) v) h.unlinked (mine g a).linked_fits in
-      let learned : filled ((knows a).pages p) p x y (knows a) ≡ record (knows a) { rows = put (knows a).rows y Foreign; linked = Some (Some x) } = rw (not_own g a p (level_in c) (low_in c) place.stage place.placed ((knows a).pages p) (g.owns_pages a p), h.placed) (linked_update u x y (knows a)) in (
+      let learned : filled ((knows a).own.pages p) p x y (knows a) ≡ updated x y (knows a) = rw (not_own g a p (level_in c) (low_in c) place.stage place.placed ((knows a).own.pages p) (g.owns_pages a p), (written ∙ ap Written h.is)) (linked_update u x y (knows a)) in (
         subst (λ (k : Knowledge). Good (record m { slots = put m.slots p (Some y) }) (log ++ u ∷ []) (record o { row = put o.row y Linked }) (put knows a (finished k r)) (put point a (Some log)) (put logs a (log ∷ logs a))) (sym learned)
-            (relink_one g a p x y c f place h.basis.alive s fits.0 place.stage (omega arith) place.on o.page o.index place.placed (λ q ne. stay refl) g.tree.exact (record_of u x) fits.1
+            (relink_one g a p x y c f place basis.alive s fits.0 place.stage (omega arith) place.on o.page o.index place.placed (λ q ne. stay refl) g.tree.exact (record_of u x) fits.1
             (rw over.next f.linked) c (rw over.next f.stands)
             over.level over.low over.right over.high (over.flag ∙ place.flagged)
             (log ++ u ∷ [])
             (λ k v. rw h.leaf (over_decides u x c log k (is k v)))
             (λ l k n. log_outside u log o.index (level_in c) c h.leaf (λ k n. key_apart u log k (λ i. n (subst (λ (z : Key). Covers c z) (sym (i ∙ key_due a h.command (value_in log (command_key h.command)) u due)) inside))) l k n)
-            (finished (record (knows a) { rows = put (knows a).rows y Foreign; linked = Some (Some x) }) r)
+            (finished (updated x y (knows a)) r)
             refl (λ v. v) refl refl refl refl refl
             (Some log) (log, refl, here)),
         due,
       )
 
   -- the exchange that puts a base in the chain's place
-  pub consolidates : (p x y : ℕ) → m.slots p ≡ Some x → MayConsolidate (knows a) p x y → (r : Option Reply) → Good (record m { slots = put m.slots p (Some y) }) log (record o { row = put o.row y Linked }) (put knows a (finished (filled ((knows a).pages p) p x y (knows a)) r)) (put point a (point a)) (put logs a (log ∷ logs a))
-  consolidates p x y s h r =
-      let c = h.basis.chain in
-      let f = found g a p x h.basis in
-      let place = place_of g a p x c f h.basis.alive s in
+  pub consolidates : (p x y : ℕ) → m.slots p ≡ Some x → (basis : HasRead (knows a) p x) (content : Record) → (knows a).own.rows y ≡ Written content → MayConsolidate basis.chain content → (r : Option Reply) → Good (record m { slots = put m.slots p (Some y) }) log (record o { row = put o.row y Linked }) (put knows a (finished (filled ((knows a).own.pages p) p x y (knows a)) r)) (put point a (point a)) (put logs a (log ∷ logs a))
+  consolidates p x y s basis content written h r =
+      let c = basis.chain in
+      let f = found g a p x basis in
+      let place = place_of g a p x c f basis.alive s in
       let w = base_from c (low_in c) h.items in
-      let fits : (o.row y ≡ Spare a) × (m.rows y ≡ Some w) = subst (λ (v : OwnRow). OwnFits a (o.row y) (m.rows y) v) h.placed (g.owns a y) in
-      let learned : filled ((knows a).pages p) p x y (knows a) ≡ record (knows a) { rows = put (knows a).rows y Foreign; limbo_rows = taken_out (knows a).seen x (knows a).limbo_rows } = rw (not_own g a p (level_in c) (low_in c) place.stage place.placed ((knows a).pages p) (g.owns_pages a p), h.placed) refl in
+      let fits : (o.row y ≡ Spare a) × (m.rows y ≡ Some w) = subst (λ (v : OwnRow). OwnFits a (o.row y) (m.rows y) v) (written ∙ ap Written h.is) (g.owns a y) in
+      let learned : filled ((knows a).own.pages p) p x y (knows a) ≡ rebuilt x y (knows a) = rw (not_own g a p (level_in c) (low_in c) place.stage place.placed ((knows a).own.pages p) (g.owns_pages a p), (written ∙ ap Written h.is)) refl in
       subst (λ (k : Knowledge). Good (record m { slots = put m.slots p (Some y) }) log (record o { row = put o.row y Linked }) (put knows a (finished k r)) (put point a (point a)) (put logs a (log ∷ logs a))) (sym learned)
-      (relink_one g a p x y c f place h.basis.alive s fits.0 place.stage (omega arith) place.on o.page o.index place.placed (λ q ne. stay refl) g.tree.exact w fits.1 tt [] refl
-      refl refl refl refl (alive_stage g a p x c place h.basis.alive)
+      (relink_one g a p x y c f place basis.alive s fits.0 place.stage (omega arith) place.on o.page o.index place.placed (λ q ne. stay refl) g.tree.exact w fits.1 tt [] refl
+      refl refl refl refl (alive_stage g a p x c place basis.alive)
       log (λ k v. h.alike k (covers_to c k v) ∙ place.is_page.same k v) (λ l k n. refl)
-      (finished (record (knows a) { rows = put (knows a).rows y Foreign; limbo_rows = taken_out (knows a).seen x (knows a).limbo_rows }) r)
+      (finished (rebuilt x y (knows a)) r)
       refl (λ v. v) refl refl refl refl refl
       (point a) (mine g a).linked_fits)
 
@@ -135,24 +135,24 @@ module _ {m : Shared} {log : List Update} {o : Owners} {knows : ℕ → Knowledg
       (λ ne. grind (arith, nat_tests))
 
   -- the exchange that removes a page
-  pub removes : (p x y : ℕ) → m.slots p ≡ Some x → (h : MayRemove (knows a) p x y) → (r : Option Reply) → Good (record m { slots = put m.slots p (Some y) }) log (record { row = put o.row y Linked; page = put o.page p (Placed Removed (level_in h.basis.chain) (low_in h.basis.chain)); index = o.index }) (put knows a (finished (filled ((knows a).pages p) p x y (knows a)) r)) (put point a (point a)) (put logs a (log ∷ logs a)) × (o.page p ≡ Placed Held (level_in h.basis.chain) (low_in h.basis.chain))
-  removes p x y s h r =
-      let c = h.basis.chain in
-      let f = found g a p x h.basis in
-      let place = place_of g a p x c f h.basis.alive s in
-      let fits : (o.row y ≡ Spare a) × (m.rows y ≡ Some (Remove (record { level = level_in c; next = x }))) = subst (λ (v : OwnRow). OwnFits a (o.row y) (m.rows y) v) h.placed (g.owns a y) in
+  pub removes : (p x y : ℕ) → m.slots p ≡ Some x → (basis : HasRead (knows a) p x) (content : Record) → (knows a).own.rows y ≡ Written content → (h : MayRemove (knows a) p x basis.chain content) → (r : Option Reply) → Good (record m { slots = put m.slots p (Some y) }) log (record { row = put o.row y Linked; page = put o.page p (Placed Removed (level_in basis.chain) (low_in basis.chain)); index = o.index }) (put knows a (finished (filled ((knows a).own.pages p) p x y (knows a)) r)) (put point a (point a)) (put logs a (log ∷ logs a)) × (o.page p ≡ Placed Held (level_in basis.chain) (low_in basis.chain))
+  removes p x y s basis content written h r =
+      let c = basis.chain in
+      let f = found g a p x basis in
+      let place = place_of g a p x c f basis.alive s in
+      let fits : (o.row y ≡ Spare a) × (m.rows y ≡ Some (Remove (record { level = level_in c; next = x }))) = subst (λ (v : OwnRow). OwnFits a (o.row y) (m.rows y) v) (written ∙ ap Written h.is) (g.owns a y) in
       let above = read_names g a h.parent h.row h.above in
       let least : 2 ≤ rank place.stage = ranked 2 (level_in c) (low_in c) (level_in c) (low_in c) place.stage (o.page p) place.placed (above.items (level_in c) (low_in c) (Child p true) h.level (covers_from h.above.chain (low_in c) h.covers) h.held) in
-      let held : place.stage ≡ Held = is_held place.stage least (sym (alive_stage g a p x c place h.basis.alive)) in
+      let held : place.stage ≡ Held = is_held place.stage least (sym (alive_stage g a p x c place basis.alive)) in
       let was : o.page p ≡ Placed Held (level_in c) (low_in c) = place.placed ∙ ap (λ st. Placed st (level_in c) (low_in c)) held in
       let lt : level_in c < g.tree.top = below_top p (level_in c) (low_in c) place.stage place.placed least in
-      let learned : filled ((knows a).pages p) p x y (knows a) ≡ record (knows a) { rows = put (knows a).rows y Foreign } = rw (not_own g a p (level_in c) (low_in c) place.stage place.placed ((knows a).pages p) (g.owns_pages a p), h.placed) refl in (
-        subst (λ (k : Knowledge). Good (record m { slots = put m.slots p (Some y) }) log (record { row = put o.row y Linked; page = put o.page p (Placed Removed (level_in h.basis.chain) (low_in h.basis.chain)); index = o.index }) (put knows a (finished k r)) (put point a (point a)) (put logs a (log ∷ logs a))) (sym learned)
-            (relink_one g a p x y c f place h.basis.alive s fits.0 Removed (let i = ap rank held in omega arith) (omega arith) (put o.page p (Placed Removed (level_in c) (low_in c))) o.index (put_same o.page p (Placed Removed (level_in c) (low_in c))) (λ q ne. stay (put_other o.page p (Placed Removed (level_in c) (low_in c)) q ne))
+      let learned : filled ((knows a).own.pages p) p x y (knows a) ≡ handed_over y (knows a) = rw (not_own g a p (level_in c) (low_in c) place.stage place.placed ((knows a).own.pages p) (g.owns_pages a p), (written ∙ ap Written h.is)) refl in (
+        subst (λ (k : Knowledge). Good (record m { slots = put m.slots p (Some y) }) log (record { row = put o.row y Linked; page = put o.page p (Placed Removed (level_in basis.chain) (low_in basis.chain)); index = o.index }) (put knows a (finished k r)) (put point a (point a)) (put logs a (log ∷ logs a))) (sym learned)
+            (relink_one g a p x y c f place basis.alive s fits.0 Removed (let i = ap rank held in omega arith) (omega arith) (put o.page p (Placed Removed (level_in c) (low_in c))) o.index (put_same o.page p (Placed Removed (level_in c) (low_in c))) (λ q ne. stay (put_other o.page p (Placed Removed (level_in c) (low_in c)) q ne))
             (exact_going o.page o.index g.tree.top m.root p (level_in c) (low_in c) Held Removed was lt refl g.tree.exact) (Remove (record { level = level_in c; next = x })) fits.1 f.linked c f.stands
             refl refl refl refl refl
             log (λ k v. place.is_page.same k v) (λ l k n. refl)
-            (finished (record (knows a) { rows = put (knows a).rows y Foreign }) r)
+            (finished (handed_over y (knows a)) r)
             refl (λ v. v) refl refl refl refl refl
             (point a) (mine g a).linked_fits),
         was,

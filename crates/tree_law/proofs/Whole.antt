@@ -41,12 +41,12 @@ module _ {m : Shared} {log : List Update} {o : Owners} {knows : ℕ → Knowledg
     reached : Reached 0 (level_in chain) (low_in chain) (o.page page)
     names : is_removed chain ≡ false → ChainNames o chain
 
-  head_chain : (page head : ℕ) → (knows a).heads page ≡ Some head → HeadChain page head
+  head_chain : (page head : ℕ) → (knows a).read.heads page ≡ Some head → HeadChain page head
   head_chain page head e =
       let f = subst (λ (v : Option ℕ). HeadFits o m (logs a) page v) e ((g.sound a).heads_fit page) in
       record { chain = f.2.chain; linked = f.2.linked; stands = f.2.is_chain; reached = f.3; names = f.5 }
 
-  seen_stands : (r : ℕ) (w : Record) → (knows a).seen r ≡ Some w → m.rows r ≡ Some w
+  seen_stands : (r : ℕ) (w : Record) → (knows a).read.seen r ≡ Some w → m.rows r ≡ Some w
   seen_stands r w e = (subst (λ (v : Option Record). SeenFits (o.row r) (m.rows r) v) e ((g.sound a).seen_fits r)).1
 
   -- what a linked chain says of a page is so of the page's chain
@@ -64,19 +64,19 @@ module _ {m : Shared} {log : List Update} {o : Owners} {knows : ℕ → Knowledg
   says_right page c r naming i = let same = reached_one 0 0 (level_in naming) (level_in c) i.0 (low_in c) (o.page page) i.2 r in (same.0, i.1 ∙ ap Some (sym same.1))
 
   -- a page that was read is where its chain is
-  pub read_reached : (page head : ℕ) (c : List Record) → (knows a).heads page ≡ Some head → IsChainFrom (knows a).seen head c → Reached 0 (level_in c) (low_in c) (o.page page)
+  pub read_reached : (page head : ℕ) (c : List Record) → (knows a).read.heads page ≡ Some head → IsChainFrom (knows a).read.seen head c → Reached 0 (level_in c) (low_in c) (o.page page)
   read_reached page head c e h =
       let w = head_chain page head e in
-      let same = IsChainFrom-unique m.rows head w.chain c w.stands (chain_stands o m (knows a).seen (g.sound a).seen_fits c (Some head) h) in
+      let same = IsChainFrom-unique m.rows head w.chain c w.stands (chain_stands o m (knows a).read.seen (g.sound a).seen_fits c (Some head) h) in
       subst (λ (d : List Record). Reached 0 (level_in d) (low_in d) (o.page page)) same w.reached
 
   -- the chain of a slot that was read is whole, where the pages of the tree are below the limit
-  is_whole : (limits : Limits) → ((r p l : ℕ) (s : Key) → Reached r l s (o.page p) → (0 < p) × (p < limits.pids)) → (page head : ℕ) → (knows a).heads page ≡ Some head → (w : HeadChain page head) → IsWhole limits (knows a) page w.chain
+  is_whole : (limits : Limits) → ((r p l : ℕ) (s : Key) → Reached r l s (o.page p) → (0 < p) × (p < limits.pids)) → (page head : ℕ) → (knows a).read.heads page ≡ Some head → (w : HeadChain page head) → IsWhole limits (knows a) page w.chain
   is_whole limits below page head at w = record {
     is_chain = fitted head w.linked w.chain w.stands;
     root = λ e. let i = (g.sound a).roots_fit page e in (reached_one 0 0 i.0 (level_in w.chain) [] (low_in w.chain) (o.page page) i.1 w.reached).1;
     named = λ other row h. says_of h.chain (read_names g a other row h) page w.chain w.reached;
-    beside = λ other row h b. let n = chain_stands o m (knows a).seen (g.sound a).seen_fits h.chain (Some row) h.read in says_right page w.chain w.reached b.chain (beyond_reached g a other row h.head h.chain n h.alive page b);
+    beside = λ other row h b. let n = chain_stands o m (knows a).read.seen (g.sound a).seen_fits h.chain (Some row) h.read in says_right page w.chain w.reached b.chain (beyond_reached g a other row h.head h.chain n h.alive page b);
     own = λ alive. says_of w.chain (w.names alive) page w.chain w.reached;
     names = λ alive other row read e h. says_of w.chain (w.names alive) other read (read_reached other row read e h);
     beyond = λ alive next b.
@@ -91,12 +91,12 @@ module _ {m : Shared} {log : List Update} {o : Owners} {knows : ℕ → Knowledg
     child = λ alive level other key held on inside is. below (rank_of (Child other held)) other level key ((w.names alive).items level key (Child other held) on (covers_from w.chain key inside) is);
   }
 
-  module _ (q : ℕ) (w : Record) (stands : m.rows q ≡ Some w) (page head : ℕ) (front : List Record) (at : (knows a).heads page ≡ Some head) (part : IsFront (knows a).seen head front q) where
+  module _ (q : ℕ) (w : Record) (stands : m.rows q ≡ Some w) (page head : ℕ) (front : List Record) (at : (knows a).read.heads page ≡ Some head) (part : IsFront (knows a).read.seen head front q) where
     whole : HeadChain page head
     whole = head_chain page head at
 
     rest : (rest : List Record) × IsChainFrom m.rows q rest × (whole.chain ≡ front ++ rest)
-    rest = front_of (knows a).seen m.rows seen_stands head front q whole.chain part whole.stands
+    rest = front_of (knows a).read.seen m.rows seen_stands head front q whole.chain part whole.stands
 
     pub short_front : length front < 13
     short_front =

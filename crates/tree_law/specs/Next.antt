@@ -39,7 +39,7 @@ pointed log (Some u) old = Some log
 
 -- the update that the actor's command makes by the log, where it has made none yet
 abbrev pub IsDue : ℕ → Knowledge → List Update → Update → Type 0
-IsDue a k log u = (command : Command) × (k.command ≡ Some command) × (k.linked ≡ None) × (update_of a command (value_in log (command_key command)) ≡ Some u)
+IsDue a k log u = (command : Command) × (k.asked.command ≡ Some command) × (k.asked.linked ≡ None) × (update_of a command (value_in log (command_key command)) ≡ Some u)
 
 -- a row stays whose it is, or the actor takes it where it is free, or links it where it is its own
 abbrev pub IsMoved : ℕ → Bool → Owner → Owner → Type 0

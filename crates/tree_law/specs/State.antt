@@ -25,6 +25,7 @@ use Rattle.op_machine.specs.Quiet.{IsQuiet}
 use Rattle.op_machine.specs.Faithful.{IsFaithful, KnowsRow}
 use Rattle.op_machine.specs.Phases as phase
 use Rattle.op_machine.specs.Phases.{Phase, IsInPhase, KeepsPhases}
+use Rattle.op_machine.specs.Updates.{UpdatesAtLinks}
 use Rattle.op_machine.specs.Reuse.{HandsPid, HandsRow, UnlinksPid, UnlinksRow, IsFreedByRule}
 use Rattle.tree_law.specs.Fitness.{AreFitted}
 use Rattle.tree_law.specs.Indexed.{IsFirst, IsIndexedAlong}
@@ -65,9 +66,9 @@ pub record HeadAt (limits : Limits) (entries : List Entry) (operation : Operatio
 -- what an unfinished operation has found, and where
 pub record IsSearch (limits : Limits) (entries : List Entry) (operation : Operation) (rows : ℕ → Option Record) (k : Knowledge) : Type 0 where
   pub unfinished : (n : ℕ) (reply : Reply) → Finishes entries operation n reply → ⊥
-  pub heads_at : (page row : ℕ) → k.heads page ≡ Some row → HeadAt limits entries operation rows k.recent page row
-  pub pids_at : (word : ℕ) → k.no_pids word ≡ true → (n : ℕ) × TakesOwnStep entries operation n (PidBits word) (Number 0)
-  pub rows_at : (word : ℕ) → k.no_rows word ≡ true → (n : ℕ) × TakesOwnStep entries operation n (RowBits word) (Number 0)
+  pub heads_at : (page row : ℕ) → k.read.heads page ≡ Some row → HeadAt limits entries operation rows k.read.recent page row
+  pub pids_at : (word : ℕ) → k.asked.no_pids word ≡ true → (n : ℕ) × TakesOwnStep entries operation n (PidBits word) (Number 0)
+  pub rows_at : (word : ℕ) → k.asked.no_rows word ≡ true → (n : ℕ) × TakesOwnStep entries operation n (RowBits word) (Number 0)
 
 -- the operation has a point, at which the reply is that of its command
 abbrev pub Justifies : List Entry → List Bool → Operation → Reply → Type 0
@@ -112,20 +113,20 @@ IsInTree (Cleared actor level low) = ⊤
 -- The page is ready for its actor, and the row in its slot has a base.
 pub record IsReady (owners : Owners) (memory : Memory) (knows : ℕ → Knowledge) (page row : ℕ) : Type 0 where
   pub actor : ℕ
-  pub ready : (knows actor).pages page ≡ Ready row
+  pub ready : (knows actor).own.pages page ≡ Ready row
   pub owned : (owners.row row ≡ Linked) ⊎ (owners.row row ≡ Spare actor)
   pub base : pages.Page
   pub stands : memory.rows row ≡ Some (Base base)
 
 -- What the names that actors have learnt are, and which slots hold rows.
 pub record IsNamed (limits : Limits) (entries : List Entry) (owners : Owners) (memory : Memory) (knows : ℕ → Knowledge) : Type 0 where
-  pub shown : (actor row : ℕ) → HasLearnt entries actor row → (row ≡ 0) ⊎ ((knows actor).learnt row ≡ true)
-  pub known : (actor row : ℕ) → (knows actor).learnt row ≡ true → KnowsRow entries (length entries) actor row
+  pub shown : (actor row : ℕ) → HasLearnt entries actor row → (row ≡ 0) ⊎ ((knows actor).read.learnt row ≡ true)
+  pub known : (actor row : ℕ) → (knows actor).read.learnt row ≡ true → KnowsRow entries (length entries) actor row
   pub announced : (actor : ℕ) → (knows actor).inside ≡ true → 0 < memory.announced actor
   pub epoch : (0 < memory.epoch) × (memory.epoch ≤ 2 ^ 62)
   pub posted : (actor : ℕ) → memory.announced actor ≤ memory.epoch
-  pub commands : (actor : ℕ) → (knows actor).command ≡ command_of entries actor
-  pub recent : (actor row : ℕ) (content : Record) → (knows actor).recent row ≡ Some content → (knows actor).seen row ≡ Some content
+  pub commands : (actor : ℕ) → (knows actor).asked.command ≡ command_of entries actor
+  pub recent : (actor row : ℕ) (content : Record) → (knows actor).read.recent row ≡ Some content → (knows actor).read.seen row ≡ Some content
   pub zero_free : owners.row 0 ≡ Free
   pub zero_taken : memory.free_rows 0 ≡ false
   pub free_row_below : (row : ℕ) → memory.free_rows row ≡ true → row < limits.rows
@@ -146,6 +147,7 @@ pub record IsState (limits : Limits) (entries : List Entry) : Type 0 where
   pub searches : (operation : Operation) → IsOperation entries operation → IsUnended entries operation.start operation.actor → command_of entries operation.actor ≡ Some operation.command
       → IsSearch limits entries operation (memory_of limits entries).rows (knows entries operation.actor)
   pub marked : IsMarked limits entries points
+  pub updates : UpdatesAtLinks limits entries points
   pub run : IsRun limits entries
   pub quiet : IsQuiet limits entries points
   pub faithful : IsFaithful limits entries
@@ -155,8 +157,8 @@ pub record IsState (limits : Limits) (entries : List Entry) : Type 0 where
   pub times : Times
   pub timed : Timed limits (memory_of limits entries) owners (knows entries) (length entries) times
   -- what is in limbos was taken out, stamped and passed as the limbos say, and what was freed is freed by the rule
-  pub limbo_rows : (actor row : ℕ) → IsInLimbo entries actor (UnlinksRow limits entries actor row) (HandsRow row) ((knows entries actor).limbo_rows row)
-  pub limbo_pids : (actor pid : ℕ) → IsInLimbo entries actor (UnlinksPid limits entries actor pid) (HandsPid pid) ((knows entries actor).limbo_pids pid)
+  pub limbo_rows : (actor row : ℕ) → IsInLimbo entries actor (UnlinksRow limits entries actor row) (HandsRow row) ((knows entries actor).limbo.rows row)
+  pub limbo_pids : (actor pid : ℕ) → IsInLimbo entries actor (UnlinksPid limits entries actor pid) (HandsPid pid) ((knows entries actor).limbo.pids pid)
   pub freed : IsFreedByRule limits entries
   pub indexed : IsIndexedAlong limits entries owners
-  pub rooted : (actor page : ℕ) → (knows entries actor).roots page ≡ true → (level : ℕ) × IsFirst owners level page
+  pub rooted : (actor page : ℕ) → (knows entries actor).read.roots page ≡ true → (level : ℕ) × IsFirst owners level page

@@ -84,9 +84,9 @@ LimboFits a inside entered out (Stamped epoch passed) = (w : Outing) × (out ≡
 
 pub record Timed (limits : Limits) (m : Memory) (o : Owners) (knows : ℕ → Knowledge) (now : ℕ) (t : Times) : Type 0 where
   pub within : (b : ℕ) → (knows b).inside ≡ true → b < limits.actors
-  pub holds : (b : ℕ) → Holds m.rows t.row_out t.page_out (t.entered b) (knows b).inside (knows b).seen (knows b).learnt (knows b).roots (knows b).heads (knows b).before (knows b).linked
+  pub holds : (b : ℕ) → Holds m.rows t.row_out t.page_out (t.entered b) (knows b).inside (knows b).read.seen (knows b).read.learnt (knows b).read.roots (knows b).read.heads (knows b).read.before (knows b).asked.linked
   pub announced : (b : ℕ) → (knows b).inside ≡ true → IsAnnounced t m.epoch (m.announced b) now (t.entered b)
-  pub epochs : (b e : ℕ) → (knows b).epoch ≡ Some e → e ≤ m.epoch
+  pub epochs : (b e : ℕ) → (knows b).limbo.epoch ≡ Some e → e ≤ m.epoch
   -- the row in a slot of the tree is on that page, and in the tree
   pub slots : (p x l : ℕ) (s : Key) → Reached 0 l s (o.page p) → slot_in m.slots p ≡ Some x → (t.home x ≡ p) × (t.row_out x ≡ None)
   -- the rows of a chain are on one page, and are taken out together
@@ -95,13 +95,13 @@ pub record Timed (limits : Limits) (m : Memory) (o : Owners) (knows : ℕ → Kn
   pub rows : (r : ℕ) (w : Outing) → t.row_out r ≡ Some w → ((o.row r ≡ Linked) ⊎ (o.row r ≡ Spare w.who)) × (w.at < now) × (w.epoch ≤ m.epoch)
   pub pages : (p : ℕ) (w : Outing) → t.page_out p ≡ Some w → ((l : ℕ) × (s : Key) × (o.page p ≡ Cleared w.who l s)) × (slot_in m.slots p ≡ None) × (w.at < now) × (w.epoch ≤ m.epoch)
   -- what is an actor's own is not out
-  pub own_rows : (b r : ℕ) → IsOwn ((knows b).rows r) → t.row_out r ≡ None
-  pub gone_pages : (b p : ℕ) → (knows b).pages p ≡ Gone → t.page_out p ≡ None
-  pub limbo_rows : (b r : ℕ) → LimboFits b (λ c. (knows c).inside) t.entered (t.row_out r) ((knows b).limbo_rows r)
-  pub limbo_pids : (b p : ℕ) → LimboFits b (λ c. (knows c).inside) t.entered (t.page_out p) ((knows b).limbo_pids p)
+  pub own_rows : (b r : ℕ) → IsOwn ((knows b).own.rows r) → t.row_out r ≡ None
+  pub gone_pages : (b p : ℕ) → (knows b).own.pages p ≡ Gone → t.page_out p ≡ None
+  pub limbo_rows : (b r : ℕ) → LimboFits b (λ c. (knows c).inside) t.entered (t.row_out r) ((knows b).limbo.rows r)
+  pub limbo_pids : (b p : ℕ) → LimboFits b (λ c. (knows c).inside) t.entered (t.page_out p) ((knows b).limbo.pids p)
   -- an own base stands in one own slot at most
-  pub ready : (b p r : ℕ) → (knows b).pages p ≡ Ready r → IsOwnBase ((knows b).rows r)
-  pub apart : (b p q r : ℕ) → (knows b).pages p ≡ Ready r → (knows b).pages q ≡ Ready r → p ≡ q
+  pub ready : (b p r : ℕ) → (knows b).own.pages p ≡ Ready r → IsOwnBase ((knows b).own.rows r)
+  pub apart : (b p q r : ℕ) → (knows b).own.pages p ≡ Ready r → (knows b).own.pages q ≡ Ready r → p ≡ q
 
 abbrev pub is_linked : Owner → Bool
 is_linked Linked = true

@@ -8,7 +8,7 @@ use Rattle.tree_law.specs.Keys.{Key, IsUnder, Covers}
 use Rattle.chain_search.specs.Knowledge.{Knowledge}
 use Rattle.tree_law.specs.Phase.{Stage, Fresh, Indexed, Merged, PageOwner, Nobody, Placed, Cleared, mark, rank, stage_removed, child_of}
 use Rattle.tree_law.specs.Shared.{Shared}
-use Rattle.tree_law.specs.Owners.{IsChain, Free, Linked, Owners, IsClosed, IsCleared, Owns, OwnsPages, leaf_map, Knows}
+use Rattle.tree_law.specs.Owners.{IsChain, Free, Linked, Owners, IsClosed, IsOut, Owns, OwnsPages, leaf_map, Knows}
 
 -- What a level is to decide: the leaves the log, each other level the terms of the level below. So the index is a second
 -- log, and an index page is treated as a leaf is.
@@ -66,10 +66,6 @@ pub record Exact (page : ℕ → PageOwner) (index : ℕ → Key → Option Cont
 abbrev pub IsOff : PageOwner → ℕ → Key → Type 0
 IsOff w l s = (w ≡ Placed Merged l s) ⊎ ((a : ℕ) × (w ≡ Cleared a l s))
 
--- a cleared page whose slot is empty
-abbrev pub IsOut : PageOwner → Option ℕ → Type 0
-IsOut w s = (s ≡ None) × IsCleared w
-
 -- the slot of a page that is no more on a side chain
 pub record Off (o : Owners) (m : Shared) (q l : ℕ) (s : Key) : Type 0 where
   pub row : ℕ
@@ -99,6 +95,6 @@ pub record Good (m : Shared) (log : List Update) (o : Owners) (knows : ℕ → K
   pub frees : Frees o m
   pub closed : IsClosed o m
   pub tree : Tree o m log
-  pub owns : (a : ℕ) → Owns a o m (knows a).rows
-  pub owns_pages : (a : ℕ) → OwnsPages a o m (knows a).pages
-  pub sound : (a : ℕ) → Knows o m (knows a).seen (knows a).learnt (knows a).roots (knows a).heads (knows a).before (knows a).linked (point a) (logs a)
+  pub owns : (a : ℕ) → Owns a o m (knows a).own.rows
+  pub owns_pages : (a : ℕ) → OwnsPages a o m (knows a).own.pages
+  pub sound : (a : ℕ) → Knows o m (knows a).read.seen (knows a).read.learnt (knows a).read.roots (knows a).read.heads (knows a).read.before (knows a).asked.linked (point a) (logs a)
