@@ -7,3 +7,4 @@ pub mod HoldFits
 pub mod RemoveFits
 pub mod MergeFits
 pub mod UntermFits
+pub mod Due

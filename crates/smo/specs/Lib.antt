@@ -1,5 +1,6 @@
 pub mod Sizes
 pub mod Neighbours
+pub mod Readings
 pub mod Splits
 pub mod Terms
 pub mod Roots

@@ -3,6 +3,7 @@
 
 mod held;
 mod hold;
+mod laws;
 mod merge;
 mod neighbours;
 mod remove;
@@ -14,6 +15,7 @@ mod unterm;
 mod version;
 
 pub use hold::plan_hold;
+pub use laws::plans_are_due;
 pub use merge::plan_merge;
 pub use remove::plan_remove;
 pub use root::plan_root;
