@@ -225,15 +225,17 @@ right_of [] h = absurd h
 right_of (newest ∷ []) h = right_pid newest (first_spellable newest [] h) None tt
 right_of (newest ∷ older ∷ under) h = right_pid newest h.0.spellable (right_in (older ∷ under)) (right_of (older ∷ under) h.1)
 
+-- so are those of the page that it makes
+pub made_right : (chain : List Record) (page : Page) → IsFitted chain → Makes chain page → IfSome page.right IsPid
+made_right chain page h m = subst (λ right. IfSome right IsPid) (sym m.right) (right_of chain h)
+
+pub made_children : (chain : List Record) (page : Page) → IsFitted chain → Makes chain page → All (λ item. HasPid item.content) page.items
+made_children chain page h m = All-from_recursion (λ (item : Item). HasPid item.content) page.items
+    (all_contents HasPid page.items m.items.ascending (λ key content e. children_of chain h key content (sym (m.items.contents key) ∙ e)))
+
 -- the page that a fitted chain makes may stand as a base, unless it is removed
 pub stands : (chain : List Record) (page : Page) → IsFitted chain → Makes chain page → page.removed ≡ false → IsSpellablePage page
-stands chain page h m alive = record {
-  ruled = ruled chain page h m;
-  alive = alive;
-  right = subst (λ right. IfSome right IsPid) (sym m.right) (right_of chain h);
-  children = All-from_recursion (λ (item : Item). HasPid item.content) page.items
-      (all_contents HasPid page.items m.items.ascending (λ key content e. children_of chain h key content (sym (m.items.contents key) ∙ e)));
-}
+stands chain page h m alive = record { ruled = ruled chain page h m; alive = alive; right = made_right chain page h m; children = made_children chain page h m }
 
 -- deltas over a base
 

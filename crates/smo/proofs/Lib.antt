@@ -1,0 +1,10 @@
+pub mod Places
+pub mod Removed
+pub mod TermFits
+pub mod SplitFits
+pub mod RootFits
+pub mod HoldFits
+pub mod RemoveFits
+pub mod MergeFits
+pub mod UntermFits
+pub mod Due

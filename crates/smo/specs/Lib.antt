@@ -1,0 +1,10 @@
+pub mod Sizes
+pub mod Neighbours
+pub mod Readings
+pub mod Splits
+pub mod Terms
+pub mod Roots
+pub mod Holds
+pub mod Removals
+pub mod Merges
+pub mod Unterms

@@ -1,0 +1,20 @@
+-- How many deltas and items a page's chain has.
+use Rattle.std.specs.Prelude.{◌≤◌, ◌<◌, List, length}
+use Rattle.base_page.specs.declared.item.Item.{Item}
+use Rattle.deltas.specs.declared.record.Record.{Record}
+use Rattle.chain_search.specs.Chains.{IsItemsOf}
+
+-- fewer than 8 deltas over the base
+abbrev pub HasFewDeltas : List Record → Type 0
+HasFewDeltas chain = length chain ≤ 8
+
+-- the chain's items are such
+abbrev pub HasItems : List Record → (List Item → Type 0) → Type 0
+HasItems chain P = (items : List Item) × IsItemsOf chain items × P items
+
+-- fewer than 16 items, and 16 or more
+abbrev pub HasFewItems : List Record → Type 0
+HasFewItems chain = HasItems chain (λ items. length items < 16)
+
+abbrev pub HasManyItems : List Record → Type 0
+HasManyItems chain = HasItems chain (λ items. 16 ≤ length items)

@@ -1,0 +1,47 @@
+//! Which terms of a page are held.
+ghost use Rattle.std.specs.Prelude.{◌≡◌, ◌≤◌, Some};
+ghost use Rattle.std.specs.Bool.{Decides};
+ghost use Rattle.base_page.specs.declared.item.Content.TheVariants.{Child};
+ghost use Rattle.base_page.specs.Rules.{held_count, is_held};
+ghost use Rattle.chain_search.specs.Chains.{content_in, low_in};
+
+use crate::Version;
+use base_page::{Content, Item};
+
+/// Whether the parent has the page's term, held or not as said.
+pub(crate) fn has_term(parent: &Version, page: &Version, held: bool) -> bool
+    ensures { Decides result (content_in parent.now.chain (low_in page.now.chain) ≡ Some (Child page.now.pid held)) }
+{
+    match parent.chain.content(page.chain.low()) {
+        Some(
+            Content::Child {
+                page: child,
+                held: mark,
+            },
+        ) => child == page.pid && mark == held,
+        _ => false,
+    }
+}
+
+/// Whether the content is a held term.
+pub(crate) fn is_held(content: &Content) -> bool
+    ensures { result ≡ is_held content.now }
+{
+    match content {
+        Content::Value(_) => false,
+        Content::Child { held, .. } => *held,
+    }
+}
+
+/// How many of the items are held terms.
+pub(crate) fn held_count(items: &[Item]) -> usize
+    ensures { result ≡ held_count items.now }
+{
+    let mut count = 0;
+    for item in items {
+        if is_held(&item.content) {
+            count += 1;
+        }
+    }
+    count
+}

@@ -1,0 +1,26 @@
+//! Plans of structure changes: from pages that were read to the records to place.
+#![tactic(auto)]
+
+mod held;
+mod hold;
+mod laws;
+mod merge;
+mod neighbours;
+mod remove;
+mod root;
+mod sizes;
+mod split;
+mod term;
+mod unterm;
+mod version;
+
+pub use hold::plan_hold;
+pub use laws::plans_are_due;
+pub use merge::plan_merge;
+pub use remove::plan_remove;
+pub use root::plan_root;
+pub use sizes::{FEW_ITEMS, MANY_DELTAS, MANY_HELD, MANY_ITEMS, TOP_LEVEL};
+pub use split::{SplitPlan, plan_split};
+pub use term::plan_term;
+pub use unterm::plan_unterm;
+pub use version::Version;

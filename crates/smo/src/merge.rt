@@ -1,0 +1,58 @@
+//! The merge of a removed page into its left one.
+ghost use Rattle.std.specs.Prelude.{◌≡◌, MatchOption, option_copied};
+ghost use Rattle.smo.specs.Merges.{CanMerge, IsMergePlan};
+
+use crate::Version;
+use crate::held::held_count;
+use crate::neighbours::meets;
+use crate::sizes::{MANY_DELTAS, MANY_ITEMS};
+use bw_model::Key;
+use deltas::Merge;
+
+/// The merge of what the removed page has; none exactly where the left page is removed, or has many deltas or items, or the other isn't
+/// its right and stands at its high key, isn't removed, is of another level, or has a held term. (A removed page has few items.)
+pub fn plan_merge(left: &Version, removed: &Version) -> Option<Merge>
+    ensures { MatchOption result (¬ CanMerge left.now removed.now) (IsMergePlan left.now removed.now) }
+{
+    left.chain.keeps_rules();
+    removed.chain.keeps_rules();
+    if left.chain.is_removed() {
+        return None;
+    }
+    if !meets(left, removed) {
+        return None;
+    }
+    if !removed.chain.is_removed() {
+        return None;
+    }
+    if removed.chain.level() != left.chain.level() {
+        return None;
+    }
+    if left.chain.deltas() >= MANY_DELTAS {
+        return None;
+    }
+    if left.chain.page().items().len() >= MANY_ITEMS {
+        return None;
+    }
+    let merged = removed.chain.page();
+    if held_count(merged.items().as_slice()) > 0 {
+        return None;
+    }
+    Some(Merge {
+        level: left.chain.level(),
+        next: left.head,
+        low: merged.low().copied(),
+        high: copied(merged.high()),
+        right: merged.right(),
+        items: merged.items().copied(),
+    })
+}
+
+fn copied(key: Option<&Key>) -> Option<Key>
+    ensures { result ≡ option_copied key.entry }
+{
+    match key {
+        None => None,
+        Some(key) => Some(key.copied()),
+    }
+}

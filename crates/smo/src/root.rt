@@ -1,0 +1,52 @@
+//! A new root over a page and its right.
+ghost use Rattle.std.specs.Prelude.{◌≡◌, ◌∷◌, [], MatchOption, IsTrue, false};
+ghost use Rattle.bw_model.specs.Bytes.{is_below};
+ghost use Rattle.base_page.specs.declared.item.Content.TheVariants.{Child};
+ghost use Rattle.smo.specs.Roots.{CanRoot, IsRootPlan};
+
+use crate::Version;
+use crate::neighbours::meets;
+use crate::sizes::TOP_LEVEL;
+use base_page::{Content, Items, Page};
+use bw_model::Key;
+
+/// The root over a page and its right, one level up; none exactly where the page doesn't begin at the empty key, or the other isn't
+/// its right and stands at its high key, or is removed, or the page is of the highest level.
+pub fn plan_root(left: &Version, right: &Version) -> Option<Page>
+    ensures { MatchOption result (¬ CanRoot left.now right.now) (IsRootPlan left.now right.now) }
+{
+    left.chain.keeps_rules();
+    if !left.chain.low().as_slice().is_empty() {
+        return None;
+    }
+    if !meets(left, right) {
+        return None;
+    }
+    if right.chain.is_removed() {
+        return None;
+    }
+    if left.chain.level() >= TOP_LEVEL {
+        return None;
+    }
+    let items = two_terms(left.pid, right.chain.low(), right.pid);
+    Some(Page::new(left.chain.level() + 1, Key::default(), None, None, items))
+}
+
+/// The terms of a page at the empty key, and of one at a key above.
+fn two_terms(left: u16, separator: &Key, right: u16) -> Items
+    requires { IsTrue (is_below [] separator.now) }
+    ensures { result ≡ record { key = []; content = Child left false } ∷ record { key = separator.now; content = Child right false } ∷ [] }
+{
+    let mut items = Items::new();
+    let first = Content::Child {
+        page: left,
+        held: false,
+    };
+    items.put(Key::default(), first);
+    let second = Content::Child {
+        page: right,
+        held: false,
+    };
+    items.put(separator.copied(), second);
+    items
+}

@@ -1,0 +1,41 @@
+//! The term of a page that its parent hasn't.
+ghost use Rattle.std.specs.Prelude.{◌≡◌, MatchOption, false};
+ghost use Rattle.chain_search.specs.Chains.{is_removed};
+ghost use Rattle.smo.specs.Terms.{CanPost, IsTermPlan};
+
+use crate::Version;
+use crate::sizes::{MANY_DELTAS, MANY_ITEMS};
+use deltas::Term;
+
+/// The term of the page in its parent; none exactly where the page is removed, the parent isn't one level up with the page's low
+/// key in its range and no term there, or has many deltas or items.
+pub fn plan_term(parent: &Version, page: &Version) -> Option<Term>
+    requires alive { is_removed parent.now.chain ≡ false }
+    ensures { MatchOption result (¬ CanPost parent.now page.now) (IsTermPlan parent.now page.now) }
+{
+    let low = page.chain.low();
+    if page.chain.is_removed() {
+        return None;
+    }
+    if u16::from(parent.chain.level()) != u16::from(page.chain.level()) + 1 {
+        return None;
+    }
+    if !parent.chain.covers(low) {
+        return None;
+    }
+    if parent.chain.content(low).is_some() {
+        return None;
+    }
+    if parent.chain.deltas() >= MANY_DELTAS {
+        return None;
+    }
+    if parent.chain.page().items().len() >= MANY_ITEMS {
+        return None;
+    }
+    Some(Term {
+        level: parent.chain.level(),
+        next: parent.head,
+        separator: low.copied(),
+        child: page.pid,
+    })
+}
