@@ -1,5 +1,5 @@
 -- Small chains whose records fit, and some that don't.
-use Rattle.std.proofs.Common.{codes, ◌≡◌, ◌≤◌, ◌+◌, ℕ, List, [], ◌∷◌, Bool, true, false, Option, Some, None, refl, sym, ap, subst, ◌∙◌, arith}
+use Rattle.std.proofs.Common.{codes, ◌≡◌, ◌≢◌, ◌≤◌, ◌+◌, ℕ, List, [], ◌∷◌, Bool, true, false, Option, Some, None, refl, sym, ap, subst, ◌∙◌, arith}
 use Rattle.std.specs.Prelude.{is_some, if◌then◌else◌, IsTrue, not, ◌&&◌}
 use Rattle.std.specs.List.{AllByRecursion}
 use Rattle.std.specs.List.Sorted.{IsStrictlySortedBy}
@@ -12,12 +12,14 @@ use Rattle.base_page.specs.declared.item.Content.{Content}
 use Rattle.base_page.specs.declared.item.Content.TheVariants.{Value, Child}
 use Rattle.base_page.specs.declared.item.Item.{Item}
 use Rattle.base_page.specs.Pages.{Page, IsPage, AreItems, IsOfLevel, content_at}
+use Rattle.base_page.specs.Rules.{IsFirstAt, is_held, IsRuled}
 use Rattle.deltas.specs.declared.record.Record.{Record}
 use Rattle.deltas.specs.declared.record.Record.TheVariants.{Base}
 use Rattle.deltas.specs.Applies.{Applies}
-use Rattle.chain_search.specs.Examples.{leaf, split, split_leaf, merge, merged_leaf, put, delete, remove, leaf_chain, index, index_page, term, hold, unterm, termed_page, held_page, untermed_page, index_chain, put_over_removal, put_outside, base_over_base, first_held}
-use Rattle.chain_search.specs.Fitted.{FitsOver, IsFirstAt, is_held, IsPageChain, IsRuled, Makes}
-use Rattle.chain_search.proofs.FittedLaws.{by_order, found_first, fits_over, Makes-base, Makes-next}
+use Rattle.deltas.specs.Spellable.{HasPid, IsPid, IsRow, IsSpellableLink, IsSpellablePage}
+use Rattle.chain_search.specs.Examples.{leaf, split, split_leaf, merge, merged_leaf, put, delete, remove, leaf_chain, index, index_page, term, hold, unterm, termed_page, held_page, untermed_page, index_chain, put_over_removal, put_outside, base_over_base, first_held, marked_base, unnamed_split}
+use Rattle.chain_search.specs.Fitted.{FitsOver, IsPageChain, Makes}
+use Rattle.chain_search.proofs.FittedLaws.{by_order, first_spellable, found_first, fits_over, Makes-base, Makes-next}
 
 abbrev k07 : List ℕ
 k07 = codes "k07"
@@ -97,6 +99,29 @@ ruled_without_08 = of_leaf without_08 (is_page without_08 refl (record { few = o
 ruled_removed : IsRuled removed
 ruled_removed = let rules = ruled_without_08 in of_leaf removed (record { spans = refl; ordered = rules.is_page.ordered; within = rules.is_page.within; kinds = rules.is_page.kinds }) refl refl
 
+-- what a row can spell
+
+not_empty : k09 ≢ []
+not_empty e = cc
+
+linked : (level next page : ℕ) → level ≤ 15 → IsRow next → IsPid page → IsSpellableLink level next k09 page
+linked level next page top over names = record { top = top; over = over; above = not_empty; names = names }
+
+pub stands_leaf : IsSpellablePage leaf
+stands_leaf = record { ruled = ruled_leaf; alive = refl; right = tt; children = All-from_recursion (λ (item : Item). HasPid item.content) leaf.items (tt, (tt, tt)) }
+
+abbrev upper : Page
+upper = record { level = 0; low = k09; high = None; right = None; removed = false; items = item_09 ∷ [] }
+
+stands_upper : IsSpellablePage upper
+unfolding IsStrictlySortedBy
+stands_upper = record {
+  ruled = of_leaf upper (is_page upper refl (record { few = omega arith; ascending = (tt, tt) }) (refl, tt) (refl, tt)) refl refl;
+  alive = refl;
+  right = tt;
+  children = All-from_recursion (λ (item : Item). HasPid item.content) upper.items (tt, tt);
+}
+
 -- what each record makes of the page under it
 split_contents : (q : List ℕ) → content_at lower.items q ≡ (if not (is_below q k09) then None else content_at leaf.items q)
 split_contents q = by_order q k09
@@ -116,7 +141,7 @@ delete_contents q = by_key q k08
     (λ other. rw other refl)
 
 leaf_makes : Makes (Base leaf ∷ []) leaf
-leaf_makes = Makes-base leaf ruled_leaf.is_page.ordered.ascending
+leaf_makes = Makes-base leaf ruled_leaf.is_page.ordered.ascending refl
 
 split_applies : Applies leaf split lower
 split_applies = record { ascending = ruled_lower.is_page.ordered.ascending; contents = split_contents; level = refl; low = refl; high = refl; right = refl; removed = refl }
@@ -125,7 +150,7 @@ split_makes : Makes (split ∷ Base leaf ∷ []) lower
 split_makes = Makes-next (Base leaf ∷ []) split leaf lower leaf_makes split_applies
 
 split_fits : FitsOver (Base leaf ∷ []) split
-split_fits = fits_over (Base leaf ∷ []) split leaf lower refl leaf_makes
+split_fits = fits_over (Base leaf ∷ []) split leaf lower refl (linked 0 11 2 (omega arith) (omega arith, omega arith) (omega arith, omega arith)) leaf_makes
     (record { alive = refl; level = refl; covered = refl; inner = refl })
     split_applies ruled_lower
 
@@ -137,12 +162,12 @@ merge_makes = Makes-next split_leaf merge lower merged split_makes merge_applies
 
 merge_fits : FitsOver split_leaf merge
 unfolding IsStrictlySortedBy
-merge_fits = fits_over split_leaf merge lower merged refl split_makes
+merge_fits = fits_over split_leaf merge lower merged refl ((omega arith, omega arith), not_empty, omega arith, stands_upper) split_makes
     (record {
       alive = refl;
       level = refl;
       meets = refl;
-      merged = is_page _ refl (record { few = omega arith; ascending = (tt, tt) }) (refl, tt) (refl, tt);
+      merged = stands_upper.ruled.is_page;
       room = omega arith;
     })
     merge_applies ruled_merged
@@ -154,7 +179,7 @@ put_makes : Makes (put ∷ merged_leaf) with_07
 put_makes = Makes-next merged_leaf put merged with_07 merge_makes put_applies
 
 put_fits : FitsOver merged_leaf put
-put_fits = fits_over merged_leaf put merged with_07 refl merge_makes
+put_fits = fits_over merged_leaf put merged with_07 refl (omega arith, omega arith) merge_makes
     (record { alive = refl; leaf = refl; covered = refl; room = λ absent. omega arith })
     put_applies ruled_with_07
 
@@ -165,7 +190,7 @@ delete_makes : Makes (delete ∷ put ∷ merged_leaf) without_08
 delete_makes = Makes-next (put ∷ merged_leaf) delete with_07 without_08 put_makes delete_applies
 
 delete_fits : FitsOver (put ∷ merged_leaf) delete
-delete_fits = fits_over (put ∷ merged_leaf) delete with_07 without_08 refl put_makes
+delete_fits = fits_over (put ∷ merged_leaf) delete with_07 without_08 refl (omega arith, omega arith) put_makes
     (record { alive = refl; leaf = refl; covered = refl })
     delete_applies ruled_without_08
 
@@ -173,13 +198,13 @@ remove_applies : Applies without_08 (remove 15) removed
 remove_applies = record { ascending = ruled_removed.is_page.ordered.ascending; contents = λ q. refl; level = refl; low = refl; high = refl; right = refl; removed = refl }
 
 remove_fits : FitsOver (delete ∷ put ∷ merged_leaf) (remove 15)
-remove_fits = fits_over (delete ∷ put ∷ merged_leaf) (remove 15) without_08 removed refl delete_makes
+remove_fits = fits_over (delete ∷ put ∷ merged_leaf) (remove 15) without_08 removed refl (omega arith, (omega arith, omega arith)) delete_makes
     (record { alive = refl; level = refl; few = omega arith; inner = refl })
     remove_applies ruled_removed
 
 pub leaf_chain_fits : IsPageChain leaf_chain
 leaf_chain_fits = record {
-  fitted = (remove_fits, (delete_fits, (put_fits, (merge_fits, (split_fits, (leaf, refl, refl, ruled_leaf))))));
+  fitted = (remove_fits, (delete_fits, (put_fits, (merge_fits, (split_fits, (leaf, refl, stands_leaf))))));
   short = omega arith;
 }
 
@@ -199,6 +224,9 @@ ruled_index = record {
   top = omega arith;
   terms = λ above. record { first = (refl, refl); few = omega arith; apart = tt };
 }
+
+stands_index : IsSpellablePage index
+stands_index = record { ruled = ruled_index; alive = refl; right = tt; children = All-from_recursion (λ (item : Item). HasPid item.content) index.items ((omega arith, omega arith), tt) }
 
 held_few : (held : Bool) → (if held then 1 else 0) + 0 ≤ 3
 held_few true = omega arith
@@ -231,13 +259,13 @@ unterm_contents q = by_key q k09
 term_applies : (next child : ℕ) → Applies index (term next child) (both child false)
 term_applies next child = record { ascending = (ruled_both child false).is_page.ordered.ascending; contents = term_contents child; level = refl; low = refl; high = refl; right = refl; removed = refl }
 
-term_fits : (under : List Record) (next child : ℕ) → Makes under index → FitsOver under (term next child)
-term_fits under next child makes = fits_over under (term next child) index (both child false) refl makes
+term_fits : (under : List Record) (next child : ℕ) → IsRow next → IsPid child → Makes under index → FitsOver under (term next child)
+term_fits under next child row pid makes = fits_over under (term next child) index (both child false) refl (omega arith, linked 1 next child (omega arith) row pid) makes
     (record { alive = refl; level = refl; index = omega arith; covered = refl; absent = refl; room = omega arith })
     (term_applies next child) (ruled_both child false)
 
 index_makes : Makes index_page index
-index_makes = Makes-base index ruled_index.is_page.ordered.ascending
+index_makes = Makes-base index ruled_index.is_page.ordered.ascending refl
 
 term_makes : Makes termed_page (both 2 false)
 term_makes = Makes-next index_page (term 4 2) index (both 2 false) index_makes (term_applies 4 2)
@@ -249,7 +277,7 @@ hold_makes : Makes (hold ∷ termed_page) (both 2 true)
 hold_makes = Makes-next termed_page hold (both 2 false) (both 2 true) term_makes hold_applies
 
 hold_fits : FitsOver termed_page hold
-hold_fits = fits_over termed_page hold (both 2 false) (both 2 true) refl term_makes
+hold_fits = fits_over termed_page hold (both 2 false) (both 2 true) refl (omega arith, linked 1 5 2 (omega arith) (omega arith, omega arith) (omega arith, omega arith)) term_makes
     (record { alive = refl; level = refl; there = refl })
     hold_applies (ruled_both 2 true)
 
@@ -260,13 +288,13 @@ unterm_makes : Makes (unterm ∷ held_page) index
 unterm_makes = Makes-next held_page unterm (both 2 true) index hold_makes unterm_applies
 
 unterm_fits : FitsOver held_page unterm
-unterm_fits = fits_over held_page unterm (both 2 true) index refl hold_makes
+unterm_fits = fits_over held_page unterm (both 2 true) index refl (omega arith, linked 1 6 2 (omega arith) (omega arith, omega arith) (omega arith, omega arith)) hold_makes
     (record { alive = refl; level = refl; there = refl })
     unterm_applies ruled_index
 
 pub index_chain_fits : IsPageChain index_chain
 index_chain_fits = record {
-  fitted = (term_fits untermed_page 7 3 unterm_makes, (unterm_fits, (hold_fits, (term_fits index_page 4 2 index_makes, (index, refl, refl, ruled_index)))));
+  fitted = (term_fits untermed_page 7 3 (omega arith, omega arith) (omega arith, omega arith) unterm_makes, (unterm_fits, (hold_fits, (term_fits index_page 4 2 (omega arith, omega arith) (omega arith, omega arith) index_makes, (index, refl, stands_index)))));
   short = omega arith;
 }
 
@@ -307,3 +335,12 @@ first_held_unfit h =
     let there : content_at over.made.items over.made.low ≡ Some (Child 1 true) = ap (content_at over.made.items) low ∙ over.makes_now.items.contents [] in
     let unheld : true ≡ false = first_unheld over.made.items over.made.low (Child 1 true) terms.first there in
     cc
+
+pub marked_base_unfit : ¬ IsPageChain marked_base
+marked_base_unfit h =
+    let stands = first_spellable (Base (record leaf { removed = true })) [] h.fitted in
+    let alive = stands.alive in
+    cc
+
+pub unnamed_split_unfit : ¬ IsPageChain unnamed_split
+unnamed_split_unfit h = let named = h.fitted.0.spellable.names.0 in omega (arith, named)

@@ -1,8 +1,9 @@
 -- What fitted chains have: deltas over one base, and one page that they make, which keeps the rules.
-use Rattle.std.proofs.Common.{◌≡◌, ◌<◌, ◌≤◌, ◌+◌, ◌-◌, ℕ, zero, suc, List, [], ◌∷◌, ◌++◌, map, length, get_or, drop, drop-cons, add-one, Bool, true, Option, Some, None, refl, sym, ap, subst, ◌∙◌, arith}
-use Rattle.std.specs.Prelude.{is_some, if◌then◌else◌, IsTrue, IsSome, MatchOption}
+use Rattle.std.proofs.Common.{◌≡◌, ◌<◌, ◌≤◌, ◌+◌, ◌-◌, ℕ, zero, suc, List, [], ◌∷◌, ◌++◌, map, length, get_or, drop, drop-cons, add-one, Bool, true, false, Option, Some, None, refl, sym, ap, subst, ◌∙◌, arith}
+use Rattle.std.specs.Prelude.{is_some, if◌then◌else◌, IfSome, IsTrue, IsSome, MatchOption}
 use Rattle.std.specs.List.{All, AllByRecursion}
-use Rattle.std.proofs.lemmas.List.Elements.{recursion_from_All}
+use Rattle.std.proofs.lemmas.List.Elements.{All-from_recursion, recursion_from_All}
+use Rattle.std.proofs.lemmas.Option.{same_Some}
 use Rattle.std.specs.List.Sorted.{IsStrictlySortedBy}
 use Rattle.std.specs.Ordering.{is_eq, ordering_reverse}
 use Rattle.std.specs.declared.cmp.Ordering.{Ordering}
@@ -15,6 +16,7 @@ use Rattle.base_page.specs.declared.item.Content.TheVariants.{Value, Child}
 use Rattle.base_page.specs.declared.item.Item.{Item}
 use Rattle.base_page.specs.Pages.{Page, child_in, content_at, IsAscending, IsOfLevel}
 use Rattle.base_page.specs.Places.{HasNoChild}
+use Rattle.base_page.specs.Rules.{IsFirstAt, IsRuled}
 use Rattle.deltas.specs.declared.record.Split.{Split}
 use Rattle.deltas.specs.declared.record.Merge.{Merge}
 use Rattle.deltas.specs.declared.record.Record.{Record}
@@ -23,8 +25,9 @@ use Rattle.deltas.specs.declared.record.Record.TheVariants.{Base}
 use Rattle.deltas.specs.Records.{names, content_said, next_row, level_after, low_after, high_after, right_after, removed_after}
 use Rattle.deltas.specs.Applies.{Applies}
 use Rattle.deltas.specs.Fits.{Fits}
-use Rattle.chain_search.specs.Chains.{level_in, low_in, high_in, right_in}
-use Rattle.chain_search.specs.Fitted.{FitsOver, IsFirstAt, IsFitted, IsRuled, Makes}
+use Rattle.deltas.specs.Spellable.{HasPid, IsPid, IsSpellable, IsSpellablePage}
+use Rattle.chain_search.specs.Chains.{content_in, level_in, low_in, high_in, right_in}
+use Rattle.chain_search.specs.Fitted.{FitsOver, IsFitted, Makes}
 
 -- items
 
@@ -99,14 +102,14 @@ Makes-unique chain one two a b =
     let items : one.items ≡ two.items = items_unique one.items two.items a.items.ascending b.items.ascending (λ key. a.items.contents key ∙ sym (b.items.contents key)) in
     λ i. record { level = level i; low = low i; high = high i; right = right i; removed = removed i; items = items i }
 
-pub Makes-base : (page : Page) → IsAscending page.items → Makes (Base page ∷ []) page
-Makes-base page ascending = record {
+pub Makes-base : (page : Page) → IsAscending page.items → page.removed ≡ false → Makes (Base page ∷ []) page
+Makes-base page ascending alive = record {
   items = record { ascending = ascending; contents = λ key. refl };
   level = refl;
   low = refl;
   high = refl;
   right = refl;
-  removed = refl;
+  removed = alive;
 }
 
 -- what a record makes of the page that a chain makes
@@ -124,9 +127,11 @@ Makes-next under newest page made m a = record {
 }
 
 -- a delta that fits the page made under it, and makes of it one that keeps the rules
-pub fits_over : (under : List Record) (newest : Record) (page made : Page) → is_some (next_row newest) ≡ true → Makes under page → Fits page newest → Applies page newest made → IsRuled made → FitsOver under newest
-fits_over under newest page made delta makes fit applies ruled = record {
+pub fits_over : (under : List Record) (newest : Record) (page made : Page) → is_some (next_row newest) ≡ true → IsSpellable newest
+    → Makes under page → Fits page newest → Applies page newest made → IsRuled made → FitsOver under newest
+fits_over under newest page made delta spellable makes fit applies ruled = record {
   delta = delta;
+  spellable = spellable;
   page = page;
   makes = makes;
   fits = fit;
@@ -142,10 +147,93 @@ fits under newest page f m = subst (λ (p : Page). Fits p newest) (Makes-unique 
 -- the page that a fitted chain makes keeps the rules
 pub ruled : (chain : List Record) (page : Page) → IsFitted chain → Makes chain page → IsRuled page
 ruled [] page h m = absurd h
-ruled (newest ∷ []) page (base, is, alive, rules) m =
-    let makes : Makes (newest ∷ []) base = subst (λ (r : Record). Makes (r ∷ []) base) (sym is) (Makes-base base rules.is_page.ordered.ascending) in
-    subst IsRuled (Makes-unique (newest ∷ []) base page makes m) rules
+ruled (newest ∷ []) page (base, is, stands) m =
+    let makes : Makes (newest ∷ []) base = subst (λ (r : Record). Makes (r ∷ []) base) (sym is) (Makes-base base stands.ruled.is_page.ordered.ascending stands.alive) in
+    subst IsRuled (Makes-unique (newest ∷ []) base page makes m) stands.ruled
 ruled (newest ∷ older ∷ under) page (over, rest) m = subst IsRuled (Makes-unique (newest ∷ older ∷ under) over.made page over.makes_now m) over.ruled
+
+-- the pages that a fitted chain names
+
+pub content_all : (P : Content → Type 0) (items : List Item) → AllByRecursion (λ item. P item.content) items → (key : List ℕ) (content : Content) → content_at items key ≡ Some content → P content
+content_all P [] all key content e = cc
+content_all P (item ∷ items) all key content e = by_test (is_eq (key_cmp key item.key)) e (content_all P items all.1 key content)
+  where
+    by_test : (b : Bool) → (if b then Some item.content else content_at items key) ≡ Some content → (content_at items key ≡ Some content → P content) → P content
+    by_test true here more = subst P (same_Some _ _ here) all.0
+    by_test false later more = more later
+
+-- what all contents are, each item's is
+pub all_contents : (P : Content → Type 0) (items : List Item) → IsAscending items → ((key : List ℕ) (content : Content) → content_at items key ≡ Some content → P content) → AllByRecursion (λ item. P item.content) items
+all_contents P [] ascending each = tt
+all_contents P (item ∷ items) ascending each = (each item.key item.content (found_first item items), all_contents P items (ascends_after item items ascending) rest)
+  where
+    rest : (key : List ℕ) (content : Content) → content_at items key ≡ Some content → P content
+    rest key content e = by_test (is_eq (key_cmp key item.key)) refl (sym (past_first item items key ascending) ∙ e)
+      where
+        by_test : (b : Bool) → is_eq (key_cmp key item.key) ≡ b → (if b then None else content_at (item ∷ items) key) ≡ Some content → P content
+        by_test true is none = cc
+        by_test false is there = each key content there
+
+abbrev AllPids : List Item → Type 0
+AllPids items = AllByRecursion (λ item. HasPid item.content) items
+
+pids_in : (page : Page) → IsSpellablePage page → AllPids page.items
+pids_in page stands = recursion_from_All (λ (item : Item). HasPid item.content) page.items stands.children
+
+said_pid : (newest : Record) → IsSpellable newest → (key : List ℕ) (content : Content) → content_said newest key ≡ Some content → HasPid content
+said_pid (kind.Base page) h key content e = content_all HasPid page.items (pids_in page h) key content e
+said_pid (kind.Put put) h key content e = subst HasPid (same_Some _ _ e) tt
+said_pid (kind.Delete delete) h key content e = cc
+said_pid (kind.Split split) h key content e = cc
+said_pid (kind.Term term) h key content e = subst HasPid (same_Some _ _ e) h.1.names
+said_pid (kind.Hold hold) h key content e = subst HasPid (same_Some _ _ e) h.1.names
+said_pid (kind.Remove remove) h key content e = cc
+said_pid (kind.Merge merge) h key content e = content_all HasPid merge.items (pids_in _ h.3) key content e
+said_pid (kind.Unterm unterm) h key content e = cc
+
+right_pid : (newest : Record) → IsSpellable newest → (under : Option ℕ) → IfSome under IsPid → IfSome (right_after newest under) IsPid
+right_pid (kind.Base page) h under is = h.right
+right_pid (kind.Put put) h under is = is
+right_pid (kind.Delete delete) h under is = is
+right_pid (kind.Split split) h under is = h.names
+right_pid (kind.Term term) h under is = is
+right_pid (kind.Hold hold) h under is = is
+right_pid (kind.Remove remove) h under is = is
+right_pid (kind.Merge merge) h under is = h.3.right
+right_pid (kind.Unterm unterm) h under is = is
+
+-- each record of a fitted chain is one that a row can spell
+pub first_spellable : (newest : Record) (under : List Record) → IsFitted (newest ∷ under) → IsSpellable newest
+first_spellable newest [] (page, is, stands) = subst IsSpellable (sym is) stands
+first_spellable newest (older ∷ under) h = h.0.spellable
+
+said_or : (newest : Record) (under : List Record) → IsSpellable newest → (key : List ℕ) (content : Content) → (content_in under key ≡ Some content → HasPid content) → content_in (newest ∷ under) key ≡ Some content → HasPid content
+said_or newest under h key content below e = by_name (names newest key) e
+  where
+    by_name : (b : Bool) → (if b then content_said newest key else content_in under key) ≡ Some content → HasPid content
+    by_name true said = said_pid newest h key content said
+    by_name false there = below there
+
+-- the children and the right that a fitted chain decides are pages
+pub children_of : (chain : List Record) → IsFitted chain → (key : List ℕ) (content : Content) → content_in chain key ≡ Some content → HasPid content
+children_of [] h key content e = absurd h
+children_of (newest ∷ []) h key content e = said_or newest [] (first_spellable newest [] h) key content (λ there. cc) e
+children_of (newest ∷ older ∷ under) h key content e = said_or newest (older ∷ under) h.0.spellable key content (children_of (older ∷ under) h.1 key content) e
+
+pub right_of : (chain : List Record) → IsFitted chain → IfSome (right_in chain) IsPid
+right_of [] h = absurd h
+right_of (newest ∷ []) h = right_pid newest (first_spellable newest [] h) None tt
+right_of (newest ∷ older ∷ under) h = right_pid newest h.0.spellable (right_in (older ∷ under)) (right_of (older ∷ under) h.1)
+
+-- the page that a fitted chain makes may stand as a base, unless it is removed
+pub stands : (chain : List Record) (page : Page) → IsFitted chain → Makes chain page → page.removed ≡ false → IsSpellablePage page
+stands chain page h m alive = record {
+  ruled = ruled chain page h m;
+  alive = alive;
+  right = subst (λ right. IfSome right IsPid) (sym m.right) (right_of chain h);
+  children = All-from_recursion (λ (item : Item). HasPid item.content) page.items
+      (all_contents HasPid page.items m.items.ascending (λ key content e. children_of chain h key content (sym (m.items.contents key) ∙ e)));
+}
 
 -- deltas over a base
 
@@ -166,6 +254,10 @@ pub fits_at : (deltas : List Record) (base : Page) (i : ℕ) (d : Record) → Is
 fits_at [] base i d h lt = absurd (omega (arith, lt))
 fits_at (newest ∷ under) base zero d h lt = (first_fits newest under base h).0
 fits_at (newest ∷ under) base (suc i) d h lt = fits_at under base i d (first_fits newest under base h).1 (omega arith)
+
+pub base_makes : (deltas : List Record) (base : Page) → IsFitted (over deltas base) → Makes (over (drop (length deltas) deltas) base) base
+base_makes [] base h = let stands = first_spellable (Base base) [] h in Makes-base base stands.ruled.is_page.ordered.ascending stands.alive
+base_makes (newest ∷ under) base h = base_makes under base (first_fits newest under base h).1
 
 -- the delta above the ones that made the page fits it
 pub fits_above : (deltas : List Record) (base page : Page) (place : ℕ) (delta : Record) → IsFitted (over deltas base) → 0 < place → place ≤ length deltas

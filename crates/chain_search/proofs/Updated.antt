@@ -13,12 +13,14 @@ use Rattle.base_page.specs.declared.item.Content.{Content}
 use Rattle.base_page.specs.declared.item.Content.TheVariants.{Value}
 use Rattle.base_page.specs.declared.item.Item.{Item}
 use Rattle.base_page.specs.Pages.{Page, content_at, AreItems, IsAscending, IsOfLevel}
+use Rattle.base_page.specs.Rules.{IsRuled}
 use Rattle.deltas.specs.declared.record.Put.{Put}
 use Rattle.deltas.specs.declared.record.Delete.{Delete}
 use Rattle.deltas.specs.declared.record.Record.{Record}
 use Rattle.deltas.specs.declared.record.Record.TheVariants as kind
+use Rattle.deltas.specs.Spellable.{IsRow}
 use Rattle.deltas.specs.Fits.{FitsPut, FitsDelete}
-use Rattle.chain_search.specs.Fitted.{FitsOver, IsRuled, Makes}
+use Rattle.chain_search.specs.Fitted.{FitsOver, Makes}
 use Rattle.chain_search.proofs.FittedLaws.{by_order, all_below, ascends_after, fits_over, lacks_first}
 
 pub itself : (key : List ℕ) → key_cmp key key ≡ Equal
@@ -159,28 +161,28 @@ ruled_leaf page items rules leaf are within kinds = record {
   terms = λ index. absurd (omega (arith, leaf, index));
 }
 
-pub put_fits : (chain : List Record) (page : Page) (put : Put) → Makes chain page → IsRuled page → FitsPut page put → FitsOver chain (kind.Put put)
-put_fits chain page put makes rules fit =
+pub put_fits : (chain : List Record) (page : Page) (put : Put) → Makes chain page → IsRuled page → IsRow put.next → FitsPut page put → FitsOver chain (kind.Put put)
+put_fits chain page put makes rules next fit =
     let new : Item = record { key = put.key; content = Value put.value } in
     let items = with_put new page.items in
     let are = rules.is_page.ordered in
     let in_range = λ (item : Item). IsTrue (is_in_range page.low page.high item.key) in
     let of_level = λ (item : Item). IsOfLevel page.level item.content in
     let ascending : IsAscending items = put_ascends new page.items are.ascending in
-    fits_over chain (kind.Put put) page (record page { items = items }) refl makes fit
+    fits_over chain (kind.Put put) page (record page { items = items }) refl next makes fit
     (record { ascending = ascending; contents = put_contents new page.items; level = refl; low = refl; high = refl; right = refl; removed = refl })
     (ruled_leaf page items rules fit.leaf (record { few = put_few new page.items 24 are.ascending are.few fit.room; ascending = ascending })
     (all_put in_range new page.items fit.covered (recursion_from_All in_range page.items rules.is_page.within))
     (all_put of_level new page.items fit.leaf (recursion_from_All of_level page.items rules.is_page.kinds)))
 
-pub delete_fits : (chain : List Record) (page : Page) (delete : Delete) → Makes chain page → IsRuled page → FitsDelete page delete → FitsOver chain (kind.Delete delete)
-delete_fits chain page delete makes rules fit =
+pub delete_fits : (chain : List Record) (page : Page) (delete : Delete) → Makes chain page → IsRuled page → IsRow delete.next → FitsDelete page delete → FitsOver chain (kind.Delete delete)
+delete_fits chain page delete makes rules next fit =
     let items = without delete.key page.items in
     let are = rules.is_page.ordered in
     let in_range = λ (item : Item). IsTrue (is_in_range page.low page.high item.key) in
     let of_level = λ (item : Item). IsOfLevel page.level item.content in
     let ascending : IsAscending items = without_ascends delete.key page.items are.ascending in
-    fits_over chain (kind.Delete delete) page (record page { items = items }) refl makes fit
+    fits_over chain (kind.Delete delete) page (record page { items = items }) refl next makes fit
     (record { ascending = ascending; contents = without_contents delete.key page.items; level = refl; low = refl; high = refl; right = refl; removed = refl })
     (ruled_leaf page items rules fit.leaf (record { few = omega (arith, without_few delete.key page.items, are.few); ascending = ascending })
     (all_without in_range delete.key page.items (recursion_from_All in_range page.items rules.is_page.within))

@@ -1,5 +1,5 @@
 -- Small chains, newest record first.
-use Rattle.std.specs.Prelude.{codes, ℕ, List, [], ◌∷◌, false, None}
+use Rattle.std.specs.Prelude.{codes, ℕ, List, [], ◌∷◌, true, false, None}
 use Rattle.base_page.specs.Pages.{Page, empty_leaf}
 use Rattle.base_page.specs.declared.item.Content.TheVariants.{Value, Child}
 use Rattle.deltas.specs.declared.record.Record.{Record}
@@ -74,8 +74,8 @@ untermed_page = unterm ∷ held_page
 abbrev pub index_chain : List Record
 index_chain = term 7 3 ∷ untermed_page
 
--- What doesn't fit: a put over a removal, a put of a key that a split cut off, a base over a base, and a hold of the first
--- term.
+-- What doesn't fit: a put over a removal, a put of a key that a split cut off, a base over a base, a hold of the first term, a
+-- base that is marked removed, and a split to a page that can't be.
 abbrev pub put_over_removal : List Record
 put_over_removal = put ∷ removed_leaf
 
@@ -87,3 +87,9 @@ base_over_base = delta.Base leaf ∷ delta.Base leaf ∷ []
 
 abbrev pub first_held : List Record
 first_held = delta.Hold (record { level = 1; next = 4; separator = []; child = 1 }) ∷ index_page
+
+abbrev pub marked_base : List Record
+marked_base = delta.Base (record leaf { removed = true }) ∷ []
+
+abbrev pub unnamed_split : List Record
+unnamed_split = delta.Split (record { level = 0; next = 11; separator = codes "k09"; page = 0 }) ∷ delta.Base leaf ∷ []

@@ -1,5 +1,5 @@
 -- What an actor may count on of an answer, by what it knows.
-use Rattle.std.specs.Prelude.{◌≡◌, ◌<◌, ◌≤◌, ◌+◌, ◌*◌, ◌^◌, ℕ, zero, suc, List, [], ◌∷◌, ◌++◌, length, Bool, Some, None, IsTrue, IsFalse, IfSome, true, false, ⊤}
+use Rattle.std.specs.Prelude.{◌≡◌, ◌⊎◌, ◌<◌, ◌≤◌, ◌+◌, ◌*◌, ◌^◌, ℕ, zero, suc, List, [], ◌∷◌, ◌++◌, length, Bool, Some, None, IsTrue, IsFalse, IfSome, true, false, ⊤}
 use Rattle.std.specs.Int.{bit_at}
 use Rattle.bw_model.specs.declared.limits.Limits.{Limits}
 use Rattle.bw_model.specs.declared.step.Step.{Step as StepOf}
@@ -11,7 +11,7 @@ use Rattle.deltas.specs.declared.record.Record.{Record}
 use Rattle.deltas.specs.Records.{next_row}
 use Rattle.chain_search.specs.Chains.{IsChainFrom, IsFront, content_in, level_in, low_in, high_in, right_in, is_removed, covers}
 use Rattle.chain_search.specs.Fitted.{IsPageChain}
-use Rattle.chain_search.specs.Knowledge.{Foreign, Other, Ready, Absent, Knowledge}
+use Rattle.chain_search.specs.Knowledge.{Foreign, Other, Ready, Gone, Absent, Knowledge}
 use Rattle.chain_search.specs.Discipline.{HasRead, IsBeyond}
 
 -- a number that a word of free bits shows as free is above 0 and below the limit
@@ -43,6 +43,13 @@ pub record IsWhole (limits : Limits) (k : Knowledge) (page : ℕ) (chain : List 
   pub beyond : IsFalse (is_removed chain) → (next : ℕ) (b : IsBeyond k page chain next) → (0 < next) × (next < limits.pids) × (page ≡ next → SaysRight b.chain chain)
       × ((other row : ℕ) (read : List Record) → k.read.heads other ≡ Some row → IsChainFrom k.read.seen row read → other ≡ next → SaysRight b.chain read)
 
+-- the page's slot was last read as this row, from which a removed chain was read
+pub record ReadsRemoved (k : Knowledge) (page row : ℕ) : Type 0 where
+  pub head : k.read.heads page ≡ Some row
+  pub chain : List Record
+  pub read : IsChainFrom k.read.seen row chain
+  pub gone : IsTrue (is_removed chain)
+
 -- A record that is read is the one that was read there before, and leads to a row. A chain that is being read has no more
 -- than 13 records; where this is its last one, it was read whole.
 pub record FitsRow (limits : Limits) (k : Knowledge) (row : ℕ) (content : Record) : Type 0 where
@@ -67,17 +74,19 @@ pub record FitsTakenPid (limits : Limits) (k : Knowledge) (pid : ℕ) : Type 0 w
   pub other : k.own.pages pid ≡ Other
   pub freed : k.limbo.pids pid ≡ Absent
 
--- An exchange of an own page's slot, from 0 or back to 0, wins. One that links a row does not win on an own page.
+-- An exchange of an own page's slot, from 0 or back to 0, wins; so does the one to 0 of a page whose term the actor took out,
+-- where its slot was read as this removed chain. One that links a row does not win on an own page.
 abbrev pub FitsExchange : Knowledge → ℕ → ℕ → ℕ → Bool → Type 0
 FitsExchange k zero old new went = ⊤
 FitsExchange k (suc page) zero new went = went ≡ true
-FitsExchange k (suc page) (suc old) zero went = k.own.pages (suc page) ≡ Ready (suc old) → went ≡ true
+FitsExchange k (suc page) (suc old) zero went = (k.own.pages (suc page) ≡ Ready (suc old) → went ≡ true) × (k.own.pages (suc page) ≡ Gone → ReadsRemoved k (suc page) (suc old) → went ≡ true)
 FitsExchange k (suc page) (suc old) (suc new) went = went ≡ true → k.own.pages (suc page) ≡ Other
 
--- Slot 0 has a PID, of a page that begins at the empty key; another slot that may be read has a row, or 0 if its page was cleared, which no page is that was the root.
+-- Slot 0 has a PID, of a page that begins at the empty key; another slot that may be read has a row, or 0 if its page was cleared,
+-- which no page is that was the root; one that was read removed stays as it was until then.
 abbrev pub Fits : Limits → Knowledge → StepOf Record → Answer Record → Type 0
 Fits limits k (Slot zero) (Number n) = (0 < n) × (n < limits.pids) × ((head : ℕ) (chain : List Record) → k.read.heads n ≡ Some head → IsChainFrom k.read.seen head chain → low_in chain ≡ [])
-Fits limits k (Slot (suc page)) (Number n) = (n < limits.rows) × (IsTrue (k.read.roots (suc page)) → 0 < n)
+Fits limits k (Slot (suc page)) (Number n) = (n < limits.rows) × (IsTrue (k.read.roots (suc page)) → 0 < n) × ((head : ℕ) → ReadsRemoved k (suc page) head → (n ≡ head) ⊎ (n ≡ 0))
 Fits limits k (Row row) (Content content) = FitsRow limits k row content
 Fits limits k Epoch (Number n) = (0 < n) × (n ≤ 2 ^ 62)
 Fits limits k (Announce other) (Number n) = n ≤ 2 ^ 62

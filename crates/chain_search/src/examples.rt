@@ -2,7 +2,7 @@
 ghost use Rattle.std.specs.Prelude.{codes, ◌≡◌, [], true, false, None, Some};
 ghost use Rattle.base_page.specs.declared.item.Content.TheVariants.{Value, Child};
 ghost use Rattle.chain_search.specs.Chains.{content_in, high_in, right_in, is_removed, covers};
-ghost use Rattle.chain_search.specs.Examples.{put_leaf, deleted_leaf, split_leaf, removed_leaf, merged_leaf, leaf_chain, index_page, termed_page, held_page, untermed_page, index_chain, put_over_removal, put_outside, base_over_base, first_held};
+ghost use Rattle.chain_search.specs.Examples.{put_leaf, deleted_leaf, split_leaf, removed_leaf, merged_leaf, leaf_chain, index_page, termed_page, held_page, untermed_page, index_chain, put_over_removal, put_outside, base_over_base, first_held, marked_base, unnamed_split};
 ghost use Rattle.chain_search.specs.Fitted.{IsPageChain};
 
 /// The newest record that names a key decides it; the base decides each other one.
@@ -49,10 +49,12 @@ pub fn chains_fit()
     ensures index { IsPageChain index_chain }
 {}
 
-/// The newest record of these doesn't fit what is under it, or makes a page that breaks a rule.
+/// The newest record of these doesn't fit what is under it, makes a page that breaks a rule, or is one that no row can spell.
 pub fn unfit_chains_are_refused()
     ensures removed { ¬ IsPageChain put_over_removal }
     ensures outside { ¬ IsPageChain put_outside }
     ensures base { ¬ IsPageChain base_over_base }
     ensures held { ¬ IsPageChain first_held }
+    ensures marked { ¬ IsPageChain marked_base }
+    ensures unnamed { ¬ IsPageChain unnamed_split }
 {}

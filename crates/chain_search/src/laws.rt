@@ -4,15 +4,17 @@ ghost use Rattle.bw_model.specs.declared.limits.Limits.{Limits};
 ghost use Rattle.bw_model.specs.declared.step.Step.TheVariants.{Leave};
 ghost use Rattle.bw_model.specs.declared.step.Answer.{Answer};
 ghost use Rattle.base_page.specs.Pages.{Page};
+ghost use Rattle.base_page.specs.Rules.{IsRuled};
 ghost use Rattle.deltas.specs.declared.record.Put.{Put};
 ghost use Rattle.deltas.specs.declared.record.Delete.{Delete};
 ghost use Rattle.deltas.specs.declared.record.Record.{Record};
 ghost use Rattle.deltas.specs.declared.record.Record.TheVariants as kind;
 ghost use Rattle.deltas.specs.Fits.{FitsPut, FitsDelete};
 ghost use Rattle.deltas.specs.Memory.{Memory};
+ghost use Rattle.deltas.specs.Spellable.{IsRow};
 ghost use Rattle.chain_search.specs.declared.trace.Entry.{Entry};
 ghost use Rattle.chain_search.specs.Chains.{IsChainOf};
-ghost use Rattle.chain_search.specs.Fitted.{FitsOver, IsRuled, Makes};
+ghost use Rattle.chain_search.specs.Fitted.{FitsOver, Makes};
 ghost use Rattle.chain_search.specs.Learnt.{HasLearnt};
 ghost use Rattle.chain_search.specs.SideChain.{LivePage, IsSideChainFrom};
 ghost use Rattle.chain_search.specs.Run.{IsNext, IsRun};
@@ -75,16 +77,18 @@ pub fn learnt_stays()
         → HasLearnt (entries ++ entry ∷ []) actor row }
 {}
 
-/// A put or a delete that fits the page of a chain makes of it one that keeps the rules, where that page does: it fits over the chain.
+/// A put or a delete that fits the page of a chain makes of it one that keeps the rules, where that page does: over a row it fits the chain.
 pub fn updates_fit()
     ensures put { (chain : List Record) (page : Page) (put : Put)
         → Makes chain page
         → IsRuled page
+        → IsRow put.next
         → FitsPut page put
         → FitsOver chain (kind.Put put) }
     ensures delete { (chain : List Record) (page : Page) (delete : Delete)
         → Makes chain page
         → IsRuled page
+        → IsRow delete.next
         → FitsDelete page delete
         → FitsOver chain (kind.Delete delete) }
 {}

@@ -74,6 +74,10 @@ unterm_names_one = refl
 remove_removes : removed_after (Remove (record { level = 0; next = 12 })) false ≡ true
 remove_removes = refl
 
+-- only a removal removes: a base stands, whatever it is put over
+base_stands : removed_after (Base empty_leaf) true ≡ false
+base_stands = refl
+
 -- a merge names the keys of its range alone, also those that have no item
 abbrev merge : Record
 merge = Merge (record { level = 0; next = 7; low = k09; high = Some k17; right = Some 5; items = items_of k10 (49 ∷ []) })

@@ -1,5 +1,5 @@
 -- What a record asks of the page under it.
-use Rattle.std.specs.Prelude.{◌≡◌, ℕ, ◌+◌, ◌<◌, ◌≤◌, IsTrue, false, true, [], None, Some, length}
+use Rattle.std.specs.Prelude.{◌≡◌, ◌+◌, ◌<◌, ◌≤◌, IsTrue, false, true, [], None, Some, length}
 use Rattle.bw_model.specs.Bytes.{is_below, is_in_range}
 use Rattle.base_page.specs.declared.item.Content.TheVariants.{Child}
 use Rattle.base_page.specs.Pages.{Page, IsPage, content_at}
@@ -70,9 +70,9 @@ pub record FitsUnterm (page : Page) (unterm : Unterm) : Type 0 where
   pub level : page.level ≡ unterm.level
   pub there : content_at page.items unterm.separator ≡ Some (Child unterm.child true)
 
--- A base has no page under it, and asks nothing; every other record asks for a page that isn't removed.
+-- A base has no page under it, and asks of none; every other record asks for a page that isn't removed.
 abbrev pub Fits : Page → Record → Type 0
-Fits page (kind.Base base) = Unit {0}
+Fits page (kind.Base base) = base.removed ≡ false
 Fits page (kind.Put put) = FitsPut page put
 Fits page (kind.Delete delete) = FitsDelete page delete
 Fits page (kind.Split split) = FitsSplit page split

@@ -4,3 +4,4 @@ pub mod Links
 pub mod Memory
 pub mod NamedPages
 pub mod Records
+pub mod Spellable

@@ -44,7 +44,7 @@ next_row (Remove remove) = Some remove.next
 next_row (Merge merge) = Some merge.next
 next_row (Unterm unterm) = Some unterm.next
 
--- What a record makes of the page's level, low key, high key and right, and whether it removes the page.
+-- What a record makes of the page's level, low key, high key and right, and whether the page is removed.
 abbrev pub level_after : Record → ℕ → ℕ
 level_after (Base page) under = page.level
 level_after _ under = under
@@ -66,6 +66,6 @@ right_after (Merge merge) under = merge.right
 right_after _ under = under
 
 abbrev pub removed_after : Record → Bool → Bool
-removed_after (Base page) under = page.removed
+removed_after (Base page) under = false
 removed_after (Remove remove) under = true
 removed_after _ under = under

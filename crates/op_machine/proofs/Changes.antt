@@ -11,6 +11,7 @@ use Rattle.deltas.specs.declared.record.Put.{Put}
 use Rattle.deltas.specs.declared.record.Record.{Record}
 use Rattle.deltas.specs.declared.record.Record.TheVariants as kind
 use Rattle.deltas.specs.Fits.{FitsPut, FitsDelete}
+use Rattle.deltas.specs.Spellable.{IsRow}
 use Rattle.chain_search.specs.Chains.{covers}
 use Rattle.chain_search.specs.Discipline.{FitsOn, MayExchange, MayLink, MayUpdate, found, record_of}
 use Rattle.chain_search.specs.Fitted.{FitsOver, IsPageChain, Makes}
@@ -35,9 +36,10 @@ module _ (chain : List Record) (page : Page) (leaf : IsLeafChain chain) (makes :
   covered : (key : List ℕ) → IsTrue (is_in_range page.low page.high key)
   covered key = rw (makes.low, makes.high, leaf.low, leaf.high, lowest key) refl
 
-  pub fits_update : ((put : Put) → FitsPut page put → FitsOver chain (kind.Put put)) → ((delete : Delete) → FitsDelete page delete → FitsOver chain (kind.Delete delete)) → length page.items < 16 → (u : Update) (x : ℕ) → FitsOver chain (record_of u x)
-  fits_update puts deletes few (set actor key value) x = puts _ (record { alive = makes.removed ∙ leaf.removed; leaf = makes.level ∙ leaf.level; covered = covered key; room = λ e. omega (arith, few) })
-  fits_update puts deletes few (unset actor key) x = deletes _ (record { alive = makes.removed ∙ leaf.removed; leaf = makes.level ∙ leaf.level; covered = covered key })
+  pub fits_update : ((put : Put) → IsRow put.next → FitsPut page put → FitsOver chain (kind.Put put)) → ((delete : Delete) → IsRow delete.next → FitsDelete page delete → FitsOver chain (kind.Delete delete))
+      → length page.items < 16 → (u : Update) (x : ℕ) → IsRow x → FitsOver chain (record_of u x)
+  fits_update puts deletes few (set actor key value) x row = puts _ row (record { alive = makes.removed ∙ leaf.removed; leaf = makes.level ∙ leaf.level; covered = covered key; room = λ e. omega (arith, few) })
+  fits_update puts deletes few (unset actor key) x row = deletes _ row (record { alive = makes.removed ∙ leaf.removed; leaf = makes.level ∙ leaf.level; covered = covered key })
 
 fits_on : (chain : List Record) (u : Update) (x : ℕ) → FitsOver chain (record_of u x) → length chain ≤ 8 → FitsOn chain (record_of u x)
 fits_on chain (set actor key value) x fits short = (fits, omega (arith, short))

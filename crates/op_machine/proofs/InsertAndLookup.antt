@@ -1,6 +1,6 @@
 -- An actor inserts a key into the opening tree and looks it up: a run with its points, answered and quiet.
 use Rattle.std.specs.Prelude.{codes}
-use Rattle.std.proofs.Common.{◌≡◌, ◌<◌, ◌⊎◌, ℕ, zero, suc, List, [], ◌∷◌, Bool, true, false, Some, None, Option, refl, sym, subst, arith, inl, inr, lit<, ◌∙◌}
+use Rattle.std.proofs.Common.{◌≡◌, ◌<◌, ◌⊎◌, ℕ, zero, suc, List, [], ◌∷◌, Bool, true, false, Some, None, Option, ◌++◌, refl, sym, ap, subst, arith, inl, inr, lit<, ◌∙◌}
 use Rattle.std.specs.Prelude.{slice_get, take, nat_le, if◌then◌else◌, ◌*◌, ◌+◌, ◌-◌, ◌^◌, ◌==◌}
 use Rattle.std.specs.Int.{bit_at}
 use Rattle.std.specs.List.{Contains}
@@ -21,14 +21,15 @@ use Rattle.chain_search.specs.Steps.{IsWordOf}
 use Rattle.chain_search.specs.Learnt.{ShowsRow}
 use Rattle.chain_search.specs.Run.{IsRun, MayPlace}
 use Rattle.chain_search.proofs.ChainLaws.{IsChainFrom-unique}
-use Rattle.chain_search.specs.Trace.{memory_at, memory_of, TakesStep}
+use Rattle.chain_search.specs.Trace.{memory_at, memory_of, TakesStep, Happens}
 use Rattle.chain_search.proofs.RunLaws.{IsRun-from_steps}
 use Rattle.op_machine.specs.Operations.{Operation, IsOperation, IsOwnStep, Finishes}
 use Rattle.std.specs.Option.{option_map}
 use Rattle.std.specs.Ordering.{is_eq}
 use Rattle.bw_model.specs.Bytes.{key_cmp}
 use Rattle.base_page.specs.declared.item.Content.TheVariants.{Value}
-use Rattle.bw_model.specs.Log.{set}
+use Rattle.bw_model.specs.declared.step.Link.TheVariants as link
+use Rattle.bw_model.specs.Log.{Update, set}
 use Rattle.op_machine.specs.Points.{log_at, HasPoints, IsPoint, has_point}
 use Rattle.op_machine.specs.Answered.{IsAnswered}
 use Rattle.op_machine.specs.Quiet.{IsQuiet, HasMapOf}
@@ -37,6 +38,7 @@ use Rattle.chain_search.specs.Trace.{turn_of}
 use Rattle.op_machine.specs.Faithful.{IsFaithful, KnowsRow, touches_pages}
 use Rattle.op_machine.specs.Examples.{small, opening_leaf, put_a, insert_and_lookup}
 use Rattle.op_machine.specs.Linearized.{IsLinearized}
+use Rattle.op_machine.specs.Updates.{LinksUpdate, IsUpdating, UpdatesAtLinks}
 use Rattle.op_machine.proofs.Listed.{EachAt-get, UpTo-at, all_below-at, same_operation}
 use Rattle.op_machine.proofs.MapLaws.{one_leaf}
 
@@ -246,6 +248,28 @@ is_answered = record {
   ];
 }
 
+updates_at_links : UpdatesAtLinks small insert_and_lookup points
+updates_at_links n = (to, from)
+  where
+    linked : Happens small insert_and_lookup 9 LinksUpdate
+    linked = record { entry = Step 0 (Exchange 1 1 2) (Whether true) None; at = refl; holds = (0, 1, 1, 2, link.Put, ((None, refl), refl), inl refl) }
+
+    no_more : (u v : Update) → ◌≡◌ {A = List Update} (v ∷ []) (v ∷ u ∷ []) → ⊥
+    no_more u v e = cc
+
+    to : IsUpdating insert_and_lookup points n → Happens small insert_and_lookup n LinksUpdate
+    to h = elim (marked n h.0) [
+      | inl at ↦ rw at linked
+      | inr at ↦ absurd (no_more h.1.0 _ (subst (λ k. log_at insert_and_lookup points (suc k) ≡ log_at insert_and_lookup points k ++ h.1.0 ∷ []) at h.1.1))
+    ]
+
+    exchanged : (actor slot old new : ℕ) (reply : Option Reply) → slice_get insert_and_lookup n ≡ Some (Step actor (Exchange slot old new) (Whether true) reply) → n ≡ 9
+    exchanged actor slot old new reply e = EachAt-get (λ k entry. (a p x y : ℕ) (r : Option Reply) → entry ≡ Step a (Exchange p x y) (Whether true) r → k ≡ 9) insert_and_lookup
+        (λ a p x y r e. cc, (λ a p x y r e. cc, (λ a p x y r e. cc, (λ a p x y r e. cc, (λ a p x y r e. cc, (λ a p x y r e. cc, (λ a p x y r e. cc, (λ a p x y r e. cc, (λ a p x y r e. cc, (λ a p x y r e. refl, (λ a p x y r e. cc, (λ a p x y r e. cc, (λ a p x y r e. cc, (λ a p x y r e. cc, (λ a p x y r e. cc, (λ a p x y r e. cc, (λ a p x y r e. cc, (λ a p x y r e. cc, (λ a p x y r e. cc, tt))))))))))))))))))) n _ e actor slot old new reply refl
+
+    from : Happens small insert_and_lookup n LinksUpdate → IsUpdating insert_and_lookup points n
+    from h = rw (exchanged h.holds.0 h.holds.1 h.holds.2 h.holds.3 h.holds.5.0.0 (h.at ∙ ap Some h.holds.5.0.1)) (refl, (set 0 (codes "a") (codes "1"), refl))
+
 -- the reads of records, each with the row's name learnt directly before
 is_faithful : IsFaithful small insert_and_lookup
 is_faithful = record {
@@ -287,6 +311,7 @@ is_linearized = record {
   points = points;
   pointed = has_points;
   answered = is_answered;
+  updates = updates_at_links;
   quiet = is_quiet;
   faithful = is_faithful;
 }

@@ -1,6 +1,6 @@
 -- An actor looks a key up in the opening tree, and finds none: a run with its point, answered, quiet and faithful.
 use Rattle.std.specs.Prelude.{codes}
-use Rattle.std.proofs.Common.{◌≡◌, ◌<◌, ◌≤◌, ℕ, suc, List, [], ◌∷◌, Bool, true, false, Some, None, Option, refl, sym, subst, ap, arith, inl, lit<, lit≤, ◌+◌, ◌*◌, ◌^◌, ◌∙◌}
+use Rattle.std.proofs.Common.{◌≡◌, ◌<◌, ◌≤◌, ℕ, suc, List, [], ◌∷◌, ◌++◌, Bool, true, false, Some, None, Option, refl, sym, subst, ap, arith, inl, lit<, lit≤, ◌+◌, ◌*◌, ◌^◌, ◌∙◌}
 use Rattle.std.specs.Prelude.{slice_get}
 use Rattle.bw_model.specs.declared.command.Command.{Command}
 use Rattle.bw_model.specs.declared.command.Command.TheVariants.{Get}
@@ -20,7 +20,7 @@ use Rattle.chain_search.specs.Trace.{turn_of}
 use Rattle.chain_search.specs.Trace.{memory_at, TakesStep, IsStep}
 use Rattle.chain_search.proofs.RunLaws.{IsRun-from_steps}
 use Rattle.op_machine.specs.Operations.{Operation, IsOperation, IsOwnStep, Finishes}
-use Rattle.bw_model.specs.Log.{value_in}
+use Rattle.bw_model.specs.Log.{Update, value_in}
 use Rattle.bw_model.specs.Replies.{reply_of}
 use Rattle.op_machine.specs.Points.{log_at, HasPoints, IsPoint, has_point}
 use Rattle.op_machine.specs.Answered.{IsAnswered}
@@ -37,6 +37,7 @@ use Rattle.op_machine.specs.Phases.{Phase, Moves, KeepsPhases, takes, splits, be
 use Rattle.op_machine.specs.Reuse.{IsFreedByRule}
 use Rattle.op_machine.specs.Examples.{small, opening_leaf, lookup}
 use Rattle.op_machine.specs.Linearized.{IsLinearized, IsOrderly}
+use Rattle.op_machine.specs.Updates.{UpdatesAtLinks}
 use Rattle.op_machine.proofs.Listed.{EachAt-get, UpTo-at, same_operation}
 use Rattle.op_machine.proofs.MapLaws.{one_leaf}
 
@@ -139,6 +140,19 @@ looks n entry at actor step answer is = EachAt-get (λ k e. (a : ℕ) (s : StepO
     look : (s t : StepOf Record) → only_looks s ≡ true → t ≡ s → only_looks t ≡ true
     look s t h e = rw e h
 
+updates_at_links : UpdatesAtLinks small lookup points
+unfolding only_looks
+updates_at_links n = (
+  λ h. absurd (no_one h.1.0 (subst (λ k. log_at lookup points (suc k) ≡ log_at lookup points k ++ h.1.0 ∷ []) (only_point n h.0) h.1.1)),
+  λ h. absurd (odd (looks n h.entry h.at _ _ _ h.holds.5.0)),
+)
+  where
+    odd : false ≡ true → ⊥
+    odd e = cc
+
+    no_one : (u : Update) → ◌≡◌ {A = List Update} [] (u ∷ []) → ⊥
+    no_one u e = cc
+
 keeps_phases : KeepsPhases small lookup
 unfolding only_looks
 keeps_phases = record {
@@ -240,6 +254,7 @@ is_linearized = record {
   points = points;
   pointed = has_points;
   answered = is_answered;
+  updates = updates_at_links;
   quiet = is_quiet;
   faithful = is_faithful;
 }

@@ -1,7 +1,7 @@
 -- What each finished operation has replied.
 use Rattle.std.specs.Prelude.{◌≡◌, ◌<◌, ◌≤◌, ◌/◌, ℕ, List, length, Bool, true, false, Some, slice_get, IsTrue, ◌⊎◌}
 use Rattle.bw_model.specs.declared.command.Command.{Command}
-use Rattle.bw_model.specs.declared.command.Command.TheVariants.{Get}
+use Rattle.bw_model.specs.declared.command.Command.TheVariants.{Get, Insert, Upsert, Delete}
 use Rattle.bw_model.specs.declared.command.Reply.{Reply}
 use Rattle.bw_model.specs.declared.command.Reply.TheVariants as reply
 use Rattle.bw_model.specs.declared.limits.Limits.{Limits}
@@ -23,7 +23,9 @@ RepliesAt log command answer = reply_of command (value_in log (command_key comma
 
 abbrev pub is_writer : Command → Bool
 is_writer (Get key) = false
-is_writer _ = true
+is_writer (Insert key value) = true
+is_writer (Upsert key value) = true
+is_writer (Delete key) = true
 
 module _ (limits : Limits) (entries : List Entry) where
   -- The operation has read each word of the free PIDs as 0, or each word of the free rows.

@@ -15,3 +15,4 @@ pub mod Wants
 pub mod Shows
 pub mod Held
 pub mod Bounded
+pub mod Updates

@@ -8,18 +8,21 @@ use Rattle.op_machine.specs.Points.{HasPoints}
 use Rattle.op_machine.specs.Answered.{IsAnswered}
 use Rattle.op_machine.specs.Quiet.{IsQuiet}
 use Rattle.op_machine.specs.Faithful.{IsFaithful}
+use Rattle.op_machine.specs.Updates.{UpdatesAtLinks}
 use Rattle.op_machine.specs.Phases.{KeepsPhases}
 use Rattle.op_machine.specs.Index.{IsExactIndex}
 use Rattle.op_machine.specs.Direct.{IsDirect}
 use Rattle.op_machine.specs.Reuse.{IsFreedByRule}
 
 -- The entries are a run of the turns, with linearization points: each finished operation replies what one ordered map replies
--- at its point, no other step changes that map, and each record that is read is the one whose row's name was learnt.
+-- at its point, that map is updated where a put or a delete is linked and by no other step, and each record that is read is
+-- the one whose row's name was learnt.
 pub record IsLinearized (limits : Limits) (turns : List Turn) (entries : List Entry) : Type 0 where
   pub run : IsRunOf limits turns entries
   pub points : List Bool
   pub pointed : HasPoints entries points
   pub answered : IsAnswered limits entries points
+  pub updates : UpdatesAtLinks limits entries points
   pub quiet : IsQuiet limits entries points
   pub faithful : IsFaithful limits entries
 

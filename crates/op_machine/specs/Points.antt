@@ -4,7 +4,7 @@ use Rattle.std.specs.List.{fold, zip}
 use Rattle.std.specs.Option.{option_to_list}
 use Rattle.bw_model.specs.declared.command.Command.{Command}
 use Rattle.bw_model.specs.declared.command.Reply.{Reply}
-use Rattle.bw_model.specs.declared.command.Reply.TheVariants.{Full}
+use Rattle.bw_model.specs.declared.command.Reply.TheVariants as kind
 use Rattle.bw_model.specs.Log.{Update, value_in}
 use Rattle.bw_model.specs.Replies.{command_key, update_of}
 use Rattle.chain_search.specs.declared.trace.Entry.{Entry}
@@ -46,8 +46,15 @@ IsPoint points n = slice_get points n ≡ Some true
 
 -- whether an operation with this reply has a point
 abbrev pub has_point : Reply → Bool
-has_point Full = false
-has_point _ = true
+has_point (kind.Value value) = true
+has_point kind.None = true
+has_point kind.Inserted = true
+has_point (kind.Exists value) = true
+has_point kind.Set = true
+has_point (kind.Replaced value) = true
+has_point (kind.Deleted value) = true
+has_point kind.Absent = true
+has_point kind.Full = false
 
 -- Each mark is an own step of an operation, none has two, and a finished one has one exactly where its reply asks for it.
 pub record HasPoints (entries : List Entry) (points : List Bool) : Type 0 where

@@ -6,10 +6,11 @@ use Rattle.base_page.specs.declared.item.Content.{Content}
 use Rattle.base_page.specs.declared.item.Content.TheVariants.{Value, Child}
 use Rattle.base_page.specs.declared.item.Item.{Item}
 use Rattle.base_page.specs.Pages.{Page}
+use Rattle.base_page.specs.Rules.{IsRuled}
 use Rattle.deltas.specs.declared.record.Record.{Record}
 use Rattle.chain_search.specs.declared.trace.Entry.{Entry}
 use Rattle.chain_search.specs.Chains.{IsChainFrom}
-use Rattle.chain_search.specs.Fitted.{IsPageChain, IsRuled, Makes}
+use Rattle.chain_search.specs.Fitted.{IsPageChain, Makes}
 use Rattle.chain_search.specs.Trace.{turn_of}
 use Rattle.op_machine.specs.Linearized.{IsLinearized}
 use Rattle.op_machine.specs.Points.{log_of}

@@ -40,6 +40,7 @@ use Rattle.tree_law.proofs.Fitness.{opening_fitted}
 use Rattle.tree_law.proofs.Levels.{indexed_first, indexed_push}
 use Rattle.tree_law.proofs.Mapping.{map_of}
 use Rattle.tree_law.proofs.Lives.{begins_in_phase, begins_phases, begins_only}
+use Rattle.tree_law.proofs.Updates.{updates_push}
 use Rattle.tree_law.proofs.Marks.{marked_push, tells_other, quiet_push}
 use Rattle.tree_law.proofs.Names.{faithful_push, named_begins}
 use Rattle.tree_law.proofs.Opening.{opening_slots, opening_owners, opening_good}
@@ -109,6 +110,7 @@ opens limits = record {
   searches = λ op is u e. absurd (cc);
   marked = record { beside = refl; own = λ n e. absurd (cc); one = λ op m n is own own' p q. absurd (cc); answered = λ op n r is ends. absurd (let e = ends.2.entry in cc) };
   run = IsRun-none limits;
+  updates = λ n. (λ h. absurd (let e = h.0 in cc), λ h. absurd (let e = h.at in cc));
   quiet = record { at_each = λ n h. at_zero n h };
   faithful = record { known = λ n a row x h. absurd (let e = h.1 in cc); outside = λ n a s x h. absurd (let e = h.1 in cc) };
   in_phase = λ pid. inr (λ k from to low high. absurd (omega arith), by_test pid 1 (λ t. phase_of (cond t (Placed Indexed 0 []) Nobody) ≡ cond t indexed free) (λ i. refl) (λ ne. refl));
@@ -171,6 +173,7 @@ begins limits entries a c state below idle = record {
   searches = searches_begin;
   marked = marked_push entries state.points (Begin a c) false state.marked.beside limits state.marked (λ e. absurd (cc)) (λ e. absurd (cc)) (λ op s x r is e u. absurd (cc)) (λ e. absurd (cc));
   run = IsRun-push limits entries (Begin a c) state.run (below, idle);
+  updates = updates_push limits entries state.points (Begin a c) false state.marked.beside state.updates (λ h. absurd (let e = h.0 in cc), λ h. absurd (let e = h.5.0.1 in cc));
   quiet = quiet_push entries state.points (Begin a c) false state.marked.beside limits state.quiet
       (rw (memory_of-push limits entries (Begin a c), log_of-push entries state.points (Begin a c) false state.marked.beside) (map_of state.good));
   in_phase = λ pid. begins_in_phase limits entries a c pid (phase_of (state.owners.page pid)) (state.in_phase pid);

@@ -98,7 +98,7 @@ module _ {limits : Limits} {m : Memory} {log : List Update} {o : Owners} {knows 
         pages = λ q w e. (page_cases q w e, ap (λ v. v q) (slot_put m.slots p 0) ∙ slot_out q w e);
         own_rows = λ b r ne i. own_in b r i;
         gone_pages = λ b q ne i. by_test q (suc p) (λ z. out_after (t.page_out q) (z && is_cleared (o.page q)) (out_now g T a) ≡ None)
-            (λ e. let own : (l : ℕ) × (k : Key) × (o.page q ≡ Cleared b l k) = subst (λ (v : OwnPage). PageFits b (o.page q) (slot_in m.slots q) v) i (g.owns_pages b q) in absurd (ne (f.whose b own.0 own.1 (ap o.page (sym e) ∙ own.2))))
+            (λ e. let own : PageFits b (o.page q) (slot_in m.slots q) Gone = subst (λ (v : OwnPage). PageFits b (o.page q) (slot_in m.slots q) v) i (g.owns_pages b q) in absurd (ne (f.whose b own.0 own.1 (ap o.page (sym e) ∙ own.2))))
             (λ nq. rw (T.gone_pages b q i) refl);
       }
 
@@ -147,7 +147,7 @@ module _ {limits : Limits} {m : Memory} {log : List Update} {o : Owners} {knows 
         k' : Knowledge
         k' = finished (cleared (suc p) x (knows a)) r
 
-        was : (l : ℕ) × (s : Key) × (o.page (suc p) ≡ Cleared a l s)
+        was : PageFits a (o.page (suc p)) (slot_in m.slots (suc p)) Gone
         was = subst (λ (v : OwnPage). PageFits a (o.page (suc p)) (slot_in m.slots (suc p)) v) own (g.owns_pages a (suc p))
 
         reached : Reached 0 was.0 was.1 (o.page (suc p))

@@ -14,8 +14,8 @@ use Rattle.tree_law.specs.Keys.{Key, IsUpTo, IsUnder, Covers}
 use Rattle.chain_search.specs.Knowledge.{Knowledge}
 use Rattle.tree_law.specs.Phase.{Stage, Indexed, Merged, Placed, rank}
 use Rattle.tree_law.specs.Shared.{Shared, shared}
-use Rattle.tree_law.specs.Owners.{Owners}
-use Rattle.tree_law.specs.Tree.{Page, InPlace, IsPart, spec, Level, IsOut, Off, Good}
+use Rattle.tree_law.specs.Owners.{Owners, IsOut}
+use Rattle.tree_law.specs.Tree.{Page, InPlace, IsPart, spec, Level, Off, Good}
 use Rattle.tree_law.specs.Indexed.{HasTerm, IsPageAt, HasMark, IsIndexed}
 use Rattle.tree_law.proofs.KeyOrder.{empty_lowest, covers_from, covers_to}
 use Rattle.tree_law.proofs.Keeping.{on_or_merged}

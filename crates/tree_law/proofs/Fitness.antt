@@ -3,15 +3,19 @@ use Rattle.std.proofs.Common.{◌≡◌, ◌⊎◌, inl, inr, ℕ, ◌≤◌, Li
 use Rattle.std.specs.Prelude.{IfSome, MatchOption}
 use Rattle.bw_model.specs.declared.limits.Limits.{Limits}
 use Rattle.std.specs.List.Sorted.{IsStrictlySortedBy}
+use Rattle.std.proofs.lemmas.List.Elements.{All-from_recursion}
+use Rattle.base_page.specs.declared.item.Item.{Item}
 use Rattle.base_page.specs.Pages.{empty_leaf}
+use Rattle.base_page.specs.Rules.{IsRuled}
 use Rattle.base_page.proofs.PageLaws.{IsPage-from}
 use Rattle.deltas.specs.declared.record.Record.{Record}
 use Rattle.deltas.specs.declared.record.Record.TheVariants.{Base}
 use Rattle.deltas.specs.Records.{next_row}
 use Rattle.deltas.specs.Memory.{opening}
+use Rattle.deltas.specs.Spellable.{HasPid, IsSpellablePage}
 use Rattle.chain_search.specs.Chains.{IsChainFrom}
 use Rattle.chain_search.specs.Discipline.{FitsOn}
-use Rattle.chain_search.specs.Fitted.{IsRuled, FitsOver, IsFitted, IsPageChain}
+use Rattle.chain_search.specs.Fitted.{FitsOver, IsFitted, IsPageChain}
 use Rattle.chain_search.proofs.ChainLaws.{IsChainFrom-unique}
 use Rattle.tree_law.specs.Fitness.{AreFitted, IsAdded}
 use Rattle.tree_law.specs.Owners.{IsChain, Free, Linked, Owners, IsClosed}
@@ -55,8 +59,11 @@ empty_ruled : IsRuled empty_leaf
 unfolding IsStrictlySortedBy
 empty_ruled = record { is_page = IsPage-from empty_leaf refl (record { few = omega arith; ascending = tt }) tt; ends = refl; top = omega arith; terms = λ lt. absurd (omega arith) }
 
+empty_stands : IsSpellablePage empty_leaf
+empty_stands = record { ruled = empty_ruled; alive = refl; right = tt; children = All-from_recursion (λ (item : Item). HasPid item.content) [] tt }
+
 pub opening_fitted : (limits : Limits) → AreFitted (opening_owners limits) (opening limits).rows
 opening_fitted limits row l c h = by_test row 1 (λ t. cond t Linked Free ≡ Linked → IsPageChain c) (λ i e. first (subst (λ r. IsChainFrom (opening limits).rows r c) i h)) (λ ne e. absurd (cc)) l
   where
     first : IsChainFrom (opening limits).rows 1 c → IsPageChain c
-    first at = subst IsPageChain (IsChainFrom-unique (opening limits).rows 1 (Base empty_leaf ∷ []) c (refl, refl) at) (record { fitted = (empty_leaf, refl, refl, empty_ruled); short = omega arith })
+    first at = subst IsPageChain (IsChainFrom-unique (opening limits).rows 1 (Base empty_leaf ∷ []) c (refl, refl) at) (record { fitted = (empty_leaf, refl, empty_stands); short = omega arith })

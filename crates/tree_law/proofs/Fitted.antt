@@ -1,5 +1,6 @@
 -- What a state's memory answers fits what each actor knows.
-use Rattle.std.proofs.Common.{◌≡◌, ◌<◌, ◌≤◌, ◌+◌, ◌*◌, ◌==◌, inl, inr, ℕ, zero, suc, List, [], Option, Some, None, Bool, true, false, refl, sym, ap, ◌∙◌, subst, arith}
+use Rattle.tree_law.proofs.Merging.{frozen_as}
+use Rattle.std.proofs.Common.{◌≡◌, ◌<◌, ◌≤◌, ◌+◌, ◌*◌, ◌==◌, inl, inr, ℕ, zero, suc, List, [], Option, Some, None, Bool, true, false, refl, sym, ap, ◌∙◌, subst, arith, ◌⊎◌, ⊎_elim}
 use Rattle.std.specs.Prelude.{IfSome, if◌then◌else◌}
 use Rattle.std.specs.Int.{bit_at}
 use Rattle.std.proofs.lemmas.Bool.{eqb-true}
@@ -14,13 +15,13 @@ use Rattle.deltas.specs.Records.{next_row}
 use Rattle.deltas.specs.Memory.{Memory}
 use Rattle.chain_search.specs.declared.trace.Entry.{Entry}
 use Rattle.chain_search.specs.Chains.{level_in, low_in}
-use Rattle.chain_search.specs.Fitting.{FitsWord}
+use Rattle.chain_search.specs.Fitting.{FitsWord, ReadsRemoved}
 use Rattle.chain_search.specs.Steps.{IsWordOf, IsAnswer}
 use Rattle.chain_search.specs.Trace.{memory_of}
 use Rattle.chain_search.specs.Discipline.{MayExchange, May}
 use Rattle.chain_search.specs.Fitting.{FitsRow, FitsTaken, FitsTakenPid, FitsExchange, Fits}
 use Rattle.chain_search.specs.Knowledge.{OwnRow, Foreign, Taken, Written, OwnPage, Other, Empty, Ready, Gone, Limbo, Absent, Unstamped, Stamped, Knowledge, knows}
-use Rattle.tree_law.specs.Owners.{Free, Linked, Reached, OwnFits, PageFits, SeenFits}
+use Rattle.tree_law.specs.Owners.{Free, Linked, Reached, OwnFits, PageFits, SeenFits, IsOut}
 use Rattle.op_machine.specs.Phases as phase
 use Rattle.tree_law.specs.Keys.{Key}
 use Rattle.tree_law.specs.Phase.{Fresh, Indexed, Held, Removed, Merged, PageOwner, Nobody, Keeps, Placed, Cleared}
@@ -159,6 +160,13 @@ module _ (limits : Limits) (entries : List Entry) (state : IsState limits entrie
       let here = (index.begins first.0 le).1.linked in
       rw same here
 
+  -- a page that was read removed is as it was, or its slot is empty
+  stays : (p head : ℕ) → ReadsRemoved k (suc p) head → (m.slots (suc p) ≡ head) ⊎ (m.slots (suc p) ≡ 0)
+  stays p head h = ⊎_elim
+      (λ (u : slot_in m.slots (suc p) ≡ Some head). inl (slot_some m.slots (suc p) head u).1)
+      (λ (u : IsOut (state.owners.page (suc p)) (slot_in m.slots (suc p))). inr (slot_none m.slots (suc p) (omega arith) u.0))
+      (frozen_as state.good a (suc p) head h.head h.chain h.read h.gone)
+
   fits_slot : (p : ℕ) → May a k (Slot p) → Fits limits k (Slot p) (Number (m.slots p))
   fits_slot zero may = elim (state.named.pid_below (m.slots 0)) [
     | inl f ↦ absurd (let e = ap phase_of state.good.tree.exact.is_root in cc)
@@ -170,8 +178,8 @@ module _ (limits : Limits) (entries : List Entry) (state : IsState limits entrie
     )
   ]
   fits_slot (suc p) may = let here = met_placed state.good a (suc p) may.1 in elim (slot_of state.good a (suc p) here.0 here.1 here.2) [
-    | inl none ↦ let z : m.slots (suc p) ≡ 0 = slot_none m.slots (suc p) (omega arith) none in let some : 64 ≤ limits.rows = limits.allowed.some_rows in (omega arith, λ root. root_linked (suc p) root)
-    | inr found ↦ let at : m.slots (suc p) ≡ found.0 = (slot_some m.slots (suc p) found.0 found.1).1 in let some = linked_some found.0 found.2.linked in (subst (λ n. n < limits.rows) (sym at) some.1, λ root. subst (λ n. 0 < n) (sym at) some.0)
+    | inl none ↦ let z : m.slots (suc p) ≡ 0 = slot_none m.slots (suc p) (omega arith) none in let some : 64 ≤ limits.rows = limits.allowed.some_rows in (omega arith, λ root. root_linked (suc p) root, λ head h. inr z)
+    | inr found ↦ let at : m.slots (suc p) ≡ found.0 = (slot_some m.slots (suc p) found.0 found.1).1 in let some = linked_some found.0 found.2.linked in (subst (λ n. n < limits.rows) (sym at) some.1, λ root. subst (λ n. 0 < n) (sym at) some.0, λ head h. stays p head h)
   ]
 
   fits_take : (q : ℕ) (t : Bool) → m.free_rows q ≡ t → Fits limits k (TakeRow q) (Whether t)
@@ -189,10 +197,20 @@ module _ (limits : Limits) (entries : List Entry) (state : IsState limits entrie
       let own = subst (λ (v : OwnPage). PageFits a (state.owners.page (suc p)) (slot_in m.slots (suc p)) v) may.0 (state.good.owns_pages a (suc p)) in
       let none : m.slots (suc p) ≡ 0 = slot_none m.slots (suc p) (omega arith) own.1 in
       sym e ∙ rw none refl
-  fits_exchange (suc p) (suc x) zero t may e = λ ready.
-      let own = subst (λ (v : OwnPage). PageFits a (state.owners.page (suc p)) (slot_in m.slots (suc p)) v) ready (state.good.owns_pages a (suc p)) in
-      let at : m.slots (suc p) ≡ suc x = (slot_some m.slots (suc p) (suc x) own.1).1 in
-      sym e ∙ rw at (by_test (suc x) (suc x) (λ t. t ≡ true) (λ i. refl) (λ ne. absurd (ne refl)))
+  fits_exchange (suc p) (suc x) zero t may e = (
+    λ ready.
+        let own = subst (λ (v : OwnPage). PageFits a (state.owners.page (suc p)) (slot_in m.slots (suc p)) v) ready (state.good.owns_pages a (suc p)) in
+        wins (slot_some m.slots (suc p) (suc x) own.1).1,
+    λ gone h.
+        let own = subst (λ (v : OwnPage). PageFits a (state.owners.page (suc p)) (slot_in m.slots (suc p)) v) gone (state.good.owns_pages a (suc p)) in
+        ⊎_elim
+        (λ (u : slot_in m.slots (suc p) ≡ Some (suc x)). wins (slot_some m.slots (suc p) (suc x) u).1)
+        (λ (u : IsOut (state.owners.page (suc p)) (slot_in m.slots (suc p))). absurd (let f = u.0 in let g = own.3 in cc))
+        (frozen_as state.good a (suc p) (suc x) h.head h.chain h.read h.gone),
+  )
+    where
+      wins : m.slots (suc p) ≡ suc x → t ≡ true
+      wins at = sym e ∙ rw at (by_test (suc x) (suc x) (λ t. t ≡ true) (λ i. refl) (λ ne. absurd (ne refl)))
   fits_exchange (suc p) (suc x) (suc y) t may e = λ won.
       let at : m.slots (suc p) ≡ suc x = eqb-true (m.slots (suc p)) (suc x) (e ∙ won) in
       let read = may.basis in

@@ -10,7 +10,7 @@ use Rattle.tree_law.specs.Keys.{Key, Covers}
 use Rattle.tree_law.specs.Phase.{Stage, Fresh, Indexed, Held, Removed, Merged, PageOwner, Nobody, Keeps, Placed, Cleared, rank}
 use Rattle.tree_law.specs.Put.{put}
 use Rattle.tree_law.specs.Shared.{Shared}
-use Rattle.tree_law.specs.Owners.{IsChain, Owner, Free, Spare, Linked, Owners, Reached, Forward, IsCleared, IsLinked, IsClosed, SeenFits, Spells, leaf_map, HeadFits, OrderFits, Knows}
+use Rattle.tree_law.specs.Owners.{IsChain, Owner, Free, Spare, Linked, Owners, Reached, Forward, IsCleared, IsLinked, IsClosed, SeenFits, Spells, leaf_map, HeadFits, OrderFits, Knows, IsOut}
 use Rattle.tree_law.proofs.Puts.{by_test}
 use Rattle.tree_law.proofs.Chains.{chain_unique, chain_within}
 use Rattle.tree_law.proofs.Kept.{chain_kept, Kept, Spared}
@@ -53,6 +53,7 @@ kept_change a o o' m m' c = record {
   page = λ p. page (o.page p) (o'.page p) (m.slots p) (m'.slots p) (c.page p);
   back = λ p x l s. back (o.page p) (o'.page p) (m.slots p) (m'.slots p) x l s (c.page p);
   frozen = λ p x l s d. frozen (o.page p) (o'.page p) (m.slots p) (m'.slots p) x l s d (c.page p);
+  out = λ p. out (o.page p) (o'.page p) (m.slots p) (m'.slots p) (c.page p);
   clears = λ p l s st. clears (o.page p) (o'.page p) (m.slots p) (m'.slots p) l s st (c.page p);
 }
   where
@@ -84,7 +85,7 @@ kept_change a o o' m m' c = record {
     back w n u v x l s (page_clear lv low e f j g) r lx i = sym j ∙ i
     back w n u v x l s (page_gone lv low e f j) r lx i = absurd (let h = sym j ∙ i in cc)
 
-    frozen : (w n : PageOwner) (u v : Option ℕ) (x l : ℕ) (s : Key) (d : List Record) → PageChange a o m m' w n u v → Reached 0 l s w → u ≡ Some x → o.row x ≡ Linked → IsChain m.rows d (Some x) → is_removed d ≡ true → (v ≡ Some x) ⊎ IsCleared n
+    frozen : (w n : PageOwner) (u v : Option ℕ) (x l : ℕ) (s : Key) (d : List Record) → PageChange a o m m' w n u v → Reached 0 l s w → u ≡ Some x → o.row x ≡ Linked → IsChain m.rows d (Some x) → is_removed d ≡ true → (v ≡ Some x) ⊎ IsOut n v
     frozen w n u v x l s d (page_free e) r i lx ch rm = absurd (nobody_reached 0 l s w e r)
     frozen w n u v x l s d (page_own e) r i lx ch rm = absurd (not_reached 0 l s w a e r)
     frozen w n u v x l s d (page_same e f) r i lx ch rm = inl (f ∙ i)
@@ -94,7 +95,16 @@ kept_change a o o' m m' c = record {
         let same : d' ≡ d = chain_unique m.rows d' d (Some x) (subst (λ (b : ℕ). IsChain m.rows d' (Some b)) t k) ch in
         let h : true ≡ false = sym rm ∙ ap is_removed (sym same) ∙ nr in cc)
     frozen w n u v x l s d (page_clear lv low e f j g) r i lx ch rm = inl (j ∙ i)
-    frozen w n u v x l s d (page_gone lv low e f j) r i lx ch rm = inr (a, lv, low, f)
+    frozen w n u v x l s d (page_gone lv low e f j) r i lx ch rm = inr (j, (a, lv, low, f))
+
+    out : (w n : PageOwner) (u v : Option ℕ) → PageChange a o m m' w n u v → IsOut w u → IsOut n v
+    out w n u v (page_free e) i = absurd (let h = sym i.1.3 ∙ e in cc)
+    out w n u v (page_own e) i = absurd (let h = sym i.1.3 ∙ e in cc)
+    out w n u v (page_same e f) i = (f ∙ i.0, (i.1.0, i.1.1, i.1.2, e ∙ i.1.3))
+    out w n u v (page_stage st st' lv low e f le j) i = absurd (let h = sym i.1.3 ∙ e in cc)
+    out w n u v (page_link st st' lv low e f le x' y d' j k nr z q) i = absurd (let h = sym i.1.3 ∙ e in cc)
+    out w n u v (page_clear lv low e f j g) i = absurd (let h = sym i.1.3 ∙ e in cc)
+    out w n u v (page_gone lv low e f j) i = (j, (a, lv, low, f))
 
     clears : (w n : PageOwner) (u v : Option ℕ) (l : ℕ) (s : Key) (st : Stage) → PageChange a o m m' w n u v → w ≡ Placed st l s → IsCleared n
         → (f x : ℕ) (d : List Record) → o.row x ≡ Linked → IsChain m.rows d (Some x) → Reached 0 (level_in d) (low_in d) (o.page f) → is_removed d ≡ false → level_in d ≡ suc l → Covers d s → m.slots f ≡ Some x → m'.slots f ≡ Some x → ⊥
@@ -125,10 +135,10 @@ spared_change a b o o' m m' ne c = record { row = λ r l. row r l (c.row r); pag
     page p l (page_clear lv low e f i g) = absurd (let h = sym l ∙ e in cc)
     page p l (page_gone lv low e f i) = absurd (let h = sym l ∙ e in cc)
 
-    gone : (p l : ℕ) (s : Key) → o.page p ≡ Cleared b l s → PageChange a o m m' (o.page p) (o'.page p) (m.slots p) (m'.slots p) → o'.page p ≡ Cleared b l s
+    gone : (p l : ℕ) (s : Key) → o.page p ≡ Cleared b l s → PageChange a o m m' (o.page p) (o'.page p) (m.slots p) (m'.slots p) → (o'.page p ≡ Cleared b l s) × (m'.slots p ≡ m.slots p)
     gone p l s i (page_free e) = absurd (let h = sym i ∙ e in cc)
     gone p l s i (page_own e) = absurd (let h = sym i ∙ e in cc)
-    gone p l s i (page_same e f) = e ∙ i
+    gone p l s i (page_same e f) = (e ∙ i, f)
     gone p l s i (page_stage st st' lv low e f le j) = absurd (let h = sym i ∙ e in cc)
     gone p l s i (page_link st st' lv low e f le x y d j k nr z q) = absurd (let h = sym i ∙ e in cc)
     gone p l s i (page_clear lv low e f j g) = absurd (let h = sym i ∙ e in cc)

@@ -1,6 +1,6 @@
 -- A step keeps a state, and a state is linearized.
 use Rattle.std.proofs.Common.{◌≡◌, ◌≢◌, ◌<◌, inl, inr, ℕ, zero, suc, List, [], ◌∷◌, ◌++◌, length, Option, Some, None, Bool, true, false, cond, ◌⊎◌, refl, sym, ap, ◌∙◌, subst, arith}
-use Rattle.std.specs.Prelude.{IsSome, IfSome, MatchOption, slice_get, IsTrue, IsFalse}
+use Rattle.std.specs.Prelude.{IsSome, IfSome, MatchOption, slice_get, IsTrue, IsFalse, ◌↔◌}
 use Rattle.std.specs.Option.{option_to_list}
 use Rattle.std.proofs.lemmas.Option.{same_Some}
 use Rattle.bw_model.specs.declared.command.Command.{Command}
@@ -25,6 +25,7 @@ use Rattle.chain_search.proofs.Pushes.{slice_get-push_cases, slice_get_kept}
 use Rattle.chain_search.proofs.TraceLaws.{memory_of-push, command_of-push}
 use Rattle.chain_search.proofs.RunLaws.{IsRun-push}
 use Rattle.op_machine.specs.Answered.{IsTrueReply, is_writer}
+use Rattle.op_machine.specs.Updates.{LinksUpdate, UpdatesAtLinks}
 use Rattle.op_machine.specs.Operations.{Operation, IsOperation, IsOwnStep, Finishes}
 use Rattle.op_machine.specs.Phases.{Phase, Moves, IsInPhase}
 use Rattle.op_machine.specs.Points.{IsPoint, log_of, log_at, updates_by, has_point}
@@ -59,12 +60,14 @@ use Rattle.tree_law.proofs.Keeping.{slot_of, met_placed}
 use Rattle.tree_law.proofs.Levels.{indexed_push}
 use Rattle.tree_law.proofs.Mapping.{slot_some, map_of}
 use Rattle.tree_law.proofs.Lives.{only_after, pid_below_after, steps_in_phase, steps_phases}
+use Rattle.tree_law.proofs.UpdateLinks.{update_links, link_updates}
+use Rattle.tree_law.proofs.Updates.{UpdatesNow, updates_push}
 use Rattle.tree_law.proofs.Marks.{marked_push, tells_other, tells_own, quiet_push}
 use Rattle.tree_law.proofs.Names.{number_same, slot_none, faithful_push, Numbers, calm_numbers, named_steps, reads_known, touches_outside, may_take}
 use Rattle.tree_law.proofs.Owned.{pushed_length, same_start, own_new}
 use Rattle.tree_law.proofs.Phasing.{moves_between, clears_cleared, moves_or_rests}
 use Rattle.tree_law.proofs.Puts.{by_test, put_same, put_other}
-use Rattle.tree_law.proofs.Remark.{own_same, remarked, log_of_same, marked', told, told_other, quiet'}
+use Rattle.tree_law.proofs.Remark.{own_same, remarked, log_of_same, marked', told, told_other, updates', quiet'}
 use Rattle.tree_law.proofs.Rows.{rows_kept}
 use Rattle.tree_law.proofs.Searches.{search_other, search_own, lacks}
 use Rattle.tree_law.proofs.Slots.{held_after}
@@ -83,6 +86,7 @@ record Settled (limits : Limits) (entries : List Entry) (log : List Update) (poi
   points : List Bool
   log_is : log_of entries points ≡ log
   marked : IsMarked limits entries points
+  updates : UpdatesAtLinks limits entries points
   quiet : IsQuiet limits entries points
   own_point : Option (List Update)
   mine : Tells entries points a asked own_point (logs a)
@@ -97,6 +101,7 @@ module _ (limits : Limits) (entries : List Entry) (a : ℕ) (asked : Command) (s
     points = state.points;
     log_is = refl;
     marked = state.marked;
+    updates = state.updates;
     quiet = state.quiet;
     own_point = state.point a;
     mine = state.tells a asked asks;
@@ -117,6 +122,7 @@ module _ (limits : Limits) (entries : List Entry) (a : ℕ) (asked : Command) (s
           points = remarked limits entries state.points a asked (state.logs a) state.marked t at.at u.2 u.1;
           log_is = log_of_same limits entries state.points a asked (state.logs a) state.marked t at.at u.2 u.1;
           marked = marked' limits entries state.points a asked (state.logs a) state.marked t at.at u.2 u.1 (state.searches (operation_of t.start a asked) t.begins t.unended asks).unfinished;
+          updates = updates' limits entries state.points a asked (state.logs a) state.marked t at.at u.2 u.1 state.updates;
           quiet = quiet' limits entries state.points a asked (state.logs a) state.marked t at.at u.2 u.1 state.quiet;
           own_point = Some at.at;
           mine = told limits entries state.points a asked (state.logs a) state.marked t at.at u.2 u.1;
@@ -213,6 +219,24 @@ module _ (limits : Limits) (entries : List Entry) (a : ℕ) (step : StepOf Recor
       go (Some u) due =
           let c : command_of entries a ≡ Some due.0 = sym (state.named.commands a) ∙ due.1 in
           ap (λ us. log_of entries state.points ++ us) (rw c (ap option_to_list due.3))
+
+  -- the step makes an update exactly where it links a put or a delete
+  updated_now : UpdatesNow limits entries z.points last mark z.marked.beside ↔ LinksUpdate (memory_of limits entries) last
+  updated_now = (
+    λ h. let l = update_links (memory_of limits entries) state.good a step answer r allowed.may is n (some_update n.update h.0) in (a, l.slot, l.old, l.new, l.kind, ((r, λ d. Step a (l.step d) (l.won d) r), l.link), l.update),
+    λ h. makes_one n.update (link_updates (memory_of limits entries) state.good a step answer r allowed.may is n (let e = h.5.0.1 in record { slot = h.1; old = h.2; new = h.3; kind = h.4; step = cc; won = cc; link = h.5.1; update = h.6 })) (log_of entries z.points) (log_of (entries ++ last ∷ []) (z.points ++ mark ∷ [])) logged',
+  )
+    where
+      some_update : (u : Option Update) → is_update u ≡ true → IsSome u
+      some_update None e = absurd (cc)
+      some_update (Some u) e = refl
+
+      logged' : log_of (entries ++ last ∷ []) (z.points ++ mark ∷ []) ≡ grown (log_of entries z.points) n.update
+      logged' = rw (log_of-push entries z.points last mark z.marked.beside, z.log_is) logged
+
+      makes_one : (u : Option Update) → IsSome u → (l l' : List Update) → l' ≡ grown l u → (is_update u ≡ true) × ((update : Update) × (l' ≡ l ++ update ∷ []))
+      makes_one None some l l' e = absurd (cc)
+      makes_one (Some u) some l l' e = (refl, (u, e))
 
   point_after : (u : Option Update) → pointed' (log_of entries state.points) u (state.point a) ≡ cond (is_update u) (Some (log_of entries state.points)) (state.point a)
   point_after None = refl
@@ -352,6 +376,7 @@ module _ (limits : Limits) (entries : List Entry) (a : ℕ) (step : StepOf Recor
         let same : op ≡ operation_of z.mine.start a asked = own_same (entries ++ last ∷ []) op (operation_of z.mine.start a asked) (length entries) (slice_get_kept entries (last ∷ []) op.start _ begun) (slice_get_kept entries (last ∷ []) z.mine.start _ z.mine.begins) own (own_new entries last z.mine.start a asked step answer r z.mine.begins z.mine.unended refl) in
         (state.searches (operation_of z.mine.start a asked) z.mine.begins z.mine.unended asks).unfinished m reply (subst (λ o. Finishes entries o m reply) same ends));
     run = IsRun-push limits entries last state.run (subst IsSome (sym asks) refl, may_take limits entries state.owners (memory_of limits entries) (knows entries) (log_of entries state.points) state.point state.logs state.good state.named a step answer r allowed.may is refl step allowed.may, is);
+    updates = updates_push limits entries z.points last mark z.marked.beside z.updates updated_now;
     quiet = quiet_push entries z.points last mark z.marked.beside limits z.quiet (map_of good_after);
     in_phase = in_phase_after;
     only_phase = only_phase_after;
@@ -480,6 +505,7 @@ is_one_map limits entries state = record {
     pointless = λ op m n r is ends asks own p. pointless limits entries state.points op r (state.marked.answered op n r is ends) asks m own p;
   };
   answered = record { each = λ op n r is ends. true_reply limits entries state.points op r (state.marked.answered op n r is ends) };
+  updates = state.updates;
   quiet = state.quiet;
   faithful = state.faithful;
 }

@@ -3,21 +3,24 @@ use Rattle.std.proofs.Common.{◌≡◌, ℕ, [], ◌∷◌, Option, Some, None,
 use Rattle.std.specs.Prelude.{if◌then◌else◌, not, is_some, IsTrue}
 use Rattle.std.specs.List.Sorted.{IsStrictlySortedBy}
 use Rattle.std.specs.Ordering.{is_eq}
+use Rattle.std.proofs.lemmas.List.Elements.{All-from_recursion}
 use Rattle.bw_model.specs.Bytes.{key_cmp, is_under}
 use Rattle.base_page.specs.declared.item.Content.{Content}
 use Rattle.base_page.specs.declared.item.Content.TheVariants.{Child}
 use Rattle.base_page.specs.declared.item.Item.{Item}
 use Rattle.base_page.specs.Pages.{Page, IsPage, content_at}
+use Rattle.base_page.specs.Rules.{IsRuled}
 use Rattle.base_page.proofs.PageLaws.{IsPage-from}
 use Rattle.deltas.specs.declared.record.Record.TheVariants.{Split}
 use Rattle.deltas.specs.Applies.{Applies}
+use Rattle.deltas.specs.Spellable.{HasPid, IsSpellablePage}
 use Rattle.chain_search.specs.Discipline.{FitsOn}
-use Rattle.chain_search.specs.Fitted.{IsRuled, IsFitted}
+use Rattle.chain_search.specs.Fitted.{IsFitted}
 use Rattle.tree_law.specs.Example.{a, opening_leaf, root_a}
 use Rattle.tree_law.specs.HelpedSplit.{b, item_b, upper_b, first_split, upper_c, second_split, helped_term, other_put}
 use Rattle.tree_law.specs.Keys.{Key}
 use Rattle.tree_law.proofs.KeyOrder.{by_key, by_below}
-use Rattle.tree_law.proofs.LinkFits.{first, alone, both, root_makes}
+use Rattle.tree_law.proofs.LinkFits.{first, alone, both, linked, root_makes}
 use Rattle.tree_law.proofs.Making.{base_makes, fits_over}
 
 -- an empty leaf over a range
@@ -72,20 +75,23 @@ term_applies = record {
 }
 
 pub first_fits : FitsOn (opening_leaf ∷ []) first_split
-first_fits = (fits_over (base_makes (leaf [] None None) (leaf_page [] None None refl)) (record { alive = refl; level = refl; covered = refl; inner = refl }) (leaf_splits [] None None 1 2 a) (leaf_ruled [] (Some a) (Some 2) refl refl) refl, omega arith)
+first_fits = (fits_over (base_makes (leaf [] None None) (leaf_page [] None None refl) refl) (record { alive = refl; level = refl; covered = refl; inner = refl }) (leaf_splits [] None None 1 2 a) (leaf_ruled [] (Some a) (Some 2) refl refl) refl (linked 0 1 a 2 (omega arith) (omega arith, omega arith) (λ e. cc) (omega arith, omega arith)), omega arith)
 
 pub second_fits : FitsOn (upper_b ∷ []) second_split
-second_fits = (fits_over (base_makes (leaf a None None) (leaf_page a None None refl)) (record { alive = refl; level = refl; covered = refl; inner = refl }) (leaf_splits a None None 2 4 b) (leaf_ruled a (Some b) (Some 4) refl refl) refl, omega arith)
+second_fits = (fits_over (base_makes (leaf a None None) (leaf_page a None None refl) refl) (record { alive = refl; level = refl; covered = refl; inner = refl }) (leaf_splits a None None 2 4 b) (leaf_ruled a (Some b) (Some 4) refl refl) refl (linked 0 2 b 4 (omega arith) (omega arith, omega arith) (λ e. cc) (omega arith, omega arith)), omega arith)
 
 pub term_fits : FitsOn (root_a ∷ []) helped_term
-term_fits = (fits_over root_makes (record { alive = refl; level = refl; index = omega arith; covered = refl; absent = refl; room = omega arith }) term_applies grown_ruled refl, omega arith)
+term_fits = (fits_over root_makes (record { alive = refl; level = refl; index = omega arith; covered = refl; absent = refl; room = omega arith }) term_applies grown_ruled refl (omega arith, (linked 1 4 b 4 (omega arith) (omega arith, omega arith) (λ e. cc) (omega arith, omega arith))), omega arith)
 
 pub put_fits : FitsOn (upper_c ∷ []) other_put
-put_fits = (fits_over (base_makes (leaf b None None) (leaf_page b None None refl)) (record { alive = refl; leaf = refl; covered = refl; room = λ e. omega arith }) put_applies (record { is_page = put_page; ends = refl; top = omega arith; terms = λ lt. absurd (omega arith) }) refl, omega arith)
+put_fits = (fits_over (base_makes (leaf b None None) (leaf_page b None None refl) refl) (record { alive = refl; leaf = refl; covered = refl; room = λ e. omega arith }) put_applies (record { is_page = put_page; ends = refl; top = omega arith; terms = λ lt. absurd (omega arith) }) refl (omega arith, omega arith), omega arith)
 
 -- the bases of the new pages
+leaf_stands : (low : Key) → IsSpellablePage (leaf low None None)
+leaf_stands low = record { ruled = leaf_ruled low None None refl refl; alive = refl; right = tt; children = All-from_recursion (λ (item : Item). HasPid item.content) [] tt }
+
 pub first_ruled : IsFitted (upper_b ∷ [])
-first_ruled = (leaf a None None, refl, refl, leaf_ruled a None None refl refl)
+first_ruled = (leaf a None None, refl, leaf_stands a)
 
 pub second_ruled : IsFitted (upper_c ∷ [])
-second_ruled = (leaf b None None, refl, refl, leaf_ruled b None None refl refl)
+second_ruled = (leaf b None None, refl, leaf_stands b)

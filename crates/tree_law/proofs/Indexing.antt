@@ -1,5 +1,6 @@
 -- Links on an index page that change one term: a term is posted, held, or taken away.
-use Rattle.std.proofs.Common.{◌≡◌, ◌≢◌, ℕ, zero, suc, ◌<◌, ◌≤◌, List, ◌∷◌, Option, Some, None, true, false, cond, refl, sym, ap, ◌∙◌, subst, ⊎_elim, arith}
+use Rattle.std.specs.Prelude.{IsSome}
+use Rattle.std.proofs.Common.{◌≡◌, ◌≢◌, ℕ, zero, suc, ◌<◌, ◌≤◌, List, ◌∷◌, Option, Some, None, true, false, cond, refl, sym, ap, ◌∙◌, subst, ⊎_elim, arith, inl}
 use Rattle.std.proofs.lemmas.Option.{same_Some}
 use Rattle.bw_model.specs.declared.command.Reply.{Reply}
 use Rattle.bw_model.specs.Log.{Update}
@@ -14,8 +15,8 @@ use Rattle.chain_search.specs.Knowledge.{OwnRow, Foreign, Gone, Knowledge, fille
 use Rattle.tree_law.specs.Phase.{Stage, Fresh, Indexed, Held, Removed, Merged, PageOwner, Placed, Cleared, mark, rank, child_of, rank_of}
 use Rattle.tree_law.specs.Put.{put}
 use Rattle.tree_law.specs.Shared.{Shared}
-use Rattle.tree_law.specs.Owners.{IsChain, Spare, Linked, Owners, Reached, OwnFits, PageFits, OwnsPages, InOrder, OrderFits}
-use Rattle.tree_law.specs.Tree.{spec, InPlace, Good}
+use Rattle.tree_law.specs.Owners.{IsChain, Spare, Linked, Owners, Reached, OwnFits, PageFits, OwnsPages, InOrder, OrderFits, IsOut}
+use Rattle.tree_law.specs.Tree.{spec, InPlace, Good, Off}
 use Rattle.std.specs.Ordering.{is_eq}
 use Rattle.bw_model.specs.Bytes.{key_cmp}
 use Rattle.chain_search.specs.Discipline.{MayPost, MayHold, MayUnterm, HasRead}
@@ -198,7 +199,7 @@ module _ {m : Shared} {log : List Update} {o : Owners} {knows : ℕ → Knowledg
         (Unterm (record { level = level_in c; next = x; separator = sep; child = q })) fits.1 refl refl refl refl refl refl (λ k. refl)
         (finished (handed_page q Gone y (knows a)) r)
         refl
-        (λ v j. by_test j q (λ t. PageFits a (cond t (Cleared a lv sep) (o.page j)) (put m.slots p (Some y) j) (cond t Gone ((knows a).own.pages j))) (λ i. (lv, sep, refl)) (λ ne. subst (λ (w : PageOwner). PageFits a w (put m.slots p (Some y) j) ((knows a).own.pages j)) (put_other o.page q (Cleared a lv sep) j ne) (v j)))
+        (λ v j. by_test j q (λ t. PageFits a (cond t (Cleared a lv sep) (o.page j)) (put m.slots p (Some y) j) (cond t Gone ((knows a).own.pages j))) (λ i. (lv, sep, refl, rw i there)) (λ ne. subst (λ (w : PageOwner). PageFits a w (put m.slots p (Some y) j) ((knows a).own.pages j)) (put_other o.page q (Cleared a lv sep) j ne) (v j)))
         refl refl refl refl refl refl),
     was,
   )
@@ -245,6 +246,11 @@ module _ {m : Shared} {log : List Update} {o : Owners} {knows : ℕ → Knowledg
 
       was : o.page q ≡ Placed Merged lv sep
       was = let n = (g.tree.exact.named lv sep (Child q true) present).1 in n.1 ∙ ap (λ st. Placed st lv sep) (is_merged n.0 (subst (λ (v : PageOwner). Reached 4 lv sep v) n.1 merged).2)
+
+      -- the page's slot is not empty
+      there : IsSome (put m.slots p (Some y) q)
+      there = by_test q p (λ t. IsSome (cond t (Some y) (m.slots q))) (λ e. refl)
+          (λ ne. ⊎_elim (λ (u : IsOut (o.page q) (m.slots q)). absurd (let v = sym was ∙ u.1.3 in cc)) (λ (u : Off o m q lv sep). rw u.head refl) (g.tree.off q lv sep (inl was)))
 
       guard : (f' x' : ℕ) (c' : List Record) → o.row x' ≡ Linked → IsChain m.rows c' (Some x') → Reached 0 (level_in c') (low_in c') (o.page f') → is_removed c' ≡ false → level_in c' ≡ suc lv → Covers c' sep → m.slots f' ≡ Some x' → put m.slots p (Some y) f' ≡ Some x' → ⊥
       guard f' x' c' l' ch' r' n' e' v' s' now =

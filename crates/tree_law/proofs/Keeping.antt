@@ -18,8 +18,8 @@ use Rattle.chain_search.specs.Discipline.{HasRead, IsBeyond, IsMet}
 use Rattle.tree_law.specs.Phase.{Stage, Fresh, Indexed, Held, Removed, Merged, PageOwner, Placed, Cleared, mark, rank, child_of, rank_of}
 use Rattle.tree_law.specs.Put.{put}
 use Rattle.tree_law.specs.Shared.{Shared}
-use Rattle.tree_law.specs.Owners.{IsChain, Owner, Owners, Reached, ChainNames, IsClosed, IsCleared, Owns, OwnsPages, Spells, leaf_map, HeadFits, LinkFits, InOrder, OrderFits, Knows}
-use Rattle.tree_law.specs.Tree.{Page, InPlace, spec, IsOff, IsOut, Off, Tree, Frees, Good}
+use Rattle.tree_law.specs.Owners.{IsChain, Owner, Owners, Reached, ChainNames, IsClosed, IsCleared, Owns, OwnsPages, Spells, leaf_map, HeadFits, LinkFits, InOrder, OrderFits, Knows, IsOut}
+use Rattle.tree_law.specs.Tree.{Page, InPlace, spec, IsOff, Off, Tree, Frees, Good}
 use Rattle.tree_law.proofs.KeyOrder.{covers_from}
 use Rattle.tree_law.proofs.Puts.{by_test}
 use Rattle.tree_law.proofs.Chains.{chain_unique}
@@ -176,7 +176,7 @@ module _ {m : Shared} {log : List Update} {o : Owners} {knows : ℕ → Knowledg
       let on = g.tree.levels (level_in d) (g.tree.exact.below p (level_in d) (low_in d) w.stage w.placed) in
       let n = right_page o m (level_in d) (spec log o.index (level_in d)) (g.tree.first (level_in d)) on (record { page = p; row = x; chain = d }) w f i in
       let same : h.2.chain ≡ c = chain_unique m.rows h.2.chain c (Some z) h.2.is_chain ic in
-      let slot : m.slots f ≡ Some z = ⊎_elim (λ (u : m.slots f ≡ Some z). u) (λ (u : IsCleared (o.page f)). absurd (let t = sym n.3.placed ∙ ap o.page n.1 ∙ u.3 in cc)) (h.4 (ap is_removed same ∙ rc)) in
+      let slot : m.slots f ≡ Some z = ⊎_elim (λ (u : m.slots f ≡ Some z). u) (λ (u : IsOut (o.page f) (m.slots f)). absurd (let t = sym n.3.placed ∙ ap o.page n.1 ∙ u.1.3 in cc)) (h.4 (ap is_removed same ∙ rc)) in
       let r = (in_level_as o m (level_in d) (spec log o.index (level_in d)) (g.tree.first (level_in d)) on f (low_in n.0.chain) n.3.stage (ap o.page (sym n.1) ∙ n.3.placed) n.3.on z slot c ic).place in
       let t = right_page o m (level_in d) (spec log o.index (level_in d)) (g.tree.first (level_in d)) on (record { page = f; row = z; chain = c }) r q j in
       (low_in t.0.chain, t.3.stage, t.2, subst (λ (l : ℕ). o.page q ≡ Placed t.3.stage l (low_in t.0.chain)) (sym r.is_page.on_level) (ap o.page (sym t.1) ∙ t.3.placed))

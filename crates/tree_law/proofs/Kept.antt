@@ -1,6 +1,6 @@
 -- What stays of what actors know: linked rows stay, and pages go forward.
 use Rattle.std.proofs.Common.{◌≡◌, ◌⊎◌, inl, inr, ⊎_elim, ℕ, suc, ◌<◌, ◌≤◌, List, [], ◌∷◌, Option, Some, None, Bool, true, false, refl, sym, ◌∙◌, subst, arith}
-use Rattle.std.specs.Prelude.{IfSome}
+use Rattle.std.specs.Prelude.{IfSome, IsSome}
 use Rattle.std.proofs.lemmas.Option.{same_Some}
 use Rattle.bw_model.specs.Log.{Update}
 use Rattle.deltas.specs.declared.record.Record.{Record}
@@ -10,7 +10,7 @@ use Rattle.tree_law.specs.Keys.{Key, Covers}
 use Rattle.chain_search.specs.Knowledge.{OwnRow, Foreign, Taken, Written, OwnPage, Other, Empty, Ready, Gone}
 use Rattle.tree_law.specs.Phase.{Stage, Fresh, Indexed, Held, Removed, Merged, PageOwner, Nobody, Keeps, Placed, Cleared, rank, child_of, rank_of}
 use Rattle.tree_law.specs.Shared.{Shared}
-use Rattle.tree_law.specs.Owners.{IsChain, Spare, Linked, Owners, Reached, Forward, ChainNames, IsClosed, OwnFits, Owns, PageFits, OwnsPages, SeenFits, Spells, IsCleared, HeadFits, LinkFits, InOrder, OrderFits, Knows}
+use Rattle.tree_law.specs.Owners.{IsChain, Spare, Linked, Owners, Reached, Forward, ChainNames, IsClosed, OwnFits, Owns, PageFits, OwnsPages, SeenFits, Spells, IsCleared, HeadFits, LinkFits, InOrder, OrderFits, Knows, IsOut}
 use Rattle.tree_law.proofs.Chains.{chain_unique}
 
 -- linked rows stay, and pages go forward
@@ -20,7 +20,9 @@ pub record Kept (o o' : Owners) (m m' : Shared) : Type 0 where
   -- what is linked comes into no slot again
   pub back : (p x l : ℕ) (s : Key) → Reached 0 l s (o.page p) → o.row x ≡ Linked → m'.slots p ≡ Some x → m.slots p ≡ Some x
   -- a is_removed chain stays
-  pub frozen : (p x l : ℕ) (s : Key) (c : List Record) → Reached 0 l s (o.page p) → m.slots p ≡ Some x → o.row x ≡ Linked → IsChain m.rows c (Some x) → is_removed c ≡ true → (m'.slots p ≡ Some x) ⊎ IsCleared (o'.page p)
+  pub frozen : (p x l : ℕ) (s : Key) (c : List Record) → Reached 0 l s (o.page p) → m.slots p ≡ Some x → o.row x ≡ Linked → IsChain m.rows c (Some x) → is_removed c ≡ true → (m'.slots p ≡ Some x) ⊎ IsOut (o'.page p) (m'.slots p)
+  -- a cleared page's slot stays empty
+  pub out : (p : ℕ) → IsOut (o.page p) (m.slots p) → IsOut (o'.page p) (m'.slots p)
   -- a page is cleared by an exchange on the page that has its low
   pub clears : (p l : ℕ) (s : Key) (st : Stage) → o.page p ≡ Placed st l s → IsCleared (o'.page p) → (f x : ℕ) (c : List Record) → o.row x ≡ Linked → IsChain m.rows c (Some x) → Reached 0 (level_in c) (low_in c) (o.page f) → is_removed c ≡ false → level_in c ≡ suc l → Covers c s → m.slots f ≡ Some x → m'.slots f ≡ Some x → ⊥
 
@@ -28,7 +30,7 @@ pub record Kept (o o' : Owners) (m m' : Shared) : Type 0 where
 pub record Spared (a : ℕ) (o o' : Owners) (m m' : Shared) : Type 0 where
   pub row : (r : ℕ) → o.row r ≡ Spare a → (o'.row r ≡ Spare a) × (m'.rows r ≡ m.rows r)
   pub page : (p : ℕ) → o.page p ≡ Keeps a → (o'.page p ≡ Keeps a) × (m'.slots p ≡ m.slots p)
-  pub gone : (p l : ℕ) (s : Key) → o.page p ≡ Cleared a l s → o'.page p ≡ Cleared a l s
+  pub gone : (p l : ℕ) (s : Key) → o.page p ≡ Cleared a l s → (o'.page p ≡ Cleared a l s) × (m'.slots p ≡ m.slots p)
 
 -- a page that is so far is in the tree
 pub reached_placed : (r l : ℕ) (s : Key) (w : PageOwner) → Reached r l s w → ((st : Stage) × (w ≡ Placed st l s) × (r ≤ rank st)) ⊎ ((a : ℕ) × (w ≡ Cleared a l s))
@@ -99,9 +101,6 @@ knows_kept o o' m m' closed kept seen learnt roots heads before linked point log
       linked_fits = link_kept o o' m m' closed kept point linked k.linked_fits;
     }
   where
-    cleared_kept : (p : ℕ) → IsCleared (o.page p) → IsCleared (o'.page p)
-    cleared_kept p u = cleared_forward (o.page p) (o'.page p) (kept.page p) u
-
     still : (p f x y : ℕ) (c d : List Record) → IsChain m.rows c (Some x) → IsChain m.rows d (Some y) → is_removed c ≡ false → is_removed d ≡ false → level_in c ≡ suc (level_in d) → Covers c (low_in d) → m'.slots f ≡ Some x → IsCleared (o'.page p) → HeadFits o m logs p (Some y) → InOrder o m logs p y f x → ⊥
     still p f x y c d ic id nc nd e v s u h i =
         let same : h.2.chain ≡ d = chain_unique m.rows h.2.chain d (Some y) h.2.is_chain id in
@@ -123,7 +122,7 @@ knows_kept o o' m m' closed kept seen learnt roots heads before linked point log
       h.1,
       spells_kept o o' m m' closed kept x h.0 h.2,
       kept.page p 0 (level_in h.2.chain) (low_in h.2.chain) h.3,
-      λ e. ⊎_elim (λ (u : m.slots p ≡ Some x). kept.frozen p x (level_in h.2.chain) (low_in h.2.chain) h.2.chain h.3 u h.2.linked h.2.is_chain e) (λ (u : IsCleared (o.page p)). inr (cleared_kept p u)) (h.4 e),
+      λ e. ⊎_elim (λ (u : m.slots p ≡ Some x). kept.frozen p x (level_in h.2.chain) (low_in h.2.chain) h.2.chain h.3 u h.2.linked h.2.is_chain e) (λ (u : IsOut (o.page p) (m.slots p)). inr (kept.out p u)) (h.4 e),
       λ e. names_kept o o' kept.page h.2.chain (h.5 e),
     )
 
@@ -161,4 +160,4 @@ pages_spared a o o' m m' kept pages h p = at (pages p) (h p)
     at Other f = tt
     at Empty f = ((kept.page p f.0).0, (kept.page p f.0).1 ∙ f.1)
     at (Ready r) f = ((kept.page p f.0).0, (kept.page p f.0).1 ∙ f.1)
-    at Gone f = (f.0, f.1, kept.gone p f.0 f.1 f.2)
+    at Gone f = let g = kept.gone p f.0 f.1 f.2 in (f.0, f.1, g.0, subst IsSome (sym g.1) f.3)

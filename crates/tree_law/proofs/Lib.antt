@@ -62,3 +62,5 @@ pub mod Timewise
 pub mod Timing
 pub mod Updating
 pub mod Whole
+pub mod UpdateLinks
+pub mod Updates

@@ -1,17 +1,20 @@
 -- What each link of the run puts over a chain fits it.
-use Rattle.std.proofs.Common.{◌≡◌, ℕ, ◌≤◌, [], ◌∷◌, Some, None, Bool, true, false, cond, refl, sym, subst, arith}
+use Rattle.std.proofs.Common.{◌≡◌, ◌≢◌, ℕ, ◌≤◌, [], ◌∷◌, Some, None, Bool, true, false, cond, refl, sym, subst, arith}
 use Rattle.std.specs.Prelude.{if◌then◌else◌, not}
 use Rattle.std.specs.List.Sorted.{IsStrictlySortedBy}
 use Rattle.std.specs.Ordering.{is_eq}
+use Rattle.std.proofs.lemmas.List.Elements.{All-from_recursion}
 use Rattle.bw_model.specs.Bytes.{key_cmp}
 use Rattle.base_page.specs.declared.item.Content.{Content}
 use Rattle.base_page.specs.declared.item.Content.TheVariants.{Child}
 use Rattle.base_page.specs.declared.item.Item.{Item}
 use Rattle.base_page.specs.Pages.{Page, IsPage, content_at, empty_leaf}
+use Rattle.base_page.specs.Rules.{held_count, IsRuled}
 use Rattle.base_page.proofs.PageLaws.{IsPage-from}
 use Rattle.deltas.specs.Applies.{Applies}
+use Rattle.deltas.specs.Spellable.{HasPid, IsPid, IsRow, IsSpellableLink, IsSpellablePage}
 use Rattle.chain_search.specs.Discipline.{FitsOn}
-use Rattle.chain_search.specs.Fitted.{held_count, IsRuled, Makes, IsFitted}
+use Rattle.chain_search.specs.Fitted.{Makes, IsFitted}
 use Rattle.tree_law.specs.Example.{a, item_a, opening_leaf, put_a, upper_a, split_a, root_a, hold_a, remove_a, merge_a, unterm_a, split_b, term_b}
 use Rattle.tree_law.specs.Keys.{Key, IsBelow}
 use Rattle.tree_law.proofs.KeyOrder.{by_key, by_below, by_range, not_self}
@@ -88,6 +91,13 @@ both_ruled child held = record {
     few true = omega arith
     few false = omega arith
 
+-- what a row can spell
+upper_stands : IsSpellablePage upper
+upper_stands = record { ruled = upper_ruled; alive = refl; right = tt; children = All-from_recursion (λ (item : Item). HasPid item.content) upper.items (tt, tt) }
+
+pub linked : (level next : ℕ) (key : Key) (page : ℕ) → level ≤ 15 → IsRow next → key ≢ [] → IsPid page → IsSpellableLink level next key page
+linked level next key page top over above names = record { top = top; over = over; above = above; names = names }
+
 -- below the key the item is not
 below_none : (key : Key) → IsBelow key a → content_at (item_a ∷ []) key ≡ None
 below_none key below = by_key key a (λ t. cond t (Some item_a.content) None ≡ None) (λ same. absurd (not_self a (subst (λ k. IsBelow k a) same below))) (λ ne. refl)
@@ -135,7 +145,7 @@ term_applies : Applies alone term_b (both 4 false)
 term_applies = record { ascending = (both_page 4 false).ordered.ascending; contents = given (Child 4 false); level = refl; low = refl; high = refl; right = refl; removed = refl }
 
 leaf_makes : Makes (opening_leaf ∷ []) empty_leaf
-leaf_makes = base_makes empty_leaf leaf_page
+leaf_makes = base_makes empty_leaf leaf_page refl
 
 put_makes : Makes (put_a ∷ opening_leaf ∷ []) full
 put_makes = over_makes leaf_makes put_applies
@@ -147,7 +157,7 @@ merge_makes : Makes (merge_a ∷ split_a ∷ put_a ∷ opening_leaf ∷ []) full
 merge_makes = over_makes split_makes merge_applies
 
 pub root_makes : Makes (root_a ∷ []) (both 2 false)
-root_makes = base_makes (both 2 false) (both_page 2 false)
+root_makes = base_makes (both 2 false) (both_page 2 false) refl
 
 hold_makes : Makes (hold_a ∷ root_a ∷ []) (both 2 true)
 hold_makes = over_makes root_makes hold_applies
@@ -156,32 +166,32 @@ unterm_makes : Makes (unterm_a ∷ hold_a ∷ root_a ∷ []) alone
 unterm_makes = over_makes hold_makes unterm_applies
 
 pub put_fits : FitsOn (opening_leaf ∷ []) put_a
-put_fits = (fits_over leaf_makes (record { alive = refl; leaf = refl; covered = refl; room = λ e. omega arith }) put_applies full_ruled refl, omega arith)
+put_fits = (fits_over leaf_makes (record { alive = refl; leaf = refl; covered = refl; room = λ e. omega arith }) put_applies full_ruled refl (omega arith, omega arith), omega arith)
 
 pub split_fits : FitsOn (put_a ∷ opening_leaf ∷ []) split_a
-split_fits = (fits_over put_makes (record { alive = refl; level = refl; covered = refl; inner = refl }) split_applies (lower_ruled 2) refl, omega arith)
+split_fits = (fits_over put_makes (record { alive = refl; level = refl; covered = refl; inner = refl }) split_applies (lower_ruled 2) refl (linked 0 2 a 2 (omega arith) (omega arith, omega arith) (λ e. cc) (omega arith, omega arith)), omega arith)
 
 pub hold_fits : FitsOn (root_a ∷ []) hold_a
-hold_fits = (fits_over root_makes (record { alive = refl; level = refl; there = refl }) hold_applies (both_ruled 2 true) refl, omega arith)
+hold_fits = (fits_over root_makes (record { alive = refl; level = refl; there = refl }) hold_applies (both_ruled 2 true) refl (omega arith, (linked 1 5 a 2 (omega arith) (omega arith, omega arith) (λ e. cc) (omega arith, omega arith))), omega arith)
 
 pub remove_fits : FitsOn (upper_a ∷ []) remove_a
-remove_fits = (fits_over (base_makes upper upper_page) (record { alive = refl; level = refl; few = omega arith; inner = refl }) remove_applies removed_ruled refl, omega arith)
+remove_fits = (fits_over (base_makes upper upper_page refl) (record { alive = refl; level = refl; few = omega arith; inner = refl }) remove_applies removed_ruled refl (omega arith, (omega arith, omega arith)), omega arith)
 
 pub merge_fits : FitsOn (split_a ∷ put_a ∷ opening_leaf ∷ []) merge_a
-merge_fits = (fits_over split_makes (record { alive = refl; level = refl; meets = refl; merged = upper_page; room = omega arith }) merge_applies full_ruled refl, omega arith)
+merge_fits = (fits_over split_makes (record { alive = refl; level = refl; meets = refl; merged = upper_stands.ruled.is_page; room = omega arith }) merge_applies full_ruled refl ((omega arith, omega arith), (λ e. cc), omega arith, upper_stands), omega arith)
 
 pub unterm_fits : FitsOn (hold_a ∷ root_a ∷ []) unterm_a
-unterm_fits = (fits_over hold_makes (record { alive = refl; level = refl; there = refl }) unterm_applies alone_ruled refl, omega arith)
+unterm_fits = (fits_over hold_makes (record { alive = refl; level = refl; there = refl }) unterm_applies alone_ruled refl (omega arith, (linked 1 6 a 2 (omega arith) (omega arith, omega arith) (λ e. cc) (omega arith, omega arith))), omega arith)
 
 pub second_fits : FitsOn (merge_a ∷ split_a ∷ put_a ∷ opening_leaf ∷ []) split_b
-second_fits = (fits_over merge_makes (record { alive = refl; level = refl; covered = refl; inner = refl }) second_applies (lower_ruled 4) refl, omega arith)
+second_fits = (fits_over merge_makes (record { alive = refl; level = refl; covered = refl; inner = refl }) second_applies (lower_ruled 4) refl (linked 0 8 a 4 (omega arith) (omega arith, omega arith) (λ e. cc) (omega arith, omega arith)), omega arith)
 
 pub term_fits : FitsOn (unterm_a ∷ hold_a ∷ root_a ∷ []) term_b
-term_fits = (fits_over unterm_makes (record { alive = refl; level = refl; index = omega arith; covered = refl; absent = refl; room = omega arith }) term_applies (both_ruled 4 false) refl, omega arith)
+term_fits = (fits_over unterm_makes (record { alive = refl; level = refl; index = omega arith; covered = refl; absent = refl; room = omega arith }) term_applies (both_ruled 4 false) refl (omega arith, (linked 1 9 a 4 (omega arith) (omega arith, omega arith) (λ e. cc) (omega arith, omega arith))), omega arith)
 
 -- the bases of the upper pages, and of the root
 pub upper_fitted : IsFitted (upper_a ∷ [])
-upper_fitted = (upper, refl, refl, upper_ruled)
+upper_fitted = (upper, refl, upper_stands)
 
 pub root_fitted : IsFitted (root_a ∷ [])
-root_fitted = (both 2 false, refl, refl, both_ruled 2 false)
+root_fitted = (both 2 false, refl, record { ruled = both_ruled 2 false; alive = refl; right = tt; children = All-from_recursion (λ (item : Item). HasPid item.content) (both 2 false).items ((omega arith, omega arith), ((omega arith, omega arith), tt)) })

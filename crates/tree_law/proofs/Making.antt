@@ -1,17 +1,19 @@
 -- The page that a chain makes, as its records make it one on another.
-use Rattle.std.proofs.Common.{◌≡◌, true, List, [], ◌∷◌, is_some, refl, ap, ◌∙◌}
+use Rattle.std.proofs.Common.{◌≡◌, true, false, List, [], ◌∷◌, is_some, refl, ap, ◌∙◌}
 use Rattle.std.specs.Prelude.{if◌then◌else◌}
 use Rattle.base_page.specs.Pages.{Page, IsPage}
+use Rattle.base_page.specs.Rules.{IsRuled}
 use Rattle.deltas.specs.declared.record.Record.{Record}
 use Rattle.deltas.specs.declared.record.Record.TheVariants.{Base}
 use Rattle.deltas.specs.Applies.{Applies}
 use Rattle.deltas.specs.Fits.{Fits}
+use Rattle.deltas.specs.Spellable.{IsSpellable}
 use Rattle.deltas.specs.Records.{names, next_row, content_said, level_after, low_after, high_after, right_after, removed_after}
-use Rattle.chain_search.specs.Fitted.{IsRuled, Makes, FitsOver}
+use Rattle.chain_search.specs.Fitted.{Makes, FitsOver}
 
 -- a base makes its own page
-pub base_makes : (page : Page) → IsPage page → Makes (Base page ∷ []) page
-base_makes page is = record { items = record { ascending = is.ordered.ascending; contents = λ key. refl }; level = refl; low = refl; high = refl; right = refl; removed = refl }
+pub base_makes : (page : Page) → IsPage page → page.removed ≡ false → Makes (Base page ∷ []) page
+base_makes page is alive = record { items = record { ascending = is.ordered.ascending; contents = λ key. refl }; level = refl; low = refl; high = refl; right = refl; removed = alive }
 
 -- a delta makes of the page that the chain makes what it makes of that page
 pub over_makes : {w : Record} {under : List Record} {old made : Page} → Makes under old → Applies old w made → Makes (w ∷ under) made
@@ -25,5 +27,5 @@ over_makes {w} {under} {old} {made} makes applies = record {
 }
 
 -- so a delta that fits that page, and makes one that keeps the rules, fits the chain
-pub fits_over : {w : Record} {under : List Record} {old made : Page} → Makes under old → Fits old w → Applies old w made → IsRuled made → is_some (next_row w) ≡ true → FitsOver under w
-fits_over {w} {under} {old} {made} makes fits applies ruled delta = record { delta = delta; page = old; makes = makes; fits = fits; made = made; makes_now = over_makes makes applies; ruled = ruled }
+pub fits_over : {w : Record} {under : List Record} {old made : Page} → Makes under old → Fits old w → Applies old w made → IsRuled made → is_some (next_row w) ≡ true → IsSpellable w → FitsOver under w
+fits_over {w} {under} {old} {made} makes fits applies ruled delta spellable = record { delta = delta; spellable = spellable; page = old; makes = makes; fits = fits; made = made; makes_now = over_makes makes applies; ruled = ruled }

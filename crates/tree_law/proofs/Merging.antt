@@ -1,4 +1,5 @@
 -- The exchanges that merge a removed page into its left one, and that clear a merged page's slot.
+use Rattle.std.specs.Prelude.{IsSome}
 use Rattle.std.proofs.Common.{◌≡◌, ◌≢◌, ◌⊎◌, inl, inr, ℕ, ◌≤◌, List, ◌∷◌, Option, Some, None, true, cond, refl, sym, ap, ◌∙◌, subst, ⊎_elim, arith}
 use Rattle.std.proofs.lemmas.Option.{same_Some}
 use Rattle.bw_model.specs.declared.command.Reply.{Reply}
@@ -12,8 +13,8 @@ use Rattle.chain_search.specs.Knowledge.{OwnRow, Foreign, OwnPage, Other, Gone, 
 use Rattle.tree_law.specs.Phase.{Stage, Fresh, Indexed, Held, Removed, Merged, PageOwner, Placed, Cleared, rank, stage_removed}
 use Rattle.tree_law.specs.Put.{put}
 use Rattle.tree_law.specs.Shared.{Shared}
-use Rattle.tree_law.specs.Owners.{IsChain, Spare, Linked, Owners, IsLinked, OwnFits, PageFits, IsCleared, HeadFits}
-use Rattle.tree_law.specs.Tree.{spec, Page, InPlace, IsOff, IsOut, Off, Good}
+use Rattle.tree_law.specs.Owners.{IsChain, Spare, Linked, Owners, IsLinked, OwnFits, PageFits, IsCleared, HeadFits, IsOut}
+use Rattle.tree_law.specs.Tree.{spec, Page, InPlace, IsOff, Off, Good}
 use Rattle.chain_search.specs.Discipline.{MayMerge, HasRead}
 use Rattle.tree_law.proofs.KeyOrder.{not_below, upto_same, under_trans, by_range, covers_to}
 use Rattle.tree_law.proofs.Puts.{by_test, put_same, put_other, put_all}
@@ -41,7 +42,7 @@ module _ {m : Shared} {log : List Update} {o : Owners} {knows : ℕ → Knowledg
       (λ j. by_test j p (λ t. PageFits a (o.page j) (cond t None (m.slots j)) (cond t Other ((knows a).own.pages j))) (λ i. tt) (λ i. g.owns_pages a j))
       (mine_at g a o m' kept))
     where
-      was : (l : ℕ) × (k : Key) × (o.page p ≡ Cleared a l k)
+      was : (l : ℕ) × (k : Key) × (o.page p ≡ Cleared a l k) × IsSome (m.slots p)
       was = subst (λ (v : OwnPage). PageFits a (o.page p) (m.slots p) v) own (g.owns_pages a p)
 
       m' : Shared
@@ -60,7 +61,7 @@ module _ {m : Shared} {log : List Update} {o : Owners} {knows : ℕ → Knowledg
       learned = rw own refl
 
   -- a page that was read removed is as it was read
-  pub frozen_as : (p x : ℕ) → (knows a).read.heads p ≡ Some x → (c : List Record) → IsChain (knows a).read.seen c (Some x) → is_removed c ≡ true → (m.slots p ≡ Some x) ⊎ IsCleared (o.page p)
+  pub frozen_as : (p x : ℕ) → (knows a).read.heads p ≡ Some x → (c : List Record) → IsChain (knows a).read.seen c (Some x) → is_removed c ≡ true → (m.slots p ≡ Some x) ⊎ IsOut (o.page p) (m.slots p)
   frozen_as p x e c h n =
       let f = subst (λ (v : Option ℕ). HeadFits o m (log ∷ logs a) p v) e ((mine g a).heads_fit p) in
       f.4 (ap is_removed (chain_unique m.rows f.2.chain c (Some x) f.2.is_chain (chain_stands o m (knows a).read.seen (mine g a).seen_fits c (Some x) h)) ∙ n)
@@ -134,7 +135,7 @@ module _ {m : Shared} {log : List Update} {o : Owners} {knows : ℕ → Knowledg
       next = right_page o m lv (spec log o.index lv) (g.tree.first lv) (g.tree.levels lv (g.tree.exact.below p lv (low_in c) place.stage place.placed)) here place q h.right
 
       slot : m.slots q ≡ Some h.row
-      slot = ⊎_elim (λ (u : m.slots q ≡ Some h.row). u) (λ (u : IsCleared (o.page q)). absurd (let e = sym next.3.placed ∙ ap o.page next.1 ∙ u.3 in cc)) (frozen_as q h.row h.head d h.read h.gone)
+      slot = ⊎_elim (λ (u : m.slots q ≡ Some h.row). u) (λ (u : IsOut (o.page q) (m.slots q)). absurd (let e = sym next.3.placed ∙ ap o.page next.1 ∙ u.1.3 in cc)) (frozen_as q h.row h.head d h.read h.gone)
 
       there : Page
       there = record { page = q; row = h.row; chain = d }

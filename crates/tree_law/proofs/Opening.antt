@@ -11,8 +11,8 @@ use Rattle.chain_search.specs.Knowledge.{nothing}
 use Rattle.tree_law.specs.Phase.{Fresh, Indexed, Nobody, Placed, Cleared, rank}
 use Rattle.tree_law.specs.Put.{put}
 use Rattle.tree_law.specs.Shared.{Shared, row_in, slot_in, shared}
-use Rattle.tree_law.specs.Owners.{Free, Linked, Owners, IsLinked}
-use Rattle.tree_law.specs.Tree.{spec, Page, HasPage, Level, IsOff, IsOut, Off, Good}
+use Rattle.tree_law.specs.Owners.{Free, Linked, Owners, IsLinked, IsOut}
+use Rattle.tree_law.specs.Tree.{spec, Page, HasPage, Level, IsOff, Off, Good}
 use Rattle.tree_law.proofs.Puts.{by_test}
 
 module _ (free free_pages : ℕ → Bool) (taken : free 1 ≡ false) (taken_page : free_pages 1 ≡ false) where

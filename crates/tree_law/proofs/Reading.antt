@@ -14,7 +14,7 @@ use Rattle.chain_search.specs.Knowledge.{Knowledge, learnt_next, learn_head, lea
 use Rattle.tree_law.specs.Phase.{Stage, Indexed, Merged, PageOwner, Placed, Cleared, rank}
 use Rattle.tree_law.specs.Put.{put}
 use Rattle.tree_law.specs.Shared.{Shared}
-use Rattle.tree_law.specs.Owners.{Linked, Owners, Reached, ChainNames, IsLinked, SeenFits, Spells, IsCleared, HeadFits, OrderFits}
+use Rattle.tree_law.specs.Owners.{Linked, Owners, Reached, ChainNames, IsLinked, SeenFits, Spells, IsCleared, HeadFits, OrderFits, IsOut}
 use Rattle.tree_law.specs.Tree.{spec, Good}
 use Rattle.tree_law.proofs.Puts.{by_test, put_all}
 use Rattle.tree_law.proofs.Chains.{chain_unique}
@@ -63,7 +63,7 @@ module _ {m : Shared} {log : List Update} {o : Owners} {knows : ℕ → Knowledg
             let w = alive_place g a p (level_in s.chain) (low_in s.chain) e x sx d id nd in
             let n = right_page o m (level_in d) (spec log o.index (level_in d)) (g.tree.first (level_in d)) (g.tree.levels (level_in d) (g.tree.exact.below p (level_in d) (low_in d) w.stage w.placed)) (record { page = p; row = x; chain = d }) w f i in
             let same : h.2.chain ≡ c = chain_unique m.rows h.2.chain c (Some z') h.2.is_chain ic in
-            let slot : m.slots f ≡ Some z' = ⊎_elim (λ (u : m.slots f ≡ Some z'). u) (λ (u : IsCleared (o.page f)). absurd (let t = sym n.3.placed ∙ ap o.page n.1 ∙ u.3 in cc)) (h.4 (ap is_removed same ∙ rc)) in
+            let slot : m.slots f ≡ Some z' = ⊎_elim (λ (u : m.slots f ≡ Some z'). u) (λ (u : IsOut (o.page f) (m.slots f)). absurd (let t = sym n.3.placed ∙ ap o.page n.1 ∙ u.1.3 in cc)) (h.4 (ap is_removed same ∙ rc)) in
             let r = (in_level_as o m (level_in d) (spec log o.index (level_in d)) (g.tree.first (level_in d)) (g.tree.levels (level_in d) (g.tree.exact.below p (level_in d) (low_in d) w.stage w.placed)) f (low_in n.0.chain) n.3.stage (ap o.page (sym n.1) ∙ n.3.placed) n.3.on z' slot c ic).place in
             (log, inl refl, λ k v. r.is_page.same k v ∙ spec_leaf log o.index (level_in d) (sym r.is_page.on_level ∙ z) k);
         beyond = λ c d q ic id rc nd i j.

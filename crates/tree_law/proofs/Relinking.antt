@@ -12,8 +12,8 @@ use Rattle.chain_search.specs.Discipline.{HasRead}
 use Rattle.tree_law.specs.Phase.{Stage, Merged, PageOwner, Nobody, Placed, Cleared, rank, stage_removed}
 use Rattle.tree_law.specs.Put.{put}
 use Rattle.tree_law.specs.Shared.{Shared}
-use Rattle.tree_law.specs.Owners.{IsChain, Spare, Linked, Owners, Reached, IsLinked, OwnFits, PageFits, OwnsPages, HeadFits, LinkFits, Knows}
-use Rattle.tree_law.specs.Tree.{spec, InPlace, HasPage, IsOff, IsOut, Off, Exact, Good}
+use Rattle.tree_law.specs.Owners.{IsChain, Spare, Linked, Owners, Reached, IsLinked, OwnFits, PageFits, OwnsPages, HeadFits, LinkFits, Knows, IsOut}
+use Rattle.tree_law.specs.Tree.{spec, InPlace, HasPage, IsOff, Off, Exact, Good}
 use Rattle.tree_law.proofs.Puts.{by_test, put_same, put_other, put_all}
 use Rattle.tree_law.proofs.Chains.{chain_unique}
 use Rattle.tree_law.proofs.Kept.{Kept, link_kept}
@@ -83,7 +83,7 @@ module _ {m : Shared} {log : List Update} {o : Owners} {knows : ℕ → Knowledg
   moved_own p y w n h s Other f = tt
   moved_own p y w n (stay u) s Empty f = (u ∙ f.0, f.1)
   moved_own p y w n (stay u) s (Ready r) f = (u ∙ f.0, f.1)
-  moved_own p y w n (stay u) s Gone f = (f.0, f.1, u ∙ f.2)
+  moved_own p y w n (stay u) s Gone f = (f.0, f.1, u ∙ f.2, f.3)
   moved_own p y w n (go st0 st1 l0 s0 i j le on r) s Empty f = absurd (let e = sym f.0 ∙ i in cc)
   moved_own p y w n (go st0 st1 l0 s0 i j le on r) s (Ready q) f = absurd (let e = sym f.0 ∙ i in cc)
   moved_own p y w n (go st0 st1 l0 s0 i j le on r) s Gone f = absurd (let e = sym f.2 ∙ i in cc)

@@ -1,5 +1,5 @@
 -- A mark set later, at an own step at which the command makes no update: each log stays.
-use Rattle.std.proofs.Common.{◌≡◌, ◌≢◌, ◌<◌, ◌≤◌, ◌⊎◌, inl, inr, ℕ, zero, suc, List, [], ◌∷◌, length, take, set, Option, Some, None, Bool, true, false, refl, sym, ap, ◌∙◌, subst, arith}
+use Rattle.std.proofs.Common.{◌≡◌, ◌≢◌, ◌<◌, ◌≤◌, ◌⊎◌, inl, inr, ℕ, zero, suc, List, [], ◌∷◌, ◌++◌, length, take, set, Option, Some, None, Bool, true, false, refl, sym, ap, ◌∙◌, subst, arith}
 use Rattle.std.specs.Prelude.{slice_get, MatchOption}
 use Rattle.std.proofs.lemmas.Bool.{cases_lt}
 use Rattle.bw_model.specs.declared.command.Command.{Command}
@@ -14,7 +14,8 @@ use Rattle.chain_search.proofs.Pushes.{slice_get_below}
 use Rattle.op_machine.specs.Operations.{Operation, IsOperation, IsOwnStep, Finishes}
 use Rattle.op_machine.specs.Points.{IsPoint, log_of, log_at, updates_at}
 use Rattle.op_machine.specs.Quiet.{IsQuiet}
-use Rattle.op_machine.proofs.LogLaws.{log_of-marked}
+use Rattle.op_machine.specs.Updates.{UpdatesAtLinks}
+use Rattle.op_machine.proofs.LogLaws.{log_of-marked, log_at-step}
 use Rattle.op_machine.proofs.Listed.{same_operation}
 use Rattle.tree_law.specs.Owners.{Among}
 use Rattle.tree_law.specs.State.{operation_of, Tells, IsMarked}
@@ -184,3 +185,17 @@ module _ (limits : Limits) (entries : List Entry) (points : List Bool) (a : ℕ)
 
   pub quiet' : IsQuiet limits entries points → IsQuiet limits entries remarked
   quiet' q = record { at_each = λ n le. rw (log_at_same n) (q.at_each n le) }
+
+  -- the later mark makes no update, so updates are where they were
+  pub updates' : UpdatesAtLinks limits entries points → UpdatesAtLinks limits entries remarked
+  updates' old n = (
+    λ h. elim (point_cases n h.0) [
+      | inl here ↦ absurd (longer (log_at entries points at.0) h.1.0 (sym (log_at-step entries points at.0 _ false marked.beside at.1.2.1.entry was_unmarked) ∙ ap (log_at entries points) (ap suc (sym here)) ∙ sym (log_at_same (suc n)) ∙ h.1.1 ∙ ap (λ l. l ++ h.1.0 ∷ []) (log_at_same n ∙ ap (log_at entries points) here)))
+      | inr was ↦ (old n).0 (was, (h.1.0, sym (log_at_same (suc n)) ∙ h.1.1 ∙ ap (λ l. l ++ h.1.0 ∷ []) (log_at_same n)))
+    ],
+    λ h. let was = (old n).1 h in (point_kept n was.0, (was.1.0, log_at_same (suc n) ∙ was.1.1 ∙ ap (λ l. l ++ was.1.0 ∷ []) (sym (log_at_same n)))),
+  )
+    where
+      longer : (l : List Update) (u : Update) → l ≡ l ++ u ∷ [] → ⊥
+      longer [] u e = cc
+      longer (v ∷ l) u e = longer l u (let f : ◌≡◌ {A = List Update} (v ∷ l) (v ∷ (l ++ u ∷ [])) = e in cc)

@@ -11,9 +11,9 @@ use Rattle.chain_search.specs.Discipline.{IsOwn}
 use Rattle.chain_search.specs.Knowledge.{OwnRow, Foreign, Taken, Written, OwnPage, Other, Empty, Ready, Gone, Knowledge}
 use Rattle.tree_law.specs.Keys.{Key, Covers}
 use Rattle.tree_law.specs.Phase.{Stage, Indexed, Merged, PageOwner, Nobody, Keeps, Placed, Cleared, child_of, rank_of}
-use Rattle.tree_law.specs.Owners.{IsChain, Owner, Free, Linked, Owners, Reached, OwnFits, PageFits, SeenFits, Spells, IsCleared, HeadFits, LinkFits, OrderFits, Knows}
+use Rattle.tree_law.specs.Owners.{IsChain, Owner, Free, Linked, Owners, Reached, OwnFits, PageFits, SeenFits, Spells, IsCleared, HeadFits, LinkFits, OrderFits, Knows, IsOut}
 use Rattle.tree_law.specs.Shared.{Shared}
-use Rattle.tree_law.specs.Tree.{spec, Page, InPlace, IsPart, Exact, IsOff, IsOut, Off, Good}
+use Rattle.tree_law.specs.Tree.{spec, Page, InPlace, IsPart, Exact, IsOff, Off, Good}
 use Rattle.tree_law.proofs.Kept.{placed_reached}
 
 -- What actors know, they know of rows whose names they have learnt.
@@ -227,7 +227,7 @@ module _ {m : Shared} {log : List Update} {o : Owners} {knows : ℕ → Knowledg
           f.1,
           spells_free x f.0 f.2,
           subst (λ (w : PageOwner). Reached 0 (level_in f.2.chain) (low_in f.2.chain) w) (sym (heads b p x e)) f.3,
-          λ i. ⊎_elim (λ (u : m.slots p ≡ Some x). inl u) (λ (u : IsCleared (o.page p)). inr (subst IsCleared (sym (heads b p x e)) u)) (f.4 i),
+          λ i. ⊎_elim (λ (u : m.slots p ≡ Some x). inl u) (λ (u : IsOut (o.page p) (m.slots p)). inr (u.0, subst IsCleared (sym (heads b p x e)) u.1)) (f.4 i),
           λ i. record {
             right = λ q j. let n = (f.5 i).right q j in (n.0, n.1, subst (λ (w : PageOwner). Reached 0 (level_in f.2.chain) n.0 w) (sym (heads_right b p x q f.2.chain e f.2.is_chain i j)) n.2);
             items = λ l k c j v d. subst (λ (w : PageOwner). Reached (rank_of c) l k w) (sym (heads_items b p x l k c f.2.chain e f.2.is_chain i j v d)) ((f.5 i).items l k c j v d);
@@ -279,4 +279,4 @@ module _ {m : Shared} {log : List Update} {o : Owners} {knows : ℕ → Knowledg
         own_at b p Other e f = tt
         own_at b p Empty e f = (kept b p f.0, f.1)
         own_at b p (Ready r) e f = (kept b p f.0, f.1)
-        own_at b p Gone e f = (f.0, f.1, gone_own b p e ∙ f.2)
+        own_at b p Gone e f = (f.0, f.1, gone_own b p e ∙ f.2, f.3)

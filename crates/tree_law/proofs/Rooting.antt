@@ -12,8 +12,8 @@ use Rattle.chain_search.specs.Knowledge.{OwnRow, Foreign, OwnPage, Other, Knowle
 use Rattle.tree_law.specs.Phase.{Stage, Fresh, Indexed, PageOwner, Keeps, Placed, Cleared, rank, stage_removed}
 use Rattle.tree_law.specs.Put.{put}
 use Rattle.tree_law.specs.Shared.{Shared}
-use Rattle.tree_law.specs.Owners.{Spare, Linked, Owners, Reached, IsLinked, OwnFits, PageFits}
-use Rattle.tree_law.specs.Tree.{spec, Page, HasPage, Level, IsOff, IsOut, Off, Good}
+use Rattle.tree_law.specs.Owners.{Spare, Linked, Owners, Reached, IsLinked, OwnFits, PageFits, IsOut}
+use Rattle.tree_law.specs.Tree.{spec, Page, HasPage, Level, IsOff, Off, Good}
 use Rattle.chain_search.specs.Discipline.{MayRoot, root_over}
 use Rattle.tree_law.proofs.KeyOrder.{not_self}
 use Rattle.tree_law.proofs.Puts.{by_test, put_same, put_other, put_all}

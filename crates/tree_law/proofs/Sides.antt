@@ -9,8 +9,8 @@ use Rattle.chain_search.specs.Chains.{low_in, high_in, right_in, is_removed}
 use Rattle.tree_law.specs.Keys.{Key, IsBelow, IsUpTo, IsUnder, IsWithin, Covers}
 use Rattle.tree_law.specs.Phase.{Stage, Placed, rank, stage_removed}
 use Rattle.tree_law.specs.Shared.{Shared}
-use Rattle.tree_law.specs.Owners.{IsChain, Owners, IsClosed}
-use Rattle.tree_law.specs.Tree.{Page, InPlace, IsPart, HasPage, spec, Level, Exact, IsOff, IsOut, Off, Tree}
+use Rattle.tree_law.specs.Owners.{IsChain, Owners, IsClosed, IsOut}
+use Rattle.tree_law.specs.Tree.{Page, InPlace, IsPart, HasPage, spec, Level, Exact, IsOff, Off, Tree}
 use Rattle.tree_law.proofs.KeyOrder.{not_below, below_not, below_upto, upto_same, upto_refl, upto_both, upto_trans}
 use Rattle.tree_law.proofs.Puts.{by_test}
 use Rattle.tree_law.proofs.Chains.{chain_unique}

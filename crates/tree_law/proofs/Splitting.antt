@@ -10,8 +10,8 @@ use Rattle.chain_search.specs.Knowledge.{OwnRow, Foreign, OwnPage, Other, Knowle
 use Rattle.tree_law.specs.Phase.{Stage, Fresh, PageOwner, Nobody, Keeps, Placed, rank}
 use Rattle.tree_law.specs.Put.{put}
 use Rattle.tree_law.specs.Shared.{Shared}
-use Rattle.tree_law.specs.Owners.{Free, Spare, Linked, Owners, IsLinked, OwnFits, PageFits}
-use Rattle.tree_law.specs.Tree.{spec, InPlace, HasPage, IsOff, IsOut, Off, Good}
+use Rattle.tree_law.specs.Owners.{Free, Spare, Linked, Owners, IsLinked, OwnFits, PageFits, IsOut}
+use Rattle.tree_law.specs.Tree.{spec, InPlace, HasPage, IsOff, Off, Good}
 use Rattle.std.specs.Prelude.{not}
 use Rattle.deltas.specs.declared.record.Split.{Split as SplitOf}
 use Rattle.chain_search.specs.Discipline.{MaySplit, base_from, HasRead}

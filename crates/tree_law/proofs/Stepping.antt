@@ -383,7 +383,7 @@ module _ (memory : Memory) {log : List Update} {o : Owners} {knows : ℕ → Kno
     due = tt;
     last = λ i. refl;
     owners = o;
-    phased = (refl, inr (own_kept (suc p) Gone h));
+    phased = (refl, inr (let w = own_kept (suc p) Gone h in (w.0, w.1, w.2)));
     moved = same_moved;
     added = same_added;
     homed = λ row l. inl l;

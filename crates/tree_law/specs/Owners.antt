@@ -1,5 +1,5 @@
 -- Who has which row and page, and what follows for what actors know.
-use Rattle.std.specs.Prelude.{◌≡◌, ◌≤◌, ℕ, suc, ◌⊎◌, List, [], ◌∷◌, Option, Some, None, IfSome, MatchOption, Bool, true, false, ⊤}
+use Rattle.std.specs.Prelude.{◌≡◌, ◌≤◌, ℕ, suc, ◌⊎◌, List, [], ◌∷◌, Option, Some, None, IfSome, MatchOption, Bool, true, false, ⊤, IsSome}
 use Rattle.std.specs.Option.{option_map}
 use Rattle.bw_model.specs.Log.{Update, value_in}
 use Rattle.base_page.specs.declared.item.Content.{Content}
@@ -67,7 +67,7 @@ abbrev pub PageFits : ℕ → PageOwner → Option ℕ → OwnPage → Type 0
 PageFits a o s Other = ⊤
 PageFits a o s Empty = (o ≡ Keeps a) × (s ≡ None)
 PageFits a o s (Ready r) = (o ≡ Keeps a) × (s ≡ Some r)
-PageFits a o s Gone = (l : ℕ) × (k : Key) × (o ≡ Cleared a l k)
+PageFits a o s Gone = (l : ℕ) × (k : Key) × (o ≡ Cleared a l k) × IsSome s
 
 abbrev pub OwnsPages : ℕ → Owners → Shared → (ℕ → OwnPage) → Type 0
 OwnsPages a o m pages = (p : ℕ) → PageFits a (o.page p) (m.slots p) (pages p)
@@ -96,11 +96,15 @@ pub record Spells (o : Owners) (m : Shared) (x : ℕ) (l : List Update) : Type 0
 abbrev pub IsCleared : PageOwner → Type 0
 IsCleared w = (a l : ℕ) × (s : Key) × (w ≡ Cleared a l s)
 
+-- a cleared page whose slot is empty
+abbrev pub IsOut : PageOwner → Option ℕ → Type 0
+IsOut w s = (s ≡ None) × IsCleared w
+
 -- A slot that was read: of a page of the chain's level and low key, at the log of an own step. A removed chain stays
 -- there until the page is cleared; what another one names is in the tree.
 abbrev pub HeadFits : Owners → Shared → List (List Update) → ℕ → Option ℕ → Type 0
 HeadFits o m logs p None = ⊤
-HeadFits o m logs p (Some x) = (l : List Update) × Among l logs × (h : Spells o m x l) × Reached 0 (level_in h.chain) (low_in h.chain) (o.page p) × (is_removed h.chain ≡ true → (m.slots p ≡ Some x) ⊎ IsCleared (o.page p)) × (is_removed h.chain ≡ false → ChainNames o h.chain)
+HeadFits o m logs p (Some x) = (l : List Update) × Among l logs × (h : Spells o m x l) × Reached 0 (level_in h.chain) (low_in h.chain) (o.page p) × (is_removed h.chain ≡ true → (m.slots p ≡ Some x) ⊎ IsOut (o.page p) (m.slots p)) × (is_removed h.chain ≡ false → ChainNames o h.chain)
 
 -- the row over which the operation linked its update spelled the log at its point, until its actor leaves
 abbrev pub LinkFits : Owners → Shared → Option (List Update) → Option (Option ℕ) → Type 0

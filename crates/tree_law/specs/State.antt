@@ -25,6 +25,7 @@ use Rattle.op_machine.specs.Quiet.{IsQuiet}
 use Rattle.op_machine.specs.Faithful.{IsFaithful, KnowsRow}
 use Rattle.op_machine.specs.Phases as phase
 use Rattle.op_machine.specs.Phases.{Phase, IsInPhase, KeepsPhases}
+use Rattle.op_machine.specs.Updates.{UpdatesAtLinks}
 use Rattle.op_machine.specs.Reuse.{HandsPid, HandsRow, UnlinksPid, UnlinksRow, IsFreedByRule}
 use Rattle.tree_law.specs.Fitness.{AreFitted}
 use Rattle.tree_law.specs.Indexed.{IsFirst, IsIndexedAlong}
@@ -146,6 +147,7 @@ pub record IsState (limits : Limits) (entries : List Entry) : Type 0 where
   pub searches : (operation : Operation) → IsOperation entries operation → IsUnended entries operation.start operation.actor → command_of entries operation.actor ≡ Some operation.command
       → IsSearch limits entries operation (memory_of limits entries).rows (knows entries operation.actor)
   pub marked : IsMarked limits entries points
+  pub updates : UpdatesAtLinks limits entries points
   pub run : IsRun limits entries
   pub quiet : IsQuiet limits entries points
   pub faithful : IsFaithful limits entries

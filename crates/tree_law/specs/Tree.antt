@@ -8,7 +8,7 @@ use Rattle.tree_law.specs.Keys.{Key, IsUnder, Covers}
 use Rattle.chain_search.specs.Knowledge.{Knowledge}
 use Rattle.tree_law.specs.Phase.{Stage, Fresh, Indexed, Merged, PageOwner, Nobody, Placed, Cleared, mark, rank, stage_removed, child_of}
 use Rattle.tree_law.specs.Shared.{Shared}
-use Rattle.tree_law.specs.Owners.{IsChain, Free, Linked, Owners, IsClosed, IsCleared, Owns, OwnsPages, leaf_map, Knows}
+use Rattle.tree_law.specs.Owners.{IsChain, Free, Linked, Owners, IsClosed, IsOut, Owns, OwnsPages, leaf_map, Knows}
 
 -- What a level is to decide: the leaves the log, each other level the terms of the level below. So the index is a second
 -- log, and an index page is treated as a leaf is.
@@ -65,10 +65,6 @@ pub record Exact (page : ℕ → PageOwner) (index : ℕ → Key → Option Cont
 -- no more on a side chain
 abbrev pub IsOff : PageOwner → ℕ → Key → Type 0
 IsOff w l s = (w ≡ Placed Merged l s) ⊎ ((a : ℕ) × (w ≡ Cleared a l s))
-
--- a cleared page whose slot is empty
-abbrev pub IsOut : PageOwner → Option ℕ → Type 0
-IsOut w s = (s ≡ None) × IsCleared w
 
 -- the slot of a page that is no more on a side chain
 pub record Off (o : Owners) (m : Shared) (q l : ℕ) (s : Key) : Type 0 where

@@ -1,9 +1,10 @@
 //! The page that a chain makes.
 ghost use Rattle.std.specs.Prelude.{◌≡◌, ◌∷◌, [], false};
+ghost use Rattle.base_page.specs.Rules.{IsRuled};
 ghost use Rattle.deltas.specs.declared.record.Record.TheVariants.{Base};
 ghost use Rattle.chain_search.specs.Chains.{is_removed, low_in};
 ghost use Rattle.chain_search.specs.Discipline.{base_from};
-ghost use Rattle.chain_search.specs.Fitted.{IsPageChain, IsRuled, Makes};
+ghost use Rattle.chain_search.specs.Fitted.{IsPageChain, Makes};
 
 use crate::Chain;
 use base_page::Page;
@@ -30,6 +31,7 @@ impl Chain {
         ensures base { Base result ≡ base_from self.now (low_in self.now) result.items }
         ensures stands { IsPageChain (Base result ∷ []) }
     {
+        self.keeps_rules();
         self.page()
     }
 }

@@ -45,9 +45,6 @@ kind_of_record (Remove remove) = (λ e. cc, λ e. cc)
 kind_of_record (Merge merge) = (λ e. cc, λ e. cc)
 kind_of_record (Unterm unterm) = (λ e. cc, λ e. cc)
 
-base_same : (p q : Page) → Base p ≡ Base q → p ≡ q
-base_same p q e = cc
-
 not_without : (w : Record) → (IsUpdateLink (link_without w) → ⊥) × (link_without w ≢ link.Base)
 not_without (Base page) = (λ h. elim h [ inl e ↦ cc | inr e ↦ cc ], λ e. cc)
 not_without (Put put) = (λ h. elim h [ inl e ↦ cc | inr e ↦ cc ], λ e. cc)
@@ -62,8 +59,7 @@ not_without (Unterm unterm) = (λ h. elim h [ inl e ↦ cc | inr e ↦ cc ], λ 
 -- the newest record of a removed page removes it
 newest_removes : (w : Record) (under : List Record) → IsFitted (w ∷ under) → is_removed (w ∷ under) ≡ true → link_without w ≡ link.Clear
 newest_removes (Remove remove) under h gone = refl
-newest_removes (Base page) [] h gone = absurd (let same : page ≡ h.0 = base_same page h.0 h.1 in let e : true ≡ false = sym gone ∙ ap (λ (q : Page). q.removed) same ∙ h.2 in cc)
-newest_removes (Base page) (older ∷ under) h gone = absurd (let e = h.0.delta in cc)
+newest_removes (Base page) under h gone = absurd (cc)
 newest_removes (Put put) [] h gone = absurd (let e = h.1 in cc)
 newest_removes (Put put) (older ∷ under) h gone = absurd (let e : false ≡ true = sym h.0.fits.alive ∙ h.0.makes.removed ∙ gone in cc)
 newest_removes (Delete delete) [] h gone = absurd (let e = h.1 in cc)

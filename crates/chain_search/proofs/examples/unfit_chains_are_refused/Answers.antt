@@ -1,4 +1,4 @@
-use Rattle.chain_search.proofs.FittedExamples.{put_over_removal_unfit, put_outside_unfit, base_over_base_unfit, first_held_unfit}
+use Rattle.chain_search.proofs.FittedExamples.{put_over_removal_unfit, put_outside_unfit, base_over_base_unfit, first_held_unfit, marked_base_unfit, unnamed_split_unfit}
 use Rattle.chain_search.proofs.examples.unfit_chains_are_refused.Goals as goal
 
 pub returns-clause-removed : goal.returns-clause-removed
@@ -12,3 +12,9 @@ returns-clause-base c = base_over_base_unfit
 
 pub returns-clause-held : goal.returns-clause-held
 returns-clause-held c = first_held_unfit
+
+pub returns-clause-marked : goal.returns-clause-marked
+returns-clause-marked c = marked_base_unfit
+
+pub returns-clause-unnamed : goal.returns-clause-unnamed
+returns-clause-unnamed c = unnamed_split_unfit

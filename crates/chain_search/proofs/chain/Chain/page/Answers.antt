@@ -1,7 +1,10 @@
 use Rattle.std.proofs.Common.{◌-◌, ◌≤◌, List, length, get_or, ap, ◌∙◌, arith}
 use Rattle.deltas.specs.declared.record.Record.{Record}
-use Rattle.chain_search.proofs.FittedLaws.{fits_above, fitted_from, ruled}
+use Rattle.chain_search.proofs.FittedLaws.{base_makes, fits_above, fitted_from, ruled}
 use Rattle.chain_search.proofs.chain.Chain.page.Goals as goal
+
+pub loop-place-init : goal.loop-place-init
+loop-place-init c = rw (c.copied-page.ensures, c.len-place.ensures.value) (base_makes c.self.inside.deltas.items c.self.inside.base c.self.invariant.fitted)
 
 pub apply-page-requires : goal.apply-page-requires
 apply-page-requires c =

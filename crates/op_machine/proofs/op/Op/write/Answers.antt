@@ -22,9 +22,10 @@ returns-clause-goes c = λ k a.
     let page = c.page-page.result in
     let old = found c.args.chain (command_key c.args.self.now.command) in
     let some : is_some (update_of 0 c.args.self.now.command old) ≡ true = rw (← c.self.view_is, ← c.key.ensures, ← value_same (content_in c.args.chain c.key.result.now), ← c.find-old.ensures, ← c.changes.ensures) c.if-not-changes.false in
+    let below : c.args.head < 16384 = (let rows = c.args.self.now.limits.allowed.few_rows in let head = c.requires.place.2 in omega (arith, rows, head)) in
     let due = due_of c.args.self.now.actor 0 c.args.self.now.command old some in
     let few : length page.items < 16 = rw (← c.items.ensures, ← c.len.ensures.count) (let not = c.if-len-ge-MANY_ITEMS.false in omega (arith, not)) in
-    let fits = fits_update c.args.chain page c.requires.leaf c.page-page.ensures.makes (λ put. c.updates_fit.ensures.put c.args.chain page put c.page-page.ensures.makes c.page-page.ensures.ruled) (λ delete. c.updates_fit.ensures.delete c.args.chain page delete c.page-page.ensures.makes c.page-page.ensures.ruled) few due.0 c.args.head in
+    let fits = fits_update c.args.chain page c.requires.leaf c.page-page.ensures.makes (λ put. c.updates_fit.ensures.put c.args.chain page put c.page-page.ensures.makes c.page-page.ensures.ruled) (λ delete. c.updates_fit.ensures.delete c.args.chain page delete c.page-page.ensures.makes c.page-page.ensures.ruled) few due.0 c.args.head (a.whole.linked, below) in
     let is = change_is c.args.self.now.actor c.args.self.now.command old due.0 c.args.head due.1 in
     c.install.ensures.goes k a.seeks
     (record { chain = c.args.chain; whole = a.whole; short = c.requires.short; update = due.0; due = due.1; is = c.change-change.ensures ∙ is; replies = rw (← c.self.view_is, ← c.key.ensures, ← value_same (content_in c.args.chain c.key.result.now), ← c.find-old.ensures) c.reply-reply.ensures })
