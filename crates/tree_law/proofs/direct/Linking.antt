@@ -60,8 +60,7 @@ not_without (Unterm unterm) = (λ h. elim h [ inl e ↦ cc | inr e ↦ cc ], λ 
 -- the newest record of a removed page removes it
 newest_removes : (w : Record) (under : List Record) → IsFitted (w ∷ under) → is_removed (w ∷ under) ≡ true → link_without w ≡ link.Clear
 newest_removes (Remove remove) under h gone = refl
-newest_removes (Base page) [] h gone = absurd (let e : false ≡ true = gone in cc)
-newest_removes (Base page) (older ∷ under) h gone = absurd (let e = h.0.delta in cc)
+newest_removes (Base page) under h gone = absurd (cc)
 newest_removes (Put put) [] h gone = absurd (let e = h.1 in cc)
 newest_removes (Put put) (older ∷ under) h gone = absurd (let e : false ≡ true = sym h.0.fits.alive ∙ h.0.makes.removed ∙ gone in cc)
 newest_removes (Delete delete) [] h gone = absurd (let e = h.1 in cc)
