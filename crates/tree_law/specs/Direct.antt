@@ -1,6 +1,6 @@
 -- What a trace of allowed steps keeps true of how many steps an operation takes: the trace is direct, and the causes of each
 -- operation pay for the steps that it has left.
-use Rattle.std.specs.Prelude.{◌≡◌, ◌≢◌, ◌<◌, ◌≤◌, ◌+◌, ◌*◌, ◌^◌, ℕ, List, [], ◌∷◌, ◌++◌, length, drop, Option, Some, IsSome, true, ◌⊎◌, ⊤}
+use Rattle.std.specs.Prelude.{◌≡◌, ◌≢◌, ◌<◌, ◌≤◌, ◌+◌, ◌*◌, ◌^◌, ℕ, List, [], ◌∷◌, ◌++◌, length, drop, Option, Some, IsSome, true, ⊤}
 use Rattle.std.specs.List.{All, count_by}
 use Rattle.std.specs.List.Sorted.{IsStrictlyIncreasing}
 use Rattle.bw_model.specs.declared.command.Command.{Command}
@@ -9,7 +9,6 @@ use Rattle.bw_model.specs.declared.limits.Limits.{Limits}
 use Rattle.bw_model.specs.declared.step.Answer.{Answer}
 use Rattle.bw_model.specs.declared.step.Answer.TheVariants.{Number, Content}
 use Rattle.bw_model.specs.declared.step.Link.{Link}
-use Rattle.bw_model.specs.declared.step.Link.TheVariants as link
 use Rattle.bw_model.specs.declared.step.Step.{Step as StepOf}
 use Rattle.bw_model.specs.declared.step.Step.TheVariants.{Slot, Row, PidBits, RowBits}
 use Rattle.deltas.specs.declared.record.Record.{Record}
@@ -26,15 +25,13 @@ use Rattle.chain_search.specs.Trace.{memory_of}
 use Rattle.chain_search.specs.Useful.{IsUseful}
 use Rattle.op_machine.specs.Direct.{IsCause, IsDirect, IsExchangeOf, IsTake, Links, Reads, TakesNone, is_step_of}
 use Rattle.op_machine.specs.Operations.{Operation, IsOperation, TakesOwnStep}
+use Rattle.op_machine.specs.Updates.{IsUpdateLink}
 use Rattle.tree_law.specs.State.{IsState, IsUnended}
 
 -- The operation is the last that its actor has begun.
 pub record IsLast (entries : List Entry) (operation : Operation) : Type 0 where
   pub begun : IsOperation entries operation
   pub unended : IsUnended entries operation.start operation.actor
-
-abbrev pub IsUpdateLink : Link → Type 0
-IsUpdateLink kind = (kind ≡ link.Put) ⊎ (kind ≡ link.Delete)
 
 module _ (limits : Limits) (entries : List Entry) (operation : Operation) where
   -- The step gave the operation the number, and it has taken no step of the kind since.

@@ -25,7 +25,8 @@ use Rattle.chain_search.specs.declared.trace.Entry.TheVariants.{Step}
 use Rattle.op_machine.specs.Direct.{IsCause, IsDirect, Links, is_step_of}
 use Rattle.op_machine.specs.Links.{link_of}
 use Rattle.op_machine.specs.Operations.{Operation, IsOperation, IsOwnStep, TakesOwnStep}
-use Rattle.tree_law.specs.Direct.{Affords, IsDirectState, IsLast, IsUpdateLink}
+use Rattle.op_machine.specs.Updates.{IsUpdateLink}
+use Rattle.tree_law.specs.Direct.{Affords, IsDirectState, IsLast}
 use Rattle.tree_law.proofs.Owned.{pushed_length}
 use Rattle.tree_law.proofs.direct.Appended.{memory_kept, memory_last, operation_before, takes_below, takes_cases}
 use Rattle.tree_law.proofs.direct.Causes.{LinksLast, cause_kept, links_cases}
