@@ -1,36 +1,35 @@
 -- A step makes an update exactly where it links a put or a delete.
-use Rattle.std.proofs.Common.{◌≡◌, ◌≢◌, inl, inr, ℕ, zero, suc, List, Option, Some, None, Bool, true, eqb, refl, sym, ap, ◌∙◌, subst}
+use Rattle.std.proofs.Common.{◌≡◌, inl, inr, ℕ, zero, suc, List, Option, Some, None, true, eqb, refl, sym, ap, ◌∙◌, subst}
 use Rattle.std.specs.Prelude.{IsSome, IfSome}
 use Rattle.std.specs.Option.{option_map}
 use Rattle.std.proofs.lemmas.Option.{same_Some}
 use Rattle.bw_model.specs.declared.command.Reply.{Reply}
 use Rattle.bw_model.specs.declared.step.Answer.{Answer}
-use Rattle.bw_model.specs.declared.step.Answer.TheVariants.{Start, Number, Content, Whether, Done}
+use Rattle.bw_model.specs.declared.step.Answer.TheVariants.{Number, Content, Whether}
 use Rattle.bw_model.specs.declared.step.Link.{Link}
 use Rattle.bw_model.specs.declared.step.Link.TheVariants as link
 use Rattle.bw_model.specs.declared.step.Step.{Step as StepOf}
-use Rattle.bw_model.specs.declared.step.Step.TheVariants.{Slot, Row, Epoch, Announce, PidBits, RowBits, Place, Exchange, TakePid, TakeRow, Enter, Leave, Retire, ReusePids, ReuseRows}
+use Rattle.bw_model.specs.declared.step.Step.TheVariants.{Slot, Row, Epoch, Announce, PidBits, RowBits, Place, Exchange, TakePid, TakeRow, Enter, Leave, ReusePids, ReuseRows}
 use Rattle.bw_model.specs.Log.{Update}
 use Rattle.deltas.specs.declared.record.Record.{Record}
 use Rattle.deltas.specs.declared.record.Record.TheVariants.{Base, Put, Delete, Split, Term, Hold, Remove, Merge, Unterm}
 use Rattle.deltas.specs.Links.{record_link}
 use Rattle.deltas.specs.Memory.{Memory}
 use Rattle.chain_search.specs.Chains.{level_in, low_in}
-use Rattle.chain_search.specs.Discipline.{MayAdd, MayLink, MayExchange, May}
+use Rattle.chain_search.specs.Discipline.{MayLink, MayExchange, May}
 use Rattle.chain_search.specs.Knowledge.{OwnRow, Foreign, Taken, Written, OwnPage, Other, Empty, Ready, Gone, Knowledge, split_off, linked_over, filled, emptied, rooted, learn, finished}
 use Rattle.chain_search.specs.Steps.{IsAnswer, memory_after}
 use Rattle.op_machine.specs.Links.{link_without, link_of}
 use Rattle.op_machine.specs.Updates.{IsUpdateLink}
 use Rattle.tree_law.specs.Next.{After, IsDue, pointed}
 use Rattle.tree_law.specs.Owners.{Owners, OwnFits, LinkFits}
-use Rattle.tree_law.specs.Put.{put}
-use Rattle.tree_law.specs.Shared.{Shared, slot_in, row_in, shared}
+use Rattle.tree_law.specs.Shared.{row_in, shared}
 use Rattle.tree_law.specs.Tree.{Good}
 use Rattle.tree_law.proofs.Phasing.{link_ready, link_empty, link_front}
 use Rattle.tree_law.proofs.Puts.{put_same, eqb_true}
 use Rattle.tree_law.proofs.Relinking.{not_own, found, place_of}
 
-IsLinked : Knowledge → Type 0
+unfoldable pub IsLinked : Knowledge → Type 0
 IsLinked k = IsSome k.asked.linked
 
 unlinked : (k : Knowledge) → k.asked.linked ≡ None → IsLinked k → ⊥
@@ -174,7 +173,7 @@ module _ (m : Memory) {log : List Update} {o : Owners} {knows : ℕ → Knowledg
   stands row content e = (subst (λ (v : OwnRow). OwnFits a (o.row row) (m.rows row) v) e (g.owns a row)).1
 
   -- what an exchange that links an update leaves known
-  learns_update : (page old new : ℕ) (kind : Link) → MayExchange a (knows a) page old new → m.slots page ≡ old → link_of m page old new ≡ Some kind → IsUpdateLink kind → ((knows a).asked.linked ≡ None) × IsLinked (learn (knows a) (Exchange page old new) (Whether true))
+  pub learns_update : (page old new : ℕ) (kind : Link) → MayExchange a (knows a) page old new → m.slots page ≡ old → link_of m page old new ≡ Some kind → IsUpdateLink kind → ((knows a).asked.linked ≡ None) × IsLinked (learn (knows a) (Exchange page old new) (Whether true))
   learns_update zero old new kind may at e u = absurd (no_update kind link.Root e (λ v. elim v [ inl f ↦ cc | inr f ↦ cc ]) u)
   learns_update (suc page) zero new kind may at e u = absurd (no_update kind link.Ready (sym (link_ready m page new) ∙ e) (λ v. elim v [ inl f ↦ cc | inr f ↦ cc ]) u)
   learns_update (suc page) (suc old) zero kind may at e u = absurd (no_front_update (m.rows (suc old)) kind (sym (link_empty m page old) ∙ e) u)

@@ -1,6 +1,6 @@
 -- What a trace of allowed steps keeps true of how many steps an operation takes: the trace is direct, and the causes of each
 -- operation pay for the steps that it has left.
-use Rattle.std.specs.Prelude.{◌≡◌, ◌≢◌, ◌<◌, ◌≤◌, ◌+◌, ◌*◌, ◌^◌, ℕ, List, [], ◌∷◌, ◌++◌, length, drop, Option, Some, IsSome, true, ◌⊎◌, ⊤}
+use Rattle.std.specs.Prelude.{◌≡◌, ◌≢◌, ◌<◌, ◌≤◌, ◌+◌, ◌*◌, ◌^◌, ℕ, List, [], ◌∷◌, ◌++◌, length, drop, Option, Some, IsSome, true, ⊤}
 use Rattle.std.specs.List.{All, count_by}
 use Rattle.std.specs.List.Sorted.{IsStrictlyIncreasing}
 use Rattle.bw_model.specs.declared.command.Command.{Command}
@@ -26,6 +26,7 @@ use Rattle.chain_search.specs.Useful.{IsUseful}
 use Rattle.op_machine.specs.Direct.{IsCause, IsDirect, IsExchangeOf, IsTake, Links, Reads, TakesNone, is_step_of}
 use Rattle.op_machine.specs.Updates.{IsUpdateLink}
 use Rattle.op_machine.specs.Operations.{Operation, IsOperation, TakesOwnStep}
+use Rattle.op_machine.specs.Updates.{IsUpdateLink}
 use Rattle.tree_law.specs.State.{IsState, IsUnended}
 
 -- The operation is the last that its actor has begun.

@@ -136,7 +136,7 @@ module _ (limits : Limits) (entries : List Entry) (a : ℕ) (s : StepOf Record) 
   changes : (b slot old new : ℕ) (r : Option Reply) → next ≡ Step b (Exchange slot old new) (Whether true) r → IsChange limits entries b slot old new × IsUseful (knows entries b) (Exchange slot old new)
   changes b slot old new r is =
       let h : May b (knows entries b) (Exchange slot old new) × IsUseful (knows entries b) (Exchange slot old new) × IsAnswer (memory_of limits entries) (Exchange slot old new) (Whether true) = subst Stands is (may, useful, is_answer) in
-      (change limits entries b state slot old new h.0.0 h.0.1 h.2 (same_number _ _ h.2), h.1)
+      (change limits entries b state slot old new h.0.1 (same_number _ _ h.2), h.1)
 
   recollects_stepped : (op : Operation) → IsLast grown op → Recollects limits grown op (recalls grown op.actor)
   recollects_stepped op latest = elim (last_cases entries next op latest) [

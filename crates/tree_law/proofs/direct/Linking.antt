@@ -1,6 +1,6 @@
 -- What an exchange that won has linked, by what its actor knew: an update, once in an operation; a base over a chain that was read.
 use Rattle.std.proofs.Common.{◌≡◌, ◌≢◌, ◌<◌, ◌⊎◌, inl, inr, ℕ, zero, suc, List, [], ◌∷◌, length, Option, Some, None, true, false, refl, sym, ap, ◌∙◌, subst, arith}
-use Rattle.std.specs.Prelude.{IsSome, IsTrue}
+use Rattle.std.specs.Prelude.{IsSome}
 use Rattle.std.specs.Option.{option_map}
 use Rattle.std.proofs.lemmas.Option.{same_Some}
 use Rattle.bw_model.specs.declared.limits.Limits.{Limits}
@@ -16,23 +16,21 @@ use Rattle.deltas.specs.Memory.{Memory}
 use Rattle.deltas.specs.declared.record.Record.{Record}
 use Rattle.deltas.specs.declared.record.Record.TheVariants.{Base, Put, Delete, Split, Term, Hold, Remove, Merge, Unterm}
 use Rattle.chain_search.specs.Chains.{IsChainFrom, IsChainOf, is_removed}
-use Rattle.chain_search.specs.Discipline.{MayExchange, MayLink}
+use Rattle.chain_search.specs.Discipline.{MayExchange}
 use Rattle.chain_search.specs.Fitted.{IsFitted}
 use Rattle.chain_search.specs.Knowledge.{OwnRow, Foreign, Taken, Written, OwnPage, Other, Empty, Ready, Gone, Knowledge, knows, learn, linked_over, filled, emptied, rooted, split_off, exchanged, forgotten}
-use Rattle.chain_search.specs.Steps.{IsAnswer}
 use Rattle.chain_search.specs.Trace.{memory_of}
 use Rattle.chain_search.specs.Useful.{IsUseful}
 use Rattle.chain_search.specs.declared.trace.Entry.{Entry}
 use Rattle.chain_search.proofs.ChainLaws.{IsChainFrom-unique}
 use Rattle.op_machine.specs.Links.{link_of, link_without}
 use Rattle.op_machine.specs.Updates.{IsUpdateLink}
-
 use Rattle.tree_law.specs.Owners.{PageFits}
 use Rattle.tree_law.specs.Shared.{row_in, slot_in}
 use Rattle.tree_law.specs.State.{IsInTree, IsState}
-use Rattle.tree_law.proofs.Fitted.{fits}
 use Rattle.tree_law.proofs.Phasing.{link_empty, link_front, link_ready}
 use Rattle.tree_law.proofs.Relinking.{found, placed_row}
+use Rattle.tree_law.proofs.UpdateLinks.{IsLinked, learns_update}
 
 -- no record's kind is that of a slot that is filled or emptied
 kind_of_record : (content : Record) → (record_link content ≢ link.Ready) × (record_link content ≢ link.Undo)
@@ -46,16 +44,16 @@ kind_of_record (Remove remove) = (λ e. cc, λ e. cc)
 kind_of_record (Merge merge) = (λ e. cc, λ e. cc)
 kind_of_record (Unterm unterm) = (λ e. cc, λ e. cc)
 
-not_without : (w : Record) → (IsUpdateLink (link_without w) → ⊥) × (link_without w ≢ link.Base)
-not_without (Base page) = (λ h. elim h [ inl e ↦ cc | inr e ↦ cc ], λ e. cc)
-not_without (Put put) = (λ h. elim h [ inl e ↦ cc | inr e ↦ cc ], λ e. cc)
-not_without (Delete delete) = (λ h. elim h [ inl e ↦ cc | inr e ↦ cc ], λ e. cc)
-not_without (Split split) = (λ h. elim h [ inl e ↦ cc | inr e ↦ cc ], λ e. cc)
-not_without (Term term) = (λ h. elim h [ inl e ↦ cc | inr e ↦ cc ], λ e. cc)
-not_without (Hold hold) = (λ h. elim h [ inl e ↦ cc | inr e ↦ cc ], λ e. cc)
-not_without (Remove remove) = (λ h. elim h [ inl e ↦ cc | inr e ↦ cc ], λ e. cc)
-not_without (Merge merge) = (λ h. elim h [ inl e ↦ cc | inr e ↦ cc ], λ e. cc)
-not_without (Unterm unterm) = (λ h. elim h [ inl e ↦ cc | inr e ↦ cc ], λ e. cc)
+not_base : (w : Record) → link_without w ≢ link.Base
+not_base (Base page) e = cc
+not_base (Put put) e = cc
+not_base (Delete delete) e = cc
+not_base (Split split) e = cc
+not_base (Term term) e = cc
+not_base (Hold hold) e = cc
+not_base (Remove remove) e = cc
+not_base (Merge merge) e = cc
+not_base (Unterm unterm) e = cc
 
 -- the newest record of a removed page removes it
 newest_removes : (w : Record) (under : List Record) → IsFitted (w ∷ under) → is_removed (w ∷ under) ≡ true → link_without w ≡ link.Clear
@@ -91,30 +89,7 @@ base_is (Remove remove) e = absurd (cc)
 base_is (Merge merge) e = absurd (cc)
 base_is (Unterm unterm) e = absurd (cc)
 
--- an update is linked where none was linked before
-update_unlinked : (a : ℕ) (k : Knowledge) (p x : ℕ) (chain : List Record) (w : Record) → MayLink a k p x chain w → IsUpdateLink (record_link w) → k.asked.linked ≡ None
-update_unlinked a k p x chain (Put put) due is = due.unlinked
-update_unlinked a k p x chain (Delete delete) due is = due.unlinked
-update_unlinked a k p x chain (Base page) due is = elim is [ inl e ↦ absurd (cc) | inr e ↦ absurd (cc) ]
-update_unlinked a k p x chain (Split split) due is = elim is [ inl e ↦ absurd (cc) | inr e ↦ absurd (cc) ]
-update_unlinked a k p x chain (Term term) due is = elim is [ inl e ↦ absurd (cc) | inr e ↦ absurd (cc) ]
-update_unlinked a k p x chain (Hold hold) due is = elim is [ inl e ↦ absurd (cc) | inr e ↦ absurd (cc) ]
-update_unlinked a k p x chain (Remove remove) due is = elim is [ inl e ↦ absurd (cc) | inr e ↦ absurd (cc) ]
-update_unlinked a k p x chain (Merge merge) due is = elim is [ inl e ↦ absurd (cc) | inr e ↦ absurd (cc) ]
-update_unlinked a k p x chain (Unterm unterm) due is = elim is [ inl e ↦ absurd (cc) | inr e ↦ absurd (cc) ]
-
--- The actor knows of an update that it linked, and goes on knowing of it.
-linked_by_update : (w : Record) (old new : ℕ) (k : Knowledge) → IsUpdateLink (record_link w) → IsSome (linked_over (Written w) old new k).asked.linked
-linked_by_update (Put put) old new k h = refl
-linked_by_update (Delete delete) old new k h = refl
-linked_by_update (Base page) old new k h = elim h [ inl e ↦ absurd (cc) | inr e ↦ absurd (cc) ]
-linked_by_update (Split split) old new k h = elim h [ inl e ↦ absurd (cc) | inr e ↦ absurd (cc) ]
-linked_by_update (Term term) old new k h = elim h [ inl e ↦ absurd (cc) | inr e ↦ absurd (cc) ]
-linked_by_update (Hold hold) old new k h = elim h [ inl e ↦ absurd (cc) | inr e ↦ absurd (cc) ]
-linked_by_update (Remove remove) old new k h = elim h [ inl e ↦ absurd (cc) | inr e ↦ absurd (cc) ]
-linked_by_update (Merge merge) old new k h = elim h [ inl e ↦ absurd (cc) | inr e ↦ absurd (cc) ]
-linked_by_update (Unterm unterm) old new k h = elim h [ inl e ↦ absurd (cc) | inr e ↦ absurd (cc) ]
-
+-- What its actor has linked it goes on knowing.
 split_kept : (v : OwnPage) (page row : ℕ) (k : Knowledge) → IsSome k.asked.linked → IsSome (split_off v page row k).asked.linked
 split_kept (Ready base) page row k h = h
 split_kept Other page row k h = h
@@ -213,45 +188,39 @@ module _ (limits : Limits) (entries : List Entry) (a : ℕ) where
               (newest.0, subst (λ r. m.rows r ≡ Some newest.0) same newest.1, λ never. newest.2)
         ]
 
-    pub change : (slot old new : ℕ) → IsTrue k.inside → MayExchange a k slot old new → IsAnswer m (Exchange slot old new) (Whether true) → m.slots slot ≡ old → IsChange slot old new
-    change zero x y inside may is at = record {
-      kind = link.Root;
-      is = refl;
-      once = λ h. elim h [ inl e ↦ absurd (cc) | inr e ↦ absurd (cc) ];
-      known = λ h. elim h [ inl e ↦ absurd (cc) | inr e ↦ absurd (cc) ];
-      counts = λ some never. (λ e. cc, λ e. cc);
-      useful = λ good e. absurd (cc);
+    -- an update is linked where none was linked before, and is known then
+    updates : (slot old new : ℕ) (kind : Link) → MayExchange a k slot old new → m.slots slot ≡ old → link_of m slot old new ≡ Some kind → IsUpdateLink kind → (k.asked.linked ≡ None) × IsSome (learn k (Exchange slot old new) (Whether true)).asked.linked
+    unfolding IsLinked
+    updates slot old new kind may at is update = learns_update m state.good a slot old new kind may at is update
+
+    -- by what kind it is
+    change_as : (slot old new : ℕ) (kind : Link) → MayExchange a k slot old new → m.slots slot ≡ old → link_of m slot old new ≡ Some kind
+        → (0 < old → ((base : ℕ) → k.own.pages slot ≡ Ready base → ⊥) → (kind ≢ link.Ready) × (kind ≢ link.Undo))
+        → (IsUseful k (Exchange slot old new) → kind ≡ link.Base → (chain : List Record) → IsChainOf m slot chain → 1 < length chain)
+        → IsChange slot old new
+    change_as slot old new kind may at is counts useful = record {
+      kind = kind;
+      is = is;
+      once = λ update. (updates slot old new kind may at is update).0;
+      known = λ update. (updates slot old new kind may at is update).1;
+      counts = counts;
+      useful = useful;
     }
-    change (suc p) zero zero inside may is at = absurd may
-    change (suc p) zero (suc y) inside may is at = record {
-      kind = link.Ready;
-      is = link_ready m p (suc y);
-      once = λ h. elim h [ inl e ↦ absurd (cc) | inr e ↦ absurd (cc) ];
-      known = λ h. elim h [ inl e ↦ absurd (cc) | inr e ↦ absurd (cc) ];
-      counts = λ some never. absurd (omega arith);
-      useful = λ good e. absurd (cc);
-    }
-    change (suc p) (suc x) zero inside may is at =
-        let h = emptying p x at may in record {
-          kind = link_without h.0;
-          is = link_empty m p x ∙ ap (option_map link_without) h.1;
-          once = λ i. absurd ((not_without h.0).0 i);
-          known = λ i. absurd ((not_without h.0).0 i);
-          counts = λ some never. let clear = h.2 never in (λ e. absurd (let f : link.Clear ≡ link.Ready = sym clear ∙ e in cc), λ e. absurd (let f : link.Clear ≡ link.Undo = sym clear ∙ e in cc));
-          useful = λ good e. absurd ((not_without h.0).1 e);
-        }
-    change (suc p) (suc x) (suc y) inside may is at =
-        let w = may.content in
-        let other : k.own.pages (suc p) ≡ Other = fits limits entries state a (Exchange (suc p) (suc x) (suc y)) (Whether true) (inside, may) is refl in
-        record {
-          kind = record_link w;
-          is = link_front m p x y ∙ ap (option_map record_link) (placed_row state.good a (suc y) w may.placed);
-          once = update_unlinked a k (suc p) (suc x) may.basis.chain w may.due;
-          known = λ h. rw (other, may.placed) (linked_by_update w (suc x) (suc y) k h);
-          counts = λ some never. kind_of_record w;
-          useful = λ good e chain is_chain.
-              let base = base_is w e in
-              let stands : IsChainFrom m.rows (suc x) may.basis.chain = (found state.good a (suc p) (suc x) may.basis).stands in
-              let same : may.basis.chain ≡ chain = IsChainFrom-unique m.rows (suc x) may.basis.chain chain stands (subst (λ r. IsChainFrom m.rows r chain) at is_chain.records) in
-              subst (λ c. 1 < length c) same (good may.basis base.0 (may.placed ∙ ap Written base.1));
-        }
+
+    pub change : (slot old new : ℕ) → MayExchange a k slot old new → m.slots slot ≡ old → IsChange slot old new
+    change zero x y may at = change_as zero x y link.Root may at refl (λ some never. (λ e. cc, λ e. cc)) (λ good e. absurd (cc))
+    change (suc p) zero zero may at = absurd may
+    change (suc p) zero (suc y) may at = change_as (suc p) zero (suc y) link.Ready may at (link_ready m p (suc y)) (λ some never. absurd (omega arith)) (λ good e. absurd (cc))
+    change (suc p) (suc x) zero may at =
+        let h = emptying p x at may in
+        change_as (suc p) (suc x) zero (link_without h.0) may at (link_empty m p x ∙ ap (option_map link_without) h.1)
+        (λ some never. let clear = h.2 never in (λ e. absurd (let f : link.Clear ≡ link.Ready = sym clear ∙ e in cc), λ e. absurd (let f : link.Clear ≡ link.Undo = sym clear ∙ e in cc)))
+        (λ good e. absurd (not_base h.0 e))
+    change (suc p) (suc x) (suc y) may at =
+        change_as (suc p) (suc x) (suc y) (record_link may.content) may at (link_front m p x y ∙ ap (option_map record_link) (placed_row state.good a (suc y) may.content may.placed))
+        (λ some never. kind_of_record may.content)
+        (λ good e chain is_chain.
+            let base = base_is may.content e in
+            let stands : IsChainFrom m.rows (suc x) may.basis.chain = (found state.good a (suc p) (suc x) may.basis).stands in
+            let same : may.basis.chain ≡ chain = IsChainFrom-unique m.rows (suc x) may.basis.chain chain stands (subst (λ r. IsChainFrom m.rows r chain) at is_chain.records) in
+            subst (λ c. 1 < length c) same (good may.basis base.0 (may.placed ∙ ap Written base.1)))
