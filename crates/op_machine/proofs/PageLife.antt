@@ -7,6 +7,7 @@ use Rattle.bw_model.specs.declared.step.Step.{Step as StepOf}
 use Rattle.bw_model.specs.declared.step.Step.TheVariants.{Exchange}
 use Rattle.bw_model.specs.declared.step.Answer.{Answer}
 use Rattle.bw_model.specs.declared.step.Answer.TheVariants.{Whether}
+use Rattle.deltas.specs.declared.record.Record.TheVariants.{Base}
 use Rattle.deltas.specs.declared.record.Record.{Record}
 use Rattle.chain_search.specs.declared.trace.Entry.TheVariants.{Step}
 use Rattle.chain_search.specs.Chains.{IsChainOf}
@@ -59,7 +60,7 @@ pub rooted : MovesAt small page_life 16 3 owned indexed
 rooted = record { entry = _; at = refl; holds = becomes_root made_root }
 
 pub indexed_2 : MovesAt small page_life 16 2 fresh indexed
-indexed_2 = record { entry = _; at = refl; holds = under_root 3 root_page (record { key = codes "m"; content = Child 2 false }) made_root (record { page = lit< tt; linked = lit< tt; records = (refl, refl) }) refl refl }
+indexed_2 = record { entry = _; at = refl; holds = under_root 3 (Base root_page ∷ []) (codes "m") false made_root (record { page = lit< tt; linked = lit< tt; records = (refl, refl) }) refl refl }
 
 pub held_2 : MovesAt small page_life 18 2 indexed held
 held_2 = record { entry = _; at = refl; holds = holds 3 _ (0, 4, 5, ((None, refl), refl), refl) refl }

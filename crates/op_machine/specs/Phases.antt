@@ -1,13 +1,12 @@
 -- The life of a PID: what it is used for, in an order that is never left.
-use Rattle.std.specs.Prelude.{◌≡◌, ◌<◌, ◌≤◌, ◌==◌, ℕ, suc, List, [], ◌∷◌, true, false, if◌then◌else◌, Some, slice_get, ◌⊎◌}
+use Rattle.std.specs.Prelude.{◌≡◌, ◌<◌, ◌≤◌, ◌==◌, ℕ, suc, List, true, false, if◌then◌else◌, Some, ◌⊎◌, Bool, IsTrue}
 use Rattle.bw_model.specs.declared.limits.Limits.{Limits}
 use Rattle.bw_model.specs.declared.step.Step.TheVariants.{TakePid, ReusePids}
 use Rattle.bw_model.specs.declared.step.Answer.{Answer}
 use Rattle.bw_model.specs.declared.step.Answer.TheVariants.{Whether}
 use Rattle.bw_model.specs.declared.step.Link.TheVariants as link
+use Rattle.bw_model.specs.Bytes.{is_below}
 use Rattle.base_page.specs.declared.item.Content.TheVariants.{Child}
-use Rattle.base_page.specs.declared.item.Item.{Item}
-use Rattle.base_page.specs.Pages.{Page}
 use Rattle.deltas.specs.declared.record.Record.{Record}
 use Rattle.deltas.specs.declared.record.Record.TheVariants as delta
 use Rattle.deltas.specs.declared.record.Split.{Split}
@@ -17,7 +16,7 @@ use Rattle.deltas.specs.declared.record.Remove.{Remove}
 use Rattle.deltas.specs.declared.record.Merge.{Merge}
 use Rattle.deltas.specs.declared.record.Unterm.{Unterm}
 use Rattle.chain_search.specs.declared.trace.Entry.{Entry}
-use Rattle.chain_search.specs.Chains.{IsChainOf, right_in}
+use Rattle.chain_search.specs.Chains.{IsChainOf, content_in, low_in, right_in}
 use Rattle.chain_search.specs.Steps.{is_among}
 use Rattle.deltas.specs.Memory.{Memory}
 use Rattle.chain_search.specs.Trace.{IsStep, Happens}
@@ -43,7 +42,7 @@ pub data Moves (memory : Memory) (entry : Entry) (pid : ℕ) : Phase → Phase �
   splits : (slot : ℕ) (split : Split) → Installs memory entry slot (delta.Split split) → split.page ≡ pid → Moves memory entry pid owned fresh
   becomes_root : MakesRoot memory entry pid → Moves memory entry pid owned indexed
   terms : (slot : ℕ) (term : Term) → Installs memory entry slot (delta.Term term) → term.child ≡ pid → Moves memory entry pid fresh indexed
-  under_root : (root : ℕ) (page : Page) (item : Item) → MakesRoot memory entry root → IsChainOf memory root (delta.Base page ∷ []) → slice_get page.items 1 ≡ Some item → item.content ≡ Child pid false → Moves memory entry pid fresh indexed
+  under_root : (root : ℕ) (chain : List Record) (key : List ℕ) (held : Bool) → MakesRoot memory entry root → IsChainOf memory root chain → IsTrue (is_below (low_in chain) key) → content_in chain key ≡ Some (Child pid held) → Moves memory entry pid fresh indexed
   holds : (slot : ℕ) (hold : Hold) → Installs memory entry slot (delta.Hold hold) → hold.child ≡ pid → Moves memory entry pid indexed held
   removes : (remove : Remove) → Installs memory entry pid (delta.Remove remove) → Moves memory entry pid held removed
   merges : (slot : ℕ) (merge : Merge) (chain : List Record) → Installs memory entry slot (delta.Merge merge) → IsChainOf memory slot chain → right_in chain ≡ Some pid → Moves memory entry pid removed merged

@@ -28,7 +28,7 @@ begin_still (takes b step) = let e = step.1 in cc
 begin_still (splits slot split (b, old, new, won, stands) at) = let e = won.0.1 in cc
 begin_still (becomes_root (b, old, won)) = let e = won.0.1 in cc
 begin_still (terms slot term (b, old, new, won, stands) at) = let e = won.0.1 in cc
-begin_still (under_root root page item (b, old, won) chain second child) = let e = won.0.1 in cc
+begin_still (under_root root chain key held (b, old, won) stands above said) = let e = won.0.1 in cc
 begin_still (holds slot hold (b, old, new, won, stands) at) = let e = won.0.1 in cc
 begin_still (removes remove (b, old, new, won, stands)) = let e = won.0.1 in cc
 begin_still (merges slot merge chain (b, old, new, won, stands) stood right) = let e = won.0.1 in cc
@@ -41,7 +41,7 @@ moves_on (takes b step) e = cc
 moves_on (splits slot split installs at) e = cc
 moves_on (becomes_root makes) e = cc
 moves_on (terms slot term installs at) e = cc
-moves_on (under_root root page item makes chain second child) e = cc
+moves_on (under_root root chain key held makes stands above said) e = cc
 moves_on (holds slot hold installs at) e = cc
 moves_on (removes remove installs) e = cc
 moves_on (merges slot merge chain installs stood right) e = cc
@@ -59,7 +59,7 @@ taken_from {m} {a} {s} {x} {r} {pid} (takes b step) e is =
 taken_from (splits slot split installs at) e is = absurd (cc)
 taken_from (becomes_root makes) e is = absurd (cc)
 taken_from (terms slot term installs at) e is = absurd (cc)
-taken_from (under_root root page item makes chain second child) e is = absurd (cc)
+taken_from (under_root root chain key held makes stands above said) e is = absurd (cc)
 taken_from (holds slot hold installs at) e is = absurd (cc)
 taken_from (removes remove installs) e is = absurd (cc)
 taken_from (merges slot merge chain installs stood right) e is = absurd (cc)

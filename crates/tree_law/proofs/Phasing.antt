@@ -1,6 +1,9 @@
 -- A step moves each PID from the phase that its owner says to the one that it says afterwards.
+use Rattle.bw_model.specs.Bytes.{key_cmp}
+use Rattle.std.specs.Ordering.{is_eq}
+use Rattle.tree_law.proofs.KeyOrder.{by_key, not_self}
 use Rattle.std.proofs.Common.{◌≡◌, ◌≢◌, ◌⊎◌, inl, inr, ℕ, zero, suc, ◌<◌, List, [], ◌∷◌, Option, Some, None, Bool, true, false, cond, eqb, refl, sym, ap, ◌∙◌, subst}
-use Rattle.std.specs.Prelude.{slice_get}
+use Rattle.std.specs.Prelude.{slice_get, if◌then◌else◌}
 use Rattle.std.specs.Option.{option_map}
 use Rattle.std.proofs.lemmas.Option.{same_Some}
 use Rattle.bw_model.specs.declared.command.Reply.{Reply}
@@ -11,6 +14,7 @@ use Rattle.bw_model.specs.declared.step.Answer.TheVariants.{Start, Number, Conte
 use Rattle.bw_model.specs.declared.step.Link.{Link}
 use Rattle.bw_model.specs.declared.step.Link.TheVariants as link
 use Rattle.bw_model.specs.Log.{Update}
+use Rattle.base_page.specs.declared.item.Content.{Content as ContentOf}
 use Rattle.base_page.specs.declared.item.Content.TheVariants.{Child}
 use Rattle.base_page.specs.declared.item.Item.{Item}
 use Rattle.base_page.specs.Pages as pages
@@ -20,13 +24,13 @@ use Rattle.deltas.specs.Links.{record_link}
 use Rattle.deltas.specs.Memory.{Memory}
 use Rattle.chain_search.specs.declared.trace.Entry.{Entry}
 use Rattle.chain_search.specs.declared.trace.Entry.TheVariants.{Step}
-use Rattle.chain_search.specs.Chains.{IsChainFrom, IsChainOf, right_in}
+use Rattle.chain_search.specs.Chains.{IsChainFrom, IsChainOf, right_in, content_in, low_in}
 use Rattle.chain_search.specs.Steps.{is_among, IsAnswer}
 use Rattle.chain_search.proofs.ChainLaws.{IsChainFrom-unique}
 use Rattle.op_machine.specs.Links.{link_without, link_of, Wins, Installs}
 use Rattle.op_machine.specs.Phases.{Phase, free, owned, fresh, indexed, held, removed, merged, cleared, MakesRoot, Moves, takes, splits, becomes_root, terms, under_root, holds, removes, merges, unterms, reuses}
 use Rattle.chain_search.specs.Discipline.{root_over, May}
-use Rattle.tree_law.specs.Keys.{Key}
+use Rattle.tree_law.specs.Keys.{Key, IsBelow}
 use Rattle.chain_search.specs.Knowledge.{Knowledge}
 use Rattle.tree_law.specs.Owners.{Owners}
 use Rattle.tree_law.specs.Phase.{Fresh, Indexed, Held, Removed, Merged, PageOwner, Nobody, Keeps, Placed, Cleared}
@@ -99,16 +103,19 @@ link_front m p old new = link_page m p (suc old) (suc new) ∙ ap (λ t. cond t 
 put_phase : (f f' : ℕ → PageOwner) (p : ℕ) (w : PageOwner) → f' ≡ put f p w → phase_of (f' p) ≡ phase_of w
 put_phase f f' p w e = ap (λ (g : ℕ → PageOwner). phase_of (g p)) e ∙ ap phase_of (put_same f p w)
 
--- the page whose base is a new root
-abbrev root_page : ℕ → ℕ → Key → ℕ → pages.Page
-root_page level page separator right = record {
-  level = level;
-  low = [];
-  high = None;
-  right = None;
-  removed = false;
-  items = record { key = []; content = Child page false } ∷ record { key = separator; content = Child right false } ∷ [];
-}
+-- what a new root has at its second key, and above its low key at no other one
+abbrev children : List ℕ → ℕ → ℕ → List ℕ → Option ContentOf
+children separator page right key = if is_eq (key_cmp key []) then Some (Child page false) else (if is_eq (key_cmp key separator) then Some (Child right false) else None)
+
+at_second : (separator : List ℕ) (page right : ℕ) → IsBelow [] separator → children separator page right separator ≡ Some (Child right false)
+at_second separator page right above = by_key separator [] (λ t. (if t then Some (Child page false) else (if is_eq (key_cmp separator separator) then Some (Child right false) else None)) ≡ Some (Child right false))
+    (λ same. absurd (not_self [] (subst (IsBelow []) same above)))
+    (λ ne. by_key separator separator (λ t. (if t then Some (Child right false) else None) ≡ Some (Child right false)) (λ same. refl) (λ other. absurd (other refl)))
+
+second_child : (key separator : List ℕ) (page right pid : ℕ) (mark : Bool) → IsBelow [] key → children separator page right key ≡ Some (Child pid mark) → right ≡ pid
+second_child key separator page right pid mark above = by_key key [] (λ t. (if t then Some (Child page false) else (if is_eq (key_cmp key separator) then Some (Child right false) else None)) ≡ Some (Child pid mark) → right ≡ pid)
+    (λ same. absurd (not_self [] (subst (IsBelow []) same above)))
+    (λ ne. by_key key separator (λ t. (if t then Some (Child right false) else None) ≡ Some (Child pid mark) → right ≡ pid) (λ same e. cc) (λ other e. absurd (cc)))
 
 module _ (m : Memory) {log : List Update} {o : Owners} {knows : ℕ → Knowledge} {point : ℕ → Option (List Update)} {logs : ℕ → List (List Update)} (g : Good (shared m) log o knows point logs)
     (inhabited : (p q : ℕ) → slot_in m.slots p ≡ Some q → IsInTree (o.page p) ⊎ IsReady o m knows p q) (a : ℕ) (s : StepOf Record) (x : Answer Record) (r : Option Reply) (may : May a (knows a) s) (is : IsAnswer m s x) (f' : ℕ → PageOwner) (ph : Phased a (shared m) s x o.page f') where
@@ -154,18 +161,13 @@ module _ (m : Memory) {log : List Update} {o : Owners} {knows : ℕ → Knowledg
   moves_between pid from to (terms slot term installs at) =
       let h = (installed slot (Term term) installs).2 in
       subst (λ q. (phase_of (o.page q) ≡ fresh) × (phase_of (f' q) ≡ indexed)) at (ap phase_of h.1, put_phase o.page f' term.child (Placed Indexed h.0 term.separator) h.2)
-  moves_between pid from to (under_root root page item makes chain second child) =
+  moves_between pid from to (under_root root chain key mark makes stands above said) =
       let old = (rooted root makes).0 in
       let h = (rooted root makes).1 in
       let base = h.7 in
       let at : m.slots root ≡ base.0 = (slot_some m.slots root base.0 base.2).1 in
-      let stands : m.rows base.0 ≡ Some (Base page) = sym (ap m.rows at) ∙ chain.records.0 in
-      let same : root_over base.1 old h.2 h.0 ≡ Base page = same_Some (root_over base.1 old h.2 h.0) (Base page) (sym base.3 ∙ stands) in
-      let items : page.items ≡ record { key = []; content = Child old false } ∷ record { key = h.2; content = Child h.0 false } ∷ [] = cc in
-      let second' : Some (record { key = h.2; content = Child h.0 false }) ≡ Some item = subst (λ (is : List Item). slice_get is 1 ≡ Some item) items second in
-      let item_is : record { key = h.2; content = Child h.0 false } ≡ item = same_Some _ item second' in
-      let content : Child h.0 false ≡ Child pid false = ap (λ (i : Item). i.content) item_is ∙ child in
-      let here : h.0 ≡ pid = cc in
+      let same : chain ≡ root_over base.1 old h.2 h.0 ∷ [] = IsChainFrom-unique m.rows (m.slots root) chain (root_over base.1 old h.2 h.0 ∷ []) stands.records (ap m.rows at ∙ base.3, refl) in
+      let here : h.0 ≡ pid = second_child key h.2 old h.0 pid mark (subst (λ (c : List Record). IsBelow (low_in c) key) same above) (subst (λ (c : List Record). content_in c key ≡ Some (Child pid mark)) same said) in
       subst (λ q. (phase_of (o.page q) ≡ fresh) × (phase_of (f' q) ≡ indexed)) here (
         ap phase_of h.4,
         ap (λ (k : ℕ → PageOwner). phase_of (k h.0)) h.6 ∙ ap phase_of (put_other (put o.page h.0 (Placed Indexed h.1 h.2)) root (Placed Indexed (suc h.1) []) h.0 (λ i. absurd (let e = h.4 in let k : o.page h.0 ≡ Keeps a = ap o.page i ∙ h.5 in cc)) ∙ put_same o.page h.0 (Placed Indexed h.1 h.2)),
@@ -263,7 +265,8 @@ module _ (m : Memory) {log : List Update} {o : Owners} {knows : ℕ → Knowledg
       under =
           let base = h.7 in
           let at = slot_some m.slots y base.0 base.2 in
-          under_root y (root_page base.1 old h.2 h.0) (record { key = h.2; content = Child h.0 false }) makes (record { page = at.0; linked = subst (λ n. 0 < n) (sym at.1) at.2; records = (ap m.rows at.1 ∙ base.3, refl) }) refl refl
+          let own : IsChainOf m y (root_over base.1 old h.2 h.0 ∷ []) = record { page = at.0; linked = subst (λ n. 0 < n) (sym at.1) at.2; records = (ap m.rows at.1 ∙ base.3, refl) } in
+          under_root y (root_over base.1 old h.2 h.0 ∷ []) h.2 false makes own h.8 (at_second h.2 old h.0 h.8)
 
   -- each PID is moved from phase to phase, or stays in its own
   pub moves_or_rests : (pid : ℕ) → Moves m last pid (phase_of (o.page pid)) (phase_of (f' pid)) ⊎ (phase_of (f' pid) ≡ phase_of (o.page pid))

@@ -403,7 +403,7 @@ module _ (memory : Memory) {log : List Update} {o : Owners} {knows : ℕ → Kno
       page = put (put o.page h.right (Placed Indexed g.tree.top h.separator)) y (Placed Indexed (suc g.tree.top) []);
       index = put o.index g.tree.top (put_key (put_key (λ k. None) h.separator (Some (Child h.right false))) [] (Some (Child (memory.slots 0) false)));
     };
-    phased = (h.right, g.tree.top, h.separator, n.1.0, n.1.1, n.1.2, refl, (h.base_row, suc (level_in h.basis.chain), ready_slot y h.base_row h.ready, placed_row g a h.base_row (root_over (suc (level_in h.basis.chain)) x h.separator h.right) h.base));
+    phased = (h.right, g.tree.top, h.separator, n.1.0, n.1.1, n.1.2, refl, (h.base_row, suc (level_in h.basis.chain), ready_slot y h.base_row h.ready, placed_row g a h.base_row (root_over (suc (level_in h.basis.chain)) x h.separator h.right) h.base), h.some);
     moved = linked_moved h.base_row (spare_of h.base_row h.base);
     added = linked_added h.base_row (based h.base_row h.base h.ruled);
     homed = λ row. by_test row h.base_row (λ t. cond t Linked (o.row row) ≡ Linked → (o.row row ≡ Linked) ⊎ IsHomed (shared memory) (Exchange 0 x y) (Whether true) row)
