@@ -5,3 +5,4 @@ pub mod TraceLaws
 pub mod FittedLaws
 pub mod FittedExamples
 pub mod Updated
+pub mod PaidExamples

@@ -1,9 +1,13 @@
 //! What small chains decide: each function does nothing, and its contract computes it.
 ghost use Rattle.std.specs.Prelude.{codes, ◌≡◌, [], true, false, None, Some};
+ghost use Rattle.bw_model.specs.declared.step.Answer.TheVariants.{Number, Content, Whether, Done};
+ghost use Rattle.bw_model.specs.declared.step.Step.TheVariants.{Slot, Row, Exchange, TakeRow, Leave};
 ghost use Rattle.base_page.specs.declared.item.Content.TheVariants.{Value, Child};
 ghost use Rattle.chain_search.specs.Chains.{content_in, high_in, right_in, is_removed, covers};
-ghost use Rattle.chain_search.specs.Examples.{put_leaf, deleted_leaf, split_leaf, removed_leaf, merged_leaf, leaf_chain, index_page, termed_page, held_page, untermed_page, index_chain, put_over_removal, put_outside, base_over_base, first_held, marked_base, unnamed_split};
+ghost use Rattle.chain_search.specs.Examples.{put_leaf, deleted_leaf, split_leaf, removed_leaf, merged_leaf, leaf_chain, index_page, termed_page, held_page, untermed_page, index_chain, put_over_removal, put_outside, base_over_base, first_held, marked_base, unnamed_split, remove};
 ghost use Rattle.chain_search.specs.Fitted.{IsPageChain};
+ghost use Rattle.chain_search.specs.Recalled.{IsPaid, recall};
+ghost use Rattle.chain_search.specs.Recollections.{after_bits, after_loss, after_miss, after_removal, after_split};
 
 /// The newest record that names a key decides it; the base decides each other one.
 pub fn leaves_decide()
@@ -57,4 +61,22 @@ pub fn unfit_chains_are_refused()
     ensures held { ¬ IsPageChain first_held }
     ensures marked { ¬ IsPageChain marked_base }
     ensures unnamed { ¬ IsPageChain unnamed_split }
+{}
+
+/// Which steps a cause pays for, after an operation's first reads.
+pub fn paid_steps_are_told()
+    ensures named { IsPaid after_split (Slot 2) (Number 0) }
+    ensures unnamed { ¬ IsPaid after_split (Slot 3) (Number 0) }
+    ensures again { ¬ IsPaid after_removal (Slot 2) (Number 0) }
+    ensures won { IsPaid after_split (Exchange 1 5 7) (Whether true) }
+    ensures lost { IsPaid after_split (Exchange 1 5 7) (Whether false) }
+    ensures unrecalled { ¬ IsPaid after_loss (Exchange 1 5 7) (Whether false) }
+    ensures ready { ¬ IsPaid after_split (Exchange 4 0 9) (Whether true) }
+    ensures undo { ¬ IsPaid after_split (Exchange 4 9 0) (Whether true) }
+    ensures removal { IsPaid after_split (Row 6) (Content (remove 4)) }
+    ensures second { ¬ IsPaid after_removal (Row 8) (Content (remove 4)) }
+    ensures round { IsPaid (recall after_removal (Slot 0) (Number 1)) (Row 8) (Content (remove 4)) }
+    ensures outside { ¬ IsPaid (recall after_split Leave Done) (Row 6) (Content (remove 4)) }
+    ensures missed { IsPaid after_bits (TakeRow 3) (Whether false) }
+    ensures forgotten { ¬ IsPaid after_miss (TakeRow 3) (Whether false) }
 {}
