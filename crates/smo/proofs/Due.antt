@@ -29,7 +29,7 @@ use Rattle.smo.proofs.Places.{index_at, inside, made}
 use Rattle.smo.proofs.RootFits.{some}
 
 -- a key that a fitted chain has a child at is in its range, and the chain is above the leaves
-covered : (chain : List Record) → IsFitted chain → (key : List ℕ) (child : ℕ) (held : Bool) → content_in chain key ≡ Some (Child child held) → IsTrue (covers chain key) × (0 < level_in chain)
+pub covered : (chain : List Record) → IsFitted chain → (key : List ℕ) (child : ℕ) (held : Bool) → content_in chain key ≡ Some (Child child held) → IsTrue (covers chain key) × (0 < level_in chain)
 covered chain fitted key child held there =
     let (page, makes) = made chain fitted in
     let rules = ruled chain page fitted makes in

@@ -8,3 +8,5 @@ pub mod RemoveFits
 pub mod MergeFits
 pub mod UntermFits
 pub mod Due
+pub mod Leaves
+pub mod MapKept

@@ -6,7 +6,6 @@ use Rattle.std.specs.List.{AllByRecursion}
 use Rattle.std.specs.Ordering.{is_eq, is_lt}
 use Rattle.std.specs.declared.cmp.Ordering.{Ordering}
 use Rattle.std.specs.declared.cmp.Ordering.TheVariants.{Less, Equal, Greater}
-use Rattle.std.proofs.lemmas.Cmp.{nat_list_cmp_total, tied_itself}
 use Rattle.std.proofs.lemmas.List.Elements.{recursion_from_All}
 use Rattle.std.proofs.lemmas.Map.Lookups.{exact_bytes}
 use Rattle.std.proofs.lemmas.Option.{same_Some}
@@ -16,7 +15,7 @@ use Rattle.base_page.specs.declared.item.Content.TheVariants.{Child}
 use Rattle.base_page.specs.declared.item.Item.{Item}
 use Rattle.base_page.specs.Pages.{Page, content_at, IsOfLevel}
 use Rattle.base_page.specs.Rules.{IsFirstAt, IsRuled, is_held}
-use Rattle.base_page.proofs.KeyLaws.{and_left, not_true}
+use Rattle.base_page.proofs.KeyLaws.{and_left, itself, not_true, same}
 use Rattle.deltas.specs.declared.record.Record.{Record}
 use Rattle.deltas.specs.Spellable.{IsSpellableLink}
 use Rattle.chain_search.specs.Chains.{level_in, low_in}
@@ -39,19 +38,8 @@ pub from_made : (chain : List Record) (made : Page) (P : List Item → Type 0) �
 from_made chain made P makes p = (made.items, makes.items, p)
 
 -- what a comparison says of two keys
-pub same_key : (a b : List ℕ) → is_eq (key_cmp a b) ≡ true → a ≡ b
-same_key a b e = by_cmp (key_cmp a b) refl e
-  where
-    by_cmp : (o : Ordering) → key_cmp a b ≡ o → is_eq o ≡ true → a ≡ b
-    by_cmp Less is f = absurd cc
-    by_cmp Equal is f = exact_bytes a b is
-    by_cmp Greater is f = absurd cc
-
-pub key_same : (a b : List ℕ) → a ≡ b → is_eq (key_cmp a b) ≡ true
-key_same a b e = subst (λ k. is_eq (key_cmp a k) ≡ true) e (ap is_eq (tied_itself nat_list_cmp_total a))
-
 pub decides_key : (a b : List ℕ) (r : Bool) → r ≡ is_eq (key_cmp a b) → Decides r (a ≡ b)
-decides_key a b r e = ((λ yes. same_key a b (sym e ∙ yes)), (λ same. e ∙ key_same a b same))
+decides_key a b r e = ((λ yes. same a b (sym e ∙ yes)), (λ is. e ∙ subst (λ k. is_eq (key_cmp a k) ≡ true) is (ap is_eq (itself a))))
 
 -- nothing is below the empty key
 pub not_empty : (low key : List ℕ) → key_cmp low key ≡ Less → key ≢ []

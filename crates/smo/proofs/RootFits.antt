@@ -10,7 +10,7 @@ use Rattle.base_page.specs.declared.item.Content.{Content}
 use Rattle.base_page.specs.declared.item.Content.TheVariants.{Child}
 use Rattle.base_page.specs.declared.item.Item.{Item}
 use Rattle.base_page.specs.Pages.{Page, IsAscending, IsOfLevel, content_at}
-use Rattle.base_page.proofs.KeyLaws.{below_from}
+use Rattle.base_page.proofs.KeyLaws.{below_from, same}
 use Rattle.deltas.specs.declared.record.Record.TheVariants as kind
 use Rattle.deltas.specs.Spellable.{HasPid, IsPid, IsSpellablePage}
 use Rattle.chain_search.specs.Chains.{low_in, level_in}
@@ -20,7 +20,7 @@ use Rattle.chain_search.proofs.FittedLaws.{items_unique, ruled}
 use Rattle.smo.specs.declared.version.Version.{Version}
 use Rattle.smo.specs.Roots.{CanRoot, IsRootPlan}
 use Rattle.smo.specs.Neighbours.{Meets}
-use Rattle.smo.proofs.Places.{made, same_key}
+use Rattle.smo.proofs.Places.{made}
 use Rattle.smo.proofs.Removed.{lowest_stands}
 
 two_ascend : (page right : Content) (separator : List ℕ) → IsTrue (is_below [] separator) → IsAscending (record { key = []; content = page } ∷ record { key = separator; content = right } ∷ [])
@@ -72,7 +72,7 @@ two_items items page right separator above ascending contents = items_unique ite
 
     by_test : (q : List ℕ) (b : Bool) → is_eq (key_cmp q []) ≡ b
         → (if is_eq (key_cmp q separator) then Some right else (if is_eq (key_cmp q []) then Some page else None)) ≡ content_at (record { key = []; content = page } ∷ record { key = separator; content = right } ∷ []) q
-    by_test q true e = rw (e, apart q (same_key q [] e)) refl
+    by_test q true e = rw (e, apart q (same q [] e)) refl
     by_test q false e = rw e refl
 
 -- the plan of a root is one that may be linked

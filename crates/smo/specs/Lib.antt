@@ -8,3 +8,4 @@ pub mod Holds
 pub mod Removals
 pub mod Merges
 pub mod Unterms
+pub mod Linking

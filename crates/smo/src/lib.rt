@@ -15,7 +15,7 @@ mod unterm;
 mod version;
 
 pub use hold::plan_hold;
-pub use laws::plans_are_due;
+pub use laws::{links_keep_the_index, links_keep_the_map, plans_are_due};
 pub use merge::plan_merge;
 pub use remove::plan_remove;
 pub use root::plan_root;

@@ -1,5 +1,5 @@
 use Rattle.smo.proofs.Due.{hold_due, merge_due, remove_due, root_due, split_due, term_due, unterm_due}
-use Rattle.smo.proofs.laws.plans_are_due.Goals as goal
+use Rattle.smo.proofs.laws.due.plans_are_due.Goals as goal
 
 pub returns-clause-split : goal.returns-clause-split
 returns-clause-split c = split_due

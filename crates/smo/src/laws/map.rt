@@ -1,0 +1,79 @@
+//! Linking what a plan gives keeps the leaves whole, and the map.
+ghost use Rattle.std.specs.Prelude.{◌≡◌, ◌≢◌, ◌<◌, ℕ};
+ghost use Rattle.base_page.specs.Pages.{Page};
+ghost use Rattle.deltas.specs.declared.record.Record.TheVariants as kind;
+ghost use Rattle.deltas.specs.declared.record.Term.{Term};
+ghost use Rattle.deltas.specs.declared.record.Hold.{Hold};
+ghost use Rattle.deltas.specs.declared.record.Remove.{Remove};
+ghost use Rattle.deltas.specs.declared.record.Merge.{Merge};
+ghost use Rattle.deltas.specs.declared.record.Unterm.{Unterm};
+ghost use Rattle.deltas.specs.Memory.{Memory};
+ghost use Rattle.chain_search.specs.Fitted.{IsPageChain};
+ghost use Rattle.smo.specs.declared.split.SplitPlan.{SplitPlan};
+ghost use Rattle.smo.specs.declared.version.Version.{Version};
+ghost use Rattle.smo.specs.Splits.{IsSplitPlan, split_to};
+ghost use Rattle.smo.specs.Terms.{IsTermPlan};
+ghost use Rattle.smo.specs.Roots.{IsRootPlan};
+ghost use Rattle.smo.specs.Holds.{IsHoldPlan};
+ghost use Rattle.smo.specs.Removals.{IsRemovePlan};
+ghost use Rattle.smo.specs.Merges.{IsMergePlan};
+ghost use Rattle.smo.specs.Unterms.{IsUntermPlan};
+ghost use Rattle.smo.specs.Linking.{HasLeaves, Holds, IsSpareRow, KeepsMap, linked, rooted};
+
+/// In every memory that has the pages as they were read, and whose leaves are whole: each link of a plan, in spare rows, keeps the
+/// leaves whole and the map. A split's new page, and a root, come into a slot that is empty, before the link itself.
+pub fn links_keep_the_map()
+    ensures split { (memory : Memory) (page : Version) (plan : SplitPlan) (right row base_row : ℕ)
+        → IsSplitPlan page plan
+        → HasLeaves memory
+        → Holds memory page
+        → 0 < right
+        → memory.slots right ≡ 0
+        → IsSpareRow memory row
+        → IsSpareRow memory base_row
+        → row ≢ base_row
+        → KeepsMap memory (linked right base_row (kind.Base plan.upper) memory)
+        × KeepsMap memory (linked page.pid row (kind.Split (split_to plan right)) (linked right base_row (kind.Base plan.upper) memory)) }
+    ensures root { (memory : Memory) (left right : Version) (root : Page) (new row : ℕ)
+        → IsRootPlan left right root
+        → HasLeaves memory
+        → memory.slots new ≡ 0
+        → IsSpareRow memory row
+        → KeepsMap memory (linked new row (kind.Base root) memory)
+        × KeepsMap (linked new row (kind.Base root) memory) (rooted new (linked new row (kind.Base root) memory)) }
+    ensures term { (memory : Memory) (parent page : Version) (term : Term) (row : ℕ)
+        → IsTermPlan parent page term
+        → HasLeaves memory
+        → Holds memory parent
+        → IsSpareRow memory row
+        → KeepsMap memory (linked parent.pid row (kind.Term term) memory) }
+    ensures hold { (memory : Memory) (parent page : Version) (hold : Hold) (row : ℕ)
+        → IsHoldPlan parent page hold
+        → IsPageChain parent.chain
+        → HasLeaves memory
+        → Holds memory parent
+        → IsSpareRow memory row
+        → KeepsMap memory (linked parent.pid row (kind.Hold hold) memory) }
+    ensures remove { (memory : Memory) (parent page : Version) (remove : Remove) (row : ℕ)
+        → IsRemovePlan parent page remove
+        → HasLeaves memory
+        → Holds memory page
+        → IsSpareRow memory row
+        → KeepsMap memory (linked page.pid row (kind.Remove remove) memory) }
+    ensures merge { (memory : Memory) (left removed : Version) (merge : Merge) (row : ℕ)
+        → IsMergePlan left removed merge
+        → IsPageChain left.chain
+        → IsPageChain removed.chain
+        → HasLeaves memory
+        → Holds memory left
+        → Holds memory removed
+        → IsSpareRow memory row
+        → KeepsMap memory (linked left.pid row (kind.Merge merge) memory) }
+    ensures unterm { (memory : Memory) (parent left removed : Version) (unterm : Unterm) (row : ℕ)
+        → IsUntermPlan parent left removed unterm
+        → IsPageChain parent.chain
+        → HasLeaves memory
+        → Holds memory parent
+        → IsSpareRow memory row
+        → KeepsMap memory (linked parent.pid row (kind.Unterm unterm) memory) }
+{}
