@@ -21,7 +21,7 @@ use Rattle.tree_law.specs.Keys.{put_key}
 use Rattle.chain_search.specs.Knowledge.{OwnRow, Written, OwnPage, Empty, Ready, Gone, Knowledge, learn_head, filled, emptied, learn, finished}
 use Rattle.chain_search.specs.Discipline.{record_of, base_from, root_over, IsMet, HasRead, FitsOn, MayUpdate, MayConsolidate, MaySplit, MayPost, MayHold, MayRemove, MayMerge, MayUnterm, MayRoot, MayLink, MayExchange, May}
 use Rattle.tree_law.specs.Phase.{Fresh, Indexed, Held, Removed, Merged, PageOwner, Keeps, Placed, Cleared}
-use Rattle.tree_law.specs.Phases.{Links}
+use Rattle.tree_law.specs.Phases.{Links, Phased}
 use Rattle.tree_law.specs.Put.{put}
 use Rattle.tree_law.specs.Shared.{Shared, row_in, slot_in, shared}
 use Rattle.tree_law.specs.Owners.{Spare, Linked, Owners, OwnFits, PageFits, Reached, Spells}
@@ -84,6 +84,11 @@ module _ (memory : Memory) {log : List Update} {o : Owners} {knows : ℕ → Kno
   same_added : {rows : ℕ → Option Record} (row : ℕ) → o.row row ≡ Linked → (o.row row ≡ Linked) ⊎ IsAdded o rows row
   same_added row l = inl l
 
+  -- a step after which each row and page is whose it was
+  rests : {m' : Shared} {s : StepOf Record} {x : Answer Record} {r : Option Reply} → Phased a (shared memory) s x o.page o.page → ((row : ℕ) → o.row row ≡ Linked → m'.rows row ≡ memory.rows row)
+      → Good m' log o (put knows a (finished (learn (knows a) s x) r)) (put point a (point a)) (put logs a (log ∷ logs a)) → Next a (shared memory) m' log o knows point logs s x r
+  rests phased rows good = record { update = None; due = tt; last = λ i. refl; owners = o; phased = phased; moved = same_moved; added = same_added; homed = λ row l. inl l; kept = λ row l. (l, rows row l); good = good }
+
   spare_of : {w : Record} (y : ℕ) → (knows a).own.rows y ≡ Written w → o.row y ≡ Spare a
   spare_of {w} y e = (subst (λ (v : OwnRow). OwnFits a (o.row y) (memory.rows y) v) e (g.owns a y)).0
 
@@ -120,27 +125,16 @@ module _ (memory : Memory) {log : List Update} {o : Owners} {knows : ℕ → Kno
   linked_rows y row l = (by_test row y (λ t. cond t Linked (o.row row) ≡ Linked) (λ e. refl) (λ ne. l), refl)
 
   reads : (p n : ℕ) (r : Option Reply) → memory.slots (suc p) ≡ n → IsTrue ((knows a).read.roots (suc p)) ⊎ IsMet (knows a) (suc p) → After memory (Slot (suc p)) (Number n) r
-  reads p zero r e met = record { update = None; due = tt; last = λ i. refl; owners = o; phased = refl; moved = same_moved; added = same_added; homed = λ row l. inl l; kept = same_rows; good = idles g a (finished (knows a) r) refl refl refl refl refl refl refl refl }
+  reads p zero r e met = rests refl (λ row l. refl) (idles g a (finished (knows a) r) refl refl refl refl refl refl refl refl)
   reads p (suc n) r e met =
       let here = met_placed g a (suc p) met in
       let held : slot_in memory.slots (suc p) ≡ Some (suc n) = ap row_in e in
       ⊎_elim
       (λ (u : slot_in memory.slots (suc p) ≡ None). absurd (let f = sym held ∙ u in cc))
       (λ (u : (x : ℕ) × (slot_in memory.slots (suc p) ≡ Some x) × (h : Spells o (shared memory) x log) × Reached 0 (level_in h.chain) (low_in h.chain) (o.page (suc p))).
-      record {
-        update = None;
-        due = tt;
-        last = λ i. refl;
-        owners = o;
-        phased = refl;
-        moved = same_moved;
-        added = same_added;
-        homed = λ row l. inl l;
-        kept = same_rows;
-        good = subst (λ (v : ℕ). Good (shared memory) log o (put knows a (finished (learn_head (suc p) v (knows a)) r)) (put point a (point a)) (put logs a (log ∷ logs a)))
+      rests refl (λ row l. refl) (subst (λ (v : ℕ). Good (shared memory) log o (put knows a (finished (learn_head (suc p) v (knows a)) r)) (put point a (point a)) (put logs a (log ∷ logs a)))
             (same_Some u.0 (suc n) (sym u.1 ∙ held))
-            (reads_slot g a (suc p) u.0 u.1 u.2 u.3 r);
-      })
+            (reads_slot g a (suc p) u.0 u.1 u.2 u.3 r)))
       (slot_of g a (suc p) here.0 here.1 here.2)
 
   takes : (q : ℕ) (r : Option Reply) (t : Bool) → memory.free_rows q ≡ t → After (memory_after a (TakeRow q) memory) (TakeRow q) (Whether t) r
@@ -156,37 +150,15 @@ module _ (memory : Memory) {log : List Update} {o : Owners} {knows : ℕ → Kno
     kept = λ row l. (put_other o.row q (Spare a) row (λ i. absurd (let f = g.frees.row q e in let l' = sym (ap o.row i) ∙ l in cc)) ∙ l, refl);
     good = takes_row g a q e r;
   }
-  takes q r false e = record {
-    update = None;
-    due = tt;
-    last = λ i. refl;
-    owners = o;
-    phased = refl;
-    moved = same_moved;
-    added = same_added;
-    homed = λ row l. inl l;
-    kept = same_rows;
-    good = subst (λ (f : ℕ → Bool). Good (record (shared memory) { free = f }) log o (put knows a (finished (knows a) r)) (put point a (point a)) (put logs a (log ∷ logs a))) (sym (cleared_again memory.free_rows q e)) (idles g a (finished (knows a) r) refl refl refl refl refl refl refl refl);
-  }
+  takes q r false e = rests refl (λ row l. refl) (subst (λ (f : ℕ → Bool). Good (record (shared memory) { free = f }) log o (put knows a (finished (knows a) r)) (put point a (point a)) (put logs a (log ∷ logs a))) (sym (cleared_again memory.free_rows q e)) (idles g a (finished (knows a) r) refl refl refl refl refl refl refl refl))
 
   takes_pid : (q : ℕ) (r : Option Reply) (t : Bool) → memory.free_pids q ≡ t → After (memory_after a (TakePid q) memory) (TakePid q) (Whether t) r
   takes_pid q r true e = record { update = None; due = tt; last = λ i. refl; owners = record o { page = put o.page q (Keeps a) }; phased = refl; moved = same_moved; added = same_added; homed = λ row l. inl l; kept = same_rows; good = takes_page g a q e r }
-  takes_pid q r false e = record {
-    update = None;
-    due = tt;
-    last = λ i. refl;
-    owners = o;
-    phased = refl;
-    moved = same_moved;
-    added = same_added;
-    homed = λ row l. inl l;
-    kept = same_rows;
-    good = subst (λ (f : ℕ → Bool). Good (record (shared memory) { free_pages = f }) log o (put knows a (finished (knows a) r)) (put point a (point a)) (put logs a (log ∷ logs a))) (sym (cleared_again memory.free_pids q e)) (idles g a (finished (knows a) r) refl refl refl refl refl refl refl refl);
-  }
+  takes_pid q r false e = rests refl (λ row l. refl) (subst (λ (f : ℕ → Bool). Good (record (shared memory) { free_pages = f }) log o (put knows a (finished (knows a) r)) (put point a (point a)) (put logs a (log ∷ logs a))) (sym (cleared_again memory.free_pids q e)) (idles g a (finished (knows a) r) refl refl refl refl refl refl refl refl))
 
   -- an exchange that lost teaches nothing
   loses : (p x y : ℕ) (r : Option Reply) → After memory (Exchange p x y) (Whether false) r
-  loses p x y r = record { update = None; due = tt; last = λ i. refl; owners = o; phased = refl; moved = same_moved; added = same_added; homed = λ row l. inl l; kept = same_rows; good = idles g a (finished (knows a) r) refl refl refl refl refl refl refl refl }
+  loses p x y r = rests refl (λ row l. refl) (idles g a (finished (knows a) r) refl refl refl refl refl refl refl refl)
 
   module _ (p x y : ℕ) (r : Option Reply) (s : slot_in memory.slots (suc p) ≡ Some (suc x)) (basis : HasRead (knows a) (suc p) (suc x)) (content : Record) (written : (knows a).own.rows (suc y) ≡ Written content) (fits : FitsOn basis.chain content) where
     -- the memory in which the row is linked on the page
@@ -352,44 +324,11 @@ module _ (memory : Memory) {log : List Update} {o : Owners} {knows : ℕ → Kno
   -- an exchange of a page's slot that won
   exchanges : (p x y : ℕ) (r : Option Reply) → slot_in memory.slots (suc p) ≡ row_in x → MayExchange a (knows a) (suc p) x y → Next a (shared memory) (record (shared memory) { slots = put (slot_in memory.slots) (suc p) (row_in y) }) log o knows point logs (Exchange (suc p) x y) (Whether true) r
   exchanges p zero zero r s h = absurd h
-  exchanges p zero (suc y) r s h = record {
-    update = None;
-    due = tt;
-    last = λ i. refl;
-    owners = o;
-    phased = (refl, (own_kept (suc p) Empty h.0).0);
-    moved = same_moved;
-    added = same_added;
-    homed = λ row l. inl l;
-    kept = same_rows;
-    good = subst (λ (v : OwnPage). Good (record (shared memory) { slots = put (slot_in memory.slots) (suc p) (Some (suc y)) }) log o (put knows a (finished (filled v (suc p) zero (suc y) (knows a)) r)) (put point a (point a)) (put logs a (log ∷ logs a))) (sym h.0)
-        (own_slot g a (suc p) (Some (suc y)) (Ready (suc y)) (own_kept (suc p) Empty h.0).0 ((own_kept (suc p) Empty h.0).0, refl) (finished (filled Empty (suc p) zero (suc y) (knows a)) r) refl refl refl refl refl refl refl refl);
-  }
-  exchanges p (suc x) zero r s (inl h) = record {
-    update = None;
-    due = tt;
-    last = λ i. refl;
-    owners = o;
-    phased = (refl, inl (own_kept (suc p) (Ready (suc x)) h).0);
-    moved = same_moved;
-    added = same_added;
-    homed = λ row l. inl l;
-    kept = same_rows;
-    good = subst (λ (v : OwnPage). Good (record (shared memory) { slots = put (slot_in memory.slots) (suc p) None }) log o (put knows a (finished (emptied v (suc p) (suc x) (knows a)) r)) (put point a (point a)) (put logs a (log ∷ logs a))) (sym h)
-        (own_slot g a (suc p) None Empty (own_kept (suc p) (Ready (suc x)) h).0 ((own_kept (suc p) (Ready (suc x)) h).0, refl) (finished (emptied (Ready (suc x)) (suc p) (suc x) (knows a)) r) refl refl refl refl refl refl refl refl);
-  }
-  exchanges p (suc x) zero r s (inr h) = record {
-    update = None;
-    due = tt;
-    last = λ i. refl;
-    owners = o;
-    phased = (refl, inr (let w = own_kept (suc p) Gone h in (w.0, w.1, w.2)));
-    moved = same_moved;
-    added = same_added;
-    homed = λ row l. inl l;
-    kept = same_rows;
-    good = clears g a (suc p) (suc x) s h r;
-  }
+  exchanges p zero (suc y) r s h = rests ((refl, (own_kept (suc p) Empty h.0).0)) (λ row l. refl) (subst (λ (v : OwnPage). Good (record (shared memory) { slots = put (slot_in memory.slots) (suc p) (Some (suc y)) }) log o (put knows a (finished (filled v (suc p) zero (suc y) (knows a)) r)) (put point a (point a)) (put logs a (log ∷ logs a))) (sym h.0)
+        (own_slot g a (suc p) (Some (suc y)) (Ready (suc y)) (own_kept (suc p) Empty h.0).0 ((own_kept (suc p) Empty h.0).0, refl) (finished (filled Empty (suc p) zero (suc y) (knows a)) r) refl refl refl refl refl refl refl refl))
+  exchanges p (suc x) zero r s (inl h) = rests ((refl, inl (own_kept (suc p) (Ready (suc x)) h).0)) (λ row l. refl) (subst (λ (v : OwnPage). Good (record (shared memory) { slots = put (slot_in memory.slots) (suc p) None }) log o (put knows a (finished (emptied v (suc p) (suc x) (knows a)) r)) (put point a (point a)) (put logs a (log ∷ logs a))) (sym h)
+        (own_slot g a (suc p) None Empty (own_kept (suc p) (Ready (suc x)) h).0 ((own_kept (suc p) (Ready (suc x)) h).0, refl) (finished (emptied (Ready (suc x)) (suc p) (suc x) (knows a)) r) refl refl refl refl refl refl refl refl))
+  exchanges p (suc x) zero r s (inr h) = rests ((refl, inr (let w = own_kept (suc p) Gone h in (w.0, w.1, w.2)))) (λ row l. refl) (clears g a (suc p) (suc x) s h r)
   exchanges p (suc x) (suc y) r s h = links p x y r s h.basis h.content h.placed h.fits h.due
 
   -- an exchange of slot 0 that won
@@ -423,30 +362,19 @@ module _ (memory : Memory) {log : List Update} {o : Owners} {knows : ℕ → Kno
       (λ ne. loses (suc p) x y r)
 
   pub step : (s : StepOf Record) → (IsReuse s → ⊥) → (r : Option Reply) → May a (knows a) s → (x : Answer Record) → IsAnswer memory s x → After (memory_after a s memory) s x r
-  step (Slot zero) calm r h x e = subst (λ (v : Answer Record). After memory (Slot zero) v r) (sym e) (record { update = None; due = tt; last = λ i. refl; owners = o; phased = refl; moved = same_moved; added = same_added; homed = λ row l. inl l; kept = same_rows; good = reads_root g a r })
+  step (Slot zero) calm r h x e = subst (λ (v : Answer Record). After memory (Slot zero) v r) (sym e) (rests refl (λ row l. refl) (reads_root g a r))
   step (Slot (suc p)) calm r h x e = subst (λ (v : Answer Record). After memory (Slot (suc p)) v r) (sym e) (reads p (memory.slots (suc p)) r refl h.1)
-  step (Row q) calm r h x e = subst (λ (v : Answer Record). After memory (Row q) v r) (sym e.2) (record { update = None; due = tt; last = λ i. refl; owners = o; phased = refl; moved = same_moved; added = same_added; homed = λ row l. inl l; kept = same_rows; good = reads_row g a q e.0 h.1 e.1 r })
-  step Epoch calm r h x e = subst (λ (v : Answer Record). After memory Epoch v r) (sym e) (record { update = None; due = tt; last = λ i. refl; owners = o; phased = refl; moved = same_moved; added = same_added; homed = λ row l. inl l; kept = same_rows; good = idles g a (finished (learn (knows a) Epoch (Number memory.epoch)) r) refl refl refl refl refl refl refl refl })
-  step (Announce b) calm r h x e = subst (λ (v : Answer Record). After memory (Announce b) v r) (sym e) (record { update = None; due = tt; last = λ i. refl; owners = o; phased = refl; moved = same_moved; added = same_added; homed = λ row l. inl l; kept = same_rows; good = idles g a (finished (learn (knows a) (Announce b) (Number (memory.announced b))) r) refl refl refl refl refl refl refl refl })
-  step (PidBits w) calm r h x e = subst (λ (v : Answer Record). After memory (PidBits w) v r) (sym e.2) (record { update = None; due = tt; last = λ i. refl; owners = o; phased = refl; moved = same_moved; added = same_added; homed = λ row l. inl l; kept = same_rows; good = idles g a (finished (learn (knows a) (PidBits w) (Number e.0)) r) refl refl refl refl refl refl refl refl })
-  step (RowBits w) calm r h x e = subst (λ (v : Answer Record). After memory (RowBits w) v r) (sym e.2) (record { update = None; due = tt; last = λ i. refl; owners = o; phased = refl; moved = same_moved; added = same_added; homed = λ row l. inl l; kept = same_rows; good = idles g a (finished (learn (knows a) (RowBits w) (Number e.0)) r) refl refl refl refl refl refl refl refl })
-  step (Place q w) calm r h x e = subst (λ (v : Answer Record). After (memory_after a (Place q w) memory) (Place q w) v r) (sym e) (record {
-    update = None;
-    due = tt;
-    last = λ i. refl;
-    owners = o;
-    phased = refl;
-    moved = same_moved;
-    added = same_added;
-    homed = λ row l. inl l;
-    kept = λ row l. (l, put_other memory.rows q (Some w) row (λ i. absurd (let f = own_spare g a q ((knows a).own.rows q) (g.owns a q) h.1 in let l' = sym (ap o.row i) ∙ l in cc)));
-    good = places g a q w h.1 r;
-  })
+  step (Row q) calm r h x e = subst (λ (v : Answer Record). After memory (Row q) v r) (sym e.2) (rests refl (λ row l. refl) (reads_row g a q e.0 h.1 e.1 r))
+  step Epoch calm r h x e = subst (λ (v : Answer Record). After memory Epoch v r) (sym e) (rests refl (λ row l. refl) (idles g a (finished (learn (knows a) Epoch (Number memory.epoch)) r) refl refl refl refl refl refl refl refl))
+  step (Announce b) calm r h x e = subst (λ (v : Answer Record). After memory (Announce b) v r) (sym e) (rests refl (λ row l. refl) (idles g a (finished (learn (knows a) (Announce b) (Number (memory.announced b))) r) refl refl refl refl refl refl refl refl))
+  step (PidBits w) calm r h x e = subst (λ (v : Answer Record). After memory (PidBits w) v r) (sym e.2) (rests refl (λ row l. refl) (idles g a (finished (learn (knows a) (PidBits w) (Number e.0)) r) refl refl refl refl refl refl refl refl))
+  step (RowBits w) calm r h x e = subst (λ (v : Answer Record). After memory (RowBits w) v r) (sym e.2) (rests refl (λ row l. refl) (idles g a (finished (learn (knows a) (RowBits w) (Number e.0)) r) refl refl refl refl refl refl refl refl))
+  step (Place q w) calm r h x e = subst (λ (v : Answer Record). After (memory_after a (Place q w) memory) (Place q w) v r) (sym e) (rests refl (λ row l. put_other memory.rows q (Some w) row (λ i. absurd (let f = own_spare g a q ((knows a).own.rows q) (g.owns a q) h.1 in let l' = sym (ap o.row i) ∙ l in cc))) (places g a q w h.1 r))
   step (Exchange p old y) calm r h x e = subst (λ (v : Answer Record). After (memory_after a (Exchange p old y) memory) (Exchange p old y) v r) (sym e) (exchange p old y r h.1)
   step (TakePid q) calm r h x e = subst (λ (v : Answer Record). After (memory_after a (TakePid q) memory) (TakePid q) v r) (sym e) (takes_pid q r (memory.free_pids q) refl)
   step (TakeRow q) calm r h x e = subst (λ (v : Answer Record). After (memory_after a (TakeRow q) memory) (TakeRow q) v r) (sym e) (takes q r (memory.free_rows q) refl)
-  step (Enter n) calm r h x e = record { update = None; due = tt; last = λ i. refl; owners = o; phased = refl; moved = same_moved; added = same_added; homed = λ row l. inl l; kept = same_rows; good = enters g a n x r }
-  step Leave calm r h x e = subst (λ (v : Answer Record). After (memory_after a Leave memory) Leave v r) (sym e) (record { update = None; due = tt; last = λ i. refl; owners = o; phased = refl; moved = same_moved; added = same_added; homed = λ row l. inl l; kept = same_rows; good = leaves g a r })
-  step (Retire n) calm r h x e = record { update = None; due = tt; last = λ i. refl; owners = o; phased = refl; moved = same_moved; added = same_added; homed = λ row l. inl l; kept = same_rows; good = idles g a (finished (knows a) r) refl refl refl refl refl refl refl refl }
+  step (Enter n) calm r h x e = rests refl (λ row l. refl) (enters g a n x r)
+  step Leave calm r h x e = subst (λ (v : Answer Record). After (memory_after a Leave memory) Leave v r) (sym e) (rests refl (λ row l. refl) (leaves g a r))
+  step (Retire n) calm r h x e = rests refl (λ row l. refl) (idles g a (finished (knows a) r) refl refl refl refl refl refl refl refl)
   step (ReusePids w b) calm r h x e = absurd (calm tt)
   step (ReuseRows w b) calm r h x e = absurd (calm tt)
