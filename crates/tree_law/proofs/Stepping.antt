@@ -8,6 +8,7 @@ use Rattle.bw_model.specs.declared.step.Step.TheVariants.{Slot, Row, Epoch, Anno
 use Rattle.bw_model.specs.declared.step.Answer.{Answer}
 use Rattle.bw_model.specs.declared.step.Answer.TheVariants.{Number, Whether}
 use Rattle.bw_model.specs.Log.{Update, set, unset}
+use Rattle.base_page.specs.declared.item.Content.{Content as ContentOf}
 use Rattle.base_page.specs.declared.item.Content.TheVariants.{Child}
 use Rattle.base_page.specs.Pages.{Page}
 use Rattle.deltas.specs.declared.record.Record.{Record}
@@ -17,7 +18,7 @@ use Rattle.deltas.specs.Records.{next_row}
 use Rattle.chain_search.specs.Chains.{level_in, low_in, high_in, right_in}
 use Rattle.chain_search.specs.Fitted.{IsFitted}
 use Rattle.chain_search.specs.Steps.{IsAnswer, memory_after}
-use Rattle.tree_law.specs.Keys.{put_key}
+use Rattle.tree_law.specs.Keys.{Key, put_key}
 use Rattle.chain_search.specs.Knowledge.{OwnRow, Written, OwnPage, Empty, Ready, Gone, Knowledge, learn_head, filled, emptied, learn, finished}
 use Rattle.chain_search.specs.Discipline.{record_of, base_from, root_over, IsMet, HasRead, FitsOn, MayUpdate, MayConsolidate, MaySplit, MayPost, MayHold, MayRemove, MayMerge, MayUnterm, MayRoot, MayLink, MayExchange, May}
 use Rattle.tree_law.specs.Phase.{Fresh, Indexed, Held, Removed, Merged, PageOwner, Keeps, Placed, Cleared}
@@ -165,6 +166,27 @@ module _ (memory : Memory) {log : List Update} {o : Owners} {knows : ℕ → Kno
     abbrev pub Linking : Type 0
     Linking = Next a (shared memory) (record (shared memory) { slots = put (slot_in memory.slots) (suc p) (Some (suc y)) }) log o knows point logs (Exchange (suc p) (suc x) (suc y)) (Whether true) r
 
+    -- the row is linked, some pages go on, and no update is made
+    one : (w : Record) → (knows a).own.rows (suc y) ≡ Written w → IfSome (next_row w) (λ n. n ≡ suc x) → IsAdded o memory.rows (suc y) → (page : ℕ → PageOwner) (index : ℕ → Key → Option ContentOf) → Links (shared memory) a w (suc p) o.page page
+        → Good (record (shared memory) { slots = put (slot_in memory.slots) (suc p) (Some (suc y)) }) log (record { row = put o.row (suc y) Linked; page = page; index = index }) (put knows a (finished (filled ((knows a).own.pages (suc p)) (suc p) (suc x) (suc y) (knows a)) r)) (put point a (point a)) (put logs a (log ∷ logs a)) → Linking
+    one w placed next added page index moves good = record {
+      update = None;
+      due = tt;
+      last = λ i. absurd (cc);
+      owners = record { row = put o.row (suc y) Linked; page = page; index = index };
+      phased = (w, placed_row g a (suc y) w placed, moves);
+      moved = linked_moved (suc y) (spare_of (suc y) placed);
+      added = linked_added (suc y) added;
+      homed = linked_homed p (suc x) y w placed next;
+      kept = linked_rows (suc y);
+      good = good;
+    }
+
+    -- the same of a delta over the old row
+    delta : (w : Record) → content ≡ w → next_row w ≡ Some (suc x) → (page : ℕ → PageOwner) (index : ℕ → Key → Option ContentOf) → Links (shared memory) a w (suc p) o.page page
+        → Good (record (shared memory) { slots = put (slot_in memory.slots) (suc p) (Some (suc y)) }) log (record { row = put o.row (suc y) Linked; page = page; index = index }) (put knows a (finished (filled ((knows a).own.pages (suc p)) (suc p) (suc x) (suc y) (knows a)) r)) (put point a (point a)) (put logs a (log ∷ logs a)) → Linking
+    delta w is next = one w (written ∙ ap Written is) (rw next refl) (adds (suc p) (suc x) (suc y) w (written ∙ ap Written is) next basis (subst (FitsOn basis.chain) is fits))
+
     by_update : MayUpdate a (knows a) (suc x) basis.chain content → Linking
     by_update h = let n = updates g a (suc p) (suc x) (suc y) s basis content written h r in record {
       update = Some h.update;
@@ -180,18 +202,7 @@ module _ (memory : Memory) {log : List Update} {o : Owners} {knows : ℕ → Kno
     }
 
     by_base : MayConsolidate basis.chain content → Linking
-    by_base h = record {
-      update = None;
-      due = tt;
-      last = λ i. refl;
-      owners = record o { row = put o.row (suc y) Linked };
-      phased = (base_from basis.chain (low_in basis.chain) h.items, placed_row g a (suc y) (base_from basis.chain (low_in basis.chain) h.items) (written ∙ ap Written h.is), refl);
-      moved = linked_moved (suc y) (spare_of (suc y) (written ∙ ap Written h.is));
-      homed = linked_homed p (suc x) y (base_from basis.chain (low_in basis.chain) h.items) (written ∙ ap Written h.is) tt;
-      added = linked_added (suc y) (based (suc y) (written ∙ ap Written h.is) (subst (FitsOn basis.chain) h.is fits));
-      kept = linked_rows (suc y);
-      good = consolidates g a (suc p) (suc x) (suc y) s basis content written h r;
-    }
+    by_base h = one (base_from basis.chain (low_in basis.chain) h.items) (written ∙ ap Written h.is) tt (based (suc y) (written ∙ ap Written h.is) (subst (FitsOn basis.chain) h.is fits)) o.page o.index refl (consolidates g a (suc p) (suc x) (suc y) s basis content written h r)
 
     by_split : MaySplit (knows a) (suc x) basis.chain content → Linking
     by_split h = let n = splits g a (suc p) (suc x) (suc y) s basis content written h r in record {
@@ -218,93 +229,21 @@ module _ (memory : Memory) {log : List Update} {o : Owners} {knows : ℕ → Kno
     }
 
     by_post : MayPost (knows a) (suc p) (suc x) basis.chain content → Linking
-    by_post h = let n = posts g a (suc p) (suc x) (suc y) s basis content written h r in record {
-      update = None;
-      due = tt;
-      last = λ i. refl;
-      owners = record { row = put o.row (suc y) Linked; page = put o.page h.child (Placed Indexed (level_in h.below.chain) (low_in h.below.chain)); index = put o.index (level_in h.below.chain) (put_key (o.index (level_in h.below.chain)) (low_in h.below.chain) (Some (Child h.child false))) };
-      phased = (
-        Term (record { level = level_in basis.chain; next = suc x; separator = low_in h.below.chain; child = h.child }),
-        placed_row g a (suc y) (Term (record { level = level_in basis.chain; next = suc x; separator = low_in h.below.chain; child = h.child })) (written ∙ ap Written h.is),
-        (level_in h.below.chain, n.1, refl),
-      );
-      moved = linked_moved (suc y) (spare_of (suc y) (written ∙ ap Written h.is));
-      added = linked_added (suc y) (adds (suc p) (suc x) (suc y) (Term (record { level = level_in basis.chain; next = suc x; separator = low_in h.below.chain; child = h.child })) (written ∙ ap Written h.is) refl basis (subst (FitsOn basis.chain) h.is fits));
-      homed = linked_homed p (suc x) y (Term (record { level = level_in basis.chain; next = suc x; separator = low_in h.below.chain; child = h.child })) (written ∙ ap Written h.is) refl;
-      kept = linked_rows (suc y);
-      good = n.0;
-    }
+    by_post h = let n = posts g a (suc p) (suc x) (suc y) s basis content written h r in delta _ h.is refl (put o.page h.child (Placed Indexed (level_in h.below.chain) (low_in h.below.chain))) (put o.index (level_in h.below.chain) (put_key (o.index (level_in h.below.chain)) (low_in h.below.chain) (Some (Child h.child false)))) (level_in h.below.chain, n.1, refl) n.0
 
     by_hold : MayHold (suc x) basis.chain content → Linking
-    by_hold h = let n = holds g a (suc p) (suc x) (suc y) s basis content written h r in record {
-      update = None;
-      due = tt;
-      last = λ i. refl;
-      owners = record { row = put o.row (suc y) Linked; page = put o.page h.child (Placed Held h.level h.key); index = put o.index h.level (put_key (o.index h.level) h.key (Some (Child h.child true))) };
-      phased = (
-        Hold (record { level = level_in basis.chain; next = suc x; separator = h.key; child = h.child }),
-        placed_row g a (suc y) (Hold (record { level = level_in basis.chain; next = suc x; separator = h.key; child = h.child })) (written ∙ ap Written h.is),
-        (h.level, n.1, refl),
-      );
-      moved = linked_moved (suc y) (spare_of (suc y) (written ∙ ap Written h.is));
-      added = linked_added (suc y) (adds (suc p) (suc x) (suc y) (Hold (record { level = level_in basis.chain; next = suc x; separator = h.key; child = h.child })) (written ∙ ap Written h.is) refl basis (subst (FitsOn basis.chain) h.is fits));
-      homed = linked_homed p (suc x) y (Hold (record { level = level_in basis.chain; next = suc x; separator = h.key; child = h.child })) (written ∙ ap Written h.is) refl;
-      kept = linked_rows (suc y);
-      good = n.0;
-    }
+    by_hold h = let n = holds g a (suc p) (suc x) (suc y) s basis content written h r in delta _ h.is refl (put o.page h.child (Placed Held h.level h.key)) (put o.index h.level (put_key (o.index h.level) h.key (Some (Child h.child true)))) (h.level, n.1, refl) n.0
 
     by_remove : MayRemove (knows a) (suc p) (suc x) basis.chain content → Linking
-    by_remove h = let n = removes g a (suc p) (suc x) (suc y) s basis content written h r in record {
-      update = None;
-      due = tt;
-      last = λ i. refl;
-      owners = record { row = put o.row (suc y) Linked; page = put o.page (suc p) (Placed Removed (level_in basis.chain) (low_in basis.chain)); index = o.index };
-      phased = (
-        Remove (record { level = level_in basis.chain; next = suc x }),
-        placed_row g a (suc y) (Remove (record { level = level_in basis.chain; next = suc x })) (written ∙ ap Written h.is),
-        (level_in basis.chain, low_in basis.chain, n.1, refl),
-      );
-      moved = linked_moved (suc y) (spare_of (suc y) (written ∙ ap Written h.is));
-      added = linked_added (suc y) (adds (suc p) (suc x) (suc y) (Remove (record { level = level_in basis.chain; next = suc x })) (written ∙ ap Written h.is) refl basis (subst (FitsOn basis.chain) h.is fits));
-      homed = linked_homed p (suc x) y (Remove (record { level = level_in basis.chain; next = suc x })) (written ∙ ap Written h.is) refl;
-      kept = linked_rows (suc y);
-      good = n.0;
-    }
+    by_remove h = let n = removes g a (suc p) (suc x) (suc y) s basis content written h r in delta _ h.is refl (put o.page (suc p) (Placed Removed (level_in basis.chain) (low_in basis.chain))) o.index (level_in basis.chain, low_in basis.chain, n.1, refl) n.0
 
     by_merge : MayMerge (knows a) (suc x) basis.chain content → Linking
     by_merge h =
         let n = merges g a (suc p) (suc x) (suc y) s basis content written h r in
-        let w : Record = Merge (record { level = level_in basis.chain; next = suc x; low = low_in h.merged; high = high_in h.merged; right = right_in h.merged; items = h.items }) in
-        record {
-          update = None;
-          due = tt;
-          last = λ i. refl;
-          owners = record { row = put o.row (suc y) Linked; page = put o.page h.other (Placed Merged (level_in basis.chain) (low_in h.merged)); index = o.index };
-          phased = (w, placed_row g a (suc y) w (written ∙ ap Written h.is), (h.other, level_in basis.chain, n.1, refl, (suc x, basis.chain, s, chain_stands o (shared memory) (knows a).read.seen (g.sound a).seen_fits basis.chain (Some (suc x)) basis.read, h.right)));
-          moved = linked_moved (suc y) (spare_of (suc y) (written ∙ ap Written h.is));
-          added = linked_added (suc y) (adds (suc p) (suc x) (suc y) w (written ∙ ap Written h.is) refl basis (subst (FitsOn basis.chain) h.is fits));
-          homed = linked_homed p (suc x) y w (written ∙ ap Written h.is) refl;
-          kept = linked_rows (suc y);
-          good = n.0;
-        }
+        delta _ h.is refl (put o.page h.other (Placed Merged (level_in basis.chain) (low_in h.merged))) o.index (h.other, level_in basis.chain, n.1, refl, (suc x, basis.chain, s, chain_stands o (shared memory) (knows a).read.seen (g.sound a).seen_fits basis.chain (Some (suc x)) basis.read, h.right)) n.0
 
     by_unterm : MayUnterm (knows a) (suc p) (suc x) basis.chain content → Linking
-    by_unterm h = let n = unterms g a (suc p) (suc x) (suc y) s basis content written h r in record {
-      update = None;
-      due = tt;
-      last = λ i. refl;
-      owners = record { row = put o.row (suc y) Linked; page = put o.page h.child (Cleared a (level_in h.below.chain) h.key); index = put o.index (level_in h.below.chain) (put_key (o.index (level_in h.below.chain)) h.key None) };
-      phased = (
-        Unterm (record { level = level_in basis.chain; next = suc x; separator = h.key; child = h.child }),
-        placed_row g a (suc y) (Unterm (record { level = level_in basis.chain; next = suc x; separator = h.key; child = h.child })) (written ∙ ap Written h.is),
-        (level_in h.below.chain, n.1, refl),
-      );
-      moved = linked_moved (suc y) (spare_of (suc y) (written ∙ ap Written h.is));
-      added = linked_added (suc y) (adds (suc p) (suc x) (suc y) (Unterm (record { level = level_in basis.chain; next = suc x; separator = h.key; child = h.child })) (written ∙ ap Written h.is) refl basis (subst (FitsOn basis.chain) h.is fits));
-      homed = linked_homed p (suc x) y (Unterm (record { level = level_in basis.chain; next = suc x; separator = h.key; child = h.child })) (written ∙ ap Written h.is) refl;
-      kept = linked_rows (suc y);
-      good = n.0;
-    }
+    by_unterm h = let n = unterms g a (suc p) (suc x) (suc y) s basis content written h r in delta _ h.is refl (put o.page h.child (Cleared a (level_in h.below.chain) h.key)) (put o.index (level_in h.below.chain) (put_key (o.index (level_in h.below.chain)) h.key None)) (level_in h.below.chain, n.1, refl) n.0
 
   -- what is placed is linked, by its kind
   links : (p x y : ℕ) (r : Option Reply) (s : slot_in memory.slots (suc p) ≡ Some (suc x)) (basis : HasRead (knows a) (suc p) (suc x)) (content : Record) (written : (knows a).own.rows (suc y) ≡ Written content) (fits : FitsOn basis.chain content) → MayLink a (knows a) (suc p) (suc x) basis.chain content → Linking p x y r s basis content written fits
