@@ -51,6 +51,7 @@ pub mod Seasons
 pub mod Sides
 pub mod Slots
 pub mod Splitting
+pub mod Standing
 pub mod Stepping
 pub mod Taking
 pub mod SweepRun
@@ -58,6 +59,7 @@ pub mod Terms
 pub mod Timely
 pub mod Timewise
 pub mod Timing
+pub mod Unset
 pub mod Updating
 pub mod Whole
 pub mod UpdateLinks

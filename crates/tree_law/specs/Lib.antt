@@ -1,3 +1,4 @@
+pub mod AllLinks
 pub mod Example
 pub mod Fitness
 pub mod HelpedSplit
@@ -13,5 +14,6 @@ pub mod Put
 pub mod Replies
 pub mod Shared
 pub mod State
+pub mod Sweep
 pub mod Times
 pub mod Tree
