@@ -41,6 +41,7 @@ pub mod Reading
 pub mod Relinking
 pub mod Reusing
 pub mod Remark
+pub mod RemovalRun
 pub mod Reused
 pub mod Rooting
 pub mod Roots

@@ -11,6 +11,7 @@ pub mod Owners
 pub mod Phase
 pub mod Phases
 pub mod Put
+pub mod Removal
 pub mod Replies
 pub mod Shared
 pub mod State

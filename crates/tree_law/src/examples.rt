@@ -4,6 +4,7 @@ ghost use Rattle.chain_search.specs.Disciplined.{IsDisciplined};
 ghost use Rattle.tree_law.specs.AllLinks.{all_links};
 ghost use Rattle.tree_law.specs.Example.{small};
 ghost use Rattle.tree_law.specs.HelpedSplit.{helped_split};
+ghost use Rattle.tree_law.specs.Removal.{removal};
 ghost use Rattle.tree_law.specs.Sweep.{sweep};
 
 /// A run of one actor that makes each link.
@@ -19,4 +20,9 @@ pub fn helped_split_is_disciplined()
 /// After the first run its actor frees what it took out of the tree, and takes it again.
 pub fn sweep_is_disciplined()
     ensures { IsDisciplined small (all_links ++ sweep) }
+{}
+
+/// A run of two actors: one removes a leaf, from which the other replies, and then from the leaf on its right.
+pub fn removal_is_disciplined()
+    ensures { IsDisciplined small removal }
 {}

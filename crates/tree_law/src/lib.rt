@@ -6,7 +6,10 @@ mod examples;
 mod invariant;
 mod law;
 
-pub use examples::{all_links_are_disciplined, helped_split_is_disciplined, sweep_is_disciplined};
+pub use examples::{
+    all_links_are_disciplined, helped_split_is_disciplined, removal_is_disciplined,
+    sweep_is_disciplined,
+};
 pub use invariant::{
     key_order, levels_are_indexed, one_begin_keeps, one_step_keeps, opening_is_good,
     reply_is_by_a_log,
