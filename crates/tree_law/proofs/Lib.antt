@@ -43,6 +43,7 @@ pub mod Reusing
 pub mod Remark
 pub mod RemovalRun
 pub mod Reused
+pub mod RoomRun
 pub mod Rooting
 pub mod Roots
 pub mod Rows

@@ -9,10 +9,10 @@ use Rattle.chain_search.specs.Discipline.{FitsOn, IsMet, MayAdd, MayRoot, MayRep
 use Rattle.chain_search.specs.Disciplined.{IsDisciplinedFrom, IsDisciplined}
 use Rattle.chain_search.specs.Knowledge.{OwnPage, Other, Empty, Ready, Knowledge, knows}
 use Rattle.tree_law.specs.Example.{small, a, get_a, opening_leaf, root_a, hold_a, remove_a}
-use Rattle.tree_law.specs.HelpedSplit.{b, insert_b, upper_b, first_split, upper_c, second_split}
+use Rattle.tree_law.specs.HelpedSplit.{b, upper_b, first_split, upper_c, second_split}
 use Rattle.tree_law.specs.Removal.{get_b, removal}
 use Rattle.tree_law.proofs.HelpFits.{first_fits, second_fits, first_ruled, second_ruled, leaf_splits}
-use Rattle.tree_law.proofs.LinkFits.{leaf, leaf_page, leaf_ruled, hold_fits, root_fitted}
+use Rattle.tree_law.proofs.LinkFits.{leaf, leaf_page, hold_fits, root_fitted}
 use Rattle.tree_law.proofs.Making.{base_makes, over_makes, fits_over}
 use Rattle.tree_law.proofs.Standing.{◌▸◌, quietly}
 use Rattle.tree_law.proofs.Unset.{is_unset}
@@ -38,6 +38,7 @@ removal_fits = (fits_over (over_makes (base_makes (leaf a None None) (leaf_page 
   where
     is_page : IsPage upper
     is_page = leaf_page a (Some b) (Some 4) refl
+
     ruled : IsRuled (record upper { removed = true })
     ruled = record { is_page = record { spans = is_page.spans; ordered = is_page.ordered; within = is_page.within; kinds = is_page.kinds }; ends = refl; top = omega arith; terms = λ lt. absurd (omega arith) }
 

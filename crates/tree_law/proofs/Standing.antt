@@ -19,7 +19,6 @@ pub ◌▸◌ : {A B : Type 0} → A → B → A × B
 here ▸ later = (here, later)
 
 infixr 30 ◌▸◌
-
 -- the parts of a trace
 pub joined : (limits : Limits) (before first second : List Entry) → IsDisciplinedFrom limits before first → IsDisciplinedFrom limits (before ++ first) second → IsDisciplinedFrom limits before (first ++ second)
 joined limits before [] second h i = subst (λ entries. IsDisciplinedFrom limits entries second) (append-nil before) i

@@ -7,6 +7,7 @@ pub mod Keys
 pub mod Laws
 pub mod Limbos
 pub mod Next
+pub mod NoRoom
 pub mod Owners
 pub mod Phase
 pub mod Phases

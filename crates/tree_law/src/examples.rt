@@ -4,6 +4,7 @@ ghost use Rattle.chain_search.specs.Disciplined.{IsDisciplined};
 ghost use Rattle.tree_law.specs.AllLinks.{all_links};
 ghost use Rattle.tree_law.specs.Example.{small};
 ghost use Rattle.tree_law.specs.HelpedSplit.{helped_split};
+ghost use Rattle.tree_law.specs.NoRoom.{no_room};
 ghost use Rattle.tree_law.specs.Removal.{removal};
 ghost use Rattle.tree_law.specs.Sweep.{sweep};
 
@@ -25,4 +26,9 @@ pub fn sweep_is_disciplined()
 /// A run of two actors: one removes a leaf, from which the other replies, and then from the leaf on its right.
 pub fn removal_is_disciplined()
     ensures { IsDisciplined small removal }
+{}
+
+/// A run of one actor that takes each row, and replies that nothing is free for its update.
+pub fn no_room_is_disciplined()
+    ensures { IsDisciplined small no_room }
 {}

@@ -7,8 +7,8 @@ mod invariant;
 mod law;
 
 pub use examples::{
-    all_links_are_disciplined, helped_split_is_disciplined, removal_is_disciplined,
-    sweep_is_disciplined,
+    all_links_are_disciplined, helped_split_is_disciplined, no_room_is_disciplined,
+    removal_is_disciplined, sweep_is_disciplined,
 };
 pub use invariant::{
     key_order, levels_are_indexed, one_begin_keeps, one_step_keeps, opening_is_good,
