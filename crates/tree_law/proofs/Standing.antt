@@ -14,12 +14,13 @@ use Rattle.tree_law.specs.Example.{small}
 pub quietly : {actor : ℕ} {k : Knowledge} {step : StepOf Record} → May actor k step → MayFree small actor k step → IsAllowed small actor k step None
 quietly may frees = record { may = may; frees = frees; replied = tt }
 
+-- the parts of a trace
+pub joined : (limits : Limits) (before first second : List Entry) → IsDisciplinedFrom limits before first → IsDisciplinedFrom limits (before ++ first) second → IsDisciplinedFrom limits before (first ++ second)
+joined limits before [] second h i = subst (λ entries. IsDisciplinedFrom limits entries second) (append-nil before) i
+joined limits before (entry ∷ first) second h i = (h.0, joined limits (before ++ entry ∷ []) first second h.1 (subst (λ entries. IsDisciplinedFrom limits entries second) (sym (append_assoc before (entry ∷ []) first)) i))
+
 -- one after another
 pub ◌▸◌ : {A B : Type 0} → A → B → A × B
 here ▸ later = (here, later)
 
 infixr 30 ◌▸◌
--- the parts of a trace
-pub joined : (limits : Limits) (before first second : List Entry) → IsDisciplinedFrom limits before first → IsDisciplinedFrom limits (before ++ first) second → IsDisciplinedFrom limits before (first ++ second)
-joined limits before [] second h i = subst (λ entries. IsDisciplinedFrom limits entries second) (append-nil before) i
-joined limits before (entry ∷ first) second h i = (h.0, joined limits (before ++ entry ∷ []) first second h.1 (subst (λ entries. IsDisciplinedFrom limits entries second) (sym (append_assoc before (entry ∷ []) first)) i))
