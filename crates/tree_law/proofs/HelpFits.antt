@@ -1,10 +1,10 @@
 -- What each link of the helped split puts over a chain fits it.
 use Rattle.std.proofs.Common.{◌≡◌, ℕ, [], ◌∷◌, Option, Some, None, false, refl, arith}
-use Rattle.std.specs.Prelude.{if◌then◌else◌, not, is_some, IsTrue}
+use Rattle.std.specs.Prelude.{if◌then◌else◌, not}
 use Rattle.std.specs.List.Sorted.{IsStrictlySortedBy}
 use Rattle.std.specs.Ordering.{is_eq}
 use Rattle.std.proofs.lemmas.List.Elements.{All-from_recursion}
-use Rattle.bw_model.specs.Bytes.{key_cmp, is_under}
+use Rattle.bw_model.specs.Bytes.{key_cmp}
 use Rattle.base_page.specs.declared.item.Content.{Content}
 use Rattle.base_page.specs.declared.item.Content.TheVariants.{Child}
 use Rattle.base_page.specs.declared.item.Item.{Item}
@@ -20,21 +20,10 @@ use Rattle.tree_law.specs.Example.{a, opening_leaf, root_a}
 use Rattle.tree_law.specs.HelpedSplit.{b, item_b, upper_b, first_split, upper_c, second_split, helped_term, other_put}
 use Rattle.tree_law.specs.Keys.{Key}
 use Rattle.tree_law.proofs.KeyOrder.{by_key, by_below}
-use Rattle.tree_law.proofs.LinkFits.{first, alone, both, linked, root_makes}
+use Rattle.tree_law.proofs.LinkFits.{leaf, leaf_page, leaf_ruled, first, alone, both, linked, root_makes}
 use Rattle.tree_law.proofs.Making.{base_makes, fits_over}
 
--- an empty leaf over a range
-abbrev leaf : Key → Option Key → Option ℕ → Page
-leaf low high right = record { level = 0; low = low; high = high; right = right; removed = false; items = [] }
-
-leaf_page : (low : Key) (high : Option Key) (right : Option ℕ) → IsTrue (is_under low high) → IsPage (leaf low high right)
-unfolding IsStrictlySortedBy
-leaf_page low high right spans = IsPage-from (leaf low high right) spans (record { few = omega arith; ascending = tt }) tt
-
-leaf_ruled : (low : Key) (high : Option Key) (right : Option ℕ) → IsTrue (is_under low high) → is_some right ≡ is_some high → IsRuled (leaf low high right)
-leaf_ruled low high right spans ends = record { is_page = leaf_page low high right spans; ends = ends; top = omega arith; terms = λ lt. absurd (omega arith) }
-
-leaf_splits : (low : Key) (high : Option Key) (right : Option ℕ) (next page : ℕ) (key : Key) → Applies (leaf low high right) (Split (record { level = 0; next = next; separator = key; page = page })) (leaf low (Some key) (Some page))
+pub leaf_splits : (low : Key) (high : Option Key) (right : Option ℕ) (next page : ℕ) (key : Key) → Applies (leaf low high right) (Split (record { level = 0; next = next; separator = key; page = page })) (leaf low (Some key) (Some page))
 unfolding IsStrictlySortedBy
 leaf_splits low high right next page key = record { ascending = tt; contents = λ k. by_below k key (λ t. ◌≡◌ {A = Option Content} None (if not t then None else None)) (λ below. refl) (λ above. refl); level = refl; low = refl; high = refl; right = refl; removed = refl }
 

@@ -1,21 +1,21 @@
 -- Each step of the helped split is allowed.
-use Rattle.std.proofs.Common.{ℕ, [], ◌∷◌, take, drop, None, false, refl, inl, inr, lit<}
+use Rattle.std.proofs.Common.{ℕ, List, [], ◌∷◌, take, drop, false, refl, inl, inr, lit<}
 use Rattle.std.specs.Prelude.{codes}
 use Rattle.bw_model.specs.declared.command.Reply.TheVariants as reply
-use Rattle.bw_model.specs.declared.step.Step.{Step as StepOf}
 use Rattle.bw_model.specs.Log.{set}
-use Rattle.deltas.specs.declared.record.Record.{Record}
-use Rattle.chain_search.specs.Discipline.{IsMet, MayUpdate, MaySplit, MayPost, MayRoot, MayReply, IsAllowed, May, MayFree}
+use Rattle.chain_search.specs.Discipline.{IsMet, MayUpdate, MaySplit, MayPost, MayRoot, MayReply}
 use Rattle.chain_search.specs.Disciplined.{IsDisciplinedFrom, IsDisciplined}
-use Rattle.chain_search.specs.Knowledge.{Other, Empty, Ready, Knowledge, knows}
+use Rattle.chain_search.specs.Knowledge.{OwnPage, Other, Empty, Ready, Knowledge, knows}
 use Rattle.tree_law.specs.Example.{small, a, opening_leaf, root_a}
 use Rattle.tree_law.specs.HelpedSplit.{b, insert_b, insert_other, upper_b, first_split, upper_c, second_split, helped_term, other_put, helped_split}
 use Rattle.tree_law.proofs.HelpFits.{first_fits, second_fits, term_fits, put_fits, first_ruled, second_ruled}
 use Rattle.tree_law.proofs.LinkFits.{root_fitted}
-use Rattle.tree_law.proofs.LinkRun.{set_by}
+use Rattle.tree_law.proofs.Standing.{◌▸◌, quietly}
+use Rattle.tree_law.proofs.Unset.{is_unset}
 
-quietly : {actor : ℕ} {k : Knowledge} {step : StepOf Record} → May actor k step → MayFree small actor k step → IsAllowed small actor k step None
-quietly may frees = record { may = may; frees = frees; replied = tt }
+-- what became of the pages that the first actor took, newest first
+abbrev became : List (ℕ × OwnPage)
+became = (4, Other) ∷ (4, Ready 5) ∷ (4, Empty) ∷ (3, Other) ∷ (3, Ready 4) ∷ (3, Empty) ∷ (2, Other) ∷ (2, Ready 2) ∷ (2, Empty) ∷ []
 
 -- what an actor knows before entry n
 abbrev before : ℕ → ℕ → Knowledge
@@ -65,35 +65,102 @@ exists = record { command = insert_b; going = refl; justified = inl (record { ro
 
 -- the first's exchange loses, and it finds the key
 comes_late : IsDisciplinedFrom small (take 52 helped_split) (drop 52 helped_split)
-comes_late = ((refl, quietly (refl, inr right_again) tt, refl), ((refl, quietly (refl, refl) tt, (second_split, refl, refl)), ((refl, quietly (refl, inr right_known) tt, refl), ((refl, quietly (refl, refl) tt, (other_put, refl, refl)), ((refl, quietly (refl, refl) tt, (upper_c, refl, refl)), ((refl, quietly (refl, record { basis = record { head = refl; chain = root_a ∷ []; read = (refl, refl); alive = refl }; content = helped_term; placed = refl; fits = term_fits; due = late; unset = set_by _ 4 Other _ (λ e. cc) (set_by _ 4 (Ready 5) _ (λ e. cc) (set_by _ 4 Empty _ (λ e. cc) (set_by _ 3 Other _ (λ e. cc) (set_by _ 3 (Ready 4) _ (λ e. cc) (set_by _ 3 Empty _ (λ e. cc) (set_by _ 2 Other _ (λ e. cc) (set_by _ 2 (Ready 2) _ (λ e. cc) (set_by _ 2 Empty _ (λ e. cc) (λ page e. absurd (cc)))))))))) }) tt, refl), ((refl, record { may = refl; frees = tt; replied = (refl, exists) }, refl), tt)))))))
+comes_late =
+    (refl, quietly (refl, inr right_again) tt, refl)
+    ▸ (refl, quietly (refl, refl) tt, (second_split, refl, refl))
+    ▸ (refl, quietly (refl, inr right_known) tt, refl)
+    ▸ (refl, quietly (refl, refl) tt, (other_put, refl, refl))
+    ▸ (refl, quietly (refl, refl) tt, (upper_c, refl, refl))
+    ▸ (refl, quietly (refl, record { basis = record { head = refl; chain = root_a ∷ []; read = (refl, refl); alive = refl }; content = helped_term; placed = refl; fits = term_fits; due = late; unset = is_unset became refl }) tt, refl)
+    ▸ (refl, record { may = refl; frees = tt; replied = (refl, exists) }, refl)
+    ▸ tt
 
 -- it posts the term and puts its key
 finishes : IsDisciplinedFrom small (take 45 helped_split) (drop 45 helped_split)
-finishes = ((refl, quietly tt tt, refl), ((refl, quietly (refl, tt, λ page e. absurd (cc)) tt, refl), ((refl, quietly (refl, record { basis = record { head = refl; chain = root_a ∷ []; read = (refl, refl); alive = refl }; content = helped_term; placed = refl; fits = term_fits; due = helps; unset = λ page e. absurd (cc) }) tt, refl), ((refl, quietly tt tt, refl), ((refl, quietly (refl, tt, λ page e. absurd (cc)) tt, refl), ((refl, quietly (refl, record { basis = record { head = refl; chain = upper_c ∷ []; read = (refl, refl); alive = refl }; content = other_put; placed = refl; fits = put_fits; due = updates; unset = λ page e. absurd (cc) }) tt, refl), ((refl, record { may = refl; frees = tt; replied = (refl, inserted) }, refl), comes_late)))))))
+finishes =
+    (refl, quietly tt tt, refl)
+    ▸ (refl, quietly (refl, tt, is_unset [] refl) tt, refl)
+    ▸ (refl, quietly (refl, record { basis = record { head = refl; chain = root_a ∷ []; read = (refl, refl); alive = refl }; content = helped_term; placed = refl; fits = term_fits; due = helps; unset = is_unset [] refl }) tt, refl)
+    ▸ (refl, quietly tt tt, refl)
+    ▸ (refl, quietly (refl, tt, is_unset [] refl) tt, refl)
+    ▸ (refl, quietly (refl, record { basis = record { head = refl; chain = upper_c ∷ []; read = (refl, refl); alive = refl }; content = other_put; placed = refl; fits = put_fits; due = updates; unset = is_unset [] refl }) tt, refl)
+    ▸ (refl, record { may = refl; frees = tt; replied = (refl, inserted) }, refl)
+    ▸ comes_late
 
 -- the second goes from the root to the new leaf
 descends : IsDisciplinedFrom small (take 37 helped_split) (drop 37 helped_split)
-descends = ((refl, quietly refl tt, refl), ((refl, quietly (refl, inl refl) tt, refl), ((refl, quietly (refl, refl) tt, (root_a, refl, refl)), ((refl, quietly (refl, inr child_of_root) tt, refl), ((refl, quietly (refl, refl) tt, (second_split, refl, refl)), ((refl, quietly (refl, refl) tt, (upper_b, refl, refl)), ((refl, quietly (refl, inr right_seen) tt, refl), ((refl, quietly (refl, refl) tt, (upper_c, refl, refl)), finishes))))))))
+descends =
+    (refl, quietly refl tt, refl)
+    ▸ (refl, quietly (refl, inl refl) tt, refl)
+    ▸ (refl, quietly (refl, refl) tt, (root_a, refl, refl))
+    ▸ (refl, quietly (refl, inr child_of_root) tt, refl)
+    ▸ (refl, quietly (refl, refl) tt, (second_split, refl, refl))
+    ▸ (refl, quietly (refl, refl) tt, (upper_b, refl, refl))
+    ▸ (refl, quietly (refl, inr right_seen) tt, refl)
+    ▸ (refl, quietly (refl, refl) tt, (upper_c, refl, refl))
+    ▸ finishes
 
 -- it splits the upper leaf
 divides : IsDisciplinedFrom small (take 29 helped_split) (drop 29 helped_split)
-divides = ((refl, quietly refl tt, refl), ((refl, quietly (refl, inl refl) tt, refl), ((refl, quietly (refl, refl) tt, (root_a, refl, refl)), ((refl, quietly (refl, inr right_of_first) tt, refl), ((refl, quietly (refl, refl) tt, (upper_b, refl, refl)), ((refl, quietly tt tt, refl), ((refl, quietly (refl, (refl, tt, set_by _ 4 Empty _ (λ e. cc) (set_by _ 3 Other _ (λ e. cc) (set_by _ 3 (Ready 4) _ (λ e. cc) (set_by _ 3 Empty _ (λ e. cc) (set_by _ 2 Other _ (λ e. cc) (set_by _ 2 (Ready 2) _ (λ e. cc) (set_by _ 2 Empty _ (λ e. cc) (λ page e. absurd (cc)))))))))) tt, refl), ((refl, quietly (refl, record { basis = record { head = refl; chain = upper_b ∷ []; read = (refl, refl); alive = refl }; content = second_split; placed = refl; fits = second_fits; due = splits_second; unset = set_by _ 4 (Ready 5) _ (λ e. cc) (set_by _ 4 Empty _ (λ e. cc) (set_by _ 3 Other _ (λ e. cc) (set_by _ 3 (Ready 4) _ (λ e. cc) (set_by _ 3 Empty _ (λ e. cc) (set_by _ 2 Other _ (λ e. cc) (set_by _ 2 (Ready 2) _ (λ e. cc) (set_by _ 2 Empty _ (λ e. cc) (λ page e. absurd (cc))))))))) }) tt, refl), descends))))))))
+divides =
+    (refl, quietly refl tt, refl)
+    ▸ (refl, quietly (refl, inl refl) tt, refl)
+    ▸ (refl, quietly (refl, refl) tt, (root_a, refl, refl))
+    ▸ (refl, quietly (refl, inr right_of_first) tt, refl)
+    ▸ (refl, quietly (refl, refl) tt, (upper_b, refl, refl))
+    ▸ (refl, quietly tt tt, refl)
+    ▸ (refl, quietly (refl, (refl, tt, is_unset (drop 2 became) refl)) tt, refl)
+    ▸ (refl, quietly (refl, record { basis = record { head = refl; chain = upper_b ∷ []; read = (refl, refl); alive = refl }; content = second_split; placed = refl; fits = second_fits; due = splits_second; unset = is_unset (drop 1 became) refl }) tt, refl)
+    ▸ descends
 
 -- it splits the leaf and makes a root
 grows : IsDisciplinedFrom small (take 21 helped_split) (drop 21 helped_split)
-grows = ((refl, quietly tt tt, refl), ((refl, quietly (refl, (refl, tt, set_by _ 2 Empty _ (λ e. cc) (λ page e. absurd (cc)))) tt, refl), ((refl, quietly (refl, record { basis = record { head = refl; chain = opening_leaf ∷ []; read = (refl, refl); alive = refl }; content = first_split; placed = refl; fits = first_fits; due = splits_first; unset = set_by _ 2 (Ready 2) _ (λ e. cc) (set_by _ 2 Empty _ (λ e. cc) (λ page e. absurd (cc))) }) tt, refl), ((refl, quietly (refl, inl refl) tt, refl), ((refl, quietly (refl, refl) tt, (first_split, refl, refl)), ((refl, quietly tt tt, refl), ((refl, quietly (refl, (refl, tt, set_by _ 3 Empty _ (λ e. cc) (set_by _ 2 Other _ (λ e. cc) (set_by _ 2 (Ready 2) _ (λ e. cc) (set_by _ 2 Empty _ (λ e. cc) (λ page e. absurd (cc))))))) tt, refl), ((refl, quietly (refl, roots) tt, refl), divides))))))))
+grows =
+    (refl, quietly tt tt, refl)
+    ▸ (refl, quietly (refl, (refl, tt, is_unset (drop 8 became) refl)) tt, refl)
+    ▸ (refl, quietly (refl, record { basis = record { head = refl; chain = opening_leaf ∷ []; read = (refl, refl); alive = refl }; content = first_split; placed = refl; fits = first_fits; due = splits_first; unset = is_unset (drop 7 became) refl }) tt, refl)
+    ▸ (refl, quietly (refl, inl refl) tt, refl)
+    ▸ (refl, quietly (refl, refl) tt, (first_split, refl, refl))
+    ▸ (refl, quietly tt tt, refl)
+    ▸ (refl, quietly (refl, (refl, tt, is_unset (drop 5 became) refl)) tt, refl)
+    ▸ (refl, quietly (refl, roots) tt, refl)
+    ▸ divides
 
 -- and writes them
 places : IsDisciplinedFrom small (take 15 helped_split) (drop 15 helped_split)
-places = ((refl, quietly (refl, tt, λ page e. absurd (cc)) tt, refl), ((refl, quietly (refl, tt, λ page e. absurd (cc)) tt, refl), ((refl, quietly (refl, tt, λ page e. absurd (cc)) tt, refl), ((refl, quietly (refl, tt, λ page e. absurd (cc)) tt, refl), ((refl, quietly (refl, tt, λ page e. absurd (cc)) tt, refl), ((refl, quietly (refl, tt, λ page e. absurd (cc)) tt, refl), grows))))))
+places =
+    (refl, quietly (refl, tt, is_unset [] refl) tt, refl)
+    ▸ (refl, quietly (refl, tt, is_unset [] refl) tt, refl)
+    ▸ (refl, quietly (refl, tt, is_unset [] refl) tt, refl)
+    ▸ (refl, quietly (refl, tt, is_unset [] refl) tt, refl)
+    ▸ (refl, quietly (refl, tt, is_unset [] refl) tt, refl)
+    ▸ (refl, quietly (refl, tt, is_unset [] refl) tt, refl)
+    ▸ grows
 
 -- the first takes its rows
 takes : IsDisciplinedFrom small (take 9 helped_split) (drop 9 helped_split)
-takes = ((refl, quietly tt tt, refl), ((refl, quietly tt tt, refl), ((refl, quietly tt tt, refl), ((refl, quietly tt tt, refl), ((refl, quietly tt tt, refl), ((refl, quietly tt tt, refl), places))))))
+takes =
+    (refl, quietly tt tt, refl)
+    ▸ (refl, quietly tt tt, refl)
+    ▸ (refl, quietly tt tt, refl)
+    ▸ (refl, quietly tt tt, refl)
+    ▸ (refl, quietly tt tt, refl)
+    ▸ (refl, quietly tt tt, refl)
+    ▸ places
 
 -- both begin, and the first reads the leaf
 begins : IsDisciplinedFrom small (take 0 helped_split) (drop 0 helped_split)
-begins = ((lit< tt, refl), ((lit< tt, refl), ((refl, quietly tt tt, refl), ((refl, quietly tt tt, refl), ((refl, quietly (refl, lit< tt, refl) tt, refl), ((refl, quietly (refl, lit< tt, refl) tt, refl), ((refl, quietly refl tt, refl), ((refl, quietly (refl, inl refl) tt, refl), ((refl, quietly (refl, refl) tt, (opening_leaf, refl, refl)), takes)))))))))
+begins =
+    (lit< tt, refl)
+    ▸ (lit< tt, refl)
+    ▸ (refl, quietly tt tt, refl)
+    ▸ (refl, quietly tt tt, refl)
+    ▸ (refl, quietly (refl, lit< tt, refl) tt, refl)
+    ▸ (refl, quietly (refl, lit< tt, refl) tt, refl)
+    ▸ (refl, quietly refl tt, refl)
+    ▸ (refl, quietly (refl, inl refl) tt, refl)
+    ▸ (refl, quietly (refl, refl) tt, (opening_leaf, refl, refl))
+    ▸ takes
 
 pub help_disciplined : IsDisciplined small helped_split
 help_disciplined = begins

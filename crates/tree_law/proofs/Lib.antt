@@ -42,7 +42,9 @@ pub mod Reading
 pub mod Relinking
 pub mod Reusing
 pub mod Remark
+pub mod RemovalRun
 pub mod Reused
+pub mod RoomRun
 pub mod Rooting
 pub mod Roots
 pub mod Rows
@@ -53,6 +55,7 @@ pub mod Separate
 pub mod Sides
 pub mod Slots
 pub mod Splitting
+pub mod Standing
 pub mod Stepping
 pub mod Taking
 pub mod SweepRun
@@ -60,6 +63,7 @@ pub mod Terms
 pub mod Timely
 pub mod Timewise
 pub mod Timing
+pub mod Unset
 pub mod Updating
 pub mod Whole
 pub mod UpdateLinks

@@ -1,10 +1,10 @@
 -- What each link of the run puts over a chain fits it.
-use Rattle.std.proofs.Common.{◌≡◌, ◌≢◌, ℕ, ◌≤◌, [], ◌∷◌, Some, None, Bool, true, false, cond, refl, sym, subst, arith}
-use Rattle.std.specs.Prelude.{if◌then◌else◌, not}
+use Rattle.std.proofs.Common.{◌≡◌, ◌≢◌, ℕ, ◌≤◌, [], ◌∷◌, Option, Some, None, Bool, true, false, cond, refl, sym, subst, arith}
+use Rattle.std.specs.Prelude.{if◌then◌else◌, not, is_some, IsTrue}
 use Rattle.std.specs.List.Sorted.{IsStrictlySortedBy}
 use Rattle.std.specs.Ordering.{is_eq}
 use Rattle.std.proofs.lemmas.List.Elements.{All-from_recursion}
-use Rattle.bw_model.specs.Bytes.{key_cmp}
+use Rattle.bw_model.specs.Bytes.{key_cmp, is_under}
 use Rattle.base_page.specs.declared.item.Content.{Content}
 use Rattle.base_page.specs.declared.item.Content.TheVariants.{Child}
 use Rattle.base_page.specs.declared.item.Item.{Item}
@@ -15,17 +15,22 @@ use Rattle.deltas.specs.Applies.{Applies}
 use Rattle.deltas.specs.Spellable.{HasPid, IsPid, IsRow, IsSpellableLink, IsSpellablePage}
 use Rattle.chain_search.specs.Discipline.{FitsOn}
 use Rattle.chain_search.specs.Fitted.{Makes, IsFitted}
-use Rattle.tree_law.specs.Example.{a, item_a, opening_leaf, put_a, upper_a, split_a, root_a, hold_a, remove_a, merge_a, unterm_a, split_b, term_b}
+use Rattle.tree_law.specs.AllLinks.{item_a, put_a, upper_a, split_a, merge_a, unterm_a, split_b, term_b, base_b, deletion_a}
+use Rattle.tree_law.specs.Example.{a, opening_leaf, root_a, hold_a, remove_a}
 use Rattle.tree_law.specs.Keys.{Key, IsBelow}
 use Rattle.tree_law.proofs.KeyOrder.{by_key, by_below, by_range, not_self}
 use Rattle.tree_law.proofs.Making.{base_makes, over_makes, fits_over}
+
+-- an empty leaf over a range
+abbrev pub leaf : Key → Option Key → Option ℕ → Page
+leaf low high right = record { level = 0; low = low; high = high; right = right; removed = false; items = [] }
 
 -- the pages of the run: a leaf with the item over all keys, one that ends at its key, and one that begins there
 abbrev full : Page
 full = record empty_leaf { items = item_a ∷ [] }
 
 abbrev lower : ℕ → Page
-lower right = record empty_leaf { high = Some a; right = Some right }
+lower right = leaf [] (Some a) (Some right)
 
 abbrev upper : Page
 upper = record full { low = a }
@@ -40,9 +45,12 @@ alone = record { level = 1; low = []; high = None; right = None; removed = false
 abbrev pub both : ℕ → Bool → Page
 both child held = record alone { items = first ∷ record { key = a; content = Child child held } ∷ [] }
 
-leaf_page : IsPage empty_leaf
+pub leaf_page : (low : Key) (high : Option Key) (right : Option ℕ) → IsTrue (is_under low high) → IsPage (leaf low high right)
 unfolding IsStrictlySortedBy
-leaf_page = IsPage-from empty_leaf refl (record { few = omega arith; ascending = tt }) tt
+leaf_page low high right spans = IsPage-from (leaf low high right) spans (record { few = omega arith; ascending = tt }) tt
+
+pub leaf_ruled : (low : Key) (high : Option Key) (right : Option ℕ) → IsTrue (is_under low high) → is_some right ≡ is_some high → IsRuled (leaf low high right)
+leaf_ruled low high right spans ends = record { is_page = leaf_page low high right spans; ends = ends; top = omega arith; terms = λ lt. absurd (omega arith) }
 
 full_page : IsPage full
 unfolding IsStrictlySortedBy
@@ -51,10 +59,6 @@ full_page = IsPage-from full refl (record { few = omega arith; ascending = (tt, 
 upper_page : IsPage upper
 unfolding IsStrictlySortedBy
 upper_page = IsPage-from upper refl (record { few = omega arith; ascending = (tt, tt) }) (record { within = refl; kind = refl }, tt)
-
-lower_page : (right : ℕ) → IsPage (lower right)
-unfolding IsStrictlySortedBy
-lower_page right = IsPage-from (lower right) refl (record { few = omega arith; ascending = tt }) tt
 
 alone_page : IsPage alone
 unfolding IsStrictlySortedBy
@@ -68,7 +72,7 @@ full_ruled : IsRuled full
 full_ruled = record { is_page = full_page; ends = refl; top = omega arith; terms = λ lt. absurd (omega arith) }
 
 lower_ruled : (right : ℕ) → IsRuled (lower right)
-lower_ruled right = record { is_page = lower_page right; ends = refl; top = omega arith; terms = λ lt. absurd (omega arith) }
+lower_ruled right = leaf_ruled [] (Some a) (Some right) refl refl
 
 upper_ruled : IsRuled upper
 upper_ruled = record { is_page = upper_page; ends = refl; top = omega arith; terms = λ lt. absurd (omega arith) }
@@ -122,6 +126,10 @@ remove_applies : Applies upper remove_a (record upper { removed = true })
 unfolding IsStrictlySortedBy
 remove_applies = record { ascending = (tt, tt); contents = λ key. refl; level = refl; low = refl; high = refl; right = refl; removed = refl }
 
+deletion_applies : Applies upper deletion_a (leaf a None None)
+unfolding IsStrictlySortedBy
+deletion_applies = record { ascending = tt; contents = λ key. by_key key a (λ t. ◌≡◌ {A = Option Content} None (if t then None else (if t then Some item_a.content else None))) (λ same. refl) (λ ne. refl); level = refl; low = refl; high = refl; right = refl; removed = refl }
+
 -- the term at the key is changed, taken out, and put in
 changed : (old new : Content) (key : Key) → content_at (first ∷ record { key = a; content = new } ∷ []) key ≡ (if is_eq (key_cmp key a) then Some new else content_at (first ∷ record { key = a; content = old } ∷ []) key)
 changed old new key = by_key key a (λ t. (if is_eq (key_cmp key []) then Some first.content else (if t then Some new else None)) ≡ (if t then Some new else (if is_eq (key_cmp key []) then Some first.content else (if t then Some old else None))))
@@ -145,7 +153,7 @@ term_applies : Applies alone term_b (both 4 false)
 term_applies = record { ascending = (both_page 4 false).ordered.ascending; contents = given (Child 4 false); level = refl; low = refl; high = refl; right = refl; removed = refl }
 
 leaf_makes : Makes (opening_leaf ∷ []) empty_leaf
-leaf_makes = base_makes empty_leaf leaf_page refl
+leaf_makes = base_makes empty_leaf (leaf_page [] None None refl) refl
 
 put_makes : Makes (put_a ∷ opening_leaf ∷ []) full
 put_makes = over_makes leaf_makes put_applies
@@ -188,6 +196,9 @@ second_fits = (fits_over merge_makes (record { alive = refl; level = refl; cover
 
 pub term_fits : FitsOn (unterm_a ∷ hold_a ∷ root_a ∷ []) term_b
 term_fits = (fits_over unterm_makes (record { alive = refl; level = refl; index = omega arith; covered = refl; absent = refl; room = omega arith }) term_applies (both_ruled 4 false) refl (omega arith, (linked 1 9 a 4 (omega arith) (omega arith, omega arith) (λ e. cc) (omega arith, omega arith))), omega arith)
+
+pub deletion_fits : FitsOn (base_b ∷ []) deletion_a
+deletion_fits = (fits_over (base_makes upper upper_page refl) (record { alive = refl; leaf = refl; covered = refl }) deletion_applies (leaf_ruled a None None refl refl) refl (omega arith, omega arith), omega arith)
 
 -- the bases of the upper pages, and of the root
 pub upper_fitted : IsFitted (upper_a ∷ [])

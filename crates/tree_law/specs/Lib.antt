@@ -1,4 +1,5 @@
 pub mod Direct
+pub mod AllLinks
 pub mod Example
 pub mod Fitness
 pub mod HelpedSplit
@@ -8,13 +9,16 @@ pub mod Laws
 pub mod Limbos
 pub mod Next
 pub mod Own
+pub mod NoRoom
 pub mod Owners
 pub mod Phase
 pub mod Phases
 pub mod Put
+pub mod Removal
 pub mod Replies
 pub mod Shared
 pub mod State
+pub mod Sweep
 pub mod Times
 pub mod TraceLaws
 pub mod Tree

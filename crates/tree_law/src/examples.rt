@@ -1,11 +1,16 @@
 //! That the premises of the law can be met.
+ghost use Rattle.std.specs.Prelude.{◌++◌};
 ghost use Rattle.chain_search.specs.Disciplined.{IsDisciplined};
-ghost use Rattle.tree_law.specs.Example.{ExampleLaw, SweepLaw, small};
+ghost use Rattle.tree_law.specs.AllLinks.{all_links};
+ghost use Rattle.tree_law.specs.Example.{small};
 ghost use Rattle.tree_law.specs.HelpedSplit.{helped_split};
+ghost use Rattle.tree_law.specs.NoRoom.{no_room};
+ghost use Rattle.tree_law.specs.Removal.{removal};
+ghost use Rattle.tree_law.specs.Sweep.{sweep};
 
-/// A run of one actor that makes each link but a delete, each step allowed by what it knows and answered by the memory.
+/// A run of one actor that makes each link.
 pub fn all_links_are_disciplined()
-    ensures { ExampleLaw }
+    ensures { IsDisciplined small all_links }
 {}
 
 /// A run of two actors: one helps the other's split, whose own exchange for it loses.
@@ -13,7 +18,17 @@ pub fn helped_split_is_disciplined()
     ensures { IsDisciplined small helped_split }
 {}
 
-/// Afterwards the actor frees what it took out of the tree, and takes it again.
+/// After the first run its actor frees what it took out of the tree, and takes it again.
 pub fn sweep_is_disciplined()
-    ensures { SweepLaw }
+    ensures { IsDisciplined small (all_links ++ sweep) }
+{}
+
+/// A run of two actors: one removes a leaf, from which the other replies, and then from the leaf on its right.
+pub fn removal_is_disciplined()
+    ensures { IsDisciplined small removal }
+{}
+
+/// A run of one actor that takes each row, and replies that nothing is free for its update.
+pub fn no_room_is_disciplined()
+    ensures { IsDisciplined small no_room }
 {}

@@ -1,5 +1,5 @@
-use Rattle.tree_law.proofs.LinkRun.{makes_all_links}
+use Rattle.tree_law.proofs.LinkRun.{all_links_disciplined}
 use Rattle.tree_law.proofs.examples.all_links_are_disciplined.Goals as goal
 
 pub returns : goal.returns
-returns c = makes_all_links
+returns c = all_links_disciplined
