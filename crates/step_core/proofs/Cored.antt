@@ -82,7 +82,7 @@ module _ (limits : Limits) where
     same_limits = same;
     has = has;
     count = count;
-    each_shows = λ a at e. rw (each a at e) (record { hand = record { rows = λ k d h. absurd (omega arith); room = omega arith }; rests = record { outside = refl; pageless = λ page. refl; spare = tt } });
+    each_shows = λ a at e. rw (each a at e) (record { shows = record { hand = record { rows = λ k d h. absurd (omega arith); room = omega arith }; rests = record { outside = refl; pageless = λ page. refl; spare = tt } }; holds = λ row own. absurd own });
     each_running = λ a at e. rw (each a at e) refl;
     each_pays = λ a at e. rw (each a at e) (tt, λ operation last own. cc);
   })
@@ -114,9 +114,9 @@ module _ (limits : Limits) where
       let shows = core.each_shows i old found in (
         goes.0,
         rw same lt,
-        (shows, subst (λ m. IsServedAt limits (knows entries i) m old.running) (sym core.has) (served_at limits entries core.state law i old.hand old.running shows)),
+        (shows, subst (λ m. IsServedAt limits (knows entries i) m old.running) (sym core.has) (served_at limits entries core.state law i old.hand old.running shows.shows)),
         ap is_some (core.each_running i old found) ∙ goes.1,
-        within_at limits entries core.state law i table core.same_limits core.has goes.0 old.hand old.running shows,
+        within_at limits entries core.state law i table core.same_limits core.has goes.0 old.hand old.running shows.shows,
       )
 
   pub core_begun : BeginLaw → (table : Table) (actors : List Actor) (entries entries' : List Entry) (i j : ℕ) (new : Actor) (command : Command) → IsCore limits table actors entries

@@ -32,7 +32,7 @@ idle_at limits actor k spares running e h = idle_of limits actor k spares runnin
 
 pub ready_some : (limits : Limits) (actor : ℕ) (k : Knowledge) (memory : Memory) (at : Actor) (running : Running) → at.running ≡ Some running → IsReady limits actor k memory at
     → IsRunning limits actor k at.hand running × IsServed limits k memory running.wanted
-ready_some limits actor k memory at running e h = let P : Option Running → Type 0 = λ o. IsAt limits actor k at.hand o × IsServedAt limits k memory o in subst P e h
+ready_some limits actor k memory at running e h = let P : Option Running → Type 0 = λ o. IsAt limits actor k at.hand o × IsServedAt limits k memory o in subst P e (h.0.shows, h.1)
 
 -- the table has what the step asks for, which is the one that is wanted
 pub within_some : (table : Table) (actor : ℕ) (o : Option Running) (running : Running) → o ≡ Some running → IsWithinAt table actor o → IsWithinTable table actor running.wanted

@@ -18,6 +18,7 @@ use Rattle.installs.specs.Within.{IsWithin}
 use Rattle.op_machine.specs.Wants.{rows_in_flight}
 use Rattle.step_core.specs.declared.actor.Actor.{Actor}
 use Rattle.step_core.specs.declared.actor.Running.{Running}
+use Rattle.step_core.specs.Holding.{HoldsAll, held_by}
 
 -- An operation that is under way, with the step that it wants, which its actor may take by what it knows.
 pub record IsRunning (limits : Limits) (actor : ℕ) (k : Knowledge) (spares : List ℕ) (running : Running) : Type 0 where
@@ -36,9 +37,11 @@ abbrev pub IsAt : Limits → ℕ → Knowledge → List ℕ → Option Running �
 IsAt limits actor k spares None = IsIdle limits k spares
 IsAt limits actor k spares (Some running) = IsRunning limits actor k spares running
 
--- What the actor keeps shows what it knows.
-abbrev pub IsActor : Limits → ℕ → Knowledge → Actor → Type 0
-IsActor limits actor k at = IsAt limits actor k at.hand at.running
+-- What the actor keeps shows what it knows. The rows that its entries show as taken and not linked are exactly those that it
+-- holds, its spares and the one in flight; and it has taken no PID.
+pub record IsActor (limits : Limits) (actor : ℕ) (k : Knowledge) (at : Actor) : Type 0 where
+  pub shows : IsAt limits actor k at.hand at.running
+  pub holds : HoldsAll k (held_by at.running at.hand)
 
 -- Whatever the memory answers to the step fits what the actor knows, and shows the only leaf.
 abbrev pub IsServed : Limits → Knowledge → Memory → StepOf Record → Type 0

@@ -1,6 +1,6 @@
+pub mod Holding
 pub mod Actors
 pub mod Spending
-pub mod Holding
 pub mod Cores
 pub mod Listed
 pub mod Turns
