@@ -4,8 +4,8 @@
 mod chain;
 mod chain_part;
 mod examples;
-mod free_bits;
 mod laws;
+mod shared;
 mod table;
 #[cfg(test)]
 mod tests;
@@ -21,5 +21,6 @@ pub use laws::{
     chain_is_one, command_grows, learnt_stays, memory_grows, run_grows, run_shrinks,
     side_chain_is_one, updates_fit,
 };
+pub use shared::{SharedEntry, SharedRecord, answer_of, shared_step, step_again, step_of};
 pub use table::Table;
 pub use trace::{Entry, Turn};

@@ -11,22 +11,22 @@ use step_core::{Core, Event, RunError, run};
 /// How many bytes each heap has more than the one before: as many as a heap gives at least.
 const STEP: usize = 16;
 
-/// The same where only growths of the trace are to be told apart, each of an entry at least.
-const LONG_STEP: usize = 2048;
+/// Before which of the turns below memory is wanted: where the trace has to grow, and for each record that is placed, at 8 and 20.
+const WANTS: [u64; 5] = [0, 4, 8, 16, 20];
 
-fn insert(value: &[u8]) -> Turn {
-    let key = Key::from_slice(b"k").unwrap_or_default();
-    Turn::Begin(
-        0,
-        Command::Insert(key, Value::from_slice(value).unwrap_or_default()),
-    )
+fn insert(key: Key, value: Value) -> Turn {
+    Turn::Begin(0, Command::Insert(key, value))
 }
 
-/// An insert of an absent key, of ten steps, and one of the same key, of seven.
-fn inserts(alloc: Global) -> Result<Vec<Turn>, AllocError> {
-    let mut turns = vec![in alloc; Turn::Step(0); 19]?;
-    turns[0] = insert(b"1");
-    turns[11] = insert(b"2");
+fn upsert(key: Key, value: Value) -> Turn {
+    Turn::Begin(0, Command::Upsert(key, value))
+}
+
+/// An insert of an absent key, of ten steps, and an upsert of the same key, of eleven.
+fn updates(alloc: Global) -> Result<Vec<Turn>, AllocError> {
+    let mut turns = vec![in alloc; Turn::Step(0); 23]?;
+    turns[0] = insert(Key::default(), Value::default());
+    turns[11] = upsert(Key::default(), Value::default());
     Ok(turns)
 }
 
@@ -63,13 +63,13 @@ fn run_error(
 #[test]
 fn run_wants_memory(rt: HostRuntime) -> Result<(), Fail> {
     let limits = Limits::new(1, 64, 64, 1)?;
-    let turns = inserts(rt.alloc())?;
-    let mut growths = [0, 1, 2, 4, 8, 16].as_slice().iter();
+    let turns = updates(rt.alloc())?;
+    let mut wants = WANTS.as_slice().iter();
     let mut last = None;
-    for step in 1..1_000usize {
-        let error = run_error(rt.alloc(), limits, turns.as_slice(), LONG_STEP * step)?;
+    for step in 1..10_000usize {
+        let error = run_error(rt.alloc(), limits, turns.as_slice(), STEP * step)?;
         if error != last {
-            assert_eq!(rt; error, growths.next().map(|turn| RunError::Memory(*turn)));
+            assert_eq!(rt; error, wants.next().map(|turn| RunError::Memory(*turn)));
         }
         last = error;
     }
@@ -135,7 +135,7 @@ fn is_refused<'a>(
     Ok((event == twin.turn(turn.clone()?) && are_alike(alloc, core, twin)).then_some(refused))
 }
 
-/// Takes the turns so, up to one that is not refused exactly where the trace has to grow, and says how many were taken.
+/// Takes the turns so, up to one that is not refused exactly where memory is wanted, and says how many were taken.
 fn all_refused<'a>(
     alloc: Global,
     heap: &'a LocalHeap,
@@ -144,8 +144,8 @@ fn all_refused<'a>(
     turns: &[Turn],
 ) -> Result<u64, AllocError> {
     for turn in turns {
-        let grows = [0u64, 1, 2, 4, 8, 16].contains(&core.turns());
-        if is_refused(alloc, heap, core, twin, turn)? != Some(grows) {
+        let wants = WANTS.contains(&core.turns());
+        if is_refused(alloc, heap, core, twin, turn)? != Some(wants) {
             break;
         }
     }
@@ -171,11 +171,11 @@ fn taken_by_twins(
 #[test]
 fn turn_wants_memory(rt: HostRuntime) -> Result<(), Fail> {
     let limits = Limits::new(1, 64, 64, 1)?;
-    let turns = inserts(rt.alloc())?;
+    let turns = updates(rt.alloc())?;
     let heap = LocalHeap::new(rt.alloc(), 1 << 22)?;
     assert_eq!(rt;
         taken_by_twins(rt.alloc(), &heap, limits, turns.as_slice())?,
-        19
+        23
     );
     Ok(())
 }
@@ -199,14 +199,14 @@ fn listing_error(alloc: Global, core: &Core, size: usize) -> Result<Option<RunEr
 #[test]
 fn listing_wants_memory(rt: HostRuntime) -> Result<(), Fail> {
     let mut core = Core::open(rt.alloc(), Limits::new(1, 64, 64, 1)?)?;
-    let turns = inserts(rt.alloc())?;
+    let turns = updates(rt.alloc())?;
     assert!(rt; are_taken(&mut core, turns.as_slice()));
     for step in 1..10_000usize {
         let Some(error) = listing_error(rt.alloc(), &core, STEP * step)? else {
             assert!(rt; step > 1);
             return Ok(());
         };
-        assert_eq!(rt; error, RunError::Memory(19));
+        assert_eq!(rt; error, RunError::Memory(23));
     }
     assert!(rt; false);
     Ok(())

@@ -1,7 +1,7 @@
 //! Runs by hand, with the counts of steps and the replies that are wanted of them.
 
 use bw_model::{Command, Key, Limits, Link, Reply, Value};
-use chain_search::{Entry, Turn};
+use chain_search::{Entry, SharedEntry, Turn};
 use std::alloc::{AllocError, Global};
 use std::test::Fail;
 use step_core::{Core, Event, RunError, run};
@@ -139,9 +139,9 @@ fn inserts(alloc: Global) -> Result<Vec<Turn>, AllocError> {
 }
 
 /// The reply of a step.
-fn reply_of(entry: &Entry) -> Option<&Reply> {
-    match entry {
-        Entry::Step(_, _, _, reply) => reply.as_ref(),
+fn reply_of(entry: &SharedEntry) -> Option<Reply> {
+    match entry.entry() {
+        Entry::Step(_, _, _, reply) => reply,
         Entry::Begin(_, _) => None,
     }
 }
@@ -151,8 +151,8 @@ fn runs_all_turns(rt: HostRuntime) -> Result<(), Fail> {
     let turns = inserts(rt.alloc())?;
     let trace = run(rt.alloc(), Limits::new(1, 64, 64, 1)?, turns.as_slice())?;
     assert_eq!(rt; trace.entries.len(), 19);
-    assert!(rt; reply_of(&trace.entries[10]) == Some(&Reply::Inserted));
-    assert!(rt; reply_of(&trace.entries[18]) == Some(&Reply::Exists(value(b"2"))));
+    assert!(rt; reply_of(&trace.entries[10]) == Some(Reply::Inserted));
+    assert!(rt; reply_of(&trace.entries[18]) == Some(Reply::Exists(value(b"2"))));
     Ok(())
 }
 

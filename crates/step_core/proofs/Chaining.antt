@@ -44,12 +44,3 @@ is_left rows row at front chain read is = let (rest, whole, more) = read chain i
     go (newest ∷ under) whole more =
         let long : length chain ≡ length front + length (newest ∷ under) = ap length whole ∙ length-append front (newest ∷ under) in
         (omega arith, λ none. cc (more.0, none))
-
--- a chain of fewer rows is one of more rows
-pub chain_kept : (rows more : ℕ → Option Record) → ((row : ℕ) (content : Record) → rows row ≡ Some content → more row ≡ Some content) → (row : ℕ) (chain : List Record) → IsChainFrom rows row chain → IsChainFrom more row chain
-chain_kept rows more kept row [] is = absurd is
-chain_kept rows more kept row (newest ∷ under) is = (kept row newest is.0, go (next_row newest) (λ at. chain_kept rows more kept at under) is.1)
-  where
-    go : (next : Option ℕ) → ((at : ℕ) → IsChainFrom rows at under → IsChainFrom more at under) → MatchOption next (under ≡ []) (λ at. IsChainFrom rows at under) → MatchOption next (under ≡ []) (λ at. IsChainFrom more at under)
-    go None each ends = ends
-    go (Some at) each stands = each at stands

@@ -1,7 +1,7 @@
 -- What a turn makes of a core.
 use Rattle.std.proofs.Common.{◌≡◌, ◌≢◌, ◌<◌, inl, inr, ℕ, List, [], ◌∷◌, ◌++◌, length, Some, None, Option, Bool, true, false, set, get_or, ltb, arith, refl, sym, ap, subst, ◌∙◌}
 use Rattle.std.specs.Prelude.{slice_get, is_some, if◌then◌else◌}
-use Rattle.std.proofs.lemmas.Bool.{ltb-true}
+use Rattle.std.proofs.lemmas.Bool.{lt-ltb, ltb-true}
 use Rattle.bw_model.specs.declared.command.Command.{Command}
 use Rattle.bw_model.specs.declared.command.Reply.{Reply}
 use Rattle.bw_model.specs.declared.limits.Limits.{Limits}
@@ -13,28 +13,24 @@ use Rattle.chain_search.specs.declared.trace.Entry.TheVariants.{Begin, Step}
 use Rattle.chain_search.specs.declared.trace.Turn.TheVariants as turn
 use Rattle.deltas.specs.Memory.{opening}
 use Rattle.chain_search.specs.Steps.{IsAnswer, memory_after}
+use Rattle.chain_search.specs.Tables.{Table, memory_in}
 use Rattle.chain_search.specs.Trace.{command_of, commands_after, memory_of}
 use Rattle.step_core.specs.declared.actor.Actor.{Actor}
 use Rattle.chain_search.specs.Discipline.{May}
 use Rattle.op_machine.specs.OneLeaf.{IsPlainMove}
 use Rattle.chain_search.specs.Knowledge.{Knowledge, begun, finished, knows, knows_after, learn}
-use Rattle.tree_law.specs.Direct.{Accounts, IsDirectState, StaysDirect}
 use Rattle.core_law.specs.Laws.{AnswersShowLeaf, PlainSteps}
-use Rattle.core_law.specs.State.{IsState}
+use Rattle.tree_law.specs.Direct.{Accounts, IsDirectState, StaysDirect}
 use Rattle.tree_law.specs.Own.{RowsAreApart}
 use Rattle.tree_law.specs.TraceLaws.{Begins, Grows}
+use Rattle.core_law.specs.State.{IsState}
 use Rattle.chain_search.specs.Recalled.{IsSpent, Recalled, blank, recall, recalls, recalls_after}
-use Rattle.installs.specs.Within.{IsWithin}
-use Rattle.step_core.specs.Actors.{IsActor, IsPlainlyAllowed, IsReady, command_left, knows_then, running_command}
-use Rattle.step_core.specs.Cells.{Cells, AreSound}
-use Rattle.step_core.specs.CellSteps.{Takes}
-use Rattle.step_core.specs.Represents.{Asks, Represents, is_placed}
-use Rattle.step_core.proofs.Lawful.{asks, served_at}
-use Rattle.step_core.proofs.Representing.{takes}
+use Rattle.step_core.specs.Actors.{IsActor, IsPlainlyAllowed, IsReady, IsServedAt, IsWithinAt, command_left, knows_then, running_command}
+use Rattle.step_core.proofs.Lawful.{Asks, asks, is_placed, served_at, within_at}
 use Rattle.step_core.specs.Cores.{IsCore, Pays}
 use Rattle.step_core.specs.Spending.{RecallsAt, Spends, left_at}
-use Rattle.step_core.specs.Turns.{Core, refused_by, refusal_of}
-use Rattle.step_core.proofs.Replaced.{get_is, replaced_other, replaced_same, set_cases, set_length}
+use Rattle.step_core.specs.Turns.{Core, busy_of, refused_by, refusal_of}
+use Rattle.step_core.proofs.Replaced.{get_below, get_is, replaced_other, replaced_same, set_cases, set_length}
 
 -- a begin that isn't refused
 pub begin_goes : (core : Core) (i : ℕ) (command : Command) → refusal_of core (turn.Begin i command) ≡ None → (i < core.limits.actors) × (command_of core.entries i ≡ None)
@@ -80,50 +76,62 @@ pays_set limits actors entries entry i new grows each own others stays a at e = 
 ]
 
 module _ (limits : Limits) where
-  pub core_opens : (cells : Cells) (actors : List Actor) (entries : List Entry) → AreSound limits cells → Represents limits cells (opening limits) → length actors ≡ limits.actors
-      → ((a : ℕ) (at : Actor) → slice_get actors a ≡ Some at → at ≡ record { hand = []; running = None }) → IsState limits [] → IsDirectState limits [] → entries ≡ [] → IsCore limits cells actors entries
-  core_opens cells actors entries sound is count each state direct none = rw none (record {
+  pub core_opens : (table : Table) (actors : List Actor) (entries : List Entry) → table.limits ≡ limits → memory_in table ≡ opening limits → length actors ≡ limits.actors
+      → ((a : ℕ) (at : Actor) → slice_get actors a ≡ Some at → at ≡ record { hand = []; running = None }) → IsState limits [] → IsDirectState limits [] → entries ≡ [] → IsCore limits table actors entries
+  core_opens table actors entries same has count each state direct none = rw none (record {
     state = state;
     direct = direct;
-    cells_sound = sound;
-    represented = is;
+    same_limits = same;
+    has = has;
     count = count;
-    each_shows = λ a at e. rw (each a at e) (record { hand = record { rows = λ k d h. absurd (omega arith); room = omega arith }; rests = record { outside = refl; pageless = λ page. refl; spare = tt } });
+    each_shows = λ a at e. rw (each a at e) (record { shows = record { hand = record { rows = λ k d h. absurd (omega arith); room = omega arith }; rests = record { outside = refl; pageless = λ page. refl; spare = tt } }; holds = λ row own. absurd own });
     each_running = λ a at e. rw (each a at e) refl;
     each_pays = λ a at e. rw (each a at e) (tt, λ operation last own. cc);
   })
 
   -- the actor of a turn that isn't refused
-  pub core_begins : (cells : Cells) (actors : List Actor) (entries : List Entry) (i j : ℕ) (old : Actor) (command : Command) → IsCore limits cells actors entries
+  pub core_begins : (table : Table) (actors : List Actor) (entries : List Entry) (i j : ℕ) (old : Actor) (command : Command) → IsCore limits table actors entries
       → (room : ℕ) (v : Core) → record { limits = limits; entries = entries; room = room } ≡ v → refusal_of v (turn.Begin i command) ≡ None → j ≡ i → old ≡ get_or actors j old
       → (j < length actors) × IsActor limits i (knows entries i) old × (running_command old ≡ None)
-  core_begins cells actors entries i j old command core room v is refusal same at =
+  core_begins table actors entries i j old command core room v is refusal same at =
       let goes : (i < limits.actors) × (command_of entries i ≡ None) = begin_goes (record { limits = limits; entries = entries; room = room }) i command (subst (λ u. refusal_of u (turn.Begin i command) ≡ None) (sym is) refusal) in
       let lt : i < length actors = rw core.count goes.0 in
       let found : slice_get actors i ≡ Some old = get_is actors i old lt (subst (λ k. old ≡ get_or actors k old) same at) in
       (rw same lt, core.each_shows i old found, core.each_running i old found ∙ goes.1)
 
-  pub core_asks : RowsAreApart → AnswersShowLeaf → (cells : Cells) (actors : List Actor) (entries : List Entry) (i j : ℕ) (old : Actor) → IsCore limits cells actors entries
+  -- whether an actor that there is has an operation
+  pub core_busy : (table : Table) (actors : List Actor) (entries : List Entry) (i : ℕ) (at : Actor) → IsCore limits table actors entries → (room : ℕ) (v : Core) → record { limits = limits; entries = entries; room = room } ≡ v
+      → slice_get actors i ≡ Some at → Some (is_some (running_command at)) ≡ busy_of v i
+  core_busy table actors entries i at core room v is found =
+      let lt : i < limits.actors = rw (← core.count) (get_below actors i at found) in
+      rw (← is, lt-ltb i limits.actors lt, core.each_running i at found) refl
+
+  pub core_asks : RowsAreApart → AnswersShowLeaf → (table : Table) (actors : List Actor) (entries : List Entry) (i j : ℕ) (old : Actor) → IsCore limits table actors entries
       → (room : ℕ) (v : Core) → record { limits = limits; entries = entries; room = room } ≡ v → refusal_of v (turn.Step i) ≡ None → j ≡ i → old ≡ get_or actors j old
-      → (i < limits.actors) × (j < length actors) × IsReady limits i (knows entries i) cells old × (is_some (running_command old) ≡ true)
-  core_asks apart fit cells actors entries i j old core room v is refusal same at =
+      → (i < limits.actors) × (j < length actors) × IsReady limits i (knows entries i) (memory_in table) old × (is_some (running_command old) ≡ true) × IsWithinAt table i old.running
+  core_asks apart fit table actors entries i j old core room v is refusal same at =
       let goes : (i < limits.actors) × (is_some (command_of entries i) ≡ true) = step_goes (record { limits = limits; entries = entries; room = room }) i (subst (λ u. refusal_of u (turn.Step i) ≡ None) (sym is) refusal) in
       let lt : i < length actors = rw core.count goes.0 in
       let found : slice_get actors i ≡ Some old = get_is actors i old lt (subst (λ k. old ≡ get_or actors k old) same at) in
-      let shows = core.each_shows i old found in
-      (goes.0, rw same lt, (shows, served_at limits entries core.state apart i fit cells core.represented core.cells_sound goes.0 old.hand old.running shows), ap is_some (core.each_running i old found) ∙ goes.1)
+      let shows = core.each_shows i old found in (
+        goes.0,
+        rw same lt,
+        (shows, subst (λ m. IsServedAt limits (knows entries i) m old.running) (sym core.has) (served_at limits entries core.state apart i fit old.hand old.running shows.shows)),
+        ap is_some (core.each_running i old found) ∙ goes.1,
+        within_at limits entries core.state apart i table core.same_limits core.has goes.0 old.hand old.running shows.shows,
+      )
 
-  pub core_begun : Begins IsState → (cells : Cells) (actors : List Actor) (entries entries' : List Entry) (i j : ℕ) (new : Actor) (command : Command) → IsCore limits cells actors entries
+  pub core_begun : Begins IsState → (table : Table) (actors : List Actor) (entries entries' : List Entry) (i j : ℕ) (new : Actor) (command : Command) → IsCore limits table actors entries
       → (room : ℕ) (v : Core) → record { limits = limits; entries = entries; room = room } ≡ v → refusal_of v (turn.Begin i command) ≡ None → j ≡ i
       → IsActor limits i (begun (knows entries i) command) new → running_command new ≡ Some command → ((r : Recalled) → RecallsAt new.running r) → Grows limits entries (Begin i command) → StaysDirect limits entries (Begin i command) i (left_at new.running)
-      → entries' ≡ entries ++ Begin i command ∷ [] → IsCore limits cells (set actors j new) entries'
-  core_begun begins cells actors entries entries' i j new command core room v is refusal same shows runs recalled grows stays grown =
+      → entries' ≡ entries ++ Begin i command ∷ [] → IsCore limits table (set actors j new) entries'
+  core_begun begins table actors entries entries' i j new command core room v is refusal same shows runs recalled grows stays grown =
       let goes : (i < limits.actors) × (command_of entries i ≡ None) = begin_goes (record { limits = limits; entries = entries; room = room }) i command (subst (λ u. refusal_of u (turn.Begin i command) ≡ None) (sym is) refusal) in
       rw (grown, same) (record {
         state = begins limits entries i command core.state goes.0 goes.1;
         direct = stays.state;
-        cells_sound = core.cells_sound;
-        represented = rw grows.memory core.represented;
+        same_limits = core.same_limits;
+        has = rw grows.memory core.has;
         count = set_length actors i new ∙ core.count;
         each_shows = rw grows.known (shows_set limits actors i new (knows entries) (knows_after (knows entries) (Begin i command)) core.each_shows
             (subst (λ k. IsActor limits i k new) (sym (replaced_same i (begun (knows entries i) command) (knows entries))) shows)
@@ -144,34 +152,31 @@ module _ (limits : Limits) where
   left_other commands i step answer (Some reply) a other = replaced_other i None commands a other
 
   -- what the step of an actor was
-  pub core_took : RowsAreApart → (cells cells' : Cells) (actors : List Actor) (entries : List Entry) (i : ℕ) (step : StepOf Record) (answer : Answer Record) → IsCore limits cells actors entries → i < limits.actors → IsWithin limits step → Takes i cells step answer cells'
-      → May i (knows entries i) step → IsPlainMove (knows entries i) step → Asks (is_placed (memory_of limits entries)) step × IsAnswer (memory_of limits entries) step answer × Represents limits cells' (memory_after i step (memory_of limits entries))
-  core_took apart cells cells' actors entries i step answer core who within took may plain =
-      let asked : Asks (is_placed (memory_of limits entries)) step = asks limits entries core.state apart i step may plain in
-      let kept = takes limits cells cells' (memory_of limits entries) i step answer core.represented core.cells_sound within who asked took in
-      (asked, kept.0, kept.1)
+  pub core_took : RowsAreApart → (table : Table) (actors : List Actor) (entries : List Entry) (i : ℕ) (step : StepOf Record) (answer : Answer Record) → IsCore limits table actors entries → IsAnswer (memory_in table) step answer
+      → May i (knows entries i) step → IsPlainMove (knows entries i) step → Asks (is_placed (memory_of limits entries)) step × IsAnswer (memory_of limits entries) step answer
+  core_took apart table actors entries i step answer core answered may plain = (asks limits entries core.state apart i step may plain, subst (λ m. IsAnswer m step answer) core.has answered)
 
   -- the actor can afford its step
-  pub core_affords : (cells : Cells) (actors : List Actor) (entries : List Entry) (i j : ℕ) (old new : Actor) (step : StepOf Record) (answer : Answer Record) → IsCore limits cells actors entries → j ≡ i → j < length actors → old ≡ get_or actors j old
+  pub core_affords : (table : Table) (actors : List Actor) (entries : List Entry) (i j : ℕ) (old new : Actor) (step : StepOf Record) (answer : Answer Record) → IsCore limits table actors entries → j ≡ i → j < length actors → old ≡ get_or actors j old
       → Spends old.running step answer new.running
       → Accounts limits entries i (left_at old.running) × IsSpent (recalls entries i) step answer (left_at old.running) (left_at new.running) × RecallsAt new.running (recall (recalls entries i) step answer)
-  core_affords cells actors entries i j old new step answer core same lt at spends =
+  core_affords table actors entries i j old new step answer core same lt at spends =
       let paid = core.each_pays i old (get_is actors i old (rw (sym same) lt) (subst (λ k. old ≡ get_or actors k old) same at)) in
       let spent = spends (recalls entries i) paid.0 in
       (paid.1, spent.1, spent.0)
 
-  pub core_stepped : PlainSteps → (cells cells' : Cells) (actors : List Actor) (entries entries' : List Entry) (i j : ℕ) (old new : Actor) (step : StepOf Record) (answer : Answer Record) (reply : Option Reply) → IsCore limits cells actors entries
+  pub core_stepped : PlainSteps → (table table' : Table) (actors : List Actor) (entries entries' : List Entry) (i j : ℕ) (old new : Actor) (step : StepOf Record) (answer : Answer Record) (reply : Option Reply) → IsCore limits table actors entries
       → j ≡ i → j < length actors → old ≡ get_or actors j old → is_some (running_command old) ≡ true → IsPlainlyAllowed limits i (knows entries i) step reply → IsActor limits i (knows_then (knows entries i) step answer reply) new
-      → running_command new ≡ command_left reply (running_command old) → RecallsAt new.running (recall (recalls entries i) step answer) → Grows limits entries (Step i step answer reply) → StaysDirect limits entries (Step i step answer reply) i (left_at new.running) → AreSound limits cells' → IsAnswer (memory_of limits entries) step answer
-      → Represents limits cells' (memory_after i step (memory_of limits entries)) → entries' ≡ entries ++ Step i step answer reply ∷ [] → IsCore limits cells' (set actors j new) entries'
-  core_stepped plain_steps cells cells' actors entries entries' i j old new step answer reply core same lt at some allowed shows runs recalled grows stays sound' answered kept grown =
+      → running_command new ≡ command_left reply (running_command old) → RecallsAt new.running (recall (recalls entries i) step answer) → Grows limits entries (Step i step answer reply) → StaysDirect limits entries (Step i step answer reply) i (left_at new.running) → table'.limits ≡ table.limits → IsAnswer (memory_of limits entries) step answer
+      → memory_in table' ≡ memory_after i step (memory_in table) → entries' ≡ entries ++ Step i step answer reply ∷ [] → IsCore limits table' (set actors j new) entries'
+  core_stepped plain_steps table table' actors entries entries' i j old new step answer reply core same lt at some allowed shows runs recalled grows stays kept_limits answered kept grown =
       let found : slice_get actors i ≡ Some old = get_is actors i old (rw (sym same) lt) (subst (λ k. old ≡ get_or actors k old) same at) in
       let going : is_some (command_of entries i) ≡ true = ap is_some (sym (core.each_running i old found)) ∙ some in
       rw (grown, same) (record {
         state = plain_steps limits entries i step answer reply core.state going allowed.allowed allowed.plain answered;
         direct = stays.state;
-        cells_sound = sound';
-        represented = rw grows.memory kept;
+        same_limits = kept_limits ∙ core.same_limits;
+        has = rw grows.memory (kept ∙ ap (memory_after i step) core.has);
         count = set_length actors i new ∙ core.count;
         each_shows = rw grows.known (shows_set limits actors i new (knows entries) (knows_after (knows entries) (Step i step answer reply)) core.each_shows
             (subst (λ k. IsActor limits i k new) (sym (replaced_same i (finished (learn (knows entries i) step answer) reply) (knows entries))) shows)

@@ -8,7 +8,9 @@ use Rattle.bw_model.specs.declared.step.Answer.TheVariants as answer
 use Rattle.bw_model.specs.declared.step.Step.{Step as StepOf}
 use Rattle.bw_model.specs.declared.step.Step.TheVariants as step
 use Rattle.deltas.specs.declared.record.Record.{Record}
+use Rattle.deltas.specs.Memory.{Memory}
 use Rattle.chain_search.specs.Knowledge.{Knowledge, finished, learn}
+use Rattle.chain_search.specs.Tables.{IsWithin as IsWithinTable, Table}
 use Rattle.op_machine.specs.declared.op.State.TheVariants.{Begun}
 use Rattle.op_machine.specs.declared.op.Want.TheVariants.{Step, Done}
 use Rattle.installs.specs.Spares.{HaveRoom}
@@ -18,8 +20,7 @@ use Rattle.op_machine.specs.Wants.{IsSameOp, Op, rows_in_flight, wanted_of}
 use Rattle.installs.specs.Within.{IsWithin}
 use Rattle.step_core.specs.declared.actor.Actor.{Actor}
 use Rattle.step_core.specs.declared.actor.Running.{Running}
-use Rattle.step_core.specs.Actors.{IsAt, IsIdle, IsLeft, IsPlainlyAllowed, IsReady, IsRunning, IsServed, IsServedAt, command_at}
-use Rattle.step_core.specs.Cells.{Cells}
+use Rattle.step_core.specs.Actors.{IsAt, IsIdle, IsLeft, IsPlainlyAllowed, IsReady, IsRunning, IsServed, IsServedAt, IsWithinAt, command_at, wanted_by}
 
 -- an actor without an operation, and one with an operation
 idle_of : (limits : Limits) (actor : ℕ) (k : Knowledge) (spares : List ℕ) (running : Option Running) → command_at running ≡ None → IsAt limits actor k spares running → IsIdle limits k spares
@@ -29,9 +30,16 @@ idle_of limits actor k spares (Some running) e h = cc
 pub idle_at : (limits : Limits) (actor : ℕ) (k : Knowledge) (spares : List ℕ) (running : Option Running) → command_at running ≡ None → IsAt limits actor k spares running → IsIdle limits k spares
 idle_at limits actor k spares running e h = idle_of limits actor k spares running e h
 
-pub ready_some : (limits : Limits) (actor : ℕ) (k : Knowledge) (cells : Cells) (at : Actor) (running : Running) → at.running ≡ Some running → IsReady limits actor k cells at
-    → IsRunning limits actor k at.hand running × IsServed limits actor k cells running.wanted
-ready_some limits actor k cells at running e h = let P : Option Running → Type 0 = λ o. IsAt limits actor k at.hand o × IsServedAt limits actor k cells o in subst P e h
+pub ready_some : (limits : Limits) (actor : ℕ) (k : Knowledge) (memory : Memory) (at : Actor) (running : Running) → at.running ≡ Some running → IsReady limits actor k memory at
+    → IsRunning limits actor k at.hand running × IsServed limits k memory running.wanted
+ready_some limits actor k memory at running e h = let P : Option Running → Type 0 = λ o. IsAt limits actor k at.hand o × IsServedAt limits k memory o in subst P e (h.0.shows, h.1)
+
+-- the table has what the step asks for, which is the one that is wanted
+pub within_some : (table : Table) (actor : ℕ) (o : Option Running) (running : Running) → o ≡ Some running → IsWithinAt table actor o → IsWithinTable table actor running.wanted
+within_some table actor o running e h = subst (IsWithinAt table actor) e h
+
+pub wanted_some : (o : Option Running) (running : Running) (asked : StepOf Record) → o ≡ Some running → wanted_by o ≡ Some asked → asked ≡ running.wanted
+wanted_some o running asked e h = same_Some asked running.wanted (sym (subst (λ p. wanted_by p ≡ Some asked) e h))
 
 pub left_idle : (limits : Limits) (actor : ℕ) (k : Knowledge) (spares : List ℕ) (running : Running) (reply : Option Reply) → is_some reply ≡ true → IsLeft limits actor k spares running reply → IsIdle limits k spares
 left_idle limits actor k spares running None e h = cc

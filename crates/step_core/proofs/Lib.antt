@@ -1,13 +1,10 @@
 pub mod Chaining
 pub mod Cored
-pub mod FreeBits
 pub mod Going
 pub mod Lawful
 pub mod Linked
 pub mod Listings
-pub mod Opening
 pub mod Replaced
-pub mod Representing
 pub mod Stopping
 pub mod Spending
 pub mod Holding

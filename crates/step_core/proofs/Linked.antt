@@ -1,6 +1,6 @@
 -- An exchange that won has a link, and no other step has one.
-use Rattle.std.proofs.Common.{◌≡◌, ◌<◌, ℕ, zero, suc, List, [], ◌∷◌, ◌++◌, length, Some, None, Option, Bool, true, false, cond, refl, sym, ap, subst, arith, eqb, ◌∙◌}
-use Rattle.std.specs.Prelude.{slice_get, is_some, IsTrue, if◌then◌else◌}
+use Rattle.std.proofs.Common.{◌≡◌, ◌<◌, ℕ, zero, suc, List, [], ◌∷◌, ◌++◌, Some, None, Option, Bool, true, false, refl, sym, ap, subst, arith, eqb, ◌∙◌}
+use Rattle.std.specs.Prelude.{is_some, IsTrue, if◌then◌else◌}
 use Rattle.std.specs.Option.{option_map}
 use Rattle.std.proofs.lemmas.Bool.Decides.{nat_tests}
 use Rattle.bw_model.specs.declared.command.Reply.{Reply}
@@ -17,55 +17,27 @@ use Rattle.chain_search.specs.declared.trace.Entry.TheVariants as entry
 use Rattle.chain_search.specs.declared.trace.Turn.{Turn}
 use Rattle.chain_search.specs.Trace.{memory_of}
 use Rattle.step_core.specs.declared.event.Event.{Event}
-use Rattle.step_core.specs.Cells.{Cells, AreSound}
 use Rattle.op_machine.specs.Links.{link_without}
-use Rattle.step_core.specs.CellLinks.{exchange_link, link_in, step_event}
-use Rattle.installs.specs.Within.{IsWithin}
 use Rattle.chain_search.specs.Steps.{IsAnswer, memory_after}
 use Rattle.deltas.specs.Memory.{Memory}
 use Rattle.step_core.specs.declared.event.Event.TheVariants.{Stepped}
-use Rattle.step_core.specs.Represents.{Asks, HasHeads, Represents, is_placed}
-use Rattle.step_core.specs.Turns.{AddsTurn, Core, IsEventOf, IsToldBy, is_won, link_told}
+use Rattle.step_core.proofs.Lawful.{Asks, HasHeads, is_placed}
+use Rattle.step_core.specs.Turns.{AddsTurn, Core, IsEventOf, IsToldBy, is_won, link_told, step_event}
 
 positive : (n : ℕ) → eqb n 0 ≡ false → 0 < n
 positive zero e = cc
 positive (suc n) e = omega arith
 
-some_at : {X Y : Type 0} (f : X → Y) (xs : List X) (n : ℕ) → n < length xs → is_some (option_map f (slice_get xs n)) ≡ true
-some_at f [] n h = absurd (omega arith)
-some_at f (x ∷ xs) zero h = refl
-some_at f (x ∷ xs) (suc n) h = some_at f xs n (omega arith)
-
-exchanged : (cells : Cells) (slot old new pids : ℕ) → old < cond (eqb slot 0) pids (length cells.records) → new < cond (eqb slot 0) pids (length cells.records) → is_some (exchange_link cells slot old new) ≡ true
-exchanged cells slot old new pids h k = go (eqb slot 0) (eqb old 0) (eqb new 0) h k
-  where
-    go : (s o n : Bool) → old < cond s pids (length cells.records) → new < cond s pids (length cells.records)
-        → is_some (if s then Some link.Root else (if o then Some link.Ready else (if n then option_map link_without (slice_get cells.records old) else option_map record_link (slice_get cells.records new)))) ≡ true
-    go true o n h k = refl
-    go false true n h k = refl
-    go false false true h k = some_at link_without cells.records old h
-    go false false false h k = some_at record_link cells.records new k
-
-linked : (limits : Limits) (cells : Cells) (step : StepOf Record) (answer : Answer Record) → AreSound limits cells → IsWithin limits step → is_some (link_in cells step answer) ≡ is_won step answer
-linked limits cells (Exchange slot old new) (Whether true) sound within = exchanged cells slot old new limits.pids (rw sound.records within.1) (rw sound.records within.2)
-linked limits cells (Exchange slot old new) (Whether false) sound within = refl
-linked limits cells (Exchange slot old new) Start sound within = refl
-linked limits cells (Exchange slot old new) (Number n) sound within = refl
-linked limits cells (Exchange slot old new) (Content x) sound within = refl
-linked limits cells (Exchange slot old new) Done sound within = refl
-linked limits cells step answer sound within = refl
-
--- the cells have the link that the memory has, where what stands in the rows was placed
-told_at : {X Y : Type 0} (f : X → Y) (o p : Option X) → ((x : X) → o ≡ Some x → p ≡ Some x) → IsTrue (is_some o) → option_map f p ≡ option_map f o
-told_at f None p same some = cc
-told_at f (Some x) p same some = ap (option_map f) (same x refl)
-
 eqb_is : (a b : ℕ) → eqb a b ≡ true → a ≡ b
 eqb_is a b h = grind (arith, nat_tests)
 
-told : (limits : Limits) (cells : Cells) (memory : Memory) (actor : ℕ) (step : StepOf Record) (answer : Answer Record) → Represents limits cells (memory_after actor step memory) → HasHeads memory → Asks (is_placed memory) step
-    → IsAnswer memory step answer → link_in cells step answer ≡ link_told memory step answer
-told limits cells memory actor (Exchange slot old new) (Whether true) is closed asks answered = go (eqb slot 0) refl (eqb old 0) refl (eqb new 0) refl
+some_at : {X Y : Type 0} (f : X → Y) (o : Option X) → IsTrue (is_some o) → is_some (option_map f o) ≡ true
+some_at f None some = cc
+some_at f (Some x) some = refl
+
+-- An exchange that won has a link, and no other step has one.
+linked : (memory : Memory) (step : StepOf Record) (answer : Answer Record) → HasHeads memory → Asks (is_placed memory) step → IsAnswer memory step answer → is_some (link_told memory step answer) ≡ is_won step answer
+linked memory (Exchange slot old new) (Whether true) closed asks answered = go (eqb slot 0) refl (eqb old 0) refl (eqb new 0) refl
   where
     before : memory.slots slot ≡ old
     before = eqb_is (memory.slots slot) old (won (eqb (memory.slots slot) old) answered)
@@ -77,28 +49,36 @@ told limits cells memory actor (Exchange slot old new) (Whether true) is closed 
         won t e = cc
 
     go : (s : Bool) → eqb slot 0 ≡ s → (o : Bool) → eqb old 0 ≡ o → (n : Bool) → eqb new 0 ≡ n
-        → (if s then Some link.Root else (if o then Some link.Ready else (if n then option_map link_without (slice_get cells.records old) else option_map record_link (slice_get cells.records new))))
-        ≡ (if s then Some link.Root else (if o then Some link.Ready else (if n then option_map link_without (memory.rows old) else option_map record_link (memory.rows new))))
+        → is_some (if s then Some link.Root else (if o then Some link.Ready else (if n then option_map link_without (memory.rows old) else option_map record_link (memory.rows new)))) ≡ true
     go true s o p n q = refl
     go false s true p n q = refl
     go false s false p true q =
-        told_at link_without (memory.rows old) (slice_get cells.records old) (is.rows old)
+        some_at link_without (memory.rows old)
         (subst (λ row. IsTrue (is_placed memory row)) before (closed slot (positive slot s) (subst (λ row. 0 < row) (sym before) (positive old p))))
-    go false s false p false q = told_at record_link (memory.rows new) (slice_get cells.records new) (is.rows new) asks
-told limits cells memory actor (Exchange slot old new) (Whether false) is closed asks answered = refl
-told limits cells memory actor (Exchange slot old new) Start is closed asks answered = refl
-told limits cells memory actor (Exchange slot old new) (Number n) is closed asks answered = refl
-told limits cells memory actor (Exchange slot old new) (Content x) is closed asks answered = refl
-told limits cells memory actor (Exchange slot old new) Done is closed asks answered = refl
-told limits cells memory actor step answer is closed asks answered = refl
+    go false s false p false q = some_at record_link (memory.rows new) asks
+linked memory (Exchange slot old new) (Whether false) closed asks answered = refl
+linked memory (Exchange slot old new) Start closed asks answered = refl
+linked memory (Exchange slot old new) (Number n) closed asks answered = refl
+linked memory (Exchange slot old new) (Content x) closed asks answered = refl
+linked memory (Exchange slot old new) Done closed asks answered = refl
+linked memory step answer closed asks answered = refl
 
-pub event_is : (limits : Limits) (cells : Cells) (memory : Memory) (actor : ℕ) (step : StepOf Record) (answer : Answer Record) (reply : Option Reply) (event : Event) → AreSound limits cells → IsWithin limits step
-    → Represents limits cells (memory_after actor step memory) → HasHeads memory → Asks (is_placed memory) step → IsAnswer memory step answer
-    → event ≡ step_event (link_in cells step answer) reply → IsEventOf memory (entry.Step actor step answer reply) event
-event_is limits cells memory actor step answer None event sound within stands closed asks answered is =
-    let same : link_in cells step answer ≡ link_told memory step answer = told limits cells memory actor step answer stands closed asks answered in
-    (is ∙ ap Stepped same, ap is_some (sym same) ∙ linked limits cells step answer sound within)
-event_is limits cells memory actor step answer (Some reply) event sound within stands closed asks answered is = is
+-- the step doesn't change what its link is said by
+told_after : (memory : Memory) (actor : ℕ) (step : StepOf Record) (answer : Answer Record) → link_told (memory_after actor step memory) step answer ≡ link_told memory step answer
+told_after memory actor (Exchange slot old new) (Whether true) = refl
+told_after memory actor (Exchange slot old new) (Whether false) = refl
+told_after memory actor (Exchange slot old new) Start = refl
+told_after memory actor (Exchange slot old new) (Number n) = refl
+told_after memory actor (Exchange slot old new) (Content x) = refl
+told_after memory actor (Exchange slot old new) Done = refl
+told_after memory actor step answer = refl
+
+pub event_is : (memory after : Memory) (actor : ℕ) (step : StepOf Record) (answer : Answer Record) (reply : Option Reply) (event : Event) → after ≡ memory_after actor step memory → HasHeads memory → Asks (is_placed memory) step
+    → IsAnswer memory step answer → event ≡ step_event (link_told after step answer) reply → IsEventOf memory (entry.Step actor step answer reply) event
+event_is memory after actor step answer None event left closed asks answered is =
+    let same : link_told after step answer ≡ link_told memory step answer = ap (λ m. link_told m step answer) left ∙ told_after memory actor step answer in
+    (is ∙ ap Stepped same, linked memory step answer closed asks answered)
+event_is memory after actor step answer (Some reply) event left closed asks answered is = is
 
 -- the same of equal cores
 pub told_to : (core view : Core) (added : Entry) (event : Event) → core ≡ view → IsEventOf (memory_of core.limits core.entries) added event → IsEventOf (memory_of view.limits view.entries) added event

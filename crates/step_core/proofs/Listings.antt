@@ -1,6 +1,6 @@
 -- The pairs of page 1 are those of the log.
-use Rattle.std.proofs.Common.{◌≡◌, ◌<◌, ℕ, List, [], ◌∷◌, length, map, Bool, true, false, Option, Some, None, refl, sym, subst, ap, ◌∙◌, arith}
-use Rattle.std.specs.Prelude.{IsTrue, slice_get, if◌then◌else◌, ◌↔◌}
+use Rattle.std.proofs.Common.{◌≡◌, ℕ, List, [], ◌∷◌, length, map, Bool, true, false, Option, Some, None, refl, sym, subst, ap, ◌∙◌, arith}
+use Rattle.std.specs.Prelude.{IsTrue, if◌then◌else◌, ◌↔◌}
 use Rattle.std.specs.List.{AllByRecursion, Contains}
 use Rattle.std.specs.List.Sorted.{IsStrictlySortedBy}
 use Rattle.std.specs.Map.{lookup}
@@ -19,7 +19,9 @@ use Rattle.base_page.specs.declared.item.Item.{Item}
 use Rattle.base_page.specs.Pages.{IsOfLevel, content_at, value_in}
 use Rattle.deltas.specs.declared.record.Record.{Record}
 use Rattle.chain_search.specs.declared.trace.Entry.{Entry}
-use Rattle.chain_search.specs.Chains.{IsChainFrom, content_in, level_in}
+use Rattle.chain_search.specs.Chains.{content_in, level_in}
+use Rattle.deltas.specs.Memory.{Memory}
+use Rattle.chain_search.specs.Tables.{Table, memory_in}
 use Rattle.chain_search.specs.Trace.{memory_of}
 use Rattle.core_law.specs.Laws.{LeafStands}
 use Rattle.core_law.specs.State.{HasLeafChain}
@@ -27,12 +29,9 @@ use Rattle.op_machine.proofs.MapLaws.{none_below_empty, one_leaf_spells}
 use Rattle.op_machine.specs.Points.{log_of}
 use Rattle.op_machine.specs.Quiet.{HasMapOf}
 use Rattle.step_core.specs.declared.actor.Actor.{Actor}
-use Rattle.step_core.specs.Cells.{AreSound, Cells}
 use Rattle.step_core.specs.Cores.{IsCore}
 use Rattle.step_core.specs.Listed.{HasPage, IsListing, StandsAt, pairs_of, with_pair}
-use Rattle.step_core.specs.Represents.{Represents}
 use Rattle.step_core.specs.Turns.{Core}
-use Rattle.step_core.proofs.Chaining.{chain_kept}
 
 everywhere : (key : List ℕ) → IsTrue (is_in_range [] None key)
 everywhere key = rw none_below_empty refl
@@ -97,21 +96,15 @@ module _ (limits : Limits) (entries : List Entry) where
         );
       }
 
-  -- the leaf's chain stands in the cells
-  leaf_in_cells : (cells : Cells) → AreSound limits cells → Represents limits cells (memory_of limits entries) → (only : HasLeafChain (memory_of limits entries)) → StandsAt cells 1 only.chain
-  leaf_in_cells cells sound is only =
-      let below : 1 < limits.pids = omega (arith, sound.some_root, sound.root) in
-      record {
-        records = subst (λ row. IsChainFrom (slice_get cells.records) row only.chain) (sym (is.slots 1 below)) (chain_kept _ _ is.rows _ only.chain only.is_chain.records);
-        fits = only.fits;
-      }
+  leaf_in : (memory : Memory) → memory ≡ memory_of limits entries → (only : HasLeafChain (memory_of limits entries)) → StandsAt memory 1 only.chain
+  leaf_in memory is only = rw is (record { records = only.is_chain.records; fits = only.fits })
 
-  module _ (stands : LeafStands) (cells : Cells) (actors : List Actor) (core : IsCore limits cells actors entries) where
-    pub leaf_in_place : (chain : List Record) × StandsAt cells 1 chain
-    leaf_in_place = let only = stands limits entries core.state in (only.chain, leaf_in_cells cells core.cells_sound core.represented only)
+  module _ (stands : LeafStands) (table : Table) (actors : List Actor) (core : IsCore limits table actors entries) where
+    pub leaf_in_place : (chain : List Record) × StandsAt (memory_in table) 1 chain
+    leaf_in_place = let only = stands limits entries core.state in (only.chain, leaf_in (memory_in table) core.has only)
 
     pub core_lists : (room : ℕ) (view : Core) (pairs : List (List ℕ × List ℕ)) → record { limits = limits; entries = entries; room = room } ≡ view
-        → ((chain : List Record) → StandsAt cells 1 chain → HasPage chain pairs) → IsListing view.limits view.entries pairs
+        → ((chain : List Record) → StandsAt (memory_in table) 1 chain → HasPage chain pairs) → IsListing view.limits view.entries pairs
     core_lists room view pairs is lists =
         let only = stands limits entries core.state in
-        subst (λ v. IsListing v.limits v.entries pairs) is (leaf_is_listed only pairs (lists only.chain (leaf_in_cells cells core.cells_sound core.represented only)))
+        subst (λ v. IsListing v.limits v.entries pairs) is (leaf_is_listed only pairs (lists only.chain (leaf_in (memory_in table) core.has only)))

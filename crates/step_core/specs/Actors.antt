@@ -6,8 +6,11 @@ use Rattle.bw_model.specs.declared.limits.Limits.{Limits}
 use Rattle.bw_model.specs.declared.step.Answer.{Answer}
 use Rattle.bw_model.specs.declared.step.Step.{Step as StepOf}
 use Rattle.deltas.specs.declared.record.Record.{Record}
+use Rattle.deltas.specs.Memory.{Memory}
 use Rattle.chain_search.specs.Discipline.{IsAllowed}
 use Rattle.chain_search.specs.Knowledge.{Knowledge, learn, finished}
+use Rattle.chain_search.specs.Steps.{IsAnswer}
+use Rattle.chain_search.specs.Tables.{IsWithin as IsWithinTable, Table}
 use Rattle.installs.specs.Spares.{HaveRoom}
 use Rattle.op_machine.specs.OneLeaf.{FitsOneLeaf, IsPlainMove}
 use Rattle.op_machine.specs.Shows.{Goes, Rests}
@@ -15,8 +18,7 @@ use Rattle.installs.specs.Within.{IsWithin}
 use Rattle.op_machine.specs.Wants.{rows_in_flight}
 use Rattle.step_core.specs.declared.actor.Actor.{Actor}
 use Rattle.step_core.specs.declared.actor.Running.{Running}
-use Rattle.step_core.specs.Cells.{Cells}
-use Rattle.step_core.specs.CellSteps.{Takes}
+use Rattle.step_core.specs.Holding.{HoldsAll, held_by}
 
 -- An operation that is under way, with the step that it wants, which its actor may take by what it knows.
 pub record IsRunning (limits : Limits) (actor : ℕ) (k : Knowledge) (spares : List ℕ) (running : Running) : Type 0 where
@@ -35,13 +37,15 @@ abbrev pub IsAt : Limits → ℕ → Knowledge → List ℕ → Option Running �
 IsAt limits actor k spares None = IsIdle limits k spares
 IsAt limits actor k spares (Some running) = IsRunning limits actor k spares running
 
--- What the actor keeps shows what it knows.
-abbrev pub IsActor : Limits → ℕ → Knowledge → Actor → Type 0
-IsActor limits actor k at = IsAt limits actor k at.hand at.running
+-- What the actor keeps shows what it knows. The rows that its entries show as taken and not linked are exactly those that it
+-- holds, its spares and the one in flight; and it has taken no PID.
+pub record IsActor (limits : Limits) (actor : ℕ) (k : Knowledge) (at : Actor) : Type 0 where
+  pub shows : IsAt limits actor k at.hand at.running
+  pub holds : HoldsAll k (held_by at.running at.hand)
 
--- Whatever the cells answer to the step fits what the actor knows, and shows the only leaf.
-abbrev pub IsServed : Limits → ℕ → Knowledge → Cells → StepOf Record → Type 0
-IsServed limits actor k cells step = (answer : Answer Record) (after : Cells) → Takes actor cells step answer after → FitsOneLeaf limits k step answer
+-- Whatever the memory answers to the step fits what the actor knows, and shows the only leaf.
+abbrev pub IsServed : Limits → Knowledge → Memory → StepOf Record → Type 0
+IsServed limits k memory step = (answer : Answer Record) → IsAnswer memory step answer → FitsOneLeaf limits k step answer
 
 -- The actor may take the step by what it knows, with its reply, if it has one; and the step is plain.
 pub record IsPlainlyAllowed (limits : Limits) (actor : ℕ) (k : Knowledge) (step : StepOf Record) (reply : Option Reply) : Type 0 where
@@ -65,13 +69,23 @@ command_at (Some running) = Some running.op.command
 abbrev pub running_command : Actor → Option Command
 running_command actor = command_at actor.running
 
-abbrev pub IsServedAt : Limits → ℕ → Knowledge → Cells → Option Running → Type 0
-IsServedAt limits actor k cells None = Unit {0}
-IsServedAt limits actor k cells (Some running) = IsServed limits actor k cells running.wanted
+abbrev pub IsServedAt : Limits → Knowledge → Memory → Option Running → Type 0
+IsServedAt limits k memory None = Unit {0}
+IsServedAt limits k memory (Some running) = IsServed limits k memory running.wanted
 
--- What the actor keeps shows what it knows, and what the cells answer to the step that it wants will fit that.
-abbrev pub IsReady : Limits → ℕ → Knowledge → Cells → Actor → Type 0
-IsReady limits actor k cells at = IsActor limits actor k at × IsServedAt limits actor k cells at.running
+-- What the actor keeps shows what it knows, and what the memory answers to the step that it wants will fit that.
+abbrev pub IsReady : Limits → ℕ → Knowledge → Memory → Actor → Type 0
+IsReady limits actor k memory at = IsActor limits actor k at × IsServedAt limits k memory at.running
+
+-- the step that its operation wants, if it has one
+abbrev pub wanted_by : Option Running → Option (StepOf Record)
+wanted_by None = None
+wanted_by (Some running) = Some running.wanted
+
+-- the table has what that step asks for
+abbrev pub IsWithinAt : Table → ℕ → Option Running → Type 0
+IsWithinAt table actor None = Unit {0}
+IsWithinAt table actor (Some running) = IsWithinTable table actor running.wanted
 
 -- the command that is left after a step with the reply
 abbrev pub command_left : Option Reply → Option Command → Option Command

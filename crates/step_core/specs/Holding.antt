@@ -1,5 +1,8 @@
 -- The rows that an actor of a core holds: it took them, and has not linked them.
 use Rattle.std.specs.Prelude.{ℕ, List, Option, None, Some}
+use Rattle.std.specs.List.{Contains}
+use Rattle.chain_search.specs.Discipline.{IsOwn}
+use Rattle.chain_search.specs.Knowledge.{Knowledge}
 use Rattle.op_machine.specs.Held.{held}
 use Rattle.step_core.specs.declared.actor.Running.{Running}
 
@@ -7,3 +10,7 @@ use Rattle.step_core.specs.declared.actor.Running.{Running}
 abbrev pub held_by : Option Running → List ℕ → List ℕ
 held_by None spares = spares
 held_by (Some running) spares = held running.op.state spares
+
+-- Each row that its entries show as taken and not linked is among these.
+abbrev pub HoldsAll : Knowledge → List ℕ → Type 0
+HoldsAll k held = (row : ℕ) → IsOwn (k.own.rows row) → Contains held row

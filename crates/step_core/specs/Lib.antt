@@ -1,10 +1,6 @@
-pub mod Cells
-pub mod CellSteps
-pub mod CellLinks
+pub mod Holding
 pub mod Actors
 pub mod Spending
-pub mod Holding
 pub mod Cores
-pub mod Represents
 pub mod Listed
 pub mod Turns

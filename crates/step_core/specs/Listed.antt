@@ -1,5 +1,5 @@
 -- What a listing of a core has.
-use Rattle.std.specs.Prelude.{◌≡◌, ℕ, List, [], ◌∷◌, map, None, slice_get, slice_index}
+use Rattle.std.specs.Prelude.{◌≡◌, ℕ, List, [], ◌∷◌, map, None}
 use Rattle.bw_model.specs.declared.limits.Limits.{Limits}
 use Rattle.bw_model.specs.Pairs.{IsPairsOf}
 use Rattle.base_page.specs.declared.item.Content.{Content}
@@ -8,21 +8,21 @@ use Rattle.base_page.specs.declared.item.Item.{Item}
 use Rattle.base_page.specs.Pages.{Page}
 use Rattle.base_page.specs.Rules.{IsRuled}
 use Rattle.deltas.specs.declared.record.Record.{Record}
+use Rattle.deltas.specs.Memory.{Memory}
 use Rattle.chain_search.specs.declared.trace.Entry.{Entry}
 use Rattle.chain_search.specs.Chains.{IsChainFrom}
 use Rattle.chain_search.specs.Fitted.{IsPageChain, Makes}
 use Rattle.chain_search.specs.Trace.{turn_of}
 use Rattle.op_machine.specs.Linearized.{IsLinearized}
 use Rattle.op_machine.specs.Points.{log_of}
-use Rattle.step_core.specs.Cells.{Cells}
 
 -- Whatever the points by which the trace is linearized: the pairs are exactly those that its log has, in the order of keys.
 abbrev pub IsListing : Limits → List Entry → List (List ℕ × List ℕ) → Type 0
 IsListing limits entries pairs = (linear : IsLinearized limits (map turn_of entries) entries) → IsPairsOf (log_of entries linear.points) [] None pairs
 
 -- a page's chain stands from the row in the page's slot on
-pub record StandsAt (cells : Cells) (pid : ℕ) (chain : List Record) : Type 0 where
-  pub records : IsChainFrom (slice_get cells.records) (slice_index cells.slots pid) chain
+pub record StandsAt (memory : Memory) (pid : ℕ) (chain : List Record) : Type 0 where
+  pub records : IsChainFrom memory.rows (memory.slots pid) chain
   pub fits : IsPageChain chain
 
 -- these pairs, after that of the key if its content is a value

@@ -1,5 +1,6 @@
 -- A core as its callers see it, what it refuses, and what a turn adds.
-use Rattle.std.specs.Prelude.{◌≡◌, ℕ, List, [], ◌∷◌, ◌++◌, length, Option, Some, None, Bool, true, false, is_some, nat_lt, if◌then◌else◌, slice_get, take, map, unwrap_or, ◌⊎◌}
+use Rattle.std.specs.Prelude.{◌≡◌, ℕ, List, [], ◌∷◌, ◌++◌, length, Option, Some, None, Bool, true, false, is_some, nat_lt, if◌then◌else◌, slice_get, take, map, unwrap_or, ◌⊎◌, ◌≤◌, ⊤}
+use Rattle.bw_model.specs.declared.command.Reply.{Reply}
 use Rattle.bw_model.specs.declared.limits.Limits.{Limits}
 use Rattle.bw_model.specs.declared.step.Answer.{Answer}
 use Rattle.bw_model.specs.declared.step.Answer.TheVariants.{Whether}
@@ -47,10 +48,20 @@ actor_of (Step actor) = actor
 abbrev pub refusal_of : Core → Turn → Option RunError
 refusal_of core turn = refused_by (length core.entries) turn (busy_of core (actor_of turn))
 
+-- A begin wants memory only where its trace has no room left; a step may want it also for a record that it places or reads.
+abbrev pub WantsMemory : Core → Turn → Type 0
+WantsMemory core (Begin actor command) = core.room ≤ length core.entries
+WantsMemory core (Step actor) = ⊤
+
 -- what an exchange that won did, by the memory before it
 abbrev pub link_told : Memory → StepOf Record → Answer Record → Option Link
 link_told memory (Exchange slot old new) (Whether true) = link_of memory slot old new
 link_told memory step answer = None
+
+-- what a step tells, by its link and its reply
+abbrev pub step_event : Option Link → Option Reply → Event
+step_event link None = Stepped link
+step_event link (Some reply) = Done reply
 
 -- whether it is an exchange that won
 abbrev pub is_won : StepOf Record → Answer Record → Bool

@@ -1,25 +1,22 @@
 //! One actor of a core.
-ghost use Rattle.std.specs.Prelude.{◌≡◌, ◌<◌, ◌^◌, [], Some, None, is_some, true};
+ghost use Rattle.std.specs.Prelude.{◌≡◌, ◌<◌, ◌^◌, [], Some, None, IfOk, is_some, true};
 ghost use Rattle.chain_search.specs.Knowledge.{Knowledge, begun};
+ghost use Rattle.chain_search.specs.Steps.{IsAnswer, memory_after};
+ghost use Rattle.chain_search.specs.Tables.{IsWithin as IsWithinTable, memory_in};
 ghost use Rattle.installs.specs.Held.{Keeps};
 ghost use Rattle.chain_search.specs.Recalled.{Recalled};
-ghost use Rattle.installs.specs.Within.{IsWithin};
 ghost use Rattle.op_machine.specs.Held.{held};
-ghost use Rattle.step_core.specs.Actors.{IsActor, IsLeft, IsPlainlyAllowed, IsReady, IsRunning, IsServed, command_left, knows_then, running_command};
-ghost use Rattle.step_core.specs.Cells.{AreSound};
-ghost use Rattle.step_core.specs.CellLinks.{link_in, step_event};
-ghost use Rattle.step_core.specs.CellSteps.{Takes};
+ghost use Rattle.step_core.specs.Actors.{IsActor, IsLeft, IsPlainlyAllowed, IsReady, IsRunning, IsServed, IsWithinAt, command_left, knows_then, running_command, wanted_by};
 ghost use Rattle.step_core.specs.Holding.{held_by};
 ghost use Rattle.step_core.specs.Spending.{RecallsAt, Spends, left_at, unless_done};
+ghost use Rattle.step_core.specs.Turns.{link_told, step_event};
 
-use crate::copies::{copied_answer, copied_reply, copied_step};
 use crate::event::Event;
-use crate::memory::Memory;
-use bw_model::{Answer, Command, Limits, Reply, Step};
+use bw_model::{Answer, Command, Limits, Link, Reply, Step};
+use chain_search::{SharedRecord, Table, answer_of, shared_step, step_again};
 use deltas::Record;
-use op_machine::{Hand, Op, Want};
-use std::alloc::Allocator;
-use std::mem;
+use op_machine::{Hand, Op, Want, exchange_link};
+use std::alloc::{AllocError, Allocator};
 
 /// An operation, and the step that it wants.
 #[derive(Debug, Drop)]
@@ -35,11 +32,19 @@ pub(crate) struct Actor {
     running: Option<Running>,
 }
 
+/// A step with its answer, before it is taken: `step` for its entry, and the same again for the memory.
+#[derive(Drop)]
+pub(crate) struct Ready<A: Allocator> {
+    step: Step<SharedRecord<A>>,
+    again: Step<SharedRecord<A>>,
+    answer: Answer<SharedRecord<A>>,
+}
+
 /// A step as it went, with the reply where the operation is done.
-#[derive(Debug, Drop)]
-pub(crate) struct Stepped {
-    pub(crate) step: Step<Record>,
-    pub(crate) answer: Answer<Record>,
+#[derive(Drop)]
+pub(crate) struct Stepped<A: Allocator> {
+    pub(crate) step: Step<SharedRecord<A>>,
+    pub(crate) answer: Answer<SharedRecord<A>>,
     pub(crate) reply: Option<Reply>,
 }
 
@@ -78,28 +83,50 @@ impl Actor {
         }
     }
 
+    /// What the step that its operation wants needs of memory, and its answer; refused for want of memory alone.
+    pub(crate) fn ready<A: Allocator>(
+        &self,
+        alloc: A,
+        actor: u8,
+        memory: &Table<A>,
+    ) -> Result<Ready<A>, AllocError>
+        requires running { is_some (running_command self.now) ≡ true }
+        requires within { IsWithinAt memory.now actor self.now.running }
+        ensures wanted { IfOk result (λ ready. wanted_by self.now.running ≡ Some ready.step) }
+        ensures answer { IfOk result (λ ready. IsAnswer (memory_in memory.now) ready.step ready.answer) }
+        ensures again { IfOk result (λ ready. ready.again ≡ ready.step) }
+    {
+        match &self.running {
+            Some(running) => running.ready(alloc, actor, memory),
+            None => unreachable!(),
+        }
+    }
+
     /// Takes the one step that its operation wants.
     pub(crate) fn step<A: Allocator>(
         &mut self,
         actor: u8,
         limits: &Limits,
-        memory: &mut Memory<A>,
-    ) -> Stepped
-        requires actor { actor < limits.now.actors }
+        memory: &mut Table<A>,
+        ready: Ready<A>,
+    ) -> Stepped<A>
         requires running { is_some (running_command self.old) ≡ true }
-        requires ready { (k : Knowledge) × IsReady limits.now actor k memory.old self.old }
-        requires memory { AreSound limits.now memory.old }
-        ensures allowed { (k : Knowledge) → IsReady limits.now actor k memory.old self.old → IsPlainlyAllowed limits.now actor k result.step result.reply }
-        ensures shows { (k : Knowledge) → IsReady limits.now actor k memory.old self.old → IsActor limits.now actor (knows_then k result.step result.answer result.reply) self.new }
-        ensures memory { AreSound limits.now memory.new }
-        ensures within { IsWithin limits.now result.step }
-        ensures takes { Takes actor memory.old result.step result.answer memory.new }
+        requires knows { (k : Knowledge) × IsReady limits.now actor k (memory_in memory.old) self.old }
+        requires within { IsWithinAt memory.old actor self.old.running }
+        requires wanted { wanted_by self.old.running ≡ Some ready.step }
+        requires answer { IsAnswer (memory_in memory.old) ready.step ready.answer }
+        requires again { ready.again ≡ ready.step }
+        ensures allowed { (k : Knowledge) → IsReady limits.now actor k (memory_in memory.old) self.old → IsPlainlyAllowed limits.now actor k result.step result.reply }
+        ensures shows { (k : Knowledge) → IsReady limits.now actor k (memory_in memory.old) self.old → IsActor limits.now actor (knows_then k result.step result.answer result.reply) self.new }
+        ensures limits { memory.new.limits ≡ memory.old.limits }
+        ensures answer { IsAnswer (memory_in memory.old) result.step result.answer }
+        ensures memory { memory_in memory.new ≡ memory_after actor result.step (memory_in memory.old) }
         ensures command { running_command self.new ≡ command_left result.reply (running_command self.old) }
         ensures keeps { Keeps result.step result.answer (held_by self.old.running self.old.hand) (held_by self.new.running self.new.hand) }
         ensures spends { Spends self.old.running result.step result.answer self.new.running }
     {
         let stepped = match &mut self.running {
-            Some(running) => running.step(actor, limits, &mut self.hand, memory),
+            Some(running) => running.step(actor, limits, &mut self.hand, memory, ready),
             None => unreachable!(),
         };
         if stepped.reply.is_some() {
@@ -109,44 +136,84 @@ impl Actor {
     }
 }
 
-impl Stepped {
+impl<A: Allocator> Stepped<A> {
     /// What the step tells, by the memory after it.
-    pub(crate) fn event<A: Allocator>(&self, memory: &Memory<A>) -> Event
-        ensures { result ≡ step_event (link_in memory.now self.now.step self.now.answer) self.now.reply }
+    pub(crate) fn event(&self, memory: &Table<A>) -> Event
+        ensures { result ≡ step_event (link_told (memory_in memory.now) self.now.step self.now.answer) self.now.reply }
     {
         match &self.reply {
-            None => Event::Stepped(memory.link(&self.step, &self.answer)),
-            Some(reply) => Event::Done(copied_reply(reply)),
+            None => Event::Stepped(self.link(memory)),
+            Some(reply) => Event::Done(reply.clone().unwrap()),
+        }
+    }
+
+    /// What the step did, if it is an exchange that won.
+    fn link(&self, memory: &Table<A>) -> Option<Link>
+        ensures { result ≡ link_told (memory_in memory.now) self.now.step self.now.answer }
+    {
+        match (&self.step, &self.answer) {
+            (Step::Exchange(slot, old, new), Answer::Whether(true)) => {
+                exchange_link(memory, *slot, *old, *new)
+            }
+            _ => None,
         }
     }
 }
 
 impl Running {
+    /// What the step that is wanted needs of memory, and its answer; refused for want of memory alone.
+    fn ready<A: Allocator>(
+        &self,
+        alloc: A,
+        actor: u8,
+        memory: &Table<A>,
+    ) -> Result<Ready<A>, AllocError>
+        requires within { IsWithinTable memory.now actor self.now.wanted }
+        ensures wanted { IfOk result (λ ready. ready.step ≡ self.now.wanted) }
+        ensures answer { IfOk result (λ ready. IsAnswer (memory_in memory.now) ready.step ready.answer) }
+        ensures again { IfOk result (λ ready. ready.again ≡ ready.step) }
+    {
+        let step = shared_step(alloc, &self.wanted)?;
+        let again = step_again(&step)?;
+        let answer = memory.answer(actor, &step)?;
+        Ok(Ready {
+            step,
+            again,
+            answer,
+        })
+    }
+
     /// Takes the one step that is wanted.
     fn step<A: Allocator>(
         &mut self,
         actor: u8,
         limits: &Limits,
         hand: &mut Hand,
-        memory: &mut Memory<A>,
-    ) -> Stepped
-        requires actor { actor < limits.now.actors }
-        requires ready { (k : Knowledge) × IsRunning limits.now actor k hand.old self.old × IsServed limits.now actor k memory.old self.old.wanted }
-        requires memory { AreSound limits.now memory.old }
-        ensures allowed { (k : Knowledge) → IsRunning limits.now actor k hand.old self.old → IsServed limits.now actor k memory.old self.old.wanted → IsPlainlyAllowed limits.now actor k result.step result.reply }
-        ensures left { (k : Knowledge) → IsRunning limits.now actor k hand.old self.old → IsServed limits.now actor k memory.old self.old.wanted → IsLeft limits.now actor (knows_then k result.step result.answer result.reply) hand.new self.new result.reply }
-        ensures memory { AreSound limits.now memory.new }
-        ensures within { IsWithin limits.now result.step }
-        ensures takes { Takes actor memory.old result.step result.answer memory.new }
+        memory: &mut Table<A>,
+        ready: Ready<A>,
+    ) -> Stepped<A>
+        requires knows { (k : Knowledge) × IsRunning limits.now actor k hand.old self.old × IsServed limits.now k (memory_in memory.old) self.old.wanted }
+        requires within { IsWithinTable memory.old actor self.old.wanted }
+        requires wanted { ready.step ≡ self.old.wanted }
+        requires answer { IsAnswer (memory_in memory.old) ready.step ready.answer }
+        requires again { ready.again ≡ ready.step }
+        ensures allowed { (k : Knowledge) → IsRunning limits.now actor k hand.old self.old → IsServed limits.now k (memory_in memory.old) self.old.wanted → IsPlainlyAllowed limits.now actor k result.step result.reply }
+        ensures left { (k : Knowledge) → IsRunning limits.now actor k hand.old self.old → IsServed limits.now k (memory_in memory.old) self.old.wanted → IsLeft limits.now actor (knows_then k result.step result.answer result.reply) hand.new self.new result.reply }
+        ensures limits { memory.new.limits ≡ memory.old.limits }
+        ensures answer { IsAnswer (memory_in memory.old) result.step result.answer }
+        ensures memory { memory_in memory.new ≡ memory_after actor result.step (memory_in memory.old) }
         ensures command { self.new.op.command ≡ self.old.op.command }
         ensures keeps { Keeps result.step result.answer (held self.old.op.state hand.old) (held_by (unless_done self.new result.reply) hand.new) }
         ensures spends { Spends (Some self.old) result.step result.answer (unless_done self.new result.reply) }
     {
-        let wanted = mem::replace(&mut self.wanted, Step::Leave);
-        let step = copied_step(&wanted);
-        let told = memory.take(limits, actor, wanted);
-        let answer = copied_answer(&told);
-        match self.op.next(hand, told) {
+        let _ = limits;
+        let Ready {
+            step,
+            again,
+            answer,
+        } = ready;
+        memory.take(actor, again);
+        match self.op.next(hand, answer_of(&answer)) {
             Want::Step(wanted) => {
                 self.wanted = wanted;
                 Stepped {

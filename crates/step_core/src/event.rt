@@ -1,7 +1,7 @@
 //! What a turn did, why it was refused, and what a run has done.
 
 use bw_model::{Link, Reply};
-use chain_search::Entry;
+use chain_search::SharedEntry;
 use std::alloc::{Allocator, Global};
 use thiserror::Error;
 
@@ -30,7 +30,7 @@ pub enum RunError {
 }
 
 /// What was done, turn by turn.
-#[derive(Debug, Drop)]
+#[derive(Drop)]
 pub struct Trace<A: Allocator = Global> {
-    pub entries: Vec<Entry, A>,
+    pub entries: Vec<SharedEntry<A>, A>,
 }

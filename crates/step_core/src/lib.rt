@@ -2,12 +2,10 @@
 #![tactic(auto)]
 
 mod actor;
-mod copies;
 mod event;
 mod law;
 mod listing;
 mod machine;
-mod memory;
 mod runs;
 
 pub use event::{Event, RunError, Trace};

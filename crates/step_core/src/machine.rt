@@ -3,15 +3,14 @@ ghost use Rattle.std.specs.Prelude.{◌≡◌, ◌<◌, ◌≤◌, ◌&&◌, [],
 ghost use Rattle.chain_search.specs.Trace.{command_of, turn_of};
 ghost use Rattle.op_machine.specs.Linearized.{IsLinearized, IsOrderly};
 ghost use Rattle.step_core.specs.Listed.{IsListing};
-ghost use Rattle.step_core.specs.Turns.{AddsTurn, busy_of, refusal_of};
+ghost use Rattle.step_core.specs.Turns.{AddsTurn, WantsMemory, busy_of, refusal_of};
 
 use crate::actor::{Actor, Stepped};
 use crate::event::{Event, RunError, Trace};
 use crate::law::{begins_keep_laws, states_are_lawful, steps_keep_laws};
 use crate::listing::pairs_in;
-use crate::memory::Memory;
 use bw_model::{Command, Key, Limits, OpenError, Value};
-use chain_search::{Entry, Turn};
+use chain_search::{SharedEntry, Table, Turn};
 use core_law::leaf_stands;
 use std::alloc::{AllocError, Allocator, Global};
 use std::marker::Model;
@@ -20,10 +19,11 @@ use tree_law::{entries_grow, opens_directly};
 /// All actors over one memory, which an allocator gives.
 #[derive(Drop)]
 pub struct Core<A: Allocator = Global> {
+    alloc: A,
     limits: Limits,
-    memory: Memory<A>,
+    memory: Table<A>,
     actors: Vec<Actor, A>,
-    trace: Vec<Entry, A>,
+    trace: Vec<SharedEntry<A>, A>,
 }
 
 impl<A: Allocator> Model for Core<A> {
@@ -57,17 +57,101 @@ impl<A: Allocator + Copy> Core<A> {
     {
         core_law::opens();
         opens_directly();
-        let memory = Memory::<A>::open(alloc, &limits)?;
+        let memory = Table::<A>::open(alloc, &limits)?;
         let mut actors = Vec::with_capacity(alloc, limits.actors as usize)?;
         for _ in 0..limits.actors {
             actors.push(Actor::idle())?;
         }
         Ok(Core {
+            alloc,
             limits,
             memory,
             actors,
             trace: Vec::new(alloc),
         })
+    }
+}
+
+impl<A: Allocator + Copy> Core<A> {
+    /// Takes one turn. A turn that is refused changes nothing.
+    pub fn turn(&mut self, turn: Turn) -> Result<Event, RunError>
+        ensures refused { (refusal : _) → refusal_of self.old turn ≡ Some refusal → result ≡ Err refusal }
+        ensures memory { refusal_of self.old turn ≡ None → IfErr result (λ error. (error ≡ RunError.Memory (length self.old.entries)) × WantsMemory self.old turn) }
+        ensures ok { IfOk result (λ event. AddsTurn self.old turn event self.new) }
+        ensures err { OnErr result (self.new ≡ self.old) }
+        ensures linearized { IsLinearized self.new.limits (map turn_of self.new.entries) self.new.entries }
+        ensures orderly { IsOrderly self.new.limits self.new.entries }
+    {
+        let answer = self.take_turn(turn);
+        self.linearized();
+        answer
+    }
+
+    /// Takes one turn, if it is not refused.
+    fn take_turn(&mut self, turn: Turn) -> Result<Event, RunError>
+        ensures refused { (refusal : _) → refusal_of self.old turn ≡ Some refusal → result ≡ Err refusal }
+        ensures memory { refusal_of self.old turn ≡ None → IfErr result (λ error. (error ≡ RunError.Memory (length self.old.entries)) × WantsMemory self.old turn) }
+        ensures ok { IfOk result (λ event. AddsTurn self.old turn event self.new) }
+        ensures err { OnErr result (self.new ≡ self.old) }
+    {
+        if let Some(refusal) = self.refusal(&turn) {
+            return Err(refusal);
+        }
+        match turn {
+            Turn::Begin(actor, command) => self.begin(actor, command),
+            Turn::Step(actor) => self.step(actor),
+        }
+    }
+
+    /// Begins an operation; refused only where the trace has no room left and gets none.
+    fn begin(&mut self, actor: u8, command: Command) -> Result<Event, RunError>
+        requires goes { refusal_of self.old (Turn.Begin actor command) ≡ None }
+        ensures ok { IfOk result (λ event. AddsTurn self.old (Turn.Begin actor command) event self.new) }
+        ensures memory { IfErr result (λ error. (error ≡ RunError.Memory (length self.old.entries)) × (self.old.room ≤ length self.old.entries)) }
+        ensures err { OnErr result (self.new ≡ self.old) }
+    {
+        begins_keep_laws();
+        entries_grow();
+        let number = self.turns();
+        if self.trace.try_reserve(1).is_err() {
+            return Err(RunError::Memory(number));
+        }
+        let entry = SharedEntry::begin(actor, command.clone().unwrap());
+        let place = &mut self.actors[usize::from(actor)];
+        place.begin(command, actor, &self.limits);
+        self.trace.push(entry).unwrap();
+        Ok(Event::Began)
+    }
+
+    /// Takes the step that an operation wants; refused for want of memory alone.
+    fn step(&mut self, actor: u8) -> Result<Event, RunError>
+        requires goes { refusal_of self.old (Turn.Step actor) ≡ None }
+        ensures ok { IfOk result (λ event. AddsTurn self.old (Turn.Step actor) event self.new) }
+        ensures memory { IfErr result (λ error. error ≡ RunError.Memory (length self.old.entries)) }
+        ensures err { OnErr result (self.new ≡ self.old) }
+    {
+        steps_keep_laws();
+        entries_grow();
+        let number = self.turns();
+        let place = &self.actors[usize::from(actor)];
+        let Ok(ready) = place.ready(self.alloc, actor, &self.memory) else {
+            return Err(RunError::Memory(number));
+        };
+        if self.trace.try_reserve(1).is_err() {
+            return Err(RunError::Memory(number));
+        }
+        let place = &mut self.actors[usize::from(actor)];
+        let stepped = place.step(actor, &self.limits, &mut self.memory, ready);
+        let event = stepped.event(&self.memory);
+        let Stepped {
+            step,
+            answer,
+            reply,
+        } = stepped;
+        self.trace
+            .push(SharedEntry::step(actor, step, answer, reply))
+            .unwrap();
+        Ok(event)
     }
 }
 
@@ -89,20 +173,6 @@ impl<A: Allocator> Core<A> {
         }
     }
 
-    /// Takes one turn. A turn that is refused changes nothing.
-    pub fn turn(&mut self, turn: Turn) -> Result<Event, RunError>
-        ensures refused { (refusal : _) → refusal_of self.old turn ≡ Some refusal → result ≡ Err refusal }
-        ensures memory { refusal_of self.old turn ≡ None → IfErr result (λ error. (error ≡ RunError.Memory (length self.old.entries)) × (self.old.room ≤ length self.old.entries)) }
-        ensures ok { IfOk result (λ event. AddsTurn self.old turn event self.new) }
-        ensures err { OnErr result (self.new ≡ self.old) }
-        ensures linearized { IsLinearized self.new.limits (map turn_of self.new.entries) self.new.entries }
-        ensures orderly { IsOrderly self.new.limits self.new.entries }
-    {
-        let answer = self.take_turn(turn);
-        self.linearized();
-        answer
-    }
-
     /// Whatever was done so far, the operations took effect one at a time, on one ordered map, and beside that pages kept
     /// their phases, the index is exact, each operation took few steps, and freeing was by the rule of epochs. It does nothing.
     pub fn linearized(&self)
@@ -111,25 +181,6 @@ impl<A: Allocator> Core<A> {
     {
         states_are_lawful();
         let _ = &self.limits;
-    }
-
-    /// Takes one turn, if it is not refused.
-    fn take_turn(&mut self, turn: Turn) -> Result<Event, RunError>
-        ensures refused { (refusal : _) → refusal_of self.old turn ≡ Some refusal → result ≡ Err refusal }
-        ensures memory { refusal_of self.old turn ≡ None → IfErr result (λ error. (error ≡ RunError.Memory (length self.old.entries)) × (self.old.room ≤ length self.old.entries)) }
-        ensures ok { IfOk result (λ event. AddsTurn self.old turn event self.new) }
-        ensures err { OnErr result (self.new ≡ self.old) }
-    {
-        if let Some(refusal) = self.refusal(&turn) {
-            return Err(refusal);
-        }
-        if self.trace.try_reserve(1).is_err() {
-            return Err(RunError::Memory(self.turns()));
-        }
-        Ok(match turn {
-            Turn::Begin(actor, command) => self.begin(actor, command),
-            Turn::Step(actor) => self.step(actor),
-        })
     }
 
     /// Whether an actor has an operation, if there is such an actor.
@@ -158,43 +209,6 @@ impl<A: Allocator> Core<A> {
             (Turn::Step(_), Some(true)) => None,
             (Turn::Step(_), Some(false)) => Some(RunError::NoOperation(number)),
         }
-    }
-
-    /// Begins an operation. There is room for its entry.
-    fn begin(&mut self, actor: u8, command: Command) -> Event
-        requires goes { refusal_of self.old (Turn.Begin actor command) ≡ None }
-        requires room { length self.old.entries < self.old.room }
-        ensures { AddsTurn self.old (Turn.Begin actor command) result self.new }
-    {
-        begins_keep_laws();
-        entries_grow();
-        let entry = Entry::Begin(actor, command.clone().unwrap());
-        let place = &mut self.actors[usize::from(actor)];
-        place.begin(command, actor, &self.limits);
-        self.trace.push(entry).unwrap();
-        Event::Began
-    }
-
-    /// Takes the step that an operation wants. There is room for its entry.
-    fn step(&mut self, actor: u8) -> Event
-        requires goes { refusal_of self.old (Turn.Step actor) ≡ None }
-        requires room { length self.old.entries < self.old.room }
-        ensures { AddsTurn self.old (Turn.Step actor) result self.new }
-    {
-        steps_keep_laws();
-        entries_grow();
-        let place = &mut self.actors[usize::from(actor)];
-        let stepped = place.step(actor, &self.limits, &mut self.memory);
-        let event = stepped.event(&self.memory);
-        let Stepped {
-            step,
-            answer,
-            reply,
-        } = stepped;
-        self.trace
-            .push(Entry::Step(actor, step, answer, reply))
-            .unwrap();
-        event
     }
 
     /// All pairs that stand, in the order of their keys; refused for want of memory alone. It is no turn.

@@ -1,10 +1,10 @@
 use Rattle.std.proofs.Common.{◌≡◌, length}
-use Rattle.std.specs.Prelude.{slice_get, slice_index}
+use Rattle.chain_search.specs.Tables.{memory_in}
 use Rattle.step_core.proofs.Chaining.{HasRead}
 use Rattle.step_core.proofs.listing.chain_of.Given as goal
 
 abbrev pub invariant-loop : goal.invariant-loop
 invariant-loop g l = record {
   count : length l.part ≡ l.counter;
-  read : HasRead (slice_get l.memory.records) (slice_index l.memory.slots l.pid) l.part l.row;
+  read : HasRead (memory_in l.memory).rows ((memory_in l.memory).slots l.pid) l.part l.row;
 }

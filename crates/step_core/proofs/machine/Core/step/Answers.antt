@@ -1,4 +1,5 @@
-use Rattle.std.proofs.Common.{refl}
+use Rattle.std.proofs.Common.{ap, refl, ◌∙◌}
+use Rattle.chain_search.specs.Steps.{memory_after}
 use Rattle.chain_search.specs.Knowledge.{knows}
 use Rattle.chain_search.specs.declared.trace.Entry.TheVariants.{Step}
 use Rattle.step_core.proofs.Cored.{core_affords, core_asks, core_stepped, core_took}
@@ -6,31 +7,43 @@ use Rattle.step_core.proofs.Lawful.{heads}
 use Rattle.step_core.proofs.Linked.{event_is, told_to}
 use Rattle.step_core.proofs.machine.Core.step.Goals as goal
 
-pub invariant_of-self : goal.invariant_of-self
-invariant_of-self g c =
-    let asks = core_asks _ c.steps_keep_laws.ensures.apart c.steps_keep_laws.ensures.fit _ _ _ _ _ _ c.self.invariant _ _ c.self.view_is c.requires.goes c.from.ensures c.index_mut-place.ensures.value in
+pub invariant_of-self-2 : goal.invariant_of-self-2
+invariant_of-self-2 g c =
+    let asks = core_asks _ c.steps_keep_laws.ensures.apart c.steps_keep_laws.ensures.fit _ _ _ _ _ _ c.self.invariant _ _ c.self.view_is c.requires.goes c.from-2.ensures c.index_mut-place.ensures.value in
     let allowed = c.step-stepped.ensures.allowed _ asks.2 in
-    let took = core_took _ c.steps_keep_laws.ensures.apart _ _ _ _ _ c.step-stepped.result.step c.step-stepped.result.answer c.self.invariant asks.0 c.step-stepped.ensures.within c.step-stepped.ensures.takes allowed.allowed.may allowed.plain in
-    let affords = core_affords _ _ _ _ _ _ _ c.step-stepped.new.self c.step-stepped.result.step c.step-stepped.result.answer c.self.invariant c.from.ensures asks.1 c.index_mut-place.ensures.value c.step-stepped.ensures.spends in
+    let took = core_took _ c.steps_keep_laws.ensures.apart _ _ _ _ c.step-stepped.result.step c.step-stepped.result.answer c.self.invariant c.step-stepped.ensures.answer allowed.allowed.may allowed.plain in
+    let affords = core_affords _ _ _ _ _ _ _ c.step-stepped.new.self c.step-stepped.result.step c.step-stepped.result.answer c.self.invariant c.from-2.ensures asks.1 c.index_mut-place.ensures.value c.step-stepped.ensures.spends in
     let stays = c.steps_keep_laws.ensures.direct _ _ _ _ _ _ _ _ c.self.invariant.state.tree allowed.allowed (c.steps_keep_laws.ensures.useful (knows c.self.inside.trace.items c.args.actor) c.step-stepped.result.step allowed.plain) took.1 c.self.invariant.direct affords.0 affords.1 in
-    core_stepped _ c.steps_keep_laws.ensures.state _ _ _ _ _ _ _ _ _ c.step-stepped.result.step c.step-stepped.result.answer c.step-stepped.result.reply c.self.invariant c.from.ensures asks.1
-    c.index_mut-place.ensures.value asks.3 allowed (c.step-stepped.ensures.shows _ asks.2) c.step-stepped.ensures.command affords.2 (c.entries_grow.ensures _ c.self.inside.trace.items (Step c.args.actor c.step-stepped.result.step c.step-stepped.result.answer c.step-stepped.result.reply)) stays c.step-stepped.ensures.memory took.1 took.2 (rw c.unwrap.ensures at c.push.ensures.items)
+    core_stepped _ c.steps_keep_laws.ensures.state _ _ _ _ _ _ _ _ _ c.step-stepped.result.step c.step-stepped.result.answer c.step-stepped.result.reply c.self.invariant c.from-2.ensures asks.1
+    c.index_mut-place.ensures.value asks.3 allowed (c.step-stepped.ensures.shows _ asks.2) c.step-stepped.ensures.command affords.2 (c.entries_grow.ensures _ c.self.inside.trace.items (Step c.args.actor c.step-stepped.result.step c.step-stepped.result.answer c.step-stepped.result.reply)) stays c.step-stepped.ensures.limits took.1 c.step-stepped.ensures.memory (rw (c.unwrap.ensures, c.step.ensures, c.try_reserve.ensures.items) at c.push.ensures.items)
 
-pub returns : goal.returns
-returns g c =
-    let asks = core_asks _ c.steps_keep_laws.ensures.apart c.steps_keep_laws.ensures.fit _ _ _ _ _ _ c.self.invariant _ _ c.self.view_is c.requires.goes c.from.ensures c.index_mut-place.ensures.value in
+pub returns-clause-ok : goal.returns-clause-ok
+returns-clause-ok g c =
+    let asks = core_asks _ c.steps_keep_laws.ensures.apart c.steps_keep_laws.ensures.fit _ _ _ _ _ _ c.self.invariant _ _ c.self.view_is c.requires.goes c.from-2.ensures c.index_mut-place.ensures.value in
     let allowed = c.step-stepped.ensures.allowed _ asks.2 in
-    let took = core_took _ c.steps_keep_laws.ensures.apart _ _ _ _ _ c.step-stepped.result.step c.step-stepped.result.answer c.self.invariant asks.0 c.step-stepped.ensures.within c.step-stepped.ensures.takes allowed.allowed.may allowed.plain in
+    let took = core_took _ c.steps_keep_laws.ensures.apart _ _ _ _ c.step-stepped.result.step c.step-stepped.result.answer c.self.invariant c.step-stepped.ensures.answer allowed.allowed.may allowed.plain in
     record {
       added = Step c.args.actor c.step-stepped.result.step c.step-stepped.result.answer c.step-stepped.result.reply;
-      entries = rw (← c.self.view_is) (rw c.unwrap.ensures at c.push.ensures.items);
+      entries = rw (← c.self.view_is) (rw (c.unwrap.ensures, c.step.ensures, c.try_reserve.ensures.items) at c.push.ensures.items);
       of_turn = refl;
       told = rw (← c.self.view_is) took.1;
-      event_of = told_to _ _ (Step c.args.actor c.step-stepped.result.step c.step-stepped.result.answer c.step-stepped.result.reply) c.event-event.result c.self.view_is (event_is _ _ _ c.args.actor _ _ _ _ c.step-stepped.ensures.memory c.step-stepped.ensures.within took.2 (heads _ _ c.self.invariant.state) took.0 took.1 c.event-event.ensures);
+      event_of = told_to _ _ (Step c.args.actor c.step-stepped.result.step c.step-stepped.result.answer c.step-stepped.result.reply) c.event-event.result c.self.view_is (event_is _ _ c.args.actor _ _ _ _ (c.step-stepped.ensures.memory ∙ ap (memory_after c.args.actor c.step-stepped.result.step) c.self.invariant.has) (heads _ _ c.self.invariant.state) took.0 took.1 c.event-event.ensures);
       same_limits = rw (← c.self.view_is) refl;
     }
 
-pub step-stepped-requires-clause-ready : goal.step-stepped-requires-clause-ready
-step-stepped-requires-clause-ready g c =
-    let asks = core_asks _ c.steps_keep_laws.ensures.apart c.steps_keep_laws.ensures.fit _ _ _ _ _ _ c.self.invariant _ _ c.self.view_is c.requires.goes c.from.ensures c.index_mut-place.ensures.value in
+pub step-stepped-requires-clause-knows : goal.step-stepped-requires-clause-knows
+step-stepped-requires-clause-knows g c =
+    let asks = core_asks _ c.steps_keep_laws.ensures.apart c.steps_keep_laws.ensures.fit _ _ _ _ _ _ c.self.invariant _ _ c.self.view_is c.requires.goes c.from-2.ensures c.index_mut-place.ensures.value in
     (knows c.self.inside.trace.items c.args.actor, asks.2)
+
+pub step-stepped-requires-clause-within : goal.step-stepped-requires-clause-within
+step-stepped-requires-clause-within g c =
+    (core_asks _ c.steps_keep_laws.ensures.apart c.steps_keep_laws.ensures.fit _ _ _ _ _ _ c.self.invariant _ _ c.self.view_is c.requires.goes c.from-2.ensures c.index_mut-place.ensures.value).4
+
+pub ready-requires-clause-running : goal.ready-requires-clause-running
+ready-requires-clause-running g c =
+    (core_asks _ c.steps_keep_laws.ensures.apart c.steps_keep_laws.ensures.fit _ _ _ _ _ _ c.self.invariant _ _ c.self.view_is c.requires.goes c.from.ensures c.index-place.ensures).3
+
+pub ready-requires-clause-within : goal.ready-requires-clause-within
+ready-requires-clause-within g c =
+    (core_asks _ c.steps_keep_laws.ensures.apart c.steps_keep_laws.ensures.fit _ _ _ _ _ _ c.self.invariant _ _ c.self.view_is c.requires.goes c.from.ensures c.index-place.ensures).4
