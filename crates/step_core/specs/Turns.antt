@@ -88,6 +88,21 @@ pub record AddsTurn (old : Core) (turn : Turn) (event : Event) (new : Core) : Ty
   pub event_of : IsEventOf (memory_of old.limits old.entries) added event
   pub same_limits : new.limits ≡ old.limits
 
+-- Each of the turns adds its entry, one after another.
+abbrev pub AddsTurns : Core → List Turn → Core → Type 0
+AddsTurns old [] new = new ≡ old
+AddsTurns old (turn ∷ turns) new = (next : Core) × (event : Event) × AddsTurn old turn event next × AddsTurns next turns new
+
+-- Some of the turns were taken, and the core that they left refuses the next one, for want of memory only where nothing else
+-- refuses it.
+pub record StopsAt (old : Core) (turns : List Turn) (error : RunError) (new : Core) : Type 0 where
+  pub count : ℕ
+  pub added : AddsTurns old (take count turns) new
+  pub next : Turn
+  pub is_next : slice_get turns count ≡ Some next
+  pub refused : (refusal : RunError) → refusal_of new next ≡ Some refusal → error ≡ refusal
+  pub memory : refusal_of new next ≡ None → (error ≡ OutOfMemory (length new.entries)) × WantsMemory new next
+
 -- what the trace says of a turn, whatever room it has for more entries
 abbrev pub IsRefusal : Limits → List Entry → Turn → Option RunError → Type 0
 IsRefusal limits entries turn refusal = (room : ℕ) → refusal_of (record { limits = limits; entries = entries; room = room }) turn ≡ refusal

@@ -3,7 +3,7 @@ ghost use Rattle.std.specs.Prelude.{◌≡◌, ◌<◌, ◌≤◌, ◌&&◌, [],
 ghost use Rattle.chain_search.specs.Trace.{command_of, turn_of};
 ghost use Rattle.op_machine.specs.Linearized.{IsLinearized, IsOrderly};
 ghost use Rattle.step_core.specs.Listed.{IsListing};
-ghost use Rattle.step_core.specs.Turns.{AddsTurn, WantsMemory, busy_of, refusal_of};
+ghost use Rattle.step_core.specs.Turns.{AddsTurn, AddsTurns, StopsAt, WantsMemory, busy_of, refusal_of};
 
 use crate::actor::{Actor, Stepped};
 use crate::event::{Event, RunError, Trace};
@@ -85,6 +85,20 @@ impl<A: Allocator + Copy> Core<A> {
         let answer = self.take_turn(turn);
         self.linearized();
         answer
+    }
+
+    /// Takes the turns one after another, up to one that is refused, whose refusal it answers.
+    pub fn take_turns(&mut self, turns: &[Turn]) -> Result<(), RunError>
+        ensures ok { IfOk result (λ _. AddsTurns self.old turns.now self.new) }
+        ensures err { IfErr result (λ error. StopsAt self.old turns.now error self.new) }
+    {
+        for turn in turns {
+            match self.turn(turn.clone().unwrap()) {
+                Ok(_) => {}
+                Err(error) => return Err(error),
+            }
+        }
+        Ok(())
     }
 
     /// Takes one turn, if it is not refused.

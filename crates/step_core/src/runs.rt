@@ -26,11 +26,10 @@ pub fn run<A: Allocator + Copy>(
         Ok(core) => core,
         Err(_) => return Err(RunError::Memory(0)),
     };
-    for turn in turns {
-        if let Err(error) = core.turn(turn.clone().unwrap()) {
-            return Err(error);
-        }
-    }
+    let taken = core.take_turns(turns);
     core.linearized();
-    Ok(core.into_trace())
+    match taken {
+        Ok(()) => Ok(core.into_trace()),
+        Err(error) => Err(error),
+    }
 }

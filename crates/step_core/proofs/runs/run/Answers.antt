@@ -1,16 +1,23 @@
-use Rattle.std.proofs.Common.{◌≡◌, ◌<◌, length, Some, rules}
-use Rattle.std.specs.Prelude.{slice_get}
-use Rattle.step_core.proofs.Replaced.{get_is}
-use Rattle.step_core.proofs.Stopping.{stops}
+use Rattle.std.proofs.Common.{◌++◌, ◌∙◌, ap, map}
+use Rattle.chain_search.specs.Trace.{turn_of}
+use Rattle.step_core.proofs.Stopping.{adds_entries, orderly, stops_at, whole}
 use Rattle.step_core.proofs.runs.run.Goals as goal
 
-pub returns-in-Err-turn-clause-err : goal.returns-in-Err-turn-clause-err
-returns-in-Err-turn-clause-err g c =
-    let lt : c.loop-turn.turn-index < length c.args.turns.now = c.loop-turn-test.true in
-    let item : slice_get c.args.turns.now c.loop-turn.turn-index ≡ Some c.turn-item.result = get_is _ _ _ lt c.turn-item.is in
-    let same : c.turn-item.result ≡ c.unwrap.result = search rules in
-    let at : slice_get c.args.turns.now c.loop-turn.turn-index ≡ Some c.unwrap.result = rw same at item in
-    stops _ _ c.loop-turn.core _ c.unwrap.result _ c.loop-turn.invariant.0 c.loop-turn.invariant.1 lt at
-    (λ f h. let e = c.in-Err-turn.ensures.refused f h in cc e)
-    (λ h. (c.in-Err-turn.ensures.memory h).0)
-    (rw (← c.in-Err-turn.ensures.err) c.in-Err-turn.ensures.linearized)
+pub returns-in-Ok-taken-clause-turns : goal.returns-in-Ok-taken-clause-turns
+returns-in-Ok-taken-clause-turns g c =
+    let adds = adds_entries c.in-Ok.core c.take_turns-taken.new.self c.args.turns.now c.in-Ok-taken.ensures.ok in
+    rw c.into_trace.ensures (adds.0 ∙ ap (λ es. map turn_of es ++ c.args.turns.now) c.in-Ok.ensures.entries)
+
+pub returns-in-Ok-taken-clause-linearized : goal.returns-in-Ok-taken-clause-linearized
+returns-in-Ok-taken-clause-linearized g c =
+    let adds = adds_entries c.in-Ok.core c.take_turns-taken.new.self c.args.turns.now c.in-Ok-taken.ensures.ok in
+    rw c.into_trace.ensures (whole _ _ c.take_turns-taken.new.self (adds.0 ∙ ap (λ es. map turn_of es ++ c.args.turns.now) c.in-Ok.ensures.entries) (adds.1 ∙ c.in-Ok.ensures.limits) c.linearized.ensures.linearized)
+
+pub returns-in-Ok-taken-clause-orderly : goal.returns-in-Ok-taken-clause-orderly
+returns-in-Ok-taken-clause-orderly g c =
+    let adds = adds_entries c.in-Ok.core c.take_turns-taken.new.self c.args.turns.now c.in-Ok-taken.ensures.ok in
+    rw c.into_trace.ensures (orderly _ c.take_turns-taken.new.self (adds.1 ∙ c.in-Ok.ensures.limits) c.linearized.ensures.orderly)
+
+pub returns-in-Err-taken-clause-err : goal.returns-in-Err-taken-clause-err
+returns-in-Err-taken-clause-err g c =
+    stops_at _ _ c.in-Ok.core c.take_turns-taken.new.self c.in-Err-taken.error c.in-Ok.ensures.entries c.in-Ok.ensures.limits c.in-Err-taken.ensures.err c.linearized.ensures.linearized
