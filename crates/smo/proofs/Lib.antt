@@ -10,3 +10,4 @@ pub mod UntermFits
 pub mod Due
 pub mod Leaves
 pub mod MapKept
+pub mod TestedLeaves

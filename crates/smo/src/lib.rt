@@ -11,6 +11,8 @@ mod root;
 mod sizes;
 mod split;
 mod term;
+#[cfg(test)]
+mod tests;
 mod unterm;
 mod version;
 
