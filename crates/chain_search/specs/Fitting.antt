@@ -31,7 +31,7 @@ SaysRight naming chain = (level_in chain ≡ level_in naming) × (high_in naming
 -- What was read whole of a page is a page's chain, which is as was said of the page, by slot 0 or by the chain of a page that
 -- is not removed, as its slot was last read, or by its right that had been read removed; unless it is removed itself, what it says of pages that were read, and of its own, is so,
 -- and the pages that it names are below the limit.
-pub record IsWhole (limits : Limits) (k : Knowledge) (page : ℕ) (chain : List Record) : Type 0 where
+pub record IsReadWhole (limits : Limits) (k : Knowledge) (page : ℕ) (chain : List Record) : Type 0 where
   pub is_chain : IsPageChain chain
   pub root : IsTrue (k.read.roots page) → low_in chain ≡ []
   pub named : (other row : ℕ) (basis : HasRead k other row) → SaysOf basis.chain page chain
@@ -56,7 +56,7 @@ pub record FitsRow (limits : Limits) (k : Knowledge) (row : ℕ) (content : Reco
   pub same : (before : Record) → k.read.seen row ≡ Some before → content ≡ before
   pub next : IfSome (next_row content) (λ under. (0 < under) × (under < limits.rows))
   pub short : (page head : ℕ) (front : List Record) → k.read.heads page ≡ Some head → IsFront k.read.seen head front row → length front < 13
-  pub whole : (page head : ℕ) (front : List Record) → k.read.heads page ≡ Some head → IsFront k.read.seen head front row → next_row content ≡ None → IsWhole limits k page (front ++ content ∷ [])
+  pub whole : (page head : ℕ) (front : List Record) → k.read.heads page ≡ Some head → IsFront k.read.seen head front row → next_row content ≡ None → IsReadWhole limits k page (front ++ content ∷ [])
 
 -- a row that was taken is below the limit, was not the actor's before nor in its limbo, and is on no chain that it has read
 pub record FitsTaken (limits : Limits) (k : Knowledge) (row : ℕ) : Type 0 where

@@ -19,7 +19,7 @@ use Rattle.op_machine.specs.OneLeaf.{FitsLeaf, FitsOneLeaf, IsLeafChain, ShowsLe
 use Rattle.chain_search.specs.Chains.{IsFront}
 use Rattle.tree_law.specs.Owners.{SeenFits}
 use Rattle.tree_law.specs.TraceLaws.{AnswersFit}
-use Rattle.core_law.specs.State.{IsState}
+use Rattle.core_law.specs.State.{IsLeafState}
 
 -- what was read of a chain is its front
 front_of : (seen rows : ℕ → Option Record) → ((r : ℕ) (w : Record) → seen r ≡ Some w → rows r ≡ Some w) → (x : ℕ) (front : List Record) (n : ℕ) (c : List Record) → IsFront seen x front n → IsChainFrom rows x c
@@ -51,7 +51,7 @@ rest_last rows n (v ∷ rest) w h e last =
     let empty : rest ≡ [] = subst (λ o. MatchOption o (rest ≡ []) (λ y. IsChainFrom rows y rest)) none h.1 in
     λ i. same i ∷ empty i
 
-module _ (limits : Limits) (entries : List Entry) (state : IsState limits entries) (a : ℕ) where
+module _ (limits : Limits) (entries : List Entry) (state : IsLeafState limits entries) (a : ℕ) where
   abbrev m : Memory
   m = memory_of limits entries
 

@@ -29,14 +29,14 @@ use Rattle.tree_law.specs.Put.{put}
 use Rattle.tree_law.specs.Shared.{row_in, shared, slot_in}
 use Rattle.tree_law.specs.State as tree
 use Rattle.tree_law.specs.TraceLaws.{Begins, EntriesGrow, Opens, Steps}
-use Rattle.tree_law.specs.Tree.{Good, IsPart, Level, Page}
+use Rattle.tree_law.specs.Tree.{IsTree, IsPart, Level, SidePage}
 use Rattle.core_law.specs.Laws.{LeafStands, PlainSteps}
-use Rattle.core_law.specs.State.{HasOneLeaf, IsShortLeaf, IsState, KnowsLeaf}
+use Rattle.core_law.specs.State.{HasOneLeaf, IsShortLeaf, IsLeafState, KnowsLeaf}
 use Rattle.core_law.proofs.Chains.{chain_stays, read_chain_stands}
 use Rattle.core_law.proofs.Places.{at_place, by_test}
 use Rattle.core_law.proofs.Links.{base_leaf, over_chain, over_leaf, over_short}
 
-module _ (m : Memory) {log : List Update} {o : Owners} {ks : ℕ → Knowledge} {point : ℕ → Option (List Update)} {logs : ℕ → List (List Update)} (g : Good (shared m) log o ks point logs) where
+module _ (m : Memory) {log : List Update} {o : Owners} {ks : ℕ → Knowledge} {point : ℕ → Option (List Update)} {logs : ℕ → List (List Update)} (g : IsTree (shared m) log o ks point logs) where
   -- the row in slot 1 is linked, and so is each row that was read in a slot
   leaf_linked : o.row (m.slots 1) ≡ Linked
   leaf_linked = go leaves.side leaves.whole
@@ -48,7 +48,7 @@ module _ (m : Memory) {log : List Update} {o : Owners} {ks : ℕ → Knowledge} 
       row_is zero row e = absurd (cc)
       row_is (suc n) row e = same_Some (suc n) row e
 
-      go : (side : List Page) → IsPart o (shared m) 0 (leaf_map log) side (Some 1) (Some []) None None → o.row (m.slots 1) ≡ Linked
+      go : (side : List SidePage) → IsPart o (shared m) 0 (leaf_map log) side (Some 1) (Some []) None None → o.row (m.slots 1) ≡ Linked
       go [] h = absurd (let e = h.0 in cc)
       go (p ∷ ps) h =
           let same : 1 ≡ p.page = same_Some 1 p.page h.0 in
@@ -212,7 +212,7 @@ module _ (m : Memory) {log : List Update} {o : Owners} {ks : ℕ → Knowledge} 
     learnt (ReusePids w bits) x may plain is stay = same _ refl refl refl
     learnt (ReuseRows w bits) x may plain is stay = same _ refl refl refl
 
-pub opens : Opens tree.IsState → Opens IsState
+pub opens : Opens tree.IsState → Opens IsLeafState
 opens tree_opens limits = record {
   tree = tree_opens limits;
   leaf = record {
@@ -227,7 +227,7 @@ opens tree_opens limits = record {
     none : (page : ℕ) → 1 < page → (opening limits).slots page ≡ 0
     none page h = rw (lt-leb page 1 h) refl
 
-pub begins : Begins tree.IsState → EntriesGrow → Begins IsState
+pub begins : Begins tree.IsState → EntriesGrow → Begins IsLeafState
 begins tree_begins grows limits entries a c state below idle = record {
   tree = tree_begins limits entries a c state.tree below idle;
   leaf = rw ((grows limits entries (Begin a c)).memory) state.leaf;

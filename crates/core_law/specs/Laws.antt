@@ -14,25 +14,25 @@ use Rattle.chain_search.specs.Useful.{IsUseful}
 use Rattle.chain_search.specs.declared.trace.Entry.{Entry}
 use Rattle.chain_search.specs.declared.trace.Entry.TheVariants.{Step}
 use Rattle.op_machine.specs.OneLeaf.{FitsOneLeaf, IsPlainMove}
-use Rattle.core_law.specs.State.{ArePlain, HasLeafChain, IsState}
+use Rattle.core_law.specs.State.{ArePlain, HasLeafChain, IsLeafState}
 
 -- a plain step that is allowed keeps a state
 abbrev pub PlainSteps : Type 0
-PlainSteps = (limits : Limits) (entries : List Entry) (actor : ℕ) (step : StepOf Record) (answer : Answer Record) (reply : Option Reply) → IsState limits entries → IsSome (command_of entries actor)
-    → IsAllowed limits actor (knows entries actor) step reply → IsPlainMove (knows entries actor) step → IsAnswer (memory_of limits entries) step answer → IsState limits (entries ++ Step actor step answer reply ∷ [])
+PlainSteps = (limits : Limits) (entries : List Entry) (actor : ℕ) (step : StepOf Record) (answer : Answer Record) (reply : Option Reply) → IsLeafState limits entries → IsSome (command_of entries actor)
+    → IsAllowed limits actor (knows entries actor) step reply → IsPlainMove (knows entries actor) step → IsAnswer (memory_of limits entries) step answer → IsLeafState limits (entries ++ Step actor step answer reply ∷ [])
 
 -- where each actor obeys its discipline by plain steps, the trace is one
 abbrev pub PlainRuns : Type 0
-PlainRuns = (limits : Limits) (entries : List Entry) → IsDisciplined limits entries → ArePlain entries → IsState limits entries
+PlainRuns = (limits : Limits) (entries : List Entry) → IsDisciplined limits entries → ArePlain entries → IsLeafState limits entries
 
 -- what the memory answers shows the only leaf
 abbrev pub AnswersShowLeaf : Type 0
-AnswersShowLeaf = (limits : Limits) (entries : List Entry) (actor : ℕ) (step : StepOf Record) (answer : Answer Record) → IsState limits entries
+AnswersShowLeaf = (limits : Limits) (entries : List Entry) (actor : ℕ) (step : StepOf Record) (answer : Answer Record) → IsLeafState limits entries
     → May actor (knows entries actor) step → IsAnswer (memory_of limits entries) step answer → FitsOneLeaf limits (knows entries actor) step answer
 
 -- page 1 has the only leaf's chain
 abbrev pub LeafStands : Type 0
-LeafStands = (limits : Limits) (entries : List Entry) → IsState limits entries → HasLeafChain (memory_of limits entries)
+LeafStands = (limits : Limits) (entries : List Entry) → IsLeafState limits entries → HasLeafChain (memory_of limits entries)
 
 -- a plain step puts no base over a base alone
 abbrev pub PlainIsUseful : Type 0

@@ -40,7 +40,7 @@ pub record KnowsLeaf (rows : ℕ → Option Record) (k : Knowledge) : Type 0 whe
   pub pageless : (page : ℕ) → k.own.pages page ≡ Other
   pub roots : (page : ℕ) → k.read.roots page ≡ true → page ≡ 1
 
-pub record IsState (limits : Limits) (entries : List Entry) : Type 0 where
+pub record IsLeafState (limits : Limits) (entries : List Entry) : Type 0 where
   pub tree : tree.IsState limits entries
   pub leaf : HasOneLeaf (memory_of limits entries)
   pub known : (actor : ℕ) → KnowsLeaf (memory_of limits entries).rows (knows entries actor)

@@ -4,20 +4,20 @@ ghost use Rattle.bw_model.specs.declared.limits.Limits.{Limits};
 ghost use Rattle.chain_search.specs.Trace.{memory_of};
 ghost use Rattle.chain_search.specs.declared.trace.Entry.{Entry};
 ghost use Rattle.core_law.specs.Laws.{AnswersShowLeaf, LeafStands, PlainIsUseful, PlainRuns, PlainSteps};
-ghost use Rattle.core_law.specs.State.{HasOneLeaf, IsState};
+ghost use Rattle.core_law.specs.State.{HasOneLeaf, IsLeafState};
 ghost use Rattle.tree_law.specs.State as tree;
 ghost use Rattle.tree_law.specs.TraceLaws.{Begins, Opens};
 
 /// The empty trace is a state.
 pub fn opens()
-    ensures { Opens IsState }
+    ensures { Opens IsLeafState }
 {
     tree_law::opens();
 }
 
 /// A begin keeps it, where the actor is there and has no operation.
 pub fn begins()
-    ensures { Begins IsState }
+    ensures { Begins IsLeafState }
 {
     tree_law::begins();
     tree_law::entries_grow();
@@ -34,8 +34,8 @@ pub fn steps()
 
 /// It is a state of the whole tree, so the tree's law says the rest; and page 1 is its only page.
 pub fn is_one_leaf()
-    ensures tree { (limits : Limits) (entries : List Entry) → IsState limits entries → tree.IsState limits entries }
-    ensures leaf { (limits : Limits) (entries : List Entry) → IsState limits entries → HasOneLeaf (memory_of limits entries) }
+    ensures tree { (limits : Limits) (entries : List Entry) → IsLeafState limits entries → tree.IsState limits entries }
+    ensures leaf { (limits : Limits) (entries : List Entry) → IsLeafState limits entries → HasOneLeaf (memory_of limits entries) }
 {}
 
 /// A trace of plain steps in which each actor obeys its discipline is a state.

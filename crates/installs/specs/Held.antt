@@ -10,15 +10,15 @@ use Rattle.installs.specs.declared.install.State.{State}
 use Rattle.installs.specs.declared.install.State.TheVariants.{Place, Exchange}
 
 -- the spares, and the row that is in flight
-abbrev pub held : State → List ℕ → List ℕ
-held (Place row) spares = spares ++ row ∷ []
-held (Exchange row) spares = spares ++ row ∷ []
-held state spares = spares
+abbrev pub rows_held : State → List ℕ → List ℕ
+rows_held (Place row) spares = spares ++ row ∷ []
+rows_held (Exchange row) spares = spares ++ row ∷ []
+rows_held state spares = spares
 
 -- the same once a change has ended, or goes on
-abbrev pub held_then : Option End → State → List ℕ → List ℕ
-held_then None state spares = held state spares
-held_then (Some end) state spares = spares
+abbrev pub rows_held_then : Option End → State → List ℕ → List ℕ
+rows_held_then None state spares = rows_held state spares
+rows_held_then (Some end) state spares = spares
 
 -- One more is held after a take that got it, one less after the exchange that linked it, and else the same.
 abbrev pub Keeps : StepOf Record → Answer Record → List ℕ → List ℕ → Type 0

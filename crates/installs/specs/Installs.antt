@@ -73,15 +73,15 @@ abbrev pub AreFull : Knowledge → ℕ → Type 0
 AreFull k word = (below : ℕ) → below < word → k.asked.no_rows below ≡ true
 
 -- By the state of a change: what its actor knows, and that the spares, with the row in flight, are the actor's own.
-abbrev pub Stands : List ℕ → Knowledge → State → Record → Type 0
-Stands spares k (Bits word) content = (spares ≡ []) × AreFull k word
-Stands spares k (Take row) content = (spares ≡ []) × AreFull k (row / 64)
-Stands spares k (Place row) content = AreSpare k.own.rows (row ∷ spares)
-Stands spares k (Exchange row) content = AreSpare k.own.rows (row ∷ spares) × (k.own.rows row ≡ Written content)
+abbrev pub ShowsState : List ℕ → Knowledge → State → Record → Type 0
+ShowsState spares k (Bits word) content = (spares ≡ []) × AreFull k word
+ShowsState spares k (Take row) content = (spares ≡ []) × AreFull k (row / 64)
+ShowsState spares k (Place row) content = AreSpare k.own.rows (row ∷ spares)
+ShowsState spares k (Exchange row) content = AreSpare k.own.rows (row ∷ spares) × (k.own.rows row ≡ Written content)
 
 pub record Shows (actor : ℕ) (install : Install) (spares : List ℕ) (k : Knowledge) : Type 0 where
   pub may : MayInstall actor k install.pid install.head install.content
-  pub stands : Stands spares k install.state install.content
+  pub stands : ShowsState spares k install.state install.content
 
 -- Something is known that the change shows, and the answer fits it.
 pub record IsTold (install : Install) (spares : List ℕ) (told : Answer Record) : Type 0 where

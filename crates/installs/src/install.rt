@@ -5,7 +5,7 @@ ghost use Rattle.chain_search.specs.Discipline.{May};
 ghost use Rattle.chain_search.specs.Fitting.{Fits};
 ghost use Rattle.chain_search.specs.Knowledge.{Knowledge, learn};
 ghost use Rattle.installs.specs.Bounded.{Recalls, Spends, steps_left};
-ghost use Rattle.installs.specs.Held.{Keeps, held, held_then};
+ghost use Rattle.installs.specs.Held.{Keeps, rows_held, rows_held_then};
 ghost use Rattle.installs.specs.Installs.{Follows, GoesOn, IsSame, IsSoundState, IsTarget, IsTold, MayInstall, Shows, at, rows_flying, wanted};
 ghost use Rattle.chain_search.specs.Recalled.{Recalled, WasHead};
 ghost use Rattle.installs.specs.Spares.{AreSpare, HaveRoom};
@@ -69,7 +69,7 @@ impl Install {
         requires room { HaveRoom limits.now 0 spares.old }
         ensures shows { (actor : ℕ) (k : Knowledge) → MayInstall actor k pid head content → AreSpare k.own.rows spares.old → Shows actor result spares.new k }
         ensures room { HaveRoom limits.now 1 spares.new }
-        ensures held { held result.state spares.new ≡ spares.old }
+        ensures rows_held { rows_held result.state spares.new ≡ spares.old }
         ensures limits { result.limits ≡ limits.now }
         ensures pid { result.pid ≡ pid }
         ensures head { result.head ≡ head }
@@ -110,7 +110,7 @@ impl Install {
         ensures follows { (actor : ℕ) (k : Knowledge) → Shows actor self.old spares.old k → Fits self.old.limits k (wanted self.old) answer → Follows actor k self.old spares.old answer self.new spares.new result }
         ensures room { HaveRoom self.old.limits (rows_flying result) spares.new }
         ensures same { IsSame self.old self.new }
-        ensures keeps { Keeps (wanted self.old) answer (held self.old.state spares.old) (held_then result self.new.state spares.new) }
+        ensures keeps { Keeps (wanted self.old) answer (rows_held self.old.state spares.old) (rows_held_then result self.new.state spares.new) }
         ensures lowest { (word bits : ℕ) → self.old.state ≡ State.Bits word → answer ≡ Answer.Number bits → 0 < bits → self.new.state ≡ State.Take (64 * word + trailing_zeros w64 bits) }
         ensures again { (row : ℕ) → self.old.state ≡ State.Take row → answer ≡ Answer.Whether false → self.new.state ≡ State.Bits (row / 64) }
         ensures left { 0 < steps_left self.old.state }
@@ -141,7 +141,7 @@ impl Install {
         requires word { 64 * word < self.old.limits.rows }
         ensures follows { (actor : ℕ) (k : Knowledge) (spares : List ℕ) → Shows actor (at self.old (State.Bits word)) spares k → Follows actor k (at self.old (State.Bits word)) spares (Answer.Number bits) self.new spares result }
         ensures same { IsSame self.old self.new }
-        ensures keeps { (spares : List ℕ) → held_then result self.new.state spares ≡ spares }
+        ensures keeps { (spares : List ℕ) → rows_held_then result self.new.state spares ≡ spares }
         ensures lowest { 0 < bits → self.new.state ≡ State.Take (64 * word + trailing_zeros w64 bits) }
         ensures spends { IfNone result (Spends (at self.old (State.Bits word)) (Answer.Number bits) self.new) }
     {
@@ -162,7 +162,7 @@ impl Install {
         requires row { row < self.old.limits.rows }
         ensures goes { (actor : ℕ) (k : Knowledge) (spares : List ℕ) → Shows actor (at self.old (State.Take row)) spares k → Fits self.old.limits k (Step.TakeRow row) (Answer.Whether free) → GoesOn actor k (learn k (Step.TakeRow row) (Answer.Whether free)) self.new spares }
         ensures same { IsSame self.old self.new }
-        ensures keeps { (spares : List ℕ) → Keeps (Step.TakeRow row) (Answer.Whether free) spares (held self.new.state spares) }
+        ensures keeps { (spares : List ℕ) → Keeps (Step.TakeRow row) (Answer.Whether free) spares (rows_held self.new.state spares) }
         ensures again { free ≡ false → self.new.state ≡ State.Bits (row / 64) }
         ensures spends { Spends (at self.old (State.Take row)) (Answer.Whether free) self.new }
     {

@@ -13,7 +13,7 @@ use Rattle.chain_search.specs.Discipline.{found, record_of}
 use Rattle.chain_search.specs.Knowledge.{Foreign, Written, Knowledge, exchanged, learn, linked_over}
 use Rattle.installs.specs.Installs as change
 use Rattle.op_machine.specs.declared.op.State.TheVariants.{Root, Install, Leave}
-use Rattle.op_machine.specs.Shows.{Brings, HasLeaf, HasNoPage, Seeks, Stands}
+use Rattle.op_machine.specs.Shows.{Brings, HasLeaf, HasNoPage, Seeks, ShowsState}
 use Rattle.op_machine.proofs.Changes.{covers_each}
 use Rattle.op_machine.proofs.Commands.{writes}
 
@@ -29,7 +29,7 @@ brings_still actor k now c pid head content (Some r) like b = record { chain = b
 brings_still actor k now c pid head content None like b = record { chain = b.chain; whole = leaf_still k now pid head b.chain like b.whole; long = b.long; page = b.page; is = b.is; writer = b.writer }
 
 module _ (limits : Limits) (actor : ℕ) (k : Knowledge) (c : Command) (part : List Record) (had : List ℕ) (install : change.Install) where
-  pub goes_on : (now : Knowledge) (new : change.Install) (has : List ℕ) (answered : Option Reply) → change.IsSame install new → Stands limits actor c part had k (Install install answered) → change.GoesOn actor k now new has → Stands limits actor c part has now (Install new answered)
+  pub goes_on : (now : Knowledge) (new : change.Install) (has : List ℕ) (answered : Option Reply) → change.IsSame install new → ShowsState limits actor c part had k (Install install answered) → change.GoesOn actor k now new has → ShowsState limits actor c part has now (Install new answered)
   goes_on now new has answered same h g = (
     seeks_still k now c g.like h.0,
     rw (same.pid, same.head, same.content) (brings_still actor k now c install.pid install.head install.content answered g.like h.1),
@@ -48,7 +48,7 @@ module _ (limits : Limits) (actor : ℕ) (k : Knowledge) (c : Command) (part : L
   updated (unset who key) x y = refl
 
   -- the update is linked, and the reply is the one over the chain that was read
-  pub won_update : (told : Answer Record) (has : List ℕ) (answered : Reply) → Stands limits actor c part had k (Install install (Some answered)) → change.HasWon k install had told has → Stands limits actor c part has (learn k (change.wanted install) told) (Leave answered)
+  pub won_update : (told : Answer Record) (has : List ℕ) (answered : Reply) → ShowsState limits actor c part had k (Install install (Some answered)) → change.HasWon k install had told has → ShowsState limits actor c part has (learn k (change.wanted install) told) (Leave answered)
   won_update told has answered h w =
       let b = h.1 in
       rw (w.exchanged.asked, w.won, linked install.pid install.head w.exchanged.row b.whole.page w.exchanged.some h.0.pageless, w.exchanged.placed, b.is, updated b.update install.head w.exchanged.row) (
@@ -70,7 +70,7 @@ module _ (limits : Limits) (actor : ℕ) (k : Knowledge) (c : Command) (part : L
       )
 
   -- the base is linked, and nothing was answered
-  pub won_base : (told : Answer Record) (has : List ℕ) → Stands limits actor c part had k (Install install None) → change.HasWon k install had told has → Stands limits actor c part has (learn k (change.wanted install) told) Root
+  pub won_base : (told : Answer Record) (has : List ℕ) → ShowsState limits actor c part had k (Install install None) → change.HasWon k install had told has → ShowsState limits actor c part has (learn k (change.wanted install) told) Root
   won_base told has h w =
       let b = h.1 in
       rw (w.exchanged.asked, w.won, linked install.pid install.head w.exchanged.row b.whole.page w.exchanged.some h.0.pageless, w.exchanged.placed, b.is) (
@@ -78,7 +78,7 @@ module _ (limits : Limits) (actor : ℕ) (k : Knowledge) (c : Command) (part : L
         w.exchanged.left,
       )
 
-  pub lost : (told : Answer Record) (has : List ℕ) (answered : Option Reply) → Stands limits actor c part had k (Install install answered) → change.HasLost k install had told has → Stands limits actor c part has (learn k (change.wanted install) told) Root
+  pub lost : (told : Answer Record) (has : List ℕ) (answered : Option Reply) → ShowsState limits actor c part had k (Install install answered) → change.HasLost k install had told has → ShowsState limits actor c part has (learn k (change.wanted install) told) Root
   lost told has answered h l = rw (l.asked, l.lost) (record { inside = h.0.inside; pageless = h.0.pageless; going = h.0.going; unlinked = h.0.unlinked }, l.spare)
 
   -- a command that has such a change under way may change the map
@@ -86,7 +86,7 @@ module _ (limits : Limits) (actor : ℕ) (k : Knowledge) (c : Command) (part : L
   may_write (Some r) b = (found b.chain (command_key c), b.update, b.due)
   may_write None b = writes actor c b.writer
 
-  pub full : (now : Knowledge) (has : List ℕ) (answered : Option Reply) → Stands limits actor c part had k (Install install answered) → change.IsFull k now install has → Stands limits actor c part has now (Leave reply.Full)
+  pub full : (now : Knowledge) (has : List ℕ) (answered : Option Reply) → ShowsState limits actor c part had k (Install install answered) → change.IsFull k now install has → ShowsState limits actor c part has now (Leave reply.Full)
   full now has answered h f =
       let due = may_write answered h.1 in
       let still = seeks_still k now c f.like h.0 in (

@@ -27,7 +27,7 @@ use Rattle.op_machine.specs.declared.op.State.{State}
 use Rattle.op_machine.specs.declared.op.State.TheVariants.{Begun, Epoch, Enter, Root, Slot, Row, Install, Leave, Over}
 use Rattle.op_machine.specs.Answered.{is_writer}
 use Rattle.op_machine.specs.OneLeaf.{FitsOneLeaf, IsLeafChain, IsPlainMove, IsPlainOver}
-use Rattle.op_machine.specs.Shows.{Advances, Arrives, Brings, FitsLast, Goes, Reads, Shows, Stands, learn_last}
+use Rattle.op_machine.specs.Shows.{Advances, Arrives, Brings, FitsLast, Goes, Reads, Shows, ShowsState, learn_last}
 use Rattle.op_machine.specs.Wants.{Op, at, wanted_at, wanted_of}
 use Rattle.op_machine.proofs.Changes.{covers_each}
 use Rattle.op_machine.proofs.Commands.{none_due, writes}
@@ -43,7 +43,7 @@ module _ (limits : Limits) (actor : ℕ) (k : Knowledge) (c : Command) (part : L
   reads_slot zero some inside root = absurd (omega arith)
   reads_slot (suc pid) some inside root = (inside, inl root)
 
-  allowed : (state : State) (s : Step Record) → wanted_at state ≡ Some s → ((install : change.Install) (answered : Option Reply) → state ≡ Install install answered → change.Shows actor install spares k → May actor k s) → Stands limits actor c part spares k state → May actor k s
+  allowed : (state : State) (s : Step Record) → wanted_at state ≡ Some s → ((install : change.Install) (answered : Option Reply) → state ≡ Install install answered → change.Shows actor install spares k → May actor k s) → ShowsState limits actor c part spares k state → May actor k s
   allowed Begun s e f h = cc
   allowed Epoch s e f h = subst (May actor k) (same_Some _ _ e) tt
   allowed (Enter epoch) s e f h = subst (May actor k) (same_Some _ _ e) (h.0.outside, h.2, h.3)
@@ -76,13 +76,13 @@ module _ (limits : Limits) (actor : ℕ) (k : Knowledge) (c : Command) (part : L
   links_plainly pid head row content (Some r) b placed = record { chain = b.chain; read = b.whole.read; content = content; placed = placed; plain = rw b.is (plain_update b.update head b.chain b.short) }
   links_plainly pid head row content None b placed = record { chain = b.chain; read = b.whole.read; content = content; placed = placed; plain = rw b.is b.long }
 
-  changes_plainly : (pid head : ℕ) (content : Record) (answered : Option Reply) → Brings actor k c pid head content answered → (state : at_change.State) → change.Stands spares k state content → IsPlainMove k (change.wanted_at pid head content state)
+  changes_plainly : (pid head : ℕ) (content : Record) (answered : Option Reply) → Brings actor k c pid head content answered → (state : at_change.State) → change.ShowsState spares k state content → IsPlainMove k (change.wanted_at pid head content state)
   changes_plainly pid head content answered b (Bits word) h = tt
   changes_plainly pid head content answered b (Take row) h = tt
   changes_plainly pid head content answered b (Place row) h = tt
   changes_plainly pid head content answered b (Exchange row) h = links_plainly pid head row content answered b h.1
 
-  plainly : (state : State) (s : Step Record) → wanted_at state ≡ Some s → Stands limits actor c part spares k state → IsPlainMove k s
+  plainly : (state : State) (s : Step Record) → wanted_at state ≡ Some s → ShowsState limits actor c part spares k state → IsPlainMove k s
   plainly Begun s e h = cc
   plainly Epoch s e h = subst (IsPlainMove k) (same_Some _ _ e) tt
   plainly (Enter epoch) s e h = subst (IsPlainMove k) (same_Some _ _ e) tt
@@ -169,7 +169,7 @@ module _ (limits : Limits) (actor : ℕ) (k : Knowledge) (c : Command) (part : L
   recent_more : Reads k pid head part row → FitsOneLeaf limits k (step.Row row) (answer.Content w) → IsFront (replaced_at row (Some w) k.read.recent) head part row
   recent_more r f = front_more k.read.seen k.read.recent row w f.0.same part head row r.seen r.recent
 
-  pub read_on : (m : ℕ) → next_row w ≡ Some m → Stands limits actor c part spares k (Row pid head row) → FitsOneLeaf limits k (step.Row row) (answer.Content w) → Stands limits actor c (part ++ w ∷ []) spares read (Row pid head m)
+  pub read_on : (m : ℕ) → next_row w ≡ Some m → ShowsState limits actor c part spares k (Row pid head row) → FitsOneLeaf limits k (step.Row row) (answer.Content w) → ShowsState limits actor c (part ++ w ∷ []) spares read (Row pid head m)
   read_on m i h f = (
     record { inside = h.0.inside; pageless = h.0.pageless; going = h.0.going; unlinked = h.0.unlinked },
     h.1,
@@ -183,7 +183,7 @@ module _ (limits : Limits) (actor : ℕ) (k : Knowledge) (c : Command) (part : L
     },
   )
 
-  pub read_whole : next_row w ≡ None → Stands limits actor c part spares k (Row pid head row) → FitsOneLeaf limits k (step.Row row) (answer.Content w) → Arrives read c spares pid head (part ++ w ∷ [])
+  pub read_whole : next_row w ≡ None → ShowsState limits actor c part spares k (Row pid head row) → FitsOneLeaf limits k (step.Row row) (answer.Content w) → Arrives read c spares pid head (part ++ w ∷ [])
   read_whole i h f = record {
     seeks = record { inside = h.0.inside; pageless = h.0.pageless; going = h.0.going; unlinked = h.0.unlinked };
     spare = h.1;
@@ -198,18 +198,18 @@ module _ (limits : Limits) (actor : ℕ) (k : Knowledge) (c : Command) (part : L
   }
 
   -- the chain is a page's, and that of the only leaf
-  pub whole_fits : next_row w ≡ None → Stands limits actor c part spares k (Row pid head row) → FitsOneLeaf limits k (step.Row row) (answer.Content w) → IsPageChain (part ++ w ∷ []) × IsLeafChain (part ++ w ∷ [])
+  pub whole_fits : next_row w ≡ None → ShowsState limits actor c part spares k (Row pid head row) → FitsOneLeaf limits k (step.Row row) (answer.Content w) → IsPageChain (part ++ w ∷ []) × IsLeafChain (part ++ w ∷ [])
   whole_fits i h f = ((f.0.whole pid head part h.2.held h.2.seen i).is_chain, f.1.whole pid head part h.2.held h.2.seen i)
 
 -- the root was read, and a slot
 module _ (limits : Limits) (actor : ℕ) (k : Knowledge) (c : Command) (part : List Record) (spares : List ℕ) where
-  pub read_epoch : (epoch : ℕ) → 0 < epoch → Stands limits actor c part spares k Epoch → Stands limits actor c part spares (learn k step.Epoch (answer.Number epoch)) (Enter epoch)
+  pub read_epoch : (epoch : ℕ) → 0 < epoch → ShowsState limits actor c part spares k Epoch → ShowsState limits actor c part spares (learn k step.Epoch (answer.Number epoch)) (Enter epoch)
   read_epoch epoch some h = (record { outside = h.0.outside; pageless = h.0.pageless; going = h.0.going; unlinked = h.0.unlinked }, h.1, some, refl)
 
-  pub entered : (epoch : ℕ) (told : Answer Record) → Stands limits actor c part spares k (Enter epoch) → Stands limits actor c part spares (learn k (step.Enter epoch) told) Root
+  pub entered : (epoch : ℕ) (told : Answer Record) → ShowsState limits actor c part spares k (Enter epoch) → ShowsState limits actor c part spares (learn k (step.Enter epoch) told) Root
   entered epoch told h = (record { inside = refl; pageless = h.0.pageless; going = h.0.going; unlinked = h.0.unlinked }, h.1)
 
-  pub read_root : (pid : ℕ) → 0 < pid → Stands limits actor c part spares k Root → Stands limits actor c part spares (learn k (step.Slot 0) (answer.Number pid)) (Slot pid)
+  pub read_root : (pid : ℕ) → 0 < pid → ShowsState limits actor c part spares k Root → ShowsState limits actor c part spares (learn k (step.Slot 0) (answer.Number pid)) (Slot pid)
   read_root pid some h = (
     record { inside = h.0.inside; pageless = h.0.pageless; going = h.0.going; unlinked = h.0.unlinked },
     h.1,
@@ -217,7 +217,7 @@ module _ (limits : Limits) (actor : ℕ) (k : Knowledge) (c : Command) (part : L
     (let e : (pid == pid) ≡ true = eq-eqb pid pid refl in rw e refl),
   )
 
-  pub read_head : (pid row : ℕ) → 0 < row → Stands limits actor c part spares k (Slot pid) → Stands limits actor c [] spares (learn_slot pid row k) (Row pid row row)
+  pub read_head : (pid row : ℕ) → 0 < row → ShowsState limits actor c part spares k (Slot pid) → ShowsState limits actor c [] spares (learn_slot pid row k) (Row pid row row)
   read_head zero row some h = let first = h.2 in absurd (omega arith)
   read_head (suc pid) zero some h = absurd (omega arith)
   read_head (suc pid) (suc row) some h =

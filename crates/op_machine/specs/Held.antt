@@ -10,14 +10,14 @@ use Rattle.op_machine.specs.declared.op.Want.{Want}
 use Rattle.op_machine.specs.declared.op.Want.TheVariants.{Step, Done}
 
 -- the spares, and the row that is in flight
-abbrev pub held : State → List ℕ → List ℕ
-held (Install install reply) spares = change.held install.state spares
-held state spares = spares
+abbrev pub rows_held : State → List ℕ → List ℕ
+rows_held (Install install reply) spares = change.rows_held install.state spares
+rows_held state spares = spares
 
 -- the same once an operation wants its next step, or is done
-abbrev pub held_then : Want → State → List ℕ → List ℕ
-held_then (Step asked) state spares = held state spares
-held_then (Done reply) state spares = spares
+abbrev pub rows_held_then : Want → State → List ℕ → List ℕ
+rows_held_then (Step asked) state spares = rows_held state spares
+rows_held_then (Done reply) state spares = spares
 
 -- what the last step makes of the rows that are held; before the first step there is none
 abbrev pub KeepsLast : Option (StepOf Record) → Answer Record → List ℕ → List ℕ → Type 0

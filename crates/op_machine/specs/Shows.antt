@@ -91,19 +91,19 @@ Brings actor k command pid head content (Some answered) = IsUpdate actor k comma
 Brings actor k command pid head content None = IsRebuilt k command pid head content
 
 -- By the state of an operation: what its actor knows, and that the spares, with the row that is in flight, are the actor's own.
-abbrev pub Stands : Limits → ℕ → Command → List Record → List ℕ → Knowledge → State → Type 0
-Stands limits actor command part spares k Begun = Waits k command × AreSpare k.own.rows spares
-Stands limits actor command part spares k Epoch = Waits k command × AreSpare k.own.rows spares
-Stands limits actor command part spares k (Enter epoch) = Waits k command × AreSpare k.own.rows spares × (0 < epoch) × (k.limbo.epoch ≡ Some epoch)
-Stands limits actor command part spares k Root = Seeks k command × AreSpare k.own.rows spares
-Stands limits actor command part spares k (Slot pid) = Seeks k command × AreSpare k.own.rows spares × (0 < pid) × (k.read.roots pid ≡ true)
-Stands limits actor command part spares k (Row pid head row) = Seeks k command × AreSpare k.own.rows spares × Reads k pid head part row
-Stands limits actor command part spares k (Install install reply) = Seeks k command × Brings actor k command install.pid install.head install.content reply × change.Shows actor install spares k × (install.limits ≡ limits)
-Stands limits actor command part spares k (Leave reply) = Busy k command × AreSpare k.own.rows spares × MayReply limits actor k reply
-Stands limits actor command part spares k Over = ⊥
+abbrev pub ShowsState : Limits → ℕ → Command → List Record → List ℕ → Knowledge → State → Type 0
+ShowsState limits actor command part spares k Begun = Waits k command × AreSpare k.own.rows spares
+ShowsState limits actor command part spares k Epoch = Waits k command × AreSpare k.own.rows spares
+ShowsState limits actor command part spares k (Enter epoch) = Waits k command × AreSpare k.own.rows spares × (0 < epoch) × (k.limbo.epoch ≡ Some epoch)
+ShowsState limits actor command part spares k Root = Seeks k command × AreSpare k.own.rows spares
+ShowsState limits actor command part spares k (Slot pid) = Seeks k command × AreSpare k.own.rows spares × (0 < pid) × (k.read.roots pid ≡ true)
+ShowsState limits actor command part spares k (Row pid head row) = Seeks k command × AreSpare k.own.rows spares × Reads k pid head part row
+ShowsState limits actor command part spares k (Install install reply) = Seeks k command × Brings actor k command install.pid install.head install.content reply × change.Shows actor install spares k × (install.limits ≡ limits)
+ShowsState limits actor command part spares k (Leave reply) = Busy k command × AreSpare k.own.rows spares × MayReply limits actor k reply
+ShowsState limits actor command part spares k Over = ⊥
 
 abbrev pub Shows : Op → List ℕ → Knowledge → Type 0
-Shows op spares k = Stands op.limits op.actor op.command op.part spares k op.state
+Shows op spares k = ShowsState op.limits op.actor op.command op.part spares k op.state
 
 -- between operations: outside, with spares of its own
 pub record Rests (spares : List ℕ) (k : Knowledge) : Type 0 where

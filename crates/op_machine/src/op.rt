@@ -9,7 +9,7 @@ ghost use Rattle.installs.specs.Spares.{AreSpare, HaveRoom};
 ghost use Rattle.installs.specs.Within.{IsWithin};
 ghost use Rattle.op_machine.specs.Answered.{is_writer};
 ghost use Rattle.op_machine.specs.Bounded.{Recalls, Spends, steps_left};
-ghost use Rattle.op_machine.specs.Held.{KeepsLast, held, held_then};
+ghost use Rattle.op_machine.specs.Held.{KeepsLast, rows_held, rows_held_then};
 ghost use Rattle.op_machine.specs.OneLeaf.{IsLeafChain};
 ghost use Rattle.op_machine.specs.Shows.{Advances, Arrives, Brings, Goes, IsTold, Obeys, Rests, Seeks, Shows};
 ghost use Rattle.op_machine.specs.Wants.{IsChanging, IsPlace, IsSameOp, IsSoundState, IsStepWant, IsWantWithin, at, change_of, rows_flying, rows_in_flight, wanted_at, wanted_of};
@@ -111,7 +111,7 @@ impl Op {
         ensures within { IsWantWithin self.old.limits result }
         ensures hand { HaveRoom self.old.limits (rows_flying result self.new.state) hand.new }
         ensures same { IsSameOp self.old self.new }
-        ensures keeps { KeepsLast (wanted_of self.old) answer (held self.old.state hand.old) (held_then result self.new.state hand.new) }
+        ensures keeps { KeepsLast (wanted_of self.old) answer (rows_held self.old.state hand.old) (rows_held_then result self.new.state hand.new) }
         ensures enters { (epoch : ℕ) → self.old.state ≡ State.Epoch → answer ≡ Answer.Number epoch → result ≡ Want.Step (Step.Enter epoch) }
         ensures begins { self.old.state ≡ State.Begun → IsStepWant result }
         ensures spends { Spends self.old answer self.new result }
@@ -203,7 +203,7 @@ impl Op {
         ensures goes { (spares : List ℕ) → Advances self.old spares (State.Slot pid) (Answer.Number head) self.new spares result }
         ensures within { IsWithin self.old.limits result }
         ensures flight { rows_in_flight self.new.state ≡ 0 }
-        ensures bare { (spares : List ℕ) → held self.new.state spares ≡ spares }
+        ensures bare { (spares : List ℕ) → rows_held self.new.state spares ≡ spares }
         ensures same { IsSameOp self.old self.new }
         ensures spends { 0 < head → Spends (at self.old (State.Slot pid)) (Answer.Number head) self.new (Want.Step result) }
     {
@@ -233,7 +233,7 @@ impl Op {
         ensures goes { Advances self.old hand.old (State.Row pid head row) (Answer.Content older) self.new hand.new result }
         ensures within { IsWithin self.old.limits result }
         ensures hand { HaveRoom self.old.limits (rows_in_flight self.new.state) hand.new }
-        ensures keeps { held self.new.state hand.new ≡ hand.old }
+        ensures keeps { rows_held self.new.state hand.new ≡ hand.old }
         ensures same { IsSameOp self.old self.new }
         ensures spends { Spends (at self.old (State.Row pid head row)) (Answer.Content older) self.new (Want.Step result) }
     {
@@ -259,7 +259,7 @@ impl Op {
         ensures goes { (k : Knowledge) → Arrives k self.old.command hand.old pid head chain → Goes k self.new hand.new result }
         ensures within { IsWithin self.old.limits result }
         ensures hand { HaveRoom self.old.limits (rows_in_flight self.new.state) hand.new }
-        ensures keeps { held self.new.state hand.new ≡ hand.old }
+        ensures keeps { rows_held self.new.state hand.new ≡ hand.old }
         ensures same { IsSameOp self.old self.new }
         ensures recalls { (r : Recalled) → WasHead r pid head → Recalls self.new r }
         ensures few { steps_left self.new ≤ 260 }
@@ -285,7 +285,7 @@ impl Op {
         ensures goes { (k : Knowledge) → Arrives k self.old.command hand.old pid head chain → Goes k self.new hand.new result }
         ensures within { IsWithin self.old.limits result }
         ensures hand { HaveRoom self.old.limits (rows_in_flight self.new.state) hand.new }
-        ensures keeps { held self.new.state hand.new ≡ hand.old }
+        ensures keeps { rows_held self.new.state hand.new ≡ hand.old }
         ensures same { IsSameOp self.old self.new }
         ensures recalls { (r : Recalled) → WasHead r pid head → Recalls self.new r }
         ensures few { steps_left self.new ≤ 260 }
@@ -318,7 +318,7 @@ impl Op {
         ensures goes { (k : Knowledge) → Seeks k self.old.command → Brings self.old.actor k self.old.command pid head content reply → MayInstall self.old.actor k pid head content → AreSpare k.own.rows hand.old → Goes k self.new hand.new result }
         ensures within { IsWithin self.old.limits result }
         ensures hand { HaveRoom self.old.limits (rows_in_flight self.new.state) hand.new }
-        ensures keeps { held self.new.state hand.new ≡ hand.old }
+        ensures keeps { rows_held self.new.state hand.new ≡ hand.old }
         ensures same { IsSameOp self.old self.new }
         ensures recalls { (r : Recalled) → WasHead r pid head → Recalls self.new r }
         ensures few { steps_left self.new ≤ 260 }
@@ -341,7 +341,7 @@ impl Op {
         ensures goes { Advances self.old hand.old (State.Install install reply) answer self.new hand.new result }
         ensures within { IsWithin self.old.limits result }
         ensures hand { HaveRoom self.old.limits (rows_in_flight self.new.state) hand.new }
-        ensures keeps { kept.Keeps (wanted install) answer (kept.held install.state hand.old) (held self.new.state hand.new) }
+        ensures keeps { kept.Keeps (wanted install) answer (kept.rows_held install.state hand.old) (rows_held self.new.state hand.new) }
         ensures same { IsSameOp self.old self.new }
         ensures spends { Spends (at self.old (State.Install install reply)) answer self.new (Want.Step result) }
     {
@@ -358,7 +358,7 @@ impl Op {
         ensures goes { (k : Knowledge) (install : InstallSeen) (told : _) (had has : List ℕ) → Shows (at self.old (State.Install install reply)) had k → Follows self.old.actor k install had told install has (Some end) → Goes (learn k (wanted install) told) self.new has result }
         ensures within { IsWithin self.old.limits result }
         ensures flight { rows_in_flight self.new.state ≡ 0 }
-        ensures bare { (spares : List ℕ) → held self.new.state spares ≡ spares }
+        ensures bare { (spares : List ℕ) → rows_held self.new.state spares ≡ spares }
         ensures same { IsSameOp self.old self.new }
         ensures spends { (k : Knowledge) (install : InstallSeen) (told : _) (had has : List ℕ) → Follows self.old.actor k install had told install has (Some end) → 0 < change.steps_left install.state → Spends (at self.old (State.Install install reply)) told self.new (Want.Step result) }
     {

@@ -23,7 +23,7 @@ use Rattle.core_law.specs.Laws.{AnswersShowLeaf, PlainSteps}
 use Rattle.tree_law.specs.Direct.{Accounts, IsDirectState, StaysDirect}
 use Rattle.tree_law.specs.Own.{RowsAreApart}
 use Rattle.tree_law.specs.TraceLaws.{Begins, Grows}
-use Rattle.core_law.specs.State.{IsState}
+use Rattle.core_law.specs.State.{IsLeafState}
 use Rattle.chain_search.specs.Recalled.{IsSpent, Recalled, blank, recall, recalls, recalls_after}
 use Rattle.step_core.specs.Actors.{IsActor, IsPlainlyAllowed, IsReady, IsServedAt, IsWithinAt, command_left, knows_then, running_command}
 use Rattle.step_core.proofs.Lawful.{Asks, asks, is_placed, served_at, within_at}
@@ -77,7 +77,7 @@ pays_set limits actors entries entry i new grows each own others stays a at e = 
 
 module _ (limits : Limits) where
   pub core_opens : (table : Table) (actors : List Actor) (entries : List Entry) → table.limits ≡ limits → memory_in table ≡ opening limits → length actors ≡ limits.actors
-      → ((a : ℕ) (at : Actor) → slice_get actors a ≡ Some at → at ≡ record { hand = []; running = None }) → IsState limits [] → IsDirectState limits [] → entries ≡ [] → IsCore limits table actors entries
+      → ((a : ℕ) (at : Actor) → slice_get actors a ≡ Some at → at ≡ record { hand = []; running = None }) → IsLeafState limits [] → IsDirectState limits [] → entries ≡ [] → IsCore limits table actors entries
   core_opens table actors entries same has count each state direct none = rw none (record {
     state = state;
     direct = direct;
@@ -121,7 +121,7 @@ module _ (limits : Limits) where
         within_at limits entries core.state apart i table core.same_limits core.has goes.0 old.hand old.running shows.shows,
       )
 
-  pub core_begun : Begins IsState → (table : Table) (actors : List Actor) (entries entries' : List Entry) (i j : ℕ) (new : Actor) (command : Command) → IsCore limits table actors entries
+  pub core_begun : Begins IsLeafState → (table : Table) (actors : List Actor) (entries entries' : List Entry) (i j : ℕ) (new : Actor) (command : Command) → IsCore limits table actors entries
       → (room : ℕ) (v : Core) → record { limits = limits; entries = entries; room = room } ≡ v → refusal_of v (turn.Begin i command) ≡ None → j ≡ i
       → IsActor limits i (begun (knows entries i) command) new → running_command new ≡ Some command → ((r : Recalled) → RecallsAt new.running r) → Grows limits entries (Begin i command) → StaysDirect limits entries (Begin i command) i (left_at new.running)
       → entries' ≡ entries ++ Begin i command ∷ [] → IsCore limits table (set actors j new) entries'

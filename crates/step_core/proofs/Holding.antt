@@ -13,7 +13,7 @@ use Rattle.chain_search.specs.Discipline.{IsOwn, May, MayExchange}
 use Rattle.chain_search.specs.Knowledge.{Foreign, Knowledge, Other, OwnPage, OwnRow, Taken, Written, begun, exchanged, learn, learn_slot, linked_over}
 use Rattle.chain_search.specs.Steps.{IsAnswer}
 use Rattle.op_machine.specs.OneLeaf.{IsPlainLink, IsPlainMove, IsPlainOver}
-use Rattle.op_machine.specs.Shows.{HasNoPage, Stands}
+use Rattle.op_machine.specs.Shows.{HasNoPage, ShowsState}
 use Rattle.step_core.specs.Actors.{IsPlainlyAllowed, IsRunning, command_at, knows_then}
 use Rattle.step_core.proofs.Replaced.{replaced_other, replaced_same}
 use Rattle.std.specs.Prelude.{is_some}
@@ -23,7 +23,7 @@ use Rattle.bw_model.specs.declared.step.Answer.TheVariants as answer
 use Rattle.bw_model.specs.declared.step.Step.{Step as StepOf}
 use Rattle.deltas.specs.declared.record.Record.{Record}
 use Rattle.installs.specs.Held.{Keeps}
-use Rattle.op_machine.specs.Held.{KeepsLast, held}
+use Rattle.op_machine.specs.Held.{KeepsLast, rows_held}
 use Rattle.op_machine.specs.Wants.{Op, wanted_at, wanted_of}
 use Rattle.op_machine.specs.declared.op.State.{State}
 use Rattle.op_machine.specs.declared.op.State.TheVariants.{Begun, Epoch, Enter, Root, Slot, Row, Install, Leave, Over}
@@ -32,8 +32,8 @@ use Rattle.step_core.specs.Holding.{HoldsAll, held_by}
 use Rattle.step_core.specs.Spending.{unless_done}
 
 -- before its first step an operation takes no row
-pub begun_keeps : (old : Op) (had has : List ℕ) → old.state ≡ Begun → KeepsLast (wanted_of old) answer.Start (held old.state had) has → has ≡ had
-begun_keeps old had has begun keeps = subst (λ (state : State). KeepsLast (wanted_at state) answer.Start (held state had) has) begun keeps
+pub begun_keeps : (old : Op) (had has : List ℕ) → old.state ≡ Begun → KeepsLast (wanted_of old) answer.Start (rows_held old.state had) has → has ≡ had
+begun_keeps old had has begun keeps = subst (λ (state : State). KeepsLast (wanted_at state) answer.Start (rows_held state had) has) begun keeps
 
 -- after a step that was wanted
 pub keeps_asked : (old : Running) (a : Answer Record) (had has : List ℕ) → wanted_of old.op ≡ Some old.wanted → KeepsLast (wanted_of old.op) a had has → Keeps old.wanted a had has
@@ -41,23 +41,23 @@ keeps_asked old a had has e keeps = subst (λ w. KeepsLast w a had has) e keeps
 
 -- the operation that the actor had, and whether it is done
 pub keeps_over : (old : Option Running) (running new : Running) (step : StepOf Record) (a : Answer Record) (reply : Option Reply) (had has : List ℕ) → old ≡ Some running → is_some reply ≡ true
-    → Keeps step a (held running.op.state had) (held_by (unless_done new reply) has) → Keeps step a (held_by old had) has
+    → Keeps step a (rows_held running.op.state had) (held_by (unless_done new reply) has) → Keeps step a (held_by old had) has
 keeps_over old running new step a None had has e done keeps = cc
 keeps_over old running new step a (Some reply) had has e done keeps = subst (λ o. Keeps step a (held_by o had) has) (sym e) keeps
 
 pub keeps_still : (old : Option Running) (running new : Running) (step : StepOf Record) (a : Answer Record) (reply : Option Reply) (had has : List ℕ) → old ≡ Some running → is_some reply ≡ false
-    → Keeps step a (held running.op.state had) (held_by (unless_done new reply) has) → Keeps step a (held_by old had) (held new.op.state has)
-keeps_still old running new step a None had has e done keeps = subst (λ o. Keeps step a (held_by o had) (held new.op.state has)) (sym e) keeps
+    → Keeps step a (rows_held running.op.state had) (held_by (unless_done new reply) has) → Keeps step a (held_by old had) (rows_held new.op.state has)
+keeps_still old running new step a None had has e done keeps = subst (λ o. Keeps step a (held_by o had) (rows_held new.op.state has)) (sym e) keeps
 keeps_still old running new step a (Some reply) had has e done keeps = cc
 
 -- ---- no row is forgotten
 -- a begin takes no row
 pub holds_begun : (k : Knowledge) (command : Command) (old : Option Running) (had has : List ℕ) → command_at old ≡ None → has ≡ had → HoldsAll k (held_by old had) → HoldsAll (begun k command) has
-holds_begun k command None had has idle kept h = λ row own. subst (λ held. Contains held row) (sym kept) (h row own)
+holds_begun k command None had has idle kept h = λ row own. subst (λ rows_held. Contains rows_held row) (sym kept) (h row own)
 holds_begun k command (Some running) had has idle kept h = cc
 
 -- an operation has no page
-pageless : (limits : Limits) (actor : ℕ) (command : Command) (part : List Record) (spares : List ℕ) (k : Knowledge) (state : State) → Stands limits actor command part spares k state → HasNoPage k
+pageless : (limits : Limits) (actor : ℕ) (command : Command) (part : List Record) (spares : List ℕ) (k : Knowledge) (state : State) → ShowsState limits actor command part spares k state → HasNoPage k
 pageless limits actor command part spares k Begun h = h.0.pageless
 pageless limits actor command part spares k Epoch h = h.0.pageless
 pageless limits actor command part spares k (Enter epoch) h = h.0.pageless
@@ -73,7 +73,7 @@ pageless_at limits actor k spares running is = pageless running.op.limits runnin
 
 module _ (memory : Memory) (actor : ℕ) (k : Knowledge) (had has : List ℕ) (none : HasNoPage k) (h : HoldsAll k had) where
   still : (now : Knowledge) → now.own.rows ≡ k.own.rows → has ≡ had → HoldsAll now has
-  still now same kept = λ row own. subst (λ held. Contains held row) (sym kept) (h row (subst (λ (rows : ℕ → OwnRow). IsOwn (rows row)) same own))
+  still now same kept = λ row own. subst (λ rows_held. Contains rows_held row) (sym kept) (h row (subst (λ (rows : ℕ → OwnRow). IsOwn (rows row)) same own))
 
   slot_rows : (pid n : ℕ) → (learn_slot pid n k).own.rows ≡ k.own.rows
   slot_rows zero n = refl
@@ -82,14 +82,14 @@ module _ (memory : Memory) (actor : ℕ) (k : Knowledge) (had has : List ℕ) (n
 
   -- one row more
   more : (now : Knowledge) (row : ℕ) → now.own.rows ≡ replaced_at row Taken k.own.rows → has ≡ had ++ row ∷ [] → HoldsAll now has
-  more now row same kept = λ r own. subst (λ held. Contains held r) (sym kept) (elim (cases_eq r row) [
+  more now row same kept = λ r own. subst (λ rows_held. Contains rows_held r) (sym kept) (elim (cases_eq r row) [
     | inl is ↦ subst (λ n. Contains (had ++ row ∷ []) n) (sym is) (Contains-push had row)
     | inr other ↦ Contains-append_left had (row ∷ []) r (h r (subst (λ (o : OwnRow). IsOwn o) (ap (λ (rows : ℕ → OwnRow). rows r) same ∙ replaced_other row Taken k.own.rows r other) own))
   ])
 
   -- a record in one that is held
   written : (now : Knowledge) (row : ℕ) (content : Record) → now.own.rows ≡ replaced_at row (Written content) k.own.rows → IsOwn (k.own.rows row) → has ≡ had → HoldsAll now has
-  written now row content same was kept = λ r own. subst (λ held. Contains held r) (sym kept) (elim (cases_eq r row) [
+  written now row content same was kept = λ r own. subst (λ rows_held. Contains rows_held r) (sym kept) (elim (cases_eq r row) [
     | inl is ↦ h r (subst (λ n. IsOwn (k.own.rows n)) (sym is) was)
     | inr other ↦ h r (subst (λ (o : OwnRow). IsOwn o) (ap (λ (rows : ℕ → OwnRow). rows r) same ∙ replaced_other row (Written content) k.own.rows r other) own)
   ])
@@ -98,7 +98,7 @@ module _ (memory : Memory) (actor : ℕ) (k : Knowledge) (had has : List ℕ) (n
   fewer : (now : Knowledge) (row : ℕ) → now.own.rows ≡ replaced_at row Foreign k.own.rows → had ≡ has ++ row ∷ [] → HoldsAll now has
   fewer now row same kept = λ r own. elim (cases_eq r row) [
     | inl is ↦ absurd (subst (λ (o : OwnRow). IsOwn o) (ap (λ (rows : ℕ → OwnRow). rows r) same ∙ ap (replaced_at row Foreign k.own.rows) is ∙ replaced_same row Foreign k.own.rows) own)
-    | inr other ↦ elim (Contains-push_cases has row r (subst (λ held. Contains held r) kept (h r (subst (λ (o : OwnRow). IsOwn o) (ap (λ (rows : ℕ → OwnRow). rows r) same ∙ replaced_other row Foreign k.own.rows r other) own)))) [
+    | inr other ↦ elim (Contains-push_cases has row r (subst (λ rows_held. Contains rows_held r) kept (h r (subst (λ (o : OwnRow). IsOwn o) (ap (λ (rows : ℕ → OwnRow). rows r) same ∙ replaced_other row Foreign k.own.rows r other) own)))) [
       | inl there ↦ there
       | inr is ↦ absurd (other (sym is))
     ]

@@ -15,7 +15,7 @@ use Rattle.chain_search.specs.Trace.{memory_of}
 use Rattle.op_machine.specs.OneLeaf.{IsPlainMove}
 use Rattle.tree_law.specs.Own.{RowsAreApart}
 use Rattle.core_law.specs.Laws.{AnswersShowLeaf}
-use Rattle.core_law.specs.State.{IsState}
+use Rattle.core_law.specs.State.{IsLeafState}
 use Rattle.installs.specs.Within.{IsWithin}
 use Rattle.step_core.specs.declared.actor.Running.{Running}
 use Rattle.step_core.specs.Actors.{IsAt, IsServed, IsServedAt, IsWithinAt}
@@ -40,7 +40,7 @@ first_placed : (rows : ℕ → Option Record) (row : ℕ) (chain : List Record) 
 first_placed rows row [] h = absurd h
 first_placed rows row (newest ∷ under) h = placed (rows row) newest h.0
 
-module _ (limits : Limits) (entries : List Entry) (state : IsState limits entries) where
+module _ (limits : Limits) (entries : List Entry) (state : IsLeafState limits entries) where
   abbrev m : Memory
   m = memory_of limits entries
 

@@ -6,7 +6,7 @@ use Rattle.chain_search.specs.Knowledge.{knows}
 use Rattle.chain_search.specs.Tables.{Table, memory_in}
 use Rattle.chain_search.specs.Trace.{command_of, memory_of}
 use Rattle.tree_law.specs.Direct.{Accounts, IsDirectState}
-use Rattle.core_law.specs.State.{IsState}
+use Rattle.core_law.specs.State.{IsLeafState}
 use Rattle.chain_search.specs.Recalled.{recalls}
 use Rattle.step_core.specs.declared.actor.Actor.{Actor}
 use Rattle.step_core.specs.declared.actor.Running.{Running}
@@ -20,7 +20,7 @@ Pays limits entries actor running = RecallsAt running (recalls entries actor) ×
 -- The trace is one in which each actor obeyed its discipline, by few steps. The table has the memory after it; each actor
 -- keeps what shows what the trace lets it know, and runs what the trace says that it has not finished.
 pub record IsCore (limits : Limits) (table : Table) (actors : List Actor) (entries : List Entry) : Type 0 where
-  pub state : IsState limits entries
+  pub state : IsLeafState limits entries
   pub direct : IsDirectState limits entries
   pub same_limits : table.limits ≡ limits
   pub has : memory_in table ≡ memory_of limits entries

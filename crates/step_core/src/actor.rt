@@ -5,7 +5,7 @@ ghost use Rattle.chain_search.specs.Steps.{IsAnswer, memory_after};
 ghost use Rattle.chain_search.specs.Tables.{IsWithin as IsWithinTable, memory_in};
 ghost use Rattle.installs.specs.Held.{Keeps};
 ghost use Rattle.chain_search.specs.Recalled.{Recalled};
-ghost use Rattle.op_machine.specs.Held.{held};
+ghost use Rattle.op_machine.specs.Held.{rows_held};
 ghost use Rattle.step_core.specs.Actors.{IsActor, IsLeft, IsPlainlyAllowed, IsReady, IsRunning, IsServed, IsWithinAt, command_left, knows_then, running_command, wanted_by};
 ghost use Rattle.step_core.specs.Holding.{held_by};
 ghost use Rattle.step_core.specs.Spending.{RecallsAt, Spends, left_at, unless_done};
@@ -203,7 +203,7 @@ impl Running {
         ensures answer { IsAnswer (memory_in memory.old) result.step result.answer }
         ensures memory { memory_in memory.new ≡ memory_after actor result.step (memory_in memory.old) }
         ensures command { self.new.op.command ≡ self.old.op.command }
-        ensures keeps { Keeps result.step result.answer (held self.old.op.state hand.old) (held_by (unless_done self.new result.reply) hand.new) }
+        ensures keeps { Keeps result.step result.answer (rows_held self.old.op.state hand.old) (held_by (unless_done self.new result.reply) hand.new) }
         ensures spends { Spends (Some self.old) result.step result.answer (unless_done self.new result.reply) }
     {
         let _ = limits;

@@ -9,7 +9,7 @@ ghost use Rattle.op_machine.specs.Linearized.{IsLinearized};
 ghost use Rattle.op_machine.specs.Phases.{KeepsPhases};
 ghost use Rattle.op_machine.specs.Reuse.{IsFreedByRule};
 ghost use Rattle.core_law.specs.Laws.{AnswersShowLeaf, PlainIsUseful, PlainSteps};
-ghost use Rattle.core_law.specs.State.{IsState};
+ghost use Rattle.core_law.specs.State.{IsLeafState};
 ghost use Rattle.tree_law.specs.Direct.{BeginsDirectly, StepsDirectly};
 ghost use Rattle.tree_law.specs.Own.{RowsAreApart};
 ghost use Rattle.tree_law.specs.TraceLaws.{Begins, StatesFreeByRule, StatesAreIndexed, StatesAreLinearized, StatesKeepPhases};
@@ -34,7 +34,7 @@ pub fn disciplined_runs()
 
 /// A begin keeps the law of one leaf and that of few steps.
 pub(crate) fn begins_keep_laws()
-    ensures state { Begins IsState }
+    ensures state { Begins IsLeafState }
     ensures direct { BeginsDirectly }
 {
     core_law::begins();

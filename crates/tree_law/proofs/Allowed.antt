@@ -16,7 +16,7 @@ use Rattle.tree_law.specs.Next.{IsReuse, Next, After}
 use Rattle.tree_law.specs.Owners.{Owners}
 use Rattle.tree_law.specs.Shared.{Shared, shared}
 use Rattle.tree_law.specs.Times.{Times, Timed, times_after}
-use Rattle.tree_law.specs.Tree.{Good}
+use Rattle.tree_law.specs.Tree.{IsTree}
 use Rattle.tree_law.proofs.Freeing.{t1, t2, rows_after, rows_timed, pages_after, pages_timed}
 use Rattle.tree_law.proofs.Stepping.{step as one_step}
 use Rattle.tree_law.proofs.Timewise.{timed_step}
@@ -25,7 +25,7 @@ use Rattle.tree_law.proofs.Timewise.{timed_step}
 abbrev pub after_of : {a : ℕ} {m m' : Shared} {log : List Update} {o : Owners} {knows : ℕ → Knowledge} {point : ℕ → Option (List Update)} {logs : ℕ → List (List Update)} {s : StepOf Record} {x : Answer Record} {r : Option Reply} → Next a m m' log o knows point logs s x r → After a m m' log o knows point logs s x r
 after_of n = record { update = n.update; due = n.due; last = n.last; owners = n.owners; phased = n.phased; added = n.added; same = λ q l. (n.kept q l).1; good = n.good }
 
-module _ {limits : Limits} {m : Memory} {log : List Update} {o : Owners} {knows : ℕ → Knowledge} {point : ℕ → Option (List Update)} {logs : ℕ → List (List Update)} {now : ℕ} {t : Times} (g : Good (shared m) log o knows point logs) (T : Timed limits m o knows now t) (a : ℕ) (actor : a < limits.actors) where
+module _ {limits : Limits} {m : Memory} {log : List Update} {o : Owners} {knows : ℕ → Knowledge} {point : ℕ → Option (List Update)} {logs : ℕ → List (List Update)} {now : ℕ} {t : Times} (g : IsTree (shared m) log o knows point logs) (T : Timed limits m o knows now t) (a : ℕ) (actor : a < limits.actors) where
   calmly : (s : StepOf Record) → (IsReuse s → ⊥) → (x : Answer Record) (r : Option Reply) → IsAllowed limits a (knows a) s r → IsAnswer m s x → Stepped limits m log o knows point logs now a s x r
   calmly s calm x r allowed is = let n = one_step m g a s calm r allowed.may x is in record { after = after_of n; times = times_after a m o now s x t; timed = timed_step g T a s calm x r allowed.may is actor n }
 

@@ -10,14 +10,14 @@ use Rattle.tree_law.specs.Keys.{Key, Covers}
 use Rattle.chain_search.specs.Knowledge.{Knowledge}
 use Rattle.chain_search.specs.Discipline.{IsBeside, MayAnswer, value_of, found}
 use Rattle.tree_law.specs.Shared.{Shared}
-use Rattle.tree_law.specs.Owners.{Owners, Among, leaf_map, Spells, HeadFits, LinkFits, InOrder, OrderFits}
+use Rattle.tree_law.specs.Owners.{Owners, Among, leaf_map, SpellsLog, HeadFits, LinkFits, InOrder, OrderFits}
 use Rattle.tree_law.specs.Replies.{IsRepliedAt}
-use Rattle.tree_law.specs.Tree.{Good}
+use Rattle.tree_law.specs.Tree.{IsTree}
 use Rattle.tree_law.proofs.KeyOrder.{covers_from}
 use Rattle.tree_law.proofs.Frames.{chain_stands, chain_decides}
 use Rattle.tree_law.proofs.Updating.{value_of_map}
 
-module _ {m : Shared} {log : List Update} {o : Owners} {knows : ℕ → Knowledge} {point : ℕ → Option (List Update)} {logs : ℕ → List (List Update)} (g : Good m log o knows point logs) (a : ℕ) where
+module _ {m : Shared} {log : List Update} {o : Owners} {knows : ℕ → Knowledge} {point : ℕ → Option (List Update)} {logs : ℕ → List (List Update)} (g : IsTree m log o knows point logs) (a : ℕ) where
   -- a chain that decides its key as the log does gives the log's reply
   replied : (command : Command) (reply : Reply) → (h : MayAnswer a (knows a) command reply) → (l : List Update) → content_in h.chain (command_key command) ≡ leaf_map l (command_key command)
       → (point a ≡ Some l) ⊎ ((point a ≡ None) × (update_of a command (found h.chain (command_key command)) ≡ None) × Among l (logs a)) → IsRepliedAt a command reply (point a) (logs a)
@@ -39,7 +39,7 @@ module _ {m : Shared} {log : List Update} {o : Owners} {knows : ℕ → Knowledg
       inside : Covers h.chain (command_key command)
       inside = covers_from h.chain (command_key command) h.covers
 
-      decides : is_removed h.chain ≡ false → (l : List Update) → Spells o m h.row l → content_in h.chain (command_key command) ≡ leaf_map l (command_key command)
+      decides : is_removed h.chain ≡ false → (l : List Update) → SpellsLog o m h.row l → content_in h.chain (command_key command) ≡ leaf_map l (command_key command)
       decides alive l s = chain_decides o m (knows a).read.seen (g.sound a).seen_fits h.row h.chain h.read l s h.leaf alive (command_key command) inside
 
       Unlinked : Type 0

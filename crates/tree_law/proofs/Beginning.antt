@@ -24,14 +24,14 @@ use Rattle.tree_law.specs.Owners.{Free, Linked, Owners}
 use Rattle.tree_law.specs.Phase.{Indexed, Nobody, Placed}
 use Rattle.tree_law.specs.Put.{put}
 use Rattle.tree_law.specs.Shared.{slot_in, shared}
-use Rattle.tree_law.specs.State.{phase_of, IsUnended, operation_of, Tells, IsSearch, IsInTree, IsReady, IsState}
+use Rattle.tree_law.specs.State.{phase_of, IsUnended, operation_of, Tells, IsSearch, IsInTree, IsReadyPage, IsState}
 use Rattle.bw_model.specs.declared.step.Step.TheVariants.{ReusePids, ReuseRows}
 use Rattle.op_machine.specs.Reuse.{HandsPid, HandsRow, UnlinksPid, UnlinksRow}
 use Rattle.tree_law.specs.Limbos.{IsInLimbo}
 use Rattle.tree_law.specs.Times.{Times, Timed}
 use Rattle.tree_law.proofs.Limbos.{limbo_push, freed_push, pid_longer, row_longer}
 use Rattle.tree_law.specs.TraceLaws.{Begins, Opens}
-use Rattle.tree_law.specs.Tree.{Good}
+use Rattle.tree_law.specs.Tree.{IsTree}
 use Rattle.tree_law.proofs.Timely.{calm_same, read_timed}
 use Rattle.tree_law.proofs.Keeping.{begins as good_begins}
 use Rattle.op_machine.specs.Phases.{free, indexed}
@@ -75,7 +75,7 @@ opening_timed limits = record {
 }
 
 -- what an actor holds when it begins it held before
-begin_timed : {limits : Limits} {m : Memory} {log : List Update} {o : Owners} {knows : ℕ → Knowledge} {point : ℕ → Option (List Update)} {logs : ℕ → List (List Update)} {now : ℕ} {t : Times} (g : Good (shared m) log o knows point logs) (T : Timed limits m o knows now t) (a : ℕ) (c : Command) → Timed limits m o (put knows a (begun (knows a) c)) (suc now) t
+begin_timed : {limits : Limits} {m : Memory} {log : List Update} {o : Owners} {knows : ℕ → Knowledge} {point : ℕ → Option (List Update)} {logs : ℕ → List (List Update)} {now : ℕ} {t : Times} (g : IsTree (shared m) log o knows point logs) (T : Timed limits m o knows now t) (a : ℕ) (c : Command) → Timed limits m o (put knows a (begun (knows a) c)) (suc now) t
 begin_timed {m = m} {o = o} {knows = knows} g T a c =
     let h = T.holds a in
     read_timed g T a m o (begun (knows a) c) (calm_same g T a) refl refl
@@ -136,8 +136,8 @@ opens limits = record {
     free_pid zero e f = absurd (cc)
     free_pid (suc p) e f = (omega arith, ltb-true (suc p) limits.pids f)
 
-    held : (p r : ℕ) → slot_in (opening limits).slots p ≡ Some r → IsInTree ((opening_owners limits).page p) ⊎ IsReady (opening_owners limits) (opening limits) (knows []) p r
-    held p r e = by_test p 1 (λ t. cond {A = Option ℕ} t (Some 1) None ≡ Some r → IsInTree (cond t (Placed Indexed 0 []) Nobody) ⊎ IsReady (opening_owners limits) (opening limits) (knows []) p r)
+    held : (p r : ℕ) → slot_in (opening limits).slots p ≡ Some r → IsInTree ((opening_owners limits).page p) ⊎ IsReadyPage (opening_owners limits) (opening limits) (knows []) p r
+    held p r e = by_test p 1 (λ t. cond {A = Option ℕ} t (Some 1) None ≡ Some r → IsInTree (cond t (Placed Indexed 0 []) Nobody) ⊎ IsReadyPage (opening_owners limits) (opening limits) (knows []) p r)
         (λ i f. inl tt) (λ ne f. absurd (cc)) (subst (λ (f : ℕ → Option ℕ). f p ≡ Some r) (opening_slots limits) e)
 
     at_zero : (n : ℕ) → n ≤ 0 → HasMapOf (memory_at limits [] n) (log_at [] [] n)
@@ -208,10 +208,10 @@ begins limits entries a c state below idle = record {
     pids_longer : (b q : ℕ) → IsInLimbo (entries ++ Begin a c ∷ []) b (UnlinksPid limits (entries ++ Begin a c ∷ []) b q) (HandsPid q) ((knows entries b).limbo.pids q)
     pids_longer b q = limbo_push entries (Begin a c) (UnlinksPid limits entries b q) (UnlinksPid limits (entries ++ Begin a c ∷ []) b q) (HandsPid q) (pid_longer entries (Begin a c) limits b q) b ((knows entries b).limbo.pids q) (λ f other s x h. absurd (let e = h.1 in cc)) (state.limbo_pids b q)
 
-    now : Good (shared (memory_of limits entries)) (log_of entries state.points) state.owners (put (knows entries) a (begun (knows entries a) c)) (put state.point a None) (put state.logs a [])
+    now : IsTree (shared (memory_of limits entries)) (log_of entries state.points) state.owners (put (knows entries) a (begun (knows entries a) c)) (put state.point a None) (put state.logs a [])
     now = good_begins state.good a c
 
-    good_after : Good (shared (memory_of limits (entries ++ Begin a c ∷ []))) (log_of (entries ++ Begin a c ∷ []) (state.points ++ false ∷ [])) state.owners (knows (entries ++ Begin a c ∷ [])) (put state.point a None) (put state.logs a [])
+    good_after : IsTree (shared (memory_of limits (entries ++ Begin a c ∷ []))) (log_of (entries ++ Begin a c ∷ []) (state.points ++ false ∷ [])) state.owners (knows (entries ++ Begin a c ∷ [])) (put state.point a None) (put state.logs a [])
     good_after = rw (memory_of-push limits entries (Begin a c), log_of-push entries state.points (Begin a c) false state.marked.beside, knows-push entries (Begin a c)) now
 
     searches_begin : (op : Operation) → IsOperation (entries ++ Begin a c ∷ []) op → IsUnended (entries ++ Begin a c ∷ []) op.start op.actor → command_of (entries ++ Begin a c ∷ []) op.actor ≡ Some op.command

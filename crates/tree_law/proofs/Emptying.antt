@@ -20,7 +20,7 @@ use Rattle.tree_law.specs.Owners.{Spare, Linked, Owners, Reached, PageFits}
 use Rattle.tree_law.specs.Phase.{PageOwner, Keeps, Cleared}
 use Rattle.tree_law.specs.Put.{put}
 use Rattle.tree_law.specs.Shared.{slot_in, shared}
-use Rattle.tree_law.specs.Tree.{Good}
+use Rattle.tree_law.specs.Tree.{IsTree}
 use Rattle.tree_law.specs.Times.{Outing, Times, LimboFits, Timed, is_linked, is_cleared, out_after, times_after}
 use Rattle.tree_law.proofs.Puts.{by_test, eqb_same, eqb_true, eqb_apart, put_other, put_all}
 use Rattle.tree_law.proofs.Rows.{next_linked}
@@ -29,7 +29,7 @@ use Rattle.tree_law.proofs.Timing.{Turn, limbo_row, limbo_pid, held_later, annou
 use Rattle.tree_law.proofs.Timely.{linked}
 use Rattle.tree_law.proofs.Exchanging.{tested_linked, tested_cleared, both_true, out_now, later_out, out_cases, own_spare, slot_linked, on_walk}
 
-module _ {limits : Limits} {m : Memory} {log : List Update} {o : Owners} {knows : ℕ → Knowledge} {point : ℕ → Option (List Update)} {logs : ℕ → List (List Update)} {now : ℕ} {t : Times} (g : Good (shared m) log o knows point logs) (T : Timed limits m o knows now t) (a : ℕ) where
+module _ {limits : Limits} {m : Memory} {log : List Update} {o : Owners} {knows : ℕ → Knowledge} {point : ℕ → Option (List Update)} {logs : ℕ → List (List Update)} {now : ℕ} {t : Times} (g : IsTree (shared m) log o knows point logs) (T : Timed limits m o knows now t) (a : ℕ) where
   module _ (p x : ℕ) where
     abbrev pub m2 : Memory
     m2 = record m { slots = replaced_at (suc p) 0 m.slots }

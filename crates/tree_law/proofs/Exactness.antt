@@ -15,8 +15,8 @@ use Rattle.chain_search.specs.Knowledge.{Knowledge}
 use Rattle.tree_law.specs.Phase.{Stage, Indexed, Merged, Placed, rank}
 use Rattle.tree_law.specs.Shared.{Shared, shared}
 use Rattle.tree_law.specs.Owners.{Owners, IsOut}
-use Rattle.tree_law.specs.Tree.{Page, InPlace, IsPart, spec, Level, Off, Good}
-use Rattle.tree_law.specs.Indexed.{HasTerm, IsPageAt, HasMark, IsIndexed}
+use Rattle.tree_law.specs.Tree.{SidePage, InPlace, IsPart, spec, Level, Off, IsTree}
+use Rattle.tree_law.specs.Indexed.{HasTermAt, IsPageIn, HasMark, IsIndexed}
 use Rattle.tree_law.proofs.KeyOrder.{empty_lowest, covers_from, covers_to}
 use Rattle.tree_law.proofs.Keeping.{on_or_merged}
 use Rattle.tree_law.proofs.Mapping.{live, chain_at, chain_of, side_from, whole_from, among, covering}
@@ -25,13 +25,13 @@ use Rattle.tree_law.proofs.Sides.{locate, same_page}
 placed_low : (st st' : Stage) (l l' : ℕ) (s s' : Key) → Placed st l s ≡ Placed st' l' s' → s ≡ s'
 placed_low st st' l l' s s' e = cc
 
-first_page : (o : Owners) (m : Shared) (lv : ℕ) (mp : Key → Option Content) (gs : List Page) (p : ℕ) (low : Key) → IsPart o m lv mp gs (Some p) (Some low) None None → (g : Page) × (g.page ≡ p) × (low_in g.chain ≡ low) × InPlace o m lv mp g
+first_page : (o : Owners) (m : Shared) (lv : ℕ) (mp : Key → Option Content) (gs : List SidePage) (p : ℕ) (low : Key) → IsPart o m lv mp gs (Some p) (Some low) None None → (g : SidePage) × (g.page ≡ p) × (low_in g.chain ≡ low) × InPlace o m lv mp g
 first_page o m lv mp [] p low h = absurd (let e = h.0 in cc)
 first_page o m lv mp (g ∷ gs) p low h = (g, sym (same_Some p g.page h.0), sym (same_Some low (low_in g.chain) h.1), h.2)
 
-module _ (memory : Memory) {log : List Update} {o : Owners} {knows : ℕ → Knowledge} {point : ℕ → Option (List Update)} {logs : ℕ → List (List Update)} (g : Good (shared memory) log o knows point logs) where
+module _ (memory : Memory) {log : List Update} {o : Owners} {knows : ℕ → Knowledge} {point : ℕ → Option (List Update)} {logs : ℕ → List (List Update)} (g : IsTree (shared memory) log o knows point logs) where
   -- the page of a PID in the tree
-  page_at : (q l : ℕ) (s : Key) (st : Stage) → o.page q ≡ Placed st l s → IsPageAt memory l s q
+  page_at : (q l : ℕ) (s : Key) (st : Stage) → o.page q ≡ Placed st l s → IsPageIn memory l s q
   page_at q l s st e = ⊎_elim
       (λ (on : rank st ≤ 3).
       let t = g.tree.levels l (g.tree.exact.below q l s st e) in
@@ -51,7 +51,7 @@ module _ (memory : Memory) {log : List Update} {o : Owners} {knows : ℕ → Kno
     abbrev above : Level o (shared memory) (suc l) (o.index l) (g.tree.first (suc l))
     above = g.tree.levels (suc l) le
 
-    posted : (key : Key) (child : ℕ) (held : Bool) → HasTerm (map live above.side) key child held → IsPageAt memory l key child × HasMark (o.page child) child held
+    posted : (key : Key) (child : ℕ) (held : Bool) → HasTermAt (map live above.side) key child held → IsPageIn memory l key child × HasMark (o.page child) child held
     posted key child held (page, contains, inside, content) =
         let f = among memory o (suc l) (o.index l) above.side (Some (g.tree.first (suc l))) (Some []) above.whole page contains in
         let chain : f.0.chain ≡ page.chain = ap (λ (q : LivePage). q.chain) f.1 in
@@ -59,7 +59,7 @@ module _ (memory : Memory) {log : List Update} {o : Owners} {knows : ℕ → Kno
         let n = (g.tree.exact.named l key (Child child held) (sym is ∙ ap (λ c. content_in c key) chain ∙ content)).1 in
         (page_at child l key n.0 n.1, (n.0, l, key, n.1, n.2))
 
-    has_term : (key : Key) (child : ℕ) (held : Bool) → IsPageAt memory l key child × HasMark (o.page child) child held → HasTerm (map live above.side) key child held
+    has_term : (key : Key) (child : ℕ) (held : Bool) → IsPageIn memory l key child × HasMark (o.page child) child held → HasTermAt (map live above.side) key child held
     has_term key child held (at, (st, l', s', placed, marked)) =
         let here = page_at child l' s' st placed in
         let same : here.0 ≡ at.0 = IsChainOf-unique memory child here.0 at.0 here.1 at.1 in
@@ -90,7 +90,7 @@ module _ (memory : Memory) {log : List Update} {o : Owners} {knows : ℕ → Kno
     terms = λ l le key child held. (posted l le key child held, has_term l le key child held);
   }
     where
-      front : (l : ℕ) (le : l ≤ g.tree.top) → (f : Page) × (f.page ≡ g.tree.first l) × (low_in f.chain ≡ []) × InPlace o (shared memory) l (spec log o.index l) f
+      front : (l : ℕ) (le : l ≤ g.tree.top) → (f : SidePage) × (f.page ≡ g.tree.first l) × (low_in f.chain ≡ []) × InPlace o (shared memory) l (spec log o.index l) f
       front l le = first_page o (shared memory) l (spec log o.index l) (g.tree.levels l le).side (g.tree.first l) [] (g.tree.levels l le).whole
 
       from_empty : (c : List Record) → low_in c ≡ [] → IsUnder (low_in c) (high_in c) → Covers c []

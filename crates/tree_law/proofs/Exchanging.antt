@@ -19,7 +19,7 @@ use Rattle.tree_law.specs.Owners.{Owner, Free, Spare, Linked, Owners, Reached, O
 use Rattle.tree_law.specs.Phase.{PageOwner, Cleared}
 use Rattle.tree_law.specs.Put.{put}
 use Rattle.tree_law.specs.Shared.{slot_in, shared}
-use Rattle.tree_law.specs.Tree.{Good}
+use Rattle.tree_law.specs.Tree.{IsTree}
 use Rattle.tree_law.specs.Times.{Outing, Times, LimboFits, Timed, is_linked, is_cleared, is_base, split_page, out_after, times_after}
 use Rattle.tree_law.proofs.Keeping.{slot_of}
 use Rattle.tree_law.proofs.Puts.{by_test, eqb_same, eqb_apart, put_other}
@@ -54,7 +54,7 @@ over_no_base (Remove r) n e = refl
 over_no_base (Merge r) n e = refl
 over_no_base (Unterm r) n e = refl
 
-module _ {limits : Limits} {m : Memory} {log : List Update} {o : Owners} {knows : ℕ → Knowledge} {point : ℕ → Option (List Update)} {logs : ℕ → List (List Update)} {now : ℕ} {t : Times} (g : Good (shared m) log o knows point logs) (T : Timed limits m o knows now t) (a : ℕ) where
+module _ {limits : Limits} {m : Memory} {log : List Update} {o : Owners} {knows : ℕ → Knowledge} {point : ℕ → Option (List Update)} {logs : ℕ → List (List Update)} {now : ℕ} {t : Times} (g : IsTree (shared m) log o knows point logs) (T : Timed limits m o knows now t) (a : ℕ) where
   abbrev pub out_now : Outing
   out_now = record { at = now; epoch = m.epoch; who = a }
 

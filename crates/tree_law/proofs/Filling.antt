@@ -14,14 +14,14 @@ use Rattle.chain_search.specs.Knowledge.{OwnRow, Foreign, Written, Other, Empty,
 use Rattle.tree_law.specs.Owners.{Linked, Owners}
 use Rattle.tree_law.specs.Put.{put}
 use Rattle.tree_law.specs.Shared.{shared}
-use Rattle.tree_law.specs.Tree.{Good}
+use Rattle.tree_law.specs.Tree.{IsTree}
 use Rattle.tree_law.specs.Times.{Times, LimboFits, Timed, is_base}
 use Rattle.tree_law.proofs.Puts.{by_test, put_other}
 use Rattle.tree_law.proofs.Timing.{Turn, limbo_row, limbo_pid, held_later, announced_still, put_timed}
 use Rattle.tree_law.proofs.Timely.{linked}
 use Rattle.tree_law.proofs.Exchanging.{m1, t1, Filling, in_own, filling_turn, base_limbo}
 
-module _ {limits : Limits} {m : Memory} {log : List Update} {o : Owners} {knows : ℕ → Knowledge} {point : ℕ → Option (List Update)} {logs : ℕ → List (List Update)} {now : ℕ} {t : Times} (g : Good (shared m) log o knows point logs) (T : Timed limits m o knows now t) (a : ℕ) (p x y : ℕ) (o' : Owners) (f : Filling g T a p x y o') where
+module _ {limits : Limits} {m : Memory} {log : List Update} {o : Owners} {knows : ℕ → Knowledge} {point : ℕ → Option (List Update)} {logs : ℕ → List (List Update)} {now : ℕ} {t : Times} (g : IsTree (shared m) log o knows point logs) (T : Timed limits m o knows now t) (a : ℕ) (p x y : ℕ) (o' : Owners) (f : Filling g T a p x y o') where
   -- the exchange leaves the actor this knowledge
   pub filled_timed : (k' : Knowledge) → k'.inside ≡ (knows a).inside → k'.read.seen ≡ (knows a).read.seen → k'.read.learnt ≡ (knows a).read.learnt → k'.read.roots ≡ (knows a).read.roots → k'.read.heads ≡ (knows a).read.heads → k'.read.before ≡ (knows a).read.before → k'.limbo.epoch ≡ (knows a).limbo.epoch → k'.limbo.pids ≡ (knows a).limbo.pids
       → ((q : ℕ) → k'.asked.linked ≡ Some (Some q) → (knows a).read.learnt q ≡ true)

@@ -14,10 +14,10 @@ use Rattle.tree_law.specs.Keys.{Key}
 use Rattle.chain_search.specs.Knowledge.{Knowledge}
 use Rattle.tree_law.specs.Owners.{Owners}
 use Rattle.tree_law.specs.Phase.{Stage, Fresh, Indexed, Held, Removed, Merged, PageOwner, Nobody, Keeps, Placed, Cleared, rank}
-use Rattle.tree_law.specs.Phases.{Links, Exchanged, Phased}
+use Rattle.tree_law.specs.Phases.{LinkMoves, Exchanged, Phased}
 use Rattle.tree_law.specs.Put.{put}
 use Rattle.tree_law.specs.Shared.{Shared, shared}
-use Rattle.tree_law.specs.Tree.{Good}
+use Rattle.tree_law.specs.Tree.{IsTree}
 use Rattle.tree_law.proofs.Exactness.{is_indexed, below_top, root_indexed}
 use Rattle.tree_law.proofs.Puts.{by_test, put_same, put_other}
 
@@ -53,7 +53,7 @@ module _ (f f' : ℕ → PageOwner) where
   not_merged st l l' s s' on e = let i : st ≡ Merged = cc in absurd (let n : rank Merged ≤ 3 = subst (λ t. rank t ≤ 3) i on in omega arith)
 
   module _ (m : Shared) (a : ℕ) where
-    by_links : (w : Record) (p : ℕ) → Links m a w p f f' → (q l : ℕ) (s : Key) (st : Stage) → f q ≡ Placed st l s → rank st ≤ 3 → Stays f f' q l s
+    by_links : (w : Record) (p : ℕ) → LinkMoves m a w p f f' → (q l : ℕ) (s : Key) (st : Stage) → f q ≡ Placed st l s → rank st ≤ 3 → Stays f f' q l s
     by_links (Base page) p h q l s st at on = unchanged q l s st at on h
     by_links (Put record') p h q l s st at on = unchanged q l s st at on h
     by_links (Delete record') p h q l s st at on = unchanged q l s st at on h
@@ -94,7 +94,7 @@ module _ (f f' : ℕ → PageOwner) where
     from : (q l : ℕ) (s : Key) (st : Stage) (lp : ℕ) (sp sf : Key) (sto sfrom : Stage) (p : ℕ) → f p ≡ Placed sfrom lp sf → Placed sto lp sp ≡ Placed st l s → Grown f l
     from q l s st lp sp sf sto sfrom p was e = (p, sfrom, lp, sf, was, let i : lp ≡ l = same_level sto st lp l sp s e in omega arith)
 
-    links_back : (w : Record) (p : ℕ) → Links m a w p f f' → (q l : ℕ) (s : Key) (st : Stage) → f' q ≡ Placed st l s → Grown f l
+    links_back : (w : Record) (p : ℕ) → LinkMoves m a w p f f' → (q l : ℕ) (s : Key) (st : Stage) → f' q ≡ Placed st l s → Grown f l
     links_back (Base page) p h q l s st at = was_there q l s st at h
     links_back (Put record') p h q l s st at = was_there q l s st at h
     links_back (Delete record') p h q l s st at = was_there q l s st at h
@@ -118,7 +118,7 @@ module _ (f f' : ℕ → PageOwner) where
         (λ other. (q, st, l, s, sym (rest ∙ put_other f h.0 (Placed Indexed h.1 h.2) q other) ∙ at, omega arith)))
 
 -- what each step does, by its phases
-module _ (m : Memory) {log : List Update} {o : Owners} {knows : ℕ → Knowledge} {point : ℕ → Option (List Update)} {logs : ℕ → List (List Update)} (g : Good (shared m) log o knows point logs) (a : ℕ) (s : StepOf Record) (x : Answer Record) (is : IsAnswer m s x) (f' : ℕ → PageOwner) where
+module _ (m : Memory) {log : List Update} {o : Owners} {knows : ℕ → Knowledge} {point : ℕ → Option (List Update)} {logs : ℕ → List (List Update)} (g : IsTree (shared m) log o knows point logs) (a : ℕ) (s : StepOf Record) (x : Answer Record) (is : IsAnswer m s x) (f' : ℕ → PageOwner) where
   taken_nobody : (q : ℕ) → m.free_pids q ≡ true → o.page q ≡ Nobody
   taken_nobody q free = (g.frees.page q free).0
 
@@ -180,7 +180,7 @@ module _ (m : Memory) {log : List Update} {o : Owners} {knows : ℕ → Knowledg
       go t y e ph' = same ph'
 
 -- from one memory that meets the invariant to the next
-module _ (m m' : Memory) {log log' : List Update} {o o' : Owners} {knows knows' : ℕ → Knowledge} {point point' : ℕ → Option (List Update)} {logs logs' : ℕ → List (List Update)} (g : Good (shared m) log o knows point logs) (g' : Good (shared m') log' o' knows' point' logs')
+module _ (m m' : Memory) {log log' : List Update} {o o' : Owners} {knows knows' : ℕ → Knowledge} {point point' : ℕ → Option (List Update)} {logs logs' : ℕ → List (List Update)} (g : IsTree (shared m) log o knows point logs) (g' : IsTree (shared m') log' o' knows' point' logs')
     (a : ℕ) (s : StepOf Record) (x : Answer Record) (is : IsAnswer m s x) (ph : Phased a (shared m) s x o.page o'.page) where
   -- The first page of a level stays the first. It is not merged: another page would then be the first, and it would have been so before.
   pub first_stays : (l q : ℕ) → IsFirst o l q → IsFirst o' l q

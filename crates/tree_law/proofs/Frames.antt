@@ -10,7 +10,7 @@ use Rattle.tree_law.specs.Keys.{Key, Covers}
 use Rattle.tree_law.specs.Phase.{Stage, Fresh, Indexed, Held, Removed, Merged, PageOwner, Nobody, Keeps, Placed, Cleared, rank}
 use Rattle.tree_law.specs.Put.{put}
 use Rattle.tree_law.specs.Shared.{Shared}
-use Rattle.tree_law.specs.Owners.{IsChain, Owner, Free, Spare, Linked, Owners, Reached, Forward, IsCleared, IsLinked, IsClosed, SeenFits, Spells, leaf_map, HeadFits, OrderFits, Knows, IsOut}
+use Rattle.tree_law.specs.Owners.{IsChain, Owner, Free, Spare, Linked, Owners, Reached, Forward, IsCleared, IsLinked, IsClosed, SeenFits, SpellsLog, leaf_map, HeadFits, OrderFits, Knows, IsOut}
 use Rattle.tree_law.proofs.Puts.{by_test}
 use Rattle.tree_law.proofs.Chains.{chain_unique, chain_within}
 use Rattle.tree_law.proofs.Kept.{chain_kept, Kept, Spared}
@@ -198,7 +198,7 @@ chain_stands o m seen fits =
     chain_within seen m.rows (λ r w e. (subst (λ (v : Option Record). SeenFits (o.row r) (m.rows r) v) e (fits r)).1)
 
 -- a chain that was read decides what the log of its row does
-pub chain_decides : (o : Owners) (m : Shared) (seen : ℕ → Option Record) → ((r : ℕ) → SeenFits (o.row r) (m.rows r) (seen r)) → (x : ℕ) (c : List Record) → IsChain seen c (Some x) → (l : List Update) → Spells o m x l → level_in c ≡ 0 → is_removed c ≡ false → (k : Key) → Covers c k → content_in c k ≡ leaf_map l k
+pub chain_decides : (o : Owners) (m : Shared) (seen : ℕ → Option Record) → ((r : ℕ) → SeenFits (o.row r) (m.rows r) (seen r)) → (x : ℕ) (c : List Record) → IsChain seen c (Some x) → (l : List Update) → SpellsLog o m x l → level_in c ≡ 0 → is_removed c ≡ false → (k : Key) → Covers c k → content_in c k ≡ leaf_map l k
 chain_decides o m seen fits x c h l s z y k v =
     let e = chain_unique m.rows c s.chain (Some x) (chain_stands o m seen fits c (Some x) h) s.is_chain in
     ap (λ d. content_in d k) e ∙ s.same (ap level_in (sym e) ∙ z) (ap is_removed (sym e) ∙ y) k (subst (λ (d : List Record). Covers d k) e v)

@@ -22,7 +22,7 @@ use Rattle.tree_law.specs.Owners.{IsChain, Owner, Free, Spare, Linked, Owners, R
 use Rattle.tree_law.specs.Phase.{PageOwner, Nobody, child_of}
 use Rattle.tree_law.specs.Put.{put}
 use Rattle.tree_law.specs.Shared.{slot_in, shared}
-use Rattle.tree_law.specs.Tree.{Good}
+use Rattle.tree_law.specs.Tree.{IsTree}
 use Rattle.tree_law.specs.Times.{Outing, Times, IsSince, NamesSince, HeldHead, Holds, LimboFits, Timed}
 use Rattle.tree_law.proofs.Chains.{chain_unique}
 use Rattle.tree_law.proofs.Keeping.{quiet, mine}
@@ -113,7 +113,7 @@ pub or_cases : (x y : Bool) → (x || y) ≡ true → (x ≡ true) ⊎ (y ≡ tr
 or_cases true y e = inl refl
 or_cases false y e = inr e
 
-module _ {limits : Limits} {m : Memory} {log : List Update} {o : Owners} {knows : ℕ → Knowledge} {point : ℕ → Option (List Update)} {logs : ℕ → List (List Update)} {now : ℕ} {t : Times} (g : Good (shared m) log o knows point logs) (T : Timed limits m o knows now t) (a : ℕ) (outside : (knows a).inside ≡ false) where
+module _ {limits : Limits} {m : Memory} {log : List Update} {o : Owners} {knows : ℕ → Knowledge} {point : ℕ → Option (List Update)} {logs : ℕ → List (List Update)} {now : ℕ} {t : Times} (g : IsTree (shared m) log o knows point logs) (T : Timed limits m o knows now t) (a : ℕ) (outside : (knows a).inside ≡ false) where
   other_inside : (b : ℕ) → (knows b).inside ≡ true → b ≢ a
   other_inside b i e = absurd (let f = ap (λ n. (knows n).inside) e in cc)
 
@@ -210,7 +210,7 @@ module _ {limits : Limits} {m : Memory} {log : List Update} {o : Owners} {knows 
           free_after true v out e = refl
           free_after false v out e = rw e refl
 
-      pub rows_good : Good (shared m1) log o1 (put knows a k1) (put point a (point a)) (put logs a (log ∷ logs a))
+      pub rows_good : IsTree (shared m1) log o1 (put knows a k1) (put point a (point a)) (put logs a (log ∷ logs a))
       rows_good =
           let n = lets_rows g row1 m1.free_rows known loose in
           quiet n a k1 (point a) (log ∷ logs a) (n.owns a) (n.owns_pages a) (mine n a)
@@ -350,7 +350,7 @@ module _ {limits : Limits} {m : Memory} {log : List Update} {o : Owners} {knows 
           let below : h.left ≡ d = chain_unique m.rows h.left d (Some y) h.is_left id in
           page_held b q (head_inside b f x ((T.holds b).before_since p f x j)) (h.since (ap is_removed above ∙ rc) (ap is_removed below ∙ nd) (ap right_in below ∙ e) q (ap right_in above ∙ n))
 
-      pub pages_good : Good (shared m2) log o2 (put knows a k2) (put point a (point a)) (put logs a (log ∷ logs a))
+      pub pages_good : IsTree (shared m2) log o2 (put knows a k2) (put point a (point a)) (put logs a (log ∷ logs a))
       pages_good =
           let n = frees_pages g page2 m2.free_pids gone
           (λ b p e. page_held b p ((T.holds b).roots_inside p e) ((T.holds b).roots_since p e))

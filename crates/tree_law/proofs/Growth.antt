@@ -39,10 +39,10 @@ use Rattle.tree_law.specs.Owners.{SeenFits, HeadFits, LinkFits}
 use Rattle.tree_law.specs.Put.{put}
 use Rattle.tree_law.specs.Replies.{IsRepliedAt}
 use Rattle.tree_law.specs.Shared.{slot_in, shared}
-use Rattle.tree_law.specs.State.{phase_of, IsInTree, IsReady, IsUnended, operation_of, Tells, IsSearch, Answers, IsMarked, IsState}
+use Rattle.tree_law.specs.State.{phase_of, IsInTree, IsReadyPage, IsUnended, operation_of, Tells, IsSearch, IsAnsweredBy, IsMarked, IsState}
 use Rattle.tree_law.specs.TraceLaws.{StatesAreIndexed, StatesAreLinearized, StatesFreeByRule, StatesKeepPhases, Steps}
 use Rattle.tree_law.specs.Times.{Times, Timed, times_after}
-use Rattle.tree_law.specs.Tree.{Good}
+use Rattle.tree_law.specs.Tree.{IsTree}
 use Rattle.tree_law.proofs.Freeing.{t1, t2, rows_after, rows_timed, pages_after, pages_timed}
 use Rattle.tree_law.proofs.Reused.{rows_numbers, rows_held, pages_numbers, pages_held}
 use Rattle.tree_law.proofs.Timewise.{timed_step}
@@ -151,7 +151,7 @@ module _ (limits : Limits) (entries : List Entry) (a : ℕ) (step : StepOf Recor
     (allowed : IsAllowed limits a (knows entries a) step r) (is : IsAnswer (memory_of limits entries) step answer)
     (n : After a (shared (memory_of limits entries)) (shared (memory_after a step (memory_of limits entries))) (log_of entries state.points) state.owners (knows entries) state.point state.logs step answer r)
     (numbers : Numbers limits entries state.owners (memory_of limits entries) (knows entries) (log_of entries state.points) state.point state.logs state.good state.named a step answer r allowed.may is n.owners)
-    (held' : (p q : ℕ) → slot_in (memory_after a step (memory_of limits entries)).slots p ≡ Some q → IsInTree (n.owners.page p) ⊎ IsReady n.owners (memory_after a step (memory_of limits entries)) (put (knows entries) a (finished (learn (knows entries a) step answer) r)) p q)
+    (held' : (p q : ℕ) → slot_in (memory_after a step (memory_of limits entries)).slots p ≡ Some q → IsInTree (n.owners.page p) ⊎ IsReadyPage n.owners (memory_after a step (memory_of limits entries)) (put (knows entries) a (finished (learn (knows entries a) step answer) r)) p q)
     (times' : Times) (timed' : Timed limits (memory_after a step (memory_of limits entries)) n.owners (put (knows entries) a (finished (learn (knows entries a) step answer) r)) (suc (length entries)) times')
     (z : Settled limits entries (log_of entries state.points) state.point state.logs a asked r) where
   abbrev last : Entry
@@ -191,8 +191,8 @@ module _ (limits : Limits) (entries : List Entry) (a : ℕ) (step : StepOf Recor
   recent_stands : (q : ℕ) (w : Record) → (knows entries a).read.recent q ≡ Some w → (memory_of limits entries).rows q ≡ Some w
   recent_stands q w e = (subst (λ (v : Option Record). SeenFits (state.owners.row q) ((memory_of limits entries).rows q) v) (state.named.recent a q w e) ((state.good.sound a).seen_fits q)).1
 
-  justified : (op : Operation) (reply : Reply) → IsOperation entries op → op.actor ≡ a → IsUnended entries op.start op.actor → r ≡ Some reply → Answers limits entries z.points op reply
-  justified op reply begun actor unended e = subst (λ o. Answers limits entries z.points o reply) (sym (is_mine op begun actor unended)) (elim (z.replied reply e) [
+  justified : (op : Operation) (reply : Reply) → IsOperation entries op → op.actor ≡ a → IsUnended entries op.start op.actor → r ≡ Some reply → IsAnsweredBy limits entries z.points op reply
+  justified op reply begun actor unended e = subst (λ o. IsAnsweredBy limits entries z.points o reply) (sym (is_mine op begun actor unended)) (elim (z.replied reply e) [
     | inl h ↦
         let p = subst (λ o. MatchOption o ((m : ℕ) → IsOwnStep entries (operation_of z.mine.start a asked) m → IsPoint z.points m → ⊥) (λ l. (m : ℕ) × IsOwnStep entries (operation_of z.mine.start a asked) m × IsPoint z.points m × (log_at entries z.points m ≡ l))) h.1 z.mine.point_at in
         inl (p.0, p.1, p.2, subst (λ l. reply_of asked (value_in l (command_key asked)) ≡ Some reply) (sym p.3) h.2)
@@ -242,7 +242,7 @@ module _ (limits : Limits) (entries : List Entry) (a : ℕ) (step : StepOf Recor
   point_after None = refl
   point_after (Some u) = refl
 
-  good_after : Good (shared (memory_of limits (entries ++ last ∷ []))) (log_of (entries ++ last ∷ []) (z.points ++ mark ∷ [])) n.owners
+  good_after : IsTree (shared (memory_of limits (entries ++ last ∷ []))) (log_of (entries ++ last ∷ []) (z.points ++ mark ∷ [])) n.owners
       (knows (entries ++ last ∷ [])) (put state.point a (cond mark (Some (log_of entries state.points)) (state.point a))) (put state.logs a (log_of entries state.points ∷ state.logs a))
   good_after = rw (memory_of-push limits entries last, log_of-push entries z.points last mark z.marked.beside, z.log_is, knows-push entries last, logged, sym (point_after n.update)) n.good
 
@@ -471,7 +471,7 @@ writer a (Insert k w) old u e = refl
 writer a (Upsert k w) old u e = refl
 writer a (Delete k) old u e = refl
 
-true_reply : (limits : Limits) (entries : List Entry) (points : List Bool) (op : Operation) (answer : Reply) → Answers limits entries points op answer → IsTrueReply limits entries points op answer
+true_reply : (limits : Limits) (entries : List Entry) (points : List Bool) (op : Operation) (answer : Reply) → IsAnsweredBy limits entries points op answer → IsTrueReply limits entries points op answer
 true_reply limits entries points op reply.Full (inl h) = absurd (no_full op.command _ h.3)
 true_reply limits entries points op reply.Full (inr h) = (writer op.actor op.command h.1.old h.1.update h.1.writes, h.1.finds)
 true_reply limits entries points op (reply.Value v) (inl h) = h
@@ -484,11 +484,11 @@ true_reply limits entries points op (reply.Deleted v) (inl h) = h
 true_reply limits entries points op reply.Absent (inl h) = h
 true_reply limits entries points op answer (inr h) = let e = h.0 in absurd (cc)
 
-pointed_by : (limits : Limits) (entries : List Entry) (points : List Bool) (op : Operation) (answer : Reply) → Answers limits entries points op answer → IsTrue (has_point answer) → (m : ℕ) × IsOwnStep entries op m × IsPoint points m
+pointed_by : (limits : Limits) (entries : List Entry) (points : List Bool) (op : Operation) (answer : Reply) → IsAnsweredBy limits entries points op answer → IsTrue (has_point answer) → (m : ℕ) × IsOwnStep entries op m × IsPoint points m
 pointed_by limits entries points op answer (inl h) e = (h.0, h.1, h.2)
 pointed_by limits entries points op answer (inr h) e = let f : has_point reply.Full ≡ true = subst (λ y. IsTrue (has_point y)) h.0 e in absurd (cc)
 
-pointless : (limits : Limits) (entries : List Entry) (points : List Bool) (op : Operation) (answer : Reply) → Answers limits entries points op answer → IsFalse (has_point answer) → (m : ℕ) → IsOwnStep entries op m → IsPoint points m → ⊥
+pointless : (limits : Limits) (entries : List Entry) (points : List Bool) (op : Operation) (answer : Reply) → IsAnsweredBy limits entries points op answer → IsFalse (has_point answer) → (m : ℕ) → IsOwnStep entries op m → IsPoint points m → ⊥
 pointless limits entries points op reply.Full (inl h) e m own p = no_full op.command _ h.3
 pointless limits entries points op answer (inl h) e m own p = cc
 pointless limits entries points op answer (inr h) e m own p = h.1.unmarked m own p

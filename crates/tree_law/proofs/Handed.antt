@@ -32,9 +32,9 @@ use Rattle.tree_law.specs.Owners.{Free, Spare, Linked, Owners, Reached, PageFits
 use Rattle.tree_law.specs.Phase.{PageOwner, Nobody, Keeps, Placed, Cleared}
 use Rattle.tree_law.specs.Put.{put}
 use Rattle.tree_law.specs.Shared.{slot_in, shared}
-use Rattle.tree_law.specs.State.{IsInTree, IsReady, IsState}
+use Rattle.tree_law.specs.State.{IsInTree, IsReadyPage, IsState}
 use Rattle.tree_law.specs.Times.{Outing, Times, LimboFits, Timed}
-use Rattle.tree_law.specs.Tree.{Good}
+use Rattle.tree_law.specs.Tree.{IsTree}
 use Rattle.tree_law.proofs.Keeping.{slot_of}
 use Rattle.tree_law.proofs.Limbed.{LimboCase, as_it_was, is_stamped, is_passed, is_out, is_freed, RowOut, PageOut, FreesRows, FreesPids, row_case, page_case, walk_contained}
 use Rattle.tree_law.proofs.Limbos.{limbo_push, stamped_now, passed_now, freed_push, freed_now, pid_longer, row_longer}
@@ -56,8 +56,8 @@ own_base Taken h = tt
 own_base (Written w) h = tt
 
 -- a row that is out is on no chain
-module _ {limits : Limits} {m : Memory} {log : List Update} {o : Owners} {knows : ℕ → Knowledge} {point : ℕ → Option (List Update)} {logs : ℕ → List (List Update)} {now : ℕ} {t : Times} (g : Good (shared m) log o knows point logs) (T : Timed limits m o knows now t)
-    (held : (p q : ℕ) → slot_in m.slots p ≡ Some q → IsInTree (o.page p) ⊎ IsReady o m knows p q) where
+module _ {limits : Limits} {m : Memory} {log : List Update} {o : Owners} {knows : ℕ → Knowledge} {point : ℕ → Option (List Update)} {logs : ℕ → List (List Update)} {now : ℕ} {t : Times} (g : IsTree (shared m) log o knows point logs) (T : Timed limits m o knows now t)
+    (held : (p q : ℕ) → slot_in m.slots p ≡ Some q → IsInTree (o.page p) ⊎ IsReadyPage o m knows p q) where
   in_chain : (x : ℕ) (c : List Record) → o.row x ≡ Linked → t.row_out x ≡ None → IsChainFrom m.rows x c → (row : ℕ) → Contains (chain_rows x c) row → t.row_out row ≡ None
   in_chain x [] l e h row among = absurd h
   in_chain x (w ∷ c) l e h row (zero, lt, i) = ap t.row_out (sym i) ∙ e
@@ -173,9 +173,9 @@ module _ (limits : Limits) (entries : List Entry) (a : ℕ) (step : StepOf Recor
   freed_pid word bits q i e = subst (λ s. (learn k s answer).limbo.pids q ≡ Absent) (sym i) (rw e refl)
 
   module _ {log' : List Update} {o' : Owners} {point' : ℕ → Option (List Update)} {logs' : ℕ → List (List Update)} {t' : Times}
-      (g' : Good (shared (memory_after a step m)) log' o' (put (knows entries) a (finished (learn k step answer) r)) point' logs')
+      (g' : IsTree (shared (memory_after a step m)) log' o' (put (knows entries) a (finished (learn k step answer) r)) point' logs')
       (T' : Timed limits (memory_after a step m) o' (put (knows entries) a (finished (learn k step answer) r)) (suc (length entries)) t')
-      (held' : (p q : ℕ) → slot_in (memory_after a step m).slots p ≡ Some q → IsInTree (o'.page p) ⊎ IsReady o' (memory_after a step m) (put (knows entries) a (finished (learn k step answer) r)) p q) where
+      (held' : (p q : ℕ) → slot_in (memory_after a step m).slots p ≡ Some q → IsInTree (o'.page p) ⊎ IsReadyPage o' (memory_after a step m) (put (knows entries) a (finished (learn k step answer) r)) p q) where
     -- an exchange that took a row out
     unlinks_row : (q : ℕ) → (learn k step answer).limbo.rows q ≡ Unstamped → RowOut k step answer q → UnlinksRow limits (entries ++ last ∷ []) a q (length entries)
     unlinks_row q new h = (

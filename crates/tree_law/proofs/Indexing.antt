@@ -16,7 +16,7 @@ use Rattle.tree_law.specs.Phase.{Stage, Fresh, Indexed, Held, Removed, Merged, P
 use Rattle.tree_law.specs.Put.{put}
 use Rattle.tree_law.specs.Shared.{Shared}
 use Rattle.tree_law.specs.Owners.{IsChain, Spare, Linked, Owners, Reached, OwnFits, PageFits, OwnsPages, InOrder, OrderFits, IsOut}
-use Rattle.tree_law.specs.Tree.{spec, InPlace, Good, Off}
+use Rattle.tree_law.specs.Tree.{spec, InPlace, IsTree, Off}
 use Rattle.std.specs.Ordering.{is_eq}
 use Rattle.bw_model.specs.Bytes.{key_cmp}
 use Rattle.chain_search.specs.Discipline.{MayPost, MayHold, MayUnterm, HasRead}
@@ -35,7 +35,7 @@ not_fresh Held q e = absurd (cc)
 not_fresh Removed q e = absurd (cc)
 not_fresh Merged q e = absurd (cc)
 
-module _ {m : Shared} {log : List Update} {o : Owners} {knows : ℕ → Knowledge} {point : ℕ → Option (List Update)} {logs : ℕ → List (List Update)} (g : Good m log o knows point logs) (a : ℕ) where
+module _ {m : Shared} {log : List Update} {o : Owners} {knows : ℕ → Knowledge} {point : ℕ → Option (List Update)} {logs : ℕ → List (List Update)} (g : IsTree m log o knows point logs) (a : ℕ) where
   index_one : (p x y : ℕ) (c : List Record) → Found o m p x c → (place : InPlace o m (level_in c) (spec log o.index (level_in c)) (record { page = p; row = x; chain = c })) → is_removed c ≡ false → m.slots p ≡ Some x → o.row y ≡ Spare a
       → (lv : ℕ) (sep : Key) (q : ℕ) → level_in c ≡ suc lv → Covers c sep → (st : Stage) → o.page q ≡ Placed st lv sep → o.index lv sep ≡ mark st q
       → (n : PageOwner) (v : Option Content) → Moves a o m p y (o.page q) n
@@ -48,7 +48,7 @@ module _ {m : Shared} {log : List Update} {o : Owners} {knows : ℕ → Knowledg
       → (k : Knowledge) → k.own.rows ≡ put (knows a).own.rows y Foreign
       → (OwnsPages a (record { row = put o.row y Linked; page = put o.page q n; index = put o.index lv (put_key (o.index lv) sep v) }) (record m { slots = put m.slots p (Some y) }) (knows a).own.pages → OwnsPages a (record { row = put o.row y Linked; page = put o.page q n; index = put o.index lv (put_key (o.index lv) sep v) }) (record m { slots = put m.slots p (Some y) }) k.own.pages)
       → k.read.seen ≡ (knows a).read.seen → k.read.learnt ≡ (knows a).read.learnt → k.read.roots ≡ (knows a).read.roots → k.read.heads ≡ (knows a).read.heads → k.read.before ≡ (knows a).read.before → k.asked.linked ≡ (knows a).asked.linked
-      → Good (record m { slots = put m.slots p (Some y) }) log (record { row = put o.row y Linked; page = put o.page q n; index = put o.index lv (put_key (o.index lv) sep v) }) (put knows a k) (put point a (point a)) (put logs a (log ∷ logs a))
+      → IsTree (record m { slots = put m.slots p (Some y) }) log (record { row = put o.row y Linked; page = put o.page q n; index = put o.index lv (put_key (o.index lv) sep v) }) (put knows a k) (put point a (point a)) (put logs a (log ∷ logs a))
   index_one p x y c f place alive s was lv sep q level covers st e had n v move fits full clears reach w wy next wl wlow wright whigh wrem finds k e0 pages e2 e3 e4 e5 e6 e7 =
       relink_one g a p x y c f place alive s was place.stage (omega arith) place.on page' index' (put_other o.page q n p (λ i. apart (sym i)) ∙ place.placed)
       (λ j ne. by_test j q (λ t. Moves a o m p y (o.page j) (cond t n (o.page j))) (λ i. subst (λ (z : ℕ). Moves a o m p y (o.page z) n) (sym i) move) (λ i. stay refl))
@@ -89,9 +89,9 @@ module _ {m : Shared} {log : List Update} {o : Owners} {knows : ℕ → Knowledg
 
   -- the exchange that links a term
   pub posts : (p x y : ℕ) → m.slots p ≡ Some x → (basis : HasRead (knows a) p x) (content : Record) → (knows a).own.rows y ≡ Written content → (h : MayPost (knows a) p x basis.chain content) → (r : Option Reply)
-      → Good (record m { slots = put m.slots p (Some y) }) log (record { row = put o.row y Linked; page = put o.page h.child (Placed Indexed (level_in h.below.chain) (low_in h.below.chain)); index = put o.index (level_in h.below.chain) (put_key (o.index (level_in h.below.chain)) (low_in h.below.chain) (Some (Child h.child false))) }) (put knows a (finished (filled ((knows a).own.pages p) p x y (knows a)) r)) (put point a (point a)) (put logs a (log ∷ logs a)) × (o.page h.child ≡ Placed Fresh (level_in h.below.chain) (low_in h.below.chain))
+      → IsTree (record m { slots = put m.slots p (Some y) }) log (record { row = put o.row y Linked; page = put o.page h.child (Placed Indexed (level_in h.below.chain) (low_in h.below.chain)); index = put o.index (level_in h.below.chain) (put_key (o.index (level_in h.below.chain)) (low_in h.below.chain) (Some (Child h.child false))) }) (put knows a (finished (filled ((knows a).own.pages p) p x y (knows a)) r)) (put point a (point a)) (put logs a (log ∷ logs a)) × (o.page h.child ≡ Placed Fresh (level_in h.below.chain) (low_in h.below.chain))
   posts p x y s basis content written h r = (
-    subst (λ (k : Knowledge). Good (record m { slots = put m.slots p (Some y) }) log (record { row = put o.row y Linked; page = put o.page q (Placed Indexed lv sep); index = put o.index lv (put_key (o.index lv) sep (Some (Child q false))) }) (put knows a (finished k r)) (put point a (point a)) (put logs a (log ∷ logs a))) (sym learned)
+    subst (λ (k : Knowledge). IsTree (record m { slots = put m.slots p (Some y) }) log (record { row = put o.row y Linked; page = put o.page q (Placed Indexed lv sep); index = put o.index lv (put_key (o.index lv) sep (Some (Child q false))) }) (put knows a (finished k r)) (put point a (point a)) (put logs a (log ∷ logs a))) (sym learned)
         (index_one p x y c f place basis.alive s fits.0 lv sep q h.level (covers_from c sep h.covers) Fresh was absent (Placed Indexed lv sep) (Some (Child q false))
         (go Fresh Indexed lv sep was refl (omega arith) (omega arith) refl)
         (λ l' s' st' e. let i = placed_level Indexed st' lv l' sep s' e in let j : Indexed ≡ st' = cc in (i.0, i.1, ap (λ v. mark v q) (sym j)))
@@ -152,7 +152,7 @@ module _ {m : Shared} {log : List Update} {o : Owners} {knows : ℕ → Knowledg
 
   -- the exchange that holds a term
   pub holds : (p x y : ℕ) → m.slots p ≡ Some x → (basis : HasRead (knows a) p x) (content : Record) → (knows a).own.rows y ≡ Written content → (h : MayHold x basis.chain content) → (r : Option Reply)
-      → Good (record m { slots = put m.slots p (Some y) }) log (record { row = put o.row y Linked; page = put o.page h.child (Placed Held h.level h.key); index = put o.index h.level (put_key (o.index h.level) h.key (Some (Child h.child true))) }) (put knows a (finished (filled ((knows a).own.pages p) p x y (knows a)) r)) (put point a (point a)) (put logs a (log ∷ logs a)) × (o.page h.child ≡ Placed Indexed h.level h.key)
+      → IsTree (record m { slots = put m.slots p (Some y) }) log (record { row = put o.row y Linked; page = put o.page h.child (Placed Held h.level h.key); index = put o.index h.level (put_key (o.index h.level) h.key (Some (Child h.child true))) }) (put knows a (finished (filled ((knows a).own.pages p) p x y (knows a)) r)) (put point a (point a)) (put logs a (log ∷ logs a)) × (o.page h.child ≡ Placed Indexed h.level h.key)
   holds p x y s basis content written h r =
       let c = basis.chain in
       let q = h.child in
@@ -165,7 +165,7 @@ module _ {m : Shared} {log : List Update} {o : Owners} {knows : ℕ → Knowledg
       let n = (g.tree.exact.named lv sep (Child q false) present).1 in
       let was : o.page q ≡ Placed Indexed lv sep = n.1 ∙ ap (λ st. Placed st lv sep) (is_indexed n.0 q n.2) in
       let learned : filled ((knows a).own.pages p) p x y (knows a) ≡ handed_over y (knows a) = rw (not_own g a p (level_in c) (low_in c) place.stage place.placed ((knows a).own.pages p) (g.owns_pages a p), (written ∙ ap Written h.is)) refl in (
-        subst (λ (k : Knowledge). Good (record m { slots = put m.slots p (Some y) }) log (record { row = put o.row y Linked; page = put o.page q (Placed Held lv sep); index = put o.index lv (put_key (o.index lv) sep (Some (Child q true))) }) (put knows a (finished k r)) (put point a (point a)) (put logs a (log ∷ logs a))) (sym learned)
+        subst (λ (k : Knowledge). IsTree (record m { slots = put m.slots p (Some y) }) log (record { row = put o.row y Linked; page = put o.page q (Placed Held lv sep); index = put o.index lv (put_key (o.index lv) sep (Some (Child q true))) }) (put knows a (finished k r)) (put point a (point a)) (put logs a (log ∷ logs a))) (sym learned)
             (index_one p x y c f place basis.alive s fits.0 lv sep q h.is_level (covers_from c sep h.covers) Indexed was present (Placed Held lv sep) (Some (Child q true))
             (go Indexed Held lv sep was refl (omega arith) (omega arith) refl)
             (λ l' s' st' e. let i = placed_level Held st' lv l' sep s' e in let j : Held ≡ st' = cc in (i.0, i.1, ap (λ v. mark v q) (sym j)))
@@ -187,9 +187,9 @@ module _ {m : Shared} {log : List Update} {o : Owners} {knows : ℕ → Knowledg
 
   -- the exchange that takes a held term away
   pub unterms : (p x y : ℕ) → m.slots p ≡ Some x → (basis : HasRead (knows a) p x) (content : Record) → (knows a).own.rows y ≡ Written content → (h : MayUnterm (knows a) p x basis.chain content) → (r : Option Reply)
-      → Good (record m { slots = put m.slots p (Some y) }) log (record { row = put o.row y Linked; page = put o.page h.child (Cleared a (level_in h.below.chain) h.key); index = put o.index (level_in h.below.chain) (put_key (o.index (level_in h.below.chain)) h.key None) }) (put knows a (finished (filled ((knows a).own.pages p) p x y (knows a)) r)) (put point a (point a)) (put logs a (log ∷ logs a)) × (o.page h.child ≡ Placed Merged (level_in h.below.chain) h.key)
+      → IsTree (record m { slots = put m.slots p (Some y) }) log (record { row = put o.row y Linked; page = put o.page h.child (Cleared a (level_in h.below.chain) h.key); index = put o.index (level_in h.below.chain) (put_key (o.index (level_in h.below.chain)) h.key None) }) (put knows a (finished (filled ((knows a).own.pages p) p x y (knows a)) r)) (put point a (point a)) (put logs a (log ∷ logs a)) × (o.page h.child ≡ Placed Merged (level_in h.below.chain) h.key)
   unterms p x y s basis content written h r = (
-    subst (λ (k : Knowledge). Good (record m { slots = put m.slots p (Some y) }) log (record { row = put o.row y Linked; page = put o.page q (Cleared a lv sep); index = put o.index lv (put_key (o.index lv) sep None) }) (put knows a (finished k r)) (put point a (point a)) (put logs a (log ∷ logs a))) (sym learned)
+    subst (λ (k : Knowledge). IsTree (record m { slots = put m.slots p (Some y) }) log (record { row = put o.row y Linked; page = put o.page q (Cleared a lv sep); index = put o.index lv (put_key (o.index lv) sep None) }) (put knows a (finished k r)) (put point a (point a)) (put logs a (log ∷ logs a))) (sym learned)
         (index_one p x y c f place basis.alive s fits.0 lv sep q h.level (covers_from c sep h.covers) Merged was present (Cleared a lv sep) None
         (clear lv sep was refl guard)
         (λ l' s' st' e. absurd (cc))

@@ -18,8 +18,8 @@ use Rattle.chain_search.specs.Discipline.{HasRead, IsBeyond, IsMet}
 use Rattle.tree_law.specs.Phase.{Stage, Fresh, Indexed, Held, Removed, Merged, PageOwner, Placed, Cleared, mark, rank, child_of, rank_of}
 use Rattle.tree_law.specs.Put.{put}
 use Rattle.tree_law.specs.Shared.{Shared}
-use Rattle.tree_law.specs.Owners.{IsChain, Owner, Owners, Reached, ChainNames, IsClosed, IsCleared, Owns, OwnsPages, Spells, leaf_map, HeadFits, LinkFits, InOrder, OrderFits, Knows, IsOut}
-use Rattle.tree_law.specs.Tree.{Page, InPlace, spec, IsOff, Off, Tree, Frees, Good}
+use Rattle.tree_law.specs.Owners.{IsChain, Owner, Owners, Reached, ChainNames, IsClosed, IsCleared, Owns, OwnsPages, SpellsLog, leaf_map, HeadFits, LinkFits, InOrder, OrderFits, Knows, IsOut}
+use Rattle.tree_law.specs.Tree.{SidePage, InPlace, spec, IsOff, Off, Tree, Frees, IsTree}
 use Rattle.tree_law.proofs.KeyOrder.{covers_from}
 use Rattle.tree_law.proofs.Puts.{by_test}
 use Rattle.tree_law.proofs.Chains.{chain_unique}
@@ -45,12 +45,12 @@ marked_rank Held q i e = subst (λ (c : Content). rank_of c ≤ 2) (same_Some (C
 marked_rank Removed q i e = subst (λ (c : Content). rank_of c ≤ 3) (same_Some (Child q true) i e) (omega arith)
 marked_rank Merged q i e = subst (λ (c : Content). rank_of c ≤ 4) (same_Some (Child q true) i e) (omega arith)
 
-module _ {m : Shared} {log : List Update} {o : Owners} {knows : ℕ → Knowledge} {point : ℕ → Option (List Update)} {logs : ℕ → List (List Update)} (g : Good m log o knows point logs) (a : ℕ) where
+module _ {m : Shared} {log : List Update} {o : Owners} {knows : ℕ → Knowledge} {point : ℕ → Option (List Update)} {logs : ℕ → List (List Update)} (g : IsTree m log o knows point logs) (a : ℕ) where
   -- what a step of the actor leaves
   pub put_good : (m' : Shared) (log' : List Update) (o' : Owners) (k : Knowledge) (p : Option (List Update)) (s : List (List Update))
       → Change a o o' m m' → Frees o' m' → IsClosed o' m' → Tree o' m' log'
       → Owns a o' m' k.own.rows → OwnsPages a o' m' k.own.pages → Knows o' m' k.read.seen k.read.learnt k.read.roots k.read.heads k.read.before k.asked.linked p s
-      → Good m' log' o' (put knows a k) (put point a p) (put logs a s)
+      → IsTree m' log' o' (put knows a k) (put point a p) (put logs a s)
   put_good m' log' o' k p s change frees closed tree own pages kn =
       record {
         frees = frees;
@@ -69,7 +69,7 @@ module _ {m : Shared} {log : List Update} {o : Owners} {knows : ℕ → Knowledg
 
   -- a step that leaves memory and log
   pub quiet : (k : Knowledge) (p : Option (List Update)) (s : List (List Update)) → Owns a o m k.own.rows → OwnsPages a o m k.own.pages → Knows o m k.read.seen k.read.learnt k.read.roots k.read.heads k.read.before k.asked.linked p s
-      → Good m log o (put knows a k) (put point a p) (put logs a s)
+      → IsTree m log o (put knows a k) (put point a p) (put logs a s)
   quiet k p s own pages kn = put_good m log o k p s (change_none a o m) g.frees g.closed g.tree own pages kn
 
   pub mine : Knows o m (knows a).read.seen (knows a).read.learnt (knows a).read.roots (knows a).read.heads (knows a).read.before (knows a).asked.linked (point a) (log ∷ logs a)
@@ -79,15 +79,15 @@ module _ {m : Shared} {log : List Update} {o : Owners} {knows : ℕ → Knowledg
   pub mine_at : (o' : Owners) (m' : Shared) → Kept o o' m m' → Knows o' m' (knows a).read.seen (knows a).read.learnt (knows a).read.roots (knows a).read.heads (knows a).read.before (knows a).asked.linked (point a) (log ∷ logs a)
   mine_at o' m' kept = knows_kept o o' m m' g.closed kept (knows a).read.seen (knows a).read.learnt (knows a).read.roots (knows a).read.heads (knows a).read.before (knows a).asked.linked (point a) (log ∷ logs a) mine
 
-  pub begins : (c : Command) → Good m log o (put knows a (begun (knows a) c)) (put point a None) (put logs a [])
+  pub begins : (c : Command) → IsTree m log o (put knows a (begun (knows a) c)) (put point a None) (put logs a [])
   begins c = quiet (begun (knows a) c) None [] (g.owns a) (g.owns_pages a) (record { seen_fits = mine.seen_fits; learnt_fits = mine.learnt_fits; roots_fit = mine.roots_fit; heads_fit = λ p. tt; orders_fit = λ p f. tt; linked_fits = refl })
 
   -- a step after which the actor knows what it knew
   pub idles : (k : Knowledge) → k.own.rows ≡ (knows a).own.rows → k.own.pages ≡ (knows a).own.pages → k.read.seen ≡ (knows a).read.seen → k.read.learnt ≡ (knows a).read.learnt → k.read.roots ≡ (knows a).read.roots → k.read.heads ≡ (knows a).read.heads → k.read.before ≡ (knows a).read.before → k.asked.linked ≡ (knows a).asked.linked
-      → Good m log o (put knows a k) (put point a (point a)) (put logs a (log ∷ logs a))
+      → IsTree m log o (put knows a k) (put point a (point a)) (put logs a (log ∷ logs a))
   idles k e0 e1 e2 e3 e4 e5 e7 e6 = quiet k (point a) (log ∷ logs a) (rw e0 (g.owns a)) (rw e1 (g.owns_pages a)) (rw (e2, e3, e4, e5, e7, e6) mine)
 
-  pub enters : (e : ℕ) (x : Answer Record) (r : Option Reply) → Good m log o (put knows a (finished (learn (knows a) (Enter e) x) r)) (put point a (point a)) (put logs a (log ∷ logs a))
+  pub enters : (e : ℕ) (x : Answer Record) (r : Option Reply) → IsTree m log o (put knows a (finished (learn (knows a) (Enter e) x) r)) (put point a (point a)) (put logs a (log ∷ logs a))
   enters e x r = quiet (finished (learn (knows a) (Enter e) x) r) (point a) (log ∷ logs a) (g.owns a) (g.owns_pages a) (record { seen_fits = mine.seen_fits; learnt_fits = λ q e. absurd (cc); roots_fit = mine.roots_fit; heads_fit = mine.heads_fit; orders_fit = mine.orders_fit; linked_fits = mine.linked_fits })
 
   forgets : (linked : Option (Option ℕ)) → LinkFits o m (point a) linked → LinkFits o m (point a) (forgotten linked)
@@ -95,7 +95,7 @@ module _ {m : Shared} {log : List Update} {o : Owners} {knows : ℕ → Knowledg
   forgets (Some None) h = h
   forgets (Some (Some x)) h = (h.0, h.1)
 
-  pub leaves : (r : Option Reply) → Good m log o (put knows a (finished (learn (knows a) Leave Done) r)) (put point a (point a)) (put logs a (log ∷ logs a))
+  pub leaves : (r : Option Reply) → IsTree m log o (put knows a (finished (learn (knows a) Leave Done) r)) (put point a (point a)) (put logs a (log ∷ logs a))
   leaves r = quiet (finished (learn (knows a) Leave Done) r) (point a) (log ∷ logs a) (g.owns a) (g.owns_pages a) (record { seen_fits = λ q. tt; learnt_fits = λ q e. absurd (cc); roots_fit = λ p e. absurd (cc); heads_fit = λ p. tt; orders_fit = λ p f. tt; linked_fits = forgets (knows a).asked.linked mine.linked_fits })
 
   -- a page whose slot has a chain that is not removed is on its side chain
@@ -120,14 +120,14 @@ module _ {m : Shared} {log : List Update} {o : Owners} {knows : ℕ → Knowledg
           (g.tree.off p l s i)
 
   -- the slot of a page of the tree
-  pub slot_of : (p l : ℕ) (s : Key) → Reached 0 l s (o.page p) → (m.slots p ≡ None) ⊎ ((x : ℕ) × (m.slots p ≡ Some x) × (h : Spells o m x log) × Reached 0 (level_in h.chain) (low_in h.chain) (o.page p))
+  pub slot_of : (p l : ℕ) (s : Key) → Reached 0 l s (o.page p) → (m.slots p ≡ None) ⊎ ((x : ℕ) × (m.slots p ≡ Some x) × (h : SpellsLog o m x log) × Reached 0 (level_in h.chain) (low_in h.chain) (o.page p))
   slot_of p lv s r =
       ⊎_elim
       (λ (u : (st : Stage) × (o.page p ≡ Placed st lv s) × (0 ≤ rank st)). ⊎_elim
       (λ (on : rank u.0 ≤ 3).
       let t = g.tree.levels lv (g.tree.exact.below p lv s u.0 u.1) in
       let l = locate o m lv (spec log o.index lv) t.side (Some (g.tree.first lv)) (Some []) None None p t.whole (t.listed p s u.0 u.1 on) in
-      let at : Spells o m l.page.row log = record { linked = l.here.linked; chain = l.page.chain; is_chain = l.here.is_page.is_chain; same = λ z y k v. l.here.is_page.same k v ∙ spec_leaf log o.index lv (sym l.here.is_page.on_level ∙ z) k } in
+      let at : SpellsLog o m l.page.row log = record { linked = l.here.linked; chain = l.page.chain; is_chain = l.here.is_page.is_chain; same = λ z y k v. l.here.is_page.same k v ∙ spec_leaf log o.index lv (sym l.here.is_page.on_level ∙ z) k } in
       inr (
         l.page.row,
         ap m.slots (sym l.is) ∙ l.here.is_page.head,
@@ -139,7 +139,7 @@ module _ {m : Shared} {log : List Update} {o : Owners} {knows : ℕ → Knowledg
       (λ (u : (b : ℕ) × (o.page p ≡ Cleared b lv s)). off (inr u))
       (reached_placed 0 lv s (o.page p) r)
     where
-      off : IsOff (o.page p) lv s → (m.slots p ≡ None) ⊎ ((x : ℕ) × (m.slots p ≡ Some x) × (h : Spells o m x log) × Reached 0 (level_in h.chain) (low_in h.chain) (o.page p))
+      off : IsOff (o.page p) lv s → (m.slots p ≡ None) ⊎ ((x : ℕ) × (m.slots p ≡ Some x) × (h : SpellsLog o m x log) × Reached 0 (level_in h.chain) (low_in h.chain) (o.page p))
       off i = ⊎_elim (λ (n : IsOut (o.page p) (m.slots p)). inl n.0)
           (λ (w : Off o m p lv s). inr (
             w.row,
@@ -157,7 +157,7 @@ module _ {m : Shared} {log : List Update} {o : Owners} {knows : ℕ → Knowledg
       subst (λ (d : List Record). ChainNames o d) same (f.5 (ap is_removed same ∙ h.alive))
 
   -- what a page on its side chain names
-  pub place_names : (p : Page) → (e : InPlace o m (level_in p.chain) (spec log o.index (level_in p.chain)) p) → ChainNames o p.chain
+  pub place_names : (p : SidePage) → (e : InPlace o m (level_in p.chain) (spec log o.index (level_in p.chain)) p) → ChainNames o p.chain
   place_names p e = record {
     right = λ q i. let n = right_page o m (level_in p.chain) (spec log o.index (level_in p.chain)) (g.tree.first (level_in p.chain)) (g.tree.levels (level_in p.chain) (g.tree.exact.below p.page (level_in p.chain) (low_in p.chain) e.stage e.placed)) p e q i in
         (low_in n.0.chain, n.2, placed_reached (level_in p.chain) (low_in n.0.chain) n.3.stage (o.page q) (ap o.page (sym n.1) ∙ n.3.placed));

@@ -10,7 +10,7 @@ use Rattle.tree_law.specs.Keys.{Key, Covers}
 use Rattle.chain_search.specs.Knowledge.{OwnRow, Foreign, Taken, Written, OwnPage, Other, Empty, Ready, Gone}
 use Rattle.tree_law.specs.Phase.{Stage, Fresh, Indexed, Held, Removed, Merged, PageOwner, Nobody, Keeps, Placed, Cleared, rank, child_of, rank_of}
 use Rattle.tree_law.specs.Shared.{Shared}
-use Rattle.tree_law.specs.Owners.{IsChain, Spare, Linked, Owners, Reached, Forward, ChainNames, IsClosed, OwnFits, Owns, PageFits, OwnsPages, SeenFits, Spells, IsCleared, HeadFits, LinkFits, InOrder, OrderFits, Knows, IsOut}
+use Rattle.tree_law.specs.Owners.{IsChain, Spare, Linked, Owners, Reached, Forward, ChainNames, IsClosed, OwnFits, Owns, PageFits, OwnsPages, SeenFits, SpellsLog, IsCleared, HeadFits, LinkFits, InOrder, OrderFits, Knows, IsOut}
 use Rattle.tree_law.proofs.Chains.{chain_unique}
 
 -- linked rows stay, and pages go forward
@@ -72,7 +72,7 @@ chain_back o o' m m' closed kept c x l h =
     let d : IsChain m.rows (k.content ∷ k.rest) (Some x) = (k.stands, k.is_rest) in
     subst (λ (e : List Record). IsChain m.rows e (Some x)) (chain_unique m'.rows (k.content ∷ k.rest) c (Some x) (chain_kept o o' m m' closed kept (k.content ∷ k.rest) (Some x) l d) h) d
 
-abbrev pub spells_kept : (o o' : Owners) (m m' : Shared) → IsClosed o m → Kept o o' m m' → (x : ℕ) (l : List Update) → Spells o m x l → Spells o' m' x l
+abbrev pub spells_kept : (o o' : Owners) (m m' : Shared) → IsClosed o m → Kept o o' m m' → (x : ℕ) (l : List Update) → SpellsLog o m x l → SpellsLog o' m' x l
 spells_kept o o' m m' closed kept x l s =
     record { linked = (kept.row x s.linked).0; chain = s.chain; is_chain = chain_kept o o' m m' closed kept s.chain (Some x) s.linked s.is_chain; same = s.same }
 

@@ -17,7 +17,7 @@ use Rattle.tree_law.specs.Owners.{Owners}
 use Rattle.tree_law.specs.Phase.{Stage, Fresh, Indexed, Held, Removed, Merged, PageOwner, Nobody, Keeps, Placed, Cleared}
 use Rattle.tree_law.specs.Shared.{shared}
 use Rattle.tree_law.specs.State.{phase_of}
-use Rattle.tree_law.specs.Tree.{Good}
+use Rattle.tree_law.specs.Tree.{IsTree}
 use Rattle.tree_law.proofs.Exactness.{is_indexed, below_top, root_indexed}
 use Rattle.tree_law.proofs.Marks.{take_whole}
 use Rattle.tree_law.proofs.Moments.{same_memory, leftmost_later, indexes_kept}
@@ -65,7 +65,7 @@ of_merged (Placed Merged l s) child e = (Merged, l, s, refl, refl)
 of_merged (Cleared a l s) child e = absurd (let f = e in cc)
 
 -- the moment after all entries
-module _ (limits : Limits) (entries : List Entry) {log : List Update} {o : Owners} {knows : ℕ → Knowledge} {point : ℕ → Option (List Update)} {logs : ℕ → List (List Update)} (g : Good (shared (memory_of limits entries)) log o knows point logs) where
+module _ (limits : Limits) (entries : List Entry) {log : List Update} {o : Owners} {knows : ℕ → Knowledge} {point : ℕ → Option (List Update)} {logs : ℕ → List (List Update)} (g : IsTree (shared (memory_of limits entries)) log o knows point logs) where
   abbrev m : Memory
   m = memory_of limits entries
 
@@ -120,7 +120,7 @@ module _ (limits : Limits) (entries : List Entry) {log : List Update} {o : Owner
 
 -- one more entry
 module _ (limits : Limits) (entries : List Entry) (last : Entry) {log log' : List Update} {o o' : Owners} {knows knows' : ℕ → Knowledge} {point point' : ℕ → Option (List Update)} {logs logs' : ℕ → List (List Update)}
-    (g : Good (shared (memory_of limits entries)) log o knows point logs) (g' : Good (shared (memory_of limits (entries ++ last ∷ []))) log' o' knows' point' logs')
+    (g : IsTree (shared (memory_of limits entries)) log o knows point logs) (g' : IsTree (shared (memory_of limits (entries ++ last ∷ []))) log' o' knows' point' logs')
     (stays : (l q : ℕ) → IsFirst o l q → IsFirst o' l q) (grows : (is_indexed (memory_of limits (entries ++ last ∷ [])) g').top ≤ suc ((is_indexed (memory_of limits entries) g).top))
     (in_phase : (pid : ℕ) → IsInPhase limits (entries ++ last ∷ []) (length (entries ++ last ∷ [])) pid (phase_of (o'.page pid)))
     (only_phase : (pid : ℕ) (phase : Phase) → IsInPhase limits (entries ++ last ∷ []) (length (entries ++ last ∷ [])) pid phase → phase ≡ phase_of (o'.page pid))
@@ -207,7 +207,7 @@ module _ (limits : Limits) (entries : List Entry) (last : Entry) {log log' : Lis
   }
 
 -- the empty trace, where all levels are the lowest
-module _ (limits : Limits) {log : List Update} {o : Owners} {knows : ℕ → Knowledge} {point : ℕ → Option (List Update)} {logs : ℕ → List (List Update)} (g : Good (shared (memory_of limits [])) log o knows point logs) (flat : (l q : ℕ) → IsFirst o l q → l ≡ 0) where
+module _ (limits : Limits) {log : List Update} {o : Owners} {knows : ℕ → Knowledge} {point : ℕ → Option (List Update)} {logs : ℕ → List (List Update)} (g : IsTree (shared (memory_of limits [])) log o knows point logs) (flat : (l q : ℕ) → IsFirst o l q → l ≡ 0) where
   abbrev start : IsIndexed (memory_of limits []) o
   start = is_indexed (memory_of limits []) g
 

@@ -16,14 +16,14 @@ use Rattle.tree_law.specs.Keys.{Key, IsUnder, Covers}
 use Rattle.chain_search.specs.Knowledge.{Knowledge}
 use Rattle.tree_law.specs.Shared.{row_in, slot_in, shared}
 use Rattle.tree_law.specs.Owners.{IsChain, Owners, leaf_map}
-use Rattle.tree_law.specs.Tree.{Page, InPlace, IsPart, Level, Good}
+use Rattle.tree_law.specs.Tree.{SidePage, InPlace, IsPart, Level, IsTree}
 use Rattle.tree_law.proofs.KeyOrder.{empty_lowest, covers_from, covers_to}
 use Rattle.tree_law.proofs.Sides.{StartsFrom}
 use Rattle.tree_law.proofs.Updating.{value_of_map}
 use Rattle.chain_search.specs.Discipline.{value_of}
 
 -- a page as all see it
-abbrev pub live : Page → LivePage
+abbrev pub live : SidePage → LivePage
 live g = record { pid = g.page; chain = g.chain }
 
 -- a slot that holds a row is that of a page
@@ -39,34 +39,34 @@ pub chain_at : (memory : Memory) (p x : ℕ) (c : List Record) → slot_in memor
 chain_at memory p x c e h = let s = slot_some memory.slots p x e in record { page = s.0; linked = subst (λ (n : ℕ). 0 < n) (sym s.1) s.2; records = rw s.1 h }
 
 module _ (memory : Memory) (o : Owners) (lv : ℕ) (mp : Key → Option Content) where
-  pub chain_of : (g : Page) → InPlace o (shared memory) lv mp g → IsChainOf memory g.page g.chain
+  pub chain_of : (g : SidePage) → InPlace o (shared memory) lv mp g → IsChainOf memory g.page g.chain
   chain_of g h = chain_at memory g.page g.row g.chain h.is_page.head h.is_page.is_chain
 
   -- the pages are a side chain, and their ranges follow one another
-  pub side_from : (gs : List Page) (p : Option ℕ) (low : Option Key) → IsPart o (shared memory) lv mp gs p low None None → MatchOption p (map live gs ≡ []) (λ q. IsSideChainFrom memory q (map live gs))
+  pub side_from : (gs : List SidePage) (p : Option ℕ) (low : Option Key) → IsPart o (shared memory) lv mp gs p low None None → MatchOption p (map live gs ≡ []) (λ q. IsSideChainFrom memory q (map live gs))
   side_from [] None low h = refl
   side_from [] (Some p) low h = absurd (let e = h.0 in cc)
   side_from (g ∷ gs) None low h = absurd (let e = h.0 in cc)
   side_from (g ∷ gs) (Some p) low h = (sym (same_Some p g.page h.0), subst (λ (n : ℕ). IsChainOf memory n g.chain) (sym (same_Some p g.page h.0)) (chain_of g h.2), side_from gs (right_in g.chain) (high_in g.chain) h.3)
 
-  pub whole_from : (gs : List Page) (p : Option ℕ) (low : Option Key) → IsPart o (shared memory) lv mp gs p low None None → MatchOption low (map live gs ≡ []) (λ k. IsWholeFrom k (map live gs))
+  pub whole_from : (gs : List SidePage) (p : Option ℕ) (low : Option Key) → IsPart o (shared memory) lv mp gs p low None None → MatchOption low (map live gs ≡ []) (λ k. IsWholeFrom k (map live gs))
   whole_from [] p None h = refl
   whole_from [] p (Some k) h = absurd (let e = h.1 in cc)
   whole_from (g ∷ gs) p None h = absurd (let e = h.1 in cc)
   whole_from (g ∷ gs) p (Some k) h = (sym (same_Some k (low_in g.chain) h.1), whole_from gs (right_in g.chain) (high_in g.chain) h.3)
 
   -- a page among them is in its place
-  pub among : (gs : List Page) (p : Option ℕ) (low : Option Key) → IsPart o (shared memory) lv mp gs p low None None → (page : LivePage) → Contains (map live gs) page → (g : Page) × (live g ≡ page) × InPlace o (shared memory) lv mp g
+  pub among : (gs : List SidePage) (p : Option ℕ) (low : Option Key) → IsPart o (shared memory) lv mp gs p low None None → (page : LivePage) → Contains (map live gs) page → (g : SidePage) × (live g ≡ page) × InPlace o (shared memory) lv mp g
   among [] p low h page (n, lt, e) = absurd (omega arith)
   among (g ∷ gs) p low h page (zero, lt, e) = (g, e, h.2)
   among (g ∷ gs) p low h page (suc n, lt, e) = among gs (right_in g.chain) (high_in g.chain) h.3 page (n, omega arith, e)
 
   -- one of the pages covers the key
-  abbrev pub Covering : List Page → Key → Type 0
-  Covering gs key = (g : Page) × Contains (map live gs) (live g) × InPlace o (shared memory) lv mp g × Covers g.chain key
+  abbrev pub Covering : List SidePage → Key → Type 0
+  Covering gs key = (g : SidePage) × Contains (map live gs) (live g) × InPlace o (shared memory) lv mp g × Covers g.chain key
 
   -- a key from the first low key on is covered by one of them
-  pub covering : (gs : List Page) (p : Option ℕ) (low : Option Key) → IsPart o (shared memory) lv mp gs p low None None → (key : Key) → StartsFrom low key → Covering gs key
+  pub covering : (gs : List SidePage) (p : Option ℕ) (low : Option Key) → IsPart o (shared memory) lv mp gs p low None None → (key : Key) → StartsFrom low key → Covering gs key
   covering [] p low h key s = absurd (subst (λ (b : Option Key). StartsFrom b key) h.1 s)
   covering (g ∷ gs) p low h key s = go (λ u. covering gs (right_in g.chain) (high_in g.chain) h.3 key u) (high_in g.chain) refl
     where
@@ -84,7 +84,7 @@ module _ (memory : Memory) (o : Owners) (lv : ℕ) (mp : Key → Option Content)
       go rest None e = here (rw e refl)
       go rest (Some high) e = test rest high e (is_under key (Some high)) refl
 
-module _ (memory : Memory) {log : List Update} {o : Owners} {knows : ℕ → Knowledge} {point : ℕ → Option (List Update)} {logs : ℕ → List (List Update)} (g : Good (shared memory) log o knows point logs) where
+module _ (memory : Memory) {log : List Update} {o : Owners} {knows : ℕ → Knowledge} {point : ℕ → Option (List Update)} {logs : ℕ → List (List Update)} (g : IsTree (shared memory) log o knows point logs) where
   pub leaves : Level o (shared memory) 0 (leaf_map log) 1
   leaves = subst (λ (n : ℕ). Level o (shared memory) 0 (leaf_map log) n) g.tree.leaf (g.tree.levels 0 (omega arith))
 
@@ -110,5 +110,5 @@ module _ (memory : Memory) {log : List Update} {o : Owners} {knows : ℕ → Kno
     same = λ key value. (spelled key value, spells key value);
   }
 
-pub map_of : {m : Memory} {log : List Update} {o : Owners} {knows : ℕ → Knowledge} {point : ℕ → Option (List Update)} {logs : ℕ → List (List Update)} → Good (shared m) log o knows point logs → HasMapOf m log
+pub map_of : {m : Memory} {log : List Update} {o : Owners} {knows : ℕ → Knowledge} {point : ℕ → Option (List Update)} {logs : ℕ → List (List Update)} → IsTree (shared m) log o knows point logs → HasMapOf m log
 map_of {m} g = has_map m g

@@ -18,7 +18,7 @@ use Rattle.op_machine.specs.Operations.{Operation, IsOperation, IsOwnStep, Finis
 use Rattle.op_machine.specs.Points.{IsPoint, log_of, log_at}
 use Rattle.op_machine.specs.Quiet.{IsQuiet, HasMapOf}
 use Rattle.op_machine.proofs.LogLaws.{log_at-push}
-use Rattle.tree_law.specs.State.{IsUnended, operation_of, Tells, Justifies, Answers, IsMarked}
+use Rattle.tree_law.specs.State.{IsUnended, operation_of, Tells, Justifies, IsAnsweredBy, IsMarked}
 use Rattle.tree_law.proofs.Searches.{nothing_free_kept, page_full_kept}
 use Rattle.tree_law.proofs.Owned.{pushed_length, point_below, point_last, own_step_kept, own_cases, step_cases, step_below, own_new, unended_kept, operation_old}
 
@@ -45,7 +45,7 @@ module _ (entries : List Entry) (points : List Bool) (last : Entry) (mark : Bool
   point_old op m own p = let lt : m < length entries = step_below entries last op m own in point_below points mark m (omega arith) p
 
   -- a full answer stays where the new step is no mark of its operation
-  answers_kept : (limits : Limits) (op : Operation) (reply : Reply) → IsOperation entries op → (mark ≡ true → IsOwnStep entries' op (length entries) → ⊥) → Answers limits entries points op reply → Answers limits entries' points' op reply
+  answers_kept : (limits : Limits) (op : Operation) (reply : Reply) → IsOperation entries op → (mark ≡ true → IsOwnStep entries' op (length entries) → ⊥) → IsAnsweredBy limits entries points op reply → IsAnsweredBy limits entries' points' op reply
   answers_kept limits op reply is never (inl h) = inl (justifies_kept op reply h)
   answers_kept limits op reply is never (inr h) = inr (
     h.0,
@@ -64,7 +64,7 @@ module _ (entries : List Entry) (points : List Bool) (last : Entry) (mark : Bool
   pub marked_push : (limits : Limits) → IsMarked limits entries points
       → (mark ≡ true → (op : Operation) × IsOperation entries op × IsOwnStep entries' op (length entries))
       → (mark ≡ true → (op : Operation) → IsOperation entries op → IsOwnStep entries' op (length entries) → (m : ℕ) → IsOwnStep entries op m → IsPoint points m → ⊥)
-      → ((op : Operation) (step : StepOf Record) (answer : Answer Record) (reply : Reply) → IsOperation entries op → last ≡ Step op.actor step answer (Some reply) → IsUnended entries op.start op.actor → Answers limits entries points op reply × (mark ≡ false))
+      → ((op : Operation) (step : StepOf Record) (answer : Answer Record) (reply : Reply) → IsOperation entries op → last ≡ Step op.actor step answer (Some reply) → IsUnended entries op.start op.actor → IsAnsweredBy limits entries points op reply × (mark ≡ false))
       → (mark ≡ true → (op : Operation) → IsOperation entries op → IsOwnStep entries' op (length entries) → (n : ℕ) (reply : Reply) → Finishes entries op n reply → ⊥)
       → IsMarked limits entries' points'
   marked_push limits old new fresh replied unfinished = record {

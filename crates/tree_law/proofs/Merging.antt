@@ -14,7 +14,7 @@ use Rattle.tree_law.specs.Phase.{Stage, Fresh, Indexed, Held, Removed, Merged, P
 use Rattle.tree_law.specs.Put.{put}
 use Rattle.tree_law.specs.Shared.{Shared}
 use Rattle.tree_law.specs.Owners.{IsChain, Spare, Linked, Owners, IsLinked, OwnFits, PageFits, IsCleared, HeadFits, IsOut}
-use Rattle.tree_law.specs.Tree.{spec, Page, InPlace, IsOff, Off, Good}
+use Rattle.tree_law.specs.Tree.{spec, SidePage, InPlace, IsOff, Off, IsTree}
 use Rattle.chain_search.specs.Discipline.{MayMerge, HasRead}
 use Rattle.tree_law.proofs.KeyOrder.{not_below, upto_same, under_trans, by_range, covers_to}
 use Rattle.tree_law.proofs.Puts.{by_test, put_same, put_other, put_all}
@@ -27,10 +27,10 @@ use Rattle.tree_law.proofs.Keeping.{put_good, mine, mine_at, off_still}
 use Rattle.tree_law.proofs.Relinking.{placed_level, not_off, Found, not_own, found, found_as, place_of}
 use Rattle.tree_law.proofs.Updating.{below_top}
 
-module _ {m : Shared} {log : List Update} {o : Owners} {knows : ℕ → Knowledge} {point : ℕ → Option (List Update)} {logs : ℕ → List (List Update)} (g : Good m log o knows point logs) (a : ℕ) where
-  pub clears : (p x : ℕ) → m.slots p ≡ Some x → (knows a).own.pages p ≡ Gone → (r : Option Reply) → Good (record m { slots = put m.slots p None }) log o (put knows a (finished (emptied ((knows a).own.pages p) p x (knows a)) r)) (put point a (point a)) (put logs a (log ∷ logs a))
+module _ {m : Shared} {log : List Update} {o : Owners} {knows : ℕ → Knowledge} {point : ℕ → Option (List Update)} {logs : ℕ → List (List Update)} (g : IsTree m log o knows point logs) (a : ℕ) where
+  pub clears : (p x : ℕ) → m.slots p ≡ Some x → (knows a).own.pages p ≡ Gone → (r : Option Reply) → IsTree (record m { slots = put m.slots p None }) log o (put knows a (finished (emptied ((knows a).own.pages p) p x (knows a)) r)) (put point a (point a)) (put logs a (log ∷ logs a))
   clears p x s own r =
-      subst (λ (k : Knowledge). Good m' log o (put knows a (finished k r)) (put point a (point a)) (put logs a (log ∷ logs a))) (sym learned)
+      subst (λ (k : Knowledge). IsTree m' log o (put knows a (finished k r)) (put point a (point a)) (put logs a (log ∷ logs a))) (sym learned)
       (put_good g a m' log o (finished k r) (point a) (log ∷ logs a)
       change
       (record { row = g.frees.row; page = λ j h. let f = g.frees.page j h in (f.0, put_other m.slots p None j (λ e. absurd (let i = sym f.0 ∙ ap o.page e ∙ was.2 in cc)) ∙ f.1) })
@@ -67,9 +67,9 @@ module _ {m : Shared} {log : List Update} {o : Owners} {knows : ℕ → Knowledg
       f.4 (ap is_removed (chain_unique m.rows f.2.chain c (Some x) f.2.is_chain (chain_stands o m (knows a).read.seen (mine g a).seen_fits c (Some x) h)) ∙ n)
 
   -- the exchange that merges a page's right into it
-  pub merges : (p x y : ℕ) → m.slots p ≡ Some x → (basis : HasRead (knows a) p x) (content : Record) → (knows a).own.rows y ≡ Written content → (h : MayMerge (knows a) x basis.chain content) → (r : Option Reply) → Good (record m { slots = put m.slots p (Some y) }) log (record { row = put o.row y Linked; page = put o.page h.other (Placed Merged (level_in basis.chain) (low_in h.merged)); index = o.index }) (put knows a (finished (filled ((knows a).own.pages p) p x y (knows a)) r)) (put point a (point a)) (put logs a (log ∷ logs a)) × (o.page h.other ≡ Placed Removed (level_in basis.chain) (low_in h.merged))
+  pub merges : (p x y : ℕ) → m.slots p ≡ Some x → (basis : HasRead (knows a) p x) (content : Record) → (knows a).own.rows y ≡ Written content → (h : MayMerge (knows a) x basis.chain content) → (r : Option Reply) → IsTree (record m { slots = put m.slots p (Some y) }) log (record { row = put o.row y Linked; page = put o.page h.other (Placed Merged (level_in basis.chain) (low_in h.merged)); index = o.index }) (put knows a (finished (filled ((knows a).own.pages p) p x y (knows a)) r)) (put point a (point a)) (put logs a (log ∷ logs a)) × (o.page h.other ≡ Placed Removed (level_in basis.chain) (low_in h.merged))
   merges p x y s basis content written h r = (
-    subst (λ (k : Knowledge). Good m' log o' (put knows a (finished k r)) (put point a (point a)) (put logs a (log ∷ logs a))) (sym learned)
+    subst (λ (k : Knowledge). IsTree m' log o' (put knows a (finished k r)) (put point a (point a)) (put logs a (log ∷ logs a))) (sym learned)
         (put_good g a m' log o' (finished (handed_over y (knows a)) r) (point a) (log ∷ logs a)
         change
         (record {
@@ -122,7 +122,7 @@ module _ {m : Shared} {log : List Update} {o : Owners} {knows : ℕ → Knowledg
       f : Found o m p x c
       f = found g a p x basis
 
-      here : Page
+      here : SidePage
       here = record { page = p; row = x; chain = c }
 
       place : InPlace o m lv (spec log o.index lv) here
@@ -131,13 +131,13 @@ module _ {m : Shared} {log : List Update} {o : Owners} {knows : ℕ → Knowledg
       fd : Found o m q h.row d
       fd = found_as g a q h.row h.head d h.read
 
-      next : (k : Page) × (k.page ≡ q) × (high_in c ≡ Some (low_in k.chain)) × InPlace o m lv (spec log o.index lv) k
+      next : (k : SidePage) × (k.page ≡ q) × (high_in c ≡ Some (low_in k.chain)) × InPlace o m lv (spec log o.index lv) k
       next = right_page o m lv (spec log o.index lv) (g.tree.first lv) (g.tree.levels lv (g.tree.exact.below p lv (low_in c) place.stage place.placed)) here place q h.right
 
       slot : m.slots q ≡ Some h.row
       slot = ⊎_elim (λ (u : m.slots q ≡ Some h.row). u) (λ (u : IsOut (o.page q) (m.slots q)). absurd (let e = sym next.3.placed ∙ ap o.page next.1 ∙ u.1.3 in cc)) (frozen_as q h.row h.head d h.read h.gone)
 
-      there : Page
+      there : SidePage
       there = record { page = q; row = h.row; chain = d }
 
       removed_place : InPlace o m lv (spec log o.index lv) there
@@ -172,7 +172,7 @@ module _ {m : Shared} {log : List Update} {o : Owners} {knows : ℕ → Knowledg
       w : Record
       w = Merge (record { level = lv; next = x; low = sq; high = high_in d; right = right_in d; items = h.items })
 
-      new : Page
+      new : SidePage
       new = record { page = p; row = y; chain = w ∷ c }
 
       fits : (o.row y ≡ Spare a) × (m.rows y ≡ Some w)

@@ -36,8 +36,8 @@ use Rattle.tree_law.specs.Keys.{Key}
 use Rattle.tree_law.specs.Phase.{PageOwner, Nobody, Keeps, Placed, Cleared}
 use Rattle.tree_law.specs.Put.{put}
 use Rattle.tree_law.specs.Shared.{row_in, slot_in, shared}
-use Rattle.tree_law.specs.State.{phase_of, IsInTree, IsReady, IsNamed}
-use Rattle.tree_law.specs.Tree.{Good}
+use Rattle.tree_law.specs.State.{phase_of, IsInTree, IsReadyPage, IsNamed}
+use Rattle.tree_law.specs.Tree.{IsTree}
 use Rattle.tree_law.proofs.Puts.{by_test, put_same, put_other}
 use Rattle.tree_law.proofs.Exchanged.{exchanged_alike}
 use Rattle.tree_law.proofs.Keeping.{slot_of}
@@ -88,7 +88,7 @@ named_begins limits entries o m knows a c old asks = record {
   commands = λ b. rw asks (by_test b a (λ t. (cond t (begun (knows a) c) (knows b)).asked.command ≡ cond t (Some c) (command_of entries b)) (λ i. refl) (λ ne. old.commands b));
 }
   where
-    held_begins : {p r : ℕ} → IsInTree (o.page p) ⊎ IsReady o m knows p r → IsInTree (o.page p) ⊎ IsReady o m (knows_after knows (Begin a c)) p r
+    held_begins : {p r : ℕ} → IsInTree (o.page p) ⊎ IsReadyPage o m knows p r → IsInTree (o.page p) ⊎ IsReadyPage o m (knows_after knows (Begin a c)) p r
     held_begins {p} {r} (inl h) = inl h
     held_begins {p} {r} (inr h) = inr (record {
       actor = h.actor;
@@ -241,7 +241,7 @@ slot_none slots zero above e = absurd (omega arith)
 slot_none slots (suc p) above e = row_none (slots (suc p)) e
 
 module _ (limits : Limits) (entries : List Entry) (o : Owners) (m : Memory) (knows : ℕ → Knowledge) (log : List Update) (points : ℕ → Option (List Update)) (logs : ℕ → List (List Update))
-    (g : Good (shared m) log o knows points logs) (old : IsNamed limits entries o m knows) (a : ℕ) (s : StepOf Record) (x : Answer Record) (r : Option Reply) (may : May a (knows a) s) (is : IsAnswer m s x) where
+    (g : IsTree (shared m) log o knows points logs) (old : IsNamed limits entries o m knows) (a : ℕ) (s : StepOf Record) (x : Answer Record) (r : Option Reply) (may : May a (knows a) s) (is : IsAnswer m s x) where
   abbrev last : Entry
   last = Step a s x r
 
@@ -396,7 +396,7 @@ module _ (limits : Limits) (entries : List Entry) (o : Owners) (m : Memory) (kno
   }
 
   pub named_steps : (o' : Owners) → Numbers o' → ((q : ℕ) → (knows a).read.learnt q ≡ true → (knows a).inside ≡ true) → ((e : ℕ) → (knows a).limbo.epoch ≡ Some e → e ≤ m.epoch) → ((p : ℕ) → (phase_of (o'.page p) ≡ phase.free) ⊎ ((0 < p) × (p < limits.pids)))
-      → ((p q : ℕ) → slot_in (memory_after a s m).slots p ≡ Some q → IsInTree (o'.page p) ⊎ IsReady o' (memory_after a s m) (knows_after knows last) p q)
+      → ((p q : ℕ) → slot_in (memory_after a s m).slots p ≡ Some q → IsInTree (o'.page p) ⊎ IsReadyPage o' (memory_after a s m) (knows_after knows last) p q)
       → command_of (entries ++ last ∷ []) ≡ commands_after (command_of entries) last
       → IsNamed limits (entries ++ last ∷ []) o' (memory_after a s m) (knows_after knows last)
   named_steps o' numbers inside read pid_below held asks = record {

@@ -12,7 +12,7 @@ use Rattle.tree_law.specs.Phase.{Fresh, Indexed, Nobody, Placed, Cleared, rank}
 use Rattle.tree_law.specs.Put.{put}
 use Rattle.tree_law.specs.Shared.{Shared, row_in, slot_in, shared}
 use Rattle.tree_law.specs.Owners.{Free, Linked, Owners, IsLinked, IsOut}
-use Rattle.tree_law.specs.Tree.{spec, Page, HasPage, Level, IsOff, Off, Good}
+use Rattle.tree_law.specs.Tree.{spec, SidePage, HasSidePage, Level, IsOff, Off, IsTree}
 use Rattle.tree_law.proofs.Puts.{by_test}
 
 module _ (free free_pages : ℕ → Bool) (taken : free 1 ≡ false) (taken_page : free_pages 1 ≡ false) where
@@ -22,14 +22,14 @@ module _ (free free_pages : ℕ → Bool) (taken : free 1 ≡ false) (taken_page
   abbrev pub o : Owners
   o = record { row = put (λ r. Free) 1 Linked; page = put (λ p. Nobody) 1 (Placed Indexed 0 []); index = λ l s. None }
 
-  abbrev leaf : Page
+  abbrev leaf : SidePage
   leaf = record { page = 1; row = 1; chain = Base empty_leaf ∷ [] }
 
   leaves : Level o start 0 (spec [] o.index 0) 1
   leaves = record {
     side = leaf ∷ [];
     whole = (refl, refl, record { stage = Indexed; placed = refl; on = omega arith; flagged = refl; linked = refl; is_page = record { head = refl; is_chain = (refl, refl); on_level = refl; some = refl; same = λ k v. refl } }, (refl, refl));
-    listed = λ p s st. by_test p 1 (λ t. cond t (Placed Indexed 0 []) Nobody ≡ Placed st 0 s → rank st ≤ 3 → HasPage p (leaf ∷ [])) (λ i e on. inl (sym i)) (λ ne e on. absurd (cc));
+    listed = λ p s st. by_test p 1 (λ t. cond t (Placed Indexed 0 []) Nobody ≡ Placed st 0 s → rank st ≤ 3 → HasSidePage p (leaf ∷ [])) (λ i e on. inl (sym i)) (λ ne e on. absurd (cc));
   }
 
   nobody : {l : ℕ} {s : Key} → IsOff Nobody l s → ⊥
@@ -40,7 +40,7 @@ module _ (free free_pages : ℕ → Bool) (taken : free 1 ≡ false) (taken_page
   none (inl e) = absurd (cc)
   none (inr e) = absurd (let f = e.1 in cc)
 
-  starts : Good start [] o (λ a. nothing) (λ a. None) (λ a. [])
+  starts : IsTree start [] o (λ a. nothing) (λ a. None) (λ a. [])
   starts = record {
     frees = record {
       row = λ r h. by_test r 1 (λ t. cond t Linked Free ≡ Free) (λ i. absurd (let e = sym (ap free i) ∙ h in cc)) (λ ne. refl);
@@ -84,9 +84,9 @@ opening_slots limits = λ d p. at p d
 abbrev pub opening_owners : Limits → Owners
 opening_owners limits = o (opening limits).free_rows (opening limits).free_pids refl refl
 
-pub opening_good : (limits : Limits) → Good (shared (opening limits)) [] (opening_owners limits) (λ a. nothing) (λ a. None) (λ a. [])
-opening_good limits = subst (λ (f : ℕ → Option ℕ). Good (record (shared (opening limits)) { slots = f }) [] (opening_owners limits) (λ a. nothing) (λ a. None) (λ a. [])) (sym (opening_slots limits))
+pub opening_good : (limits : Limits) → IsTree (shared (opening limits)) [] (opening_owners limits) (λ a. nothing) (λ a. None) (λ a. [])
+opening_good limits = subst (λ (f : ℕ → Option ℕ). IsTree (record (shared (opening limits)) { slots = f }) [] (opening_owners limits) (λ a. nothing) (λ a. None) (λ a. [])) (sym (opening_slots limits))
     (starts (opening limits).free_rows (opening limits).free_pids refl refl)
 
-pub opens : (limits : Limits) → (o : Owners) × Good (shared (opening limits)) [] o (λ a. nothing) (λ a. None) (λ a. [])
+pub opens : (limits : Limits) → (o : Owners) × IsTree (shared (opening limits)) [] o (λ a. nothing) (λ a. None) (λ a. [])
 opens limits = (opening_owners limits, opening_good limits)

@@ -34,11 +34,11 @@ use Rattle.tree_law.specs.Keys.{Key, IsBelow}
 use Rattle.chain_search.specs.Knowledge.{Knowledge}
 use Rattle.tree_law.specs.Owners.{Owners}
 use Rattle.tree_law.specs.Phase.{Fresh, Indexed, Held, Removed, Merged, PageOwner, Nobody, Keeps, Placed, Cleared}
-use Rattle.tree_law.specs.Phases.{Links, Phased}
+use Rattle.tree_law.specs.Phases.{LinkMoves, Phased}
 use Rattle.tree_law.specs.Put.{put}
 use Rattle.tree_law.specs.Shared.{row_in, slot_in, shared}
-use Rattle.tree_law.specs.State.{phase_of, IsInTree, IsReady}
-use Rattle.tree_law.specs.Tree.{Good}
+use Rattle.tree_law.specs.State.{phase_of, IsInTree, IsReadyPage}
+use Rattle.tree_law.specs.Tree.{IsTree}
 use Rattle.tree_law.proofs.Mapping.{slot_some}
 use Rattle.tree_law.proofs.Puts.{eqb_true, eqb_apart, by_test, put_same, put_other}
 
@@ -117,22 +117,22 @@ second_child key separator page right pid mark above = by_key key [] (λ t. (if 
     (λ same. absurd (not_self [] (subst (IsBelow []) same above)))
     (λ ne. by_key key separator (λ t. (if t then Some (Child right false) else None) ≡ Some (Child pid mark) → right ≡ pid) (λ same e. cc) (λ other e. absurd (cc)))
 
-module _ (m : Memory) {log : List Update} {o : Owners} {knows : ℕ → Knowledge} {point : ℕ → Option (List Update)} {logs : ℕ → List (List Update)} (g : Good (shared m) log o knows point logs)
-    (inhabited : (p q : ℕ) → slot_in m.slots p ≡ Some q → IsInTree (o.page p) ⊎ IsReady o m knows p q) (a : ℕ) (s : StepOf Record) (x : Answer Record) (r : Option Reply) (may : May a (knows a) s) (is : IsAnswer m s x) (f' : ℕ → PageOwner) (ph : Phased a (shared m) s x o.page f') where
+module _ (m : Memory) {log : List Update} {o : Owners} {knows : ℕ → Knowledge} {point : ℕ → Option (List Update)} {logs : ℕ → List (List Update)} (g : IsTree (shared m) log o knows point logs)
+    (inhabited : (p q : ℕ) → slot_in m.slots p ≡ Some q → IsInTree (o.page p) ⊎ IsReadyPage o m knows p q) (a : ℕ) (s : StepOf Record) (x : Answer Record) (r : Option Reply) (may : May a (knows a) s) (is : IsAnswer m s x) (f' : ℕ → PageOwner) (ph : Phased a (shared m) s x o.page f') where
   abbrev last : Entry
   last = Step a s x r
 
-  linked_by : (slot old new : ℕ) (w : Record) → s ≡ Exchange slot old new → x ≡ Whether true → link_of m slot old new ≡ Some (record_link w) → m.rows new ≡ Some w → (p : ℕ) × (slot ≡ suc p) × Links (shared m) a w (suc p) o.page f'
+  linked_by : (slot old new : ℕ) (w : Record) → s ≡ Exchange slot old new → x ≡ Whether true → link_of m slot old new ≡ Some (record_link w) → m.rows new ≡ Some w → (p : ℕ) × (slot ≡ suc p) × LinkMoves (shared m) a w (suc p) o.page f'
   linked_by zero old new w i j kind stands = absurd (no_front link.Root w refl kind)
   linked_by (suc p) zero new w i j kind stands = absurd (no_front link.Ready w refl (sym (link_ready m p new) ∙ kind))
   linked_by (suc p) (suc old) zero w i j kind stands = absurd (no_front_map (m.rows (suc old)) w (sym (link_empty m p old) ∙ kind))
   linked_by (suc p) (suc old) (suc new) w i j kind stands =
       let h : Phased a (shared m) (Exchange (suc p) (suc old) (suc new)) (Whether true) o.page f' = subst (λ y. Phased a (shared m) (Exchange (suc p) (suc old) (suc new)) y o.page f') j (subst (λ t. Phased a (shared m) t x o.page f') i ph) in
       let same : h.0 ≡ w = same_Some h.0 w (sym h.1 ∙ stands) in
-      (p, refl, subst (λ u. Links (shared m) a u (suc p) o.page f') same h.2)
+      (p, refl, subst (λ u. LinkMoves (shared m) a u (suc p) o.page f') same h.2)
 
   -- the step is the exchange that put the record in front of a chain
-  installed : (slot : ℕ) (w : Record) → Installs m last slot w → (p : ℕ) × (slot ≡ suc p) × Links (shared m) a w (suc p) o.page f'
+  installed : (slot : ℕ) (w : Record) → Installs m last slot w → (p : ℕ) × (slot ≡ suc p) × LinkMoves (shared m) a w (suc p) o.page f'
   installed slot w (b, old, new, won, stands) = let e = won.0.1 in linked_by slot old new w (cc) (cc) won.1 stands
 
   rooted : (pid : ℕ) → MakesRoot m last pid → (old : ℕ) × Phased a (shared m) (Exchange 0 old pid) (Whether true) o.page f'
@@ -231,7 +231,7 @@ module _ (m : Memory) {log : List Update} {o : Owners} {knows : ℕ → Knowledg
   same_phase : (pid : ℕ) → f' ≡ o.page → Moves m last pid (phase_of (o.page pid)) (phase_of (f' pid)) ⊎ (phase_of (f' pid) ≡ phase_of (o.page pid))
   same_phase pid e = inr (ap (λ (k : ℕ → PageOwner). phase_of (k pid)) e)
 
-  by_link : (p old new : ℕ) (w : Record) → s ≡ Exchange (suc p) (suc old) (suc new) → x ≡ Whether true → m.rows (suc new) ≡ Some w → Links (shared m) a w (suc p) o.page f' → (pid : ℕ) → Moves m last pid (phase_of (o.page pid)) (phase_of (f' pid)) ⊎ (phase_of (f' pid) ≡ phase_of (o.page pid))
+  by_link : (p old new : ℕ) (w : Record) → s ≡ Exchange (suc p) (suc old) (suc new) → x ≡ Whether true → m.rows (suc new) ≡ Some w → LinkMoves (shared m) a w (suc p) o.page f' → (pid : ℕ) → Moves m last pid (phase_of (o.page pid)) (phase_of (f' pid)) ⊎ (phase_of (f' pid) ≡ phase_of (o.page pid))
   by_link p old new (Base page) i j stands h pid = same_phase pid h
   by_link p old new (Put put') i j stands h pid = same_phase pid h
   by_link p old new (Delete delete) i j stands h pid = same_phase pid h

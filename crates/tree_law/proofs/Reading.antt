@@ -14,8 +14,8 @@ use Rattle.chain_search.specs.Knowledge.{Knowledge, learnt_next, learn_head, lea
 use Rattle.tree_law.specs.Phase.{Stage, Indexed, Merged, PageOwner, Placed, Cleared, rank}
 use Rattle.tree_law.specs.Put.{put}
 use Rattle.tree_law.specs.Shared.{Shared}
-use Rattle.tree_law.specs.Owners.{Linked, Owners, Reached, ChainNames, IsLinked, SeenFits, Spells, IsCleared, HeadFits, OrderFits, IsOut}
-use Rattle.tree_law.specs.Tree.{spec, Good}
+use Rattle.tree_law.specs.Owners.{Linked, Owners, Reached, ChainNames, IsLinked, SeenFits, SpellsLog, IsCleared, HeadFits, OrderFits, IsOut}
+use Rattle.tree_law.specs.Tree.{spec, IsTree}
 use Rattle.tree_law.proofs.Puts.{by_test, put_all}
 use Rattle.tree_law.proofs.Chains.{chain_unique}
 use Rattle.tree_law.proofs.Kept.{reached_placed, placed_reached}
@@ -23,8 +23,8 @@ use Rattle.tree_law.proofs.Sides.{in_level_as, no_gap, right_page}
 use Rattle.tree_law.proofs.Frames.{name_more}
 use Rattle.tree_law.proofs.Keeping.{spec_leaf, on_or_merged, quiet, mine, alive_place, beyond_place, place_names}
 
-module _ {m : Shared} {log : List Update} {o : Owners} {knows : ℕ → Knowledge} {point : ℕ → Option (List Update)} {logs : ℕ → List (List Update)} (g : Good m log o knows point logs) (a : ℕ) where
-  pub reads_root : (r : Option Reply) → Good m log o (put knows a (finished (record (knows a) { read = record (knows a).read { roots = put (knows a).read.roots m.root true } }) r)) (put point a (point a)) (put logs a (log ∷ logs a))
+module _ {m : Shared} {log : List Update} {o : Owners} {knows : ℕ → Knowledge} {point : ℕ → Option (List Update)} {logs : ℕ → List (List Update)} (g : IsTree m log o knows point logs) (a : ℕ) where
+  pub reads_root : (r : Option Reply) → IsTree m log o (put knows a (finished (record (knows a) { read = record (knows a).read { roots = put (knows a).read.roots m.root true } }) r)) (put point a (point a)) (put logs a (log ∷ logs a))
   reads_root r =
       quiet g a (finished (record (knows a) { read = record (knows a).read { roots = put (knows a).read.roots m.root true } }) r) (point a) (log ∷ logs a) (g.owns a) (g.owns_pages a)
       (record {
@@ -36,7 +36,7 @@ module _ {m : Shared} {log : List Update} {o : Owners} {knows : ℕ → Knowledg
         linked_fits = (mine g a).linked_fits;
       })
 
-  pub reads_slot : (p x : ℕ) → m.slots p ≡ Some x → (h : Spells o m x log) → Reached 0 (level_in h.chain) (low_in h.chain) (o.page p) → (r : Option Reply) → Good m log o (put knows a (finished (learn_head p x (knows a)) r)) (put point a (point a)) (put logs a (log ∷ logs a))
+  pub reads_slot : (p x : ℕ) → m.slots p ≡ Some x → (h : SpellsLog o m x log) → Reached 0 (level_in h.chain) (low_in h.chain) (o.page p) → (r : Option Reply) → IsTree m log o (put knows a (finished (learn_head p x (knows a)) r)) (put point a (point a)) (put logs a (log ∷ logs a))
   reads_slot p x sx s e r =
       quiet g a (finished (learn_head p x (knows a)) r) (point a) (log ∷ logs a) (g.owns a) (g.owns_pages a)
       (record {
@@ -86,7 +86,7 @@ module _ {m : Shared} {log : List Update} {o : Owners} {knows : ℕ → Knowledg
             (reached_placed 2 (level_in d) k (o.page q) r);
       }
 
-  pub reads_row : (q : ℕ) (w : Record) → (knows a).read.learnt q ≡ true → m.rows q ≡ Some w → (r : Option Reply) → Good m log o (put knows a (finished (learn (knows a) (Row q) (answer.Content w)) r)) (put point a (point a)) (put logs a (log ∷ logs a))
+  pub reads_row : (q : ℕ) (w : Record) → (knows a).read.learnt q ≡ true → m.rows q ≡ Some w → (r : Option Reply) → IsTree m log o (put knows a (finished (learn (knows a) (Row q) (answer.Content w)) r)) (put point a (point a)) (put logs a (log ∷ logs a))
   reads_row q w l e r =
       quiet g a (finished (learn (knows a) (Row q) (answer.Content w)) r) (point a) (log ∷ logs a) (g.owns a) (g.owns_pages a)
       (record {

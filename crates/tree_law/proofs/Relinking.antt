@@ -13,7 +13,7 @@ use Rattle.tree_law.specs.Phase.{Stage, Merged, PageOwner, Nobody, Placed, Clear
 use Rattle.tree_law.specs.Put.{put}
 use Rattle.tree_law.specs.Shared.{Shared}
 use Rattle.tree_law.specs.Owners.{IsChain, Spare, Linked, Owners, Reached, IsLinked, OwnFits, PageFits, OwnsPages, HeadFits, LinkFits, Knows, IsOut}
-use Rattle.tree_law.specs.Tree.{spec, InPlace, HasPage, IsOff, Off, Exact, Good}
+use Rattle.tree_law.specs.Tree.{spec, InPlace, HasSidePage, IsOff, Off, Exact, IsTree}
 use Rattle.tree_law.proofs.Puts.{by_test, put_same, put_other, put_all}
 use Rattle.tree_law.proofs.Chains.{chain_unique}
 use Rattle.tree_law.proofs.Kept.{Kept, link_kept}
@@ -41,7 +41,7 @@ pub data Moves (a : ℕ) (o : Owners) (m : Shared) (p y : ℕ) (w n : PageOwner)
   clear : (l : ℕ) (s : Key) → w ≡ Placed Merged l s → n ≡ Cleared a l s
       → ((f x : ℕ) (c : List Record) → o.row x ≡ Linked → IsChain m.rows c (Some x) → Reached 0 (level_in c) (low_in c) (o.page f) → is_removed c ≡ false → level_in c ≡ suc l → Covers c s → m.slots f ≡ Some x → put m.slots p (Some y) f ≡ Some x → ⊥) → Moves a o m p y w n
 
-module _ {m : Shared} {log : List Update} {o : Owners} {knows : ℕ → Knowledge} {point : ℕ → Option (List Update)} {logs : ℕ → List (List Update)} (g : Good m log o knows point logs) (a : ℕ) where
+module _ {m : Shared} {log : List Update} {o : Owners} {knows : ℕ → Knowledge} {point : ℕ → Option (List Update)} {logs : ℕ → List (List Update)} (g : IsTree m log o knows point logs) (a : ℕ) where
   pub not_own : (p l : ℕ) (s : Key) (st : Stage) → o.page p ≡ Placed st l s → (v : OwnPage) → PageFits a (o.page p) (m.slots p) v → v ≡ Other
   not_own p l s st e Other f = refl
   not_own p l s st e Empty f = absurd (let i = sym e ∙ f.0 in cc)
@@ -112,7 +112,7 @@ module _ {m : Shared} {log : List Update} {o : Owners} {knows : ℕ → Knowledg
       → (k : Knowledge) → k.own.rows ≡ put (knows a).own.rows y Foreign → (OwnsPages a (record { row = put o.row y Linked; page = page'; index = index' }) (record m { slots = put m.slots p (Some y) }) (knows a).own.pages → OwnsPages a (record { row = put o.row y Linked; page = page'; index = index' }) (record m { slots = put m.slots p (Some y) }) k.own.pages)
       → k.read.seen ≡ (knows a).read.seen → k.read.learnt ≡ (knows a).read.learnt → k.read.roots ≡ (knows a).read.roots → k.read.heads ≡ (knows a).read.heads → k.read.before ≡ (knows a).read.before
       → (ps : Option (List Update)) → LinkFits o m ps k.asked.linked
-      → Good (record m { slots = put m.slots p (Some y) }) log' (record { row = put o.row y Linked; page = page'; index = index' }) (put knows a k) (put point a ps) (put logs a (log ∷ logs a))
+      → IsTree (record m { slots = put m.slots p (Some y) }) log' (record { row = put o.row y Linked; page = page'; index = index' }) (put knows a k) (put point a ps) (put logs a (log ∷ logs a))
   relink_one p x y c f place alive s was stage' le on page' index' here moves exact w wy next rest is_rest level low right high flagged log' same apart k e0 pages e2 e3 e4 e5 e6 ps link =
       put_good g a m' log' o' k ps (log ∷ logs a)
       change
@@ -145,7 +145,7 @@ module _ {m : Shared} {log : List Update} {o : Owners} {knows : ℕ → Knowledg
         (right, high),
       )
       (inl refl)
-      (λ q l n st e i. by_test q p (λ t. ((st' : Stage) × (o.page q ≡ Placed st' l n) × (rank st' ≤ 3)) ⊎ ((l ≡ level_in c) × HasPage q (record { page = p; row = y; chain = w ∷ rest } ∷ [])))
+      (λ q l n st e i. by_test q p (λ t. ((st' : Stage) × (o.page q ≡ Placed st' l n) × (rank st' ≤ 3)) ⊎ ((l ≡ level_in c) × HasSidePage q (record { page = p; row = y; chain = w ∷ rest } ∷ [])))
       (λ j. inr (sym (placed_level stage' st (level_in c) l (low_in c) n (sym here ∙ ap page' (sym j) ∙ e)).0, inl (sym j)))
       (λ ne. inl (moved_placed p y (o.page q) (page' q) (moves q ne) st l n e i)))
       exact

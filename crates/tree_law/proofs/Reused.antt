@@ -16,9 +16,9 @@ use Rattle.op_machine.specs.Phases as phase
 use Rattle.tree_law.specs.Owners.{Owner, Free, Spare, Linked, Owners, OwnFits}
 use Rattle.tree_law.specs.Put.{put}
 use Rattle.tree_law.specs.Shared.{slot_in, shared}
-use Rattle.tree_law.specs.State.{phase_of, IsInTree, IsReady, IsNamed}
+use Rattle.tree_law.specs.State.{phase_of, IsInTree, IsReadyPage, IsNamed}
 use Rattle.tree_law.specs.Times.{Outing, Times, Timed}
-use Rattle.tree_law.specs.Tree.{Good}
+use Rattle.tree_law.specs.Tree.{IsTree}
 use Rattle.tree_law.proofs.Freeing.{or_cases, row_after, freed, freed_page, held, in_tree, not_among, stays, same_page, o1, page2, o2}
 use Rattle.tree_law.proofs.Names.{Numbers}
 use Rattle.tree_law.proofs.Puts.{by_test}
@@ -28,7 +28,7 @@ in_row_after first true v out e = refl
 in_row_after first false v out e = rw e refl
 
 module _ (limits : Limits) (entries : List Entry) (o : Owners) (m : Memory) (knows : ℕ → Knowledge) (log : List Update) (point : ℕ → Option (List Update)) (logs : ℕ → List (List Update)) {now : ℕ} {t : Times}
-    (g : Good (shared m) log o knows point logs) (T : Timed limits m o knows now t) (old : IsNamed limits entries o m knows) (a : ℕ) (outside : (knows a).inside ≡ false) (word bits : ℕ) (x : Answer Record) (r : Option Reply) where
+    (g : IsTree (shared m) log o knows point logs) (T : Timed limits m o knows now t) (old : IsNamed limits entries o m knows) (a : ℕ) (outside : (knows a).inside ≡ false) (word bits : ℕ) (x : Answer Record) (r : Option Reply) where
   module _ (may : (q : ℕ) → is_among word bits q ≡ true → IsPassed limits a ((knows a).limbo.rows q)) (is : IsAnswer m (ReuseRows word bits) x) where
     abbrev pub rows_owners : Owners
     rows_owners = o1 g T a outside word bits may r x
@@ -59,8 +59,8 @@ module _ (limits : Limits) (entries : List Entry) (o : Owners) (m : Memory) (kno
     own_of b q (Written w) h i = (tt, h.0)
 
     -- slots hold what they held
-    pub rows_held : (p q : ℕ) → slot_in m.slots p ≡ Some q → IsInTree (o.page p) ⊎ IsReady rows_owners (memory_after a (ReuseRows word bits) m) (put knows a (finished (learn (knows a) (ReuseRows word bits) x) r)) p q
-    rows_held p q e = ⊎_elim (λ (h : IsInTree (o.page p)). inl h) (λ (h : IsReady o m knows p q). inr (
+    pub rows_held : (p q : ℕ) → slot_in m.slots p ≡ Some q → IsInTree (o.page p) ⊎ IsReadyPage rows_owners (memory_after a (ReuseRows word bits) m) (put knows a (finished (learn (knows a) (ReuseRows word bits) x) r)) p q
+    rows_held p q e = ⊎_elim (λ (h : IsInTree (o.page p)). inl h) (λ (h : IsReadyPage o m knows p q). inr (
         let own = own_of h.actor q ((knows h.actor).own.rows q) (g.owns h.actor q) (T.ready h.actor p q h.ready) in
         record {
           actor = h.actor;
@@ -87,10 +87,10 @@ module _ (limits : Limits) (entries : List Entry) (o : Owners) (m : Memory) (kno
           (or_cases (m.free_pids q) (is_among word bits q) e);
     }
 
-    pub pages_held : (p q : ℕ) → slot_in m.slots p ≡ Some q → IsInTree (page2 g T a outside word bits may r x p) ⊎ IsReady pages_owners (memory_after a (ReusePids word bits) m) (put knows a (finished (learn (knows a) (ReusePids word bits) x) r)) p q
+    pub pages_held : (p q : ℕ) → slot_in m.slots p ≡ Some q → IsInTree (page2 g T a outside word bits may r x p) ⊎ IsReadyPage pages_owners (memory_after a (ReusePids word bits) m) (put knows a (finished (learn (knows a) (ReusePids word bits) x) r)) p q
     pages_held p q e = ⊎_elim
         (λ (h : IsInTree (o.page p)). inl (subst IsInTree (sym (same_page g T a outside word bits may r x p (λ i. let f = freed_page g T a outside word bits may r x p i in absurd (let z = sym e ∙ (T.pages p f.outing f.is).1 in cc)))) h))
-        (λ (h : IsReady o m knows p q). inr (record {
+        (λ (h : IsReadyPage o m knows p q). inr (record {
           actor = h.actor;
           ready = by_test h.actor a (λ z. (cond z (finished (learn (knows a) (ReusePids word bits) x) r) (knows h.actor)).own.pages p ≡ Ready q) (λ i. subst (λ n. (knows n).own.pages p ≡ Ready q) i h.ready) (λ ne. h.ready);
           owned = h.owned;

@@ -11,9 +11,9 @@ use Rattle.chain_search.specs.Discipline.{IsOwn}
 use Rattle.chain_search.specs.Knowledge.{OwnRow, Foreign, Taken, Written, OwnPage, Other, Empty, Ready, Gone, Knowledge}
 use Rattle.tree_law.specs.Keys.{Key, Covers}
 use Rattle.tree_law.specs.Phase.{Stage, Indexed, Merged, PageOwner, Nobody, Keeps, Placed, Cleared, child_of, rank_of}
-use Rattle.tree_law.specs.Owners.{IsChain, Owner, Free, Linked, Owners, Reached, OwnFits, PageFits, SeenFits, Spells, IsCleared, HeadFits, LinkFits, OrderFits, Knows, IsOut}
+use Rattle.tree_law.specs.Owners.{IsChain, Owner, Free, Linked, Owners, Reached, OwnFits, PageFits, SeenFits, SpellsLog, IsCleared, HeadFits, LinkFits, OrderFits, Knows, IsOut}
 use Rattle.tree_law.specs.Shared.{Shared}
-use Rattle.tree_law.specs.Tree.{spec, Page, InPlace, IsPart, Exact, IsOff, Off, Good}
+use Rattle.tree_law.specs.Tree.{spec, SidePage, InPlace, IsPart, Exact, IsOff, Off, IsTree}
 use Rattle.tree_law.proofs.Kept.{placed_reached}
 
 -- What actors know, they know of rows whose names they have learnt.
@@ -32,7 +32,7 @@ pub record AreLoose (o : Owners) (m : Shared) (knows : ℕ → Knowledge) (row :
   pub own : (b r : ℕ) → IsOwn ((knows b).own.rows r) → row r ≡ o.row r
   pub freed : (r : ℕ) → bits r ≡ true → row r ≡ Free
 
-module _ {m : Shared} {log : List Update} {o : Owners} {knows : ℕ → Knowledge} {point : ℕ → Option (List Update)} {logs : ℕ → List (List Update)} (g : Good m log o knows point logs) where
+module _ {m : Shared} {log : List Update} {o : Owners} {knows : ℕ → Knowledge} {point : ℕ → Option (List Update)} {logs : ℕ → List (List Update)} (g : IsTree m log o knows point logs) where
   module _ (row : ℕ → Owner) (free : ℕ → Bool) (known : (b : ℕ) → Learnt (knows b)) (h : AreLoose o m knows row free) where
     abbrev pub o1 : Owners
     o1 = record o { row = row }
@@ -40,7 +40,7 @@ module _ {m : Shared} {log : List Update} {o : Owners} {knows : ℕ → Knowledg
     abbrev pub m1 : Shared
     m1 = record m { free = free }
 
-    place_loose : (lv : ℕ) (mp : Key → Option Content) (p : Page) → InPlace o m lv mp p → InPlace o1 m1 lv mp p
+    place_loose : (lv : ℕ) (mp : Key → Option Content) (p : SidePage) → InPlace o m lv mp p → InPlace o1 m1 lv mp p
     place_loose lv mp p e = record {
       stage = e.stage;
       placed = e.placed;
@@ -50,7 +50,7 @@ module _ {m : Shared} {log : List Update} {o : Owners} {knows : ℕ → Knowledg
       is_page = record { head = e.is_page.head; is_chain = e.is_page.is_chain; on_level = e.is_page.on_level; some = e.is_page.some; same = e.is_page.same };
     }
 
-    part_loose : (lv : ℕ) (mp : Key → Option Content) (gs : List Page) (p : Option ℕ) (low : Option Key) (q : Option ℕ) (high : Option Key) → IsPart o m lv mp gs p low q high → IsPart o1 m1 lv mp gs p low q high
+    part_loose : (lv : ℕ) (mp : Key → Option Content) (gs : List SidePage) (p : Option ℕ) (low : Option Key) (q : Option ℕ) (high : Option Key) → IsPart o m lv mp gs p low q high → IsPart o1 m1 lv mp gs p low q high
     part_loose lv mp [] p low q high e = e
     part_loose lv mp (x ∷ xs) p low q high e = (e.0, e.1, place_loose lv mp x e.2, part_loose lv mp xs (right_in x.chain) (high_in x.chain) q high e.3)
 
@@ -62,7 +62,7 @@ module _ {m : Shared} {log : List Update} {o : Owners} {knows : ℕ → Knowledg
         off_reached w (inl e) = placed_reached l s Merged w e
         off_reached w (inr e) = subst (λ (v : PageOwner). Reached 0 l s v) (sym e.1) (refl, refl)
 
-    abbrev spells_loose : (x : ℕ) (l : List Update) → row x ≡ o.row x → Spells o m x l → Spells o1 m1 x l
+    abbrev spells_loose : (x : ℕ) (l : List Update) → row x ≡ o.row x → SpellsLog o m x l → SpellsLog o1 m1 x l
     spells_loose x l same s = record { linked = same ∙ s.linked; chain = s.chain; is_chain = s.is_chain; same = s.same }
 
     nexts : (r : ℕ) (w : Record) → row r ≡ Linked → m.rows r ≡ Some w → (n : Option ℕ) → next_row w ≡ n → IfSome n (λ j. o.row j ≡ Linked) → IfSome n (λ j. row j ≡ Linked)
@@ -111,7 +111,7 @@ module _ {m : Shared} {log : List Update} {o : Owners} {knows : ℕ → Knowledg
         link_at (Some (Some x)) e f = (f.0, f.1, spells_loose x f.0 (h.learnt b x ((known b).linked x e)) f.2)
 
     -- rows are let go, or freed
-    pub lets_rows : Good m1 log o1 knows point logs
+    pub lets_rows : IsTree m1 log o1 knows point logs
     lets_rows = record {
       frees = record { row = λ r e. h.freed r e; page = g.frees.page };
       closed = λ r l. let k = g.closed r (h.linked r l) in record { linked = l; content = k.content; stands = k.stands; next = nexts r k.content l k.stands (next_row k.content) refl k.next; rest = k.rest; is_rest = k.is_rest };
@@ -162,7 +162,7 @@ module _ {m : Shared} {log : List Update} {o : Owners} {knows : ℕ → Knowledg
     was_cleared : (q b l : ℕ) (s : Key) → page q ≡ Cleared b l s → o.page q ≡ Cleared b l s
     was_cleared q b l s e = ⊎_elim (λ (u : page q ≡ o.page q). sym u ∙ e) (λ (u : (page q ≡ Nobody) × IsCleared (o.page q)). absurd (let f = sym e ∙ u.0 in cc)) (gone q)
 
-    place_free : (lv : ℕ) (mp : Key → Option Content) (p : Page) → InPlace o m lv mp p → InPlace o2 m2 lv mp p
+    place_free : (lv : ℕ) (mp : Key → Option Content) (p : SidePage) → InPlace o m lv mp p → InPlace o2 m2 lv mp p
     place_free lv mp p e = record {
       stage = e.stage;
       placed = stays p.page lv (low_in p.chain) e.stage e.placed;
@@ -172,7 +172,7 @@ module _ {m : Shared} {log : List Update} {o : Owners} {knows : ℕ → Knowledg
       is_page = record { head = e.is_page.head; is_chain = e.is_page.is_chain; on_level = e.is_page.on_level; some = e.is_page.some; same = e.is_page.same };
     }
 
-    part_free : (lv : ℕ) (mp : Key → Option Content) (gs : List Page) (p : Option ℕ) (low : Option Key) (q : Option ℕ) (high : Option Key) → IsPart o m lv mp gs p low q high → IsPart o2 m2 lv mp gs p low q high
+    part_free : (lv : ℕ) (mp : Key → Option Content) (gs : List SidePage) (p : Option ℕ) (low : Option Key) (q : Option ℕ) (high : Option Key) → IsPart o m lv mp gs p low q high → IsPart o2 m2 lv mp gs p low q high
     part_free lv mp [] p low q high e = e
     part_free lv mp (x ∷ xs) p low q high e = (e.0, e.1, place_free lv mp x e.2, part_free lv mp xs (right_in x.chain) (high_in x.chain) q high e.3)
 
@@ -217,7 +217,7 @@ module _ {m : Shared} {log : List Update} {o : Owners} {knows : ℕ → Knowledg
         s : Knows o m (knows b).read.seen (knows b).read.learnt (knows b).read.roots (knows b).read.heads (knows b).read.before (knows b).asked.linked (point b) (logs b)
         s = g.sound b
 
-        spells_free : (x : ℕ) (l : List Update) → Spells o m x l → Spells o2 m2 x l
+        spells_free : (x : ℕ) (l : List Update) → SpellsLog o m x l → SpellsLog o2 m2 x l
         spells_free x l v = record { linked = v.linked; chain = v.chain; is_chain = v.is_chain; same = v.same }
 
         head_at : (p : ℕ) (x : Option ℕ) → (knows b).read.heads p ≡ x → HeadFits o m (logs b) p x → HeadFits o2 m2 (logs b) p x
@@ -254,7 +254,7 @@ module _ {m : Shared} {log : List Update} {o : Owners} {knows : ℕ → Knowledg
         link_at (Some None) f = f
         link_at (Some (Some x)) f = (f.0, f.1, spells_free x f.0 f.2)
 
-    pub frees_pages : Good m2 log o2 knows point logs
+    pub frees_pages : IsTree m2 log o2 knows point logs
     frees_pages = record {
       frees = record { row = g.frees.row; page = frees };
       closed = λ r l. let k = g.closed r l in record { linked = k.linked; content = k.content; stands = k.stands; next = k.next; rest = k.rest; is_rest = k.is_rest };

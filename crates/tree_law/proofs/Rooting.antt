@@ -13,7 +13,7 @@ use Rattle.tree_law.specs.Phase.{Stage, Fresh, Indexed, PageOwner, Keeps, Placed
 use Rattle.tree_law.specs.Put.{put}
 use Rattle.tree_law.specs.Shared.{Shared}
 use Rattle.tree_law.specs.Owners.{Spare, Linked, Owners, Reached, IsLinked, OwnFits, PageFits, IsOut}
-use Rattle.tree_law.specs.Tree.{spec, Page, HasPage, Level, IsOff, Off, Good}
+use Rattle.tree_law.specs.Tree.{spec, SidePage, HasSidePage, Level, IsOff, Off, IsTree}
 use Rattle.chain_search.specs.Discipline.{MayRoot, root_over}
 use Rattle.tree_law.proofs.KeyOrder.{not_self}
 use Rattle.tree_law.proofs.Puts.{by_test, put_same, put_other, put_all}
@@ -25,11 +25,11 @@ use Rattle.tree_law.proofs.Keeping.{read_names, put_good, mine_at, off_still}
 use Rattle.tree_law.proofs.Relinking.{placed_level, not_off, Found, Moves, stay, go, moved_own, found}
 use Rattle.tree_law.proofs.Splitting.{keeps_not}
 
-module _ {m : Shared} {log : List Update} {o : Owners} {knows : ℕ → Knowledge} {point : ℕ → Option (List Update)} {logs : ℕ → List (List Update)} (g : Good m log o knows point logs) (a : ℕ) where
+module _ {m : Shared} {log : List Update} {o : Owners} {knows : ℕ → Knowledge} {point : ℕ → Option (List Update)} {logs : ℕ → List (List Update)} (g : IsTree m log o knows point logs) (a : ℕ) where
   pub roots : (x y : ℕ) → m.root ≡ x → (h : MayRoot (knows a) x y) → (r : Option Reply)
-      → Good (record m { root = y }) log (record { row = put o.row h.base_row Linked; page = put (put o.page h.right (Placed Indexed g.tree.top h.separator)) y (Placed Indexed (suc g.tree.top) []); index = put o.index g.tree.top (put_key (put_key (λ k. None) h.separator (Some (Child h.right false))) [] (Some (Child m.root false))) }) (put knows a (finished (rooted ((knows a).own.pages y) y (knows a)) r)) (put point a (point a)) (put logs a (log ∷ logs a)) × ((o.page x ≡ Placed Indexed g.tree.top []) × (o.page h.right ≡ Placed Fresh g.tree.top h.separator) × (o.page y ≡ Keeps a))
+      → IsTree (record m { root = y }) log (record { row = put o.row h.base_row Linked; page = put (put o.page h.right (Placed Indexed g.tree.top h.separator)) y (Placed Indexed (suc g.tree.top) []); index = put o.index g.tree.top (put_key (put_key (λ k. None) h.separator (Some (Child h.right false))) [] (Some (Child m.root false))) }) (put knows a (finished (rooted ((knows a).own.pages y) y (knows a)) r)) (put point a (point a)) (put logs a (log ∷ logs a)) × ((o.page x ≡ Placed Indexed g.tree.top []) × (o.page h.right ≡ Placed Fresh g.tree.top h.separator) × (o.page y ≡ Keeps a))
   roots x y s h r = (
-    subst (λ (k : Knowledge). Good m' log o' (put knows a (finished k r)) (put point a (point a)) (put logs a (log ∷ logs a))) (sym learned)
+    subst (λ (k : Knowledge). IsTree m' log o' (put knows a (finished k r)) (put point a (point a)) (put logs a (log ∷ logs a))) (sym learned)
         (put_good g a m' log o' (finished (handed_page y Other h.base_row (knows a)) r) (point a) (log ∷ logs a)
         change
         (record {
@@ -143,7 +143,7 @@ module _ {m : Shared} {log : List Update} {o : Owners} {knows : ℕ → Knowledg
       others zero ne k = refl
       others (suc l) ne k = ap (λ (f : Key → Option Content). f k) (put_other o.index top terms' l (λ e. ne (ap suc e)))
 
-      page : Page
+      page : SidePage
       page = record { page = y; row = h.base_row; chain = base ∷ [] }
 
       top_level : Level o' m' (suc top) (spec log o'.index (suc top)) y
@@ -168,8 +168,8 @@ module _ {m : Shared} {log : List Update} {o : Owners} {knows : ℕ → Knowledg
           },
           (refl, refl),
         );
-        listed = λ q k st. by_test q y (λ t. cond t new (put o.page b old q) ≡ Placed st (suc top) k → rank st ≤ 3 → HasPage q (page ∷ [])) (λ i e on. inl (sym i))
-            (λ i. by_test q b (λ t. cond t old (o.page q) ≡ Placed st (suc top) k → rank st ≤ 3 → HasPage q (page ∷ [])) (λ i e on. absurd (let u = (placed_level Indexed st top (suc top) h.separator k e).0 in omega arith))
+        listed = λ q k st. by_test q y (λ t. cond t new (put o.page b old q) ≡ Placed st (suc top) k → rank st ≤ 3 → HasSidePage q (page ∷ [])) (λ i e on. inl (sym i))
+            (λ i. by_test q b (λ t. cond t old (o.page q) ≡ Placed st (suc top) k → rank st ≤ 3 → HasSidePage q (page ∷ [])) (λ i e on. absurd (let u = (placed_level Indexed st top (suc top) h.separator k e).0 in omega arith))
             (λ i e on. absurd (let u = g.tree.exact.below q (suc top) k st e in omega arith)));
       }
 

@@ -17,7 +17,7 @@ use Rattle.chain_search.specs.Steps.{memory_after}
 use Rattle.tree_law.specs.Owners.{Free, Spare, Linked, Owners, OwnFits}
 use Rattle.tree_law.specs.Put.{put}
 use Rattle.tree_law.specs.Shared.{shared}
-use Rattle.tree_law.specs.Tree.{Good}
+use Rattle.tree_law.specs.Tree.{IsTree}
 use Rattle.tree_law.specs.Times.{Outing, Times, Holds, LimboFits, Timed}
 use Rattle.tree_law.proofs.Puts.{by_test, put_same, put_other}
 use Rattle.tree_law.proofs.Timing.{Turn, limbo_row, limbo_pid, put_timed}
@@ -55,7 +55,7 @@ passed_fits a b announced inside entered out (Stamped e p) f h = (h.0, h.1, h.2,
     pass false true i j = on (inr (ltb-true e announced j))
     pass false false i j = h.4
 
-module _ {limits : Limits} {m : Memory} {log : List Update} {o : Owners} {knows : ℕ → Knowledge} {point : ℕ → Option (List Update)} {logs : ℕ → List (List Update)} {now : ℕ} {t : Times} (g : Good (shared m) log o knows point logs) (T : Timed limits m o knows now t) (a : ℕ) where
+module _ {limits : Limits} {m : Memory} {log : List Update} {o : Owners} {knows : ℕ → Knowledge} {point : ℕ → Option (List Update)} {logs : ℕ → List (List Update)} {now : ℕ} {t : Times} (g : IsTree (shared m) log o knows point logs) (T : Timed limits m o knows now t) (a : ℕ) where
   -- an actor that is outside has learnt nothing
   module _ (outside : (knows a).inside ≡ false) where
     blind : (knows a).inside ≡ true → ⊥

@@ -19,11 +19,11 @@ use Rattle.chain_search.specs.Knowledge.{OwnRow, Foreign, Taken, Written, OwnPag
 use Rattle.tree_law.specs.Next.{IsReuse, IsMoved}
 use Rattle.tree_law.specs.Owners.{Spare, Linked, Owners, OwnFits, Reached, HeadFits}
 use Rattle.tree_law.specs.Phase.{Stage, Fresh, Indexed, Held, Removed, Merged, PageOwner, Nobody, Keeps, Placed, Cleared}
-use Rattle.tree_law.specs.Phases.{Links, Phased}
+use Rattle.tree_law.specs.Phases.{LinkMoves, Phased}
 use Rattle.tree_law.specs.Put.{put}
 use Rattle.tree_law.specs.Shared.{Shared, slot_in, shared}
-use Rattle.tree_law.specs.State.{IsInTree, IsReady}
-use Rattle.tree_law.specs.Tree.{Good}
+use Rattle.tree_law.specs.State.{IsInTree, IsReadyPage}
+use Rattle.tree_law.specs.Tree.{IsTree}
 use Rattle.tree_law.proofs.Puts.{by_test, put_same, put_other}
 use Rattle.tree_law.proofs.Stepping.{root_apart, slot_put}
 use Rattle.tree_law.proofs.Taking.{own_spare}
@@ -39,7 +39,7 @@ here_in_tree : (f : ℕ → PageOwner) (q : ℕ) (st : Stage) (l : ℕ) (k : Key
 here_in_tree f q st l k = subst IsInTree (sym (put_same f q (Placed st l k))) tt
 
 -- what is in the tree stays in it when a record is linked
-links_in_tree : (m : Shared) (a : ℕ) (w : Record) (q : ℕ) (f f' : ℕ → PageOwner) → Links m a w q f f' → (p : ℕ) → IsInTree (f p) → IsInTree (f' p)
+links_in_tree : (m : Shared) (a : ℕ) (w : Record) (q : ℕ) (f f' : ℕ → PageOwner) → LinkMoves m a w q f f' → (p : ℕ) → IsInTree (f p) → IsInTree (f' p)
 links_in_tree m a (Base page) q f f' h p i = subst (λ (g : ℕ → PageOwner). IsInTree (g p)) (sym h) i
 links_in_tree m a (Put put') q f f' h p i = subst (λ (g : ℕ → PageOwner). IsInTree (g p)) (sym h) i
 links_in_tree m a (Delete delete) q f f' h p i = subst (λ (g : ℕ → PageOwner). IsInTree (g p)) (sym h) i
@@ -56,8 +56,8 @@ reached_in_tree r l k (Keeps b) h = h
 reached_in_tree r l k (Placed st l' k') h = tt
 reached_in_tree r l k (Cleared b l' k') h = tt
 
-module _ (m : Memory) {log : List Update} {o : Owners} {knows : ℕ → Knowledge} {point : ℕ → Option (List Update)} {logs : ℕ → List (List Update)} (g : Good (shared m) log o knows point logs)
-    (held : (p q : ℕ) → slot_in m.slots p ≡ Some q → IsInTree (o.page p) ⊎ IsReady o m knows p q) (a : ℕ) (o' : Owners) (kept : (q : ℕ) → o.row q ≡ Linked → (o'.row q ≡ Linked)) (moved : (q : ℕ) → IsMoved a (m.free_rows q) (o.row q) (o'.row q)) where
+module _ (m : Memory) {log : List Update} {o : Owners} {knows : ℕ → Knowledge} {point : ℕ → Option (List Update)} {logs : ℕ → List (List Update)} (g : IsTree (shared m) log o knows point logs)
+    (held : (p q : ℕ) → slot_in m.slots p ≡ Some q → IsInTree (o.page p) ⊎ IsReadyPage o m knows p q) (a : ℕ) (o' : Owners) (kept : (q : ℕ) → o.row q ≡ Linked → (o'.row q ≡ Linked)) (moved : (q : ℕ) → IsMoved a (m.free_rows q) (o.row q) (o'.row q)) where
   -- whose the row is that is a base in a slot
   spare_after : (b q : ℕ) → o.row q ≡ Spare b → (o'.row q ≡ Linked) ⊎ (o'.row q ≡ Spare b)
   spare_after b q e = elim (moved q) [
@@ -70,7 +70,7 @@ module _ (m : Memory) {log : List Update} {o : Owners} {knows : ℕ → Knowledg
   owned_after b q (inr e) = spare_after b q e
 
   -- What is ready stays so for the other actors, and for this one where it still knows it so.
-  ready_after : (m' : Memory) (k : Knowledge) (p q : ℕ) → (h : IsReady o m knows p q) → ((o.row q ≡ Linked) ⊎ (o.row q ≡ Spare h.actor) → m'.rows q ≡ m.rows q) → (h.actor ≡ a → k.own.pages p ≡ Ready q) → IsReady o' m' (put knows a k) p q
+  ready_after : (m' : Memory) (k : Knowledge) (p q : ℕ) → (h : IsReadyPage o m knows p q) → ((o.row q ≡ Linked) ⊎ (o.row q ≡ Spare h.actor) → m'.rows q ≡ m.rows q) → (h.actor ≡ a → k.own.pages p ≡ Ready q) → IsReadyPage o' m' (put knows a k) p q
   ready_after m' k p q h same still = record {
     actor = h.actor;
     ready = by_test h.actor a (λ t. (cond t k (knows h.actor)).own.pages p ≡ Ready q) still (λ ne. h.ready);
@@ -80,7 +80,7 @@ module _ (m : Memory) {log : List Update} {o : Owners} {knows : ℕ → Knowledg
   }
 
   -- after a step that leaves slots, and pages of the actor
-  still : (m' : Memory) (k : Knowledge) → m'.rows ≡ m.rows → o'.page ≡ o.page → k.own.pages ≡ (knows a).own.pages → (p q : ℕ) → slot_in m.slots p ≡ Some q → IsInTree (o'.page p) ⊎ IsReady o' m' (put knows a k) p q
+  still : (m' : Memory) (k : Knowledge) → m'.rows ≡ m.rows → o'.page ≡ o.page → k.own.pages ≡ (knows a).own.pages → (p q : ℕ) → slot_in m.slots p ≡ Some q → IsInTree (o'.page p) ⊎ IsReadyPage o' m' (put knows a k) p q
   still m' k rows same pages p q e = elim (held p q e) [
     | inl h ↦ inl (subst (λ (f : ℕ → PageOwner). IsInTree (f p)) (sym same) h)
     | inr h ↦ inr (ready_after m' k p q h (λ i. ap (λ f. f q) rows) (λ i. ap (λ f. f p) pages ∙ subst (λ n. (knows n).own.pages p ≡ Ready q) i h.ready))
@@ -91,12 +91,12 @@ module _ (m : Memory) {log : List Update} {o : Owners} {knows : ℕ → Knowledg
   with_other v n p q ne e = put_other (knows a).own.pages n v p ne ∙ e
 
   -- a row that is linked on a page
-  module _ (n x y : ℕ) (r : Option Reply) (w : Record) (stands : m.rows (suc y) ≡ Some w) (links : Links (shared m) a w (suc n) o.page o'.page) (in_tree : IsInTree (o.page (suc n))) where
+  module _ (n x y : ℕ) (r : Option Reply) (w : Record) (stands : m.rows (suc y) ≡ Some w) (links : LinkMoves (shared m) a w (suc n) o.page o'.page) (in_tree : IsInTree (o.page (suc n))) where
     -- a page that is ready is so afterwards, or in the tree
     linked_ready : (v : OwnRow) → OwnFits a (o.row (suc y)) (m.rows (suc y)) v → (p q : ℕ) → (knows a).own.pages p ≡ Ready q → IsInTree (o'.page p) ⊎ ((linked_over v (suc x) (suc y) (knows a)).own.pages p ≡ Ready q)
     linked_ready (Written (Split split)) fits p q e =
         let same : w ≡ Split split = same_Some w (Split split) (sym stands ∙ fits.1) in
-        let h = subst (λ (u : Record). Links (shared m) a u (suc n) o.page o'.page) same links in
+        let h = subst (λ (u : Record). LinkMoves (shared m) a u (suc n) o.page o'.page) same links in
         elim ((knows a).own.pages split.page) as (λ z. IsInTree (o'.page p) ⊎ ((split_off z split.page (suc y) (knows a)).own.pages p ≡ Ready q)) [
           | Ready base ↦ by_test p split.page (λ t. IsInTree (o'.page p) ⊎ (cond t Other ((knows a).own.pages p) ≡ Ready q))
               (λ i. inl (subst (λ (f : ℕ → PageOwner). IsInTree (f p)) (sym h.5) (rw i (here_in_tree o.page split.page Fresh h.1 split.separator))))
@@ -107,7 +107,7 @@ module _ (m : Memory) {log : List Update} {o : Owners} {knows : ℕ → Knowledg
         ]
     linked_ready (Written (Unterm unterm)) fits p q e =
         let same : w ≡ Unterm unterm = same_Some w (Unterm unterm) (sym stands ∙ fits.1) in
-        let h = subst (λ (u : Record). Links (shared m) a u (suc n) o.page o'.page) same links in
+        let h = subst (λ (u : Record). LinkMoves (shared m) a u (suc n) o.page o'.page) same links in
         by_test p unterm.child (λ t. IsInTree (o'.page p) ⊎ (cond t Gone ((knows a).own.pages p) ≡ Ready q))
         (λ i. inl (subst (λ (f : ℕ → PageOwner). IsInTree (f p)) (sym h.2) (rw i (subst IsInTree (sym (put_same o.page unterm.child (Cleared a h.0 unterm.separator))) tt))))
         (λ ne. inr e)
@@ -127,12 +127,12 @@ module _ (m : Memory) {log : List Update} {o : Owners} {knows : ℕ → Knowledg
     filled_ready (Ready base) p q ne e = inr e
     filled_ready Gone p q ne e = inr e
 
-    linking : (m' : Memory) → m'.rows ≡ m.rows → (p q : ℕ) → put (slot_in m.slots) (suc n) (Some (suc y)) p ≡ Some q → IsInTree (o'.page p) ⊎ IsReady o' m' (put knows a (finished (exchanged (suc n) (suc x) (suc y) (knows a)) r)) p q
-    linking m' rows p q e = by_test p (suc n) (λ t. cond t (Some (suc y)) (slot_in m.slots p) ≡ Some q → IsInTree (o'.page p) ⊎ IsReady o' m' (put knows a (finished (exchanged (suc n) (suc x) (suc y) (knows a)) r)) p q)
+    linking : (m' : Memory) → m'.rows ≡ m.rows → (p q : ℕ) → put (slot_in m.slots) (suc n) (Some (suc y)) p ≡ Some q → IsInTree (o'.page p) ⊎ IsReadyPage o' m' (put knows a (finished (exchanged (suc n) (suc x) (suc y) (knows a)) r)) p q
+    linking m' rows p q e = by_test p (suc n) (λ t. cond t (Some (suc y)) (slot_in m.slots p) ≡ Some q → IsInTree (o'.page p) ⊎ IsReadyPage o' m' (put knows a (finished (exchanged (suc n) (suc x) (suc y) (knows a)) r)) p q)
         (λ i f. inl (links_in_tree (shared m) a w (suc n) o.page o'.page links p (subst (λ z. IsInTree (o.page z)) (sym i) in_tree)))
         (λ ne f. elim (held p q f) [
           | inl h ↦ inl (links_in_tree (shared m) a w (suc n) o.page o'.page links p h)
-          | inr h ↦ by_test h.actor a (λ t. IsInTree (o'.page p) ⊎ IsReady o' m' (put knows a (finished (exchanged (suc n) (suc x) (suc y) (knows a)) r)) p q)
+          | inr h ↦ by_test h.actor a (λ t. IsInTree (o'.page p) ⊎ IsReadyPage o' m' (put knows a (finished (exchanged (suc n) (suc x) (suc y) (knows a)) r)) p q)
               (λ i. elim (filled_ready ((knows a).own.pages (suc n)) p q ne (subst (λ z. (knows z).own.pages p ≡ Ready q) i h.ready)) [
                 | inl tree ↦ inl tree
                 | inr known ↦ inr (ready_after m' (finished (exchanged (suc n) (suc x) (suc y) (knows a)) r) p q h (λ j. ap (λ f. f q) rows) (λ j. known))
@@ -141,7 +141,7 @@ module _ (m : Memory) {log : List Update} {o : Owners} {knows : ℕ → Knowledg
         ]) e
 
   abbrev Holds : Memory → Knowledge → Type 0
-  Holds m' k = (p q : ℕ) → slot_in m'.slots p ≡ Some q → IsInTree (o'.page p) ⊎ IsReady o' m' (put knows a k) p q
+  Holds m' k = (p q : ℕ) → slot_in m'.slots p ≡ Some q → IsInTree (o'.page p) ⊎ IsReadyPage o' m' (put knows a k) p q
 
   -- a base in a row of its own
   own_base : (q : ℕ) (v : OwnRow) → OwnFits a (o.row q) (m.rows q) v → IsOwnBase v → (o.row q ≡ Spare a) × ((base : pages.Page) × (m.rows q ≡ Some (Base base)))
@@ -158,9 +158,9 @@ module _ (m : Memory) {log : List Update} {o : Owners} {knows : ℕ → Knowledg
   own_base q Foreign fits h = absurd h
 
   readies : (n y : ℕ) (r : Option Reply) → (knows a).own.pages (suc n) ≡ Empty → IsOwnBase ((knows a).own.rows (suc y)) → o'.page ≡ o.page → (p q : ℕ) → put (slot_in m.slots) (suc n) (Some (suc y)) p ≡ Some q
-      → IsInTree (o'.page p) ⊎ IsReady o' (record m { slots = replaced_at (suc n) (suc y) m.slots }) (put knows a (finished (exchanged (suc n) zero (suc y) (knows a)) r)) p q
-  readies n y r empty base same p q e = subst (λ (v : OwnPage). IsInTree (o'.page p) ⊎ IsReady o' (record m { slots = replaced_at (suc n) (suc y) m.slots }) (put knows a (finished (filled v (suc n) zero (suc y) (knows a)) r)) p q) (sym empty)
-      (by_test p (suc n) (λ t. cond t (Some (suc y)) (slot_in m.slots p) ≡ Some q → IsInTree (o'.page p) ⊎ IsReady o' (record m { slots = replaced_at (suc n) (suc y) m.slots }) (put knows a k) p q)
+      → IsInTree (o'.page p) ⊎ IsReadyPage o' (record m { slots = replaced_at (suc n) (suc y) m.slots }) (put knows a (finished (exchanged (suc n) zero (suc y) (knows a)) r)) p q
+  readies n y r empty base same p q e = subst (λ (v : OwnPage). IsInTree (o'.page p) ⊎ IsReadyPage o' (record m { slots = replaced_at (suc n) (suc y) m.slots }) (put knows a (finished (filled v (suc n) zero (suc y) (knows a)) r)) p q) (sym empty)
+      (by_test p (suc n) (λ t. cond t (Some (suc y)) (slot_in m.slots p) ≡ Some q → IsInTree (o'.page p) ⊎ IsReadyPage o' (record m { slots = replaced_at (suc n) (suc y) m.slots }) (put knows a k) p q)
       (λ i f. let at : suc y ≡ q = same_Some (suc y) q f in let own = own_base (suc y) ((knows a).own.rows (suc y)) (g.owns a (suc y)) base in inr (record {
         actor = a;
         ready = subst (λ (z : Knowledge). z.own.pages p ≡ Ready q) (sym (put_same knows a k)) (rw i (put_same (knows a).own.pages (suc n) (Ready (suc y)) ∙ ap Ready at));
@@ -182,8 +182,8 @@ module _ (m : Memory) {log : List Update} {o : Owners} {knows : ℕ → Knowledg
   emptied_ready Empty n x p q ne e = e
   emptied_ready Gone n x p q ne e = with_other Other n p q ne e
 
-  empties : (n x : ℕ) (r : Option Reply) (m' : Memory) → m'.rows ≡ m.rows → o'.page ≡ o.page → (p q : ℕ) → put (slot_in m.slots) (suc n) None p ≡ Some q → IsInTree (o'.page p) ⊎ IsReady o' m' (put knows a (finished (exchanged (suc n) (suc x) zero (knows a)) r)) p q
-  empties n x r m' rows same p q e = by_test p (suc n) (λ t. cond t None (slot_in m.slots p) ≡ Some q → IsInTree (o'.page p) ⊎ IsReady o' m' (put knows a (finished (exchanged (suc n) (suc x) zero (knows a)) r)) p q)
+  empties : (n x : ℕ) (r : Option Reply) (m' : Memory) → m'.rows ≡ m.rows → o'.page ≡ o.page → (p q : ℕ) → put (slot_in m.slots) (suc n) None p ≡ Some q → IsInTree (o'.page p) ⊎ IsReadyPage o' m' (put knows a (finished (exchanged (suc n) (suc x) zero (knows a)) r)) p q
+  empties n x r m' rows same p q e = by_test p (suc n) (λ t. cond t None (slot_in m.slots p) ≡ Some q → IsInTree (o'.page p) ⊎ IsReadyPage o' m' (put knows a (finished (exchanged (suc n) (suc x) zero (knows a)) r)) p q)
       (λ i f. absurd (cc))
       (λ ne f. elim (held p q f) [
         | inl h ↦ inl (subst (λ (f : ℕ → PageOwner). IsInTree (f p)) (sym same) h)
@@ -196,10 +196,10 @@ module _ (m : Memory) {log : List Update} {o : Owners} {knows : ℕ → Knowledg
   rooted_ready Empty n p q ne e = e
   rooted_ready Gone n p q ne e = e
 
-  roots : (x y : ℕ) (r : Option Reply) (m' : Memory) → m'.rows ≡ m.rows → (b l : ℕ) (k : Key) → o'.page ≡ put (put o.page b (Placed Indexed l k)) y (Placed Indexed (suc l) []) → (p q : ℕ) → slot_in m.slots p ≡ Some q → IsInTree (o'.page p) ⊎ IsReady o' m' (put knows a (finished (exchanged zero x y (knows a)) r)) p q
+  roots : (x y : ℕ) (r : Option Reply) (m' : Memory) → m'.rows ≡ m.rows → (b l : ℕ) (k : Key) → o'.page ≡ put (put o.page b (Placed Indexed l k)) y (Placed Indexed (suc l) []) → (p q : ℕ) → slot_in m.slots p ≡ Some q → IsInTree (o'.page p) ⊎ IsReadyPage o' m' (put knows a (finished (exchanged zero x y (knows a)) r)) p q
   roots x y r m' rows b l k same p q e = elim (held p q e) [
     | inl h ↦ inl (subst (λ (f : ℕ → PageOwner). IsInTree (f p)) (sym same) (put_in_tree (put o.page b (Placed Indexed l k)) y p Indexed (suc l) [] (put_in_tree o.page b p Indexed l k h)))
-    | inr h ↦ by_test p y (λ t. IsInTree (o'.page p) ⊎ IsReady o' m' (put knows a (finished (exchanged zero x y (knows a)) r)) p q)
+    | inr h ↦ by_test p y (λ t. IsInTree (o'.page p) ⊎ IsReadyPage o' m' (put knows a (finished (exchanged zero x y (knows a)) r)) p q)
         (λ i. inl (subst (λ (f : ℕ → PageOwner). IsInTree (f p)) (sym same) (rw i (here_in_tree (put o.page b (Placed Indexed l k)) y Indexed (suc l) []))))
         (λ ne. inr (ready_after m' (finished (exchanged zero x y (knows a)) r) p q h (λ j. ap (λ f. f q) rows) (λ j. rooted_ready ((knows a).own.pages y) y p q ne (subst (λ z. (knows z).own.pages p ≡ Ready q) j h.ready))))
   ]
@@ -215,7 +215,7 @@ module _ (m : Memory) {log : List Update} {o : Owners} {knows : ℕ → Knowledg
       linking n x y r ph.0 ph.1 ph.2 (reached_in_tree 0 (level_in h.2.chain) (low_in h.2.chain) (o.page (suc n)) h.3) (record m { slots = replaced_at (suc n) (suc y) m.slots }) refl p q (subst (λ (f : ℕ → Option ℕ). f p ≡ Some q) (slot_put m.slots n (suc y)) e)
 
   takes : (n : ℕ) (r : Option Reply) → m.free_pids n ≡ true → o'.page ≡ put o.page n (Keeps a) → Holds (memory_after a (TakePid n) m) (finished (learn (knows a) (TakePid n) (Whether true)) r)
-  takes n r free same p q e = by_test p n (λ t. IsInTree (o'.page p) ⊎ IsReady o' (memory_after a (TakePid n) m) (put knows a (finished (learn (knows a) (TakePid n) (Whether true)) r)) p q)
+  takes n r free same p q e = by_test p n (λ t. IsInTree (o'.page p) ⊎ IsReadyPage o' (memory_after a (TakePid n) m) (put knows a (finished (learn (knows a) (TakePid n) (Whether true)) r)) p q)
       (λ i. absurd (let none = (g.frees.page n free).1 in let f : slot_in m.slots n ≡ Some q = subst (λ z. slot_in m.slots z ≡ Some q) i e in cc))
       (λ ne. elim (held p q e) [
         | inl h ↦ inl (subst (λ (f : ℕ → PageOwner). IsInTree (f p)) (sym same) (subst IsInTree (sym (put_other o.page n (Keeps a) p ne)) h))

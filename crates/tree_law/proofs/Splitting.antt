@@ -11,7 +11,7 @@ use Rattle.tree_law.specs.Phase.{Stage, Fresh, PageOwner, Nobody, Keeps, Placed,
 use Rattle.tree_law.specs.Put.{put}
 use Rattle.tree_law.specs.Shared.{Shared}
 use Rattle.tree_law.specs.Owners.{Free, Spare, Linked, Owners, IsLinked, OwnFits, PageFits, IsOut}
-use Rattle.tree_law.specs.Tree.{spec, InPlace, HasPage, IsOff, Off, Good}
+use Rattle.tree_law.specs.Tree.{spec, InPlace, HasSidePage, IsOff, Off, IsTree}
 use Rattle.std.specs.Prelude.{not}
 use Rattle.deltas.specs.declared.record.Split.{Split as SplitOf}
 use Rattle.chain_search.specs.Discipline.{MaySplit, base_from, HasRead}
@@ -28,14 +28,14 @@ use Rattle.tree_law.proofs.Relinking.{placed_level, not_off, Found, not_own, fou
 split_below : (split : SplitOf) (c : List Record) (k : Key) → IsBelow k split.separator → content_in (Split split ∷ c) k ≡ content_in c k
 split_below split c k h = ap (λ t. cond (not t) None (content_in c k)) h
 
-module _ {m : Shared} {log : List Update} {o : Owners} {knows : ℕ → Knowledge} {point : ℕ → Option (List Update)} {logs : ℕ → List (List Update)} (g : Good m log o knows point logs) (a : ℕ) where
+module _ {m : Shared} {log : List Update} {o : Owners} {knows : ℕ → Knowledge} {point : ℕ → Option (List Update)} {logs : ℕ → List (List Update)} (g : IsTree m log o knows point logs) (a : ℕ) where
   pub keeps_not : (q : ℕ) → o.page q ≡ Keeps a → (l : ℕ) (s : Key) (st : Stage) → o.page q ≡ Placed st l s → ⊥
   keeps_not q e l s st f = absurd (let i = sym e ∙ f in cc)
 
   -- the exchange that links a split
-  pub splits : (p x y : ℕ) → m.slots p ≡ Some x → (basis : HasRead (knows a) p x) (content : Record) → (knows a).own.rows y ≡ Written content → (h : MaySplit (knows a) x basis.chain content) → (r : Option Reply) → Good (record m { slots = put m.slots p (Some y) }) log (record { row = put (put o.row h.row Linked) y Linked; page = put o.page h.right (Placed Fresh (level_in basis.chain) h.separator); index = o.index }) (put knows a (finished (filled ((knows a).own.pages p) p x y (knows a)) r)) (put point a (point a)) (put logs a (log ∷ logs a)) × ((st : Stage) × (o.page p ≡ Placed st (level_in basis.chain) (low_in basis.chain)) × (o.page h.right ≡ Keeps a))
+  pub splits : (p x y : ℕ) → m.slots p ≡ Some x → (basis : HasRead (knows a) p x) (content : Record) → (knows a).own.rows y ≡ Written content → (h : MaySplit (knows a) x basis.chain content) → (r : Option Reply) → IsTree (record m { slots = put m.slots p (Some y) }) log (record { row = put (put o.row h.row Linked) y Linked; page = put o.page h.right (Placed Fresh (level_in basis.chain) h.separator); index = o.index }) (put knows a (finished (filled ((knows a).own.pages p) p x y (knows a)) r)) (put point a (point a)) (put logs a (log ∷ logs a)) × ((st : Stage) × (o.page p ≡ Placed st (level_in basis.chain) (low_in basis.chain)) × (o.page h.right ≡ Keeps a))
   splits p x y s basis content written h r = (
-    subst (λ (k : Knowledge). Good m' log o' (put knows a (finished k r)) (put point a (point a)) (put logs a (log ∷ logs a))) (sym learned)
+    subst (λ (k : Knowledge). IsTree m' log o' (put knows a (finished k r)) (put point a (point a)) (put logs a (log ∷ logs a))) (sym learned)
         (put_good g a m' log o' (finished (handed_page h.right Other y (handed_over h.row (knows a))) r) (point a) (log ∷ logs a)
         change
         (record {
@@ -88,7 +88,7 @@ module _ {m : Shared} {log : List Update} {o : Owners} {knows : ℕ → Knowledg
           ),
         )
         (inl refl)
-        (λ q l k st. by_test q h.right (λ t. cond t (Placed Fresh (level_in c) h.separator) (o.page q) ≡ Placed st l k → rank st ≤ 3 → ((st' : Stage) × (o.page q ≡ Placed st' l k) × (rank st' ≤ 3)) ⊎ ((l ≡ level_in c) × HasPage q (record { page = p; row = y; chain = Split split ∷ c } ∷ record { page = h.right; row = h.row; chain = base ∷ [] } ∷ [])))
+        (λ q l k st. by_test q h.right (λ t. cond t (Placed Fresh (level_in c) h.separator) (o.page q) ≡ Placed st l k → rank st ≤ 3 → ((st' : Stage) × (o.page q ≡ Placed st' l k) × (rank st' ≤ 3)) ⊎ ((l ≡ level_in c) × HasSidePage q (record { page = p; row = y; chain = Split split ∷ c } ∷ record { page = h.right; row = h.row; chain = base ∷ [] } ∷ [])))
         (λ i e on. inr (sym (placed_level Fresh st (level_in c) l h.separator k e).0, inr (inl (sym i)))) (λ i e on. inl (st, e, on)))
         (exact_fresh o.page o.index g.tree.top m.root h.right (level_in c) h.separator (keeps_not h.right ready.0) (g.tree.exact.below p (level_in c) (low_in c) place.stage place.placed) g.tree.exact)
         (λ q l k. by_test q h.right (λ t. IsOff (cond t (Placed Fresh (level_in c) h.separator) (o.page q)) l k → IsOut (o'.page q) (put m.slots p (Some y) q) ⊎ Off o' m' q l k)

@@ -22,11 +22,11 @@ use Rattle.tree_law.specs.Keys.{Key, put_key}
 use Rattle.chain_search.specs.Knowledge.{OwnRow, Written, OwnPage, Empty, Ready, Gone, Knowledge, learn_head, filled, emptied, learn, finished}
 use Rattle.chain_search.specs.Discipline.{record_of, base_from, root_over, IsMet, HasRead, FitsOn, MayUpdate, MayConsolidate, MaySplit, MayPost, MayHold, MayRemove, MayMerge, MayUnterm, MayRoot, MayLink, MayExchange, May}
 use Rattle.tree_law.specs.Phase.{Fresh, Indexed, Held, Removed, Merged, PageOwner, Keeps, Placed, Cleared}
-use Rattle.tree_law.specs.Phases.{Links, Phased}
+use Rattle.tree_law.specs.Phases.{LinkMoves, Phased}
 use Rattle.tree_law.specs.Put.{put}
 use Rattle.tree_law.specs.Shared.{Shared, row_in, slot_in, shared}
-use Rattle.tree_law.specs.Owners.{Spare, Linked, Owners, OwnFits, PageFits, Reached, Spells}
-use Rattle.tree_law.specs.Tree.{Good}
+use Rattle.tree_law.specs.Owners.{Spare, Linked, Owners, OwnFits, PageFits, Reached, SpellsLog}
+use Rattle.tree_law.specs.Tree.{IsTree}
 use Rattle.tree_law.specs.Fitness.{IsAdded}
 use Rattle.tree_law.specs.Next.{IsReuse, IsMoved, IsHomed, Next}
 use Rattle.tree_law.proofs.Frames.{read_linked, chain_stands}
@@ -67,11 +67,11 @@ record_next : (u : Update) (x : ℕ) → next_row (record_of u x) ≡ Some x
 record_next (set b k v) x = refl
 record_next (unset b k) x = refl
 
-links_same : (m : Shared) (a : ℕ) (u : Update) (x p : ℕ) (f : ℕ → PageOwner) → Links m a (record_of u x) p f f
+links_same : (m : Shared) (a : ℕ) (u : Update) (x p : ℕ) (f : ℕ → PageOwner) → LinkMoves m a (record_of u x) p f f
 links_same m a (set b k v) x p f = refl
 links_same m a (unset b k) x p f = refl
 
-module _ (memory : Memory) {log : List Update} {o : Owners} {knows : ℕ → Knowledge} {point : ℕ → Option (List Update)} {logs : ℕ → List (List Update)} (g : Good (shared memory) log o knows point logs) (a : ℕ) where
+module _ (memory : Memory) {log : List Update} {o : Owners} {knows : ℕ → Knowledge} {point : ℕ → Option (List Update)} {logs : ℕ → List (List Update)} (g : IsTree (shared memory) log o knows point logs) (a : ℕ) where
   -- what a step with its answer leaves
   abbrev pub After : Memory → StepOf Record → Answer Record → Option Reply → Type 0
   After memory' s x r = Next a (shared memory) (shared memory') log o knows point logs s x r
@@ -87,7 +87,7 @@ module _ (memory : Memory) {log : List Update} {o : Owners} {knows : ℕ → Kno
 
   -- a step after which each row and page is whose it was
   rests : {m' : Shared} {s : StepOf Record} {x : Answer Record} {r : Option Reply} → Phased a (shared memory) s x o.page o.page → ((row : ℕ) → o.row row ≡ Linked → m'.rows row ≡ memory.rows row)
-      → Good m' log o (put knows a (finished (learn (knows a) s x) r)) (put point a (point a)) (put logs a (log ∷ logs a)) → Next a (shared memory) m' log o knows point logs s x r
+      → IsTree m' log o (put knows a (finished (learn (knows a) s x) r)) (put point a (point a)) (put logs a (log ∷ logs a)) → Next a (shared memory) m' log o knows point logs s x r
   rests phased rows good = record { update = None; due = tt; last = λ i. refl; owners = o; phased = phased; moved = same_moved; added = same_added; homed = λ row l. inl l; kept = λ row l. (l, rows row l); good = good }
 
   spare_of : {w : Record} (y : ℕ) → (knows a).own.rows y ≡ Written w → o.row y ≡ Spare a
@@ -132,8 +132,8 @@ module _ (memory : Memory) {log : List Update} {o : Owners} {knows : ℕ → Kno
       let held : slot_in memory.slots (suc p) ≡ Some (suc n) = ap row_in e in
       ⊎_elim
       (λ (u : slot_in memory.slots (suc p) ≡ None). absurd (let f = sym held ∙ u in cc))
-      (λ (u : (x : ℕ) × (slot_in memory.slots (suc p) ≡ Some x) × (h : Spells o (shared memory) x log) × Reached 0 (level_in h.chain) (low_in h.chain) (o.page (suc p))).
-      rests refl (λ row l. refl) (subst (λ (v : ℕ). Good (shared memory) log o (put knows a (finished (learn_head (suc p) v (knows a)) r)) (put point a (point a)) (put logs a (log ∷ logs a)))
+      (λ (u : (x : ℕ) × (slot_in memory.slots (suc p) ≡ Some x) × (h : SpellsLog o (shared memory) x log) × Reached 0 (level_in h.chain) (low_in h.chain) (o.page (suc p))).
+      rests refl (λ row l. refl) (subst (λ (v : ℕ). IsTree (shared memory) log o (put knows a (finished (learn_head (suc p) v (knows a)) r)) (put point a (point a)) (put logs a (log ∷ logs a)))
             (same_Some u.0 (suc n) (sym u.1 ∙ held))
             (reads_slot g a (suc p) u.0 u.1 u.2 u.3 r)))
       (slot_of g a (suc p) here.0 here.1 here.2)
@@ -151,11 +151,11 @@ module _ (memory : Memory) {log : List Update} {o : Owners} {knows : ℕ → Kno
     kept = λ row l. (put_other o.row q (Spare a) row (λ i. absurd (let f = g.frees.row q e in let l' = sym (ap o.row i) ∙ l in cc)) ∙ l, refl);
     good = takes_row g a q e r;
   }
-  takes q r false e = rests refl (λ row l. refl) (subst (λ (f : ℕ → Bool). Good (record (shared memory) { free = f }) log o (put knows a (finished (knows a) r)) (put point a (point a)) (put logs a (log ∷ logs a))) (sym (cleared_again memory.free_rows q e)) (idles g a (finished (knows a) r) refl refl refl refl refl refl refl refl))
+  takes q r false e = rests refl (λ row l. refl) (subst (λ (f : ℕ → Bool). IsTree (record (shared memory) { free = f }) log o (put knows a (finished (knows a) r)) (put point a (point a)) (put logs a (log ∷ logs a))) (sym (cleared_again memory.free_rows q e)) (idles g a (finished (knows a) r) refl refl refl refl refl refl refl refl))
 
   takes_pid : (q : ℕ) (r : Option Reply) (t : Bool) → memory.free_pids q ≡ t → After (memory_after a (TakePid q) memory) (TakePid q) (Whether t) r
   takes_pid q r true e = record { update = None; due = tt; last = λ i. refl; owners = record o { page = put o.page q (Keeps a) }; phased = refl; moved = same_moved; added = same_added; homed = λ row l. inl l; kept = same_rows; good = takes_page g a q e r }
-  takes_pid q r false e = rests refl (λ row l. refl) (subst (λ (f : ℕ → Bool). Good (record (shared memory) { free_pages = f }) log o (put knows a (finished (knows a) r)) (put point a (point a)) (put logs a (log ∷ logs a))) (sym (cleared_again memory.free_pids q e)) (idles g a (finished (knows a) r) refl refl refl refl refl refl refl refl))
+  takes_pid q r false e = rests refl (λ row l. refl) (subst (λ (f : ℕ → Bool). IsTree (record (shared memory) { free_pages = f }) log o (put knows a (finished (knows a) r)) (put point a (point a)) (put logs a (log ∷ logs a))) (sym (cleared_again memory.free_pids q e)) (idles g a (finished (knows a) r) refl refl refl refl refl refl refl refl))
 
   -- an exchange that lost teaches nothing
   loses : (p x y : ℕ) (r : Option Reply) → After memory (Exchange p x y) (Whether false) r
@@ -167,8 +167,8 @@ module _ (memory : Memory) {log : List Update} {o : Owners} {knows : ℕ → Kno
     Linking = Next a (shared memory) (record (shared memory) { slots = put (slot_in memory.slots) (suc p) (Some (suc y)) }) log o knows point logs (Exchange (suc p) (suc x) (suc y)) (Whether true) r
 
     -- the row is linked, some pages go on, and no update is made
-    one : (w : Record) → (knows a).own.rows (suc y) ≡ Written w → IfSome (next_row w) (λ n. n ≡ suc x) → IsAdded o memory.rows (suc y) → (page : ℕ → PageOwner) (index : ℕ → Key → Option ContentOf) → Links (shared memory) a w (suc p) o.page page
-        → Good (record (shared memory) { slots = put (slot_in memory.slots) (suc p) (Some (suc y)) }) log (record { row = put o.row (suc y) Linked; page = page; index = index }) (put knows a (finished (filled ((knows a).own.pages (suc p)) (suc p) (suc x) (suc y) (knows a)) r)) (put point a (point a)) (put logs a (log ∷ logs a)) → Linking
+    one : (w : Record) → (knows a).own.rows (suc y) ≡ Written w → IfSome (next_row w) (λ n. n ≡ suc x) → IsAdded o memory.rows (suc y) → (page : ℕ → PageOwner) (index : ℕ → Key → Option ContentOf) → LinkMoves (shared memory) a w (suc p) o.page page
+        → IsTree (record (shared memory) { slots = put (slot_in memory.slots) (suc p) (Some (suc y)) }) log (record { row = put o.row (suc y) Linked; page = page; index = index }) (put knows a (finished (filled ((knows a).own.pages (suc p)) (suc p) (suc x) (suc y) (knows a)) r)) (put point a (point a)) (put logs a (log ∷ logs a)) → Linking
     one w placed next added page index moves good = record {
       update = None;
       due = tt;
@@ -183,8 +183,8 @@ module _ (memory : Memory) {log : List Update} {o : Owners} {knows : ℕ → Kno
     }
 
     -- the same of a delta over the old row
-    delta : (w : Record) → content ≡ w → next_row w ≡ Some (suc x) → (page : ℕ → PageOwner) (index : ℕ → Key → Option ContentOf) → Links (shared memory) a w (suc p) o.page page
-        → Good (record (shared memory) { slots = put (slot_in memory.slots) (suc p) (Some (suc y)) }) log (record { row = put o.row (suc y) Linked; page = page; index = index }) (put knows a (finished (filled ((knows a).own.pages (suc p)) (suc p) (suc x) (suc y) (knows a)) r)) (put point a (point a)) (put logs a (log ∷ logs a)) → Linking
+    delta : (w : Record) → content ≡ w → next_row w ≡ Some (suc x) → (page : ℕ → PageOwner) (index : ℕ → Key → Option ContentOf) → LinkMoves (shared memory) a w (suc p) o.page page
+        → IsTree (record (shared memory) { slots = put (slot_in memory.slots) (suc p) (Some (suc y)) }) log (record { row = put o.row (suc y) Linked; page = page; index = index }) (put knows a (finished (filled ((knows a).own.pages (suc p)) (suc p) (suc x) (suc y) (knows a)) r)) (put point a (point a)) (put logs a (log ∷ logs a)) → Linking
     delta w is next = one w (written ∙ ap Written is) (rw next refl) (adds (suc p) (suc x) (suc y) w (written ∙ ap Written is) next basis (subst (FitsOn basis.chain) is fits))
 
     by_update : MayUpdate a (knows a) (suc x) basis.chain content → Linking
@@ -263,9 +263,9 @@ module _ (memory : Memory) {log : List Update} {o : Owners} {knows : ℕ → Kno
   -- an exchange of a page's slot that won
   exchanges : (p x y : ℕ) (r : Option Reply) → slot_in memory.slots (suc p) ≡ row_in x → MayExchange a (knows a) (suc p) x y → Next a (shared memory) (record (shared memory) { slots = put (slot_in memory.slots) (suc p) (row_in y) }) log o knows point logs (Exchange (suc p) x y) (Whether true) r
   exchanges p zero zero r s h = absurd h
-  exchanges p zero (suc y) r s h = rests ((refl, (own_kept (suc p) Empty h.0).0)) (λ row l. refl) (subst (λ (v : OwnPage). Good (record (shared memory) { slots = put (slot_in memory.slots) (suc p) (Some (suc y)) }) log o (put knows a (finished (filled v (suc p) zero (suc y) (knows a)) r)) (put point a (point a)) (put logs a (log ∷ logs a))) (sym h.0)
+  exchanges p zero (suc y) r s h = rests ((refl, (own_kept (suc p) Empty h.0).0)) (λ row l. refl) (subst (λ (v : OwnPage). IsTree (record (shared memory) { slots = put (slot_in memory.slots) (suc p) (Some (suc y)) }) log o (put knows a (finished (filled v (suc p) zero (suc y) (knows a)) r)) (put point a (point a)) (put logs a (log ∷ logs a))) (sym h.0)
         (own_slot g a (suc p) (Some (suc y)) (Ready (suc y)) (own_kept (suc p) Empty h.0).0 ((own_kept (suc p) Empty h.0).0, refl) (finished (filled Empty (suc p) zero (suc y) (knows a)) r) refl refl refl refl refl refl refl refl))
-  exchanges p (suc x) zero r s (inl h) = rests ((refl, inl (own_kept (suc p) (Ready (suc x)) h).0)) (λ row l. refl) (subst (λ (v : OwnPage). Good (record (shared memory) { slots = put (slot_in memory.slots) (suc p) None }) log o (put knows a (finished (emptied v (suc p) (suc x) (knows a)) r)) (put point a (point a)) (put logs a (log ∷ logs a))) (sym h)
+  exchanges p (suc x) zero r s (inl h) = rests ((refl, inl (own_kept (suc p) (Ready (suc x)) h).0)) (λ row l. refl) (subst (λ (v : OwnPage). IsTree (record (shared memory) { slots = put (slot_in memory.slots) (suc p) None }) log o (put knows a (finished (emptied v (suc p) (suc x) (knows a)) r)) (put point a (point a)) (put logs a (log ∷ logs a))) (sym h)
         (own_slot g a (suc p) None Empty (own_kept (suc p) (Ready (suc x)) h).0 ((own_kept (suc p) (Ready (suc x)) h).0, refl) (finished (emptied (Ready (suc x)) (suc p) (suc x) (knows a)) r) refl refl refl refl refl refl refl refl))
   exchanges p (suc x) zero r s (inr h) = rests ((refl, inr (let w = own_kept (suc p) Gone h in (w.0, w.1, w.2)))) (λ row l. refl) (clears g a (suc p) (suc x) s h r)
   exchanges p (suc x) (suc y) r s h = links p x y r s h.basis h.content h.placed h.fits h.due

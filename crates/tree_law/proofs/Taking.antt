@@ -12,7 +12,7 @@ use Rattle.tree_law.specs.Phase.{Stage, Merged, Nobody, Keeps, Placed, Cleared}
 use Rattle.tree_law.specs.Put.{put}
 use Rattle.tree_law.specs.Shared.{Shared}
 use Rattle.tree_law.specs.Owners.{Free, Spare, Linked, Owners, IsLinked, OwnFits, PageFits}
-use Rattle.tree_law.specs.Tree.{Good}
+use Rattle.tree_law.specs.Tree.{IsTree}
 use Rattle.tree_law.proofs.Puts.{by_test, put_same, put_other, put_all}
 use Rattle.tree_law.proofs.Kept.{Kept}
 use Rattle.tree_law.proofs.Sides.{tree_kept}
@@ -20,8 +20,8 @@ use Rattle.tree_law.proofs.Terms.{exact_same}
 use Rattle.tree_law.proofs.Frames.{RowChange, row_free, row_own, row_same, PageChange, page_free, page_own, page_same, Change, kept_change, closed_kept}
 use Rattle.tree_law.proofs.Keeping.{put_good, mine_at, tree_at, off_still}
 
-module _ {m : Shared} {log : List Update} {o : Owners} {knows : ℕ → Knowledge} {point : ℕ → Option (List Update)} {logs : ℕ → List (List Update)} (g : Good m log o knows point logs) (a : ℕ) where
-  pub takes_row : (q : ℕ) → m.free q ≡ true → (r : Option Reply) → Good (record m { free = put m.free q false }) log (record o { row = put o.row q (Spare a) }) (put knows a (finished (learn (knows a) (TakeRow q) (Whether true)) r)) (put point a (point a)) (put logs a (log ∷ logs a))
+module _ {m : Shared} {log : List Update} {o : Owners} {knows : ℕ → Knowledge} {point : ℕ → Option (List Update)} {logs : ℕ → List (List Update)} (g : IsTree m log o knows point logs) (a : ℕ) where
+  pub takes_row : (q : ℕ) → m.free q ≡ true → (r : Option Reply) → IsTree (record m { free = put m.free q false }) log (record o { row = put o.row q (Spare a) }) (put knows a (finished (learn (knows a) (TakeRow q) (Whether true)) r)) (put point a (point a)) (put logs a (log ∷ logs a))
   takes_row q f r =
       put_good g a m' log o' (finished (learn (knows a) (TakeRow q) (Whether true)) r) (point a) (log ∷ logs a)
       change
@@ -47,7 +47,7 @@ module _ {m : Shared} {log : List Update} {o : Owners} {knows : ℕ → Knowledg
       kept : Kept o o' m m'
       kept = kept_change a o o' m m' change
 
-  pub takes_page : (q : ℕ) → m.free_pages q ≡ true → (r : Option Reply) → Good (record m { free_pages = put m.free_pages q false }) log (record o { page = put o.page q (Keeps a) }) (put knows a (finished (learn (knows a) (TakePid q) (Whether true)) r)) (put point a (point a)) (put logs a (log ∷ logs a))
+  pub takes_page : (q : ℕ) → m.free_pages q ≡ true → (r : Option Reply) → IsTree (record m { free_pages = put m.free_pages q false }) log (record o { page = put o.page q (Keeps a) }) (put knows a (finished (learn (knows a) (TakePid q) (Whether true)) r)) (put point a (point a)) (put logs a (log ∷ logs a))
   takes_page q f r =
       put_good g a m' log o' (finished (learn (knows a) (TakePid q) (Whether true)) r) (point a) (log ∷ logs a)
       change
@@ -92,7 +92,7 @@ module _ {m : Shared} {log : List Update} {o : Owners} {knows : ℕ → Knowledg
   own_spare q Taken h i = h
   own_spare q (Written w) h i = h.0
 
-  pub places : (q : ℕ) (w : Record) → IsOwn ((knows a).own.rows q) → (r : Option Reply) → Good (record m { rows = put m.rows q (Some w) }) log o (put knows a (finished (learn (knows a) (Place q w) Done) r)) (put point a (point a)) (put logs a (log ∷ logs a))
+  pub places : (q : ℕ) (w : Record) → IsOwn ((knows a).own.rows q) → (r : Option Reply) → IsTree (record m { rows = put m.rows q (Some w) }) log o (put knows a (finished (learn (knows a) (Place q w) Done) r)) (put point a (point a)) (put logs a (log ∷ logs a))
   places q w i r =
       put_good g a m' log o (finished (learn (knows a) (Place q w) Done) r) (point a) (log ∷ logs a)
       change
@@ -117,7 +117,7 @@ module _ {m : Shared} {log : List Update} {o : Owners} {knows : ℕ → Knowledg
 
   -- the slot of a page of its own is changed
   pub own_slot : (p : ℕ) (x : Option ℕ) (v : OwnPage) → o.page p ≡ Keeps a → PageFits a (o.page p) x v → (k : Knowledge) → k.own.rows ≡ (knows a).own.rows → k.own.pages ≡ put (knows a).own.pages p v → k.read.seen ≡ (knows a).read.seen → k.read.learnt ≡ (knows a).read.learnt → k.read.roots ≡ (knows a).read.roots → k.read.heads ≡ (knows a).read.heads → k.read.before ≡ (knows a).read.before → k.asked.linked ≡ (knows a).asked.linked
-      → Good (record m { slots = put m.slots p x }) log o (put knows a k) (put point a (point a)) (put logs a (log ∷ logs a))
+      → IsTree (record m { slots = put m.slots p x }) log o (put knows a k) (put point a (point a)) (put logs a (log ∷ logs a))
   own_slot p x v was fits k e0 e1 e2 e3 e4 e5 e7 e6 =
       put_good g a m' log o k (point a) (log ∷ logs a)
       change

@@ -10,11 +10,11 @@ use Rattle.chain_search.specs.Chains.{level_in, low_in}
 use Rattle.chain_search.specs.Discipline.{IsOwn, IsOwnBase}
 use Rattle.chain_search.specs.Knowledge.{OwnRow, OwnPage, Ready, Gone, Limbo, Knowledge, learnt_next}
 use Rattle.tree_law.specs.Keys.{Key}
-use Rattle.tree_law.specs.Owners.{Spare, Linked, Owners, Reached, Spells}
+use Rattle.tree_law.specs.Owners.{Spare, Linked, Owners, Reached, SpellsLog}
 use Rattle.tree_law.specs.Phase.{Stage, Indexed, Placed, Cleared, child_of}
 use Rattle.tree_law.specs.Put.{put}
 use Rattle.tree_law.specs.Shared.{slot_in, shared}
-use Rattle.tree_law.specs.Tree.{spec, Page, InPlace, Good}
+use Rattle.tree_law.specs.Tree.{spec, SidePage, InPlace, IsTree}
 use Rattle.tree_law.specs.Times.{Outing, Times, IsSince, NamesSince, HeldBeside, HeldHead, Holds, LimboFits, Timed}
 use Rattle.tree_law.proofs.Keeping.{alive_place, beyond_place}
 use Rattle.tree_law.proofs.Puts.{by_test, put_same}
@@ -22,7 +22,7 @@ use Rattle.tree_law.proofs.Rows.{rows_kept}
 use Rattle.tree_law.proofs.Sides.{right_page}
 use Rattle.tree_law.proofs.Timing.{none_since, head_more, Turn, limbo_row, limbo_pid, held_later, announced_still, put_timed}
 
-module _ {limits : Limits} {m : Memory} {log : List Update} {o : Owners} {knows : ℕ → Knowledge} {point : ℕ → Option (List Update)} {logs : ℕ → List (List Update)} {now : ℕ} {t : Times} (g : Good (shared m) log o knows point logs) (T : Timed limits m o knows now t) (a : ℕ) where
+module _ {limits : Limits} {m : Memory} {log : List Update} {o : Owners} {knows : ℕ → Knowledge} {point : ℕ → Option (List Update)} {logs : ℕ → List (List Update)} {now : ℕ} {t : Times} (g : IsTree (shared m) log o knows point logs) (T : Timed limits m o knows now t) (a : ℕ) where
   abbrev pub linked : (b r : ℕ) → (knows b).read.learnt r ≡ true → o.row r ≡ Linked
   linked b = (g.sound b).learnt_fits
 
@@ -123,7 +123,7 @@ module _ {limits : Limits} {m : Memory} {log : List Update} {o : Owners} {knows 
   placed_in p l k st s (Some w) e = absurd (let f = sym s ∙ (T.pages p w e).0.2 in cc)
 
   -- what a page on its side chain names is not out
-  pub place_since : (e : ℕ) (p : Page) → InPlace o (shared m) (level_in p.chain) (spec log o.index (level_in p.chain)) p → NamesSince t.page_out e p.chain
+  pub place_since : (e : ℕ) (p : SidePage) → InPlace o (shared m) (level_in p.chain) (spec log o.index (level_in p.chain)) p → NamesSince t.page_out e p.chain
   place_since e p h = record {
     right = λ q i. let n = right_page o (shared m) (level_in p.chain) (spec log o.index (level_in p.chain)) (g.tree.first (level_in p.chain)) (g.tree.levels (level_in p.chain) (g.tree.exact.below p.page (level_in p.chain) (low_in p.chain) h.stage h.placed)) p h q i in
         none_since e (t.page_out q) (placed_in q (level_in p.chain) (low_in n.0.chain) n.3.stage (ap o.page (sym n.1) ∙ n.3.placed) (t.page_out q) refl);
@@ -154,7 +154,7 @@ module _ {limits : Limits} {m : Memory} {log : List Update} {o : Owners} {knows 
   more learnt x r e = by_test r x (λ z. cond z true (learnt r) ≡ true) (λ i. refl) (λ ne. e)
 
   -- the actor reads the slot of a page
-  pub head_holds : (knows a).inside ≡ true → (p x : ℕ) → slot_in m.slots p ≡ Some x → (l : ℕ) (s : Key) → Reached 0 l s (o.page p) → (spells : Spells o (shared m) x log) → Reached 0 (level_in spells.chain) (low_in spells.chain) (o.page p) → Holds m.rows t.row_out t.page_out (t.entered a) (knows a).inside (knows a).read.seen (put (knows a).read.learnt x true) (knows a).read.roots (put (knows a).read.heads p (Some x)) (put (knows a).read.before p (knows a).read.heads) (knows a).asked.linked
+  pub head_holds : (knows a).inside ≡ true → (p x : ℕ) → slot_in m.slots p ≡ Some x → (l : ℕ) (s : Key) → Reached 0 l s (o.page p) → (spells : SpellsLog o (shared m) x log) → Reached 0 (level_in spells.chain) (low_in spells.chain) (o.page p) → Holds m.rows t.row_out t.page_out (t.entered a) (knows a).inside (knows a).read.seen (put (knows a).read.learnt x true) (knows a).read.roots (put (knows a).read.heads p (Some x)) (put (knows a).read.before p (knows a).read.heads) (knows a).asked.linked
   head_holds inside p x sx l s reached spells there = record {
     learnt_inside = λ r i. inside;
     learnt_since = λ r. by_test r x (λ z. cond z true ((knows a).read.learnt r) ≡ true → IsSince (t.entered a) (t.row_out r)) (λ e i. none_since (t.entered a) (t.row_out r) (ap t.row_out e ∙ (T.slots p x l s reached sx).1)) (λ ne. h.learnt_since r);

@@ -21,10 +21,10 @@ use Rattle.tree_law.specs.Keys.{Key}
 use Rattle.tree_law.specs.Next.{IsReuse, IsMoved, IsHomed, Next}
 use Rattle.tree_law.specs.Owners.{Owner, Spare, Linked, Owners, Reached, OwnFits, PageFits}
 use Rattle.tree_law.specs.Phase.{Stage, Fresh, Indexed, Held, Removed, Merged, PageOwner, Keeps, Placed, Cleared}
-use Rattle.tree_law.specs.Phases.{Links, Exchanged}
+use Rattle.tree_law.specs.Phases.{LinkMoves, Exchanged}
 use Rattle.tree_law.specs.Put.{put}
 use Rattle.tree_law.specs.Shared.{row_in, slot_in, shared}
-use Rattle.tree_law.specs.Tree.{Good}
+use Rattle.tree_law.specs.Tree.{IsTree}
 use Rattle.tree_law.specs.Times.{Outing, Times, Holds, Timed, split_page, times_after}
 use Rattle.tree_law.proofs.Keeping.{slot_of, met_placed}
 use Rattle.tree_law.proofs.Kept.{placed_reached}
@@ -90,7 +90,7 @@ put_reached f f' c l0 s0 st n was e at q l s r = go (subst (λ (h : ℕ → Page
 put_cleared : (f f' : ℕ → PageOwner) (c l0 : ℕ) (s0 : Key) (st : Stage) (n : PageOwner) → f c ≡ Placed st l0 s0 → f' ≡ put f c n → (q b l : ℕ) (s : Key) → f q ≡ Cleared b l s → f' q ≡ Cleared b l s
 put_cleared f f' c l0 s0 st n was e q b l s i = ap (λ (h : ℕ → PageOwner). h q) e ∙ put_other f c n q (λ j. absurd (let z = sym i ∙ ap f j ∙ was in cc)) ∙ i
 
-module _ {limits : Limits} {m : Memory} {log : List Update} {o : Owners} {knows : ℕ → Knowledge} {point : ℕ → Option (List Update)} {logs : ℕ → List (List Update)} {now : ℕ} {t : Times} (g : Good (shared m) log o knows point logs) (T : Timed limits m o knows now t) (a : ℕ) where
+module _ {limits : Limits} {m : Memory} {log : List Update} {o : Owners} {knows : ℕ → Knowledge} {point : ℕ → Option (List Update)} {logs : ℕ → List (List Update)} {now : ℕ} {t : Times} (g : IsTree (shared m) log o knows point logs) (T : Timed limits m o knows now t) (a : ℕ) where
   abbrev pub After : Memory → StepOf Record → Answer Record → Option Reply → Type 0
   After m' s x r = (n : Next a (shared m) (shared m') log o knows point logs s x r) → Timed limits m' n.owners (put knows a (finished (learn (knows a) s x) r)) (suc now) (times_after a m o now s x t)
 
@@ -168,7 +168,7 @@ module _ {limits : Limits} {m : Memory} {log : List Update} {o : Owners} {knows 
   put_reach p y f' c l0 s0 st n was e at q l s r = inl (put_reached o.page f' c l0 s0 st n was e at q l s r)
 
   -- what a link does with pages
-  links_pages : (p x y : ℕ) (w : Record) (f' : ℕ → PageOwner) → m.rows (suc y) ≡ Some w → ((s : SplitOf) → w ≡ Split s → (base : ℕ) × ((knows a).own.pages s.page ≡ Ready base) × IsOwn ((knows a).own.rows base) × (base ≢ suc y)) → Links (shared m) a w (suc p) o.page f' → Reach p y f' × Clears f'
+  links_pages : (p x y : ℕ) (w : Record) (f' : ℕ → PageOwner) → m.rows (suc y) ≡ Some w → ((s : SplitOf) → w ≡ Split s → (base : ℕ) × ((knows a).own.pages s.page ≡ Ready base) × IsOwn ((knows a).own.rows base) × (base ≢ suc y)) → LinkMoves (shared m) a w (suc p) o.page f' → Reach p y f' × Clears f'
   unfolding Reach Clears
   links_pages p x y (Base w) f' st sp h = (same_reach p y f' h, same_clears f' h)
   links_pages p x y (Put w) f' st sp h = (same_reach p y f' h, same_clears f' h)
@@ -225,7 +225,7 @@ module _ {limits : Limits} {m : Memory} {log : List Update} {o : Owners} {knows 
       let other : (knows a).own.pages (suc p) ≡ Other = not_own g a (suc p) (level_in h.basis.chain) (low_in h.basis.chain) place.stage place.placed ((knows a).own.pages (suc p)) (g.owns_pages a (suc p)) in
       let own : (o.row (suc y) ≡ Spare a) × (m.rows (suc y) ≡ Some h.content) = subst (λ (v : OwnRow). OwnFits a (o.row (suc y)) (m.rows (suc y)) v) h.placed (g.owns a (suc y)) in
       let same : n.phased.0 ≡ h.content = same_Some n.phased.0 h.content (sym n.phased.1 ∙ own.1) in
-      let links = subst (λ (w : Record). Links (shared m) a w (suc p) o.page n.owners.page) same n.phased.2 in
+      let links = subst (λ (w : Record). LinkMoves (shared m) a w (suc p) o.page n.owners.page) same n.phased.2 in
       let pages = links_pages p (suc x) y h.content n.owners.page own.1 h.split links in
       let at = T.slots (suc p) (suc x) (level_in h.basis.chain) (low_in h.basis.chain) f.reached held in
       subst (λ (k : Knowledge). Timed limits m' n.owners (put knows a (finished k r)) (suc now) (times_after a m o now (Exchange (suc p) (suc x) (suc y)) (answer.Whether true) t)) (sym (rw (other, h.placed) refl))
@@ -246,7 +246,7 @@ module _ {limits : Limits} {m : Memory} {log : List Update} {o : Owners} {knows 
       ((T.holds a).heads_since (suc p) (suc x) h.basis.head).learnt_row
       (f.linked, at.0, at.1)
       r h.content own.1
-      (λ u e. let l = subst (λ (w : Record). Links (shared m) a w (suc p) o.page n.owners.page) e links in placed_in g T a u.child l.0 u.separator Merged l.1 (t.page_out u.child) refl)
+      (λ u e. let l = subst (λ (w : Record). LinkMoves (shared m) a w (suc p) o.page n.owners.page) e links in placed_in g T a u.child l.0 u.separator Merged l.1 (t.page_out u.child) refl)
       (λ s e. let b = h.split s e in (b.0, b.1)))
     where
       m' : Memory

@@ -24,7 +24,7 @@ use Rattle.op_machine.specs.Updates.{IsUpdateLink}
 use Rattle.tree_law.specs.Next.{After, IsDue, pointed}
 use Rattle.tree_law.specs.Owners.{Owners, OwnFits, LinkFits}
 use Rattle.tree_law.specs.Shared.{row_in, shared}
-use Rattle.tree_law.specs.Tree.{Good}
+use Rattle.tree_law.specs.Tree.{IsTree}
 use Rattle.tree_law.proofs.Phasing.{link_ready, link_empty, link_front}
 use Rattle.tree_law.proofs.Puts.{put_same, eqb_true}
 use Rattle.tree_law.proofs.Relinking.{not_own, found, place_of}
@@ -167,7 +167,7 @@ pub record LinksNow (m : Memory) (s : StepOf Record) (x : Answer Record) : Type 
   pub link : link_of m slot old new ≡ Some kind
   pub update : IsUpdateLink kind
 
-module _ (m : Memory) {log : List Update} {o : Owners} {knows : ℕ → Knowledge} {point : ℕ → Option (List Update)} {logs : ℕ → List (List Update)} (g : Good (shared m) log o knows point logs) (a : ℕ) where
+module _ (m : Memory) {log : List Update} {o : Owners} {knows : ℕ → Knowledge} {point : ℕ → Option (List Update)} {logs : ℕ → List (List Update)} (g : IsTree (shared m) log o knows point logs) (a : ℕ) where
   -- an own row has what was placed there
   stands : (row : ℕ) (content : Record) → (knows a).own.rows row ≡ Written content → m.rows row ≡ Some content
   stands row content e = (subst (λ (v : OwnRow). OwnFits a (o.row row) (m.rows row) v) e (g.owns a row)).1

@@ -7,7 +7,7 @@ use Rattle.base_page.specs.declared.item.Content.TheVariants.{Child}
 use Rattle.deltas.specs.declared.record.Record.{Record}
 use Rattle.deltas.specs.Records.{next_row}
 use Rattle.chain_search.specs.Chains.{IsChainFrom, IsFront, level_in, low_in, high_in, is_removed}
-use Rattle.chain_search.specs.Fitting.{SaysOf, SaysRight, IsWhole}
+use Rattle.chain_search.specs.Fitting.{SaysOf, SaysRight, IsReadWhole}
 use Rattle.chain_search.specs.Knowledge.{Knowledge}
 use Rattle.chain_search.proofs.ChainLaws.{IsChainFrom-unique}
 use Rattle.tree_law.specs.Fitness.{AreFitted}
@@ -15,7 +15,7 @@ use Rattle.tree_law.specs.Keys.{Key}
 use Rattle.tree_law.specs.Owners.{Linked, Owners, Reached, ChainNames, SeenFits, HeadFits}
 use Rattle.tree_law.specs.Phase.{PageOwner, Nobody, Keeps, Placed, Cleared, rank_of}
 use Rattle.tree_law.specs.Shared.{Shared}
-use Rattle.tree_law.specs.Tree.{Good}
+use Rattle.tree_law.specs.Tree.{IsTree}
 use Rattle.tree_law.proofs.Chains.{front_of}
 use Rattle.tree_law.proofs.Frames.{chain_stands}
 use Rattle.tree_law.proofs.Keeping.{read_names, beyond_reached}
@@ -32,7 +32,7 @@ some_longer : (rows : ℕ → Option Record) (x : ℕ) (c : List Record) → IsC
 some_longer rows x [] h = absurd h
 some_longer rows x (w ∷ c) h = omega arith
 
-module _ {m : Shared} {log : List Update} {o : Owners} {knows : ℕ → Knowledge} {point : ℕ → Option (List Update)} {logs : ℕ → List (List Update)} (g : Good m log o knows point logs) (fitted : AreFitted o m.rows) (a : ℕ) where
+module _ {m : Shared} {log : List Update} {o : Owners} {knows : ℕ → Knowledge} {point : ℕ → Option (List Update)} {logs : ℕ → List (List Update)} (g : IsTree m log o knows point logs) (fitted : AreFitted o m.rows) (a : ℕ) where
   -- The chain of a slot that was read.
   record HeadChain (page head : ℕ) : Type 0 where
     chain : List Record
@@ -71,7 +71,7 @@ module _ {m : Shared} {log : List Update} {o : Owners} {knows : ℕ → Knowledg
       subst (λ (d : List Record). Reached 0 (level_in d) (low_in d) (o.page page)) same w.reached
 
   -- the chain of a slot that was read is whole, where the pages of the tree are below the limit
-  is_whole : (limits : Limits) → ((r p l : ℕ) (s : Key) → Reached r l s (o.page p) → (0 < p) × (p < limits.pids)) → (page head : ℕ) → (knows a).read.heads page ≡ Some head → (w : HeadChain page head) → IsWhole limits (knows a) page w.chain
+  is_whole : (limits : Limits) → ((r p l : ℕ) (s : Key) → Reached r l s (o.page p) → (0 < p) × (p < limits.pids)) → (page head : ℕ) → (knows a).read.heads page ≡ Some head → (w : HeadChain page head) → IsReadWhole limits (knows a) page w.chain
   is_whole limits below page head at w = record {
     is_chain = fitted head w.linked w.chain w.stands;
     root = λ e. let i = (g.sound a).roots_fit page e in (reached_one 0 0 i.0 (level_in w.chain) [] (low_in w.chain) (o.page page) i.1 w.reached).1;
@@ -105,7 +105,7 @@ module _ {m : Shared} {log : List Update} {o : Owners} {knows : ℕ → Knowledg
         let short = (fitted head whole.linked whole.chain whole.stands).short in
         omega arith
 
-    pub whole_chain : (limits : Limits) → ((r p l : ℕ) (s : Key) → Reached r l s (o.page p) → (0 < p) × (p < limits.pids)) → next_row w ≡ None → IsWhole limits (knows a) page (front ++ w ∷ [])
+    pub whole_chain : (limits : Limits) → ((r p l : ℕ) (s : Key) → Reached r l s (o.page p) → (0 < p) × (p < limits.pids)) → next_row w ≡ None → IsReadWhole limits (knows a) page (front ++ w ∷ [])
     whole_chain limits below last =
         let ends : rest.0 ≡ w ∷ [] = IsChainFrom-unique m.rows q rest.0 (w ∷ []) rest.1 (stands, rw last refl) in
-        subst (IsWhole limits (knows a) page) (rest.2 ∙ ap (λ r. front ++ r) ends) (is_whole limits below page head at whole)
+        subst (IsReadWhole limits (knows a) page) (rest.2 ∙ ap (λ r. front ++ r) ends) (is_whole limits below page head at whole)

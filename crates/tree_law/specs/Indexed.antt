@@ -15,12 +15,12 @@ use Rattle.tree_law.specs.Phase.{Stage, PageOwner, Placed, mark, rank}
 use Rattle.tree_law.specs.Owners.{Owners}
 
 -- The pages have at the key a term for the child.
-abbrev pub HasTerm : List LivePage → Key → ℕ → Bool → Type 0
-HasTerm pages key child held = (page : LivePage) × Contains pages page × IsTrue (covers page.chain key) × (content_in page.chain key ≡ Some (Child child held))
+abbrev pub HasTermAt : List LivePage → Key → ℕ → Bool → Type 0
+HasTermAt pages key child held = (page : LivePage) × Contains pages page × IsTrue (covers page.chain key) × (content_in page.chain key ≡ Some (Child child held))
 
 -- The page of the PID is of the level, and begins at the key.
-abbrev pub IsPageAt : Memory → ℕ → Key → ℕ → Type 0
-IsPageAt memory level key pid = (chain : List Record) × IsChainOf memory pid chain × (level_in chain ≡ level) × (low_in chain ≡ key)
+abbrev pub IsPageIn : Memory → ℕ → Key → ℕ → Type 0
+IsPageIn memory level key pid = (chain : List Record) × IsChainOf memory pid chain × (level_in chain ≡ level) × (low_in chain ≡ key)
 
 -- The page is at a stage that has a term, held or not.
 abbrev pub HasMark : PageOwner → ℕ → Bool → Type 0
@@ -39,11 +39,11 @@ pub record IsIndexed (memory : Memory) (o : Owners) : Type 0 where
   pub root : memory.slots 0 ≡ first top
   pub firsts : (l : ℕ) → l ≤ top → (st : Stage) × (o.page (first l) ≡ Placed st l []) × (rank st ≤ 3)
   pub only : (q l : ℕ) (st : Stage) → l ≤ top → o.page q ≡ Placed st l [] → rank st ≤ 3 → q ≡ first l
-  pub begins : (l : ℕ) → l ≤ top → IsPageAt memory l [] (first l)
+  pub begins : (l : ℕ) → l ≤ top → IsPageIn memory l [] (first l)
   pub pages : (l : ℕ) → l ≤ top → List LivePage
   pub side : (l : ℕ) (le : l ≤ top) → IsSideChainFrom memory (first l) (pages l le)
   pub whole : (l : ℕ) (le : l ≤ top) → IsWhole (pages l le)
-  pub terms : (l : ℕ) (le : suc l ≤ top) (key : Key) (child : ℕ) (held : Bool) → HasTerm (pages (suc l) le) key child held ↔ (IsPageAt memory l key child × HasMark (o.page child) child held)
+  pub terms : (l : ℕ) (le : suc l ≤ top) (key : Key) (child : ℕ) (held : Bool) → HasTermAt (pages (suc l) le) key child held ↔ (IsPageIn memory l key child × HasMark (o.page child) child held)
 
 -- In the trace the first page of each level is the one that slot 0 first held, each level that a root had has a first page,
 -- and the index was exact at each moment.

@@ -20,8 +20,8 @@ abbrev pub IsUnder : Key → Option Key → Type 0
 IsUnder key bound = is_under key bound ≡ true
 
 -- The key is at or below the bound; where there is no bound, each key is.
-abbrev pub IsWithin : Key → Option Key → Type 0
-IsWithin key bound = IfSome bound (λ high. IsUpTo key high)
+abbrev pub IsWithinEnd : Key → Option Key → Type 0
+IsWithinEnd key bound = IfSome bound (λ high. IsUpTo key high)
 
 -- the key is in the chain's range
 pub record Covers (chain : List Record) (key : Key) : Type 0 where

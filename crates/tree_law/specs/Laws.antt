@@ -20,7 +20,7 @@ use Rattle.tree_law.specs.Put.{put}
 use Rattle.tree_law.specs.Replies.{IsRepliedAt}
 use Rattle.tree_law.specs.Shared.{Shared, shared}
 use Rattle.tree_law.specs.Times.{Times, Timed}
-use Rattle.tree_law.specs.Tree.{Good}
+use Rattle.tree_law.specs.Tree.{IsTree}
 
 -- The order of keys is total, and the empty key is lowest.
 pub record KeyLaw : Type 0 where
@@ -32,12 +32,12 @@ pub record KeyLaw : Type 0 where
 
 -- The opening memory meets the invariant at the empty log, while nobody knows anything.
 abbrev pub OpenLaw : Type 0
-OpenLaw = (limits : Limits) → (o : Owners) × Good (shared (opening limits)) [] o (λ actor. nothing) (λ actor. None) (λ actor. [])
+OpenLaw = (limits : Limits) → (o : Owners) × IsTree (shared (opening limits)) [] o (λ actor. nothing) (λ actor. None) (λ actor. [])
 
 -- An operation's begin keeps it.
 abbrev pub BeginLaw : Type 0
-BeginLaw = (m : Shared) (log : List Update) (o : Owners) (knows : ℕ → Knowledge) (point : ℕ → Option (List Update)) (logs : ℕ → List (List Update)) → Good m log o knows point logs
-    → (a : ℕ) (command : Command) → Good m log o (put knows a (begun (knows a) command)) (put point a None) (put logs a [])
+BeginLaw = (m : Shared) (log : List Update) (o : Owners) (knows : ℕ → Knowledge) (point : ℕ → Option (List Update)) (logs : ℕ → List (List Update)) → IsTree m log o knows point logs
+    → (a : ℕ) (command : Command) → IsTree m log o (put knows a (begun (knows a) command)) (put point a None) (put logs a [])
 
 -- What a step leaves, and what actors hold then.
 pub record Stepped (limits : Limits) (memory : Memory) (log : List Update) (o : Owners) (knows : ℕ → Knowledge) (point : ℕ → Option (List Update)) (logs : ℕ → List (List Update)) (now a : ℕ) (s : StepOf Record) (x : Answer Record) (r : Option Reply) : Type 0 where
@@ -47,14 +47,14 @@ pub record Stepped (limits : Limits) (memory : Memory) (log : List Update) (o : 
 
 -- Each allowed step with the memory's answer keeps the invariant, with what the step adds to the log, and what actors hold.
 abbrev pub StepLaw : Type 0
-StepLaw = (limits : Limits) (memory : Memory) (log : List Update) (o : Owners) (knows : ℕ → Knowledge) (point : ℕ → Option (List Update)) (logs : ℕ → List (List Update)) (now : ℕ) (t : Times) → Good (shared memory) log o knows point logs → Timed limits memory o knows now t
+StepLaw = (limits : Limits) (memory : Memory) (log : List Update) (o : Owners) (knows : ℕ → Knowledge) (point : ℕ → Option (List Update)) (logs : ℕ → List (List Update)) (now : ℕ) (t : Times) → IsTree (shared memory) log o knows point logs → Timed limits memory o knows now t
     → (a : ℕ) → a < limits.actors → (s : StepOf Record) (x : Answer Record) (r : Option Reply) → IsAllowed limits a (knows a) s r → IsAnswer memory s x → Stepped limits memory log o knows point logs now a s x r
 
 -- A reply that an actor may give is its command's by a log of its operation.
 abbrev pub AnswerLaw : Type 0
-AnswerLaw = (m : Shared) (log : List Update) (o : Owners) (knows : ℕ → Knowledge) (point : ℕ → Option (List Update)) (logs : ℕ → List (List Update)) → Good m log o knows point logs
+AnswerLaw = (m : Shared) (log : List Update) (o : Owners) (knows : ℕ → Knowledge) (point : ℕ → Option (List Update)) (logs : ℕ → List (List Update)) → IsTree m log o knows point logs
     → (a : ℕ) (command : Command) (reply : Reply) → MayAnswer a (knows a) command reply → IsRepliedAt a command reply (point a) (logs a)
 
 -- The levels are whole side chains, and the index between them is exact.
 abbrev pub IndexLaw : Type 0
-IndexLaw = (memory : Memory) (log : List Update) (o : Owners) (knows : ℕ → Knowledge) (point : ℕ → Option (List Update)) (logs : ℕ → List (List Update)) → Good (shared memory) log o knows point logs → IsIndexed memory o
+IndexLaw = (memory : Memory) (log : List Update) (o : Owners) (knows : ℕ → Knowledge) (point : ℕ → Option (List Update)) (logs : ℕ → List (List Update)) → IsTree (shared memory) log o knows point logs → IsIndexed memory o

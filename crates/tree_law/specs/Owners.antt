@@ -7,7 +7,7 @@ use Rattle.base_page.specs.declared.item.Content.TheVariants.{Value, Child}
 use Rattle.deltas.specs.declared.record.Record.{Record}
 use Rattle.deltas.specs.Records.{next_row}
 use Rattle.chain_search.specs.Chains.{IsChainFrom, content_in, level_in, low_in, high_in, right_in, is_removed}
-use Rattle.tree_law.specs.Keys.{Key, IsBelow, IsWithin, Covers}
+use Rattle.tree_law.specs.Keys.{Key, IsBelow, IsWithinEnd, Covers}
 use Rattle.chain_search.specs.Knowledge.{OwnRow, Foreign, Taken, Written, OwnPage, Other, Empty, Ready, Gone}
 use Rattle.tree_law.specs.Phase.{PageOwner, Nobody, Keeps, Placed, Cleared, rank, child_of, rank_of}
 use Rattle.tree_law.specs.Shared.{Shared}
@@ -86,7 +86,7 @@ abbrev pub leaf_map : List Update → Key → Option Content
 leaf_map log key = option_map Value (value_in log key)
 
 -- the chain from the row; on a leaf that is not removed it decides each key of its range as the log does
-pub record Spells (o : Owners) (m : Shared) (x : ℕ) (l : List Update) : Type 0 where
+pub record SpellsLog (o : Owners) (m : Shared) (x : ℕ) (l : List Update) : Type 0 where
   pub linked : o.row x ≡ Linked
   pub chain : List Record
   pub is_chain : IsChain m.rows chain (Some x)
@@ -104,13 +104,13 @@ IsOut w s = (s ≡ None) × IsCleared w
 -- there until the page is cleared; what another one names is in the tree.
 abbrev pub HeadFits : Owners → Shared → List (List Update) → ℕ → Option ℕ → Type 0
 HeadFits o m logs p None = ⊤
-HeadFits o m logs p (Some x) = (l : List Update) × Among l logs × (h : Spells o m x l) × Reached 0 (level_in h.chain) (low_in h.chain) (o.page p) × (is_removed h.chain ≡ true → (m.slots p ≡ Some x) ⊎ IsOut (o.page p) (m.slots p)) × (is_removed h.chain ≡ false → ChainNames o h.chain)
+HeadFits o m logs p (Some x) = (l : List Update) × Among l logs × (h : SpellsLog o m x l) × Reached 0 (level_in h.chain) (low_in h.chain) (o.page p) × (is_removed h.chain ≡ true → (m.slots p ≡ Some x) ⊎ IsOut (o.page p) (m.slots p)) × (is_removed h.chain ≡ false → ChainNames o h.chain)
 
 -- the row over which the operation linked its update spelled the log at its point, until its actor leaves
 abbrev pub LinkFits : Owners → Shared → Option (List Update) → Option (Option ℕ) → Type 0
 LinkFits o m point None = point ≡ None
 LinkFits o m point (Some None) = (l : List Update) × (point ≡ Some l)
-LinkFits o m point (Some (Some x)) = (l : List Update) × (point ≡ Some l) × Spells o m x l
+LinkFits o m point (Some (Some x)) = (l : List Update) × (point ≡ Some l) × SpellsLog o m x l
 
 -- slot f had been read as x before slot p was read as y
 pub record InOrder (o : Owners) (m : Shared) (logs : List (List Update)) (p y f x : ℕ) : Type 0 where
@@ -123,7 +123,7 @@ pub record InOrder (o : Owners) (m : Shared) (logs : List (List Update)) (p y f 
   pub uncleared : (c d : List Record) → IsChain m.rows c (Some x) → IsChain m.rows d (Some y) → is_removed c ≡ false → is_removed d ≡ false → level_in c ≡ suc (level_in d) → Covers c (low_in d) → m.slots f ≡ Some x → IsCleared (o.page p) → ⊥
   -- a page with a held term that then was not where it had to be was merged
   pub merged : (c d : List Record) (s : Key) (q : ℕ) → IsChain m.rows c (Some x) → IsChain m.rows d (Some y) → is_removed c ≡ false → is_removed d ≡ false → level_in c ≡ suc (level_in d) → Covers c s → content_in c s ≡ Some (Child q true)
-      → IsBelow (low_in d) s → IsWithin s (high_in d) → (high_in d ≡ Some s → right_in d ≡ Some q → ⊥) → Reached 4 (level_in d) s (o.page q)
+      → IsBelow (low_in d) s → IsWithinEnd s (high_in d) → (high_in d ≡ Some s → right_in d ≡ Some q → ⊥) → Reached 4 (level_in d) s (o.page q)
   -- a removed leaf that then was right of the page spelled the log
   pub spelled : (c d : List Record) → IsChain m.rows c (Some x) → IsChain m.rows d (Some y) → is_removed c ≡ true → is_removed d ≡ false → level_in c ≡ 0 → right_in d ≡ Some f → (l : List Update) × Among l logs × ((k : Key) → Covers c k → content_in c k ≡ leaf_map l k)
   -- the right of a removed page that then was right of the page is in the tree, where that one ends

@@ -19,16 +19,16 @@ abbrev pub IsRightOf : Shared → ℕ → ℕ → Type 0
 IsRightOf m p q = (x : ℕ) × (chain : List Record) × (m.slots p ≡ Some x) × IsChainFrom m.rows x chain × (right_in chain ≡ Some q)
 
 -- an exchange that links this record on page p
-abbrev pub Links : Shared → ℕ → Record → ℕ → (ℕ → PageOwner) → (ℕ → PageOwner) → Type 0
-Links m a (Base page) p f f' = f' ≡ f
-Links m a (Put record') p f f' = f' ≡ f
-Links m a (Delete record') p f f' = f' ≡ f
-Links m a (Term term) p f f' = (l : ℕ) × (f term.child ≡ Placed Fresh l term.separator) × (f' ≡ put f term.child (Placed Indexed l term.separator))
-Links m a (Hold hold) p f f' = (l : ℕ) × (f hold.child ≡ Placed Indexed l hold.separator) × (f' ≡ put f hold.child (Placed Held l hold.separator))
-Links m a (Unterm unterm) p f f' = (l : ℕ) × (f unterm.child ≡ Placed Merged l unterm.separator) × (f' ≡ put f unterm.child (Cleared a l unterm.separator))
-Links m a (Split split) p f f' = (st : Stage) × (l : ℕ) × (low : Key) × (f p ≡ Placed st l low) × (f split.page ≡ Keeps a) × (f' ≡ put f split.page (Placed Fresh l split.separator))
-Links m a (Remove remove) p f f' = (l : ℕ) × (s : Key) × (f p ≡ Placed Held l s) × (f' ≡ put f p (Placed Removed l s))
-Links m a (Merge merge) p f f' = (q l : ℕ) × (f q ≡ Placed Removed l merge.low) × (f' ≡ put f q (Placed Merged l merge.low)) × IsRightOf m p q
+abbrev pub LinkMoves : Shared → ℕ → Record → ℕ → (ℕ → PageOwner) → (ℕ → PageOwner) → Type 0
+LinkMoves m a (Base page) p f f' = f' ≡ f
+LinkMoves m a (Put record') p f f' = f' ≡ f
+LinkMoves m a (Delete record') p f f' = f' ≡ f
+LinkMoves m a (Term term) p f f' = (l : ℕ) × (f term.child ≡ Placed Fresh l term.separator) × (f' ≡ put f term.child (Placed Indexed l term.separator))
+LinkMoves m a (Hold hold) p f f' = (l : ℕ) × (f hold.child ≡ Placed Indexed l hold.separator) × (f' ≡ put f hold.child (Placed Held l hold.separator))
+LinkMoves m a (Unterm unterm) p f f' = (l : ℕ) × (f unterm.child ≡ Placed Merged l unterm.separator) × (f' ≡ put f unterm.child (Cleared a l unterm.separator))
+LinkMoves m a (Split split) p f f' = (st : Stage) × (l : ℕ) × (low : Key) × (f p ≡ Placed st l low) × (f split.page ≡ Keeps a) × (f' ≡ put f split.page (Placed Fresh l split.separator))
+LinkMoves m a (Remove remove) p f f' = (l : ℕ) × (s : Key) × (f p ≡ Placed Held l s) × (f' ≡ put f p (Placed Removed l s))
+LinkMoves m a (Merge merge) p f f' = (q l : ℕ) × (f q ≡ Placed Removed l merge.low) × (f' ≡ put f q (Placed Merged l merge.low)) × IsRightOf m p q
 
 -- A won exchange of slot 0 puts the new page above the old root, whose right becomes indexed with it. One of another slot
 -- to 0 is of an own page or of one that the actor cleared; one from 0 is of an own page.
@@ -36,7 +36,7 @@ abbrev pub Exchanged : ℕ → Shared → ℕ → ℕ → ℕ → (ℕ → PageO
 Exchanged a m zero x y f f' = (b l : ℕ) × (s : Key) × (f x ≡ Placed Indexed l []) × (f b ≡ Placed Fresh l s) × (f y ≡ Keeps a) × (f' ≡ put (put f b (Placed Indexed l s)) y (Placed Indexed (suc l) [])) × ((r level : ℕ) × (m.slots y ≡ Some r) × (m.rows r ≡ Some (root_over level x s b))) × IsBelow [] s
 Exchanged a m (suc p) x zero f f' = (f' ≡ f) × ((f (suc p) ≡ Keeps a) ⊎ ((l : ℕ) × (s : Key) × (f (suc p) ≡ Cleared a l s)))
 Exchanged a m (suc p) zero (suc y) f f' = (f' ≡ f) × (f (suc p) ≡ Keeps a)
-Exchanged a m (suc p) (suc x) (suc y) f f' = (w : Record) × (m.rows (suc y) ≡ Some w) × Links m a w (suc p) f f'
+Exchanged a m (suc p) (suc x) (suc y) f f' = (w : Record) × (m.rows (suc y) ≡ Some w) × LinkMoves m a w (suc p) f f'
 
 abbrev pub Phased : ℕ → Shared → StepOf Record → Answer Record → (ℕ → PageOwner) → (ℕ → PageOwner) → Type 0
 Phased a m (TakePid q) (Whether true) f f' = f' ≡ put f q (Keeps a)

@@ -35,7 +35,7 @@ use Rattle.tree_law.specs.Owners.{Free, Spare, Linked, Owners, Among}
 use Rattle.tree_law.specs.Phase.{Fresh, Indexed, Held, Removed, Merged, PageOwner, Nobody, Keeps, Placed, Cleared}
 use Rattle.tree_law.specs.Shared.{slot_in, shared}
 use Rattle.tree_law.specs.Times.{Times, Timed}
-use Rattle.tree_law.specs.Tree.{Good}
+use Rattle.tree_law.specs.Tree.{IsTree}
 
 -- the actor begins no operation after the one at the place
 abbrev pub IsUnended : List Entry → ℕ → ℕ → Type 0
@@ -82,15 +82,15 @@ pub record IsFullAnswer (limits : Limits) (entries : List Entry) (points : List 
   pub unmarked : (m : ℕ) → IsOwnStep entries operation m → IsPoint points m → ⊥
   pub finds : FindsNothingFree limits entries operation ⊎ FindsPageFull limits entries operation
 
-abbrev pub Answers : Limits → List Entry → List Bool → Operation → Reply → Type 0
-Answers limits entries points operation reply = Justifies entries points operation reply ⊎ ((reply ≡ Full) × IsFullAnswer limits entries points operation)
+abbrev pub IsAnsweredBy : Limits → List Entry → List Bool → Operation → Reply → Type 0
+IsAnsweredBy limits entries points operation reply = Justifies entries points operation reply ⊎ ((reply ≡ Full) × IsFullAnswer limits entries points operation)
 
 -- each mark is an own step of an operation, none has two, and each finished one replied what its command does at its mark, or Full
 pub record IsMarked (limits : Limits) (entries : List Entry) (points : List Bool) : Type 0 where
   pub beside : length points ≡ length entries
   pub own : (n : ℕ) → IsPoint points n → (operation : Operation) × IsOperation entries operation × IsOwnStep entries operation n
   pub one : (operation : Operation) (m n : ℕ) → IsOperation entries operation → IsOwnStep entries operation m → IsOwnStep entries operation n → IsPoint points m → IsPoint points n → m ≡ n
-  pub answered : (operation : Operation) (n : ℕ) (reply : Reply) → IsOperation entries operation → Finishes entries operation n reply → Answers limits entries points operation reply
+  pub answered : (operation : Operation) (n : ℕ) (reply : Reply) → IsOperation entries operation → Finishes entries operation n reply → IsAnsweredBy limits entries points operation reply
 
 -- the phase of a page by whose it is
 abbrev pub phase_of : PageOwner → Phase
@@ -111,7 +111,7 @@ IsInTree (Placed stage level low) = ⊤
 IsInTree (Cleared actor level low) = ⊤
 
 -- The page is ready for its actor, and the row in its slot has a base.
-pub record IsReady (owners : Owners) (memory : Memory) (knows : ℕ → Knowledge) (page row : ℕ) : Type 0 where
+pub record IsReadyPage (owners : Owners) (memory : Memory) (knows : ℕ → Knowledge) (page row : ℕ) : Type 0 where
   pub actor : ℕ
   pub ready : (knows actor).own.pages page ≡ Ready row
   pub owned : (owners.row row ≡ Linked) ⊎ (owners.row row ≡ Spare actor)
@@ -133,14 +133,14 @@ pub record IsNamed (limits : Limits) (entries : List Entry) (owners : Owners) (m
   pub row_below : (row : ℕ) → (owners.row row ≡ Free) ⊎ (row < limits.rows)
   pub free_pid_below : (pid : ℕ) → memory.free_pids pid ≡ true → (0 < pid) × (pid < limits.pids)
   pub pid_below : (pid : ℕ) → (phase_of (owners.page pid) ≡ phase.free) ⊎ ((0 < pid) × (pid < limits.pids))
-  pub held : (page row : ℕ) → slot_in memory.slots page ≡ Some row → IsInTree (owners.page page) ⊎ IsReady owners memory knows page row
+  pub held : (page row : ℕ) → slot_in memory.slots page ≡ Some row → IsInTree (owners.page page) ⊎ IsReadyPage owners memory knows page row
 
 pub record IsState (limits : Limits) (entries : List Entry) : Type 0 where
   pub points : List Bool
   pub owners : Owners
   pub point : ℕ → Option (List Update)
   pub logs : ℕ → List (List Update)
-  pub good : Good (shared (memory_of limits entries)) (log_of entries points) owners (knows entries) point logs
+  pub good : IsTree (shared (memory_of limits entries)) (log_of entries points) owners (knows entries) point logs
   pub fitted : AreFitted owners (memory_of limits entries).rows
   pub named : IsNamed limits entries owners (memory_of limits entries) (knows entries)
   pub tells : (actor : ℕ) (asked : Command) → command_of entries actor ≡ Some asked → Tells entries points actor asked (point actor) (logs actor)

@@ -16,13 +16,13 @@ abbrev pub spec : List Update → (ℕ → Key → Option Content) → ℕ → K
 spec log index zero = leaf_map log
 spec log index (suc l) = index l
 
-pub record Page : Type 0 where
+pub record SidePage : Type 0 where
   pub page : ℕ
   pub row : ℕ
   pub chain : List Record
 
 -- the page's slot holds this chain, of this level, whose range is not empty, and which decides each key of its range as the map does
-pub record IsPage (rows : ℕ → Option Record) (slots : ℕ → Option ℕ) (level : ℕ) (map : Key → Option Content) (p : Page) : Type 0 where
+pub record IsSidePage (rows : ℕ → Option Record) (slots : ℕ → Option ℕ) (level : ℕ) (map : Key → Option Content) (p : SidePage) : Type 0 where
   pub head : slots p.page ≡ Some p.row
   pub is_chain : IsChain rows p.chain (Some p.row)
   pub on_level : level_in p.chain ≡ level
@@ -30,28 +30,28 @@ pub record IsPage (rows : ℕ → Option Record) (slots : ℕ → Option ℕ) (l
   pub same : (k : Key) → Covers p.chain k → content_in p.chain k ≡ map k
 
 -- a page of a level
-pub record InPlace (o : Owners) (m : Shared) (level : ℕ) (map : Key → Option Content) (g : Page) : Type 0 where
+pub record InPlace (o : Owners) (m : Shared) (level : ℕ) (map : Key → Option Content) (g : SidePage) : Type 0 where
   pub stage : Stage
   pub placed : o.page g.page ≡ Placed stage level (low_in g.chain)
   pub on : rank stage ≤ 3
   pub flagged : is_removed g.chain ≡ stage_removed stage
   pub linked : o.row g.row ≡ Linked
-  pub is_page : IsPage m.rows m.slots level map g
+  pub is_page : IsSidePage m.rows m.slots level map g
 
 -- a part of a side chain, from one place to another
-abbrev pub IsPart : Owners → Shared → ℕ → (Key → Option Content) → List Page → Option ℕ → Option Key → Option ℕ → Option Key → Type 0
+abbrev pub IsPart : Owners → Shared → ℕ → (Key → Option Content) → List SidePage → Option ℕ → Option Key → Option ℕ → Option Key → Type 0
 IsPart o m e map [] p low q high = (p ≡ q) × (low ≡ high)
 IsPart o m e map (g ∷ gs) p low q high = (p ≡ Some g.page) × (low ≡ Some (low_in g.chain)) × InPlace o m e map g × IsPart o m e map gs (right_in g.chain) (high_in g.chain) q high
 
-abbrev pub HasPage : ℕ → List Page → Type 0
-HasPage p [] = ⊥
-HasPage p (g ∷ gs) = (g.page ≡ p) ⊎ HasPage p gs
+abbrev pub HasSidePage : ℕ → List SidePage → Type 0
+HasSidePage p [] = ⊥
+HasSidePage p (g ∷ gs) = (g.page ≡ p) ⊎ HasSidePage p gs
 
 -- the side chain of a level, with all pages of the level
 pub record Level (o : Owners) (m : Shared) (level : ℕ) (map : Key → Option Content) (first : ℕ) : Type 0 where
-  pub side : List Page
+  pub side : List SidePage
   pub whole : IsPart o m level map side (Some first) (Some []) None None
-  pub listed : (p : ℕ) (s : Key) (st : Stage) → o.page p ≡ Placed st level s → rank st ≤ 3 → HasPage p side
+  pub listed : (p : ℕ) (s : Key) (st : Stage) → o.page p ≡ Placed st level s → rank st ≤ 3 → HasSidePage p side
 
 -- the terms are those of the pages; on the root's level all but the root are fresh
 pub record Exact (page : ℕ → PageOwner) (index : ℕ → Key → Option Content) (top root : ℕ) : Type 0 where
@@ -91,7 +91,7 @@ pub record Frees (o : Owners) (m : Shared) : Type 0 where
   pub page : (p : ℕ) → m.free_pages p ≡ true → (o.page p ≡ Nobody) × (m.slots p ≡ None)
 
 -- For each actor the log at the point of its present operation, if it has one, and the logs at all its own steps.
-pub record Good (m : Shared) (log : List Update) (o : Owners) (knows : ℕ → Knowledge) (point : ℕ → Option (List Update)) (logs : ℕ → List (List Update)) : Type 0 where
+pub record IsTree (m : Shared) (log : List Update) (o : Owners) (knows : ℕ → Knowledge) (point : ℕ → Option (List Update)) (logs : ℕ → List (List Update)) : Type 0 where
   pub frees : Frees o m
   pub closed : IsClosed o m
   pub tree : Tree o m log
