@@ -28,8 +28,8 @@ use Rattle.op_machine.specs.Updates.{IsUpdateLink}
 use Rattle.tree_law.specs.Direct.{Accounts, Affords, IsDirectState, IsLast, Recollects, StaysDirect, Walks}
 use Rattle.tree_law.specs.State.{IsState}
 use Rattle.tree_law.specs.TraceLaws.{Opens}
-use Rattle.tree_law.proofs.Fitted.{fits}
-use Rattle.tree_law.proofs.Puts.{at_place, by_test}
+use Rattle.tree_law.proofs.answering.Fitted.{fits}
+use Rattle.tree_law.proofs.shape.Puts.{at_place, by_test}
 use Rattle.tree_law.proofs.direct.Appended.{knows-push, last_begun, last_cases, recalls-push, takes_below}
 use Rattle.tree_law.proofs.direct.Causes.{LinksLast, links_cases}
 use Rattle.tree_law.proofs.direct.Counting.{affords_begun, affords_cause, affords_kept, affords_less}

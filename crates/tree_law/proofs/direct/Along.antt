@@ -9,9 +9,9 @@ use Rattle.chain_search.specs.declared.trace.Entry.TheVariants.{Begin, Step}
 use Rattle.op_machine.specs.Direct.{IsDirect}
 use Rattle.tree_law.specs.Direct.{Accounts, DirectRuns, IsDirectState, SpendsFrom, StaysDirect}
 use Rattle.tree_law.specs.State.{IsState}
-use Rattle.tree_law.proofs.Beginning as beginning
-use Rattle.tree_law.proofs.Growth as growth
-use Rattle.tree_law.proofs.Puts.{by_test}
+use Rattle.tree_law.proofs.trace.Beginning as beginning
+use Rattle.tree_law.proofs.trace.Steps as growth
+use Rattle.tree_law.proofs.shape.Puts.{by_test}
 use Rattle.tree_law.proofs.direct.Affording.{begins, opens, steps}
 
 -- each actor can afford the steps that it says to have left

@@ -16,7 +16,7 @@ use Rattle.chain_search.proofs.Pushes.{slice_get-push, slice_get-push_cases, sli
 use Rattle.op_machine.specs.Operations.{Operation, IsOperation, TakesOwnStep}
 use Rattle.tree_law.specs.Direct.{IsLast}
 use Rattle.tree_law.specs.State.{IsUnended}
-use Rattle.tree_law.proofs.Owned.{operation_old, own_cases, takes_new}
+use Rattle.tree_law.proofs.trace.Owned.{operation_old, own_cases, takes_new}
 
 module _ (entries : List Entry) (last : Entry) where
   pub knows-push : knows (entries ++ last ∷ []) ≡ knows_after (knows entries) last

@@ -16,7 +16,7 @@ use Rattle.op_machine.specs.Direct.{IsCause, Links, Loses, Meets, Misses, TakesN
 use Rattle.op_machine.specs.Links.{link_of}
 use Rattle.op_machine.specs.Operations.{Operation, TakesOwnStep}
 use Rattle.tree_law.specs.State.{IsUnended}
-use Rattle.tree_law.proofs.Searches.{takes_kept}
+use Rattle.tree_law.proofs.trace.Searches.{takes_kept}
 use Rattle.tree_law.proofs.direct.Appended.{memory_kept, memory_last, takes_before, takes_below, takes_cases}
 
 module _ (limits : Limits) (entries : List Entry) (last : Entry) (op : Operation) where

@@ -14,7 +14,7 @@ use Rattle.chain_search.specs.declared.trace.Entry.{Entry}
 use Rattle.op_machine.specs.Direct.{IsCause, is_step_of}
 use Rattle.op_machine.specs.Operations.{Operation, IsOperation}
 use Rattle.tree_law.specs.Direct.{Affords}
-use Rattle.tree_law.proofs.Owned.{pushed_length}
+use Rattle.tree_law.proofs.trace.Owned.{pushed_length}
 use Rattle.tree_law.proofs.direct.Causes.{cause_kept}
 
 pub increasing_push : (xs : List ℕ) (x : ℕ) → IsStrictlyIncreasing xs → All (λ y. y < x) xs → IsStrictlyIncreasing (xs ++ x ∷ [])

@@ -27,7 +27,7 @@ use Rattle.op_machine.specs.Links.{link_of}
 use Rattle.op_machine.specs.Operations.{Operation, IsOperation, IsOwnStep, TakesOwnStep}
 use Rattle.op_machine.specs.Updates.{IsUpdateLink}
 use Rattle.tree_law.specs.Direct.{Affords, IsDirectState, IsLast}
-use Rattle.tree_law.proofs.Owned.{pushed_length}
+use Rattle.tree_law.proofs.trace.Owned.{pushed_length}
 use Rattle.tree_law.proofs.direct.Appended.{memory_kept, memory_last, operation_before, takes_below, takes_cases}
 use Rattle.tree_law.proofs.direct.Causes.{LinksLast, cause_kept, links_cases}
 use Rattle.tree_law.proofs.direct.Linking.{IsChange}

@@ -28,9 +28,9 @@ use Rattle.op_machine.specs.Updates.{IsUpdateLink}
 use Rattle.tree_law.specs.Owners.{PageFits}
 use Rattle.tree_law.specs.Shared.{row_in, slot_in}
 use Rattle.tree_law.specs.State.{IsInTree, IsState}
-use Rattle.tree_law.proofs.Phasing.{link_empty, link_front, link_ready}
-use Rattle.tree_law.proofs.Relinking.{found, placed_row}
-use Rattle.tree_law.proofs.UpdateLinks.{IsLinked, learns_update}
+use Rattle.tree_law.proofs.trace.Phasing.{link_empty, link_front, link_ready}
+use Rattle.tree_law.proofs.links.Relinking.{found, placed_row}
+use Rattle.tree_law.proofs.links.UpdateLinks.{IsLinked, learns_update}
 
 -- no record's kind is that of a slot that is filled or emptied
 kind_of_record : (content : Record) → (record_link content ≢ link.Ready) × (record_link content ≢ link.Undo)

@@ -19,8 +19,8 @@ use Rattle.tree_law.specs.Phase.{PageOwner, Keeps}
 use Rattle.tree_law.specs.Put.{put}
 use Rattle.tree_law.specs.Shared.{slot_in}
 use Rattle.tree_law.specs.State.{IsState, phase_of}
-use Rattle.tree_law.proofs.Keeping.{met_placed}
-use Rattle.tree_law.proofs.Puts.{by_test}
+use Rattle.tree_law.proofs.links.Keeping.{met_placed}
+use Rattle.tree_law.proofs.shape.Puts.{by_test}
 
 -- A page that is ready now was so, or its slot was exchanged now.
 module _ (page base : ℕ) where

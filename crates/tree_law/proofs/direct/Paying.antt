@@ -18,7 +18,7 @@ use Rattle.op_machine.specs.Direct.{IsCause, IsExchangeOf, IsTake, Reads, TakesN
 use Rattle.op_machine.specs.Links.{link_of}
 use Rattle.op_machine.specs.Operations.{Operation, TakesOwnStep}
 use Rattle.tree_law.specs.Direct.{IsLast, Recollects, Walks}
-use Rattle.tree_law.proofs.Searches.{takes_kept}
+use Rattle.tree_law.proofs.trace.Searches.{takes_kept}
 use Rattle.tree_law.proofs.direct.Appended.{memory_last, takes_below, takes_last}
 use Rattle.tree_law.proofs.direct.Causes.{none_kept}
 use Rattle.tree_law.proofs.direct.Linking.{IsChange}

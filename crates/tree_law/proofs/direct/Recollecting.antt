@@ -15,8 +15,8 @@ use Rattle.chain_search.specs.Recalled.{Recalled, blank, recall}
 use Rattle.op_machine.specs.Direct.{IsExchangeOf, IsTake}
 use Rattle.op_machine.specs.Operations.{Operation}
 use Rattle.tree_law.specs.Direct.{HasReadSince, IsLast, Recollects}
-use Rattle.tree_law.proofs.Owned.{pushed_length}
-use Rattle.tree_law.proofs.Searches.{takes_kept}
+use Rattle.tree_law.proofs.trace.Owned.{pushed_length}
+use Rattle.tree_law.proofs.trace.Searches.{takes_kept}
 use Rattle.tree_law.proofs.direct.Appended.{takes_below, takes_cases, takes_last}
 
 -- a function changed at one place has there the new value, and elsewhere the old one

@@ -16,10 +16,10 @@ use Rattle.chain_search.specs.Steps.{IsAnswer}
 use Rattle.op_machine.specs.Direct.{Reads, TakesNone}
 use Rattle.op_machine.specs.Operations.{Operation, TakesOwnStep}
 use Rattle.tree_law.specs.Direct.{IsLast, Walks}
-use Rattle.tree_law.proofs.Exchanged.{exchanged_alike}
-use Rattle.tree_law.proofs.Owned.{pushed_length}
-use Rattle.tree_law.proofs.Puts.{by_test}
-use Rattle.tree_law.proofs.Searches.{takes_kept}
+use Rattle.tree_law.proofs.links.Exchanged.{exchanged_alike}
+use Rattle.tree_law.proofs.trace.Owned.{pushed_length}
+use Rattle.tree_law.proofs.shape.Puts.{by_test}
+use Rattle.tree_law.proofs.trace.Searches.{takes_kept}
 use Rattle.tree_law.proofs.direct.Appended.{takes_below, takes_cases, takes_last}
 
 -- what was read stays known but for a read of a row, and a leave

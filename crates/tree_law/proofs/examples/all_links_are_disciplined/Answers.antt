@@ -1,4 +1,4 @@
-use Rattle.tree_law.proofs.LinkRun.{all_links_disciplined}
+use Rattle.tree_law.proofs.runs.LinkRun.{all_links_disciplined}
 use Rattle.tree_law.proofs.examples.all_links_are_disciplined.Goals as goal
 
 pub returns : goal.returns

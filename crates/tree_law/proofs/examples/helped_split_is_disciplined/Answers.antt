@@ -1,4 +1,4 @@
-use Rattle.tree_law.proofs.HelpRun.{help_disciplined}
+use Rattle.tree_law.proofs.runs.HelpRun.{help_disciplined}
 use Rattle.tree_law.proofs.examples.helped_split_is_disciplined.Goals as goal
 
 pub returns : goal.returns

@@ -1,4 +1,4 @@
-use Rattle.tree_law.proofs.RoomRun.{no_room_disciplined}
+use Rattle.tree_law.proofs.runs.RoomRun.{no_room_disciplined}
 use Rattle.tree_law.proofs.examples.no_room_is_disciplined.Goals as goal
 
 pub returns : goal.returns

@@ -1,4 +1,4 @@
-use Rattle.tree_law.proofs.KeyOrder.{below_upto, upto_below, not_below, upto_both, empty_lowest}
+use Rattle.tree_law.proofs.shape.KeyOrder.{below_upto, upto_below, not_below, upto_both, empty_lowest}
 use Rattle.tree_law.proofs.invariant.key_order.Goals as goal
 
 pub returns : goal.returns

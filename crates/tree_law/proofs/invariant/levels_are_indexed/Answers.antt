@@ -1,4 +1,4 @@
-use Rattle.tree_law.proofs.Exactness.{is_indexed}
+use Rattle.tree_law.proofs.shape.Exactness.{is_indexed}
 use Rattle.tree_law.proofs.invariant.levels_are_indexed.Goals as goal
 
 pub returns : goal.returns

@@ -1,4 +1,4 @@
-use Rattle.tree_law.proofs.Keeping as keeping
+use Rattle.tree_law.proofs.links.Keeping as keeping
 use Rattle.tree_law.proofs.invariant.one_begin_keeps.Goals as goal
 
 pub returns : goal.returns

@@ -1,4 +1,4 @@
-use Rattle.tree_law.proofs.Opening.{opens}
+use Rattle.tree_law.proofs.trace.Opening.{opens}
 use Rattle.tree_law.proofs.invariant.opening_is_good.Goals as goal
 
 pub returns : goal.returns

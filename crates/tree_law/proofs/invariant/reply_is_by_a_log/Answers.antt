@@ -1,4 +1,4 @@
-use Rattle.tree_law.proofs.Answering.{answers}
+use Rattle.tree_law.proofs.answering.Answering.{answers}
 use Rattle.tree_law.proofs.invariant.reply_is_by_a_log.Goals as goal
 
 pub returns : goal.returns

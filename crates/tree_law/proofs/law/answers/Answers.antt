@@ -1,4 +1,4 @@
-use Rattle.tree_law.proofs.Fitted.{fits, row_stands}
+use Rattle.tree_law.proofs.answering.Fitted.{fits, row_stands}
 use Rattle.tree_law.proofs.law.answers.Goals as goal
 
 pub returns-clause-stand : goal.returns-clause-stand

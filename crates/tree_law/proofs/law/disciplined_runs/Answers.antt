@@ -1,4 +1,4 @@
-use Rattle.tree_law.proofs.Runs.{disciplined, linearized}
+use Rattle.tree_law.proofs.trace.Runs.{disciplined, linearized}
 use Rattle.tree_law.proofs.law.disciplined_runs.Goals as goal
 
 pub returns-clause-states : goal.returns-clause-states

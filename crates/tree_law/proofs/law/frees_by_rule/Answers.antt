@@ -1,4 +1,4 @@
-use Rattle.tree_law.proofs.Growth.{frees_by_rule}
+use Rattle.tree_law.proofs.trace.Steps.{frees_by_rule}
 use Rattle.tree_law.proofs.law.frees_by_rule.Goals as goal
 
 pub returns : goal.returns

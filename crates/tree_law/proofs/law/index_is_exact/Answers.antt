@@ -1,4 +1,4 @@
-use Rattle.tree_law.proofs.Growth.{index_is_exact}
+use Rattle.tree_law.proofs.trace.Steps.{index_is_exact}
 use Rattle.tree_law.proofs.law.index_is_exact.Goals as goal
 
 pub returns : goal.returns

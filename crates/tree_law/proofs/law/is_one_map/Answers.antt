@@ -1,4 +1,4 @@
-use Rattle.tree_law.proofs.Growth.{is_one_map}
+use Rattle.tree_law.proofs.trace.Steps.{is_one_map}
 use Rattle.tree_law.proofs.law.is_one_map.Goals as goal
 
 pub returns : goal.returns

@@ -1,4 +1,4 @@
-use Rattle.tree_law.proofs.Growth.{keeps_phases}
+use Rattle.tree_law.proofs.trace.Steps.{keeps_phases}
 use Rattle.tree_law.proofs.law.keeps_phases.Goals as goal
 
 pub returns : goal.returns

@@ -1,4 +1,4 @@
-use Rattle.tree_law.proofs.Beginning.{opens}
+use Rattle.tree_law.proofs.trace.Beginning.{opens}
 use Rattle.tree_law.proofs.law.opens.Goals as goal
 
 pub returns : goal.returns

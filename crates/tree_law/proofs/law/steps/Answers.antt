@@ -1,4 +1,4 @@
-use Rattle.tree_law.proofs.Growth.{steps}
+use Rattle.tree_law.proofs.trace.Steps.{steps}
 use Rattle.tree_law.proofs.law.steps.Goals as goal
 
 pub returns : goal.returns

@@ -1,0 +1,67 @@
+-- A reply that an actor may give is its command's by a log of its operation.
+use Rattle.std.proofs.Common.{◌≡◌, ◌⊎◌, inl, inr, ℕ, List, Option, Some, None, false, ap, ◌∙◌, subst, ⊎_elim}
+use Rattle.std.specs.Prelude.{IsTrue, IsFalse}
+use Rattle.bw_model.specs.declared.command.Command.{Command}
+use Rattle.bw_model.specs.declared.command.Reply.{Reply}
+use Rattle.bw_model.specs.Log.{Update, value_in}
+use Rattle.bw_model.specs.Replies.{command_key, reply_of, update_of}
+use Rattle.chain_search.specs.Chains.{content_in, is_removed}
+use Rattle.tree_law.specs.Keys.{Key, Covers}
+use Rattle.chain_search.specs.Knowledge.{Knowledge}
+use Rattle.chain_search.specs.Discipline.{IsBeside, MayAnswer, value_of, found}
+use Rattle.tree_law.specs.Shared.{Shared}
+use Rattle.tree_law.specs.Owners.{Owners, Among, leaf_map, SpellsLog, HeadFits, LinkFits, InOrder, OrderFits}
+use Rattle.tree_law.specs.Replies.{IsRepliedAt}
+use Rattle.tree_law.specs.Tree.{IsTree}
+use Rattle.tree_law.proofs.shape.KeyOrder.{covers_from}
+use Rattle.tree_law.proofs.shape.Frames.{chain_stands, chain_decides}
+use Rattle.tree_law.proofs.links.Updating.{value_of_map}
+
+module _ {m : Shared} {log : List Update} {o : Owners} {knows : ℕ → Knowledge} {point : ℕ → Option (List Update)} {logs : ℕ → List (List Update)} (g : IsTree m log o knows point logs) (a : ℕ) where
+  -- a chain that decides its key as the log does gives the log's reply
+  replied : (command : Command) (reply : Reply) → (h : MayAnswer a (knows a) command reply) → (l : List Update) → content_in h.chain (command_key command) ≡ leaf_map l (command_key command)
+      → (point a ≡ Some l) ⊎ ((point a ≡ None) × (update_of a command (found h.chain (command_key command)) ≡ None) × Among l (logs a)) → IsRepliedAt a command reply (point a) (logs a)
+  replied command reply h l decides own = record {
+    at = l;
+    same = subst (λ (v : Option Key). reply_of command v ≡ Some reply) value h.is;
+    own = ⊎_elim
+        (λ (u : point a ≡ Some l). inl u)
+        (λ (u : (point a ≡ None) × (update_of a command (found h.chain (command_key command)) ≡ None) × Among l (logs a)). inr (u.0, subst (λ (v : Option Key). update_of a command v ≡ None) value u.1, u.2))
+        own;
+  }
+    where
+      value : found h.chain (command_key command) ≡ value_in l (command_key command)
+      value = ap value_of decides ∙ value_of_map (value_in l (command_key command))
+
+  pub answers : (command : Command) (reply : Reply) → MayAnswer a (knows a) command reply → IsRepliedAt a command reply (point a) (logs a)
+  answers command reply h = ⊎_elim by_link (λ (u : Unlinked ⊎ Beside). ⊎_elim by_head by_left u) h.basis
+    where
+      inside : Covers h.chain (command_key command)
+      inside = covers_from h.chain (command_key command) h.covers
+
+      decides : is_removed h.chain ≡ false → (l : List Update) → SpellsLog o m h.row l → content_in h.chain (command_key command) ≡ leaf_map l (command_key command)
+      decides alive l s = chain_decides o m (knows a).read.seen (g.sound a).seen_fits h.row h.chain h.read l s h.leaf alive (command_key command) inside
+
+      Unlinked : Type 0
+      Unlinked = ((knows a).asked.linked ≡ None) × ((page : ℕ) × ((knows a).read.heads page ≡ Some h.row) × IsFalse (is_removed h.chain)) × (update_of a command (found h.chain (command_key command)) ≡ None)
+
+      Beside : Type 0
+      Beside = ((knows a).asked.linked ≡ None) × IsBeside (knows a) h.row × IsTrue (is_removed h.chain) × (update_of a command (found h.chain (command_key command)) ≡ None)
+
+      none : (knows a).asked.linked ≡ None → point a ≡ None
+      none e = subst (λ (v : Option (Option ℕ)). LinkFits o m (point a) v) e (g.sound a).linked_fits
+
+      by_link : ((knows a).asked.linked ≡ Some (Some h.row)) × IsFalse (is_removed h.chain) → IsRepliedAt a command reply (point a) (logs a)
+      by_link u = let i = subst (λ (v : Option (Option ℕ)). LinkFits o m (point a) v) u.0 (g.sound a).linked_fits in replied command reply h i.0 (decides u.1 i.0 i.2) (inl i.1)
+
+      by_head : Unlinked → IsRepliedAt a command reply (point a) (logs a)
+      by_head u =
+          let i = subst (λ (v : Option ℕ). HeadFits o m (logs a) u.1.0 v) u.1.1 ((g.sound a).heads_fit u.1.0) in
+          replied command reply h i.0 (decides u.1.2 i.0 i.2) (inr (none u.0, u.2, i.1))
+
+      by_left : Beside → IsRepliedAt a command reply (point a) (logs a)
+      by_left u =
+          let b = u.1 in
+          let e : InOrder o m (logs a) b.left b.head b.other h.row = subst (λ (v : Option ℕ). OrderFits o m (logs a) b.left b.other (Some b.head) v) b.order (subst (λ (v : Option ℕ). OrderFits o m (logs a) b.left b.other v ((knows a).read.before b.left b.other)) b.basis.head ((g.sound a).orders_fit b.left b.other)) in
+          let i = e.spelled h.chain b.basis.chain (chain_stands o m (knows a).read.seen (g.sound a).seen_fits h.chain (Some h.row) h.read) (chain_stands o m (knows a).read.seen (g.sound a).seen_fits b.basis.chain (Some b.head) b.basis.read) u.2 b.basis.alive h.leaf b.right in
+          replied command reply h i.0 (i.2 (command_key command) inside) (inr (none u.0, u.3, i.1))

@@ -1,0 +1,242 @@
+-- What a state's memory answers fits what each actor knows.
+use Rattle.tree_law.proofs.links.Merging.{frozen_as}
+use Rattle.std.proofs.Common.{◌≡◌, ◌<◌, ◌≤◌, ◌+◌, ◌*◌, ◌==◌, inl, inr, ℕ, zero, suc, List, [], Option, Some, None, Bool, true, false, refl, sym, ap, ◌∙◌, subst, arith, ◌⊎◌, ⊎_elim}
+use Rattle.std.specs.Prelude.{IfSome, if◌then◌else◌}
+use Rattle.std.specs.Int.{bit_at}
+use Rattle.std.proofs.lemmas.Bool.{eqb-true}
+use Rattle.std.proofs.lemmas.Option.{same_Some}
+use Rattle.bw_model.specs.declared.limits.Limits.{Limits}
+use Rattle.bw_model.specs.declared.step.Answer.{Answer}
+use Rattle.bw_model.specs.declared.step.Answer.TheVariants.{Number, Whether}
+use Rattle.bw_model.specs.declared.step.Step.{Step as StepOf}
+use Rattle.bw_model.specs.declared.step.Step.TheVariants.{Slot, Row, Epoch, Announce, PidBits, RowBits, Place, Exchange, TakePid, TakeRow, Enter, Leave, Retire, ReusePids, ReuseRows}
+use Rattle.deltas.specs.declared.record.Record.{Record}
+use Rattle.deltas.specs.Records.{next_row}
+use Rattle.deltas.specs.Memory.{Memory}
+use Rattle.chain_search.specs.declared.trace.Entry.{Entry}
+use Rattle.chain_search.specs.Chains.{level_in, low_in}
+use Rattle.chain_search.specs.Fitting.{FitsWord, ReadsRemoved}
+use Rattle.chain_search.specs.Steps.{IsWordOf, IsAnswer}
+use Rattle.chain_search.specs.Trace.{memory_of}
+use Rattle.chain_search.specs.Discipline.{MayExchange, May}
+use Rattle.chain_search.specs.Fitting.{FitsRow, FitsTaken, FitsTakenPid, FitsExchange, Fits}
+use Rattle.chain_search.specs.Knowledge.{OwnRow, Foreign, Taken, Written, OwnPage, Other, Empty, Ready, Gone, Limbo, Absent, Unstamped, Stamped, Knowledge, knows}
+use Rattle.tree_law.specs.Owners.{Free, Linked, Reached, OwnFits, PageFits, SeenFits, IsOut}
+use Rattle.op_machine.specs.Phases as phase
+use Rattle.tree_law.specs.Keys.{Key}
+use Rattle.tree_law.specs.Phase.{Fresh, Indexed, Held, Removed, Merged, PageOwner, Nobody, Keeps, Placed, Cleared}
+use Rattle.tree_law.specs.Shared.{row_in, slot_in, shared}
+use Rattle.tree_law.specs.State.{phase_of, IsInTree, IsState}
+use Rattle.tree_law.specs.Times.{Outing, LimboFits}
+use Rattle.tree_law.proofs.links.Keeping.{slot_of, met_placed}
+use Rattle.tree_law.proofs.shape.Exactness.{is_indexed, below_top}
+use Rattle.tree_law.proofs.shape.Kept.{placed_reached}
+use Rattle.tree_law.proofs.shape.Mapping.{slot_some}
+use Rattle.tree_law.proofs.trace.Names.{slot_none}
+use Rattle.tree_law.proofs.shape.Puts.{by_test}
+use Rattle.tree_law.proofs.links.Relinking.{not_own, found, place_of}
+use Rattle.tree_law.proofs.shape.Rows.{next_linked}
+use Rattle.tree_law.proofs.trace.Slots.{reached_in_tree}
+use Rattle.tree_law.proofs.answering.Whole.{reached_one, read_reached, short_front, whole_chain}
+
+in_tree_phase : (w : PageOwner) → IsInTree w → phase_of w ≡ phase.free → ⊥
+in_tree_phase Nobody h e = absurd h
+in_tree_phase (Keeps a) h e = absurd h
+in_tree_phase (Placed Fresh l s) h e = cc
+in_tree_phase (Placed Indexed l s) h e = cc
+in_tree_phase (Placed Held l s) h e = cc
+in_tree_phase (Placed Removed l s) h e = cc
+in_tree_phase (Placed Merged l s) h e = cc
+in_tree_phase (Cleared a l s) h e = cc
+
+above : (n : ℕ) → (n ≡ 0 → ⊥) → 0 < n
+above zero never = absurd (never refl)
+above (suc n) never = omega arith
+
+module _ (limits : Limits) (entries : List Entry) (state : IsState limits entries) (a : ℕ) where
+  abbrev m : Memory
+  m = memory_of limits entries
+
+  abbrev k : Knowledge
+  k = knows entries a
+
+  stands : (r : ℕ) (w : Record) → k.read.seen r ≡ Some w → m.rows r ≡ Some w
+  stands r w e = (subst (λ (o : Option Record). SeenFits (state.owners.row r) (m.rows r) o) e ((state.good.sound a).seen_fits r)).1
+
+  -- a linked row is a row
+  linked_some : (r : ℕ) → state.owners.row r ≡ Linked → (0 < r) × (r < limits.rows)
+  linked_some r l = (
+    above r (λ z. let f : state.owners.row r ≡ Free = ap state.owners.row z ∙ state.named.zero_free in absurd (cc)),
+    elim (state.named.row_below r) [ inl f ↦ absurd (cc) | inr lt ↦ lt ],
+  )
+
+  free_some : (r : ℕ) → m.free_rows r ≡ true → (0 < r) × (r < limits.rows)
+  free_some r e = (above r (λ z. let f : m.free_rows r ≡ false = ap m.free_rows z ∙ state.named.zero_taken in absurd (cc)), state.named.free_row_below r e)
+
+  next_some : (w : Record) → IfSome (next_row w) (λ n. state.owners.row n ≡ Linked) → IfSome (next_row w) (λ n. (0 < n) × (n < limits.rows))
+  next_some w h = elim (next_row w) as (λ o. IfSome o (λ n. state.owners.row n ≡ Linked) → IfSome o (λ n. (0 < n) × (n < limits.rows))) [ None ↦ λ h. tt | Some n ↦ λ h. linked_some n h ] h
+
+  -- a page of the tree is below the limit
+  placed_below : (r p l : ℕ) (s : Key) → Reached r l s (state.owners.page p) → (0 < p) × (p < limits.pids)
+  placed_below r p l s h = elim (state.named.pid_below p) [ inl f ↦ absurd (in_tree_phase (state.owners.page p) (reached_in_tree r l s (state.owners.page p) h) f) | inr below ↦ below ]
+
+  fits_row : (q : ℕ) (w : Record) → k.read.learnt q ≡ true → m.rows q ≡ Some w → FitsRow limits k q w
+  fits_row q w learnt e = record {
+    same = λ before seen. same_Some w before (sym e ∙ stands q before seen);
+    next = next_some w (next_linked state.owners (shared m) state.good.closed q w ((state.good.sound a).learnt_fits q learnt) e);
+    short = λ page head front at part. short_front state.good state.fitted a q w e page head front at part;
+    whole = λ page head front at part last. whole_chain state.good state.fitted a q w e page head front at part limits placed_below last;
+  }
+
+  fits_word : (free : ℕ → Bool) (limit word bits : ℕ) → ((n : ℕ) → free n ≡ true → (0 < n) × (n < limit)) → IsWordOf free word bits → FitsWord limit word bits
+  fits_word free limit word bits below is = record {
+    fits = is.fits;
+    below = λ i lt e. below (64 * word + i) (set_bit (free (64 * word + i)) (bit_at bits i) e (is.says i lt));
+  }
+    where
+      set_bit : (t : Bool) (n : ℕ) → n ≡ 1 → n ≡ (if t then 1 else 0) → t ≡ true
+      set_bit true n e f = refl
+      set_bit false n e f = absurd (omega arith)
+
+  -- what is not out is in no limbo
+  not_in_limbo : (out : Option Outing) → out ≡ None → (l : Limbo) → LimboFits a (λ c. (knows entries c).inside) state.times.entered out l → l ≡ Absent
+  not_in_limbo out e Absent h = refl
+  not_in_limbo out e Unstamped h = absurd (let i = sym e ∙ h.1 in cc)
+  not_in_limbo out e (Stamped epoch passed) h = absurd (let i = sym e ∙ h.1 in cc)
+
+  fits_taken : (q : ℕ) → m.free_rows q ≡ true → FitsTaken limits k q
+  fits_taken q e = record {
+    some = (free_some q e).0;
+    below = (free_some q e).1;
+    foreign = is_foreign (k.own.rows q) (state.good.owns a q);
+    unlearnt = is_unlearnt (k.read.learnt q) refl;
+    unseen = is_unseen (k.read.seen q) ((state.good.sound a).seen_fits q);
+    freed = not_in_limbo (state.times.row_out q) (not_out (state.times.row_out q) refl) (k.limbo.rows q) (state.timed.limbo_rows a q);
+  }
+    where
+      was : state.owners.row q ≡ Free
+      was = state.good.frees.row q e
+
+      not_out : (out : Option Outing) → state.times.row_out q ≡ out → out ≡ None
+      not_out None i = refl
+      not_out (Some w) i = elim (state.timed.rows q w i).0 [ inl l ↦ (let f = was in absurd (cc)) | inr l ↦ (let f = was in absurd (cc)) ]
+
+      is_foreign : (o : OwnRow) → OwnFits a (state.owners.row q) (m.rows q) o → o ≡ Foreign
+      is_foreign Foreign h = refl
+      is_foreign Taken h = let f = was in absurd (cc)
+      is_foreign (Written w) h = let f = was in let g = h.0 in absurd (cc)
+
+      is_unlearnt : (t : Bool) → k.read.learnt q ≡ t → k.read.learnt q ≡ false
+      is_unlearnt true i = let f = was in let g : state.owners.row q ≡ Linked = (state.good.sound a).learnt_fits q i in absurd (cc)
+      is_unlearnt false i = i
+
+      is_unseen : (o : Option Record) → SeenFits (state.owners.row q) (m.rows q) o → o ≡ None
+      is_unseen None h = refl
+      is_unseen (Some w) h = let f = was in let g = h.0 in absurd (cc)
+
+  fits_taken_pid : (q : ℕ) → m.free_pids q ≡ true → FitsTakenPid limits k q
+  fits_taken_pid q e = record { some = (state.named.free_pid_below q e).0; below = (state.named.free_pid_below q e).1; other = is_other (k.own.pages q) (state.good.owns_pages a q); freed = not_in_limbo (state.times.page_out q) (not_out (state.times.page_out q) refl) (k.limbo.pids q) (state.timed.limbo_pids a q) }
+    where
+      was : state.owners.page q ≡ Nobody
+      was = (state.good.frees.page q e).0
+
+      not_out : (out : Option Outing) → state.times.page_out q ≡ out → out ≡ None
+      not_out None i = refl
+      not_out (Some w) i = let v = (state.timed.pages q w i).0.2 in let f = was in absurd (cc)
+
+      is_other : (o : OwnPage) → PageFits a (state.owners.page q) (slot_in m.slots q) o → o ≡ Other
+      is_other Other h = refl
+      is_other Empty h = let f = was in let g = h.0 in absurd (cc)
+      is_other (Ready row) h = let f = was in let g = h.0 in absurd (cc)
+      is_other Gone h = let f = was in let g = h.2 in absurd (cc)
+
+  -- a page that was the root is in its place
+  root_linked : (p : ℕ) → k.read.roots p ≡ true → 0 < m.slots p
+  root_linked p root =
+      let first = state.rooted a p root in
+      let index = is_indexed m state.good in
+      let le = below_top m state.good p first.0 [] first.1.0 first.1.1 in
+      let same : p ≡ index.first first.0 = index.only p first.0 first.1.0 le first.1.1 first.1.2 in
+      let here = (index.begins first.0 le).1.linked in
+      rw same here
+
+  -- a page that was read removed is as it was, or its slot is empty
+  stays : (p head : ℕ) → ReadsRemoved k (suc p) head → (m.slots (suc p) ≡ head) ⊎ (m.slots (suc p) ≡ 0)
+  stays p head h = ⊎_elim
+      (λ (u : slot_in m.slots (suc p) ≡ Some head). inl (slot_some m.slots (suc p) head u).1)
+      (λ (u : IsOut (state.owners.page (suc p)) (slot_in m.slots (suc p))). inr (slot_none m.slots (suc p) (omega arith) u.0))
+      (frozen_as state.good a (suc p) head h.head h.chain h.read h.gone)
+
+  fits_slot : (p : ℕ) → May a k (Slot p) → Fits limits k (Slot p) (Number (m.slots p))
+  fits_slot zero may = elim (state.named.pid_below (m.slots 0)) [
+    | inl f ↦ absurd (let e = ap phase_of state.good.tree.exact.is_root in cc)
+    | inr below ↦ (
+      below.0,
+      below.1,
+      λ head chain e h.
+          (reached_one 0 0 state.good.tree.top (level_in chain) [] (low_in chain) (state.owners.page (m.slots 0)) (placed_reached state.good.tree.top [] Indexed (state.owners.page (m.slots 0)) state.good.tree.exact.is_root) (read_reached state.good state.fitted a (m.slots 0) head chain e h)).1,
+    )
+  ]
+  fits_slot (suc p) may = let here = met_placed state.good a (suc p) may.1 in elim (slot_of state.good a (suc p) here.0 here.1 here.2) [
+    | inl none ↦ let z : m.slots (suc p) ≡ 0 = slot_none m.slots (suc p) (omega arith) none in let some : 64 ≤ limits.rows = limits.allowed.some_rows in (omega arith, λ root. root_linked (suc p) root, λ head h. inr z)
+    | inr found ↦ let at : m.slots (suc p) ≡ found.0 = (slot_some m.slots (suc p) found.0 found.1).1 in let some = linked_some found.0 found.2.linked in (subst (λ n. n < limits.rows) (sym at) some.1, λ root. subst (λ n. 0 < n) (sym at) some.0, λ head h. stays p head h)
+  ]
+
+  fits_take : (q : ℕ) (t : Bool) → m.free_rows q ≡ t → Fits limits k (TakeRow q) (Whether t)
+  fits_take q true e = fits_taken q e
+  fits_take q false e = tt
+
+  fits_take_pid : (q : ℕ) (t : Bool) → m.free_pids q ≡ t → Fits limits k (TakePid q) (Whether t)
+  fits_take_pid q true e = fits_taken_pid q e
+  fits_take_pid q false e = tt
+
+  fits_exchange : (p x y : ℕ) (t : Bool) → MayExchange a k p x y → (m.slots p == x) ≡ t → FitsExchange k p x y t
+  fits_exchange zero x y t may e = tt
+  fits_exchange (suc p) zero zero t may e = absurd may
+  fits_exchange (suc p) zero (suc y) t may e =
+      let own = subst (λ (v : OwnPage). PageFits a (state.owners.page (suc p)) (slot_in m.slots (suc p)) v) may.0 (state.good.owns_pages a (suc p)) in
+      let none : m.slots (suc p) ≡ 0 = slot_none m.slots (suc p) (omega arith) own.1 in
+      sym e ∙ rw none refl
+  fits_exchange (suc p) (suc x) zero t may e = (
+    λ ready.
+        let own = subst (λ (v : OwnPage). PageFits a (state.owners.page (suc p)) (slot_in m.slots (suc p)) v) ready (state.good.owns_pages a (suc p)) in
+        wins (slot_some m.slots (suc p) (suc x) own.1).1,
+    λ gone h.
+        let own = subst (λ (v : OwnPage). PageFits a (state.owners.page (suc p)) (slot_in m.slots (suc p)) v) gone (state.good.owns_pages a (suc p)) in
+        ⊎_elim
+        (λ (u : slot_in m.slots (suc p) ≡ Some (suc x)). wins (slot_some m.slots (suc p) (suc x) u).1)
+        (λ (u : IsOut (state.owners.page (suc p)) (slot_in m.slots (suc p))). absurd (let f = u.0 in let g = own.3 in cc))
+        (frozen_as state.good a (suc p) (suc x) h.head h.chain h.read h.gone),
+  )
+    where
+      wins : m.slots (suc p) ≡ suc x → t ≡ true
+      wins at = sym e ∙ rw at (by_test (suc x) (suc x) (λ t. t ≡ true) (λ i. refl) (λ ne. absurd (ne refl)))
+  fits_exchange (suc p) (suc x) (suc y) t may e = λ won.
+      let at : m.slots (suc p) ≡ suc x = eqb-true (m.slots (suc p)) (suc x) (e ∙ won) in
+      let read = may.basis in
+      let place = place_of state.good a (suc p) (suc x) read.chain (found state.good a (suc p) (suc x) read) read.alive (ap row_in at) in
+      not_own state.good a (suc p) (level_in read.chain) (low_in read.chain) place.stage place.placed (k.own.pages (suc p)) (state.good.owns_pages a (suc p))
+
+  pub fits : (step : StepOf Record) (answer : Answer Record) → May a k step → IsAnswer m step answer → Fits limits k step answer
+  fits (Slot p) answer may is = subst (Fits limits k (Slot p)) (sym is) (fits_slot p may)
+  fits (Row q) answer may is = subst (Fits limits k (Row q)) (sym is.2) (fits_row q is.0 may.1 is.1)
+  fits Epoch answer may is = subst (Fits limits k Epoch) (sym is) state.named.epoch
+  fits (PidBits word) answer may is = subst (Fits limits k (PidBits word)) (sym is.2) (fits_word m.free_pids limits.pids word is.0 state.named.free_pid_below is.1)
+  fits (RowBits word) answer may is = subst (Fits limits k (RowBits word)) (sym is.2) (fits_word m.free_rows limits.rows word is.0 free_some is.1)
+  fits (Place q w) answer may is = subst (Fits limits k (Place q w)) (sym is) tt
+  fits (Exchange p x y) answer may is = subst (Fits limits k (Exchange p x y)) (sym is) (fits_exchange p x y (m.slots p == x) may.1 refl)
+  fits (TakeRow q) answer may is = subst (Fits limits k (TakeRow q)) (sym is) (fits_take q (m.free_rows q) refl)
+  fits (TakePid q) answer may is = subst (Fits limits k (TakePid q)) (sym is) (fits_take_pid q (m.free_pids q) refl)
+  fits (Enter e) answer may is = subst (Fits limits k (Enter e)) (sym is) tt
+  fits Leave answer may is = subst (Fits limits k Leave) (sym is) tt
+  fits (Announce b) answer may is = subst (Fits limits k (Announce b)) (sym is) (at_most (state.named.posted b) state.named.epoch.1)
+    where
+      at_most : {x y z : ℕ} → x ≤ y → y ≤ z → x ≤ z
+      at_most i j = omega arith
+  fits (Retire e) answer may is = subst (Fits limits k (Retire e)) (sym is) tt
+  fits (ReusePids w b) answer may is = subst (Fits limits k (ReusePids w b)) (sym is) tt
+  fits (ReuseRows w b) answer may is = subst (Fits limits k (ReuseRows w b)) (sym is) tt
+
+  -- a row that the actor may read has a record
+  pub row_stands : (q : ℕ) → May a k (Row q) → (content : Record) × (m.rows q ≡ Some content)
+  row_stands q may = let l = state.good.closed q ((state.good.sound a).learnt_fits q may.1) in (l.content, l.stands)

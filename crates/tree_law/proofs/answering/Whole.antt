@@ -1,0 +1,111 @@
+-- What an actor may count on of a chain while it reads it, and once it has read it whole.
+use Rattle.std.proofs.Common.{◌≡◌, ◌<◌, ◌+◌, ℕ, false, List, [], ◌∷◌, ◌++◌, length, Option, Some, None, refl, sym, ap, ◌∙◌, subst, arith}
+use Rattle.std.proofs.lemmas.List.{length-append}
+use Rattle.bw_model.specs.declared.limits.Limits.{Limits}
+use Rattle.bw_model.specs.Log.{Update}
+use Rattle.base_page.specs.declared.item.Content.TheVariants.{Child}
+use Rattle.deltas.specs.declared.record.Record.{Record}
+use Rattle.deltas.specs.Records.{next_row}
+use Rattle.chain_search.specs.Chains.{IsChainFrom, IsFront, level_in, low_in, high_in, is_removed}
+use Rattle.chain_search.specs.Fitting.{SaysOf, SaysRight, IsReadWhole}
+use Rattle.chain_search.specs.Knowledge.{Knowledge}
+use Rattle.chain_search.proofs.ChainLaws.{IsChainFrom-unique}
+use Rattle.tree_law.specs.Fitness.{AreFitted}
+use Rattle.tree_law.specs.Keys.{Key}
+use Rattle.tree_law.specs.Owners.{Linked, Owners, Reached, ChainNames, SeenFits, HeadFits}
+use Rattle.tree_law.specs.Phase.{PageOwner, Nobody, Keeps, Placed, Cleared, rank_of}
+use Rattle.tree_law.specs.Shared.{Shared}
+use Rattle.tree_law.specs.Tree.{IsTree}
+use Rattle.tree_law.proofs.shape.Chains.{front_of}
+use Rattle.tree_law.proofs.shape.Frames.{chain_stands}
+use Rattle.tree_law.proofs.links.Keeping.{read_names, beyond_reached}
+use Rattle.tree_law.proofs.shape.KeyOrder.{covers_from}
+
+-- a page is in the tree at one level and one low key
+pub reached_one : (r r' l l' : ℕ) (s s' : Key) (w : PageOwner) → Reached r l s w → Reached r' l' s' w → (l' ≡ l) × (s' ≡ s)
+reached_one r r' l l' s s' Nobody h i = absurd h
+reached_one r r' l l' s s' (Keeps a) h i = absurd h
+reached_one r r' l l' s s' (Placed st k t) h i = (sym i.0 ∙ h.0, sym i.1 ∙ h.1)
+reached_one r r' l l' s s' (Cleared a k t) h i = (sym i.0 ∙ h.0, sym i.1 ∙ h.1)
+
+some_longer : (rows : ℕ → Option Record) (x : ℕ) (c : List Record) → IsChainFrom rows x c → 0 < length c
+some_longer rows x [] h = absurd h
+some_longer rows x (w ∷ c) h = omega arith
+
+module _ {m : Shared} {log : List Update} {o : Owners} {knows : ℕ → Knowledge} {point : ℕ → Option (List Update)} {logs : ℕ → List (List Update)} (g : IsTree m log o knows point logs) (fitted : AreFitted o m.rows) (a : ℕ) where
+  -- The chain of a slot that was read.
+  record HeadChain (page head : ℕ) : Type 0 where
+    chain : List Record
+    linked : o.row head ≡ Linked
+    stands : IsChainFrom m.rows head chain
+    reached : Reached 0 (level_in chain) (low_in chain) (o.page page)
+    names : is_removed chain ≡ false → ChainNames o chain
+
+  head_chain : (page head : ℕ) → (knows a).read.heads page ≡ Some head → HeadChain page head
+  head_chain page head e =
+      let f = subst (λ (v : Option ℕ). HeadFits o m (logs a) page v) e ((g.sound a).heads_fit page) in
+      record { chain = f.2.chain; linked = f.2.linked; stands = f.2.is_chain; reached = f.3; names = f.5 }
+
+  seen_stands : (r : ℕ) (w : Record) → (knows a).read.seen r ≡ Some w → m.rows r ≡ Some w
+  seen_stands r w e = (subst (λ (v : Option Record). SeenFits (o.row r) (m.rows r) v) e ((g.sound a).seen_fits r)).1
+
+  -- what a linked chain says of a page is so of the page's chain
+  says_of : (naming : List Record) → ChainNames o naming → (page : ℕ) (c : List Record) → Reached 0 (level_in c) (low_in c) (o.page page) → SaysOf naming page c
+  says_of naming n page c r = record {
+    right = λ e.
+        let i = n.right page e in
+        let same = reached_one 0 0 (level_in naming) (level_in c) i.0 (low_in c) (o.page page) i.2 r in
+        (same.0, i.1 ∙ ap Some (sym same.1));
+    child = λ level key held on inside is. reached_one (rank_of (Child page held)) 0 level (level_in c) key (low_in c) (o.page page) (n.items level key (Child page held) on (covers_from naming key inside) is) r;
+  }
+
+  -- what is said of a right is so of the page there
+  says_right : (page : ℕ) (c : List Record) → Reached 0 (level_in c) (low_in c) (o.page page) → (naming : List Record) → (s : Key) × (high_in naming ≡ Some s) × Reached 0 (level_in naming) s (o.page page) → SaysRight naming c
+  says_right page c r naming i = let same = reached_one 0 0 (level_in naming) (level_in c) i.0 (low_in c) (o.page page) i.2 r in (same.0, i.1 ∙ ap Some (sym same.1))
+
+  -- a page that was read is where its chain is
+  pub read_reached : (page head : ℕ) (c : List Record) → (knows a).read.heads page ≡ Some head → IsChainFrom (knows a).read.seen head c → Reached 0 (level_in c) (low_in c) (o.page page)
+  read_reached page head c e h =
+      let w = head_chain page head e in
+      let same = IsChainFrom-unique m.rows head w.chain c w.stands (chain_stands o m (knows a).read.seen (g.sound a).seen_fits c (Some head) h) in
+      subst (λ (d : List Record). Reached 0 (level_in d) (low_in d) (o.page page)) same w.reached
+
+  -- the chain of a slot that was read is whole, where the pages of the tree are below the limit
+  is_whole : (limits : Limits) → ((r p l : ℕ) (s : Key) → Reached r l s (o.page p) → (0 < p) × (p < limits.pids)) → (page head : ℕ) → (knows a).read.heads page ≡ Some head → (w : HeadChain page head) → IsReadWhole limits (knows a) page w.chain
+  is_whole limits below page head at w = record {
+    is_chain = fitted head w.linked w.chain w.stands;
+    root = λ e. let i = (g.sound a).roots_fit page e in (reached_one 0 0 i.0 (level_in w.chain) [] (low_in w.chain) (o.page page) i.1 w.reached).1;
+    named = λ other row h. says_of h.chain (read_names g a other row h) page w.chain w.reached;
+    beside = λ other row h b. let n = chain_stands o m (knows a).read.seen (g.sound a).seen_fits h.chain (Some row) h.read in says_right page w.chain w.reached b.chain (beyond_reached g a other row h.head h.chain n h.alive page b);
+    own = λ alive. says_of w.chain (w.names alive) page w.chain w.reached;
+    names = λ alive other row read e h. says_of w.chain (w.names alive) other read (read_reached other row read e h);
+    beyond = λ alive next b.
+        let r = beyond_reached g a page head at w.chain w.stands alive next b in
+        let some = below 0 next (level_in b.chain) r.0 r.2 in (
+          some.0,
+          some.1,
+          λ e. says_right next w.chain (subst (λ (p : ℕ). Reached 0 (level_in w.chain) (low_in w.chain) (o.page p)) e w.reached) b.chain r,
+          λ other row read e h same. says_right next read (subst (λ (p : ℕ). Reached 0 (level_in read) (low_in read) (o.page p)) same (read_reached other row read e h)) b.chain r,
+        );
+    right = λ alive other e. let i = (w.names alive).right other e in below 0 other (level_in w.chain) i.0 i.2;
+    child = λ alive level other key held on inside is. below (rank_of (Child other held)) other level key ((w.names alive).items level key (Child other held) on (covers_from w.chain key inside) is);
+  }
+
+  module _ (q : ℕ) (w : Record) (stands : m.rows q ≡ Some w) (page head : ℕ) (front : List Record) (at : (knows a).read.heads page ≡ Some head) (part : IsFront (knows a).read.seen head front q) where
+    whole : HeadChain page head
+    whole = head_chain page head at
+
+    rest : (rest : List Record) × IsChainFrom m.rows q rest × (whole.chain ≡ front ++ rest)
+    rest = front_of (knows a).read.seen m.rows seen_stands head front q whole.chain part whole.stands
+
+    pub short_front : length front < 13
+    short_front =
+        let some : 0 < length rest.0 = some_longer m.rows q rest.0 rest.1 in
+        let sum : length whole.chain ≡ length front + length rest.0 = ap length rest.2 ∙ length-append front rest.0 in
+        let short = (fitted head whole.linked whole.chain whole.stands).short in
+        omega arith
+
+    pub whole_chain : (limits : Limits) → ((r p l : ℕ) (s : Key) → Reached r l s (o.page p) → (0 < p) × (p < limits.pids)) → next_row w ≡ None → IsReadWhole limits (knows a) page (front ++ w ∷ [])
+    whole_chain limits below last =
+        let ends : rest.0 ≡ w ∷ [] = IsChainFrom-unique m.rows q rest.0 (w ∷ []) rest.1 (stands, rw last refl) in
+        subst (IsReadWhole limits (knows a) page) (rest.2 ∙ ap (λ r. front ++ r) ends) (is_whole limits below page head at whole)

@@ -1,0 +1,14 @@
+pub mod Allowed
+pub mod Emptying
+pub mod Exchanging
+pub mod Filling
+pub mod Freeing
+pub mod Handed
+pub mod Limbed
+pub mod Limbos
+pub mod Reused
+pub mod Reusing
+pub mod Seasons
+pub mod Timely
+pub mod Timewise
+pub mod Timing

@@ -1,0 +1,428 @@
+-- A reuse frees what nobody can hold: the invariant and what actors hold stay.
+use Rattle.std.proofs.Common.{◌≡◌, ◌≢◌, ◌⊎◌, inl, inr, ℕ, zero, suc, ◌<◌, ◌≤◌, List, ◌∷◌, Option, Some, None, Bool, true, false, cond, ltb, refl, sym, ap, ◌∙◌, subst, ⊎_elim, arith}
+use Rattle.std.specs.Prelude.{◌||◌}
+use Rattle.std.proofs.lemmas.Bool.{ltb-true, ltb-false, le-ltb}
+use Rattle.std.proofs.lemmas.Option.{same_Some}
+use Rattle.bw_model.specs.declared.command.Reply.{Reply}
+use Rattle.bw_model.specs.declared.limits.Limits.{Limits}
+use Rattle.bw_model.specs.declared.step.Step.TheVariants.{ReusePids, ReuseRows}
+use Rattle.bw_model.specs.declared.step.Answer.{Answer}
+use Rattle.bw_model.specs.Log.{Update}
+use Rattle.base_page.specs.declared.item.Content.{Content}
+use Rattle.deltas.specs.declared.record.Record.{Record}
+use Rattle.deltas.specs.Memory.{Memory}
+use Rattle.deltas.specs.Records.{next_row}
+use Rattle.chain_search.specs.Chains.{content_in, level_in, right_in, is_removed}
+use Rattle.chain_search.specs.Discipline.{IsOwn, IsOwnBase, IsPassed}
+use Rattle.chain_search.specs.Knowledge.{Ready, Gone, Limbo, Absent, Unstamped, Stamped, Knowledge, learn, finished}
+use Rattle.chain_search.specs.Steps.{is_among, memory_after}
+use Rattle.tree_law.specs.Keys.{Key, Covers}
+use Rattle.tree_law.specs.Next.{After}
+use Rattle.tree_law.specs.Owners.{IsChain, Owner, Free, Spare, Linked, Owners, Reached, IsCleared}
+use Rattle.tree_law.specs.Phase.{PageOwner, Nobody, child_of}
+use Rattle.tree_law.specs.Put.{put}
+use Rattle.tree_law.specs.Shared.{slot_in, shared}
+use Rattle.tree_law.specs.Tree.{IsTree}
+use Rattle.tree_law.specs.Times.{Outing, Times, IsSince, NamesSince, HeldHead, Holds, LimboFits, Timed}
+use Rattle.tree_law.proofs.shape.Chains.{chain_unique}
+use Rattle.tree_law.proofs.links.Keeping.{quiet, mine}
+use Rattle.tree_law.proofs.shape.Puts.{by_test}
+use Rattle.tree_law.proofs.epochs.Reusing.{Learnt, AreLoose, lets_rows, frees_pages}
+use Rattle.tree_law.proofs.epochs.Timing.{holds_later, limbo_later}
+
+-- when the first of these actors that are inside has entered
+pub record Oldest (n : ℕ) (inside : ℕ → Bool) (entered : ℕ → ℕ) (now : ℕ) : Type 0 where
+  pub at : ℕ
+  pub first : (b : ℕ) → b < n → inside b ≡ true → at ≤ entered b
+  pub before : (u : ℕ) → u < now → ((b : ℕ) → b < n → inside b ≡ true → u < entered b) → u < at
+
+below_last : (b n : ℕ) → b < suc n → b ≢ n → b < n
+below_last b n lt ne = go (ltb b n) refl
+  where
+    go : (z : Bool) → ltb b n ≡ z → b < n
+    go true e = ltb-true b n e
+    go false e = absurd (ne (let h = ltb-false b n e in omega arith))
+
+-- with one actor more
+older : (n : ℕ) (inside : ℕ → Bool) (entered : ℕ → ℕ) (now : ℕ) → Oldest n inside entered now → Oldest (suc n) inside entered now
+older n inside entered now rest = go (inside n) (ltb (entered n) rest.at) refl refl
+  where
+    at_most : (x : ℕ) → x ≤ rest.at → (inside n ≡ true → x ≤ entered n) → (b : ℕ) → b < suc n → inside b ≡ true → x ≤ entered b
+    at_most x le f b lt i = by_test b n (λ z. x ≤ entered b) (λ e. subst (λ j. x ≤ entered j) (sym e) (f (subst (λ j. inside j ≡ true) e i))) (λ ne. let h = rest.first b (below_last b n lt ne) i in omega arith)
+
+    last : n < suc n
+    last = omega arith
+
+    wider : (b : ℕ) → b < n → b < suc n
+    wider b l = omega arith
+
+    go : (y z : Bool) → inside n ≡ y → ltb (entered n) rest.at ≡ z → Oldest (suc n) inside entered now
+    go false z e i = record { at = rest.at; first = at_most rest.at (omega arith) (λ h. absurd (cc)); before = λ u lt f. rest.before u lt (λ b l. f b (wider b l)) }
+    go true true e i = let h = ltb-true (entered n) rest.at i in record { at = entered n; first = at_most (entered n) (omega arith) (λ h. omega arith); before = λ u lt f. f n last e }
+    go true false e i = let h = ltb-false (entered n) rest.at i in record { at = rest.at; first = at_most rest.at (omega arith) (λ j. h); before = λ u lt f. rest.before u lt (λ b l. f b (wider b l)) }
+
+pub oldest : (n : ℕ) (inside : ℕ → Bool) (entered : ℕ → ℕ) (now : ℕ) → Oldest n inside entered now
+oldest zero inside entered now = record { at = now; first = λ b lt i. absurd (omega arith); before = λ u lt f. lt }
+oldest (suc n) inside entered now = older n inside entered now (oldest n inside entered now)
+
+-- whose a row is after a reuse: what is freed is nobody's, and what nobody can hold any more is of the actor that took it out
+abbrev pub row_after : ℕ → Bool → Owner → Option Outing → Owner
+row_after first true v out = Free
+row_after first false Linked (Some w) = cond (ltb w.at first) (Spare w.who) Linked
+row_after first false v out = v
+
+row_same : (first : ℕ) (z : Bool) (v : Owner) (out : Option Outing) → z ≡ false → ((w : Outing) → out ≡ Some w → first ≤ w.at) → row_after first z v out ≡ v
+row_same first z Free out e f = rw e refl
+row_same first z (Spare b) out e f = rw e refl
+row_same first z Linked None e f = rw e refl
+row_same first z Linked (Some w) e f = rw (e, le-ltb w.at first (f w refl)) refl
+
+-- a row that is linked afterwards was, and is not older
+pub row_linked : (first : ℕ) (z : Bool) (v : Owner) (out : Option Outing) → row_after first z v out ≡ Linked → (z ≡ false) × (v ≡ Linked) × ((w : Outing) → out ≡ Some w → first ≤ w.at)
+row_linked first true v out e = absurd (cc)
+row_linked first false Free out e = absurd (cc)
+row_linked first false (Spare b) out e = absurd (cc)
+row_linked first false Linked None e = (refl, refl, λ w i. absurd (cc))
+row_linked first false Linked (Some w) e = (refl, refl, λ v i. subst (λ j. first ≤ j.at) (same_Some w v i) (go (ltb w.at first) refl e))
+  where
+    go : (z : Bool) → ltb w.at first ≡ z → cond z (Spare w.who) Linked ≡ Linked → first ≤ w.at
+    go true i j = absurd (cc)
+    go false i j = ltb-false w.at first i
+
+row_of : (first : ℕ) (v : Owner) (w : Outing) → (v ≡ Linked) ⊎ (v ≡ Spare w.who) → (row_after first false v (Some w) ≡ Linked) ⊎ (row_after first false v (Some w) ≡ Spare w.who)
+row_of first v w (inl e) = subst (λ j. (row_after first false j (Some w) ≡ Linked) ⊎ (row_after first false j (Some w) ≡ Spare w.who)) (sym e) (go (ltb w.at first))
+  where
+    go : (z : Bool) → (cond z (Spare w.who) Linked ≡ Linked) ⊎ (cond z (Spare w.who) Linked ≡ Spare w.who)
+    go true = inr refl
+    go false = inl refl
+row_of first v w (inr e) = inr (rw e refl)
+
+freed_out : (z : Bool) (out : Option Outing) (w : Outing) → cond z None out ≡ Some w → (z ≡ false) × (out ≡ Some w)
+freed_out true out w e = absurd (cc)
+freed_out false out w e = (refl, e)
+
+freed_since : (z : Bool) (out : Option Outing) (e : ℕ) → IsSince e out → IsSince e (cond z None out)
+freed_since true out e h = tt
+freed_since false out e h = h
+
+freed_none : (z : Bool) (out : Option Outing) → out ≡ None → cond {A = Option Outing} z None out ≡ None
+freed_none true out e = refl
+freed_none false out e = e
+
+pub or_cases : (x y : Bool) → (x || y) ≡ true → (x ≡ true) ⊎ (y ≡ true)
+or_cases true y e = inl refl
+or_cases false y e = inr e
+
+module _ {limits : Limits} {m : Memory} {log : List Update} {o : Owners} {knows : ℕ → Knowledge} {point : ℕ → Option (List Update)} {logs : ℕ → List (List Update)} {now : ℕ} {t : Times} (g : IsTree (shared m) log o knows point logs) (T : Timed limits m o knows now t) (a : ℕ) (outside : (knows a).inside ≡ false) where
+  other_inside : (b : ℕ) → (knows b).inside ≡ true → b ≢ a
+  other_inside b i e = absurd (let f = ap (λ n. (knows n).inside) e in cc)
+
+  -- what may be freed is out since a time before each actor that is inside has entered
+  pub record Freed (out : Option Outing) : Type 0 where
+    pub outing : Outing
+    pub is : out ≡ Some outing
+    pub who : outing.who ≡ a
+    pub old : (b : ℕ) → (knows b).inside ≡ true → outing.at < t.entered b
+
+  freed_of : (out : Option Outing) (l : Limbo) → LimboFits a (λ c. (knows c).inside) t.entered out l → IsPassed limits a l → Freed out
+  freed_of out l h p =
+      let f = subst (λ (v : Limbo). LimboFits a (λ c. (knows c).inside) t.entered out v) p.stamped h in
+      record { outing = f.0; is = f.1; who = f.2; old = λ b i. f.4 b (p.all b (T.within b i) (other_inside b i)) i }
+
+  -- an actor that is inside can hold nothing that may be freed
+  unheld : (b : ℕ) (out : Option Outing) → (knows b).inside ≡ true → IsSince (t.entered b) out → Freed out → ⊥
+  unheld b out i s f = let h : t.entered b ≤ f.outing.at = subst (IsSince (t.entered b)) f.is s in let l = f.old b i in omega arith
+
+  pub known : (b : ℕ) → Learnt (knows b)
+  known b = let h = T.holds b in record { seen = h.seen_learnt; heads = λ p x e. (h.heads_since p x e).learnt_row; before = λ p f x e. (h.before_since p f x e).learnt_row; linked = h.linked_learnt }
+
+  module _ (word bits : ℕ) where
+    among : ℕ → Bool
+    among r = is_among word bits r
+
+    module _ (may : (r : ℕ) → is_among word bits r ≡ true → IsPassed limits a ((knows a).limbo.rows r)) (r0 : Option Reply) (x : Answer Record) where
+      abbrev pub first : Oldest limits.actors (λ c. (knows c).inside) t.entered now
+      first = oldest limits.actors (λ c. (knows c).inside) t.entered now
+
+      abbrev pub row1 : ℕ → Owner
+      row1 r = row_after first.at (is_among word bits r) (o.row r) (t.row_out r)
+
+      abbrev pub o1 : Owners
+      o1 = record o { row = row1 }
+
+      abbrev pub t1 : Times
+      t1 = record t { row_out = λ r. cond (is_among word bits r) None (t.row_out r) }
+
+      abbrev pub m1 : Memory
+      m1 = memory_after a (ReuseRows word bits) m
+
+      abbrev pub k1 : Knowledge
+      k1 = finished (learn (knows a) (ReuseRows word bits) x) r0
+
+      pub freed : (r : ℕ) → is_among word bits r ≡ true → Freed (t.row_out r)
+      freed r e = freed_of (t.row_out r) ((knows a).limbo.rows r) (T.limbo_rows a r) (may r e)
+
+      freed_old : (r : ℕ) → is_among word bits r ≡ true → (w : Outing) → t.row_out r ≡ Some w → first.at ≤ w.at → ⊥
+      freed_old r e w i le =
+          let f = freed r e in
+          let same : f.outing ≡ w = same_Some f.outing w (sym f.is ∙ i) in
+          let lt : f.outing.at < first.at = first.before f.outing.at (T.rows r f.outing f.is).1 (λ b l v. f.old b v) in
+          let eq = ap (λ v. v.at) same in
+          omega arith
+
+      pub not_among : (r : ℕ) → ((w : Outing) → t.row_out r ≡ Some w → first.at ≤ w.at) → is_among word bits r ≡ false
+      not_among r h = go (is_among word bits r) refl
+        where
+          go : (z : Bool) → is_among word bits r ≡ z → is_among word bits r ≡ false
+          go true e = absurd (let f = freed r e in freed_old r e f.outing f.is (h f.outing f.is))
+          go false e = e
+
+      -- a row that is not out, or not older, stays
+      pub stays : (r : ℕ) → ((w : Outing) → t.row_out r ≡ Some w → first.at ≤ w.at) → row1 r ≡ o.row r
+      stays r h = row_same first.at (is_among word bits r) (o.row r) (t.row_out r) (not_among r h) h
+
+      pub in_tree : (r : ℕ) → t.row_out r ≡ None → (w : Outing) → t.row_out r ≡ Some w → first.at ≤ w.at
+      in_tree r e w i = absurd (let f = sym e ∙ i in cc)
+
+      pub held : (b r : ℕ) → (knows b).read.learnt r ≡ true → (w : Outing) → t.row_out r ≡ Some w → first.at ≤ w.at
+      held b r e w i =
+          let h = T.holds b in
+          let s : t.entered b ≤ w.at = subst (IsSince (t.entered b)) i (h.learnt_since r e) in
+          let f = first.first b (T.within b (h.learnt_inside r e)) (h.learnt_inside r e) in
+          omega arith
+
+      under : (r n : ℕ) (w : Record) → row1 r ≡ Linked → m.rows r ≡ Some w → next_row w ≡ Some n → (v : Outing) → t.row_out n ≡ Some v → first.at ≤ v.at
+      under r n w l e i v j =
+          let h = row_linked first.at (is_among word bits r) (o.row r) (t.row_out r) l in
+          h.2 v (sym (T.together r n w h.1 e i).1 ∙ j)
+
+      loose : AreLoose o (shared m) knows row1 m1.free_rows
+      loose = record {
+        linked = λ r l. (row_linked first.at (is_among word bits r) (o.row r) (t.row_out r) l).1;
+        learnt = λ b r e. stays r (held b r e);
+        slots = λ p r l s h e. stays r (in_tree r (T.slots p r l s h e).1);
+        next = λ r n w l e i. stays n (under r n w l e i);
+        own = λ b r i. stays r (in_tree r (T.own_rows b r i));
+        freed = λ r e. ⊎_elim (λ (u : m.free_rows r ≡ true). let f = g.frees.row r u in free_after (is_among word bits r) (o.row r) (t.row_out r) f) (λ (u : is_among word bits r ≡ true). rw u refl) (or_cases (m.free_rows r) (is_among word bits r) e);
+      }
+        where
+          free_after : (z : Bool) (v : Owner) (out : Option Outing) → v ≡ Free → row_after first.at z v out ≡ Free
+          free_after true v out e = refl
+          free_after false v out e = rw e refl
+
+      pub rows_good : IsTree (shared m1) log o1 (put knows a k1) (put point a (point a)) (put logs a (log ∷ logs a))
+      rows_good =
+          let n = lets_rows g row1 m1.free_rows known loose in
+          quiet n a k1 (point a) (log ∷ logs a) (n.owns a) (n.owns_pages a) (mine n a)
+
+      -- what the reuse leaves
+      abbrev pub rows_after : After a (shared m) (shared m1) log o knows point logs (ReuseRows word bits) x r0
+      rows_after = record {
+        update = None;
+        due = tt;
+        last = λ i. refl;
+        owners = o1;
+        phased = refl;
+        added = λ row l. inl (row_linked first.at (is_among word bits row) (o.row row) (t.row_out row) l).1;
+        same = λ row l. refl;
+        good = rows_good;
+      }
+
+      same_inside : (b : ℕ) → (put knows a k1 b).inside ≡ true → (knows b).inside ≡ true
+      same_inside b = by_test b a (λ z. (cond z k1 (knows b)).inside ≡ true → (knows b).inside ≡ true) (λ e i. absurd (let f = outside in cc)) (λ ne i. i)
+
+      limbo_kept : (b r : ℕ) (l : Limbo) → is_among word bits r ≡ false → LimboFits b (λ c. (knows c).inside) t.entered (t.row_out r) l → LimboFits b (λ c. (put knows a k1 c).inside) t.entered (t1.row_out r) l
+      limbo_kept b r l e h = limbo_later b now (λ c. (knows c).inside) (λ c. (put knows a k1 c).inside) t.entered t.entered (t.row_out r) (t1.row_out r) l (λ w i. (rw e i, (T.rows r w i).1)) (λ c u lt f i. f (same_inside c i)) h
+
+      limbo_pid : (b p : ℕ) → LimboFits b (λ c. (put knows a k1 c).inside) t.entered (t.page_out p) ((knows b).limbo.pids p)
+      limbo_pid b p = limbo_later b now (λ c. (knows c).inside) (λ c. (put knows a k1 c).inside) t.entered t.entered (t.page_out p) (t.page_out p) ((knows b).limbo.pids p) (λ w i. (i, (T.pages p w i).2)) (λ c u lt f i. f (same_inside c i)) (T.limbo_pids b p)
+
+      apart : (b r : ℕ) → b ≢ a → (w : Outing) → t.row_out r ≡ Some w → w.who ≡ b → is_among word bits r ≡ false
+      apart b r ne w e who = go (is_among word bits r) refl
+        where
+          go : (z : Bool) → is_among word bits r ≡ z → is_among word bits r ≡ false
+          go true i = absurd (let f = freed r i in ne (sym who ∙ ap (λ v. v.who) (same_Some w f.outing (sym e ∙ f.is)) ∙ f.who))
+          go false i = i
+
+      -- what another actor has in its limbo is not freed
+      others_limbo : (b r : ℕ) → b ≢ a → (l : Limbo) → LimboFits b (λ c. (knows c).inside) t.entered (t.row_out r) l → LimboFits b (λ c. (put knows a k1 c).inside) t.entered (t1.row_out r) l
+      others_limbo b r ne Absent h = tt
+      others_limbo b r ne Unstamped h = limbo_kept b r Unstamped (apart b r ne h.0 h.1 h.2) h
+      others_limbo b r ne (Stamped e p) h = limbo_kept b r (Stamped e p) (apart b r ne h.0 h.1 h.2) h
+
+      pub rows_timed : Timed limits m1 o1 (put knows a k1) (suc now) t1
+      rows_timed = record {
+        within = λ b i. T.within b (same_inside b i);
+        holds = λ b. by_test b a (λ z. Holds m.rows t1.row_out t.page_out (t.entered b) (cond z k1 (knows b)).inside (cond z k1 (knows b)).read.seen (cond z k1 (knows b)).read.learnt (cond z k1 (knows b)).read.roots (cond z k1 (knows b)).read.heads (cond z k1 (knows b)).read.before (cond z k1 (knows b)).asked.linked)
+            (λ e. subst (λ j. Holds m.rows t1.row_out t.page_out (t.entered j) (knows a).inside (knows a).read.seen (knows a).read.learnt (knows a).read.roots (knows a).read.heads (knows a).read.before (knows a).asked.linked) (sym e) (holds a)) (λ ne. holds b);
+        announced = λ b i. let h = T.announced b (same_inside b i) in record { some = h.some; old = h.old; past = (let p = h.past in omega arith); rows = λ r w e. h.rows r w (freed_out (is_among word bits r) (t.row_out r) w e).1; pages = h.pages };
+        epochs = λ b e. by_test b a (λ z. (cond z k1 (knows b)).limbo.epoch ≡ Some e → e ≤ m.epoch) (λ i. T.epochs a e) (λ ne. T.epochs b e);
+        slots = λ p q l s h e. let v = T.slots p q l s h e in (v.0, freed_none (is_among word bits q) (t.row_out q) v.1);
+        together = λ r n w l e i.
+            let h = row_linked first.at (is_among word bits r) (o.row r) (t.row_out r) l in
+            let c = T.together r n w h.1 e i in
+            (c.0, rw (h.0, not_among n (under r n w l e i)) c.1);
+        rows = λ r w e. let v = freed_out (is_among word bits r) (t.row_out r) w e in let u = T.rows r w v.1 in (rw (v.0, v.1) (row_of first.at (o.row r) w u.0), (let z = u.1 in let y : w.at < suc now = omega arith in y), u.2);
+        pages = λ p w e. let v = T.pages p w e in (v.0, v.1, (let z = v.2 in let y : w.at < suc now = omega arith in y), v.3);
+        own_rows = λ b r. by_test b a (λ z. IsOwn ((cond z k1 (knows b)).own.rows r) → t1.row_out r ≡ None) (λ i h. freed_none (is_among word bits r) (t.row_out r) (T.own_rows a r h)) (λ ne h. freed_none (is_among word bits r) (t.row_out r) (T.own_rows b r h));
+        gone_pages = λ b p. by_test b a (λ z. (cond z k1 (knows b)).own.pages p ≡ Gone → t.page_out p ≡ None) (λ i. T.gone_pages a p) (λ ne. T.gone_pages b p);
+        limbo_rows = λ b r. by_test b a (λ z. LimboFits b (λ c. (put knows a k1 c).inside) t.entered (t1.row_out r) ((cond z k1 (knows b)).limbo.rows r)) (λ i. subst (λ j. LimboFits j (λ c. (put knows a k1 c).inside) t.entered (t1.row_out r) (cond (is_among word bits r) Absent ((knows a).limbo.rows r))) (sym i) (own_limbo r (is_among word bits r) refl)) (λ ne. others_limbo b r ne ((knows b).limbo.rows r) (T.limbo_rows b r));
+        limbo_pids = λ b p. by_test b a (λ z. LimboFits b (λ c. (put knows a k1 c).inside) t.entered (t.page_out p) ((cond z k1 (knows b)).limbo.pids p)) (λ i. subst (λ j. LimboFits j (λ c. (put knows a k1 c).inside) t.entered (t.page_out p) ((knows a).limbo.pids p)) (sym i) (limbo_pid a p)) (λ ne. limbo_pid b p);
+        ready = λ b p r. by_test b a (λ z. (cond z k1 (knows b)).own.pages p ≡ Ready r → IsOwnBase ((cond z k1 (knows b)).own.rows r)) (λ i. T.ready a p r) (λ ne. T.ready b p r);
+        apart = λ b p q r. by_test b a (λ z. (cond z k1 (knows b)).own.pages p ≡ Ready r → (cond z k1 (knows b)).own.pages q ≡ Ready r → p ≡ q) (λ i. T.apart a p q r) (λ ne. T.apart b p q r);
+      }
+        where
+          holds : (b : ℕ) → Holds m.rows t1.row_out t.page_out (t.entered b) (knows b).inside (knows b).read.seen (knows b).read.learnt (knows b).read.roots (knows b).read.heads (knows b).read.before (knows b).asked.linked
+          holds b = holds_later m.rows m.rows t.row_out t1.row_out t.page_out t.page_out (t.entered b) (knows b).inside (knows b).read.seen (knows b).read.learnt (knows b).read.roots (knows b).read.heads (knows b).read.before (knows b).asked.linked (λ i r. freed_since (is_among word bits r) (t.row_out r) (t.entered b)) (λ i p h. h) (λ x c e h. h) (T.holds b)
+
+          own_limbo : (r : ℕ) (z : Bool) → is_among word bits r ≡ z → LimboFits a (λ c. (put knows a k1 c).inside) t.entered (t1.row_out r) (cond z Absent ((knows a).limbo.rows r))
+          own_limbo r true e = tt
+          own_limbo r false e = limbo_kept a r ((knows a).limbo.rows r) e (T.limbo_rows a r)
+
+    module _ (may : (p : ℕ) → is_among word bits p ≡ true → IsPassed limits a ((knows a).limbo.pids p)) (r0 : Option Reply) (x : Answer Record) where
+      abbrev pub page2 : ℕ → PageOwner
+      page2 p = cond (is_among word bits p) Nobody (o.page p)
+
+      abbrev pub o2 : Owners
+      o2 = record o { page = page2 }
+
+      abbrev pub t2 : Times
+      t2 = record t { page_out = λ p. cond (is_among word bits p) None (t.page_out p) }
+
+      abbrev pub m2 : Memory
+      m2 = memory_after a (ReusePids word bits) m
+
+      abbrev pub k2 : Knowledge
+      k2 = finished (learn (knows a) (ReusePids word bits) x) r0
+
+      pub freed_page : (p : ℕ) → is_among word bits p ≡ true → Freed (t.page_out p)
+      freed_page p e = freed_of (t.page_out p) ((knows a).limbo.pids p) (T.limbo_pids a p) (may p e)
+
+      pub same_page : (p : ℕ) → (is_among word bits p ≡ true → ⊥) → page2 p ≡ o.page p
+      same_page p f = go (is_among word bits p) refl
+        where
+          go : (z : Bool) → is_among word bits p ≡ z → cond z Nobody (o.page p) ≡ o.page p
+          go true e = absurd (f e)
+          go false e = refl
+
+      page_in : (p : ℕ) → t.page_out p ≡ None → page2 p ≡ o.page p
+      page_in p e = same_page p (λ i. let f = freed_page p i in absurd (let z = sym e ∙ f.is in cc))
+
+      page_held : (b p : ℕ) → (knows b).inside ≡ true → IsSince (t.entered b) (t.page_out p) → page2 p ≡ o.page p
+      page_held b p i s = same_page p (λ e. unheld b (t.page_out p) i s (freed_page p e))
+
+      head_inside : (b p x : ℕ) → HeldHead m.rows t.page_out (t.entered b) (knows b).read.learnt p x → (knows b).inside ≡ true
+      head_inside b p x h = (T.holds b).learnt_inside x h.learnt_row
+
+      head_items : (b p x : ℕ) (h : HeldHead m.rows t.page_out (t.entered b) (knows b).read.learnt p x) (l : ℕ) (s : Key) (i : Content) (c : List Record) → IsChain m.rows c (Some x) → is_removed c ≡ false → level_in c ≡ suc l → Covers c s → content_in c s ≡ Some i → page2 (child_of i) ≡ o.page (child_of i)
+      head_items b p x h l s i c is alive at v d =
+          let same : h.chain ≡ c = chain_unique m.rows h.chain c (Some x) h.is_chain is in
+          let n = subst (λ (e : List Record). NamesSince t.page_out (t.entered b) e) same (h.names (ap is_removed same ∙ alive)) in
+          page_held b (child_of i) (head_inside b p x h) (n.items l s i at v d)
+
+      head_right : (b p x : ℕ) (h : HeldHead m.rows t.page_out (t.entered b) (knows b).read.learnt p x) (q : ℕ) (c : List Record) → IsChain m.rows c (Some x) → is_removed c ≡ false → right_in c ≡ Some q → page2 q ≡ o.page q
+      head_right b p x h q c is alive e =
+          let same : h.chain ≡ c = chain_unique m.rows h.chain c (Some x) h.is_chain is in
+          let n = subst (λ (e : List Record). NamesSince t.page_out (t.entered b) e) same (h.names (ap is_removed same ∙ alive)) in
+          page_held b q (head_inside b p x h) (n.right q e)
+
+      gone : (q : ℕ) → (page2 q ≡ o.page q) ⊎ ((page2 q ≡ Nobody) × IsCleared (o.page q))
+      gone q = go (is_among word bits q) refl
+        where
+          go : (z : Bool) → is_among word bits q ≡ z → (cond z Nobody (o.page q) ≡ o.page q) ⊎ ((cond z Nobody (o.page q) ≡ Nobody) × IsCleared (o.page q))
+          go true e = let f = freed_page q e in let v = (T.pages q f.outing f.is).0 in inr (refl, (f.outing.who, v.0, v.1, v.2))
+          go false e = inl refl
+
+      frees : (q : ℕ) → m2.free_pids q ≡ true → (page2 q ≡ Nobody) × (slot_in m.slots q ≡ None)
+      frees q e = ⊎_elim
+          (λ (u : m.free_pids q ≡ true). let f = g.frees.page q u in (nobody (is_among word bits q) f.0, f.1))
+          (λ (u : is_among word bits q ≡ true). let f = freed_page q u in (rw u refl, (T.pages q f.outing f.is).1))
+          (or_cases (m.free_pids q) (is_among word bits q) e)
+        where
+          nobody : (z : Bool) → o.page q ≡ Nobody → cond z Nobody (o.page q) ≡ Nobody
+          nobody true i = refl
+          nobody false i = i
+
+      beyond_held : (b p f y x q : ℕ) (c d : List Record) → (knows b).read.heads p ≡ Some y → (knows b).read.before p f ≡ Some x → IsChain m.rows c (Some x) → IsChain m.rows d (Some y) → is_removed c ≡ true → is_removed d ≡ false → right_in d ≡ Some f → right_in c ≡ Some q → page2 q ≡ o.page q
+      beyond_held b p f y x q c d i j ic id rc nd e n =
+          let h = (T.holds b).beside_since p f y x i j in
+          let above : h.chain ≡ c = chain_unique m.rows h.chain c (Some x) h.is_chain ic in
+          let below : h.left ≡ d = chain_unique m.rows h.left d (Some y) h.is_left id in
+          page_held b q (head_inside b f x ((T.holds b).before_since p f x j)) (h.since (ap is_removed above ∙ rc) (ap is_removed below ∙ nd) (ap right_in below ∙ e) q (ap right_in above ∙ n))
+
+      pub pages_good : IsTree (shared m2) log o2 (put knows a k2) (put point a (point a)) (put logs a (log ∷ logs a))
+      pages_good =
+          let n = frees_pages g page2 m2.free_pids gone
+          (λ b p e. page_held b p ((T.holds b).roots_inside p e) ((T.holds b).roots_since p e))
+          (λ b p x e. let h = (T.holds b).heads_since p x e in page_held b p (head_inside b p x h) h.page)
+          (λ b p f x e. let h = (T.holds b).before_since p f x e in page_held b f (head_inside b f x h) h.page)
+          (λ b p x q c e. head_right b p x ((T.holds b).heads_since p x e) q c)
+          (λ b p x l s i c e. head_items b p x ((T.holds b).heads_since p x e) l s i c)
+          (λ b p f x l s i c e. head_items b f x ((T.holds b).before_since p f x e) l s i c)
+          beyond_held
+          (λ b p e. page_in p (T.gone_pages b p e))
+          frees in
+          quiet n a k2 (point a) (log ∷ logs a) (n.owns a) (n.owns_pages a) (mine n a)
+
+      abbrev pub pages_after : After a (shared m) (shared m2) log o knows point logs (ReusePids word bits) x r0
+      pages_after = record {
+        update = None;
+        due = tt;
+        last = λ i. refl;
+        owners = o2;
+        phased = λ q. (λ e. let f = freed_page q e in let v = (T.pages q f.outing f.is).0 in (f.outing.who, v.0, v.1, v.2, rw e refl), λ e. rw e refl);
+        added = λ row l. inl l;
+        same = λ row l. refl;
+        good = pages_good;
+      }
+
+      inside2 : (b : ℕ) → (put knows a k2 b).inside ≡ true → (knows b).inside ≡ true
+      inside2 b = by_test b a (λ z. (cond z k2 (knows b)).inside ≡ true → (knows b).inside ≡ true) (λ e i. absurd (let f = outside in cc)) (λ ne i. i)
+
+      limbo2_kept : (b p : ℕ) (l : Limbo) → is_among word bits p ≡ false → LimboFits b (λ c. (knows c).inside) t.entered (t.page_out p) l → LimboFits b (λ c. (put knows a k2 c).inside) t.entered (t2.page_out p) l
+      limbo2_kept b p l e h = limbo_later b now (λ c. (knows c).inside) (λ c. (put knows a k2 c).inside) t.entered t.entered (t.page_out p) (t2.page_out p) l (λ w i. (rw e i, (T.pages p w i).2)) (λ c u lt f i. f (inside2 c i)) h
+
+      limbo2_row : (b r : ℕ) → LimboFits b (λ c. (put knows a k2 c).inside) t.entered (t.row_out r) ((knows b).limbo.rows r)
+      limbo2_row b r = limbo_later b now (λ c. (knows c).inside) (λ c. (put knows a k2 c).inside) t.entered t.entered (t.row_out r) (t.row_out r) ((knows b).limbo.rows r) (λ w i. (i, (T.rows r w i).1)) (λ c u lt f i. f (inside2 c i)) (T.limbo_rows b r)
+
+      apart2 : (b p : ℕ) → b ≢ a → (w : Outing) → t.page_out p ≡ Some w → w.who ≡ b → is_among word bits p ≡ false
+      apart2 b p ne w e who = go (is_among word bits p) refl
+        where
+          go : (z : Bool) → is_among word bits p ≡ z → is_among word bits p ≡ false
+          go true i = absurd (let f = freed_page p i in ne (sym who ∙ ap (λ v. v.who) (same_Some w f.outing (sym e ∙ f.is)) ∙ f.who))
+          go false i = i
+
+      others2_limbo : (b p : ℕ) → b ≢ a → (l : Limbo) → LimboFits b (λ c. (knows c).inside) t.entered (t.page_out p) l → LimboFits b (λ c. (put knows a k2 c).inside) t.entered (t2.page_out p) l
+      others2_limbo b p ne Absent h = tt
+      others2_limbo b p ne Unstamped h = limbo2_kept b p Unstamped (apart2 b p ne h.0 h.1 h.2) h
+      others2_limbo b p ne (Stamped e q) h = limbo2_kept b p (Stamped e q) (apart2 b p ne h.0 h.1 h.2) h
+
+      pub pages_timed : Timed limits m2 o2 (put knows a k2) (suc now) t2
+      pages_timed = record {
+        within = λ b i. T.within b (inside2 b i);
+        holds = λ b. by_test b a (λ z. Holds m.rows t.row_out t2.page_out (t.entered b) (cond z k2 (knows b)).inside (cond z k2 (knows b)).read.seen (cond z k2 (knows b)).read.learnt (cond z k2 (knows b)).read.roots (cond z k2 (knows b)).read.heads (cond z k2 (knows b)).read.before (cond z k2 (knows b)).asked.linked)
+            (λ e. subst (λ j. Holds m.rows t.row_out t2.page_out (t.entered j) (knows a).inside (knows a).read.seen (knows a).read.learnt (knows a).read.roots (knows a).read.heads (knows a).read.before (knows a).asked.linked) (sym e) (holds a)) (λ ne. holds b);
+        announced = λ b i. let h = T.announced b (inside2 b i) in record { some = h.some; old = h.old; past = (let p = h.past in omega arith); rows = h.rows; pages = λ p w e. h.pages p w (freed_out (is_among word bits p) (t.page_out p) w e).1 };
+        epochs = λ b e. by_test b a (λ z. (cond z k2 (knows b)).limbo.epoch ≡ Some e → e ≤ m.epoch) (λ i. T.epochs a e) (λ ne. T.epochs b e);
+        slots = λ p q l s h e. T.slots p q l s (reached p l s (is_among word bits p) h) e;
+        together = T.together;
+        rows = λ r w e. let v = T.rows r w e in (v.0, (let z = v.1 in let y : w.at < suc now = omega arith in y), v.2);
+        pages = λ p w e. let v = freed_out (is_among word bits p) (t.page_out p) w e in let u = T.pages p w v.1 in ((u.0.0, u.0.1, same_page p (λ i. absurd (let z = v.0 in cc)) ∙ u.0.2), u.1, (let z = u.2 in let y : w.at < suc now = omega arith in y), u.3);
+        own_rows = λ b r. by_test b a (λ z. IsOwn ((cond z k2 (knows b)).own.rows r) → t.row_out r ≡ None) (λ i. T.own_rows a r) (λ ne. T.own_rows b r);
+        gone_pages = λ b p. by_test b a (λ z. (cond z k2 (knows b)).own.pages p ≡ Gone → t2.page_out p ≡ None) (λ i h. freed_none (is_among word bits p) (t.page_out p) (T.gone_pages a p h)) (λ ne h. freed_none (is_among word bits p) (t.page_out p) (T.gone_pages b p h));
+        limbo_rows = λ b r. by_test b a (λ z. LimboFits b (λ c. (put knows a k2 c).inside) t.entered (t.row_out r) ((cond z k2 (knows b)).limbo.rows r)) (λ i. subst (λ j. LimboFits j (λ c. (put knows a k2 c).inside) t.entered (t.row_out r) ((knows a).limbo.rows r)) (sym i) (limbo2_row a r)) (λ ne. limbo2_row b r);
+        limbo_pids = λ b p. by_test b a (λ z. LimboFits b (λ c. (put knows a k2 c).inside) t.entered (t2.page_out p) ((cond z k2 (knows b)).limbo.pids p)) (λ i. subst (λ j. LimboFits j (λ c. (put knows a k2 c).inside) t.entered (t2.page_out p) (cond (is_among word bits p) Absent ((knows a).limbo.pids p))) (sym i) (own_limbo p (is_among word bits p) refl)) (λ ne. others2_limbo b p ne ((knows b).limbo.pids p) (T.limbo_pids b p));
+        ready = λ b p r. by_test b a (λ z. (cond z k2 (knows b)).own.pages p ≡ Ready r → IsOwnBase ((cond z k2 (knows b)).own.rows r)) (λ i. T.ready a p r) (λ ne. T.ready b p r);
+        apart = λ b p q r. by_test b a (λ z. (cond z k2 (knows b)).own.pages p ≡ Ready r → (cond z k2 (knows b)).own.pages q ≡ Ready r → p ≡ q) (λ i. T.apart a p q r) (λ ne. T.apart b p q r);
+      }
+        where
+          holds : (b : ℕ) → Holds m.rows t.row_out t2.page_out (t.entered b) (knows b).inside (knows b).read.seen (knows b).read.learnt (knows b).read.roots (knows b).read.heads (knows b).read.before (knows b).asked.linked
+          holds b = holds_later m.rows m.rows t.row_out t.row_out t.page_out t2.page_out (t.entered b) (knows b).inside (knows b).read.seen (knows b).read.learnt (knows b).read.roots (knows b).read.heads (knows b).read.before (knows b).asked.linked (λ i r h. h) (λ i p. freed_since (is_among word bits p) (t.page_out p) (t.entered b)) (λ x c e h. h) (T.holds b)
+
+          reached : (p l : ℕ) (s : Key) (z : Bool) → Reached 0 l s (cond z Nobody (o.page p)) → Reached 0 l s (o.page p)
+          reached p l s true h = absurd h
+          reached p l s false h = h
+
+          own_limbo : (p : ℕ) (z : Bool) → is_among word bits p ≡ z → LimboFits a (λ c. (put knows a k2 c).inside) t.entered (t2.page_out p) (cond z Absent ((knows a).limbo.pids p))
+          own_limbo p true e = tt
+          own_limbo p false e = limbo2_kept a p ((knows a).limbo.pids p) e (T.limbo_pids a p)

@@ -1,0 +1,312 @@
+-- One more step: what the limbos show of it, and that what it frees is freed by the rule.
+use Rattle.std.proofs.Common.{◌≡◌, ◌<◌, ◌⊎◌, inl, inr, ℕ, zero, suc, List, [], ◌∷◌, ◌++◌, length, Option, Some, None, Bool, true, cond, eqb, refl, sym, ap, ◌∙◌, subst, ⊎_elim, arith}
+use Rattle.std.specs.Prelude.{MatchOption, IfSome, unwrap_or, slice_index_or, take}
+use Rattle.std.specs.List.{Contains}
+use Rattle.std.proofs.lemmas.Bool.{eqb-true}
+use Rattle.std.proofs.lemmas.Option.{same_Some}
+use Rattle.bw_model.specs.declared.command.Reply.{Reply}
+use Rattle.bw_model.specs.declared.limits.Limits.{Limits}
+use Rattle.bw_model.specs.declared.step.Answer.{Answer}
+use Rattle.bw_model.specs.declared.step.Answer.TheVariants.{Whether}
+use Rattle.bw_model.specs.declared.step.Step.{Step as StepOf}
+use Rattle.bw_model.specs.declared.step.Step.TheVariants.{Exchange, TakePid, TakeRow, ReusePids, ReuseRows}
+use Rattle.bw_model.specs.Log.{Update}
+use Rattle.base_page.specs.Pages as pages
+use Rattle.deltas.specs.declared.record.Record.{Record}
+use Rattle.deltas.specs.declared.record.Record.TheVariants.{Base}
+use Rattle.deltas.specs.Memory.{Memory}
+use Rattle.deltas.specs.Records.{next_row}
+use Rattle.chain_search.specs.declared.trace.Entry.{Entry}
+use Rattle.chain_search.specs.declared.trace.Entry.TheVariants.{Step}
+use Rattle.chain_search.specs.Chains.{IsChainFrom, IsChainOf, IsOnChain, chain_rows, level_in, low_in}
+use Rattle.chain_search.specs.Discipline.{IsOwn, IsOwnBase, IsPassed, MayExchange, May, MayFree, IsAllowed}
+use Rattle.chain_search.specs.Knowledge.{OwnRow, Foreign, Taken, Written, OwnPage, Other, Gone, Limbo, Absent, Unstamped, Stamped, Knowledge, learn, finished, knows}
+use Rattle.chain_search.specs.Steps.{is_among, IsAnswer, memory_after}
+use Rattle.chain_search.specs.Trace.{memory_of, memory_at, TakesStep, IsStep}
+use Rattle.chain_search.proofs.Pushes.{slice_get-push, slice_get_below, take-push_whole}
+use Rattle.chain_search.proofs.TraceLaws.{memory_of-push, TakesStep-push_cases}
+use Rattle.op_machine.specs.Reuse.{HandsPid, HandsRow, UnlinksPid, UnlinksRow, IsFreedByRule}
+use Rattle.tree_law.specs.Keys.{Key}
+use Rattle.tree_law.specs.Limbos.{IsInLimbo}
+use Rattle.tree_law.specs.Owners.{Free, Spare, Linked, Owners, Reached, PageFits, HeadFits, SeenFits}
+use Rattle.tree_law.specs.Phase.{PageOwner, Nobody, Keeps, Placed, Cleared}
+use Rattle.tree_law.specs.Put.{put}
+use Rattle.tree_law.specs.Shared.{slot_in, shared}
+use Rattle.tree_law.specs.State.{IsInTree, IsReadyPage, IsState}
+use Rattle.tree_law.specs.Times.{Outing, Times, LimboFits, Timed}
+use Rattle.tree_law.specs.Tree.{IsTree}
+use Rattle.tree_law.proofs.links.Keeping.{slot_of}
+use Rattle.tree_law.proofs.epochs.Limbed.{LimboCase, as_it_was, is_stamped, is_passed, is_out, is_freed, RowOut, PageOut, FreesRows, FreesPids, row_case, page_case, walk_contained}
+use Rattle.tree_law.proofs.epochs.Limbos.{limbo_push, stamped_now, passed_now, freed_push, freed_now, pid_longer, row_longer}
+use Rattle.tree_law.proofs.shape.Mapping.{slot_some}
+use Rattle.tree_law.proofs.trace.Names.{slot_none}
+use Rattle.tree_law.proofs.trace.Owned.{pushed_length}
+use Rattle.tree_law.proofs.shape.Puts.{by_test, put_same}
+use Rattle.tree_law.proofs.shape.Rows.{next_linked}
+
+placed_at : (w : PageOwner) → IsInTree w → (l : ℕ) × (k : Key) × Reached 0 l k w
+placed_at Nobody h = absurd h
+placed_at (Keeps b) h = absurd h
+placed_at (Placed st l k) h = (l, k, (refl, refl, omega arith))
+placed_at (Cleared b l k) h = (l, k, (refl, refl))
+
+own_base : (v : OwnRow) → IsOwnBase v → IsOwn v
+own_base Foreign h = absurd h
+own_base Taken h = tt
+own_base (Written w) h = tt
+
+-- a row that is out is on no chain
+module _ {limits : Limits} {m : Memory} {log : List Update} {o : Owners} {knows : ℕ → Knowledge} {point : ℕ → Option (List Update)} {logs : ℕ → List (List Update)} {now : ℕ} {t : Times} (g : IsTree (shared m) log o knows point logs) (T : Timed limits m o knows now t)
+    (held : (p q : ℕ) → slot_in m.slots p ≡ Some q → IsInTree (o.page p) ⊎ IsReadyPage o m knows p q) where
+  in_chain : (x : ℕ) (c : List Record) → o.row x ≡ Linked → t.row_out x ≡ None → IsChainFrom m.rows x c → (row : ℕ) → Contains (chain_rows x c) row → t.row_out row ≡ None
+  in_chain x [] l e h row among = absurd h
+  in_chain x (w ∷ c) l e h row (zero, lt, i) = ap t.row_out (sym i) ∙ e
+  in_chain x (w ∷ c) l e h row (suc k, lt, i) = under (next_row w) refl (next_linked o (shared m) g.closed x w l h.0) h.1 (omega arith) i (λ n. in_chain n c)
+    where
+      under : (v : Option ℕ) → next_row w ≡ v → IfSome v (λ n. o.row n ≡ Linked) → MatchOption v (c ≡ []) (λ n. IsChainFrom m.rows n c) → k < length (chain_rows (unwrap_or v 0) c) → slice_index_or (chain_rows (unwrap_or v 0) c) k row ≡ row
+          → ((n : ℕ) → o.row n ≡ Linked → t.row_out n ≡ None → IsChainFrom m.rows n c → (row : ℕ) → Contains (chain_rows n c) row → t.row_out row ≡ None) → t.row_out row ≡ None
+      under None j i0 empty within at deeper = absurd (let none_there : length (chain_rows 0 c) ≡ 0 = ap (λ r. length (chain_rows 0 r)) empty in omega arith)
+      under (Some n) j i0 below within at deeper = deeper n i0 ((T.together x n w l h.0 j).1 ∙ e) below row (k, within, at)
+
+  pub off_chain : (row : ℕ) (w : Outing) → t.row_out row ≡ Some w → IsOnChain m row → ⊥
+  off_chain row w out (p, c, chain, among) = in_slot (slot_in m.slots p) refl
+    where
+      in_base : (x : ℕ) (base : pages.Page) (d : List Record) → IsChainFrom m.rows x d → Contains (chain_rows x d) row → m.rows x ≡ Some (Base base) → t.row_out x ≡ None → ⊥
+      in_base x base [] ch am e n = ch
+      in_base x base (v ∷ d) ch (suc k, lt, at) e n =
+          let same : v ≡ Base base = same_Some v (Base base) (sym ch.0 ∙ e) in
+          let none : d ≡ [] = subst (λ u. MatchOption (next_row u) (d ≡ []) (λ n. IsChainFrom m.rows n d)) same ch.1 in
+          let short : length (chain_rows (unwrap_or (next_row v) 0) d) ≡ 0 = ap (λ z. length (chain_rows (unwrap_or (next_row v) 0) z)) none in
+          absurd (omega arith)
+      in_base x base (v ∷ d) ch (zero, lt, at) e n = let f = sym n ∙ ap t.row_out at ∙ out in cc
+
+      in_slot : (v : Option ℕ) → slot_in m.slots p ≡ v → ⊥
+      in_slot None e = let z : m.slots p ≡ 0 = slot_none m.slots p chain.page e in let above : 0 < m.slots p = chain.linked in omega arith
+      in_slot (Some x) e =
+          let at : m.slots p ≡ x = (slot_some m.slots p x e).1 in
+          let chain' : IsChainFrom m.rows x c = subst (λ n. IsChainFrom m.rows n c) at chain.records in
+          let among' : Contains (chain_rows x c) row = subst (λ n. Contains (chain_rows n c) row) at among in
+          elim (held p x e) [
+            | inl tree ↦
+                let here = placed_at (o.page p) tree in
+                elim (slot_of g 0 p here.0 here.1 here.2) [
+                  | inl none ↦ (let f = sym none ∙ e in cc)
+                  | inr v ↦ (let l : o.row x ≡ Linked = subst (λ n. o.row n ≡ Linked) (same_Some v.0 x (sym v.1 ∙ e)) v.2.linked in let f = sym (in_chain x c l (T.slots p x here.0 here.1 here.2 e).1 chain' row among') ∙ out in cc)
+                ]
+            | inr ready ↦ in_base x ready.base c chain' among' ready.stands (T.own_rows ready.actor x (own_base ((knows ready.actor).own.rows x) (T.ready ready.actor p x ready.ready)))
+          ]
+
+module _ (limits : Limits) (entries : List Entry) (a : ℕ) (step : StepOf Record) (answer : Answer Record) (r : Option Reply) (state : IsState limits entries) (allowed : IsAllowed limits a (knows entries a) step r) (is : IsAnswer (memory_of limits entries) step answer) where
+  abbrev last : Entry
+  last = Step a step answer r
+
+  abbrev m : Memory
+  m = memory_of limits entries
+
+  abbrev k : Knowledge
+  k = knows entries a
+
+  -- what is in a limbo is out, by its actor
+  limbo_out : (b : ℕ) (out : Option Outing) (l : Limbo) → LimboFits b (λ c. (knows entries c).inside) state.times.entered out l → (l ≡ Absent → ⊥) → (w : Outing) × (out ≡ Some w) × (w.who ≡ b)
+  limbo_out b out Absent h f = absurd (f refl)
+  limbo_out b out Unstamped h f = h
+  limbo_out b out (Stamped e p) h f = (h.0, h.1, h.2)
+
+  freed_who : (b : ℕ) (out : Option Outing) (w : Outing) → out ≡ Some w → w.who ≡ b → (l : Limbo) → LimboFits a (λ c. (knows entries c).inside) state.times.entered out l → IsPassed limits a l → b ≡ a
+  freed_who b out w e who l h p =
+      let f = subst (λ (v : Limbo). LimboFits a (λ c. (knows entries c).inside) state.times.entered out v) p.stamped h in
+      sym who ∙ ap (λ v. v.who) (same_Some w f.0 (sym e ∙ f.1)) ∙ f.2
+
+  whether_true : (z : Bool) (y : Answer Record) → y ≡ Whether z → y ≡ Whether true → z ≡ true
+  whether_true z y e f = cc
+
+  -- no step but its actor's own reuse hands on what is in a limbo
+  hands_row : (b q : ℕ) → ((knows entries b).limbo.rows q ≡ Absent → ⊥) → HandsRow q step answer → (b ≡ a) × ((word bits : ℕ) × (step ≡ ReuseRows word bits) × (is_among word bits q ≡ true))
+  hands_row b q some h = go step answer refl is allowed.frees h
+    where
+      out : (w : Outing) × (state.times.row_out q ≡ Some w) × (w.who ≡ b)
+      out = limbo_out b (state.times.row_out q) ((knows entries b).limbo.rows q) (state.timed.limbo_rows b q) some
+
+      go : (s : StepOf Record) (y : Answer Record) → step ≡ s → IsAnswer m s y → MayFree limits a k s → HandsRow q s y → (b ≡ a) × ((word bits : ℕ) × (step ≡ ReuseRows word bits) × (is_among word bits q ≡ true))
+      go (TakeRow taken) y i j f hands =
+          let free : state.owners.row q ≡ Free = subst (λ n. state.owners.row n ≡ Free) hands.1 (state.good.frees.row taken (whether_true (m.free_rows taken) y j hands.0)) in
+          absurd (⊎_elim (λ (l : state.owners.row q ≡ Linked). (let z = free in cc)) (λ (l : state.owners.row q ≡ Spare out.0.who). (let z = free in cc)) (state.timed.rows q out.0 out.1).0)
+      go (ReuseRows word bits) y i j f hands = (freed_who b (state.times.row_out q) out.0 out.1 out.2 (k.limbo.rows q) (state.timed.limbo_rows a q) (f q hands), (word, bits, i, hands))
+      go s y i j f hands = absurd hands
+
+  hands_pid : (b q : ℕ) → ((knows entries b).limbo.pids q ≡ Absent → ⊥) → HandsPid q step answer → (b ≡ a) × ((word bits : ℕ) × (step ≡ ReusePids word bits) × (is_among word bits q ≡ true))
+  hands_pid b q some h = go step answer refl is allowed.frees h
+    where
+      out : (w : Outing) × (state.times.page_out q ≡ Some w) × (w.who ≡ b)
+      out = limbo_out b (state.times.page_out q) ((knows entries b).limbo.pids q) (state.timed.limbo_pids b q) some
+
+      go : (s : StepOf Record) (y : Answer Record) → step ≡ s → IsAnswer m s y → MayFree limits a k s → HandsPid q s y → (b ≡ a) × ((word bits : ℕ) × (step ≡ ReusePids word bits) × (is_among word bits q ≡ true))
+      go (TakePid taken) y i j f hands =
+          let free : state.owners.page q ≡ Nobody = subst (λ n. state.owners.page n ≡ Nobody) hands.1 (state.good.frees.page taken (whether_true (m.free_pids taken) y j hands.0)).0 in
+          absurd (let v = (state.timed.pages q out.0 out.1).0.2 in let z = sym free ∙ v in cc)
+      go (ReusePids word bits) y i j f hands = (freed_who b (state.times.page_out q) out.0 out.1 out.2 (k.limbo.pids q) (state.timed.limbo_pids a q) (f q hands), (word, bits, i, hands))
+      go s y i j f hands = absurd hands
+
+  is_last : (other : ℕ) (s : StepOf Record) (x : Answer Record) → IsStep last other s x → (step ≡ s) × (answer ≡ x)
+  is_last other s x h = let e = h.1 in ((cc), (cc))
+
+  calm_row : (b q : ℕ) → ((b ≡ a) → (word bits : ℕ) → step ≡ ReuseRows word bits → is_among word bits q ≡ true → (knows entries b).limbo.rows q ≡ Absent) → ((knows entries b).limbo.rows q ≡ Absent → ⊥) → (other : ℕ) (s : StepOf Record) (x : Answer Record) → IsStep last other s x → HandsRow q s x → ⊥
+  calm_row b q own some other s x at hands =
+      let e = is_last other s x at in
+      let h = hands_row b q some (subst (λ y. HandsRow q step y) (sym e.1) (subst (λ u. HandsRow q u x) (sym e.0) hands)) in
+      some (own h.0 h.1.0 h.1.1 h.1.2 h.1.3)
+
+  calm_pid : (b q : ℕ) → ((b ≡ a) → (word bits : ℕ) → step ≡ ReusePids word bits → is_among word bits q ≡ true → (knows entries b).limbo.pids q ≡ Absent) → ((knows entries b).limbo.pids q ≡ Absent → ⊥) → (other : ℕ) (s : StepOf Record) (x : Answer Record) → IsStep last other s x → HandsPid q s x → ⊥
+  calm_pid b q own some other s x at hands =
+      let e = is_last other s x at in
+      let h = hands_pid b q some (subst (λ y. HandsPid q step y) (sym e.1) (subst (λ u. HandsPid q u x) (sym e.0) hands)) in
+      some (own h.0 h.1.0 h.1.1 h.1.2 h.1.3)
+
+  whole_before : memory_at limits (entries ++ last ∷ []) (length entries) ≡ m
+  whole_before = ap (memory_of limits) (take-push_whole entries (last ∷ []))
+
+  -- the reuse of a row that is among the freed ones takes it out of the limbo
+  freed_row : (word bits q : ℕ) → step ≡ ReuseRows word bits → is_among word bits q ≡ true → (learn k step answer).limbo.rows q ≡ Absent
+  freed_row word bits q i e = subst (λ s. (learn k s answer).limbo.rows q ≡ Absent) (sym i) (rw e refl)
+
+  freed_pid : (word bits q : ℕ) → step ≡ ReusePids word bits → is_among word bits q ≡ true → (learn k step answer).limbo.pids q ≡ Absent
+  freed_pid word bits q i e = subst (λ s. (learn k s answer).limbo.pids q ≡ Absent) (sym i) (rw e refl)
+
+  module _ {log' : List Update} {o' : Owners} {point' : ℕ → Option (List Update)} {logs' : ℕ → List (List Update)} {t' : Times}
+      (g' : IsTree (shared (memory_after a step m)) log' o' (put (knows entries) a (finished (learn k step answer) r)) point' logs')
+      (T' : Timed limits (memory_after a step m) o' (put (knows entries) a (finished (learn k step answer) r)) (suc (length entries)) t')
+      (held' : (p q : ℕ) → slot_in (memory_after a step m).slots p ≡ Some q → IsInTree (o'.page p) ⊎ IsReadyPage o' (memory_after a step m) (put (knows entries) a (finished (learn k step answer) r)) p q) where
+    -- an exchange that took a row out
+    unlinks_row : (q : ℕ) → (learn k step answer).limbo.rows q ≡ Unstamped → RowOut k step answer q → UnlinksRow limits (entries ++ last ∷ []) a q (length entries)
+    unlinks_row q new h = (
+      suc h.page,
+      h.old,
+      h.new,
+      found.0,
+      (r, slice_get-push entries last ∙ (λ d. Some (Step a (h.step d) (h.won d) r))),
+      subst (λ v. IsChainOf v (suc h.page) found.0) (sym whole_before) found.1,
+      walk_contained 13 k.read.seen m.rows stand h.old found.0 q (subst (λ n. IsChainFrom m.rows n found.0) at found.1.records) h.walk,
+      λ on. off_chain g' T' held' q out.0 out.1 (subst (λ v. IsOnChain v q) after on),
+    )
+      where
+        may : MayExchange a k (suc h.page) h.old h.new
+        may = (subst (May a k) h.step allowed.may).1
+
+        at : m.slots (suc h.page) ≡ h.old
+        at = eqb-true (m.slots (suc h.page)) h.old (whether_true (eqb (m.slots (suc h.page)) h.old) answer (subst (λ s. IsAnswer m s answer) h.step is) h.won)
+
+        stand : (r : ℕ) (w : Record) → k.read.seen r ≡ Some w → m.rows r ≡ Some w
+        stand r w e = (subst (λ (v : Option Record). SeenFits (state.owners.row r) (m.rows r) v) e ((state.good.sound a).seen_fits r)).1
+
+        reached : (l : ℕ) × (s : Key) × Reached 0 l s (state.owners.page (suc h.page))
+        reached = ⊎_elim
+            (λ (u : (k.own.pages (suc h.page) ≡ Gone) × (h.new ≡ 0)). let w = subst (λ (v : OwnPage). PageFits a (state.owners.page (suc h.page)) (slot_in m.slots (suc h.page)) v) u.0 (state.good.owns_pages a (suc h.page)) in (w.0, w.1, subst (λ (v : PageOwner). Reached 0 w.0 w.1 v) (sym w.2) (refl, refl)))
+            (λ (u : (k.own.pages (suc h.page) ≡ Other) × ((y : ℕ) × (h.new ≡ suc y))). by_link h.old u.1.0 u.0 (subst (λ n. MayExchange a k (suc h.page) h.old n) u.1.1 may)) h.whose
+          where
+            by_link : (x y : ℕ) → k.own.pages (suc h.page) ≡ Other → MayExchange a k (suc h.page) x (suc y) → (l : ℕ) × (s : Key) × Reached 0 l s (state.owners.page (suc h.page))
+            by_link zero y other v = absurd (let e = v.0 in cc)
+            by_link (suc x) y other v =
+                let read = v.basis in
+                let f = subst (λ (z : Option ℕ). HeadFits state.owners (shared m) (state.logs a) (suc h.page) z) read.head ((state.good.sound a).heads_fit (suc h.page)) in
+                (level_in f.2.chain, low_in f.2.chain, f.3)
+
+        some_old : 0 < h.old
+        some_old = ⊎_elim (λ (u : (k.own.pages (suc h.page) ≡ Gone) × (h.new ≡ 0)). by_zero h.old (subst (λ n. MayExchange a k (suc h.page) h.old n) u.1 may)) (λ (u : (k.own.pages (suc h.page) ≡ Other) × ((y : ℕ) × (h.new ≡ suc y))). by_some h.old u.1.0 u.0 (subst (λ n. MayExchange a k (suc h.page) h.old n) u.1.1 may)) h.whose
+          where
+            by_zero : (x : ℕ) → MayExchange a k (suc h.page) x 0 → 0 < x
+            by_zero zero v = absurd v
+            by_zero (suc x) v = omega arith
+
+            by_some : (x y : ℕ) → k.own.pages (suc h.page) ≡ Other → MayExchange a k (suc h.page) x (suc y) → 0 < x
+            by_some zero y other v = absurd (let e = v.0 in cc)
+            by_some (suc x) y other v = omega arith
+
+        found : (c : List Record) × IsChainOf m (suc h.page) c
+        found = elim (slot_of state.good a (suc h.page) reached.0 reached.1 reached.2) [
+          | inl none ↦ absurd (let z : m.slots (suc h.page) ≡ 0 = slot_none m.slots (suc h.page) (omega arith) none in let s = some_old in let e = at in omega arith)
+          | inr v ↦ (let z = slot_some m.slots (suc h.page) v.0 v.1 in (v.2.chain, record { page = omega arith; linked = subst (λ n. 0 < n) (sym z.1) z.2; records = subst (λ n. IsChainFrom m.rows n v.2.chain) (sym z.1) v.2.is_chain }))
+        ]
+
+        out : (w : Outing) × (t'.row_out q ≡ Some w) × (w.who ≡ a)
+        out = subst (λ (l : Limbo). LimboFits a (λ c. (put (knows entries) a (finished (learn k step answer) r) c).inside) t'.entered (t'.row_out q) l) new
+            (subst (λ (kk : Knowledge). LimboFits a (λ c. (put (knows entries) a (finished (learn k step answer) r) c).inside) t'.entered (t'.row_out q) (kk.limbo.rows q)) (put_same (knows entries) a (finished (learn k step answer) r)) (T'.limbo_rows a q))
+
+        after : memory_at limits (entries ++ last ∷ []) (suc (length entries)) ≡ memory_after a step m
+        after = ap (memory_of limits) (whole_take (entries ++ last ∷ []) (suc (length entries)) (pushed_length entries last)) ∙ memory_of-push limits entries last
+          where
+            whole_take : (es : List Entry) (n : ℕ) → length es ≡ n → take n es ≡ es
+            whole_take [] zero e = refl
+            whole_take [] (suc n) e = absurd (omega arith)
+            whole_take (x ∷ es) zero e = absurd (omega arith)
+            whole_take (x ∷ es) (suc n) e = ap (λ v. x ∷ v) (whole_take es n (omega arith))
+
+    -- no step comes after the last one
+    none_after : (between other : ℕ) (s : StepOf Record) (x : Answer Record) → length entries < between → TakesStep (entries ++ last ∷ []) between other s x → ⊥
+    none_after between other s x lt h = let b = slice_get_below (entries ++ last ∷ []) between _ h.1 in let e = pushed_length entries last in omega arith
+
+    now_below : length entries < length (entries ++ last ∷ [])
+    now_below = let e = pushed_length entries last in omega arith
+
+    -- what the rows in limbos show afterwards
+    pub rows_in_limbo : (b q : ℕ) → IsInLimbo (entries ++ last ∷ []) b (UnlinksRow limits (entries ++ last ∷ []) b q) (HandsRow q) ((put (knows entries) a (finished (learn k step answer) r) b).limbo.rows q)
+    rows_in_limbo b q = by_test b a (λ z. IsInLimbo (entries ++ last ∷ []) b (UnlinksRow limits (entries ++ last ∷ []) b q) (HandsRow q) ((cond z (finished (learn k step answer) r) (knows entries b)).limbo.rows q))
+        (λ i. subst (λ n. IsInLimbo (entries ++ last ∷ []) n (UnlinksRow limits (entries ++ last ∷ []) n q) (HandsRow q) ((learn k step answer).limbo.rows q)) (sym i) (own (row_case k step answer q)))
+        (λ ne. limbo_push entries last (UnlinksRow limits entries b q) (UnlinksRow limits (entries ++ last ∷ []) b q) (HandsRow q) (row_longer entries last limits b q) b ((knows entries b).limbo.rows q) (calm_row b q (λ i. absurd (ne i))) (state.limbo_rows b q))
+      where
+        own : LimboCase step answer (k.limbo.rows q) ((learn k step answer).limbo.rows q) (RowOut k step answer q) (FreesRows step) → IsInLimbo (entries ++ last ∷ []) a (UnlinksRow limits (entries ++ last ∷ []) a q) (HandsRow q) ((learn k step answer).limbo.rows q)
+        own (as_it_was e) = subst (λ (l : Limbo). IsInLimbo (entries ++ last ∷ []) a (UnlinksRow limits (entries ++ last ∷ []) a q) (HandsRow q) l) (sym e)
+            (limbo_push entries last (UnlinksRow limits entries a q) (UnlinksRow limits (entries ++ last ∷ []) a q) (HandsRow q) (row_longer entries last limits a q) a (k.limbo.rows q) (calm_row a q (λ i word bits s among. sym e ∙ freed_row word bits q s among)) (state.limbo_rows a q))
+        own (is_stamped e i j new) = subst (λ (l : Limbo). IsInLimbo (entries ++ last ∷ []) a (UnlinksRow limits (entries ++ last ∷ []) a q) (HandsRow q) l) (sym new)
+            (stamped_now entries last (UnlinksRow limits entries a q) (UnlinksRow limits (entries ++ last ∷ []) a q) (HandsRow q) (row_longer entries last limits a q) a e r (λ d. Step a (i d) (j d) r) (k.limbo.rows q) (calm_row a q (λ _ word bits s among. absurd (let z = sym i ∙ s in cc))) (state.limbo_rows a q))
+        own (is_passed c v i j new) = subst (λ (l : Limbo). IsInLimbo (entries ++ last ∷ []) a (UnlinksRow limits (entries ++ last ∷ []) a q) (HandsRow q) l) (sym new)
+            (passed_now entries last (UnlinksRow limits entries a q) (UnlinksRow limits (entries ++ last ∷ []) a q) (HandsRow q) (row_longer entries last limits a q) a c v r (λ d. Step a (i d) (j d) r) (k.limbo.rows q) (calm_row a q (λ _ word bits s among. absurd (let z = sym i ∙ s in cc))) (state.limbo_rows a q))
+        own (is_out new h) = subst (λ (l : Limbo). IsInLimbo (entries ++ last ∷ []) a (UnlinksRow limits (entries ++ last ∷ []) a q) (HandsRow q) l) (sym new)
+            (record { at = length entries; below = now_below; unlinked = unlinks_row q new h; kept = λ between other s x lt took hands. none_after between other s x lt took })
+        own (is_freed new f) = subst (λ (l : Limbo). IsInLimbo (entries ++ last ∷ []) a (UnlinksRow limits (entries ++ last ∷ []) a q) (HandsRow q) l) (sym new) tt
+
+    -- an exchange that took a page out
+    unlinks_pid : (q : ℕ) → PageOut k step answer q → UnlinksPid limits (entries ++ last ∷ []) a q (length entries)
+    unlinks_pid q h = (h.old, by_zero h.old (subst (May a k) h.step allowed.may).1, (r, slice_get-push entries last ∙ (λ d. Some (Step a (named d) (h.won d) r))))
+      where
+        by_zero : (x : ℕ) → MayExchange a k (suc h.at) x 0 → 0 < x
+        by_zero zero v = absurd v
+        by_zero (suc x) v = omega arith
+
+        named : step ≡ Exchange q h.old 0
+        named = h.step ∙ ap (λ n. Exchange n h.old 0) (sym h.is)
+
+    pub pids_in_limbo : (b q : ℕ) → IsInLimbo (entries ++ last ∷ []) b (UnlinksPid limits (entries ++ last ∷ []) b q) (HandsPid q) ((put (knows entries) a (finished (learn k step answer) r) b).limbo.pids q)
+    pids_in_limbo b q = by_test b a (λ z. IsInLimbo (entries ++ last ∷ []) b (UnlinksPid limits (entries ++ last ∷ []) b q) (HandsPid q) ((cond z (finished (learn k step answer) r) (knows entries b)).limbo.pids q))
+        (λ i. subst (λ n. IsInLimbo (entries ++ last ∷ []) n (UnlinksPid limits (entries ++ last ∷ []) n q) (HandsPid q) ((learn k step answer).limbo.pids q)) (sym i) (own (page_case k step answer q)))
+        (λ ne. limbo_push entries last (UnlinksPid limits entries b q) (UnlinksPid limits (entries ++ last ∷ []) b q) (HandsPid q) (pid_longer entries last limits b q) b ((knows entries b).limbo.pids q) (calm_pid b q (λ i. absurd (ne i))) (state.limbo_pids b q))
+      where
+        own : LimboCase step answer (k.limbo.pids q) ((learn k step answer).limbo.pids q) (PageOut k step answer q) (FreesPids step) → IsInLimbo (entries ++ last ∷ []) a (UnlinksPid limits (entries ++ last ∷ []) a q) (HandsPid q) ((learn k step answer).limbo.pids q)
+        own (as_it_was e) = subst (λ (l : Limbo). IsInLimbo (entries ++ last ∷ []) a (UnlinksPid limits (entries ++ last ∷ []) a q) (HandsPid q) l) (sym e)
+            (limbo_push entries last (UnlinksPid limits entries a q) (UnlinksPid limits (entries ++ last ∷ []) a q) (HandsPid q) (pid_longer entries last limits a q) a (k.limbo.pids q) (calm_pid a q (λ i word bits s among. sym e ∙ freed_pid word bits q s among)) (state.limbo_pids a q))
+        own (is_stamped e i j new) = subst (λ (l : Limbo). IsInLimbo (entries ++ last ∷ []) a (UnlinksPid limits (entries ++ last ∷ []) a q) (HandsPid q) l) (sym new)
+            (stamped_now entries last (UnlinksPid limits entries a q) (UnlinksPid limits (entries ++ last ∷ []) a q) (HandsPid q) (pid_longer entries last limits a q) a e r (λ d. Step a (i d) (j d) r) (k.limbo.pids q) (calm_pid a q (λ _ word bits s among. absurd (let z = sym i ∙ s in cc))) (state.limbo_pids a q))
+        own (is_passed c v i j new) = subst (λ (l : Limbo). IsInLimbo (entries ++ last ∷ []) a (UnlinksPid limits (entries ++ last ∷ []) a q) (HandsPid q) l) (sym new)
+            (passed_now entries last (UnlinksPid limits entries a q) (UnlinksPid limits (entries ++ last ∷ []) a q) (HandsPid q) (pid_longer entries last limits a q) a c v r (λ d. Step a (i d) (j d) r) (k.limbo.pids q) (calm_pid a q (λ _ word bits s among. absurd (let z = sym i ∙ s in cc))) (state.limbo_pids a q))
+        own (is_out new h) = subst (λ (l : Limbo). IsInLimbo (entries ++ last ∷ []) a (UnlinksPid limits (entries ++ last ∷ []) a q) (HandsPid q) l) (sym new)
+            (record { at = length entries; below = now_below; unlinked = unlinks_pid q h; kept = λ between other s x lt took hands. none_after between other s x lt took })
+        own (is_freed new f) = subst (λ (l : Limbo). IsInLimbo (entries ++ last ∷ []) a (UnlinksPid limits (entries ++ last ∷ []) a q) (HandsPid q) l) (sym new) tt
+
+  is_own : (other : ℕ) (s : StepOf Record) (x : Answer Record) → IsStep last other s x → a ≡ other
+  is_own other s x h = let e = h.1 in cc
+
+  -- what was freed, and what this step frees, is freed by the rule
+  pub freed_after : IsFreedByRule limits (entries ++ last ∷ [])
+  freed_after = record {
+    pids = λ n actor word bits pid y takes among. elim (TakesStep-push_cases entries last n actor (ReusePids word bits) y takes) [
+      | inl before ↦ freed_push entries last (UnlinksPid limits entries actor pid) (UnlinksPid limits (entries ++ last ∷ []) actor pid) (HandsPid pid) (pid_longer entries last limits actor pid) limits actor n (slice_get_below entries n _ before.1) (state.freed.pids n actor word bits pid y before among)
+      | inr at ↦
+          let e = is_last actor (ReusePids word bits) y at.1 in
+          rw (at.0, sym (is_own actor (ReusePids word bits) y at.1)) (freed_now entries last (UnlinksPid limits entries a pid) (UnlinksPid limits (entries ++ last ∷ []) a pid) (HandsPid pid) (pid_longer entries last limits a pid) limits a (k.limbo.pids pid) ((subst (MayFree limits a k) e.0 allowed.frees) pid among) (state.limbo_pids a pid))
+    ];
+    rows = λ n actor word bits row y takes among. elim (TakesStep-push_cases entries last n actor (ReuseRows word bits) y takes) [
+      | inl before ↦ freed_push entries last (UnlinksRow limits entries actor row) (UnlinksRow limits (entries ++ last ∷ []) actor row) (HandsRow row) (row_longer entries last limits actor row) limits actor n (slice_get_below entries n _ before.1) (state.freed.rows n actor word bits row y before among)
+      | inr at ↦
+          let e = is_last actor (ReuseRows word bits) y at.1 in
+          rw (at.0, sym (is_own actor (ReuseRows word bits) y at.1)) (freed_now entries last (UnlinksRow limits entries a row) (UnlinksRow limits (entries ++ last ∷ []) a row) (HandsRow row) (row_longer entries last limits a row) limits a (k.limbo.rows row) ((subst (MayFree limits a k) e.0 allowed.frees) row among) (state.limbo_rows a row))
+    ];
+  }

@@ -1,0 +1,12 @@
+pub mod Exchanged
+pub mod Indexing
+pub mod Keeping
+pub mod Merging
+pub mod Reading
+pub mod Relinking
+pub mod Rooting
+pub mod Splitting
+pub mod Stepping
+pub mod Taking
+pub mod UpdateLinks
+pub mod Updating

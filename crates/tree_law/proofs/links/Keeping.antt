@@ -1,0 +1,212 @@
+-- What a step leaves, and what the tree says of a slot.
+use Rattle.std.proofs.Common.{◌≡◌, ◌⊎◌, inl, inr, ℕ, suc, ◌≤◌, List, [], ◌∷◌, Option, Some, None, Bool, true, false, cond, refl, sym, ap, ◌∙◌, subst, ⊎_elim, arith}
+use Rattle.std.specs.Prelude.{IsTrue}
+use Rattle.std.proofs.lemmas.Option.{same_Some}
+use Rattle.bw_model.specs.declared.command.Command.{Command}
+use Rattle.bw_model.specs.declared.command.Reply.{Reply}
+use Rattle.bw_model.specs.declared.step.Step.TheVariants.{Enter, Leave}
+use Rattle.bw_model.specs.declared.step.Answer.{Answer}
+use Rattle.bw_model.specs.declared.step.Answer.TheVariants.{Done}
+use Rattle.bw_model.specs.Log.{Update}
+use Rattle.base_page.specs.declared.item.Content.{Content}
+use Rattle.base_page.specs.declared.item.Content.TheVariants.{Child}
+use Rattle.deltas.specs.declared.record.Record.{Record}
+use Rattle.chain_search.specs.Chains.{content_in, level_in, low_in, high_in, right_in, is_removed, covers}
+use Rattle.tree_law.specs.Keys.{Key}
+use Rattle.chain_search.specs.Knowledge.{Knowledge, begun, learn, finished, forgotten}
+use Rattle.chain_search.specs.Discipline.{HasRead, IsBeyond, IsMet}
+use Rattle.tree_law.specs.Phase.{Stage, Fresh, Indexed, Held, Removed, Merged, PageOwner, Placed, Cleared, mark, rank, child_of, rank_of}
+use Rattle.tree_law.specs.Put.{put}
+use Rattle.tree_law.specs.Shared.{Shared}
+use Rattle.tree_law.specs.Owners.{IsChain, Owner, Owners, Reached, ChainNames, IsClosed, IsCleared, Owns, OwnsPages, SpellsLog, leaf_map, HeadFits, LinkFits, InOrder, OrderFits, Knows, IsOut}
+use Rattle.tree_law.specs.Tree.{SidePage, InPlace, spec, IsOff, Off, Tree, Frees, IsTree}
+use Rattle.tree_law.proofs.shape.KeyOrder.{covers_from}
+use Rattle.tree_law.proofs.shape.Puts.{by_test}
+use Rattle.tree_law.proofs.shape.Chains.{chain_unique}
+use Rattle.tree_law.proofs.shape.Kept.{Kept, cleared_forward, reached_placed, placed_reached, chain_kept, knows_kept, owns_spared, pages_spared}
+use Rattle.tree_law.proofs.shape.Sides.{locate, in_level_as, right_page, tree_kept}
+use Rattle.tree_law.proofs.shape.Frames.{Change, kept_change, spared_change, change_none, knows_more, chain_stands}
+
+pub spec_leaf : (log : List Update) (index : ℕ → Key → Option Content) (l : ℕ) → l ≡ 0 → (k : Key) → spec log index l k ≡ leaf_map log k
+spec_leaf log index l e k = ap (λ n. spec log index n k) e
+
+pub on_or_merged : (st : Stage) → (rank st ≤ 3) ⊎ (st ≡ Merged)
+on_or_merged Fresh = inl (omega arith)
+on_or_merged Indexed = inl (omega arith)
+on_or_merged Held = inl (omega arith)
+on_or_merged Removed = inl (omega arith)
+on_or_merged Merged = inr refl
+
+-- a page is as far as its term says
+marked_rank : (st : Stage) (q : ℕ) (i : Content) → mark st q ≡ Some i → rank_of i ≤ rank st
+marked_rank Fresh q i e = absurd (cc)
+marked_rank Indexed q i e = subst (λ (c : Content). rank_of c ≤ 1) (same_Some (Child q false) i e) (omega arith)
+marked_rank Held q i e = subst (λ (c : Content). rank_of c ≤ 2) (same_Some (Child q true) i e) (omega arith)
+marked_rank Removed q i e = subst (λ (c : Content). rank_of c ≤ 3) (same_Some (Child q true) i e) (omega arith)
+marked_rank Merged q i e = subst (λ (c : Content). rank_of c ≤ 4) (same_Some (Child q true) i e) (omega arith)
+
+module _ {m : Shared} {log : List Update} {o : Owners} {knows : ℕ → Knowledge} {point : ℕ → Option (List Update)} {logs : ℕ → List (List Update)} (g : IsTree m log o knows point logs) (a : ℕ) where
+  -- what a step of the actor leaves
+  pub put_good : (m' : Shared) (log' : List Update) (o' : Owners) (k : Knowledge) (p : Option (List Update)) (s : List (List Update))
+      → Change a o o' m m' → Frees o' m' → IsClosed o' m' → Tree o' m' log'
+      → Owns a o' m' k.own.rows → OwnsPages a o' m' k.own.pages → Knows o' m' k.read.seen k.read.learnt k.read.roots k.read.heads k.read.before k.asked.linked p s
+      → IsTree m' log' o' (put knows a k) (put point a p) (put logs a s)
+  put_good m' log' o' k p s change frees closed tree own pages kn =
+      record {
+        frees = frees;
+        closed = closed;
+        tree = tree;
+        owns = λ b. by_test b a (λ t. Owns b o' m' (cond t k (knows b)).own.rows)
+            (λ e. subst (λ (n : ℕ). Owns n o' m' k.own.rows) (sym e) own)
+            (λ ne. owns_spared b o o' m m' (spared_change a b o o' m m' ne change) (knows b).own.rows (g.owns b));
+        owns_pages = λ b. by_test b a (λ t. OwnsPages b o' m' (cond t k (knows b)).own.pages)
+            (λ e. subst (λ (n : ℕ). OwnsPages n o' m' k.own.pages) (sym e) pages)
+            (λ ne. pages_spared b o o' m m' (spared_change a b o o' m m' ne change) (knows b).own.pages (g.owns_pages b));
+        sound = λ b. by_test b a (λ t. Knows o' m' (cond t k (knows b)).read.seen (cond t k (knows b)).read.learnt (cond t k (knows b)).read.roots (cond t k (knows b)).read.heads (cond t k (knows b)).read.before (cond t k (knows b)).asked.linked (cond t p (point b)) (cond t s (logs b)))
+            (λ e. kn)
+            (λ ne. knows_kept o o' m m' g.closed (kept_change a o o' m m' change) (knows b).read.seen (knows b).read.learnt (knows b).read.roots (knows b).read.heads (knows b).read.before (knows b).asked.linked (point b) (logs b) (g.sound b));
+      }
+
+  -- a step that leaves memory and log
+  pub quiet : (k : Knowledge) (p : Option (List Update)) (s : List (List Update)) → Owns a o m k.own.rows → OwnsPages a o m k.own.pages → Knows o m k.read.seen k.read.learnt k.read.roots k.read.heads k.read.before k.asked.linked p s
+      → IsTree m log o (put knows a k) (put point a p) (put logs a s)
+  quiet k p s own pages kn = put_good m log o k p s (change_none a o m) g.frees g.closed g.tree own pages kn
+
+  pub mine : Knows o m (knows a).read.seen (knows a).read.learnt (knows a).read.roots (knows a).read.heads (knows a).read.before (knows a).asked.linked (point a) (log ∷ logs a)
+  mine = knows_more o m (knows a).read.seen (knows a).read.learnt (knows a).read.roots (knows a).read.heads (knows a).read.before (knows a).asked.linked (point a) (logs a) log (g.sound a)
+
+  -- what the actor knows stays so at a step of its own
+  pub mine_at : (o' : Owners) (m' : Shared) → Kept o o' m m' → Knows o' m' (knows a).read.seen (knows a).read.learnt (knows a).read.roots (knows a).read.heads (knows a).read.before (knows a).asked.linked (point a) (log ∷ logs a)
+  mine_at o' m' kept = knows_kept o o' m m' g.closed kept (knows a).read.seen (knows a).read.learnt (knows a).read.roots (knows a).read.heads (knows a).read.before (knows a).asked.linked (point a) (log ∷ logs a) mine
+
+  pub begins : (c : Command) → IsTree m log o (put knows a (begun (knows a) c)) (put point a None) (put logs a [])
+  begins c = quiet (begun (knows a) c) None [] (g.owns a) (g.owns_pages a) (record { seen_fits = mine.seen_fits; learnt_fits = mine.learnt_fits; roots_fit = mine.roots_fit; heads_fit = λ p. tt; orders_fit = λ p f. tt; linked_fits = refl })
+
+  -- a step after which the actor knows what it knew
+  pub idles : (k : Knowledge) → k.own.rows ≡ (knows a).own.rows → k.own.pages ≡ (knows a).own.pages → k.read.seen ≡ (knows a).read.seen → k.read.learnt ≡ (knows a).read.learnt → k.read.roots ≡ (knows a).read.roots → k.read.heads ≡ (knows a).read.heads → k.read.before ≡ (knows a).read.before → k.asked.linked ≡ (knows a).asked.linked
+      → IsTree m log o (put knows a k) (put point a (point a)) (put logs a (log ∷ logs a))
+  idles k e0 e1 e2 e3 e4 e5 e7 e6 = quiet k (point a) (log ∷ logs a) (rw e0 (g.owns a)) (rw e1 (g.owns_pages a)) (rw (e2, e3, e4, e5, e7, e6) mine)
+
+  pub enters : (e : ℕ) (x : Answer Record) (r : Option Reply) → IsTree m log o (put knows a (finished (learn (knows a) (Enter e) x) r)) (put point a (point a)) (put logs a (log ∷ logs a))
+  enters e x r = quiet (finished (learn (knows a) (Enter e) x) r) (point a) (log ∷ logs a) (g.owns a) (g.owns_pages a) (record { seen_fits = mine.seen_fits; learnt_fits = λ q e. absurd (cc); roots_fit = mine.roots_fit; heads_fit = mine.heads_fit; orders_fit = mine.orders_fit; linked_fits = mine.linked_fits })
+
+  forgets : (linked : Option (Option ℕ)) → LinkFits o m (point a) linked → LinkFits o m (point a) (forgotten linked)
+  forgets None h = h
+  forgets (Some None) h = h
+  forgets (Some (Some x)) h = (h.0, h.1)
+
+  pub leaves : (r : Option Reply) → IsTree m log o (put knows a (finished (learn (knows a) Leave Done) r)) (put point a (point a)) (put logs a (log ∷ logs a))
+  leaves r = quiet (finished (learn (knows a) Leave Done) r) (point a) (log ∷ logs a) (g.owns a) (g.owns_pages a) (record { seen_fits = λ q. tt; learnt_fits = λ q e. absurd (cc); roots_fit = λ p e. absurd (cc); heads_fit = λ p. tt; orders_fit = λ p f. tt; linked_fits = forgets (knows a).asked.linked mine.linked_fits })
+
+  -- a page whose slot has a chain that is not removed is on its side chain
+  pub alive_place : (p l : ℕ) (s : Key) → Reached 0 l s (o.page p) → (y : ℕ) → m.slots p ≡ Some y → (d : List Record) → IsChain m.rows d (Some y) → is_removed d ≡ false → InPlace o m (level_in d) (spec log o.index (level_in d)) (record { page = p; row = y; chain = d })
+  alive_place p l s r y sy d h nd =
+      ⊎_elim
+      (λ (u : (st : Stage) × (o.page p ≡ Placed st l s) × (0 ≤ rank st)). ⊎_elim
+      (λ (on : rank u.0 ≤ 3).
+      let e = (in_level_as o m l (spec log o.index l) (g.tree.first l) (g.tree.levels l (g.tree.exact.below p l s u.0 u.1)) p s u.0 u.1 on y sy d h).place in
+      subst (λ (n : ℕ). InPlace o m n (spec log o.index n) (record { page = p; row = y; chain = d })) (sym e.is_page.on_level) e)
+      (λ (e : u.0 ≡ Merged). off (inl (u.1 ∙ ap (λ st. Placed st l s) e)))
+      (on_or_merged u.0))
+      (λ (u : (b : ℕ) × (o.page p ≡ Cleared b l s)). off (inr u))
+      (reached_placed 0 l s (o.page p) r)
+    where
+      off : IsOff (o.page p) l s → InPlace o m (level_in d) (spec log o.index (level_in d)) (record { page = p; row = y; chain = d })
+      off i = ⊎_elim (λ (n : IsOut (o.page p) (m.slots p)). absurd (let e = sym sy ∙ n.0 in cc))
+          (λ (w : Off o m p l s).
+          let same : w.row ≡ y = same_Some w.row y (sym w.head ∙ sy) in
+          let e : w.chain ≡ d = chain_unique m.rows w.chain d (Some y) (subst (λ (n : ℕ). IsChain m.rows w.chain (Some n)) same w.is_chain) h in
+          absurd (let f : true ≡ false = sym w.flagged ∙ ap is_removed e ∙ nd in cc))
+          (g.tree.off p l s i)
+
+  -- the slot of a page of the tree
+  pub slot_of : (p l : ℕ) (s : Key) → Reached 0 l s (o.page p) → (m.slots p ≡ None) ⊎ ((x : ℕ) × (m.slots p ≡ Some x) × (h : SpellsLog o m x log) × Reached 0 (level_in h.chain) (low_in h.chain) (o.page p))
+  slot_of p lv s r =
+      ⊎_elim
+      (λ (u : (st : Stage) × (o.page p ≡ Placed st lv s) × (0 ≤ rank st)). ⊎_elim
+      (λ (on : rank u.0 ≤ 3).
+      let t = g.tree.levels lv (g.tree.exact.below p lv s u.0 u.1) in
+      let l = locate o m lv (spec log o.index lv) t.side (Some (g.tree.first lv)) (Some []) None None p t.whole (t.listed p s u.0 u.1 on) in
+      let at : SpellsLog o m l.page.row log = record { linked = l.here.linked; chain = l.page.chain; is_chain = l.here.is_page.is_chain; same = λ z y k v. l.here.is_page.same k v ∙ spec_leaf log o.index lv (sym l.here.is_page.on_level ∙ z) k } in
+      inr (
+        l.page.row,
+        ap m.slots (sym l.is) ∙ l.here.is_page.head,
+        at,
+        subst (λ (n : ℕ). Reached 0 n (low_in l.page.chain) (o.page p)) (sym l.here.is_page.on_level) (placed_reached lv (low_in l.page.chain) l.here.stage (o.page p) (ap o.page (sym l.is) ∙ l.here.placed)),
+      ))
+      (λ (e : u.0 ≡ Merged). off (inl (u.1 ∙ ap (λ st. Placed st lv s) e)))
+      (on_or_merged u.0))
+      (λ (u : (b : ℕ) × (o.page p ≡ Cleared b lv s)). off (inr u))
+      (reached_placed 0 lv s (o.page p) r)
+    where
+      off : IsOff (o.page p) lv s → (m.slots p ≡ None) ⊎ ((x : ℕ) × (m.slots p ≡ Some x) × (h : SpellsLog o m x log) × Reached 0 (level_in h.chain) (low_in h.chain) (o.page p))
+      off i = ⊎_elim (λ (n : IsOut (o.page p) (m.slots p)). inl n.0)
+          (λ (w : Off o m p lv s). inr (
+            w.row,
+            w.head,
+            record { linked = w.linked; chain = w.chain; is_chain = w.is_chain; same = λ z y. absurd (let e : true ≡ false = sym w.flagged ∙ y in cc) },
+            subst (λ (n : ℕ). Reached 0 n (low_in w.chain) (o.page p)) (sym w.level) (subst (λ (n : Key). Reached 0 lv n (o.page p)) (sym w.low) r),
+          ))
+          (g.tree.off p lv s i)
+
+  -- what the chain of a page names that is not removed, as its slot was read
+  pub read_names : (p x : ℕ) → (h : HasRead (knows a) p x) → ChainNames o h.chain
+  read_names p x h =
+      let f = subst (λ (v : Option ℕ). HeadFits o m (log ∷ logs a) p v) h.head (mine.heads_fit p) in
+      let same : f.2.chain ≡ h.chain = chain_unique m.rows f.2.chain h.chain (Some x) f.2.is_chain (chain_stands o m (knows a).read.seen mine.seen_fits h.chain (Some x) h.read) in
+      subst (λ (d : List Record). ChainNames o d) same (f.5 (ap is_removed same ∙ h.alive))
+
+  -- what a page on its side chain names
+  pub place_names : (p : SidePage) → (e : InPlace o m (level_in p.chain) (spec log o.index (level_in p.chain)) p) → ChainNames o p.chain
+  place_names p e = record {
+    right = λ q i. let n = right_page o m (level_in p.chain) (spec log o.index (level_in p.chain)) (g.tree.first (level_in p.chain)) (g.tree.levels (level_in p.chain) (g.tree.exact.below p.page (level_in p.chain) (low_in p.chain) e.stage e.placed)) p e q i in
+        (low_in n.0.chain, n.2, placed_reached (level_in p.chain) (low_in n.0.chain) n.3.stage (o.page q) (ap o.page (sym n.1) ∙ n.3.placed));
+    items = λ l s i at v d.
+        let t : o.index l s ≡ Some i = sym (e.is_page.same s v ∙ ap (λ n. spec log o.index n s) at) ∙ d in
+        let n = (g.tree.exact.named l s i t).1 in
+        subst (λ (w : PageOwner). Reached (rank_of i) l s w) (sym n.1) (refl, refl, marked_rank n.0 (child_of i) i n.2);
+  }
+
+  -- the right of a removed page that stands right of a page
+  pub beyond_place : (p x : ℕ) → m.slots p ≡ Some x → (d : List Record) → IsChain m.rows d (Some x) → Reached 0 (level_in d) (low_in d) (o.page p) → is_removed d ≡ false → (f z : ℕ) → right_in d ≡ Some f → (knows a).read.heads f ≡ Some z → (c : List Record) → IsChain m.rows c (Some z) → is_removed c ≡ true
+      → (q : ℕ) → right_in c ≡ Some q → (s : Key) × (st : Stage) × (high_in c ≡ Some s) × (o.page q ≡ Placed st (level_in c) s)
+  beyond_place p x sx d id e nd f z i ez c ic rc q j =
+      let h = subst (λ (v : Option ℕ). HeadFits o m (log ∷ logs a) f v) ez (mine.heads_fit f) in
+      let w = alive_place p (level_in d) (low_in d) e x sx d id nd in
+      let on = g.tree.levels (level_in d) (g.tree.exact.below p (level_in d) (low_in d) w.stage w.placed) in
+      let n = right_page o m (level_in d) (spec log o.index (level_in d)) (g.tree.first (level_in d)) on (record { page = p; row = x; chain = d }) w f i in
+      let same : h.2.chain ≡ c = chain_unique m.rows h.2.chain c (Some z) h.2.is_chain ic in
+      let slot : m.slots f ≡ Some z = ⊎_elim (λ (u : m.slots f ≡ Some z). u) (λ (u : IsOut (o.page f) (m.slots f)). absurd (let t = sym n.3.placed ∙ ap o.page n.1 ∙ u.1.3 in cc)) (h.4 (ap is_removed same ∙ rc)) in
+      let r = (in_level_as o m (level_in d) (spec log o.index (level_in d)) (g.tree.first (level_in d)) on f (low_in n.0.chain) n.3.stage (ap o.page (sym n.1) ∙ n.3.placed) n.3.on z slot c ic).place in
+      let t = right_page o m (level_in d) (spec log o.index (level_in d)) (g.tree.first (level_in d)) on (record { page = f; row = z; chain = c }) r q j in
+      (low_in t.0.chain, t.3.stage, t.2, subst (λ (l : ℕ). o.page q ≡ Placed t.3.stage l (low_in t.0.chain)) (sym r.is_page.on_level) (ap o.page (sym t.1) ∙ t.3.placed))
+
+  -- that page once both were read
+  pub beyond_reached : (p y : ℕ) → (knows a).read.heads p ≡ Some y → (d : List Record) → IsChain m.rows d (Some y) → is_removed d ≡ false → (q : ℕ) (b : IsBeyond (knows a) p d q) → (s : Key) × (high_in b.chain ≡ Some s) × Reached 0 (level_in b.chain) s (o.page q)
+  beyond_reached p y e d id nd q b =
+      let i : InOrder o m (log ∷ logs a) p y b.removed b.row = subst (λ (v : Option ℕ). OrderFits o m (log ∷ logs a) p b.removed (Some y) v) b.order (subst (λ (v : Option ℕ). OrderFits o m (log ∷ logs a) p b.removed v ((knows a).read.before p b.removed)) e (mine.orders_fit p b.removed)) in
+      i.beyond b.chain d q (chain_stands o m (knows a).read.seen mine.seen_fits b.chain (Some b.row) b.read) id b.gone nd b.right b.next
+
+  -- a page that was met is in the tree
+  pub lower : (r l : ℕ) (s : Key) (w : PageOwner) → Reached r l s w → Reached 0 l s w
+  lower r l s w h = ⊎_elim (λ (u : (st : Stage) × (w ≡ Placed st l s) × (r ≤ rank st)). placed_reached l s u.0 w u.1) (λ (u : (b : ℕ) × (w ≡ Cleared b l s)). subst (λ (v : PageOwner). Reached 0 l s v) (sym u.1) (refl, refl)) (reached_placed r l s w h)
+
+  pub met_placed : (p : ℕ) → ((knows a).read.roots p ≡ true) ⊎ IsMet (knows a) p → (l : ℕ) × (s : Key) × Reached 0 l s (o.page p)
+  met_placed p (inl e) = let i = mine.roots_fit p e in (i.0, [], i.1)
+  met_placed p (inr h) = by_name h.named
+    where
+      n : ChainNames o h.basis.chain
+      n = read_names h.other h.row h.basis
+
+      by_name : (right_in h.basis.chain ≡ Some p) ⊎ ((level : ℕ) × (key : Key) × (held : Bool) × (level_in h.basis.chain ≡ suc level) × IsTrue (covers h.basis.chain key) × (content_in h.basis.chain key ≡ Some (Child p held))) ⊎ IsBeyond (knows a) h.other h.basis.chain p → (l : ℕ) × (s : Key) × Reached 0 l s (o.page p)
+      by_name (inl u) = let r = n.right p u in (level_in h.basis.chain, r.0, r.2)
+      by_name (inr (inl u)) = (u.0, u.1, lower (rank_of (Child p u.2)) u.0 u.1 (o.page p) (n.items u.0 u.1 (Child p u.2) u.3 (covers_from h.basis.chain u.1 u.4) u.5))
+      by_name (inr (inr b)) = let r = beyond_reached h.other h.row h.basis.head h.basis.chain (chain_stands o m (knows a).read.seen mine.seen_fits h.basis.chain (Some h.row) h.basis.read) h.basis.alive p b in (level_in b.chain, r.0, r.2)
+
+  pub off_still : (o' : Owners) (m' : Shared) → Kept o o' m m' → (q l : ℕ) (k : Key) → m'.slots q ≡ m.slots q → IsOut (o.page q) (m.slots q) ⊎ Off o m q l k → IsOut (o'.page q) (m'.slots q) ⊎ Off o' m' q l k
+  off_still o' m' kept q l k s (inl e) = inl (s ∙ e.0, cleared_forward (o.page q) (o'.page q) (kept.page q) e.1)
+  off_still o' m' kept q l k s (inr w) = inr (record { row = w.row; chain = w.chain; head = s ∙ w.head; linked = (kept.row w.row w.linked).0; is_chain = chain_kept o o' m m' g.closed kept w.chain (Some w.row) w.linked w.is_chain; flagged = w.flagged; level = w.level; low = w.low })
+
+  -- at a step that touches no slot and no page
+  pub tree_at : (row : ℕ → Owner) (m' : Shared) → Kept o (record o { row = row }) m m' → m'.slots ≡ m.slots → m'.root ≡ m.root → Tree (record o { row = row }) m' log
+  tree_at row m' kept s e = tree_kept o (record o { row = row }) m m' log g.closed kept (λ q l k st i on. (ap (λ f. f q) s, (st, i, on, refl))) e refl (λ p l k st i on. (st, i, on)) g.tree (rw e g.tree.exact) (λ q l k i. off_still (record o { row = row }) m' kept q l k (ap (λ f. f q) s) (g.tree.off q l k i))

@@ -1,0 +1,319 @@
+-- Each allowed step with the memory's answer keeps the invariant.
+use Rattle.std.proofs.Common.{◌≡◌, ◌⊎◌, inl, inr, ℕ, zero, suc, List, [], ◌∷◌, Option, Some, None, Bool, true, false, cond, eqb, refl, sym, ap, ◌∙◌, subst, ⊎_elim}
+use Rattle.std.specs.Prelude.{IsTrue, IfSome}
+use Rattle.std.proofs.lemmas.Option.{same_Some}
+use Rattle.bw_model.specs.declared.command.Reply.{Reply}
+use Rattle.bw_model.specs.declared.step.Step.{Step as StepOf}
+use Rattle.bw_model.specs.declared.step.Step.TheVariants.{Slot, Row, Epoch, Announce, PidBits, RowBits, Place, Exchange, TakePid, TakeRow, Enter, Leave, Retire, ReusePids, ReuseRows}
+use Rattle.bw_model.specs.declared.step.Answer.{Answer}
+use Rattle.bw_model.specs.declared.step.Answer.TheVariants.{Number, Whether}
+use Rattle.bw_model.specs.Log.{Update, set, unset}
+use Rattle.base_page.specs.declared.item.Content.{Content as ContentOf}
+use Rattle.base_page.specs.declared.item.Content.TheVariants.{Child}
+use Rattle.base_page.specs.Pages.{Page}
+use Rattle.deltas.specs.declared.record.Record.{Record}
+use Rattle.deltas.specs.declared.record.Record.TheVariants.{Base, Put, Delete, Split, Term, Hold, Remove, Merge, Unterm}
+use Rattle.deltas.specs.Memory.{Memory, replaced_at}
+use Rattle.deltas.specs.Records.{next_row}
+use Rattle.chain_search.specs.Chains.{level_in, low_in, high_in, right_in}
+use Rattle.chain_search.specs.Fitted.{IsFitted}
+use Rattle.chain_search.specs.Steps.{IsAnswer, memory_after}
+use Rattle.tree_law.specs.Keys.{Key, put_key}
+use Rattle.chain_search.specs.Knowledge.{OwnRow, Written, OwnPage, Empty, Ready, Gone, Knowledge, learn_head, filled, emptied, learn, finished}
+use Rattle.chain_search.specs.Discipline.{record_of, base_from, root_over, IsMet, HasRead, FitsOn, MayUpdate, MayConsolidate, MaySplit, MayPost, MayHold, MayRemove, MayMerge, MayUnterm, MayRoot, MayLink, MayExchange, May}
+use Rattle.tree_law.specs.Phase.{Fresh, Indexed, Held, Removed, Merged, PageOwner, Keeps, Placed, Cleared}
+use Rattle.tree_law.specs.Phases.{LinkMoves, Phased}
+use Rattle.tree_law.specs.Put.{put}
+use Rattle.tree_law.specs.Shared.{Shared, row_in, slot_in, shared}
+use Rattle.tree_law.specs.Owners.{Spare, Linked, Owners, OwnFits, PageFits, Reached, SpellsLog}
+use Rattle.tree_law.specs.Tree.{IsTree}
+use Rattle.tree_law.specs.Fitness.{IsAdded}
+use Rattle.tree_law.specs.Next.{IsReuse, IsMoved, IsHomed, Next}
+use Rattle.tree_law.proofs.shape.Frames.{read_linked, chain_stands}
+use Rattle.tree_law.proofs.shape.Puts.{by_test, put_other}
+use Rattle.tree_law.proofs.links.Keeping.{idles, enters, leaves, slot_of, met_placed}
+use Rattle.tree_law.proofs.links.Reading.{reads_root, reads_slot, reads_row}
+use Rattle.tree_law.proofs.links.Taking.{takes_row, takes_page, own_spare, places, own_slot}
+use Rattle.tree_law.proofs.links.Relinking.{placed_row}
+use Rattle.tree_law.proofs.links.Updating.{updates, consolidates, removes}
+use Rattle.tree_law.proofs.links.Indexing.{posts, holds, unterms}
+use Rattle.tree_law.proofs.links.Splitting.{splits}
+use Rattle.tree_law.proofs.links.Rooting.{roots}
+use Rattle.tree_law.proofs.links.Merging.{merges, clears}
+
+-- the slots of pages after a change of the root, and of a page's slot
+pub root_apart : (slots : ℕ → ℕ) (y : ℕ) → slot_in (replaced_at 0 y slots) ≡ slot_in slots
+root_apart slots y = λ d p. at p d
+  where
+    at : (p : ℕ) → slot_in (replaced_at 0 y slots) p ≡ slot_in slots p
+    at zero = refl
+    at (suc p) = ap row_in (put_other slots 0 y (suc p) (λ e. absurd (cc)))
+
+pub slot_put : (slots : ℕ → ℕ) (p y : ℕ) → slot_in (replaced_at (suc p) y slots) ≡ put (slot_in slots) (suc p) (row_in y)
+slot_put slots p y = λ d q. at q d
+  where
+    at : (q : ℕ) → slot_in (replaced_at (suc p) y slots) q ≡ put (slot_in slots) (suc p) (row_in y) q
+    at zero = sym (put_other (slot_in slots) (suc p) (row_in y) 0 (λ e. absurd (cc)))
+    at (suc q) = by_test (suc q) (suc p) (λ t. row_in (cond t y (slots (suc q))) ≡ cond t (row_in y) (row_in (slots (suc q)))) (λ e. refl) (λ ne. refl)
+
+-- a bit that is clear is cleared again
+cleared_again : (free : ℕ → Bool) (n : ℕ) → free n ≡ false → replaced_at n false free ≡ free
+cleared_again free n h = λ d j. at j d
+  where
+    at : (j : ℕ) → replaced_at n false free j ≡ free j
+    at j = by_test j n (λ t. cond t false (free j) ≡ free j) (λ e. sym (ap free e ∙ h)) (λ ne. refl)
+
+record_next : (u : Update) (x : ℕ) → next_row (record_of u x) ≡ Some x
+record_next (set b k v) x = refl
+record_next (unset b k) x = refl
+
+links_same : (m : Shared) (a : ℕ) (u : Update) (x p : ℕ) (f : ℕ → PageOwner) → LinkMoves m a (record_of u x) p f f
+links_same m a (set b k v) x p f = refl
+links_same m a (unset b k) x p f = refl
+
+module _ (memory : Memory) {log : List Update} {o : Owners} {knows : ℕ → Knowledge} {point : ℕ → Option (List Update)} {logs : ℕ → List (List Update)} (g : IsTree (shared memory) log o knows point logs) (a : ℕ) where
+  -- what a step with its answer leaves
+  abbrev pub After : Memory → StepOf Record → Answer Record → Option Reply → Type 0
+  After memory' s x r = Next a (shared memory) (shared memory') log o knows point logs s x r
+
+  same_rows : (row : ℕ) → o.row row ≡ Linked → (o.row row ≡ Linked) × (memory.rows row ≡ memory.rows row)
+  same_rows row l = (l, refl)
+
+  same_moved : (row : ℕ) → IsMoved a (memory.free_rows row) (o.row row) (o.row row)
+  same_moved row = inl refl
+
+  same_added : {rows : ℕ → Option Record} (row : ℕ) → o.row row ≡ Linked → (o.row row ≡ Linked) ⊎ IsAdded o rows row
+  same_added row l = inl l
+
+  -- a step after which each row and page is whose it was
+  rests : {m' : Shared} {s : StepOf Record} {x : Answer Record} {r : Option Reply} → Phased a (shared memory) s x o.page o.page → ((row : ℕ) → o.row row ≡ Linked → m'.rows row ≡ memory.rows row)
+      → IsTree m' log o (put knows a (finished (learn (knows a) s x) r)) (put point a (point a)) (put logs a (log ∷ logs a)) → Next a (shared memory) m' log o knows point logs s x r
+  rests phased rows good = record { update = None; due = tt; last = λ i. refl; owners = o; phased = phased; moved = same_moved; added = same_added; homed = λ row l. inl l; kept = λ row l. (l, rows row l); good = good }
+
+  spare_of : {w : Record} (y : ℕ) → (knows a).own.rows y ≡ Written w → o.row y ≡ Spare a
+  spare_of {w} y e = (subst (λ (v : OwnRow). OwnFits a (o.row y) (memory.rows y) v) e (g.owns a y)).0
+
+  ready_slot : (p r : ℕ) → (knows a).own.pages p ≡ Ready r → slot_in memory.slots p ≡ Some r
+  ready_slot p r e = (subst (λ (v : OwnPage). PageFits a (o.page p) (slot_in memory.slots p) v) e (g.owns_pages a p)).1
+
+  linked_moved : (y : ℕ) → o.row y ≡ Spare a → (row : ℕ) → IsMoved a (memory.free_rows row) (o.row row) (put o.row y Linked row)
+  linked_moved y spare row = by_test row y (λ t. IsMoved a (memory.free_rows row) (o.row row) (cond t Linked (o.row row))) (λ e. inr (inr (ap o.row e ∙ spare, refl))) (λ ne. inl refl)
+
+  -- a delta is linked over the chain that was read
+  adds : (p x y : ℕ) (w : Record) → (knows a).own.rows y ≡ Written w → next_row w ≡ Some x → (basis : HasRead (knows a) p x) → FitsOn basis.chain w → IsAdded o memory.rows y
+  adds p x y w placed next basis fits = record {
+    content = w;
+    stands = placed_row g a y w placed;
+    under = basis.chain;
+    is_under = rw next (chain_stands o (shared memory) (knows a).read.seen (g.sound a).seen_fits basis.chain (Some x) basis.read);
+    next = rw next (read_linked o (shared memory) (knows a).read.seen (g.sound a).seen_fits basis.chain x basis.read);
+    fits = fits;
+  }
+
+  -- a base is linked
+  based : {page : Page} (y : ℕ) → (knows a).own.rows y ≡ Written (Base page) → IsFitted (Base page ∷ []) → IsAdded o memory.rows y
+  based {page} y placed fits = record { content = Base page; stands = placed_row g a y (Base page) placed; under = []; is_under = refl; next = tt; fits = fits }
+
+  linked_added : (y : ℕ) → IsAdded o memory.rows y → (row : ℕ) → put o.row y Linked row ≡ Linked → (o.row row ≡ Linked) ⊎ IsAdded o memory.rows row
+  linked_added y h row l = by_test row y (λ t. cond t Linked (o.row row) ≡ Linked → (o.row row ≡ Linked) ⊎ IsAdded o memory.rows row) (λ e i. inr (subst (IsAdded o memory.rows) (sym e) h)) (λ ne i. inl i) l
+
+  -- the new row of a slot is linked
+  linked_homed : (p x y : ℕ) (w : Record) → (knows a).own.rows (suc y) ≡ Written w → IfSome (next_row w) (λ n. n ≡ x) → (row : ℕ) → put o.row (suc y) Linked row ≡ Linked → (o.row row ≡ Linked) ⊎ IsHomed (shared memory) (Exchange (suc p) x (suc y)) (Whether true) row
+  linked_homed p x y w placed next row l = by_test row (suc y) (λ t. cond t Linked (o.row row) ≡ Linked → (o.row row ≡ Linked) ⊎ IsHomed (shared memory) (Exchange (suc p) x (suc y)) (Whether true) row) (λ e i. inr (inl (w, e, ap memory.rows e ∙ placed_row g a (suc y) w placed, next))) (λ ne i. inl i) l
+
+  -- a row that was the actor's own is linked
+  linked_rows : (y : ℕ) (row : ℕ) → o.row row ≡ Linked → (put o.row y Linked row ≡ Linked) × (memory.rows row ≡ memory.rows row)
+  linked_rows y row l = (by_test row y (λ t. cond t Linked (o.row row) ≡ Linked) (λ e. refl) (λ ne. l), refl)
+
+  reads : (p n : ℕ) (r : Option Reply) → memory.slots (suc p) ≡ n → IsTrue ((knows a).read.roots (suc p)) ⊎ IsMet (knows a) (suc p) → After memory (Slot (suc p)) (Number n) r
+  reads p zero r e met = rests refl (λ row l. refl) (idles g a (finished (knows a) r) refl refl refl refl refl refl refl refl)
+  reads p (suc n) r e met =
+      let here = met_placed g a (suc p) met in
+      let held : slot_in memory.slots (suc p) ≡ Some (suc n) = ap row_in e in
+      ⊎_elim
+      (λ (u : slot_in memory.slots (suc p) ≡ None). absurd (let f = sym held ∙ u in cc))
+      (λ (u : (x : ℕ) × (slot_in memory.slots (suc p) ≡ Some x) × (h : SpellsLog o (shared memory) x log) × Reached 0 (level_in h.chain) (low_in h.chain) (o.page (suc p))).
+      rests refl (λ row l. refl) (subst (λ (v : ℕ). IsTree (shared memory) log o (put knows a (finished (learn_head (suc p) v (knows a)) r)) (put point a (point a)) (put logs a (log ∷ logs a)))
+            (same_Some u.0 (suc n) (sym u.1 ∙ held))
+            (reads_slot g a (suc p) u.0 u.1 u.2 u.3 r)))
+      (slot_of g a (suc p) here.0 here.1 here.2)
+
+  takes : (q : ℕ) (r : Option Reply) (t : Bool) → memory.free_rows q ≡ t → After (memory_after a (TakeRow q) memory) (TakeRow q) (Whether t) r
+  takes q r true e = record {
+    update = None;
+    due = tt;
+    last = λ i. refl;
+    owners = record o { row = put o.row q (Spare a) };
+    phased = refl;
+    moved = λ row. by_test row q (λ t. IsMoved a (memory.free_rows row) (o.row row) (cond t (Spare a) (o.row row))) (λ i. inr (inl (ap memory.free_rows i ∙ e, ap o.row i ∙ g.frees.row q e, refl))) (λ ne. inl refl);
+    added = λ row. by_test row q (λ t. cond t (Spare a) (o.row row) ≡ Linked → (o.row row ≡ Linked) ⊎ IsAdded o memory.rows row) (λ i l. absurd (cc)) (λ ne l. inl l);
+    homed = λ row. by_test row q (λ t. cond t (Spare a) (o.row row) ≡ Linked → (o.row row ≡ Linked) ⊎ IsHomed (shared memory) (TakeRow q) (Whether true) row) (λ i l. absurd (cc)) (λ ne l. inl l);
+    kept = λ row l. (put_other o.row q (Spare a) row (λ i. absurd (let f = g.frees.row q e in let l' = sym (ap o.row i) ∙ l in cc)) ∙ l, refl);
+    good = takes_row g a q e r;
+  }
+  takes q r false e = rests refl (λ row l. refl) (subst (λ (f : ℕ → Bool). IsTree (record (shared memory) { free = f }) log o (put knows a (finished (knows a) r)) (put point a (point a)) (put logs a (log ∷ logs a))) (sym (cleared_again memory.free_rows q e)) (idles g a (finished (knows a) r) refl refl refl refl refl refl refl refl))
+
+  takes_pid : (q : ℕ) (r : Option Reply) (t : Bool) → memory.free_pids q ≡ t → After (memory_after a (TakePid q) memory) (TakePid q) (Whether t) r
+  takes_pid q r true e = record { update = None; due = tt; last = λ i. refl; owners = record o { page = put o.page q (Keeps a) }; phased = refl; moved = same_moved; added = same_added; homed = λ row l. inl l; kept = same_rows; good = takes_page g a q e r }
+  takes_pid q r false e = rests refl (λ row l. refl) (subst (λ (f : ℕ → Bool). IsTree (record (shared memory) { free_pages = f }) log o (put knows a (finished (knows a) r)) (put point a (point a)) (put logs a (log ∷ logs a))) (sym (cleared_again memory.free_pids q e)) (idles g a (finished (knows a) r) refl refl refl refl refl refl refl refl))
+
+  -- an exchange that lost teaches nothing
+  loses : (p x y : ℕ) (r : Option Reply) → After memory (Exchange p x y) (Whether false) r
+  loses p x y r = rests refl (λ row l. refl) (idles g a (finished (knows a) r) refl refl refl refl refl refl refl refl)
+
+  module _ (p x y : ℕ) (r : Option Reply) (s : slot_in memory.slots (suc p) ≡ Some (suc x)) (basis : HasRead (knows a) (suc p) (suc x)) (content : Record) (written : (knows a).own.rows (suc y) ≡ Written content) (fits : FitsOn basis.chain content) where
+    -- the memory in which the row is linked on the page
+    abbrev pub Linking : Type 0
+    Linking = Next a (shared memory) (record (shared memory) { slots = put (slot_in memory.slots) (suc p) (Some (suc y)) }) log o knows point logs (Exchange (suc p) (suc x) (suc y)) (Whether true) r
+
+    -- the row is linked, some pages go on, and no update is made
+    one : (w : Record) → (knows a).own.rows (suc y) ≡ Written w → IfSome (next_row w) (λ n. n ≡ suc x) → IsAdded o memory.rows (suc y) → (page : ℕ → PageOwner) (index : ℕ → Key → Option ContentOf) → LinkMoves (shared memory) a w (suc p) o.page page
+        → IsTree (record (shared memory) { slots = put (slot_in memory.slots) (suc p) (Some (suc y)) }) log (record { row = put o.row (suc y) Linked; page = page; index = index }) (put knows a (finished (filled ((knows a).own.pages (suc p)) (suc p) (suc x) (suc y) (knows a)) r)) (put point a (point a)) (put logs a (log ∷ logs a)) → Linking
+    one w placed next added page index moves good = record {
+      update = None;
+      due = tt;
+      last = λ i. absurd (cc);
+      owners = record { row = put o.row (suc y) Linked; page = page; index = index };
+      phased = (w, placed_row g a (suc y) w placed, moves);
+      moved = linked_moved (suc y) (spare_of (suc y) placed);
+      added = linked_added (suc y) added;
+      homed = linked_homed p (suc x) y w placed next;
+      kept = linked_rows (suc y);
+      good = good;
+    }
+
+    -- the same of a delta over the old row
+    delta : (w : Record) → content ≡ w → next_row w ≡ Some (suc x) → (page : ℕ → PageOwner) (index : ℕ → Key → Option ContentOf) → LinkMoves (shared memory) a w (suc p) o.page page
+        → IsTree (record (shared memory) { slots = put (slot_in memory.slots) (suc p) (Some (suc y)) }) log (record { row = put o.row (suc y) Linked; page = page; index = index }) (put knows a (finished (filled ((knows a).own.pages (suc p)) (suc p) (suc x) (suc y) (knows a)) r)) (put point a (point a)) (put logs a (log ∷ logs a)) → Linking
+    delta w is next = one w (written ∙ ap Written is) (rw next refl) (adds (suc p) (suc x) (suc y) w (written ∙ ap Written is) next basis (subst (FitsOn basis.chain) is fits))
+
+    by_update : MayUpdate a (knows a) (suc x) basis.chain content → Linking
+    by_update h = let n = updates g a (suc p) (suc x) (suc y) s basis content written h r in record {
+      update = Some h.update;
+      due = (h.command, h.going, h.unlinked, n.1);
+      last = λ i. absurd (cc);
+      owners = record o { row = put o.row (suc y) Linked };
+      phased = (record_of h.update (suc x), placed_row g a (suc y) (record_of h.update (suc x)) (written ∙ ap Written h.is), links_same (shared memory) a h.update (suc x) (suc p) o.page);
+      moved = linked_moved (suc y) (spare_of (suc y) (written ∙ ap Written h.is));
+      added = linked_added (suc y) (adds (suc p) (suc x) (suc y) (record_of h.update (suc x)) (written ∙ ap Written h.is) (record_next h.update (suc x)) basis (subst (FitsOn basis.chain) h.is fits));
+      homed = linked_homed p (suc x) y (record_of h.update (suc x)) (written ∙ ap Written h.is) (rw (record_next h.update (suc x)) refl);
+      kept = linked_rows (suc y);
+      good = n.0;
+    }
+
+    by_base : MayConsolidate basis.chain content → Linking
+    by_base h = one (base_from basis.chain (low_in basis.chain) h.items) (written ∙ ap Written h.is) tt (based (suc y) (written ∙ ap Written h.is) (subst (FitsOn basis.chain) h.is fits)) o.page o.index refl (consolidates g a (suc p) (suc x) (suc y) s basis content written h r)
+
+    by_split : MaySplit (knows a) (suc x) basis.chain content → Linking
+    by_split h = let n = splits g a (suc p) (suc x) (suc y) s basis content written h r in record {
+      update = None;
+      due = tt;
+      last = λ i. refl;
+      owners = record { row = put (put o.row h.row Linked) (suc y) Linked; page = put o.page h.right (Placed Fresh (level_in basis.chain) h.separator); index = o.index };
+      phased = (
+        Split (record { level = level_in basis.chain; next = suc x; separator = h.separator; page = h.right }),
+        placed_row g a (suc y) (Split (record { level = level_in basis.chain; next = suc x; separator = h.separator; page = h.right })) (written ∙ ap Written h.is),
+        (n.1.0, level_in basis.chain, low_in basis.chain, n.1.1, n.1.2, refl),
+      );
+      moved = λ row. by_test row (suc y) (λ t. IsMoved a (memory.free_rows row) (o.row row) (cond t Linked (put o.row h.row Linked row))) (λ e. inr (inr (ap o.row e ∙ spare_of (suc y) (written ∙ ap Written h.is), refl))) (λ ne. linked_moved h.row (spare_of h.row h.base) row);
+      homed = λ row. by_test row (suc y) (λ t. cond t Linked (put o.row h.row Linked row) ≡ Linked → (o.row row ≡ Linked) ⊎ IsHomed (shared memory) (Exchange (suc p) (suc x) (suc y)) (Whether true) row)
+          (λ e i. inr (inl (Split (record { level = level_in basis.chain; next = suc x; separator = h.separator; page = h.right }), e, ap memory.rows e ∙ placed_row g a (suc y) (Split (record { level = level_in basis.chain; next = suc x; separator = h.separator; page = h.right })) (written ∙ ap Written h.is), refl)))
+          (λ ne. by_test row h.row (λ t. cond t Linked (o.row row) ≡ Linked → (o.row row ≡ Linked) ⊎ IsHomed (shared memory) (Exchange (suc p) (suc x) (suc y)) (Whether true) row)
+          (λ e i. inr (inr (record { level = level_in basis.chain; next = suc x; separator = h.separator; page = h.right }, _, placed_row g a (suc y) (Split (record { level = level_in basis.chain; next = suc x; separator = h.separator; page = h.right })) (written ∙ ap Written h.is), ready_slot h.right h.row h.ready ∙ ap Some (sym e), ap memory.rows e ∙ placed_row g a h.row (base_from basis.chain h.separator h.items) h.base)))
+          (λ ne i. inl i));
+      added = λ row. by_test row (suc y) (λ t. cond t Linked (put o.row h.row Linked row) ≡ Linked → (o.row row ≡ Linked) ⊎ IsAdded o memory.rows row)
+          (λ e i. inr (subst (IsAdded o memory.rows) (sym e) (adds (suc p) (suc x) (suc y) (Split (record { level = level_in basis.chain; next = suc x; separator = h.separator; page = h.right })) (written ∙ ap Written h.is) refl basis (subst (FitsOn basis.chain) h.is fits))))
+          (λ ne. linked_added h.row (based h.row h.base h.ruled) row);
+      kept = λ row l. (by_test row (suc y) (λ t. cond t Linked (put o.row h.row Linked row) ≡ Linked) (λ e. refl) (λ ne. (linked_rows h.row row l).0), refl);
+      good = n.0;
+    }
+
+    by_post : MayPost (knows a) (suc p) (suc x) basis.chain content → Linking
+    by_post h = let n = posts g a (suc p) (suc x) (suc y) s basis content written h r in delta _ h.is refl (put o.page h.child (Placed Indexed (level_in h.below.chain) (low_in h.below.chain))) (put o.index (level_in h.below.chain) (put_key (o.index (level_in h.below.chain)) (low_in h.below.chain) (Some (Child h.child false)))) (level_in h.below.chain, n.1, refl) n.0
+
+    by_hold : MayHold (suc x) basis.chain content → Linking
+    by_hold h = let n = holds g a (suc p) (suc x) (suc y) s basis content written h r in delta _ h.is refl (put o.page h.child (Placed Held h.level h.key)) (put o.index h.level (put_key (o.index h.level) h.key (Some (Child h.child true)))) (h.level, n.1, refl) n.0
+
+    by_remove : MayRemove (knows a) (suc p) (suc x) basis.chain content → Linking
+    by_remove h = let n = removes g a (suc p) (suc x) (suc y) s basis content written h r in delta _ h.is refl (put o.page (suc p) (Placed Removed (level_in basis.chain) (low_in basis.chain))) o.index (level_in basis.chain, low_in basis.chain, n.1, refl) n.0
+
+    by_merge : MayMerge (knows a) (suc x) basis.chain content → Linking
+    by_merge h =
+        let n = merges g a (suc p) (suc x) (suc y) s basis content written h r in
+        delta _ h.is refl (put o.page h.other (Placed Merged (level_in basis.chain) (low_in h.merged))) o.index (h.other, level_in basis.chain, n.1, refl, (suc x, basis.chain, s, chain_stands o (shared memory) (knows a).read.seen (g.sound a).seen_fits basis.chain (Some (suc x)) basis.read, h.right)) n.0
+
+    by_unterm : MayUnterm (knows a) (suc p) (suc x) basis.chain content → Linking
+    by_unterm h = let n = unterms g a (suc p) (suc x) (suc y) s basis content written h r in delta _ h.is refl (put o.page h.child (Cleared a (level_in h.below.chain) h.key)) (put o.index (level_in h.below.chain) (put_key (o.index (level_in h.below.chain)) h.key None)) (level_in h.below.chain, n.1, refl) n.0
+
+  -- what is placed is linked, by its kind
+  links : (p x y : ℕ) (r : Option Reply) (s : slot_in memory.slots (suc p) ≡ Some (suc x)) (basis : HasRead (knows a) (suc p) (suc x)) (content : Record) (written : (knows a).own.rows (suc y) ≡ Written content) (fits : FitsOn basis.chain content) → MayLink a (knows a) (suc p) (suc x) basis.chain content → Linking p x y r s basis content written fits
+  links p x y r s basis (Base base) = by_base p x y r s basis (Base base)
+  links p x y r s basis (Put put) = by_update p x y r s basis (Put put)
+  links p x y r s basis (Delete delete) = by_update p x y r s basis (Delete delete)
+  links p x y r s basis (Split split) = by_split p x y r s basis (Split split)
+  links p x y r s basis (Term term) = by_post p x y r s basis (Term term)
+  links p x y r s basis (Hold hold) = by_hold p x y r s basis (Hold hold)
+  links p x y r s basis (Remove remove) = by_remove p x y r s basis (Remove remove)
+  links p x y r s basis (Merge merge) = by_merge p x y r s basis (Merge merge)
+  links p x y r s basis (Unterm unterm) = by_unterm p x y r s basis (Unterm unterm)
+
+  own_kept : (p : ℕ) (v : OwnPage) → (knows a).own.pages p ≡ v → PageFits a (o.page p) (slot_in memory.slots p) v
+  own_kept p v e = subst (λ (w : OwnPage). PageFits a (o.page p) (slot_in memory.slots p) w) e (g.owns_pages a p)
+
+  -- an exchange of a page's slot that won
+  exchanges : (p x y : ℕ) (r : Option Reply) → slot_in memory.slots (suc p) ≡ row_in x → MayExchange a (knows a) (suc p) x y → Next a (shared memory) (record (shared memory) { slots = put (slot_in memory.slots) (suc p) (row_in y) }) log o knows point logs (Exchange (suc p) x y) (Whether true) r
+  exchanges p zero zero r s h = absurd h
+  exchanges p zero (suc y) r s h = rests ((refl, (own_kept (suc p) Empty h.0).0)) (λ row l. refl) (subst (λ (v : OwnPage). IsTree (record (shared memory) { slots = put (slot_in memory.slots) (suc p) (Some (suc y)) }) log o (put knows a (finished (filled v (suc p) zero (suc y) (knows a)) r)) (put point a (point a)) (put logs a (log ∷ logs a))) (sym h.0)
+        (own_slot g a (suc p) (Some (suc y)) (Ready (suc y)) (own_kept (suc p) Empty h.0).0 ((own_kept (suc p) Empty h.0).0, refl) (finished (filled Empty (suc p) zero (suc y) (knows a)) r) refl refl refl refl refl refl refl refl))
+  exchanges p (suc x) zero r s (inl h) = rests ((refl, inl (own_kept (suc p) (Ready (suc x)) h).0)) (λ row l. refl) (subst (λ (v : OwnPage). IsTree (record (shared memory) { slots = put (slot_in memory.slots) (suc p) None }) log o (put knows a (finished (emptied v (suc p) (suc x) (knows a)) r)) (put point a (point a)) (put logs a (log ∷ logs a))) (sym h)
+        (own_slot g a (suc p) None Empty (own_kept (suc p) (Ready (suc x)) h).0 ((own_kept (suc p) (Ready (suc x)) h).0, refl) (finished (emptied (Ready (suc x)) (suc p) (suc x) (knows a)) r) refl refl refl refl refl refl refl refl))
+  exchanges p (suc x) zero r s (inr h) = rests ((refl, inr (let w = own_kept (suc p) Gone h in (w.0, w.1, w.2)))) (λ row l. refl) (clears g a (suc p) (suc x) s h r)
+  exchanges p (suc x) (suc y) r s h = links p x y r s h.basis h.content h.placed h.fits h.due
+
+  -- an exchange of slot 0 that won
+  exchanges_root : (x y : ℕ) (r : Option Reply) → memory.slots 0 ≡ x → MayRoot (knows a) x y → Next a (shared memory) (record (shared memory) { root = y }) log o knows point logs (Exchange 0 x y) (Whether true) r
+  exchanges_root x y r s h = let n = roots g a x y s h r in record {
+    update = None;
+    due = tt;
+    last = λ i. refl;
+    owners = record {
+      row = put o.row h.base_row Linked;
+      page = put (put o.page h.right (Placed Indexed g.tree.top h.separator)) y (Placed Indexed (suc g.tree.top) []);
+      index = put o.index g.tree.top (put_key (put_key (λ k. None) h.separator (Some (Child h.right false))) [] (Some (Child (memory.slots 0) false)));
+    };
+    phased = (h.right, g.tree.top, h.separator, n.1.0, n.1.1, n.1.2, refl, (h.base_row, suc (level_in h.basis.chain), ready_slot y h.base_row h.ready, placed_row g a h.base_row (root_over (suc (level_in h.basis.chain)) x h.separator h.right) h.base), h.some);
+    moved = linked_moved h.base_row (spare_of h.base_row h.base);
+    added = linked_added h.base_row (based h.base_row h.base h.ruled);
+    homed = λ row. by_test row h.base_row (λ t. cond t Linked (o.row row) ≡ Linked → (o.row row ≡ Linked) ⊎ IsHomed (shared memory) (Exchange 0 x y) (Whether true) row)
+        (λ e i. inr (_, ready_slot y h.base_row h.ready ∙ ap Some (sym e), ap memory.rows e ∙ placed_row g a h.base_row (root_over (suc (level_in h.basis.chain)) x h.separator h.right) h.base))
+        (λ ne i. inl i);
+    kept = linked_rows h.base_row;
+    good = n.0;
+  }
+
+  exchange : (p x y : ℕ) (r : Option Reply) → MayExchange a (knows a) p x y → After (memory_after a (Exchange p x y) memory) (Exchange p x y) (Whether (eqb (memory.slots p) x)) r
+  exchange zero x y r h = by_test (memory.slots 0) x (λ t. After (record memory { slots = cond t (replaced_at 0 y memory.slots) memory.slots }) (Exchange 0 x y) (Whether t) r)
+      (λ e. subst (λ (f : ℕ → Option ℕ). Next a (shared memory) (record (shared memory) { root = y; slots = f }) log o knows point logs (Exchange 0 x y) (Whether true) r) (sym (root_apart memory.slots y)) (exchanges_root x y r e h))
+      (λ ne. loses 0 x y r)
+  exchange (suc p) x y r h = by_test (memory.slots (suc p)) x (λ t. After (record memory { slots = cond t (replaced_at (suc p) y memory.slots) memory.slots }) (Exchange (suc p) x y) (Whether t) r)
+      (λ e. subst (λ (n : ℕ). Next a (shared memory) (record (shared memory) { root = n; slots = slot_in (replaced_at (suc p) y memory.slots) }) log o knows point logs (Exchange (suc p) x y) (Whether true) r) (sym (put_other memory.slots (suc p) y 0 (λ i. absurd (cc))))
+      (subst (λ (f : ℕ → Option ℕ). Next a (shared memory) (record (shared memory) { slots = f }) log o knows point logs (Exchange (suc p) x y) (Whether true) r) (sym (slot_put memory.slots p y)) (exchanges p x y r (ap row_in e) h)))
+      (λ ne. loses (suc p) x y r)
+
+  pub step : (s : StepOf Record) → (IsReuse s → ⊥) → (r : Option Reply) → May a (knows a) s → (x : Answer Record) → IsAnswer memory s x → After (memory_after a s memory) s x r
+  step (Slot zero) calm r h x e = subst (λ (v : Answer Record). After memory (Slot zero) v r) (sym e) (rests refl (λ row l. refl) (reads_root g a r))
+  step (Slot (suc p)) calm r h x e = subst (λ (v : Answer Record). After memory (Slot (suc p)) v r) (sym e) (reads p (memory.slots (suc p)) r refl h.1)
+  step (Row q) calm r h x e = subst (λ (v : Answer Record). After memory (Row q) v r) (sym e.2) (rests refl (λ row l. refl) (reads_row g a q e.0 h.1 e.1 r))
+  step Epoch calm r h x e = subst (λ (v : Answer Record). After memory Epoch v r) (sym e) (rests refl (λ row l. refl) (idles g a (finished (learn (knows a) Epoch (Number memory.epoch)) r) refl refl refl refl refl refl refl refl))
+  step (Announce b) calm r h x e = subst (λ (v : Answer Record). After memory (Announce b) v r) (sym e) (rests refl (λ row l. refl) (idles g a (finished (learn (knows a) (Announce b) (Number (memory.announced b))) r) refl refl refl refl refl refl refl refl))
+  step (PidBits w) calm r h x e = subst (λ (v : Answer Record). After memory (PidBits w) v r) (sym e.2) (rests refl (λ row l. refl) (idles g a (finished (learn (knows a) (PidBits w) (Number e.0)) r) refl refl refl refl refl refl refl refl))
+  step (RowBits w) calm r h x e = subst (λ (v : Answer Record). After memory (RowBits w) v r) (sym e.2) (rests refl (λ row l. refl) (idles g a (finished (learn (knows a) (RowBits w) (Number e.0)) r) refl refl refl refl refl refl refl refl))
+  step (Place q w) calm r h x e = subst (λ (v : Answer Record). After (memory_after a (Place q w) memory) (Place q w) v r) (sym e) (rests refl (λ row l. put_other memory.rows q (Some w) row (λ i. absurd (let f = own_spare g a q ((knows a).own.rows q) (g.owns a q) h.1 in let l' = sym (ap o.row i) ∙ l in cc))) (places g a q w h.1 r))
+  step (Exchange p old y) calm r h x e = subst (λ (v : Answer Record). After (memory_after a (Exchange p old y) memory) (Exchange p old y) v r) (sym e) (exchange p old y r h.1)
+  step (TakePid q) calm r h x e = subst (λ (v : Answer Record). After (memory_after a (TakePid q) memory) (TakePid q) v r) (sym e) (takes_pid q r (memory.free_pids q) refl)
+  step (TakeRow q) calm r h x e = subst (λ (v : Answer Record). After (memory_after a (TakeRow q) memory) (TakeRow q) v r) (sym e) (takes q r (memory.free_rows q) refl)
+  step (Enter n) calm r h x e = rests refl (λ row l. refl) (enters g a n x r)
+  step Leave calm r h x e = subst (λ (v : Answer Record). After (memory_after a Leave memory) Leave v r) (sym e) (rests refl (λ row l. refl) (leaves g a r))
+  step (Retire n) calm r h x e = rests refl (λ row l. refl) (idles g a (finished (knows a) r) refl refl refl refl refl refl refl refl)
+  step (ReusePids w b) calm r h x e = absurd (calm tt)
+  step (ReuseRows w b) calm r h x e = absurd (calm tt)

@@ -1,0 +1,169 @@
+-- Links that leave the index as it is: an update, a consolidation, and the removal of a page.
+use Rattle.std.proofs.Common.{◌≡◌, ◌≢◌, ℕ, zero, suc, ◌<◌, ◌≤◌, List, [], ◌∷◌, ◌++◌, Option, Some, None, true, false, cond, refl, sym, ap, ◌∙◌, subst, arith}
+use Rattle.std.proofs.lemmas.Option.{same_Some}
+use Rattle.std.proofs.lemmas.Bool.Decides.{nat_tests}
+use Rattle.bw_model.specs.declared.command.Reply.{Reply}
+use Rattle.bw_model.specs.Log.{Update}
+use Rattle.base_page.specs.declared.item.Content.{Content}
+use Rattle.base_page.specs.declared.item.Content.TheVariants.{Value, Child}
+use Rattle.deltas.specs.declared.record.Record.{Record}
+use Rattle.deltas.specs.declared.record.Record.TheVariants.{Remove}
+use Rattle.deltas.specs.Records.{next_row}
+use Rattle.chain_search.specs.Chains.{content_in, level_in, low_in, high_in, right_in, is_removed}
+use Rattle.tree_law.specs.Keys.{Key, Covers}
+use Rattle.chain_search.specs.Knowledge.{OwnRow, Foreign, Written, Knowledge, filled, linked_over, taken_out, finished, handed_over, rebuilt, updated}
+use Rattle.tree_law.specs.Phase.{Stage, Fresh, Indexed, Held, Removed, Merged, PageOwner, Placed, rank, stage_removed}
+use Rattle.tree_law.specs.Put.{put}
+use Rattle.tree_law.specs.Shared.{Shared}
+use Rattle.tree_law.specs.Owners.{Spare, Linked, Owners, Reached, OwnFits, leaf_map, SpellsLog, LinkFits}
+use Rattle.tree_law.specs.Tree.{spec, IsTree}
+use Rattle.std.specs.Ordering.{is_eq}
+use Rattle.std.specs.Option.{option_map}
+use Rattle.std.proofs.lemmas.List.Sums.{fold-append}
+use Rattle.bw_model.specs.declared.command.Command.{Command}
+use Rattle.bw_model.specs.declared.command.Command.TheVariants.{Get, Insert, Upsert, Delete}
+use Rattle.bw_model.specs.Bytes.{key_cmp}
+use Rattle.bw_model.specs.Log.{set, unset, updated_key, updated_value, value_in}
+use Rattle.bw_model.specs.Replies.{command_key, update_of}
+use Rattle.chain_search.specs.Discipline.{MayUpdate, MayConsolidate, MayRemove, record_of, value_of, base_from, HasRead}
+use Rattle.tree_law.proofs.shape.KeyOrder.{by_key, covers_from, covers_to}
+use Rattle.tree_law.proofs.shape.Puts.{by_test, put_same, put_other}
+use Rattle.tree_law.proofs.shape.Terms.{exact_going}
+use Rattle.tree_law.proofs.links.Keeping.{spec_leaf, mine, read_names}
+use Rattle.tree_law.proofs.links.Relinking.{stay, not_own, found, place_of, relink_one, alive_stage}
+
+-- the record of an update over a chain
+record IsOver (w : Record) (x : ℕ) (c : List Record) : Type 0 where
+  next : next_row w ≡ Some x
+  level : level_in (w ∷ c) ≡ level_in c
+  flag : is_removed (w ∷ c) ≡ is_removed c
+  low : low_in (w ∷ c) ≡ low_in c
+  right : right_in (w ∷ c) ≡ right_in c
+  high : high_in (w ∷ c) ≡ high_in c
+
+is_over : (u : Update) (x : ℕ) (c : List Record) → IsOver (record_of u x) x c
+is_over (set b k v) x c = record { next = refl; level = refl; flag = refl; low = refl; right = refl; high = refl }
+is_over (unset b k) x c = record { next = refl; level = refl; flag = refl; low = refl; right = refl; high = refl }
+
+pub value_of_map : (v : Option Key) → value_of (option_map Value v) ≡ v
+value_of_map None = refl
+value_of_map (Some v) = refl
+
+value_in_push : (log : List Update) (u : Update) (key : Key) → value_in (log ++ u ∷ []) key ≡ cond (is_eq (key_cmp key (updated_key u))) (updated_value u) (value_in log key)
+value_in_push log u key = fold-append _ _ log (u ∷ [])
+
+over_decides : (u : Update) (x : ℕ) (c : List Record) (l : List Update) (k : Key) → content_in c k ≡ leaf_map l k → content_in (record_of u x ∷ c) k ≡ leaf_map (l ++ u ∷ []) k
+over_decides (set b j v) x c l k e = by_key k j (λ t. cond t (Some (Value v)) (content_in c k) ≡ option_map Value (cond t (Some v) (value_in l k))) (λ i. refl) (λ i. e) ∙ sym (ap (option_map Value) (value_in_push l (set b j v) k))
+over_decides (unset b j) x c l k e = by_key k j (λ t. cond t None (content_in c k) ≡ option_map Value (cond t None (value_in l k))) (λ i. refl) (λ i. e) ∙ sym (ap (option_map Value) (value_in_push l (unset b j) k))
+
+-- an update's key is in its page, so the log changes there only
+log_outside : (u : Update) (log : List Update) (index : ℕ → Key → Option Content) (lv : ℕ) (c : List Record) → lv ≡ 0 → ((k : Key) → (Covers c k → ⊥) → leaf_map (log ++ u ∷ []) k ≡ leaf_map log k) → (l : ℕ) (k : Key) → (l ≡ lv → Covers c k → ⊥) → spec (log ++ u ∷ []) index l k ≡ spec log index l k
+log_outside u log index lv c z f zero k n = f k (n (sym z))
+log_outside u log index lv c z f (suc l) k n = refl
+
+key_apart : (u : Update) (l : List Update) (k : Key) → k ≢ updated_key u → leaf_map (l ++ u ∷ []) k ≡ leaf_map l k
+key_apart u l k ne = ap (option_map Value) (value_in_push l u k ∙ by_key k (updated_key u) (λ t. cond t (updated_value u) (value_in l k) ≡ value_in l k) (λ e. absurd (ne e)) (λ e. refl))
+
+-- an update is of its command's key
+key_due : (b : ℕ) (c : Command) (old : Option Key) (u : Update) → update_of b c old ≡ Some u → updated_key u ≡ command_key c
+key_due b (Get k) old u e = absurd (cc)
+key_due b (Insert k v) None u e = ap updated_key (sym (same_Some (set b k v) u e))
+key_due b (Insert k v) (Some x) u e = absurd (cc)
+key_due b (Upsert k v) old u e = ap updated_key (sym (same_Some (set b k v) u e))
+key_due b (Delete k) None u e = absurd (cc)
+key_due b (Delete k) (Some x) u e = ap updated_key (sym (same_Some (unset b k) u e))
+
+linked_update : (u : Update) (x y : ℕ) (k : Knowledge) → linked_over (Written (record_of u x)) x y k ≡ updated x y k
+linked_update (set b j v) x y k = refl
+linked_update (unset b j) x y k = refl
+
+module _ {m : Shared} {log : List Update} {o : Owners} {knows : ℕ → Knowledge} {point : ℕ → Option (List Update)} {logs : ℕ → List (List Update)} (g : IsTree m log o knows point logs) (a : ℕ) where
+  -- the exchange that links an update
+  pub updates : (p x y : ℕ) → m.slots p ≡ Some x → (basis : HasRead (knows a) p x) (content : Record) → (knows a).own.rows y ≡ Written content → (h : MayUpdate a (knows a) x basis.chain content) → (r : Option Reply)
+      → IsTree (record m { slots = put m.slots p (Some y) }) (log ++ h.update ∷ []) (record o { row = put o.row y Linked }) (put knows a (finished (filled ((knows a).own.pages p) p x y (knows a)) r)) (put point a (Some log)) (put logs a (log ∷ logs a))
+      × (update_of a h.command (value_in log (command_key h.command)) ≡ Some h.update)
+  updates p x y s basis content written h r =
+      let u = h.update in
+      let c = basis.chain in
+      let f = found g a p x basis in
+      let place = place_of g a p x c f basis.alive s in
+      let is : (k : Key) → Covers c k → content_in c k ≡ leaf_map log k = λ k v. place.is_page.same k v ∙ spec_leaf log o.index (level_in c) h.leaf k in
+      let here : SpellsLog o m x log = record { linked = f.linked; chain = c; is_chain = f.stands; same = λ z n. is } in
+      let fits : (o.row y ≡ Spare a) × (m.rows y ≡ Some (record_of u x)) = subst (λ (v : OwnRow). OwnFits a (o.row y) (m.rows y) v) (written ∙ ap Written h.is) (g.owns a y) in
+      let over = is_over u x c in
+      let inside : Covers c (command_key h.command) = covers_from c (command_key h.command) h.covers in
+      let due : update_of a h.command (value_in log (command_key h.command)) ≡ Some u = subst (λ (v : Option Key). update_of a h.command v ≡ Some u) (ap value_of (is (command_key h.command) inside) ∙ value_of_map (value_in log (command_key h.command))) h.due in
+      let none : point a ≡ None = subst (λ (v : Option (Option ℕ)). LinkFits o m (point a) v) h.unlinked (mine g a).linked_fits in
+      let learned : filled ((knows a).own.pages p) p x y (knows a) ≡ updated x y (knows a) = rw (not_own g a p (level_in c) (low_in c) place.stage place.placed ((knows a).own.pages p) (g.owns_pages a p), (written ∙ ap Written h.is)) (linked_update u x y (knows a)) in (
+        subst (λ (k : Knowledge). IsTree (record m { slots = put m.slots p (Some y) }) (log ++ u ∷ []) (record o { row = put o.row y Linked }) (put knows a (finished k r)) (put point a (Some log)) (put logs a (log ∷ logs a))) (sym learned)
+            (relink_one g a p x y c f place basis.alive s fits.0 place.stage (omega arith) place.on o.page o.index place.placed (λ q ne. stay refl) g.tree.exact (record_of u x) fits.1
+            (rw over.next f.linked) c (rw over.next f.stands)
+            over.level over.low over.right over.high (over.flag ∙ place.flagged)
+            (log ++ u ∷ [])
+            (λ k v. rw h.leaf (over_decides u x c log k (is k v)))
+            (λ l k n. log_outside u log o.index (level_in c) c h.leaf (λ k n. key_apart u log k (λ i. n (subst (λ (z : Key). Covers c z) (sym (i ∙ key_due a h.command (value_in log (command_key h.command)) u due)) inside))) l k n)
+            (finished (updated x y (knows a)) r)
+            refl (λ v. v) refl refl refl refl refl
+            (Some log) (log, refl, here)),
+        due,
+      )
+
+  -- the exchange that puts a base in the chain's place
+  pub consolidates : (p x y : ℕ) → m.slots p ≡ Some x → (basis : HasRead (knows a) p x) (content : Record) → (knows a).own.rows y ≡ Written content → MayConsolidate basis.chain content → (r : Option Reply) → IsTree (record m { slots = put m.slots p (Some y) }) log (record o { row = put o.row y Linked }) (put knows a (finished (filled ((knows a).own.pages p) p x y (knows a)) r)) (put point a (point a)) (put logs a (log ∷ logs a))
+  consolidates p x y s basis content written h r =
+      let c = basis.chain in
+      let f = found g a p x basis in
+      let place = place_of g a p x c f basis.alive s in
+      let w = base_from c (low_in c) h.items in
+      let fits : (o.row y ≡ Spare a) × (m.rows y ≡ Some w) = subst (λ (v : OwnRow). OwnFits a (o.row y) (m.rows y) v) (written ∙ ap Written h.is) (g.owns a y) in
+      let learned : filled ((knows a).own.pages p) p x y (knows a) ≡ rebuilt x y (knows a) = rw (not_own g a p (level_in c) (low_in c) place.stage place.placed ((knows a).own.pages p) (g.owns_pages a p), (written ∙ ap Written h.is)) refl in
+      subst (λ (k : Knowledge). IsTree (record m { slots = put m.slots p (Some y) }) log (record o { row = put o.row y Linked }) (put knows a (finished k r)) (put point a (point a)) (put logs a (log ∷ logs a))) (sym learned)
+      (relink_one g a p x y c f place basis.alive s fits.0 place.stage (omega arith) place.on o.page o.index place.placed (λ q ne. stay refl) g.tree.exact w fits.1 tt [] refl
+      refl refl refl refl (alive_stage g a p x c place basis.alive)
+      log (λ k v. h.alike k (covers_to c k v) ∙ place.is_page.same k v) (λ l k n. refl)
+      (finished (rebuilt x y (knows a)) r)
+      refl (λ v. v) refl refl refl refl refl
+      (point a) (mine g a).linked_fits)
+
+  pub below_top : (q l : ℕ) (s : Key) (st : Stage) → o.page q ≡ Placed st l s → 2 ≤ rank st → l < g.tree.top
+  below_top q l s st e i =
+      let b = g.tree.exact.below q l s st e in
+      by_test l g.tree.top (λ t. l < g.tree.top)
+      (λ j. by_test q m.root (λ t. l < g.tree.top)
+      (λ z. absurd (let w : Placed st l s ≡ Placed Indexed g.tree.top [] = sym e ∙ ap o.page z ∙ g.tree.exact.is_root in let v : st ≡ Indexed = cc in let u = ap rank v in omega arith))
+      (λ z. absurd (let v = ap rank (g.tree.exact.others q s st (subst (λ (n : ℕ). o.page q ≡ Placed st n s) j e) z) in omega arith)))
+      (λ ne. grind (arith, nat_tests))
+
+  -- the exchange that removes a page
+  pub removes : (p x y : ℕ) → m.slots p ≡ Some x → (basis : HasRead (knows a) p x) (content : Record) → (knows a).own.rows y ≡ Written content → (h : MayRemove (knows a) p x basis.chain content) → (r : Option Reply) → IsTree (record m { slots = put m.slots p (Some y) }) log (record { row = put o.row y Linked; page = put o.page p (Placed Removed (level_in basis.chain) (low_in basis.chain)); index = o.index }) (put knows a (finished (filled ((knows a).own.pages p) p x y (knows a)) r)) (put point a (point a)) (put logs a (log ∷ logs a)) × (o.page p ≡ Placed Held (level_in basis.chain) (low_in basis.chain))
+  removes p x y s basis content written h r =
+      let c = basis.chain in
+      let f = found g a p x basis in
+      let place = place_of g a p x c f basis.alive s in
+      let fits : (o.row y ≡ Spare a) × (m.rows y ≡ Some (Remove (record { level = level_in c; next = x }))) = subst (λ (v : OwnRow). OwnFits a (o.row y) (m.rows y) v) (written ∙ ap Written h.is) (g.owns a y) in
+      let above = read_names g a h.parent h.row h.above in
+      let least : 2 ≤ rank place.stage = ranked 2 (level_in c) (low_in c) (level_in c) (low_in c) place.stage (o.page p) place.placed (above.items (level_in c) (low_in c) (Child p true) h.level (covers_from h.above.chain (low_in c) h.covers) h.held) in
+      let held : place.stage ≡ Held = is_held place.stage least (sym (alive_stage g a p x c place basis.alive)) in
+      let was : o.page p ≡ Placed Held (level_in c) (low_in c) = place.placed ∙ ap (λ st. Placed st (level_in c) (low_in c)) held in
+      let lt : level_in c < g.tree.top = below_top p (level_in c) (low_in c) place.stage place.placed least in
+      let learned : filled ((knows a).own.pages p) p x y (knows a) ≡ handed_over y (knows a) = rw (not_own g a p (level_in c) (low_in c) place.stage place.placed ((knows a).own.pages p) (g.owns_pages a p), (written ∙ ap Written h.is)) refl in (
+        subst (λ (k : Knowledge). IsTree (record m { slots = put m.slots p (Some y) }) log (record { row = put o.row y Linked; page = put o.page p (Placed Removed (level_in basis.chain) (low_in basis.chain)); index = o.index }) (put knows a (finished k r)) (put point a (point a)) (put logs a (log ∷ logs a))) (sym learned)
+            (relink_one g a p x y c f place basis.alive s fits.0 Removed (let i = ap rank held in omega arith) (omega arith) (put o.page p (Placed Removed (level_in c) (low_in c))) o.index (put_same o.page p (Placed Removed (level_in c) (low_in c))) (λ q ne. stay (put_other o.page p (Placed Removed (level_in c) (low_in c)) q ne))
+            (exact_going o.page o.index g.tree.top m.root p (level_in c) (low_in c) Held Removed was lt refl g.tree.exact) (Remove (record { level = level_in c; next = x })) fits.1 f.linked c f.stands
+            refl refl refl refl refl
+            log (λ k v. place.is_page.same k v) (λ l k n. refl)
+            (finished (handed_over y (knows a)) r)
+            refl (λ v. v) refl refl refl refl refl
+            (point a) (mine g a).linked_fits),
+        was,
+      )
+    where
+      ranked : (r l : ℕ) (s : Key) (l' : ℕ) (s' : Key) (st : Stage) (w : PageOwner) → w ≡ Placed st l' s' → Reached r l s w → r ≤ rank st
+      ranked r l s l' s' st w e h = (subst (λ (v : PageOwner). Reached r l s v) e h).2
+
+      is_held : (st : Stage) → 2 ≤ rank st → stage_removed st ≡ false → st ≡ Held
+      is_held Fresh i e = absurd (omega arith)
+      is_held Indexed i e = absurd (omega arith)
+      is_held Held i e = refl
+      is_held Removed i e = absurd (cc)
+      is_held Merged i e = absurd (cc)

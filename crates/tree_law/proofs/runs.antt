@@ -1,0 +1,10 @@
+pub mod HelpFits
+pub mod HelpRun
+pub mod LinkFits
+pub mod LinkRun
+pub mod Making
+pub mod RemovalRun
+pub mod RoomRun
+pub mod Standing
+pub mod SweepRun
+pub mod Unset

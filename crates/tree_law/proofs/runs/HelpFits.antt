@@ -1,0 +1,86 @@
+-- What each link of the helped split puts over a chain fits it.
+use Rattle.std.proofs.Common.{◌≡◌, ℕ, [], ◌∷◌, Option, Some, None, false, refl, arith}
+use Rattle.std.specs.Prelude.{if◌then◌else◌, not}
+use Rattle.std.specs.List.Sorted.{IsStrictlySortedBy}
+use Rattle.std.specs.Ordering.{is_eq}
+use Rattle.std.proofs.lemmas.List.Elements.{All-from_recursion}
+use Rattle.bw_model.specs.Bytes.{key_cmp}
+use Rattle.base_page.specs.declared.item.Content.{Content}
+use Rattle.base_page.specs.declared.item.Content.TheVariants.{Child}
+use Rattle.base_page.specs.declared.item.Item.{Item}
+use Rattle.base_page.specs.Pages.{Page, IsPage, content_at}
+use Rattle.base_page.specs.Rules.{IsRuled}
+use Rattle.base_page.proofs.PageLaws.{IsPage-from}
+use Rattle.deltas.specs.declared.record.Record.TheVariants.{Split}
+use Rattle.deltas.specs.Applies.{Applies}
+use Rattle.deltas.specs.Spellable.{HasPid, IsSpellablePage}
+use Rattle.chain_search.specs.Discipline.{FitsOn}
+use Rattle.chain_search.specs.Fitted.{IsFitted}
+use Rattle.tree_law.specs.Example.{a, opening_leaf, root_a}
+use Rattle.tree_law.specs.HelpedSplit.{b, item_b, upper_b, first_split, upper_c, second_split, helped_term, other_put}
+use Rattle.tree_law.specs.Keys.{Key}
+use Rattle.tree_law.proofs.shape.KeyOrder.{by_key, by_below}
+use Rattle.tree_law.proofs.runs.LinkFits.{leaf, leaf_page, leaf_ruled, first, alone, both, linked, root_makes}
+use Rattle.tree_law.proofs.runs.Making.{base_makes, fits_over}
+
+pub leaf_splits : (low : Key) (high : Option Key) (right : Option ℕ) (next page : ℕ) (key : Key) → Applies (leaf low high right) (Split (record { level = 0; next = next; separator = key; page = page })) (leaf low (Some key) (Some page))
+unfolding IsStrictlySortedBy
+leaf_splits low high right next page key = record { ascending = tt; contents = λ k. by_below k key (λ t. ◌≡◌ {A = Option Content} None (if not t then None else None)) (λ below. refl) (λ above. refl); level = refl; low = refl; high = refl; right = refl; removed = refl }
+
+-- the leaf with the key put, and the root with its term
+abbrev put : Page
+put = record { level = 0; low = b; high = None; right = None; removed = false; items = item_b ∷ [] }
+
+put_page : IsPage put
+unfolding IsStrictlySortedBy
+put_page = IsPage-from put refl (record { few = omega arith; ascending = (tt, tt) }) (record { within = refl; kind = refl }, tt)
+
+abbrev third : Item
+third = record { key = b; content = Child 4 false }
+
+abbrev grown : Page
+grown = record alone { items = first ∷ record { key = a; content = Child 2 false } ∷ third ∷ [] }
+
+grown_page : IsPage grown
+unfolding IsStrictlySortedBy
+grown_page = IsPage-from grown refl (record { few = omega arith; ascending = ((refl, (refl, tt)), ((refl, tt), (tt, tt))) }) (record { within = refl; kind = omega arith }, (record { within = refl; kind = omega arith }, (record { within = refl; kind = omega arith }, tt)))
+
+grown_ruled : IsRuled grown
+grown_ruled = record { is_page = grown_page; ends = refl; top = omega arith; terms = λ lt. record { first = (refl, refl); few = omega arith; apart = (λ e. absurd (cc), (λ e. absurd (cc), tt)) } }
+
+put_applies : Applies (leaf b None None) other_put put
+put_applies = record { ascending = put_page.ordered.ascending; contents = λ key. refl; level = refl; low = refl; high = refl; right = refl; removed = refl }
+
+term_applies : Applies (both 2 false) helped_term grown
+term_applies = record {
+  ascending = grown_page.ordered.ascending;
+  contents = λ key. by_key key b (λ t. (if is_eq (key_cmp key []) then Some first.content else (if is_eq (key_cmp key a) then Some (Child 2 false) else (if t then Some third.content else None))) ≡ (if t then Some third.content else content_at (both 2 false).items key))
+      (λ same. rw same refl) (λ ne. refl);
+  level = refl;
+  low = refl;
+  high = refl;
+  right = refl;
+  removed = refl;
+}
+
+pub first_fits : FitsOn (opening_leaf ∷ []) first_split
+first_fits = (fits_over (base_makes (leaf [] None None) (leaf_page [] None None refl) refl) (record { alive = refl; level = refl; covered = refl; inner = refl }) (leaf_splits [] None None 1 2 a) (leaf_ruled [] (Some a) (Some 2) refl refl) refl (linked 0 1 a 2 (omega arith) (omega arith, omega arith) (λ e. cc) (omega arith, omega arith)), omega arith)
+
+pub second_fits : FitsOn (upper_b ∷ []) second_split
+second_fits = (fits_over (base_makes (leaf a None None) (leaf_page a None None refl) refl) (record { alive = refl; level = refl; covered = refl; inner = refl }) (leaf_splits a None None 2 4 b) (leaf_ruled a (Some b) (Some 4) refl refl) refl (linked 0 2 b 4 (omega arith) (omega arith, omega arith) (λ e. cc) (omega arith, omega arith)), omega arith)
+
+pub term_fits : FitsOn (root_a ∷ []) helped_term
+term_fits = (fits_over root_makes (record { alive = refl; level = refl; index = omega arith; covered = refl; absent = refl; room = omega arith }) term_applies grown_ruled refl (omega arith, (linked 1 4 b 4 (omega arith) (omega arith, omega arith) (λ e. cc) (omega arith, omega arith))), omega arith)
+
+pub put_fits : FitsOn (upper_c ∷ []) other_put
+put_fits = (fits_over (base_makes (leaf b None None) (leaf_page b None None refl) refl) (record { alive = refl; leaf = refl; covered = refl; room = λ e. omega arith }) put_applies (record { is_page = put_page; ends = refl; top = omega arith; terms = λ lt. absurd (omega arith) }) refl (omega arith, omega arith), omega arith)
+
+-- the bases of the new pages
+leaf_stands : (low : Key) → IsSpellablePage (leaf low None None)
+leaf_stands low = record { ruled = leaf_ruled low None None refl refl; alive = refl; right = tt; children = All-from_recursion (λ (item : Item). HasPid item.content) [] tt }
+
+pub first_ruled : IsFitted (upper_b ∷ [])
+first_ruled = (leaf a None None, refl, leaf_stands a)
+
+pub second_ruled : IsFitted (upper_c ∷ [])
+second_ruled = (leaf b None None, refl, leaf_stands b)

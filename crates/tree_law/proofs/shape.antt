@@ -1,0 +1,14 @@
+pub mod Chains
+pub mod Exactness
+pub mod Firsts
+pub mod Fitness
+pub mod Frames
+pub mod Kept
+pub mod KeyOrder
+pub mod Levels
+pub mod Mapping
+pub mod Moments
+pub mod Puts
+pub mod Rows
+pub mod Sides
+pub mod Terms

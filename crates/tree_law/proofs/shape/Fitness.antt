@@ -1,0 +1,69 @@
+-- The chain of each linked row stays a page's chain.
+use Rattle.std.proofs.Common.{◌≡◌, ◌⊎◌, inl, inr, ℕ, ◌≤◌, List, [], ◌∷◌, length, Option, Some, None, cond, refl, sym, subst, arith}
+use Rattle.std.specs.Prelude.{IfSome, MatchOption}
+use Rattle.bw_model.specs.declared.limits.Limits.{Limits}
+use Rattle.std.specs.List.Sorted.{IsStrictlySortedBy}
+use Rattle.std.proofs.lemmas.List.Elements.{All-from_recursion}
+use Rattle.base_page.specs.declared.item.Item.{Item}
+use Rattle.base_page.specs.Pages.{empty_leaf}
+use Rattle.base_page.specs.Rules.{IsRuled}
+use Rattle.base_page.proofs.PageLaws.{IsPage-from}
+use Rattle.deltas.specs.declared.record.Record.{Record}
+use Rattle.deltas.specs.declared.record.Record.TheVariants.{Base}
+use Rattle.deltas.specs.Records.{next_row}
+use Rattle.deltas.specs.Memory.{opening}
+use Rattle.deltas.specs.Spellable.{HasPid, IsSpellablePage}
+use Rattle.chain_search.specs.Chains.{IsChainFrom}
+use Rattle.chain_search.specs.Discipline.{FitsOn}
+use Rattle.chain_search.specs.Fitted.{FitsOver, IsFitted, IsPageChain}
+use Rattle.chain_search.proofs.ChainLaws.{IsChainFrom-unique}
+use Rattle.tree_law.specs.Fitness.{AreFitted, IsAdded}
+use Rattle.tree_law.specs.Owners.{IsChain, Free, Linked, Owners, IsClosed}
+use Rattle.tree_law.specs.Shared.{Shared}
+use Rattle.tree_law.proofs.trace.Opening.{opening_owners}
+use Rattle.tree_law.proofs.shape.Puts.{by_test}
+use Rattle.tree_law.proofs.shape.Rows.{rows_kept}
+
+-- one more delta over a page's chain
+grown : (w : Record) (under : List Record) → FitsOver under w → length under ≤ 12 → IsPageChain under → IsPageChain (w ∷ under)
+grown w [] fits short p = absurd p.fitted
+grown w (v ∷ c) fits short p = record { fitted = (fits, p.fitted); short = omega arith }
+
+-- what fits over nothing, or over a page's chain, makes one
+page_chain : (w : Record) (under : List Record) → FitsOn under w → MatchOption (next_row w) (under ≡ []) (λ n. IsPageChain under) → IsPageChain (w ∷ under)
+page_chain w under fits below = elim (next_row w) as (λ n. MatchOption n (IsFitted (w ∷ [])) (λ next. FitsOver under w × (length under ≤ 12)) → MatchOption n (under ≡ []) (λ n. IsPageChain under) → IsPageChain (w ∷ under)) [
+  | None ↦ λ f e. subst (λ c. IsPageChain (w ∷ c)) (sym e) (record { fitted = f; short = omega arith })
+  | Some n ↦ λ f p. grown w under f.0 f.1 p
+] fits below
+
+module _ (o : Owners) (m : Shared) (closed : IsClosed o m) (fitted : AreFitted o m.rows) (o' : Owners) (rows' : ℕ → Option Record) (kept : (row : ℕ) → o.row row ≡ Linked → rows' row ≡ m.rows row) where
+  -- the chain of a row that was linked is as it was
+  chain_was : (x : ℕ) (c : List Record) → o.row x ≡ Linked → IsChainFrom rows' x c → IsChainFrom m.rows x c
+  chain_was x c l h =
+      let k = closed x l in
+      let d : IsChainFrom m.rows x (k.content ∷ k.rest) = (k.stands, k.is_rest) in
+      subst (IsChainFrom m.rows x) (IsChainFrom-unique rows' x (k.content ∷ k.rest) c (rows_kept o m rows' closed kept x (k.content ∷ k.rest) l d) h) d
+
+  under_fits : (under : List Record) (n : Option ℕ) → IsChain rows' under n → IfSome n (λ x. o.row x ≡ Linked) → MatchOption n (under ≡ []) (λ x. IsPageChain under)
+  under_fits under None e l = e
+  under_fits under (Some x) h l = fitted x l under (chain_was x under l h)
+
+  -- after a step that keeps the records of linked rows, and links rows that fit
+  pub fitted_after : ((row : ℕ) → o'.row row ≡ Linked → (o.row row ≡ Linked) ⊎ IsAdded o rows' row) → AreFitted o' rows'
+  fitted_after added row l c h = elim (added row l) [
+    | inl was ↦ fitted row was c (chain_was row c was h)
+    | inr new ↦ subst IsPageChain (IsChainFrom-unique rows' row (new.content ∷ new.under) c (new.stands, new.is_under) h) (page_chain new.content new.under new.fits (under_fits new.under (next_row new.content) new.is_under new.next))
+  ]
+
+empty_ruled : IsRuled empty_leaf
+unfolding IsStrictlySortedBy
+empty_ruled = record { is_page = IsPage-from empty_leaf refl (record { few = omega arith; ascending = tt }) tt; ends = refl; top = omega arith; terms = λ lt. absurd (omega arith) }
+
+empty_stands : IsSpellablePage empty_leaf
+empty_stands = record { ruled = empty_ruled; alive = refl; right = tt; children = All-from_recursion (λ (item : Item). HasPid item.content) [] tt }
+
+pub opening_fitted : (limits : Limits) → AreFitted (opening_owners limits) (opening limits).rows
+opening_fitted limits row l c h = by_test row 1 (λ t. cond t Linked Free ≡ Linked → IsPageChain c) (λ i e. first (subst (λ r. IsChainFrom (opening limits).rows r c) i h)) (λ ne e. absurd (cc)) l
+  where
+    first : IsChainFrom (opening limits).rows 1 c → IsPageChain c
+    first at = subst IsPageChain (IsChainFrom-unique (opening limits).rows 1 (Base empty_leaf ∷ []) c (refl, refl) at) (record { fitted = (empty_leaf, refl, empty_stands); short = omega arith })

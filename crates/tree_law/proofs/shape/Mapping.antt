@@ -1,0 +1,114 @@
+-- The memory has the map of the log: the leaves are whole, and decide each key as the log does.
+use Rattle.std.proofs.Common.{◌≡◌, ℕ, zero, suc, ◌<◌, List, [], ◌∷◌, map, Option, Some, None, Bool, true, false, refl, sym, ap, ◌∙◌, subst, arith}
+use Rattle.std.specs.Prelude.{MatchOption, IsTrue}
+use Rattle.std.specs.List.{Contains}
+use Rattle.std.proofs.lemmas.Option.{same_Some}
+use Rattle.bw_model.specs.Bytes.{is_under}
+use Rattle.bw_model.specs.Log.{Update, value_in}
+use Rattle.base_page.specs.declared.item.Content.{Content}
+use Rattle.deltas.specs.declared.record.Record.{Record}
+use Rattle.deltas.specs.Memory.{Memory}
+use Rattle.chain_search.specs.Chains.{IsChainOf, content_in, low_in, high_in, right_in, covers}
+use Rattle.chain_search.specs.SideChain.{LivePage, IsSideChainFrom, IsWholeFrom, IsLeaves, Spells}
+use Rattle.chain_search.proofs.ChainLaws.{IsSideChainFrom-unique}
+use Rattle.op_machine.specs.Quiet.{HasMapOf}
+use Rattle.tree_law.specs.Keys.{Key, IsUnder, Covers}
+use Rattle.chain_search.specs.Knowledge.{Knowledge}
+use Rattle.tree_law.specs.Shared.{row_in, slot_in, shared}
+use Rattle.tree_law.specs.Owners.{IsChain, Owners, leaf_map}
+use Rattle.tree_law.specs.Tree.{SidePage, InPlace, IsPart, Level, IsTree}
+use Rattle.tree_law.proofs.shape.KeyOrder.{empty_lowest, covers_from, covers_to}
+use Rattle.tree_law.proofs.shape.Sides.{StartsFrom}
+use Rattle.tree_law.proofs.links.Updating.{value_of_map}
+use Rattle.chain_search.specs.Discipline.{value_of}
+
+-- a page as all see it
+abbrev pub live : SidePage → LivePage
+live g = record { pid = g.page; chain = g.chain }
+
+-- a slot that holds a row is that of a page
+pub slot_some : (slots : ℕ → ℕ) (p r : ℕ) → slot_in slots p ≡ Some r → (0 < p) × (slots p ≡ r) × (0 < r)
+slot_some slots zero r e = absurd (cc)
+slot_some slots (suc p) r e = go (slots (suc p)) e
+  where
+    go : (n : ℕ) → row_in n ≡ Some r → (0 < suc p) × (n ≡ r) × (0 < r)
+    go zero f = absurd (cc)
+    go (suc n) f = let same : suc n ≡ r = same_Some (suc n) r f in (omega arith, same, omega arith)
+
+pub chain_at : (memory : Memory) (p x : ℕ) (c : List Record) → slot_in memory.slots p ≡ Some x → IsChain memory.rows c (Some x) → IsChainOf memory p c
+chain_at memory p x c e h = let s = slot_some memory.slots p x e in record { page = s.0; linked = subst (λ (n : ℕ). 0 < n) (sym s.1) s.2; records = rw s.1 h }
+
+module _ (memory : Memory) (o : Owners) (lv : ℕ) (mp : Key → Option Content) where
+  pub chain_of : (g : SidePage) → InPlace o (shared memory) lv mp g → IsChainOf memory g.page g.chain
+  chain_of g h = chain_at memory g.page g.row g.chain h.is_page.head h.is_page.is_chain
+
+  -- the pages are a side chain, and their ranges follow one another
+  pub side_from : (gs : List SidePage) (p : Option ℕ) (low : Option Key) → IsPart o (shared memory) lv mp gs p low None None → MatchOption p (map live gs ≡ []) (λ q. IsSideChainFrom memory q (map live gs))
+  side_from [] None low h = refl
+  side_from [] (Some p) low h = absurd (let e = h.0 in cc)
+  side_from (g ∷ gs) None low h = absurd (let e = h.0 in cc)
+  side_from (g ∷ gs) (Some p) low h = (sym (same_Some p g.page h.0), subst (λ (n : ℕ). IsChainOf memory n g.chain) (sym (same_Some p g.page h.0)) (chain_of g h.2), side_from gs (right_in g.chain) (high_in g.chain) h.3)
+
+  pub whole_from : (gs : List SidePage) (p : Option ℕ) (low : Option Key) → IsPart o (shared memory) lv mp gs p low None None → MatchOption low (map live gs ≡ []) (λ k. IsWholeFrom k (map live gs))
+  whole_from [] p None h = refl
+  whole_from [] p (Some k) h = absurd (let e = h.1 in cc)
+  whole_from (g ∷ gs) p None h = absurd (let e = h.1 in cc)
+  whole_from (g ∷ gs) p (Some k) h = (sym (same_Some k (low_in g.chain) h.1), whole_from gs (right_in g.chain) (high_in g.chain) h.3)
+
+  -- a page among them is in its place
+  pub among : (gs : List SidePage) (p : Option ℕ) (low : Option Key) → IsPart o (shared memory) lv mp gs p low None None → (page : LivePage) → Contains (map live gs) page → (g : SidePage) × (live g ≡ page) × InPlace o (shared memory) lv mp g
+  among [] p low h page (n, lt, e) = absurd (omega arith)
+  among (g ∷ gs) p low h page (zero, lt, e) = (g, e, h.2)
+  among (g ∷ gs) p low h page (suc n, lt, e) = among gs (right_in g.chain) (high_in g.chain) h.3 page (n, omega arith, e)
+
+  -- one of the pages covers the key
+  abbrev pub Covering : List SidePage → Key → Type 0
+  Covering gs key = (g : SidePage) × Contains (map live gs) (live g) × InPlace o (shared memory) lv mp g × Covers g.chain key
+
+  -- a key from the first low key on is covered by one of them
+  pub covering : (gs : List SidePage) (p : Option ℕ) (low : Option Key) → IsPart o (shared memory) lv mp gs p low None None → (key : Key) → StartsFrom low key → Covering gs key
+  covering [] p low h key s = absurd (subst (λ (b : Option Key). StartsFrom b key) h.1 s)
+  covering (g ∷ gs) p low h key s = go (λ u. covering gs (right_in g.chain) (high_in g.chain) h.3 key u) (high_in g.chain) refl
+    where
+      here : IsUnder key (high_in g.chain) → Covering (g ∷ gs) key
+      here u = (g, (zero, omega arith, refl), h.2, record { low = subst (λ (b : Option Key). StartsFrom b key) h.1 s; high = u })
+
+      later : Covering gs key → Covering (g ∷ gs) key
+      later r = (r.0, (suc r.1.0, (let lt = r.1.1 in omega arith), r.1.2), r.2, r.3)
+
+      test : (StartsFrom (high_in g.chain) key → Covering gs key) → (high : Key) → high_in g.chain ≡ Some high → (t : Bool) → is_under key (Some high) ≡ t → Covering (g ∷ gs) key
+      test rest high e true u = here (rw e u)
+      test rest high e false u = later (rest (rw e u))
+
+      go : (StartsFrom (high_in g.chain) key → Covering gs key) → (high : Option Key) → high_in g.chain ≡ high → Covering (g ∷ gs) key
+      go rest None e = here (rw e refl)
+      go rest (Some high) e = test rest high e (is_under key (Some high)) refl
+
+module _ (memory : Memory) {log : List Update} {o : Owners} {knows : ℕ → Knowledge} {point : ℕ → Option (List Update)} {logs : ℕ → List (List Update)} (g : IsTree (shared memory) log o knows point logs) where
+  pub leaves : Level o (shared memory) 0 (leaf_map log) 1
+  leaves = subst (λ (n : ℕ). Level o (shared memory) 0 (leaf_map log) n) g.tree.leaf (g.tree.levels 0 (omega arith))
+
+  pub is_leaves : IsLeaves memory (map live leaves.side)
+  is_leaves = side_from memory o 0 (leaf_map log) leaves.side (Some 1) (Some []) leaves.whole
+
+  spelled : (key value : Key) → Spells memory key value → value_in log key ≡ Some value
+  spelled key value (pages, page, side, contains, inside, content) =
+      let same : pages ≡ map live leaves.side = IsSideChainFrom-unique memory 1 pages (map live leaves.side) side is_leaves in
+      let f = among memory o 0 (leaf_map log) leaves.side (Some 1) (Some []) leaves.whole page (subst (λ (ps : List LivePage). Contains ps page) same contains) in
+      let chain : f.0.chain ≡ page.chain = ap (λ (q : LivePage). q.chain) f.1 in
+      let is : content_in f.0.chain key ≡ leaf_map log key = f.2.is_page.same key (covers_from f.0.chain key (subst (λ (c : List Record). IsTrue (covers c key)) (sym chain) inside)) in
+      sym (value_of_map (value_in log key)) ∙ ap value_of (sym is ∙ ap (λ c. content_in c key) chain ∙ content)
+
+  spells : (key value : Key) → value_in log key ≡ Some value → Spells memory key value
+  spells key value e =
+      let f = covering memory o 0 (leaf_map log) leaves.side (Some 1) (Some []) leaves.whole key (empty_lowest key) in
+      (map live leaves.side, live f.0, is_leaves, f.1, covers_to f.0.chain key f.3, f.2.is_page.same key f.3 ∙ rw e refl)
+
+  has_map : HasMapOf memory log
+  has_map = record {
+    whole = (map live leaves.side, is_leaves, whole_from memory o 0 (leaf_map log) leaves.side (Some 1) (Some []) leaves.whole);
+    same = λ key value. (spelled key value, spells key value);
+  }
+
+pub map_of : {m : Memory} {log : List Update} {o : Owners} {knows : ℕ → Knowledge} {point : ℕ → Option (List Update)} {logs : ℕ → List (List Update)} → IsTree (shared m) log o knows point logs → HasMapOf m log
+map_of {m} g = has_map m g

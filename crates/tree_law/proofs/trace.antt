@@ -1,0 +1,17 @@
+pub mod Beginning
+pub mod Lives
+pub mod Marks
+pub mod Names
+pub mod Opening
+pub mod Others
+pub mod OwnEntries
+pub mod Owned
+pub mod Phasing
+pub mod Remark
+pub mod Roots
+pub mod Runs
+pub mod Searches
+pub mod Separate
+pub mod Slots
+pub mod Steps
+pub mod Updates

@@ -1,0 +1,231 @@
+-- The empty trace is a state, and a begin keeps a state.
+use Rattle.std.proofs.Common.{◌≡◌, ◌≢◌, ◌<◌, ◌≤◌, inl, inr, ℕ, zero, suc, List, [], ◌∷◌, ◌++◌, length, Option, Some, None, Bool, true, false, cond, leb, ltb, ◌⊎◌, refl, sym, ◌∙◌, subst, arith}
+use Rattle.std.specs.Prelude.{slice_get}
+use Rattle.std.proofs.lemmas.Bool.{ltb-true}
+use Rattle.bw_model.specs.declared.command.Command.{Command}
+use Rattle.bw_model.specs.declared.limits.Limits.{Limits}
+use Rattle.bw_model.specs.Log.{Update}
+use Rattle.deltas.specs.Memory.{Memory, opening}
+use Rattle.chain_search.specs.declared.trace.Entry.{Entry}
+use Rattle.chain_search.specs.declared.trace.Entry.TheVariants.{Begin}
+use Rattle.chain_search.specs.Learnt.{ShowsRow}
+use Rattle.chain_search.specs.Trace.{memory_of, memory_at, command_of}
+use Rattle.chain_search.proofs.Pushes.{slice_get-push, slice_get-push_cases, slice_get_below, slice_get_kept}
+use Rattle.chain_search.proofs.TraceLaws.{memory_of-push, command_of-push, TakesStep-push_cases}
+use Rattle.chain_search.proofs.RunLaws.{IsRun-none, IsRun-push}
+use Rattle.op_machine.specs.Operations.{Operation, IsOperation}
+use Rattle.op_machine.specs.Points.{log_of, log_at}
+use Rattle.op_machine.specs.Quiet.{HasMapOf}
+use Rattle.op_machine.proofs.Listed.{same_operation, and_left, and_right}
+use Rattle.op_machine.proofs.LogLaws.{log_of-push}
+use Rattle.std.proofs.lemmas.List.Sums.{fold-append}
+use Rattle.chain_search.specs.Knowledge.{Knowledge, begun, knows_after, knows}
+use Rattle.tree_law.specs.Owners.{Free, Linked, Owners}
+use Rattle.tree_law.specs.Phase.{Indexed, Nobody, Placed}
+use Rattle.tree_law.specs.Put.{put}
+use Rattle.tree_law.specs.Shared.{slot_in, shared}
+use Rattle.tree_law.specs.State.{phase_of, IsUnended, operation_of, Tells, IsSearch, IsInTree, IsReadyPage, IsState}
+use Rattle.bw_model.specs.declared.step.Step.TheVariants.{ReusePids, ReuseRows}
+use Rattle.op_machine.specs.Reuse.{HandsPid, HandsRow, UnlinksPid, UnlinksRow}
+use Rattle.tree_law.specs.Limbos.{IsInLimbo}
+use Rattle.tree_law.specs.Times.{Times, Timed}
+use Rattle.tree_law.proofs.epochs.Limbos.{limbo_push, freed_push, pid_longer, row_longer}
+use Rattle.tree_law.specs.TraceLaws.{Begins, Opens}
+use Rattle.tree_law.specs.Tree.{IsTree}
+use Rattle.tree_law.proofs.epochs.Timely.{calm_same, read_timed}
+use Rattle.tree_law.proofs.links.Keeping.{begins as good_begins}
+use Rattle.op_machine.specs.Phases.{free, indexed}
+use Rattle.tree_law.proofs.shape.Exactness.{is_indexed, below_top, root_indexed}
+use Rattle.tree_law.proofs.shape.Fitness.{opening_fitted}
+use Rattle.tree_law.proofs.shape.Levels.{indexed_first, indexed_push}
+use Rattle.tree_law.proofs.shape.Mapping.{map_of}
+use Rattle.tree_law.proofs.trace.Lives.{begins_in_phase, begins_phases, begins_only}
+use Rattle.tree_law.proofs.trace.Updates.{updates_push}
+use Rattle.tree_law.proofs.trace.Marks.{marked_push, tells_other, quiet_push}
+use Rattle.tree_law.proofs.trace.Names.{faithful_push, named_begins}
+use Rattle.tree_law.proofs.trace.Opening.{opening_slots, opening_owners, opening_good}
+use Rattle.tree_law.proofs.trace.Owned.{pushed_length}
+use Rattle.tree_law.proofs.shape.Puts.{by_test, put_same, put_other}
+use Rattle.tree_law.specs.Indexed.{IsFirst}
+use Rattle.tree_law.proofs.trace.Searches.{search_new, search_other}
+
+pub knows-push : (entries : List Entry) (entry : Entry) → knows (entries ++ entry ∷ []) ≡ knows_after (knows entries) entry
+knows-push entries entry = fold-append _ _ entries (entry ∷ [])
+
+opening_times : Times
+opening_times = record { entered = λ a. 0; home = λ r. 1; row_out = λ r. None; page_out = λ p. None }
+
+opening_timed : (limits : Limits) → Timed limits (opening limits) (opening_owners limits) (knows []) 0 opening_times
+unfolding opening_times
+opening_timed limits = record {
+  within = λ b e. absurd (cc);
+  holds = λ b. record { learnt_inside = λ r e. absurd (cc); learnt_since = λ r e. absurd (cc); seen_learnt = λ r w e. absurd (cc); roots_inside = λ p e. absurd (cc); roots_since = λ p e. absurd (cc); heads_since = λ p x e. absurd (cc); before_since = λ p f x e. absurd (cc); beside_since = λ p f y x e. absurd (cc); linked_learnt = λ x e. absurd (cc) };
+  announced = λ b e. absurd (cc);
+  epochs = λ b v e. absurd (cc);
+  slots = λ p x l s h e. (by_test p 1 (λ t. cond {A = Option ℕ} t (Some 1) None ≡ Some x → 1 ≡ p) (λ i f. sym i) (λ ne f. absurd (cc)) (subst (λ (f : ℕ → Option ℕ). f p ≡ Some x) (opening_slots limits) e), refl);
+  together = λ r n w l e i. (refl, refl);
+  rows = λ r w e. absurd (cc);
+  pages = λ p w e. absurd (cc);
+  own_rows = λ b r e. refl;
+  gone_pages = λ b p e. refl;
+  limbo_rows = λ b r. tt;
+  limbo_pids = λ b p. tt;
+  ready = λ b p r e. absurd (cc);
+  apart = λ b p q r e f. absurd (cc);
+}
+
+-- what an actor holds when it begins it held before
+begin_timed : {limits : Limits} {m : Memory} {log : List Update} {o : Owners} {knows : ℕ → Knowledge} {point : ℕ → Option (List Update)} {logs : ℕ → List (List Update)} {now : ℕ} {t : Times} (g : IsTree (shared m) log o knows point logs) (T : Timed limits m o knows now t) (a : ℕ) (c : Command) → Timed limits m o (put knows a (begun (knows a) c)) (suc now) t
+begin_timed {m = m} {o = o} {knows = knows} g T a c =
+    let h = T.holds a in
+    read_timed g T a m o (begun (knows a) c) (calm_same g T a) refl refl
+    (record { learnt_inside = h.learnt_inside; learnt_since = h.learnt_since; seen_learnt = h.seen_learnt; roots_inside = h.roots_inside; roots_since = h.roots_since; heads_since = λ p x e. absurd (cc); before_since = λ p f x e. absurd (cc); beside_since = λ p f y x e. absurd (cc); linked_learnt = λ x e. absurd (cc) })
+    refl refl refl refl refl
+
+pub opens : Opens IsState
+opens limits = record {
+  points = [];
+  owners = opening_owners limits;
+  point = λ a. None;
+  logs = λ a. [];
+  good = opening_good limits;
+  fitted = opening_fitted limits;
+  named = record {
+    shown = λ a r h. absurd (not_shown a r h.0 h.1);
+    known = λ a r e. absurd (cc);
+    announced = λ a e. absurd (cc);
+    epoch = (limits.allowed.some_epoch, limits.allowed.small_epoch);
+    posted = λ a. omega arith;
+    commands = λ a. refl;
+    recent = λ a r w e. absurd (cc);
+    zero_free = refl;
+    zero_taken = refl;
+    free_row_below = λ q e. ltb-true q limits.rows (and_right (leb 2 q) (ltb q limits.rows) e);
+    row_below = λ q. by_test q 1 (λ t. (cond t Linked Free ≡ Free) ⊎ (q < limits.rows)) (λ i. inr (let some : 64 ≤ limits.rows = limits.allowed.some_rows in omega arith)) (λ ne. inl refl);
+    free_pid_below = λ p e. free_pid p (and_left (leb 2 p) (ltb p limits.pids) e) (and_right (leb 2 p) (ltb p limits.pids) e);
+    pid_below = λ p. by_test p 1 (λ t. (phase_of (cond t (Placed Indexed 0 []) Nobody) ≡ free) ⊎ ((0 < p) × (p < limits.pids))) (λ i. inr (let some : 64 ≤ limits.pids = limits.allowed.some_pids in (omega arith, omega arith))) (λ ne. inl refl);
+    held = held;
+  };
+  tells = λ a asked e. absurd (cc);
+  searches = λ op is u e. absurd (cc);
+  marked = record { beside = refl; own = λ n e. absurd (cc); one = λ op m n is own own' p q. absurd (cc); answered = λ op n r is ends. absurd (let e = ends.2.entry in cc) };
+  run = IsRun-none limits;
+  updates = λ n. (λ h. absurd (let e = h.0 in cc), λ h. absurd (let e = h.at in cc));
+  quiet = record { at_each = λ n h. at_zero n h };
+  faithful = record { known = λ n a row x h. absurd (let e = h.1 in cc); outside = λ n a s x h. absurd (let e = h.1 in cc) };
+  in_phase = λ pid. inr (λ k from to low high. absurd (omega arith), by_test pid 1 (λ t. phase_of (cond t (Placed Indexed 0 []) Nobody) ≡ cond t indexed free) (λ i. refl) (λ ne. refl));
+  only_phase = λ pid phase h. elim h [
+    | inl moved ↦ absurd (let lt = moved.2 in omega arith)
+    | inr rested ↦ rested.1 ∙ by_test pid 1 (λ t. cond t indexed free ≡ phase_of (cond t (Placed Indexed 0 []) Nobody)) (λ i. refl) (λ ne. refl)
+  ];
+  phases = record { in_order = λ n pid from to h. absurd (let e = h.at in cc); emptied = λ n actor pid old h. absurd (let e = h.at in cc) };
+  limbo_rows = λ a q. tt;
+  limbo_pids = λ a q. tt;
+  freed = record { pids = λ n a word bits pid x h among. absurd (let e = h.1 in cc); rows = λ n a word bits row x h among. absurd (let e = h.1 in cc) };
+  times = opening_times;
+  timed = opening_timed limits;
+  indexed = indexed_first limits (opening_good limits) (λ l q h. by_test q 1 (λ t. cond t (Placed Indexed 0 []) Nobody ≡ Placed h.0 l [] → l ≡ 0) (λ i e. let f : 0 ≡ l = cc in sym f) (λ ne e. absurd (cc)) h.1);
+  rooted = λ b p e. absurd (cc);
+}
+  where
+    not_shown : (a r n : ℕ) → ShowsRow [] n a r → ⊥
+    not_shown a r n (inl h) = let e = h.2.1 in cc
+    not_shown a r n (inr h) = let e = h.2.1 in cc
+
+    free_pid : (p : ℕ) → leb 2 p ≡ true → ltb p limits.pids ≡ true → (0 < p) × (p < limits.pids)
+    free_pid zero e f = absurd (cc)
+    free_pid (suc p) e f = (omega arith, ltb-true (suc p) limits.pids f)
+
+    held : (p r : ℕ) → slot_in (opening limits).slots p ≡ Some r → IsInTree ((opening_owners limits).page p) ⊎ IsReadyPage (opening_owners limits) (opening limits) (knows []) p r
+    held p r e = by_test p 1 (λ t. cond {A = Option ℕ} t (Some 1) None ≡ Some r → IsInTree (cond t (Placed Indexed 0 []) Nobody) ⊎ IsReadyPage (opening_owners limits) (opening limits) (knows []) p r)
+        (λ i f. inl tt) (λ ne f. absurd (cc)) (subst (λ (f : ℕ → Option ℕ). f p ≡ Some r) (opening_slots limits) e)
+
+    at_zero : (n : ℕ) → n ≤ 0 → HasMapOf (memory_at limits [] n) (log_at [] [] n)
+    at_zero zero h = map_of (opening_good limits)
+    at_zero (suc n) h = absurd (omega arith)
+
+-- what is told of an actor that begins
+tells_new : (entries : List Entry) (points : List Bool) (a : ℕ) (c : Command) → Tells (entries ++ Begin a c ∷ []) points a c None []
+tells_new entries points a c = record {
+  start = length entries;
+  begins = slice_get-push entries (Begin a c);
+  unended = λ later d low e. past later low (slice_get_below _ later _ e);
+  logs_at = λ l h. absurd h;
+  point_at = λ m own p. past m own.2.1.begun (slice_get_below _ m _ own.2.1.entry);
+}
+  where
+    past : (n : ℕ) → length entries < n → n < length (entries ++ Begin a c ∷ []) → ⊥
+    past n low high = let long : length (entries ++ Begin a c ∷ []) ≡ suc (length entries) = pushed_length entries (Begin a c) in omega arith
+
+pub begins : Begins IsState
+begins limits entries a c state below idle = record {
+  points = state.points ++ false ∷ [];
+  owners = state.owners;
+  point = put state.point a None;
+  logs = put state.logs a [];
+  good = good_after;
+  fitted = rw (memory_of-push limits entries (Begin a c)) state.fitted;
+  named = rw (memory_of-push limits entries (Begin a c), knows-push entries (Begin a c)) (named_begins limits entries state.owners (memory_of limits entries) (knows entries) a c state.named (command_of-push entries (Begin a c)));
+  tells = λ b asked e. by_test b a (λ t. cond t (Some c) (command_of entries b) ≡ Some asked → Tells (entries ++ Begin a c ∷ []) (state.points ++ false ∷ []) b asked (cond t None (state.point b)) (cond t [] (state.logs b)))
+      (λ i f. let same : c ≡ asked = cc in rw i (subst (λ d. Tells (entries ++ Begin a c ∷ []) (state.points ++ false ∷ []) a d None []) same (tells_new entries (state.points ++ false ∷ []) a c)))
+      (λ ne f. tells_other entries state.points (Begin a c) false state.marked.beside b asked (state.point b) (state.logs b) (λ d i. ne (let j : a ≡ b = cc in sym j)) (λ s x r i. absurd (cc)) (state.tells b asked f))
+      (subst (λ k. k b ≡ Some asked) (command_of-push entries (Begin a c)) e);
+  searches = searches_begin;
+  marked = marked_push entries state.points (Begin a c) false state.marked.beside limits state.marked (λ e. absurd (cc)) (λ e. absurd (cc)) (λ op s x r is e u. absurd (cc)) (λ e. absurd (cc));
+  run = IsRun-push limits entries (Begin a c) state.run (below, idle);
+  updates = updates_push limits entries state.points (Begin a c) false state.marked.beside state.updates (λ h. absurd (let e = h.0 in cc), λ h. absurd (let e = h.5.0.1 in cc));
+  quiet = quiet_push entries state.points (Begin a c) false state.marked.beside limits state.quiet
+      (rw (memory_of-push limits entries (Begin a c), log_of-push entries state.points (Begin a c) false state.marked.beside) (map_of state.good));
+  in_phase = λ pid. begins_in_phase limits entries a c pid (phase_of (state.owners.page pid)) (state.in_phase pid);
+  only_phase = begins_only limits entries a c state.owners.page state.in_phase state.only_phase;
+  phases = begins_phases limits entries a c state.phases;
+  limbo_rows = rw (knows-push entries (Begin a c)) (λ b q. by_test b a (λ z. IsInLimbo (entries ++ Begin a c ∷ []) b (UnlinksRow limits (entries ++ Begin a c ∷ []) b q) (HandsRow q) ((cond z (begun (knows entries a) c) (knows entries b)).limbo.rows q)) (λ i. rw i (rows_longer a q)) (λ ne. rows_longer b q));
+  limbo_pids = rw (knows-push entries (Begin a c)) (λ b q. by_test b a (λ z. IsInLimbo (entries ++ Begin a c ∷ []) b (UnlinksPid limits (entries ++ Begin a c ∷ []) b q) (HandsPid q) ((cond z (begun (knows entries a) c) (knows entries b)).limbo.pids q)) (λ i. rw i (pids_longer a q)) (λ ne. pids_longer b q));
+  freed = record {
+    pids = λ n b word bits pid x h among. elim (TakesStep-push_cases entries (Begin a c) n b (ReusePids word bits) x h) [
+      | inl before ↦ freed_push entries (Begin a c) (UnlinksPid limits entries b pid) (UnlinksPid limits (entries ++ Begin a c ∷ []) b pid) (HandsPid pid) (pid_longer entries (Begin a c) limits b pid) limits b n (slice_get_below entries n _ before.1) (state.freed.pids n b word bits pid x before among)
+      | inr at ↦ absurd (let e = at.1.1 in cc)
+    ];
+    rows = λ n b word bits row x h among. elim (TakesStep-push_cases entries (Begin a c) n b (ReuseRows word bits) x h) [
+      | inl before ↦ freed_push entries (Begin a c) (UnlinksRow limits entries b row) (UnlinksRow limits (entries ++ Begin a c ∷ []) b row) (HandsRow row) (row_longer entries (Begin a c) limits b row) limits b n (slice_get_below entries n _ before.1) (state.freed.rows n b word bits row x before among)
+      | inr at ↦ absurd (let e = at.1.1 in cc)
+    ];
+  };
+  times = state.times;
+  timed = rw (memory_of-push limits entries (Begin a c), knows-push entries (Begin a c), pushed_length entries (Begin a c)) (begin_timed state.good state.timed a c);
+  faithful = faithful_push limits entries (Begin a c) state.faithful (λ b row x h. let e = h.1 in absurd (cc)) (λ b s x h z. let e = h.1 in absurd (cc));
+  rooted = λ b p e. by_test b a (λ t. (cond t (begun (knows entries a) c) (knows entries b)).read.roots p ≡ true → (level : ℕ) × IsFirst state.owners level p)
+      (λ i f. state.rooted a p f) (λ ne f. state.rooted b p f)
+      (subst (λ (ks : ℕ → Knowledge). (ks b).read.roots p ≡ true) (knows-push entries (Begin a c)) e);
+  indexed = indexed_push limits entries (Begin a c) state.good good_after (λ l q h. h)
+      (let le = below_top (memory_of limits entries) state.good ((memory_of limits (entries ++ Begin a c ∷ [])).slots 0) ((is_indexed (memory_of limits (entries ++ Begin a c ∷ [])) good_after).top) [] Indexed (root_indexed (memory_of limits (entries ++ Begin a c ∷ [])) good_after) in omega arith)
+      (λ pid. begins_in_phase limits entries a c pid (phase_of (state.owners.page pid)) (state.in_phase pid)) (begins_only limits entries a c state.owners.page state.in_phase state.only_phase) state.indexed;
+}
+  where
+    rows_longer : (b q : ℕ) → IsInLimbo (entries ++ Begin a c ∷ []) b (UnlinksRow limits (entries ++ Begin a c ∷ []) b q) (HandsRow q) ((knows entries b).limbo.rows q)
+    rows_longer b q = limbo_push entries (Begin a c) (UnlinksRow limits entries b q) (UnlinksRow limits (entries ++ Begin a c ∷ []) b q) (HandsRow q) (row_longer entries (Begin a c) limits b q) b ((knows entries b).limbo.rows q) (λ f other s x h. absurd (let e = h.1 in cc)) (state.limbo_rows b q)
+
+    pids_longer : (b q : ℕ) → IsInLimbo (entries ++ Begin a c ∷ []) b (UnlinksPid limits (entries ++ Begin a c ∷ []) b q) (HandsPid q) ((knows entries b).limbo.pids q)
+    pids_longer b q = limbo_push entries (Begin a c) (UnlinksPid limits entries b q) (UnlinksPid limits (entries ++ Begin a c ∷ []) b q) (HandsPid q) (pid_longer entries (Begin a c) limits b q) b ((knows entries b).limbo.pids q) (λ f other s x h. absurd (let e = h.1 in cc)) (state.limbo_pids b q)
+
+    now : IsTree (shared (memory_of limits entries)) (log_of entries state.points) state.owners (put (knows entries) a (begun (knows entries a) c)) (put state.point a None) (put state.logs a [])
+    now = good_begins state.good a c
+
+    good_after : IsTree (shared (memory_of limits (entries ++ Begin a c ∷ []))) (log_of (entries ++ Begin a c ∷ []) (state.points ++ false ∷ [])) state.owners (knows (entries ++ Begin a c ∷ [])) (put state.point a None) (put state.logs a [])
+    good_after = rw (memory_of-push limits entries (Begin a c), log_of-push entries state.points (Begin a c) false state.marked.beside, knows-push entries (Begin a c)) now
+
+    searches_begin : (op : Operation) → IsOperation (entries ++ Begin a c ∷ []) op → IsUnended (entries ++ Begin a c ∷ []) op.start op.actor → command_of (entries ++ Begin a c ∷ []) op.actor ≡ Some op.command
+        → IsSearch limits (entries ++ Begin a c ∷ []) op (memory_of limits (entries ++ Begin a c ∷ [])).rows (knows (entries ++ Begin a c ∷ []) op.actor)
+    searches_begin op is unended asks = rw (memory_of-push limits entries (Begin a c), knows-push entries (Begin a c)) (elim (slice_get-push_cases entries (Begin a c) op.start _ is) [
+      | inr at ↦
+          let same : op ≡ operation_of (length entries) a c = same_operation op (operation_of (length entries) a c) at.0 (let e = at.1 in cc) (let e = at.1 in cc) in
+          subst (λ o. IsSearch limits (entries ++ Begin a c ∷ []) o (memory_of limits entries).rows (put (knows entries) a (begun (knows entries a) c) o.actor)) (sym same)
+          (subst (λ k. IsSearch limits (entries ++ Begin a c ∷ []) (operation_of (length entries) a c) (memory_of limits entries).rows k) (sym (put_same (knows entries) a (begun (knows entries a) c)))
+          (search_new entries (Begin a c) limits a c (memory_of limits entries).rows (knows entries a)))
+      | inl before ↦
+          let other : op.actor ≢ a = λ i. unended (length entries) c (slice_get_below entries op.start _ before) (subst (λ b. slice_get (entries ++ Begin a c ∷ []) (length entries) ≡ Some (Begin b c)) (sym i) (slice_get-push entries (Begin a c))) in
+          let asks' : command_of entries op.actor ≡ Some op.command = sym (put_other (command_of entries) a (Some c) op.actor other) ∙ subst (λ k. k op.actor ≡ Some op.command) (command_of-push entries (Begin a c)) asks in
+          let old = state.searches op before (λ later d low e. unended later d low (slice_get_kept entries (Begin a c ∷ []) later _ e)) asks' in
+          subst (λ k. IsSearch limits (entries ++ Begin a c ∷ []) op (memory_of limits entries).rows k) (sym (put_other (knows entries) a (begun (knows entries a) c) op.actor other))
+          (search_other entries (Begin a c) limits op (memory_of limits entries).rows (memory_of limits entries).rows (knows entries op.actor) old (λ s x r e. absurd (cc)) (λ page row e d h. h))
+    ])

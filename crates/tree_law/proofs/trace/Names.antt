@@ -1,0 +1,509 @@
+-- One more entry: what the names that actors have learnt are, and what is read.
+use Rattle.std.proofs.Common.{◌≡◌, ◌≢◌, ◌<◌, ◌≤◌, ◌+◌, ◌^◌, ◌⊎◌, inl, inr, ℕ, zero, suc, List, [], ◌∷◌, ◌++◌, length, Option, Some, None, Bool, true, false, cond, eqb, refl, sym, ap, ◌∙◌, subst, arith}
+use Rattle.std.specs.Prelude.{MatchOption, IsFalse, unwrap_or}
+use Rattle.std.specs.List.{Contains}
+use Rattle.std.proofs.lemmas.Option.{same_Some}
+use Rattle.bw_model.specs.declared.command.Command.{Command}
+use Rattle.bw_model.specs.declared.command.Reply.{Reply}
+use Rattle.bw_model.specs.declared.limits.Limits.{Limits}
+use Rattle.bw_model.specs.declared.step.Answer.{Answer}
+use Rattle.bw_model.specs.declared.step.Answer.TheVariants.{Number, Content, Whether}
+use Rattle.bw_model.specs.declared.step.Step.{Step as StepOf}
+use Rattle.bw_model.specs.declared.step.Step.TheVariants.{Slot, Row, Epoch, Announce, PidBits, RowBits, Place, Exchange, TakePid, TakeRow, Enter, Leave, Retire, ReusePids, ReuseRows}
+use Rattle.bw_model.specs.Log.{Update}
+use Rattle.deltas.specs.declared.record.Record.{Record}
+use Rattle.base_page.specs.Pages as pages
+use Rattle.deltas.specs.declared.record.Record.TheVariants.{Base}
+use Rattle.deltas.specs.Records.{next_row}
+use Rattle.deltas.specs.Memory.{Memory}
+use Rattle.chain_search.specs.declared.trace.Entry.{Entry}
+use Rattle.chain_search.specs.declared.trace.Entry.TheVariants.{Begin, Step}
+use Rattle.chain_search.specs.Chains.{IsChainFrom, IsOnChain, chain_rows}
+use Rattle.chain_search.specs.Learnt.{ShowsRow}
+use Rattle.chain_search.specs.Run.{MayTake}
+use Rattle.chain_search.specs.Steps.{IsAnswer, memory_after}
+use Rattle.chain_search.specs.Trace.{memory_of, memory_at, command_of, commands_after, IsStep}
+use Rattle.chain_search.proofs.Pushes.{slice_get-push, slice_get_below, take-push_whole}
+use Rattle.chain_search.proofs.TraceLaws.{memory_at-push, TakesStep-push_cases, HasLearnt-push_cases}
+use Rattle.op_machine.specs.Phases as phase
+use Rattle.op_machine.specs.Faithful.{IsFaithful, KnowsRow, Disturbs, touches_pages}
+use Rattle.op_machine.proofs.FaithLaws.{KnowsRow-before, KnowsRow-kept, KnowsRow-shown}
+use Rattle.chain_search.specs.Discipline.{May}
+use Rattle.chain_search.specs.Knowledge.{Ready, Knowledge, begun, learnt_next, learn, going_on, finished, knows_after}
+use Rattle.tree_law.specs.Next.{IsReuse, IsMoved}
+use Rattle.tree_law.specs.Owners.{Free, Spare, Linked, Owners, Reached}
+use Rattle.tree_law.specs.Keys.{Key}
+use Rattle.tree_law.specs.Phase.{PageOwner, Nobody, Keeps, Placed, Cleared}
+use Rattle.tree_law.specs.Put.{put}
+use Rattle.tree_law.specs.Shared.{row_in, slot_in, shared}
+use Rattle.tree_law.specs.State.{phase_of, IsInTree, IsReadyPage, IsNamed}
+use Rattle.tree_law.specs.Tree.{IsTree}
+use Rattle.tree_law.proofs.shape.Puts.{by_test, put_same, put_other}
+use Rattle.tree_law.proofs.links.Exchanged.{exchanged_alike}
+use Rattle.tree_law.proofs.links.Keeping.{slot_of}
+use Rattle.tree_law.proofs.shape.Mapping.{slot_some}
+use Rattle.tree_law.proofs.shape.Rows.{chain_linked}
+use Rattle.tree_law.proofs.links.Taking.{own_spare}
+use Rattle.tree_law.proofs.trace.Owned.{pushed_length}
+
+pub faithful_push : (limits : Limits) (entries : List Entry) (last : Entry) → IsFaithful limits entries
+    → ((b row : ℕ) (x : Answer Record) → IsStep last b (Row row) x → KnowsRow entries (length entries) b row)
+    → ((b : ℕ) (s : StepOf Record) (x : Answer Record) → IsStep last b s x → (memory_of limits entries).announced b ≡ 0 → IsFalse (touches_pages s))
+    → IsFaithful limits (entries ++ last ∷ [])
+faithful_push limits entries last old reads outside = record {
+  known = λ n b row x h. elim (TakesStep-push_cases entries last n b (Row row) x h) [
+    | inl before ↦ let lt : n < length entries = slice_get_below entries n _ before.1 in KnowsRow-before entries last n b row (omega arith) (old.known n b row x before)
+    | inr at ↦ let same : n ≡ length entries = at.0 in KnowsRow-before entries last n b row (omega arith) (subst (λ k. KnowsRow entries k b row) (sym at.0) (reads b row x at.1))
+  ];
+  outside = λ n b s x h z. elim (TakesStep-push_cases entries last n b s x h) [
+    | inl before ↦ let lt : n < length entries = slice_get_below entries n _ before.1 in old.outside n b s x before (subst (λ m. m.announced b ≡ 0) (memory_at-push limits entries (last ∷ []) n (omega arith)) z)
+    | inr at ↦ outside b s x at.1 (subst (λ es. (memory_of limits es).announced b ≡ 0) (take-push_whole entries (last ∷ [])) (subst (λ k. (memory_at limits (entries ++ last ∷ []) k).announced b ≡ 0) at.0 z))
+  ];
+}
+
+begin_shows : (entries : List Entry) (a : ℕ) (c : Command) (b r : ℕ) → ShowsRow (entries ++ Begin a c ∷ []) (length entries) b r → ⊥
+begin_shows entries a c b r (inl h) = let e = h.2.1 in let f = slice_get-push entries (Begin a c) in cc
+begin_shows entries a c b r (inr h) = let e = h.2.1 in let f = slice_get-push entries (Begin a c) in cc
+
+pub named_begins : (limits : Limits) (entries : List Entry) (o : Owners) (m : Memory) (knows : ℕ → Knowledge) (a : ℕ) (c : Command) → IsNamed limits entries o m knows
+    → command_of (entries ++ Begin a c ∷ []) ≡ commands_after (command_of entries) (Begin a c)
+    → IsNamed limits (entries ++ Begin a c ∷ []) o m (knows_after knows (Begin a c))
+named_begins limits entries o m knows a c old asks = record {
+  shown = λ b r h. elim (HasLearnt-push_cases entries (Begin a c) b r h) [ inl before ↦ elim (old.shown b r before.0) [ inl z ↦ inl z | inr l ↦ inr (by_test b a (λ t. (cond t (begun (knows a) c) (knows b)).read.learnt r ≡ true) (λ i. subst (λ n. (knows n).read.learnt r ≡ true) i l) (λ ne. l)) ] | inr shows ↦ absurd (begin_shows entries a c b r shows) ];
+  known = λ b r e. rw pushed_length (KnowsRow-kept entries (Begin a c) b r
+      (old.known b r (by_test b a (λ t. (cond t (begun (knows a) c) (knows b)).read.learnt r ≡ true → (knows b).read.learnt r ≡ true) (λ i f. subst (λ n. (knows n).read.learnt r ≡ true) (sym i) f) (λ ne f. f) e))
+      (λ epoch x. ((λ h. let is = h.1 in cc), (λ h. let is = h.1 in cc)))
+      (λ other s x h. let is = h.1 in absurd (cc)));
+  announced = λ b e. old.announced b (by_test b a (λ t. (cond t (begun (knows a) c) (knows b)).inside ≡ true → (knows b).inside ≡ true) (λ i f. subst (λ n. (knows n).inside ≡ true) (sym i) f) (λ ne f. f) e);
+  epoch = old.epoch;
+  posted = old.posted;
+  recent = λ b r w. by_test b a (λ t. (cond t (begun (knows a) c) (knows b)).read.recent r ≡ Some w → (cond t (begun (knows a) c) (knows b)).read.seen r ≡ Some w) (λ i. old.recent a r w) (λ ne. old.recent b r w);
+  zero_free = old.zero_free;
+  zero_taken = old.zero_taken;
+  free_row_below = old.free_row_below;
+  row_below = old.row_below;
+  free_pid_below = old.free_pid_below;
+  pid_below = old.pid_below;
+  held = λ p r e. held_begins (old.held p r e);
+  commands = λ b. rw asks (by_test b a (λ t. (cond t (begun (knows a) c) (knows b)).asked.command ≡ cond t (Some c) (command_of entries b)) (λ i. refl) (λ ne. old.commands b));
+}
+  where
+    held_begins : {p r : ℕ} → IsInTree (o.page p) ⊎ IsReadyPage o m knows p r → IsInTree (o.page p) ⊎ IsReadyPage o m (knows_after knows (Begin a c)) p r
+    held_begins {p} {r} (inl h) = inl h
+    held_begins {p} {r} (inr h) = inr (record {
+      actor = h.actor;
+      ready = by_test h.actor a (λ t. (cond t (begun (knows a) c) (knows h.actor)).own.pages p ≡ Ready r) (λ i. subst (λ n. (knows n).own.pages p ≡ Ready r) i h.ready) (λ ne. h.ready);
+      owned = h.owned;
+      base = h.base;
+      stands = h.stands;
+    })
+
+-- what a step shows
+abbrev Shown : StepOf Record → Answer Record → ℕ → Type 0
+Shown s x r = ((p : ℕ) × (0 < p) × (s ≡ Slot p) × (x ≡ Number r)) ⊎ ((above : ℕ) × (w : Record) × (s ≡ Row above) × (x ≡ Content w) × (next_row w ≡ Some r))
+
+learn_command : (k : Knowledge) (s : StepOf Record) (x : Answer Record) → (learn k s x).asked.command ≡ k.asked.command
+learn_command k (Slot zero) (Number n) = refl
+learn_command k (Slot (suc p)) (Number zero) = refl
+learn_command k (Slot (suc p)) (Number (suc n)) = refl
+learn_command k (Row r) (Content w) = refl
+learn_command k Epoch (Number n) = refl
+learn_command k (Announce b) (Number n) = refl
+learn_command k (PidBits w) (Number n) = refl
+learn_command k (RowBits w) (Number n) = refl
+learn_command k (TakePid p) (Whether true) = refl
+learn_command k (TakePid p) (Whether false) = refl
+learn_command k (TakeRow r) (Whether true) = refl
+learn_command k (TakeRow r) (Whether false) = refl
+learn_command k (Exchange p x y) (Whether true) = (exchanged_alike p x y k).command
+learn_command k (Exchange p x y) (Whether false) = refl
+learn_command k s x = refl
+
+-- an actor that goes on is neither entering nor leaving
+abbrev Stays : StepOf Record → Type 0
+Stays (Enter e) = ⊥
+Stays Leave = ⊥
+Stays s = Unit {0}
+
+learnt_cases : (k : Knowledge) (s : StepOf Record) (x : Answer Record) (r : ℕ) → (learn k s x).read.learnt r ≡ true → ((k.read.learnt r ≡ true) × Stays s) ⊎ Shown s x r
+learnt_cases k (Slot zero) (Number n) r e = inl (e, tt)
+learnt_cases k (Slot (suc p)) (Number zero) r e = inl (e, tt)
+learnt_cases k (Slot (suc p)) (Number (suc n)) r e = by_test r (suc n) (λ t. cond t true (k.read.learnt r) ≡ true → ((k.read.learnt r ≡ true) × Unit {0}) ⊎ Shown (Slot (suc p)) (Number (suc n)) r)
+    (λ i f. inr (inl (suc p, omega arith, refl, ap Number (sym i)))) (λ ne f. inl (f, tt)) e
+learnt_cases k (Row q) (Content w) r e = go (next_row w) refl e
+  where
+    go : (o : Option ℕ) → next_row w ≡ o → learnt_next o k.read.learnt r ≡ true → ((k.read.learnt r ≡ true) × Unit {0}) ⊎ Shown (Row q) (Content w) r
+    go None i f = inl (f, tt)
+    go (Some n) i f = by_test r n (λ t. cond t true (k.read.learnt r) ≡ true → ((k.read.learnt r ≡ true) × Unit {0}) ⊎ Shown (Row q) (Content w) r)
+        (λ j g. inr (inr (q, w, refl, refl, i ∙ ap Some (sym j)))) (λ ne g. inl (g, tt)) f
+learnt_cases k Epoch (Number n) r e = inl (e, tt)
+learnt_cases k (Announce b) (Number n) r e = inl (e, tt)
+learnt_cases k (PidBits w) (Number n) r e = inl (e, tt)
+learnt_cases k (RowBits w) (Number n) r e = inl (e, tt)
+learnt_cases k (TakePid p) (Whether true) r e = inl (e, tt)
+learnt_cases k (TakePid p) (Whether false) r e = inl (e, tt)
+learnt_cases k (TakeRow q) (Whether true) r e = inl (e, tt)
+learnt_cases k (TakeRow q) (Whether false) r e = inl (e, tt)
+learnt_cases k (Exchange p x y) (Whether true) r e = inl (subst (λ f. f r ≡ true) (ap (λ v. v.learnt) (exchanged_alike p x y k).read) e, tt)
+learnt_cases k (Exchange p x y) (Whether false) r e = inl (e, tt)
+learnt_cases k (Enter n) x r e = absurd (cc)
+learnt_cases k Leave x r e = absurd (cc)
+learnt_cases k s x r e = inl (e, tt)
+
+stays_no_enter : (s : StepOf Record) (e : ℕ) → Stays s → s ≡ Enter e → ⊥
+stays_no_enter s e h i = subst Stays i h
+
+stays_no_leave : (s : StepOf Record) → Stays s → s ≡ Leave → ⊥
+stays_no_leave s h i = subst Stays i h
+
+whether_same : (b c : Bool) (y : Answer Record) → y ≡ Whether b → y ≡ Whether c → b ≡ c
+whether_same b c y e f = cc
+
+pub number_same : (b c : ℕ) (y : Answer Record) → y ≡ Number b → y ≡ Number c → b ≡ c
+number_same b c y e f = cc
+
+content_same : (b c : Record) (y : Answer Record) → y ≡ Content b → y ≡ Content c → b ≡ c
+content_same b c y e f = cc
+
+learn_inside : (k : Knowledge) (s : StepOf Record) (x : Answer Record) → Stays s → (learn k s x).inside ≡ k.inside
+learn_inside k (Slot zero) (Number n) h = refl
+learn_inside k (Slot (suc p)) (Number zero) h = refl
+learn_inside k (Slot (suc p)) (Number (suc n)) h = refl
+learn_inside k (Row r) (Content w) h = refl
+learn_inside k Epoch (Number n) h = refl
+learn_inside k (Announce b) (Number n) h = refl
+learn_inside k (PidBits w) (Number n) h = refl
+learn_inside k (RowBits w) (Number n) h = refl
+learn_inside k (TakePid p) (Whether true) h = refl
+learn_inside k (TakePid p) (Whether false) h = refl
+learn_inside k (TakeRow r) (Whether true) h = refl
+learn_inside k (TakeRow r) (Whether false) h = refl
+learn_inside k (Exchange p x y) (Whether true) h = (exchanged_alike p x y k).inside
+learn_inside k (Exchange p x y) (Whether false) h = refl
+learn_inside k (Enter e) x h = absurd h
+learn_inside k Leave x h = absurd h
+learn_inside k s x h = refl
+
+same_announced : (a : ℕ) (m : Memory) (s : StepOf Record) → Stays s → (memory_after a s m).announced ≡ m.announced
+same_announced a m (Enter e) h = absurd h
+same_announced a m Leave h = absurd h
+same_announced a m s h = refl
+
+touches_inside : (a : ℕ) (k : Knowledge) (s : StepOf Record) → May a k s → (k.inside ≡ true) ⊎ IsFalse (touches_pages s)
+touches_inside a k (Slot zero) h = inl h
+touches_inside a k (Slot (suc p)) h = inl h.0
+touches_inside a k (Row r) h = inl h.0
+touches_inside a k Epoch h = inr refl
+touches_inside a k (Announce b) h = inr refl
+touches_inside a k (PidBits w) h = inr refl
+touches_inside a k (RowBits w) h = inr refl
+touches_inside a k (Place r w) h = inl h.0
+touches_inside a k (Exchange p x y) h = inl h.0
+touches_inside a k (TakePid p) h = inr refl
+touches_inside a k (TakeRow r) h = inr refl
+touches_inside a k (Enter e) h = inr refl
+touches_inside a k Leave h = inr refl
+touches_inside a k (Retire e) h = inr refl
+touches_inside a k (ReusePids w b) h = inr refl
+touches_inside a k (ReuseRows w b) h = inr refl
+
+-- what was read last was read
+learn_recent : (k : Knowledge) → ((r : ℕ) (w : Record) → k.read.recent r ≡ Some w → k.read.seen r ≡ Some w) → (s : StepOf Record) (x : Answer Record) (r : ℕ) (w : Record) → (learn k s x).read.recent r ≡ Some w → (learn k s x).read.seen r ≡ Some w
+learn_recent k h (Slot zero) (Number n) r w e = h r w e
+learn_recent k h (Slot (suc p)) (Number zero) r w e = h r w e
+learn_recent k h (Slot (suc p)) (Number (suc n)) r w e = absurd (cc)
+learn_recent k h (Row q) (Content v) r w e = by_test r q (λ t. cond t (Some v) (k.read.recent r) ≡ Some w → cond t (Some v) (k.read.seen r) ≡ Some w) (λ i f. f) (λ ne f. h r w f) e
+learn_recent k h Epoch (Number n) r w e = h r w e
+learn_recent k h (Announce b) (Number n) r w e = h r w e
+learn_recent k h (PidBits v) (Number n) r w e = h r w e
+learn_recent k h (RowBits v) (Number n) r w e = h r w e
+learn_recent k h (TakePid p) (Whether true) r w e = h r w e
+learn_recent k h (TakePid p) (Whether false) r w e = h r w e
+learn_recent k h (TakeRow q) (Whether true) r w e = h r w e
+learn_recent k h (TakeRow q) (Whether false) r w e = h r w e
+learn_recent k h (Exchange p x y) (Whether true) r w e = subst (λ f. f r ≡ Some w) (sym (ap (λ v. v.seen) (exchanged_alike p x y k).read)) (h r w (subst (λ f. f r ≡ Some w) (ap (λ v. v.recent) (exchanged_alike p x y k).read) e))
+learn_recent k h (Exchange p x y) (Whether false) r w e = h r w e
+learn_recent k h Leave x r w e = absurd (cc)
+learn_recent k h s x r w e = h r w e
+
+placed_at : (w : PageOwner) → IsInTree w → (l : ℕ) × (k : Key) × Reached 0 l k w
+placed_at Nobody h = absurd h
+placed_at (Keeps b) h = absurd h
+placed_at (Placed st l k) h = (l, k, (refl, refl, omega arith))
+placed_at (Cleared b l k) h = (l, k, (refl, refl))
+
+row_none : (n : ℕ) → row_in n ≡ None → n ≡ 0
+row_none zero e = refl
+row_none (suc n) e = absurd (cc)
+
+pub slot_none : (slots : ℕ → ℕ) (p : ℕ) → 0 < p → slot_in slots p ≡ None → slots p ≡ 0
+slot_none slots zero above e = absurd (omega arith)
+slot_none slots (suc p) above e = row_none (slots (suc p)) e
+
+module _ (limits : Limits) (entries : List Entry) (o : Owners) (m : Memory) (knows : ℕ → Knowledge) (log : List Update) (points : ℕ → Option (List Update)) (logs : ℕ → List (List Update))
+    (g : IsTree (shared m) log o knows points logs) (old : IsNamed limits entries o m knows) (a : ℕ) (s : StepOf Record) (x : Answer Record) (r : Option Reply) (may : May a (knows a) s) (is : IsAnswer m s x) where
+  abbrev last : Entry
+  last = Step a s x r
+
+  -- a step but a reuse disturbs no linked row
+  pub calm : (t : StepOf Record) → (IsReuse t → ⊥) → May a (knows a) t → (y : Answer Record) → IsAnswer m t y → (q : ℕ) → o.row q ≡ Linked → Disturbs t y q → ⊥
+  calm (Place row w) still_so h y i q l same =
+      let spare : o.row row ≡ Spare a = own_spare g a row ((knows a).own.rows row) (g.owns a row) h.1 in
+      let l' : o.row row ≡ Linked = subst (λ n. o.row n ≡ Linked) (sym same) l in cc
+  calm (TakeRow row) still_so h y i q l d =
+      let free : o.row row ≡ Free = g.frees.row row (whether_same (m.free_rows row) true y i d.0) in
+      let l' : o.row row ≡ Linked = subst (λ n. o.row n ≡ Linked) (sym d.1) l in cc
+  calm (ReuseRows w b) still_so h y i q l d = still_so tt
+  calm t still_so h y i q l d = d
+
+  -- the slot of a page of the tree has a linked row
+  tree_slot : (p : ℕ) → IsInTree (o.page p) → (q : ℕ) → slot_in m.slots p ≡ Some q → o.row q ≡ Linked
+  tree_slot p h q e = let here = placed_at (o.page p) h in elim (slot_of g a p here.0 here.1 here.2) [
+    | inl none ↦ absurd (cc)
+    | inr some ↦ let same : some.0 ≡ q = same_Some some.0 q (sym some.1 ∙ e) in subst (λ n. o.row n ≡ Linked) same some.2.linked
+  ]
+
+  -- what a step shows its actor learns
+  learnt_shown : (q : ℕ) → Shown s x q → (q ≡ 0) ⊎ ((learn (knows a) s x).read.learnt q ≡ true)
+  learnt_shown q (inl h) = subst (λ (t : StepOf Record). (q ≡ 0) ⊎ ((learn (knows a) t x).read.learnt q ≡ true)) (sym h.2) (subst (λ (y : Answer Record). (q ≡ 0) ⊎ ((learn (knows a) (Slot h.0) y).read.learnt q ≡ true)) (sym h.3) (by_slot h.0 q h.1))
+    where
+      by_slot : (p q : ℕ) → 0 < p → (q ≡ 0) ⊎ ((learn (knows a) (Slot p) (Number q)).read.learnt q ≡ true)
+      by_slot zero q above = absurd (omega arith)
+      by_slot (suc p) zero above = inl refl
+      by_slot (suc p) (suc q) above = inr (put_same (knows a).read.learnt (suc q) true)
+  learnt_shown q (inr h) = inr (subst (λ (t : StepOf Record). (learn (knows a) t x).read.learnt q ≡ true) (sym h.2) (subst (λ (y : Answer Record). (learn (knows a) (Row h.0) y).read.learnt q ≡ true) (sym h.3) (subst (λ (v : Option ℕ). learnt_next v (knows a).read.learnt q ≡ true) (sym h.4) (put_same (knows a).read.learnt q true))))
+
+  grows : (f : ℕ → Bool) (n q : ℕ) → f q ≡ true → put f n true q ≡ true
+  grows f n q e = by_test q n (λ z. cond z true (f q) ≡ true) (λ i. refl) (λ ne. e)
+
+  grows_next : (v : Option ℕ) (f : ℕ → Bool) (q : ℕ) → f q ≡ true → learnt_next v f q ≡ true
+  grows_next None f q e = e
+  grows_next (Some n) f q e = grows f n q e
+
+  -- what an actor that goes on has learnt it knows still
+  learnt_stays : (k : Knowledge) (t : StepOf Record) (y : Answer Record) → Stays t → (q : ℕ) → k.read.learnt q ≡ true → (learn k t y).read.learnt q ≡ true
+  learnt_stays k (Slot zero) (Number n) st q e = e
+  learnt_stays k (Slot (suc p)) (Number zero) st q e = e
+  learnt_stays k (Slot (suc p)) (Number (suc n)) st q e = grows k.read.learnt (suc n) q e
+  learnt_stays k (Row r) (Content w) st q e = grows_next (next_row w) k.read.learnt q e
+  learnt_stays k Epoch (Number n) st q e = e
+  learnt_stays k (Announce b) (Number n) st q e = e
+  learnt_stays k (PidBits w) (Number n) st q e = e
+  learnt_stays k (RowBits w) (Number n) st q e = e
+  learnt_stays k (TakePid p) (Whether true) st q e = e
+  learnt_stays k (TakePid p) (Whether false) st q e = e
+  learnt_stays k (TakeRow r) (Whether true) st q e = e
+  learnt_stays k (TakeRow r) (Whether false) st q e = e
+  learnt_stays k (Exchange p x y) (Whether true) st q e = subst (λ (f : ℕ → Bool). f q ≡ true) (sym (ap (λ v. v.learnt) (exchanged_alike p x y k).read)) e
+  learnt_stays k (Exchange p x y) (Whether false) st q e = e
+  learnt_stays k (Enter n) y st q e = absurd st
+  learnt_stays k Leave y st q e = absurd st
+  learnt_stays k t y st q e = e
+
+  stays_or : (t : StepOf Record) → May a (knows a) t → (q : ℕ) → (knows a).read.learnt q ≡ true → ((q : ℕ) → (knows a).read.learnt q ≡ true → (knows a).inside ≡ true) → (t ≡ Leave) ⊎ Stays t
+  stays_or (Enter n) h q e inside = absurd (let i = inside q e in let f = h.0 in cc)
+  stays_or Leave h q e inside = inl refl
+  stays_or t h q e inside = inr tt
+
+  shown_cases : (b q : ℕ) → ShowsRow (entries ++ last ∷ []) (length entries) b q → (b ≡ a) × Shown s x q
+  shown_cases b q (inl h) = let e = h.2.1 in let f = slice_get-push entries last in ((cc (e, f)), inl (h.0, h.1, (cc (e, f)), (cc (e, f))))
+  shown_cases b q (inr h) = let e = h.2.1 in let f = slice_get-push entries last in ((cc (e, f)), inr (h.0, h.1, (cc (e, f)), (cc (e, f)), h.3))
+
+  shows_now : (q : ℕ) → Shown s x q → ShowsRow (entries ++ last ∷ []) (length entries) a q
+  shows_now q (inl h) = inl (h.0, h.1, (r, rw (sym h.2, sym h.3) (slice_get-push entries last)))
+  shows_now q (inr h) = inr (h.0, h.1, (r, rw (sym h.2, sym h.3) (slice_get-push entries last)), h.4)
+
+  known_kept : (b q : ℕ) → (knows b).read.learnt q ≡ true → (b ≡ a → Stays s) → (Disturbs s x q → ⊥) → KnowsRow (entries ++ last ∷ []) (length (entries ++ last ∷ [])) b q
+  known_kept b q e stays still = rw pushed_length (KnowsRow-kept entries last b q (old.known b q e)
+      (λ epoch y. ((λ h. let i = h.1 in stays_no_enter s epoch (stays (let j : a ≡ b = cc in sym j)) (cc)), (λ h. let i = h.1 in stays_no_leave s (stays (let j : a ≡ b = cc in sym j)) (cc))))
+      (λ other t y h d. let i = h.1 in let st : s ≡ t = cc in let xy : x ≡ y = cc in
+      still (subst (λ z. Disturbs s z q) (sym xy) (subst (λ z. Disturbs z y q) (sym st) d))))
+
+  at_rest : (t : StepOf Record) → Stays t → (y : Answer Record) → (b : ℕ) → (cond (eqb b a) (finished (learn (knows a) t y) r) (knows b)).inside ≡ true → 0 < (memory_after a t m).announced b
+  at_rest t st y b e = rw (same_announced a m t st) (by_test b a (λ z. (cond z (finished (learn (knows a) t y) r) (knows b)).inside ≡ true → 0 < m.announced b)
+      (λ i f. subst (λ n. 0 < m.announced n) (sym i) (old.announced a (sym (learn_inside (knows a) t y st) ∙ f))) (λ ne f. old.announced b f) e)
+
+  announced_after : (t : StepOf Record) → May a (knows a) t → (y : Answer Record) → (b : ℕ) → (cond (eqb b a) (finished (learn (knows a) t y) r) (knows b)).inside ≡ true → 0 < (memory_after a t m).announced b
+  announced_after (Enter n) h y b e = by_test b a (λ t. (cond t (finished (learn (knows a) (Enter n) y) r) (knows b)).inside ≡ true → 0 < cond t n (m.announced b)) (λ i f. h.1) (λ ne f. old.announced b f) e
+  announced_after Leave h y b e = by_test b a (λ t. (cond t (finished (learn (knows a) Leave y) r) (knows b)).inside ≡ true → 0 < cond t 0 (m.announced b)) (λ i f. absurd (cc)) (λ ne f. old.announced b f) e
+  announced_after t h y b e = at_rest t tt y b e
+
+  epoch_after : (t : StepOf Record) → May a (knows a) t → (0 < (memory_after a t m).epoch) × ((memory_after a t m).epoch ≤ 2 ^ 62)
+  epoch_after (Retire q) h = by_test m.epoch q (λ t. (0 < cond t (q + 1) m.epoch) × (cond t (q + 1) m.epoch ≤ 2 ^ 62)) (λ i. ((let z : 0 < q + 1 = omega arith in z), (let z : q + 1 ≤ 2 ^ 62 = omega arith in z))) (λ ne. old.epoch)
+  epoch_after t h = old.epoch
+
+  posted_after : (t : StepOf Record) → May a (knows a) t → ((e : ℕ) → (knows a).limbo.epoch ≡ Some e → e ≤ m.epoch) → (b : ℕ) → (memory_after a t m).announced b ≤ (memory_after a t m).epoch
+  posted_after (Retire q) h read b = by_test m.epoch q (λ t. m.announced b ≤ cond t (q + 1) m.epoch) (λ i. let o = old.posted b in omega arith) (λ ne. old.posted b)
+  posted_after (Enter n) h read b = by_test b a (λ t. cond t n (m.announced b) ≤ m.epoch) (λ i. read n h.2) (λ ne. old.posted b)
+  posted_after Leave h read b = by_test b a (λ t. cond t 0 (m.announced b) ≤ m.epoch) (λ i. omega arith) (λ ne. old.posted b)
+  posted_after t h read b = old.posted b
+
+  pub zero_after : (t : StepOf Record) → (IsReuse t → ⊥) → May a (knows a) t → (memory_after a t m).free_rows 0 ≡ false
+  zero_after (TakeRow q) still_so h = by_test 0 q (λ t. cond t false (m.free_rows 0) ≡ false) (λ i. refl) (λ ne. old.zero_taken)
+  zero_after (ReuseRows q w) still_so h = absurd (still_so tt)
+  zero_after t still_so h = old.zero_taken
+
+  going_command : (o : Option Reply) → going_on o (command_of entries a) ≡ commands_after (command_of entries) (Step a s x o) a
+  going_command None = refl
+  going_command (Some y) = sym (put_same (command_of entries) a None)
+
+  other_command : (o : Option Reply) (b : ℕ) → b ≢ a → commands_after (command_of entries) (Step a s x o) b ≡ command_of entries b
+  other_command None b ne = refl
+  other_command (Some y) b ne = put_other (command_of entries) a None b ne
+
+  pub free_rows_before : (t : StepOf Record) → (IsReuse t → ⊥) → May a (knows a) t → (q : ℕ) → (memory_after a t m).free_rows q ≡ true → m.free_rows q ≡ true
+  free_rows_before (TakeRow n) still_so h q e = by_test q n (λ t. cond t false (m.free_rows q) ≡ true → m.free_rows q ≡ true) (λ i f. absurd (cc)) (λ ne f. f) e
+  free_rows_before (ReuseRows n w) still_so h q e = absurd (still_so tt)
+  free_rows_before t still_so h q e = e
+
+  pub free_pids_before : (t : StepOf Record) → (IsReuse t → ⊥) → May a (knows a) t → (q : ℕ) → (memory_after a t m).free_pids q ≡ true → m.free_pids q ≡ true
+  free_pids_before (TakePid n) still_so h q e = by_test q n (λ t. cond t false (m.free_pids q) ≡ true → m.free_pids q ≡ true) (λ i f. absurd (cc)) (λ ne f. f) e
+  free_pids_before (ReusePids n w) still_so h q e = absurd (still_so tt)
+  free_pids_before t still_so h q e = e
+
+  pub row_below_after : (o' : Owners) → ((q : ℕ) → IsMoved a (m.free_rows q) (o.row q) (o'.row q)) → (q : ℕ) → (o'.row q ≡ Free) ⊎ (q < limits.rows)
+  row_below_after o' moved q = elim (moved q) [
+    | inl same ↦ elim (old.row_below q) [ inl f ↦ inl (same ∙ f) | inr lt ↦ inr lt ]
+    | inr more ↦ elim more [
+      | inl taken ↦ inr (old.free_row_below q taken.0)
+      | inr linked ↦ elim (old.row_below q) [ inl f ↦ absurd (let e = linked.0 in cc) | inr lt ↦ inr lt ]
+    ]
+  ]
+
+  pub zero_free_after : (o' : Owners) → IsMoved a (m.free_rows 0) (o.row 0) (o'.row 0) → o'.row 0 ≡ Free
+  zero_free_after o' (inl e) = e ∙ old.zero_free
+  zero_free_after o' (inr (inl h)) = absurd (let e = h.0 in let f = old.zero_taken in cc)
+  zero_free_after o' (inr (inr h)) = absurd (let e = h.0 in let f = old.zero_free in cc)
+
+  -- what the numbers are afterwards
+  pub record Numbers (o' : Owners) : Type 0 where
+    pub undisturbed : (b q : ℕ) → (knows b).read.learnt q ≡ true → Disturbs s x q → ⊥
+    pub zero_free : o'.row 0 ≡ Free
+    pub zero_taken : (memory_after a s m).free_rows 0 ≡ false
+    pub free_row_below : (q : ℕ) → (memory_after a s m).free_rows q ≡ true → q < limits.rows
+    pub row_below : (q : ℕ) → (o'.row q ≡ Free) ⊎ (q < limits.rows)
+    pub free_pid_below : (p : ℕ) → (memory_after a s m).free_pids p ≡ true → (0 < p) × (p < limits.pids)
+
+  -- of a step but a reuse
+  pub calm_numbers : (IsReuse s → ⊥) → (o' : Owners) → ((q : ℕ) → IsMoved a (m.free_rows q) (o.row q) (o'.row q)) → Numbers o'
+  calm_numbers still_so o' moved = record {
+    undisturbed = λ b q e d. calm s still_so may x is q ((g.sound b).learnt_fits q e) d;
+    zero_free = zero_free_after o' (moved 0);
+    zero_taken = zero_after s still_so may;
+    free_row_below = λ q e. old.free_row_below q (free_rows_before s still_so may q e);
+    row_below = row_below_after o' moved;
+    free_pid_below = λ p e. old.free_pid_below p (free_pids_before s still_so may p e);
+  }
+
+  pub named_steps : (o' : Owners) → Numbers o' → ((q : ℕ) → (knows a).read.learnt q ≡ true → (knows a).inside ≡ true) → ((e : ℕ) → (knows a).limbo.epoch ≡ Some e → e ≤ m.epoch) → ((p : ℕ) → (phase_of (o'.page p) ≡ phase.free) ⊎ ((0 < p) × (p < limits.pids)))
+      → ((p q : ℕ) → slot_in (memory_after a s m).slots p ≡ Some q → IsInTree (o'.page p) ⊎ IsReadyPage o' (memory_after a s m) (knows_after knows last) p q)
+      → command_of (entries ++ last ∷ []) ≡ commands_after (command_of entries) last
+      → IsNamed limits (entries ++ last ∷ []) o' (memory_after a s m) (knows_after knows last)
+  named_steps o' numbers inside read pid_below held asks = record {
+    shown = λ b q h. elim (HasLearnt-push_cases entries last b q h) [
+      | inl before ↦ elim (old.shown b q before.0) [
+        | inl z ↦ inl z
+        | inr l ↦ inr (by_test b a (λ t. (cond t (finished (learn (knows a) s x) r) (knows b)).read.learnt q ≡ true)
+            (λ i. let l' : (knows a).read.learnt q ≡ true = subst (λ n. (knows n).read.learnt q ≡ true) i l in
+            elim (stays_or s may q l' inside) [
+              | inl leaves ↦ let back = sym i in absurd (before.1 x (r, λ d. Step (back d) (leaves d) x r))
+              | inr st ↦ learnt_stays (knows a) s x st q l'
+            ])
+            (λ ne. l))
+      ]
+      | inr shows ↦
+          let v = shown_cases b q shows in
+          elim (learnt_shown q v.1) [ inl z ↦ inl z | inr l ↦ inr (by_test b a (λ t. (cond t (finished (learn (knows a) s x) r) (knows b)).read.learnt q ≡ true) (λ i. l) (λ ne. absurd (ne v.0))) ]
+    ];
+    known = λ b q. by_test b a (λ t. (cond t (finished (learn (knows a) s x) r) (knows b)).read.learnt q ≡ true → KnowsRow (entries ++ last ∷ []) (length (entries ++ last ∷ [])) b q)
+        (λ i e. subst (λ n. KnowsRow (entries ++ last ∷ []) (length (entries ++ last ∷ [])) n q) (sym i) (elim (learnt_cases (knows a) s x q e) [
+          | inl h ↦ known_kept a q h.0 (λ j. h.1) (numbers.undisturbed a q h.0)
+          | inr h ↦ rw pushed_length (KnowsRow-shown entries last a q (shows_now q h))
+        ]))
+        (λ ne e. known_kept b q e (λ i. absurd (ne i)) (numbers.undisturbed b q e));
+    announced = announced_after s may x;
+    epoch = epoch_after s may;
+    posted = posted_after s may read;
+    recent = λ b q w. by_test b a (λ t. (cond t (finished (learn (knows a) s x) r) (knows b)).read.recent q ≡ Some w → (cond t (finished (learn (knows a) s x) r) (knows b)).read.seen q ≡ Some w) (λ i. learn_recent (knows a) (old.recent a) s x q w) (λ ne. old.recent b q w);
+    zero_free = numbers.zero_free;
+    zero_taken = numbers.zero_taken;
+    free_row_below = numbers.free_row_below;
+    row_below = numbers.row_below;
+    free_pid_below = numbers.free_pid_below;
+    pid_below = pid_below;
+    held = held;
+    commands = λ b. rw asks (by_test b a (λ t. (cond t (finished (learn (knows a) s x) r) (knows b)).asked.command ≡ commands_after (command_of entries) last b)
+        (λ i. subst (λ n. going_on r (learn (knows a) s x).asked.command ≡ commands_after (command_of entries) last n) (sym i) (ap (going_on r) (learn_command (knows a) s x ∙ old.commands a) ∙ going_command r))
+        (λ ne. old.commands b ∙ sym (other_command r b ne)));
+  }
+
+  pub reads_known : (b row : ℕ) (y : Answer Record) → IsStep last b (Row row) y → KnowsRow entries (length entries) b row
+  reads_known b row y h =
+      let i = h.1 in
+      let ab : a ≡ b = cc in
+      let st : s ≡ Row row = cc in
+      subst (λ n. KnowsRow entries (length entries) n row) ab (old.known a row (subst (May a (knows a)) st may).1)
+
+  pub touches_outside : (b : ℕ) (t : StepOf Record) (y : Answer Record) → IsStep last b t y → m.announced b ≡ 0 → IsFalse (touches_pages t)
+  touches_outside b t y h z =
+      let i = h.1 in
+      let ab : a ≡ b = cc in
+      let st : s ≡ t = cc in
+      subst (λ u. IsFalse (touches_pages u)) st (elim (touches_inside a (knows a) s may) [
+        | inl inside ↦ let lt : 0 < m.announced a = old.announced a inside in let z' : m.announced a ≡ 0 = subst (λ n. m.announced n ≡ 0) (sym ab) z in absurd (omega arith)
+        | inr no_touch ↦ no_touch
+      ])
+
+  pub may_take : memory_of limits entries ≡ m → (t : StepOf Record) → May a (knows a) t → MayTake limits entries a t
+  may_take same (Place row w) h = record {
+    taken = rw same (not_free (m.free_rows row) refl);
+    unlinked = λ on. unlinked (subst (λ n. IsOnChain n row) same on);
+    unlearnt = λ other ne learnt. elim (old.shown other row learnt) [
+      | inl z ↦ let f : o.row row ≡ Free = ap o.row z ∙ old.zero_free in let sp = spare in absurd (cc)
+      | inr l ↦ let l' = (g.sound other).learnt_fits row l in let sp = spare in absurd (cc)
+    ];
+  }
+    where
+      spare : o.row row ≡ Spare a
+      spare = own_spare g a row ((knows a).own.rows row) (g.owns a row) h.1
+
+      not_free : (t : Bool) → m.free_rows row ≡ t → m.free_rows row ≡ false
+      not_free true e = let f : o.row row ≡ Free = g.frees.row row e in let sp = spare in absurd (cc)
+      not_free false e = e
+
+      -- the row is on the chain of no linked row
+      apart : (x : ℕ) (c : List Record) → IsChainFrom m.rows x c → Contains (chain_rows x c) row → o.row x ≡ Linked → ⊥
+      apart x c chain among l = let l' : o.row row ≡ Linked = chain_linked o (shared m) g.closed x c l chain row among in let sp = spare in cc
+
+      -- nor is it the base in the slot of a page that is ready
+      in_base : (b : ℕ) (page : pages.Page) (p x : ℕ) (c : List Record) → IsChainFrom m.rows x c → Contains (chain_rows x c) row → m.rows x ≡ Some (Base page) → o.row x ≡ Spare b → (knows b).own.pages p ≡ Ready x → ⊥
+      in_base b page p x [] chain among e sp ready = chain
+      in_base b page p x (v ∷ c) chain (suc k, lt, at) e sp ready =
+          let same : v ≡ Base page = cc (chain.0, e) in
+          let none : c ≡ [] = subst (λ u. MatchOption (next_row u) (c ≡ []) (λ n. IsChainFrom m.rows n c)) same chain.1 in
+          let short : length (chain_rows (unwrap_or (next_row v) 0) c) ≡ 0 = ap (λ d. length (chain_rows (unwrap_or (next_row v) 0) d)) none in
+          absurd (omega arith)
+      in_base b page p x (v ∷ c) chain (zero, lt, at) e sp ready =
+          let here : x ≡ row = at in
+          let owner : o.row row ≡ Spare b = subst (λ n. o.row n ≡ Spare b) here sp in
+          let sp' = spare in
+          let mine : b ≡ a = cc in
+          h.2 p (subst (λ n. (knows n).own.pages p ≡ Ready row) mine (ready ∙ ap Ready here))
+
+      unlinked : IsOnChain m row → ⊥
+      unlinked (p, c, chain, among) = in_slot (slot_in m.slots p) refl
+        where
+          in_slot : (v : Option ℕ) → slot_in m.slots p ≡ v → ⊥
+          in_slot None e = let z : m.slots p ≡ 0 = slot_none m.slots p chain.page e in let above : 0 < m.slots p = chain.linked in omega arith
+          in_slot (Some x) e =
+              let at : m.slots p ≡ x = (slot_some m.slots p x e).1 in
+              let chain' : IsChainFrom m.rows x c = subst (λ n. IsChainFrom m.rows n c) at chain.records in
+              let among' : Contains (chain_rows x c) row = subst (λ n. Contains (chain_rows n c) row) at among in
+              elim (old.held p x e) [
+                | inl in_tree ↦ apart x c chain' among' (tree_slot p in_tree x e)
+                | inr ready ↦ elim ready.owned [
+                  | inl l ↦ apart x c chain' among' l
+                  | inr own ↦ in_base ready.actor ready.base p x c chain' among' ready.stands own ready.ready
+                ]
+              ]
+  may_take same t h = tt

@@ -1,0 +1,299 @@
+-- A step moves each PID from the phase that its owner says to the one that it says afterwards.
+use Rattle.bw_model.specs.Bytes.{key_cmp}
+use Rattle.std.specs.Ordering.{is_eq}
+use Rattle.tree_law.proofs.shape.KeyOrder.{by_key, not_self}
+use Rattle.std.proofs.Common.{◌≡◌, ◌≢◌, ◌⊎◌, inl, inr, ℕ, zero, suc, ◌<◌, List, [], ◌∷◌, Option, Some, None, Bool, true, false, cond, eqb, refl, sym, ap, ◌∙◌, subst}
+use Rattle.std.specs.Prelude.{slice_get, if◌then◌else◌}
+use Rattle.std.specs.Option.{option_map}
+use Rattle.std.proofs.lemmas.Option.{same_Some}
+use Rattle.bw_model.specs.declared.command.Reply.{Reply}
+use Rattle.bw_model.specs.declared.step.Step.{Step as StepOf}
+use Rattle.bw_model.specs.declared.step.Step.TheVariants.{Exchange, TakePid, ReusePids}
+use Rattle.bw_model.specs.declared.step.Answer.{Answer}
+use Rattle.bw_model.specs.declared.step.Answer.TheVariants.{Start, Number, Content, Whether, Done}
+use Rattle.bw_model.specs.declared.step.Link.{Link}
+use Rattle.bw_model.specs.declared.step.Link.TheVariants as link
+use Rattle.bw_model.specs.Log.{Update}
+use Rattle.base_page.specs.declared.item.Content.{Content as ContentOf}
+use Rattle.base_page.specs.declared.item.Content.TheVariants.{Child}
+use Rattle.base_page.specs.declared.item.Item.{Item}
+use Rattle.base_page.specs.Pages as pages
+use Rattle.deltas.specs.declared.record.Record.{Record}
+use Rattle.deltas.specs.declared.record.Record.TheVariants.{Base, Put, Delete, Split, Term, Hold, Remove, Merge, Unterm}
+use Rattle.deltas.specs.Links.{record_link}
+use Rattle.deltas.specs.Memory.{Memory}
+use Rattle.chain_search.specs.declared.trace.Entry.{Entry}
+use Rattle.chain_search.specs.declared.trace.Entry.TheVariants.{Step}
+use Rattle.chain_search.specs.Chains.{IsChainFrom, IsChainOf, right_in, content_in, low_in}
+use Rattle.chain_search.specs.Steps.{is_among, IsAnswer}
+use Rattle.chain_search.proofs.ChainLaws.{IsChainFrom-unique}
+use Rattle.op_machine.specs.Links.{link_without, link_of, Wins, Installs}
+use Rattle.op_machine.specs.Phases.{Phase, free, owned, fresh, indexed, held, removed, merged, cleared, MakesRoot, Moves, takes, splits, becomes_root, terms, under_root, holds, removes, merges, unterms, reuses}
+use Rattle.chain_search.specs.Discipline.{root_over, May}
+use Rattle.tree_law.specs.Keys.{Key, IsBelow}
+use Rattle.chain_search.specs.Knowledge.{Knowledge}
+use Rattle.tree_law.specs.Owners.{Owners}
+use Rattle.tree_law.specs.Phase.{Fresh, Indexed, Held, Removed, Merged, PageOwner, Nobody, Keeps, Placed, Cleared}
+use Rattle.tree_law.specs.Phases.{LinkMoves, Phased}
+use Rattle.tree_law.specs.Put.{put}
+use Rattle.tree_law.specs.Shared.{row_in, slot_in, shared}
+use Rattle.tree_law.specs.State.{phase_of, IsInTree, IsReadyPage}
+use Rattle.tree_law.specs.Tree.{IsTree}
+use Rattle.tree_law.proofs.shape.Mapping.{slot_some}
+use Rattle.tree_law.proofs.shape.Puts.{eqb_true, eqb_apart, by_test, put_same, put_other}
+
+-- whether it is the link of a record in front of a chain
+abbrev is_front : Link → Bool
+is_front link.Root = false
+is_front link.Ready = false
+is_front link.Undo = false
+is_front link.Clear = false
+is_front kind = true
+
+record_front : (w : Record) → is_front (record_link w) ≡ true
+record_front (Base page) = refl
+record_front (Put record') = refl
+record_front (Delete record') = refl
+record_front (Split record') = refl
+record_front (Term record') = refl
+record_front (Hold record') = refl
+record_front (Remove record') = refl
+record_front (Merge record') = refl
+record_front (Unterm record') = refl
+
+without_front : (w : Record) → is_front (link_without w) ≡ false
+without_front (Base page) = refl
+without_front (Put record') = refl
+without_front (Delete record') = refl
+without_front (Split record') = refl
+without_front (Term record') = refl
+without_front (Hold record') = refl
+without_front (Remove record') = refl
+without_front (Merge record') = refl
+without_front (Unterm record') = refl
+
+no_front : (k : Link) (w : Record) → is_front k ≡ false → Some k ≡ Some (record_link w) → ⊥
+no_front k w e same = let f : is_front (record_link w) ≡ false = subst (λ z. is_front z ≡ false) (same_Some k (record_link w) same) e in let g = record_front w in cc
+
+no_front_map : (v : Option Record) (w : Record) → option_map link_without v ≡ Some (record_link w) → ⊥
+no_front_map None w same = cc
+no_front_map (Some v) w same = no_front (link_without v) w (without_front v) same
+
+clear_base : (base : pages.Page) (v : Option Record) → v ≡ Some (Base base) → option_map link_without v ≡ Some link.Clear → ⊥
+clear_base base v e same = let f : Some link.Undo ≡ Some link.Clear = subst (λ (z : Option Record). option_map link_without z ≡ Some link.Clear) e same in cc
+
+not_zero : (n : ℕ) → eqb (suc n) 0 ≡ false
+not_zero n = eqb_apart (suc n) 0 (λ e. absurd (cc))
+
+-- the link of an exchange on a page, by its numbers
+link_page : (m : Memory) (p old new : ℕ) → link_of m (suc p) old new ≡ cond (eqb old 0) (Some link.Ready) (cond (eqb new 0) (option_map link_without (m.rows old)) (option_map record_link (m.rows new)))
+link_page m p old new = ap (λ t. cond t (Some link.Root) (cond (eqb old 0) (Some link.Ready) (cond (eqb new 0) (option_map link_without (m.rows old)) (option_map record_link (m.rows new))))) (not_zero p)
+
+pub link_ready : (m : Memory) (p new : ℕ) → link_of m (suc p) 0 new ≡ Some link.Ready
+link_ready m p new = link_page m p 0 new
+
+pub link_empty : (m : Memory) (p old : ℕ) → link_of m (suc p) (suc old) 0 ≡ option_map link_without (m.rows (suc old))
+link_empty m p old = link_page m p (suc old) 0 ∙ ap (λ t. cond t (Some link.Ready) (option_map link_without (m.rows (suc old)))) (not_zero old)
+
+pub link_front : (m : Memory) (p old new : ℕ) → link_of m (suc p) (suc old) (suc new) ≡ option_map record_link (m.rows (suc new))
+link_front m p old new = link_page m p (suc old) (suc new) ∙ ap (λ t. cond t (Some link.Ready) (cond (eqb (suc new) 0) (option_map link_without (m.rows (suc old))) (option_map record_link (m.rows (suc new))))) (not_zero old)
+    ∙ ap (λ t. cond t (option_map link_without (m.rows (suc old))) (option_map record_link (m.rows (suc new)))) (not_zero new)
+
+-- what is put at a place has its phase there
+put_phase : (f f' : ℕ → PageOwner) (p : ℕ) (w : PageOwner) → f' ≡ put f p w → phase_of (f' p) ≡ phase_of w
+put_phase f f' p w e = ap (λ (g : ℕ → PageOwner). phase_of (g p)) e ∙ ap phase_of (put_same f p w)
+
+-- what a new root has at its second key, and above its low key at no other one
+abbrev children : List ℕ → ℕ → ℕ → List ℕ → Option ContentOf
+children separator page right key = if is_eq (key_cmp key []) then Some (Child page false) else (if is_eq (key_cmp key separator) then Some (Child right false) else None)
+
+at_second : (separator : List ℕ) (page right : ℕ) → IsBelow [] separator → children separator page right separator ≡ Some (Child right false)
+at_second separator page right above = by_key separator [] (λ t. (if t then Some (Child page false) else (if is_eq (key_cmp separator separator) then Some (Child right false) else None)) ≡ Some (Child right false))
+    (λ same. absurd (not_self [] (subst (IsBelow []) same above)))
+    (λ ne. by_key separator separator (λ t. (if t then Some (Child right false) else None) ≡ Some (Child right false)) (λ same. refl) (λ other. absurd (other refl)))
+
+second_child : (key separator : List ℕ) (page right pid : ℕ) (mark : Bool) → IsBelow [] key → children separator page right key ≡ Some (Child pid mark) → right ≡ pid
+second_child key separator page right pid mark above = by_key key [] (λ t. (if t then Some (Child page false) else (if is_eq (key_cmp key separator) then Some (Child right false) else None)) ≡ Some (Child pid mark) → right ≡ pid)
+    (λ same. absurd (not_self [] (subst (IsBelow []) same above)))
+    (λ ne. by_key key separator (λ t. (if t then Some (Child right false) else None) ≡ Some (Child pid mark) → right ≡ pid) (λ same e. cc) (λ other e. absurd (cc)))
+
+module _ (m : Memory) {log : List Update} {o : Owners} {knows : ℕ → Knowledge} {point : ℕ → Option (List Update)} {logs : ℕ → List (List Update)} (g : IsTree (shared m) log o knows point logs)
+    (inhabited : (p q : ℕ) → slot_in m.slots p ≡ Some q → IsInTree (o.page p) ⊎ IsReadyPage o m knows p q) (a : ℕ) (s : StepOf Record) (x : Answer Record) (r : Option Reply) (may : May a (knows a) s) (is : IsAnswer m s x) (f' : ℕ → PageOwner) (ph : Phased a (shared m) s x o.page f') where
+  abbrev last : Entry
+  last = Step a s x r
+
+  linked_by : (slot old new : ℕ) (w : Record) → s ≡ Exchange slot old new → x ≡ Whether true → link_of m slot old new ≡ Some (record_link w) → m.rows new ≡ Some w → (p : ℕ) × (slot ≡ suc p) × LinkMoves (shared m) a w (suc p) o.page f'
+  linked_by zero old new w i j kind stands = absurd (no_front link.Root w refl kind)
+  linked_by (suc p) zero new w i j kind stands = absurd (no_front link.Ready w refl (sym (link_ready m p new) ∙ kind))
+  linked_by (suc p) (suc old) zero w i j kind stands = absurd (no_front_map (m.rows (suc old)) w (sym (link_empty m p old) ∙ kind))
+  linked_by (suc p) (suc old) (suc new) w i j kind stands =
+      let h : Phased a (shared m) (Exchange (suc p) (suc old) (suc new)) (Whether true) o.page f' = subst (λ y. Phased a (shared m) (Exchange (suc p) (suc old) (suc new)) y o.page f') j (subst (λ t. Phased a (shared m) t x o.page f') i ph) in
+      let same : h.0 ≡ w = same_Some h.0 w (sym h.1 ∙ stands) in
+      (p, refl, subst (λ u. LinkMoves (shared m) a u (suc p) o.page f') same h.2)
+
+  -- the step is the exchange that put the record in front of a chain
+  installed : (slot : ℕ) (w : Record) → Installs m last slot w → (p : ℕ) × (slot ≡ suc p) × LinkMoves (shared m) a w (suc p) o.page f'
+  installed slot w (b, old, new, won, stands) = let e = won.0.1 in linked_by slot old new w (cc) (cc) won.1 stands
+
+  rooted : (pid : ℕ) → MakesRoot m last pid → (old : ℕ) × Phased a (shared m) (Exchange 0 old pid) (Whether true) o.page f'
+  rooted pid (b, old, won) =
+      let e = won.0.1 in
+      let i : s ≡ Exchange 0 old pid = cc in
+      let j : x ≡ Whether true = cc in
+      (old, subst (λ y. Phased a (shared m) (Exchange 0 old pid) y o.page f') j (subst (λ t. Phased a (shared m) t x o.page f') i ph))
+
+  taken : (pid : ℕ) → s ≡ TakePid pid → x ≡ Whether true → (phase_of (o.page pid) ≡ free) × (phase_of (f' pid) ≡ owned)
+  taken pid i j =
+      let h : f' ≡ put o.page pid (Keeps a) = subst (λ y. Phased a (shared m) (TakePid pid) y o.page f') j (subst (λ t. Phased a (shared m) t x o.page f') i ph) in
+      let e : x ≡ Whether (m.free_pids pid) = subst (λ t. IsAnswer m t x) i is in
+      let was : m.free_pids pid ≡ true = cc (e, j) in
+      (ap phase_of (g.frees.page pid was).0, put_phase o.page f' pid (Keeps a) h)
+
+  -- each move goes from the phase that the owner says
+  pub moves_between : (pid : ℕ) (from to : Phase) → Moves m last pid from to → (phase_of (o.page pid) ≡ from) × (phase_of (f' pid) ≡ to)
+  moves_between pid from to (takes b step) = let e = step.1 in taken pid (cc) (cc)
+  moves_between pid from to (splits slot split installs at) =
+      let h = (installed slot (Split split) installs).2 in
+      subst (λ q. (phase_of (o.page q) ≡ owned) × (phase_of (f' q) ≡ fresh)) at (ap phase_of h.4, put_phase o.page f' split.page (Placed Fresh h.1 split.separator) h.5)
+  moves_between pid from to (becomes_root makes) =
+      let h = (rooted pid makes).1 in
+      (ap phase_of h.5, put_phase (put o.page h.0 (Placed Indexed h.1 h.2)) f' pid (Placed Indexed (suc h.1) []) h.6)
+  moves_between pid from to (terms slot term installs at) =
+      let h = (installed slot (Term term) installs).2 in
+      subst (λ q. (phase_of (o.page q) ≡ fresh) × (phase_of (f' q) ≡ indexed)) at (ap phase_of h.1, put_phase o.page f' term.child (Placed Indexed h.0 term.separator) h.2)
+  moves_between pid from to (under_root root chain key mark makes stands above said) =
+      let old = (rooted root makes).0 in
+      let h = (rooted root makes).1 in
+      let base = h.7 in
+      let at : m.slots root ≡ base.0 = (slot_some m.slots root base.0 base.2).1 in
+      let same : chain ≡ root_over base.1 old h.2 h.0 ∷ [] = IsChainFrom-unique m.rows (m.slots root) chain (root_over base.1 old h.2 h.0 ∷ []) stands.records (ap m.rows at ∙ base.3, refl) in
+      let here : h.0 ≡ pid = second_child key h.2 old h.0 pid mark (subst (λ (c : List Record). IsBelow (low_in c) key) same above) (subst (λ (c : List Record). content_in c key ≡ Some (Child pid mark)) same said) in
+      subst (λ q. (phase_of (o.page q) ≡ fresh) × (phase_of (f' q) ≡ indexed)) here (
+        ap phase_of h.4,
+        ap (λ (k : ℕ → PageOwner). phase_of (k h.0)) h.6 ∙ ap phase_of (put_other (put o.page h.0 (Placed Indexed h.1 h.2)) root (Placed Indexed (suc h.1) []) h.0 (λ i. absurd (let e = h.4 in let k : o.page h.0 ≡ Keeps a = ap o.page i ∙ h.5 in cc)) ∙ put_same o.page h.0 (Placed Indexed h.1 h.2)),
+      )
+  moves_between pid from to (holds slot hold installs at) =
+      let h = (installed slot (Hold hold) installs).2 in
+      subst (λ q. (phase_of (o.page q) ≡ indexed) × (phase_of (f' q) ≡ held)) at (ap phase_of h.1, put_phase o.page f' hold.child (Placed Held h.0 hold.separator) h.2)
+  moves_between pid from to (removes remove installs) =
+      let i = installed pid (Remove remove) installs in
+      let h = i.2 in
+      subst (λ q. (phase_of (o.page q) ≡ held) × (phase_of (f' q) ≡ removed)) (sym i.1) (ap phase_of h.2, put_phase o.page f' (suc i.0) (Placed Removed h.0 h.1) h.3)
+  moves_between pid from to (merges slot merge chain installs stood right) =
+      let i = installed slot (Merge merge) installs in
+      let h = i.2 in
+      let side = h.4 in
+      let stood' : IsChainOf m (suc i.0) chain = subst (λ p. IsChainOf m p chain) i.1 stood in
+      let at : m.slots (suc i.0) ≡ side.0 = (slot_some m.slots (suc i.0) side.0 side.2).1 in
+      let same : side.1 ≡ chain = IsChainFrom-unique m.rows side.0 side.1 chain side.3 (subst (λ n. IsChainFrom m.rows n chain) at stood'.records) in
+      let here : h.0 ≡ pid = same_Some h.0 pid (sym side.4 ∙ ap right_in same ∙ right) in
+      subst (λ q. (phase_of (o.page q) ≡ removed) × (phase_of (f' q) ≡ merged)) here (ap phase_of h.2, put_phase o.page f' h.0 (Placed Merged h.1 merge.low) h.3)
+  moves_between pid from to (unterms slot unterm installs at) =
+      let h = (installed slot (Unterm unterm) installs).2 in
+      subst (λ q. (phase_of (o.page q) ≡ merged) × (phase_of (f' q) ≡ cleared)) at (ap phase_of h.1, put_phase o.page f' unterm.child (Cleared a h.0 unterm.separator) h.2)
+  moves_between pid from to (reuses b word bits answer step among) =
+      let e = step.1 in
+      let i : s ≡ ReusePids word bits = cc in
+      let h = subst (λ t. Phased a (shared m) t x o.page f') i ph in
+      let v = (h pid).0 among in
+      (ap phase_of v.3, ap phase_of v.4)
+
+  -- the slot of a removed page is emptied only when it is cleared
+  pub clears_cleared : (b pid old : ℕ) → Wins m last b pid old 0 link.Clear → phase_of (o.page pid) ≡ cleared
+  clears_cleared b pid old won = let e = won.0.1 in go pid old (cc) (cc) won.1
+    where
+      go : (pid old : ℕ) → s ≡ Exchange pid old 0 → x ≡ Whether true → link_of m pid old 0 ≡ Some link.Clear → phase_of (o.page pid) ≡ cleared
+      go zero old i j kind = absurd (let e : Some link.Root ≡ Some link.Clear = kind in cc)
+      go (suc p) zero i j kind = absurd (let e : Some link.Ready ≡ Some link.Clear = sym (link_ready m p 0) ∙ kind in cc)
+      go (suc p) (suc old) i j kind =
+          let h : Phased a (shared m) (Exchange (suc p) (suc old) zero) (Whether true) o.page f' = subst (λ y. Phased a (shared m) (Exchange (suc p) (suc old) zero) y o.page f') j (subst (λ t. Phased a (shared m) t x o.page f') i ph) in
+          let says : x ≡ Whether (eqb (m.slots (suc p)) (suc old)) = subst (λ t. IsAnswer m t x) i is in
+          let at : m.slots (suc p) ≡ suc old = eqb_true (m.slots (suc p)) (suc old) (cc (says, j)) in
+          elim h.1 [
+            | inl keeps ↦ elim (inhabited (suc p) (suc old) (ap row_in at)) [
+              | inl tree ↦ absurd (subst IsInTree keeps tree)
+              | inr ready ↦ absurd (clear_base ready.base (m.rows (suc old)) ready.stands (sym (link_empty m p old) ∙ kind))
+            ]
+            | inr out ↦ ap phase_of out.2
+          ]
+
+  -- the link of a record by the step
+  installs_now : (p old new : ℕ) (w : Record) → s ≡ Exchange (suc p) (suc old) (suc new) → x ≡ Whether true → m.rows (suc new) ≡ Some w → Installs m last (suc p) w
+  installs_now p old new w i j stands = (a, suc old, suc new, ((r, λ d. Step a (i d) (j d) r), link_front m p old new ∙ ap (option_map record_link) stands), stands)
+
+  -- a page whose phase is changed at one place
+  moved_at : (q pid : ℕ) (from to : PageOwner) → o.page q ≡ from → f' ≡ put o.page q to → Moves m last q (phase_of from) (phase_of to) → Moves m last pid (phase_of (o.page pid)) (phase_of (f' pid)) ⊎ (phase_of (f' pid) ≡ phase_of (o.page pid))
+  moved_at q pid from to was now moves = by_test pid q (λ t. Moves m last pid (phase_of (o.page pid)) (phase_of (f' pid)) ⊎ (phase_of (f' pid) ≡ phase_of (o.page pid)))
+      (λ i. inl (subst (λ n. Moves m last n (phase_of (o.page n)) (phase_of (f' n))) (sym i)
+      (subst (λ k. Moves m last q k (phase_of (f' q))) (sym (ap phase_of was)) (subst (λ k. Moves m last q (phase_of from) k) (sym (put_phase o.page f' q to now)) moves))))
+      (λ ne. inr (ap (λ (k : ℕ → PageOwner). phase_of (k pid)) now ∙ ap phase_of (put_other o.page q to pid ne)))
+
+  same_phase : (pid : ℕ) → f' ≡ o.page → Moves m last pid (phase_of (o.page pid)) (phase_of (f' pid)) ⊎ (phase_of (f' pid) ≡ phase_of (o.page pid))
+  same_phase pid e = inr (ap (λ (k : ℕ → PageOwner). phase_of (k pid)) e)
+
+  by_link : (p old new : ℕ) (w : Record) → s ≡ Exchange (suc p) (suc old) (suc new) → x ≡ Whether true → m.rows (suc new) ≡ Some w → LinkMoves (shared m) a w (suc p) o.page f' → (pid : ℕ) → Moves m last pid (phase_of (o.page pid)) (phase_of (f' pid)) ⊎ (phase_of (f' pid) ≡ phase_of (o.page pid))
+  by_link p old new (Base page) i j stands h pid = same_phase pid h
+  by_link p old new (Put put') i j stands h pid = same_phase pid h
+  by_link p old new (Delete delete) i j stands h pid = same_phase pid h
+  by_link p old new (Split split) i j stands h pid = moved_at split.page pid (Keeps a) (Placed Fresh h.1 split.separator) h.4 h.5 (splits (suc p) split (installs_now p old new (Split split) i j stands) refl)
+  by_link p old new (Term term) i j stands h pid = moved_at term.child pid (Placed Fresh h.0 term.separator) (Placed Indexed h.0 term.separator) h.1 h.2 (terms (suc p) term (installs_now p old new (Term term) i j stands) refl)
+  by_link p old new (Hold hold) i j stands h pid = moved_at hold.child pid (Placed Indexed h.0 hold.separator) (Placed Held h.0 hold.separator) h.1 h.2 (holds (suc p) hold (installs_now p old new (Hold hold) i j stands) refl)
+  by_link p old new (Remove remove) i j stands h pid = moved_at (suc p) pid (Placed Held h.0 h.1) (Placed Removed h.0 h.1) h.2 h.3 (removes remove (installs_now p old new (Remove remove) i j stands))
+  by_link p old new (Merge merge) i j stands h pid =
+      let side = h.4 in
+      let at = slot_some m.slots (suc p) side.0 side.2 in
+      moved_at h.0 pid (Placed Removed h.1 merge.low) (Placed Merged h.1 merge.low) h.2 h.3 (merges (suc p) merge side.1 (installs_now p old new (Merge merge) i j stands) (record { page = at.0; linked = subst (λ n. 0 < n) (sym at.1) at.2; records = subst (λ n. IsChainFrom m.rows n side.1) (sym at.1) side.3 }) side.4)
+  by_link p old new (Unterm unterm) i j stands h pid = moved_at unterm.child pid (Placed Merged h.0 unterm.separator) (Cleared a h.0 unterm.separator) h.1 h.2 (unterms (suc p) unterm (installs_now p old new (Unterm unterm) i j stands) refl)
+
+  by_root : (old y : ℕ) → s ≡ Exchange 0 old y → x ≡ Whether true → Phased a (shared m) (Exchange 0 old y) (Whether true) o.page f' → (pid : ℕ) → Moves m last pid (phase_of (o.page pid)) (phase_of (f' pid)) ⊎ (phase_of (f' pid) ≡ phase_of (o.page pid))
+  by_root old y i j h pid = by_test pid y (λ t. Moves m last pid (phase_of (o.page pid)) (phase_of (f' pid)) ⊎ (phase_of (f' pid) ≡ phase_of (o.page pid)))
+      (λ e. inl (subst (λ n. Moves m last n (phase_of (o.page n)) (phase_of (f' n))) (sym e)
+      (subst (λ k. Moves m last y k (phase_of (f' y))) (sym (ap phase_of h.5)) (subst (λ k. Moves m last y owned k) (sym (put_phase (put o.page h.0 (Placed Indexed h.1 h.2)) f' y (Placed Indexed (suc h.1) []) h.6)) (becomes_root makes)))))
+      (λ ne. by_test pid h.0 (λ t. Moves m last pid (phase_of (o.page pid)) (phase_of (f' pid)) ⊎ (phase_of (f' pid) ≡ phase_of (o.page pid)))
+      (λ e. inl (subst (λ n. Moves m last pid (phase_of n) (phase_of (f' pid))) (sym (ap o.page e ∙ h.4))
+      (subst (λ k. Moves m last pid fresh k) (sym (rest ne ∙ ap (λ n. phase_of (put o.page h.0 (Placed Indexed h.1 h.2) n)) e ∙ ap phase_of (put_same o.page h.0 (Placed Indexed h.1 h.2))))
+      (subst (λ n. Moves m last n fresh indexed) (sym e) under))))
+      (λ other. inr (rest ne ∙ ap phase_of (put_other o.page h.0 (Placed Indexed h.1 h.2) pid other))))
+    where
+      makes : MakesRoot m last y
+      makes = (a, old, ((r, λ d. Step a (i d) (j d) r), refl))
+
+      rest : pid ≢ y → phase_of (f' pid) ≡ phase_of (put o.page h.0 (Placed Indexed h.1 h.2) pid)
+      rest ne = ap (λ (k : ℕ → PageOwner). phase_of (k pid)) h.6 ∙ ap phase_of (put_other (put o.page h.0 (Placed Indexed h.1 h.2)) y (Placed Indexed (suc h.1) []) pid ne)
+
+      under : Moves m last h.0 fresh indexed
+      under =
+          let base = h.7 in
+          let at = slot_some m.slots y base.0 base.2 in
+          let own : IsChainOf m y (root_over base.1 old h.2 h.0 ∷ []) = record { page = at.0; linked = subst (λ n. 0 < n) (sym at.1) at.2; records = (ap m.rows at.1 ∙ base.3, refl) } in
+          under_root y (root_over base.1 old h.2 h.0 ∷ []) h.2 false makes own h.8 (at_second h.2 old h.0 h.8)
+
+  -- each PID is moved from phase to phase, or stays in its own
+  pub moves_or_rests : (pid : ℕ) → Moves m last pid (phase_of (o.page pid)) (phase_of (f' pid)) ⊎ (phase_of (f' pid) ≡ phase_of (o.page pid))
+  moves_or_rests pid = go s x refl refl may is ph
+    where
+      go : (t : StepOf Record) (y : Answer Record) → s ≡ t → x ≡ y → May a (knows a) t → IsAnswer m t y → Phased a (shared m) t y o.page f' → Moves m last pid (phase_of (o.page pid)) (phase_of (f' pid)) ⊎ (phase_of (f' pid) ≡ phase_of (o.page pid))
+      go (TakePid q) (Whether true) i j h e ph' =
+          let was : m.free_pids q ≡ true = cc in
+          moved_at q pid Nobody (Keeps a) (g.frees.page q was).0 ph' (takes a (r, λ d. Step a (i d) (j d) r))
+      go (TakePid q) (Whether false) i j h e ph' = same_phase pid ph'
+      go (Exchange zero old new) (Whether true) i j h e ph' = by_root old new i j ph' pid
+      go (Exchange (suc p) zero zero) (Whether true) i j h e ph' = absurd h.1
+      go (Exchange (suc p) zero (suc new)) (Whether true) i j h e ph' = same_phase pid ph'.0
+      go (Exchange (suc p) (suc old) zero) (Whether true) i j h e ph' = same_phase pid ph'.0
+      go (Exchange (suc p) (suc old) (suc new)) (Whether true) i j h e ph' = by_link p old new ph'.0 i j ph'.1 ph'.2 pid
+      go (Exchange p old new) (Whether false) i j h e ph' = same_phase pid ph'
+      go (Exchange p old new) (Number n) i j h e ph' = absurd (let f = e in cc)
+      go (Exchange p old new) (Content w) i j h e ph' = absurd (let f = e in cc)
+      go (Exchange p old new) Done i j h e ph' = absurd (let f = e in cc)
+      go (Exchange p old new) Start i j h e ph' = absurd (let f = e in cc)
+      go (TakePid q) (Number n) i j h e ph' = absurd (let f = e in cc)
+      go (TakePid q) (Content w) i j h e ph' = absurd (let f = e in cc)
+      go (TakePid q) Done i j h e ph' = absurd (let f = e in cc)
+      go (TakePid q) Start i j h e ph' = absurd (let f = e in cc)
+      go (ReusePids word bits) y i j h e ph' = by_word (is_among word bits pid) refl
+        where
+          by_word : (z : Bool) → is_among word bits pid ≡ z → Moves m last pid (phase_of (o.page pid)) (phase_of (f' pid)) ⊎ (phase_of (f' pid) ≡ phase_of (o.page pid))
+          by_word true k = let v = (ph' pid).0 k in inl (subst (λ z. Moves m last pid z (phase_of (f' pid))) (sym (ap phase_of v.3)) (subst (λ z. Moves m last pid cleared z) (sym (ap phase_of v.4)) (reuses a word bits y (r, λ d. Step a (i d) (j d) r) k)))
+          by_word false k = inr (ap phase_of ((ph' pid).1 k))
+      go t y i j h e ph' = same_phase pid ph'

@@ -1,0 +1,201 @@
+-- A mark set later, at an own step at which the command makes no update: each log stays.
+use Rattle.std.proofs.Common.{◌≡◌, ◌≢◌, ◌<◌, ◌≤◌, ◌⊎◌, inl, inr, ℕ, zero, suc, List, [], ◌∷◌, ◌++◌, length, take, set, Option, Some, None, Bool, true, false, refl, sym, ap, ◌∙◌, subst, arith}
+use Rattle.std.specs.Prelude.{slice_get, MatchOption}
+use Rattle.std.proofs.lemmas.Bool.{cases_lt}
+use Rattle.bw_model.specs.declared.command.Command.{Command}
+use Rattle.bw_model.specs.declared.command.Reply.{Reply}
+use Rattle.bw_model.specs.declared.limits.Limits.{Limits}
+use Rattle.bw_model.specs.Log.{Update, value_in}
+use Rattle.bw_model.specs.Replies.{command_key, update_of}
+use Rattle.chain_search.specs.declared.trace.Entry.{Entry}
+use Rattle.chain_search.specs.declared.trace.Entry.TheVariants.{Begin, Step}
+use Rattle.chain_search.specs.Trace.{command_of}
+use Rattle.chain_search.proofs.Pushes.{slice_get_below}
+use Rattle.op_machine.specs.Operations.{Operation, IsOperation, IsOwnStep, Finishes}
+use Rattle.op_machine.specs.Points.{IsPoint, log_of, log_at, updates_at}
+use Rattle.op_machine.specs.Quiet.{IsQuiet}
+use Rattle.op_machine.specs.Updates.{UpdatesAtLinks}
+use Rattle.op_machine.proofs.LogLaws.{log_of-marked, log_at-step}
+use Rattle.op_machine.proofs.Listed.{same_operation}
+use Rattle.tree_law.specs.Owners.{Among}
+use Rattle.tree_law.specs.State.{operation_of, Tells, IsMarked}
+use Rattle.tree_law.proofs.shape.Puts.{by_test}
+
+set_length : {X : Type 0} (xs : List X) (i : ℕ) (x : X) → length (set xs i x) ≡ length xs
+set_length [] i x = refl
+set_length (z ∷ xs) zero x = refl
+set_length (z ∷ xs) (suc i) x = ap suc (set_length xs i x)
+
+get_set_same : {X : Type 0} (xs : List X) (m : ℕ) (x : X) → m < length xs → slice_get (set xs m x) m ≡ Some x
+get_set_same [] m x lt = absurd (omega arith)
+get_set_same (y ∷ xs) zero x lt = refl
+get_set_same (y ∷ xs) (suc m) x lt = get_set_same xs m x (omega arith)
+
+get_set_other : {X : Type 0} (xs : List X) (m : ℕ) (x : X) (n : ℕ) → n ≢ m → slice_get (set xs m x) n ≡ slice_get xs n
+get_set_other [] m x n ne = refl
+get_set_other (y ∷ xs) zero x zero ne = absurd (ne refl)
+get_set_other (y ∷ xs) zero x (suc n) ne = refl
+get_set_other (y ∷ xs) (suc m) x zero ne = refl
+get_set_other (y ∷ xs) (suc m) x (suc n) ne = get_set_other xs m x n (λ e. ne (ap suc e))
+
+take_set_below : {X : Type 0} (xs : List X) (m : ℕ) (x : X) (n : ℕ) → n ≤ m → take n (set xs m x) ≡ take n xs
+take_set_below xs m x zero le = refl
+take_set_below [] m x (suc n) le = refl
+take_set_below (y ∷ xs) zero x (suc n) le = absurd (omega arith)
+take_set_below (y ∷ xs) (suc m) x (suc n) le = ap (λ rest. y ∷ rest) (take_set_below xs m x n (omega arith))
+
+take_set_above : {X : Type 0} (xs : List X) (m : ℕ) (x : X) (n : ℕ) → m < n → take n (set xs m x) ≡ set (take n xs) m x
+take_set_above xs m x zero lt = absurd (omega arith)
+take_set_above [] m x (suc n) lt = refl
+take_set_above (y ∷ xs) zero x (suc n) lt = refl
+take_set_above (y ∷ xs) (suc m) x (suc n) lt = ap (λ rest. y ∷ rest) (take_set_above xs m x n (omega arith))
+
+take_take : {X : Type 0} (xs : List X) (m n : ℕ) → m ≤ n → take m (take n xs) ≡ take m xs
+take_take xs zero n le = refl
+take_take xs (suc m) zero le = absurd (omega arith)
+take_take [] (suc m) (suc n) le = refl
+take_take (x ∷ xs) (suc m) (suc n) le = ap (λ rest. x ∷ rest) (take_take xs m n (omega arith))
+
+get_take : {X : Type 0} (xs : List X) (m n : ℕ) → m < n → slice_get (take n xs) m ≡ slice_get xs m
+get_take xs m zero lt = absurd (omega arith)
+get_take [] m (suc n) lt = refl
+get_take (x ∷ xs) zero (suc n) lt = refl
+get_take (x ∷ xs) (suc m) (suc n) lt = get_take xs m n (omega arith)
+
+unmarked : (points : List Bool) (m : ℕ) → m < length points → (IsPoint points m → ⊥) → slice_get points m ≡ Some false
+unmarked [] m lt never = absurd (omega arith)
+unmarked (true ∷ points) zero lt never = absurd (never refl)
+unmarked (false ∷ points) zero lt never = refl
+unmarked (p ∷ points) (suc m) lt never = unmarked points m (omega arith) never
+
+-- a step is one operation's own
+pub own_same : (entries : List Entry) (p q : Operation) (m : ℕ) → IsOperation entries p → IsOperation entries q → IsOwnStep entries p m → IsOwnStep entries q m → p ≡ q
+own_same entries p q m is is' own own' =
+    let h = own.2.1 in
+    let h' = own'.2.1 in
+    let actors : p.actor ≡ q.actor = cc (h.entry, h'.entry) in
+    let starts : p.start ≡ q.start = elim (cases_lt p.start q.start) [
+      | inl lt ↦ absurd (h.not_ended q.start q.command lt h'.begun (rw actors is'))
+      | inr le ↦ elim (cases_lt q.start p.start) [ inl lt ↦ absurd (h'.not_ended p.start p.command lt h.begun (rw (sym actors) is)) | inr ge ↦ omega arith ]
+    ] in
+    same_operation p q starts actors (let e : slice_get entries p.start ≡ Some (Begin q.actor q.command) = rw starts is' in cc (is, e))
+
+module _ (limits : Limits) (entries : List Entry) (points : List Bool) (a : ℕ) (asked : Command) (logs : List (List Update)) (marked : IsMarked limits entries points) (t : Tells entries points a asked None logs)
+    (l : List Update) (among : Among l logs) (none : update_of a asked (value_in l (command_key asked)) ≡ None) where
+  abbrev at : (m : ℕ) × IsOwnStep entries (operation_of t.start a asked) m × (log_at entries points m ≡ l) × (command_of (take m entries) a ≡ Some asked)
+  at = t.logs_at l among
+
+  abbrev pub remarked : List Bool
+  remarked = set points at.0 true
+
+  below : at.0 < length points
+  below = let lt : at.0 < length entries = slice_get_below entries at.0 _ at.1.2.1.entry in let b = marked.beside in omega arith
+
+  was_unmarked : slice_get points at.0 ≡ Some false
+  was_unmarked = unmarked points at.0 below (t.point_at at.0 at.1)
+
+  no_update : updates_at (take at.0 entries) (Step a at.1.0 at.1.1 at.1.2.0) (log_at entries points at.0) ≡ []
+  no_update = rw (at.3, at.2, none) refl
+
+  pub log_of_same : log_of entries remarked ≡ log_of entries points
+  log_of_same = log_of-marked entries points at.0 _ at.1.2.1.entry was_unmarked no_update
+
+  pub log_at_same : (n : ℕ) → log_at entries remarked n ≡ log_at entries points n
+  log_at_same n = elim (cases_lt at.0 n) [
+    | inl lt ↦ rw (take_set_above points at.0 true n lt)
+        (log_of-marked (take n entries) (take n points) at.0 (Step a at.1.0 at.1.1 at.1.2.0) (get_take entries at.0 n lt ∙ at.1.2.1.entry) (get_take points at.0 n lt ∙ was_unmarked)
+        (rw (take_take entries at.0 n (omega arith), take_take points at.0 n (omega arith)) no_update))
+    | inr le ↦ rw (take_set_below points at.0 true n le) refl
+  ]
+
+  pub beside' : length remarked ≡ length entries
+  beside' = set_length points at.0 true ∙ marked.beside
+
+  point_kept : (n : ℕ) → IsPoint points n → IsPoint remarked n
+  point_kept n p = by_test n at.0 (λ b. IsPoint remarked n) (λ e. subst (IsPoint remarked) (sym e) (get_set_same points at.0 true below)) (λ ne. get_set_other points at.0 true n ne ∙ p)
+
+  point_cases : (n : ℕ) → IsPoint remarked n → (n ≡ at.0) ⊎ IsPoint points n
+  point_cases n p = by_test n at.0 (λ b. (n ≡ at.0) ⊎ IsPoint points n) (λ e. inl e) (λ ne. inr (sym (get_set_other points at.0 true n ne) ∙ p))
+
+  -- no own step of the operation was marked
+  alone : (op : Operation) (i j : ℕ) → IsOperation entries op → IsOwnStep entries op i → i ≡ at.0 → IsOwnStep entries op j → IsPoint points j → ⊥
+  alone op i j is own e own' p =
+      let own_at : IsOwnStep entries op at.0 = subst (IsOwnStep entries op) e own in
+      let same : op ≡ operation_of t.start a asked = own_same entries op (operation_of t.start a asked) at.0 is t.begins own_at at.1 in
+      t.point_at j (subst (λ o. IsOwnStep entries o j) same own') p
+
+  pub marked' : ((n : ℕ) (reply : Reply) → Finishes entries (operation_of t.start a asked) n reply → ⊥) → IsMarked limits entries remarked
+  marked' unfinished = record {
+    beside = beside';
+    own = λ n p. elim (point_cases n p) [ inl e ↦ (operation_of t.start a asked, t.begins, subst (IsOwnStep entries (operation_of t.start a asked)) (sym e) at.1) | inr p' ↦ marked.own n p' ];
+    one = λ op i j is oi oj pi pj. elim (point_cases i pi) [
+      | inl ei ↦ elim (point_cases j pj) [ inl ej ↦ ei ∙ sym ej | inr pj' ↦ absurd (alone op i j is oi ei oj pj') ]
+      | inr pi' ↦ elim (point_cases j pj) [ inl ej ↦ absurd (alone op j i is oj ej oi pi') | inr pj' ↦ marked.one op i j is oi oj pi' pj' ]
+    ];
+    answered = λ op n reply is ends. elim (marked.answered op n reply is ends) [
+      | inl h ↦ inl (h.0, h.1, point_kept h.0 h.2, rw (log_at_same h.0) h.3)
+      | inr h ↦ inr (
+        h.0,
+        record {
+          old = h.1.old;
+          update = h.1.update;
+          writes = h.1.writes;
+          unmarked = λ m own p. elim (point_cases m p) [
+            | inl e ↦
+                let same : op ≡ operation_of t.start a asked = own_same entries op (operation_of t.start a asked) at.0 is t.begins (subst (IsOwnStep entries op) e own) at.1 in
+                unfinished n reply (subst (λ o. Finishes entries o n reply) same ends)
+            | inr p' ↦ h.1.unmarked m own p'
+          ];
+          finds = h.1.finds;
+        },
+      )
+    ];
+  }
+
+  logs_told : (b : ℕ) (c : Command) (start : ℕ) (k : List Update) → ((m : ℕ) × IsOwnStep entries (operation_of start b c) m × (log_at entries points m ≡ k) × (command_of (take m entries) b ≡ Some c))
+      → (m : ℕ) × IsOwnStep entries (operation_of start b c) m × (log_at entries remarked m ≡ k) × (command_of (take m entries) b ≡ Some c)
+  logs_told b c start k h = (h.0, h.1, log_at_same h.0 ∙ h.2, h.3)
+
+  -- now its point is told
+  pub told : Tells entries remarked a asked (Some l) logs
+  told = record {
+    start = t.start;
+    begins = t.begins;
+    unended = t.unended;
+    logs_at = λ k h. logs_told a asked t.start k (t.logs_at k h);
+    point_at = (at.0, at.1, get_set_same points at.0 true below, log_at_same at.0 ∙ at.2);
+  }
+
+  pub told_other : (b : ℕ) (c : Command) (point : Option (List Update)) (logs' : List (List Update)) → b ≢ a → Tells entries points b c point logs' → Tells entries remarked b c point logs'
+  told_other b c point logs' ne u = record {
+    start = u.start;
+    begins = u.begins;
+    unended = u.unended;
+    logs_at = λ k h. logs_told b c u.start k (u.logs_at k h);
+    point_at = go point u.point_at;
+  }
+    where
+      go : (o : Option (List Update)) → MatchOption o ((m : ℕ) → IsOwnStep entries (operation_of u.start b c) m → IsPoint points m → ⊥) (λ k. (m : ℕ) × IsOwnStep entries (operation_of u.start b c) m × IsPoint points m × (log_at entries points m ≡ k))
+          → MatchOption o ((m : ℕ) → IsOwnStep entries (operation_of u.start b c) m → IsPoint remarked m → ⊥) (λ k. (m : ℕ) × IsOwnStep entries (operation_of u.start b c) m × IsPoint remarked m × (log_at entries remarked m ≡ k))
+      go None h = λ m own p. elim (point_cases m p) [
+        | inl e ↦ let e1 = (subst (IsOwnStep entries (operation_of u.start b c)) e own).2.1.entry in let e2 = at.1.2.1.entry in absurd (ne (cc (e1, e2)))
+        | inr p' ↦ h m own p'
+      ]
+      go (Some k) h = (h.0, h.1, point_kept h.0 h.2, log_at_same h.0 ∙ h.3)
+
+  pub quiet' : IsQuiet limits entries points → IsQuiet limits entries remarked
+  quiet' q = record { at_each = λ n le. rw (log_at_same n) (q.at_each n le) }
+
+  -- the later mark makes no update, so updates are where they were
+  pub updates' : UpdatesAtLinks limits entries points → UpdatesAtLinks limits entries remarked
+  updates' old n = (
+    λ h. elim (point_cases n h.0) [
+      | inl here ↦ absurd (longer (log_at entries points at.0) h.1.0 (sym (log_at-step entries points at.0 _ false marked.beside at.1.2.1.entry was_unmarked) ∙ ap (log_at entries points) (ap suc (sym here)) ∙ sym (log_at_same (suc n)) ∙ h.1.1 ∙ ap (λ l. l ++ h.1.0 ∷ []) (log_at_same n ∙ ap (log_at entries points) here)))
+      | inr was ↦ (old n).0 (was, (h.1.0, sym (log_at_same (suc n)) ∙ h.1.1 ∙ ap (λ l. l ++ h.1.0 ∷ []) (log_at_same n)))
+    ],
+    λ h. let was = (old n).1 h in (point_kept n was.0, (was.1.0, log_at_same (suc n) ∙ was.1.1 ∙ ap (λ l. l ++ was.1.0 ∷ []) (sym (log_at_same n)))),
+  )
+    where
+      longer : (l : List Update) (u : Update) → l ≡ l ++ u ∷ [] → ⊥
+      longer [] u e = cc
+      longer (v ∷ l) u e = longer l u (let f : ◌≡◌ {A = List Update} (v ∷ l) (v ∷ (l ++ u ∷ [])) = e in cc)

@@ -1,0 +1,28 @@
+-- In a trace in which each actor obeys its discipline, the state stands after each entry.
+use Rattle.std.proofs.Common.{List, [], ◌∷◌, ◌++◌, subst, append_assoc}
+use Rattle.std.specs.Prelude.{map}
+use Rattle.std.proofs.lemmas.List.{append-nil}
+use Rattle.bw_model.specs.declared.limits.Limits.{Limits}
+use Rattle.chain_search.specs.declared.trace.Entry.{Entry}
+use Rattle.chain_search.specs.declared.trace.Entry.TheVariants.{Begin, Step}
+use Rattle.chain_search.specs.Disciplined.{MayStand, IsDisciplinedFrom, IsDisciplined}
+use Rattle.chain_search.specs.Trace.{turn_of}
+use Rattle.op_machine.specs.Linearized.{IsLinearized}
+use Rattle.tree_law.specs.State.{IsState}
+use Rattle.tree_law.specs.TraceLaws.{DisciplinedRuns}
+use Rattle.tree_law.proofs.trace.Beginning.{opens, begins}
+use Rattle.tree_law.proofs.trace.Steps.{steps, is_one_map}
+
+one_more : (limits : Limits) (before : List Entry) (entry : Entry) → IsState limits before → MayStand limits before entry → IsState limits (before ++ entry ∷ [])
+one_more limits before (Begin actor command) state may = begins limits before actor command state may.0 may.1
+one_more limits before (Step actor step answer reply) state may = steps limits before actor step answer reply state may.0 may.1 may.2
+
+pub state_along : (limits : Limits) (before entries : List Entry) → IsState limits before → IsDisciplinedFrom limits before entries → IsState limits (before ++ entries)
+state_along limits before [] state h = rw append-nil state
+state_along limits before (entry ∷ entries) state h = subst (IsState limits) (append_assoc before (entry ∷ []) entries) (state_along limits (before ++ entry ∷ []) entries (one_more limits before entry state h.0) h.1)
+
+pub disciplined : DisciplinedRuns
+disciplined limits entries h = state_along limits [] entries (opens limits) h
+
+pub linearized : (limits : Limits) (entries : List Entry) → IsDisciplined limits entries → IsLinearized limits (map turn_of entries) entries
+linearized limits entries h = is_one_map limits entries (disciplined limits entries h)

@@ -1,0 +1,520 @@
+-- A step keeps a state, and a state is linearized.
+use Rattle.std.proofs.Common.{◌≡◌, ◌≢◌, ◌<◌, inl, inr, ℕ, zero, suc, List, [], ◌∷◌, ◌++◌, length, Option, Some, None, Bool, true, false, cond, ◌⊎◌, refl, sym, ap, ◌∙◌, subst, arith}
+use Rattle.std.specs.Prelude.{IsSome, IfSome, MatchOption, slice_get, IsTrue, IsFalse, ◌↔◌}
+use Rattle.std.specs.Option.{option_to_list}
+use Rattle.std.proofs.lemmas.Option.{same_Some}
+use Rattle.bw_model.specs.declared.command.Command.{Command}
+use Rattle.bw_model.specs.declared.command.Command.TheVariants.{Get, Insert, Upsert, Delete}
+use Rattle.bw_model.specs.declared.command.Reply.{Reply}
+use Rattle.bw_model.specs.declared.command.Reply.TheVariants as reply
+use Rattle.bw_model.specs.declared.limits.Limits.{Limits}
+use Rattle.bw_model.specs.declared.step.Answer.{Answer}
+use Rattle.bw_model.specs.declared.step.Answer.TheVariants.{Number}
+use Rattle.bw_model.specs.declared.step.Step.{Step as StepOf}
+use Rattle.bw_model.specs.declared.step.Step.TheVariants.{Slot, Row, Epoch, Announce, PidBits, RowBits, Place, Exchange, TakePid, TakeRow, Enter, Leave, Retire, ReusePids, ReuseRows}
+use Rattle.bw_model.specs.Log.{Update, value_in}
+use Rattle.bw_model.specs.Replies.{command_key, reply_of, update_of}
+use Rattle.deltas.specs.declared.record.Record.{Record}
+use Rattle.deltas.specs.Memory.{Memory}
+use Rattle.chain_search.specs.Chains.{IsChainFrom, IsChainOf}
+use Rattle.chain_search.specs.declared.trace.Entry.{Entry}
+use Rattle.chain_search.specs.declared.trace.Entry.TheVariants.{Begin, Step}
+use Rattle.chain_search.specs.Steps.{IsAnswer, memory_after}
+use Rattle.chain_search.specs.Trace.{memory_of, command_of, commands_after}
+use Rattle.chain_search.proofs.Pushes.{slice_get-push_cases, slice_get_kept}
+use Rattle.chain_search.proofs.TraceLaws.{memory_of-push, command_of-push}
+use Rattle.chain_search.proofs.RunLaws.{IsRun-push}
+use Rattle.op_machine.specs.Answered.{IsTrueReply, is_writer}
+use Rattle.op_machine.specs.Updates.{LinksUpdate, UpdatesAtLinks}
+use Rattle.op_machine.specs.Operations.{Operation, IsOperation, IsOwnStep, Finishes}
+use Rattle.op_machine.specs.Phases.{Phase, Moves, IsInPhase}
+use Rattle.op_machine.specs.Points.{IsPoint, log_of, log_at, updates_by, has_point}
+use Rattle.op_machine.specs.Quiet.{IsQuiet}
+use Rattle.op_machine.proofs.Listed.{same_operation}
+use Rattle.op_machine.proofs.LogLaws.{log_of-push}
+use Rattle.chain_search.specs.Discipline.{May, MayAnswer, MayGiveUp, MayReply, IsAllowed}
+use Rattle.chain_search.specs.Knowledge.{Knowledge, learn, finished, knows}
+use Rattle.tree_law.specs.Next.{IsReuse, IsDue, grown, pointed as pointed', After}
+use Rattle.tree_law.specs.Owners.{SeenFits, HeadFits, LinkFits}
+use Rattle.tree_law.specs.Put.{put}
+use Rattle.tree_law.specs.Replies.{IsRepliedAt}
+use Rattle.tree_law.specs.Shared.{slot_in, shared}
+use Rattle.tree_law.specs.State.{phase_of, IsInTree, IsReadyPage, IsUnended, operation_of, Tells, IsSearch, IsAnsweredBy, IsMarked, IsState}
+use Rattle.tree_law.specs.TraceLaws.{StatesAreIndexed, StatesAreLinearized, StatesFreeByRule, StatesKeepPhases, Steps}
+use Rattle.tree_law.specs.Times.{Times, Timed, times_after}
+use Rattle.tree_law.specs.Tree.{IsTree}
+use Rattle.tree_law.proofs.epochs.Freeing.{t1, t2, rows_after, rows_timed, pages_after, pages_timed}
+use Rattle.tree_law.proofs.epochs.Reused.{rows_numbers, rows_held, pages_numbers, pages_held}
+use Rattle.tree_law.proofs.epochs.Timewise.{timed_step}
+use Rattle.tree_law.proofs.epochs.Allowed.{after_of}
+use Rattle.tree_law.proofs.answering.Answering.{answers}
+use Rattle.tree_law.proofs.trace.Beginning.{knows-push}
+use Rattle.tree_law.specs.Indexed.{IsFirst}
+use Rattle.tree_law.specs.Phase.{Indexed}
+use Rattle.tree_law.proofs.shape.Exactness.{is_indexed, root_indexed}
+use Rattle.tree_law.proofs.shape.Firsts.{first_stays, grows}
+use Rattle.tree_law.proofs.trace.Roots.{learns_root}
+use Rattle.tree_law.proofs.shape.Fitness.{fitted_after}
+use Rattle.tree_law.proofs.epochs.Handed.{rows_in_limbo, pids_in_limbo, freed_after}
+use Rattle.tree_law.proofs.links.Keeping.{slot_of, met_placed}
+use Rattle.tree_law.proofs.shape.Levels.{indexed_push}
+use Rattle.tree_law.proofs.shape.Mapping.{slot_some, map_of}
+use Rattle.tree_law.proofs.trace.Lives.{only_after, pid_below_after, steps_in_phase, steps_phases}
+use Rattle.tree_law.proofs.links.UpdateLinks.{update_links, link_updates}
+use Rattle.tree_law.proofs.trace.Updates.{UpdatesNow, updates_push}
+use Rattle.tree_law.proofs.trace.Marks.{marked_push, tells_other, tells_own, quiet_push}
+use Rattle.tree_law.proofs.trace.Names.{number_same, slot_none, faithful_push, Numbers, calm_numbers, named_steps, reads_known, touches_outside, may_take}
+use Rattle.tree_law.proofs.trace.Owned.{pushed_length, same_start, own_new}
+use Rattle.tree_law.proofs.trace.Phasing.{moves_between, clears_cleared, moves_or_rests}
+use Rattle.tree_law.proofs.shape.Puts.{by_test, put_same, put_other}
+use Rattle.tree_law.proofs.trace.Remark.{own_same, remarked, log_of_same, marked', told, told_other, updates', quiet'}
+use Rattle.tree_law.proofs.shape.Rows.{rows_kept}
+use Rattle.tree_law.proofs.trace.Searches.{search_other, search_own, lacks}
+use Rattle.tree_law.proofs.trace.Slots.{held_after}
+use Rattle.tree_law.proofs.links.Stepping.{step as one_step}
+
+abbrev is_update : Option Update → Bool
+is_update None = false
+is_update (Some u) = true
+
+-- Why a reply is right, by the actor's point: it is that of the command at the point's log, or a Full without a point.
+abbrev Reasons : Limits → ℕ → Knowledge → Command → Option (List Update) → Reply → Type 0
+Reasons limits a k asked point answer = ((l : List Update) × (point ≡ Some l) × (reply_of asked (value_in l (command_key asked)) ≡ Some answer)) ⊎ ((answer ≡ reply.Full) × (point ≡ None) × MayGiveUp limits a k asked answer)
+
+-- The points before a step that may reply: where it does, the reply is that of the actor's mark.
+record Settled (limits : Limits) (entries : List Entry) (log : List Update) (point : ℕ → Option (List Update)) (logs : ℕ → List (List Update)) (a : ℕ) (asked : Command) (r : Option Reply) : Type 0 where
+  points : List Bool
+  log_is : log_of entries points ≡ log
+  marked : IsMarked limits entries points
+  updates : UpdatesAtLinks limits entries points
+  quiet : IsQuiet limits entries points
+  own_point : Option (List Update)
+  mine : Tells entries points a asked own_point (logs a)
+  others : (b : ℕ) (c : Command) → b ≢ a → command_of entries b ≡ Some c → Tells entries points b c (point b) (logs b)
+  quietly : r ≡ None → own_point ≡ point a
+  replied : (reply : Reply) → r ≡ Some reply → Reasons limits a (knows entries a) asked own_point reply
+
+module _ (limits : Limits) (entries : List Entry) (a : ℕ) (asked : Command) (state : IsState limits entries) (asks : command_of entries a ≡ Some asked) where
+  -- where the points stay
+  as_they_are : (r : Option Reply) → ((reply : Reply) → r ≡ Some reply → Reasons limits a (knows entries a) asked (state.point a) reply) → Settled limits entries (log_of entries state.points) state.point state.logs a asked r
+  as_they_are r replied = record {
+    points = state.points;
+    log_is = refl;
+    marked = state.marked;
+    updates = state.updates;
+    quiet = state.quiet;
+    own_point = state.point a;
+    mine = state.tells a asked asks;
+    others = λ b c ne e. state.tells b c e;
+    quietly = λ e. refl;
+    replied = replied;
+  }
+
+  no_point : (knows entries a).asked.linked ≡ None → state.point a ≡ None
+  no_point e = subst (λ (v : Option (Option ℕ)). LinkFits state.owners (shared (memory_of limits entries)) (state.point a) v) e (state.good.sound a).linked_fits
+
+  by_value : (reply : Reply) → MayAnswer a (knows entries a) asked reply → Settled limits entries (log_of entries state.points) state.point state.logs a asked (Some reply)
+  by_value reply may = elim at.own [
+    | inl linked ↦ as_they_are (Some reply) (λ y e. inl (at.at, linked, at.same ∙ e))
+    | inr u ↦
+        let t : Tells entries state.points a asked None (state.logs a) = subst (λ o. Tells entries state.points a asked o (state.logs a)) u.0 (state.tells a asked asks) in
+        record {
+          points = remarked limits entries state.points a asked (state.logs a) state.marked t at.at u.2 u.1;
+          log_is = log_of_same limits entries state.points a asked (state.logs a) state.marked t at.at u.2 u.1;
+          marked = marked' limits entries state.points a asked (state.logs a) state.marked t at.at u.2 u.1 (state.searches (operation_of t.start a asked) t.begins t.unended asks).unfinished;
+          updates = updates' limits entries state.points a asked (state.logs a) state.marked t at.at u.2 u.1 state.updates;
+          quiet = quiet' limits entries state.points a asked (state.logs a) state.marked t at.at u.2 u.1 state.quiet;
+          own_point = Some at.at;
+          mine = told limits entries state.points a asked (state.logs a) state.marked t at.at u.2 u.1;
+          others = λ b c ne e. told_other limits entries state.points a asked (state.logs a) state.marked t at.at u.2 u.1 b c (state.point b) (state.logs b) ne (state.tells b c e);
+          quietly = λ e. absurd (cc);
+          replied = λ y e. inl (at.at, refl, at.same ∙ e);
+        }
+  ]
+    where
+      at : IsRepliedAt a asked reply (state.point a) (state.logs a)
+      at = answers state.good a asked reply may
+
+  same_asked : (c : Command) → (knows entries a).asked.command ≡ Some c → c ≡ asked
+  same_asked c going = same_Some c asked (sym going ∙ state.named.commands a ∙ asks)
+
+  settled : (r : Option Reply) → IfSome r (MayReply limits a (knows entries a)) → Settled limits entries (log_of entries state.points) state.point state.logs a asked r
+  settled None may = as_they_are None (λ reply e. absurd (cc))
+  settled (Some reply) may = elim may.justified [
+    | inl value ↦ by_value reply (subst (λ c. MayAnswer a (knows entries a) c reply) (same_asked may.command may.going) value)
+    | inr full ↦
+        let full' = subst (λ c. MayGiveUp limits a (knows entries a) c reply) (same_asked may.command may.going) full in
+        as_they_are (Some reply) (λ y e. let same : reply ≡ y = cc in inr (sym same ∙ full'.is, no_point full'.unlinked, subst (λ z. MayGiveUp limits a (knows entries a) asked z) same full'))
+  ]
+
+module _ (limits : Limits) (entries : List Entry) (a : ℕ) (step : StepOf Record) (answer : Answer Record) (r : Option Reply) (asked : Command) (state : IsState limits entries) (asks : command_of entries a ≡ Some asked)
+    (allowed : IsAllowed limits a (knows entries a) step r) (is : IsAnswer (memory_of limits entries) step answer)
+    (n : After a (shared (memory_of limits entries)) (shared (memory_after a step (memory_of limits entries))) (log_of entries state.points) state.owners (knows entries) state.point state.logs step answer r)
+    (numbers : Numbers limits entries state.owners (memory_of limits entries) (knows entries) (log_of entries state.points) state.point state.logs state.good state.named a step answer r allowed.may is n.owners)
+    (held' : (p q : ℕ) → slot_in (memory_after a step (memory_of limits entries)).slots p ≡ Some q → IsInTree (n.owners.page p) ⊎ IsReadyPage n.owners (memory_after a step (memory_of limits entries)) (put (knows entries) a (finished (learn (knows entries a) step answer) r)) p q)
+    (times' : Times) (timed' : Timed limits (memory_after a step (memory_of limits entries)) n.owners (put (knows entries) a (finished (learn (knows entries a) step answer) r)) (suc (length entries)) times')
+    (z : Settled limits entries (log_of entries state.points) state.point state.logs a asked r) where
+  abbrev last : Entry
+  last = Step a step answer r
+
+  abbrev mark : Bool
+  mark = is_update n.update
+
+  -- a step with a reply is no point
+  unpointed : (reply : Reply) → r ≡ Some reply → mark ≡ false
+  unpointed reply e = ap is_update (n.last (subst (λ o. IfSome o (λ y. (step ≡ Leave) × MayReply limits a (knows entries a) y)) e allowed.replied).0)
+
+  -- an update is its operation's first
+  alone : mark ≡ true → state.point a ≡ None
+  alone = go n.update n.due
+    where
+      go : (u : Option Update) → IfSome u (IsDue a (knows entries a) (log_of entries state.points)) → is_update u ≡ true → state.point a ≡ None
+      go None due e = absurd (cc)
+      go (Some u) due e = no_point limits entries a asked state asks due.2
+
+  -- a step that is a point has no reply, and its operation had no point
+  pointed : mark ≡ true → z.own_point ≡ None
+  pointed e = go r refl
+    where
+      go : (o : Option Reply) → r ≡ o → z.own_point ≡ None
+      go None i = z.quietly i ∙ alone e
+      go (Some reply) i = let f = unpointed reply i in absurd (cc)
+
+  is_mine : (op : Operation) → IsOperation entries op → op.actor ≡ a → IsUnended entries op.start op.actor → op ≡ operation_of z.mine.start a asked
+  is_mine op begun actor unended =
+      let begun' : slice_get entries op.start ≡ Some (Begin a op.command) = subst (λ b. slice_get entries op.start ≡ Some (Begin b op.command)) actor begun in
+      let start : op.start ≡ z.mine.start = same_start entries op.start z.mine.start a op.command asked begun' z.mine.begins (subst (IsUnended entries op.start) actor unended) z.mine.unended in
+      let there : slice_get entries z.mine.start ≡ Some (Begin a op.command) = subst (λ s. slice_get entries s ≡ Some (Begin a op.command)) start begun' in
+      let b = z.mine.begins in
+      same_operation op (operation_of z.mine.start a asked) start actor (cc (there, b))
+
+  recent_stands : (q : ℕ) (w : Record) → (knows entries a).read.recent q ≡ Some w → (memory_of limits entries).rows q ≡ Some w
+  recent_stands q w e = (subst (λ (v : Option Record). SeenFits (state.owners.row q) ((memory_of limits entries).rows q) v) (state.named.recent a q w e) ((state.good.sound a).seen_fits q)).1
+
+  justified : (op : Operation) (reply : Reply) → IsOperation entries op → op.actor ≡ a → IsUnended entries op.start op.actor → r ≡ Some reply → IsAnsweredBy limits entries z.points op reply
+  justified op reply begun actor unended e = subst (λ o. IsAnsweredBy limits entries z.points o reply) (sym (is_mine op begun actor unended)) (elim (z.replied reply e) [
+    | inl h ↦
+        let p = subst (λ o. MatchOption o ((m : ℕ) → IsOwnStep entries (operation_of z.mine.start a asked) m → IsPoint z.points m → ⊥) (λ l. (m : ℕ) × IsOwnStep entries (operation_of z.mine.start a asked) m × IsPoint z.points m × (log_at entries z.points m ≡ l))) h.1 z.mine.point_at in
+        inl (p.0, p.1, p.2, subst (λ l. reply_of asked (value_in l (command_key asked)) ≡ Some reply) (sym p.3) h.2)
+    | inr h ↦
+        inr (
+          h.0,
+          record {
+            old = h.2.old;
+            update = h.2.update;
+            writes = h.2.writes;
+            unmarked = subst (λ o. MatchOption o ((m : ℕ) → IsOwnStep entries (operation_of z.mine.start a asked) m → IsPoint z.points m → ⊥) (λ l. (m : ℕ) × IsOwnStep entries (operation_of z.mine.start a asked) m × IsPoint z.points m × (log_at entries z.points m ≡ l))) h.1 z.mine.point_at;
+            finds = lacks limits entries (operation_of z.mine.start a asked) (memory_of limits entries).rows (knows entries a) recent_stands (state.searches (operation_of z.mine.start a asked) z.mine.begins z.mine.unended asks) h.2.lacks;
+          },
+        )
+  ])
+
+  -- what the step adds to the log is what its operation's command makes there
+  logged : cond mark (log_of entries state.points ++ updates_by a (command_of entries a) (log_of entries state.points)) (log_of entries state.points) ≡ grown (log_of entries state.points) n.update
+  logged = go n.update n.due
+    where
+      go : (u : Option Update) → IfSome u (IsDue a (knows entries a) (log_of entries state.points))
+          → cond (is_update u) (log_of entries state.points ++ updates_by a (command_of entries a) (log_of entries state.points)) (log_of entries state.points) ≡ grown (log_of entries state.points) u
+      go None due = refl
+      go (Some u) due =
+          let c : command_of entries a ≡ Some due.0 = sym (state.named.commands a) ∙ due.1 in
+          ap (λ us. log_of entries state.points ++ us) (rw c (ap option_to_list due.3))
+
+  -- the step makes an update exactly where it links a put or a delete
+  updated_now : UpdatesNow limits entries z.points last mark z.marked.beside ↔ LinksUpdate (memory_of limits entries) last
+  updated_now = (
+    λ h. let l = update_links (memory_of limits entries) state.good a step answer r allowed.may is n (some_update n.update h.0) in (a, l.slot, l.old, l.new, l.kind, ((r, λ d. Step a (l.step d) (l.won d) r), l.link), l.update),
+    λ h. makes_one n.update (link_updates (memory_of limits entries) state.good a step answer r allowed.may is n (let e = h.5.0.1 in record { slot = h.1; old = h.2; new = h.3; kind = h.4; step = cc; won = cc; link = h.5.1; update = h.6 })) (log_of entries z.points) (log_of (entries ++ last ∷ []) (z.points ++ mark ∷ [])) logged',
+  )
+    where
+      some_update : (u : Option Update) → is_update u ≡ true → IsSome u
+      some_update None e = absurd (cc)
+      some_update (Some u) e = refl
+
+      logged' : log_of (entries ++ last ∷ []) (z.points ++ mark ∷ []) ≡ grown (log_of entries z.points) n.update
+      logged' = rw (log_of-push entries z.points last mark z.marked.beside, z.log_is) logged
+
+      makes_one : (u : Option Update) → IsSome u → (l l' : List Update) → l' ≡ grown l u → (is_update u ≡ true) × ((update : Update) × (l' ≡ l ++ update ∷ []))
+      makes_one None some l l' e = absurd (cc)
+      makes_one (Some u) some l l' e = (refl, (u, e))
+
+  point_after : (u : Option Update) → pointed' (log_of entries state.points) u (state.point a) ≡ cond (is_update u) (Some (log_of entries state.points)) (state.point a)
+  point_after None = refl
+  point_after (Some u) = refl
+
+  good_after : IsTree (shared (memory_of limits (entries ++ last ∷ []))) (log_of (entries ++ last ∷ []) (z.points ++ mark ∷ [])) n.owners
+      (knows (entries ++ last ∷ [])) (put state.point a (cond mark (Some (log_of entries state.points)) (state.point a))) (put state.logs a (log_of entries state.points ∷ state.logs a))
+  good_after = rw (memory_of-push limits entries last, log_of-push entries z.points last mark z.marked.beside, z.log_is, knows-push entries last, logged, sym (point_after n.update)) n.good
+
+  other_command : (o : Option Reply) (b : ℕ) → b ≢ a → commands_after (command_of entries) (Step a step answer o) b ≡ command_of entries b
+  other_command None b ne = refl
+  other_command (Some y) b ne = put_other (command_of entries) a None b ne
+
+  tells_mine : (o : Option Reply) → r ≡ o → (c : Command) → commands_after (command_of entries) (Step a step answer o) a ≡ Some c
+      → Tells (entries ++ last ∷ []) (z.points ++ mark ∷ []) a c (cond mark (Some (log_of entries state.points)) (state.point a)) (log_of entries state.points ∷ state.logs a)
+  tells_mine None i c f =
+      let log = log_of entries state.points in
+      let same : asked ≡ c = same_Some asked c (sym asks ∙ f) in
+      subst (λ d. Tells (entries ++ last ∷ []) (z.points ++ mark ∷ []) a d (cond mark (Some log) (state.point a)) (log ∷ state.logs a)) same
+      (tells_own entries z.points last mark z.marked.beside a step answer r asked (state.point a) (state.logs a) log refl z.log_is asks alone (subst (λ o. Tells entries z.points a asked o (state.logs a)) (z.quietly i) z.mine))
+  tells_mine (Some y) i c f = let e = put_same (command_of entries) a None in let g : None ≡ Some c = sym e ∙ f in absurd (cc)
+
+  -- the chain of a head stays
+  head_stays : (b page row : ℕ) → (knows entries b).read.heads page ≡ Some row → (c : List Record) → IsChainFrom (memory_of limits entries).rows row c → IsChainFrom (memory_after a step (memory_of limits entries)).rows row c
+  head_stays b page row e c h =
+      let f = subst (λ (v : Option ℕ). HeadFits state.owners (shared (memory_of limits entries)) (state.logs b) page v) e ((state.good.sound b).heads_fit page) in
+      rows_kept state.owners (shared (memory_of limits entries)) (memory_after a step (memory_of limits entries)).rows state.good.closed n.same row c f.2.linked h
+
+  -- a slot that is read as a row has a chain
+  slot_found : (page row : ℕ) → 0 < page → 0 < row → step ≡ Slot page → answer ≡ Number row → (c : List Record) × IsChainOf (memory_of limits entries) page c × IsChainFrom (memory_after a step (memory_of limits entries)).rows row c
+  slot_found zero row above some is_slot is_row = absurd (omega arith)
+  slot_found (suc page) row above some is_slot is_row =
+      let m = memory_of limits entries in
+      let may : May a (knows entries a) (Slot (suc page)) = subst (May a (knows entries a)) is_slot allowed.may in
+      let says : answer ≡ Number (m.slots (suc page)) = subst (λ s. IsAnswer m s answer) is_slot is in
+      let same : m.slots (suc page) ≡ row = number_same (m.slots (suc page)) row answer says is_row in
+      let here = met_placed state.good a (suc page) may.1 in
+      elim (slot_of state.good a (suc page) here.0 here.1 here.2) [
+        | inl none ↦ absurd (let zero_row : m.slots (suc page) ≡ 0 = slot_none m.slots (suc page) above none in omega arith)
+        | inr found ↦
+            let at : m.slots (suc page) ≡ found.0 = (slot_some m.slots (suc page) found.0 found.1).1 in
+            let chain : IsChainFrom m.rows row found.2.chain = subst (λ q. IsChainFrom m.rows q found.2.chain) (sym at ∙ same) found.2.is_chain in (
+              found.2.chain,
+              record { page = above; linked = rw same some; records = rw same chain },
+              subst (λ s. IsChainFrom (memory_after a s m).rows row found.2.chain) (sym is_slot) chain,
+            )
+      ]
+
+  searches_after : (op : Operation) → IsOperation (entries ++ last ∷ []) op → IsUnended (entries ++ last ∷ []) op.start op.actor → command_of (entries ++ last ∷ []) op.actor ≡ Some op.command
+      → IsSearch limits (entries ++ last ∷ []) op (memory_of limits (entries ++ last ∷ [])).rows (knows (entries ++ last ∷ []) op.actor)
+  searches_after op begun' unended' asks' = rw (memory_of-push limits entries last, knows-push entries last) (by_test op.actor a
+      (λ t. IsSearch limits (entries ++ last ∷ []) op m'.rows (cond t (finished (learn (knows entries a) step answer) r) (knows entries op.actor)))
+      (λ i. own_search r refl i)
+      (λ ne. search_other entries last limits op (memory_of limits entries).rows m'.rows (knows entries op.actor) (state.searches op begun unended (sym (other_command r op.actor ne) ∙ asked'))
+      (λ s x y e. ne (let j : a ≡ op.actor = cc in sym j)) (head_stays op.actor)))
+    where
+      m' : Memory
+      m' = memory_after a step (memory_of limits entries)
+
+      begun : IsOperation entries op
+      begun = elim (slice_get-push_cases entries last op.start _ begun') [ inl before ↦ before | inr at ↦ let e = at.1 in absurd (cc) ]
+
+      unended : IsUnended entries op.start op.actor
+      unended later d low e = unended' later d low (slice_get_kept entries (last ∷ []) later _ e)
+
+      asked' : commands_after (command_of entries) last op.actor ≡ Some op.command
+      asked' = subst (λ k. k op.actor ≡ Some op.command) (command_of-push entries last) asks'
+
+      own_search : (o : Option Reply) → r ≡ o → op.actor ≡ a → IsSearch limits (entries ++ last ∷ []) op m'.rows (finished (learn (knows entries a) step answer) r)
+      own_search None no_reply i =
+          let same : op ≡ operation_of op.start a op.command = same_operation op (operation_of op.start a op.command) refl i refl in
+          let begun_a : slice_get entries op.start ≡ Some (Begin a op.command) = subst (λ b. slice_get entries op.start ≡ Some (Begin b op.command)) i begun in
+          let unended_a : IsUnended entries op.start a = subst (IsUnended entries op.start) i unended in
+          let asked_a : command_of entries a ≡ Some op.command = subst (λ b. command_of entries b ≡ Some op.command) i (subst (λ o. commands_after (command_of entries) (Step a step answer o) op.actor ≡ Some op.command) no_reply asked') in
+          subst (λ o. IsSearch limits (entries ++ last ∷ []) o m'.rows (finished (learn (knows entries a) step answer) r)) (sym same)
+          (subst (λ o. IsSearch limits (entries ++ last ∷ []) (operation_of op.start a op.command) m'.rows (finished (learn (knows entries a) step answer) o)) (sym no_reply)
+          (search_own entries last limits op.start a op.command step answer (memory_of limits entries).rows m'.rows (knows entries a) begun_a unended_a (λ d. Step a step answer (no_reply d))
+          (state.searches (operation_of op.start a op.command) begun_a unended_a asked_a) (head_stays a) slot_found))
+      own_search (Some y) replies i =
+          let e : commands_after (command_of entries) (Step a step answer (Some y)) a ≡ Some op.command = subst (λ b. commands_after (command_of entries) (Step a step answer (Some y)) b ≡ Some op.command) i (subst (λ o. commands_after (command_of entries) (Step a step answer o) op.actor ≡ Some op.command) replies asked') in
+          let f = put_same (command_of entries) a None in
+          let g : None ≡ Some op.command = sym f ∙ e in absurd (cc)
+
+  between : (pid : ℕ) (from to : Phase) → Moves (memory_of limits entries) last pid from to → (phase_of (state.owners.page pid) ≡ from) × (phase_of (n.owners.page pid) ≡ to)
+  between = moves_between (memory_of limits entries) state.good state.named.held a step answer r allowed.may is n.owners.page n.phased
+
+  lives : (pid : ℕ) → Moves (memory_of limits entries) last pid (phase_of (state.owners.page pid)) (phase_of (n.owners.page pid)) ⊎ (phase_of (n.owners.page pid) ≡ phase_of (state.owners.page pid))
+  lives = moves_or_rests (memory_of limits entries) state.good state.named.held a step answer r allowed.may is n.owners.page n.phased
+
+  in_phase_after : (pid : ℕ) → IsInPhase limits (entries ++ last ∷ []) (length (entries ++ last ∷ [])) pid (phase_of (n.owners.page pid))
+  in_phase_after = steps_in_phase limits entries last state.owners.page n.owners.page state.in_phase between lives
+
+  only_phase_after : (pid : ℕ) (phase : Phase) → IsInPhase limits (entries ++ last ∷ []) (length (entries ++ last ∷ [])) pid phase → phase ≡ phase_of (n.owners.page pid)
+  only_phase_after pid phase h = only_after limits entries last state.owners.page n.owners.page state.in_phase between lives state.only_phase pid phase (subst (λ k. IsInPhase limits (entries ++ last ∷ []) k pid phase) (pushed_length entries last) h)
+
+  rooted_after : (b p : ℕ) → (knows (entries ++ last ∷ []) b).read.roots p ≡ true → (level : ℕ) × IsFirst n.owners level p
+  rooted_after b p e = by_test b a (λ t. (cond t (finished (learn (knows entries a) step answer) r) (knows entries b)).read.roots p ≡ true → (level : ℕ) × IsFirst n.owners level p)
+      (λ i f. elim (learns_root (knows entries a) step answer p f) [ inl before ↦ stays (state.rooted a p before) | inr now ↦ stays (at_root p now.0 now.1) ])
+      (λ ne f. stays (state.rooted b p f))
+      (subst (λ (ks : ℕ → Knowledge). (ks b).read.roots p ≡ true) (knows-push entries last) e)
+    where
+      stays : (level : ℕ) × IsFirst state.owners level p → (level : ℕ) × IsFirst n.owners level p
+      stays h = (h.0, first_stays (memory_of limits entries) (memory_of limits (entries ++ last ∷ [])) state.good good_after a step answer is n.phased h.0 p h.1)
+
+      at_root : (q : ℕ) → step ≡ Slot 0 → answer ≡ Number q → (level : ℕ) × IsFirst state.owners level q
+      at_root q asked told =
+          let here : IsAnswer (memory_of limits entries) (Slot 0) (Number q) = subst (λ (s : StepOf Record). IsAnswer (memory_of limits entries) s (Number q)) asked (subst (IsAnswer (memory_of limits entries) step) told is) in
+          let same : q ≡ (memory_of limits entries).slots 0 = (let e = here in cc) in
+          let top = is_indexed (memory_of limits entries) state.good in
+          (top.top, (Indexed, rw same (root_indexed (memory_of limits entries) state.good), omega arith))
+
+  state_after : IsState limits (entries ++ last ∷ [])
+  state_after = record {
+    points = z.points ++ mark ∷ [];
+    owners = n.owners;
+    point = put state.point a (cond mark (Some (log_of entries state.points)) (state.point a));
+    logs = put state.logs a (log_of entries state.points ∷ state.logs a);
+    good = good_after;
+    fitted = rw (memory_of-push limits entries last) (fitted_after state.owners (shared (memory_of limits entries)) state.good.closed state.fitted n.owners (memory_after a step (memory_of limits entries)).rows n.same n.added);
+    named = rw (memory_of-push limits entries last, knows-push entries last)
+        (named_steps limits entries state.owners (memory_of limits entries) (knows entries) (log_of entries state.points) state.point state.logs state.good state.named a step answer r allowed.may is n.owners numbers (state.timed.holds a).learnt_inside (state.timed.epochs a)
+        (pid_below_after limits state.owners.page n.owners.page is lives state.named.free_pid_below state.named.pid_below)
+        held' (command_of-push entries last));
+    searches = searches_after;
+    tells = λ b c e. by_test b a (λ t. Tells (entries ++ last ∷ []) (z.points ++ mark ∷ []) b c (cond t (cond mark (Some (log_of entries state.points)) (state.point a)) (state.point b)) (cond t (log_of entries state.points ∷ state.logs a) (state.logs b)))
+        (λ i. rw i (tells_mine r refl c (subst (λ k. commands_after (command_of entries) last k ≡ Some c) i (subst (λ k. k b ≡ Some c) (command_of-push entries last) e))))
+        (λ ne. tells_other entries z.points last mark z.marked.beside b c (state.point b) (state.logs b) (λ d i. absurd (cc)) (λ s x y i. ne (let j : a ≡ b = cc in sym j))
+        (z.others b c ne (sym (other_command r b ne) ∙ subst (λ k. k b ≡ Some c) (command_of-push entries last) e)));
+    marked = marked_push entries z.points last mark z.marked.beside limits z.marked
+        (λ e. (operation_of z.mine.start a asked, z.mine.begins, own_new entries last z.mine.start a asked step answer r z.mine.begins z.mine.unended refl))
+        (λ e op begun own m own' p.
+        let same : op ≡ operation_of z.mine.start a asked = own_same (entries ++ last ∷ []) op (operation_of z.mine.start a asked) (length entries) (slice_get_kept entries (last ∷ []) op.start _ begun) (slice_get_kept entries (last ∷ []) z.mine.start _ z.mine.begins) own (own_new entries last z.mine.start a asked step answer r z.mine.begins z.mine.unended refl) in
+        let none = subst (λ o. MatchOption o ((k : ℕ) → IsOwnStep entries (operation_of z.mine.start a asked) k → IsPoint z.points k → ⊥) (λ l. (k : ℕ) × IsOwnStep entries (operation_of z.mine.start a asked) k × IsPoint z.points k × (log_at entries z.points k ≡ l))) (pointed e) z.mine.point_at in
+        none m (subst (λ o. IsOwnStep entries o m) same own') p)
+        (λ op s x reply begun e unended. let same : r ≡ Some reply = cc in (justified op reply begun (let i : a ≡ op.actor = cc in sym i) unended same, unpointed reply same))
+        (λ e op begun own m reply ends.
+        let same : op ≡ operation_of z.mine.start a asked = own_same (entries ++ last ∷ []) op (operation_of z.mine.start a asked) (length entries) (slice_get_kept entries (last ∷ []) op.start _ begun) (slice_get_kept entries (last ∷ []) z.mine.start _ z.mine.begins) own (own_new entries last z.mine.start a asked step answer r z.mine.begins z.mine.unended refl) in
+        (state.searches (operation_of z.mine.start a asked) z.mine.begins z.mine.unended asks).unfinished m reply (subst (λ o. Finishes entries o m reply) same ends));
+    run = IsRun-push limits entries last state.run (subst IsSome (sym asks) refl, may_take limits entries state.owners (memory_of limits entries) (knows entries) (log_of entries state.points) state.point state.logs state.good state.named a step answer r allowed.may is refl step allowed.may, is);
+    updates = updates_push limits entries z.points last mark z.marked.beside z.updates updated_now;
+    quiet = quiet_push entries z.points last mark z.marked.beside limits z.quiet (map_of good_after);
+    in_phase = in_phase_after;
+    only_phase = only_phase_after;
+    phases = steps_phases limits entries last state.owners.page n.owners.page state.in_phase between state.phases
+        (clears_cleared (memory_of limits entries) state.good state.named.held a step answer r allowed.may is n.owners.page n.phased);
+    limbo_rows = rw (knows-push entries last) (rows_in_limbo limits entries a step answer r state allowed is n.good timed' held');
+    limbo_pids = rw (knows-push entries last) (pids_in_limbo limits entries a step answer r state allowed is n.good timed' held');
+    freed = freed_after limits entries a step answer r state allowed is;
+    times = times';
+    timed = rw (memory_of-push limits entries last, knows-push entries last, pushed_length entries last) timed';
+    faithful = faithful_push limits entries last state.faithful
+        (reads_known limits entries state.owners (memory_of limits entries) (knows entries) (log_of entries state.points) state.point state.logs state.good state.named a step answer r allowed.may is)
+        (touches_outside limits entries state.owners (memory_of limits entries) (knows entries) (log_of entries state.points) state.point state.logs state.good state.named a step answer r allowed.may is);
+    rooted = rooted_after;
+    indexed = indexed_push limits entries last state.good good_after
+        (first_stays (memory_of limits entries) (memory_of limits (entries ++ last ∷ [])) state.good good_after a step answer is n.phased)
+        (grows (memory_of limits entries) (memory_of limits (entries ++ last ∷ [])) state.good good_after a step answer is n.phased)
+        in_phase_after only_phase_after state.indexed;
+  }
+
+pub steps : Steps
+steps limits entries a step answer r state busy allowed is = go (command_of entries a) refl busy
+  where
+    replied : (o : Option Reply) → IfSome o (λ y. (step ≡ Leave) × MayReply limits a (knows entries a) y) → IfSome o (MayReply limits a (knows entries a))
+    replied None h = tt
+    replied (Some y) h = h.1
+
+    go : (o : Option Command) → command_of entries a ≡ o → IsSome o → IsState limits (entries ++ Step a step answer r ∷ [])
+    go None e b = absurd (cc)
+    go (Some asked) e b = by_kind step r answer allowed is (settled limits entries a asked state e r (replied r allowed.replied))
+      where
+        m : Memory
+        m = memory_of limits entries
+
+        -- the actor is one of the stated number
+        actor : a < limits.actors
+        actor = (state.run.each (state.tells a asked e).start (Begin a asked) (state.tells a asked e).begins).0
+
+        calmly : (step : StepOf Record) → (IsReuse step → ⊥) → (r : Option Reply) (answer : Answer Record) (allowed : IsAllowed limits a (knows entries a) step r) (is : IsAnswer m step answer) → Settled limits entries (log_of entries state.points) state.point state.logs a asked r → IsState limits (entries ++ Step a step answer r ∷ [])
+        calmly step calm r answer allowed is z =
+            let n = one_step m state.good a step calm r allowed.may answer is in
+            state_after limits entries a step answer r asked state e allowed is (after_of n)
+            (calm_numbers limits entries state.owners m (knows entries) (log_of entries state.points) state.point state.logs state.good state.named a step answer r allowed.may is calm n.owners n.moved)
+            (held_after m state.good state.named.held a n.owners (λ q l. (n.kept q l).0) n.moved step calm answer r allowed.may is n.phased)
+            (times_after a m state.owners (length entries) step answer state.times)
+            (timed_step state.good state.timed a step calm answer r allowed.may is actor n)
+            z
+
+        by_kind : (step : StepOf Record) (r : Option Reply) (answer : Answer Record) (allowed : IsAllowed limits a (knows entries a) step r) (is : IsAnswer m step answer) → Settled limits entries (log_of entries state.points) state.point state.logs a asked r → IsState limits (entries ++ Step a step answer r ∷ [])
+        by_kind (ReuseRows word bits) r answer allowed is z = state_after limits entries a (ReuseRows word bits) answer r asked state e allowed is
+            (rows_after state.good state.timed a allowed.may word bits allowed.frees r answer)
+            (rows_numbers limits entries state.owners m (knows entries) (log_of entries state.points) state.point state.logs state.good state.timed state.named a allowed.may word bits answer r allowed.frees is)
+            (rows_held limits entries state.owners m (knows entries) (log_of entries state.points) state.point state.logs state.good state.timed state.named a allowed.may word bits answer r allowed.frees is)
+            (t1 state.good state.timed a allowed.may word bits allowed.frees r answer)
+            (rows_timed state.good state.timed a allowed.may word bits allowed.frees r answer)
+            z
+        by_kind (ReusePids word bits) r answer allowed is z = state_after limits entries a (ReusePids word bits) answer r asked state e allowed is
+            (pages_after state.good state.timed a allowed.may word bits allowed.frees r answer)
+            (pages_numbers limits entries state.owners m (knows entries) (log_of entries state.points) state.point state.logs state.good state.timed state.named a allowed.may word bits answer r allowed.frees is)
+            (pages_held limits entries state.owners m (knows entries) (log_of entries state.points) state.point state.logs state.good state.timed state.named a allowed.may word bits answer r allowed.frees is)
+            (t2 state.good state.timed a allowed.may word bits allowed.frees r answer)
+            (pages_timed state.good state.timed a allowed.may word bits allowed.frees r answer)
+            z
+        by_kind (Slot p) r answer allowed is z = calmly (Slot p) (λ h. h) r answer allowed is z
+        by_kind (Row q) r answer allowed is z = calmly (Row q) (λ h. h) r answer allowed is z
+        by_kind Epoch r answer allowed is z = calmly Epoch (λ h. h) r answer allowed is z
+        by_kind (Announce b) r answer allowed is z = calmly (Announce b) (λ h. h) r answer allowed is z
+        by_kind (PidBits w) r answer allowed is z = calmly (PidBits w) (λ h. h) r answer allowed is z
+        by_kind (RowBits w) r answer allowed is z = calmly (RowBits w) (λ h. h) r answer allowed is z
+        by_kind (Place q w) r answer allowed is z = calmly (Place q w) (λ h. h) r answer allowed is z
+        by_kind (Exchange p x y) r answer allowed is z = calmly (Exchange p x y) (λ h. h) r answer allowed is z
+        by_kind (TakePid q) r answer allowed is z = calmly (TakePid q) (λ h. h) r answer allowed is z
+        by_kind (TakeRow q) r answer allowed is z = calmly (TakeRow q) (λ h. h) r answer allowed is z
+        by_kind (Enter n) r answer allowed is z = calmly (Enter n) (λ h. h) r answer allowed is z
+        by_kind Leave r answer allowed is z = calmly Leave (λ h. h) r answer allowed is z
+        by_kind (Retire n) r answer allowed is z = calmly (Retire n) (λ h. h) r answer allowed is z
+
+no_full : (c : Command) (v : Option (List ℕ)) → reply_of c v ≡ Some reply.Full → ⊥
+no_full (Get k) None e = cc
+no_full (Get k) (Some o) e = cc
+no_full (Insert k w) None e = cc
+no_full (Insert k w) (Some o) e = cc
+no_full (Upsert k w) None e = cc
+no_full (Upsert k w) (Some o) e = cc
+no_full (Delete k) None e = cc
+no_full (Delete k) (Some o) e = cc
+
+-- a command that may change the map is a writer
+writer : (a : ℕ) (c : Command) (old : Option (List ℕ)) (u : Update) → update_of a c old ≡ Some u → IsTrue (is_writer c)
+writer a (Get k) old u e = cc
+writer a (Insert k w) old u e = refl
+writer a (Upsert k w) old u e = refl
+writer a (Delete k) old u e = refl
+
+true_reply : (limits : Limits) (entries : List Entry) (points : List Bool) (op : Operation) (answer : Reply) → IsAnsweredBy limits entries points op answer → IsTrueReply limits entries points op answer
+true_reply limits entries points op reply.Full (inl h) = absurd (no_full op.command _ h.3)
+true_reply limits entries points op reply.Full (inr h) = (writer op.actor op.command h.1.old h.1.update h.1.writes, h.1.finds)
+true_reply limits entries points op (reply.Value v) (inl h) = h
+true_reply limits entries points op reply.None (inl h) = h
+true_reply limits entries points op reply.Inserted (inl h) = h
+true_reply limits entries points op (reply.Exists v) (inl h) = h
+true_reply limits entries points op reply.Set (inl h) = h
+true_reply limits entries points op (reply.Replaced v) (inl h) = h
+true_reply limits entries points op (reply.Deleted v) (inl h) = h
+true_reply limits entries points op reply.Absent (inl h) = h
+true_reply limits entries points op answer (inr h) = let e = h.0 in absurd (cc)
+
+pointed_by : (limits : Limits) (entries : List Entry) (points : List Bool) (op : Operation) (answer : Reply) → IsAnsweredBy limits entries points op answer → IsTrue (has_point answer) → (m : ℕ) × IsOwnStep entries op m × IsPoint points m
+pointed_by limits entries points op answer (inl h) e = (h.0, h.1, h.2)
+pointed_by limits entries points op answer (inr h) e = let f : has_point reply.Full ≡ true = subst (λ y. IsTrue (has_point y)) h.0 e in absurd (cc)
+
+pointless : (limits : Limits) (entries : List Entry) (points : List Bool) (op : Operation) (answer : Reply) → IsAnsweredBy limits entries points op answer → IsFalse (has_point answer) → (m : ℕ) → IsOwnStep entries op m → IsPoint points m → ⊥
+pointless limits entries points op reply.Full (inl h) e m own p = no_full op.command _ h.3
+pointless limits entries points op answer (inl h) e m own p = cc
+pointless limits entries points op answer (inr h) e m own p = h.1.unmarked m own p
+
+pub is_one_map : StatesAreLinearized
+is_one_map limits entries state = record {
+  run = record { in_turn = refl; run = state.run };
+  points = state.points;
+  pointed = record {
+    beside = state.marked.beside;
+    own = state.marked.own;
+    one = state.marked.one;
+    pointed = λ op n r is ends asks. pointed_by limits entries state.points op r (state.marked.answered op n r is ends) asks;
+    pointless = λ op m n r is ends asks own p. pointless limits entries state.points op r (state.marked.answered op n r is ends) asks m own p;
+  };
+  answered = record { each = λ op n r is ends. true_reply limits entries state.points op r (state.marked.answered op n r is ends) };
+  updates = state.updates;
+  quiet = state.quiet;
+  faithful = state.faithful;
+}
+
+pub keeps_phases : StatesKeepPhases
+keeps_phases limits entries state = state.phases
+
+pub frees_by_rule : StatesFreeByRule
+frees_by_rule limits entries state = state.freed
+
+pub index_is_exact : StatesAreIndexed
+index_is_exact limits entries state = state.indexed.exact
