@@ -53,7 +53,7 @@ keeps_still old running new step a (Some reply) had has e done keeps = cc
 -- ---- no row is forgotten
 -- a begin takes no row
 pub holds_begun : (k : Knowledge) (command : Command) (old : Option Running) (had has : List ℕ) → command_at old ≡ None → has ≡ had → HoldsAll k (held_by old had) → HoldsAll (begun k command) has
-holds_begun k command None had has idle kept h = λ row own. subst (λ rows_held. Contains rows_held row) (sym kept) (h row own)
+holds_begun k command None had has idle kept h = λ row own. subst (λ held. Contains held row) (sym kept) (h row own)
 holds_begun k command (Some running) had has idle kept h = cc
 
 -- an operation has no page
@@ -73,7 +73,7 @@ pageless_at limits actor k spares running is = pageless running.op.limits runnin
 
 module _ (memory : Memory) (actor : ℕ) (k : Knowledge) (had has : List ℕ) (none : HasNoPage k) (h : HoldsAll k had) where
   still : (now : Knowledge) → now.own.rows ≡ k.own.rows → has ≡ had → HoldsAll now has
-  still now same kept = λ row own. subst (λ rows_held. Contains rows_held row) (sym kept) (h row (subst (λ (rows : ℕ → OwnRow). IsOwn (rows row)) same own))
+  still now same kept = λ row own. subst (λ held. Contains held row) (sym kept) (h row (subst (λ (rows : ℕ → OwnRow). IsOwn (rows row)) same own))
 
   slot_rows : (pid n : ℕ) → (learn_slot pid n k).own.rows ≡ k.own.rows
   slot_rows zero n = refl
@@ -82,14 +82,14 @@ module _ (memory : Memory) (actor : ℕ) (k : Knowledge) (had has : List ℕ) (n
 
   -- one row more
   more : (now : Knowledge) (row : ℕ) → now.own.rows ≡ replaced_at row Taken k.own.rows → has ≡ had ++ row ∷ [] → HoldsAll now has
-  more now row same kept = λ r own. subst (λ rows_held. Contains rows_held r) (sym kept) (elim (cases_eq r row) [
+  more now row same kept = λ r own. subst (λ held. Contains held r) (sym kept) (elim (cases_eq r row) [
     | inl is ↦ subst (λ n. Contains (had ++ row ∷ []) n) (sym is) (Contains-push had row)
     | inr other ↦ Contains-append_left had (row ∷ []) r (h r (subst (λ (o : OwnRow). IsOwn o) (ap (λ (rows : ℕ → OwnRow). rows r) same ∙ replaced_other row Taken k.own.rows r other) own))
   ])
 
   -- a record in one that is held
   written : (now : Knowledge) (row : ℕ) (content : Record) → now.own.rows ≡ replaced_at row (Written content) k.own.rows → IsOwn (k.own.rows row) → has ≡ had → HoldsAll now has
-  written now row content same was kept = λ r own. subst (λ rows_held. Contains rows_held r) (sym kept) (elim (cases_eq r row) [
+  written now row content same was kept = λ r own. subst (λ held. Contains held r) (sym kept) (elim (cases_eq r row) [
     | inl is ↦ h r (subst (λ n. IsOwn (k.own.rows n)) (sym is) was)
     | inr other ↦ h r (subst (λ (o : OwnRow). IsOwn o) (ap (λ (rows : ℕ → OwnRow). rows r) same ∙ replaced_other row (Written content) k.own.rows r other) own)
   ])
@@ -98,7 +98,7 @@ module _ (memory : Memory) (actor : ℕ) (k : Knowledge) (had has : List ℕ) (n
   fewer : (now : Knowledge) (row : ℕ) → now.own.rows ≡ replaced_at row Foreign k.own.rows → had ≡ has ++ row ∷ [] → HoldsAll now has
   fewer now row same kept = λ r own. elim (cases_eq r row) [
     | inl is ↦ absurd (subst (λ (o : OwnRow). IsOwn o) (ap (λ (rows : ℕ → OwnRow). rows r) same ∙ ap (replaced_at row Foreign k.own.rows) is ∙ replaced_same row Foreign k.own.rows) own)
-    | inr other ↦ elim (Contains-push_cases has row r (subst (λ rows_held. Contains rows_held r) kept (h r (subst (λ (o : OwnRow). IsOwn o) (ap (λ (rows : ℕ → OwnRow). rows r) same ∙ replaced_other row Foreign k.own.rows r other) own)))) [
+    | inr other ↦ elim (Contains-push_cases has row r (subst (λ held. Contains held r) kept (h r (subst (λ (o : OwnRow). IsOwn o) (ap (λ (rows : ℕ → OwnRow). rows r) same ∙ replaced_other row Foreign k.own.rows r other) own)))) [
       | inl there ↦ there
       | inr is ↦ absurd (other (sym is))
     ]

@@ -13,4 +13,4 @@ held_by (Some running) spares = rows_held running.op.state spares
 
 -- Each row that its entries show as taken and not linked is among these.
 abbrev pub HoldsAll : Knowledge → List ℕ → Type 0
-HoldsAll k held = (row : ℕ) → IsOwn (k.own.rows row) → Contains rows_held row
+HoldsAll k held = (row : ℕ) → IsOwn (k.own.rows row) → Contains held row
