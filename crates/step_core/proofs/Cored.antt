@@ -29,7 +29,7 @@ use Rattle.step_core.specs.Actors.{IsActor, IsPlainlyAllowed, IsReady, IsServedA
 use Rattle.step_core.proofs.Lawful.{Asks, asks, is_placed, served_at, within_at}
 use Rattle.step_core.specs.Cores.{IsCore, Pays}
 use Rattle.step_core.specs.Spending.{RecallsAt, Spends, left_at}
-use Rattle.step_core.specs.Turns.{Core, busy_of, refused_by, refusal_of}
+use Rattle.step_core.specs.Turns.{Core, Demand, busy_of, refused_by, refusal_of}
 use Rattle.step_core.proofs.Replaced.{get_below, get_is, replaced_other, replaced_same, set_cases, set_length}
 
 -- a begin that isn't refused
@@ -91,26 +91,26 @@ module _ (limits : Limits) where
 
   -- the actor of a turn that isn't refused
   pub core_begins : (table : Table) (actors : List Actor) (entries : List Entry) (i j : ℕ) (old : Actor) (command : Command) → IsCore limits table actors entries
-      → (room : ℕ) (v : Core) → record { limits = limits; entries = entries; room = room } ≡ v → refusal_of v (turn.Begin i command) ≡ None → j ≡ i → old ≡ get_or actors j old
+      → (demand : Demand) (v : Core) → record { limits = limits; entries = entries; demand = demand } ≡ v → refusal_of v (turn.Begin i command) ≡ None → j ≡ i → old ≡ get_or actors j old
       → (j < length actors) × IsActor limits i (knows entries i) old × (running_command old ≡ None)
-  core_begins table actors entries i j old command core room v is refusal same at =
-      let goes : (i < limits.actors) × (command_of entries i ≡ None) = begin_goes (record { limits = limits; entries = entries; room = room }) i command (subst (λ u. refusal_of u (turn.Begin i command) ≡ None) (sym is) refusal) in
+  core_begins table actors entries i j old command core demand v is refusal same at =
+      let goes : (i < limits.actors) × (command_of entries i ≡ None) = begin_goes (record { limits = limits; entries = entries; demand = demand }) i command (subst (λ u. refusal_of u (turn.Begin i command) ≡ None) (sym is) refusal) in
       let lt : i < length actors = rw core.count goes.0 in
       let found : slice_get actors i ≡ Some old = get_is actors i old lt (subst (λ k. old ≡ get_or actors k old) same at) in
       (rw same lt, core.each_shows i old found, core.each_running i old found ∙ goes.1)
 
   -- whether an actor that there is has an operation
-  pub core_busy : (table : Table) (actors : List Actor) (entries : List Entry) (i : ℕ) (at : Actor) → IsCore limits table actors entries → (room : ℕ) (v : Core) → record { limits = limits; entries = entries; room = room } ≡ v
+  pub core_busy : (table : Table) (actors : List Actor) (entries : List Entry) (i : ℕ) (at : Actor) → IsCore limits table actors entries → (demand : Demand) (v : Core) → record { limits = limits; entries = entries; demand = demand } ≡ v
       → slice_get actors i ≡ Some at → Some (is_some (running_command at)) ≡ busy_of v i
-  core_busy table actors entries i at core room v is found =
+  core_busy table actors entries i at core demand v is found =
       let lt : i < limits.actors = rw (← core.count) (get_below actors i at found) in
       rw (← is, lt-ltb i limits.actors lt, core.each_running i at found) refl
 
   pub core_asks : RowsAreApart → AnswersShowLeaf → (table : Table) (actors : List Actor) (entries : List Entry) (i j : ℕ) (old : Actor) → IsCore limits table actors entries
-      → (room : ℕ) (v : Core) → record { limits = limits; entries = entries; room = room } ≡ v → refusal_of v (turn.Step i) ≡ None → j ≡ i → old ≡ get_or actors j old
+      → (demand : Demand) (v : Core) → record { limits = limits; entries = entries; demand = demand } ≡ v → refusal_of v (turn.Step i) ≡ None → j ≡ i → old ≡ get_or actors j old
       → (i < limits.actors) × (j < length actors) × IsReady limits i (knows entries i) (memory_in table) old × (is_some (running_command old) ≡ true) × IsWithinAt table i old.running
-  core_asks apart fit table actors entries i j old core room v is refusal same at =
-      let goes : (i < limits.actors) × (is_some (command_of entries i) ≡ true) = step_goes (record { limits = limits; entries = entries; room = room }) i (subst (λ u. refusal_of u (turn.Step i) ≡ None) (sym is) refusal) in
+  core_asks apart fit table actors entries i j old core demand v is refusal same at =
+      let goes : (i < limits.actors) × (is_some (command_of entries i) ≡ true) = step_goes (record { limits = limits; entries = entries; demand = demand }) i (subst (λ u. refusal_of u (turn.Step i) ≡ None) (sym is) refusal) in
       let lt : i < length actors = rw core.count goes.0 in
       let found : slice_get actors i ≡ Some old = get_is actors i old lt (subst (λ k. old ≡ get_or actors k old) same at) in
       let shows = core.each_shows i old found in (
@@ -122,11 +122,11 @@ module _ (limits : Limits) where
       )
 
   pub core_begun : Begins IsLeafState → (table : Table) (actors : List Actor) (entries entries' : List Entry) (i j : ℕ) (new : Actor) (command : Command) → IsCore limits table actors entries
-      → (room : ℕ) (v : Core) → record { limits = limits; entries = entries; room = room } ≡ v → refusal_of v (turn.Begin i command) ≡ None → j ≡ i
+      → (demand : Demand) (v : Core) → record { limits = limits; entries = entries; demand = demand } ≡ v → refusal_of v (turn.Begin i command) ≡ None → j ≡ i
       → IsActor limits i (begun (knows entries i) command) new → running_command new ≡ Some command → ((r : Recalled) → RecallsAt new.running r) → Grows limits entries (Begin i command) → StaysDirect limits entries (Begin i command) i (left_at new.running)
       → entries' ≡ entries ++ Begin i command ∷ [] → IsCore limits table (set actors j new) entries'
-  core_begun begins table actors entries entries' i j new command core room v is refusal same shows runs recalled grows stays grown =
-      let goes : (i < limits.actors) × (command_of entries i ≡ None) = begin_goes (record { limits = limits; entries = entries; room = room }) i command (subst (λ u. refusal_of u (turn.Begin i command) ≡ None) (sym is) refusal) in
+  core_begun begins table actors entries entries' i j new command core demand v is refusal same shows runs recalled grows stays grown =
+      let goes : (i < limits.actors) × (command_of entries i ≡ None) = begin_goes (record { limits = limits; entries = entries; demand = demand }) i command (subst (λ u. refusal_of u (turn.Begin i command) ≡ None) (sym is) refusal) in
       rw (grown, same) (record {
         state = begins limits entries i command core.state goes.0 goes.1;
         direct = stays.state;

@@ -22,7 +22,7 @@ use Rattle.chain_search.specs.Steps.{IsAnswer, memory_after}
 use Rattle.deltas.specs.Memory.{Memory}
 use Rattle.step_core.specs.declared.event.Event.TheVariants.{Stepped}
 use Rattle.step_core.proofs.Lawful.{Asks, HasHeads, is_placed}
-use Rattle.step_core.specs.Turns.{AddsTurn, Core, IsEventOf, IsToldBy, is_won, link_told, step_event}
+use Rattle.step_core.specs.Turns.{AddsTurn, Core, Demand, IsEventOf, IsToldBy, is_won, link_told, step_event}
 
 positive : (n : ℕ) → eqb n 0 ≡ false → 0 < n
 positive zero e = cc
@@ -98,7 +98,7 @@ adds_again old grown new turn event limits entries adds = record {
     same : memory_of grown.limits grown.entries ≡ memory_of old.limits old.entries
     same = ap (λ l. memory_of l grown.entries) limits ∙ ap (memory_of old.limits) entries
 
-pub turned : (limits : Limits) (entries entries' : List Entry) (room room' : ℕ) (old new new' : Core) (turn turn' : Turn) (event event' : Event) → record { limits = limits; entries = entries; room = room } ≡ old → entries' ≡ entries
-    → turn ≡ turn' → event ≡ event' → new ≡ new' → AddsTurn (record { limits = limits; entries = entries'; room = room' }) turn' event' new' → AddsTurn old turn event new
-turned limits entries entries' room room' old new new' turn turn' event event' is kept by said after adds =
-    rw (← is, by, said, after) (adds_again (record { limits = limits; entries = entries; room = room }) (record { limits = limits; entries = entries'; room = room' }) new' turn' event' refl kept adds)
+pub turned : (limits : Limits) (entries entries' : List Entry) (demand demand' : Demand) (old new new' : Core) (turn turn' : Turn) (event event' : Event) → record { limits = limits; entries = entries; demand = demand } ≡ old → entries' ≡ entries
+    → turn ≡ turn' → event ≡ event' → new ≡ new' → AddsTurn (record { limits = limits; entries = entries'; demand = demand' }) turn' event' new' → AddsTurn old turn event new
+turned limits entries entries' demand demand' old new new' turn turn' event event' is kept by said after adds =
+    rw (← is, by, said, after) (adds_again (record { limits = limits; entries = entries; demand = demand }) (record { limits = limits; entries = entries'; demand = demand' }) new' turn' event' refl kept adds)
