@@ -165,7 +165,11 @@ fn free_bits<A: Allocator>(alloc: A, count: u64) -> Result<Vec<u64, A>, AllocErr
 }
 
 /// Places a record in a row.
-fn place<A: Allocator>(rows: &mut Vec<Option<SharedRecord<A>>, A>, row: u16, content: SharedRecord<A>)
+fn place<A: Allocator>(
+    rows: &mut Vec<Option<SharedRecord<A>>, A>,
+    row: u16,
+    content: SharedRecord<A>,
+)
     requires { row < length rows.old.items }
     ensures { rows.new.items ≡ slice_set rows.old.items row (Some content) }
 {

@@ -52,23 +52,23 @@ module _ (actor : ℕ) (k : Knowledge) (c : Command) (chain : List Record) where
   updates (suc pid) zero seeks whole short u due fits now row like some placed = let linked = whole.linked in absurd (omega arith)
   updates (suc pid) (suc head) seeks whole short u due fits now zero like some placed = absurd (omega arith)
   updates (suc pid) (suc head) seeks whole short u due fits now (suc row) like some placed =
-    record {
-      basis = record { head = rw like.read whole.held; chain = chain; read = rw like.read whole.read; alive = whole.leaf.removed };
-      content = record_of u (suc head);
-      placed = placed;
-      fits = fits_on chain u (suc head) fits short;
-      due = due_by u (record {
-        leaf = whole.leaf.level;
-        command = c;
-        going = like.command ∙ seeks.going;
-        unlinked = like.linked ∙ seeks.unlinked;
-        covers = covers_each chain (command_key c) whole.leaf;
-        update = u;
-        due = due;
-        is = refl;
-      });
-      unset = λ other e. never_ready k seeks.pageless other (suc row) (ap (λ f. f other) (sym like.pages) ∙ e);
-    }
+      record {
+        basis = record { head = rw like.read whole.held; chain = chain; read = rw like.read whole.read; alive = whole.leaf.removed };
+        content = record_of u (suc head);
+        placed = placed;
+        fits = fits_on chain u (suc head) fits short;
+        due = due_by u (record {
+          leaf = whole.leaf.level;
+          command = c;
+          going = like.command ∙ seeks.going;
+          unlinked = like.linked ∙ seeks.unlinked;
+          covers = covers_each chain (command_key c) whole.leaf;
+          update = u;
+          due = due;
+          is = refl;
+        });
+        unset = λ other e. never_ready k seeks.pageless other (suc row) (ap (λ f. f other) (sym like.pages) ∙ e);
+      }
     where
       due_by : (v : Update) → MayUpdate actor now (suc head) chain (record_of v (suc head)) → MayLink actor now (suc pid) (suc head) chain (record_of v (suc head))
       due_by (set who key value) h = h

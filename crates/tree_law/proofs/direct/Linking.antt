@@ -220,7 +220,7 @@ module _ (limits : Limits) (entries : List Entry) (a : ℕ) where
         change_as (suc p) (suc x) (suc y) (record_link may.content) may at (link_front m p x y ∙ ap (option_map record_link) (placed_row state.good a (suc y) may.content may.placed))
         (λ some never. kind_of_record may.content)
         (λ good e chain is_chain.
-            let base = base_is may.content e in
-            let stands : IsChainFrom m.rows (suc x) may.basis.chain = (found state.good a (suc p) (suc x) may.basis).stands in
-            let same : may.basis.chain ≡ chain = IsChainFrom-unique m.rows (suc x) may.basis.chain chain stands (subst (λ r. IsChainFrom m.rows r chain) at is_chain.records) in
-            subst (λ c. 1 < length c) same (good may.basis base.0 (may.placed ∙ ap Written base.1)))
+        let base = base_is may.content e in
+        let stands : IsChainFrom m.rows (suc x) may.basis.chain = (found state.good a (suc p) (suc x) may.basis).stands in
+        let same : may.basis.chain ≡ chain = IsChainFrom-unique m.rows (suc x) may.basis.chain chain stands (subst (λ r. IsChainFrom m.rows r chain) at is_chain.records) in
+        subst (λ c. 1 < length c) same (good may.basis base.0 (may.placed ∙ ap Written base.1)))

@@ -162,8 +162,8 @@ module _ (limits : Limits) (entries : List Entry) (last : Entry) (op : Operation
     still k r rests h rooted =
         let same : (recall r s x).walk ≡ r.walk = walk_kept r s x rests in
         let kept : Walks limits longer op k.read.seen r.walk = walks_kept k.read.seen r.walk
-            (λ step answer other own. (λ page e. subst IsStill (sym (is_step step answer other own).0 ∙ e) rests, λ row e. subst IsStill (sym (is_step step answer other own).0 ∙ e) rests))
-            (h (ap (λ (walk : Walk). walk.rooted) (sym same) ∙ rooted)) in
+        (λ step answer other own. (λ page e. subst IsStill (sym (is_step step answer other own).0 ∙ e) rests, λ row e. subst IsStill (sym (is_step step answer other own).0 ∙ e) rests))
+        (h (ap (λ (walk : Walk). walk.rooted) (sym same) ∙ rooted)) in
         subst (λ (seen : ℕ → Option Record). Walks limits longer op seen (recall r s x).walk) (sym (seen_kept k s x (still_seen s rests))) (subst (λ (walk : Walk). Walks limits longer op k.read.seen walk) (sym same) kept)
 
   pub walks_own : (s : StepOf Record) (x : Answer Record) (reply : Option Reply) (latest : IsLast entries op) (is : last ≡ Step op.actor s x reply) (k : Knowledge) (r : Recalled) (memory : Memory) → IsAnswer memory s x

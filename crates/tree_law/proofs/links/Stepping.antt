@@ -134,8 +134,8 @@ module _ (memory : Memory) {log : List Update} {o : Owners} {knows : ℕ → Kno
       (λ (u : slot_in memory.slots (suc p) ≡ None). absurd (let f = sym held ∙ u in cc))
       (λ (u : (x : ℕ) × (slot_in memory.slots (suc p) ≡ Some x) × (h : SpellsLog o (shared memory) x log) × Reached 0 (level_in h.chain) (low_in h.chain) (o.page (suc p))).
       rests refl (λ row l. refl) (subst (λ (v : ℕ). IsTree (shared memory) log o (put knows a (finished (learn_head (suc p) v (knows a)) r)) (put point a (point a)) (put logs a (log ∷ logs a)))
-            (same_Some u.0 (suc n) (sym u.1 ∙ held))
-            (reads_slot g a (suc p) u.0 u.1 u.2 u.3 r)))
+      (same_Some u.0 (suc n) (sym u.1 ∙ held))
+      (reads_slot g a (suc p) u.0 u.1 u.2 u.3 r)))
       (slot_of g a (suc p) here.0 here.1 here.2)
 
   takes : (q : ℕ) (r : Option Reply) (t : Bool) → memory.free_rows q ≡ t → After (memory_after a (TakeRow q) memory) (TakeRow q) (Whether t) r
@@ -264,9 +264,9 @@ module _ (memory : Memory) {log : List Update} {o : Owners} {knows : ℕ → Kno
   exchanges : (p x y : ℕ) (r : Option Reply) → slot_in memory.slots (suc p) ≡ row_in x → MayExchange a (knows a) (suc p) x y → Next a (shared memory) (record (shared memory) { slots = put (slot_in memory.slots) (suc p) (row_in y) }) log o knows point logs (Exchange (suc p) x y) (Whether true) r
   exchanges p zero zero r s h = absurd h
   exchanges p zero (suc y) r s h = rests ((refl, (own_kept (suc p) Empty h.0).0)) (λ row l. refl) (subst (λ (v : OwnPage). IsTree (record (shared memory) { slots = put (slot_in memory.slots) (suc p) (Some (suc y)) }) log o (put knows a (finished (filled v (suc p) zero (suc y) (knows a)) r)) (put point a (point a)) (put logs a (log ∷ logs a))) (sym h.0)
-        (own_slot g a (suc p) (Some (suc y)) (Ready (suc y)) (own_kept (suc p) Empty h.0).0 ((own_kept (suc p) Empty h.0).0, refl) (finished (filled Empty (suc p) zero (suc y) (knows a)) r) refl refl refl refl refl refl refl refl))
+      (own_slot g a (suc p) (Some (suc y)) (Ready (suc y)) (own_kept (suc p) Empty h.0).0 ((own_kept (suc p) Empty h.0).0, refl) (finished (filled Empty (suc p) zero (suc y) (knows a)) r) refl refl refl refl refl refl refl refl))
   exchanges p (suc x) zero r s (inl h) = rests ((refl, inl (own_kept (suc p) (Ready (suc x)) h).0)) (λ row l. refl) (subst (λ (v : OwnPage). IsTree (record (shared memory) { slots = put (slot_in memory.slots) (suc p) None }) log o (put knows a (finished (emptied v (suc p) (suc x) (knows a)) r)) (put point a (point a)) (put logs a (log ∷ logs a))) (sym h)
-        (own_slot g a (suc p) None Empty (own_kept (suc p) (Ready (suc x)) h).0 ((own_kept (suc p) (Ready (suc x)) h).0, refl) (finished (emptied (Ready (suc x)) (suc p) (suc x) (knows a)) r) refl refl refl refl refl refl refl refl))
+      (own_slot g a (suc p) None Empty (own_kept (suc p) (Ready (suc x)) h).0 ((own_kept (suc p) (Ready (suc x)) h).0, refl) (finished (emptied (Ready (suc x)) (suc p) (suc x) (knows a)) r) refl refl refl refl refl refl refl refl))
   exchanges p (suc x) zero r s (inr h) = rests ((refl, inr (let w = own_kept (suc p) Gone h in (w.0, w.1, w.2)))) (λ row l. refl) (clears g a (suc p) (suc x) s h r)
   exchanges p (suc x) (suc y) r s h = links p x y r s h.basis h.content h.placed h.fits h.due
 

@@ -63,8 +63,7 @@ module _ (limits : Limits) (entries : List Entry) (points : List Bool) (last : E
             let was = (old n).1 (record { entry = h.entry; at = before; holds = subst (λ m. LinksUpdate m h.entry) (memory_at-push limits entries (last ∷ []) n (omega (arith, lt))) h.holds }) in
             (slice_get_kept points (mark ∷ []) n true was.0, (was.1.0, log_same (suc n) (omega (arith, lt)) ∙ was.1.1 ∙ ap (λ l. l ++ was.1.0 ∷ []) (sym (log_same n (omega (arith, lt))))))
         | inr here ↦
-            let made = now.1 (subst (λ m. LinksUpdate m last) (ap (memory_at limits entries') here.0 ∙ ap (memory_of limits) (take-push_whole entries (last ∷ []))) (subst (λ e. LinksUpdate (memory_at limits entries' n) e) here.1 h.holds)) in
-            (
+            let made = now.1 (subst (λ m. LinksUpdate m last) (ap (memory_at limits entries') here.0 ∙ ap (memory_of limits) (take-push_whole entries (last ∷ []))) (subst (λ e. LinksUpdate (memory_at limits entries' n) e) here.1 h.holds)) in (
               ap (slice_get points') (here.0 ∙ sym beside) ∙ slice_get-push points mark ∙ ap Some made.0,
               (made.1.0, ap (λ k. log_at entries' points' (suc k)) here.0 ∙ log_after ∙ made.1.1 ∙ ap (λ l. l ++ made.1.0 ∷ []) (sym log_before ∙ ap (log_at entries' points') (sym here.0))),
             )

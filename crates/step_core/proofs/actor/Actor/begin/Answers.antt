@@ -14,7 +14,7 @@ pub returns-clause-shows : goal.returns-clause-shows
 returns-clause-shows c = λ k h.
     let idle = idle_at _ _ _ _ _ c.requires.idle h.shows in record {
       shows = begun_left (begun k c.args.command) c.args.self.now.hand c.begin-op.result c.begin-op.ensures.state (c.begin-op.ensures.shows _ _ idle.rests) _ _ _ _ c.begin-op.ensures.limits c.begin-op.ensures.actor c.in-Step.wanted c.in-Step.ensures.obeys
-      c.in-Step.ensures.same c.in-Step.ensures.within c.in-Step.ensures.hand;
+          c.in-Step.ensures.same c.in-Step.ensures.within c.in-Step.ensures.hand;
       holds = holds_begun k c.args.command c.args.self.now.running c.args.self.now.hand _ c.requires.idle (begun_keeps c.begin-op.result c.args.self.now.hand _ c.begin-op.ensures.state c.in-Step.ensures.keeps) h.holds;
     }
 
