@@ -25,7 +25,7 @@ use Rattle.step_core.specs.declared.event.Event.TheVariants.{Began, Stepped, Don
 -- Where a core may want memory: how many entries its trace takes without a growth, and the step that each actor's operation wants.
 pub record Demand : Type 0 where
   pub room : ℕ
-  pub wanted : ℕ → Option (StepOf Record)
+  pub wanted : List (Option (StepOf Record))
 
 pub record Core : Type 0 where
   pub limits : Limits
@@ -59,7 +59,7 @@ MovesRecordAt (Some step) = MovesRecord step
 -- A turn wants memory only where the trace has no room left; but a step may want it also for a record that it places or reads.
 abbrev pub WantsMemory : Core → Turn → Type 0
 WantsMemory core (Begin actor command) = core.demand.room ≤ length core.entries
-WantsMemory core (Step actor) = (core.demand.room ≤ length core.entries) ⊎ MovesRecordAt (core.demand.wanted actor)
+WantsMemory core (Step actor) = (core.demand.room ≤ length core.entries) ⊎ ((wanted : Option (StepOf Record)) × (slice_get core.demand.wanted actor ≡ Some wanted) × MovesRecordAt wanted)
 
 -- what an exchange that won did, by the memory before it
 abbrev pub link_told : Memory → StepOf Record → Answer Record → Option Link
