@@ -1,5 +1,5 @@
 -- What each step answers, and what memory it leaves.
-use Rattle.std.specs.Prelude.{◌≡◌, ◌<◌, ◌+◌, ◌*◌, ◌/◌, ◌%◌, ◌^◌, ◌==◌, ◌||◌, ◌&&◌, ℕ, Bool, false, if◌then◌else◌, Some}
+use Rattle.std.specs.Prelude.{◌≡◌, ◌<◌, ◌+◌, ◌*◌, ◌/◌, ◌%◌, ◌^◌, ◌==◌, ◌||◌, ◌&&◌, ℕ, Bool, false, if◌then◌else◌, Some, ⊤}
 use Rattle.std.specs.Int.{bit_at}
 use Rattle.bw_model.specs.declared.step.Step.{Step}
 use Rattle.bw_model.specs.declared.step.Step.TheVariants.{Slot, Row, Epoch, Announce, PidBits, RowBits, Place, Exchange, TakePid, TakeRow, Enter, Leave, Retire, ReusePids, ReuseRows}
@@ -16,6 +16,12 @@ is_among word bits n = (n / 64 == word) && (bit_at bits (n % 64) == 1)
 pub record IsWordOf (free : ℕ → Bool) (word bits : ℕ) : Type 0 where
   pub fits : bits < 2 ^ 64
   pub says : (i : ℕ) → i < 64 → bit_at bits i ≡ (if free (64 * word + i) then 1 else 0)
+
+-- The step places a record, or reads one.
+abbrev pub MovesRecord : Step Record → Type 0
+MovesRecord (Place row content) = ⊤
+MovesRecord (Row row) = ⊤
+MovesRecord step = ⊥
 
 abbrev pub IsAnswer : Memory → Step Record → Answer Record → Type 0
 IsAnswer memory (Slot pid) answer = answer ≡ Number (memory.slots pid)

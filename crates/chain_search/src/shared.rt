@@ -1,5 +1,6 @@
 //! Records that rows and entries own together, and the steps, answers and entries that hold them.
-ghost use Rattle.std.specs.Prelude.{◌≡◌, IfOk};
+ghost use Rattle.std.specs.Prelude.{◌≡◌, IfOk, OnErr};
+ghost use Rattle.chain_search.specs.Steps.{MovesRecord};
 ghost use Rattle.chain_search.specs.declared.trace.Entry.TheVariants as entry;
 
 use crate::Entry;
@@ -144,7 +145,8 @@ pub fn shared_step<A: Allocator>(
     alloc: A,
     step: &Step<Record>,
 ) -> Result<Step<SharedRecord<A>>, AllocError>
-    ensures { IfOk result (λ shared. shared ≡ step.now) }
+    ensures ok { IfOk result (λ shared. shared ≡ step.now) }
+    ensures err { OnErr result (MovesRecord step.now) }
 {
     Ok(match step {
         Step::Slot(pid) => Step::Slot(*pid),
@@ -171,7 +173,8 @@ pub fn shared_step<A: Allocator>(
 pub fn step_again<A: Allocator>(
     step: &Step<SharedRecord<A>>,
 ) -> Result<Step<SharedRecord<A>>, AllocError>
-    ensures { IfOk result (λ again. again ≡ step.now) }
+    ensures ok { IfOk result (λ again. again ≡ step.now) }
+    ensures err { OnErr result (MovesRecord step.now) }
 {
     Ok(match step {
         Step::Slot(pid) => Step::Slot(*pid),

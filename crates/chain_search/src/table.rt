@@ -1,7 +1,7 @@
 //! The memory that all actors share, and what one step makes of it.
-ghost use Rattle.std.specs.Prelude.{◌≡◌, ◌<◌, ◌≤◌, ◌*◌, ◌%◌, ◌&&◌, ◌||◌, None, false, length, nat_le, nat_lt, replicate, slice_set, IfOk, Some, option_copied};
+ghost use Rattle.std.specs.Prelude.{◌≡◌, ◌<◌, ◌≤◌, ◌*◌, ◌%◌, ◌&&◌, ◌||◌, None, false, length, nat_le, nat_lt, replicate, slice_set, IfOk, OnErr, Some, option_copied};
 ghost use Rattle.deltas.specs.Memory.{opening, replaced_at};
-ghost use Rattle.chain_search.specs.Steps.{IsAnswer, IsWordOf, is_among, memory_after};
+ghost use Rattle.chain_search.specs.Steps.{IsAnswer, IsWordOf, MovesRecord, is_among, memory_after};
 ghost use Rattle.chain_search.specs.Tables.{IsWithin, is_free, memory_in};
 
 use crate::SharedRecord;
@@ -82,7 +82,8 @@ impl<A: Allocator> Table<A> {
         step: &Step<SharedRecord<A>>,
     ) -> Result<Answer<SharedRecord<A>>, AllocError>
         requires { IsWithin self.now actor step.now }
-        ensures { IfOk result (IsAnswer (memory_in self.now) step.now) }
+        ensures ok { IfOk result (IsAnswer (memory_in self.now) step.now) }
+        ensures err { OnErr result (MovesRecord step.now) }
     {
         let _ = actor;
         match step {

@@ -1,6 +1,8 @@
 -- What a turn makes of a core.
 use Rattle.std.proofs.Common.{◌≡◌, ◌≢◌, ◌<◌, inl, inr, ℕ, List, [], ◌∷◌, ◌++◌, length, Some, None, Option, Bool, true, false, set, get_or, ltb, arith, refl, sym, ap, subst, ◌∙◌}
 use Rattle.std.specs.Prelude.{slice_get, is_some, if◌then◌else◌}
+use Rattle.std.specs.Option.{option_map}
+use Rattle.std.proofs.lemmas.Option.{slice_get-map}
 use Rattle.std.proofs.lemmas.Bool.{lt-ltb, ltb-true}
 use Rattle.bw_model.specs.declared.command.Command.{Command}
 use Rattle.bw_model.specs.declared.command.Reply.{Reply}
@@ -25,11 +27,11 @@ use Rattle.tree_law.specs.Own.{RowsAreApart}
 use Rattle.tree_law.specs.TraceLaws.{Begins, Grows}
 use Rattle.core_law.specs.State.{IsLeafState}
 use Rattle.chain_search.specs.Recalled.{IsSpent, Recalled, blank, recall, recalls, recalls_after}
-use Rattle.step_core.specs.Actors.{IsActor, IsPlainlyAllowed, IsReady, IsServedAt, IsWithinAt, command_left, knows_then, running_command}
+use Rattle.step_core.specs.Actors.{IsActor, IsPlainlyAllowed, IsReady, IsServedAt, IsWithinAt, command_left, knows_then, running_command, wanted_by, wanted_in}
 use Rattle.step_core.proofs.Lawful.{Asks, asks, is_placed, served_at, within_at}
 use Rattle.step_core.specs.Cores.{IsCore, Pays}
 use Rattle.step_core.specs.Spending.{RecallsAt, Spends, left_at}
-use Rattle.step_core.specs.Turns.{Core, busy_of, refused_by, refusal_of}
+use Rattle.step_core.specs.Turns.{Core, Demand, MovesRecordAt, WantsMemory, busy_of, refused_by, refusal_of}
 use Rattle.step_core.proofs.Replaced.{get_below, get_is, replaced_other, replaced_same, set_cases, set_length}
 
 -- a begin that isn't refused
@@ -91,26 +93,26 @@ module _ (limits : Limits) where
 
   -- the actor of a turn that isn't refused
   pub core_begins : (table : Table) (actors : List Actor) (entries : List Entry) (i j : ℕ) (old : Actor) (command : Command) → IsCore limits table actors entries
-      → (room : ℕ) (v : Core) → record { limits = limits; entries = entries; room = room } ≡ v → refusal_of v (turn.Begin i command) ≡ None → j ≡ i → old ≡ get_or actors j old
+      → (demand : Demand) (v : Core) → record { limits = limits; entries = entries; demand = demand } ≡ v → refusal_of v (turn.Begin i command) ≡ None → j ≡ i → old ≡ get_or actors j old
       → (j < length actors) × IsActor limits i (knows entries i) old × (running_command old ≡ None)
-  core_begins table actors entries i j old command core room v is refusal same at =
-      let goes : (i < limits.actors) × (command_of entries i ≡ None) = begin_goes (record { limits = limits; entries = entries; room = room }) i command (subst (λ u. refusal_of u (turn.Begin i command) ≡ None) (sym is) refusal) in
+  core_begins table actors entries i j old command core demand v is refusal same at =
+      let goes : (i < limits.actors) × (command_of entries i ≡ None) = begin_goes (record { limits = limits; entries = entries; demand = demand }) i command (subst (λ u. refusal_of u (turn.Begin i command) ≡ None) (sym is) refusal) in
       let lt : i < length actors = rw core.count goes.0 in
       let found : slice_get actors i ≡ Some old = get_is actors i old lt (subst (λ k. old ≡ get_or actors k old) same at) in
       (rw same lt, core.each_shows i old found, core.each_running i old found ∙ goes.1)
 
   -- whether an actor that there is has an operation
-  pub core_busy : (table : Table) (actors : List Actor) (entries : List Entry) (i : ℕ) (at : Actor) → IsCore limits table actors entries → (room : ℕ) (v : Core) → record { limits = limits; entries = entries; room = room } ≡ v
+  pub core_busy : (table : Table) (actors : List Actor) (entries : List Entry) (i : ℕ) (at : Actor) → IsCore limits table actors entries → (demand : Demand) (v : Core) → record { limits = limits; entries = entries; demand = demand } ≡ v
       → slice_get actors i ≡ Some at → Some (is_some (running_command at)) ≡ busy_of v i
-  core_busy table actors entries i at core room v is found =
+  core_busy table actors entries i at core demand v is found =
       let lt : i < limits.actors = rw (← core.count) (get_below actors i at found) in
       rw (← is, lt-ltb i limits.actors lt, core.each_running i at found) refl
 
   pub core_asks : RowsAreApart → AnswersShowLeaf → (table : Table) (actors : List Actor) (entries : List Entry) (i j : ℕ) (old : Actor) → IsCore limits table actors entries
-      → (room : ℕ) (v : Core) → record { limits = limits; entries = entries; room = room } ≡ v → refusal_of v (turn.Step i) ≡ None → j ≡ i → old ≡ get_or actors j old
+      → (demand : Demand) (v : Core) → record { limits = limits; entries = entries; demand = demand } ≡ v → refusal_of v (turn.Step i) ≡ None → j ≡ i → old ≡ get_or actors j old
       → (i < limits.actors) × (j < length actors) × IsReady limits i (knows entries i) (memory_in table) old × (is_some (running_command old) ≡ true) × IsWithinAt table i old.running
-  core_asks apart fit table actors entries i j old core room v is refusal same at =
-      let goes : (i < limits.actors) × (is_some (command_of entries i) ≡ true) = step_goes (record { limits = limits; entries = entries; room = room }) i (subst (λ u. refusal_of u (turn.Step i) ≡ None) (sym is) refusal) in
+  core_asks apart fit table actors entries i j old core demand v is refusal same at =
+      let goes : (i < limits.actors) × (is_some (command_of entries i) ≡ true) = step_goes (record { limits = limits; entries = entries; demand = demand }) i (subst (λ u. refusal_of u (turn.Step i) ≡ None) (sym is) refusal) in
       let lt : i < length actors = rw core.count goes.0 in
       let found : slice_get actors i ≡ Some old = get_is actors i old lt (subst (λ k. old ≡ get_or actors k old) same at) in
       let shows = core.each_shows i old found in (
@@ -121,12 +123,23 @@ module _ (limits : Limits) where
         within_at limits entries core.state apart i table core.same_limits core.has goes.0 old.hand old.running shows.shows,
       )
 
+  -- a step that moves a record may want memory
+  pub core_wants : (table : Table) (actors : List Actor) (entries : List Entry) (i j : ℕ) (old : Actor) (room : ℕ) → IsCore limits table actors entries
+      → (v : Core) → record { limits = limits; entries = entries; demand = record { room = room; wanted = wanted_in actors } } ≡ v → refusal_of v (turn.Step i) ≡ None → j ≡ i → old ≡ get_or actors j old
+      → MovesRecordAt (wanted_by old.running) → WantsMemory v (turn.Step i)
+  core_wants table actors entries i j old room core v is refusal same at moves =
+      let goes : (i < limits.actors) × (is_some (command_of entries i) ≡ true) = step_goes (record { limits = limits; entries = entries; demand = record { room = room; wanted = wanted_in actors } }) i (subst (λ u. refusal_of u (turn.Step i) ≡ None) (sym is) refusal) in
+      let lt : i < length actors = rw core.count goes.0 in
+      let found : slice_get actors i ≡ Some old = get_is actors i old lt (subst (λ k. old ≡ get_or actors k old) same at) in
+      let wanted : slice_get (wanted_in actors) i ≡ Some (wanted_by old.running) = slice_get-map (λ (at : Actor). wanted_by at.running) actors i ∙ ap (option_map (λ (at : Actor). wanted_by at.running)) found in
+      subst (λ u. WantsMemory u (turn.Step i)) is (inr (wanted_by old.running, wanted, moves))
+
   pub core_begun : Begins IsLeafState → (table : Table) (actors : List Actor) (entries entries' : List Entry) (i j : ℕ) (new : Actor) (command : Command) → IsCore limits table actors entries
-      → (room : ℕ) (v : Core) → record { limits = limits; entries = entries; room = room } ≡ v → refusal_of v (turn.Begin i command) ≡ None → j ≡ i
+      → (demand : Demand) (v : Core) → record { limits = limits; entries = entries; demand = demand } ≡ v → refusal_of v (turn.Begin i command) ≡ None → j ≡ i
       → IsActor limits i (begun (knows entries i) command) new → running_command new ≡ Some command → ((r : Recalled) → RecallsAt new.running r) → Grows limits entries (Begin i command) → StaysDirect limits entries (Begin i command) i (left_at new.running)
       → entries' ≡ entries ++ Begin i command ∷ [] → IsCore limits table (set actors j new) entries'
-  core_begun begins table actors entries entries' i j new command core room v is refusal same shows runs recalled grows stays grown =
-      let goes : (i < limits.actors) × (command_of entries i ≡ None) = begin_goes (record { limits = limits; entries = entries; room = room }) i command (subst (λ u. refusal_of u (turn.Begin i command) ≡ None) (sym is) refusal) in
+  core_begun begins table actors entries entries' i j new command core demand v is refusal same shows runs recalled grows stays grown =
+      let goes : (i < limits.actors) × (command_of entries i ≡ None) = begin_goes (record { limits = limits; entries = entries; demand = demand }) i command (subst (λ u. refusal_of u (turn.Begin i command) ≡ None) (sym is) refusal) in
       rw (grown, same) (record {
         state = begins limits entries i command core.state goes.0 goes.1;
         direct = stays.state;

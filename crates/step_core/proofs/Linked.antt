@@ -1,10 +1,9 @@
 -- An exchange that won has a link, and no other step has one.
-use Rattle.std.proofs.Common.{◌≡◌, ◌<◌, ℕ, zero, suc, List, [], ◌∷◌, ◌++◌, Some, None, Option, Bool, true, false, refl, sym, ap, subst, arith, eqb, ◌∙◌}
+use Rattle.std.proofs.Common.{◌≡◌, ◌<◌, ℕ, zero, suc, Some, None, Option, Bool, true, false, refl, sym, ap, subst, arith, eqb, ◌∙◌}
 use Rattle.std.specs.Prelude.{is_some, IsTrue, if◌then◌else◌}
 use Rattle.std.specs.Option.{option_map}
 use Rattle.std.proofs.lemmas.Bool.Decides.{nat_tests}
 use Rattle.bw_model.specs.declared.command.Reply.{Reply}
-use Rattle.bw_model.specs.declared.limits.Limits.{Limits}
 use Rattle.bw_model.specs.declared.step.Answer.{Answer}
 use Rattle.bw_model.specs.declared.step.Answer.TheVariants.{Start, Number, Content, Whether, Done}
 use Rattle.bw_model.specs.declared.step.Link.TheVariants as link
@@ -14,7 +13,6 @@ use Rattle.deltas.specs.declared.record.Record.{Record}
 use Rattle.deltas.specs.Links.{record_link}
 use Rattle.chain_search.specs.declared.trace.Entry.{Entry}
 use Rattle.chain_search.specs.declared.trace.Entry.TheVariants as entry
-use Rattle.chain_search.specs.declared.trace.Turn.{Turn}
 use Rattle.chain_search.specs.Trace.{memory_of}
 use Rattle.step_core.specs.declared.event.Event.{Event}
 use Rattle.op_machine.specs.Links.{link_without}
@@ -22,7 +20,7 @@ use Rattle.chain_search.specs.Steps.{IsAnswer, memory_after}
 use Rattle.deltas.specs.Memory.{Memory}
 use Rattle.step_core.specs.declared.event.Event.TheVariants.{Stepped}
 use Rattle.step_core.proofs.Lawful.{Asks, HasHeads, is_placed}
-use Rattle.step_core.specs.Turns.{AddsTurn, Core, IsEventOf, IsToldBy, is_won, link_told, step_event}
+use Rattle.step_core.specs.Turns.{Core, IsEventOf, is_won, link_told, step_event}
 
 positive : (n : ℕ) → eqb n 0 ≡ false → 0 < n
 positive zero e = cc
@@ -83,22 +81,3 @@ event_is memory after actor step answer (Some reply) event left closed asks answ
 -- the same of equal cores
 pub told_to : (core view : Core) (added : Entry) (event : Event) → core ≡ view → IsEventOf (memory_of core.limits core.entries) added event → IsEventOf (memory_of view.limits view.entries) added event
 told_to core view added event is before = subst (λ v. IsEventOf (memory_of v.limits v.entries) added event) is before
-
--- a growth of the trace's room before the turn
-pub adds_again : (old grown new : Core) (turn : Turn) (event : Event) → grown.limits ≡ old.limits → grown.entries ≡ old.entries → AddsTurn grown turn event new → AddsTurn old turn event new
-adds_again old grown new turn event limits entries adds = record {
-  added = adds.added;
-  entries = adds.entries ∙ ap (λ es. es ++ adds.added ∷ []) entries;
-  of_turn = adds.of_turn;
-  told = subst (λ m. IsToldBy m adds.added) same adds.told;
-  event_of = subst (λ m. IsEventOf m adds.added event) same adds.event_of;
-  same_limits = adds.same_limits ∙ limits;
-}
-  where
-    same : memory_of grown.limits grown.entries ≡ memory_of old.limits old.entries
-    same = ap (λ l. memory_of l grown.entries) limits ∙ ap (memory_of old.limits) entries
-
-pub turned : (limits : Limits) (entries entries' : List Entry) (room room' : ℕ) (old new new' : Core) (turn turn' : Turn) (event event' : Event) → record { limits = limits; entries = entries; room = room } ≡ old → entries' ≡ entries
-    → turn ≡ turn' → event ≡ event' → new ≡ new' → AddsTurn (record { limits = limits; entries = entries'; room = room' }) turn' event' new' → AddsTurn old turn event new
-turned limits entries entries' room room' old new new' turn turn' event event' is kept by said after adds =
-    rw (← is, by, said, after) (adds_again (record { limits = limits; entries = entries; room = room }) (record { limits = limits; entries = entries'; room = room' }) new' turn' event' refl kept adds)

@@ -31,7 +31,7 @@ use Rattle.op_machine.specs.Quiet.{HasMapOf}
 use Rattle.step_core.specs.declared.actor.Actor.{Actor}
 use Rattle.step_core.specs.Cores.{IsCore}
 use Rattle.step_core.specs.Listed.{HasPage, IsListing, StandsAt, pairs_of, with_pair}
-use Rattle.step_core.specs.Turns.{Core}
+use Rattle.step_core.specs.Turns.{Core, Demand}
 
 everywhere : (key : List ℕ) → IsTrue (is_in_range [] None key)
 everywhere key = rw none_below_empty refl
@@ -103,8 +103,8 @@ module _ (limits : Limits) (entries : List Entry) where
     pub leaf_in_place : (chain : List Record) × StandsAt (memory_in table) 1 chain
     leaf_in_place = let only = stands limits entries core.state in (only.chain, leaf_in (memory_in table) core.has only)
 
-    pub core_lists : (room : ℕ) (view : Core) (pairs : List (List ℕ × List ℕ)) → record { limits = limits; entries = entries; room = room } ≡ view
+    pub core_lists : (demand : Demand) (view : Core) (pairs : List (List ℕ × List ℕ)) → record { limits = limits; entries = entries; demand = demand } ≡ view
         → ((chain : List Record) → StandsAt (memory_in table) 1 chain → HasPage chain pairs) → IsListing view.limits view.entries pairs
-    core_lists room view pairs is lists =
+    core_lists demand view pairs is lists =
         let only = stands limits entries core.state in
         subst (λ v. IsListing v.limits v.entries pairs) is (leaf_is_listed only pairs (lists only.chain (leaf_in (memory_in table) core.has only)))

@@ -26,7 +26,7 @@ pub stops : (limits : Limits) (turns : List Turn) (v : Core) (i : ℕ) (next : T
 stops limits turns v i next e taken same lt at refused memory linear = record {
   entries = v.entries;
   taken = rw long taken;
-  why = inr (next, refusal_of v next, rw long at, lin, (λ room. rw (sym same) refl), go (refusal_of v next) refl);
+  why = inr (next, refusal_of v next, rw long at, lin, (λ demand. rw (sym same) refl), go (refusal_of v next) refl);
 }
   where
     long : length v.entries ≡ i

@@ -1,5 +1,5 @@
 -- What an actor of a core keeps.
-use Rattle.std.specs.Prelude.{◌≡◌, ℕ, List, Option, Some, None}
+use Rattle.std.specs.Prelude.{◌≡◌, ℕ, List, Option, Some, None, map}
 use Rattle.bw_model.specs.declared.command.Command.{Command}
 use Rattle.bw_model.specs.declared.command.Reply.{Reply}
 use Rattle.bw_model.specs.declared.limits.Limits.{Limits}
@@ -81,6 +81,10 @@ IsReady limits actor k memory at = IsActor limits actor k at × IsServedAt limit
 abbrev pub wanted_by : Option Running → Option (StepOf Record)
 wanted_by None = None
 wanted_by (Some running) = Some running.wanted
+
+-- the step that each actor's operation wants, if it has one
+abbrev pub wanted_in : List Actor → List (Option (StepOf Record))
+wanted_in actors = map (λ (at : Actor). wanted_by at.running) actors
 
 -- the table has what that step asks for
 abbrev pub IsWithinAt : Table → ℕ → Option Running → Type 0

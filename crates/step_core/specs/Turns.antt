@@ -1,5 +1,5 @@
 -- A core as its callers see it, what it refuses, and what a turn adds.
-use Rattle.std.specs.Prelude.{◌≡◌, ℕ, List, [], ◌∷◌, ◌++◌, length, Option, Some, None, Bool, true, false, is_some, nat_lt, if◌then◌else◌, slice_get, take, map, unwrap_or, ◌⊎◌, ◌≤◌, ⊤}
+use Rattle.std.specs.Prelude.{◌≡◌, ℕ, List, [], ◌∷◌, ◌++◌, length, Option, Some, None, Bool, true, false, is_some, nat_lt, if◌then◌else◌, slice_get, take, map, unwrap_or, ◌⊎◌, ◌≤◌}
 use Rattle.bw_model.specs.declared.command.Reply.{Reply}
 use Rattle.bw_model.specs.declared.limits.Limits.{Limits}
 use Rattle.bw_model.specs.declared.step.Answer.{Answer}
@@ -12,7 +12,7 @@ use Rattle.chain_search.specs.declared.trace.Entry.{Entry}
 use Rattle.chain_search.specs.declared.trace.Entry.TheVariants as entry
 use Rattle.chain_search.specs.declared.trace.Turn.{Turn}
 use Rattle.chain_search.specs.declared.trace.Turn.TheVariants.{Begin, Step}
-use Rattle.chain_search.specs.Steps.{IsAnswer}
+use Rattle.chain_search.specs.Steps.{IsAnswer, MovesRecord}
 use Rattle.chain_search.specs.Trace.{command_of, memory_of, turn_of}
 use Rattle.deltas.specs.Memory.{Memory}
 use Rattle.op_machine.specs.Linearized.{IsLinearized}
@@ -22,11 +22,15 @@ use Rattle.step_core.specs.declared.event.RunError.TheVariants.{NoActor, Unfinis
 use Rattle.step_core.specs.declared.event.Event.{Event}
 use Rattle.step_core.specs.declared.event.Event.TheVariants.{Began, Stepped, Done}
 
--- room: how many entries the trace takes without a growth
+-- Where a core may want memory: how many entries its trace takes without a growth, and the step that each actor's operation wants.
+pub record Demand : Type 0 where
+  pub room : ℕ
+  pub wanted : List (Option (StepOf Record))
+
 pub record Core : Type 0 where
   pub limits : Limits
   pub entries : List Entry
-  pub room : ℕ
+  pub demand : Demand
 
 -- whether an actor has an operation, if there is such an actor
 abbrev pub busy_of : Core → ℕ → Option Bool
@@ -48,10 +52,14 @@ actor_of (Step actor) = actor
 abbrev pub refusal_of : Core → Turn → Option RunError
 refusal_of core turn = refused_by (length core.entries) turn (busy_of core (actor_of turn))
 
--- A begin wants memory only where its trace has no room left; a step may want it also for a record that it places or reads.
+abbrev pub MovesRecordAt : Option (StepOf Record) → Type 0
+MovesRecordAt None = ⊥
+MovesRecordAt (Some step) = MovesRecord step
+
+-- A turn wants memory only where the trace has no room left; but a step may want it also for a record that it places or reads.
 abbrev pub WantsMemory : Core → Turn → Type 0
-WantsMemory core (Begin actor command) = core.room ≤ length core.entries
-WantsMemory core (Step actor) = ⊤
+WantsMemory core (Begin actor command) = core.demand.room ≤ length core.entries
+WantsMemory core (Step actor) = (core.demand.room ≤ length core.entries) ⊎ ((wanted : Option (StepOf Record)) × (slice_get core.demand.wanted actor ≡ Some wanted) × MovesRecordAt wanted)
 
 -- what an exchange that won did, by the memory before it
 abbrev pub link_told : Memory → StepOf Record → Answer Record → Option Link
@@ -103,9 +111,9 @@ pub record StopsAt (old : Core) (turns : List Turn) (error : RunError) (new : Co
   pub refused : (refusal : RunError) → refusal_of new next ≡ Some refusal → error ≡ refusal
   pub memory : refusal_of new next ≡ None → (error ≡ OutOfMemory (length new.entries)) × WantsMemory new next
 
--- what the trace says of a turn, whatever room it has for more entries
+-- what the trace says of a turn, whatever the core wants memory for
 abbrev pub IsRefusal : Limits → List Entry → Turn → Option RunError → Type 0
-IsRefusal limits entries turn refusal = (room : ℕ) → refusal_of (record { limits = limits; entries = entries; room = room }) turn ≡ refusal
+IsRefusal limits entries turn refusal = (demand : Demand) → refusal_of (record { limits = limits; entries = entries; demand = demand }) turn ≡ refusal
 
 -- A run of the turns ends early. No core was opened, for want of memory; or some turns were taken, and the next one was refused,
 -- for want of memory only where nothing else refuses it.

@@ -1,7 +1,7 @@
 //! One actor of a core.
-ghost use Rattle.std.specs.Prelude.{◌≡◌, ◌<◌, ◌^◌, [], Some, None, IfOk, is_some, true};
+ghost use Rattle.std.specs.Prelude.{◌≡◌, ◌<◌, ◌^◌, [], Some, None, IfOk, OnErr, is_some, true};
 ghost use Rattle.chain_search.specs.Knowledge.{Knowledge, begun};
-ghost use Rattle.chain_search.specs.Steps.{IsAnswer, memory_after};
+ghost use Rattle.chain_search.specs.Steps.{IsAnswer, MovesRecord, memory_after};
 ghost use Rattle.chain_search.specs.Tables.{IsWithin as IsWithinTable, memory_in};
 ghost use Rattle.installs.specs.Held.{Keeps};
 ghost use Rattle.chain_search.specs.Recalled.{Recalled};
@@ -9,7 +9,7 @@ ghost use Rattle.op_machine.specs.Held.{rows_held};
 ghost use Rattle.step_core.specs.Actors.{IsActor, IsLeft, IsPlainlyAllowed, IsReady, IsRunning, IsServed, IsWithinAt, command_left, knows_then, running_command, wanted_by};
 ghost use Rattle.step_core.specs.Holding.{held_by};
 ghost use Rattle.step_core.specs.Spending.{RecallsAt, Spends, left_at, unless_done};
-ghost use Rattle.step_core.specs.Turns.{link_told, step_event};
+ghost use Rattle.step_core.specs.Turns.{MovesRecordAt, link_told, step_event};
 
 use crate::event::Event;
 use bw_model::{Answer, Command, Limits, Link, Reply, Step};
@@ -83,7 +83,7 @@ impl Actor {
         }
     }
 
-    /// What the step that its operation wants needs of memory, and its answer; refused for want of memory alone.
+    /// What the step that its operation wants needs of memory, and its answer; refused only where it moves a record.
     pub(crate) fn ready<A: Allocator>(
         &self,
         alloc: A,
@@ -95,6 +95,7 @@ impl Actor {
         ensures wanted { IfOk result (λ ready. wanted_by self.now.running ≡ Some ready.step) }
         ensures answer { IfOk result (λ ready. IsAnswer (memory_in memory.now) ready.step ready.answer) }
         ensures again { IfOk result (λ ready. ready.again ≡ ready.step) }
+        ensures err { OnErr result (MovesRecordAt (wanted_by self.now.running)) }
     {
         match &self.running {
             Some(running) => running.ready(alloc, actor, memory),
@@ -161,7 +162,7 @@ impl<A: Allocator> Stepped<A> {
 }
 
 impl Running {
-    /// What the step that is wanted needs of memory, and its answer; refused for want of memory alone.
+    /// What the step that is wanted needs of memory, and its answer; refused only where it moves a record.
     fn ready<A: Allocator>(
         &self,
         alloc: A,
@@ -172,6 +173,7 @@ impl Running {
         ensures wanted { IfOk result (λ ready. ready.step ≡ self.now.wanted) }
         ensures answer { IfOk result (λ ready. IsAnswer (memory_in memory.now) ready.step ready.answer) }
         ensures again { IfOk result (λ ready. ready.again ≡ ready.step) }
+        ensures err { OnErr result (MovesRecord self.now.wanted) }
     {
         let step = shared_step(alloc, &self.wanted)?;
         let again = step_again(&step)?;

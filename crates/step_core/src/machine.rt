@@ -28,12 +28,13 @@ pub struct Core<A: Allocator = Global> {
 
 impl<A: Allocator> Model for Core<A> {
     ghost use Rattle.std.specs.Vec.{vec_capacity};
+    ghost use Rattle.step_core.specs.Actors.{wanted_in};
     ghost use Rattle.step_core.specs.Cores.{IsCore};
     ghost use Rattle.step_core.specs.Turns.{Core};
 
     ghost Value = { Core };
 
-    ghost view = { λ c. record { limits = c.limits; entries = c.trace.items; room = vec_capacity c.trace } };
+    ghost view = { λ c. record { limits = c.limits; entries = c.trace.items; demand = record { room = vec_capacity c.trace; wanted = wanted_in c.actors.items } } };
 
     ghost invariant = { λ c. IsCore c.limits c.memory c.actors.items c.trace.items };
 }
@@ -121,7 +122,7 @@ impl<A: Allocator + Copy> Core<A> {
     fn begin(&mut self, actor: u8, command: Command) -> Result<Event, RunError>
         requires goes { refusal_of self.old (Turn.Begin actor command) ≡ None }
         ensures ok { IfOk result (λ event. AddsTurn self.old (Turn.Begin actor command) event self.new) }
-        ensures memory { IfErr result (λ error. (error ≡ RunError.Memory (length self.old.entries)) × (self.old.room ≤ length self.old.entries)) }
+        ensures memory { IfErr result (λ error. (error ≡ RunError.Memory (length self.old.entries)) × (self.old.demand.room ≤ length self.old.entries)) }
         ensures err { OnErr result (self.new ≡ self.old) }
     {
         begins_keep_laws();
@@ -137,11 +138,11 @@ impl<A: Allocator + Copy> Core<A> {
         Ok(Event::Began)
     }
 
-    /// Takes the step that an operation wants; refused for want of memory alone.
+    /// Takes the step that an operation wants; refused only where the trace has no room left and gets none, or the step moves a record.
     fn step(&mut self, actor: u8) -> Result<Event, RunError>
         requires goes { refusal_of self.old (Turn.Step actor) ≡ None }
         ensures ok { IfOk result (λ event. AddsTurn self.old (Turn.Step actor) event self.new) }
-        ensures memory { IfErr result (λ error. error ≡ RunError.Memory (length self.old.entries)) }
+        ensures memory { IfErr result (λ error. (error ≡ RunError.Memory (length self.old.entries)) × WantsMemory self.old (Turn.Step actor)) }
         ensures err { OnErr result (self.new ≡ self.old) }
     {
         steps_keep_laws();

@@ -2,10 +2,11 @@ use Rattle.std.proofs.Common.{ap, refl, ◌∙◌}
 use Rattle.chain_search.specs.Steps.{memory_after}
 use Rattle.chain_search.specs.Knowledge.{knows}
 use Rattle.chain_search.specs.declared.trace.Entry.TheVariants.{Step}
-use Rattle.step_core.proofs.Cored.{core_affords, core_asks, core_stepped, core_took}
+use Rattle.step_core.proofs.Cored.{core_affords, core_asks, core_stepped, core_took, core_wants}
 use Rattle.step_core.proofs.Lawful.{heads}
 use Rattle.step_core.proofs.Linked.{event_is, told_to}
 use Rattle.step_core.proofs.machine.Core.step.Goals as goal
+use Rattle.step_core.specs.declared.event.RunError.TheVariants.{Memory}
 
 pub invariant_of-self-2 : goal.invariant_of-self-2
 invariant_of-self-2 g c =
@@ -47,3 +48,7 @@ ready-requires-clause-running g c =
 pub ready-requires-clause-within : goal.ready-requires-clause-within
 ready-requires-clause-within g c =
     (core_asks _ c.steps_keep_laws.ensures.apart c.steps_keep_laws.ensures.fit _ _ _ _ _ _ c.self.invariant _ _ c.self.view_is c.requires.goes c.from.ensures c.index-place.ensures).4
+
+pub returns-in_default-clause-memory : goal.returns-in_default-clause-memory
+returns-in_default-clause-memory g c =
+    (ap Memory c.turns-number.ensures, core_wants _ _ _ _ _ _ _ _ c.self.invariant _ c.self.view_is c.requires.goes c.from.ensures c.index-place.ensures c.in_default.ensures.err)
