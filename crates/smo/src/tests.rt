@@ -5,6 +5,7 @@ ghost use Rattle.chain_search.specs.Chains.{is_removed};
 ghost use Rattle.chain_search.specs.Examples.{held_page, index, index_page, termed_page};
 
 mod grown;
+mod holds;
 mod merges;
 
 use crate::{Version, plan_hold, plan_remove, plan_root, plan_split, plan_term};
@@ -92,7 +93,7 @@ fn index() -> Page
     Page::new(1, Key::default(), None, None, items)
 }
 
-fn bare() -> Chain
+pub(crate) fn bare() -> Chain
     ensures { result ≡ index_page }
 {
     ChainPart::new().over(index())
@@ -132,7 +133,7 @@ fn held() -> Chain
     part.over(index())
 }
 
-fn parent(chain: Chain) -> Version
+pub(crate) fn parent(chain: Chain) -> Version
     ensures { result.chain ≡ chain }
 {
     Version {
