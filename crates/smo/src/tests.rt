@@ -7,6 +7,7 @@ ghost use Rattle.chain_search.specs.Examples.{held_page, index, index_page, term
 mod grown;
 mod holds;
 mod merges;
+mod roots;
 
 use crate::{Version, plan_hold, plan_remove, plan_root, plan_split, plan_term};
 use base_page::{Content, Items, Page};
