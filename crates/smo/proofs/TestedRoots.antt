@@ -1,5 +1,5 @@
 -- The lower part of a split index page, which tests make.
-use Rattle.std.proofs.Common.{codes, ◌≡◌, ◌≤◌, ◌<◌, ℕ, [], ◌∷◌, false, None, Some, refl, arith}
+use Rattle.std.proofs.Common.{codes, ◌≤◌, ◌<◌, ℕ, [], ◌∷◌, false, Some, refl, arith}
 use Rattle.std.specs.Prelude.{IsTrue}
 use Rattle.std.specs.List.Sorted.{IsStrictlySortedBy}
 use Rattle.std.proofs.lemmas.List.Elements.{All-from_recursion}

@@ -100,7 +100,7 @@ pub(crate) fn with_term(parent: Version, place: u8) -> Version
     requires alive { is_removed parent.chain ≡ false }
     ensures alive { is_removed result.chain ≡ false }
 {
-    let parent = short(parent);
+    let parent = consolidated(parent);
     let child = version(u16::from(place) + 10, 0, leaf(at(place), 0));
     match plan_term(&parent, &child) {
         None => parent,
@@ -108,12 +108,12 @@ pub(crate) fn with_term(parent: Version, place: u8) -> Version
     }
 }
 
-/// The parent where that page's term is held.
+/// The parent where that page's term is held, if it may be.
 pub(crate) fn with_hold(parent: Version, place: u8) -> Version
     requires alive { is_removed parent.chain ≡ false }
     ensures alive { is_removed result.chain ≡ false }
 {
-    let parent = short(parent);
+    let parent = consolidated(parent);
     let child = version(u16::from(place) + 10, 0, leaf(at(place), 0));
     match plan_hold(&parent, &child) {
         None => parent,
@@ -121,12 +121,21 @@ pub(crate) fn with_hold(parent: Version, place: u8) -> Version
     }
 }
 
-/// The page as a base alone.
-fn short(page: Version) -> Version
+/// The page with what it has in a base alone.
+fn consolidated(page: Version) -> Version
     requires alive { is_removed page.chain ≡ false }
     ensures alive { is_removed result.chain ≡ false }
 {
     based(page.pid, page.chain.consolidated())
+}
+
+/// The parent with the page's term, where it may get one.
+pub(crate) fn posted(parent: &Version, page: &Version) -> Option<Version>
+    requires alive { is_removed parent.now.chain ≡ false }
+    ensures alive { IfSome result (λ parent. is_removed parent.chain ≡ false) }
+{
+    let term = plan_term(parent, page)?;
+    Some(grown(parent, Record::Term(term)))
 }
 
 /// The parent with the page's term held, where it may be.

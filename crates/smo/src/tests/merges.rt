@@ -2,13 +2,13 @@
 ghost use Rattle.std.specs.Prelude.{◌≡◌, false, IfSome};
 ghost use Rattle.chain_search.specs.Chains.{is_removed};
 
-use crate::tests::grown::{at, held, joined, removed, root_over, split, thinned, without};
+use crate::tests::grown::{at, held, joined, posted, removed, root_over, split, thinned, without};
 use crate::tests::{leaf, version};
 use crate::{Version, plan_merge, plan_remove, plan_unterm};
 use base_page::Items;
 use bw_model::Key;
 
-/// A leaf up to the eighth key, the one from there up to the sixteenth with four items left, and a root that holds its term.
+/// A root that holds the term of its second leaf, the first leaf, and the second one, which has four items.
 fn family() -> Option<(Version, Version, Version)>
     ensures root { IfSome result (λ pages. is_removed pages.0.chain ≡ false) }
     ensures left { IfSome result (λ pages. is_removed pages.1.chain ≡ false) }
@@ -108,6 +108,21 @@ fn ends_a_term_inside_its_left_page(rt: HostRuntime) {
     let beside = version(4, 0, leaf(at(8), 12));
     assert!(rt; untermed(&root, &endless, &gone).is_some());
     assert!(rt; untermed(&root, &beside, &gone).is_none());
+}
+
+#[test]
+fn ends_no_term_beyond_its_left_page(rt: HostRuntime) {
+    let (left, _) = split(1, Key::default(), 16, 2).expect(&rt, "a split");
+    let (middle, last) = split(2, at(8), 24, 3).expect(&rt, "a split");
+    let last = thinned(last, 16);
+    let root = root_over(&left, &middle).expect(&rt, "a root");
+    let root = posted(&root, &last).expect(&rt, "a term");
+    let root = held(&root, &last).expect(&rt, "a hold");
+    let gone = removed(&root, &last).expect(&rt, "a removal");
+    assert!(rt; untermed(&root, &left, &gone).is_none());
+    assert!(rt; untermed(&root, &middle, &gone).is_none());
+    let whole = joined(&middle, &gone).expect(&rt, "a merge");
+    assert_eq!(rt; untermed(&root, &whole, &gone), Some((1, 7, at(16), 3)));
 }
 
 #[test]
