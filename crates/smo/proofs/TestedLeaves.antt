@@ -12,13 +12,13 @@ use Rattle.base_page.proofs.KeyLaws.{itself}
 use Rattle.deltas.specs.declared.record.Record.{Record}
 use Rattle.deltas.specs.declared.record.Record.TheVariants as kind
 use Rattle.deltas.specs.Spellable.{HasPid, IsSpellablePage}
-use Rattle.chain_search.specs.Chains.{high_in, is_removed, level_in, low_in}
+use Rattle.chain_search.specs.Chains.{covers, high_in, is_removed, level_in, low_in}
 use Rattle.chain_search.specs.Fitted.{FitsOver, IsFitted, IsPageChain}
 use Rattle.chain_search.proofs.FittedLaws.{over, ruled}
 use Rattle.chain_search.proofs.Updated.{delete_fits}
 use Rattle.smo.proofs.Places.{made}
 
-grow : (newest : Record) (chain : List Record) → FitsOver chain newest → IsFitted chain → IsFitted (newest ∷ chain)
+pub grow : (newest : Record) (chain : List Record) → FitsOver chain newest → IsFitted chain → IsFitted (newest ∷ chain)
 grow newest [] f h = absurd h
 grow newest (older ∷ under) f h = (f, h)
 
@@ -33,6 +33,12 @@ values_only (item ∷ items) h = (value item.content h.0, values_only items h.1)
     value : (content : Content) → IsOfLevel 0 content → HasPid content
     value (Value v) of = tt
     value (Child child held) of = absurd (omega (arith, of))
+
+pub delete_over : (chain : List Record) (key : List ℕ) → IsPageChain chain → is_removed chain ≡ false → level_in chain ≡ 0 → IsTrue (covers chain key) → FitsOver chain (kind.Delete (record { next = 3; key = key }))
+delete_over chain key is alive leaf covered =
+    let (now, makes) = made chain is.fitted in
+    delete_fits chain now (record { next = 3; key = key }) makes (ruled chain now is.fitted makes) (omega arith, omega arith)
+    (record { alive = makes.removed ∙ alive; leaf = makes.level ∙ leaf; covered = rw (makes.low, makes.high) covered })
 
 module _ (page : Page) (is_page : IsPage page) (level : page.level ≡ 0) (high : page.high ≡ None) (right : page.right ≡ None) (alive : page.removed ≡ false) where
   stands : IsSpellablePage page
@@ -70,3 +76,6 @@ module _ (page : Page) (is_page : IsPage page) (level : page.level ≡ 0) (high 
 
   pub page_chain : (records : List Record) → AllByRecursion (λ (r : Record). r ≡ delete) records → length records ≤ 12 → IsPageChain (over records page)
   page_chain records h few = record { fitted = (deletes_fit records h).fitted; short = (let longer = one_more (kind.Base page) records in omega (arith, few, longer)) }
+
+  pub page_lives : (records : List Record) → AllByRecursion (λ (r : Record). r ≡ delete) records → is_removed (over records page) ≡ false
+  page_lives records h = (deletes_fit records h).lives

@@ -1,7 +1,13 @@
 //! Plans over pages by hand, at the edges of their conditions.
 ghost use Rattle.std.specs.Prelude.{◌≡◌, ◌≤◌, length, None, false};
 ghost use Rattle.deltas.specs.Spellable.{IsPid};
+ghost use Rattle.chain_search.specs.Chains.{is_removed};
 ghost use Rattle.chain_search.specs.Examples.{held_page, index, index_page, termed_page};
+
+mod grown;
+mod holds;
+mod merges;
+mod roots;
 
 use crate::{Version, plan_hold, plan_remove, plan_root, plan_split, plan_term};
 use base_page::{Content, Items, Page};
@@ -9,7 +15,7 @@ use bw_model::{Key, Value};
 use chain_search::{Chain, ChainPart};
 use deltas::{Delete, Hold, Record, Term};
 
-fn key(text: &[u8]) -> Key
+pub(crate) fn key(text: &[u8]) -> Key
     requires { length text.now ≤ 32 }
     ensures { result ≡ text.now }
 {
@@ -17,7 +23,7 @@ fn key(text: &[u8]) -> Key
 }
 
 /// A leaf over all keys from the low one on, with so many items, the first one at the low key.
-fn leaf(low: Key, count: u8) -> Page
+pub(crate) fn leaf(low: Key, count: u8) -> Page
     ensures level { result.level ≡ 0 }
     ensures high { result.high ≡ None }
     ensures right { result.right ≡ None }
@@ -34,13 +40,14 @@ fn leaf(low: Key, count: u8) -> Page
 }
 
 /// The leaf as it was read, under so many deltas, which change nothing.
-fn version(pid: u16, deltas: usize, page: Page) -> Version
+pub(crate) fn version(pid: u16, deltas: usize, page: Page) -> Version
     requires pid { IsPid pid }
     requires few { deltas ≤ 12 }
     requires level { page.level ≡ 0 }
     requires high { page.high ≡ None }
     requires right { page.right ≡ None }
     requires alive { page.removed ≡ false }
+    ensures alive { is_removed result.chain ≡ false }
 {
     page.keeps_rules();
     let mut part = ChainPart::new();
@@ -87,7 +94,7 @@ fn index() -> Page
     Page::new(1, Key::default(), None, None, items)
 }
 
-fn bare() -> Chain
+pub(crate) fn bare() -> Chain
     ensures { result ≡ index_page }
 {
     ChainPart::new().over(index())
@@ -127,7 +134,7 @@ fn held() -> Chain
     part.over(index())
 }
 
-fn parent(chain: Chain) -> Version
+pub(crate) fn parent(chain: Chain) -> Version
     ensures { result.chain ≡ chain }
 {
     Version {
