@@ -93,6 +93,10 @@ IsPaid r (Slot (suc page)) (Number zero) = IsTrue r.walk.rooted × IsUnread (suc
 IsPaid r (Row row) (Content (Remove remove)) = IsTrue r.walk.rooted × IsFalse r.walk.removed
 IsPaid r step answer = ⊥
 
--- An operation that had so many steps left at most has fewer now, or the step was a cause, and is worth 2^18 more.
+-- Of the steps that were left at most there are fewer now, or the step was a cause, and is worth that many more.
+abbrev pub IsSpentWith : ℕ → Recalled → StepOf Record → Answer Record → ℕ → ℕ → Type 0
+IsSpentWith worth r step answer left rest = (rest < left) ⊎ (IsPaid r step answer × (rest < left + worth))
+
+-- of an operation: a cause is worth 2^18 steps
 abbrev pub IsSpent : Recalled → StepOf Record → Answer Record → ℕ → ℕ → Type 0
-IsSpent r step answer left rest = (rest < left) ⊎ (IsPaid r step answer × (rest < left + 2 ^ 18))
+IsSpent r step answer left rest = IsSpentWith (2 ^ 18) r step answer left rest
