@@ -16,7 +16,7 @@ use Rattle.base_page.specs.Pages.{content_at}
 use Rattle.deltas.specs.declared.record.Record.{Record}
 use Rattle.deltas.specs.declared.record.Record.TheVariants.{Base, Put, Delete, Split, Term, Hold, Remove, Merge, Unterm}
 use Rattle.deltas.specs.Records.{next_row}
-use Rattle.chain_search.specs.Chains.{IsChainFrom, IsItemsOf, content_in, level_in, low_in, high_in, right_in, is_removed, covers}
+use Rattle.chain_search.specs.Chains.{IsChainFrom, content_in, level_in, low_in, high_in, right_in, is_removed, covers}
 use Rattle.chain_search.specs.Fitted.{FitsOver, IsFitted}
 use Rattle.chain_search.specs.Knowledge.{OwnRow, Foreign, Taken, Written, Empty, Ready, Gone, Limbo, Stamped, Knowledge}
 use Rattle.chain_search.specs.Steps.{is_among}
@@ -298,22 +298,9 @@ pub record MayAnswer (actor : ℕ) (k : Knowledge) (command : Command) (reply : 
   pub is : reply_of command (found chain (command_key command)) ≡ Some reply
   pub basis : HasBasis actor k command row chain
 
--- The chain has 16 items or more.
-abbrev pub HasNoRoom : List Record → Type 0
-HasNoRoom chain = (items : List Item) × IsItemsOf chain items × (16 ≤ length items)
-
--- A whole chain without room, each of its records read after its slot.
-pub record ReadsNoRoom (k : Knowledge) : Type 0 where
-  pub page : ℕ
-  pub row : ℕ
-  pub chain : List Record
-  pub head : k.read.heads page ≡ Some row
-  pub read : IsChainFrom k.read.recent row chain
-  pub full : HasNoRoom chain
-
--- Each word of the free PIDs, or of the free rows, was read as 0, or a page was read that has no room.
+-- Each word of the free PIDs, or each word of the free rows, was read as 0.
 abbrev pub LacksRoom : Limits → Knowledge → Type 0
-LacksRoom limits k = (((word : ℕ) → word < limits.pids / 64 → IsTrue (k.asked.no_pids word)) ⊎ ((word : ℕ) → word < limits.rows / 64 → IsTrue (k.asked.no_rows word))) ⊎ ReadsNoRoom k
+LacksRoom limits k = ((word : ℕ) → word < limits.pids / 64 → IsTrue (k.asked.no_pids word)) ⊎ ((word : ℕ) → word < limits.rows / 64 → IsTrue (k.asked.no_rows word))
 
 -- Full: the command may change the map, nothing was linked, and there is no room for the change.
 pub record MayGiveUp (limits : Limits) (actor : ℕ) (k : Knowledge) (command : Command) (reply : Reply) : Type 0 where

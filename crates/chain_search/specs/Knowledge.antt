@@ -40,7 +40,6 @@ pub record Readings : Type 0 where
   pub learnt : ℕ → Bool  -- rows whose names it learnt
   pub roots : ℕ → Bool  -- pages read as the root
   pub seen : ℕ → Option Record  -- records
-  pub recent : ℕ → Option Record  -- those of them that it read after the last slot of a page
   pub heads : ℕ → Option ℕ  -- slots, as last read in this operation
   pub before : ℕ → ℕ → Option ℕ  -- for each slot, the slots as they had last been read when it was read
 
@@ -70,7 +69,7 @@ pub record Knowledge : Type 0 where
   pub limbo : Limbos
 
 abbrev pub unread : Readings
-unread = record { learnt = λ row. false; roots = λ page. false; seen = λ row. None; recent = λ row. None; heads = λ page. None; before = λ page other. None }
+unread = record { learnt = λ row. false; roots = λ page. false; seen = λ row. None; heads = λ page. None; before = λ page other. None }
 
 abbrev pub nothing : Knowledge
 nothing = record {
@@ -98,7 +97,6 @@ learn_head page row k = record k {
   read = record k.read {
     before = replaced_at page k.read.heads k.read.before;
     heads = replaced_at page (Some row) k.read.heads;
-    recent = λ other. None;
     learnt = replaced_at row true k.read.learnt;
   };
 }
@@ -224,7 +222,6 @@ exchanged (suc page) old (suc row) k = filled (k.own.pages (suc page)) (suc page
 abbrev pub learn_record : ℕ → Record → Readings → Readings
 learn_record row content read = record read {
   seen = replaced_at row (Some content) read.seen;
-  recent = replaced_at row (Some content) read.recent;
   learnt = learnt_next (next_row content) read.learnt;
 }
 

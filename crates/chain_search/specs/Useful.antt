@@ -1,5 +1,5 @@
 -- Consolidations that are of use.
-use Rattle.std.specs.Prelude.{◌≡◌, ◌<◌, length, ⊤}
+use Rattle.std.specs.Prelude.{◌≡◌, ◌<◌, suc, length, ⊤}
 use Rattle.bw_model.specs.declared.step.Step.{Step as StepOf}
 use Rattle.bw_model.specs.declared.step.Step.TheVariants.{Exchange}
 use Rattle.base_page.specs.Pages.{Page}
@@ -8,7 +8,7 @@ use Rattle.deltas.specs.declared.record.Record.TheVariants.{Base}
 use Rattle.chain_search.specs.Discipline.{HasRead}
 use Rattle.chain_search.specs.Knowledge.{Written, Knowledge}
 
--- Over a chain that was read a base goes only where there are deltas.
+-- Over a page's chain that was read a base goes only where there are deltas.
 abbrev pub IsUseful : Knowledge → StepOf Record → Type 0
-IsUseful k (Exchange slot old new) = (basis : HasRead k slot old) (page : Page) → k.own.rows new ≡ Written (Base page) → 1 < length basis.chain
+IsUseful k (Exchange (suc page) (suc old) (suc new)) = (basis : HasRead k (suc page) (suc old)) (page' : Page) → k.own.rows (suc new) ≡ Written (Base page') → 1 < length basis.chain
 IsUseful k step = ⊤

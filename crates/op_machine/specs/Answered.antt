@@ -1,19 +1,15 @@
 -- What each finished operation has replied.
-use Rattle.std.specs.Prelude.{◌≡◌, ◌<◌, ◌≤◌, ◌/◌, ℕ, List, length, Bool, true, false, Some, slice_get, IsTrue, ◌⊎◌}
+use Rattle.std.specs.Prelude.{◌≡◌, ◌<◌, ◌/◌, ℕ, List, Bool, true, false, Some, IsTrue, ◌⊎◌}
 use Rattle.bw_model.specs.declared.command.Command.{Command}
 use Rattle.bw_model.specs.declared.command.Command.TheVariants.{Get, Insert, Upsert, Delete}
 use Rattle.bw_model.specs.declared.command.Reply.{Reply}
 use Rattle.bw_model.specs.declared.command.Reply.TheVariants as reply
 use Rattle.bw_model.specs.declared.limits.Limits.{Limits}
-use Rattle.bw_model.specs.declared.step.Step.TheVariants.{Slot, Row, PidBits, RowBits}
-use Rattle.bw_model.specs.declared.step.Answer.TheVariants.{Number, Content}
+use Rattle.bw_model.specs.declared.step.Step.TheVariants.{PidBits, RowBits}
+use Rattle.bw_model.specs.declared.step.Answer.TheVariants.{Number}
 use Rattle.bw_model.specs.Log.{Update, value_in}
 use Rattle.bw_model.specs.Replies.{command_key, reply_of}
-use Rattle.base_page.specs.declared.item.Item.{Item}
-use Rattle.deltas.specs.declared.record.Record.{Record}
 use Rattle.chain_search.specs.declared.trace.Entry.{Entry}
-use Rattle.chain_search.specs.Chains.{IsChainOf, IsItemsOf, chain_rows}
-use Rattle.chain_search.specs.Trace.{memory_at}
 use Rattle.op_machine.specs.Operations.{Operation, IsOperation, IsOwnStep, TakesOwnStep, Finishes}
 use Rattle.op_machine.specs.Points.{log_at, IsPoint}
 
@@ -33,24 +29,9 @@ module _ (limits : Limits) (entries : List Entry) where
   FindsNothingFree operation = ((word : ℕ) → word < limits.pids / 64 → (n : ℕ) × TakesOwnStep entries operation n (PidBits word) (Number 0))
       ⊎ ((word : ℕ) → word < limits.rows / 64 → (n : ℕ) × TakesOwnStep entries operation n (RowBits word) (Number 0))
 
-  -- The operation has read, after step n, each record of the chain, at its row; the chain's rows begin at this one.
-  abbrev pub ReadsChain : Operation → ℕ → ℕ → List Record → Type 0
-  ReadsChain operation n row chain = (k at : ℕ) (content : Record) → slice_get (chain_rows row chain) k ≡ Some at → slice_get chain k ≡ Some content
-      → (m : ℕ) × (n < m) × TakesOwnStep entries operation m (Row at) (Content content)
-
-  -- The chain has 16 items or more.
-  abbrev pub IsFullChain : List Record → Type 0
-  IsFullChain chain = (items : List Item) × IsItemsOf chain items × (16 ≤ length items)
-
-  -- The operation has read the slot of a page, and then the whole chain that stood there, which has no room.
-  -- This is for a time: it leaves with splits.
-  abbrev pub FindsPageFull : Operation → Type 0
-  FindsPageFull operation = (n pid row : ℕ) × (chain : List Record) × TakesOwnStep entries operation n (Slot pid) (Number row) × IsChainOf (memory_at limits entries n) pid chain
-      × ReadsChain operation n row chain × IsFullChain chain
-
   -- What the reply says of the operation.
   abbrev pub IsTrueReply : List Bool → Operation → Reply → Type 0
-  IsTrueReply points operation reply.Full = IsTrue (is_writer operation.command) × (FindsNothingFree operation ⊎ FindsPageFull operation)
+  IsTrueReply points operation reply.Full = IsTrue (is_writer operation.command) × FindsNothingFree operation
   IsTrueReply points operation answer = (n : ℕ) × IsOwnStep entries operation n × IsPoint points n × RepliesAt (log_at entries points n) operation.command answer
 
   pub record IsAnswered (points : List Bool) : Type 0 where
