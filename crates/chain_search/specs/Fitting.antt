@@ -11,7 +11,7 @@ use Rattle.deltas.specs.declared.record.Record.{Record}
 use Rattle.deltas.specs.Records.{next_row}
 use Rattle.chain_search.specs.Chains.{IsChainFrom, IsFront, content_in, level_in, low_in, high_in, right_in, is_removed, covers}
 use Rattle.chain_search.specs.Fitted.{IsPageChain}
-use Rattle.chain_search.specs.Knowledge.{Foreign, Other, Ready, Gone, Absent, Knowledge}
+use Rattle.chain_search.specs.Knowledge.{Foreign, Other, Empty, Ready, Gone, Absent, Knowledge}
 use Rattle.chain_search.specs.Discipline.{HasRead, IsBeyond}
 
 -- a number that a word of free bits shows as free is above 0 and below the limit
@@ -67,11 +67,12 @@ pub record FitsTaken (limits : Limits) (k : Knowledge) (row : ℕ) : Type 0 wher
   pub unseen : k.read.seen row ≡ None
   pub freed : k.limbo.rows row ≡ Absent
 
--- a PID that was taken is below the limit, and was not the actor's before nor in its limbo
+-- a PID that was taken is below the limit, was not the actor's before nor in its limbo, and is of no page that it has read
 pub record FitsTakenPid (limits : Limits) (k : Knowledge) (pid : ℕ) : Type 0 where
   pub some : 0 < pid
   pub below : pid < limits.pids
   pub other : k.own.pages pid ≡ Other
+  pub unread : k.read.heads pid ≡ None
   pub freed : k.limbo.pids pid ≡ Absent
 
 -- An exchange of an own page's slot, from 0 or back to 0, wins; so does the one to 0 of a page whose term the actor took out,
@@ -83,10 +84,11 @@ FitsExchange k (suc page) (suc old) zero went = (k.own.pages (suc page) ≡ Read
 FitsExchange k (suc page) (suc old) (suc new) went = went ≡ true → k.own.pages (suc page) ≡ Other
 
 -- Slot 0 has a PID, of a page that begins at the empty key; another slot that may be read has a row, or 0 if its page was cleared,
--- which no page is that was the root; one that was read removed stays as it was until then.
+-- which no page is that was the root; one that was read removed stays as it was until then; and it is not the slot of a page
+-- that the actor took and has not set.
 abbrev pub Fits : Limits → Knowledge → StepOf Record → Answer Record → Type 0
 Fits limits k (Slot zero) (Number n) = (0 < n) × (n < limits.pids) × ((head : ℕ) (chain : List Record) → k.read.heads n ≡ Some head → IsChainFrom k.read.seen head chain → low_in chain ≡ [])
-Fits limits k (Slot (suc page)) (Number n) = (n < limits.rows) × (IsTrue (k.read.roots (suc page)) → 0 < n) × ((head : ℕ) → ReadsRemoved k (suc page) head → (n ≡ head) ⊎ (n ≡ 0))
+Fits limits k (Slot (suc page)) (Number n) = (n < limits.rows) × (IsTrue (k.read.roots (suc page)) → 0 < n) × ((head : ℕ) → ReadsRemoved k (suc page) head → (n ≡ head) ⊎ (n ≡ 0)) × (k.own.pages (suc page) ≡ Empty → ⊥)
 Fits limits k (Row row) (Content content) = FitsRow limits k row content
 Fits limits k Epoch (Number n) = (0 < n) × (n ≤ 2 ^ 62)
 Fits limits k (Announce other) (Number n) = n ≤ 2 ^ 62

@@ -10,9 +10,3 @@ pub mod RowReuse
 pub mod Refused
 pub mod ClaimedInsert
 pub mod PairLaws
-pub mod FrontLaws
-pub mod Commands
-pub mod Changes
-pub mod Moves
-pub mod Ends
-pub mod Spending

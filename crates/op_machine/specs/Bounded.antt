@@ -1,50 +1,89 @@
 -- How many steps an operation takes at most, but for those that a cause pays for.
-use Rattle.std.specs.Prelude.{◌<◌, ◌+◌, ◌-◌, ℕ, List, length, Option, None, Some, ◌⊎◌, ⊤}
+use Rattle.std.specs.Prelude.{◌<◌, ◌+◌, ◌*◌, ◌⊎◌, ◌^◌, ℕ, List, length, Option, None, Some, ⊤}
 use Rattle.bw_model.specs.declared.step.Answer.{Answer}
 use Rattle.bw_model.specs.declared.step.Step.{Step as StepOf}
 use Rattle.deltas.specs.declared.record.Record.{Record}
+use Rattle.chain_search.specs.Knowledge.{Knowledge}
+use Rattle.chain_search.specs.Recalled.{Recalled, IsSpent}
+use Rattle.descent.specs.ReadRounds as read
+use Rattle.descent.specs.WriteRounds as write
+use Rattle.descent.specs.Walks.{few_reads}
+use Rattle.descent.specs.declared.read_round.ReadEnd.TheVariants as read_end
+use Rattle.descent.specs.declared.write_round.WriteEnd.TheVariants as write_end
 use Rattle.installs.specs.Bounded as change
-use Rattle.chain_search.specs.Recalled.{Recalled, WasHead, IsPaid, recall}
-use Rattle.op_machine.specs.declared.op.State.{State}
-use Rattle.op_machine.specs.declared.op.State.TheVariants.{Begun, Epoch, Enter, Root, Slot, Row, Install, Leave, Over}
+use Rattle.installs.specs.Spares.{Spares}
+use Rattle.installs.specs.declared.change.End.{End}
+use Rattle.installs.specs.declared.change.End.TheVariants.{Won, Lost, Full}
+use Rattle.op_machine.specs.Ops.{Op, Shows, wanted_of}
+use Rattle.op_machine.specs.Shows.{FitsLast, Stands, recall_last, wanted_at}
+use Rattle.op_machine.specs.Tasks.{Task}
 use Rattle.op_machine.specs.declared.op.Want.{Want}
 use Rattle.op_machine.specs.declared.op.Want.TheVariants.{Step, Done}
-use Rattle.op_machine.specs.Wants.{Op, wanted_of}
+use Rattle.op_machine.specs.declared.state.Outcome.{Outcome}
+use Rattle.op_machine.specs.declared.state.Outcome.TheVariants.{Begun, Epoch, Entered, Read, Written, Changed, Left}
+use Rattle.op_machine.specs.declared.state.State.{State}
+use Rattle.op_machine.specs.declared.state.State.TheVariants as at
+use Rattle.op_machine.specs.declared.state.Then.{Then}
+use Rattle.op_machine.specs.declared.state.Then.TheVariants.{Round, Errand, Reply}
 
--- how many steps an operation takes at most from a state on, with the one that it has asked for and the deltas that it has read
-abbrev pub left_at : List Record → State → ℕ
-left_at part Begun = 279
-left_at part Epoch = 278
-left_at part (Enter epoch) = 277
-left_at part Root = 276
-left_at part (Slot pid) = 275
-left_at part (Row pid head row) = 274 - length part
-left_at part (Install install reply) = change.steps_left install.state + 1
-left_at part (Leave reply) = 1
-left_at part Over = 0
+-- how many steps a change takes at most
+abbrev pub few_changes : ℕ
+few_changes = 800
 
-abbrev pub steps_left : Op → ℕ
-steps_left op = left_at op.part op.state
+-- how many steps a round takes at most, with the change that it ends with, and the last step
+abbrev pub one_round : ℕ
+one_round = few_reads + few_changes + 1
 
--- A page's slot was read as the row from which on its chain is read, or over which a record is linked.
-abbrev pub RecallsAt : Recalled → State → Type 0
-RecallsAt r (Row pid head row) = WasHead r pid head
-RecallsAt r (Install install reply) = change.Recalls install r
-RecallsAt r state = ⊤
+-- how many steps an operation takes at most from a state on, with the one that it has asked for, but for those of its errands
+abbrev pub left_at : Recalled → Spares → State → ℕ
+left_at r spares at.Begun = one_round + 3
+left_at r spares at.Epoch = one_round + 2
+left_at r spares (at.Enter epoch) = one_round + 1
+left_at r spares (at.Read round) = read.reads_left one_round r round + 1
+left_at r spares (at.Write round) = write.reads_left one_round r round + few_changes + 1
+left_at r spares (at.Change now then) = change.steps_left one_round now spares + 1
+left_at r spares (at.Leave reply) = 1
+left_at r spares at.Over = 0
 
-abbrev pub Recalls : Op → Recalled → Type 0
-Recalls op r = RecallsAt r op.state
+-- each errand takes a round
+abbrev pub with_errands : List (List ℕ) → ℕ → ℕ
+with_errands errands left = left + one_round * length errands
 
--- what is recalled once the step wanted last has its answer
-abbrev pub recall_last : Recalled → Option (StepOf Record) → Answer Record → Recalled
-recall_last r None told = r
-recall_last r (Some asked) told = recall r asked told
+abbrev pub steps_left : Recalled → Op → Spares → ℕ
+steps_left r op spares = with_errands op.task.errands (left_at r spares op.state)
 
-abbrev pub IsPaidLast : Recalled → Option (StepOf Record) → Answer Record → Type 0
-IsPaidLast r None told = ⊥
-IsPaidLast r (Some asked) told = IsPaid r asked told
+-- how many steps are to be left for what an outcome faces
+abbrev pub left_for : Outcome → ℕ
+left_for Begun = one_round + 2
+left_for (Epoch epoch) = one_round + 1
+left_for Entered = one_round
+left_for (Read read_end.Again) = one_round
+left_for (Read (read_end.Removed page)) = one_round
+left_for (Read (read_end.Leaf leaf)) = 1
+left_for (Written write_end.Again) = one_round
+left_for (Written (write_end.Removed page)) = one_round
+left_for (Written end) = few_changes + 1
+left_for (Changed Won (Reply reply)) = 1
+left_for (Changed Won Round) = one_round
+left_for (Changed Won (Errand key)) = one_round + one_round
+left_for (Changed Lost then) = one_round
+left_for (Changed Full then) = 1
+left_for (Left reply) = 0
 
--- An operation that goes on recalls what it has read, and has fewer steps left, or a cause paid for more.
-abbrev pub Spends : Op → Answer Record → Op → Want → Type 0
-Spends old told new (Step asked) = (r : Recalled) → Recalls old r → Recalls new (recall_last r (wanted_of old) told) × ((steps_left new < steps_left old) ⊎ IsPaidLast r (wanted_of old) told)
-Spends old told new (Done reply) = ⊤
+-- One step fewer is left, or a cause paid for more; before the first step there is none.
+abbrev pub IsSpentLast : Recalled → Option (StepOf Record) → Answer Record → ℕ → ℕ → Type 0
+IsSpentLast r None told left rest = rest < left
+IsSpentLast r (Some asked) told left rest = IsSpent r asked told left rest
+
+-- what an answer leaves
+abbrev pub LeavesFor : Recalled → Option (StepOf Record) → Answer Record → ℕ → State → Spares → Option Outcome → Type 0
+LeavesFor r last told left new has None = IsSpentLast r last told left (left_at (recall_last r last told) has new)
+LeavesFor r last told left new has (Some outcome) = IsSpentLast r last told left (left_for outcome)
+
+-- An operation that goes on has fewer steps left, or a cause paid for more.
+abbrev pub SpendsTo : Recalled → Op → Spares → Answer Record → Op → Spares → Want → Type 0
+SpendsTo r old had told new has (Step asked) = IsSpentLast r (wanted_of old had) told (steps_left r old had) (steps_left (recall_last r (wanted_of old had) told) new has)
+SpendsTo r old had told new has (Done reply) = ⊤
+
+abbrev pub Spends : Op → Spares → Answer Record → Op → Spares → Want → Type 0
+Spends old had told new has want = (k : Knowledge) (r : Recalled) → Shows old had k r → FitsLast old.task.limits k (wanted_of old had) told → SpendsTo r old had told new has want

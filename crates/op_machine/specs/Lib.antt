@@ -10,9 +10,11 @@ pub mod Reuse
 pub mod Direct
 pub mod Linearized
 pub mod Examples
-pub mod OneLeaf
-pub mod Wants
-pub mod Shows
-pub mod Held
-pub mod Bounded
 pub mod Updates
+pub mod Tasks
+pub mod Errands
+pub mod Brings
+pub mod Shows
+pub mod Outcomes
+pub mod Ops
+pub mod Bounded

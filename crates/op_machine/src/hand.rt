@@ -1,19 +1,19 @@
 //! What an actor keeps between operations.
-ghost use Rattle.std.specs.Prelude.{◌≡◌, []};
+ghost use Rattle.std.specs.Prelude.{◌≡◌, [], None};
 
 use installs::Spares;
 use std::marker::Model;
 
-/// What an actor keeps between operations: the rows that it took and never linked.
+/// What an actor keeps between operations: the rows and the PID that it took and never linked.
 #[derive(Debug, Drop)]
 pub struct Hand {
     pub(crate) spares: Spares,
 }
 
 impl Model for Hand {
-    ghost use Rattle.std.specs.Prelude.{List, ℕ};
+    ghost use Rattle.installs.specs.Spares.{Spares};
 
-    ghost Value = { List ℕ };
+    ghost Value = { Spares };
 
     ghost view = { λ h. h.spares };
 }
@@ -21,7 +21,7 @@ impl Model for Hand {
 impl Hand {
     /// A hand that holds nothing.
     pub fn plain() -> Hand
-        ensures { result ≡ [] }
+        ensures { result ≡ record { pid = None; rows = [] } }
     {
         Hand {
             spares: Spares::new(),

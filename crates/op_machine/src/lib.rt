@@ -1,13 +1,17 @@
 //! Operations, as the steps of one actor, and the laws of their runs.
 #![tactic(auto)]
 
+mod errands;
 mod examples;
 mod hand;
 mod laws;
 mod link;
 mod listing;
 mod op;
+mod state;
+mod task;
 
+pub use errands::MAX_ERRANDS;
 pub use examples::{
     claimed_insert_is_refused, hurried_reuse_is_refused, insert_and_lookup_is_linearized,
     lookup_is_linearized, page_lives, row_is_freed, unnamed_read_is_refused,

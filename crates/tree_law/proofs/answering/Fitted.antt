@@ -135,7 +135,7 @@ module _ (limits : Limits) (entries : List Entry) (state : IsState limits entrie
       is_unseen (Some w) h = let f = was in let g = h.0 in absurd (cc)
 
   fits_taken_pid : (q : ℕ) → m.free_pids q ≡ true → FitsTakenPid limits k q
-  fits_taken_pid q e = record { some = (state.named.free_pid_below q e).0; below = (state.named.free_pid_below q e).1; other = is_other (k.own.pages q) (state.good.owns_pages a q); freed = not_in_limbo (state.times.page_out q) (not_out (state.times.page_out q) refl) (k.limbo.pids q) (state.timed.limbo_pids a q) }
+  fits_taken_pid q e = record { some = (state.named.free_pid_below q e).0; below = (state.named.free_pid_below q e).1; other = is_other (k.own.pages q) (state.good.owns_pages a q); unread = is_unread (k.read.heads q) ((state.good.sound a).heads_fit q); freed = not_in_limbo (state.times.page_out q) (not_out (state.times.page_out q) refl) (k.limbo.pids q) (state.timed.limbo_pids a q) }
     where
       was : state.owners.page q ≡ Nobody
       was = (state.good.frees.page q e).0
@@ -149,6 +149,10 @@ module _ (limits : Limits) (entries : List Entry) (state : IsState limits entrie
       is_other Empty h = let f = was in let g = h.0 in absurd (cc)
       is_other (Ready row) h = let f = was in let g = h.0 in absurd (cc)
       is_other Gone h = let f = was in let g = h.2 in absurd (cc)
+
+      is_unread : (h : Option ℕ) → HeadFits state.owners (shared m) (state.logs a) q h → h ≡ None
+      is_unread None h = refl
+      is_unread (Some x) h = absurd (subst (Reached 0 (level_in h.2.chain) (low_in h.2.chain)) was h.3)
 
   -- a page that was the root is in its place
   root_linked : (p : ℕ) → k.read.roots p ≡ true → 0 < m.slots p

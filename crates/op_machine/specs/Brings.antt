@@ -1,0 +1,67 @@
+-- What a change of an operation is for.
+use Rattle.std.specs.Prelude.{◌≡◌, ◌<◌, ℕ, List, Option, Some, None, false, IsTrue, length, ⊤}
+use Rattle.bw_model.specs.declared.command.Command.{Command}
+use Rattle.bw_model.specs.declared.command.Command.TheVariants.{Get, Insert, Upsert, Delete}
+use Rattle.bw_model.specs.declared.command.Reply.{Reply as ReplyOf}
+use Rattle.bw_model.specs.Replies.{command_key, reply_of}
+use Rattle.deltas.specs.declared.record.Record.{Record}
+use Rattle.deltas.specs.declared.record.Record.TheVariants.{Base}
+use Rattle.deltas.specs.declared.record.Record.TheVariants as newest
+use Rattle.chain_search.specs.Chains.{IsChainFrom, covers, is_removed, level_in}
+use Rattle.chain_search.specs.Discipline.{found}
+use Rattle.chain_search.specs.Knowledge.{Knowledge}
+use Rattle.installs.specs.declared.change.End.{End}
+use Rattle.installs.specs.declared.change.End.TheVariants.{Won}
+use Rattle.installs.specs.declared.plan.Plan.{Plan}
+use Rattle.installs.specs.declared.plan.Plan.TheVariants.{Install, Split}
+use Rattle.installs.specs.Changes.{linked_after, linked_by}
+use Rattle.smo.specs.declared.split.SplitPlan.{SplitPlan}
+use Rattle.op_machine.specs.Errands.{with_errand}
+use Rattle.op_machine.specs.declared.state.Then.{Then}
+use Rattle.op_machine.specs.declared.state.Then.TheVariants.{Round, Errand, Reply}
+
+-- The plan links the command's update over a leaf as it was read, and this is the reply over that leaf.
+pub record IsUpdateOf (k : Knowledge) (command : Command) (plan : Plan) (answered : ReplyOf) : Type 0 where
+  pub pid : ℕ
+  pub head : ℕ
+  pub content : Record
+  pub is : plan ≡ Install pid head content
+  pub updates : (before : Option (Option ℕ)) → linked_by content head before ≡ Some (Some head)
+  pub chain : List Record
+  pub read : IsChainFrom k.read.seen head chain
+  pub leaf : level_in chain ≡ 0
+  pub alive : is_removed chain ≡ false
+  pub covers : IsTrue (covers chain (command_key command))
+  pub replies : reply_of command (found chain (command_key command)) ≡ Some answered
+
+-- What a change brings: an update its reply, a split the errand to its new page, another change neither.
+abbrev pub Brings : Knowledge → Command → Plan → Then → Type 0
+Brings k command plan (Reply answered) = IsUpdateOf k command plan answered
+Brings k command plan Round = linked_after plan Won None ≡ None
+Brings k command plan (Errand key) = (pid : ℕ) × (split : SplitPlan) × (plan ≡ Split pid split) × (split.upper.low ≡ key)
+
+-- A base comes only over a chain that has deltas.
+abbrev pub IsUsefulOver : Knowledge → ℕ → Record → Type 0
+IsUsefulOver k head (Base page) = (chain : List Record) × IsChainFrom k.read.seen head chain × (1 < length chain)
+IsUsefulOver k head content = ⊤
+
+abbrev pub IsUsefulPlan : Knowledge → Plan → Type 0
+IsUsefulPlan k (Install pid head content) = IsUsefulOver k head content
+IsUsefulPlan k plan = ⊤
+
+-- The page that is to be split was read with the row that the split comes over.
+abbrev pub IsReadPlan : Knowledge → Plan → Type 0
+IsReadPlan k (Split pid split) = k.read.heads pid ≡ Some split.next
+IsReadPlan k plan = ⊤
+
+-- the record that a command places over the row next, if it may change the map
+abbrev pub update_over : Command → ℕ → Record
+update_over (Get key) next = newest.Remove (record { level = 0; next = next })
+update_over (Insert key value) next = newest.Put (record { next = next; key = key; value = value })
+update_over (Upsert key value) next = newest.Put (record { next = next; key = key; value = value })
+update_over (Delete key) next = newest.Delete (record { next = next; key = key })
+
+-- the errands once a change has ended: a split that won adds its own
+abbrev pub errands_after : End → Then → List (List ℕ) → List (List ℕ)
+errands_after Won (Errand key) errands = with_errand key errands
+errands_after end then errands = errands

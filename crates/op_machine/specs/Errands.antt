@@ -1,0 +1,12 @@
+-- For which key an operation's rounds look.
+use Rattle.std.specs.Prelude.{◌∷◌, [], ◌++◌, ◌-◌, ℕ, List, length, nat_lt, if◌then◌else◌, slice_get, unwrap_or}
+use Rattle.bw_model.specs.declared.command.Command.{Command}
+use Rattle.bw_model.specs.Replies.{command_key}
+
+-- at most 16 errands are kept
+abbrev pub with_errand : List ℕ → List (List ℕ) → List (List ℕ)
+with_errand key errands = if nat_lt (length errands) 16 then errands ++ key ∷ [] else errands
+
+-- the newest errand's key, or the command's
+abbrev pub way_key : List (List ℕ) → Command → List ℕ
+way_key errands command = unwrap_or (slice_get errands (length errands - 1)) (command_key command)

@@ -1,0 +1,103 @@
+-- What an operation faces where it goes from one state to another.
+use Rattle.std.specs.Prelude.{◌≡◌, ◌<◌, ◌≤◌, [], ℕ, length, Option, Some, None, IsSome, IsTrue, true, false}
+use Rattle.bw_model.specs.declared.command.Reply.{Reply as ReplyOf}
+use Rattle.bw_model.specs.declared.step.Step.{Step as StepOf}
+use Rattle.bw_model.specs.declared.step.Step.TheVariants as step
+use Rattle.bw_model.specs.declared.step.Answer.{Answer}
+use Rattle.deltas.specs.declared.record.Record.{Record}
+use Rattle.chain_search.specs.Chains.{covers, level_in}
+use Rattle.chain_search.specs.Discipline.{LacksRoom, MayReply}
+use Rattle.chain_search.specs.Knowledge.{Knowledge, finished, learn}
+use Rattle.chain_search.specs.Recalled.{Recalled}
+use Rattle.descent.specs.ReadRounds as read
+use Rattle.descent.specs.Versions.{IsAlive}
+use Rattle.descent.specs.WriteRounds as write
+use Rattle.descent.specs.declared.read_round.ReadEnd.{ReadEnd}
+use Rattle.descent.specs.declared.write_round.WriteEnd.{WriteEnd}
+use Rattle.installs.specs.declared.change.End.{End}
+use Rattle.installs.specs.declared.change.End.TheVariants.{Won, Lost, Full}
+use Rattle.installs.specs.Spares.{Spares}
+use Rattle.smo.specs.Sizes.{HasFewItems}
+use Rattle.smo.specs.declared.version.Version.{Version}
+use Rattle.op_machine.specs.Answered.{is_writer}
+use Rattle.op_machine.specs.Errands.{way_key}
+use Rattle.op_machine.specs.Shows.{FitsLast, Stands, learn_last, recall_last, wanted_at}
+use Rattle.op_machine.specs.Tasks.{IsDone, Rests, Seeks, Task, Waits}
+use Rattle.op_machine.specs.declared.state.Outcome.{Outcome}
+use Rattle.op_machine.specs.declared.state.Outcome.TheVariants.{Begun, Epoch, Entered, Read, Written, Changed, Left}
+use Rattle.op_machine.specs.declared.state.State.{State}
+use Rattle.op_machine.specs.declared.state.Then.{Then}
+use Rattle.op_machine.specs.declared.state.Then.TheVariants.{Round, Errand, Reply}
+
+-- A reader's round has ended.
+pub record HasRead (task : Task) (spares : Spares) (k : Knowledge) (r : Recalled) (end : ReadEnd) : Type 0 where
+  pub seeks : Seeks task spares k
+  pub reader : is_writer task.command ≡ false
+  pub round : read.ReadRound
+  pub limits : round.limits ≡ task.limits
+  pub key : round.key ≡ way_key [] task.command
+  pub ends : read.Ends round k r end
+
+-- A writer's round has ended.
+pub record HasWritten (task : Task) (spares : Spares) (k : Knowledge) (r : Recalled) (end : WriteEnd) : Type 0 where
+  pub seeks : Seeks task spares k
+  pub writer : is_writer task.command ≡ true
+  pub round : write.WriteRound
+  pub limits : round.limits ≡ task.limits
+  pub key : round.key ≡ way_key task.errands task.command
+  pub due : round.due ≡ 8
+  pub ends : write.Ends round k r end
+
+-- A writer is at the leaf that its round looked for, where nothing else is due.
+pub record IsAtLeaf (task : Task) (spares : Spares) (k : Knowledge) (r : Recalled) (leaf : Version) : Type 0 where
+  pub seeks : Seeks task spares k
+  pub writer : is_writer task.command ≡ true
+  pub page : IsAlive task.limits k r leaf
+  pub level : level_in leaf.chain ≡ 0
+  pub covered : IsTrue (covers leaf.chain (way_key task.errands task.command))
+  pub short : length leaf.chain ≤ 8
+  pub few : HasFewItems leaf.chain
+
+-- A change has ended: an update was linked, and justifies the reply; or no update was linked, and, where it is full, nothing
+-- is free.
+abbrev pub HasChanged : Task → Spares → Knowledge → End → Then → Type 0
+HasChanged task spares k Won (Reply answered) = IsDone task spares k × MayReply task.limits task.actor k answered
+HasChanged task spares k Won Round = Seeks task spares k × (is_writer task.command ≡ true)
+HasChanged task spares k Won (Errand key) = Seeks task spares k × (is_writer task.command ≡ true)
+HasChanged task spares k Lost then = Seeks task spares k × (is_writer task.command ≡ true)
+HasChanged task spares k Full then = Seeks task spares k × (is_writer task.command ≡ true) × LacksRoom task.limits k
+
+abbrev pub Faces : Task → Spares → Knowledge → Recalled → Outcome → Type 0
+Faces task spares k r Begun = Waits task spares k
+Faces task spares k r (Epoch epoch) = Waits task spares k × (0 < epoch) × (k.limbo.epoch ≡ Some epoch)
+Faces task spares k r Entered = Seeks task spares k
+Faces task spares k r (Read end) = HasRead task spares k r end
+Faces task spares k r (Written end) = HasWritten task spares k r end
+Faces task spares k r (Changed end then) = HasChanged task spares k end then
+Faces task spares k r (Left reply) = ⊥
+
+-- Something is known that the state shows, and the answer fits it.
+pub record IsToldAt (state : State) (spares : Spares) (told : Answer Record) : Type 0 where
+  pub task : Task
+  pub k : Knowledge
+  pub r : Recalled
+  pub stands : Stands task spares k r state
+  pub fits : FitsLast task.limits k (wanted_at spares state) told
+
+-- Something is known that the outcome faces.
+pub record IsFaced (task : Task) (spares : Spares) (outcome : Outcome) : Type 0 where
+  pub k : Knowledge
+  pub r : Recalled
+  pub faces : Faces task spares k r outcome
+
+-- The last step was Leave, its actor may reply so with it, and rests after it.
+pub record HasLeft (task : Task) (k : Knowledge) (last : Option (StepOf Record)) (told : Answer Record) (spares : Spares) (reply : ReplyOf) : Type 0 where
+  pub is_last : last ≡ Some step.Leave
+  pub may : MayReply task.limits task.actor k reply
+  pub rests : Rests task.limits spares (finished (learn k step.Leave told) (Some reply))
+
+-- what comes of an answer: the same state goes on, the operation has left, or it faces what comes next
+abbrev pub Comes : Task → Knowledge → Recalled → Option (StepOf Record) → Answer Record → State → Spares → Option Outcome → Type 0
+Comes task k r last told new has None = Stands task has (learn_last k last told) (recall_last r last told) new × IsSome (wanted_at has new)
+Comes task k r last told new has (Some (Left reply)) = HasLeft task k last told has reply
+Comes task k r last told new has (Some outcome) = Faces task has (learn_last k last told) (recall_last r last told) outcome

@@ -1,0 +1,59 @@
+//! What an operation is still to visit for the splits that it has linked.
+ghost use Rattle.std.specs.Prelude.{◌≡◌, ◌-◌, [], length, option_copied, slice_get, take};
+ghost use Rattle.op_machine.specs.Errands.{with_errand};
+
+use arrayvec::ArrayVec;
+use bw_model::Key;
+use std::marker::Model;
+
+/// How many errands an operation keeps at most; one more is left out, and another writer posts the term.
+pub const MAX_ERRANDS: usize = 16;
+
+/// The separators of the splits that an operation has linked, and has not looked for since, the newest last: on the way to one
+/// its term is posted.
+#[derive(Debug, Drop)]
+pub(crate) struct Errands {
+    keys: ArrayVec<Key, MAX_ERRANDS>,
+}
+
+impl Model for Errands {
+    ghost use Rattle.std.specs.Prelude.{List, ℕ};
+
+    ghost Value = { List (List ℕ) };
+
+    ghost view = { λ e. e.keys.items };
+}
+
+impl Errands {
+    /// No errands.
+    pub(crate) fn new() -> Errands
+        ensures { result ≡ [] }
+    {
+        Errands {
+            keys: ArrayVec::new(),
+        }
+    }
+
+    /// The newest one.
+    pub(crate) fn newest(&self) -> Option<&Key>
+        ensures { option_copied result ≡ slice_get self.now (length self.now - 1) }
+    {
+        self.keys.as_slice().last()
+    }
+
+    /// Adds one, if there is room.
+    pub(crate) fn add(&mut self, key: Key)
+        ensures { self.new ≡ with_errand key self.old }
+    {
+        if self.keys.len() < MAX_ERRANDS {
+            self.keys.push(key);
+        }
+    }
+
+    /// Takes the newest one off.
+    pub(crate) fn finish(&mut self)
+        ensures { self.new ≡ take (length self.old - 1) self.old }
+    {
+        let _ = self.keys.pop();
+    }
+}

@@ -1,0 +1,118 @@
+//! Where an operation stands: a machine for each thing that takes more than one step.
+ghost use Rattle.std.specs.Prelude.{◌≡◌, Some, IsSome};
+ghost use Rattle.chain_search.specs.Knowledge.{Knowledge};
+ghost use Rattle.chain_search.specs.Recalled.{Recalled};
+ghost use Rattle.op_machine.specs.Bounded.{LeavesFor, left_at};
+ghost use Rattle.op_machine.specs.Outcomes.{Comes, IsToldAt};
+ghost use Rattle.op_machine.specs.Shows.{FitsLast, MayTake, Stands, wanted_at};
+ghost use Rattle.op_machine.specs.Tasks.{Task};
+
+use bw_model::{Answer, Key, Reply, Step};
+use deltas::Record;
+use descent::{ReadEnd, ReadRound, WriteEnd, WriteRound};
+use installs::{Change, End, Spares};
+
+/// What comes once a change has won.
+#[derive(Debug, Drop)]
+pub(crate) enum Then {
+    /// A new round.
+    Round,
+    /// A new round, with one errand more: the page that was split off begins at this key.
+    Errand(Key),
+    /// The reply.
+    Reply(Reply),
+}
+
+/// Where an operation stands: a state without a machine is named by the step that it has asked for.
+#[derive(Debug, Drop)]
+pub(crate) enum State {
+    Begun,
+    Epoch,
+    Enter { epoch: u64 },
+    Read { round: ReadRound },
+    Write { round: WriteRound },
+    Change { change: Change, then: Then },
+    Leave { reply: Reply },
+    Over,
+}
+
+/// What the operation has come to, where it goes from one state to another.
+#[derive(Debug, Drop)]
+pub(crate) enum Outcome {
+    /// It begins.
+    Begun,
+    /// This is the epoch.
+    Epoch(u64),
+    /// It has entered.
+    Entered,
+    /// A reader's round has ended.
+    Read(ReadEnd),
+    /// A writer's round has ended.
+    Written(WriteEnd),
+    /// A change has ended.
+    Changed { end: End, then: Then },
+    /// It has left, with this reply.
+    Left(Reply),
+}
+
+impl Then {
+    fn copied(&self) -> Then
+        ensures { result ≡ self.now }
+    {
+        match self {
+            Then::Round => Then::Round,
+            Then::Errand(key) => Then::Errand(key.copied()),
+            Then::Reply(reply) => Then::Reply(reply.clone().unwrap()),
+        }
+    }
+}
+
+impl State {
+    /// The step that it wants.
+    pub(crate) fn step(&self, spares: &Spares) -> Step<Record>
+        requires stands { (task : Task) × (k : Knowledge) × (r : Recalled) × Stands task spares.now k r self.now }
+        requires asks { IsSome (wanted_at spares.now self.now) }
+        ensures wanted { wanted_at spares.now self.now ≡ Some result }
+        ensures may { (task : Task) (k : Knowledge) (r : Recalled) → Stands task spares.now k r self.now → MayTake task k result }
+    {
+        match self {
+            State::Begun | State::Over => unreachable!(),
+            State::Epoch => Step::Epoch,
+            State::Enter { epoch } => Step::Enter(*epoch),
+            State::Read { round } => round.step(),
+            State::Write { round } => round.step(),
+            State::Change { change, .. } => change.step(spares),
+            State::Leave { .. } => Step::Leave,
+        }
+    }
+
+    /// Takes the answer to the step wanted last, and tells what the operation has come to, where another state is to follow.
+    pub(crate) fn next(&mut self, spares: &mut Spares, answer: Answer<Record>) -> Option<Outcome>
+        requires told { IsToldAt self.old spares.old answer }
+        ensures comes { (task : Task) (k : Knowledge) (r : Recalled) → Stands task spares.old k r self.old → FitsLast task.limits k (wanted_at spares.old self.old) answer → Comes task k r (wanted_at spares.old self.old) answer self.new spares.new result }
+        ensures leaves { (task : Task) (k : Knowledge) (r : Recalled) → Stands task spares.old k r self.old → FitsLast task.limits k (wanted_at spares.old self.old) answer → LeavesFor r (wanted_at spares.old self.old) answer (left_at r spares.old self.old) self.new spares.new result }
+    {
+        match self {
+            State::Begun => Some(Outcome::Begun),
+            State::Epoch => Some(Outcome::Epoch(answer.into_number())),
+            State::Enter { .. } => Some(Outcome::Entered),
+            State::Read { round } => match round.next(answer) {
+                None => None,
+                Some(end) => Some(Outcome::Read(end)),
+            },
+            State::Write { round } => match round.next(answer) {
+                None => None,
+                Some(end) => Some(Outcome::Written(end)),
+            },
+            State::Change { change, then } => match change.next(spares, answer) {
+                None => None,
+                Some(end) => Some(Outcome::Changed {
+                    end,
+                    then: then.copied(),
+                }),
+            },
+            State::Leave { reply } => Some(Outcome::Left(reply.clone().unwrap())),
+            State::Over => unreachable!(),
+        }
+    }
+}

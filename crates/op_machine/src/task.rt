@@ -1,0 +1,298 @@
+//! What an operation was asked, and what it makes of what it has come to.
+ghost use Rattle.std.specs.Prelude.{◌≡◌, ◌≤◌, ◌+◌, ◌-◌, [], Some, IsSome, length, take, true};
+ghost use Rattle.chain_search.specs.Knowledge.{Knowledge};
+ghost use Rattle.chain_search.specs.Recalled.{Recalled};
+ghost use Rattle.op_machine.specs.Answered.{is_writer};
+ghost use Rattle.installs.specs.Changes.{IsTarget};
+ghost use Rattle.installs.specs.Spares.{HaveRoom, Spares};
+ghost use Rattle.op_machine.specs.Bounded.{few_changes, left_at, left_for, one_round, with_errands};
+ghost use Rattle.op_machine.specs.Brings.{errands_after, update_over};
+ghost use Rattle.op_machine.specs.Errands.{way_key};
+ghost use Rattle.op_machine.specs.Outcomes.{Faces, HasChanged, HasRead, HasWritten, IsAtLeaf, IsFaced};
+ghost use Rattle.op_machine.specs.Shows.{MayBegin, Stands, wanted_at};
+ghost use Rattle.op_machine.specs.Tasks.{IsSameTask, Seeks};
+
+use crate::errands::Errands;
+use crate::state::{Outcome, State, Then};
+use base_page::Page;
+use bw_model::{Command, Key, Limits, Reply};
+use chain_search::updates_fit;
+use deltas::{Delete, Put, Record, Term};
+use descent::{ReadEnd, ReadRound, WriteEnd, WriteRound};
+use installs::{Change, End, Plan, Spares, plans_may_be_linked};
+use smo::{MANY_DELTAS, SplitPlan, Version};
+use std::marker::Model;
+
+/// What an operation was asked, by whom, and what it is still to visit.
+#[derive(Debug, Drop)]
+pub(crate) struct Task {
+    limits: Limits,
+    actor: u8,
+    command: Command,
+    errands: Errands,
+}
+
+impl Model for Task {
+    ghost use Rattle.op_machine.specs.Tasks.{Task};
+
+    ghost Value = { Task };
+
+    ghost view = { λ t. record { limits = t.limits; actor = t.actor; command = t.command; errands = t.errands } };
+}
+
+impl Task {
+    /// Nothing visited yet.
+    pub(crate) fn new(command: Command, actor: u8, limits: &Limits) -> Task
+        ensures { result ≡ record { limits = limits.now; actor = actor; command = command; errands = [] } }
+    {
+        Task {
+            limits: *limits,
+            actor,
+            command,
+            errands: Errands::new(),
+        }
+    }
+
+    /// The state that follows what the operation has come to.
+    pub(crate) fn go_on(&mut self, spares: &Spares, outcome: Outcome) -> State
+        requires faced { IsFaced self.old spares.now outcome }
+        ensures stands { (k : Knowledge) (r : Recalled) → Faces self.old spares.now k r outcome → Stands self.new spares.now k r result }
+        ensures few { (k : Knowledge) (r : Recalled) → Faces self.old spares.now k r outcome → with_errands self.new.errands (left_at r spares.now result) ≤ with_errands self.old.errands (left_for outcome) }
+        ensures asks { IsSome (wanted_at spares.now result) }
+        ensures same { IsSameTask self.old self.new }
+    {
+        match outcome {
+            Outcome::Begun => State::Epoch,
+            Outcome::Epoch(epoch) => State::Enter { epoch },
+            Outcome::Entered => self.round(),
+            Outcome::Read(end) => self.end_read(end),
+            Outcome::Written(end) => self.end_write(spares, end),
+            Outcome::Changed { end, then } => self.end_change(end, then),
+            Outcome::Left(_) => unreachable!(),
+        }
+    }
+
+    /// A new round: for the newest errand, or for the command's key.
+    fn round(&self) -> State
+        ensures stands { (spares : Spares) (k : Knowledge) (r : Recalled) → Seeks self.now spares k → Stands self.now spares k r result }
+        ensures few { (spares : Spares) (r : Recalled) → left_at r spares result ≤ one_round }
+        ensures asks { (spares : Spares) → IsSome (wanted_at spares result) }
+    {
+        if self.is_writer() {
+            let key = self.way_key().copied();
+            return State::Write {
+                round: WriteRound::new(&self.limits, key, MANY_DELTAS),
+            };
+        }
+        let key = self.command.key().copied();
+        State::Read {
+            round: ReadRound::new(&self.limits, key),
+        }
+    }
+
+    /// Whether the command may change the map.
+    fn is_writer(&self) -> bool
+        ensures { result ≡ is_writer self.now.command }
+    {
+        match &self.command {
+            Command::Get(_) => false,
+            Command::Insert(_, _) | Command::Upsert(_, _) | Command::Delete(_) => true,
+        }
+    }
+
+    /// The newest errand's key, or the command's.
+    fn way_key(&self) -> &Key
+        ensures { result.now ≡ way_key self.now.errands self.now.command }
+    {
+        match self.errands.newest() {
+            Some(key) => key,
+            None => self.command.key(),
+        }
+    }
+
+    /// A reader answers at the leaf of its key; where its round was cut off, a new one begins.
+    fn end_read(&self, end: ReadEnd) -> State
+        ensures stands { (spares : Spares) (k : Knowledge) (r : Recalled) → HasRead self.now spares k r end → Stands self.now spares k r result }
+        ensures few { (spares : Spares) (r : Recalled) → left_at r spares result ≤ left_for (Outcome.Read end) }
+        ensures asks { (spares : Spares) → IsSome (wanted_at spares result) }
+    {
+        match end {
+            ReadEnd::Again | ReadEnd::Removed(_) => self.round(),
+            ReadEnd::Leaf(leaf) => State::Leave {
+                reply: self.command.reply(leaf.chain.find(self.command.key())),
+            },
+        }
+    }
+
+    /// A writer makes the change that is due where its round ended, or goes on at the leaf.
+    fn end_write(&mut self, spares: &Spares, end: WriteEnd) -> State
+        requires faced { (k : Knowledge) × (r : Recalled) × HasWritten self.old spares.now k r end }
+        ensures stands { (k : Knowledge) (r : Recalled) → HasWritten self.old spares.now k r end → Stands self.new spares.now k r result }
+        ensures few { (k : Knowledge) (r : Recalled) → HasWritten self.old spares.now k r end → with_errands self.new.errands (left_at r spares.now result) ≤ with_errands self.old.errands (left_for (Outcome.Written end)) }
+        ensures asks { IsSome (wanted_at spares.now result) }
+        ensures same { IsSameTask self.old self.new }
+    {
+        match end {
+            WriteEnd::Again | WriteEnd::Removed(_) => self.round(),
+            WriteEnd::Consolidate(page) => self.consolidate(spares, page),
+            WriteEnd::Split { page, plan } => self.split(spares, page, plan),
+            WriteEnd::Term { parent, term } => self.post(spares, parent, term),
+            WriteEnd::Root { left, root } => self.raise(spares, left, root),
+            WriteEnd::Leaf { leaf, .. } => self.end_at_leaf(spares, leaf),
+        }
+    }
+
+    /// At the leaf of an errand the errand is done; at that of its key the command answers, or its update is linked.
+    fn end_at_leaf(&mut self, spares: &Spares, leaf: Version) -> State
+        requires faced { (k : Knowledge) × (r : Recalled) × IsAtLeaf self.old spares.now k r leaf }
+        ensures stands { (k : Knowledge) (r : Recalled) → IsAtLeaf self.old spares.now k r leaf → Stands self.new spares.now k r result }
+        ensures few { (r : Recalled) → with_errands self.new.errands (left_at r spares.now result) ≤ with_errands self.old.errands (few_changes + 1) }
+        ensures asks { IsSome (wanted_at spares.now result) }
+        ensures same { IsSameTask self.old self.new }
+        ensures errands { self.new.errands ≡ take (length self.old.errands - 1) self.old.errands }
+    {
+        if self.errands.newest().is_some() {
+            self.errands.finish();
+            return self.round();
+        }
+        self.execute(spares, leaf)
+    }
+
+    /// At the leaf of its key the command answers, where nothing is to be changed; else its update is linked.
+    fn execute(&self, spares: &Spares, leaf: Version) -> State
+        requires faced { (k : Knowledge) × (r : Recalled) × IsAtLeaf self.now spares.now k r leaf }
+        requires last { self.now.errands ≡ [] }
+        ensures stands { (k : Knowledge) (r : Recalled) → IsAtLeaf self.now spares.now k r leaf → Stands self.now spares.now k r result }
+        ensures few { (r : Recalled) → left_at r spares.now result ≤ few_changes + 1 }
+        ensures asks { IsSome (wanted_at spares.now result) }
+    {
+        updates_fit();
+        plans_may_be_linked();
+        let old = leaf.chain.find(self.command.key());
+        let reply = self.command.reply(old);
+        if !self.command.changes(old) {
+            return State::Leave { reply };
+        }
+        let content = self.update_over(leaf.head);
+        let plan = Plan::Install {
+            pid: leaf.pid,
+            head: leaf.head,
+            content,
+        };
+        self.change(spares, plan, Then::Reply(reply))
+    }
+
+    /// The record that the command places over the row `next`.
+    fn update_over(&self, next: u16) -> Record
+        requires { is_writer self.now.command ≡ true }
+        ensures { result ≡ update_over self.now.command next }
+    {
+        match &self.command {
+            Command::Get(_) => unreachable!(),
+            Command::Insert(key, value) | Command::Upsert(key, value) => Record::Put(Put {
+                next,
+                key: key.copied(),
+                value: value.copied(),
+            }),
+            Command::Delete(key) => Record::Delete(Delete {
+                next,
+                key: key.copied(),
+            }),
+        }
+    }
+
+    /// A base is linked in the place of a page's chain.
+    fn consolidate(&self, spares: &Spares, page: Version) -> State
+        requires faced { (k : Knowledge) × (r : Recalled) × HasWritten self.now spares.now k r (WriteEnd.Consolidate page) }
+        ensures stands { (k : Knowledge) (r : Recalled) → HasWritten self.now spares.now k r (WriteEnd.Consolidate page) → Stands self.now spares.now k r result }
+        ensures few { (r : Recalled) → left_at r spares.now result ≤ few_changes + 1 }
+        ensures asks { IsSome (wanted_at spares.now result) }
+    {
+        plans_may_be_linked();
+        let base = page.chain.consolidated();
+        let plan = Plan::Install {
+            pid: page.pid,
+            head: page.head,
+            content: Record::Base(base),
+        };
+        self.change(spares, plan, Then::Round)
+    }
+
+    /// A page is split; its new page is an errand then.
+    fn split(&self, spares: &Spares, page: Version, plan: SplitPlan) -> State
+        requires faced { (k : Knowledge) × (r : Recalled) × HasWritten self.now spares.now k r (WriteEnd.Split page plan) }
+        ensures stands { (k : Knowledge) (r : Recalled) → HasWritten self.now spares.now k r (WriteEnd.Split page plan) → Stands self.now spares.now k r result }
+        ensures few { (r : Recalled) → left_at r spares.now result ≤ few_changes + 1 }
+        ensures asks { IsSome (wanted_at spares.now result) }
+    {
+        plans_may_be_linked();
+        let separator = plan.upper.low().copied();
+        let plan = Plan::Split {
+            pid: page.pid,
+            plan,
+        };
+        self.change(spares, plan, Then::Errand(separator))
+    }
+
+    /// A page's term is linked on its parent.
+    fn post(&self, spares: &Spares, parent: Version, term: Term) -> State
+        requires faced { (k : Knowledge) × (r : Recalled) × HasWritten self.now spares.now k r (WriteEnd.Term parent term) }
+        ensures stands { (k : Knowledge) (r : Recalled) → HasWritten self.now spares.now k r (WriteEnd.Term parent term) → Stands self.now spares.now k r result }
+        ensures few { (r : Recalled) → left_at r spares.now result ≤ few_changes + 1 }
+        ensures asks { IsSome (wanted_at spares.now result) }
+    {
+        plans_may_be_linked();
+        let plan = Plan::Install {
+            pid: parent.pid,
+            head: parent.head,
+            content: Record::Term(term),
+        };
+        self.change(spares, plan, Then::Round)
+    }
+
+    /// A root is linked over a page and its right.
+    fn raise(&self, spares: &Spares, left: Version, root: Page) -> State
+        requires faced { (k : Knowledge) × (r : Recalled) × HasWritten self.now spares.now k r (WriteEnd.Root left root) }
+        ensures stands { (k : Knowledge) (r : Recalled) → HasWritten self.now spares.now k r (WriteEnd.Root left root) → Stands self.now spares.now k r result }
+        ensures few { (r : Recalled) → left_at r spares.now result ≤ few_changes + 1 }
+        ensures asks { IsSome (wanted_at spares.now result) }
+    {
+        plans_may_be_linked();
+        let plan = Plan::Root {
+            left: left.pid,
+            root,
+        };
+        self.change(spares, plan, Then::Round)
+    }
+
+    /// A change begins.
+    fn change(&self, spares: &Spares, plan: Plan, then: Then) -> State
+        requires target { IsTarget self.now.limits plan }
+        requires room { HaveRoom self.now.limits spares.now }
+        ensures stands { (k : Knowledge) (r : Recalled) → MayBegin self.now spares.now k r plan then → Stands self.now spares.now k r result }
+        ensures few { (r : Recalled) → left_at r spares.now result ≤ few_changes + 1 }
+        ensures asks { IsSome (wanted_at spares.now result) }
+    {
+        let change = Change::new(&self.limits, spares, plan);
+        State::Change { change, then }
+    }
+
+    /// An update that won has its reply; any other change is followed by a new round, and one for which nothing was free by none.
+    fn end_change(&mut self, end: End, then: Then) -> State
+        ensures stands { (spares : Spares) (k : Knowledge) (r : Recalled) → HasChanged self.old spares k end then → Stands self.new spares k r result }
+        ensures few { (spares : Spares) (r : Recalled) → with_errands self.new.errands (left_at r spares result) ≤ with_errands self.old.errands (left_for (Outcome.Changed end then)) }
+        ensures asks { (spares : Spares) → IsSome (wanted_at spares result) }
+        ensures same { IsSameTask self.old self.new }
+        ensures errands { self.new.errands ≡ errands_after end then self.old.errands }
+    {
+        match (end, then) {
+            (End::Won, Then::Reply(reply)) => State::Leave { reply },
+            (End::Won, Then::Errand(separator)) => {
+                self.errands.add(separator);
+                self.round()
+            }
+            (End::Won, Then::Round) | (End::Lost, _) => self.round(),
+            (End::Full, _) => State::Leave { reply: Reply::Full },
+        }
+    }
+}
