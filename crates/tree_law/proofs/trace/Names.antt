@@ -158,12 +158,6 @@ stays_no_leave s h i = subst Stays i h
 whether_same : (b c : Bool) (y : Answer Record) → y ≡ Whether b → y ≡ Whether c → b ≡ c
 whether_same b c y e f = cc
 
-pub number_same : (b c : ℕ) (y : Answer Record) → y ≡ Number b → y ≡ Number c → b ≡ c
-number_same b c y e f = cc
-
-content_same : (b c : Record) (y : Answer Record) → y ≡ Content b → y ≡ Content c → b ≡ c
-content_same b c y e f = cc
-
 learn_inside : (k : Knowledge) (s : StepOf Record) (x : Answer Record) → Stays s → (learn k s x).inside ≡ k.inside
 learn_inside k (Slot zero) (Number n) h = refl
 learn_inside k (Slot (suc p)) (Number zero) h = refl
