@@ -6,6 +6,7 @@ pub mod HelpedSplit
 pub mod Indexed
 pub mod Keys
 pub mod Laws
+pub mod Leaves
 pub mod Limbos
 pub mod Next
 pub mod Own

@@ -4,21 +4,19 @@ use Rattle.bw_model.specs.declared.command.Command.{Command}
 use Rattle.bw_model.specs.declared.command.Reply.{Reply}
 use Rattle.bw_model.specs.declared.command.Reply.TheVariants.{Full}
 use Rattle.bw_model.specs.declared.limits.Limits.{Limits}
-use Rattle.bw_model.specs.declared.step.Answer.TheVariants.{Number, Content}
-use Rattle.bw_model.specs.declared.step.Step.TheVariants.{Slot, Row, PidBits, RowBits}
+use Rattle.bw_model.specs.declared.step.Answer.TheVariants.{Number}
+use Rattle.bw_model.specs.declared.step.Step.TheVariants.{PidBits, RowBits}
 use Rattle.bw_model.specs.Log.{Update, value_in}
 use Rattle.bw_model.specs.Replies.{command_key, reply_of, update_of}
 use Rattle.base_page.specs.Pages as pages
-use Rattle.deltas.specs.declared.record.Record.{Record}
 use Rattle.deltas.specs.declared.record.Record.TheVariants.{Base}
 use Rattle.deltas.specs.Memory.{Memory}
-use Rattle.chain_search.specs.Chains.{IsChainFrom, IsChainOf}
 use Rattle.chain_search.specs.declared.trace.Entry.{Entry}
 use Rattle.chain_search.specs.declared.trace.Entry.TheVariants.{Begin}
 use Rattle.chain_search.specs.Learnt.{HasLearnt}
 use Rattle.chain_search.specs.Run.{IsRun}
-use Rattle.chain_search.specs.Trace.{memory_of, memory_at, command_of}
-use Rattle.op_machine.specs.Answered.{FindsNothingFree, FindsPageFull}
+use Rattle.chain_search.specs.Trace.{memory_of, command_of}
+use Rattle.op_machine.specs.Answered.{FindsNothingFree}
 use Rattle.op_machine.specs.Operations.{Operation, IsOperation, IsOwnStep, TakesOwnStep, Finishes}
 use Rattle.op_machine.specs.Points.{log_of, log_at, IsPoint}
 use Rattle.op_machine.specs.Quiet.{IsQuiet}
@@ -54,19 +52,9 @@ pub record Tells (entries : List Entry) (points : List Bool) (actor : ℕ) (aske
       ((m : ℕ) → IsOwnStep entries (operation_of start actor asked) m → IsPoint points m → ⊥)
       (λ log. (m : ℕ) × IsOwnStep entries (operation_of start actor asked) m × IsPoint points m × (log_at entries points m ≡ log))
 
--- Where the operation read the slot, with the chain that stood there, which still stands; each recent record it has read since.
-pub record HeadAt (limits : Limits) (entries : List Entry) (operation : Operation) (rows recent : ℕ → Option Record) (page row : ℕ) : Type 0 where
-  pub at : ℕ
-  pub took : TakesOwnStep entries operation at (Slot page) (Number row)
-  pub chain : List Record
-  pub stood : IsChainOf (memory_at limits entries at) page chain
-  pub stands : IsChainFrom rows row chain
-  pub since : (r : ℕ) (content : Record) → recent r ≡ Some content → (m : ℕ) × (at < m) × TakesOwnStep entries operation m (Row r) (Content content)
-
--- what an unfinished operation has found, and where
-pub record IsSearch (limits : Limits) (entries : List Entry) (operation : Operation) (rows : ℕ → Option Record) (k : Knowledge) : Type 0 where
+-- what an unfinished operation has found empty, and where
+pub record IsSearch (entries : List Entry) (operation : Operation) (k : Knowledge) : Type 0 where
   pub unfinished : (n : ℕ) (reply : Reply) → Finishes entries operation n reply → ⊥
-  pub heads_at : (page row : ℕ) → k.read.heads page ≡ Some row → HeadAt limits entries operation rows k.read.recent page row
   pub pids_at : (word : ℕ) → k.asked.no_pids word ≡ true → (n : ℕ) × TakesOwnStep entries operation n (PidBits word) (Number 0)
   pub rows_at : (word : ℕ) → k.asked.no_rows word ≡ true → (n : ℕ) × TakesOwnStep entries operation n (RowBits word) (Number 0)
 
@@ -74,13 +62,13 @@ pub record IsSearch (limits : Limits) (entries : List Entry) (operation : Operat
 abbrev pub Justifies : List Entry → List Bool → Operation → Reply → Type 0
 Justifies entries points operation reply = (m : ℕ) × IsOwnStep entries operation m × IsPoint points m × (reply_of operation.command (value_in (log_at entries points m) (command_key operation.command)) ≡ Some reply)
 
--- the operation could change the map, has no point, and found no room
+-- the operation could change the map, has no point, and found nothing free
 pub record IsFullAnswer (limits : Limits) (entries : List Entry) (points : List Bool) (operation : Operation) : Type 0 where
   pub old : Option (List ℕ)
   pub update : Update
   pub writes : update_of operation.actor operation.command old ≡ Some update
   pub unmarked : (m : ℕ) → IsOwnStep entries operation m → IsPoint points m → ⊥
-  pub finds : FindsNothingFree limits entries operation ⊎ FindsPageFull limits entries operation
+  pub finds : FindsNothingFree limits entries operation
 
 abbrev pub IsAnsweredBy : Limits → List Entry → List Bool → Operation → Reply → Type 0
 IsAnsweredBy limits entries points operation reply = Justifies entries points operation reply ⊎ ((reply ≡ Full) × IsFullAnswer limits entries points operation)
@@ -126,7 +114,6 @@ pub record IsNamed (limits : Limits) (entries : List Entry) (owners : Owners) (m
   pub epoch : (0 < memory.epoch) × (memory.epoch ≤ 2 ^ 62)
   pub posted : (actor : ℕ) → memory.announced actor ≤ memory.epoch
   pub commands : (actor : ℕ) → (knows actor).asked.command ≡ command_of entries actor
-  pub recent : (actor row : ℕ) (content : Record) → (knows actor).read.recent row ≡ Some content → (knows actor).read.seen row ≡ Some content
   pub zero_free : owners.row 0 ≡ Free
   pub zero_taken : memory.free_rows 0 ≡ false
   pub free_row_below : (row : ℕ) → memory.free_rows row ≡ true → row < limits.rows
@@ -145,7 +132,7 @@ pub record IsState (limits : Limits) (entries : List Entry) : Type 0 where
   pub named : IsNamed limits entries owners (memory_of limits entries) (knows entries)
   pub tells : (actor : ℕ) (asked : Command) → command_of entries actor ≡ Some asked → Tells entries points actor asked (point actor) (logs actor)
   pub searches : (operation : Operation) → IsOperation entries operation → IsUnended entries operation.start operation.actor → command_of entries operation.actor ≡ Some operation.command
-      → IsSearch limits entries operation (memory_of limits entries).rows (knows entries operation.actor)
+      → IsSearch entries operation (knows entries operation.actor)
   pub marked : IsMarked limits entries points
   pub updates : UpdatesAtLinks limits entries points
   pub run : IsRun limits entries

@@ -20,7 +20,10 @@ use Rattle.chain_search.specs.declared.trace.Entry.TheVariants.{Begin, Step}
 use Rattle.op_machine.specs.Index.{IsExactIndex}
 use Rattle.op_machine.specs.Linearized.{IsLinearized}
 use Rattle.op_machine.specs.Phases.{KeepsPhases}
+use Rattle.op_machine.specs.Points.{log_of}
+use Rattle.op_machine.specs.Quiet.{HasMapOf}
 use Rattle.op_machine.specs.Reuse.{IsFreedByRule}
+use Rattle.tree_law.specs.Leaves.{HasLeafPages}
 use Rattle.tree_law.specs.State.{IsState}
 
 -- The entry changes the memory, the commands under way, and what actors know and recall, each by what it was before.
@@ -65,6 +68,14 @@ StatesAreIndexed = (limits : Limits) (entries : List Entry) → IsState limits e
 
 abbrev pub StatesFreeByRule : Type 0
 StatesFreeByRule = (limits : Limits) (entries : List Entry) → IsState limits entries → IsFreedByRule limits entries
+
+-- the leaves of a state stand
+abbrev pub LeavesStand : Type 0
+LeavesStand = (limits : Limits) (entries : List Entry) → IsState limits entries → HasLeafPages limits (memory_of limits entries)
+
+-- by whatever points a trace is linearized, the leaves have the map of their log
+abbrev pub LeavesHaveMap : Type 0
+LeavesHaveMap = (limits : Limits) (entries : List Entry) (linear : IsLinearized limits (map turn_of entries) entries) → HasMapOf (memory_of limits entries) (log_of entries linear.points)
 
 -- a row that an actor may read has a record
 abbrev pub RowsStand : Type 0

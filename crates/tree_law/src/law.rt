@@ -6,7 +6,7 @@ ghost use Rattle.chain_search.specs.Trace.{turn_of};
 ghost use Rattle.chain_search.specs.declared.trace.Entry.{Entry};
 ghost use Rattle.op_machine.specs.Linearized.{IsLinearized};
 ghost use Rattle.tree_law.specs.State.{IsState};
-ghost use Rattle.tree_law.specs.TraceLaws.{AnswersFit, Begins, DisciplinedRuns, EntriesGrow, StatesFreeByRule, StatesAreIndexed, StatesAreLinearized, KnowledgeIsOwn, Opens, RowsStand, StatesKeepPhases, Steps};
+ghost use Rattle.tree_law.specs.TraceLaws.{AnswersFit, Begins, DisciplinedRuns, EntriesGrow, LeavesHaveMap, LeavesStand, StatesFreeByRule, StatesAreIndexed, StatesAreLinearized, KnowledgeIsOwn, Opens, RowsStand, StatesKeepPhases, Steps};
 
 /// What one more entry makes of a trace.
 pub fn entries_grow()
@@ -58,6 +58,12 @@ pub fn disciplined_runs()
 pub fn answers()
     ensures stand { RowsStand }
     ensures fit { AnswersFit }
+{}
+
+/// In a state the leaves stand, from left to right, fewer than there are PIDs; and they have the map of the trace's log.
+pub fn leaves_stand()
+    ensures stand { LeavesStand }
+    ensures map { LeavesHaveMap }
 {}
 
 /// What an actor knows comes from its own entries alone: in two traces with the same ones it knows the same.

@@ -1,5 +1,5 @@
 -- Each step of the run without room is allowed.
-use Rattle.std.proofs.Common.{◌≡◌, ◌≢◌, ◌<◌, ◌≤◌, ℕ, zero, suc, ◌+◌, ◌*◌, ◌==◌, List, [], ◌∷◌, ◌++◌, Option, None, Bool, true, false, refl, sym, ap, ◌∙◌, subst, inl, inr, lit<, arith}
+use Rattle.std.proofs.Common.{◌≡◌, ◌≢◌, ◌<◌, ◌≤◌, ℕ, zero, suc, ◌+◌, ◌*◌, ◌==◌, List, [], ◌∷◌, ◌++◌, Option, None, Bool, true, false, refl, sym, ap, ◌∙◌, subst, inr, lit<, arith}
 use Rattle.std.specs.Prelude.{codes, if◌then◌else◌, IsSome}
 use Rattle.std.specs.Int.{bit_at}
 use Rattle.std.proofs.lemmas.Bool.{eqb-true}
@@ -60,7 +60,7 @@ none_free = record {
     free = (memory_of small before).free_rows
 
 lacks : LacksRoom small at_last
-lacks = inl (inr (λ word lt. let zero : word ≡ 0 = omega arith in subst (λ w. at_last.asked.no_rows w ≡ true) (sym zero) refl))
+lacks = inr (λ word lt. let zero : word ≡ 0 = omega arith in subst (λ w. at_last.asked.no_rows w ≡ true) (sym zero) refl)
 
 full : MayReply small 0 at_last reply.Full
 full = record { command = insert_a; going = refl; justified = inr (record { is = refl; old = None; update = set 0 a (codes "1"); writes = refl; unlinked = refl; lacks = lacks }) }

@@ -81,7 +81,7 @@ ends_before o m lv mp (g ∷ gs) p low q h part =
     (subst (λ (b : Option Key). EndsBy b h) (sym part.1) i, (r.0, r.1))
 
 -- and begin at or above its beginning
-begins_after : (o : Owners) (m : Shared) (lv : ℕ) (mp : Key → Option Content) (gs : List SidePage) (p : Option ℕ) (low : Option Key) (q : Option ℕ) (high : Option Key) → IsPart o m lv mp gs p low q high → AllPages (λ g. StartsFrom low (low_in g.chain)) gs
+pub begins_after : (o : Owners) (m : Shared) (lv : ℕ) (mp : Key → Option Content) (gs : List SidePage) (p : Option ℕ) (low : Option Key) (q : Option ℕ) (high : Option Key) → IsPart o m lv mp gs p low q high → AllPages (λ g. StartsFrom low (low_in g.chain)) gs
 begins_after o m lv mp [] p low q high part = tt
 begins_after o m lv mp (g ∷ gs) p low q high part =
     let r = begins_after o m lv mp gs (right_in g.chain) (high_in g.chain) q high part.3 in
@@ -107,7 +107,7 @@ beside_before o m lv mp g f hg hf u =
       apart = λ k cf cg. let l = under_end k (low_in g.chain) (high_in f.chain) cf.high u in not_below k (low_in g.chain) l cg.low;
     }
 
-beside_after : (o : Owners) (m : Shared) (lv : ℕ) (mp : Key → Option Content) (g f : SidePage) → InPlace o m lv mp g → InPlace o m lv mp f → StartsFrom (high_in g.chain) (low_in f.chain) → Beside g f
+pub beside_after : (o : Owners) (m : Shared) (lv : ℕ) (mp : Key → Option Content) (g f : SidePage) → InPlace o m lv mp g → InPlace o m lv mp f → StartsFrom (high_in g.chain) (low_in f.chain) → Beside g f
 beside_after o m lv mp g f hg hf u =
     record {
       other = λ e. let c = one_chain o m lv mp mp g f hg hf e in let l = under_start (low_in g.chain) (low_in f.chain) (high_in g.chain) hg.is_page.some u in not_below (low_in g.chain) (low_in f.chain) l (upto_same (low_in f.chain) (low_in g.chain) (ap low_in c));
@@ -115,7 +115,7 @@ beside_after o m lv mp g f hg hf u =
     }
 
 -- with what is so of each page of a part
-all_in : (o : Owners) (m : Shared) (lv : ℕ) (mp : Key → Option Content) (P Q : SidePage → Type 0) → ((g : SidePage) → InPlace o m lv mp g → P g → Q g) → (gs : List SidePage) (p : Option ℕ) (low : Option Key) (q : Option ℕ) (high : Option Key) → IsPart o m lv mp gs p low q high → AllPages P gs → AllPages Q gs
+pub all_in : (o : Owners) (m : Shared) (lv : ℕ) (mp : Key → Option Content) (P Q : SidePage → Type 0) → ((g : SidePage) → InPlace o m lv mp g → P g → Q g) → (gs : List SidePage) (p : Option ℕ) (low : Option Key) (q : Option ℕ) (high : Option Key) → IsPart o m lv mp gs p low q high → AllPages P gs → AllPages Q gs
 all_in o m lv mp P Q f [] p low q high part h = tt
 all_in o m lv mp P Q f (g ∷ gs) p low q high part h = (f g part.2 h.0, all_in o m lv mp P Q f gs (right_in g.chain) (high_in g.chain) q high part.3 h.1)
 

@@ -97,7 +97,6 @@ opens limits = record {
     epoch = (limits.allowed.some_epoch, limits.allowed.small_epoch);
     posted = λ a. omega arith;
     commands = λ a. refl;
-    recent = λ a r w e. absurd (cc);
     zero_free = refl;
     zero_taken = refl;
     free_row_below = λ q e. ltb-true q limits.rows (and_right (leb 2 q) (ltb q limits.rows) e);
@@ -215,17 +214,17 @@ begins limits entries a c state below idle = record {
     good_after = rw (memory_of-push limits entries (Begin a c), log_of-push entries state.points (Begin a c) false state.marked.beside, knows-push entries (Begin a c)) now
 
     searches_begin : (op : Operation) → IsOperation (entries ++ Begin a c ∷ []) op → IsUnended (entries ++ Begin a c ∷ []) op.start op.actor → command_of (entries ++ Begin a c ∷ []) op.actor ≡ Some op.command
-        → IsSearch limits (entries ++ Begin a c ∷ []) op (memory_of limits (entries ++ Begin a c ∷ [])).rows (knows (entries ++ Begin a c ∷ []) op.actor)
-    searches_begin op is unended asks = rw (memory_of-push limits entries (Begin a c), knows-push entries (Begin a c)) (elim (slice_get-push_cases entries (Begin a c) op.start _ is) [
+        → IsSearch (entries ++ Begin a c ∷ []) op (knows (entries ++ Begin a c ∷ []) op.actor)
+    searches_begin op is unended asks = rw (knows-push entries (Begin a c)) (elim (slice_get-push_cases entries (Begin a c) op.start _ is) [
       | inr at ↦
           let same : op ≡ operation_of (length entries) a c = same_operation op (operation_of (length entries) a c) at.0 (let e = at.1 in cc) (let e = at.1 in cc) in
-          subst (λ o. IsSearch limits (entries ++ Begin a c ∷ []) o (memory_of limits entries).rows (put (knows entries) a (begun (knows entries a) c) o.actor)) (sym same)
-          (subst (λ k. IsSearch limits (entries ++ Begin a c ∷ []) (operation_of (length entries) a c) (memory_of limits entries).rows k) (sym (put_same (knows entries) a (begun (knows entries a) c)))
-          (search_new entries (Begin a c) limits a c (memory_of limits entries).rows (knows entries a)))
+          subst (λ o. IsSearch (entries ++ Begin a c ∷ []) o (put (knows entries) a (begun (knows entries a) c) o.actor)) (sym same)
+          (subst (λ k. IsSearch (entries ++ Begin a c ∷ []) (operation_of (length entries) a c) k) (sym (put_same (knows entries) a (begun (knows entries a) c)))
+          (search_new entries (Begin a c) a c (knows entries a)))
       | inl before ↦
           let other : op.actor ≢ a = λ i. unended (length entries) c (slice_get_below entries op.start _ before) (subst (λ b. slice_get (entries ++ Begin a c ∷ []) (length entries) ≡ Some (Begin b c)) (sym i) (slice_get-push entries (Begin a c))) in
           let asks' : command_of entries op.actor ≡ Some op.command = sym (put_other (command_of entries) a (Some c) op.actor other) ∙ subst (λ k. k op.actor ≡ Some op.command) (command_of-push entries (Begin a c)) asks in
           let old = state.searches op before (λ later d low e. unended later d low (slice_get_kept entries (Begin a c ∷ []) later _ e)) asks' in
-          subst (λ k. IsSearch limits (entries ++ Begin a c ∷ []) op (memory_of limits entries).rows k) (sym (put_other (knows entries) a (begun (knows entries a) c) op.actor other))
-          (search_other entries (Begin a c) limits op (memory_of limits entries).rows (memory_of limits entries).rows (knows entries op.actor) old (λ s x r e. absurd (cc)) (λ page row e d h. h))
+          subst (λ k. IsSearch (entries ++ Begin a c ∷ []) op k) (sym (put_other (knows entries) a (begun (knows entries a) c) op.actor other))
+          (search_other entries (Begin a c) op (knows entries op.actor) old (λ s x r e. absurd (cc)))
     ])

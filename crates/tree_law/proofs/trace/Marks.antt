@@ -19,7 +19,7 @@ use Rattle.op_machine.specs.Points.{IsPoint, log_of, log_at}
 use Rattle.op_machine.specs.Quiet.{IsQuiet, HasMapOf}
 use Rattle.op_machine.proofs.LogLaws.{log_at-push}
 use Rattle.tree_law.specs.State.{IsUnended, operation_of, Tells, Justifies, IsAnsweredBy, IsMarked}
-use Rattle.tree_law.proofs.trace.Searches.{nothing_free_kept, page_full_kept}
+use Rattle.tree_law.proofs.trace.Searches.{nothing_free_kept}
 use Rattle.tree_law.proofs.trace.Owned.{pushed_length, point_below, point_last, own_step_kept, own_cases, step_cases, step_below, own_new, unended_kept, operation_old}
 
 pub take_whole : {X : Type 0} (xs : List X) (n : ℕ) → n ≡ length xs → take n xs ≡ xs
@@ -57,7 +57,7 @@ module _ (entries : List Entry) (points : List Bool) (last : Entry) (mark : Bool
         | inl own' ↦ h.1.unmarked m own' (point_old op m own' p)
         | inr at ↦ never (point_last points mark m (at.0 ∙ sym beside) p) (subst (IsOwnStep entries' op) at.0 own)
       ];
-      finds = elim h.1.finds [ inl nothing ↦ inl (nothing_free_kept entries last limits op nothing) | inr page ↦ inr (page_full_kept entries last limits op page) ];
+      finds = nothing_free_kept entries last limits op h.1.finds;
     },
   )
 

@@ -77,7 +77,6 @@ named_begins limits entries o m knows a c old asks = record {
   announced = λ b e. old.announced b (by_test b a (λ t. (cond t (begun (knows a) c) (knows b)).inside ≡ true → (knows b).inside ≡ true) (λ i f. subst (λ n. (knows n).inside ≡ true) (sym i) f) (λ ne f. f) e);
   epoch = old.epoch;
   posted = old.posted;
-  recent = λ b r w. by_test b a (λ t. (cond t (begun (knows a) c) (knows b)).read.recent r ≡ Some w → (cond t (begun (knows a) c) (knows b)).read.seen r ≡ Some w) (λ i. old.recent a r w) (λ ne. old.recent b r w);
   zero_free = old.zero_free;
   zero_taken = old.zero_taken;
   free_row_below = old.free_row_below;
@@ -159,12 +158,6 @@ stays_no_leave s h i = subst Stays i h
 whether_same : (b c : Bool) (y : Answer Record) → y ≡ Whether b → y ≡ Whether c → b ≡ c
 whether_same b c y e f = cc
 
-pub number_same : (b c : ℕ) (y : Answer Record) → y ≡ Number b → y ≡ Number c → b ≡ c
-number_same b c y e f = cc
-
-content_same : (b c : Record) (y : Answer Record) → y ≡ Content b → y ≡ Content c → b ≡ c
-content_same b c y e f = cc
-
 learn_inside : (k : Knowledge) (s : StepOf Record) (x : Answer Record) → Stays s → (learn k s x).inside ≡ k.inside
 learn_inside k (Slot zero) (Number n) h = refl
 learn_inside k (Slot (suc p)) (Number zero) h = refl
@@ -206,25 +199,6 @@ touches_inside a k Leave h = inr refl
 touches_inside a k (Retire e) h = inr refl
 touches_inside a k (ReusePids w b) h = inr refl
 touches_inside a k (ReuseRows w b) h = inr refl
-
--- what was read last was read
-learn_recent : (k : Knowledge) → ((r : ℕ) (w : Record) → k.read.recent r ≡ Some w → k.read.seen r ≡ Some w) → (s : StepOf Record) (x : Answer Record) (r : ℕ) (w : Record) → (learn k s x).read.recent r ≡ Some w → (learn k s x).read.seen r ≡ Some w
-learn_recent k h (Slot zero) (Number n) r w e = h r w e
-learn_recent k h (Slot (suc p)) (Number zero) r w e = h r w e
-learn_recent k h (Slot (suc p)) (Number (suc n)) r w e = absurd (cc)
-learn_recent k h (Row q) (Content v) r w e = by_test r q (λ t. cond t (Some v) (k.read.recent r) ≡ Some w → cond t (Some v) (k.read.seen r) ≡ Some w) (λ i f. f) (λ ne f. h r w f) e
-learn_recent k h Epoch (Number n) r w e = h r w e
-learn_recent k h (Announce b) (Number n) r w e = h r w e
-learn_recent k h (PidBits v) (Number n) r w e = h r w e
-learn_recent k h (RowBits v) (Number n) r w e = h r w e
-learn_recent k h (TakePid p) (Whether true) r w e = h r w e
-learn_recent k h (TakePid p) (Whether false) r w e = h r w e
-learn_recent k h (TakeRow q) (Whether true) r w e = h r w e
-learn_recent k h (TakeRow q) (Whether false) r w e = h r w e
-learn_recent k h (Exchange p x y) (Whether true) r w e = subst (λ f. f r ≡ Some w) (sym (ap (λ v. v.seen) (exchanged_alike p x y k).read)) (h r w (subst (λ f. f r ≡ Some w) (ap (λ v. v.recent) (exchanged_alike p x y k).read) e))
-learn_recent k h (Exchange p x y) (Whether false) r w e = h r w e
-learn_recent k h Leave x r w e = absurd (cc)
-learn_recent k h s x r w e = h r w e
 
 placed_at : (w : PageOwner) → IsInTree w → (l : ℕ) × (k : Key) × Reached 0 l k w
 placed_at Nobody h = absurd h
@@ -424,7 +398,6 @@ module _ (limits : Limits) (entries : List Entry) (o : Owners) (m : Memory) (kno
     announced = announced_after s may x;
     epoch = epoch_after s may;
     posted = posted_after s may read;
-    recent = λ b q w. by_test b a (λ t. (cond t (finished (learn (knows a) s x) r) (knows b)).read.recent q ≡ Some w → (cond t (finished (learn (knows a) s x) r) (knows b)).read.seen q ≡ Some w) (λ i. learn_recent (knows a) (old.recent a) s x q w) (λ ne. old.recent b q w);
     zero_free = numbers.zero_free;
     zero_taken = numbers.zero_taken;
     free_row_below = numbers.free_row_below;

@@ -1,5 +1,5 @@
 -- A step keeps a state, and a state is linearized.
-use Rattle.std.proofs.Common.{◌≡◌, ◌≢◌, ◌<◌, inl, inr, ℕ, zero, suc, List, [], ◌∷◌, ◌++◌, length, Option, Some, None, Bool, true, false, cond, ◌⊎◌, refl, sym, ap, ◌∙◌, subst, arith}
+use Rattle.std.proofs.Common.{◌≡◌, ◌≢◌, ◌<◌, inl, inr, ℕ, suc, List, [], ◌∷◌, ◌++◌, length, Option, Some, None, Bool, true, false, cond, ◌⊎◌, refl, sym, ap, ◌∙◌, subst, arith}
 use Rattle.std.specs.Prelude.{IsSome, IfSome, MatchOption, slice_get, IsTrue, IsFalse, ◌↔◌}
 use Rattle.std.specs.Option.{option_to_list}
 use Rattle.std.proofs.lemmas.Option.{same_Some}
@@ -16,7 +16,6 @@ use Rattle.bw_model.specs.Log.{Update, value_in}
 use Rattle.bw_model.specs.Replies.{command_key, reply_of, update_of}
 use Rattle.deltas.specs.declared.record.Record.{Record}
 use Rattle.deltas.specs.Memory.{Memory}
-use Rattle.chain_search.specs.Chains.{IsChainFrom, IsChainOf}
 use Rattle.chain_search.specs.declared.trace.Entry.{Entry}
 use Rattle.chain_search.specs.declared.trace.Entry.TheVariants.{Begin, Step}
 use Rattle.chain_search.specs.Steps.{IsAnswer, memory_after}
@@ -32,10 +31,10 @@ use Rattle.op_machine.specs.Points.{IsPoint, log_of, log_at, updates_by, has_poi
 use Rattle.op_machine.specs.Quiet.{IsQuiet}
 use Rattle.op_machine.proofs.Listed.{same_operation}
 use Rattle.op_machine.proofs.LogLaws.{log_of-push}
-use Rattle.chain_search.specs.Discipline.{May, MayAnswer, MayGiveUp, MayReply, IsAllowed}
+use Rattle.chain_search.specs.Discipline.{MayAnswer, MayGiveUp, MayReply, IsAllowed}
 use Rattle.chain_search.specs.Knowledge.{Knowledge, learn, finished, knows}
 use Rattle.tree_law.specs.Next.{IsReuse, IsDue, grown, pointed as pointed', After}
-use Rattle.tree_law.specs.Owners.{SeenFits, HeadFits, LinkFits}
+use Rattle.tree_law.specs.Owners.{LinkFits}
 use Rattle.tree_law.specs.Put.{put}
 use Rattle.tree_law.specs.Replies.{IsRepliedAt}
 use Rattle.tree_law.specs.Shared.{slot_in, shared}
@@ -56,19 +55,17 @@ use Rattle.tree_law.proofs.shape.Firsts.{first_stays, grows}
 use Rattle.tree_law.proofs.trace.Roots.{learns_root}
 use Rattle.tree_law.proofs.shape.Fitness.{fitted_after}
 use Rattle.tree_law.proofs.epochs.Handed.{rows_in_limbo, pids_in_limbo, freed_after}
-use Rattle.tree_law.proofs.links.Keeping.{slot_of, met_placed}
 use Rattle.tree_law.proofs.shape.Levels.{indexed_push}
-use Rattle.tree_law.proofs.shape.Mapping.{slot_some, map_of}
+use Rattle.tree_law.proofs.shape.Mapping.{map_of}
 use Rattle.tree_law.proofs.trace.Lives.{only_after, pid_below_after, steps_in_phase, steps_phases}
 use Rattle.tree_law.proofs.links.UpdateLinks.{update_links, link_updates}
 use Rattle.tree_law.proofs.trace.Updates.{UpdatesNow, updates_push}
 use Rattle.tree_law.proofs.trace.Marks.{marked_push, tells_other, tells_own, quiet_push}
-use Rattle.tree_law.proofs.trace.Names.{number_same, slot_none, faithful_push, Numbers, calm_numbers, named_steps, reads_known, touches_outside, may_take}
+use Rattle.tree_law.proofs.trace.Names.{faithful_push, Numbers, calm_numbers, named_steps, reads_known, touches_outside, may_take}
 use Rattle.tree_law.proofs.trace.Owned.{pushed_length, same_start, own_new}
 use Rattle.tree_law.proofs.trace.Phasing.{moves_between, clears_cleared, moves_or_rests}
 use Rattle.tree_law.proofs.shape.Puts.{by_test, put_same, put_other}
 use Rattle.tree_law.proofs.trace.Remark.{own_same, remarked, log_of_same, marked', told, told_other, updates', quiet'}
-use Rattle.tree_law.proofs.shape.Rows.{rows_kept}
 use Rattle.tree_law.proofs.trace.Searches.{search_other, search_own, lacks}
 use Rattle.tree_law.proofs.trace.Slots.{held_after}
 use Rattle.tree_law.proofs.links.Stepping.{step as one_step}
@@ -188,9 +185,6 @@ module _ (limits : Limits) (entries : List Entry) (a : ℕ) (step : StepOf Recor
       let b = z.mine.begins in
       same_operation op (operation_of z.mine.start a asked) start actor (cc (there, b))
 
-  recent_stands : (q : ℕ) (w : Record) → (knows entries a).read.recent q ≡ Some w → (memory_of limits entries).rows q ≡ Some w
-  recent_stands q w e = (subst (λ (v : Option Record). SeenFits (state.owners.row q) ((memory_of limits entries).rows q) v) (state.named.recent a q w e) ((state.good.sound a).seen_fits q)).1
-
   justified : (op : Operation) (reply : Reply) → IsOperation entries op → op.actor ≡ a → IsUnended entries op.start op.actor → r ≡ Some reply → IsAnsweredBy limits entries z.points op reply
   justified op reply begun actor unended e = subst (λ o. IsAnsweredBy limits entries z.points o reply) (sym (is_mine op begun actor unended)) (elim (z.replied reply e) [
     | inl h ↦
@@ -204,7 +198,7 @@ module _ (limits : Limits) (entries : List Entry) (a : ℕ) (step : StepOf Recor
             update = h.2.update;
             writes = h.2.writes;
             unmarked = subst (λ o. MatchOption o ((m : ℕ) → IsOwnStep entries (operation_of z.mine.start a asked) m → IsPoint z.points m → ⊥) (λ l. (m : ℕ) × IsOwnStep entries (operation_of z.mine.start a asked) m × IsPoint z.points m × (log_at entries z.points m ≡ l))) h.1 z.mine.point_at;
-            finds = lacks limits entries (operation_of z.mine.start a asked) (memory_of limits entries).rows (knows entries a) recent_stands (state.searches (operation_of z.mine.start a asked) z.mine.begins z.mine.unended asks) h.2.lacks;
+            finds = lacks limits entries (operation_of z.mine.start a asked) (knows entries a) (state.searches (operation_of z.mine.start a asked) z.mine.begins z.mine.unended asks) h.2.lacks;
           },
         )
   ])
@@ -259,43 +253,14 @@ module _ (limits : Limits) (entries : List Entry) (a : ℕ) (step : StepOf Recor
       (tells_own entries z.points last mark z.marked.beside a step answer r asked (state.point a) (state.logs a) log refl z.log_is asks alone (subst (λ o. Tells entries z.points a asked o (state.logs a)) (z.quietly i) z.mine))
   tells_mine (Some y) i c f = let e = put_same (command_of entries) a None in let g : None ≡ Some c = sym e ∙ f in absurd (cc)
 
-  -- the chain of a head stays
-  head_stays : (b page row : ℕ) → (knows entries b).read.heads page ≡ Some row → (c : List Record) → IsChainFrom (memory_of limits entries).rows row c → IsChainFrom (memory_after a step (memory_of limits entries)).rows row c
-  head_stays b page row e c h =
-      let f = subst (λ (v : Option ℕ). HeadFits state.owners (shared (memory_of limits entries)) (state.logs b) page v) e ((state.good.sound b).heads_fit page) in
-      rows_kept state.owners (shared (memory_of limits entries)) (memory_after a step (memory_of limits entries)).rows state.good.closed n.same row c f.2.linked h
-
-  -- a slot that is read as a row has a chain
-  slot_found : (page row : ℕ) → 0 < page → 0 < row → step ≡ Slot page → answer ≡ Number row → (c : List Record) × IsChainOf (memory_of limits entries) page c × IsChainFrom (memory_after a step (memory_of limits entries)).rows row c
-  slot_found zero row above some is_slot is_row = absurd (omega arith)
-  slot_found (suc page) row above some is_slot is_row =
-      let m = memory_of limits entries in
-      let may : May a (knows entries a) (Slot (suc page)) = subst (May a (knows entries a)) is_slot allowed.may in
-      let says : answer ≡ Number (m.slots (suc page)) = subst (λ s. IsAnswer m s answer) is_slot is in
-      let same : m.slots (suc page) ≡ row = number_same (m.slots (suc page)) row answer says is_row in
-      let here = met_placed state.good a (suc page) may.1 in
-      elim (slot_of state.good a (suc page) here.0 here.1 here.2) [
-        | inl none ↦ absurd (let zero_row : m.slots (suc page) ≡ 0 = slot_none m.slots (suc page) above none in omega arith)
-        | inr found ↦
-            let at : m.slots (suc page) ≡ found.0 = (slot_some m.slots (suc page) found.0 found.1).1 in
-            let chain : IsChainFrom m.rows row found.2.chain = subst (λ q. IsChainFrom m.rows q found.2.chain) (sym at ∙ same) found.2.is_chain in (
-              found.2.chain,
-              record { page = above; linked = rw same some; records = rw same chain },
-              subst (λ s. IsChainFrom (memory_after a s m).rows row found.2.chain) (sym is_slot) chain,
-            )
-      ]
-
   searches_after : (op : Operation) → IsOperation (entries ++ last ∷ []) op → IsUnended (entries ++ last ∷ []) op.start op.actor → command_of (entries ++ last ∷ []) op.actor ≡ Some op.command
-      → IsSearch limits (entries ++ last ∷ []) op (memory_of limits (entries ++ last ∷ [])).rows (knows (entries ++ last ∷ []) op.actor)
-  searches_after op begun' unended' asks' = rw (memory_of-push limits entries last, knows-push entries last) (by_test op.actor a
-      (λ t. IsSearch limits (entries ++ last ∷ []) op m'.rows (cond t (finished (learn (knows entries a) step answer) r) (knows entries op.actor)))
+      → IsSearch (entries ++ last ∷ []) op (knows (entries ++ last ∷ []) op.actor)
+  searches_after op begun' unended' asks' = rw (knows-push entries last) (by_test op.actor a
+      (λ t. IsSearch (entries ++ last ∷ []) op (cond t (finished (learn (knows entries a) step answer) r) (knows entries op.actor)))
       (λ i. own_search r refl i)
-      (λ ne. search_other entries last limits op (memory_of limits entries).rows m'.rows (knows entries op.actor) (state.searches op begun unended (sym (other_command r op.actor ne) ∙ asked'))
-      (λ s x y e. ne (let j : a ≡ op.actor = cc in sym j)) (head_stays op.actor)))
+      (λ ne. search_other entries last op (knows entries op.actor) (state.searches op begun unended (sym (other_command r op.actor ne) ∙ asked'))
+      (λ s x y e. ne (let j : a ≡ op.actor = cc in sym j))))
     where
-      m' : Memory
-      m' = memory_after a step (memory_of limits entries)
-
       begun : IsOperation entries op
       begun = elim (slice_get-push_cases entries last op.start _ begun') [ inl before ↦ before | inr at ↦ let e = at.1 in absurd (cc) ]
 
@@ -305,16 +270,16 @@ module _ (limits : Limits) (entries : List Entry) (a : ℕ) (step : StepOf Recor
       asked' : commands_after (command_of entries) last op.actor ≡ Some op.command
       asked' = subst (λ k. k op.actor ≡ Some op.command) (command_of-push entries last) asks'
 
-      own_search : (o : Option Reply) → r ≡ o → op.actor ≡ a → IsSearch limits (entries ++ last ∷ []) op m'.rows (finished (learn (knows entries a) step answer) r)
+      own_search : (o : Option Reply) → r ≡ o → op.actor ≡ a → IsSearch (entries ++ last ∷ []) op (finished (learn (knows entries a) step answer) r)
       own_search None no_reply i =
           let same : op ≡ operation_of op.start a op.command = same_operation op (operation_of op.start a op.command) refl i refl in
           let begun_a : slice_get entries op.start ≡ Some (Begin a op.command) = subst (λ b. slice_get entries op.start ≡ Some (Begin b op.command)) i begun in
           let unended_a : IsUnended entries op.start a = subst (IsUnended entries op.start) i unended in
           let asked_a : command_of entries a ≡ Some op.command = subst (λ b. command_of entries b ≡ Some op.command) i (subst (λ o. commands_after (command_of entries) (Step a step answer o) op.actor ≡ Some op.command) no_reply asked') in
-          subst (λ o. IsSearch limits (entries ++ last ∷ []) o m'.rows (finished (learn (knows entries a) step answer) r)) (sym same)
-          (subst (λ o. IsSearch limits (entries ++ last ∷ []) (operation_of op.start a op.command) m'.rows (finished (learn (knows entries a) step answer) o)) (sym no_reply)
-          (search_own entries last limits op.start a op.command step answer (memory_of limits entries).rows m'.rows (knows entries a) begun_a unended_a (λ d. Step a step answer (no_reply d))
-          (state.searches (operation_of op.start a op.command) begun_a unended_a asked_a) (head_stays a) slot_found))
+          subst (λ o. IsSearch (entries ++ last ∷ []) o (finished (learn (knows entries a) step answer) r)) (sym same)
+          (subst (λ o. IsSearch (entries ++ last ∷ []) (operation_of op.start a op.command) (finished (learn (knows entries a) step answer) o)) (sym no_reply)
+          (search_own entries last op.start a op.command step answer (knows entries a) begun_a unended_a (λ d. Step a step answer (no_reply d))
+          (state.searches (operation_of op.start a op.command) begun_a unended_a asked_a)))
       own_search (Some y) replies i =
           let e : commands_after (command_of entries) (Step a step answer (Some y)) a ≡ Some op.command = subst (λ b. commands_after (command_of entries) (Step a step answer (Some y)) b ≡ Some op.command) i (subst (λ o. commands_after (command_of entries) (Step a step answer o) op.actor ≡ Some op.command) replies asked') in
           let f = put_same (command_of entries) a None in

@@ -1,0 +1,138 @@
+-- The leaves of a state stand, and are fewer than there are slots.
+use Rattle.std.proofs.Common.{◌≡◌, ◌≢◌, ◌<◌, ◌≤◌, inl, inr, ℕ, List, [], ◌∷◌, length, map, Option, Some, None, true, false, sym, ap, ◌∙◌, subst, ⊎_elim, arith}
+use Rattle.std.specs.Prelude.{⊤}
+use Rattle.std.proofs.Math.Dec.{eqb}
+use Rattle.std.specs.List.{All, AllByRecursion, AllPairs, list_any}
+use Rattle.std.proofs.lemmas.Bool.Decides.{nat_tests, Decides-eqb}
+use Rattle.std.proofs.lemmas.Bool.{cases_lt}
+use Rattle.std.proofs.lemmas.List.{length-map, take_all}
+use Rattle.std.proofs.lemmas.List.Elements.{All-from_recursion, All-weaker}
+use Rattle.std.proofs.lemmas.List.Folds.{list_any_none}
+use Rattle.std.proofs.lemmas.List.Kept.{AllPairs-cons}
+use Rattle.std.proofs.lemmas.Map.Made.{IsDistinct-from_AllPairs}
+use Rattle.std.proofs.lemmas.Map.Steps.{length-le_from_distinct_below}
+use Rattle.bw_model.specs.declared.limits.Limits.{Limits}
+use Rattle.bw_model.specs.Log.{Update}
+use Rattle.base_page.specs.declared.item.Content.{Content}
+use Rattle.deltas.specs.Memory.{Memory}
+use Rattle.chain_search.specs.Chains.{low_in, high_in, right_in}
+use Rattle.chain_search.specs.SideChain.{LivePage}
+use Rattle.chain_search.specs.Trace.{memory_of, turn_of}
+use Rattle.chain_search.specs.declared.trace.Entry.{Entry}
+use Rattle.op_machine.specs.Linearized.{IsLinearized}
+use Rattle.op_machine.specs.Phases as phase
+use Rattle.op_machine.specs.Points.{log_of}
+use Rattle.op_machine.specs.Quiet.{HasMapOf}
+use Rattle.tree_law.specs.Keys.{Key}
+use Rattle.tree_law.specs.Leaves.{IsLeafPage, HasLeafPages}
+use Rattle.tree_law.specs.Owners.{Owners, leaf_map}
+use Rattle.tree_law.specs.Phase.{Stage, Fresh, Indexed, Held, Removed, Merged, Placed}
+use Rattle.tree_law.specs.Shared.{Shared, shared}
+use Rattle.tree_law.specs.State.{phase_of, IsState}
+use Rattle.tree_law.specs.Tree.{SidePage, InPlace, IsPart}
+use Rattle.tree_law.proofs.shape.Mapping.{live, chain_of, leaves, is_leaves, whole_from}
+use Rattle.tree_law.proofs.shape.Sides.{AllPages, StartsFrom, all_in, all_pages, begins_after, beside_after}
+
+abbrev pids : List SidePage → List ℕ
+pids gs = map (λ g. g.page) gs
+
+-- what is so of each page is so of each PID
+of_pids : (P : ℕ → Type 0) (gs : List SidePage) → AllPages (λ g. P g.page) gs → AllByRecursion P (pids gs)
+of_pids P [] h = tt
+of_pids P (g ∷ gs) h = (h.0, of_pids P gs h.1)
+
+of_live : (P : LivePage → Type 0) (gs : List SidePage) → AllPages (λ g. P (live g)) gs → AllByRecursion P (map live gs)
+of_live P [] h = tt
+of_live P (g ∷ gs) h = (h.0, of_live P gs h.1)
+
+-- a number that is among numbers below n is below n
+below_any : (n q : ℕ) (xs : List ℕ) → AllByRecursion (λ x. x < n) xs → list_any (eqb q) xs ≡ true → q < n
+below_any n q xs h e = elim (cases_lt q n) [
+  | inl lt ↦ lt
+  | inr le ↦
+      let others : All (λ x. eqb q x ≡ false) xs = All-weaker (λ x. x < n) (λ x. eqb q x ≡ false) (λ x lt. let ne : q ≢ x = omega (arith, le, lt) in grind (arith, nat_tests)) xs (All-from_recursion (λ x. x < n) xs h) in
+      let none : list_any (eqb q) xs ≡ false = list_any_none (eqb q) xs others in
+      absurd (cc)
+]
+
+-- no two of these numbers are equal
+abbrev AreApart : List ℕ → Type 0
+AreApart xs = AllPairs (λ x y. x ≢ y) xs
+
+apart_after : (x : ℕ) (xs : List ℕ) → AllByRecursion (λ y. x ≢ y) xs → AreApart xs → AreApart (x ∷ xs)
+apart_after x xs others apart = AllPairs-cons (λ x y. x ≢ y) x xs (All-from_recursion (λ y. x ≢ y) xs others) apart
+
+-- there are fewer than n numbers from 1 on and below n
+fewer : (n : ℕ) (xs : List ℕ) → 0 < n → AreApart xs → AllByRecursion (λ x. 0 ≢ x) xs → AllByRecursion (λ x. x < n) xs → length xs < n
+fewer n xs some apart above below =
+    let all : length (0 ∷ xs) ≤ n = length-le_from_distinct_below (0 ∷ xs) n (IsDistinct-from_AllPairs {eq = eqb} Decides-eqb (0 ∷ xs) (apart_after 0 xs above apart)) (λ q. below_any n q (0 ∷ xs) (some, below)) in
+    omega arith
+
+-- no page stands twice in a part of a side chain
+apart_in : (o : Owners) (m : Shared) (lv : ℕ) (mp : Key → Option Content) (gs : List SidePage) (p : Option ℕ) (low : Option Key) (q : Option ℕ) (high : Option Key) → IsPart o m lv mp gs p low q high → AreApart (pids gs)
+apart_in o m lv mp [] p low q high h = λ i j d lt below. absurd (omega (arith, lt, below))
+apart_in o m lv mp (g ∷ gs) p low q high h = apart_after g.page (pids gs)
+    (of_pids (λ n. g.page ≢ n) gs (all_in o m lv mp (λ f. StartsFrom (high_in g.chain) (low_in f.chain)) (λ f. g.page ≢ f.page)
+    (λ f here from e. (beside_after o m lv mp g f h.2 here from).other (sym e))
+    gs (right_in g.chain) (high_in g.chain) q high h.3 (begins_after o m lv mp gs (right_in g.chain) (high_in g.chain) q high h.3)))
+    (apart_in o m lv mp gs (right_in g.chain) (high_in g.chain) q high h.3)
+
+-- a page in the tree is not free
+not_free : (st : Stage) (l : ℕ) (s : Key) → phase_of (Placed st l s) ≡ phase.free → ⊥
+not_free Fresh l s e = absurd (cc)
+not_free Indexed l s e = absurd (cc)
+not_free Held l s e = absurd (cc)
+not_free Removed l s e = absurd (cc)
+not_free Merged l s e = absurd (cc)
+
+module _ (limits : Limits) (entries : List Entry) (state : IsState limits entries) where
+  abbrev m : Memory
+  m = memory_of limits entries
+
+  abbrev log : List Update
+  log = log_of entries state.points
+
+  abbrev Here : SidePage → Type 0
+  Here g = InPlace state.owners (shared m) 0 (leaf_map log) g
+
+  abbrev side : List SidePage
+  side = (leaves m state.good).side
+
+  -- what is so of each page in its place is so of each leaf
+  each_leaf : (P : SidePage → Type 0) → ((g : SidePage) → Here g → P g) → AllPages P side
+  each_leaf P f = all_in state.owners (shared m) 0 (leaf_map log) (λ g. ⊤) P (λ g here t. f g here) side (Some 1) (Some []) None None (leaves m state.good).whole (all_pages (λ g. ⊤) (λ g. tt) side)
+
+  in_range : (g : SidePage) → Here g → (0 < g.page) × (g.page < limits.pids)
+  in_range g here = ⊎_elim
+      (λ free. absurd (not_free here.stage 0 (low_in g.chain) (ap phase_of (sym here.placed) ∙ free)))
+      (λ in_range. in_range)
+      (state.named.pid_below g.page)
+
+  leaf_page : (g : SidePage) → Here g → IsLeafPage limits m (live g)
+  leaf_page g here = record {
+    pid = (in_range g here).1;
+    stands = chain_of m state.owners 0 (leaf_map log) g here;
+    fits = state.fitted g.row here.linked g.chain here.is_page.is_chain;
+    level = here.is_page.on_level;
+  }
+
+  few : length side < limits.pids
+  few =
+      let some : 64 ≤ limits.pids = limits.allowed.some_pids in
+      let above : AllByRecursion (λ n. 0 ≢ n) (pids side) = of_pids (λ n. 0 ≢ n) side (each_leaf (λ g. 0 ≢ g.page) (λ g here e. let above = (in_range g here).0 in omega arith)) in
+      let below : AllByRecursion (λ n. n < limits.pids) (pids side) = of_pids (λ n. n < limits.pids) side (each_leaf (λ g. g.page < limits.pids) (λ g here. (in_range g here).1)) in
+      let apart : AreApart (pids side) = apart_in state.owners (shared m) 0 (leaf_map log) side (Some 1) (Some []) None None (leaves m state.good).whole in
+      subst (λ n. n < limits.pids) (length-map side (λ g. g.page)) (fewer limits.pids (pids side) (omega arith) apart above below)
+
+  pub leaf_pages : HasLeafPages limits m
+  leaf_pages = record {
+    pages = map live side;
+    leaves = is_leaves m state.good;
+    whole = whole_from m state.owners 0 (leaf_map log) side (Some 1) (Some []) (leaves m state.good).whole;
+    few = subst (λ n. n < limits.pids) (sym (length-map side live)) few;
+    each = of_live (IsLeafPage limits m) side (each_leaf (λ g. IsLeafPage limits m (live g)) leaf_page);
+  }
+
+-- by whatever points a trace is linearized, its memory has the map of their log
+pub has_map_of_log : (limits : Limits) (entries : List Entry) (linear : IsLinearized limits (map turn_of entries) entries) → HasMapOf (memory_of limits entries) (log_of entries linear.points)
+has_map_of_log limits entries linear = rw (take_all (length entries) entries (omega arith), take_all (length entries) linear.points (omega (arith, linear.pointed.beside))) at (linear.quiet.at_each (length entries) (omega arith))
