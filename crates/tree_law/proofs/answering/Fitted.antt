@@ -21,7 +21,7 @@ use Rattle.chain_search.specs.Trace.{memory_of}
 use Rattle.chain_search.specs.Discipline.{MayExchange, May}
 use Rattle.chain_search.specs.Fitting.{FitsRow, FitsTaken, FitsTakenPid, FitsExchange, Fits}
 use Rattle.chain_search.specs.Knowledge.{OwnRow, Foreign, Taken, Written, OwnPage, Other, Empty, Ready, Gone, Limbo, Absent, Unstamped, Stamped, Knowledge, knows}
-use Rattle.tree_law.specs.Owners.{Free, Linked, Reached, OwnFits, PageFits, SeenFits, IsOut}
+use Rattle.tree_law.specs.Owners.{Free, Linked, Reached, HeadFits, OwnFits, PageFits, SeenFits, IsOut}
 use Rattle.op_machine.specs.Phases as phase
 use Rattle.tree_law.specs.Keys.{Key}
 use Rattle.tree_law.specs.Phase.{Fresh, Indexed, Held, Removed, Merged, PageOwner, Nobody, Keeps, Placed, Cleared}
@@ -171,6 +171,10 @@ module _ (limits : Limits) (entries : List Entry) (state : IsState limits entrie
       (λ (u : IsOut (state.owners.page (suc p)) (slot_in m.slots (suc p))). inr (slot_none m.slots (suc p) (omega arith) u.0))
       (frozen_as state.good a (suc p) head h.head h.chain h.read h.gone)
 
+  -- a page in the tree is none that an actor took and has not set
+  unowned : (p l : ℕ) (s : Key) → Reached 0 l s (state.owners.page (suc p)) → k.own.pages (suc p) ≡ Empty → ⊥
+  unowned p l s here e = subst (Reached 0 l s) (subst (λ (v : OwnPage). PageFits a (state.owners.page (suc p)) (slot_in m.slots (suc p)) v) e (state.good.owns_pages a (suc p))).0 here
+
   fits_slot : (p : ℕ) → May a k (Slot p) → Fits limits k (Slot p) (Number (m.slots p))
   fits_slot zero may = elim (state.named.pid_below (m.slots 0)) [
     | inl f ↦ absurd (let e = ap phase_of state.good.tree.exact.is_root in cc)
@@ -182,8 +186,8 @@ module _ (limits : Limits) (entries : List Entry) (state : IsState limits entrie
     )
   ]
   fits_slot (suc p) may = let here = met_placed state.good a (suc p) may.1 in elim (slot_of state.good a (suc p) here.0 here.1 here.2) [
-    | inl none ↦ let z : m.slots (suc p) ≡ 0 = slot_none m.slots (suc p) (omega arith) none in let some : 64 ≤ limits.rows = limits.allowed.some_rows in (omega arith, λ root. root_linked (suc p) root, λ head h. inr z)
-    | inr found ↦ let at : m.slots (suc p) ≡ found.0 = (slot_some m.slots (suc p) found.0 found.1).1 in let some = linked_some found.0 found.2.linked in (subst (λ n. n < limits.rows) (sym at) some.1, λ root. subst (λ n. 0 < n) (sym at) some.0, λ head h. stays p head h)
+    | inl none ↦ let z : m.slots (suc p) ≡ 0 = slot_none m.slots (suc p) (omega arith) none in let some : 64 ≤ limits.rows = limits.allowed.some_rows in (omega arith, λ root. root_linked (suc p) root, λ head h. inr z, unowned p here.0 here.1 here.2)
+    | inr found ↦ let at : m.slots (suc p) ≡ found.0 = (slot_some m.slots (suc p) found.0 found.1).1 in let some = linked_some found.0 found.2.linked in (subst (λ n. n < limits.rows) (sym at) some.1, λ root. subst (λ n. 0 < n) (sym at) some.0, λ head h. stays p head h, unowned p here.0 here.1 here.2)
   ]
 
   fits_take : (q : ℕ) (t : Bool) → m.free_rows q ≡ t → Fits limits k (TakeRow q) (Whether t)
