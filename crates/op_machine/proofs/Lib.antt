@@ -10,3 +10,10 @@ pub mod RowReuse
 pub mod Refused
 pub mod ClaimedInsert
 pub mod PairLaws
+pub mod Reading
+pub mod Rounds
+pub mod Changing
+pub mod Stepping
+pub mod Plans
+pub mod Commands
+pub mod Going

@@ -20,7 +20,9 @@ use Rattle.op_machine.specs.Tasks.{Task}
 use Rattle.op_machine.specs.declared.op.Want.{Want}
 use Rattle.op_machine.specs.declared.op.Want.TheVariants.{Step, Done}
 use Rattle.op_machine.specs.declared.state.Outcome.{Outcome}
-use Rattle.op_machine.specs.declared.state.Outcome.TheVariants.{Begun, Epoch, Entered, Read, Written, Changed, Left}
+use Rattle.op_machine.specs.declared.state.Outcome.TheVariants.{Begun, Epoch, Entered, Read, Written, Changed}
+use Rattle.op_machine.specs.declared.state.Progress.{Progress}
+use Rattle.op_machine.specs.declared.state.Progress.TheVariants.{On, To, Left}
 use Rattle.op_machine.specs.declared.state.State.{State}
 use Rattle.op_machine.specs.declared.state.State.TheVariants as at
 use Rattle.op_machine.specs.declared.state.Then.{Then}
@@ -68,7 +70,6 @@ left_for (Changed Won Round) = one_round
 left_for (Changed Won (Errand key)) = one_round + one_round
 left_for (Changed Lost then) = one_round
 left_for (Changed Full then) = 1
-left_for (Left reply) = 0
 
 -- One step fewer is left, or a cause paid for more; before the first step there is none.
 abbrev pub IsSpentLast : Recalled → Option (StepOf Record) → Answer Record → ℕ → ℕ → Type 0
@@ -76,9 +77,10 @@ IsSpentLast r None told left rest = rest < left
 IsSpentLast r (Some asked) told left rest = IsSpent r asked told left rest
 
 -- what an answer leaves
-abbrev pub LeavesFor : Recalled → Option (StepOf Record) → Answer Record → ℕ → State → Spares → Option Outcome → Type 0
-LeavesFor r last told left new has None = IsSpentLast r last told left (left_at (recall_last r last told) has new)
-LeavesFor r last told left new has (Some outcome) = IsSpentLast r last told left (left_for outcome)
+abbrev pub LeavesFor : Recalled → Option (StepOf Record) → Answer Record → ℕ → State → Spares → Progress → Type 0
+LeavesFor r last told left new has On = IsSpentLast r last told left (left_at (recall_last r last told) has new)
+LeavesFor r last told left new has (To outcome) = IsSpentLast r last told left (left_for outcome)
+LeavesFor r last told left new has (Left reply) = ⊤
 
 -- An operation that goes on has fewer steps left, or a cause paid for more.
 abbrev pub SpendsTo : Recalled → Op → Spares → Answer Record → Op → Spares → Want → Type 0

@@ -42,7 +42,7 @@ Brings k command plan (Errand key) = (pid : ℕ) × (split : SplitPlan) × (plan
 
 -- A base comes only over a chain that has deltas.
 abbrev pub IsUsefulOver : Knowledge → ℕ → Record → Type 0
-IsUsefulOver k head (Base page) = (chain : List Record) × IsChainFrom k.read.seen head chain × (1 < length chain)
+IsUsefulOver k head (Base page) = (chain : List Record) → IsChainFrom k.read.seen head chain → 1 < length chain
 IsUsefulOver k head content = ⊤
 
 abbrev pub IsUsefulPlan : Knowledge → Plan → Type 0

@@ -24,7 +24,9 @@ use Rattle.op_machine.specs.Errands.{way_key}
 use Rattle.op_machine.specs.Shows.{FitsLast, Stands, learn_last, recall_last, wanted_at}
 use Rattle.op_machine.specs.Tasks.{IsDone, Rests, Seeks, Task, Waits}
 use Rattle.op_machine.specs.declared.state.Outcome.{Outcome}
-use Rattle.op_machine.specs.declared.state.Outcome.TheVariants.{Begun, Epoch, Entered, Read, Written, Changed, Left}
+use Rattle.op_machine.specs.declared.state.Outcome.TheVariants.{Begun, Epoch, Entered, Read, Written, Changed}
+use Rattle.op_machine.specs.declared.state.Progress.{Progress}
+use Rattle.op_machine.specs.declared.state.Progress.TheVariants.{On, To, Left}
 use Rattle.op_machine.specs.declared.state.State.{State}
 use Rattle.op_machine.specs.declared.state.Then.{Then}
 use Rattle.op_machine.specs.declared.state.Then.TheVariants.{Round, Errand, Reply}
@@ -74,7 +76,6 @@ Faces task spares k r Entered = Seeks task spares k
 Faces task spares k r (Read end) = HasRead task spares k r end
 Faces task spares k r (Written end) = HasWritten task spares k r end
 Faces task spares k r (Changed end then) = HasChanged task spares k end then
-Faces task spares k r (Left reply) = ⊥
 
 -- Something is known that the state shows, and the answer fits it.
 pub record IsToldAt (state : State) (spares : Spares) (told : Answer Record) : Type 0 where
@@ -96,8 +97,8 @@ pub record HasLeft (task : Task) (k : Knowledge) (last : Option (StepOf Record))
   pub may : MayReply task.limits task.actor k reply
   pub rests : Rests task.limits spares (finished (learn k step.Leave told) (Some reply))
 
--- what comes of an answer: the same state goes on, the operation has left, or it faces what comes next
-abbrev pub Comes : Task → Knowledge → Recalled → Option (StepOf Record) → Answer Record → State → Spares → Option Outcome → Type 0
-Comes task k r last told new has None = Stands task has (learn_last k last told) (recall_last r last told) new × IsSome (wanted_at has new)
-Comes task k r last told new has (Some (Left reply)) = HasLeft task k last told has reply
-Comes task k r last told new has (Some outcome) = Faces task has (learn_last k last told) (recall_last r last told) outcome
+-- what comes of an answer: the same state goes on, or the operation faces what comes next, or it has left
+abbrev pub Comes : Task → Knowledge → Recalled → Option (StepOf Record) → Answer Record → State → Spares → Progress → Type 0
+Comes task k r last told new has On = Stands task has (learn_last k last told) (recall_last r last told) new × IsSome (wanted_at has new)
+Comes task k r last told new has (To outcome) = Faces task has (learn_last k last told) (recall_last r last told) outcome
+Comes task k r last told new has (Left reply) = HasLeft task k last told has reply

@@ -8,7 +8,7 @@ ghost use Rattle.op_machine.specs.Ops.{IsTold, Obeys, Shows};
 ghost use Rattle.op_machine.specs.Tasks.{IsSameTask, Rests};
 
 use crate::hand::Hand;
-use crate::state::{Outcome, State};
+use crate::state::{Progress, State};
 use crate::task::Task;
 use bw_model::{Answer, Command, Limits, Reply, Step};
 use deltas::Record;
@@ -60,9 +60,9 @@ impl Op {
         ensures same { IsSameTask self.old.task self.new.task }
     {
         match self.state.next(&mut hand.spares, answer) {
-            None => {}
-            Some(Outcome::Left(reply)) => return Want::Done(reply),
-            Some(outcome) => self.state = self.task.go_on(&hand.spares, outcome),
+            Progress::On => {}
+            Progress::To(outcome) => self.state = self.task.go_on(&hand.spares, outcome),
+            Progress::Left(reply) => return Want::Done(reply),
         }
         Want::Step(self.state.step(&hand.spares))
     }

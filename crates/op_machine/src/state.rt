@@ -51,7 +51,16 @@ pub(crate) enum Outcome {
     Written(WriteEnd),
     /// A change has ended.
     Changed { end: End, then: Then },
-    /// It has left, with this reply.
+}
+
+/// What an answer makes of a state.
+#[derive(Debug, Drop)]
+pub(crate) enum Progress {
+    /// It goes on.
+    On,
+    /// Another state is to follow what the operation has come to.
+    To(Outcome),
+    /// The operation has left, with this reply.
     Left(Reply),
 }
 
@@ -62,7 +71,7 @@ impl Then {
         match self {
             Then::Round => Then::Round,
             Then::Errand(key) => Then::Errand(key.copied()),
-            Then::Reply(reply) => Then::Reply(reply.clone().unwrap()),
+            Then::Reply(reply) => Then::Reply(copied(reply)),
         }
     }
 }
@@ -86,33 +95,39 @@ impl State {
         }
     }
 
-    /// Takes the answer to the step wanted last, and tells what the operation has come to, where another state is to follow.
-    pub(crate) fn next(&mut self, spares: &mut Spares, answer: Answer<Record>) -> Option<Outcome>
+    /// Takes the answer to the step wanted last.
+    pub(crate) fn next(&mut self, spares: &mut Spares, answer: Answer<Record>) -> Progress
         requires told { IsToldAt self.old spares.old answer }
         ensures comes { (task : Task) (k : Knowledge) (r : Recalled) → Stands task spares.old k r self.old → FitsLast task.limits k (wanted_at spares.old self.old) answer → Comes task k r (wanted_at spares.old self.old) answer self.new spares.new result }
         ensures leaves { (task : Task) (k : Knowledge) (r : Recalled) → Stands task spares.old k r self.old → FitsLast task.limits k (wanted_at spares.old self.old) answer → LeavesFor r (wanted_at spares.old self.old) answer (left_at r spares.old self.old) self.new spares.new result }
     {
         match self {
-            State::Begun => Some(Outcome::Begun),
-            State::Epoch => Some(Outcome::Epoch(answer.into_number())),
-            State::Enter { .. } => Some(Outcome::Entered),
+            State::Begun => Progress::To(Outcome::Begun),
+            State::Epoch => Progress::To(Outcome::Epoch(answer.into_number())),
+            State::Enter { .. } => Progress::To(Outcome::Entered),
             State::Read { round } => match round.next(answer) {
-                None => None,
-                Some(end) => Some(Outcome::Read(end)),
+                None => Progress::On,
+                Some(end) => Progress::To(Outcome::Read(end)),
             },
             State::Write { round } => match round.next(answer) {
-                None => None,
-                Some(end) => Some(Outcome::Written(end)),
+                None => Progress::On,
+                Some(end) => Progress::To(Outcome::Written(end)),
             },
             State::Change { change, then } => match change.next(spares, answer) {
-                None => None,
-                Some(end) => Some(Outcome::Changed {
+                None => Progress::On,
+                Some(end) => Progress::To(Outcome::Changed {
                     end,
                     then: then.copied(),
                 }),
             },
-            State::Leave { reply } => Some(Outcome::Left(reply.clone().unwrap())),
+            State::Leave { reply } => Progress::Left(copied(reply)),
             State::Over => unreachable!(),
         }
     }
+}
+
+fn copied(reply: &Reply) -> Reply
+    ensures { result ≡ reply.now }
+{
+    reply.clone().unwrap()
 }

@@ -16,7 +16,7 @@ use crate::errands::Errands;
 use crate::state::{Outcome, State, Then};
 use base_page::Page;
 use bw_model::{Command, Key, Limits, Reply};
-use chain_search::updates_fit;
+use chain_search::{chain_is_one, updates_fit};
 use deltas::{Delete, Put, Record, Term};
 use descent::{ReadEnd, ReadRound, WriteEnd, WriteRound};
 use installs::{Change, End, Plan, Spares, plans_may_be_linked};
@@ -68,7 +68,6 @@ impl Task {
             Outcome::Read(end) => self.end_read(end),
             Outcome::Written(end) => self.end_write(spares, end),
             Outcome::Changed { end, then } => self.end_change(end, then),
-            Outcome::Left(_) => unreachable!(),
         }
     }
 
@@ -151,11 +150,13 @@ impl Task {
         ensures same { IsSameTask self.old self.new }
         ensures errands { self.new.errands ≡ take (length self.old.errands - 1) self.old.errands }
     {
-        if self.errands.newest().is_some() {
-            self.errands.finish();
-            return self.round();
+        match self.errands.newest() {
+            None => self.execute(spares, leaf),
+            Some(_) => {
+                self.errands.finish();
+                self.round()
+            }
         }
-        self.execute(spares, leaf)
     }
 
     /// At the leaf of its key the command answers, where nothing is to be changed; else its update is linked.
@@ -173,6 +174,7 @@ impl Task {
         if !self.command.changes(old) {
             return State::Leave { reply };
         }
+        let _ = leaf.chain.page();
         let content = self.update_over(leaf.head);
         let plan = Plan::Install {
             pid: leaf.pid,
@@ -209,6 +211,7 @@ impl Task {
         ensures asks { IsSome (wanted_at spares.now result) }
     {
         plans_may_be_linked();
+        chain_is_one();
         let base = page.chain.consolidated();
         let plan = Plan::Install {
             pid: page.pid,

@@ -1,0 +1,185 @@
+-- What a change's next step leaves an operation in.
+use Rattle.std.proofs.Common.{◌≡◌, ◌<◌, ◌+◌, ◌⊎◌, inl, inr, ℕ, zero, suc, List, Option, Some, None, true, false, refl, sym, ap, subst, ◌∙◌, arith}
+use Rattle.std.specs.Prelude.{IfSome}
+use Rattle.std.proofs.lemmas.Option.{same_Some}
+use Rattle.bw_model.specs.declared.command.Command.{Command}
+use Rattle.bw_model.specs.declared.limits.Limits.{Limits}
+use Rattle.bw_model.specs.declared.step.Answer.{Answer}
+use Rattle.bw_model.specs.declared.step.Answer.TheVariants.{Whether}
+use Rattle.bw_model.specs.declared.step.Step.{Step}
+use Rattle.bw_model.specs.declared.step.Step.TheVariants.{TakePid}
+use Rattle.deltas.specs.declared.record.Record.{Record}
+use Rattle.deltas.specs.declared.record.Record.TheVariants as kind
+use Rattle.chain_search.specs.Discipline.{LacksRoom, MayReply}
+use Rattle.chain_search.specs.Fitting.{Fits}
+use Rattle.chain_search.specs.Knowledge.{Knowledge, learn}
+use Rattle.chain_search.specs.Recalled.{IsSpent, Recalled, recall}
+use Rattle.installs.specs.Bounded as bound
+use Rattle.installs.specs.Changes as change
+use Rattle.installs.specs.Spares.{HaveRoom, Spares}
+use Rattle.installs.specs.declared.change.End.{End}
+use Rattle.installs.specs.declared.change.End.TheVariants.{Won, Lost, Full}
+use Rattle.installs.specs.declared.plan.Plan.{Plan}
+use Rattle.installs.specs.declared.plan.Plan.TheVariants.{Install, Split, Root}
+use Rattle.op_machine.specs.Answered.{is_writer}
+use Rattle.op_machine.specs.Bounded.{left_for, one_round}
+use Rattle.op_machine.specs.Brings.{Brings, IsReadPlan, IsUpdateOf, IsUsefulOver, IsUsefulPlan}
+use Rattle.op_machine.specs.Outcomes.{HasChanged}
+use Rattle.op_machine.specs.Shows.{Changes}
+use Rattle.op_machine.specs.Tasks.{IsAsked, IsDone, IsUnreadPid, Seeks, Task}
+use Rattle.op_machine.specs.declared.state.Outcome.TheVariants as outcome
+use Rattle.op_machine.specs.declared.state.Then.{Then}
+use Rattle.op_machine.specs.declared.state.Then.TheVariants.{Round, Errand, Reply}
+
+-- a PID that is taken is of no page that was read
+taken_unread : (limits : Limits) (k : Knowledge) (asked : Step Record) (told : Answer Record) → Fits limits k asked told → (p : ℕ) → bound.pid_taken asked told ≡ Some p → k.read.heads p ≡ None
+taken_unread limits k (TakePid q) (Whether true) fits p e = subst (λ n. k.read.heads n ≡ None) (same_Some q p e) fits.unread
+taken_unread limits k asked told fits p e = cc
+
+-- nor is it that of the page that is to be split
+apart_from : (k : Knowledge) (plan : Plan) (o : Option ℕ) → ((p : ℕ) → o ≡ Some p → k.read.heads p ≡ None) → IsReadPlan k plan → bound.IsApart plan o
+apart_from k (Split page plan) (Some p) unread read = λ same. let e = unread p refl in let f : k.read.heads p ≡ Some plan.next = rw same read in let g = sym e ∙ f in cc
+apart_from k (Split page plan) None unread read = tt
+apart_from k (Install pid head content) o unread read = tt
+apart_from k (Root left root) o unread read = tt
+
+spare_apart : (k : Knowledge) (plan : Plan) (o : Option ℕ) → IfSome o (λ p. k.read.heads p ≡ None) → IsReadPlan k plan → bound.IsApart plan o
+spare_apart k plan None unread read = apart_from k plan None (λ p e. cc) read
+spare_apart k plan (Some q) unread read = apart_from k plan (Some q) (λ p e. subst (λ n. k.read.heads n ≡ None) (same_Some q p e) unread) read
+
+pub begins_apart : (k : Knowledge) (plan : Plan) (spares : Spares) → IsUnreadPid spares k → IsReadPlan k plan → bound.IsApart plan spares.pid
+begins_apart k plan spares unread read = spare_apart k plan spares.pid unread read
+
+unread_from : (heads : ℕ → Option ℕ) (old taken o : Option ℕ) → IfSome old (λ p. heads p ≡ None) → ((p : ℕ) → taken ≡ Some p → heads p ≡ None) → bound.IsPidFrom old taken o → IfSome o (λ p. heads p ≡ None)
+unread_from heads old taken None was now from = tt
+unread_from heads old taken (Some p) was now from = elim from [
+  | inl same ↦ subst (λ (o : Option ℕ). IfSome o (λ q. heads q ≡ None)) same was
+  | inr new ↦ now p new
+]
+
+-- what else is known of own rows, own pages and words of free bits changes nothing
+brings_still : (k now : Knowledge) (command : Command) (plan : Plan) (then : Then) → now.read ≡ k.read → Brings k command plan then → Brings now command plan then
+brings_still k now command plan (Reply answered) same b = record { pid = b.pid; head = b.head; content = b.content; is = b.is; updates = b.updates; chain = b.chain; read = rw same b.read; leaf = b.leaf; alive = b.alive; covers = b.covers; replies = b.replies }
+brings_still k now command plan Round same b = b
+brings_still k now command plan (Errand key) same b = b
+
+useful_over : (k now : Knowledge) (head : ℕ) (content : Record) → now.read ≡ k.read → IsUsefulOver k head content → IsUsefulOver now head content
+useful_over k now head (kind.Base page) same h = λ chain read. h chain (rw same at read)
+useful_over k now head content same h = tt
+
+useful_still : (k now : Knowledge) (plan : Plan) → now.read ≡ k.read → IsUsefulPlan k plan → IsUsefulPlan now plan
+useful_still k now (Install pid head content) same h = useful_over k now head content same h
+useful_still k now (Split pid plan) same h = tt
+useful_still k now (Root left root) same h = tt
+
+read_still : (k now : Knowledge) (plan : Plan) → now.read ≡ k.read → IsReadPlan k plan → IsReadPlan now plan
+read_still k now (Install pid head content) same h = tt
+read_still k now (Split pid plan) same h = rw same h
+read_still k now (Root left root) same h = tt
+
+-- a change that has not won leaves what is known of the command's update
+lost_links : (plan : Plan) (linked : Option (Option ℕ)) → change.linked_after plan Lost linked ≡ linked
+lost_links (Install pid head content) linked = refl
+lost_links (Split pid plan) linked = refl
+lost_links (Root left root) linked = refl
+
+full_links : (plan : Plan) (linked : Option (Option ℕ)) → change.linked_after plan Full linked ≡ linked
+full_links (Install pid head content) linked = refl
+full_links (Split pid plan) linked = refl
+full_links (Root left root) linked = refl
+
+module _ (task : Task) (had has : Spares) (k : Knowledge) (r : Recalled) (old new : change.Change) (then : Then) (told : Answer Record) (h : Changes task had k r old then) (fits : Fits task.limits k (change.wanted old had) told) (pid : bound.IsPidFrom had.pid (bound.pid_taken (change.wanted old had) told) has.pid) where
+  abbrev now : Knowledge
+  now = learn k (change.wanted old had) told
+
+  abbrev then_recalled : Recalled
+  then_recalled = recall r (change.wanted old had) told
+
+  pub taken_apart : bound.IsApart old.plan (bound.pid_taken (change.wanted old had) told)
+  taken_apart = apart_from k old.plan (bound.pid_taken (change.wanted old had) told) (taken_unread task.limits k (change.wanted old had) told fits) h.split
+
+  unread : now.read ≡ k.read → IsUnreadPid has now
+  unread same = rw same (unread_from k.read.heads had.pid (bound.pid_taken (change.wanted old had) told) has.pid h.unread (taken_unread task.limits k (change.wanted old had) told fits) pid)
+
+  pub change_on : change.IsSame old new → change.IsSound new has → change.GoesOn task.actor k now new has → bound.Recalls new has then_recalled → Changes task has now then_recalled new then
+  change_on same sound goes recalls = record {
+    asked = record { going = goes.like.command ∙ h.asked.going; unlinked = goes.like.linked_now ∙ h.asked.unlinked };
+    writer = h.writer;
+    limits = same.limits ∙ h.limits;
+    brings = rw same.plan (brings_still k now task.command old.plan then goes.like.read h.brings);
+    useful = rw same.plan (useful_still k now old.plan goes.like.read h.useful);
+    split = rw same.plan (read_still k now old.plan goes.like.read h.split);
+    unread = unread goes.like.read;
+    sound = sound;
+    shows = goes.shows;
+    recalls = recalls;
+  }
+
+  pub change_left : bound.SpendsTo one_round r old had told new has None → IsSpent r (change.wanted old had) told (bound.steps_left one_round old had + 1) (bound.steps_left one_round new has + 1)
+  change_left spends = elim spends.1 [
+    | inl less ↦ inl (omega (arith, less))
+    | inr paid ↦ let more = paid.1 in inr (paid.0, omega (arith, more))
+  ]
+
+  -- where it has ended
+  module _ (end : End) (room : HaveRoom old.limits has) (over : change.IsOver k now old told has end) where
+    seeks : change.linked_after old.plan end k.asked.linked ≡ None → Seeks task has now
+    seeks none = record {
+      inside = over.like.inside ∙ h.shows.may.inside;
+      spare = record { room = rw (← h.limits) room; rest = over.rest };
+      unread = unread over.like.read;
+      asked = record { going = over.like.command ∙ h.asked.going; unlinked = over.like.linked_now ∙ none };
+    }
+
+    done : IsDone task has now
+    done = record {
+      inside = over.like.inside ∙ h.shows.may.inside;
+      spare = record { room = rw (← h.limits) room; rest = over.rest };
+      going = over.like.command ∙ h.asked.going;
+    }
+
+  answers : (room : HaveRoom old.limits has) (over : change.IsOver k now old told has Won) (answered : _) → then ≡ Reply answered → MayReply task.limits task.actor now answered
+  answers room over answered is =
+      let b : IsUpdateOf k task.command old.plan answered = subst (λ t. Brings k task.command old.plan t) is h.brings in
+      record {
+        command = task.command;
+        going = over.like.command ∙ h.asked.going;
+        justified = inl (record {
+          row = b.head;
+          chain = b.chain;
+          read = rw over.like.read b.read;
+          leaf = b.leaf;
+          covers = b.covers;
+          is = b.replies;
+          basis = inl (over.like.linked_now ∙ ap (λ plan. change.linked_after plan Won k.asked.linked) b.is ∙ b.updates k.asked.linked, b.alive);
+        });
+      }
+
+  pub change_ended : (end : End) → HaveRoom old.limits has → change.IsOver k now old told has end → HasChanged task has now end then
+  change_ended Won room over = by then refl
+    where
+      by : (t : Then) → then ≡ t → HasChanged task has now Won t
+      by (Reply answered) is = (done Won room over, answers room over answered is)
+      by Round is = (seeks Won room over (ap (change.linked_after old.plan Won) h.asked.unlinked ∙ subst (λ t. Brings k task.command old.plan t) is h.brings), h.writer)
+      by (Errand key) is =
+          let b = subst (λ t. Brings k task.command old.plan t) is h.brings in
+          (seeks Won room over (ap (λ plan. change.linked_after plan Won k.asked.linked) b.2 ∙ h.asked.unlinked), h.writer)
+  change_ended Lost room over = (seeks Lost room over (lost_links old.plan k.asked.linked ∙ h.asked.unlinked), h.writer)
+  change_ended Full room over = (
+    seeks Full room over (full_links old.plan k.asked.linked ∙ h.asked.unlinked),
+    h.writer,
+    rw (← h.limits) (elim over.decided [ inl pids ↦ inl pids.1 | inr rows ↦ inr rows.1 ]),
+  )
+
+  won_left : (t : Then) (left : ℕ) → left_for (outcome.Changed Won t) < left + 262144
+  won_left (Reply answered) left = omega arith
+  won_left Round left = omega arith
+  won_left (Errand key) left = omega arith
+
+  pub ended_left : (end : End) → bound.SpendsTo one_round r old had told new has (Some end) → IsSpent r (change.wanted old had) told (bound.steps_left one_round old had + 1) (left_for (outcome.Changed end then))
+  ended_left Won paid = inr (paid, won_left then (bound.steps_left one_round old had + 1))
+  ended_left Lost spends = elim spends [
+    | inl paid ↦ inr (paid, omega arith)
+    | inr more ↦ inl (omega (arith, more))
+  ]
+  ended_left Full some = inl (omega (arith, some))

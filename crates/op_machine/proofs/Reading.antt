@@ -1,0 +1,104 @@
+-- What a step that reads a slot or a row leaves as it was.
+use Rattle.std.proofs.Common.{◌≡◌, ◌<◌, ◌==◌, ◌⊎◌, inl, inr, ℕ, zero, suc, Bool, true, false, cond, Option, Some, None, refl, sym, ap, subst, ◌∙◌}
+use Rattle.std.specs.Prelude.{IfSome}
+use Rattle.std.proofs.lemmas.Bool.{eqb-true}
+use Rattle.bw_model.specs.declared.limits.Limits.{Limits}
+use Rattle.bw_model.specs.declared.step.Step.{Step}
+use Rattle.bw_model.specs.declared.step.Step.TheVariants.{Slot, Row}
+use Rattle.bw_model.specs.declared.step.Answer.{Answer}
+use Rattle.bw_model.specs.declared.step.Answer.TheVariants.{Start, Number, Content, Whether, Done}
+use Rattle.deltas.specs.declared.record.Record.{Record}
+use Rattle.deltas.specs.Memory.{replaced_at}
+use Rattle.chain_search.specs.Fitting.{Fits}
+use Rattle.chain_search.specs.Knowledge.{OwnPage, Other, Empty, Ready, Gone, Knowledge, learn}
+use Rattle.chain_search.specs.Recalled.{Recalled}
+use Rattle.descent.specs.ReadRounds as read
+use Rattle.descent.specs.WriteRounds as write
+use Rattle.descent.specs.Visits as page
+use Rattle.descent.specs.declared.visit.State as at_page
+use Rattle.descent.specs.declared.visit.State.TheVariants as at_visit
+use Rattle.descent.specs.declared.read_round.State as reader
+use Rattle.descent.specs.declared.read_round.State.TheVariants as at_reader
+use Rattle.descent.specs.declared.write_round.State as writer
+use Rattle.descent.specs.declared.write_round.State.TheVariants as at_writer
+use Rattle.installs.specs.Spares.{IsUnlinked, Spares}
+use Rattle.op_machine.specs.Tasks.{HasSpares, IsUnreadPid, Seeks, Task}
+
+-- the step reads a slot, or a row
+abbrev pub IsReading : Step Record → Type 0
+IsReading s = ((p : ℕ) × (s ≡ Slot p)) ⊎ ((q : ℕ) × (s ≡ Row q))
+
+of_visit : (pid : ℕ) (state : at_page.State) → IsReading (page.wanted_at pid state)
+of_visit pid at_visit.Slot = inl (pid, refl)
+of_visit pid (at_visit.Row head row) = inr (row, refl)
+
+pub reader_reads : (round : read.ReadRound) (k : Knowledge) (r : Recalled) → read.Shows round k r → IsReading (read.wanted round)
+reader_reads round k r shows = go round.state shows
+  where
+    go : (state : reader.State) → read.Stands round.limits round.key k r state → IsReading (read.wanted_at state)
+    go at_reader.Root h = inl (0, refl)
+    go (at_reader.Page visit) h = of_visit visit.pid visit.state
+    go at_reader.Over h = absurd h
+
+pub writer_reads : (round : write.WriteRound) (k : Knowledge) (r : Recalled) → write.Shows round k r → IsReading (write.wanted round)
+writer_reads round k r shows = go round.state shows
+  where
+    go : (state : writer.State) → write.Stands round k r state → IsReading (write.wanted_at state)
+    go at_writer.Root h = inl (0, refl)
+    go (at_writer.Page visit) h = of_visit visit.pid visit.state
+    go at_writer.Over h = absurd h
+
+-- an own page that no row was set in
+unset_empty : (v : OwnPage) → IsUnlinked v → ((row : ℕ) → v ≡ Ready row → ⊥) → v ≡ Empty
+unset_empty Other h never = absurd h
+unset_empty Empty h never = refl
+unset_empty (Ready row) h never = absurd (never row refl)
+unset_empty Gone h never = absurd h
+
+-- the slot of another page was read
+other_unread : (p n q : ℕ) (heads : ℕ → Option ℕ) → (q ≡ p → ⊥) → heads q ≡ None → replaced_at p (Some n) heads q ≡ None
+other_unread p n q heads ne e = go (q == p) refl
+  where
+    go : (t : Bool) → (q == p) ≡ t → cond t (Some n) (heads q) ≡ None
+    go true i = absurd (ne (eqb-true q p i))
+    go false i = e
+
+if_some : {P Q : ℕ → Type 0} (o : Option ℕ) → ((q : ℕ) → o ≡ Some q → P q → Q q) → IfSome o P → IfSome o Q
+if_some None f h = h
+if_some (Some q) f h = f q refl h
+
+module _ (task : Task) (spares : Spares) (k : Knowledge) (s : Seeks task spares k) where
+  some_page : (o : Option ℕ) → spares.pid ≡ o → (q : ℕ) → o ≡ Some q → k.own.pages q ≡ Empty
+  some_page o is q e =
+      let page = subst (λ (x : Option ℕ). IfSome x (λ pid. (0 < pid) × IsUnlinked (k.own.pages pid))) (is ∙ e) s.spare.rest.are.page in
+      unset_empty (k.own.pages q) page.1 (λ row. s.spare.rest.unset q row)
+
+  unread_still : (p n : ℕ) → (k.own.pages p ≡ Empty → ⊥) → IfSome spares.pid (λ q. replaced_at p (Some n) k.read.heads q ≡ None)
+  unread_still p n foreign = if_some spares.pid (λ q e h. other_unread p n q k.read.heads (λ i. foreign (subst (λ x. k.own.pages x ≡ Empty) i (some_page spares.pid refl q e))) h) s.unread
+
+  slot_still : (limits : Limits) (p : ℕ) (told : Answer Record) → Fits limits k (Slot p) told → Seeks task spares (learn k (Slot p) told)
+  slot_still limits zero (Number n) fits = record { inside = s.inside; spare = record { room = s.spare.room; rest = s.spare.rest }; unread = s.unread; asked = record { going = s.asked.going; unlinked = s.asked.unlinked } }
+  slot_still limits (suc p) (Number zero) fits = s
+  slot_still limits (suc p) (Number (suc n)) fits =
+      record { inside = s.inside; spare = record { room = s.spare.room; rest = s.spare.rest }; unread = unread_still (suc p) (suc n) fits.3; asked = record { going = s.asked.going; unlinked = s.asked.unlinked } }
+  slot_still limits zero Start fits = absurd fits
+  slot_still limits zero (Content w) fits = absurd fits
+  slot_still limits zero (Whether t) fits = absurd fits
+  slot_still limits zero Done fits = absurd fits
+  slot_still limits (suc p) Start fits = absurd fits
+  slot_still limits (suc p) (Content w) fits = absurd fits
+  slot_still limits (suc p) (Whether t) fits = absurd fits
+  slot_still limits (suc p) Done fits = absurd fits
+
+  row_still : (limits : Limits) (q : ℕ) (told : Answer Record) → Fits limits k (Row q) told → Seeks task spares (learn k (Row q) told)
+  row_still limits q (Content w) fits = record { inside = s.inside; spare = record { room = s.spare.room; rest = s.spare.rest }; unread = s.unread; asked = record { going = s.asked.going; unlinked = s.asked.unlinked } }
+  row_still limits q Start fits = absurd fits
+  row_still limits q (Number n) fits = absurd fits
+  row_still limits q (Whether t) fits = absurd fits
+  row_still limits q Done fits = absurd fits
+
+  pub seeks_still : (limits : Limits) (asked : Step Record) (told : Answer Record) → IsReading asked → Fits limits k asked told → Seeks task spares (learn k asked told)
+  seeks_still limits asked told reads fits = elim reads [
+    | inl slot ↦ rw slot.1 (slot_still limits slot.0 told (rw slot.1 at fits))
+    | inr row ↦ rw row.1 (row_still limits row.0 told (rw row.1 at fits))
+  ]
