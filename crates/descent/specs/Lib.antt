@@ -1,0 +1,6 @@
+pub mod Versions
+pub mod Visits
+pub mod Ways
+pub mod Walks
+pub mod ReadRounds
+pub mod WriteRounds
