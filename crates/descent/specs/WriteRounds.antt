@@ -85,6 +85,11 @@ pub record IsParent (limits : Limits) (k : Knowledge) (pid : ℕ) (state : at_pa
   pub up : level_in parent.chain ≡ suc level
   pub after : IsAhead k parent pid state
 
+-- The page in hand is to the left of the visited one, which so begins above the empty key.
+pub record IsBeside (limits : Limits) (k : Knowledge) (low : List ℕ) (earlier : List ℕ) (left : Version) : Type 0 where
+  pub kept : IsKept limits k left earlier
+  pub inner : IsTrue (is_below [] low)
+
 -- Without a parent the page is the one that slot 0 had, or its left page is, or it begins above the empty key.
 abbrev pub IsBased : Recalled → Option Version → Option Version → ℕ → List ℕ → Type 0
 IsBased r (Some parent) left pid low = ⊤
@@ -98,7 +103,7 @@ pub record IsVisiting (limits : Limits) (key : List ℕ) (parent left : Option V
   pub earlier : List ℕ
   pub seeks : IsSeeking limits key k r visit level low earlier
   pub above : IfSome parent (IsParent limits k visit.pid visit.state level earlier)
-  pub aside : IfSome left (λ other. IsKept limits k other earlier)
+  pub aside : IfSome left (IsBeside limits k low earlier)
   pub based : IsBased r parent left visit.pid low
 
 -- by the state of a round
