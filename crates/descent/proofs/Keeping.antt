@@ -18,10 +18,10 @@ use Rattle.smo.specs.Readings.{IsAfter}
 use Rattle.smo.specs.declared.version.Version.{Version}
 use Rattle.descent.specs.declared.visit.State.{State}
 use Rattle.descent.specs.declared.visit.State.TheVariants.{Slot, Row}
-use Rattle.descent.specs.Visits.{Begins, Completes, Continues, Visit, at, wanted}
+use Rattle.descent.specs.Visits.{Starts, Completes, Continues, Visit, at, wanted}
 use Rattle.descent.specs.Walks.{HasArrived, IsAmong}
 use Rattle.descent.specs.Ways.{reaches}
-use Rattle.descent.specs.WriteRounds.{IsBased, IsBeside, IsKept, IsVisiting}
+use Rattle.descent.specs.WriteRounds.{IsBased, IsLeftOf, IsKept, IsVisiting}
 use Rattle.descent.proofs.Holding.{in_hand_row, in_hand_slot}
 use Rattle.descent.proofs.Seeking.{arrived, seeks_row, seeks_slot}
 use Rattle.descent.proofs.Visiting.{back, there}
@@ -48,7 +48,7 @@ pub record HasReached (limits : Limits) (key : List ℕ) (parent left : Option V
   pub arrives : HasArrived limits k now r version level low earlier
   pub passing : IsTrue (reaches key low)
   pub above : IfSome parent (IsOver limits now version earlier)
-  pub aside : IfSome left (IsBeside limits now low earlier)
+  pub aside : IfSome left (IsLeftOf limits now low earlier)
   pub based : IsBased r parent left version.pid low
 
 module _ (limits : Limits) (key : List ℕ) (parent left : Option Version) (k : Knowledge) (r : Recalled) (visit : Visit) where
@@ -137,7 +137,7 @@ module _ (limits : Limits) (key : List ℕ) (parent left : Option Version) (k : 
   abbrev FitsAt : Visit → Answer Record → Type 0
   FitsAt v x = Fits limits k (wanted v) x
 
-  pub visits_next : (new : Visit) → Begins visit told new ⊎ Continues visit told new → IsVisiting limits key parent left (learn k (wanted visit) told) (recall r (wanted visit) told) new
+  pub visits_next : (new : Visit) → Starts visit told new ⊎ Continues visit told new → IsVisiting limits key parent left (learn k (wanted visit) told) (recall r (wanted visit) told) new
   visits_next new moves =
       let P : Visit → Answer Record → Type 0 = λ v x. IsVisiting limits key parent left (learn k (wanted v) x) (recall r (wanted v) x) new in
       elim moves [

@@ -1,5 +1,5 @@
 -- What an answer leaves a reader's round.
-use Rattle.std.proofs.Common.{◌≡◌, ◌-◌, inl, inr, ℕ, List, [], ◌∷◌, false, Option, Some, None, refl, sym, subst, arith}
+use Rattle.std.proofs.Common.{ap, ◌∙◌, ◌≡◌, ◌-◌, inl, inr, ℕ, List, [], ◌∷◌, false, Option, Some, None, refl, sym, subst, arith}
 use Rattle.std.specs.Prelude.{IsTrue}
 use Rattle.bw_model.specs.declared.step.Answer.{Answer}
 use Rattle.bw_model.specs.declared.step.Answer.TheVariants as answer
@@ -11,11 +11,12 @@ use Rattle.chain_search.specs.Recalled.{Recalled, recall}
 use Rattle.smo.specs.declared.version.Version.{Version}
 use Rattle.descent.specs.declared.read_round.ReadEnd.{ReadEnd}
 use Rattle.descent.specs.declared.read_round.ReadEnd.TheVariants.{Again, Removed, Leaf}
-use Rattle.descent.specs.declared.read_round.State.{State}
-use Rattle.descent.specs.declared.read_round.State.TheVariants.{Root, Page}
+use Rattle.descent.specs.declared.descent.State.{State}
+use Rattle.descent.specs.declared.descent.State.TheVariants.{Root, Page, Over}
 use Rattle.descent.specs.declared.visit.Sight.{Sight}
 use Rattle.descent.specs.declared.visit.Sight.TheVariants.{Empty, Whole}
-use Rattle.descent.specs.ReadRounds.{CanSee, Ends, Follows, IsTold, IsVisiting, ReadRound, Responds, Sees, Shows, Spends, Treats, at, wanted}
+use Rattle.descent.specs.ReadRounds.{CanSee, Ends, Follows, GoesFrom, GoesOnWay, IsTold, IsVisiting, ReadRound, Responds, Sees, Shows, Spends, Treats, at, wanted, descent_of, going_to}
+use Rattle.descent.specs.Descents.{Descent, Finds, Shows as WayShows, Starts, Visits}
 use Rattle.descent.specs.Visits as page
 use Rattle.descent.specs.Walks.{HasArrived}
 use Rattle.descent.specs.Ways.{LeadsOn, reaches}
@@ -79,28 +80,53 @@ module _ (old new : ReadRound) (told : Answer Record) (visit : page.Visit) where
       by_result reserve k r h f (Some (Removed removed)) t = left_removed reserve old.limits old.key k r visit h.level h.low h.earlier told h.seeks f version b t.1
       by_result reserve k r h f (Some (Leaf leaf)) t = left_some reserve old.limits old.key k r visit h.level h.low h.earlier told h.seeks f version b
 
+-- the round that is on its way
+
+started : (old new : ReadRound) (told : Answer Record) (result : Option ReadEnd) → GoesOnWay old told new result → (b : Starts (descent_of old) told (descent_of new)) → new ≡ going_to b.root old
+started old new told result way b = way.same ∙ ap (λ (d : Descent). at old d.state) b.goes
+
+visiting : (old new : ReadRound) (told : Answer Record) (result : Option ReadEnd) → GoesOnWay old told new result → (b : Visits (descent_of old) told (descent_of new)) → new ≡ at old (Page b.next)
+visiting old new told result way b = way.same ∙ ap (λ (d : Descent). at old d.state) b.goes
+
+seen_at : (old new : ReadRound) (told : Answer Record) (result : Option ReadEnd) → (from : GoesFrom old told new result) → Sees (at old (Page from.finds.visit)) from.sight new result
+seen_at old new told result from = subst (λ (s : State). Sees (at old s) from.sight new result) from.finds.asked from.sees
+
 -- what follows from what a round makes of an answer
 pub follows_from : (old new : ReadRound) (told : Answer Record) (result : Option ReadEnd) → Responds old told new result → (k : Knowledge) (r : Recalled) → Shows old k r → Fits old.limits k (wanted old) told → Follows k r old told new result
 follows_from old new told result responds = elim responds [
-  | inl b ↦ back old (Then new result) Root (answer.Number b.root) told b.asked b.is (rw (b.on, b.goes) (λ k r h f. record { level = 0; low = []; earlier = []; seeks = seeks_root old.limits old.key k r b.root f h }))
-  | inr (inl b) ↦ back old (Then new result) (Page b.visit) told told b.asked refl (rw (b.on, b.goes) (λ k r h f. record { level = h.level; low = h.low; earlier = h.earlier; seeks = seeks_next old.limits old.key k r b.visit h.level h.low h.earlier told h.seeks f b.next b.visits }))
-  | inr (inr b) ↦ back old (Then new result) (Page b.visit) told told b.asked refl (seen old new told b.visit b.next b.sight result b.visits (subst (λ (s : State). Sees (at old s) b.sight new result) b.asked b.sees))
+  | inl way ↦ elim way.on [
+    | inl b ↦ back old (Then new result) Root (answer.Number b.root) told b.asked b.is (rw (way.none, started old new told result way b) (λ k r h f. record { level = 0; low = []; earlier = []; seeks = seeks_root old.limits old.key k r b.root f h }))
+    | inr b ↦ back old (Then new result) (Page b.visit) told told b.asked refl (rw (way.none, visiting old new told result way b) (λ k r h f. record { level = h.level; low = h.low; earlier = h.earlier; seeks = seeks_next old.limits old.key k r b.visit h.level h.low h.earlier told h.seeks f b.next b.responds }))
+  ]
+  | inr from ↦ back old (Then new result) (Page from.finds.visit) told told from.finds.asked refl (seen old new told from.finds.visit from.finds.next from.sight result from.finds.responds (seen_at old new told result from))
 ]
 
 pub spends_from : (old new : ReadRound) (told : Answer Record) (result : Option ReadEnd) → Responds old told new result → (reserve : ℕ) (k : Knowledge) (r : Recalled) → Shows old k r → Fits old.limits k (wanted old) told → Spends reserve r old told new result
 spends_from old new told result responds = elim responds [
-  | inl b ↦ back old (Pays new result) Root (answer.Number b.root) told b.asked b.is (rw (b.on, b.goes) (λ reserve k r h f. inl (omega arith)))
-  | inr (inl b) ↦ back old (Pays new result) (Page b.visit) told told b.asked refl (rw (b.on, b.goes) (λ reserve k r h f. spent_on reserve old.limits old.key k r b.visit h.level h.low h.earlier told h.seeks f b.next b.visits))
-  | inr (inr b) ↦ back old (Pays new result) (Page b.visit) told told b.asked refl (paid old new told b.visit b.next b.sight result b.visits (subst (λ (s : State). Sees (at old s) b.sight new result) b.asked b.sees))
+  | inl way ↦ elim way.on [
+    | inl b ↦ back old (Pays new result) Root (answer.Number b.root) told b.asked b.is (rw (way.none, started old new told result way b) (λ reserve k r h f. inl (omega arith)))
+    | inr b ↦ back old (Pays new result) (Page b.visit) told told b.asked refl (rw (way.none, visiting old new told result way b) (λ reserve k r h f. spent_on reserve old.limits old.key k r b.visit h.level h.low h.earlier told h.seeks f b.next b.responds))
+  ]
+  | inr from ↦ back old (Pays new result) (Page from.finds.visit) told told from.finds.asked refl (paid old new told from.finds.visit from.finds.next from.sight result from.finds.responds (seen_at old new told result from))
 ]
 
+-- what the round shows, its descent does
+pub way_shows : (round : ReadRound) (k : Knowledge) (r : Recalled) → Shows round k r → WayShows (descent_of round) k
+way_shows round k r h = by_state round.state refl
+  where
+    by_state : (state : State) → round.state ≡ state → WayShows (descent_of round) k
+    by_state Root e = rw e (rw e at h)
+    by_state (Page visit) e = let here : IsVisiting round.limits round.key k r visit = rw e at h in rw e here.seeks.on_way.shows
+    by_state Over e = absurd (rw e at h)
+
 -- the page that was found is one that the round has reached
-pub can_see : (old : ReadRound) (other : State) (told : Answer Record) (visit next : page.Visit) (sight : Sight) → old.state ≡ Page visit → page.Responds visit told next (Some sight) → IsTold old told → CanSee (at old other) sight
-can_see old other told visit next Empty e b t = tt
-can_see old other told visit next (Whole version) e b t =
-    let h : IsVisiting old.limits old.key t.k t.r visit = subst (λ (s : State). Shows (at old s) t.k t.r) e t.shows in
-    let f : Fits old.limits t.k (page.wanted visit) told = subst (λ (s : State). Fits old.limits t.k (wanted (at old s)) told) e t.fits in
-    reached old.limits t.k (learn t.k (page.wanted visit) told) (recall t.r (page.wanted visit) told) version h.level h.low h.earlier (arrived_next old.limits old.key t.k t.r visit h.level h.low h.earlier told h.seeks f version b) old.key h.seeks.passing
+pub can_see : (old : ReadRound) (other : State) (told : Answer Record) (sight : Sight) → Finds (descent_of old) told sight → IsTold old told → CanSee (at old other) sight
+can_see old other told Empty b t = tt
+can_see old other told (Whole version) b t =
+    let visit = b.visit in
+    let h : IsVisiting old.limits old.key t.k t.r visit = subst (λ (s : State). Shows (at old s) t.k t.r) b.asked t.shows in
+    let f : Fits old.limits t.k (page.wanted visit) told = subst (λ (s : State). Fits old.limits t.k (wanted (at old s)) told) b.asked t.fits in
+    reached old.limits t.k (learn t.k (page.wanted visit) told) (recall t.r (page.wanted visit) told) version h.level h.low h.earlier (arrived_next old.limits old.key t.k t.r visit h.level h.low h.earlier told h.seeks f version b.responds) old.key h.seeks.passing
 
 -- what a round does with a page doesn't depend on the state that it had
 

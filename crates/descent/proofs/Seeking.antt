@@ -16,7 +16,7 @@ use Rattle.chain_search.specs.Recalled.{Recalled, recall}
 use Rattle.smo.specs.declared.version.Version.{Version}
 use Rattle.descent.specs.declared.visit.State.TheVariants.{Slot, Row}
 use Rattle.descent.specs.Versions.{IsAlive, IsGone, IsInHand}
-use Rattle.descent.specs.Visits.{Begins, Completes, Continues, Visit, at, to_page, wanted}
+use Rattle.descent.specs.Visits.{Starts, Completes, Continues, Visit, at, to_page, wanted}
 use Rattle.descent.specs.Walks.{HasArrived, IsNamedNow, IsReached, IsSeeking}
 use Rattle.descent.specs.Ways.{NamesAt, reaches}
 use Rattle.descent.proofs.Meeting.{names_meets}
@@ -94,7 +94,7 @@ module _ (limits : Limits) (key : List ℕ) (k : Knowledge) (r : Recalled) (visi
   abbrev FitsAt : Visit → Answer Record → Type 0
   FitsAt v x = Fits limits k (wanted v) x
 
-  pub seeks_next : (new : Visit) → Begins visit told new ⊎ Continues visit told new → IsSeeking limits key (learn k (wanted visit) told) (recall r (wanted visit) told) new level low earlier
+  pub seeks_next : (new : Visit) → Starts visit told new ⊎ Continues visit told new → IsSeeking limits key (learn k (wanted visit) told) (recall r (wanted visit) told) new level low earlier
   seeks_next new moves =
       let P : Visit → Answer Record → Type 0 = λ v x. IsSeeking limits key (learn k (wanted v) x) (recall r (wanted v) x) new level low earlier in
       elim moves [

@@ -15,7 +15,7 @@ use Rattle.chain_search.specs.Recalled.{AnyNames, IsPaid, IsSpentWith, IsUnread,
 use Rattle.smo.specs.declared.version.Version.{Version}
 use Rattle.descent.specs.declared.visit.State.{State}
 use Rattle.descent.specs.declared.visit.State.TheVariants.{Slot, Row}
-use Rattle.descent.specs.Visits.{Begins, Completes, Continues, Misses, Visit, at, wanted}
+use Rattle.descent.specs.Visits.{Starts, Completes, Continues, FindsEmpty, Visit, at, wanted}
 use Rattle.descent.specs.Walks.{IsSeeking, few_reads, left_at, left_in}
 use Rattle.descent.proofs.Meeting.{few_pages, removed_push}
 use Rattle.descent.proofs.Visiting.{back, there}
@@ -96,7 +96,7 @@ module _ (reserve : ℕ) (limits : Limits) (key : List ℕ) (k : Knowledge) (r :
     abbrev FitsAt : Visit → Answer Record → Type 0
     FitsAt v x = Fits limits k (wanted v) x
 
-    pub spent_on : (new : Visit) → Begins visit told new ⊎ Continues visit told new → IsSpentWith (1 + reserve) r (wanted visit) told (left_in reserve r visit) (left_in reserve (recall r (wanted visit) told) new)
+    pub spent_on : (new : Visit) → Starts visit told new ⊎ Continues visit told new → IsSpentWith (1 + reserve) r (wanted visit) told (left_in reserve r visit) (left_in reserve (recall r (wanted visit) told) new)
     spent_on new moves =
         let P : Visit → Answer Record → Type 0 = λ v x. IsSpentWith (1 + reserve) r (wanted v) x (left_in reserve r v) (left_in reserve (recall r (wanted v) x) new) in
         elim moves [
@@ -104,7 +104,7 @@ module _ (reserve : ℕ) (limits : Limits) (key : List ℕ) (k : Knowledge) (r :
           | inr b ↦ back visit P (Row b.head b.row) (answer.Content b.content) told b.asked b.is (rw b.goes (spent_row b.head b.row b.content b.under (there visit FitsAt (Row b.head b.row) (answer.Content b.content) told b.asked b.is f) (seeks_at (Row b.head b.row) b.asked)))
         ]
 
-    pub spent_empty : Misses visit told → IsPaid r (wanted visit) told
+    pub spent_empty : FindsEmpty visit told → IsPaid r (wanted visit) told
     spent_empty b = back visit (λ v x. IsPaid r (wanted v) x) Slot (answer.Number 0) told b.asked b.is (empty (seeks_at Slot b.asked) (there visit FitsAt Slot (answer.Number 0) told b.asked b.is f))
 
     -- a page was read whole

@@ -19,7 +19,7 @@ use Rattle.descent.specs.declared.visit.Sight.TheVariants.{Empty, Whole}
 use Rattle.descent.specs.declared.visit.State.{State}
 use Rattle.descent.specs.declared.visit.State.TheVariants.{Slot, Row}
 use Rattle.descent.specs.Versions.{IsSound}
-use Rattle.descent.specs.Visits.{Arrives, Begins, Completes, Continues, Follows, IsTold, MayVisit, Reads, Responds, Shows, Visit, at, wanted}
+use Rattle.descent.specs.Visits.{Arrives, Starts, Completes, Continues, Follows, IsTold, MayVisit, Reads, Responds, Shows, Visit, at, wanted}
 use Rattle.descent.proofs.FrontLaws.{front_more, front_next, front_end}
 
 -- what is so of a whole chain
@@ -116,7 +116,7 @@ module _ (k : Knowledge) (old : Visit) where
   abbrev Then : Visit → Option Sight → Visit → Answer Record → Type 0
   Then new result v x = Shows v k → Fits v.limits k (wanted v) x → Follows k v x new result
 
-  begins : (told : Answer Record) (new : Visit) → Begins old told new → Shows old k → Fits old.limits k (wanted old) told → Follows k old told new None
+  begins : (told : Answer Record) (new : Visit) → Starts old told new → Shows old k → Fits old.limits k (wanted old) told → Follows k old told new None
   begins told new b = back old (Then new None) Slot (answer.Number b.row) told b.asked b.is (λ h f. rw b.goes (begins_chain k old b.row b.some h))
 
   continues : (told : Answer Record) (new : Visit) → Continues old told new → Shows old k → Fits old.limits k (wanted old) told → Follows k old told new None

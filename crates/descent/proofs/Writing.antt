@@ -1,5 +1,5 @@
 -- What an answer leaves a writer's round.
-use Rattle.std.proofs.Common.{◌≡◌, ◌<◌, ◌≤◌, ◌-◌, inl, inr, ℕ, suc, List, [], ◌∷◌, length, true, false, Option, Some, None, refl, sym, ◌∙◌, subst, arith}
+use Rattle.std.proofs.Common.{ap, ◌∙◌, ◌≡◌, ◌<◌, ◌≤◌, ◌-◌, inl, inr, ℕ, suc, List, [], ◌∷◌, length, true, false, Option, Some, None, refl, sym, subst, arith}
 use Rattle.std.specs.Prelude.{IfSome, IsTrue}
 use Rattle.std.proofs.Math.Nat.{lt_of_not-le}
 use Rattle.std.proofs.lemmas.Option.{IfSome_then}
@@ -22,14 +22,15 @@ use Rattle.smo.specs.declared.version.Version.{Version}
 use Rattle.smo.proofs.Places.{made}
 use Rattle.descent.specs.declared.write_round.WriteEnd.{WriteEnd}
 use Rattle.descent.specs.declared.write_round.WriteEnd.TheVariants as end
-use Rattle.descent.specs.declared.write_round.State.{State}
-use Rattle.descent.specs.declared.write_round.State.TheVariants.{Root, Page}
+use Rattle.descent.specs.declared.descent.State.{State}
+use Rattle.descent.specs.declared.descent.State.TheVariants.{Root, Page, Over}
 use Rattle.descent.specs.declared.visit.Sight.{Sight}
 use Rattle.descent.specs.declared.visit.Sight.TheVariants.{Empty, Whole}
 use Rattle.descent.specs.Versions.{IsAlive}
+use Rattle.descent.specs.Descents.{Descent, Finds, Shows as WayShows, Starts, Visits}
 use Rattle.descent.specs.Visits as page
 use Rattle.descent.specs.Ways.{LeadsDown, LeadsRight}
-use Rattle.descent.specs.WriteRounds.{CanSee, EndsFine, EndsUnposted, EndsUnrooted, Ends, Follows, IsBased, IsBeside, IsKept, IsLeafEnd, IsRootEnd, IsTermEnd, IsTold, IsVisiting, Responds, Sees, Shows, Spends, Treats, WriteRound, at, wanted}
+use Rattle.descent.specs.WriteRounds.{CanSee, EndsFine, EndsUnposted, EndsUnrooted, Ends, Follows, GoesFrom, GoesOnWay, IsBased, IsLeftOf, IsKept, IsLeafEnd, IsRootEnd, IsTermEnd, IsTold, IsVisiting, Responds, Sees, Shows, Spends, Treats, WriteRound, at, wanted, descent_of, going_to}
 use Rattle.descent.proofs.Keeping.{HasReached, IsOver, reached_next, visits_next}
 use Rattle.descent.proofs.PageLaws.{spans}
 use Rattle.descent.proofs.Seeking.{hand, is_gone, living, reached, seeks_on, seeks_root}
@@ -66,7 +67,7 @@ module _ (old : WriteRound) (k now : Knowledge) (r : Recalled) (version : Versio
 
   -- goes on
 
-  based_on : (parent left : Option Version) (pid : ℕ) (low : List ℕ) → IsBased r parent left version.pid h.low → IfSome left (IsBeside old.limits now h.low h.earlier) → IsBased r parent (Some version) pid low
+  based_on : (parent left : Option Version) (pid : ℕ) (low : List ℕ) → IsBased r parent left version.pid h.low → IfSome left (IsLeftOf old.limits now h.low h.earlier) → IsBased r parent (Some version) pid low
   based_on (Some above) left pid low based aside = tt
   based_on None None pid low based aside = elim based [ inl is ↦ inl is | inr above ↦ inr (rw h.arrives.is_low above) ]
   based_on None (Some other) pid low based aside = inr (rw h.arrives.is_low aside.inner)
@@ -108,7 +109,7 @@ module _ (old : WriteRound) (k now : Knowledge) (r : Recalled) (version : Versio
 
   root_end : (left : Version) (root : PageOf) → EndsUnrooted old version left root → IsRootEnd old now r left root
   root_end left root t =
-      let beside : IsBeside old.limits now h.low h.earlier left = subst (λ (o : Option Version). IfSome o (IsBeside old.limits now h.low h.earlier)) t.aside h.aside in
+      let beside : IsLeftOf old.limits now h.low h.earlier left = subst (λ (o : Option Version). IfSome o (IsLeftOf old.limits now h.low h.earlier)) t.aside h.aside in
       let based : IsBased r None (Some left) version.pid h.low =
       subst (λ (o : Option Version). IsBased r None o version.pid h.low) t.aside (subst (λ (o : Option Version). IsBased r o old.left version.pid h.low) t.above h.based) in
       record { page = alive_of left beside.kept; right = version; aside = alive_here t.plan.can.alive; rooted = root_of left based t.plan.can.lowest; plan = t.plan }
@@ -197,28 +198,53 @@ root limits key k r pid parent left orphan alone inside fits = rw (orphan, alone
   based = inl refl;
 })
 
+-- the round that is on its way
+
+started : (old new : WriteRound) (told : Answer Record) (result : Option WriteEnd) → GoesOnWay old told new result → (b : Starts (descent_of old) told (descent_of new)) → new ≡ going_to b.root old
+started old new told result way b = way.same ∙ ap (λ (d : Descent). at old d.state) b.goes
+
+visiting : (old new : WriteRound) (told : Answer Record) (result : Option WriteEnd) → GoesOnWay old told new result → (b : Visits (descent_of old) told (descent_of new)) → new ≡ at old (Page b.next)
+visiting old new told result way b = way.same ∙ ap (λ (d : Descent). at old d.state) b.goes
+
+seen_at : (old new : WriteRound) (told : Answer Record) (result : Option WriteEnd) → (from : GoesFrom old told new result) → Sees (at old (Page from.finds.visit)) from.sight new result
+seen_at old new told result from = subst (λ (s : State). Sees (at old s) from.sight new result) from.finds.asked from.sees
+
 -- what follows from what a round makes of an answer
 pub follows_from : (old new : WriteRound) (told : Answer Record) (result : Option WriteEnd) → Responds old told new result → (k : Knowledge) (r : Recalled) → Shows old k r → Fits old.limits k (wanted old) told → Follows k r old told new result
 follows_from old new told result responds = elim responds [
-  | inl b ↦ back old (Then new result) Root (answer.Number b.root) told b.asked b.is (rw (b.on, b.goes) (λ k r h f. root old.limits old.key k r b.root old.parent old.left h.1 h.2 h.0 f))
-  | inr (inl b) ↦ back old (Then new result) (Page b.visit) told told b.asked refl (rw (b.on, b.goes) (λ k r h f. visits_next old.limits old.key old.parent old.left k r b.visit told h f b.next b.visits))
-  | inr (inr b) ↦ back old (Then new result) (Page b.visit) told told b.asked refl (seen old new told b.visit b.next b.sight result b.visits (subst (λ (s : State). Sees (at old s) b.sight new result) b.asked b.sees))
+  | inl way ↦ elim way.on [
+    | inl b ↦ back old (Then new result) Root (answer.Number b.root) told b.asked b.is (rw (way.none, started old new told result way b) (λ k r h f. root old.limits old.key k r b.root old.parent old.left h.1 h.2 h.0 f))
+    | inr b ↦ back old (Then new result) (Page b.visit) told told b.asked refl (rw (way.none, visiting old new told result way b) (λ k r h f. visits_next old.limits old.key old.parent old.left k r b.visit told h f b.next b.responds))
+  ]
+  | inr from ↦ back old (Then new result) (Page from.finds.visit) told told from.finds.asked refl (seen old new told from.finds.visit from.finds.next from.sight result from.finds.responds (seen_at old new told result from))
 ]
 
 pub spends_from : (old new : WriteRound) (told : Answer Record) (result : Option WriteEnd) → Responds old told new result → (reserve : ℕ) (k : Knowledge) (r : Recalled) → Shows old k r → Fits old.limits k (wanted old) told → Spends reserve r old told new result
 spends_from old new told result responds = elim responds [
-  | inl b ↦ back old (Pays new result) Root (answer.Number b.root) told b.asked b.is (rw (b.on, b.goes) (λ reserve k r h f. inl (omega arith)))
-  | inr (inl b) ↦ back old (Pays new result) (Page b.visit) told told b.asked refl (rw (b.on, b.goes) (λ reserve k r h f. spent_on reserve old.limits old.key k r b.visit h.level h.low h.earlier told h.seeks f b.next b.visits))
-  | inr (inr b) ↦ back old (Pays new result) (Page b.visit) told told b.asked refl (paid old new told b.visit b.next b.sight result b.visits (subst (λ (s : State). Sees (at old s) b.sight new result) b.asked b.sees))
+  | inl way ↦ elim way.on [
+    | inl b ↦ back old (Pays new result) Root (answer.Number b.root) told b.asked b.is (rw (way.none, started old new told result way b) (λ reserve k r h f. inl (omega arith)))
+    | inr b ↦ back old (Pays new result) (Page b.visit) told told b.asked refl (rw (way.none, visiting old new told result way b) (λ reserve k r h f. spent_on reserve old.limits old.key k r b.visit h.level h.low h.earlier told h.seeks f b.next b.responds))
+  ]
+  | inr from ↦ back old (Pays new result) (Page from.finds.visit) told told from.finds.asked refl (paid old new told from.finds.visit from.finds.next from.sight result from.finds.responds (seen_at old new told result from))
 ]
 
+-- what the round shows, its descent does
+pub way_shows : (round : WriteRound) (k : Knowledge) (r : Recalled) → Shows round k r → WayShows (descent_of round) k
+way_shows round k r h = by_state round.state refl
+  where
+    by_state : (state : State) → round.state ≡ state → WayShows (descent_of round) k
+    by_state Root e = rw e ((rw e at h).0)
+    by_state (Page visit) e = let here : IsVisiting round.limits round.key round.parent round.left k r visit = rw e at h in rw e here.seeks.on_way.shows
+    by_state Over e = absurd (rw e at h)
+
 -- the page that was found is one that the round has reached
-pub can_see : (old : WriteRound) (other : State) (told : Answer Record) (visit next : page.Visit) (sight : Sight) → old.state ≡ Page visit → page.Responds visit told next (Some sight) → IsTold old told → CanSee (at old other) sight
-can_see old other told visit next Empty e b t = tt
-can_see old other told visit next (Whole version) e b t =
-    let h : IsVisiting old.limits old.key old.parent old.left t.k t.r visit = subst (λ (s : State). Shows (at old s) t.k t.r) e t.shows in
-    let f : Fits old.limits t.k (page.wanted visit) told = subst (λ (s : State). Fits old.limits t.k (wanted (at old s)) told) e t.fits in
-    let d = reached_next old.limits old.key old.parent old.left t.k t.r visit told h f version b in
+pub can_see : (old : WriteRound) (other : State) (told : Answer Record) (sight : Sight) → Finds (descent_of old) told sight → IsTold old told → CanSee (at old other) sight
+can_see old other told Empty b t = tt
+can_see old other told (Whole version) b t =
+    let visit = b.visit in
+    let h : IsVisiting old.limits old.key old.parent old.left t.k t.r visit = subst (λ (s : State). Shows (at old s) t.k t.r) b.asked t.shows in
+    let f : Fits old.limits t.k (page.wanted visit) told = subst (λ (s : State). Fits old.limits t.k (wanted (at old s)) told) b.asked t.fits in
+    let d = reached_next old.limits old.key old.parent old.left t.k t.r visit told h f version b.responds in
     record {
       reached = reached old.limits t.k (learn t.k (page.wanted visit) told) (recall t.r (page.wanted visit) told) version d.level d.low d.earlier d.arrives old.key d.passing;
       above = IfSome_then old.parent d.above (λ other i. i.kept.alive);

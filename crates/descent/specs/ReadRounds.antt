@@ -2,9 +2,7 @@
 use Rattle.std.specs.Prelude.{◌≡◌, ◌<◌, ◌+◌, ◌⊎◌, ℕ, List, Option, Some, None, true, false, IsTrue, ⊤}
 use Rattle.bw_model.specs.declared.limits.Limits.{Limits}
 use Rattle.bw_model.specs.declared.step.Step.{Step as StepOf}
-use Rattle.bw_model.specs.declared.step.Step.TheVariants as step
 use Rattle.bw_model.specs.declared.step.Answer.{Answer}
-use Rattle.bw_model.specs.declared.step.Answer.TheVariants.{Number}
 use Rattle.deltas.specs.declared.record.Record.{Record}
 use Rattle.chain_search.specs.Chains.{covers, is_removed, level_in}
 use Rattle.chain_search.specs.Fitting.{Fits}
@@ -12,13 +10,14 @@ use Rattle.chain_search.specs.Knowledge.{Knowledge, learn}
 use Rattle.chain_search.specs.Recalled.{IsPaid, IsSpentWith, Recalled, recall}
 use Rattle.smo.specs.declared.version.Version.{Version}
 use Rattle.descent.specs.Versions.{IsAlive, IsGone}
+use Rattle.descent.specs.Descents.{Descent, Finds, Responds as Moves, left_from, wanted_at}
 use Rattle.descent.specs.Visits as page
-use Rattle.descent.specs.Walks.{IsReached, IsSeeking, few_reads, left_in}
+use Rattle.descent.specs.Walks.{IsReached, IsSeeking}
 use Rattle.descent.specs.Ways.{EndsHere, LeadsOn}
 use Rattle.descent.specs.declared.visit.Sight as page_sight
 use Rattle.descent.specs.declared.visit.Sight.TheVariants as page_is
-use Rattle.descent.specs.declared.read_round.State.{State}
-use Rattle.descent.specs.declared.read_round.State.TheVariants.{Root, Page, Over}
+use Rattle.descent.specs.declared.descent.State.{State}
+use Rattle.descent.specs.declared.descent.State.TheVariants.{Root, Page, Over}
 use Rattle.descent.specs.declared.read_round.ReadEnd.{ReadEnd}
 use Rattle.descent.specs.declared.read_round.ReadEnd.TheVariants.{Again, Removed, Leaf}
 
@@ -28,17 +27,11 @@ pub record ReadRound : Type 0 where
   pub key : List ℕ
   pub state : State
 
-abbrev pub IsSoundState : Limits → State → Type 0
-IsSoundState limits Root = ⊤
-IsSoundState limits (Page visit) = visit.limits ≡ limits
-IsSoundState limits Over = ⊤
+-- the way that the round goes
+abbrev pub descent_of : ReadRound → Descent
+descent_of round = record { limits = round.limits; state = round.state }
 
--- the step that a state has asked for
-abbrev pub wanted_at : State → StepOf Record
-wanted_at Root = step.Slot 0
-wanted_at (Page visit) = page.wanted visit
-wanted_at Over = step.Leave
-
+-- the step that the round has asked for
 abbrev pub wanted : ReadRound → StepOf Record
 wanted round = wanted_at round.state
 
@@ -125,44 +118,24 @@ abbrev pub Sees : ReadRound → page_sight.Sight → ReadRound → Option ReadEn
 Sees old page_is.Empty new result = result ≡ Some Again
 Sees old (page_is.Whole version) new result = Treats old version new result
 
--- Slot 0 was read, and the root is visited.
-pub record Begins (old : ReadRound) (told : Answer Record) (new : ReadRound) (result : Option ReadEnd) : Type 0 where
-  pub root : ℕ
-  pub asked : old.state ≡ Root
-  pub is : told ≡ Number root
-  pub goes : new ≡ going_to root old
-  pub on : result ≡ None
-
--- The visit of a page goes on.
-pub record Continues (old : ReadRound) (told : Answer Record) (new : ReadRound) (result : Option ReadEnd) : Type 0 where
-  pub visit : page.Visit
-  pub next : page.Visit
-  pub asked : old.state ≡ Page visit
-  pub visits : page.Responds visit told next None
-  pub goes : new ≡ at old (Page next)
-  pub on : result ≡ None
+-- The round is on its way to a page, or its visit goes on.
+pub record GoesOnWay (old : ReadRound) (told : Answer Record) (new : ReadRound) (result : Option ReadEnd) : Type 0 where
+  pub on : Moves (descent_of old) told (descent_of new) None
+  pub same : new ≡ at old new.state
+  pub none : result ≡ None
 
 -- The visit of a page ended.
-pub record Completes (old : ReadRound) (told : Answer Record) (new : ReadRound) (result : Option ReadEnd) : Type 0 where
-  pub visit : page.Visit
-  pub next : page.Visit
+pub record GoesFrom (old : ReadRound) (told : Answer Record) (new : ReadRound) (result : Option ReadEnd) : Type 0 where
   pub sight : page_sight.Sight
-  pub asked : old.state ≡ Page visit
-  pub visits : page.Responds visit told next (Some sight)
+  pub finds : Finds (descent_of old) told sight
   pub sees : Sees old sight new result
 
 -- what a round makes of an answer
 abbrev pub Responds : ReadRound → Answer Record → ReadRound → Option ReadEnd → Type 0
-Responds old told new result = Begins old told new result ⊎ Continues old told new result ⊎ Completes old told new result
-
--- how many reads a round takes at most from a state on, with those that are reserved once a removal was read
-abbrev pub left_at : ℕ → Recalled → State → ℕ
-left_at reserve r Root = few_reads
-left_at reserve r (Page visit) = left_in reserve r visit
-left_at reserve r Over = 0
+Responds old told new result = GoesOnWay old told new result ⊎ GoesFrom old told new result
 
 abbrev pub reads_left : ℕ → Recalled → ReadRound → ℕ
-reads_left reserve r round = left_at reserve r round.state
+reads_left reserve r round = left_from reserve r round.state
 
 -- A round that goes on has fewer reads left, or a cause paid for the reserve. Where a page wasn't there, a cause pays. Where the
 -- round ends at a removed page, the reserve is left.

@@ -92,7 +92,7 @@ Follows k old told new (Some Empty) = ⊤
 Follows k old told new (Some (Whole version)) = Arrives k (learn k (wanted old) told) old version
 
 -- The slot was read as a row, and the visit goes on with the record there.
-pub record Begins (old : Visit) (told : Answer Record) (new : Visit) : Type 0 where
+pub record Starts (old : Visit) (told : Answer Record) (new : Visit) : Type 0 where
   pub row : ℕ
   pub asked : old.state ≡ Slot
   pub is : told ≡ Number row
@@ -121,14 +121,14 @@ pub record Completes (old : Visit) (told : Answer Record) (version : Version) : 
   pub chain : version.chain ≡ old.part ++ content ∷ []
 
 -- The slot was read, and there is no page.
-pub record Misses (old : Visit) (told : Answer Record) : Type 0 where
+pub record FindsEmpty (old : Visit) (told : Answer Record) : Type 0 where
   pub asked : old.state ≡ Slot
   pub is : told ≡ Number 0
 
 -- what a visit makes of an answer
 abbrev pub Responds : Visit → Answer Record → Visit → Option Sight → Type 0
-Responds old told new None = Begins old told new ⊎ Continues old told new
-Responds old told new (Some Empty) = Misses old told
+Responds old told new None = Starts old told new ⊎ Continues old told new
+Responds old told new (Some Empty) = FindsEmpty old told
 Responds old told new (Some (Whole version)) = Completes old told version
 
 -- The page that is visited stays.

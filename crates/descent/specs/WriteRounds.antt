@@ -2,9 +2,7 @@
 use Rattle.std.specs.Prelude.{◌≡◌, ◌<◌, ◌≤◌, ◌+◌, ◌⊎◌, ℕ, suc, List, [], length, Option, Some, None, true, false, IsTrue, IfSome, ⊤}
 use Rattle.bw_model.specs.declared.limits.Limits.{Limits}
 use Rattle.bw_model.specs.declared.step.Step.{Step as StepOf}
-use Rattle.bw_model.specs.declared.step.Step.TheVariants as step
 use Rattle.bw_model.specs.declared.step.Answer.{Answer}
-use Rattle.bw_model.specs.declared.step.Answer.TheVariants.{Number}
 use Rattle.bw_model.specs.Bytes.{is_below}
 use Rattle.base_page.specs.Pages.{Page as PageOf}
 use Rattle.deltas.specs.declared.record.Record.{Record}
@@ -21,15 +19,16 @@ use Rattle.smo.specs.Terms.{CanPost, IsTermPlan}
 use Rattle.smo.specs.declared.split.SplitPlan.{SplitPlan}
 use Rattle.smo.specs.declared.version.Version.{Version}
 use Rattle.descent.specs.Versions.{IsAlive, IsGone, IsInHand}
+use Rattle.descent.specs.Descents.{Descent, Finds, Responds as Moves, left_from, wanted_at}
 use Rattle.descent.specs.Visits as page
-use Rattle.descent.specs.Walks.{IsAmong, IsReached, IsSeeking, few_reads, left_in}
+use Rattle.descent.specs.Walks.{IsAmong, IsReached, IsSeeking}
 use Rattle.descent.specs.Ways.{LeadsDown, LeadsRight, StaysLeft}
 use Rattle.descent.specs.declared.visit.Sight as page_sight
 use Rattle.descent.specs.declared.visit.Sight.TheVariants as page_is
 use Rattle.descent.specs.declared.visit.State as at_page
 use Rattle.descent.specs.declared.visit.State.TheVariants as at_visit
-use Rattle.descent.specs.declared.write_round.State.{State}
-use Rattle.descent.specs.declared.write_round.State.TheVariants.{Root, Page, Over}
+use Rattle.descent.specs.declared.descent.State.{State}
+use Rattle.descent.specs.declared.descent.State.TheVariants.{Root, Page, Over}
 use Rattle.descent.specs.declared.write_round.WriteEnd.{WriteEnd}
 use Rattle.descent.specs.declared.write_round.WriteEnd.TheVariants as end
 
@@ -43,17 +42,11 @@ pub record WriteRound : Type 0 where
   pub left : Option Version
   pub state : State
 
-abbrev pub IsSoundState : Limits → State → Type 0
-IsSoundState limits Root = ⊤
-IsSoundState limits (Page visit) = visit.limits ≡ limits
-IsSoundState limits Over = ⊤
+-- the way that the round goes
+abbrev pub descent_of : WriteRound → Descent
+descent_of round = record { limits = round.limits; state = round.state }
 
--- the step that a state has asked for
-abbrev pub wanted_at : State → StepOf Record
-wanted_at Root = step.Slot 0
-wanted_at (Page visit) = page.wanted visit
-wanted_at Over = step.Leave
-
+-- the step that the round has asked for
 abbrev pub wanted : WriteRound → StepOf Record
 wanted round = wanted_at round.state
 
@@ -86,7 +79,7 @@ pub record IsParent (limits : Limits) (k : Knowledge) (pid : ℕ) (state : at_pa
   pub after : IsAhead k parent pid state
 
 -- The page in hand is to the left of the visited one, which so begins above the empty key.
-pub record IsBeside (limits : Limits) (k : Knowledge) (low : List ℕ) (earlier : List ℕ) (left : Version) : Type 0 where
+pub record IsLeftOf (limits : Limits) (k : Knowledge) (low : List ℕ) (earlier : List ℕ) (left : Version) : Type 0 where
   pub kept : IsKept limits k left earlier
   pub inner : IsTrue (is_below [] low)
 
@@ -103,7 +96,7 @@ pub record IsVisiting (limits : Limits) (key : List ℕ) (parent left : Option V
   pub earlier : List ℕ
   pub seeks : IsSeeking limits key k r visit level low earlier
   pub above : IfSome parent (IsParent limits k visit.pid visit.state level earlier)
-  pub aside : IfSome left (IsBeside limits k low earlier)
+  pub aside : IfSome left (IsLeftOf limits k low earlier)
   pub based : IsBased r parent left visit.pid low
 
 -- by the state of a round
@@ -288,44 +281,24 @@ abbrev pub Sees : WriteRound → page_sight.Sight → WriteRound → Option Writ
 Sees old page_is.Empty new result = result ≡ Some end.Again
 Sees old (page_is.Whole version) new result = Treats old version new result
 
--- Slot 0 was read, and the root is visited.
-pub record Begins (old : WriteRound) (told : Answer Record) (new : WriteRound) (result : Option WriteEnd) : Type 0 where
-  pub root : ℕ
-  pub asked : old.state ≡ Root
-  pub is : told ≡ Number root
-  pub goes : new ≡ going_to root old
-  pub on : result ≡ None
-
--- The visit of a page goes on.
-pub record Continues (old : WriteRound) (told : Answer Record) (new : WriteRound) (result : Option WriteEnd) : Type 0 where
-  pub visit : page.Visit
-  pub next : page.Visit
-  pub asked : old.state ≡ Page visit
-  pub visits : page.Responds visit told next None
-  pub goes : new ≡ at old (Page next)
-  pub on : result ≡ None
+-- The round is on its way to a page, or its visit goes on.
+pub record GoesOnWay (old : WriteRound) (told : Answer Record) (new : WriteRound) (result : Option WriteEnd) : Type 0 where
+  pub on : Moves (descent_of old) told (descent_of new) None
+  pub same : new ≡ at old new.state
+  pub none : result ≡ None
 
 -- The visit of a page ended.
-pub record Completes (old : WriteRound) (told : Answer Record) (new : WriteRound) (result : Option WriteEnd) : Type 0 where
-  pub visit : page.Visit
-  pub next : page.Visit
+pub record GoesFrom (old : WriteRound) (told : Answer Record) (new : WriteRound) (result : Option WriteEnd) : Type 0 where
   pub sight : page_sight.Sight
-  pub asked : old.state ≡ Page visit
-  pub visits : page.Responds visit told next (Some sight)
+  pub finds : Finds (descent_of old) told sight
   pub sees : Sees old sight new result
 
 -- what a round makes of an answer
 abbrev pub Responds : WriteRound → Answer Record → WriteRound → Option WriteEnd → Type 0
-Responds old told new result = Begins old told new result ⊎ Continues old told new result ⊎ Completes old told new result
-
--- how many reads a round takes at most from a state on, with those that are reserved once a removal was read
-abbrev pub left_at : ℕ → Recalled → State → ℕ
-left_at reserve r Root = few_reads
-left_at reserve r (Page visit) = left_in reserve r visit
-left_at reserve r Over = 0
+Responds old told new result = GoesOnWay old told new result ⊎ GoesFrom old told new result
 
 abbrev pub reads_left : ℕ → Recalled → WriteRound → ℕ
-reads_left reserve r round = left_at reserve r round.state
+reads_left reserve r round = left_from reserve r round.state
 
 -- A round that goes on has fewer reads left, or a cause paid for the reserve. Where a page wasn't there, a cause pays. Where the
 -- round ends at a removed page, the reserve is left.

@@ -4,25 +4,18 @@ ghost use Rattle.chain_search.specs.Discipline.{May};
 ghost use Rattle.chain_search.specs.Fitting.{Fits};
 ghost use Rattle.chain_search.specs.Knowledge.{Knowledge};
 ghost use Rattle.chain_search.specs.Recalled.{Recalled};
-ghost use Rattle.descent.specs.ReadRounds.{CanSee, Follows, HasCome, IsSame, IsTold, Responds, Sees, Shows, Spends, Treats, going_to, wanted};
+ghost use Rattle.descent.specs.ReadRounds.{CanSee, Follows, HasCome, IsSame, IsTold, Responds, Sees, Shows, Spends, Treats, wanted};
 ghost use Rattle.descent.specs.Walks.{IsReached};
 ghost use Rattle.descent.specs.Visits.{ReadsWithin};
+ghost use Rattle.descent.specs.declared.descent.State.TheVariants.{Root};
 
+use crate::Sight;
+use crate::descent::Descent;
 use crate::way::next_on_way;
-use crate::{Sight, Visit};
 use bw_model::{Answer, Key, Limits, Step};
 use deltas::Record;
 use smo::Version;
 use std::marker::Model;
-use std::mem;
-
-/// Where a round stands: each state is named by what it reads.
-#[derive(Debug, Drop)]
-pub(crate) enum State {
-    Root,
-    Page { visit: Visit },
-    Over,
-}
 
 /// How a reader's round ends.
 #[derive(Debug, Drop)]
@@ -38,30 +31,26 @@ pub enum ReadEnd {
 /// One round of a reader from the root to a leaf.
 #[derive(Debug, Drop)]
 pub struct ReadRound {
-    limits: Limits,
     key: Key,
-    state: State,
+    descent: Descent,
 }
 
 impl Model for ReadRound {
-    ghost use Rattle.descent.specs.ReadRounds.{ReadRound, IsSoundState};
+    ghost use Rattle.descent.specs.ReadRounds.{ReadRound};
 
     ghost Value = { ReadRound };
 
-    ghost view = { λ r. record { limits = r.limits; key = r.key; state = r.state } };
-
-    ghost invariant = { λ r. IsSoundState r.limits r.state };
+    ghost view = { λ r. record { limits = r.descent.limits; key = r.key; state = r.descent.state } };
 }
 
 impl ReadRound {
     /// The round to the leaf of a key, before its first step.
     pub fn new(limits: &Limits, key: Key) -> ReadRound
-        ensures { result ≡ record { limits = limits.now; key = key; state = State.Root } }
+        ensures { result ≡ record { limits = limits.now; key = key; state = Root } }
     {
         ReadRound {
-            limits: *limits,
             key,
-            state: State::Root,
+            descent: Descent::new(limits),
         }
     }
 
@@ -72,11 +61,7 @@ impl ReadRound {
         ensures within { ReadsWithin self.now.limits result }
         ensures may { (actor : ℕ) (k : Knowledge) (r : Recalled) → Shows self.now k r → May actor k result }
     {
-        match &self.state {
-            State::Root => Step::Slot(0),
-            State::Page { visit } => visit.step(),
-            State::Over => unreachable!(),
-        }
+        self.descent.step()
     }
 
     /// Takes the answer to the step wanted last, and tells how the round ends, once it does.
@@ -87,20 +72,9 @@ impl ReadRound {
         ensures spends { (reserve : ℕ) (k : Knowledge) (r : Recalled) → Shows self.old k r → Fits self.old.limits k (wanted self.old) answer → Spends reserve r self.old answer self.new result }
         ensures same { IsSame self.old self.new }
     {
-        match mem::replace(&mut self.state, State::Over) {
-            State::Root => {
-                let pid = answer.into_number() as u16;
-                self.go_to(pid);
-                None
-            }
-            State::Page { mut visit } => match visit.next(answer) {
-                None => {
-                    self.state = State::Page { visit };
-                    None
-                }
-                Some(sight) => self.see(sight),
-            },
-            State::Over => unreachable!(),
+        match self.descent.next(answer) {
+            None => None,
+            Some(sight) => self.see(sight),
         }
     }
 
@@ -127,21 +101,10 @@ impl ReadRound {
         }
         match next_on_way(&version.chain, &self.key) {
             Some(pid) => {
-                self.go_to(pid);
+                self.descent.go_to(pid);
                 None
             }
             None => Some(ReadEnd::Leaf(version)),
         }
-    }
-
-    /// Goes on to a page.
-    fn go_to(&mut self, pid: u16)
-        requires some { 0 < pid }
-        requires below { pid < self.old.limits.pids }
-        ensures { self.new ≡ going_to pid self.old }
-    {
-        self.state = State::Page {
-            visit: Visit::new(&self.limits, pid),
-        };
     }
 }

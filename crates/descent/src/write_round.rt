@@ -7,11 +7,13 @@ ghost use Rattle.chain_search.specs.Fitting.{Fits};
 ghost use Rattle.chain_search.specs.Knowledge.{Knowledge};
 ghost use Rattle.chain_search.specs.Recalled.{Recalled};
 ghost use Rattle.descent.specs.Visits.{ReadsWithin};
-ghost use Rattle.descent.specs.WriteRounds.{CanSee, CanTreat, Follows, HasCome, IsFinished, IsLong, IsSame, IsTold, Responds, Sees, Shows, Spends, Treats, beside, going_to, wanted};
+ghost use Rattle.descent.specs.declared.descent.State.TheVariants.{Root};
+ghost use Rattle.descent.specs.WriteRounds.{CanSee, CanTreat, Follows, HasCome, IsFinished, IsLong, IsSame, IsTold, Responds, Sees, Shows, Spends, Treats, beside, wanted};
 ghost use Rattle.descent.specs.Ways.{StaysLeft};
 
+use crate::Sight;
+use crate::descent::Descent;
 use crate::way::{child_on_way, right_on_way};
-use crate::{Sight, Visit};
 use base_page::Page;
 use bw_model::{Answer, Key, Limits, Step};
 use chain_search::Chain;
@@ -19,14 +21,6 @@ use deltas::{Record, Term};
 use smo::{MANY_DELTAS, SplitPlan, Version, plan_root, plan_split, plan_term};
 use std::marker::Model;
 use std::mem;
-
-/// Where a round stands: each state is named by what it reads.
-#[derive(Debug, Drop)]
-pub(crate) enum State {
-    Root,
-    Page { visit: Visit },
-    Over,
-}
 
 /// How a writer's round ends.
 #[derive(Debug, Drop)]
@@ -62,37 +56,33 @@ pub enum WriteEnd {
 /// One round of a writer from the root.
 #[derive(Debug, Drop)]
 pub struct WriteRound {
-    limits: Limits,
     key: Key,
     due: usize,
     parent: Option<Version>,
     left: Option<Version>,
-    state: State,
+    descent: Descent,
 }
 
 impl Model for WriteRound {
-    ghost use Rattle.descent.specs.WriteRounds.{WriteRound, IsSoundState};
+    ghost use Rattle.descent.specs.WriteRounds.{WriteRound};
 
     ghost Value = { WriteRound };
 
-    ghost view = { λ r. record { limits = r.limits; key = r.key; due = r.due; parent = r.parent; left = r.left; state = r.state } };
-
-    ghost invariant = { λ r. IsSoundState r.limits r.state };
+    ghost view = { λ r. record { limits = r.descent.limits; key = r.key; due = r.due; parent = r.parent; left = r.left; state = r.descent.state } };
 }
 
 impl WriteRound {
     /// The round to the leaf of a key, before its first step. A leaf with as many deltas as are due is consolidated.
     pub fn new(limits: &Limits, key: Key, due: usize) -> WriteRound
         requires due { 0 < due }
-        ensures { result ≡ record { limits = limits.now; key = key; due = due; parent = None; left = None; state = State.Root } }
+        ensures { result ≡ record { limits = limits.now; key = key; due = due; parent = None; left = None; state = Root } }
     {
         WriteRound {
-            limits: *limits,
             key,
             due,
             parent: None,
             left: None,
-            state: State::Root,
+            descent: Descent::new(limits),
         }
     }
 
@@ -103,11 +93,7 @@ impl WriteRound {
         ensures within { ReadsWithin self.now.limits result }
         ensures may { (actor : ℕ) (k : Knowledge) (r : Recalled) → Shows self.now k r → May actor k result }
     {
-        match &self.state {
-            State::Root => Step::Slot(0),
-            State::Page { visit } => visit.step(),
-            State::Over => unreachable!(),
-        }
+        self.descent.step()
     }
 
     /// Takes the answer to the step wanted last, and tells how the round ends, once it does.
@@ -118,20 +104,9 @@ impl WriteRound {
         ensures spends { (reserve : ℕ) (k : Knowledge) (r : Recalled) → Shows self.old k r → Fits self.old.limits k (wanted self.old) answer → Spends reserve r self.old answer self.new result }
         ensures same { IsSame self.old self.new }
     {
-        match mem::replace(&mut self.state, State::Over) {
-            State::Root => {
-                let pid = answer.into_number() as u16;
-                self.go_to(pid);
-                None
-            }
-            State::Page { mut visit } => match visit.next(answer) {
-                None => {
-                    self.state = State::Page { visit };
-                    None
-                }
-                Some(sight) => self.see(sight),
-            },
-            State::Over => unreachable!(),
+        match self.descent.next(answer) {
+            None => None,
+            Some(sight) => self.see(sight),
         }
     }
 
@@ -195,7 +170,7 @@ impl WriteRound {
             None => self.settle(version),
             Some(right) => {
                 self.left = Some(version);
-                self.go_to(right);
+                self.descent.go_to(right);
                 None
             }
         }
@@ -224,7 +199,7 @@ impl WriteRound {
         let child = child_on_way(&version.chain, &self.key);
         self.parent = Some(version);
         self.left = None;
-        self.go_to(child);
+        self.descent.go_to(child);
         None
     }
 
@@ -234,16 +209,5 @@ impl WriteRound {
     {
         let deltas = chain.deltas();
         deltas >= MANY_DELTAS || chain.level() == 0 && deltas >= self.due
-    }
-
-    /// Goes on to a page.
-    fn go_to(&mut self, pid: u16)
-        requires some { 0 < pid }
-        requires below { pid < self.old.limits.pids }
-        ensures { self.new ≡ going_to pid self.old }
-    {
-        self.state = State::Page {
-            visit: Visit::new(&self.limits, pid),
-        };
     }
 }
