@@ -1,0 +1,155 @@
+-- A writer's pages in hand, while other pages are read.
+use Rattle.std.proofs.Common.{◌≡◌, ◌≢◌, ◌<◌, ◌++◌, ◌==◌, ◌⊎◌, inl, inr, ℕ, zero, suc, List, [], ◌∷◌, true, Option, Some, None, refl, sym, ap, ◌∙◌, arith}
+use Rattle.std.specs.Prelude.{IfSome, IsTrue}
+use Rattle.std.proofs.lemmas.Bool.{eq-eqb}
+use Rattle.std.proofs.lemmas.Bool.Decides.{eqb_tells}
+use Rattle.std.proofs.lemmas.Option.{IfSome_then}
+use Rattle.bw_model.specs.declared.limits.Limits.{Limits}
+use Rattle.bw_model.specs.declared.step.Step.TheVariants as step
+use Rattle.bw_model.specs.declared.step.Answer.{Answer}
+use Rattle.bw_model.specs.declared.step.Answer.TheVariants as answer
+use Rattle.deltas.specs.declared.record.Record.{Record}
+use Rattle.deltas.specs.Records.{next_row}
+use Rattle.chain_search.specs.Chains.{level_in}
+use Rattle.chain_search.specs.Fitting.{Fits, FitsRow}
+use Rattle.chain_search.specs.Knowledge.{Knowledge, learn, learn_slot}
+use Rattle.chain_search.specs.Recalled.{IsUnread, Recalled, recall}
+use Rattle.smo.specs.Readings.{IsAfter}
+use Rattle.smo.specs.declared.version.Version.{Version}
+use Rattle.descent.specs.declared.visit.State.{State}
+use Rattle.descent.specs.declared.visit.State.TheVariants.{Slot, Row}
+use Rattle.descent.specs.Visits.{Starts, Completes, Continues, Visit, at, wanted}
+use Rattle.descent.specs.Walks.{HasArrived, IsAmong}
+use Rattle.descent.specs.Ways.{reaches}
+use Rattle.descent.specs.WriteRounds.{IsBased, IsLeftOf, IsKept, IsVisiting}
+use Rattle.descent.proofs.Holding.{in_hand_row, in_hand_slot}
+use Rattle.descent.proofs.Seeking.{arrived, seeks_row, seeks_slot}
+use Rattle.descent.proofs.Visiting.{back, there}
+
+-- a page that is none of these isn't one that is among them
+differs : (page other : ℕ) (others : List ℕ) → IsUnread page others → IsAmong other others → other ≢ page
+differs page other [] new among e = among
+differs page other (first ∷ others) new among e = elim among [
+  | inl here ↦ new.0 (sym e ∙ here)
+  | inr there ↦ differs page other others new.1 there e
+]
+
+-- the parent, once the page was read whole
+pub record IsOver (limits : Limits) (now : Knowledge) (version : Version) (earlier : List ℕ) (parent : Version) : Type 0 where
+  pub kept : IsKept limits now parent earlier
+  pub up : level_in parent.chain ≡ suc (level_in version.chain)
+  pub after : IsAfter now parent version
+
+-- A page was read whole, on the way to the key.
+pub record HasReached (limits : Limits) (key : List ℕ) (parent left : Option Version) (k now : Knowledge) (r : Recalled) (version : Version) : Type 0 where
+  pub level : ℕ
+  pub low : List ℕ
+  pub earlier : List ℕ
+  pub arrives : HasArrived limits k now r version level low earlier
+  pub passing : IsTrue (reaches key low)
+  pub above : IfSome parent (IsOver limits now version earlier)
+  pub aside : IfSome left (IsLeftOf limits now low earlier)
+  pub based : IsBased r parent left version.pid low
+
+module _ (limits : Limits) (key : List ℕ) (parent left : Option Version) (k : Knowledge) (r : Recalled) (visit : Visit) where
+  abbrev Visits : State → Type 0
+  Visits state = IsVisiting limits key parent left k r (at visit state)
+
+  before_slot : (pid n other head : ℕ) → 0 < pid → 0 < n → k.read.heads other ≡ Some head → (learn_slot pid n k).read.before pid other ≡ Some head
+  before_slot zero n other head some linked is = absurd (omega (arith, some))
+  before_slot (suc pid) zero other head some linked is = absurd (omega (arith, linked))
+  before_slot (suc pid) (suc n) other head some linked is = let e : (suc pid == suc pid) ≡ true = eq-eqb (suc pid) (suc pid) refl in rw e is
+
+  recall_root : (pid n : ℕ) → 0 < pid → (recall r (step.Slot pid) (answer.Number n)).heads 0 ≡ r.heads 0
+  recall_root zero n some = absurd (omega (arith, some))
+  recall_root (suc pid) n some = elim (eqb_tells zero (suc pid)) [ inl same ↦ absurd (let e = same.1 in omega arith) | inr differs ↦ rw differs.0 refl ]
+
+  based_as : (now : Recalled) → now.heads 0 ≡ r.heads 0 → (parent left : Option Version) (pid : ℕ) (low : List ℕ) → IsBased r parent left pid low → IsBased now parent left pid low
+  based_as now e (Some above) left pid low h = tt
+  based_as now e None None pid low h = elim h [ inl is ↦ inl (e ∙ is) | inr inner ↦ inr inner ]
+  based_as now e None (Some other) pid low h = elim h [ inl is ↦ inl (e ∙ is) | inr inner ↦ inr inner ]
+
+  visits_slot : (row : ℕ) → 0 < row → Visits Slot
+      → IsVisiting limits key parent left (learn k (step.Slot visit.pid) (answer.Number row)) (recall r (step.Slot visit.pid) (answer.Number row)) (record visit { part = []; state = Row row row })
+  visits_slot row linked h =
+      let some = h.seeks.on_way.shows.page in
+      let new = h.seeks.on_way.distinct.2 in
+      let kept : (other : Version) → IsKept limits k other h.earlier → IsKept limits (learn_slot visit.pid row k) other h.earlier =
+      λ other i. record { in_hand = in_hand_slot limits k visit.pid row other (differs visit.pid other.pid h.earlier new i.among) i.in_hand; alive = i.alive; among = i.among } in
+      record {
+        level = h.level;
+        low = h.low;
+        earlier = h.earlier;
+        seeks = seeks_slot limits key k r visit h.level h.low h.earlier row linked h.seeks;
+        above = IfSome_then parent h.above (λ other i. record { kept = kept other i.kept; up = i.up; after = before_slot visit.pid row other.pid other.head some linked i.kept.in_hand.seen.head });
+        aside = IfSome_then left h.aside (λ other i. record { kept = kept other i.kept; inner = i.inner });
+        based = based_as (recall r (step.Slot visit.pid) (answer.Number row)) (recall_root visit.pid row some) parent left visit.pid h.low h.based;
+      }
+
+  module _ (row : ℕ) (content : Record) (fits : FitsRow limits k row content) where
+    abbrev now : Knowledge
+    now = learn k (step.Row row) (answer.Content content)
+
+    abbrev walked : Recalled
+    walked = recall r (step.Row row) (answer.Content content)
+
+    kept_row : (other : Version) (earlier : List ℕ) → IsKept limits k other earlier → IsKept limits now other earlier
+    kept_row other earlier i = record { in_hand = in_hand_row k row content fits.same limits other i.in_hand; alive = i.alive; among = i.among }
+
+    visits_row : (head under : ℕ) → next_row content ≡ Some under → Visits (Row head row) → IsVisiting limits key parent left now walked (record visit { part = visit.part ++ content ∷ []; state = Row head under })
+    visits_row head under more h = record {
+      level = h.level;
+      low = h.low;
+      earlier = h.earlier;
+      seeks = seeks_row limits key k r visit h.level h.low h.earlier row content fits head under more h.seeks;
+      above = IfSome_then parent h.above (λ other i. record { kept = kept_row other h.earlier i.kept; up = i.up; after = i.after });
+      aside = IfSome_then left h.aside (λ other i. record { kept = kept_row other h.earlier i.kept; inner = i.inner });
+      based = based_as walked refl parent left visit.pid h.low h.based;
+    }
+
+    some_among : (other : ℕ) (others : List ℕ) → IsAmong other others → others ≡ [] → ⊥
+    some_among other [] among e = among
+    some_among other (first ∷ others) among e = cc
+
+    reaches_whole : (version : Version) → version.pid ≡ visit.pid → version.chain ≡ visit.part ++ content ∷ [] → next_row content ≡ None → Visits (Row version.head row) → HasReached limits key parent left k now walked version
+    reaches_whole version pid made last h =
+        let here = arrived limits key k r visit h.level h.low h.earlier row content fits version pid made last h.seeks in
+        record {
+          level = h.level;
+          low = h.low;
+          earlier = h.earlier;
+          arrives = here;
+          passing = h.seeks.passing;
+          above = IfSome_then parent h.above (λ other i. record {
+            kept = kept_row other h.earlier i.kept;
+            up = elim here.is_level [ inl none ↦ absurd (some_among other.pid h.earlier i.kept.among none) | inr is ↦ i.up ∙ ap suc (sym is) ];
+            after = rw pid i.after;
+          });
+          aside = IfSome_then left h.aside (λ other i. record { kept = kept_row other h.earlier i.kept; inner = i.inner });
+          based = rw pid (based_as walked refl parent left visit.pid h.low h.based);
+        }
+
+-- the same by what a visit makes of an answer
+module _ (limits : Limits) (key : List ℕ) (parent left : Option Version) (k : Knowledge) (r : Recalled) (visit : Visit) (told : Answer Record) (h : IsVisiting limits key parent left k r visit) (f : Fits limits k (wanted visit) told) where
+  abbrev VisitsAt : Visit → Answer Record → Type 0
+  VisitsAt v x = IsVisiting limits key parent left k r v
+
+  abbrev FitsAt : Visit → Answer Record → Type 0
+  FitsAt v x = Fits limits k (wanted v) x
+
+  pub visits_next : (new : Visit) → Starts visit told new ⊎ Continues visit told new → IsVisiting limits key parent left (learn k (wanted visit) told) (recall r (wanted visit) told) new
+  visits_next new moves =
+      let P : Visit → Answer Record → Type 0 = λ v x. IsVisiting limits key parent left (learn k (wanted v) x) (recall r (wanted v) x) new in
+      elim moves [
+        | inl b ↦ back visit P Slot (answer.Number b.row) told b.asked b.is (rw b.goes (visits_slot limits key parent left k r visit b.row b.some (there visit VisitsAt Slot (answer.Number b.row) told b.asked b.is h)))
+        | inr b ↦
+            let fits = there visit FitsAt (Row b.head b.row) (answer.Content b.content) told b.asked b.is f in
+            back visit P (Row b.head b.row) (answer.Content b.content) told b.asked b.is
+            (rw b.goes (visits_row limits key parent left k r visit b.row b.content fits b.head b.under b.more (there visit VisitsAt (Row b.head b.row) (answer.Content b.content) told b.asked b.is h)))
+      ]
+
+  pub reached_next : (version : Version) → Completes visit told version → HasReached limits key parent left k (learn k (wanted visit) told) (recall r (wanted visit) told) version
+  reached_next version b =
+      let fits = there visit FitsAt (Row version.head b.row) (answer.Content b.content) told b.asked b.is f in
+      back visit (λ v x. HasReached limits key parent left k (learn k (wanted v) x) (recall r (wanted v) x) version) (Row version.head b.row) (answer.Content b.content) told b.asked b.is
+      (reaches_whole limits key parent left k r visit b.row b.content fits version b.pid b.chain b.last (there visit VisitsAt (Row version.head b.row) (answer.Content b.content) told b.asked b.is h))

@@ -1,0 +1,12 @@
+pub mod FrontLaws
+pub mod PageLaws
+pub mod WayLaws
+pub mod Holding
+pub mod Meeting
+pub mod Visiting
+pub mod Walking
+pub mod Seeking
+pub mod Spending
+pub mod Reading
+pub mod Keeping
+pub mod Writing

@@ -1,0 +1,172 @@
+-- How many reads the steps of a visit leave a round.
+use Rattle.std.proofs.Common.{◌≡◌, ◌<◌, ◌≤◌, ◌+◌, ◌-◌, ◌*◌, ◌++◌, ◌||◌, inl, inr, ◌⊎◌, ℕ, zero, suc, List, [], ◌∷◌, length, Bool, true, false, None, refl, sym, ap, ◌∙◌, subst, arith, length-append}
+use Rattle.std.specs.Prelude.{IsTrue, if◌then◌else◌}
+use Rattle.bw_model.specs.declared.limits.Limits.{Limits}
+use Rattle.bw_model.specs.declared.step.Step.TheVariants as step
+use Rattle.bw_model.specs.declared.step.Answer.{Answer}
+use Rattle.bw_model.specs.declared.step.Answer.TheVariants as answer
+use Rattle.deltas.specs.declared.record.Record.{Record}
+use Rattle.deltas.specs.declared.record.Record.TheVariants as kind
+use Rattle.deltas.specs.Records.{next_row}
+use Rattle.chain_search.specs.Chains.{is_removed}
+use Rattle.chain_search.specs.Fitting.{Fits, FitsRow}
+use Rattle.chain_search.specs.Knowledge.{Knowledge}
+use Rattle.chain_search.specs.Recalled.{AnyNames, IsPaid, IsSpentWith, IsUnread, Recalled, is_removal, recall}
+use Rattle.smo.specs.declared.version.Version.{Version}
+use Rattle.descent.specs.declared.visit.State.{State}
+use Rattle.descent.specs.declared.visit.State.TheVariants.{Slot, Row}
+use Rattle.descent.specs.Visits.{Starts, Completes, Continues, FindsEmpty, Visit, at, wanted}
+use Rattle.descent.specs.Walks.{IsSeeking, few_reads, left_at, left_in}
+use Rattle.descent.proofs.Meeting.{few_pages, removed_push}
+use Rattle.descent.proofs.Visiting.{back, there}
+
+module _ (reserve : ℕ) (limits : Limits) (key : List ℕ) (k : Knowledge) (r : Recalled) (visit : Visit) (level : ℕ) (low : List ℕ) (earlier : List ℕ) where
+  abbrev Seeks : State → Type 0
+  Seeks state = IsSeeking limits key k r (at visit state) level low earlier
+
+  recall_visited : (pid n : ℕ) → 0 < pid → (recall r (step.Slot pid) (answer.Number n)).walk.visited ≡ pid ∷ r.walk.visited
+  recall_visited zero n some = absurd (omega (arith, some))
+  recall_visited (suc pid) n some = refl
+
+  spent_slot : (row : ℕ) → Seeks Slot → left_in reserve (recall r (step.Slot visit.pid) (answer.Number row)) (record visit { part = []; state = Row row row }) < left_in reserve r (at visit Slot)
+  spent_slot row h =
+      let few = few_pages limits (visit.pid ∷ earlier) h.on_way.distinct in
+      rw (recall_visited visit.pid row h.on_way.shows.page, h.on_way.visited) (omega (arith, few))
+
+  -- at most one removal is read, and it is paid
+  reserved : (content : Record) (part : List Record) → (delta : is_removed (part ++ content ∷ []) ≡ (is_removal content || is_removed part))
+      → ((if is_removed (part ++ content ∷ []) then reserve else 0) ≡ (if is_removed part then reserve else 0)) ⊎ ((is_removal content ≡ true) × (is_removed part ≡ false))
+  reserved content part is = by_tests (is_removal content) (is_removed part) refl refl is
+    where
+      by_tests : (b t : Bool) → is_removal content ≡ b → is_removed part ≡ t → is_removed (part ++ content ∷ []) ≡ (b || t) → ((if is_removed (part ++ content ∷ []) then reserve else 0) ≡ (if t then reserve else 0)) ⊎ ((b ≡ true) × (t ≡ false))
+      by_tests true true e f g = inl (rw g refl)
+      by_tests true false e f g = inr (refl, refl)
+      by_tests false true e f g = inl (rw g refl)
+      by_tests false false e f g = inl (rw g refl)
+
+  paid_removal : (row : ℕ) (content : Record) → is_removal content ≡ true → r.walk.rooted ≡ true → r.walk.removed ≡ false → IsPaid r (step.Row row) (answer.Content content)
+  paid_removal row (kind.Remove remove) e rooted none = (rooted, none)
+  paid_removal row (kind.Base base) e rooted none = cc
+  paid_removal row (kind.Put put) e rooted none = cc
+  paid_removal row (kind.Delete delete) e rooted none = cc
+  paid_removal row (kind.Split split) e rooted none = cc
+  paid_removal row (kind.Term term) e rooted none = cc
+  paid_removal row (kind.Hold hold) e rooted none = cc
+  paid_removal row (kind.Merge merge) e rooted none = cc
+  paid_removal row (kind.Unterm unterm) e rooted none = cc
+
+  at_most : (b : Bool) → (if b then reserve else 0) ≤ reserve
+  at_most true = omega arith
+  at_most false = omega arith
+
+  spent_row : (head row : ℕ) (content : Record) (under : ℕ) → FitsRow limits k row content → Seeks (Row head row)
+      → IsSpentWith (1 + reserve) r (step.Row row) (answer.Content content) (left_in reserve r (at visit (Row head row))) (left_in reserve (recall r (step.Row row) (answer.Content content)) (record visit { part = visit.part ++ content ∷ []; state = Row head under }))
+  spent_row head row content under fits h =
+      let few : length visit.part < 13 = fits.short visit.pid head visit.part h.on_way.shows.stands.held h.on_way.shows.stands.seen in
+      let one : length (visit.part ++ content ∷ []) ≡ length visit.part + 1 = length-append visit.part (content ∷ []) in
+      let delta = removed_push k.read.seen visit.part head row content h.on_way.shows.stands.seen in
+      let most = at_most (is_removed (visit.part ++ content ∷ [])) in
+      elim (reserved content visit.part delta) [
+        | inl same ↦ inl (rw same (omega (arith, few, one)))
+        | inr gone ↦ inr (paid_removal row content gone.0 h.on_way.rooted (h.on_way.removed ∙ gone.1), omega (arith, few, one, most))
+      ]
+
+  -- a page wasn't there
+
+  paid_empty : (pid : ℕ) → 0 < pid → r.walk.rooted ≡ true → IsUnread pid r.walk.visited → AnyNames r.walk.records pid → IsPaid r (step.Slot pid) (answer.Number 0)
+  paid_empty zero some rooted new met = absurd (omega (arith, some))
+  paid_empty (suc pid) some rooted new met = (rooted, new, met)
+
+  never_root : (pid : ℕ) → 0 < pid → IsTrue (k.read.roots pid) → Fits limits k (step.Slot pid) (answer.Number 0) → ⊥
+  never_root zero some root fits = absurd (omega (arith, some))
+  never_root (suc pid) some root fits = let more : 0 < 0 = fits.1 root in omega (arith, more)
+
+  empty : Seeks Slot → Fits limits k (step.Slot visit.pid) (answer.Number 0) → IsPaid r (step.Slot visit.pid) (answer.Number 0)
+  empty h fits = elim h.named [
+    | inl root ↦ absurd (never_root visit.pid h.on_way.shows.page root fits)
+    | inr met ↦ paid_empty visit.pid h.on_way.shows.page h.on_way.rooted (rw h.on_way.visited h.on_way.distinct.2) met
+  ]
+
+  -- the same by what a visit makes of an answer
+
+  module _ (told : Answer Record) (h : IsSeeking limits key k r visit level low earlier) (f : Fits limits k (wanted visit) told) where
+    seeks_at : (state : State) → visit.state ≡ state → Seeks state
+    seeks_at state e = subst (λ (s : State). Seeks s) e h
+
+    abbrev FitsAt : Visit → Answer Record → Type 0
+    FitsAt v x = Fits limits k (wanted v) x
+
+    pub spent_on : (new : Visit) → Starts visit told new ⊎ Continues visit told new → IsSpentWith (1 + reserve) r (wanted visit) told (left_in reserve r visit) (left_in reserve (recall r (wanted visit) told) new)
+    spent_on new moves =
+        let P : Visit → Answer Record → Type 0 = λ v x. IsSpentWith (1 + reserve) r (wanted v) x (left_in reserve r v) (left_in reserve (recall r (wanted v) x) new) in
+        elim moves [
+          | inl b ↦ back visit P Slot (answer.Number b.row) told b.asked b.is (rw b.goes (inl (spent_slot b.row (seeks_at Slot b.asked))))
+          | inr b ↦ back visit P (Row b.head b.row) (answer.Content b.content) told b.asked b.is (rw b.goes (spent_row b.head b.row b.content b.under (there visit FitsAt (Row b.head b.row) (answer.Content b.content) told b.asked b.is f) (seeks_at (Row b.head b.row) b.asked)))
+        ]
+
+    pub spent_empty : FindsEmpty visit told → IsPaid r (wanted visit) told
+    spent_empty b = back visit (λ v x. IsPaid r (wanted v) x) Slot (answer.Number 0) told b.asked b.is (empty (seeks_at Slot b.asked) (there visit FitsAt Slot (answer.Number 0) told b.asked b.is f))
+
+    -- a page was read whole
+    module _ (version : Version) (b : Completes visit told version) where
+      fits_row : FitsRow limits k b.row b.content
+      fits_row = there visit FitsAt (Row version.head b.row) (answer.Content b.content) told b.asked b.is f
+
+      seeks : Seeks (Row version.head b.row)
+      seeks = seeks_at (Row version.head b.row) b.asked
+
+      few : length visit.part < 13
+      few = fits_row.short visit.pid version.head visit.part seeks.on_way.shows.stands.held seeks.on_way.shows.stands.seen
+
+      -- what was left is more than what is left for the other pages
+      pub more_left : 14 * (4095 - length r.walk.visited) + (if is_removed visit.part then reserve else 0) < left_in reserve r visit
+      more_left =
+          let here : 14 * (4095 - length r.walk.visited) + (if is_removed visit.part then reserve else 0) < left_in reserve r (at visit (Row version.head b.row)) = omega (arith, few) in
+          back visit (λ v x. 14 * (4095 - length r.walk.visited) + (if is_removed visit.part then reserve else 0) < left_in reserve r v) (Row version.head b.row) (answer.Content b.content) told b.asked b.is here
+
+      same_visited : (recall r (wanted visit) told).walk.visited ≡ r.walk.visited
+      same_visited = back visit (λ v x. (recall r (wanted v) x).walk.visited ≡ r.walk.visited) (Row version.head b.row) (answer.Content b.content) told b.asked b.is refl
+
+      pub left_on : 14 * (4095 - length (recall r (wanted visit) told).walk.visited) < left_in reserve r visit
+      left_on = rw same_visited (let more = more_left in omega (arith, more))
+
+      pub left_some : 0 < left_in reserve r visit
+      left_some = let more = more_left in omega (arith, more)
+
+      part_removed : is_removed version.chain ≡ true → is_removed visit.part ≡ true
+      part_removed gone =
+          let pushed = removed_push k.read.seen visit.part version.head b.row b.content seeks.on_way.shows.stands.seen in
+          let here : is_removed (visit.part ++ b.content ∷ []) ≡ true = sym (ap is_removed b.chain) ∙ gone in
+          ap (λ (t : Bool). t || is_removed visit.part) (sym (no_removal b.content b.last)) ∙ sym pushed ∙ here
+        where
+          no_removal : (content : Record) → next_row content ≡ None → is_removal content ≡ false
+          no_removal (kind.Base base) e = refl
+          no_removal (kind.Put put) e = refl
+          no_removal (kind.Delete delete) e = refl
+          no_removal (kind.Split split) e = refl
+          no_removal (kind.Term term) e = refl
+          no_removal (kind.Hold hold) e = refl
+          no_removal (kind.Remove remove) e = cc
+          no_removal (kind.Merge merge) e = refl
+          no_removal (kind.Unterm unterm) e = refl
+
+      pub left_removed : is_removed version.chain ≡ true → reserve < left_in reserve r visit
+      left_removed gone =
+          let is = part_removed gone in
+          let more : 14 * (4095 - length r.walk.visited) + reserve < left_in reserve r visit = rw is at more_left in
+          omega (arith, more)
+
+-- a round takes few reads
+pub few_left : (reserve : ℕ) (limits : Limits) (key : List ℕ) (k : Knowledge) (r : Recalled) (visit : Visit) (level : ℕ) (low : List ℕ) (earlier : List ℕ) → IsSeeking limits key k r visit level low earlier → left_in reserve r visit ≤ few_reads + reserve
+few_left reserve limits key k r visit level low earlier h = by_state visit.state refl
+  where
+    bound : (b : Bool) → (if b then reserve else 0) ≤ reserve
+    bound true = omega arith
+    bound false = omega arith
+
+    by_state : (state : State) → visit.state ≡ state → left_at reserve r.walk.visited visit.part visit.state ≤ few_reads + reserve
+    by_state Slot e = rw e (omega arith)
+    by_state (Row head row) e =
+        let is : r.walk.visited ≡ visit.pid ∷ earlier = rw e at h.on_way.visited in
+        let most = bound (is_removed visit.part) in
+        rw (e, is) (omega (arith, most))

@@ -1,0 +1,66 @@
+-- Which page is on the way.
+use Rattle.std.proofs.Common.{◌≡◌, ◌<◌, ◌-◌, inl, inr, ℕ, List, [], ◌∷◌, Bool, true, false, Option, Some, None, sym, ap, ◌∙◌, refl, arith}
+use Rattle.std.specs.Prelude.{is_some, not, IsTrue, MatchOption}
+use Rattle.bw_model.specs.declared.limits.Limits.{Limits}
+use Rattle.bw_model.specs.Bytes.{is_below, is_in_range}
+use Rattle.base_page.specs.Places.{IsGreatestChild}
+use Rattle.base_page.proofs.KeyLaws.{not_true}
+use Rattle.deltas.specs.declared.record.Record.{Record}
+use Rattle.chain_search.specs.Chains.{content_in, covers, high_in, level_in, low_in, right_in}
+use Rattle.chain_search.specs.Fitted.{IsFitted}
+use Rattle.descent.specs.Versions.{NamesPages}
+use Rattle.descent.specs.Ways.{LeadsDown, LeadsOn, LeadsRight, NamesAt, StaysLeft, reaches}
+use Rattle.descent.proofs.PageLaws.{covered, ends}
+
+pub goes_down : (key : List ℕ) (chain : List Record) (child : ℕ) → IsFitted chain → IsGreatestChild (content_in chain) (reaches key) child → LeadsDown key chain child
+goes_down key chain child fit h = record { low = h.separator; held = h.held; covered = covered chain h.separator _ fit h.greatest.has; greatest = h.greatest }
+
+pub goes_right : (key : List ℕ) (chain : List Record) (high : List ℕ) (right : Option ℕ) → IsFitted chain → high_in chain ≡ Some high → IsTrue (reaches key high) → right ≡ right_in chain
+    → MatchOption right (StaysLeft key chain) (LeadsRight key chain)
+goes_right key chain high None fit at on is = let none : Option ℕ = None in let some : is_some none ≡ true = ap is_some is ∙ ends chain fit ∙ ap is_some at in cc
+goes_right key chain high (Some right) fit at on is = record { low = high; is_right = sym is; is_high = at; on_way = on }
+
+-- the page to which the way leads is named at a place
+
+pub right_names : (key : List ℕ) (chain : List Record) (page : ℕ) (h : LeadsRight key chain page) → NamesAt chain page (level_in chain) h.low
+right_names key chain page h = inl (h.is_right, refl, h.is_high)
+
+pub down_names : (key : List ℕ) (chain : List Record) (page : ℕ) → 0 < level_in chain → (h : LeadsDown key chain page) → NamesAt chain page (level_in chain - 1) h.low
+down_names key chain page index h = inr (h.held, omega (arith, index), h.covered, h.greatest.has)
+
+-- where the way leads, there may be a page
+
+pub named_within : (limits : Limits) (chain : List Record) (page level : ℕ) (low : List ℕ) → NamesPages limits chain → NamesAt chain page level low → (0 < page) × (page < limits.pids)
+named_within limits chain page level low names h = elim h [
+  | inl right ↦ names.right page right.0
+  | inr child ↦ names.child level page low child.0 child.1 child.2 child.3
+]
+
+pub right_within : (limits : Limits) (key : List ℕ) (chain : List Record) (page : ℕ) → NamesPages limits chain → LeadsRight key chain page → (0 < page) × (page < limits.pids)
+right_within limits key chain page names h = named_within limits chain page (level_in chain) h.low names (right_names key chain page h)
+
+pub down_within : (limits : Limits) (key : List ℕ) (chain : List Record) (page : ℕ) → NamesPages limits chain → 0 < level_in chain → LeadsDown key chain page → (0 < page) × (page < limits.pids)
+down_within limits key chain page names index h = named_within limits chain page (level_in chain - 1) h.low names (down_names key chain page index h)
+
+pub on_within : (limits : Limits) (key : List ℕ) (chain : List Record) (page : ℕ) → NamesPages limits chain → LeadsOn key chain page → (0 < page) × (page < limits.pids)
+on_within limits key chain page names h = elim h [
+  | inl right ↦ right_within limits key chain page names right
+  | inr down ↦ down_within limits key chain page names down.1 down.2
+]
+
+-- nothing is below the empty key
+pub lowest : (key : List ℕ) → IsTrue (reaches key [])
+lowest [] = refl
+lowest (x ∷ xs) = refl
+
+-- a key that the page reaches, and that its end doesn't reach, is in the range
+in_range : (low : List ℕ) (high : Option (List ℕ)) (key : List ℕ) → is_below key low ≡ false → ((end : List ℕ) → high ≡ Some end → reaches key end ≡ false) → IsTrue (is_in_range low high key)
+in_range low None key e f = rw e refl
+in_range low (Some end) key e f = rw e (negated (is_below key end) (f end refl))
+  where
+    negated : (b : Bool) → not b ≡ false → b ≡ true
+    negated true h = refl
+    negated false h = cc
+
+pub covers_here : (key : List ℕ) (chain : List Record) → IsTrue (reaches key (low_in chain)) → StaysLeft key chain → IsTrue (covers chain key)
+covers_here key chain reached stays = in_range (low_in chain) (high_in chain) key (not_true (is_below key (low_in chain)) reached) stays.off

@@ -1,0 +1,12 @@
+use Rattle.std.proofs.Common.{◌≡◌}
+use Rattle.bw_model.specs.declared.step.Answer.TheVariants.{Content}
+use Rattle.descent.specs.declared.visit.State.TheVariants.{Row}
+use Rattle.descent.proofs.Visiting.{follows_from, responds_at}
+use Rattle.descent.proofs.visit.Visit.next.Goals as goal
+
+pub returns-in-Row-clause-follows : goal.returns-in-Row-clause-follows
+returns-in-Row-clause-follows c = λ k.
+    let e : c.args.self.now.state ≡ Row c.in-Row.head c.in-Row.row = rw (← c.self.view_is) c.in-Row.is in
+    let older = c.into_content-older.result in
+    let responds = responds_at c.args.self.now (Row c.in-Row.head c.in-Row.row) c.args.answer (Content older) c.keep.new.self c.keep.result e c.into_content-older.ensures c.keep.ensures.responds in
+    follows_from k c.args.self.now c.args.answer c.keep.new.self c.keep.result responds

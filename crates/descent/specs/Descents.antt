@@ -1,0 +1,94 @@
+-- The way from the root to a page: the step that it wants, and what it makes of an answer.
+use Rattle.std.specs.Prelude.{◌≡◌, ◌⊎◌, ℕ, Option, Some, None, true, ⊤}
+use Rattle.bw_model.specs.declared.limits.Limits.{Limits}
+use Rattle.bw_model.specs.declared.step.Step.{Step as StepOf}
+use Rattle.bw_model.specs.declared.step.Step.TheVariants as step
+use Rattle.bw_model.specs.declared.step.Answer.{Answer}
+use Rattle.bw_model.specs.declared.step.Answer.TheVariants.{Number}
+use Rattle.deltas.specs.declared.record.Record.{Record}
+use Rattle.chain_search.specs.Fitting.{Fits}
+use Rattle.chain_search.specs.Knowledge.{Knowledge}
+use Rattle.chain_search.specs.Recalled.{Recalled}
+use Rattle.descent.specs.Visits as page
+use Rattle.descent.specs.Walks.{few_reads, left_in}
+use Rattle.descent.specs.declared.descent.State.{State}
+use Rattle.descent.specs.declared.descent.State.TheVariants.{Root, Page, Over}
+use Rattle.descent.specs.declared.visit.Sight.{Sight}
+
+pub record Descent : Type 0 where
+  pub limits : Limits
+  pub state : State
+
+abbrev pub IsSoundState : Limits → State → Type 0
+IsSoundState limits Root = ⊤
+IsSoundState limits (Page visit) = visit.limits ≡ limits
+IsSoundState limits Over = ⊤
+
+-- the step that a state has asked for
+abbrev pub wanted_at : State → StepOf Record
+wanted_at Root = step.Slot 0
+wanted_at (Page visit) = page.wanted visit
+wanted_at Over = step.Leave
+
+abbrev pub wanted : Descent → StepOf Record
+wanted descent = wanted_at descent.state
+
+-- the descent, gone to a state, and to a page
+abbrev pub at : Descent → State → Descent
+at descent state = record descent { state = state }
+
+abbrev pub going_to : ℕ → Descent → Descent
+going_to pid descent = at descent (Page (page.to_page descent.limits pid))
+
+-- by the state of a descent
+abbrev pub Stands : Knowledge → State → Type 0
+Stands k Root = k.inside ≡ true
+Stands k (Page visit) = page.Shows visit k
+Stands k Over = ⊥
+
+abbrev pub Shows : Descent → Knowledge → Type 0
+Shows descent k = Stands k descent.state
+
+-- Something is known that the descent shows.
+pub record HasCome (descent : Descent) : Type 0 where
+  pub k : Knowledge
+  pub shows : Shows descent k
+
+-- Something is known that the descent shows, and the answer fits it.
+pub record IsTold (descent : Descent) (told : Answer Record) : Type 0 where
+  pub k : Knowledge
+  pub shows : Shows descent k
+  pub fits : Fits descent.limits k (wanted descent) told
+
+-- Slot 0 was read, and the root is visited.
+pub record Starts (old : Descent) (told : Answer Record) (new : Descent) : Type 0 where
+  pub root : ℕ
+  pub asked : old.state ≡ Root
+  pub is : told ≡ Number root
+  pub goes : new ≡ going_to root old
+
+-- The visit of a page goes on.
+pub record Visits (old : Descent) (told : Answer Record) (new : Descent) : Type 0 where
+  pub visit : page.Visit
+  pub next : page.Visit
+  pub asked : old.state ≡ Page visit
+  pub responds : page.Responds visit told next None
+  pub goes : new ≡ at old (Page next)
+
+-- The visit of a page ended, and found this.
+pub record Finds (old : Descent) (told : Answer Record) (sight : Sight) : Type 0 where
+  pub visit : page.Visit
+  pub next : page.Visit
+  pub asked : old.state ≡ Page visit
+  pub responds : page.Responds visit told next (Some sight)
+
+-- what a descent makes of an answer
+abbrev pub Responds : Descent → Answer Record → Descent → Option Sight → Type 0
+Responds old told new None = Starts old told new ⊎ Visits old told new
+Responds old told new (Some sight) = Finds old told sight
+
+-- how many reads a round takes at most from a state on, with those that are reserved once a removal was read
+abbrev pub left_from : ℕ → Recalled → State → ℕ
+left_from reserve r Root = few_reads
+left_from reserve r (Page visit) = left_in reserve r visit
+left_from reserve r Over = 0

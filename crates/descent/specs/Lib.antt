@@ -1,0 +1,7 @@
+pub mod Versions
+pub mod Visits
+pub mod Ways
+pub mod Walks
+pub mod Descents
+pub mod ReadRounds
+pub mod WriteRounds

@@ -1,0 +1,121 @@
+-- What is known on the way from page to page.
+use Rattle.std.specs.Prelude.{◌≡◌, ◌≢◌, ◌<◌, ◌+◌, ◌-◌, ◌*◌, ◌⊎◌, ℕ, List, [], ◌∷◌, length, Some, true, false, IsTrue, IsFalse, if◌then◌else◌, ⊤}
+use Rattle.std.specs.List.{AllByRecursion}
+use Rattle.bw_model.specs.declared.limits.Limits.{Limits}
+use Rattle.bw_model.specs.Bytes.{is_below}
+use Rattle.deltas.specs.declared.record.Record.{Record}
+use Rattle.chain_search.specs.Chains.{IsChainFrom, is_removed, level_in, low_in}
+use Rattle.chain_search.specs.Knowledge.{Knowledge}
+use Rattle.chain_search.specs.Recalled.{AnyNames, IsUnread, Recalled}
+use Rattle.smo.specs.declared.version.Version.{Version}
+use Rattle.descent.specs.declared.visit.State.{State}
+use Rattle.descent.specs.declared.visit.State.TheVariants.{Slot, Row}
+use Rattle.descent.specs.Versions.{IsInHand, NamesPages}
+use Rattle.descent.specs.Visits.{Arrives, Shows, Visit}
+use Rattle.descent.specs.Ways.{NamesAt, reaches}
+
+-- One place is past another: on a higher level, or on the same level to the left.
+abbrev pub IsPastAt : ℕ → List ℕ → ℕ → List ℕ → Type 0
+IsPastAt level low other_level other_low = (level < other_level) ⊎ ((other_level ≡ level) × IsTrue (is_below other_low low))
+
+-- A page was read whole that is past this place.
+pub record IsPast (k : Knowledge) (level : ℕ) (low : List ℕ) (page : ℕ) : Type 0 where
+  pub head : ℕ
+  pub chain : List Record
+  pub held : k.read.heads page ≡ Some head
+  pub read : IsChainFrom k.read.seen head chain
+  pub past : IsPastAt level low (level_in chain) (low_in chain)
+
+-- A page in hand, which isn't removed, names the page on the level and at the low key.
+pub record IsNamedAt (limits : Limits) (k : Knowledge) (page level : ℕ) (low : List ℕ) : Type 0 where
+  pub naming : Version
+  pub in_hand : IsInHand limits k naming
+  pub alive : is_removed naming.chain ≡ false
+  pub apart : naming.pid ≢ page
+  pub names : NamesAt naming.chain page level low
+
+-- What is known of a page that is to be read: it is the root, and the first page; or a page in hand names it.
+abbrev pub IsExpected : Limits → Knowledge → ℕ → ℕ → List ℕ → List ℕ → Type 0
+IsExpected limits k page level low earlier = (IsTrue (k.read.roots page) × (low ≡ []) × (earlier ≡ [])) ⊎ IsNamedAt limits k page level low
+
+-- the pages whose slots were read since slot 0 was, by the state of the visit
+abbrev pub been : State → ℕ → List ℕ → List ℕ
+been Slot page earlier = earlier
+been (Row head row) page earlier = page ∷ earlier
+
+-- no record is read before the slot
+abbrev pub IsBare : State → List Record → Type 0
+IsBare Slot part = part ≡ []
+IsBare (Row head row) part = ⊤
+
+-- No page is twice among these, and each is one that there may be.
+abbrev pub AreDistinct : Limits → List ℕ → Type 0
+AreDistinct limits [] = ⊤
+AreDistinct limits (page ∷ pages) = (0 < page) × (page < limits.pids) × IsUnread page pages × AreDistinct limits pages
+
+-- The slots of these pages are recalled as they are known.
+abbrev pub AreRecalled : Knowledge → Recalled → List ℕ → Type 0
+AreRecalled k r pages = AllByRecursion (λ page. r.heads page ≡ k.read.heads page) pages
+
+-- A page is visited, which is expected at a place; all pages visited earlier, since slot 0 was read, are past it.
+pub record IsOnWay (limits : Limits) (k : Knowledge) (r : Recalled) (visit : Visit) (level : ℕ) (low : List ℕ) (earlier : List ℕ) : Type 0 where
+  pub shows : Shows visit k
+  pub same : visit.limits ≡ limits
+  pub bare : IsBare visit.state visit.part
+  pub visited : r.walk.visited ≡ been visit.state visit.pid earlier
+  pub recalled : AreRecalled k r (been visit.state visit.pid earlier)
+  pub expected : IsExpected limits k visit.pid level low earlier
+  pub distinct : AreDistinct limits (visit.pid ∷ earlier)
+  pub past : AllByRecursion (IsPast k level low) earlier
+  pub rooted : r.walk.rooted ≡ true
+  pub removed : r.walk.removed ≡ is_removed visit.part
+  pub kept : (page : ℕ) → AnyNames visit.part page → AnyNames r.walk.records page
+
+-- The page was read whole: it is where it was expected, and so on.
+pub record HasArrived (limits : Limits) (k now : Knowledge) (r : Recalled) (version : Version) (level : ℕ) (low : List ℕ) (earlier : List ℕ) : Type 0 where
+  pub visit : Visit
+  pub same : visit.limits ≡ limits
+  pub arrives : Arrives k now visit version
+  pub more : (other row : ℕ) (chain : List Record) → k.read.heads other ≡ Some row → IsChainFrom k.read.seen row chain → (now.read.heads other ≡ Some row) × IsChainFrom now.read.seen row chain
+  pub is_low : low_in version.chain ≡ low
+  pub is_level : (earlier ≡ []) ⊎ (level_in version.chain ≡ level)
+  pub visited : r.walk.visited ≡ version.pid ∷ earlier
+  pub recalled : AreRecalled now r (version.pid ∷ earlier)
+  pub distinct : AreDistinct limits (version.pid ∷ earlier)
+  pub past : AllByRecursion (IsPast k level low) earlier
+  pub rooted : r.walk.rooted ≡ true
+  pub removed : r.walk.removed ≡ is_removed version.chain
+  pub kept : (page : ℕ) → AnyNames version.chain page → AnyNames r.walk.records page
+
+-- The page is the root, or a record names it that was read since slot 0 was.
+abbrev pub IsNamedNow : Knowledge → Recalled → ℕ → Type 0
+IsNamedNow k r page = IsTrue (k.read.roots page) ⊎ AnyNames r.walk.records page
+
+-- A page is visited on the way to the key.
+pub record IsSeeking (limits : Limits) (key : List ℕ) (k : Knowledge) (r : Recalled) (visit : Visit) (level : ℕ) (low : List ℕ) (earlier : List ℕ) : Type 0 where
+  pub on_way : IsOnWay limits k r visit level low earlier
+  pub passing : IsTrue (reaches key low)
+  pub named : IsNamedNow k r visit.pid
+
+-- The page begins at or below the key, and the pages that it names are such as there may be.
+pub record IsReached (limits : Limits) (key : List ℕ) (version : Version) : Type 0 where
+  pub reached : IsTrue (reaches key (low_in version.chain))
+  pub names : IsFalse (is_removed version.chain) → NamesPages limits version.chain
+
+-- the page is one of these
+abbrev pub IsAmong : ℕ → List ℕ → Type 0
+IsAmong page [] = ⊥
+IsAmong page (other ∷ others) = (page ≡ other) ⊎ IsAmong page others
+
+-- how many reads a round takes at most: slot 0, and of each page the slot and 13 records
+abbrev pub few_reads : ℕ
+few_reads = 1 + 14 * 4095
+
+-- how many reads a round takes at most from a visit on, with the one that it has asked for, and with those that are reserved
+-- once a removal was read
+abbrev pub left_at : ℕ → List ℕ → List Record → State → ℕ
+left_at reserve visited part Slot = 14 * (4095 - length visited)
+left_at reserve visited part (Row head row) = 14 * (4095 - length visited) + (13 - length part) + (if is_removed part then reserve else 0)
+
+abbrev pub left_in : ℕ → Recalled → Visit → ℕ
+left_in reserve r visit = left_at reserve r.walk.visited visit.part visit.state

@@ -1,0 +1,98 @@
+//! The way from the root to a page, as far as a round goes on.
+ghost use Rattle.std.specs.Prelude.{◌≡◌, ◌<◌, ℕ};
+ghost use Rattle.chain_search.specs.Discipline.{May};
+ghost use Rattle.chain_search.specs.Knowledge.{Knowledge};
+ghost use Rattle.descent.specs.Descents.{HasCome, IsTold, Responds, Shows, going_to, wanted};
+ghost use Rattle.descent.specs.Visits.{ReadsWithin};
+
+use crate::{Sight, Visit};
+use bw_model::{Answer, Limits, Step};
+use deltas::Record;
+use std::marker::Model;
+use std::mem;
+
+/// Where a descent stands: each state is named by what it reads.
+#[derive(Debug, Drop)]
+pub(crate) enum State {
+    Root,
+    Page { visit: Visit },
+    Over,
+}
+
+/// A way from the root, page by page: slot 0 is read first, then the page that it names, and then each page to which its round
+/// goes on.
+#[derive(Debug, Drop)]
+pub(crate) struct Descent {
+    limits: Limits,
+    state: State,
+}
+
+impl Model for Descent {
+    ghost use Rattle.descent.specs.Descents.{Descent, IsSoundState};
+
+    ghost Value = { Descent };
+
+    ghost view = { λ d. record { limits = d.limits; state = d.state } };
+
+    ghost invariant = { λ d. IsSoundState d.limits d.state };
+}
+
+impl Descent {
+    /// A descent before its first step.
+    pub(crate) fn new(limits: &Limits) -> Descent
+        ensures { result ≡ record { limits = limits.now; state = State.Root } }
+    {
+        Descent {
+            limits: *limits,
+            state: State::Root,
+        }
+    }
+
+    /// The step that the descent wants next.
+    pub(crate) fn step(&self) -> Step<Record>
+        requires come { HasCome self.now }
+        ensures wanted { result ≡ wanted self.now }
+        ensures within { ReadsWithin self.now.limits result }
+        ensures may { (actor : ℕ) (k : Knowledge) → Shows self.now k → May actor k result }
+    {
+        match &self.state {
+            State::Root => Step::Slot(0),
+            State::Page { visit } => visit.step(),
+            State::Over => unreachable!(),
+        }
+    }
+
+    /// Takes the answer to the step wanted last, and tells what was found, once a page was read.
+    pub(crate) fn next(&mut self, answer: Answer<Record>) -> Option<Sight>
+        requires told { IsTold self.old answer }
+        ensures responds { Responds self.old answer self.new result }
+        ensures limits { self.new.limits ≡ self.old.limits }
+    {
+        match mem::replace(&mut self.state, State::Over) {
+            State::Root => {
+                let pid = answer.into_number() as u16;
+                self.go_to(pid);
+                None
+            }
+            State::Page { mut visit } => match visit.next(answer) {
+                None => {
+                    self.state = State::Page { visit };
+                    None
+                }
+                Some(sight) => Some(sight),
+            },
+            State::Over => unreachable!(),
+        }
+    }
+
+    /// Goes on to a page.
+    pub(crate) fn go_to(&mut self, pid: u16)
+        requires some { 0 < pid }
+        requires below { pid < self.old.limits.pids }
+        ensures { self.new ≡ going_to pid self.old }
+    {
+        self.state = State::Page {
+            visit: Visit::new(&self.limits, pid),
+        };
+    }
+}

@@ -1,0 +1,14 @@
+//! From the root to a page: one round as a machine that wants reads of slots and of rows.
+#![tactic(auto)]
+
+mod descent;
+mod laws;
+mod read_round;
+mod visit;
+mod way;
+mod write_round;
+
+pub use laws::rounds_are_short;
+pub use read_round::{ReadEnd, ReadRound};
+pub use visit::{Sight, Visit};
+pub use write_round::{WriteEnd, WriteRound};
