@@ -126,7 +126,10 @@ impl Change {
         match self.state {
             State::Taking(taking) => self.take(spares, taking, answer),
             State::Base => self.go(State::Ready),
-            State::Ready => self.go(after_ready(&self.plan)),
+            State::Ready => {
+                let state = after_ready(&self.plan);
+                self.go(state)
+            }
             State::Place => self.go(State::Link),
             State::Link => self.decide(spares, answer.into_whether()),
             State::Undo => Some(End::Lost),
@@ -145,7 +148,8 @@ impl Change {
             Found::Not(taking) => self.go(State::Taking(taking)),
             Found::Taken { kind, number } => {
                 spares.keep(kind, number);
-                self.go(first_state(&self.plan, spares))
+                let state = first_state(&self.plan, spares);
+                self.go(state)
             }
             Found::Full => Some(End::Full),
         }

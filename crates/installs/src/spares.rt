@@ -81,7 +81,7 @@ impl Spares {
 
     /// Keeps a number that was taken.
     pub(crate) fn keep(&mut self, kind: Kind, number: u16)
-        requires { length self.old.rows < MAX_SPARES }
+        requires { kind ≡ Kind.Row → length self.old.rows < MAX_SPARES }
         ensures { self.new ≡ with_number kind number self.old }
     {
         match kind {
