@@ -83,10 +83,10 @@ content_in_row other (Written content) = content
 
 -- a split isn't linked where no own page has a row in its slot
 pub no_split : (actor : ℕ) (k : Knowledge) (page old new : ℕ) (split : Split) → 0 < page → 0 < old → 0 < new → MayExchange actor k page old new → k.own.rows new ≡ Written (kind.Split split) → AreUnset k.own → ⊥
+unfolding content_in_row
 no_split actor k zero old new split p o n may e bare = absurd (omega (arith, p))
 no_split actor k (suc page) zero new split p o n may e bare = absurd (omega (arith, o))
 no_split actor k (suc page) (suc old) zero split p o n may e bare = absurd (omega (arith, n))
-unfolding content_in_row
 no_split actor k (suc page) (suc old) (suc new) split p o n may e bare =
     let is : may.content ≡ kind.Split split = ap (content_in_row may.content) (sym may.placed ∙ e) in
     let due = subst (λ (content : Record). MayLink actor k (suc page) (suc old) may.basis.chain content) is may.due in

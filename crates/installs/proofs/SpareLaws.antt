@@ -1,5 +1,6 @@
 -- The spares, as rows and pages go from hand to hand.
-use Rattle.std.proofs.Common.{◌≡◌, ◌≢◌, ◌<◌, ◌∙◌, ◌⊎◌, inl, inr, ℕ, ◌==◌, List, [], ◌∷◌, ◌++◌, Bool, true, false, Option, Some, None, refl, sym, ap, subst, cond, IfSome}
+use Rattle.std.proofs.Common.{◌≡◌, ◌≢◌, ◌<◌, ◌∙◌, ◌⊎◌, inl, inr, ℕ, ◌==◌, List, [], ◌∷◌, ◌++◌, Bool, true, false, Option, Some, None, refl, sym, ap, subst, cond, arith}
+use Rattle.std.specs.Prelude.{IfSome}
 use Rattle.std.proofs.lemmas.Bool.{cases_eq, ne_eqb, eq-eqb}
 use Rattle.std.proofs.lemmas.List.Elements.{Contains-append_cases, Contains-append_left, Contains-push, Contains-push_cases}
 use Rattle.std.specs.List.{Contains}
@@ -28,7 +29,7 @@ pub spare_left : (own : ℕ → OwnRow) (row : ℕ) (spares : List ℕ) → IsNe
 spare_left own row [] n s = tt
 spare_left own row (spare ∷ spares) n s = ((rw n.0 s.0.0, s.0.1), s.1, spare_left own row spares n.1 s.2)
 
-apart : (a b : ℕ) → (a == b) ≡ false → (b == a) ≡ false
+pub apart : (a b : ℕ) → (a == b) ≡ false → (b == a) ≡ false
 apart a b h = ne_eqb b a (λ e. let i : (a == b) ≡ true = eq-eqb a b (sym e) in cc)
 
 new_last : (row last : ℕ) (spares : List ℕ) → IsNew row spares → (last == row) ≡ false → IsNew row (spares ++ last ∷ [])
@@ -59,7 +60,7 @@ new_foreign own row (spare ∷ spares) e s = (ne_eqb spare row (λ same. subst I
 
 -- what a list of one has
 only : (row r : ℕ) → Contains (row ∷ []) r → row ≡ r
-only row r h = elim (Contains-push_cases [] row r h) [ inl there ↦ absurd (there.1) | inr same ↦ same ]
+only row r h = elim (Contains-push_cases [] row r h) [ inl there ↦ absurd (let below = there.1 in omega (arith, below)) | inr same ↦ same ]
 
 -- what is known of a spare PID holds where its page stays
 kept : (pid : Option ℕ) (old new : ℕ → OwnPage) → ((page : ℕ) → pid ≡ Some page → new page ≡ old page) → IfSome pid (λ page. (0 < page) × IsUnlinked (old page)) → IfSome pid (λ page. (0 < page) × IsUnlinked (new page))
