@@ -16,7 +16,7 @@ use Rattle.chain_search.specs.Knowledge.{Belongings, Knowledge, OwnPage, OwnRow,
 use Rattle.smo.specs.declared.split.SplitPlan.{SplitPlan}
 use Rattle.base_page.specs.Pages.{Page}
 use Rattle.smo.specs.Splits.{split_to}
-use Rattle.installs.specs.Changes.{AreEnough, Change, Follows, GoesOn, IsLike, IsOver, IsPlaced, IsReady, IsSoundState, IsTarget, KeepsSpare, MayChange, MayLinkAs, Shows, ShowsState, base_row, head_of, linked_after, linked_by, linked_number, needs_pid, new_base, new_record, rows_needed, slot_of, wanted_at}
+use Rattle.installs.specs.Changes.{AreEnough, Change, Follows, GoesOn, IsLike, IsOver, IsPlaced, IsReady, IsSound, IsTarget, KeepsSpare, MayChange, MayLinkAs, Shows, ShowsState, base_row, head_of, linked_after, linked_by, linked_number, needs_pid, new_base, new_record, rows_needed, slot_of, wanted_at}
 use Rattle.installs.specs.Moves.{after_ready, moved, unused}
 use Rattle.installs.specs.Spares.{AreSpare, AreTheSpares, AreUnset, HaveRoom, IsUnlinked, Rest, Spares, first_row, last_row, pid_of}
 use Rattle.installs.specs.declared.change.End.TheVariants as end
@@ -41,6 +41,12 @@ still_links actor k now (Root left root) like links = λ later new base more is 
 
 pub still_may : (actor : ℕ) (k now : Knowledge) (plan : Plan) → IsLike k.asked.linked k now → MayChange actor k plan → MayChange actor now plan
 still_may actor k now plan like may = record { inside = like.inside ∙ may.inside; links = still_links actor k now plan like may.links }
+
+-- a change that has not won has linked nothing
+pub unlinked : (plan : Plan) (linked : Option (Option ℕ)) → (linked_after plan end.Lost linked ≡ linked) × (linked_after plan end.Full linked ≡ linked)
+unlinked (Install pid head content) linked = (refl, refl)
+unlinked (Split pid plan) linked = (refl, refl)
+unlinked (Root left root) linked = (refl, refl)
 
 -- ---- the spares that a plan uses
 pub some_pid : (pid : Option ℕ) → is_some pid ≡ true → pid ≡ Some (unwrap_or pid 0)
@@ -175,7 +181,7 @@ module _ (actor : ℕ) (limits : Limits) (k : Knowledge) (plan : Plan) (spares :
       let is = ready_page plan needs ready in
       let is_told = undo_went k limits (pid_of spares) (base_row plan spares) told (pid_own needs).0 base_is.1 is fits in
       rw (is_told, undone_learnt k (pid_of spares) (base_row plan spares) (pid_own needs).0 is) (record {
-        like = rw (no_link plan needs) (record { inside = refl; read = refl; command = refl; linked_now = refl });
+        like = rw (unlinked plan k.asked.linked).0 (record { inside = refl; read = refl; command = refl; linked_now = refl });
         rest = record {
           are = page_moved k.own spares are (pid_of spares) Empty (pid_own needs).0 (pid_is needs) tt;
           unset = unset_then k.own spares (pid_of spares) Empty are (pid_is needs) (λ row e. cc);
@@ -188,24 +194,14 @@ module _ (actor : ℕ) (limits : Limits) (k : Knowledge) (plan : Plan) (spares :
       ready_page (Split pid plan) needs h = h.0
       ready_page (Root left root) needs h = h.0
 
-      no_link : (plan : Plan) → needs_pid plan ≡ true → linked_after plan end.Lost k.asked.linked ≡ k.asked.linked
-      no_link (Install pid head content) needs = refl
-      no_link (Split pid plan) needs = refl
-      no_link (Root left root) needs = refl
-
   -- the exchange that decides lost
   pub lost_bare : needs_pid plan ≡ false → IsReady plan spares k.own → IsOver k k (change state.Link) (answer.Whether false) spares end.Lost
   lost_bare bare ready = record {
-    like = rw (no_link plan) (like_self k);
+    like = rw (unlinked plan k.asked.linked).0 (like_self k);
     rest = record { are = are; unset = unset plan bare ready };
     decided = inl (refl, refl, bare);
   }
     where
-      no_link : (plan : Plan) → linked_after plan end.Lost k.asked.linked ≡ k.asked.linked
-      no_link (Install pid head content) = refl
-      no_link (Split pid plan) = refl
-      no_link (Root left root) = refl
-
       unset : (plan : Plan) → needs_pid plan ≡ false → IsReady plan spares k.own → AreUnset k.own
       unset (Install pid head content) bare h = h
       unset (Split pid plan) bare h = cc
@@ -238,3 +234,13 @@ module _ (actor : ℕ) (limits : Limits) (k : Knowledge) (plan : Plan) (spares :
       links (Install pid head content) some may is target ready placed = may k (last_row spares) (like_self k) last_is.1 placed (row_free (Install pid head content) some target.page ready)
       links (Split pid plan) some may is target ready placed = may k (pid_of spares) (first_row spares) (last_row spares) (like_self k) (is refl) last_is.1 ready.0 ready.1 placed (row_free (Split pid plan) some target.page ready)
       links (Root left root) some may is target ready placed = may k (pid_of spares) (last_row spares) (like_self k) (is refl) ready.0 ready.1
+
+-- a change whose deciding exchange is wanted may ask for it
+pub may_decide : (actor : ℕ) (change : Change) (spares : Spares) (k : Knowledge) → change.state ≡ state.Link → IsSound change spares → IsTarget change.limits change.plan → Shows actor change spares k
+    → (k.inside ≡ true) × MayExchange actor k (slot_of change.plan) (head_of change.plan) (linked_number change.plan spares)
+may_decide actor change spares k is sound target shows =
+    let enough : AreEnough change.plan spares = rw is at sound.state in
+    let stands : IsReady change.plan spares k.own × IsPlaced change.plan spares k.own = rw is at shows.stands in (
+      shows.may.inside,
+      may_link actor change.limits k change.plan spares sound.room enough shows.may shows.keeps shows.are target stands.0 stands.1,
+    )

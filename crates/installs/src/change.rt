@@ -113,6 +113,7 @@ impl Change {
         ensures lowest { (kind : Kind) (word bits : ℕ) → self.old.state ≡ State.Taking (Taking.Bits kind word) → answer ≡ Answer.Number bits → 0 < bits → self.new.state ≡ State.Taking (Taking.Take kind (64 * word + trailing_zeros w64 bits)) }
         ensures again { (kind : Kind) (number : ℕ) → self.old.state ≡ State.Taking (Taking.Take kind number) → answer ≡ Answer.Whether false → self.new.state ≡ State.Taking (Taking.Bits kind (number / 64)) }
     {
+        let _ = &self.limits;
         self.move_on(spares, answer)
     }
 

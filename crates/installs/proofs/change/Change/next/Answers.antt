@@ -1,0 +1,6 @@
+use Rattle.installs.proofs.Answered.{follows}
+use Rattle.installs.proofs.change.Change.next.Goals as goal
+
+pub returns-clause-follows : goal.returns-clause-follows
+returns-clause-follows c = λ actor k h fits.
+    follows c.args.self.now c.move_on.new.self c.args.spares.now c.move_on.new.spares c.args.answer c.move_on.result c.move_on.ensures.moved c.move_on.ensures.same actor k c.requires.sound ? h fits
