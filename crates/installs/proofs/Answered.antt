@@ -48,7 +48,7 @@ module _ (actor : ℕ) (limits : Limits) (k : Knowledge) (plan : Plan) (spares :
 
 -- the same of a change that has gone on so
 module _ (old new : Change) (had has : Spares) (told : Answer Record) (end : Option End) (is : moved old.limits old.plan had old.state told ≡ record { state = new.state; spares = has; end = end }) (same : IsSame old new) where
-  only_state : new ≡ record old { state = new.state }
+  pub only_state : new ≡ record old { state = new.state }
   only_state = λ i. record { limits = same.limits i; plan = same.plan i; state = new.state }
 
   pub follows : (actor : ℕ) (k : Knowledge) → IsSound old had → IsTarget old.limits old.plan → Shows actor old had k → Fits old.limits k (wanted old had) told → Follows actor k (learn k (wanted old had) told) old told new has end

@@ -11,11 +11,12 @@ use Rattle.deltas.specs.declared.record.Record.{Record}
 use Rattle.chain_search.specs.Fitting.{Fits, FitsWord}
 use Rattle.chain_search.specs.Knowledge.{Knowledge}
 use Rattle.chain_search.specs.Recalled.{Recalled, WasFree, WasHead, recall}
-use Rattle.installs.specs.Bounded.{IsApart, Recalls, RecallsAt, SpendsTo, left_at, numbers_missing, pid_taken, pids_missing}
-use Rattle.installs.specs.Changes.{AreEnough, Change, IsMissing, IsSound, head_of, linked_number, needs_pid, rows_needed, slot_of, wanted_at}
+use Rattle.installs.specs.Bounded.{IsApart, Recalls, RecallsAt, Spends, SpendsTo, left_at, numbers_missing, pid_taken, pids_missing}
+use Rattle.installs.specs.Changes.{AreEnough, Change, IsMissing, IsSame, IsSound, head_of, linked_number, needs_pid, rows_needed, slot_of, wanted, wanted_at}
 use Rattle.installs.specs.Moves.{Moved, after_ready, after_taking, decided_by, first_state, moved, moved_by, whether_in, with_number}
 use Rattle.installs.specs.Spares.{HaveRoom, Spares, pid_of}
 use Rattle.installs.specs.Taking.{IsSoundTaking, count_of, found_after, kind_of, recalled_words, wanted_number}
+use Rattle.installs.specs.declared.change.End.{End}
 use Rattle.installs.specs.declared.change.State.{State}
 use Rattle.installs.specs.declared.change.State.TheVariants as state
 use Rattle.installs.specs.declared.plan.Plan.{Plan}
@@ -25,6 +26,7 @@ use Rattle.installs.specs.declared.taking.Kind.{Kind}
 use Rattle.installs.specs.declared.taking.Kind.TheVariants.{Pid, Row}
 use Rattle.installs.specs.declared.taking.Taking.{Taking}
 use Rattle.installs.specs.declared.taking.Taking.TheVariants.{Bits, Take}
+use Rattle.installs.proofs.Answered.{only_state}
 use Rattle.installs.proofs.Following.{some_pid}
 use Rattle.installs.proofs.Learning.{went}
 use Rattle.installs.proofs.SpareLaws.{replaced_other, replaced_same}
@@ -37,7 +39,7 @@ few_words limits Row word below = let few = limits.allowed.few_rows in omega (ar
 
 -- one number less is missing once it is taken
 fewer_missing : (plan : Plan) (spares : Spares) (kind : Kind) (number : ℕ) → IsMissing plan spares kind → suc (numbers_missing plan (with_number kind number spares)) ≡ numbers_missing plan spares
-fewer_missing plan spares Pid number missing = rw (missing.0, missing.1) refl
+fewer_missing plan spares Pid number missing = rw (missing.0, missing.1) (omega arith)
 fewer_missing plan spares Row number missing =
     let more : length (spares.rows ++ number ∷ []) ≡ length spares.rows + 1 = length-append spares.rows (number ∷ []) in
     omega (arith, missing, more)
@@ -127,3 +129,72 @@ module _ (limits : Limits) (plan : Plan) (spares : Spares) (after : ℕ) (r : Re
       let less = fewer_missing plan spares Row number missing in
       let first = left_first after plan (with_number Row number spares) in
       (record { at = recalls_first (recall r (wanted_number (Take Row number)) (answer.Whether true)) plan (with_number Row number spares) h; apart = apart }, inl (omega (arith, less, first)))
+
+  takes : (taking : Taking) (told : Answer Record) → (k : Knowledge) → Fits limits k (wanted_number taking) told → IsSoundTaking limits taking → IsMissing plan spares (kind_of taking) → RecallsAt r plan (state.Taking taking) → IsApart plan (pid_taken (wanted_number taking) told)
+      → SpendsSo (state.Taking taking) told (moved_by plan spares (state.Taking taking) (found_after limits taking told))
+  takes (Bits kind word) (answer.Number zero) k fits sound missing h far = empty_word kind word sound h
+  takes (Bits Pid word) (answer.Number (suc bits)) k fits sound missing h far = some_word Pid word bits sound fits h
+  takes (Bits Row word) (answer.Number (suc bits)) k fits sound missing h far = some_word Row word bits sound fits h
+  takes (Bits Pid word) answer.Start k fits sound missing h far = absurd fits
+  takes (Bits Row word) answer.Start k fits sound missing h far = absurd fits
+  takes (Bits Pid word) (answer.Content content) k fits sound missing h far = absurd fits
+  takes (Bits Row word) (answer.Content content) k fits sound missing h far = absurd fits
+  takes (Bits Pid word) (answer.Whether b) k fits sound missing h far = absurd fits
+  takes (Bits Row word) (answer.Whether b) k fits sound missing h far = absurd fits
+  takes (Bits Pid word) answer.Done k fits sound missing h far = absurd fits
+  takes (Bits Row word) answer.Done k fits sound missing h far = absurd fits
+  takes (Take kind number) (answer.Whether true) k fits sound missing h far = took kind number missing h.0 far
+  takes (Take kind number) (answer.Whether false) k fits sound missing h far = missed kind number h.0 h.1
+  takes (Take Pid number) answer.Start k fits sound missing h far = absurd fits
+  takes (Take Row number) answer.Start k fits sound missing h far = absurd fits
+  takes (Take Pid number) (answer.Content content) k fits sound missing h far = absurd fits
+  takes (Take Row number) (answer.Content content) k fits sound missing h far = absurd fits
+  takes (Take Pid number) (answer.Number n) k fits sound missing h far = absurd fits
+  takes (Take Row number) (answer.Number n) k fits sound missing h far = absurd fits
+  takes (Take Pid number) answer.Done k fits sound missing h far = absurd fits
+  takes (Take Row number) answer.Done k fits sound missing h far = absurd fits
+
+  -- the new page isn't the slot that decides
+  slot_apart : (plan : Plan) → needs_pid plan ≡ true → IsApart plan (Some (pid_of spares)) → 0 < pid_of spares → slot_of plan ≢ pid_of spares
+  slot_apart (Install pid head content) needs far some = cc
+  slot_apart (Split pid plan) needs far some = λ e. far (sym e)
+  slot_apart (Root left root) needs far some = λ e. let is : 0 ≡ pid_of spares = e in omega (arith, some, is)
+
+  set : AreEnough plan spares → needs_pid plan ≡ true → HaveRoom limits spares → (told : Answer Record) → WasHead r (slot_of plan) (head_of plan) → SpendsSo state.Ready told (record { state = after_ready plan; spares = spares; end = None })
+  set enough needs room told h =
+      let is = some_pid spares.pid (enough.pid needs) in
+      let some = (rw is at room.pid).0.0 in
+      let other = slot_apart plan needs (rw is at apart) some in
+      let still : WasHead (recall r (wanted_at plan spares state.Ready) told) (slot_of plan) (head_of plan) = (h.0, replaced_other (pid_of spares) None r.heads (slot_of plan) other ∙ h.1) in
+      (record { at = at_next plan still; apart = apart }, inl (less plan))
+    where
+      at_next : (other : Plan) → WasHead (recall r (wanted_at plan spares state.Ready) told) (slot_of plan) (head_of plan) → RecallsAt (recall r (wanted_at plan spares state.Ready) told) plan (after_ready other)
+      at_next (Install pid head content) h = h
+      at_next (Split pid plan) h = h
+      at_next (Root left root) h = h
+
+      less : (other : Plan) → left_at after plan spares (after_ready other) < 3
+      less (Install pid head content) = omega arith
+      less (Split pid plan) = omega arith
+      less (Root left root) = omega arith
+
+  decided : (won : Bool) → WasHead r (slot_of plan) (head_of plan) → SpendsSo state.Link (answer.Whether won) (decided_by plan spares won)
+  decided true h = h
+  decided false h = lost (needs_pid plan) refl
+    where
+      lost : (needs : Bool) → needs_pid plan ≡ needs → SpendsSo state.Link (answer.Whether false) (decided_by plan spares false)
+      lost true is = rw is (record { at = tt; apart = apart }, inr (h, omega arith))
+      lost false is = rw is (inl h)
+
+  spends_at : (state : State) (told : Answer Record) (k : Knowledge) → Fits limits k (wanted_at plan spares state) told → IsSound (change state) spares → RecallsAt r plan state → IsApart plan (pid_taken (wanted_at plan spares state) told) → SpendsSo state told (moved limits plan spares state told)
+  spends_at (state.Taking taking) told k fits sound h far = takes taking told k fits sound.state.0 sound.state.1 h far
+  spends_at state.Base told k fits sound h far = (record { at = h; apart = apart }, inl (omega arith))
+  spends_at state.Ready told k fits sound h far = set sound.state.0 sound.state.1 sound.room told h
+  spends_at state.Place told k fits sound h far = (record { at = h; apart = apart }, inl (omega arith))
+  spends_at state.Link told k fits sound h far = let is = went k limits (slot_of plan) (head_of plan) (linked_number plan spares) told fits in rw is (decided (whether_in told) h)
+  spends_at state.Undo told k fits sound h far = inr (omega arith)
+
+module _ (old new : Change) (had has : Spares) (told : Answer Record) (end : Option End) (is : moved old.limits old.plan had old.state told ≡ record { state = new.state; spares = has; end = end }) (same : IsSame old new) where
+  pub spends : (k : Knowledge) → Fits old.limits k (wanted old had) told → IsSound old had → Spends old had told new has end
+  spends k fits sound = λ after r h far.
+      rw (only_state old new had has told end is same) (subst (λ (now : Moved). SpendsTo after r old had told (record old { state = now.state }) now.spares now.end) is (spends_at old.limits old.plan had after r h.apart old.state told k fits sound h.at far))

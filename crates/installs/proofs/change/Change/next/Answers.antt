@@ -1,6 +1,11 @@
 use Rattle.installs.proofs.Answered.{follows}
+use Rattle.installs.proofs.Spending.{spends}
 use Rattle.installs.proofs.change.Change.next.Goals as goal
 
 pub returns-clause-follows : goal.returns-clause-follows
 returns-clause-follows c = λ actor k h fits.
-    follows c.args.self.now c.move_on.new.self c.args.spares.now c.move_on.new.spares c.args.answer c.move_on.result c.move_on.ensures.moved c.move_on.ensures.same actor k c.requires.sound ? h fits
+    follows c.args.self.now c.move_on.new.self c.args.spares.now c.move_on.new.spares c.args.answer c.move_on.result c.move_on.ensures.moved c.move_on.ensures.same actor k c.requires.sound (rw (← c.self.view_is) c.self.invariant) h fits
+
+pub returns-clause-spends : goal.returns-clause-spends
+returns-clause-spends c =
+    spends c.args.self.now c.move_on.new.self c.args.spares.now c.move_on.new.spares c.args.answer c.move_on.result c.move_on.ensures.moved c.move_on.ensures.same c.requires.told.k c.requires.told.fits c.requires.sound
