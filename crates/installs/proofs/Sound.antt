@@ -92,7 +92,7 @@ module _ (limits : Limits) (plan : Plan) where
   room_taken spares Row row room missing there = record {
     pid = room.pid;
     rows = All-push (λ row. row < limits.rows) spares.rows row room.rows there.1;
-    few = (let more = length-append spares.rows (row ∷ []) in let two = two_at_most plan in omega (arith, missing, more, two));
+    few = (let more = length-append spares.rows (row ∷ []) in let two = two_at_most plan in let some = missing.0 in omega (arith, some, more, two));
   }
 
   -- what is left where a change has won
@@ -129,7 +129,7 @@ module _ (limits : Limits) (plan : Plan) where
       at_first : (pid : Bool) → (needs_pid plan && not (is_some spares.pid)) ≡ pid → (row : Bool) → ltb (length spares.rows) (rows_needed plan) ≡ row
           → IsSoundState limits plan spares (if pid then state.Taking (Bits Pid 0) else if row then state.Taking (Bits Row 0) else after_taking plan)
       at_first true pid row e = ((let some = limits.allowed.some_pids in omega (arith, some)), missing_pid (needs_pid plan) spares.pid pid)
-      at_first false pid true e = ((let some = limits.allowed.some_rows in omega (arith, some)), ltb-true (length spares.rows) (rows_needed plan) e)
+      at_first false pid true e = ((let some = limits.allowed.some_rows in omega (arith, some)), (ltb-true (length spares.rows) (rows_needed plan) e, some_pid (needs_pid plan) spares.pid pid))
       at_first false pid false e = at_place plan refl (record { pid = some_pid (needs_pid plan) spares.pid pid; rows = ltb-false (length spares.rows) (rows_needed plan) e })
 
   -- such a state is one of the plan's, if the change goes on, and there is room for its spares

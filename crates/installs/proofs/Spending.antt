@@ -41,8 +41,9 @@ few_words limits Row word below = let few = limits.allowed.few_rows in omega (ar
 fewer_missing : (plan : Plan) (spares : Spares) (kind : Kind) (number : ℕ) → IsMissing plan spares kind → suc (numbers_missing plan (with_number kind number spares)) ≡ numbers_missing plan spares
 fewer_missing plan spares Pid number missing = rw (missing.0, missing.1) (omega arith)
 fewer_missing plan spares Row number missing =
+    let some = missing.0 in
     let more : length (spares.rows ++ number ∷ []) ≡ length spares.rows + 1 = length-append spares.rows (number ∷ []) in
-    omega (arith, missing, more)
+    omega (arith, some, more)
 
 -- how many steps a change takes at most from its first state on
 pub left_first : (after : ℕ) (plan : Plan) (spares : Spares) → left_at after plan spares (first_state plan spares) ≤ 257 * numbers_missing plan spares + 5

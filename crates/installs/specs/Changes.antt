@@ -43,10 +43,10 @@ rows_needed (Install pid head content) = 1
 rows_needed (Split pid plan) = 2
 rows_needed (Root left root) = 1
 
--- The number is needed still.
+-- A number of the kind is needed next: first a PID, then rows.
 abbrev pub IsMissing : Plan → Spares → Kind → Type 0
 IsMissing plan spares Pid = (needs_pid plan ≡ true) × (spares.pid ≡ None)
-IsMissing plan spares Row = length spares.rows < rows_needed plan
+IsMissing plan spares Row = (length spares.rows < rows_needed plan) × (needs_pid plan ≡ true → is_some spares.pid ≡ true)
 
 -- Nothing is needed still.
 pub record AreEnough (plan : Plan) (spares : Spares) : Type 0 where
@@ -97,6 +97,16 @@ wanted_at plan spares Undo = step.Exchange (pid_of spares) (base_row plan spares
 
 abbrev pub wanted : Change → Spares → StepOf Record
 wanted change spares = wanted_at change.plan spares change.state
+
+-- A change reads words of free bits, takes numbers, places records and exchanges slots, and does nothing else.
+abbrev pub IsOfChange : StepOf Record → Type 0
+IsOfChange (step.PidBits word) = ⊤
+IsOfChange (step.RowBits word) = ⊤
+IsOfChange (step.TakePid pid) = ⊤
+IsOfChange (step.TakeRow row) = ⊤
+IsOfChange (step.Place row content) = ⊤
+IsOfChange (step.Exchange slot old new) = ⊤
+IsOfChange asked = ⊥
 
 -- the change, gone to a state
 abbrev pub at : Change → State → Change
@@ -194,11 +204,9 @@ pub record Shows (actor : ℕ) (change : Change) (spares : Spares) (k : Knowledg
   pub are : AreTheSpares k.own spares
   pub stands : ShowsState change.plan spares k change.state
 
--- Something is known that the change shows, and the answer fits it.
+-- Something is known that the answer to the step wanted last fits.
 pub record IsTold (change : Change) (spares : Spares) (told : Answer Record) : Type 0 where
-  pub actor : ℕ
   pub k : Knowledge
-  pub shows : Shows actor change spares k
   pub fits : Fits change.limits k (wanted change spares) told
 
 -- The change goes on: nothing else is known than before, but of own rows, own pages and words of free bits.
@@ -216,7 +224,7 @@ abbrev pub linked_after : Plan → End → Option (Option ℕ) → Option (Optio
 linked_after (Install pid head content) Won linked = linked_by content head linked
 linked_after plan end linked = linked
 
--- The number that is needed still has each of its words read as 0.
+-- Each word was read as 0 of the kind of which a number is needed next.
 abbrev pub LacksNumber : Limits → Plan → Spares → Knowledge → Type 0
 LacksNumber limits plan spares k = (IsMissing plan spares Pid × AllFull limits k.asked Pid) ⊎ (IsMissing plan spares Row × AllFull limits k.asked Row)
 

@@ -1,12 +1,13 @@
 //! A change of the tree: a record over a page's newest row, the split of a page, or a new root.
 ghost use Rattle.std.specs.Prelude.{◌≡◌, ◌<◌, ◌≤◌, ◌*◌, ◌+◌, ◌/◌, ℕ, false, None, Some, IfNone};
 ghost use Rattle.std.specs.Int.{trailing_zeros, w64};
-ghost use Rattle.chain_search.specs.Discipline.{May};
+ghost use Rattle.bw_model.specs.declared.limits.Limits.{Limits as LimitsSeen};
+ghost use Rattle.chain_search.specs.Discipline.{May, MayFree};
 ghost use Rattle.chain_search.specs.Fitting.{Fits};
 ghost use Rattle.chain_search.specs.Knowledge.{Knowledge, learn};
 ghost use Rattle.chain_search.specs.Recalled.{Recalled, WasHead};
 ghost use Rattle.installs.specs.Bounded.{IsApart, Recalls, Spends, steps_left};
-ghost use Rattle.installs.specs.Changes.{Follows, IsSame, IsSound, IsTarget, IsTold, KeepsSpare, MayChange, Shows, at, base_row, head_of, linked_number, slot_of, wanted};
+ghost use Rattle.installs.specs.Changes.{Follows, IsOfChange, IsSame, IsSound, IsTarget, IsTold, KeepsSpare, MayChange, Shows, at, base_row, head_of, linked_number, slot_of, wanted};
 ghost use Rattle.installs.specs.Moves.{after_ready, decided_by, first_state, moved, moved_by};
 ghost use Rattle.installs.specs.Spares.{HaveRoom, Rest};
 ghost use Rattle.installs.specs.Taking.{found_after};
@@ -90,6 +91,8 @@ impl Change {
         ensures wanted { result ≡ wanted self.now spares.now }
         ensures within { IsWithin self.now.limits result }
         ensures may { (actor : ℕ) (k : Knowledge) → Shows actor self.now spares.now k → May actor k result }
+        ensures only { IsOfChange result }
+        ensures frees { (limits : LimitsSeen) (actor : ℕ) (k : Knowledge) → MayFree limits actor k result }
     {
         match self.state {
             State::Taking(taking) => taking.step(),
