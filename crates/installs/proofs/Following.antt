@@ -1,31 +1,28 @@
 -- What each answer leaves a change in.
-use Rattle.std.proofs.Common.{◌≡◌, ◌≢◌, ◌<◌, ◌≤◌, ◌∙◌, ◌==◌, ◌-◌, ◌⊎◌, inl, inr, ℕ, zero, suc, List, [], ◌∷◌, ◌++◌, length, get_or, Bool, true, false, Option, Some, None, refl, sym, ap, subst, arith}
+use Rattle.std.proofs.Common.{◌≡◌, ◌<◌, ◌≤◌, ◌∙◌, ◌==◌, ◌-◌, inl, inr, ℕ, List, [], ◌∷◌, length, get_or, true, false, Option, Some, None, refl, sym, ap, subst, arith}
 use Rattle.std.specs.Prelude.{is_some, unwrap_or}
 use Rattle.std.proofs.lemmas.Bool.{cases_eq, eq-eqb}
 use Rattle.bw_model.specs.declared.limits.Limits.{Limits}
 use Rattle.bw_model.specs.declared.step.Answer.{Answer}
 use Rattle.bw_model.specs.declared.step.Answer.TheVariants as answer
-use Rattle.bw_model.specs.declared.step.Step.TheVariants as step
 use Rattle.deltas.specs.Memory.{replaced_at}
 use Rattle.deltas.specs.declared.record.Record.{Record}
 use Rattle.deltas.specs.declared.record.Record.TheVariants as kind
 use Rattle.deltas.specs.Spellable.{IsPid}
 use Rattle.chain_search.specs.Discipline.{IsOwn, IsUnset, MayExchange}
 use Rattle.chain_search.specs.Fitting.{Fits}
-use Rattle.chain_search.specs.Knowledge.{Belongings, Knowledge, OwnPage, OwnRow, Foreign, Written, Other, Empty, Ready, Gone, learn, linked_over, handed_page, handed_over, set_page}
-use Rattle.smo.specs.declared.split.SplitPlan.{SplitPlan}
-use Rattle.base_page.specs.Pages.{Page}
+use Rattle.chain_search.specs.Knowledge.{Belongings, Knowledge, OwnPage, OwnRow, Written, Empty, Ready, learn, set_page}
 use Rattle.smo.specs.Splits.{split_to}
-use Rattle.installs.specs.Changes.{AreEnough, Change, Follows, GoesOn, IsLike, IsOver, IsPlaced, IsReady, IsSound, IsTarget, KeepsSpare, MayChange, MayLinkAs, Shows, ShowsState, base_row, head_of, linked_after, linked_by, linked_number, needs_pid, new_base, new_record, rows_needed, slot_of, wanted_at}
-use Rattle.installs.specs.Moves.{after_ready, moved, unused}
-use Rattle.installs.specs.Spares.{AreSpare, AreTheSpares, AreUnset, HaveRoom, IsUnlinked, Rest, Spares, first_row, last_row, pid_of}
+use Rattle.installs.specs.Changes.{AreEnough, Change, GoesOn, IsLike, IsOver, IsPlaced, IsReady, IsSound, IsTarget, KeepsSpare, MayChange, MayLinkAs, Shows, ShowsState, base_row, head_of, linked_after, linked_number, needs_pid, new_base, new_record, rows_needed, slot_of, wanted_at}
+use Rattle.installs.specs.Moves.{after_ready}
+use Rattle.installs.specs.Spares.{AreSpare, AreTheSpares, AreUnset, HaveRoom, IsUnlinked, Spares, first_row, last_row, pid_of}
 use Rattle.installs.specs.declared.change.End.TheVariants as end
 use Rattle.installs.specs.declared.change.State.{State}
 use Rattle.installs.specs.declared.change.State.TheVariants as state
 use Rattle.installs.specs.declared.plan.Plan.{Plan}
 use Rattle.installs.specs.declared.plan.Plan.TheVariants.{Install, Split, Root}
-use Rattle.installs.proofs.Learning.{empty_page, no_split, over_learnt, over_other, ready_learnt, ready_went, rooted_learnt, undo_went, undone_learnt, went}
-use Rattle.installs.proofs.SpareLaws.{apart, first_linked, last_linked, page_gone, page_linked, page_moved, replaced_other, replaced_same, row_placed}
+use Rattle.installs.proofs.Learning.{empty_page, ready_learnt, ready_went, undo_went, undone_learnt}
+use Rattle.installs.proofs.SpareLaws.{apart, page_moved, replaced_other, replaced_same, row_placed}
 
 pub like_self : (k : Knowledge) → IsLike k.asked.linked k k
 like_self k = record { inside = refl; read = refl; command = refl; linked_now = refl }

@@ -1,5 +1,5 @@
 -- What an exchange that was answered leaves known, and what its answer may be.
-use Rattle.std.proofs.Common.{◌≡◌, ◌<◌, ◌∙◌, ℕ, zero, suc, Bool, true, false, Option, Some, None, refl, sym, ap, subst, arith}
+use Rattle.std.proofs.Common.{◌≡◌, ◌<◌, ◌∙◌, ℕ, zero, suc, true, refl, sym, ap, subst, arith}
 use Rattle.bw_model.specs.declared.limits.Limits.{Limits}
 use Rattle.bw_model.specs.declared.step.Answer.{Answer}
 use Rattle.bw_model.specs.declared.step.Answer.TheVariants as answer
@@ -7,7 +7,7 @@ use Rattle.bw_model.specs.declared.step.Step.TheVariants as step
 use Rattle.deltas.specs.declared.record.Record.{Record}
 use Rattle.deltas.specs.declared.record.Record.TheVariants as kind
 use Rattle.deltas.specs.declared.record.Split.{Split}
-use Rattle.chain_search.specs.Discipline.{MayAdd, MayExchange, MayLink}
+use Rattle.chain_search.specs.Discipline.{MayExchange, MayLink}
 use Rattle.chain_search.specs.Fitting.{Fits}
 use Rattle.chain_search.specs.Knowledge.{Knowledge, OwnPage, OwnRow, Foreign, Taken, Written, Other, Empty, Ready, Gone, exchanged, handed_page, linked_over, set_page}
 use Rattle.installs.specs.Moves.{whether_in}

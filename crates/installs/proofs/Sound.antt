@@ -1,6 +1,6 @@
 -- A change that goes on names no number that has no place.
-use Rattle.std.proofs.Common.{◌≡◌, ◌<◌, ◌≤◌, ◌∙◌, ◌+◌, ◌*◌, ◌/◌, ◌-◌, ℕ, zero, suc, List, [], ◌∷◌, ◌++◌, length, length-append, length-take-le, get_or, take, Bool, true, false, Option, Some, None, refl, sym, ap, subst, arith}
-use Rattle.std.specs.Prelude.{All, IfNone, IfSome, ⊤, ltb, is_some, not, ◌&&◌, if◌then◌else◌}
+use Rattle.std.proofs.Common.{◌≡◌, ◌<◌, ◌≤◌, ◌+◌, ◌*◌, ◌/◌, ◌-◌, ℕ, zero, suc, [], ◌∷◌, length, length-append, length-take-le, Bool, true, false, Option, Some, None, refl, subst, arith}
+use Rattle.std.specs.Prelude.{IfNone, IfSome, ⊤, ltb, is_some, not, ◌&&◌, if◌then◌else◌}
 use Rattle.std.proofs.lemmas.Bool.{ltb-true, ltb-false}
 use Rattle.std.proofs.lemmas.List.Elements.{All-push, All-take}
 use Rattle.std.specs.Int.{trailing_zeros, w64}
@@ -13,7 +13,7 @@ use Rattle.bw_model.specs.declared.step.Answer.{Answer}
 use Rattle.deltas.specs.declared.record.Record.{Record}
 use Rattle.chain_search.specs.Fitting.{Fits, FitsWord}
 use Rattle.chain_search.specs.Knowledge.{Knowledge}
-use Rattle.installs.specs.Changes.{AreEnough, Change, IsMissing, IsSame, IsSound, IsSoundState, IsTarget, needs_pid, rows_needed, slot_of, wanted, wanted_at}
+use Rattle.installs.specs.Changes.{AreEnough, Change, IsMissing, IsSame, IsSound, IsSoundState, IsTarget, needs_pid, rows_needed, wanted, wanted_at}
 use Rattle.installs.specs.Moves.{Moved, after_ready, after_taking, decided_by, first_state, moved, moved_by, unused, whether_in, with_number}
 use Rattle.installs.specs.Spares.{HaveRoom, Spares}
 use Rattle.installs.specs.Taking.{IsSoundFound, IsSoundTaking, count_of, found_after, kind_of, wanted_number}

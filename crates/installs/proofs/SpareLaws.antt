@@ -1,13 +1,13 @@
 -- The spares, as rows and pages go from hand to hand.
-use Rattle.std.proofs.Common.{◌≡◌, ◌≢◌, ◌<◌, ◌∙◌, ◌⊎◌, inl, inr, ℕ, ◌==◌, List, [], ◌∷◌, ◌++◌, Bool, true, false, Option, Some, None, refl, sym, ap, subst, cond, arith}
+use Rattle.std.proofs.Common.{◌≡◌, ◌≢◌, ◌<◌, ◌∙◌, inl, inr, ℕ, ◌==◌, List, [], ◌∷◌, ◌++◌, Bool, true, false, Option, Some, None, refl, sym, ap, subst, cond, arith}
 use Rattle.std.specs.Prelude.{IfSome}
 use Rattle.std.proofs.lemmas.Bool.{cases_eq, ne_eqb, eq-eqb}
 use Rattle.std.proofs.lemmas.List.Elements.{Contains-append_cases, Contains-append_left, Contains-push, Contains-push_cases}
 use Rattle.std.specs.List.{Contains}
 use Rattle.deltas.specs.Memory.{replaced_at}
 use Rattle.chain_search.specs.Discipline.{IsOwn}
-use Rattle.chain_search.specs.Knowledge.{Belongings, OwnPage, OwnRow, Foreign, Taken, Other, Empty, Ready}
-use Rattle.installs.specs.Spares.{AreSpare, AreTheSpares, AreUnset, IsNew, IsUnlinked, Spares}
+use Rattle.chain_search.specs.Knowledge.{Belongings, OwnPage, OwnRow, Foreign, Taken, Other, Empty}
+use Rattle.installs.specs.Spares.{AreSpare, AreTheSpares, IsNew, IsUnlinked, Spares}
 
 pub replaced_same : {X : Type 0} (n : ℕ) (x : X) (f : ℕ → X) → replaced_at n x f n ≡ x
 replaced_same n x f = rw (eq-eqb n n refl) refl

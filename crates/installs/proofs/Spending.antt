@@ -1,17 +1,16 @@
 -- What a change's steps leave it.
-use Rattle.std.proofs.Common.{◌≡◌, ◌≢◌, ◌<◌, ◌≤◌, ◌∙◌, ◌⊎◌, ◌==◌, ◌*◌, ◌/◌, ◌%◌, ◌+◌, ◌-◌, inl, inr, ℕ, zero, suc, List, [], ◌∷◌, ◌++◌, length, length-append, Bool, true, false, Option, Some, None, refl, sym, ap, subst, arith}
+use Rattle.std.proofs.Common.{◌≡◌, ◌≢◌, ◌<◌, ◌≤◌, ◌∙◌, ◌*◌, ◌/◌, ◌%◌, ◌+◌, inl, inr, ℕ, zero, suc, [], ◌∷◌, ◌++◌, length, length-append, Bool, true, false, Option, Some, None, refl, sym, subst, arith}
 use Rattle.std.specs.Prelude.{ltb, is_some, not, ◌&&◌, if◌then◌else◌}
-use Rattle.std.proofs.lemmas.Bool.{ltb-true, ltb-false}
+use Rattle.std.proofs.lemmas.Bool.{ltb-true}
 use Rattle.std.specs.Int.{bit_at, trailing_zeros, w64}
 use Rattle.bw_model.specs.declared.limits.Limits.{Limits}
 use Rattle.bw_model.specs.declared.step.Answer.{Answer}
 use Rattle.bw_model.specs.declared.step.Answer.TheVariants as answer
-use Rattle.deltas.specs.Memory.{replaced_at}
 use Rattle.deltas.specs.declared.record.Record.{Record}
 use Rattle.chain_search.specs.Fitting.{Fits, FitsWord}
 use Rattle.chain_search.specs.Knowledge.{Knowledge}
 use Rattle.chain_search.specs.Recalled.{Recalled, WasFree, WasHead, recall}
-use Rattle.installs.specs.Bounded.{IsApart, Recalls, RecallsAt, Spends, SpendsTo, left_at, numbers_missing, pid_taken, pids_missing}
+use Rattle.installs.specs.Bounded.{IsApart, RecallsAt, Spends, SpendsTo, left_at, numbers_missing, pid_taken, pids_missing}
 use Rattle.installs.specs.Changes.{AreEnough, Change, IsMissing, IsSame, IsSound, head_of, linked_number, needs_pid, rows_needed, slot_of, wanted, wanted_at}
 use Rattle.installs.specs.Moves.{Moved, after_ready, after_taking, decided_by, first_state, moved, moved_by, whether_in, with_number}
 use Rattle.installs.specs.Spares.{HaveRoom, Spares, pid_of}

@@ -1,7 +1,7 @@
 -- What the answers of a taking leave known.
-use Rattle.std.proofs.Common.{◌≡◌, ◌≢◌, ◌<◌, ◌≤◌, ◌∙◌, ◌⊎◌, ◌==◌, ◌*◌, ◌/◌, ◌%◌, ◌+◌, inl, inr, ℕ, zero, suc, List, [], ◌∷◌, ◌++◌, length, Bool, true, false, cond, Option, Some, None, refl, sym, ap, subst, arith}
+use Rattle.std.proofs.Common.{◌≡◌, ◌<◌, ◌≤◌, ◌∙◌, ◌*◌, ◌/◌, ◌%◌, ◌+◌, inl, inr, ℕ, zero, suc, length, Bool, true, false, Some, refl, sym, ap, arith}
 use Rattle.std.specs.Prelude.{ltb, is_some, not, ◌&&◌, if◌then◌else◌}
-use Rattle.std.proofs.lemmas.Bool.{cases_eq, eqb-false, ltb-false}
+use Rattle.std.proofs.lemmas.Bool.{cases_eq, ltb-false}
 use Rattle.std.specs.Int.{bit_at, trailing_zeros, w64}
 use Rattle.std.proofs.lemmas.Nat.Bits.{bit_at-trailing_zeros}
 use Rattle.bw_model.specs.declared.limits.Limits.{Limits}
@@ -10,12 +10,11 @@ use Rattle.bw_model.specs.declared.step.Answer.TheVariants as answer
 use Rattle.deltas.specs.Memory.{replaced_at}
 use Rattle.deltas.specs.declared.record.Record.{Record}
 use Rattle.chain_search.specs.Fitting.{Fits, FitsTaken, FitsTakenPid, FitsWord}
-use Rattle.chain_search.specs.Knowledge.{Asked, Knowledge, OwnPage, Empty, Ready, Other, learn, learn_word}
-use Rattle.installs.specs.Changes.{Change, Follows, GoesOn, IsLike, IsMissing, IsOver, KeepsSpare, LacksNumber, MayChange, Shows, ShowsState, linked_after, needs_pid, rows_needed}
+use Rattle.chain_search.specs.Knowledge.{Knowledge, Empty, Ready, learn}
+use Rattle.installs.specs.Changes.{Change, Follows, IsLike, IsMissing, KeepsSpare, LacksNumber, MayChange, Shows, ShowsState, needs_pid, rows_needed}
 use Rattle.installs.specs.Moves.{Moved, after_taking, first_state, moved_by, with_number}
 use Rattle.installs.specs.Spares.{AreTheSpares, AreUnset, Spares}
-use Rattle.installs.specs.Taking.{AllFull, AreFull, count_of, found_after, full_words, kind_of, wanted_number, word_of}
-use Rattle.installs.specs.declared.change.End.TheVariants as end
+use Rattle.installs.specs.Taking.{AllFull, AreFull, count_of, found_after, kind_of, wanted_number, word_of}
 use Rattle.installs.specs.declared.change.State.{State}
 use Rattle.installs.specs.declared.change.State.TheVariants as state
 use Rattle.installs.specs.declared.plan.Plan.{Plan}

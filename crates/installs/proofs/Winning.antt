@@ -1,5 +1,5 @@
 -- What an exchange that won leaves known.
-use Rattle.std.proofs.Common.{◌≡◌, ◌<◌, ◌≤◌, ◌∙◌, ◌-◌, inl, inr, ℕ, List, [], ◌∷◌, ◌++◌, length, get_or, take, true, Option, Some, None, refl, sym, ap, subst, arith}
+use Rattle.std.proofs.Common.{◌≡◌, ◌≤◌, ◌∙◌, ◌-◌, inl, inr, ℕ, List, [], ◌∷◌, ◌++◌, length, get_or, take, true, Option, Some, None, refl, sym, ap, arith}
 use Rattle.std.proofs.lemmas.Bool.{cases_eq}
 use Rattle.bw_model.specs.declared.limits.Limits.{Limits}
 use Rattle.bw_model.specs.declared.step.Answer.TheVariants as answer
@@ -10,14 +10,14 @@ use Rattle.chain_search.specs.Discipline.{MayExchange}
 use Rattle.chain_search.specs.Fitting.{Fits}
 use Rattle.chain_search.specs.Knowledge.{Belongings, Knowledge, Foreign, Written, Other, Ready, Gone, learn, linked_over}
 use Rattle.smo.specs.Splits.{split_to}
-use Rattle.installs.specs.Changes.{AreEnough, Change, IsKept, IsOver, IsPlaced, IsReady, IsTarget, KeepsSpare, head_of, linked_number, slot_of, wanted_at}
+use Rattle.installs.specs.Changes.{AreEnough, IsKept, IsOver, IsPlaced, IsReady, IsTarget, KeepsSpare, head_of, linked_number, slot_of, wanted_at}
 use Rattle.installs.specs.Moves.{unused}
-use Rattle.installs.specs.Spares.{AreTheSpares, AreUnset, HaveRoom, Rest, Spares, first_row, last_row, pid_of}
+use Rattle.installs.specs.Spares.{AreTheSpares, AreUnset, HaveRoom, Spares, first_row, last_row, pid_of}
 use Rattle.installs.specs.declared.change.End.TheVariants as end
 use Rattle.installs.specs.declared.change.State.TheVariants as state
 use Rattle.installs.specs.declared.plan.Plan.{Plan}
 use Rattle.installs.specs.declared.plan.Plan.TheVariants.{Install, Split, Root}
-use Rattle.installs.proofs.Following.{own_first, own_last, some_pid, unset_then}
+use Rattle.installs.proofs.Following.{own_last, some_pid, unset_then}
 use Rattle.installs.proofs.Learning.{no_split, over_learnt, over_other, rooted_learnt}
 use Rattle.installs.proofs.SpareLaws.{first_linked, last_linked, page_gone, page_linked, replaced_other, replaced_same}
 

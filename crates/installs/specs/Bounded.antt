@@ -1,5 +1,5 @@
 -- How many steps a change takes at most, but for those that a cause pays for.
-use Rattle.std.specs.Prelude.{◌≡◌, ◌<◌, ◌-◌, ◌+◌, ◌*◌, ◌/◌, ◌⊎◌, ℕ, suc, List, length, Option, Some, None, Bool, true, false, is_some, ⊤}
+use Rattle.std.specs.Prelude.{◌≡◌, ◌<◌, ◌-◌, ◌+◌, ◌*◌, ◌⊎◌, ℕ, suc, length, Option, Some, None, Bool, true, false, ⊤}
 use Rattle.bw_model.specs.declared.step.Answer.{Answer}
 use Rattle.bw_model.specs.declared.step.Answer.TheVariants.{Whether}
 use Rattle.bw_model.specs.declared.step.Step.{Step as StepOf}
@@ -12,7 +12,7 @@ use Rattle.installs.specs.declared.change.State.{State}
 use Rattle.installs.specs.declared.change.State.TheVariants.{Taking, Base, Ready, Place, Link, Undo}
 use Rattle.installs.specs.declared.plan.Plan.{Plan}
 use Rattle.installs.specs.declared.plan.Plan.TheVariants.{Split}
-use Rattle.installs.specs.declared.taking.Taking.TheVariants.{Bits, Take}
+use Rattle.installs.specs.declared.taking.Taking.TheVariants.{Take}
 use Rattle.installs.specs.Changes.{Change, head_of, needs_pid, rows_needed, slot_of, wanted}
 use Rattle.installs.specs.Spares.{Spares}
 use Rattle.installs.specs.Taking.{number_left, recalled_words}

@@ -1,5 +1,5 @@
 -- A change of the tree: the step that it wants, what its actor knows meanwhile, and how it ends.
-use Rattle.std.specs.Prelude.{◌≡◌, ◌<◌, ◌≤◌, ◌⊎◌, ◌-◌, ℕ, suc, List, [], ◌∷◌, length, Option, Some, None, Bool, true, false, is_some, IsTrue, IsFalse, IfSome, ⊤}
+use Rattle.std.specs.Prelude.{◌≡◌, ◌<◌, ◌≤◌, ◌⊎◌, ℕ, length, Option, Some, None, Bool, true, false, is_some, ⊤}
 use Rattle.std.specs.Option.{ForSome}
 use Rattle.bw_model.specs.declared.limits.Limits.{Limits}
 use Rattle.bw_model.specs.declared.step.Step.{Step as StepOf}
@@ -12,7 +12,7 @@ use Rattle.deltas.specs.Records.{next_row}
 use Rattle.deltas.specs.Spellable.{IsPid}
 use Rattle.chain_search.specs.Discipline.{IsUnset, MayExchange}
 use Rattle.chain_search.specs.Fitting.{Fits}
-use Rattle.chain_search.specs.Knowledge.{Belongings, Knowledge, Ready, Written, learn}
+use Rattle.chain_search.specs.Knowledge.{Belongings, Knowledge, Ready, Written}
 use Rattle.smo.specs.declared.split.SplitPlan.{SplitPlan}
 use Rattle.smo.specs.Splits.{split_to}
 use Rattle.installs.specs.declared.change.End.{End}

@@ -1,5 +1,5 @@
 -- Where an answer leads a change.
-use Rattle.std.specs.Prelude.{◌++◌, ◌-◌, suc, ℕ, [], ◌∷◌, length, take, ltb, Bool, true, false, not, ◌&&◌, is_some, if◌then◌else◌, Option, Some, None}
+use Rattle.std.specs.Prelude.{◌++◌, ◌-◌, ℕ, [], ◌∷◌, length, take, ltb, Bool, true, false, not, ◌&&◌, is_some, if◌then◌else◌, Option, Some, None}
 use Rattle.bw_model.specs.declared.limits.Limits.{Limits}
 use Rattle.bw_model.specs.declared.step.Answer.{Answer}
 use Rattle.bw_model.specs.declared.step.Answer.TheVariants.{Whether}

@@ -99,7 +99,11 @@ impl Change {
             State::Base => Step::Place(self.base_row(spares), self.plan.base()),
             State::Ready => Step::Exchange(spares.pid_or_0(), 0, self.base_row(spares)),
             State::Place => Step::Place(spares.last_row(), self.plan.record(spares.pid_or_0())),
-            State::Link => Step::Exchange(self.plan.slot(), self.plan.head(), self.linked_number(spares)),
+            State::Link => Step::Exchange(
+                self.plan.slot(),
+                self.plan.head(),
+                self.linked_number(spares),
+            ),
             State::Undo => Step::Exchange(spares.pid_or_0(), self.base_row(spares), 0),
         }
     }

@@ -16,9 +16,15 @@ pub enum Plan {
         content: Record,
     },
     /// The split of the page `pid`, with the upper part as a new page.
-    Split { pid: u16, plan: SplitPlan },
+    Split {
+        pid: u16,
+        plan: SplitPlan,
+    },
     /// A root over the page `left`, which is the root.
-    Root { left: u16, root: Page },
+    Root {
+        left: u16,
+        root: Page,
+    },
 }
 
 impl Plan {
