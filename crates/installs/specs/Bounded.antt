@@ -1,28 +1,75 @@
 -- How many steps a change takes at most, but for those that a cause pays for.
-use Rattle.std.specs.Prelude.{◌<◌, ◌-◌, ℕ, ◌⊎◌, ⊤}
+use Rattle.std.specs.Prelude.{◌≡◌, ◌<◌, ◌-◌, ◌+◌, ◌*◌, ◌⊎◌, ℕ, suc, length, Option, Some, None, Bool, true, false, ⊤}
 use Rattle.bw_model.specs.declared.step.Answer.{Answer}
+use Rattle.bw_model.specs.declared.step.Answer.TheVariants.{Whether}
+use Rattle.bw_model.specs.declared.step.Step.{Step as StepOf}
+use Rattle.bw_model.specs.declared.step.Step.TheVariants.{TakePid}
 use Rattle.deltas.specs.declared.record.Record.{Record}
-use Rattle.installs.specs.declared.install.State.{State}
-use Rattle.installs.specs.declared.install.State.TheVariants.{Bits, Take, Place, Exchange}
-use Rattle.installs.specs.Installs.{Install, wanted}
-use Rattle.chain_search.specs.Recalled.{Recalled, WasFree, WasHead, IsPaid, recall}
+use Rattle.chain_search.specs.Recalled.{IsPaid, IsSpentWith, Recalled, WasFree, WasHead, recall}
+use Rattle.installs.specs.declared.change.End.{End}
+use Rattle.installs.specs.declared.change.End.TheVariants.{Won, Lost, Full}
+use Rattle.installs.specs.declared.change.State.{State}
+use Rattle.installs.specs.declared.change.State.TheVariants.{Taking, Base, Ready, Place, Link, Undo}
+use Rattle.installs.specs.declared.plan.Plan.{Plan}
+use Rattle.installs.specs.declared.plan.Plan.TheVariants.{Split}
+use Rattle.installs.specs.declared.taking.Taking.TheVariants.{Take}
+use Rattle.installs.specs.Changes.{Change, head_of, needs_pid, rows_needed, slot_of, wanted}
+use Rattle.installs.specs.Spares.{Spares}
+use Rattle.installs.specs.Taking.{number_left, recalled_words}
 
--- how many steps a change takes at most from a state on, with the one that it has asked for
-abbrev pub steps_left : State → ℕ
-steps_left (Bits word) = 259 - word
-steps_left (Take row) = 3
-steps_left (Place row) = 2
-steps_left (Exchange row) = 1
+-- how many numbers are needed still
+abbrev pub pids_missing : Bool → Option ℕ → ℕ
+pids_missing false pid = 0
+pids_missing true None = 1
+pids_missing true (Some pid) = 0
 
-abbrev pub RecallsAt : Recalled → State → Type 0
-RecallsAt r (Take row) = WasFree r.rows row
-RecallsAt r state = ⊤
+abbrev pub numbers_missing : Plan → Spares → ℕ
+numbers_missing plan spares = pids_missing (needs_pid plan) spares.pid + (rows_needed plan - length spares.rows)
 
--- The page's slot was read as the row over which the record is linked; the row to take was read as free.
-pub record Recalls (install : Install) (r : Recalled) : Type 0 where
-  pub head : WasHead r install.pid install.head
-  pub at : RecallsAt r install.state
+-- How many steps a change takes at most from a state on, with the one that it has asked for: after a lost change that is undone
+-- so many are to be left.
+abbrev pub left_at : ℕ → Plan → Spares → State → ℕ
+left_at after plan spares (Taking taking) = number_left taking + (257 * (numbers_missing plan spares - 1) + 5)
+left_at after plan spares Base = 4
+left_at after plan spares Ready = 3
+left_at after plan spares Place = 2
+left_at after plan spares Link = 1
+left_at after plan spares Undo = suc after
 
--- A change that goes on recalls what it has read, and has fewer steps left, or a cause paid for more.
-abbrev pub Spends : Install → Answer Record → Install → Type 0
-Spends old told new = (r : Recalled) → Recalls old r → Recalls new (recall r (wanted old) told) × ((steps_left new.state < steps_left old.state) ⊎ IsPaid r (wanted old) told)
+abbrev pub steps_left : ℕ → Change → Spares → ℕ
+steps_left after change spares = left_at after change.plan spares change.state
+
+-- what a cause is worth at least
+abbrev pub worth : ℕ → ℕ
+worth after = 800 + after
+
+-- The slot of the exchange that decides was read as what it is to hold; a number to take was read as free.
+abbrev pub RecallsAt : Recalled → Plan → State → Type 0
+RecallsAt r plan (Taking (Take kind number)) = WasHead r (slot_of plan) (head_of plan) × WasFree (recalled_words r kind) number
+RecallsAt r plan Undo = ⊤
+RecallsAt r plan state = WasHead r (slot_of plan) (head_of plan)
+
+-- The new page isn't the one that is split.
+abbrev pub IsApart : Plan → Option ℕ → Type 0
+IsApart (Split page plan) (Some pid) = pid ≡ page → ⊥
+IsApart plan pid = ⊤
+
+pub record Recalls (change : Change) (spares : Spares) (r : Recalled) : Type 0 where
+  pub at : RecallsAt r change.plan change.state
+  pub apart : IsApart change.plan spares.pid
+
+-- the PID that a step took
+abbrev pub pid_taken : StepOf Record → Answer Record → Option ℕ
+pid_taken (TakePid pid) (Whether true) = Some pid
+pid_taken asked told = None
+
+-- A change that goes on recalls what it has read, and has fewer steps left, or a cause paid for more. Where it has ended, a cause
+-- paid, or what has to be left is left.
+abbrev pub SpendsTo : ℕ → Recalled → Change → Spares → Answer Record → Change → Spares → Option End → Type 0
+SpendsTo after r old had told new has None = Recalls new has (recall r (wanted old had) told) × IsSpentWith (worth after) r (wanted old had) told (steps_left after old had) (steps_left after new has)
+SpendsTo after r old had told new has (Some Won) = IsPaid r (wanted old had) told
+SpendsTo after r old had told new has (Some Lost) = IsPaid r (wanted old had) told ⊎ (after < steps_left after old had)
+SpendsTo after r old had told new has (Some Full) = 0 < steps_left after old had
+
+abbrev pub Spends : Change → Spares → Answer Record → Change → Spares → Option End → Type 0
+Spends old had told new has end = (after : ℕ) (r : Recalled) → Recalls old had r → IsApart old.plan (pid_taken (wanted old had) told) → SpendsTo after r old had told new has end

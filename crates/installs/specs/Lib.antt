@@ -1,5 +1,6 @@
 pub mod Spares
 pub mod Within
-pub mod Installs
+pub mod Taking
+pub mod Changes
+pub mod Moves
 pub mod Bounded
-pub mod Held

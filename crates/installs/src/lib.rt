@@ -1,8 +1,15 @@
-//! One change of a page as a machine: it takes a row, places a record in it, and links it over the page's newest row.
+//! Changes of the tree as machines: they take numbers, place records in rows, and link them.
 #![tactic(auto)]
 
-mod install;
+mod change;
+mod laws;
+mod plan;
 mod spares;
+mod taking;
+#[cfg(test)]
+mod tests;
 
-pub use install::{End, Install};
-pub use spares::Spares;
+pub use change::{Change, End};
+pub use laws::plans_may_be_linked;
+pub use plan::Plan;
+pub use spares::{MAX_SPARES, Spares};

@@ -1,0 +1,186 @@
+-- What the answers of a taking leave known.
+use Rattle.std.proofs.Common.{◌≡◌, ◌<◌, ◌≤◌, ◌∙◌, ◌*◌, ◌/◌, ◌%◌, ◌+◌, inl, inr, ℕ, zero, suc, length, Bool, true, false, Some, refl, sym, ap, arith}
+use Rattle.std.specs.Prelude.{ltb, is_some, not, ◌&&◌, if◌then◌else◌}
+use Rattle.std.proofs.lemmas.Bool.{cases_eq, ltb-false}
+use Rattle.std.specs.Int.{bit_at, trailing_zeros, w64}
+use Rattle.std.proofs.lemmas.Nat.Bits.{bit_at-trailing_zeros}
+use Rattle.bw_model.specs.declared.limits.Limits.{Limits}
+use Rattle.bw_model.specs.declared.step.Answer.{Answer}
+use Rattle.bw_model.specs.declared.step.Answer.TheVariants as answer
+use Rattle.deltas.specs.Memory.{replaced_at}
+use Rattle.deltas.specs.declared.record.Record.{Record}
+use Rattle.chain_search.specs.Fitting.{Fits, FitsTaken, FitsTakenPid, FitsWord}
+use Rattle.chain_search.specs.Knowledge.{Knowledge, Empty, Ready, learn}
+use Rattle.installs.specs.Changes.{Change, Follows, IsLike, IsMissing, KeepsSpare, LacksNumber, MayChange, Shows, ShowsState, needs_pid, rows_needed}
+use Rattle.installs.specs.Moves.{Moved, after_taking, first_state, moved_by, with_number}
+use Rattle.installs.specs.Spares.{AreTheSpares, AreUnset, Spares}
+use Rattle.installs.specs.Taking.{AllFull, AreFull, count_of, found_after, kind_of, wanted_number, word_of}
+use Rattle.installs.specs.declared.change.State.{State}
+use Rattle.installs.specs.declared.change.State.TheVariants as state
+use Rattle.installs.specs.declared.plan.Plan.{Plan}
+use Rattle.installs.specs.declared.plan.Plan.TheVariants.{Install, Split, Root}
+use Rattle.installs.specs.declared.taking.Found.TheVariants.{Not, Full}
+use Rattle.installs.specs.declared.taking.Kind.{Kind}
+use Rattle.installs.specs.declared.taking.Kind.TheVariants.{Pid, Row}
+use Rattle.installs.specs.declared.taking.Taking.{Taking}
+use Rattle.installs.specs.declared.taking.Taking.TheVariants.{Bits, Take}
+use Rattle.installs.proofs.Following.{like_self, still_may, unlinked}
+use Rattle.installs.proofs.SpareLaws.{pid_taken, replaced_other, replaced_same, row_taken}
+
+-- a word that was read as 0 adds to those below it
+none_free : (words : ℕ → Bool) (word below : ℕ) → below ≤ word → ((below : ℕ) → below < word → words below ≡ true) → replaced_at word true words below ≡ true
+none_free words word below le full = elim (cases_eq below word) [
+  | inl same ↦ ap (replaced_at word true words) same ∙ replaced_same word true words
+  | inr other ↦ replaced_other word true words below other ∙ full below (omega (arith, le, other))
+]
+
+-- the lowest free number of a word is of the word, at a bit that is set
+pub in_word : (limit word bits : ℕ) → FitsWord limit word (suc bits) → ((64 * word + trailing_zeros w64 (suc bits)) / 64 ≡ word) × (bit_at (suc bits) ((64 * word + trailing_zeros w64 (suc bits)) % 64) ≡ 1)
+in_word limit word bits fits =
+    let lowest = bit_at-trailing_zeros w64 (suc bits) (omega arith) fits.fits in
+    let within = lowest.0 in
+    let place : (64 * word + trailing_zeros w64 (suc bits)) % 64 ≡ trailing_zeros w64 (suc bits) = omega (arith, within) in
+    (omega (arith, within), rw place lowest.1)
+
+-- where all that is known stands, a change begins with the first number that is missing, or with its first place
+shows_first : (actor : ℕ) (limits : Limits) (k : Knowledge) (plan : Plan) (spares : Spares) → MayChange actor k plan → KeepsSpare plan spares.pid → AreTheSpares k.own spares → AreUnset k.own → Shows actor (record { limits = limits; plan = plan; state = first_state plan spares }) spares k
+shows_first actor limits k plan spares may keeps are bare = record { may = may; keeps = keeps; are = are; stands = at_first (needs_pid plan && not (is_some spares.pid)) (ltb (length spares.rows) (rows_needed plan)) }
+  where
+    at_place : (plan : Plan) → ShowsState plan spares k (after_taking plan)
+    at_place (Install pid head content) = bare
+    at_place (Split pid plan) = bare
+    at_place (Root left root) = bare
+
+    at_first : (pid row : Bool) → ShowsState plan spares k (if pid then state.Taking (Bits Pid 0) else if row then state.Taking (Bits Row 0) else after_taking plan)
+    at_first true row = (bare, λ below lt. absurd (omega (arith, lt)))
+    at_first false true = (bare, λ below lt. absurd (omega (arith, lt)))
+    at_first false false = at_place plan
+
+module _ (actor : ℕ) (limits : Limits) (k : Knowledge) (plan : Plan) (spares : Spares) (may : MayChange actor k plan) (keeps : KeepsSpare plan spares.pid) (are : AreTheSpares k.own spares) (bare : AreUnset k.own) where
+  abbrev pub change : State → Change
+  change state = record { limits = limits; plan = plan; state = state }
+
+  -- what follows an answer of a taking
+  abbrev pub Finds : Taking → Answer Record → Type 0
+  Finds taking told =
+      let now = moved_by plan spares (state.Taking taking) (found_after limits taking told) in
+      Follows actor k (learn k (wanted_number taking) told) (change (state.Taking taking)) told (change now.state) now.spares now.end
+
+  like_word : (kind : Kind) (word bits : ℕ) → IsLike k.asked.linked k (learn k (wanted_number (Bits kind word)) (answer.Number bits))
+  like_word Pid word bits = record { inside = refl; read = refl; command = refl; linked_now = refl }
+  like_word Row word bits = record { inside = refl; read = refl; command = refl; linked_now = refl }
+
+  own_word : (kind : Kind) (word bits : ℕ) → (learn k (wanted_number (Bits kind word)) (answer.Number bits)).own ≡ k.own
+  own_word Pid word bits = refl
+  own_word Row word bits = refl
+
+  full_then : (kind : Kind) (word : ℕ) → AreFull k.asked kind word → AreFull (learn k (wanted_number (Bits kind word)) (answer.Number 0)).asked kind (suc word)
+  full_then Pid word full = λ below lt. none_free k.asked.no_pids word below (omega (arith, lt)) full
+  full_then Row word full = λ below lt. none_free k.asked.no_rows word below (omega (arith, lt)) full
+
+  full_still : (kind : Kind) (word bits : ℕ) → AreFull k.asked kind word → AreFull (learn k (wanted_number (Bits kind word)) (answer.Number (suc bits))).asked kind word
+  full_still Pid word bits full = full
+  full_still Row word bits full = full
+
+  lacks : (kind : Kind) (now : Knowledge) → IsMissing plan spares kind → AllFull limits now.asked kind → LacksNumber limits plan spares now
+  lacks Pid now missing all = inl (missing, all)
+  lacks Row now missing all = inr (missing, all)
+
+  -- a word was read as 0, and there is a next one, or none
+  pub empty_word : (kind : Kind) (word : ℕ) → IsMissing plan spares kind → AreFull k.asked kind word → Finds (Bits kind word) (answer.Number 0)
+  empty_word kind word missing full = go (ltb (suc word) (count_of limits kind / 64)) refl
+    where
+      now : Knowledge
+      now = learn k (wanted_number (Bits kind word)) (answer.Number 0)
+
+      after : Bool → Moved
+      after more = moved_by plan spares (state.Taking (Bits kind word)) (if more then Not (Bits kind (suc word)) else Full)
+
+      go : (more : Bool) → ltb (suc word) (count_of limits kind / 64) ≡ more → Follows actor k now (change (state.Taking (Bits kind word))) (answer.Number 0) (change (after more).state) (after more).spares (after more).end
+      go true is = record {
+        shows = record { may = still_may actor k now plan (like_word kind word 0) may; keeps = keeps; are = rw (own_word kind word 0) are; stands = (rw (own_word kind word 0) bare, full_then kind word full) };
+        like = like_word kind word 0;
+      }
+      go false is = record {
+        like = rw (unlinked plan k.asked.linked).1 (like_word kind word 0);
+        rest = rw (own_word kind word 0) (record { are = are; unset = bare });
+        decided = lacks kind now missing (λ below lt. full_then kind word full below (let last = ltb-false (suc word) (count_of limits kind / 64) is in omega (arith, lt, last)));
+      }
+
+  -- a word with a free number
+  pub some_word : (kind : Kind) (word bits : ℕ) → (64 * word + trailing_zeros w64 (suc bits)) / 64 ≡ word → AreFull k.asked kind word → Finds (Bits kind word) (answer.Number (suc bits))
+  some_word kind word bits place full = record {
+    shows = record {
+      may = still_may actor k (learn k (wanted_number (Bits kind word)) (answer.Number (suc bits))) plan (like_word kind word (suc bits)) may;
+      keeps = keeps;
+      are = rw (own_word kind word (suc bits)) are;
+      stands = (rw (own_word kind word (suc bits)) bare, rw place (full_still kind word bits full));
+    };
+    like = like_word kind word (suc bits);
+  }
+
+  -- another actor came before
+  pub missed : (kind : Kind) (number : ℕ) → AreFull k.asked kind (number / 64) → Finds (Take kind number) (answer.Whether false)
+  missed Pid number full = record { shows = record { may = may; keeps = keeps; are = are; stands = (bare, full) }; like = like_self k }
+  missed Row number full = record { shows = record { may = may; keeps = keeps; are = are; stands = (bare, full) }; like = like_self k }
+
+  -- a free number was taken
+  pub taken_pid : (pid : ℕ) → IsMissing plan spares Pid → FitsTakenPid limits k pid → Finds (Take Pid pid) (answer.Whether true)
+  taken_pid pid missing fits = record {
+    shows = shows_first actor limits now plan (with_number Pid pid spares) (still_may actor k now plan like may) (keeps_none plan missing.0) (pid_taken k.own spares are pid fits.some missing.1) unset;
+    like = like;
+  }
+    where
+      now : Knowledge
+      now = learn k (wanted_number (Take Pid pid)) (answer.Whether true)
+
+      like : IsLike k.asked.linked k now
+      like = record { inside = refl; read = refl; command = refl; linked_now = refl }
+
+      keeps_none : (plan : Plan) → needs_pid plan ≡ true → KeepsSpare plan (Some pid)
+      keeps_none (Install page head content) needs = cc
+      keeps_none (Split page plan) needs = tt
+      keeps_none (Root left root) needs = tt
+
+      unset : AreUnset now.own
+      unset = λ page row e. elim (cases_eq page pid) [
+        | inl same ↦ (let i : Empty ≡ Ready row = sym (replaced_same pid Empty k.own.pages) ∙ ap (replaced_at pid Empty k.own.pages) (sym same) ∙ e in cc)
+        | inr other ↦ bare page row (sym (replaced_other pid Empty k.own.pages page other) ∙ e)
+      ]
+
+  pub taken_row : (row : ℕ) → FitsTaken limits k row → Finds (Take Row row) (answer.Whether true)
+  taken_row row fits = record {
+    shows = shows_first actor limits now plan (with_number Row row spares) (still_may actor k now plan like may) keeps (row_taken k.own spares are row fits.some fits.foreign) bare;
+    like = like;
+  }
+    where
+      now : Knowledge
+      now = learn k (wanted_number (Take Row row)) (answer.Whether true)
+
+      like : IsLike k.asked.linked k now
+      like = record { inside = refl; read = refl; command = refl; linked_now = refl }
+
+  -- whatever the answer, the taking goes on as it says
+  pub finds : (taking : Taking) (told : Answer Record) → IsMissing plan spares (kind_of taking) → AreFull k.asked (kind_of taking) (word_of taking) → Fits limits k (wanted_number taking) told → Finds taking told
+  finds (Bits kind word) (answer.Number zero) missing full fits = empty_word kind word missing full
+  finds (Bits Pid word) (answer.Number (suc bits)) missing full fits = some_word Pid word bits (in_word limits.pids word bits fits).0 full
+  finds (Bits Row word) (answer.Number (suc bits)) missing full fits = some_word Row word bits (in_word limits.rows word bits fits).0 full
+  finds (Bits Pid word) answer.Start missing full fits = absurd fits
+  finds (Bits Row word) answer.Start missing full fits = absurd fits
+  finds (Bits Pid word) (answer.Content content) missing full fits = absurd fits
+  finds (Bits Row word) (answer.Content content) missing full fits = absurd fits
+  finds (Bits Pid word) (answer.Whether b) missing full fits = absurd fits
+  finds (Bits Row word) (answer.Whether b) missing full fits = absurd fits
+  finds (Bits Pid word) answer.Done missing full fits = absurd fits
+  finds (Bits Row word) answer.Done missing full fits = absurd fits
+  finds (Take Pid pid) (answer.Whether true) missing full fits = taken_pid pid missing fits
+  finds (Take Row row) (answer.Whether true) missing full fits = taken_row row fits
+  finds (Take kind number) (answer.Whether false) missing full fits = missed kind number full
+  finds (Take Pid number) answer.Start missing full fits = absurd fits
+  finds (Take Row number) answer.Start missing full fits = absurd fits
+  finds (Take Pid number) (answer.Content content) missing full fits = absurd fits
+  finds (Take Row number) (answer.Content content) missing full fits = absurd fits
+  finds (Take Pid number) (answer.Number n) missing full fits = absurd fits
+  finds (Take Row number) (answer.Number n) missing full fits = absurd fits
+  finds (Take Pid number) answer.Done missing full fits = absurd fits
+  finds (Take Row number) answer.Done missing full fits = absurd fits

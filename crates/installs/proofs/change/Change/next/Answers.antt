@@ -1,0 +1,20 @@
+use Rattle.installs.proofs.Answered.{follows}
+use Rattle.installs.proofs.Sound.{room_stays, sound_stays}
+use Rattle.installs.proofs.Spending.{spends}
+use Rattle.installs.proofs.change.Change.next.Goals as goal
+
+pub returns-clause-follows : goal.returns-clause-follows
+returns-clause-follows c = λ actor k h fits.
+    follows c.args.self.now c.move_on.new.self c.args.spares.now c.move_on.new.spares c.args.answer c.move_on.result c.move_on.ensures.moved c.move_on.ensures.same actor k c.requires.sound (rw (← c.self.view_is) c.self.invariant) h fits
+
+pub returns-clause-spends : goal.returns-clause-spends
+returns-clause-spends c =
+    spends c.args.self.now c.move_on.new.self c.args.spares.now c.move_on.new.spares c.args.answer c.move_on.result c.move_on.ensures.moved c.move_on.ensures.same c.requires.told.k c.requires.told.fits c.requires.sound
+
+pub returns-clause-room : goal.returns-clause-room
+returns-clause-room c =
+    room_stays c.args.self.now c.move_on.new.self c.args.spares.now c.move_on.new.spares c.args.answer c.move_on.result c.move_on.ensures.moved c.move_on.ensures.same c.requires.told.k c.requires.told.fits c.requires.sound (rw (← c.self.view_is) c.self.invariant)
+
+pub returns-clause-sound : goal.returns-clause-sound
+returns-clause-sound c =
+    sound_stays c.args.self.now c.move_on.new.self c.args.spares.now c.move_on.new.spares c.args.answer c.move_on.result c.move_on.ensures.moved c.move_on.ensures.same c.requires.told.k c.requires.told.fits c.requires.sound (rw (← c.self.view_is) c.self.invariant)

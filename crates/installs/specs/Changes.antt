@@ -1,0 +1,251 @@
+-- A change of the tree: the step that it wants, what its actor knows meanwhile, and how it ends.
+use Rattle.std.specs.Prelude.{◌≡◌, ◌<◌, ◌≤◌, ◌⊎◌, ℕ, length, Option, Some, None, Bool, true, false, is_some, ⊤}
+use Rattle.std.specs.Option.{ForSome}
+use Rattle.bw_model.specs.declared.limits.Limits.{Limits}
+use Rattle.bw_model.specs.declared.step.Step.{Step as StepOf}
+use Rattle.bw_model.specs.declared.step.Step.TheVariants as step
+use Rattle.bw_model.specs.declared.step.Answer.{Answer}
+use Rattle.bw_model.specs.declared.step.Answer.TheVariants.{Whether}
+use Rattle.deltas.specs.declared.record.Record.{Record}
+use Rattle.deltas.specs.declared.record.Record.TheVariants as kind
+use Rattle.deltas.specs.Records.{next_row}
+use Rattle.deltas.specs.Spellable.{IsPid}
+use Rattle.chain_search.specs.Discipline.{IsUnset, MayExchange}
+use Rattle.chain_search.specs.Fitting.{Fits}
+use Rattle.chain_search.specs.Knowledge.{Belongings, Knowledge, Ready, Written}
+use Rattle.smo.specs.declared.split.SplitPlan.{SplitPlan}
+use Rattle.smo.specs.Splits.{split_to}
+use Rattle.installs.specs.declared.change.End.{End}
+use Rattle.installs.specs.declared.change.End.TheVariants.{Won, Lost, Full}
+use Rattle.installs.specs.declared.change.State.{State}
+use Rattle.installs.specs.declared.change.State.TheVariants.{Taking, Base, Ready as ToReady, Place, Link, Undo}
+use Rattle.installs.specs.declared.plan.Plan.{Plan}
+use Rattle.installs.specs.declared.plan.Plan.TheVariants.{Install, Split, Root}
+use Rattle.installs.specs.declared.taking.Kind.{Kind}
+use Rattle.installs.specs.declared.taking.Kind.TheVariants.{Pid, Row}
+use Rattle.installs.specs.Spares.{AreTheSpares, AreUnset, HaveRoom, Rest, Spares, first_row, last_row, pid_of}
+use Rattle.installs.specs.Taking.{AllFull, AreFull, IsSoundTaking, kind_of, wanted_number, word_of}
+
+-- what is to be linked, and how far it has come
+pub record Change : Type 0 where
+  pub limits : Limits
+  pub plan : Plan
+  pub state : State
+
+-- whether a plan brings a new page, and how many rows it needs
+abbrev pub needs_pid : Plan → Bool
+needs_pid (Install pid head content) = false
+needs_pid (Split pid plan) = true
+needs_pid (Root left root) = true
+
+abbrev pub rows_needed : Plan → ℕ
+rows_needed (Install pid head content) = 1
+rows_needed (Split pid plan) = 2
+rows_needed (Root left root) = 1
+
+-- A number of the kind is needed next: first a PID, then rows.
+abbrev pub IsMissing : Plan → Spares → Kind → Type 0
+IsMissing plan spares Pid = (needs_pid plan ≡ true) × (spares.pid ≡ None)
+IsMissing plan spares Row = (length spares.rows < rows_needed plan) × (needs_pid plan ≡ true → is_some spares.pid ≡ true)
+
+-- Nothing is needed still.
+pub record AreEnough (plan : Plan) (spares : Spares) : Type 0 where
+  pub pid : needs_pid plan ≡ true → is_some spares.pid ≡ true
+  pub rows : rows_needed plan ≤ length spares.rows
+
+-- the base of the new page, and its row
+abbrev pub new_base : Plan → Record
+new_base (Install pid head content) = content
+new_base (Split pid plan) = kind.Base plan.upper
+new_base (Root left root) = kind.Base root
+
+abbrev pub base_row : Plan → Spares → ℕ
+base_row (Install pid head content) spares = last_row spares
+base_row (Split pid plan) spares = first_row spares
+base_row (Root left root) spares = last_row spares
+
+-- the record that is linked over a page's newest row
+abbrev pub new_record : Plan → ℕ → Record
+new_record (Install pid head content) right = content
+new_record (Split pid plan) right = kind.Split (split_to plan right)
+new_record (Root left root) right = kind.Base root
+
+-- the exchange that decides: its slot, the number that was read there, and the number to come
+abbrev pub slot_of : Plan → ℕ
+slot_of (Install pid head content) = pid
+slot_of (Split pid plan) = pid
+slot_of (Root left root) = 0
+
+abbrev pub head_of : Plan → ℕ
+head_of (Install pid head content) = head
+head_of (Split pid plan) = plan.next
+head_of (Root left root) = left
+
+abbrev pub linked_number : Plan → Spares → ℕ
+linked_number (Install pid head content) spares = last_row spares
+linked_number (Split pid plan) spares = last_row spares
+linked_number (Root left root) spares = pid_of spares
+
+-- the step that a state has asked for
+abbrev pub wanted_at : Plan → Spares → State → StepOf Record
+wanted_at plan spares (Taking taking) = wanted_number taking
+wanted_at plan spares Base = step.Place (base_row plan spares) (new_base plan)
+wanted_at plan spares ToReady = step.Exchange (pid_of spares) 0 (base_row plan spares)
+wanted_at plan spares Place = step.Place (last_row spares) (new_record plan (pid_of spares))
+wanted_at plan spares Link = step.Exchange (slot_of plan) (head_of plan) (linked_number plan spares)
+wanted_at plan spares Undo = step.Exchange (pid_of spares) (base_row plan spares) 0
+
+abbrev pub wanted : Change → Spares → StepOf Record
+wanted change spares = wanted_at change.plan spares change.state
+
+-- A change reads words of free bits, takes numbers, places records and exchanges slots, and does nothing else.
+abbrev pub IsOfChange : StepOf Record → Type 0
+IsOfChange (step.PidBits word) = ⊤
+IsOfChange (step.RowBits word) = ⊤
+IsOfChange (step.TakePid pid) = ⊤
+IsOfChange (step.TakeRow row) = ⊤
+IsOfChange (step.Place row content) = ⊤
+IsOfChange (step.Exchange slot old new) = ⊤
+IsOfChange asked = ⊥
+
+-- the change, gone to a state
+abbrev pub at : Change → State → Change
+at change state = record change { state = state }
+
+-- The page, the row of its slot and the record name no number that has no place.
+pub record IsPlace (limits : Limits) (pid head : ℕ) (content : Record) : Type 0 where
+  pub page : 0 < pid
+  pub pid_below : pid < limits.pids
+  pub linked : 0 < head
+  pub head_below : head < limits.rows
+  pub next_below : ForSome (next_row content) (λ next. next < limits.rows)
+
+-- The plan names no number that has no place.
+abbrev pub IsTarget : Limits → Plan → Type 0
+IsTarget limits (Install pid head content) = IsPlace limits pid head content
+IsTarget limits (Split pid plan) = IsPlace limits pid plan.next (kind.Base plan.upper)
+IsTarget limits (Root left root) = (0 < left) × (left < limits.pids)
+
+-- Such a plan has such a state: only a new page has a base, and only what comes over a page's newest row is placed for it.
+abbrev pub IsSoundState : Limits → Plan → Spares → State → Type 0
+IsSoundState limits plan spares (Taking taking) = IsSoundTaking limits taking × IsMissing plan spares (kind_of taking)
+IsSoundState limits plan spares Base = AreEnough plan spares × (needs_pid plan ≡ true)
+IsSoundState limits plan spares ToReady = AreEnough plan spares × (needs_pid plan ≡ true)
+IsSoundState limits plan spares Place = AreEnough plan spares × (0 < slot_of plan)
+IsSoundState limits plan spares Link = AreEnough plan spares
+IsSoundState limits plan spares Undo = AreEnough plan spares × (needs_pid plan ≡ true)
+
+-- A change and the spares of its actor.
+pub record IsSound (change : Change) (spares : Spares) : Type 0 where
+  pub room : HaveRoom change.limits spares
+  pub state : IsSoundState change.limits change.plan spares change.state
+
+-- The same is known but of own rows, own pages and words of free bits; this is known of the command's update.
+pub record IsLike (linked : Option (Option ℕ)) (was now : Knowledge) : Type 0 where
+  pub inside : now.inside ≡ was.inside
+  pub read : now.read ≡ was.read
+  pub command : now.asked.command ≡ was.asked.command
+  pub linked_now : now.asked.linked ≡ linked
+
+-- The actor may link the content once it has placed it in a row of its own, whichever that is.
+abbrev pub MayInstall : ℕ → Knowledge → ℕ → ℕ → Record → Type 0
+MayInstall actor k pid head content = (now : Knowledge) (row : ℕ) → IsLike k.asked.linked k now → 0 < row → now.own.rows row ≡ Written content → IsUnset now row → MayExchange actor now pid head row
+
+-- The actor may link the split once it has a page of its own with the upper part, whichever that is, and has placed the split.
+abbrev pub MayDivide : ℕ → Knowledge → ℕ → SplitPlan → Type 0
+MayDivide actor k pid plan = (now : Knowledge) (right base row : ℕ) → IsLike k.asked.linked k now → IsPid right → 0 < row → now.own.pages right ≡ Ready base → now.own.rows base ≡ Written (kind.Base plan.upper)
+    → now.own.rows row ≡ Written (kind.Split (split_to plan right)) → IsUnset now row → MayExchange actor now pid plan.next row
+
+-- The actor may link a page of its own as the root once it has this base.
+abbrev pub MayRaise : ℕ → Knowledge → ℕ → Record → Type 0
+MayRaise actor k left root = (now : Knowledge) (new base : ℕ) → IsLike k.asked.linked k now → IsPid new → now.own.pages new ≡ Ready base → now.own.rows base ≡ Written root → MayExchange actor now 0 left new
+
+abbrev pub MayLinkAs : ℕ → Knowledge → Plan → Type 0
+MayLinkAs actor k (Install pid head content) = MayInstall actor k pid head content
+MayLinkAs actor k (Split pid plan) = MayDivide actor k pid plan
+MayLinkAs actor k (Root left root) = MayRaise actor k left (kind.Base root)
+
+-- The actor is inside, and may link what is planned once it has placed it.
+pub record MayChange (actor : ℕ) (k : Knowledge) (plan : Plan) : Type 0 where
+  pub inside : k.inside ≡ true
+  pub links : MayLinkAs actor k plan
+
+-- The spare PID isn't that of a page whose term is to go.
+abbrev pub IsKept : Record → Option ℕ → Type 0
+IsKept (kind.Unterm unterm) (Some pid) = unterm.child ≡ pid → ⊥
+IsKept content pid = ⊤
+
+abbrev pub KeepsSpare : Plan → Option ℕ → Type 0
+KeepsSpare (Install page head content) pid = IsKept content pid
+KeepsSpare plan pid = ⊤
+
+-- The new page has its base in its slot; where the plan brings none, no own page has a row in its slot.
+abbrev pub IsReady : Plan → Spares → Belongings → Type 0
+IsReady (Install pid head content) spares own = AreUnset own
+IsReady plan spares own = (own.pages (pid_of spares) ≡ Ready (base_row plan spares)) × (own.rows (base_row plan spares) ≡ Written (new_base plan))
+
+-- The record is placed that comes over a page's newest row.
+abbrev pub IsPlaced : Plan → Spares → Belongings → Type 0
+IsPlaced (Root left root) spares own = ⊤
+IsPlaced plan spares own = own.rows (last_row spares) ≡ Written (new_record plan (pid_of spares))
+
+-- by the state of a change: what its actor knows
+abbrev pub ShowsState : Plan → Spares → Knowledge → State → Type 0
+ShowsState plan spares k (Taking taking) = AreUnset k.own × AreFull k.asked (kind_of taking) (word_of taking)
+ShowsState plan spares k Base = AreUnset k.own
+ShowsState plan spares k ToReady = AreUnset k.own × (k.own.rows (base_row plan spares) ≡ Written (new_base plan))
+ShowsState plan spares k Place = IsReady plan spares k.own
+ShowsState plan spares k Link = IsReady plan spares k.own × IsPlaced plan spares k.own
+ShowsState plan spares k Undo = IsReady plan spares k.own
+
+pub record Shows (actor : ℕ) (change : Change) (spares : Spares) (k : Knowledge) : Type 0 where
+  pub may : MayChange actor k change.plan
+  pub keeps : KeepsSpare change.plan spares.pid
+  pub are : AreTheSpares k.own spares
+  pub stands : ShowsState change.plan spares k change.state
+
+-- Something is known that the answer to the step wanted last fits.
+pub record IsTold (change : Change) (spares : Spares) (told : Answer Record) : Type 0 where
+  pub k : Knowledge
+  pub fits : Fits change.limits k (wanted change spares) told
+
+-- The change goes on: nothing else is known than before, but of own rows, own pages and words of free bits.
+pub record GoesOn (actor : ℕ) (k now : Knowledge) (change : Change) (spares : Spares) : Type 0 where
+  pub shows : Shows actor change spares now
+  pub like : IsLike k.asked.linked k now
+
+-- what is known of the command's update once a change has ended: one that linked a put or a delete has linked it
+abbrev pub linked_by : Record → ℕ → Option (Option ℕ) → Option (Option ℕ)
+linked_by (kind.Put put) head linked = Some (Some head)
+linked_by (kind.Delete delete) head linked = Some (Some head)
+linked_by _ head linked = linked
+
+abbrev pub linked_after : Plan → End → Option (Option ℕ) → Option (Option ℕ)
+linked_after (Install pid head content) Won linked = linked_by content head linked
+linked_after plan end linked = linked
+
+-- Each word was read as 0 of the kind of which a number is needed next.
+abbrev pub LacksNumber : Limits → Plan → Spares → Knowledge → Type 0
+LacksNumber limits plan spares k = (IsMissing plan spares Pid × AllFull limits k.asked Pid) ⊎ (IsMissing plan spares Row × AllFull limits k.asked Row)
+
+-- What decides: the exchange won; it lost, and there was no new page, or that one's slot was emptied again; or a number is wanting.
+abbrev pub IsDecided : Change → Answer Record → Knowledge → Spares → End → Type 0
+IsDecided old told now has Won = (old.state ≡ Link) × (told ≡ Whether true)
+IsDecided old told now has Lost = ((old.state ≡ Link) × (told ≡ Whether false) × (needs_pid old.plan ≡ false)) ⊎ ((old.state ≡ Undo) × (told ≡ Whether true))
+IsDecided old told now has Full = LacksNumber old.limits old.plan has now
+
+-- The change has ended: what is known then, and that nothing is taken and not linked but the spares.
+pub record IsOver (k now : Knowledge) (old : Change) (told : Answer Record) (has : Spares) (end : End) : Type 0 where
+  pub like : IsLike (linked_after old.plan end k.asked.linked) k now
+  pub rest : Rest now.own has
+  pub decided : IsDecided old told now has end
+
+-- what follows from an answer
+abbrev pub Follows : ℕ → Knowledge → Knowledge → Change → Answer Record → Change → Spares → Option End → Type 0
+Follows actor k now old told new has None = GoesOn actor k now new has
+Follows actor k now old told new has (Some end) = IsOver k now old told has end
+
+-- Only the state has changed.
+pub record IsSame (old new : Change) : Type 0 where
+  pub limits : new.limits ≡ old.limits
+  pub plan : new.plan ≡ old.plan

@@ -1,0 +1,73 @@
+-- Where an answer leads a change.
+use Rattle.std.specs.Prelude.{◌++◌, ◌-◌, ℕ, [], ◌∷◌, length, take, ltb, Bool, true, false, not, ◌&&◌, is_some, if◌then◌else◌, Option, Some, None}
+use Rattle.bw_model.specs.declared.limits.Limits.{Limits}
+use Rattle.bw_model.specs.declared.step.Answer.{Answer}
+use Rattle.bw_model.specs.declared.step.Answer.TheVariants.{Whether}
+use Rattle.deltas.specs.declared.record.Record.{Record}
+use Rattle.installs.specs.declared.change.End.{End}
+use Rattle.installs.specs.declared.change.End.TheVariants as end
+use Rattle.installs.specs.declared.change.State.{State}
+use Rattle.installs.specs.declared.change.State.TheVariants.{Taking, Base, Ready, Place, Link, Undo}
+use Rattle.installs.specs.declared.plan.Plan.{Plan}
+use Rattle.installs.specs.declared.plan.Plan.TheVariants.{Install, Split, Root}
+use Rattle.installs.specs.declared.taking.Found.{Found}
+use Rattle.installs.specs.declared.taking.Found.TheVariants.{Not, Taken, Full}
+use Rattle.installs.specs.declared.taking.Kind.{Kind}
+use Rattle.installs.specs.declared.taking.Kind.TheVariants.{Pid, Row}
+use Rattle.installs.specs.declared.taking.Taking.TheVariants.{Bits}
+use Rattle.installs.specs.Changes.{needs_pid, rows_needed}
+use Rattle.installs.specs.Spares.{Spares}
+use Rattle.installs.specs.Taking.{found_after}
+
+-- where a change stands, with these spares, and how it ended, if it has
+pub record Moved : Type 0 where
+  pub state : State
+  pub spares : Spares
+  pub end : Option End
+
+-- the first state after all takings, and the one after the new page's slot is set
+abbrev pub after_taking : Plan → State
+after_taking (Install pid head content) = Place
+after_taking (Split pid plan) = Base
+after_taking (Root left root) = Base
+
+abbrev pub after_ready : Plan → State
+after_ready (Install pid head content) = Place
+after_ready (Split pid plan) = Place
+after_ready (Root left root) = Link
+
+-- First a PID is taken, if one is missing, then rows.
+abbrev pub first_state : Plan → Spares → State
+first_state plan spares = if needs_pid plan && not (is_some spares.pid) then Taking (Bits Pid 0) else if ltb (length spares.rows) (rows_needed plan) then Taking (Bits Row 0) else after_taking plan
+
+-- A number that was taken is the last spare of its kind.
+abbrev pub with_number : Kind → ℕ → Spares → Spares
+with_number Pid pid spares = record spares { pid = Some pid }
+with_number Row row spares = record spares { rows = spares.rows ++ row ∷ [] }
+
+-- What is linked is spare no more: the PID of a new page, and the last rows.
+abbrev pub unused : Plan → Spares → Spares
+unused plan spares = record { pid = if needs_pid plan then None else spares.pid; rows = take (length spares.rows - rows_needed plan) spares.rows }
+
+-- after a taking
+abbrev pub moved_by : Plan → Spares → State → Found → Moved
+moved_by plan spares state (Not taking) = record { state = Taking taking; spares = spares; end = None }
+moved_by plan spares state (Taken kind number) = record { state = first_state plan (with_number kind number spares); spares = with_number kind number spares; end = None }
+moved_by plan spares state Full = record { state = state; spares = spares; end = Some end.Full }
+
+-- after the exchange that decides: a new page that is not linked is emptied again
+abbrev pub decided_by : Plan → Spares → Bool → Moved
+decided_by plan spares true = record { state = Link; spares = unused plan spares; end = Some end.Won }
+decided_by plan spares false = if needs_pid plan then record { state = Undo; spares = spares; end = None } else record { state = Link; spares = spares; end = Some end.Lost }
+
+abbrev pub whether_in : Answer Record → Bool
+whether_in (Whether whether) = whether
+whether_in told = false
+
+abbrev pub moved : Limits → Plan → Spares → State → Answer Record → Moved
+moved limits plan spares (Taking taking) told = moved_by plan spares (Taking taking) (found_after limits taking told)
+moved limits plan spares Base told = record { state = Ready; spares = spares; end = None }
+moved limits plan spares Ready told = record { state = after_ready plan; spares = spares; end = None }
+moved limits plan spares Place told = record { state = Link; spares = spares; end = None }
+moved limits plan spares Link told = decided_by plan spares (whether_in told)
+moved limits plan spares Undo told = record { state = Undo; spares = spares; end = Some end.Lost }

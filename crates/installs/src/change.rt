@@ -1,0 +1,242 @@
+//! A change of the tree: a record over a page's newest row, the split of a page, or a new root.
+ghost use Rattle.std.specs.Prelude.{◌≡◌, ◌<◌, ◌≤◌, ◌*◌, ◌+◌, ◌/◌, ℕ, false, None, Some, IfNone};
+ghost use Rattle.std.specs.Int.{trailing_zeros, w64};
+ghost use Rattle.bw_model.specs.declared.limits.Limits.{Limits as LimitsSeen};
+ghost use Rattle.chain_search.specs.Discipline.{May, MayFree};
+ghost use Rattle.chain_search.specs.Fitting.{Fits};
+ghost use Rattle.chain_search.specs.Knowledge.{Knowledge, learn};
+ghost use Rattle.chain_search.specs.Recalled.{Recalled, WasHead};
+ghost use Rattle.installs.specs.Bounded.{IsApart, Recalls, Spends, steps_left};
+ghost use Rattle.installs.specs.Changes.{Follows, IsOfChange, IsSame, IsSound, IsTarget, IsTold, KeepsSpare, MayChange, Shows, at, base_row, head_of, linked_number, slot_of, wanted};
+ghost use Rattle.installs.specs.Moves.{after_ready, decided_by, first_state, moved, moved_by};
+ghost use Rattle.installs.specs.Spares.{HaveRoom, Rest};
+ghost use Rattle.installs.specs.Taking.{found_after};
+ghost use Rattle.installs.specs.Within.{IsWithin};
+
+use crate::taking::{Found, Kind, Taking};
+use crate::{Plan, Spares};
+use bw_model::{Answer, Limits, Step};
+use deltas::Record;
+use std::marker::Model;
+
+/// How a change ended.
+#[derive(Clone, Copy, Debug, PartialEq, Eq)]
+pub enum End {
+    /// What was planned is linked.
+    Won,
+    /// Another actor's exchange came before.
+    Lost,
+    /// A number was needed of which none was spare, and none was free.
+    Full,
+}
+
+/// Where a change stands: each state is named by the step that it has asked for.
+#[derive(Clone, Copy, Debug, PartialEq, Eq)]
+pub(crate) enum State {
+    /// A PID or a row is taken.
+    Taking(Taking),
+    /// The base of the new page is placed.
+    Base,
+    /// The new page's slot goes from 0 to its base.
+    Ready,
+    /// The record that comes over a page's newest row is placed.
+    Place,
+    /// The exchange that decides.
+    Link,
+    /// The new page's slot goes back to 0.
+    Undo,
+}
+
+/// A change that is under way. What it takes and places is among the spares of its actor until it is linked.
+#[derive(Debug, Drop)]
+pub struct Change {
+    limits: Limits,
+    plan: Plan,
+    state: State,
+}
+
+impl Model for Change {
+    ghost use Rattle.installs.specs.Changes.{Change, IsTarget};
+
+    ghost Value = { Change };
+
+    ghost view = { λ c. record { limits = c.limits; plan = c.plan; state = c.state } };
+
+    ghost invariant = { λ c. IsTarget c.limits c.plan };
+}
+
+impl Change {
+    /// The change that links what is planned. It takes a number only where no spare one of the kind is left: a PID first, then rows.
+    pub fn new(limits: &Limits, spares: &Spares, plan: Plan) -> Change
+        requires target { IsTarget limits.now plan }
+        requires room { HaveRoom limits.now spares.now }
+        ensures shows { (actor : ℕ) (k : Knowledge) → MayChange actor k plan → KeepsSpare plan spares.now.pid → Rest k.own spares.now → Shows actor result spares.now k }
+        ensures sound { IsSound result spares.now }
+        ensures limits { result.limits ≡ limits.now }
+        ensures plan { result.plan ≡ plan }
+        ensures recalls { (r : Recalled) → WasHead r (slot_of plan) (head_of plan) → IsApart plan spares.now.pid → Recalls result spares.now r }
+        ensures few { (after : ℕ) → steps_left after result spares.now ≤ 800 }
+    {
+        let state = first_state(&plan, spares);
+        Change {
+            limits: *limits,
+            plan,
+            state,
+        }
+    }
+
+    /// The step that the change wants next.
+    pub fn step(&self, spares: &Spares) -> Step<Record>
+        requires sound { IsSound self.now spares.now }
+        ensures wanted { result ≡ wanted self.now spares.now }
+        ensures within { IsWithin self.now.limits result }
+        ensures may { (actor : ℕ) (k : Knowledge) → Shows actor self.now spares.now k → May actor k result }
+        ensures only { IsOfChange result }
+        ensures frees { (limits : LimitsSeen) (actor : ℕ) (k : Knowledge) → MayFree limits actor k result }
+    {
+        match self.state {
+            State::Taking(taking) => taking.step(),
+            State::Base => Step::Place(self.base_row(spares), self.plan.base()),
+            State::Ready => Step::Exchange(spares.pid_or_0(), 0, self.base_row(spares)),
+            State::Place => Step::Place(spares.last_row(), self.plan.record(spares.pid_or_0())),
+            State::Link => Step::Exchange(
+                self.plan.slot(),
+                self.plan.head(),
+                self.linked_number(spares),
+            ),
+            State::Undo => Step::Exchange(spares.pid_or_0(), self.base_row(spares), 0),
+        }
+    }
+
+    /// Takes the answer to the step wanted last, and tells whether the change has ended.
+    pub fn next(&mut self, spares: &mut Spares, answer: Answer<Record>) -> Option<End>
+        requires sound { IsSound self.old spares.old }
+        requires told { IsTold self.old spares.old answer }
+        ensures follows { (actor : ℕ) (k : Knowledge) → Shows actor self.old spares.old k → Fits self.old.limits k (wanted self.old spares.old) answer → Follows actor k (learn k (wanted self.old spares.old) answer) self.old answer self.new spares.new result }
+        ensures sound { IfNone result (IsSound self.new spares.new) }
+        ensures room { HaveRoom self.old.limits spares.new }
+        ensures same { IsSame self.old self.new }
+        ensures spends { Spends self.old spares.old answer self.new spares.new result }
+        ensures lowest { (kind : Kind) (word bits : ℕ) → self.old.state ≡ State.Taking (Taking.Bits kind word) → answer ≡ Answer.Number bits → 0 < bits → self.new.state ≡ State.Taking (Taking.Take kind (64 * word + trailing_zeros w64 bits)) }
+        ensures again { (kind : Kind) (number : ℕ) → self.old.state ≡ State.Taking (Taking.Take kind number) → answer ≡ Answer.Whether false → self.new.state ≡ State.Taking (Taking.Bits kind (number / 64)) }
+    {
+        let _ = &self.limits;
+        self.move_on(spares, answer)
+    }
+
+    /// Goes to the state that follows.
+    fn move_on(&mut self, spares: &mut Spares, answer: Answer<Record>) -> Option<End>
+        requires sound { IsSound self.old spares.old }
+        requires told { IsTold self.old spares.old answer }
+        ensures moved { moved self.old.limits self.old.plan spares.old self.old.state answer ≡ record { state = self.new.state; spares = spares.new; end = result } }
+        ensures same { IsSame self.old self.new }
+    {
+        match self.state {
+            State::Taking(taking) => self.take(spares, taking, answer),
+            State::Base => self.go(State::Ready),
+            State::Ready => {
+                let state = after_ready(&self.plan);
+                self.go(state)
+            }
+            State::Place => self.go(State::Link),
+            State::Link => self.decide(spares, answer.into_whether()),
+            State::Undo => Some(End::Lost),
+        }
+    }
+
+    /// Goes on with a taking; what was taken is a spare.
+    fn take(&mut self, spares: &mut Spares, taking: Taking, answer: Answer<Record>) -> Option<End>
+        requires state { self.old.state ≡ State.Taking taking }
+        requires sound { IsSound self.old spares.old }
+        requires told { IsTold self.old spares.old answer }
+        ensures moved { moved_by self.old.plan spares.old self.old.state (found_after self.old.limits taking answer) ≡ record { state = self.new.state; spares = spares.new; end = result } }
+        ensures same { IsSame self.old self.new }
+    {
+        match taking.next(&self.limits, answer) {
+            Found::Not(taking) => self.go(State::Taking(taking)),
+            Found::Taken { kind, number } => {
+                spares.keep(kind, number);
+                let state = first_state(&self.plan, spares);
+                self.go(state)
+            }
+            Found::Full => Some(End::Full),
+        }
+    }
+
+    /// Goes to a state.
+    fn go(&mut self, state: State) -> Option<End>
+        ensures moved { self.new ≡ at self.old state }
+        ensures on { result ≡ None }
+    {
+        self.state = state;
+        None
+    }
+
+    /// The exchange that decides was answered: what is linked is spare no more; a new page that is not linked is emptied again.
+    fn decide(&mut self, spares: &mut Spares, won: bool) -> Option<End>
+        requires state { self.old.state ≡ State.Link }
+        ensures decided { decided_by self.old.plan spares.old won ≡ record { state = self.new.state; spares = spares.new; end = result } }
+        ensures same { IsSame self.old self.new }
+    {
+        if won {
+            spares.release(&self.plan);
+            return Some(End::Won);
+        }
+        if self.plan.needs_pid() {
+            return self.go(State::Undo);
+        }
+        Some(End::Lost)
+    }
+
+    /// The row of the new page's base.
+    fn base_row(&self, spares: &Spares) -> u16
+        ensures { result ≡ base_row self.now.plan spares.now }
+    {
+        match &self.plan {
+            Plan::Split { .. } => spares.first_row(),
+            Plan::Install { .. } | Plan::Root { .. } => spares.last_row(),
+        }
+    }
+
+    /// What comes into the slot whose exchange decides.
+    fn linked_number(&self, spares: &Spares) -> u16
+        ensures { result ≡ linked_number self.now.plan spares.now }
+    {
+        match &self.plan {
+            Plan::Install { .. } | Plan::Split { .. } => spares.last_row(),
+            Plan::Root { .. } => spares.pid_or_0(),
+        }
+    }
+}
+
+/// What follows once the new page's slot is set.
+fn after_ready(plan: &Plan) -> State
+    ensures { result ≡ after_ready plan.now }
+{
+    match plan {
+        Plan::Install { .. } | Plan::Split { .. } => State::Place,
+        Plan::Root { .. } => State::Link,
+    }
+}
+
+/// Where a change goes on with these spares.
+fn first_state(plan: &Plan, spares: &Spares) -> State
+    ensures { result ≡ first_state plan.now spares.now }
+{
+    if plan.needs_pid() && spares.pid().is_none() {
+        return State::Taking(Taking::Bits {
+            kind: Kind::Pid,
+            word: 0,
+        });
+    }
+    if spares.rows().len() < plan.rows_needed() {
+        return State::Taking(Taking::Bits {
+            kind: Kind::Row,
+            word: 0,
+        });
+    }
+    match plan {
+        Plan::Install { .. } => State::Place,
+        Plan::Split { .. } | Plan::Root { .. } => State::Base,
+    }
+}

@@ -1,0 +1,53 @@
+//! What a planned change asks of its actor, its plan gives.
+ghost use Rattle.std.specs.Prelude.{◌≡◌, ℕ, false};
+ghost use Rattle.base_page.specs.Pages.{Page};
+ghost use Rattle.deltas.specs.declared.record.Record.{Record};
+ghost use Rattle.deltas.specs.declared.record.Record.TheVariants as kind;
+ghost use Rattle.deltas.specs.declared.record.Term.{Term};
+ghost use Rattle.chain_search.specs.Chains.{is_removed};
+ghost use Rattle.chain_search.specs.Discipline.{FitsOn, MayConsolidate, MayUpdate};
+ghost use Rattle.chain_search.specs.Fitted.{IsPageChain};
+ghost use Rattle.chain_search.specs.Knowledge.{Knowledge};
+ghost use Rattle.smo.specs.declared.split.SplitPlan.{SplitPlan};
+ghost use Rattle.smo.specs.declared.version.Version.{Version};
+ghost use Rattle.smo.specs.Splits.{IsSplitPlan};
+ghost use Rattle.smo.specs.Terms.{IsTermPlan};
+ghost use Rattle.smo.specs.Roots.{IsRootPlan};
+ghost use Rattle.smo.specs.Readings.{HasSeen, IsAfter};
+ghost use Rattle.installs.specs.Changes.{MayDivide, MayInstall, MayRaise};
+
+use smo::plans_are_due;
+
+/// What is due over a page that was read, and isn't removed, may be linked there once it is placed.
+pub fn plans_may_be_linked()
+    ensures base { (actor : ℕ) (k : Knowledge) (page : Version) (base : Page)
+        → HasSeen k page
+        → is_removed page.chain ≡ false
+        → MayConsolidate page.chain (kind.Base base)
+        → FitsOn page.chain (kind.Base base)
+        → MayInstall actor k page.pid page.head (kind.Base base) }
+    ensures update { (actor : ℕ) (k : Knowledge) (page : Version) (content : Record)
+        → HasSeen k page
+        → is_removed page.chain ≡ false
+        → MayUpdate actor k page.head page.chain content
+        → FitsOn page.chain content
+        → MayInstall actor k page.pid page.head content }
+    ensures term { (actor : ℕ) (k : Knowledge) (parent page : Version) (term : Term)
+        → HasSeen k parent
+        → is_removed parent.chain ≡ false
+        → IsTermPlan parent page term
+        → HasSeen k page
+        → IsAfter k parent page
+        → MayInstall actor k parent.pid parent.head (kind.Term term) }
+    ensures split { (actor : ℕ) (k : Knowledge) (page : Version) (plan : SplitPlan)
+        → HasSeen k page
+        → IsSplitPlan page plan
+        → MayDivide actor k page.pid plan }
+    ensures root { (actor : ℕ) (k : Knowledge) (left right : Version) (root : Page)
+        → HasSeen k left
+        → IsPageChain left.chain
+        → IsRootPlan left right root
+        → MayRaise actor k left.pid (kind.Base root) }
+{
+    plans_are_due();
+}

@@ -1,0 +1,103 @@
+//! The taking of one free number: it reads words of free bits, and takes the lowest free number of the first word that has one.
+ghost use Rattle.std.specs.Prelude.{◌≡◌, ◌<◌, ◌*◌};
+ghost use Rattle.chain_search.specs.Fitting.{FitsWord};
+ghost use Rattle.installs.specs.Taking.{IsAnswered, IsSoundFound, IsSoundTaking, count_of, found_after, wanted_number};
+
+use bw_model::{Answer, Limits, Step};
+use deltas::Record;
+
+/// A kind of number.
+#[derive(Clone, Copy, Debug, PartialEq, Eq)]
+pub(crate) enum Kind {
+    Pid,
+    Row,
+}
+
+/// Where a taking stands: each state is named by the step that it has asked for.
+#[derive(Clone, Copy, Debug, PartialEq, Eq)]
+pub(crate) enum Taking {
+    Bits { kind: Kind, word: u8 },
+    Take { kind: Kind, number: u16 },
+}
+
+/// How a taking goes on.
+#[derive(Clone, Copy, Debug, PartialEq, Eq)]
+pub(crate) enum Found {
+    /// Nothing was found yet.
+    Not(Taking),
+    /// This number was taken.
+    Taken { kind: Kind, number: u16 },
+    /// No number of the kind is free.
+    Full,
+}
+
+impl Kind {
+    /// How many numbers of the kind there are.
+    fn count(self, limits: &Limits) -> u64
+        ensures { result ≡ count_of limits.now self }
+    {
+        match self {
+            Kind::Pid => limits.pids,
+            Kind::Row => limits.rows,
+        }
+    }
+}
+
+impl Taking {
+    /// The step that the taking wants next.
+    pub(crate) fn step(self) -> Step<Record>
+        ensures { result ≡ wanted_number self }
+    {
+        match self {
+            Taking::Bits { kind, word } => match kind {
+                Kind::Pid => Step::PidBits(word),
+                Kind::Row => Step::RowBits(word),
+            },
+            Taking::Take { kind, number } => match kind {
+                Kind::Pid => Step::TakePid(number),
+                Kind::Row => Step::TakeRow(number),
+            },
+        }
+    }
+
+    /// Takes the answer to the step wanted last.
+    pub(crate) fn next(self, limits: &Limits, answer: Answer<Record>) -> Found
+        requires told { IsAnswered limits.now self answer }
+        requires sound { IsSoundTaking limits.now self }
+        ensures found { result ≡ found_after limits.now self answer }
+        ensures sound { IsSoundFound limits.now result }
+    {
+        match self {
+            Taking::Bits { kind, word } => choose(limits, kind, word, answer.into_number()),
+            Taking::Take { kind, number } => {
+                if answer.into_whether() {
+                    return Found::Taken { kind, number };
+                }
+                Found::Not(Taking::Bits {
+                    kind,
+                    word: (number / 64) as u8,
+                })
+            }
+        }
+    }
+}
+
+/// The lowest free number of a word of free bits is taken next; where there is none, the next word is read.
+fn choose(limits: &Limits, kind: Kind, word: u8, bits: u64) -> Found
+    requires word { 64 * word < count_of limits.now kind }
+    requires fits { FitsWord (count_of limits.now kind) word bits }
+    ensures found { result ≡ found_after limits.now (Taking.Bits kind word) (Answer.Number bits) }
+    ensures sound { IsSoundFound limits.now result }
+{
+    if bits != 0 {
+        let number = 64 * u16::from(word) + bits.trailing_zeros() as u16;
+        return Found::Not(Taking::Take { kind, number });
+    }
+    if u64::from(word) + 1 < kind.count(limits) / 64 {
+        return Found::Not(Taking::Bits {
+            kind,
+            word: word + 1,
+        });
+    }
+    Found::Full
+}
