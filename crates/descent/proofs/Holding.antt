@@ -43,7 +43,7 @@ slot_chain k (suc page) zero row chain h = h
 slot_chain k (suc page) (suc n) row chain h = h
 
 pub in_hand_slot : (limits : Limits) (k : Knowledge) (page n : ℕ) (version : Version) → version.pid ≢ page → IsInHand limits k version → IsInHand limits (learn_slot page n k) version
-in_hand_slot limits k page n version apart h = record { seen = record { head = slot_head k page n version.pid version.head apart h.seen.head; read = slot_chain k page n version.head version.chain h.seen.read }; sound = h.sound }
+in_hand_slot limits k page n version apart h = record { page = h.page; row = h.row; seen = record { head = slot_head k page n version.pid version.head apart h.seen.head; read = slot_chain k page n version.head version.chain h.seen.read }; sound = h.sound }
 
 pub named_slot : (limits : Limits) (k : Knowledge) (page n level : ℕ) (low : List ℕ) → IsNamedAt limits k page level low → IsNamedAt limits (learn_slot page n k) page level low
 named_slot limits k page n level low h = record { naming = h.naming; in_hand = in_hand_slot limits k page n h.naming h.apart h.in_hand; alive = h.alive; apart = h.apart; names = h.names }
@@ -64,7 +64,7 @@ module _ (k : Knowledge) (row : ℕ) (w : Record) (same : (before : Record) → 
   read_more other head chain held read = (held, chain_more k.read.seen row w same chain head read)
 
   pub in_hand_row : (limits : Limits) (version : Version) → IsInHand limits k version → IsInHand limits now version
-  in_hand_row limits version h = record { seen = record { head = h.seen.head; read = chain_more k.read.seen row w same version.chain version.head h.seen.read }; sound = h.sound }
+  in_hand_row limits version h = record { page = h.page; row = h.row; seen = record { head = h.seen.head; read = chain_more k.read.seen row w same version.chain version.head h.seen.read }; sound = h.sound }
 
   pub named_row : (limits : Limits) (page level : ℕ) (low : List ℕ) → IsNamedAt limits k page level low → IsNamedAt limits now page level low
   named_row limits page level low h = record { naming = h.naming; in_hand = in_hand_row limits h.naming h.in_hand; alive = h.alive; apart = h.apart; names = h.names }

@@ -24,7 +24,7 @@ use Rattle.descent.specs.Ways.{reaches}
 use Rattle.descent.specs.WriteRounds.{IsBased, IsLeftOf, IsKept, IsVisiting}
 use Rattle.descent.proofs.Holding.{in_hand_row, in_hand_slot}
 use Rattle.descent.proofs.Seeking.{arrived, seeks_row, seeks_slot}
-use Rattle.descent.proofs.Visiting.{back, there}
+use Rattle.descent.proofs.Visiting.{back, row_below, there}
 
 -- a page that is none of these isn't one that is among them
 differs : (page other : ℕ) (others : List ℕ) → IsUnread page others → IsAmong other others → other ≢ page
@@ -69,9 +69,9 @@ module _ (limits : Limits) (key : List ℕ) (parent left : Option Version) (k : 
   based_as now e None None pid low h = elim h [ inl is ↦ inl (e ∙ is) | inr inner ↦ inr inner ]
   based_as now e None (Some other) pid low h = elim h [ inl is ↦ inl (e ∙ is) | inr inner ↦ inr inner ]
 
-  visits_slot : (row : ℕ) → 0 < row → Visits Slot
+  visits_slot : (row : ℕ) → 0 < row → row < visit.limits.rows → Visits Slot
       → IsVisiting limits key parent left (learn k (step.Slot visit.pid) (answer.Number row)) (recall r (step.Slot visit.pid) (answer.Number row)) (record visit { part = []; state = Row row row })
-  visits_slot row linked h =
+  visits_slot row linked few h =
       let some = h.seeks.on_way.shows.page in
       let new = h.seeks.on_way.distinct.2 in
       let kept : (other : Version) → IsKept limits k other h.earlier → IsKept limits (learn_slot visit.pid row k) other h.earlier =
@@ -80,7 +80,7 @@ module _ (limits : Limits) (key : List ℕ) (parent left : Option Version) (k : 
         level = h.level;
         low = h.low;
         earlier = h.earlier;
-        seeks = seeks_slot limits key k r visit h.level h.low h.earlier row linked h.seeks;
+        seeks = seeks_slot limits key k r visit h.level h.low h.earlier row linked few h.seeks;
         above = IfSome_then parent h.above (λ other i. record { kept = kept other i.kept; up = i.up; after = before_slot visit.pid row other.pid other.head some linked i.kept.in_hand.seen.head });
         aside = IfSome_then left h.aside (λ other i. record { kept = kept other i.kept; inner = i.inner });
         based = based_as (recall r (step.Slot visit.pid) (answer.Number row)) (recall_root visit.pid row some) parent left visit.pid h.low h.based;
@@ -141,7 +141,7 @@ module _ (limits : Limits) (key : List ℕ) (parent left : Option Version) (k : 
   visits_next new moves =
       let P : Visit → Answer Record → Type 0 = λ v x. IsVisiting limits key parent left (learn k (wanted v) x) (recall r (wanted v) x) new in
       elim moves [
-        | inl b ↦ back visit P Slot (answer.Number b.row) told b.asked b.is (rw b.goes (visits_slot limits key parent left k r visit b.row b.some (there visit VisitsAt Slot (answer.Number b.row) told b.asked b.is h)))
+        | inl b ↦ back visit P Slot (answer.Number b.row) told b.asked b.is (rw b.goes (visits_slot limits key parent left k r visit b.row b.some (rw h.seeks.on_way.same (row_below limits k visit.pid b.row h.seeks.on_way.shows.page (there visit FitsAt Slot (answer.Number b.row) told b.asked b.is f))) (there visit VisitsAt Slot (answer.Number b.row) told b.asked b.is h)))
         | inr b ↦
             let fits = there visit FitsAt (Row b.head b.row) (answer.Content b.content) told b.asked b.is f in
             back visit P (Row b.head b.row) (answer.Content b.content) told b.asked b.is

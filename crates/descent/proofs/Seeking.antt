@@ -20,7 +20,7 @@ use Rattle.descent.specs.Visits.{Starts, Completes, Continues, Visit, at, to_pag
 use Rattle.descent.specs.Walks.{HasArrived, IsNamedNow, IsReached, IsSeeking}
 use Rattle.descent.specs.Ways.{NamesAt, reaches}
 use Rattle.descent.proofs.Meeting.{names_meets}
-use Rattle.descent.proofs.Visiting.{back, there}
+use Rattle.descent.proofs.Visiting.{back, row_below, there}
 use Rattle.descent.proofs.Walking.{on_base, on_row, on_slot, onward, recalled_head}
 use Rattle.descent.proofs.WayLaws.{lowest}
 
@@ -32,7 +32,7 @@ pub seeks_root : (limits : Limits) (key : List ℕ) (k : Knowledge) (r : Recalle
     → IsSeeking limits key (learn k (step.Slot 0) (answer.Number pid)) (recall r (step.Slot 0) (answer.Number pid)) (to_page limits pid) 0 [] []
 seeks_root limits key k r pid fits inside = record {
   on_way = record {
-    shows = record { inside = inside; page = fits.0; stands = inl (replaced_true k.read.roots pid) };
+    shows = record { inside = inside; page = fits.0; below = fits.1; head = tt; stands = inl (replaced_true k.read.roots pid) };
     same = refl;
     bare = refl;
     visited = refl;
@@ -62,9 +62,9 @@ module _ (limits : Limits) (key : List ℕ) (k : Knowledge) (r : Recalled) (visi
   named_on_slot : (n : ℕ) → 0 < visit.pid → IsNamedNow k r visit.pid → IsNamedNow (learn_slot visit.pid n k) (recall r (step.Slot visit.pid) (answer.Number n)) visit.pid
   named_on_slot n some h = rw (slot_roots visit.pid n some, recall_records visit.pid n some) h
 
-  pub seeks_slot : (row : ℕ) → 0 < row → IsSeeking limits key k r (at visit Slot) level low earlier
+  pub seeks_slot : (row : ℕ) → 0 < row → row < visit.limits.rows → IsSeeking limits key k r (at visit Slot) level low earlier
       → IsSeeking limits key (learn k (step.Slot visit.pid) (answer.Number row)) (recall r (step.Slot visit.pid) (answer.Number row)) (record visit { part = []; state = Row row row }) level low earlier
-  seeks_slot row linked h = record { on_way = on_slot limits k r visit level low earlier row linked h.on_way; passing = h.passing; named = named_on_slot row h.on_way.shows.page h.named }
+  seeks_slot row linked few h = record { on_way = on_slot limits k r visit level low earlier row linked few h.on_way; passing = h.passing; named = named_on_slot row h.on_way.shows.page h.named }
 
   module _ (row : ℕ) (content : Record) (fits : FitsRow limits k row content) where
     abbrev now : Knowledge
@@ -98,7 +98,7 @@ module _ (limits : Limits) (key : List ℕ) (k : Knowledge) (r : Recalled) (visi
   seeks_next new moves =
       let P : Visit → Answer Record → Type 0 = λ v x. IsSeeking limits key (learn k (wanted v) x) (recall r (wanted v) x) new level low earlier in
       elim moves [
-        | inl b ↦ back visit P Slot (answer.Number b.row) told b.asked b.is (rw b.goes (seeks_slot limits key k r visit level low earlier b.row b.some (there visit Seeks Slot (answer.Number b.row) told b.asked b.is h)))
+        | inl b ↦ back visit P Slot (answer.Number b.row) told b.asked b.is (rw b.goes (seeks_slot limits key k r visit level low earlier b.row b.some (rw h.on_way.same (row_below limits k visit.pid b.row h.on_way.shows.page (there visit FitsAt Slot (answer.Number b.row) told b.asked b.is f))) (there visit Seeks Slot (answer.Number b.row) told b.asked b.is h)))
         | inr b ↦
             let fits = there visit FitsAt (Row b.head b.row) (answer.Content b.content) told b.asked b.is f in
             back visit P (Row b.head b.row) (answer.Content b.content) told b.asked b.is

@@ -52,8 +52,13 @@ inside_slot k zero n = refl
 inside_slot k (suc pid) zero = refl
 inside_slot k (suc pid) (suc n) = refl
 
-pub begins_chain : (k : Knowledge) (visit : Visit) (row : ℕ) → 0 < row → Shows (at visit Slot) k → Shows (record visit { part = []; state = Row row row }) (learn k (step.Slot visit.pid) (answer.Number row))
-begins_chain k visit row linked h = record { inside = rw (inside_slot k visit.pid row) h.inside; page = h.page; stands = read_head k visit.pid row h.page linked }
+-- a slot that was read has a row that there is
+pub row_below : (limits : Limits) (k : Knowledge) (pid row : ℕ) → 0 < pid → Fits limits k (step.Slot pid) (answer.Number row) → row < limits.rows
+row_below limits k zero row some fits = absurd (omega (arith, some))
+row_below limits k (suc pid) row some fits = fits.0
+
+pub begins_chain : (k : Knowledge) (visit : Visit) (row : ℕ) → 0 < row → row < visit.limits.rows → Shows (at visit Slot) k → Shows (record visit { part = []; state = Row row row }) (learn k (step.Slot visit.pid) (answer.Number row))
+begins_chain k visit row linked few h = record { inside = rw (inside_slot k visit.pid row) h.inside; page = h.page; below = h.below; head = few; stands = read_head k visit.pid row h.page linked }
 
 -- a row was read
 module _ (limits : Limits) (k : Knowledge) (pid head row : ℕ) (part : List Record) (w : Record) where
@@ -80,7 +85,7 @@ module _ (limits : Limits) (k : Knowledge) (pid head row : ℕ) (part : List Rec
 
 pub goes_on : (k : Knowledge) (visit : Visit) (head row : ℕ) (w : Record) (next : ℕ) → next_row w ≡ Some next → Shows (at visit (Row head row)) k → FitsRow visit.limits k row w
     → Shows (record visit { part = visit.part ++ w ∷ []; state = Row head next }) (learn k (step.Row row) (answer.Content w))
-goes_on k visit head row w next i h f = record { inside = h.inside; page = h.page; stands = read_on visit.limits k visit.pid head row visit.part w next i h.stands f }
+goes_on k visit head row w next i h f = record { inside = h.inside; page = h.page; below = h.below; head = h.head; stands = read_on visit.limits k visit.pid head row visit.part w next i h.stands f }
 
 pub whole_chain : (k : Knowledge) (visit : Visit) (head row : ℕ) (w : Record) → next_row w ≡ None → Shows (at visit (Row head row)) k → FitsRow visit.limits k row w → IsReadWhole visit.limits k visit.pid (visit.part ++ w ∷ [])
 whole_chain k visit head row w i h f = (read_whole visit.limits k visit.pid head row visit.part w i h.stands f).2
@@ -94,6 +99,8 @@ arrives_at k visit row w version pid chain i h f =
       pid = pid;
       inside = h.inside;
       in_hand = record {
+        page = rw pid h.below;
+        row = h.head;
         seen = record { head = ap k.read.heads pid ∙ read.0; read = subst (λ (c : List Record). IsChainFrom (replaced_at row (Some w) k.read.seen) version.head c) (sym chain) read.1 };
         sound = sound_from visit.limits k version.pid version.chain whole;
       };
@@ -117,7 +124,7 @@ module _ (k : Knowledge) (old : Visit) where
   Then new result v x = Shows v k → Fits v.limits k (wanted v) x → Follows k v x new result
 
   begins : (told : Answer Record) (new : Visit) → Starts old told new → Shows old k → Fits old.limits k (wanted old) told → Follows k old told new None
-  begins told new b = back old (Then new None) Slot (answer.Number b.row) told b.asked b.is (λ h f. rw b.goes (begins_chain k old b.row b.some h))
+  begins told new b = back old (Then new None) Slot (answer.Number b.row) told b.asked b.is (λ h f. rw b.goes (begins_chain k old b.row b.some (row_below old.limits k old.pid b.row h.page f) h))
 
   continues : (told : Answer Record) (new : Visit) → Continues old told new → Shows old k → Fits old.limits k (wanted old) told → Follows k old told new None
   continues told new b = back old (Then new None) (Row b.head b.row) (answer.Content b.content) told b.asked b.is (λ h f. rw b.goes (goes_on k old b.head b.row b.content b.under b.more h f))

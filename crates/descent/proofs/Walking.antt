@@ -107,10 +107,10 @@ module _ (limits : Limits) (k : Knowledge) (r : Recalled) (visit : Visit) (level
     | inr named ↦ inr (named_slot limits k page n level low named)
   ]
 
-  pub on_slot : (row : ℕ) → 0 < row → IsOnWay limits k r (at visit Slot) level low earlier
+  pub on_slot : (row : ℕ) → 0 < row → row < visit.limits.rows → IsOnWay limits k r (at visit Slot) level low earlier
       → IsOnWay limits (learn k (step.Slot visit.pid) (answer.Number row)) (recall r (step.Slot visit.pid) (answer.Number row)) (record visit { part = []; state = Row row row }) level low earlier
-  on_slot row linked h = rw (recall_slot visit.pid row h.shows.page) (record {
-    shows = begins_chain k visit row linked h.shows;
+  on_slot row linked few h = rw (recall_slot visit.pid row h.shows.page) (record {
+    shows = begins_chain k visit row linked few h.shows;
     same = h.same;
     bare = tt;
     visited = ap (λ (pages : List ℕ). visit.pid ∷ pages) h.visited;
@@ -250,7 +250,7 @@ module _ (limits : Limits) (k now : Knowledge) (r : Recalled) (version : Version
 
   pub onward : IsOnWay limits now r (to_page limits page) level low (version.pid ∷ earlier)
   onward = record {
-    shows = record { inside = h.arrives.inside; page = is_page.0; stands = may };
+    shows = record { inside = h.arrives.inside; page = is_page.0; below = is_page.1; head = tt; stands = may };
     same = refl;
     bare = refl;
     visited = h.visited;

@@ -23,8 +23,10 @@ pub record IsSound (limits : Limits) (page : ℕ) (chain : List Record) : Type 0
   pub own : IsFalse (is_removed chain) → SaysOf chain page chain
   pub names : IsFalse (is_removed chain) → NamesPages limits chain
 
--- The page's slot was last read with this row, and its whole chain from there.
+-- The page's slot was last read with this row, and its whole chain from there; both are numbers that there are.
 pub record IsInHand (limits : Limits) (k : Knowledge) (version : Version) : Type 0 where
+  pub page : version.pid < limits.pids
+  pub row : version.head < limits.rows
   pub seen : HasSeen k version
   pub sound : IsSound limits version.pid version.chain
 

@@ -67,9 +67,16 @@ abbrev pub Stands : Knowledge → ℕ → List Record → State → Type 0
 Stands k pid part Slot = MayVisit k pid
 Stands k pid part (Row head row) = Reads k pid head part row
 
+-- the row that the slot had is one that there is
+abbrev pub IsHeadBelow : Limits → State → Type 0
+IsHeadBelow limits Slot = ⊤
+IsHeadBelow limits (Row head row) = head < limits.rows
+
 pub record Shows (visit : Visit) (k : Knowledge) : Type 0 where
   pub inside : k.inside ≡ true
   pub page : 0 < visit.pid
+  pub below : visit.pid < visit.limits.pids
+  pub head : IsHeadBelow visit.limits visit.state
   pub stands : Stands k visit.pid visit.part visit.state
 
 -- Something is known that the visit shows, and the answer fits it.

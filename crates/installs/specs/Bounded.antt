@@ -63,6 +63,11 @@ abbrev pub pid_taken : StepOf Record → Answer Record → Option ℕ
 pid_taken (TakePid pid) (Whether true) = Some pid
 pid_taken asked told = None
 
+-- A PID that is spare was so before, or was taken now.
+abbrev pub IsPidFrom : Option ℕ → Option ℕ → Option ℕ → Type 0
+IsPidFrom old taken None = ⊤
+IsPidFrom old taken (Some pid) = (old ≡ Some pid) ⊎ (taken ≡ Some pid)
+
 -- A change that goes on recalls what it has read, and has fewer steps left, or a cause paid for more. Where it has ended, a cause
 -- paid, or what has to be left is left.
 abbrev pub SpendsTo : ℕ → Recalled → Change → Spares → Answer Record → Change → Spares → Option End → Type 0

@@ -6,7 +6,7 @@ ghost use Rattle.chain_search.specs.Discipline.{May, MayFree};
 ghost use Rattle.chain_search.specs.Fitting.{Fits};
 ghost use Rattle.chain_search.specs.Knowledge.{Knowledge, learn};
 ghost use Rattle.chain_search.specs.Recalled.{Recalled, WasHead};
-ghost use Rattle.installs.specs.Bounded.{IsApart, Recalls, Spends, steps_left};
+ghost use Rattle.installs.specs.Bounded.{IsApart, IsPidFrom, Recalls, Spends, pid_taken, steps_left};
 ghost use Rattle.installs.specs.Changes.{Follows, IsOfChange, IsSame, IsSound, IsTarget, IsTold, KeepsSpare, MayChange, Shows, at, base_row, head_of, linked_number, slot_of, wanted};
 ghost use Rattle.installs.specs.Moves.{after_ready, decided_by, first_state, moved, moved_by};
 ghost use Rattle.installs.specs.Spares.{HaveRoom, Rest};
@@ -116,6 +116,7 @@ impl Change {
         ensures sound { IfNone result (IsSound self.new spares.new) }
         ensures room { HaveRoom self.old.limits spares.new }
         ensures same { IsSame self.old self.new }
+        ensures pid { IsPidFrom spares.old.pid (pid_taken (wanted self.old spares.old) answer) spares.new.pid }
         ensures spends { Spends self.old spares.old answer self.new spares.new result }
         ensures lowest { (kind : Kind) (word bits : ℕ) → self.old.state ≡ State.Taking (Taking.Bits kind word) → answer ≡ Answer.Number bits → 0 < bits → self.new.state ≡ State.Taking (Taking.Take kind (64 * word + trailing_zeros w64 bits)) }
         ensures again { (kind : Kind) (number : ℕ) → self.old.state ≡ State.Taking (Taking.Take kind number) → answer ≡ Answer.Whether false → self.new.state ≡ State.Taking (Taking.Bits kind (number / 64)) }

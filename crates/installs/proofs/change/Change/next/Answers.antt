@@ -1,5 +1,6 @@
 use Rattle.installs.proofs.Answered.{follows}
 use Rattle.installs.proofs.Sound.{room_stays, sound_stays}
+use Rattle.installs.proofs.SparePid.{pid_from}
 use Rattle.installs.proofs.Spending.{spends}
 use Rattle.installs.proofs.change.Change.next.Goals as goal
 
@@ -18,3 +19,6 @@ returns-clause-room c =
 pub returns-clause-sound : goal.returns-clause-sound
 returns-clause-sound c =
     sound_stays c.args.self.now c.move_on.new.self c.args.spares.now c.move_on.new.spares c.args.answer c.move_on.result c.move_on.ensures.moved c.move_on.ensures.same c.requires.told.k c.requires.told.fits c.requires.sound (rw (← c.self.view_is) c.self.invariant)
+
+pub returns-clause-pid : goal.returns-clause-pid
+returns-clause-pid c = pid_from c.args.self.now c.args.spares.now c.args.answer (record { state = c.move_on.new.self.state; spares = c.move_on.new.spares; end = c.move_on.result }) c.move_on.ensures.moved
