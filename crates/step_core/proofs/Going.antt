@@ -25,21 +25,21 @@ use Rattle.op_machine.specs.declared.op.Want.TheVariants.{Step, Done}
 use Rattle.op_machine.specs.declared.state.State.TheVariants.{Begun}
 use Rattle.step_core.specs.declared.actor.Actor.{Actor}
 use Rattle.step_core.specs.declared.actor.Running.{Running}
-use Rattle.step_core.specs.Actors.{IsAt, IsLeft, IsReady, IsRunning, IsServed, IsServedAt, IsWithinAt, command_at, wanted_by}
+use Rattle.step_core.specs.Actors.{IsActorWith, IsLeft, IsReady, IsRunning, IsServed, IsServedAt, IsWithinAt, command_at, wanted_by}
 use Rattle.step_core.specs.Spending.{IsSpentOn}
 use Rattle.step_core.proofs.Spending.{spends_last, spent_last}
 
 -- an actor without an operation, and one with an operation
-idle_of : (limits : Limits) (actor : ℕ) (k : Knowledge) (r : Recalled) (spares : Spares) (running : Option Running) → command_at running ≡ None → IsAt limits actor k r spares running → Rests limits spares k
+idle_of : (limits : Limits) (actor : ℕ) (k : Knowledge) (r : Recalled) (spares : Spares) (running : Option Running) → command_at running ≡ None → IsActorWith limits actor k r spares running → Rests limits spares k
 idle_of limits actor k r spares None e h = h
 idle_of limits actor k r spares (Some running) e h = cc
 
-pub idle_at : (limits : Limits) (actor : ℕ) (k : Knowledge) (r : Recalled) (spares : Spares) (running : Option Running) → command_at running ≡ None → IsAt limits actor k r spares running → Rests limits spares k
+pub idle_at : (limits : Limits) (actor : ℕ) (k : Knowledge) (r : Recalled) (spares : Spares) (running : Option Running) → command_at running ≡ None → IsActorWith limits actor k r spares running → Rests limits spares k
 idle_at limits actor k r spares running e h = idle_of limits actor k r spares running e h
 
 pub ready_some : (limits : Limits) (actor : ℕ) (k : Knowledge) (r : Recalled) (memory : Memory) (at : Actor) (running : Running) → at.running ≡ Some running → IsReady limits actor k r memory at
     → IsRunning limits actor k r at.hand running × IsServed limits k memory running.wanted
-ready_some limits actor k r memory at running e h = let P : Option Running → Type 0 = λ o. IsAt limits actor k r at.hand o × IsServedAt limits k memory o in subst P e h
+ready_some limits actor k r memory at running e h = let P : Option Running → Type 0 = λ o. IsActorWith limits actor k r at.hand o × IsServedAt limits k memory o in subst P e h
 
 -- the table has what the step asks for, which is the one that is wanted
 pub within_some : (table : Table) (actor : ℕ) (o : Option Running) (running : Running) → o ≡ Some running → IsWithinAt table actor o → IsWithinTable table actor running.wanted

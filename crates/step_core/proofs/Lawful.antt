@@ -18,7 +18,7 @@ use Rattle.tree_law.specs.Own.{RowsAreApart}
 use Rattle.tree_law.specs.State.{IsState}
 use Rattle.tree_law.specs.TraceLaws.{AnswersFit, HeadsStand}
 use Rattle.step_core.specs.declared.actor.Running.{Running}
-use Rattle.step_core.specs.Actors.{IsAt, IsRunning, IsServed, IsServedAt, IsWithinAt}
+use Rattle.step_core.specs.Actors.{IsActorWith, IsRunning, IsServed, IsServedAt, IsWithinAt}
 
 -- whether a record was placed in the row
 abbrev pub is_placed : Memory → ℕ → Bool
@@ -58,7 +58,7 @@ module _ (limits : Limits) (entries : List Entry) (state : IsState limits entrie
     may_take : (r : Recalled) (spares : Spares) (running : Running) → IsRunning limits a (knows entries a) r spares running → May a (knows entries a) running.wanted
     may_take r spares running at = subst (λ n. May n (knows entries a) running.wanted) at.own_actor at.goes.may.may
 
-    pub served_at : AnswersFit → (r : Recalled) (spares : Spares) (running : Option Running) → IsAt limits a (knows entries a) r spares running → IsServedAt limits (knows entries a) m running
+    pub served_at : AnswersFit → (r : Recalled) (spares : Spares) (running : Option Running) → IsActorWith limits a (knows entries a) r spares running → IsServedAt limits (knows entries a) m running
     served_at fit r spares None at = tt
     served_at fit r spares (Some running) at = served fit running.wanted (may_take r spares running at)
 
@@ -81,6 +81,6 @@ module _ (limits : Limits) (entries : List Entry) (state : IsState limits entrie
       within (ReusePids word bits) h may = rw same h.0
       within (ReuseRows word bits) h may = rw same h.0
 
-      pub within_at : (r : Recalled) (spares : Spares) (running : Option Running) → IsAt limits a (knows entries a) r spares running → IsWithinAt table a running
+      pub within_at : (r : Recalled) (spares : Spares) (running : Option Running) → IsActorWith limits a (knows entries a) r spares running → IsWithinAt table a running
       within_at r spares None at = tt
       within_at r spares (Some running) at = within running.wanted (subst (λ l. IsWithin l running.wanted) at.own_limits at.goes.may.within) (may_take r spares running at)

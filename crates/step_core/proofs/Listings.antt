@@ -27,9 +27,7 @@ use Rattle.step_core.specs.Cores.{IsCore}
 use Rattle.step_core.specs.Listed.{HavePages, IsListing}
 use Rattle.step_core.specs.Turns.{Core, Demand}
 use Rattle.step_core.proofs.LeafPairs.{ascending, exact, inside, spans}
-
-abbrev Pairs : Type 0
-Pairs = List (List ℕ × List ℕ)
+use Rattle.step_core.proofs.Walking.{Pairs}
 
 abbrev keys : Pairs → List (List ℕ)
 keys pairs = map (λ pair. pair.0) pairs

@@ -1,5 +1,5 @@
 -- Going over the leaves from left to right, and what is listed of each.
-use Rattle.std.proofs.Common.{◌≡◌, ◌<◌, ◌+◌, ℕ, List, [], ◌∷◌, ◌++◌, length, Some, None, MatchOption, refl, sym, subst, ap, ◌∙◌, arith, append_assoc}
+use Rattle.std.proofs.Common.{◌≡◌, ◌<◌, ◌+◌, ℕ, List, [], ◌∷◌, ◌++◌, length, Option, Some, None, MatchOption, refl, sym, subst, ap, ◌∙◌, arith, append_assoc}
 use Rattle.std.specs.List.{AllByRecursion}
 use Rattle.std.proofs.lemmas.List.{append-nil, length-append}
 use Rattle.base_page.proofs.ItemLaws.{back_all}
@@ -11,11 +11,11 @@ use Rattle.chain_search.specs.SideChain.{IsSideChainFrom, LivePage}
 use Rattle.tree_law.specs.Leaves.{HasLeafPages, IsLeafPage}
 use Rattle.step_core.specs.Listed.{HasPage, HavePages, StandsAt}
 
-abbrev Pairs : Type 0
+abbrev pub Pairs : Type 0
 Pairs = List (List ℕ × List ℕ)
 
 -- Of the leaves that stand these pairs are those of the first ones, as many as counted; the others stand from the page on.
-pub record IsPartly (memory : Memory) (pages : List LivePage) (pairs : List (List ℕ × List ℕ)) (count pid : ℕ) : Type 0 where
+pub record IsPartly (memory : Memory) (pages : List LivePage) (pairs : Pairs) (count pid : ℕ) : Type 0 where
   pub front : List LivePage
   pub rest : List LivePage
   pub whole : pages ≡ front ++ rest
@@ -37,53 +37,56 @@ listed_more : (front back : List LivePage) (before own : Pairs) → HavePages fr
 listed_more [] back before own none has = rw none has
 listed_more (page ∷ front) back before own (first, rest, is, others, all) has = (first, rest ++ own, is, listed_more front back rest own others has, ap (λ p. p ++ own) all ∙ append_assoc first rest own)
 
-module _ (limits : Limits) (memory : Memory) (leaves : HasLeafPages limits memory) (pairs : Pairs) (count pid : ℕ) where
-  -- there is a leaf more
-  pub is_more : IsPartly memory leaves.pages pairs count pid → count < limits.pids
-  is_more at = go at.rest at.whole at.next
+-- the leaf that is next, and those to its right
+record IsNext (limits : Limits) (memory : Memory) (pages front : List LivePage) (pid : ℕ) : Type 0 where
+  pub page : LivePage
+  pub later : List LivePage
+  pub whole : pages ≡ front ++ page ∷ later
+  pub stands : StandsAt memory pid page.chain
+  pub right : MatchOption (right_in page.chain) (later ≡ []) (λ right. IsSideChainFrom memory right later)
+
+module _ (limits : Limits) (memory : Memory) (leaves : HasLeafPages limits memory) (pairs : Pairs) (count pid : ℕ) (at : IsPartly memory leaves.pages pairs count pid) where
+  next_leaf : IsNext limits memory leaves.pages at.front pid
+  next_leaf = go at.rest at.whole at.next
     where
-      go : (rest : List LivePage) → leaves.pages ≡ at.front ++ rest → IsSideChainFrom memory pid rest → count < limits.pids
+      go : (rest : List LivePage) → leaves.pages ≡ at.front ++ rest → IsSideChainFrom memory pid rest → IsNext limits memory leaves.pages at.front pid
       go [] whole next = absurd next
-      go (page ∷ pages) whole next =
-          let long : length leaves.pages ≡ length at.front + length (page ∷ pages) = ap length whole ∙ length-append at.front (page ∷ pages) in
-          omega (arith, leaves.few, at.long)
+      go (page ∷ later) whole next =
+          let each : AllByRecursion (IsLeafPage limits memory) (page ∷ later) = back_all (IsLeafPage limits memory) at.front (page ∷ later) (subst (AllByRecursion (IsLeafPage limits memory)) whole leaves.each) in
+          record { page = page; later = later; whole = whole; stands = record { records = next.1.records; fits = each.0.fits }; right = next.2 }
+
+  -- there is a leaf more
+  pub is_more : count < limits.pids
+  is_more =
+      let next = next_leaf in
+      let long : length leaves.pages ≡ length at.front + length (next.page ∷ next.later) = ap length next.whole ∙ length-append at.front (next.page ∷ next.later) in
+      omega (arith, leaves.few, at.long)
 
   -- its chain stands
-  pub leaf_at : IsPartly memory leaves.pages pairs count pid → (chain : List Record) × StandsAt memory pid chain
-  leaf_at at = go at.rest at.whole at.next
-    where
-      go : (rest : List LivePage) → leaves.pages ≡ at.front ++ rest → IsSideChainFrom memory pid rest → (chain : List Record) × StandsAt memory pid chain
-      go [] whole next = absurd next
-      go (page ∷ pages) whole next =
-          let each : AllByRecursion (IsLeafPage limits memory) (page ∷ pages) = back_all (IsLeafPage limits memory) at.front (page ∷ pages) (subst (AllByRecursion (IsLeafPage limits memory)) whole leaves.each) in
-          (page.chain, record { records = next.1.records; fits = each.0.fits })
+  pub leaf_at : (chain : List Record) × StandsAt memory pid chain
+  leaf_at = (next_leaf.page.chain, next_leaf.stands)
 
-  module _ (chain : List Record) (is : (stands : List Record) → StandsAt memory pid stands → chain ≡ stands) (own : Pairs) (has : HasPage chain own) (at : IsPartly memory leaves.pages pairs count pid) where
+  module _ (chain : List Record) (is : (stands : List Record) → StandsAt memory pid stands → chain ≡ stands) (own : Pairs) (has : HasPage chain own) where
+    same : next_leaf.page.chain ≡ chain
+    same = sym (is next_leaf.page.chain next_leaf.stands)
+
+    with_own : HavePages (at.front ++ next_leaf.page ∷ []) (pairs ++ own)
+    with_own = listed_more at.front (next_leaf.page ∷ []) pairs own at.listed (listed_one chain next_leaf.page own same has)
+
+    right_is : (right : Option ℕ) → right_in chain ≡ right → MatchOption right (next_leaf.later ≡ []) (λ next. IsSideChainFrom memory next next_leaf.later)
+    right_is right e = subst (λ o. MatchOption o (next_leaf.later ≡ []) (λ next. IsSideChainFrom memory next next_leaf.later)) (ap right_in same ∙ e) next_leaf.right
+
     -- the next leaf is to the right
     pub leaf_more : (right : ℕ) → right_in chain ≡ Some right → IsPartly memory leaves.pages (pairs ++ own) (count + 1) right
-    leaf_more right e = go at.rest at.whole at.next
-      where
-        go : (rest : List LivePage) → leaves.pages ≡ at.front ++ rest → IsSideChainFrom memory pid rest → IsPartly memory leaves.pages (pairs ++ own) (count + 1) right
-        go [] whole next = absurd next
-        go (page ∷ pages) whole next =
-            let each : AllByRecursion (IsLeafPage limits memory) (page ∷ pages) = back_all (IsLeafPage limits memory) at.front (page ∷ pages) (subst (AllByRecursion (IsLeafPage limits memory)) whole leaves.each) in
-            let same : page.chain ≡ chain = sym (is page.chain (record { records = next.1.records; fits = each.0.fits })) in record {
-              front = at.front ++ page ∷ [];
-              rest = pages;
-              whole = whole ∙ sym (append_assoc at.front (page ∷ []) pages);
-              long = length-append at.front (page ∷ []) ∙ ap (λ n. n + 1) at.long;
-              listed = listed_more at.front (page ∷ []) pairs own at.listed (listed_one chain page own same has);
-              next = subst (λ o. MatchOption o (pages ≡ []) (λ next. IsSideChainFrom memory next pages)) (ap right_in same ∙ e) next.2;
-            }
+    leaf_more right e = record {
+      front = at.front ++ next_leaf.page ∷ [];
+      rest = next_leaf.later;
+      whole = next_leaf.whole ∙ sym (append_assoc at.front (next_leaf.page ∷ []) next_leaf.later);
+      long = length-append at.front (next_leaf.page ∷ []) ∙ ap (λ n. n + 1) at.long;
+      listed = with_own;
+      next = right_is (Some right) e;
+    }
 
     -- this was the last one
     pub leaf_last : right_in chain ≡ None → HavePages leaves.pages (pairs ++ own)
-    leaf_last e = go at.rest at.whole at.next
-      where
-        go : (rest : List LivePage) → leaves.pages ≡ at.front ++ rest → IsSideChainFrom memory pid rest → HavePages leaves.pages (pairs ++ own)
-        go [] whole next = absurd next
-        go (page ∷ pages) whole next =
-            let each : AllByRecursion (IsLeafPage limits memory) (page ∷ pages) = back_all (IsLeafPage limits memory) at.front (page ∷ pages) (subst (AllByRecursion (IsLeafPage limits memory)) whole leaves.each) in
-            let same : page.chain ≡ chain = sym (is page.chain (record { records = next.1.records; fits = each.0.fits })) in
-            let none : pages ≡ [] = subst (λ o. MatchOption o (pages ≡ []) (λ next. IsSideChainFrom memory next pages)) (ap right_in same ∙ e) next.2 in
-            rw (whole, none) (listed_more at.front (page ∷ []) pairs own at.listed (listed_one chain page own same has))
+    leaf_last e = rw (next_leaf.whole, right_is None e) with_own

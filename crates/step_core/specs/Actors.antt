@@ -25,14 +25,14 @@ pub record IsRunning (limits : Limits) (actor : ℕ) (k : Knowledge) (r : Recall
   pub goes : Goes k r running.op spares running.wanted
 
 -- An actor without an operation rests.
-abbrev pub IsAt : Limits → ℕ → Knowledge → Recalled → Spares → Option Running → Type 0
-IsAt limits actor k r spares None = Rests limits spares k
-IsAt limits actor k r spares (Some running) = IsRunning limits actor k r spares running
+abbrev pub IsActorWith : Limits → ℕ → Knowledge → Recalled → Spares → Option Running → Type 0
+IsActorWith limits actor k r spares None = Rests limits spares k
+IsActorWith limits actor k r spares (Some running) = IsRunning limits actor k r spares running
 
 -- What the actor keeps shows what it knows and recalls. What its entries show as taken and not linked, rows and pages, is
 -- exactly its spares.
 abbrev pub IsActor : Limits → ℕ → Knowledge → Recalled → Actor → Type 0
-IsActor limits actor k r at = IsAt limits actor k r at.hand at.running
+IsActor limits actor k r at = IsActorWith limits actor k r at.hand at.running
 
 -- Whatever the memory answers to the step fits what the actor knows.
 abbrev pub IsServed : Limits → Knowledge → Memory → StepOf Record → Type 0
