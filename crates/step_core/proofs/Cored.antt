@@ -18,19 +18,17 @@ use Rattle.chain_search.specs.Steps.{IsAnswer, memory_after}
 use Rattle.chain_search.specs.Tables.{Table, memory_in}
 use Rattle.chain_search.specs.Trace.{command_of, commands_after, memory_of}
 use Rattle.step_core.specs.declared.actor.Actor.{Actor}
-use Rattle.chain_search.specs.Discipline.{May}
-use Rattle.op_machine.specs.OneLeaf.{IsPlainMove}
+use Rattle.chain_search.specs.Discipline.{IsAllowed, May}
 use Rattle.chain_search.specs.Knowledge.{Knowledge, begun, finished, knows, knows_after, learn}
-use Rattle.core_law.specs.Laws.{AnswersShowLeaf, PlainSteps}
-use Rattle.tree_law.specs.Direct.{Accounts, IsDirectState, StaysDirect}
+use Rattle.tree_law.specs.Direct.{IsDirectState, StaysDirect}
 use Rattle.tree_law.specs.Own.{RowsAreApart}
-use Rattle.tree_law.specs.TraceLaws.{Begins, Grows}
-use Rattle.core_law.specs.State.{IsLeafState}
-use Rattle.chain_search.specs.Recalled.{IsSpent, Recalled, blank, recall, recalls, recalls_after}
-use Rattle.step_core.specs.Actors.{IsActor, IsPlainlyAllowed, IsReady, IsServedAt, IsWithinAt, command_left, knows_then, running_command, wanted_by, wanted_in}
+use Rattle.tree_law.specs.State.{IsState}
+use Rattle.tree_law.specs.TraceLaws.{AnswersFit, Begins, Grows, Steps}
+use Rattle.chain_search.specs.Recalled.{Recalled, blank, recall, recalls, recalls_after}
+use Rattle.step_core.specs.Actors.{IsActor, IsReady, IsServedAt, IsWithinAt, command_left, knows_then, running_command, wanted_by, wanted_in}
 use Rattle.step_core.proofs.Lawful.{Asks, asks, is_placed, served_at, within_at}
 use Rattle.step_core.specs.Cores.{IsCore, Pays}
-use Rattle.step_core.specs.Spending.{RecallsAt, Spends, left_at}
+use Rattle.step_core.specs.Spending.{steps_due}
 use Rattle.step_core.specs.Turns.{Core, Demand, MovesRecordAt, WantsMemory, busy_of, refused_by, refusal_of}
 use Rattle.step_core.proofs.Replaced.{get_below, get_is, replaced_other, replaced_same, set_cases, set_length}
 
@@ -61,40 +59,46 @@ each_set actors i new old now each own others a at e = elim (set_cases actors i 
 ]
 
 -- each actor shows what the longer trace lets it know, where one actor learns something
-shows_set : (limits : Limits) (actors : List Actor) (i : ℕ) (new : Actor) (old now : ℕ → Knowledge) → ((a : ℕ) (at : Actor) → slice_get actors a ≡ Some at → IsActor limits a (old a) at)
-    → IsActor limits i (now i) new → ((a : ℕ) → a ≢ i → now a ≡ old a) → (a : ℕ) (at : Actor) → slice_get (set actors i new) a ≡ Some at → IsActor limits a (now a) at
-shows_set limits actors i new old now each own others a at e = elim (set_cases actors i new a at e) [
+shows_set : (limits : Limits) (actors : List Actor) (i : ℕ) (new : Actor) (old now : ℕ → Knowledge) (before after : ℕ → Recalled) → ((a : ℕ) (at : Actor) → slice_get actors a ≡ Some at → IsActor limits a (old a) (before a) at)
+    → IsActor limits i (now i) (after i) new → ((a : ℕ) → a ≢ i → now a ≡ old a) → ((a : ℕ) → a ≢ i → after a ≡ before a) → (a : ℕ) (at : Actor) → slice_get (set actors i new) a ≡ Some at → IsActor limits a (now a) (after a) at
+shows_set limits actors i new old now before after each own others rest a at e = elim (set_cases actors i new a at e) [
   | inl h ↦ rw (h.0, h.1) own
-  | inr h ↦ subst (λ k. IsActor limits a k at) (sym (others a h.0)) (each a at h.1)
+  | inr h ↦ rw (others a h.0, rest a h.0) (each a at h.1)
 ]
 
 -- each operation is paid for after the longer trace too
-pays_set : (limits : Limits) (actors : List Actor) (entries : List Entry) (entry : Entry) (i : ℕ) (new : Actor) → Grows limits entries entry → ((a : ℕ) (at : Actor) → slice_get actors a ≡ Some at → Pays limits entries a at.running)
-    → RecallsAt new.running (recalls_after (recalls entries) entry i) → ((a : ℕ) → a ≢ i → recalls_after (recalls entries) entry a ≡ recalls entries a) → StaysDirect limits entries entry i (left_at new.running)
-    → (a : ℕ) (at : Actor) → slice_get (set actors i new) a ≡ Some at → Pays limits (entries ++ entry ∷ []) a at.running
-pays_set limits actors entries entry i new grows each own others stays a at e = elim (set_cases actors i new a at e) [
-  | inl h ↦ rw (h.0, h.1) (rw grows.recalled own, stays.account)
-  | inr h ↦ let was = each a at h.1 in (rw (grows.recalled, others a h.0) was.0, stays.others a (left_at at.running) h.0 was.1)
+pays_set : (limits : Limits) (actors : List Actor) (entries : List Entry) (entry : Entry) (i : ℕ) (new : Actor) → Grows limits entries entry → ((a : ℕ) (at : Actor) → slice_get actors a ≡ Some at → Pays limits entries a at)
+    → ((a : ℕ) → a ≢ i → recalls_after (recalls entries) entry a ≡ recalls entries a) → StaysDirect limits entries entry i (steps_due (recalls_after (recalls entries) entry i) new.hand new.running)
+    → (a : ℕ) (at : Actor) → slice_get (set actors i new) a ≡ Some at → Pays limits (entries ++ entry ∷ []) a at
+pays_set limits actors entries entry i new grows each others stays a at e = elim (set_cases actors i new a at e) [
+  | inl h ↦ rw (h.0, h.1) (rw grows.recalled stays.account)
+  | inr h ↦ rw (grows.recalled, others a h.0) (stays.others a (steps_due (recalls entries a) at.hand at.running) h.0 (each a at h.1))
 ]
 
 module _ (limits : Limits) where
   pub core_opens : (table : Table) (actors : List Actor) (entries : List Entry) → table.limits ≡ limits → memory_in table ≡ opening limits → length actors ≡ limits.actors
-      → ((a : ℕ) (at : Actor) → slice_get actors a ≡ Some at → at ≡ record { hand = []; running = None }) → IsLeafState limits [] → IsDirectState limits [] → entries ≡ [] → IsCore limits table actors entries
+      → ((a : ℕ) (at : Actor) → slice_get actors a ≡ Some at → at ≡ record { hand = record { pid = None; rows = [] }; running = None }) → IsState limits [] → IsDirectState limits [] → entries ≡ [] → IsCore limits table actors entries
   core_opens table actors entries same has count each state direct none = rw none (record {
     state = state;
     direct = direct;
     same_limits = same;
     has = has;
     count = count;
-    each_shows = λ a at e. rw (each a at e) (record { shows = record { hand = record { rows = λ k d h. absurd (omega arith); room = omega arith }; rests = record { outside = refl; pageless = λ page. refl; spare = tt } }; holds = λ row own. absurd own });
+    each_shows = λ a at e. rw (each a at e) (record {
+      outside = refl;
+      spare = record {
+        room = record { pid = tt; rows = λ row d h. absurd (omega arith); few = omega arith };
+        rest = record { are = record { rows = tt; all_rows = λ row own. absurd own; page = tt; all_pages = λ page own. absurd own }; unset = λ page row ready. cc };
+      };
+    });
     each_running = λ a at e. rw (each a at e) refl;
-    each_pays = λ a at e. rw (each a at e) (tt, λ operation last own. cc);
+    each_pays = λ a at e. rw (each a at e) (λ operation last own. cc);
   })
 
   -- the actor of a turn that isn't refused
   pub core_begins : (table : Table) (actors : List Actor) (entries : List Entry) (i j : ℕ) (old : Actor) (command : Command) → IsCore limits table actors entries
       → (demand : Demand) (v : Core) → record { limits = limits; entries = entries; demand = demand } ≡ v → refusal_of v (turn.Begin i command) ≡ None → j ≡ i → old ≡ get_or actors j old
-      → (j < length actors) × IsActor limits i (knows entries i) old × (running_command old ≡ None)
+      → (j < length actors) × IsActor limits i (knows entries i) (recalls entries i) old × (running_command old ≡ None)
   core_begins table actors entries i j old command core demand v is refusal same at =
       let goes : (i < limits.actors) × (command_of entries i ≡ None) = begin_goes (record { limits = limits; entries = entries; demand = demand }) i command (subst (λ u. refusal_of u (turn.Begin i command) ≡ None) (sym is) refusal) in
       let lt : i < length actors = rw core.count goes.0 in
@@ -108,9 +112,9 @@ module _ (limits : Limits) where
       let lt : i < limits.actors = rw (← core.count) (get_below actors i at found) in
       rw (← is, lt-ltb i limits.actors lt, core.each_running i at found) refl
 
-  pub core_asks : RowsAreApart → AnswersShowLeaf → (table : Table) (actors : List Actor) (entries : List Entry) (i j : ℕ) (old : Actor) → IsCore limits table actors entries
+  pub core_asks : RowsAreApart → AnswersFit → (table : Table) (actors : List Actor) (entries : List Entry) (i j : ℕ) (old : Actor) → IsCore limits table actors entries
       → (demand : Demand) (v : Core) → record { limits = limits; entries = entries; demand = demand } ≡ v → refusal_of v (turn.Step i) ≡ None → j ≡ i → old ≡ get_or actors j old
-      → (i < limits.actors) × (j < length actors) × IsReady limits i (knows entries i) (memory_in table) old × (is_some (running_command old) ≡ true) × IsWithinAt table i old.running
+      → (i < limits.actors) × (j < length actors) × IsReady limits i (knows entries i) (recalls entries i) (memory_in table) old × (is_some (running_command old) ≡ true) × IsWithinAt table i old.running
   core_asks apart fit table actors entries i j old core demand v is refusal same at =
       let goes : (i < limits.actors) × (is_some (command_of entries i) ≡ true) = step_goes (record { limits = limits; entries = entries; demand = demand }) i (subst (λ u. refusal_of u (turn.Step i) ≡ None) (sym is) refusal) in
       let lt : i < length actors = rw core.count goes.0 in
@@ -118,9 +122,9 @@ module _ (limits : Limits) where
       let shows = core.each_shows i old found in (
         goes.0,
         rw same lt,
-        (shows, subst (λ m. IsServedAt limits (knows entries i) m old.running) (sym core.has) (served_at limits entries core.state apart i fit old.hand old.running shows.shows)),
+        (shows, subst (λ m. IsServedAt limits (knows entries i) m old.running) (sym core.has) (served_at limits entries core.state i fit (recalls entries i) old.hand old.running shows)),
         ap is_some (core.each_running i old found) ∙ goes.1,
-        within_at limits entries core.state apart i table core.same_limits core.has goes.0 old.hand old.running shows.shows,
+        within_at limits entries core.state i apart table core.same_limits core.has goes.0 (recalls entries i) old.hand old.running shows,
       )
 
   -- a step that moves a record may want memory
@@ -134,11 +138,11 @@ module _ (limits : Limits) where
       let wanted : slice_get (wanted_in actors) i ≡ Some (wanted_by old.running) = slice_get-map (λ (at : Actor). wanted_by at.running) actors i ∙ ap (option_map (λ (at : Actor). wanted_by at.running)) found in
       subst (λ u. WantsMemory u (turn.Step i)) is (inr (wanted_by old.running, wanted, moves))
 
-  pub core_begun : Begins IsLeafState → (table : Table) (actors : List Actor) (entries entries' : List Entry) (i j : ℕ) (new : Actor) (command : Command) → IsCore limits table actors entries
+  pub core_begun : Begins IsState → (table : Table) (actors : List Actor) (entries entries' : List Entry) (i j : ℕ) (new : Actor) (command : Command) → IsCore limits table actors entries
       → (demand : Demand) (v : Core) → record { limits = limits; entries = entries; demand = demand } ≡ v → refusal_of v (turn.Begin i command) ≡ None → j ≡ i
-      → IsActor limits i (begun (knows entries i) command) new → running_command new ≡ Some command → ((r : Recalled) → RecallsAt new.running r) → Grows limits entries (Begin i command) → StaysDirect limits entries (Begin i command) i (left_at new.running)
+      → IsActor limits i (begun (knows entries i) command) blank new → running_command new ≡ Some command → Grows limits entries (Begin i command) → StaysDirect limits entries (Begin i command) i (steps_due blank new.hand new.running)
       → entries' ≡ entries ++ Begin i command ∷ [] → IsCore limits table (set actors j new) entries'
-  core_begun begins table actors entries entries' i j new command core demand v is refusal same shows runs recalled grows stays grown =
+  core_begun begins table actors entries entries' i j new command core demand v is refusal same shows runs grows stays grown =
       let goes : (i < limits.actors) × (command_of entries i ≡ None) = begin_goes (record { limits = limits; entries = entries; demand = demand }) i command (subst (λ u. refusal_of u (turn.Begin i command) ≡ None) (sym is) refusal) in
       rw (grown, same) (record {
         state = begins limits entries i command core.state goes.0 goes.1;
@@ -146,13 +150,15 @@ module _ (limits : Limits) where
         same_limits = core.same_limits;
         has = rw grows.memory core.has;
         count = set_length actors i new ∙ core.count;
-        each_shows = rw grows.known (shows_set limits actors i new (knows entries) (knows_after (knows entries) (Begin i command)) core.each_shows
-            (subst (λ k. IsActor limits i k new) (sym (replaced_same i (begun (knows entries i) command) (knows entries))) shows)
-            (λ a other. replaced_other i (begun (knows entries i) command) (knows entries) a other));
+        each_shows = rw (grows.known, grows.recalled) (shows_set limits actors i new (knows entries) (knows_after (knows entries) (Begin i command)) (recalls entries) (recalls_after (recalls entries) (Begin i command)) core.each_shows
+            (rw (replaced_same i (begun (knows entries i) command) (knows entries), replaced_same i blank (recalls entries)) shows)
+            (λ a other. replaced_other i (begun (knows entries i) command) (knows entries) a other)
+            (λ a other. replaced_other i blank (recalls entries) a other));
         each_running = rw grows.commands (each_set actors i new (command_of entries) (commands_after (command_of entries) (Begin i command)) core.each_running
             (runs ∙ sym (replaced_same i (Some command) (command_of entries)))
             (λ a other. replaced_other i (Some command) (command_of entries) a other));
-        each_pays = pays_set limits actors entries (Begin i command) i new grows core.each_pays (recalled (recalls_after (recalls entries) (Begin i command) i)) (λ a other. replaced_other i blank (recalls entries) a other) stays;
+        each_pays = pays_set limits actors entries (Begin i command) i new grows core.each_pays (λ a other. replaced_other i blank (recalls entries) a other)
+            (subst (λ r. StaysDirect limits entries (Begin i command) i (steps_due r new.hand new.running)) (sym (replaced_same i blank (recalls entries))) stays);
       })
 
   -- the commands after a step
@@ -166,37 +172,33 @@ module _ (limits : Limits) where
 
   -- what the step of an actor was
   pub core_took : RowsAreApart → (table : Table) (actors : List Actor) (entries : List Entry) (i : ℕ) (step : StepOf Record) (answer : Answer Record) → IsCore limits table actors entries → IsAnswer (memory_in table) step answer
-      → May i (knows entries i) step → IsPlainMove (knows entries i) step → Asks (is_placed (memory_of limits entries)) step × IsAnswer (memory_of limits entries) step answer
-  core_took apart table actors entries i step answer core answered may plain = (asks limits entries core.state apart i step may plain, subst (λ m. IsAnswer m step answer) core.has answered)
+      → May i (knows entries i) step → Asks (is_placed (memory_of limits entries)) step × IsAnswer (memory_of limits entries) step answer
+  core_took apart table actors entries i step answer core answered may = (asks limits entries core.state i apart step may, subst (λ m. IsAnswer m step answer) core.has answered)
 
-  -- the actor can afford its step
-  pub core_affords : (table : Table) (actors : List Actor) (entries : List Entry) (i j : ℕ) (old new : Actor) (step : StepOf Record) (answer : Answer Record) → IsCore limits table actors entries → j ≡ i → j < length actors → old ≡ get_or actors j old
-      → Spends old.running step answer new.running
-      → Accounts limits entries i (left_at old.running) × IsSpent (recalls entries i) step answer (left_at old.running) (left_at new.running) × RecallsAt new.running (recall (recalls entries i) step answer)
-  core_affords table actors entries i j old new step answer core same lt at spends =
-      let paid = core.each_pays i old (get_is actors i old (rw (sym same) lt) (subst (λ k. old ≡ get_or actors k old) same at)) in
-      let spent = spends (recalls entries i) paid.0 in
-      (paid.1, spent.1, spent.0)
+  -- causes have paid for the actor's steps so far
+  pub core_affords : (table : Table) (actors : List Actor) (entries : List Entry) (i j : ℕ) (old : Actor) → IsCore limits table actors entries → j ≡ i → j < length actors → old ≡ get_or actors j old → Pays limits entries i old
+  core_affords table actors entries i j old core same lt at = core.each_pays i old (get_is actors i old (rw (sym same) lt) (subst (λ k. old ≡ get_or actors k old) same at))
 
-  pub core_stepped : PlainSteps → (table table' : Table) (actors : List Actor) (entries entries' : List Entry) (i j : ℕ) (old new : Actor) (step : StepOf Record) (answer : Answer Record) (reply : Option Reply) → IsCore limits table actors entries
-      → j ≡ i → j < length actors → old ≡ get_or actors j old → is_some (running_command old) ≡ true → IsPlainlyAllowed limits i (knows entries i) step reply → IsActor limits i (knows_then (knows entries i) step answer reply) new
-      → running_command new ≡ command_left reply (running_command old) → RecallsAt new.running (recall (recalls entries i) step answer) → Grows limits entries (Step i step answer reply) → StaysDirect limits entries (Step i step answer reply) i (left_at new.running) → table'.limits ≡ table.limits → IsAnswer (memory_of limits entries) step answer
-      → memory_in table' ≡ memory_after i step (memory_in table) → entries' ≡ entries ++ Step i step answer reply ∷ [] → IsCore limits table' (set actors j new) entries'
-  core_stepped plain_steps table table' actors entries entries' i j old new step answer reply core same lt at some allowed shows runs recalled grows stays kept_limits answered kept grown =
+  pub core_stepped : Steps → (table table' : Table) (actors : List Actor) (entries entries' : List Entry) (i j : ℕ) (old new : Actor) (step : StepOf Record) (answer : Answer Record) (reply : Option Reply) → IsCore limits table actors entries
+      → j ≡ i → j < length actors → old ≡ get_or actors j old → is_some (running_command old) ≡ true → IsAllowed limits i (knows entries i) step reply → IsActor limits i (knows_then (knows entries i) step answer reply) (recall (recalls entries i) step answer) new
+      → running_command new ≡ command_left reply (running_command old) → Grows limits entries (Step i step answer reply) → StaysDirect limits entries (Step i step answer reply) i (steps_due (recall (recalls entries i) step answer) new.hand new.running)
+      → table'.limits ≡ table.limits → IsAnswer (memory_of limits entries) step answer → memory_in table' ≡ memory_after i step (memory_in table) → entries' ≡ entries ++ Step i step answer reply ∷ [] → IsCore limits table' (set actors j new) entries'
+  core_stepped steps table table' actors entries entries' i j old new step answer reply core same lt at some allowed shows runs grows stays kept_limits answered kept grown =
       let found : slice_get actors i ≡ Some old = get_is actors i old (rw (sym same) lt) (subst (λ k. old ≡ get_or actors k old) same at) in
       let going : is_some (command_of entries i) ≡ true = ap is_some (sym (core.each_running i old found)) ∙ some in
       rw (grown, same) (record {
-        state = plain_steps limits entries i step answer reply core.state going allowed.allowed allowed.plain answered;
+        state = steps limits entries i step answer reply core.state going allowed answered;
         direct = stays.state;
         same_limits = kept_limits ∙ core.same_limits;
         has = rw grows.memory (kept ∙ ap (memory_after i step) core.has);
         count = set_length actors i new ∙ core.count;
-        each_shows = rw grows.known (shows_set limits actors i new (knows entries) (knows_after (knows entries) (Step i step answer reply)) core.each_shows
-            (subst (λ k. IsActor limits i k new) (sym (replaced_same i (finished (learn (knows entries i) step answer) reply) (knows entries))) shows)
-            (λ a other. replaced_other i (finished (learn (knows entries i) step answer) reply) (knows entries) a other));
+        each_shows = rw (grows.known, grows.recalled) (shows_set limits actors i new (knows entries) (knows_after (knows entries) (Step i step answer reply)) (recalls entries) (recalls_after (recalls entries) (Step i step answer reply)) core.each_shows
+            (rw (replaced_same i (finished (learn (knows entries i) step answer) reply) (knows entries), replaced_same i (recall (recalls entries i) step answer) (recalls entries)) shows)
+            (λ a other. replaced_other i (finished (learn (knows entries i) step answer) reply) (knows entries) a other)
+            (λ a other. replaced_other i (recall (recalls entries i) step answer) (recalls entries) a other));
         each_running = rw grows.commands (each_set actors i new (command_of entries) (commands_after (command_of entries) (Step i step answer reply)) core.each_running
             (runs ∙ ap (command_left reply) (core.each_running i old found) ∙ left_same (command_of entries) i step answer reply)
             (left_other (command_of entries) i step answer reply));
-        each_pays = pays_set limits actors entries (Step i step answer reply) i new grows core.each_pays (subst (RecallsAt new.running) (sym (replaced_same i (recall (recalls entries i) step answer) (recalls entries))) recalled)
-            (λ a other. replaced_other i (recall (recalls entries i) step answer) (recalls entries) a other) stays;
+        each_pays = pays_set limits actors entries (Step i step answer reply) i new grows core.each_pays (λ a other. replaced_other i (recall (recalls entries i) step answer) (recalls entries) a other)
+            (subst (λ r. StaysDirect limits entries (Step i step answer reply) i (steps_due r new.hand new.running)) (sym (replaced_same i (recall (recalls entries i) step answer) (recalls entries))) stays);
       })

@@ -2,9 +2,10 @@ pub mod Chaining
 pub mod Cored
 pub mod Going
 pub mod Lawful
+pub mod LeafPairs
 pub mod Linked
 pub mod Listings
 pub mod Replaced
 pub mod Stopping
+pub mod Walking
 pub mod Spending
-pub mod Holding

@@ -53,7 +53,7 @@ linked memory (Exchange slot old new) (Whether true) closed asks answered = go (
     go false s false p true q =
         some_at link_without (memory.rows old)
         (subst (λ row. IsTrue (is_placed memory row)) before (closed slot (positive slot s) (subst (λ row. 0 < row) (sym before) (positive old p))))
-    go false s false p false q = some_at record_link (memory.rows new) asks
+    go false s false p false q = some_at record_link (memory.rows new) (asks (positive slot s) (positive old p) (positive new q))
 linked memory (Exchange slot old new) (Whether false) closed asks answered = refl
 linked memory (Exchange slot old new) Start closed asks answered = refl
 linked memory (Exchange slot old new) (Number n) closed asks answered = refl

@@ -1,110 +1,157 @@
--- The pairs of page 1 are those of the log.
-use Rattle.std.proofs.Common.{◌≡◌, ℕ, List, [], ◌∷◌, length, map, Bool, true, false, Option, Some, None, refl, sym, subst, ap, ◌∙◌, arith}
-use Rattle.std.specs.Prelude.{IsTrue, if◌then◌else◌, ◌↔◌}
+-- The pairs of the leaves are those of the log.
+use Rattle.std.proofs.Common.{◌≡◌, inl, inr, ℕ, zero, suc, List, [], ◌∷◌, ◌++◌, length, map, true, Option, Some, None, refl, sym, subst, ap, ◌∙◌, arith}
+use Rattle.std.specs.Prelude.{IsTrue, MatchOption}
 use Rattle.std.specs.List.{AllByRecursion, Contains}
 use Rattle.std.specs.List.Sorted.{IsStrictlySortedBy}
-use Rattle.std.specs.Map.{lookup}
-use Rattle.std.specs.Ordering.{eq_by_cmp, is_eq}
-use Rattle.std.proofs.lemmas.Cmp.{eq_by_cmp_equiv, nat_list_cmp_total}
-use Rattle.std.proofs.lemmas.List.{take_all}
-use Rattle.std.proofs.lemmas.List.Elements.{recursion_from_All}
-use Rattle.std.proofs.lemmas.Map.Keys.{IsDistinct-from_sorted}
-use Rattle.std.proofs.lemmas.Map.Lookups.{exact_bytes}
-use Rattle.std.proofs.lemmas.Map.Views.{Contains-from_lookup, lookup-from_Contains, tells_apart}
+use Rattle.std.specs.Ordering.{is_lt}
+use Rattle.std.specs.declared.cmp.Ordering.{Ordering}
+use Rattle.std.specs.declared.cmp.Ordering.TheVariants.{Less, Equal, Greater}
+use Rattle.std.proofs.lemmas.List.{append-nil}
+use Rattle.std.proofs.lemmas.List.Elements.{All-contains, All-from_recursion, Contains-append_cases, Contains-append_left, Contains-append_right}
 use Rattle.bw_model.specs.Bytes.{is_in_range, key_cmp}
 use Rattle.bw_model.specs.declared.limits.Limits.{Limits}
-use Rattle.base_page.specs.declared.item.Content.{Content}
-use Rattle.base_page.specs.declared.item.Content.TheVariants.{Child, Value}
-use Rattle.base_page.specs.declared.item.Item.{Item}
-use Rattle.base_page.specs.Pages.{IsOfLevel, content_at, value_in}
-use Rattle.deltas.specs.declared.record.Record.{Record}
-use Rattle.chain_search.specs.declared.trace.Entry.{Entry}
-use Rattle.chain_search.specs.Chains.{content_in, level_in}
+use Rattle.base_page.specs.declared.item.Content.TheVariants.{Value}
+use Rattle.base_page.proofs.ItemLaws.{all-append, all-weaker}
 use Rattle.deltas.specs.Memory.{Memory}
+use Rattle.chain_search.specs.declared.trace.Entry.{Entry}
+use Rattle.chain_search.specs.Chains.{content_in, covers, high_in, level_in, low_in}
+use Rattle.chain_search.specs.SideChain.{IsSideChainFrom, IsWholeFrom, LivePage}
 use Rattle.chain_search.specs.Tables.{Table, memory_in}
 use Rattle.chain_search.specs.Trace.{memory_of}
-use Rattle.core_law.specs.Laws.{LeafStands}
-use Rattle.core_law.specs.State.{HasLeafChain}
-use Rattle.op_machine.proofs.MapLaws.{none_below_empty, one_leaf_spells}
-use Rattle.op_machine.specs.Points.{log_of}
-use Rattle.op_machine.specs.Quiet.{HasMapOf}
+use Rattle.tree_law.specs.Keys.{Covers, IsBelow, IsUnder, IsUpTo, Key}
+use Rattle.tree_law.specs.Leaves.{HasLeafPages, IsLeafPage}
+use Rattle.tree_law.specs.TraceLaws.{LeavesHaveMap, LeavesStand}
+use Rattle.tree_law.proofs.shape.KeyOrder.{below_not, below_upto, covers_to, empty_lowest, upto_trans}
 use Rattle.step_core.specs.declared.actor.Actor.{Actor}
 use Rattle.step_core.specs.Cores.{IsCore}
-use Rattle.step_core.specs.Listed.{HasPage, IsListing, StandsAt, pairs_of, with_pair}
+use Rattle.step_core.specs.Listed.{HavePages, IsListing}
 use Rattle.step_core.specs.Turns.{Core, Demand}
+use Rattle.step_core.proofs.LeafPairs.{ascending, exact, inside, spans}
+use Rattle.step_core.proofs.Walking.{Pairs}
+
+abbrev keys : Pairs → List (List ℕ)
+keys pairs = map (λ pair. pair.0) pairs
+
+abbrev AreLeaf : LivePage → Type 0
+AreLeaf page = level_in page.chain ≡ 0
 
 everywhere : (key : List ℕ) → IsTrue (is_in_range [] None key)
-everywhere key = rw none_below_empty refl
+everywhere key = rw (empty_lowest key) refl
 
-abbrev AreValues : List Item → Type 0
-AreValues items = AllByRecursion (λ item. IsOfLevel 0 item.content) items
-
--- a leaf's pairs have the keys of its items
-same_keys : (items : List Item) → AreValues items → map (λ pair. pair.0) (pairs_of items) ≡ map (λ item. item.key) items
-same_keys [] are = refl
-same_keys (item ∷ items) are = go item.content are.0 (same_keys items are.1)
+below_less : (a b : Key) → IsBelow a b → key_cmp a b ≡ Less
+below_less a b h = go (key_cmp a b) h
   where
-    go : (content : Content) → IsOfLevel 0 content → map (λ pair. pair.0) (pairs_of items) ≡ map (λ item. item.key) items
-        → map (λ pair. pair.0) (with_pair item.key content (pairs_of items)) ≡ item.key ∷ map (λ item. item.key) items
-    go (Value value) is rest = ap (λ keys. item.key ∷ keys) rest
-    go (Child page held) is rest = absurd (omega (arith, is))
+    go : (o : Ordering) → is_lt o ≡ true → o ≡ Less
+    go Less e = refl
+    go Equal e = cc
+    go Greater e = cc
 
--- at each key they have what the items have there
-same_values : (items : List Item) → AreValues items → (key : List ℕ) → lookup (eq_by_cmp key_cmp key) (pairs_of items) ≡ value_in (content_at items key)
-same_values [] are key = refl
-same_values (item ∷ items) are key = go item.content are.0 (same_values items are.1 key) (is_eq (key_cmp key item.key)) refl
+-- ---- in the order of their keys
+all_keys : (P : List ℕ → Type 0) (pairs : Pairs) → AllByRecursion (λ pair. P pair.0) pairs → AllByRecursion P (keys pairs)
+all_keys P [] each = tt
+all_keys P (pair ∷ pairs) each = (each.0, all_keys P pairs each.1)
+
+of_all_keys : (P : List ℕ → Type 0) (pairs : Pairs) → AllByRecursion P (keys pairs) → AllByRecursion (λ pair. P pair.0) pairs
+of_all_keys P [] each = tt
+of_all_keys P (pair ∷ pairs) each = (each.0, of_all_keys P pairs each.1)
+
+join : (front back : Pairs) → IsStrictlySortedBy key_cmp (keys front) → IsStrictlySortedBy key_cmp (keys back) → AllByRecursion (λ pair. AllByRecursion (λ other. key_cmp pair.0 other.0 ≡ Less) back) front → IsStrictlySortedBy key_cmp (keys (front ++ back))
+unfolding IsStrictlySortedBy
+join [] back first second across = second
+join (pair ∷ front) back first second across = (
+  all_keys (λ key. key_cmp pair.0 key ≡ Less) (front ++ back) (all-append _ front back (of_all_keys (λ key. key_cmp pair.0 key ≡ Less) front first.0) across.0),
+  join front back first.1 second across.1,
+)
+
+-- the pairs are at or above the low key, and ascend
+abbrev Ascend : Key → Pairs → Type 0
+Ascend low pairs = AllByRecursion (λ pair. IsUpTo low pair.0) pairs × IsStrictlySortedBy key_cmp (keys pairs)
+
+ascends : (low : Key) (pages : List LivePage) (pairs : Pairs) → IsWholeFrom low pages → AllByRecursion AreLeaf pages → HavePages pages pairs → Ascend low pairs
+ascends low [] pairs whole leaf has = absurd whole
+ascends low (page ∷ pages) pairs whole leaf (own, rest, is, others, all) = go (λ high next. ascends high pages rest next leaf.1 others) (high_in page.chain) refl whole.1
   where
-    go : (content : Content) → IsOfLevel 0 content → lookup (eq_by_cmp key_cmp key) (pairs_of items) ≡ value_in (content_at items key) → (same : Bool) → is_eq (key_cmp key item.key) ≡ same
-        → lookup (eq_by_cmp key_cmp key) (with_pair item.key content (pairs_of items)) ≡ value_in (if is_eq (key_cmp key item.key) then Some content else content_at items key)
-    go (Value value) is rest true same = rw same refl
-    go (Value value) is rest false same = rw same rest
-    go (Child page held) is rest same e = absurd (omega (arith, is))
+    in_page : AllByRecursion (λ pair. Covers page.chain pair.0) own
+    in_page = inside page.chain leaf.0 own is
 
-value_is : (content : Option Content) (value : List ℕ) → value_in content ≡ Some value → content ≡ Some (Value value)
-value_is None value e = cc
-value_is (Some (Value other)) value e = let same : other ≡ value = cc in ap (λ v. Some (Value v)) same
-value_is (Some (Child page held)) value e = cc
+    above : AllByRecursion (λ pair. IsUpTo low pair.0) own
+    above = all-weaker _ (λ pair. IsUpTo low pair.0) (λ pair c. subst (λ key. IsUpTo key pair.0) whole.0 c.low) own in_page
 
--- a leaf's pairs are in the order of their keys, and are the values that its chain decides
-module _ (chain : List Record) (leaf : level_in chain ≡ 0) (pairs : List (List ℕ × List ℕ)) (has : HasPage chain pairs) where
-  values : AreValues has.page.items
-  values = subst (λ level. AllByRecursion (λ (item : Item). IsOfLevel level item.content) has.page.items) (has.makes.level ∙ leaf) (recursion_from_All _ has.page.items has.ruled.is_page.kinds)
+    go : ((high : Key) → IsWholeFrom high pages → Ascend high rest) → (high : Option Key) → high_in page.chain ≡ high → MatchOption high (pages ≡ []) (λ next. IsWholeFrom next pages) → Ascend low pairs
+    go after None e last =
+        let none : rest ≡ [] = subst (λ ps. HavePages ps rest) last others in
+        let only : pairs ≡ own = all ∙ ap (λ ps. own ++ ps) none ∙ append-nil own in
+        rw only (above, ascending page.chain leaf.0 own is)
+    go after (Some high) e next =
+        let later = after high next in
+        let under : IsBelow low high = rw (← whole.0) (subst (IsUnder (low_in page.chain)) e (spans page.chain leaf.0 own is)) in
+        let across : AllByRecursion (λ pair. AllByRecursion (λ other. key_cmp pair.0 other.0 ≡ Less) rest) own = all-weaker _ (λ pair. AllByRecursion (λ other. key_cmp pair.0 other.0 ≡ Less) rest)
+        (λ pair c. all-weaker _ (λ other. key_cmp pair.0 other.0 ≡ Less) (λ other from. below_less pair.0 other.0 (below_upto pair.0 high other.0 (subst (IsUnder pair.0) e c.high) from)) rest later.0) own in_page in
+        rw all (
+          all-append _ own rest above (all-weaker _ (λ pair. IsUpTo low pair.0) (λ pair from. upto_trans low high pair.0 (below_not low high under) from) rest later.0),
+          join own rest (ascending page.chain leaf.0 own is) later.1 across,
+        )
 
-  ascending : IsStrictlySortedBy key_cmp (map (λ pair. pair.0) pairs)
-  ascending = rw (has.are, same_keys has.page.items values) has.makes.items.ascending
+-- ---- what is listed, and what a page has
+-- a page of these has the value at the key
+record IsSaid (pages : List LivePage) (key value : List ℕ) : Type 0 where
+  pub page : LivePage
+  pub among : Contains pages page
+  pub covered : IsTrue (covers page.chain key)
+  pub says : content_in page.chain key ≡ Some (Value value)
 
-  decided : (key : List ℕ) → lookup (eq_by_cmp key_cmp key) pairs ≡ value_in (content_in chain key)
-  decided key = rw has.are (same_values has.page.items values key) ∙ ap value_in (has.makes.items.contents key)
+later_page : (first page : LivePage) (pages : List LivePage) → Contains pages page → Contains (first ∷ pages) page
+later_page first page pages among = Contains-append_right (first ∷ []) pages page among
 
-  exact : (key value : List ℕ) → Contains pairs (key, value) ↔ (content_in chain key ≡ Some (Value value))
-  exact key value = (
-    (λ among. value_is (content_in chain key) value (sym (decided key) ∙ lookup-from_Contains (eq_by_cmp_equiv nat_list_cmp_total) key value pairs (IsDistinct-from_sorted key_cmp (map (λ pair. pair.0) pairs) ascending) among)),
-    (λ says. Contains-from_lookup (tells_apart exact_bytes) key value pairs (decided key ∙ ap value_in says)),
-  )
+listed_said : (pages : List LivePage) (pairs : Pairs) → AllByRecursion AreLeaf pages → HavePages pages pairs → (key value : List ℕ) → Contains pairs (key, value) → IsSaid pages key value
+listed_said [] pairs leaf none key value (n, lt, at) = let empty : length pairs ≡ 0 = ap length none in absurd (omega (arith, lt, empty))
+listed_said (page ∷ pages) pairs leaf (own, rest, is, others, all) key value among = elim (Contains-append_cases own rest (key, value) (subst (λ ps. Contains ps (key, value)) all among)) [
+  | inl here ↦ record {
+    page = page;
+    among = Contains-append_left (page ∷ []) pages page (0, omega arith, refl);
+    covered = covers_to page.chain key (All-contains (λ pair. Covers page.chain pair.0) own (key, value) (All-from_recursion _ own (inside page.chain leaf.0 own is)) here);
+    says = (exact page.chain leaf.0 own is key value).0 here;
+  }
+  | inr later ↦ let said = listed_said pages rest leaf.1 others key value later in record { page = said.page; among = later_page page said.page pages said.among; covered = said.covered; says = said.says }
+]
+
+said_listed : (pages : List LivePage) (pairs : Pairs) → AllByRecursion AreLeaf pages → HavePages pages pairs → (key value : List ℕ) (page : LivePage) → Contains pages page → content_in page.chain key ≡ Some (Value value) → Contains pairs (key, value)
+said_listed [] pairs leaf none key value page (n, lt, at) says = absurd (omega (arith, lt))
+said_listed (first ∷ pages) pairs leaf (own, rest, is, others, all) key value page among says = elim (Contains-append_cases (first ∷ []) pages page among) [
+  | inl here ↦ rw all (Contains-append_left own rest (key, value) ((exact first.chain leaf.0 own is key value).1 (subst (λ (p : LivePage). content_in p.chain key ≡ Some (Value value)) (alone here) says)))
+  | inr later ↦ rw all (Contains-append_right own rest (key, value) (said_listed pages rest leaf.1 others key value page later says))
+]
+  where
+    alone : Contains (first ∷ []) page → page ≡ first
+    alone (zero, lt, at) = sym at
+    alone (suc n, lt, at) = absurd (omega (arith, lt))
+
+-- a page begins one side chain
+abbrev IsOneSide : Type 0
+IsOneSide = (memory : Memory) (pid : ℕ) (one two : List LivePage) → IsSideChainFrom memory pid one → IsSideChainFrom memory pid two → one ≡ two
 
 module _ (limits : Limits) (entries : List Entry) where
-  -- what the only leaf's chain decides is what the log says, by whatever points
-  leaf_is_listed : (only : HasLeafChain (memory_of limits entries)) (pairs : List (List ℕ × List ℕ)) → HasPage only.chain pairs → IsListing limits entries pairs
-  leaf_is_listed only pairs has linear =
-      let there : HasMapOf (memory_of limits entries) (log_of entries linear.points) = rw (take_all (length entries) entries (omega arith), take_all (length entries) linear.points (omega (arith, linear.pointed.beside))) at (linear.quiet.at_each (length entries) (omega arith)) in
-      let spells = one_leaf_spells (memory_of limits entries) only.chain only.is_chain only.leaf.right only.leaf.low only.leaf.high in
+  leaves_are_listed : LeavesHaveMap → IsOneSide → (leaves : HasLeafPages limits (memory_of limits entries)) (pairs : Pairs) → HavePages leaves.pages pairs → IsListing limits entries pairs
+  leaves_are_listed have one leaves pairs has linear =
+      let there = have limits entries linear in
+      let leaf : AllByRecursion AreLeaf leaves.pages = all-weaker (IsLeafPage limits (memory_of limits entries)) AreLeaf (λ page is. is.level) leaves.pages leaves.each in
       record {
-        ascending = ascending only.chain only.leaf.level pairs has;
+        ascending = (ascends [] leaves.pages pairs leaves.whole leaf has).1;
         exact = λ key value. (
-          (λ among. (everywhere key, (there.same key value).0 ((spells key value).1 ((exact only.chain only.leaf.level pairs has key value).0 among)))),
-          (λ says. (exact only.chain only.leaf.level pairs has key value).1 ((spells key value).0 ((there.same key value).1 says.1))),
+          (λ among. let said = listed_said leaves.pages pairs leaf has key value among in (everywhere key, (there.same key value).0 (leaves.pages, said.page, leaves.leaves, said.among, said.covered, said.says))),
+          (λ says.
+              let (pages, page, are, among, covered, decides) = (there.same key value).1 says.1 in
+              said_listed leaves.pages pairs leaf has key value page (subst (λ ps. Contains ps page) (one (memory_of limits entries) 1 pages leaves.pages are leaves.leaves) among) decides),
         );
       }
 
-  leaf_in : (memory : Memory) → memory ≡ memory_of limits entries → (only : HasLeafChain (memory_of limits entries)) → StandsAt memory 1 only.chain
-  leaf_in memory is only = rw is (record { records = only.is_chain.records; fits = only.fits })
+  module _ (stands : LeavesStand) (table : Table) (actors : List Actor) (core : IsCore limits table actors entries) where
+    pub leaves_in_place : HasLeafPages limits (memory_in table)
+    leaves_in_place = rw core.has (stands limits entries core.state)
 
-  module _ (stands : LeafStands) (table : Table) (actors : List Actor) (core : IsCore limits table actors entries) where
-    pub leaf_in_place : (chain : List Record) × StandsAt (memory_in table) 1 chain
-    leaf_in_place = let only = stands limits entries core.state in (only.chain, leaf_in (memory_in table) core.has only)
-
-    pub core_lists : (demand : Demand) (view : Core) (pairs : List (List ℕ × List ℕ)) → record { limits = limits; entries = entries; demand = demand } ≡ view
-        → ((chain : List Record) → StandsAt (memory_in table) 1 chain → HasPage chain pairs) → IsListing view.limits view.entries pairs
-    core_lists demand view pairs is lists =
-        let only = stands limits entries core.state in
-        subst (λ v. IsListing v.limits v.entries pairs) is (leaf_is_listed only pairs (lists only.chain (leaf_in (memory_in table) core.has only)))
+    pub core_lists : LeavesHaveMap → IsOneSide → (demand : Demand) (view : Core) (pairs : Pairs) → record { limits = limits; entries = entries; demand = demand } ≡ view
+        → ((leaves : HasLeafPages limits (memory_in table)) → HavePages leaves.pages pairs) → IsListing view.limits view.entries pairs
+    core_lists have one demand view pairs is lists =
+        let all : (leaves : HasLeafPages limits (memory_of limits entries)) → HavePages leaves.pages pairs = subst (λ (memory : Memory). (leaves : HasLeafPages limits memory) → HavePages leaves.pages pairs) core.has lists in
+        let leaves = stands limits entries core.state in
+        subst (λ v. IsListing v.limits v.entries pairs) is (leaves_are_listed have one leaves pairs (all leaves))

@@ -1,56 +1,50 @@
--- One step of an operation: what it recalls, and how many steps it has left.
-use Rattle.std.proofs.Common.{◌≡◌, ◌<◌, ◌≤◌, List, Option, Some, None, ◌⊎◌, inl, inr, true, false, refl, sym, subst, arith}
+-- One step of an operation: how many steps it has left.
+use Rattle.std.proofs.Common.{◌≡◌, ◌<◌, ◌+◌, ◌*◌, ℕ, length, Option, Some, None, inl, true, false, sym, subst, arith}
 use Rattle.std.specs.Prelude.{is_some}
 use Rattle.bw_model.specs.declared.command.Reply.{Reply}
 use Rattle.bw_model.specs.declared.step.Answer.{Answer}
-use Rattle.bw_model.specs.declared.step.Answer.TheVariants as answer
 use Rattle.bw_model.specs.declared.step.Step.{Step as StepOf}
 use Rattle.bw_model.specs.declared.step.Step.TheVariants as step
 use Rattle.deltas.specs.declared.record.Record.{Record}
-use Rattle.chain_search.specs.Recalled.{Recalled, recall}
-use Rattle.op_machine.specs.Bounded.{IsPaidLast, Recalls, RecallsAt, Spends as OpSpends, left_at as state_left, recall_last, steps_left}
-use Rattle.op_machine.specs.Wants.{Op, wanted_at, wanted_of}
-use Rattle.op_machine.specs.declared.op.State.{State}
-use Rattle.op_machine.specs.declared.op.State.TheVariants.{Begun, Epoch, Enter, Root, Slot, Row, Install, Leave, Over}
-use Rattle.op_machine.specs.declared.op.Want.TheVariants.{Step}
+use Rattle.chain_search.specs.Recalled.{IsSpent, Recalled, recall}
+use Rattle.installs.specs.Spares.{Spares}
+use Rattle.op_machine.specs.Bounded.{IsSpentLast, left_at, one_round}
+use Rattle.op_machine.specs.Ops.{wanted_of}
+use Rattle.op_machine.specs.Shows.{recall_last, wanted_at}
+use Rattle.op_machine.specs.declared.state.State.{State}
+use Rattle.op_machine.specs.declared.state.State.TheVariants.{Begun, Epoch, Enter, Read, Write, Change, Leave, Over}
 use Rattle.step_core.specs.declared.actor.Running.{Running}
-use Rattle.step_core.specs.Spending.{Spends, unless_done}
+use Rattle.step_core.specs.Spending.{IsSpentOn, unless_done}
 
--- before its first step an operation recalls nothing
-pub begun_recalls : (old new : Op) (asked : StepOf Record) → old.state ≡ Begun → OpSpends old answer.Start new (Step asked) → (r : Recalled) → Recalls new r
-begun_recalls old new asked begun spends = λ r.
-    let none : wanted_of old ≡ None = rw begun refl in
-    let s = spends r (subst (λ state. RecallsAt r state) (sym begun) tt) in
-    subst (λ w. Recalls new (recall_last r w answer.Start)) none s.0
-
--- it goes on
-pub spends_on : (old : Running) (new : Op) (asked : StepOf Record) (a : Answer Record) → wanted_of old.op ≡ Some old.wanted → OpSpends old.op a new (Step asked) → steps_left new ≤ 279 → Spends (Some old) old.wanted a (Some (record { op = new; wanted = asked }))
-spends_on old new asked a e spends few = λ r h.
-    let s : Recalls new (recall r old.wanted a) × ((steps_left new < steps_left old.op) ⊎ IsPaidLast r (Some old.wanted) a) =
-    subst (λ w. Recalls new (recall_last r w a) × ((steps_left new < steps_left old.op) ⊎ IsPaidLast r w a)) e (spends r h) in
-    (s.0, elim s.1 [ inl fewer ↦ inl fewer | inr paid ↦ inr (paid, omega arith) ])
+-- what an answer leaves, where the step that was wanted is known
+pub spent_last : (r : Recalled) (last : Option (StepOf Record)) (asked : StepOf Record) (a : Answer Record) (left : ℕ) (rest : Recalled → ℕ) → last ≡ Some asked → IsSpentLast r last a left (rest (recall_last r last a)) → IsSpent r asked a left (rest (recall r asked a))
+spent_last r last asked a left rest e spent = subst (λ w. IsSpentLast r w a left (rest (recall_last r w a))) e spent
 
 -- a state that has asked for Leave has a step left
-leaves : (part : List Record) (state : State) → wanted_at state ≡ Some step.Leave → 0 < state_left part state
-leaves part (Leave reply) e = omega arith
-leaves part (Install install reply) e = omega arith
-leaves part Begun e = cc
-leaves part Epoch e = cc
-leaves part (Enter epoch) e = cc
-leaves part Root e = cc
-leaves part (Slot pid) e = cc
-leaves part (Row pid head row) e = cc
-leaves part Over e = cc
+leaves : (r : Recalled) (spares : Spares) (state : State) → wanted_at spares state ≡ Some step.Leave → 0 < left_at r spares state
+leaves r spares (Leave reply) e = omega arith
+leaves r spares (Read round) e = omega arith
+leaves r spares (Write round) e = omega arith
+leaves r spares (Change now then) e = omega arith
+leaves r spares Begun e = cc
+leaves r spares Epoch e = cc
+leaves r spares (Enter epoch) e = cc
+leaves r spares Over e = cc
+
+more : (n m : ℕ) → 0 < n → 0 < n + m
+more n m some = omega arith
 
 -- it is done
-pub spends_last : (old : Running) (a : Answer Record) → wanted_of old.op ≡ Some step.Leave → Spends (Some old) old.wanted a None
-spends_last old a e = λ r h. (tt, inl (leaves old.op.part old.op.state e))
+pub spends_last : (r : Recalled) (had has : Spares) (old : Running) (a : Answer Record) → wanted_of old.op had ≡ Some step.Leave → IsSpentOn r had (Some old) old.wanted a has None
+spends_last r had has old a e = inl (more (left_at r had old.op.state) (one_round * length old.op.task.errands) (leaves r had old.op.state e))
 
 -- the operation that the actor had, and whether it is done
-pub spends_over : (old : Option Running) (running new : Running) (step : StepOf Record) (a : Answer Record) (reply : Option Reply) → old ≡ Some running → is_some reply ≡ true → Spends (Some running) step a (unless_done new reply) → Spends old step a None
-spends_over old running new step a None e done s = cc
-spends_over old running new step a (Some reply) e done s = subst (λ o. Spends o step a None) (sym e) s
+pub spends_over : (r : Recalled) (had has : Spares) (old : Option Running) (running new : Running) (step : StepOf Record) (a : Answer Record) (reply : Option Reply) → old ≡ Some running → is_some reply ≡ true
+    → IsSpentOn r had (Some running) step a has (unless_done new reply) → IsSpentOn r had old step a has None
+spends_over r had has old running new step a None e done s = cc
+spends_over r had has old running new step a (Some reply) e done s = subst (λ o. IsSpentOn r had o step a has None) (sym e) s
 
-pub spends_still : (old : Option Running) (running new : Running) (step : StepOf Record) (a : Answer Record) (reply : Option Reply) → old ≡ Some running → is_some reply ≡ false → Spends (Some running) step a (unless_done new reply) → Spends old step a (Some new)
-spends_still old running new step a None e done s = subst (λ o. Spends o step a (Some new)) (sym e) s
-spends_still old running new step a (Some reply) e done s = cc
+pub spends_still : (r : Recalled) (had has : Spares) (old : Option Running) (running new : Running) (step : StepOf Record) (a : Answer Record) (reply : Option Reply) → old ≡ Some running → is_some reply ≡ false
+    → IsSpentOn r had (Some running) step a has (unless_done new reply) → IsSpentOn r had old step a has (Some new)
+spends_still r had has old running new step a None e done s = subst (λ o. IsSpentOn r had o step a has (Some new)) (sym e) s
+spends_still r had has old running new step a (Some reply) e done s = cc

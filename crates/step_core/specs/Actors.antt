@@ -7,55 +7,41 @@ use Rattle.bw_model.specs.declared.step.Answer.{Answer}
 use Rattle.bw_model.specs.declared.step.Step.{Step as StepOf}
 use Rattle.deltas.specs.declared.record.Record.{Record}
 use Rattle.deltas.specs.Memory.{Memory}
-use Rattle.chain_search.specs.Discipline.{IsAllowed}
+use Rattle.chain_search.specs.Fitting.{Fits}
 use Rattle.chain_search.specs.Knowledge.{Knowledge, learn, finished}
+use Rattle.chain_search.specs.Recalled.{Recalled}
 use Rattle.chain_search.specs.Steps.{IsAnswer}
 use Rattle.chain_search.specs.Tables.{IsWithin as IsWithinTable, Table}
-use Rattle.installs.specs.Spares.{HaveRoom}
-use Rattle.op_machine.specs.OneLeaf.{FitsOneLeaf, IsPlainMove}
-use Rattle.op_machine.specs.Shows.{Goes, Rests}
-use Rattle.installs.specs.Within.{IsWithin}
-use Rattle.op_machine.specs.Wants.{rows_in_flight}
+use Rattle.installs.specs.Spares.{Spares}
+use Rattle.op_machine.specs.Ops.{Goes}
+use Rattle.op_machine.specs.Tasks.{Rests}
 use Rattle.step_core.specs.declared.actor.Actor.{Actor}
 use Rattle.step_core.specs.declared.actor.Running.{Running}
-use Rattle.step_core.specs.Holding.{HoldsAll, held_by}
 
 -- An operation that is under way, with the step that it wants, which its actor may take by what it knows.
-pub record IsRunning (limits : Limits) (actor : ℕ) (k : Knowledge) (spares : List ℕ) (running : Running) : Type 0 where
-  pub own_limits : running.op.limits ≡ limits
-  pub own_actor : running.op.actor ≡ actor
-  pub within : IsWithin limits running.wanted
-  pub hand : HaveRoom limits (rows_in_flight running.op.state) spares
-  pub goes : Goes k running.op spares running.wanted
+pub record IsRunning (limits : Limits) (actor : ℕ) (k : Knowledge) (r : Recalled) (spares : Spares) (running : Running) : Type 0 where
+  pub own_limits : running.op.task.limits ≡ limits
+  pub own_actor : running.op.task.actor ≡ actor
+  pub goes : Goes k r running.op spares running.wanted
 
--- An actor between operations.
-pub record IsIdle (limits : Limits) (k : Knowledge) (spares : List ℕ) : Type 0 where
-  pub hand : HaveRoom limits 0 spares
-  pub rests : Rests spares k
+-- An actor without an operation rests.
+abbrev pub IsActorWith : Limits → ℕ → Knowledge → Recalled → Spares → Option Running → Type 0
+IsActorWith limits actor k r spares None = Rests limits spares k
+IsActorWith limits actor k r spares (Some running) = IsRunning limits actor k r spares running
 
-abbrev pub IsAt : Limits → ℕ → Knowledge → List ℕ → Option Running → Type 0
-IsAt limits actor k spares None = IsIdle limits k spares
-IsAt limits actor k spares (Some running) = IsRunning limits actor k spares running
+-- What the actor keeps shows what it knows and recalls. What its entries show as taken and not linked, rows and pages, is
+-- exactly its spares.
+abbrev pub IsActor : Limits → ℕ → Knowledge → Recalled → Actor → Type 0
+IsActor limits actor k r at = IsActorWith limits actor k r at.hand at.running
 
--- What the actor keeps shows what it knows. The rows that its entries show as taken and not linked are exactly those that it
--- holds, its spares and the one in flight; and it has taken no PID.
-pub record IsActor (limits : Limits) (actor : ℕ) (k : Knowledge) (at : Actor) : Type 0 where
-  pub shows : IsAt limits actor k at.hand at.running
-  pub holds : HoldsAll k (held_by at.running at.hand)
-
--- Whatever the memory answers to the step fits what the actor knows, and shows the only leaf.
+-- Whatever the memory answers to the step fits what the actor knows.
 abbrev pub IsServed : Limits → Knowledge → Memory → StepOf Record → Type 0
-IsServed limits k memory step = (answer : Answer Record) → IsAnswer memory step answer → FitsOneLeaf limits k step answer
-
--- The actor may take the step by what it knows, with its reply, if it has one; and the step is plain.
-pub record IsPlainlyAllowed (limits : Limits) (actor : ℕ) (k : Knowledge) (step : StepOf Record) (reply : Option Reply) : Type 0 where
-  pub allowed : IsAllowed limits actor k step reply
-  pub plain : IsPlainMove k step
+IsServed limits k memory step = (answer : Answer Record) → IsAnswer memory step answer → Fits limits k step answer
 
 -- The operation goes on, or is done with the reply.
-abbrev pub IsLeft : Limits → ℕ → Knowledge → List ℕ → Running → Option Reply → Type 0
-IsLeft limits actor k spares running None = IsRunning limits actor k spares running
-IsLeft limits actor k spares running (Some reply) = IsIdle limits k spares
+abbrev pub IsLeft : Limits → ℕ → Knowledge → Recalled → Spares → Running → Option Reply → Type 0
+IsLeft limits actor k r spares running None = IsRunning limits actor k r spares running
+IsLeft limits actor k r spares running (Some reply) = Rests limits spares k
 
 -- what the actor knows after its step
 abbrev pub knows_then : Knowledge → StepOf Record → Answer Record → Option Reply → Knowledge
@@ -63,7 +49,7 @@ knows_then k step answer reply = finished (learn k step answer) reply
 
 abbrev pub command_at : Option Running → Option Command
 command_at None = None
-command_at (Some running) = Some running.op.command
+command_at (Some running) = Some running.op.task.command
 
 -- the command of its operation, if it has one
 abbrev pub running_command : Actor → Option Command
@@ -74,8 +60,8 @@ IsServedAt limits k memory None = Unit {0}
 IsServedAt limits k memory (Some running) = IsServed limits k memory running.wanted
 
 -- What the actor keeps shows what it knows, and what the memory answers to the step that it wants will fit that.
-abbrev pub IsReady : Limits → ℕ → Knowledge → Memory → Actor → Type 0
-IsReady limits actor k memory at = IsActor limits actor k at × IsServedAt limits k memory at.running
+abbrev pub IsReady : Limits → ℕ → Knowledge → Recalled → Memory → Actor → Type 0
+IsReady limits actor k r memory at = IsActor limits actor k r at × IsServedAt limits k memory at.running
 
 -- the step that its operation wants, if it has one
 abbrev pub wanted_by : Option Running → Option (StepOf Record)

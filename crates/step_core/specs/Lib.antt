@@ -1,4 +1,3 @@
-pub mod Holding
 pub mod Actors
 pub mod Spending
 pub mod Cores

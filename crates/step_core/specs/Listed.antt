@@ -1,5 +1,5 @@
 -- What a listing of a core has.
-use Rattle.std.specs.Prelude.{◌≡◌, ℕ, List, [], ◌∷◌, map, None}
+use Rattle.std.specs.Prelude.{◌≡◌, ℕ, List, [], ◌∷◌, ◌++◌, map, None}
 use Rattle.bw_model.specs.declared.limits.Limits.{Limits}
 use Rattle.bw_model.specs.Pairs.{IsPairsOf}
 use Rattle.base_page.specs.declared.item.Content.{Content}
@@ -12,6 +12,7 @@ use Rattle.deltas.specs.Memory.{Memory}
 use Rattle.chain_search.specs.declared.trace.Entry.{Entry}
 use Rattle.chain_search.specs.Chains.{IsChainFrom}
 use Rattle.chain_search.specs.Fitted.{IsPageChain, Makes}
+use Rattle.chain_search.specs.SideChain.{LivePage}
 use Rattle.chain_search.specs.Trace.{turn_of}
 use Rattle.op_machine.specs.Linearized.{IsLinearized}
 use Rattle.op_machine.specs.Points.{log_of}
@@ -41,3 +42,8 @@ pub record HasPage (chain : List Record) (pairs : List (List ℕ × List ℕ)) :
   pub makes : Makes chain page
   pub ruled : IsRuled page
   pub are : pairs ≡ pairs_of page.items
+
+-- The pairs are those of the pages, one page's after another's.
+abbrev pub HavePages : List LivePage → List (List ℕ × List ℕ) → Type 0
+HavePages [] pairs = pairs ≡ []
+HavePages (page ∷ pages) pairs = (own rest : List (List ℕ × List ℕ)) × HasPage page.chain own × HavePages pages rest × (pairs ≡ own ++ rest)

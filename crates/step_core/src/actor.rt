@@ -1,14 +1,13 @@
 //! One actor of a core.
 ghost use Rattle.std.specs.Prelude.{◌≡◌, ◌<◌, ◌^◌, [], Some, None, IfOk, OnErr, is_some, true};
+ghost use Rattle.chain_search.specs.Discipline.{IsAllowed};
 ghost use Rattle.chain_search.specs.Knowledge.{Knowledge, begun};
+ghost use Rattle.chain_search.specs.Recalled.{Recalled, blank, recall};
 ghost use Rattle.chain_search.specs.Steps.{IsAnswer, MovesRecord, memory_after};
 ghost use Rattle.chain_search.specs.Tables.{IsWithin as IsWithinTable, memory_in};
-ghost use Rattle.installs.specs.Held.{Keeps};
-ghost use Rattle.chain_search.specs.Recalled.{Recalled};
-ghost use Rattle.op_machine.specs.Held.{rows_held};
-ghost use Rattle.step_core.specs.Actors.{IsActor, IsLeft, IsPlainlyAllowed, IsReady, IsRunning, IsServed, IsWithinAt, command_left, knows_then, running_command, wanted_by};
-ghost use Rattle.step_core.specs.Holding.{held_by};
-ghost use Rattle.step_core.specs.Spending.{RecallsAt, Spends, left_at, unless_done};
+ghost use Rattle.chain_search.specs.Useful.{IsUseful};
+ghost use Rattle.step_core.specs.Actors.{IsActor, IsLeft, IsReady, IsRunning, IsServed, IsWithinAt, command_left, knows_then, running_command, wanted_by};
+ghost use Rattle.step_core.specs.Spending.{IsSpentOn, steps_due, unless_done};
 ghost use Rattle.step_core.specs.Turns.{MovesRecordAt, link_told, step_event};
 
 use crate::event::Event;
@@ -51,7 +50,7 @@ pub(crate) struct Stepped<A: Allocator> {
 impl Actor {
     /// An actor that holds nothing and has no operation.
     pub(crate) fn idle() -> Actor
-        ensures { result ≡ record { hand = []; running = None } }
+        ensures { result ≡ record { hand = record { pid = None; rows = [] }; running = None } }
     {
         Actor {
             hand: Hand::plain(),
@@ -68,13 +67,11 @@ impl Actor {
 
     /// Begins an operation.
     pub(crate) fn begin(&mut self, command: Command, actor: u8, limits: &Limits)
-        requires shows { (k : Knowledge) × IsActor limits.now actor k self.old }
+        requires shows { (k : Knowledge) × (r : Recalled) × IsActor limits.now actor k r self.old }
         requires idle { running_command self.old ≡ None }
-        ensures shows { (k : Knowledge) → IsActor limits.now actor k self.old → IsActor limits.now actor (begun k command) self.new }
+        ensures shows { (k : Knowledge) (r : Recalled) → IsActor limits.now actor k r self.old → IsActor limits.now actor (begun k command) blank self.new }
         ensures command { running_command self.new ≡ Some command }
-        ensures keeps { held_by self.new.running self.new.hand ≡ self.old.hand }
-        ensures recalls { (r : Recalled) → RecallsAt self.new.running r }
-        ensures bounded { left_at self.new.running < 2 ^ 18 }
+        ensures bounded { steps_due blank self.new.hand self.new.running < 2 ^ 18 }
     {
         let mut op = Op::begin(command, actor, limits);
         match op.next(&mut self.hand, Answer::Start) {
@@ -112,19 +109,19 @@ impl Actor {
         ready: Ready<A>,
     ) -> Stepped<A>
         requires running { is_some (running_command self.old) ≡ true }
-        requires knows { (k : Knowledge) × IsReady limits.now actor k (memory_in memory.old) self.old }
+        requires knows { (k : Knowledge) × (r : Recalled) × IsReady limits.now actor k r (memory_in memory.old) self.old }
         requires within { IsWithinAt memory.old actor self.old.running }
         requires wanted { wanted_by self.old.running ≡ Some ready.step }
         requires answer { IsAnswer (memory_in memory.old) ready.step ready.answer }
         requires again { ready.again ≡ ready.step }
-        ensures allowed { (k : Knowledge) → IsReady limits.now actor k (memory_in memory.old) self.old → IsPlainlyAllowed limits.now actor k result.step result.reply }
-        ensures shows { (k : Knowledge) → IsReady limits.now actor k (memory_in memory.old) self.old → IsActor limits.now actor (knows_then k result.step result.answer result.reply) self.new }
+        ensures allowed { (k : Knowledge) (r : Recalled) → IsReady limits.now actor k r (memory_in memory.old) self.old → IsAllowed limits.now actor k result.step result.reply }
+        ensures useful { (k : Knowledge) (r : Recalled) → IsReady limits.now actor k r (memory_in memory.old) self.old → IsUseful k result.step }
+        ensures shows { (k : Knowledge) (r : Recalled) → IsReady limits.now actor k r (memory_in memory.old) self.old → IsActor limits.now actor (knows_then k result.step result.answer result.reply) (recall r result.step result.answer) self.new }
+        ensures spends { (k : Knowledge) (r : Recalled) → IsReady limits.now actor k r (memory_in memory.old) self.old → IsSpentOn r self.old.hand self.old.running result.step result.answer self.new.hand self.new.running }
         ensures limits { memory.new.limits ≡ memory.old.limits }
         ensures answer { IsAnswer (memory_in memory.old) result.step result.answer }
         ensures memory { memory_in memory.new ≡ memory_after actor result.step (memory_in memory.old) }
         ensures command { running_command self.new ≡ command_left result.reply (running_command self.old) }
-        ensures keeps { Keeps result.step result.answer (held_by self.old.running self.old.hand) (held_by self.new.running self.new.hand) }
-        ensures spends { Spends self.old.running result.step result.answer self.new.running }
     {
         let stepped = match &mut self.running {
             Some(running) => running.step(actor, limits, &mut self.hand, memory, ready),
@@ -194,19 +191,19 @@ impl Running {
         memory: &mut Table<A>,
         ready: Ready<A>,
     ) -> Stepped<A>
-        requires knows { (k : Knowledge) × IsRunning limits.now actor k hand.old self.old × IsServed limits.now k (memory_in memory.old) self.old.wanted }
+        requires knows { (k : Knowledge) × (r : Recalled) × IsRunning limits.now actor k r hand.old self.old × IsServed limits.now k (memory_in memory.old) self.old.wanted }
         requires within { IsWithinTable memory.old actor self.old.wanted }
         requires wanted { ready.step ≡ self.old.wanted }
         requires answer { IsAnswer (memory_in memory.old) ready.step ready.answer }
         requires again { ready.again ≡ ready.step }
-        ensures allowed { (k : Knowledge) → IsRunning limits.now actor k hand.old self.old → IsServed limits.now k (memory_in memory.old) self.old.wanted → IsPlainlyAllowed limits.now actor k result.step result.reply }
-        ensures left { (k : Knowledge) → IsRunning limits.now actor k hand.old self.old → IsServed limits.now k (memory_in memory.old) self.old.wanted → IsLeft limits.now actor (knows_then k result.step result.answer result.reply) hand.new self.new result.reply }
+        ensures allowed { (k : Knowledge) (r : Recalled) → IsRunning limits.now actor k r hand.old self.old → IsServed limits.now k (memory_in memory.old) self.old.wanted → IsAllowed limits.now actor k result.step result.reply }
+        ensures useful { (k : Knowledge) (r : Recalled) → IsRunning limits.now actor k r hand.old self.old → IsUseful k result.step }
+        ensures left { (k : Knowledge) (r : Recalled) → IsRunning limits.now actor k r hand.old self.old → IsServed limits.now k (memory_in memory.old) self.old.wanted → IsLeft limits.now actor (knows_then k result.step result.answer result.reply) (recall r result.step result.answer) hand.new self.new result.reply }
+        ensures spends { (k : Knowledge) (r : Recalled) → IsRunning limits.now actor k r hand.old self.old → IsServed limits.now k (memory_in memory.old) self.old.wanted → IsSpentOn r hand.old (Some self.old) result.step result.answer hand.new (unless_done self.new result.reply) }
         ensures limits { memory.new.limits ≡ memory.old.limits }
         ensures answer { IsAnswer (memory_in memory.old) result.step result.answer }
         ensures memory { memory_in memory.new ≡ memory_after actor result.step (memory_in memory.old) }
-        ensures command { self.new.op.command ≡ self.old.op.command }
-        ensures keeps { Keeps result.step result.answer (rows_held self.old.op.state hand.old) (held_by (unless_done self.new result.reply) hand.new) }
-        ensures spends { Spends (Some self.old) result.step result.answer (unless_done self.new result.reply) }
+        ensures command { self.new.op.task.command ≡ self.old.op.task.command }
     {
         let _ = limits;
         let Ready {

@@ -8,14 +8,12 @@ ghost use Rattle.op_machine.specs.Index.{IsExactIndex};
 ghost use Rattle.op_machine.specs.Linearized.{IsLinearized};
 ghost use Rattle.op_machine.specs.Phases.{KeepsPhases};
 ghost use Rattle.op_machine.specs.Reuse.{IsFreedByRule};
-ghost use Rattle.core_law.specs.Laws.{AnswersShowLeaf, PlainIsUseful, PlainSteps};
-ghost use Rattle.core_law.specs.State.{IsLeafState};
 ghost use Rattle.tree_law.specs.Direct.{BeginsDirectly, StepsDirectly};
 ghost use Rattle.tree_law.specs.Own.{RowsAreApart};
-ghost use Rattle.tree_law.specs.TraceLaws.{Begins, StatesFreeByRule, StatesAreIndexed, StatesAreLinearized, StatesKeepPhases};
+ghost use Rattle.tree_law.specs.State.{IsState};
+ghost use Rattle.tree_law.specs.TraceLaws.{AnswersFit, Begins, HeadsStand, StatesFreeByRule, StatesAreIndexed, StatesAreLinearized, StatesKeepPhases, Steps};
 
-use core_law::plain_is_useful;
-use tree_law::{begins_directly, rows_are_apart, steps_directly};
+use tree_law::{answers, begins, begins_directly, rows_are_apart, steps, steps_directly};
 
 /// In every trace, of any number of actors and in any order of their turns, in which each actor obeys its discipline, the
 /// operations took effect one at a time, on one ordered map; pages kept their phases, the index is exact at each moment, and
@@ -32,27 +30,26 @@ pub fn disciplined_runs()
     tree_law::frees_by_rule();
 }
 
-/// A begin keeps the law of one leaf and that of few steps.
+/// A begin keeps the law of states and that of few steps.
 pub(crate) fn begins_keep_laws()
-    ensures state { Begins IsLeafState }
+    ensures state { Begins IsState }
     ensures direct { BeginsDirectly }
 {
-    core_law::begins();
+    begins();
     begins_directly();
 }
 
-/// What a plain step may count on, and that it keeps the law of one leaf and that of few steps.
+/// What a step may count on, and that it keeps the law of states and that of few steps.
 pub(crate) fn steps_keep_laws()
     ensures apart { RowsAreApart }
-    ensures fit { AnswersShowLeaf }
-    ensures state { PlainSteps }
-    ensures useful { PlainIsUseful }
+    ensures heads { HeadsStand }
+    ensures fit { AnswersFit }
+    ensures state { Steps }
     ensures direct { StepsDirectly }
 {
     rows_are_apart();
-    core_law::answers();
-    core_law::steps();
-    plain_is_useful();
+    answers();
+    steps();
     steps_directly();
 }
 

@@ -10,11 +10,10 @@ use crate::event::{Event, RunError, Trace};
 use crate::law::{begins_keep_laws, states_are_lawful, steps_keep_laws};
 use crate::listing::pairs_in;
 use bw_model::{Command, Key, Limits, OpenError, Value};
-use chain_search::{SharedEntry, Table, Turn};
-use core_law::leaf_stands;
+use chain_search::{SharedEntry, Table, Turn, side_chain_is_one};
 use std::alloc::{AllocError, Allocator, Global};
 use std::marker::Model;
-use tree_law::{entries_grow, opens_directly};
+use tree_law::{entries_grow, leaves_stand, opens, opens_directly};
 
 /// All actors over one memory, which an allocator gives.
 #[derive(Drop)]
@@ -56,7 +55,7 @@ impl<A: Allocator + Copy> Core<A> {
         ensures entries { IfOk result (λ core. core.entries ≡ []) }
         ensures limits { IfOk result (λ core. core.limits ≡ limits) }
     {
-        core_law::opens();
+        opens();
         opens_directly();
         let memory = Table::<A>::open(alloc, &limits)?;
         let mut actors = Vec::with_capacity(alloc, limits.actors as usize)?;
@@ -231,8 +230,9 @@ impl<A: Allocator> Core<A> {
         ensures ok { IfOk result (λ pairs. IsListing self.now.limits self.now.entries pairs.items) }
         ensures err { IfErr result (λ error. error ≡ RunError.Memory (length self.now.entries)) }
     {
-        leaf_stands();
-        match pairs_in(alloc, &self.memory) {
+        leaves_stand();
+        side_chain_is_one();
+        match pairs_in(alloc, &self.limits, &self.memory) {
             Ok(pairs) => Ok(pairs),
             Err(_) => Err(RunError::Memory(self.turns())),
         }

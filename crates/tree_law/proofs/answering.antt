@@ -1,3 +1,4 @@
 pub mod Answering
 pub mod Fitted
+pub mod Heads
 pub mod Whole

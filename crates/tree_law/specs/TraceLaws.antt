@@ -81,6 +81,11 @@ LeavesHaveMap = (limits : Limits) (entries : List Entry) (linear : IsLinearized 
 abbrev pub RowsStand : Type 0
 RowsStand = (limits : Limits) (entries : List Entry) (actor row : ℕ) → IsState limits entries → May actor (knows entries actor) (Row row) → (content : Record) × ((memory_of limits entries).rows row ≡ Some content)
 
+-- a row that stands in the slot of a page has a record
+abbrev pub HeadsStand : Type 0
+HeadsStand = (limits : Limits) (entries : List Entry) (page : ℕ) → IsState limits entries → 0 < page → 0 < (memory_of limits entries).slots page
+    → (content : Record) × ((memory_of limits entries).rows ((memory_of limits entries).slots page) ≡ Some content)
+
 -- what the memory answers fits what the actor knows
 abbrev pub AnswersFit : Type 0
 AnswersFit = (limits : Limits) (entries : List Entry) (actor : ℕ) (step : StepOf Record) (answer : Answer Record) → IsState limits entries

@@ -6,7 +6,7 @@ ghost use Rattle.chain_search.specs.Trace.{turn_of};
 ghost use Rattle.chain_search.specs.declared.trace.Entry.{Entry};
 ghost use Rattle.op_machine.specs.Linearized.{IsLinearized};
 ghost use Rattle.tree_law.specs.State.{IsState};
-ghost use Rattle.tree_law.specs.TraceLaws.{AnswersFit, Begins, DisciplinedRuns, EntriesGrow, LeavesHaveMap, LeavesStand, StatesFreeByRule, StatesAreIndexed, StatesAreLinearized, KnowledgeIsOwn, Opens, RowsStand, StatesKeepPhases, Steps};
+ghost use Rattle.tree_law.specs.TraceLaws.{AnswersFit, Begins, DisciplinedRuns, EntriesGrow, HeadsStand, LeavesHaveMap, LeavesStand, StatesFreeByRule, StatesAreIndexed, StatesAreLinearized, KnowledgeIsOwn, Opens, RowsStand, StatesKeepPhases, Steps};
 
 /// What one more entry makes of a trace.
 pub fn entries_grow()
@@ -54,9 +54,11 @@ pub fn disciplined_runs()
     ensures linearized { (limits : Limits) (entries : List Entry) → IsDisciplined limits entries → IsLinearized limits (map turn_of entries) entries }
 {}
 
-/// In a state, a row that an actor may read has a record, and what the memory answers fits what the actor knows.
+/// In a state, a row that an actor may read has a record, and so has one that stands in a page's slot; and what the memory
+/// answers fits what the actor knows.
 pub fn answers()
     ensures stand { RowsStand }
+    ensures heads { HeadsStand }
     ensures fit { AnswersFit }
 {}
 

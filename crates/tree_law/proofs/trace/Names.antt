@@ -200,7 +200,7 @@ touches_inside a k (Retire e) h = inr refl
 touches_inside a k (ReusePids w b) h = inr refl
 touches_inside a k (ReuseRows w b) h = inr refl
 
-placed_at : (w : PageOwner) → IsInTree w → (l : ℕ) × (k : Key) × Reached 0 l k w
+pub placed_at : (w : PageOwner) → IsInTree w → (l : ℕ) × (k : Key) × Reached 0 l k w
 placed_at Nobody h = absurd h
 placed_at (Keeps b) h = absurd h
 placed_at (Placed st l k) h = (l, k, (refl, refl, omega arith))

@@ -1,12 +1,12 @@
 use Rattle.step_core.proofs.machine.Core.linearized.Goals as goal
 
 pub returns-clause-linearized : goal.returns-clause-linearized
-returns-clause-linearized g c = rw (← c.self.view_is) (c.states_are_lawful.ensures.linearized _ _ c.self.invariant.state.tree)
+returns-clause-linearized g c = rw (← c.self.view_is) (c.states_are_lawful.ensures.linearized _ _ c.self.invariant.state)
 
 pub returns-clause-orderly : goal.returns-clause-orderly
 returns-clause-orderly g c = rw (← c.self.view_is) (record {
-  phases = c.states_are_lawful.ensures.phases _ _ c.self.invariant.state.tree;
-  index = c.states_are_lawful.ensures.index _ _ c.self.invariant.state.tree;
+  phases = c.states_are_lawful.ensures.phases _ _ c.self.invariant.state;
+  index = c.states_are_lawful.ensures.index _ _ c.self.invariant.state;
   direct = c.self.invariant.direct.direct;
-  freed = c.states_are_lawful.ensures.freed _ _ c.self.invariant.state.tree;
+  freed = c.states_are_lawful.ensures.freed _ _ c.self.invariant.state;
 })
