@@ -12,15 +12,14 @@ use Rattle.deltas.specs.Memory.{replaced_at}
 use Rattle.chain_search.specs.Fitting.{Fits}
 use Rattle.chain_search.specs.Knowledge.{OwnPage, Other, Empty, Ready, Gone, Knowledge, learn}
 use Rattle.chain_search.specs.Recalled.{Recalled}
+use Rattle.descent.specs.Descents.{wanted_at}
 use Rattle.descent.specs.ReadRounds as read
 use Rattle.descent.specs.WriteRounds as write
 use Rattle.descent.specs.Visits as page
 use Rattle.descent.specs.declared.visit.State as at_page
 use Rattle.descent.specs.declared.visit.State.TheVariants as at_visit
-use Rattle.descent.specs.declared.read_round.State as reader
-use Rattle.descent.specs.declared.read_round.State.TheVariants as at_reader
-use Rattle.descent.specs.declared.write_round.State as writer
-use Rattle.descent.specs.declared.write_round.State.TheVariants as at_writer
+use Rattle.descent.specs.declared.descent.State.{State}
+use Rattle.descent.specs.declared.descent.State.TheVariants.{Root, Page, Over}
 use Rattle.installs.specs.Spares.{IsUnlinked, Spares}
 use Rattle.op_machine.specs.Tasks.{HasSpares, IsUnreadPid, Seeks, Task}
 
@@ -35,18 +34,18 @@ of_visit pid (at_visit.Row head row) = inr (row, refl)
 pub reader_reads : (round : read.ReadRound) (k : Knowledge) (r : Recalled) → read.Shows round k r → IsReading (read.wanted round)
 reader_reads round k r shows = go round.state shows
   where
-    go : (state : reader.State) → read.Stands round.limits round.key k r state → IsReading (read.wanted_at state)
-    go at_reader.Root h = inl (0, refl)
-    go (at_reader.Page visit) h = of_visit visit.pid visit.state
-    go at_reader.Over h = absurd h
+    go : (state : State) → read.Stands round.limits round.key k r state → IsReading (wanted_at state)
+    go Root h = inl (0, refl)
+    go (Page visit) h = of_visit visit.pid visit.state
+    go Over h = absurd h
 
 pub writer_reads : (round : write.WriteRound) (k : Knowledge) (r : Recalled) → write.Shows round k r → IsReading (write.wanted round)
 writer_reads round k r shows = go round.state shows
   where
-    go : (state : writer.State) → write.Stands round k r state → IsReading (write.wanted_at state)
-    go at_writer.Root h = inl (0, refl)
-    go (at_writer.Page visit) h = of_visit visit.pid visit.state
-    go at_writer.Over h = absurd h
+    go : (state : State) → write.Stands round k r state → IsReading (wanted_at state)
+    go Root h = inl (0, refl)
+    go (Page visit) h = of_visit visit.pid visit.state
+    go Over h = absurd h
 
 -- an own page that no row was set in
 unset_empty : (v : OwnPage) → IsUnlinked v → ((row : ℕ) → v ≡ Ready row → ⊥) → v ≡ Empty
