@@ -1,17 +1,16 @@
 -- The pairs of the leaves are those of the log.
-use Rattle.std.proofs.Common.{◌≡◌, inl, inr, ℕ, zero, suc, List, [], ◌∷◌, ◌++◌, length, map, true, Option, Some, None, refl, sym, subst, ap, ◌∙◌, arith}
+use Rattle.std.proofs.Common.{◌≡◌, inl, inr, ℕ, zero, suc, List, [], ◌∷◌, ◌++◌, length, map, Option, Some, None, refl, sym, subst, ap, ◌∙◌, arith}
 use Rattle.std.specs.Prelude.{IsTrue, MatchOption}
 use Rattle.std.specs.List.{AllByRecursion, Contains}
 use Rattle.std.specs.List.Sorted.{IsStrictlySortedBy}
-use Rattle.std.specs.Ordering.{is_lt}
-use Rattle.std.specs.declared.cmp.Ordering.{Ordering}
-use Rattle.std.specs.declared.cmp.Ordering.TheVariants.{Less, Equal, Greater}
+use Rattle.std.specs.declared.cmp.Ordering.TheVariants.{Less}
 use Rattle.std.proofs.lemmas.List.{append-nil}
 use Rattle.std.proofs.lemmas.List.Elements.{All-contains, All-from_recursion, Contains-append_cases, Contains-append_left, Contains-append_right}
 use Rattle.bw_model.specs.Bytes.{is_in_range, key_cmp}
 use Rattle.bw_model.specs.declared.limits.Limits.{Limits}
 use Rattle.base_page.specs.declared.item.Content.TheVariants.{Value}
 use Rattle.base_page.proofs.ItemLaws.{all-append, all-weaker}
+use Rattle.base_page.proofs.KeyLaws.{below_from, below_reach}
 use Rattle.deltas.specs.Memory.{Memory}
 use Rattle.chain_search.specs.declared.trace.Entry.{Entry}
 use Rattle.chain_search.specs.Chains.{content_in, covers, high_in, level_in, low_in}
@@ -21,7 +20,7 @@ use Rattle.chain_search.specs.Trace.{memory_of}
 use Rattle.tree_law.specs.Keys.{Covers, IsBelow, IsUnder, IsUpTo, Key}
 use Rattle.tree_law.specs.Leaves.{HasLeafPages, IsLeafPage}
 use Rattle.tree_law.specs.TraceLaws.{LeavesHaveMap, LeavesStand}
-use Rattle.tree_law.proofs.shape.KeyOrder.{below_not, below_upto, covers_to, empty_lowest, upto_trans}
+use Rattle.tree_law.proofs.shape.KeyOrder.{below_not, covers_to, empty_lowest, upto_trans}
 use Rattle.step_core.specs.declared.actor.Actor.{Actor}
 use Rattle.step_core.specs.Cores.{IsCore}
 use Rattle.step_core.specs.Listed.{HavePages, IsListing}
@@ -37,14 +36,6 @@ AreLeaf page = level_in page.chain ≡ 0
 
 everywhere : (key : List ℕ) → IsTrue (is_in_range [] None key)
 everywhere key = rw (empty_lowest key) refl
-
-below_less : (a b : Key) → IsBelow a b → key_cmp a b ≡ Less
-below_less a b h = go (key_cmp a b) h
-  where
-    go : (o : Ordering) → is_lt o ≡ true → o ≡ Less
-    go Less e = refl
-    go Equal e = cc
-    go Greater e = cc
 
 -- ---- in the order of their keys
 all_keys : (P : List ℕ → Type 0) (pairs : Pairs) → AllByRecursion (λ pair. P pair.0) pairs → AllByRecursion P (keys pairs)
@@ -86,7 +77,7 @@ ascends low (page ∷ pages) pairs whole leaf (own, rest, is, others, all) = go 
         let later = after high next in
         let under : IsBelow low high = rw (← whole.0) (subst (IsUnder (low_in page.chain)) e (spans page.chain leaf.0 own is)) in
         let across : AllByRecursion (λ pair. AllByRecursion (λ other. key_cmp pair.0 other.0 ≡ Less) rest) own = all-weaker _ (λ pair. AllByRecursion (λ other. key_cmp pair.0 other.0 ≡ Less) rest)
-        (λ pair c. all-weaker _ (λ other. key_cmp pair.0 other.0 ≡ Less) (λ other from. below_less pair.0 other.0 (below_upto pair.0 high other.0 (subst (IsUnder pair.0) e c.high) from)) rest later.0) own in_page in
+        (λ pair c. all-weaker _ (λ other. key_cmp pair.0 other.0 ≡ Less) (λ other from. below_reach pair.0 high other.0 (below_from pair.0 high (subst (IsUnder pair.0) e c.high)) from) rest later.0) own in_page in
         rw all (
           all-append _ own rest above (all-weaker _ (λ pair. IsUpTo low pair.0) (λ pair from. upto_trans low high pair.0 (below_not low high under) from) rest later.0),
           join own rest (ascending page.chain leaf.0 own is) later.1 across,
