@@ -13,7 +13,7 @@ use Rattle.chain_search.specs.Discipline.{IsOwn, IsUnset, MayExchange}
 use Rattle.chain_search.specs.Fitting.{Fits}
 use Rattle.chain_search.specs.Knowledge.{Belongings, Knowledge, OwnPage, OwnRow, Written, Empty, Ready, learn, set_page}
 use Rattle.smo.specs.Splits.{split_to}
-use Rattle.installs.specs.Changes.{AreEnough, Change, GoesOn, IsLike, IsOver, IsPlaced, IsReady, IsSound, IsTarget, KeepsSpare, MayChange, MayLinkAs, Shows, ShowsState, base_row, head_of, linked_after, linked_number, needs_pid, new_base, new_record, rows_needed, slot_of, wanted_at}
+use Rattle.installs.specs.Changes.{AreEnough, Change, GoesOn, IsLike, IsOver, IsPlaced, StandsReady, IsSound, IsTarget, KeepsSpare, MayChange, MayLinkAs, Shows, ShowsState, base_row, head_of, linked_after, linked_number, needs_pid, new_base, new_record, rows_needed, slot_of, wanted_at}
 use Rattle.installs.specs.Moves.{after_ready}
 use Rattle.installs.specs.Spares.{AreSpare, AreTheSpares, AreUnset, HaveRoom, IsUnlinked, Spares, first_row, last_row, pid_of}
 use Rattle.installs.specs.declared.change.End.TheVariants as end
@@ -115,7 +115,7 @@ module _ (actor : ℕ) (limits : Limits) (k : Knowledge) (plan : Plan) (spares :
   }
 
   -- the record is placed that comes over a page's newest row
-  pub record_placed : (told : Answer Record) → 0 < slot_of plan → IsReady plan spares k.own → GoesOn actor k (learn k (wanted_at plan spares state.Place) told) (change state.Link) spares
+  pub record_placed : (told : Answer Record) → 0 < slot_of plan → StandsReady plan spares k.own → GoesOn actor k (learn k (wanted_at plan spares state.Place) told) (change state.Link) spares
   record_placed told page ready = record {
     shows = record {
       may = still_may actor k now plan like may;
@@ -135,7 +135,7 @@ module _ (actor : ℕ) (limits : Limits) (k : Knowledge) (plan : Plan) (spares :
       own : Plan → Belongings
       own plan = record k.own { rows = replaced_at (last_row spares) (Written (new_record plan (pid_of spares))) k.own.rows }
 
-      ready_still : (plan : Plan) → 0 < slot_of plan → rows_needed plan ≤ length spares.rows → IsReady plan spares k.own → IsReady plan spares (own plan)
+      ready_still : (plan : Plan) → 0 < slot_of plan → rows_needed plan ≤ length spares.rows → StandsReady plan spares k.own → StandsReady plan spares (own plan)
       ready_still (Install pid head content) page some h = h
       ready_still (Split pid plan) page some h = (h.0, (let e = two_apart k.own.rows spares.rows some room.few are.rows in rw e h.1))
       ready_still (Root left root) page some h = absurd (omega (arith, page))
@@ -172,7 +172,7 @@ module _ (actor : ℕ) (limits : Limits) (k : Knowledge) (plan : Plan) (spares :
       stands (Root left root) needs base = ((replaced_same (pid_of spares) (Ready (base_row (Root left root) spares)) k.own.pages, base), tt)
 
   -- it is emptied again
-  pub undone : (told : Answer Record) → needs_pid plan ≡ true → IsReady plan spares k.own → Fits limits k (wanted_at plan spares state.Undo) told
+  pub undone : (told : Answer Record) → needs_pid plan ≡ true → StandsReady plan spares k.own → Fits limits k (wanted_at plan spares state.Undo) told
       → IsOver k (learn k (wanted_at plan spares state.Undo) told) (change state.Undo) told spares end.Lost
   undone told needs ready fits =
       let is = ready_page plan needs ready in
@@ -186,29 +186,29 @@ module _ (actor : ℕ) (limits : Limits) (k : Knowledge) (plan : Plan) (spares :
         decided = inr (refl, refl);
       })
     where
-      ready_page : (plan : Plan) → needs_pid plan ≡ true → IsReady plan spares k.own → k.own.pages (pid_of spares) ≡ Ready (base_row plan spares)
+      ready_page : (plan : Plan) → needs_pid plan ≡ true → StandsReady plan spares k.own → k.own.pages (pid_of spares) ≡ Ready (base_row plan spares)
       ready_page (Install pid head content) needs h = cc
       ready_page (Split pid plan) needs h = h.0
       ready_page (Root left root) needs h = h.0
 
   -- the exchange that decides lost
-  pub lost_bare : needs_pid plan ≡ false → IsReady plan spares k.own → IsOver k k (change state.Link) (answer.Whether false) spares end.Lost
+  pub lost_bare : needs_pid plan ≡ false → StandsReady plan spares k.own → IsOver k k (change state.Link) (answer.Whether false) spares end.Lost
   lost_bare bare ready = record {
     like = rw (unlinked plan k.asked.linked).0 (like_self k);
     rest = record { are = are; unset = unset plan bare ready };
     decided = inl (refl, refl, bare);
   }
     where
-      unset : (plan : Plan) → needs_pid plan ≡ false → IsReady plan spares k.own → AreUnset k.own
+      unset : (plan : Plan) → needs_pid plan ≡ false → StandsReady plan spares k.own → AreUnset k.own
       unset (Install pid head content) bare h = h
       unset (Split pid plan) bare h = cc
       unset (Root left root) bare h = cc
 
-  pub lost_ready : IsReady plan spares k.own → GoesOn actor k k (change state.Undo) spares
+  pub lost_ready : StandsReady plan spares k.own → GoesOn actor k k (change state.Undo) spares
   lost_ready ready = record { shows = record { may = may; keeps = keeps; are = are; stands = ready }; like = like_self k }
 
   -- the row to link stands in no slot
-  row_free : (plan : Plan) → rows_needed plan ≤ length spares.rows → 0 < slot_of plan → IsReady plan spares k.own → IsUnset k (last_row spares)
+  row_free : (plan : Plan) → rows_needed plan ≤ length spares.rows → 0 < slot_of plan → StandsReady plan spares k.own → IsUnset k (last_row spares)
   row_free (Install pid head content) some page ready = λ other e. ready other (last_row spares) e
   row_free (Split pid plan) some page ready = λ other e.
       let there : spares.pid ≡ Some other = are.all_pages other (subst IsUnlinked (sym e) tt) in
@@ -224,10 +224,10 @@ module _ (actor : ℕ) (limits : Limits) (k : Knowledge) (plan : Plan) (spares :
   pid_room needs = (rw (pid_is needs) at room.pid).0
 
   -- the exchange that decides may be asked for
-  pub may_link : IsTarget limits plan → IsReady plan spares k.own → IsPlaced plan spares k.own → MayExchange actor k (slot_of plan) (head_of plan) (linked_number plan spares)
+  pub may_link : IsTarget limits plan → StandsReady plan spares k.own → IsPlaced plan spares k.own → MayExchange actor k (slot_of plan) (head_of plan) (linked_number plan spares)
   may_link target ready placed = links plan enough.rows may.links pid_room target ready placed
     where
-      links : (plan : Plan) → rows_needed plan ≤ length spares.rows → MayLinkAs actor k plan → (needs_pid plan ≡ true → IsPid (pid_of spares)) → IsTarget limits plan → IsReady plan spares k.own → IsPlaced plan spares k.own → MayExchange actor k (slot_of plan) (head_of plan) (linked_number plan spares)
+      links : (plan : Plan) → rows_needed plan ≤ length spares.rows → MayLinkAs actor k plan → (needs_pid plan ≡ true → IsPid (pid_of spares)) → IsTarget limits plan → StandsReady plan spares k.own → IsPlaced plan spares k.own → MayExchange actor k (slot_of plan) (head_of plan) (linked_number plan spares)
       links (Install pid head content) some may is target ready placed = may k (last_row spares) (like_self k) last_is.1 placed (row_free (Install pid head content) some target.page ready)
       links (Split pid plan) some may is target ready placed = may k (pid_of spares) (first_row spares) (last_row spares) (like_self k) (is refl) last_is.1 ready.0 ready.1 placed (row_free (Split pid plan) some target.page ready)
       links (Root left root) some may is target ready placed = may k (pid_of spares) (last_row spares) (like_self k) (is refl) ready.0 ready.1
@@ -237,7 +237,7 @@ pub may_decide : (actor : ℕ) (change : Change) (spares : Spares) (k : Knowledg
     → (k.inside ≡ true) × MayExchange actor k (slot_of change.plan) (head_of change.plan) (linked_number change.plan spares)
 may_decide actor change spares k is sound target shows =
     let enough : AreEnough change.plan spares = rw is at sound.state in
-    let stands : IsReady change.plan spares k.own × IsPlaced change.plan spares k.own = rw is at shows.stands in (
+    let stands : StandsReady change.plan spares k.own × IsPlaced change.plan spares k.own = rw is at shows.stands in (
       shows.may.inside,
       may_link actor change.limits k change.plan spares sound.room enough shows.may shows.keeps shows.are target stands.0 stands.1,
     )

@@ -14,7 +14,7 @@ use Rattle.chain_search.specs.Knowledge.{Knowledge, Empty, Ready, learn}
 use Rattle.installs.specs.Changes.{Change, Follows, IsLike, IsMissing, KeepsSpare, LacksNumber, MayChange, Shows, ShowsState, needs_pid, rows_needed}
 use Rattle.installs.specs.Moves.{Moved, after_taking, first_state, moved_by, with_number}
 use Rattle.installs.specs.Spares.{AreTheSpares, AreUnset, Spares}
-use Rattle.installs.specs.Taking.{AllFull, AreFull, count_of, found_after, kind_of, wanted_number, word_of}
+use Rattle.installs.specs.Taking.{AllFull, AreFull, count_of, found_after, kind_of, wanted_number, word_read}
 use Rattle.installs.specs.declared.change.State.{State}
 use Rattle.installs.specs.declared.change.State.TheVariants as state
 use Rattle.installs.specs.declared.plan.Plan.{Plan}
@@ -161,7 +161,7 @@ module _ (actor : ℕ) (limits : Limits) (k : Knowledge) (plan : Plan) (spares :
       like = record { inside = refl; read = refl; command = refl; linked_now = refl }
 
   -- whatever the answer, the taking goes on as it says
-  pub finds : (taking : Taking) (told : Answer Record) → IsMissing plan spares (kind_of taking) → AreFull k.asked (kind_of taking) (word_of taking) → Fits limits k (wanted_number taking) told → Finds taking told
+  pub finds : (taking : Taking) (told : Answer Record) → IsMissing plan spares (kind_of taking) → AreFull k.asked (kind_of taking) (word_read taking) → Fits limits k (wanted_number taking) told → Finds taking told
   finds (Bits kind word) (answer.Number zero) missing full fits = empty_word kind word missing full
   finds (Bits Pid word) (answer.Number (suc bits)) missing full fits = some_word Pid word bits (in_word limits.pids word bits fits).0 full
   finds (Bits Row word) (answer.Number (suc bits)) missing full fits = some_word Row word bits (in_word limits.rows word bits fits).0 full

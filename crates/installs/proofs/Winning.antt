@@ -10,7 +10,7 @@ use Rattle.chain_search.specs.Discipline.{MayExchange}
 use Rattle.chain_search.specs.Fitting.{Fits}
 use Rattle.chain_search.specs.Knowledge.{Belongings, Knowledge, Foreign, Written, Other, Ready, Gone, learn, linked_over}
 use Rattle.smo.specs.Splits.{split_to}
-use Rattle.installs.specs.Changes.{AreEnough, IsKept, IsOver, IsPlaced, IsReady, IsTarget, KeepsSpare, head_of, linked_number, slot_of, wanted_at}
+use Rattle.installs.specs.Changes.{AreEnough, IsKept, IsOver, IsPlaced, StandsReady, IsTarget, KeepsSpare, head_of, linked_number, slot_of, wanted_at}
 use Rattle.installs.specs.Moves.{unused}
 use Rattle.installs.specs.Spares.{AreTheSpares, AreUnset, HaveRoom, Spares, first_row, last_row, pid_of}
 use Rattle.installs.specs.declared.change.End.TheVariants as end
@@ -77,7 +77,7 @@ module _ (actor : ℕ) (limits : Limits) (k : Knowledge) (spares : Spares) (room
         decided = (refl, refl);
       }
 
-  pub won_at : (plan : Plan) → AreEnough plan spares → IsTarget limits plan → KeepsSpare plan spares.pid → MayExchange actor k (slot_of plan) (head_of plan) (linked_number plan spares) → IsReady plan spares k.own → IsPlaced plan spares k.own → Fits limits k (wanted_at plan spares state.Link) (answer.Whether true)
+  pub won_at : (plan : Plan) → AreEnough plan spares → IsTarget limits plan → KeepsSpare plan spares.pid → MayExchange actor k (slot_of plan) (head_of plan) (linked_number plan spares) → StandsReady plan spares k.own → IsPlaced plan spares k.own → Fits limits k (wanted_at plan spares state.Link) (answer.Whether true)
       → IsOver k (learn k (wanted_at plan spares state.Link) (answer.Whether true)) (record { limits = limits; plan = plan; state = state.Link }) (answer.Whether true) (unused plan spares) end.Won
   won_at (Install pid head content) enough target keeps may ready placed fits =
       let row = (own_last k.own.rows spares.rows enough.rows room.few are.rows).1 in

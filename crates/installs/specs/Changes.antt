@@ -24,7 +24,7 @@ use Rattle.installs.specs.declared.plan.Plan.TheVariants.{Install, Split, Root}
 use Rattle.installs.specs.declared.taking.Kind.{Kind}
 use Rattle.installs.specs.declared.taking.Kind.TheVariants.{Pid, Row}
 use Rattle.installs.specs.Spares.{AreTheSpares, AreUnset, HaveRoom, Rest, Spares, first_row, last_row, pid_of}
-use Rattle.installs.specs.Taking.{AllFull, AreFull, IsSoundTaking, kind_of, wanted_number, word_of}
+use Rattle.installs.specs.Taking.{AllFull, AreFull, IsSoundTaking, kind_of, wanted_number, word_read}
 
 -- what is to be linked, and how far it has come
 pub record Change : Type 0 where
@@ -113,7 +113,7 @@ abbrev pub at : Change → State → Change
 at change state = record change { state = state }
 
 -- The page, the row of its slot and the record name no number that has no place.
-pub record IsPlace (limits : Limits) (pid head : ℕ) (content : Record) : Type 0 where
+pub record IsTargetOver (limits : Limits) (pid head : ℕ) (content : Record) : Type 0 where
   pub page : 0 < pid
   pub pid_below : pid < limits.pids
   pub linked : 0 < head
@@ -122,8 +122,8 @@ pub record IsPlace (limits : Limits) (pid head : ℕ) (content : Record) : Type 
 
 -- The plan names no number that has no place.
 abbrev pub IsTarget : Limits → Plan → Type 0
-IsTarget limits (Install pid head content) = IsPlace limits pid head content
-IsTarget limits (Split pid plan) = IsPlace limits pid plan.next (kind.Base plan.upper)
+IsTarget limits (Install pid head content) = IsTargetOver limits pid head content
+IsTarget limits (Split pid plan) = IsTargetOver limits pid plan.next (kind.Base plan.upper)
 IsTarget limits (Root left root) = (0 < left) × (left < limits.pids)
 
 -- Such a plan has such a state: only a new page has a base, and only what comes over a page's newest row is placed for it.
@@ -180,9 +180,9 @@ KeepsSpare (Install page head content) pid = IsKept content pid
 KeepsSpare plan pid = ⊤
 
 -- The new page has its base in its slot; where the plan brings none, no own page has a row in its slot.
-abbrev pub IsReady : Plan → Spares → Belongings → Type 0
-IsReady (Install pid head content) spares own = AreUnset own
-IsReady plan spares own = (own.pages (pid_of spares) ≡ Ready (base_row plan spares)) × (own.rows (base_row plan spares) ≡ Written (new_base plan))
+abbrev pub StandsReady : Plan → Spares → Belongings → Type 0
+StandsReady (Install pid head content) spares own = AreUnset own
+StandsReady plan spares own = (own.pages (pid_of spares) ≡ Ready (base_row plan spares)) × (own.rows (base_row plan spares) ≡ Written (new_base plan))
 
 -- The record is placed that comes over a page's newest row.
 abbrev pub IsPlaced : Plan → Spares → Belongings → Type 0
@@ -191,12 +191,12 @@ IsPlaced plan spares own = own.rows (last_row spares) ≡ Written (new_record pl
 
 -- by the state of a change: what its actor knows
 abbrev pub ShowsState : Plan → Spares → Knowledge → State → Type 0
-ShowsState plan spares k (Taking taking) = AreUnset k.own × AreFull k.asked (kind_of taking) (word_of taking)
+ShowsState plan spares k (Taking taking) = AreUnset k.own × AreFull k.asked (kind_of taking) (word_read taking)
 ShowsState plan spares k Base = AreUnset k.own
 ShowsState plan spares k ToReady = AreUnset k.own × (k.own.rows (base_row plan spares) ≡ Written (new_base plan))
-ShowsState plan spares k Place = IsReady plan spares k.own
-ShowsState plan spares k Link = IsReady plan spares k.own × IsPlaced plan spares k.own
-ShowsState plan spares k Undo = IsReady plan spares k.own
+ShowsState plan spares k Place = StandsReady plan spares k.own
+ShowsState plan spares k Link = StandsReady plan spares k.own × IsPlaced plan spares k.own
+ShowsState plan spares k Undo = StandsReady plan spares k.own
 
 pub record Shows (actor : ℕ) (change : Change) (spares : Spares) (k : Knowledge) : Type 0 where
   pub may : MayChange actor k change.plan

@@ -44,9 +44,9 @@ kind_of (Bits kind word) = kind
 kind_of (Take kind number) = kind
 
 -- the word that it reads, or read last
-abbrev pub word_of : Taking → ℕ
-word_of (Bits kind word) = word
-word_of (Take kind number) = number / 64
+abbrev pub word_read : Taking → ℕ
+word_read (Bits kind word) = word
+word_read (Take kind number) = number / 64
 
 -- the word, or the number, is there
 abbrev pub IsSoundTaking : Limits → Taking → Type 0
@@ -82,6 +82,6 @@ IsSoundFound limits (Taken kind number) = (0 < number) × (number < count_of lim
 IsSoundFound limits Full = ⊤
 
 -- Something is known that the answer fits.
-pub record IsAnswered (limits : Limits) (taking : Taking) (told : Answer Record) : Type 0 where
+pub record FitsTaking (limits : Limits) (taking : Taking) (told : Answer Record) : Type 0 where
   pub k : Knowledge
   pub fits : Fits limits k (wanted_number taking) told

@@ -1,7 +1,7 @@
 //! The taking of one free number: it reads words of free bits, and takes the lowest free number of the first word that has one.
 ghost use Rattle.std.specs.Prelude.{◌≡◌, ◌<◌, ◌*◌};
 ghost use Rattle.chain_search.specs.Fitting.{FitsWord};
-ghost use Rattle.installs.specs.Taking.{IsAnswered, IsSoundFound, IsSoundTaking, count_of, found_after, wanted_number};
+ghost use Rattle.installs.specs.Taking.{FitsTaking, IsSoundFound, IsSoundTaking, count_of, found_after, wanted_number};
 
 use bw_model::{Answer, Limits, Step};
 use deltas::Record;
@@ -62,7 +62,7 @@ impl Taking {
 
     /// Takes the answer to the step wanted last.
     pub(crate) fn next(self, limits: &Limits, answer: Answer<Record>) -> Found
-        requires told { IsAnswered limits.now self answer }
+        requires told { FitsTaking limits.now self answer }
         requires sound { IsSoundTaking limits.now self }
         ensures found { result ≡ found_after limits.now self answer }
         ensures sound { IsSoundFound limits.now result }
