@@ -20,19 +20,19 @@ use Rattle.op_machine.specs.Wants.{IsSameOp, Op, rows_in_flight, wanted_of}
 use Rattle.installs.specs.Within.{IsWithin}
 use Rattle.step_core.specs.declared.actor.Actor.{Actor}
 use Rattle.step_core.specs.declared.actor.Running.{Running}
-use Rattle.step_core.specs.Actors.{IsAt, IsIdle, IsLeft, IsPlainlyAllowed, IsReady, IsRunning, IsServed, IsServedAt, IsWithinAt, command_at, wanted_by}
+use Rattle.step_core.specs.Actors.{IsIdle, IsIdleOrRunning, IsLeft, IsPlainlyAllowed, IsReady, IsRunning, IsServed, IsServedAt, IsWithinAt, command_at, wanted_by}
 
 -- an actor without an operation, and one with an operation
-idle_of : (limits : Limits) (actor : ℕ) (k : Knowledge) (spares : List ℕ) (running : Option Running) → command_at running ≡ None → IsAt limits actor k spares running → IsIdle limits k spares
+idle_of : (limits : Limits) (actor : ℕ) (k : Knowledge) (spares : List ℕ) (running : Option Running) → command_at running ≡ None → IsIdleOrRunning limits actor k spares running → IsIdle limits k spares
 idle_of limits actor k spares None e h = h
 idle_of limits actor k spares (Some running) e h = cc
 
-pub idle_at : (limits : Limits) (actor : ℕ) (k : Knowledge) (spares : List ℕ) (running : Option Running) → command_at running ≡ None → IsAt limits actor k spares running → IsIdle limits k spares
+pub idle_at : (limits : Limits) (actor : ℕ) (k : Knowledge) (spares : List ℕ) (running : Option Running) → command_at running ≡ None → IsIdleOrRunning limits actor k spares running → IsIdle limits k spares
 idle_at limits actor k spares running e h = idle_of limits actor k spares running e h
 
 pub ready_some : (limits : Limits) (actor : ℕ) (k : Knowledge) (memory : Memory) (at : Actor) (running : Running) → at.running ≡ Some running → IsReady limits actor k memory at
     → IsRunning limits actor k at.hand running × IsServed limits k memory running.wanted
-ready_some limits actor k memory at running e h = let P : Option Running → Type 0 = λ o. IsAt limits actor k at.hand o × IsServedAt limits k memory o in subst P e (h.0.shows, h.1)
+ready_some limits actor k memory at running e h = let P : Option Running → Type 0 = λ o. IsIdleOrRunning limits actor k at.hand o × IsServedAt limits k memory o in subst P e (h.0.shows, h.1)
 
 -- the table has what the step asks for, which is the one that is wanted
 pub within_some : (table : Table) (actor : ℕ) (o : Option Running) (running : Running) → o ≡ Some running → IsWithinAt table actor o → IsWithinTable table actor running.wanted

@@ -18,7 +18,7 @@ use Rattle.core_law.specs.Laws.{AnswersShowLeaf}
 use Rattle.core_law.specs.State.{IsLeafState}
 use Rattle.installs.specs.Within.{IsWithin}
 use Rattle.step_core.specs.declared.actor.Running.{Running}
-use Rattle.step_core.specs.Actors.{IsAt, IsServed, IsServedAt, IsWithinAt}
+use Rattle.step_core.specs.Actors.{IsIdleOrRunning, IsServed, IsServedAt, IsWithinAt}
 
 -- whether a record was placed in the row
 abbrev pub is_placed : Memory → ℕ → Bool
@@ -61,7 +61,7 @@ module _ (limits : Limits) (entries : List Entry) (state : IsLeafState limits en
     served : AnswersShowLeaf → (step : StepOf Record) → May a (knows entries a) step → IsServed limits (knows entries a) m step
     served fit step may = λ answer told. fit limits entries a step answer state may told
 
-    pub served_at : AnswersShowLeaf → (spares : List ℕ) (running : Option Running) → IsAt limits a (knows entries a) spares running → IsServedAt limits (knows entries a) m running
+    pub served_at : AnswersShowLeaf → (spares : List ℕ) (running : Option Running) → IsIdleOrRunning limits a (knows entries a) spares running → IsServedAt limits (knows entries a) m running
     served_at fit spares None at = tt
     served_at fit spares (Some running) at = served fit running.wanted (subst (λ n. May n (knows entries a) running.wanted) at.own_actor at.goes.may)
 
@@ -84,6 +84,6 @@ module _ (limits : Limits) (entries : List Entry) (state : IsLeafState limits en
       within (ReusePids word bits) h may = rw same h.0
       within (ReuseRows word bits) h may = rw same h.0
 
-      pub within_at : (spares : List ℕ) (running : Option Running) → IsAt limits a (knows entries a) spares running → IsWithinAt table a running
+      pub within_at : (spares : List ℕ) (running : Option Running) → IsIdleOrRunning limits a (knows entries a) spares running → IsWithinAt table a running
       within_at spares None at = tt
       within_at spares (Some running) at = within running.wanted at.within (subst (λ n. May n (knows entries a) running.wanted) at.own_actor at.goes.may)

@@ -33,14 +33,15 @@ pub record IsIdle (limits : Limits) (k : Knowledge) (spares : List ℕ) : Type 0
   pub hand : HaveRoom limits 0 spares
   pub rests : Rests spares k
 
-abbrev pub IsAt : Limits → ℕ → Knowledge → List ℕ → Option Running → Type 0
-IsAt limits actor k spares None = IsIdle limits k spares
-IsAt limits actor k spares (Some running) = IsRunning limits actor k spares running
+-- The actor is between operations, or has one under way.
+abbrev pub IsIdleOrRunning : Limits → ℕ → Knowledge → List ℕ → Option Running → Type 0
+IsIdleOrRunning limits actor k spares None = IsIdle limits k spares
+IsIdleOrRunning limits actor k spares (Some running) = IsRunning limits actor k spares running
 
 -- What the actor keeps shows what it knows. The rows that its entries show as taken and not linked are exactly those that it
 -- holds, its spares and the one in flight; and it has taken no PID.
 pub record IsActor (limits : Limits) (actor : ℕ) (k : Knowledge) (at : Actor) : Type 0 where
-  pub shows : IsAt limits actor k at.hand at.running
+  pub shows : IsIdleOrRunning limits actor k at.hand at.running
   pub holds : HoldsAll k (held_by at.running at.hand)
 
 -- Whatever the memory answers to the step fits what the actor knows, and shows the only leaf.
