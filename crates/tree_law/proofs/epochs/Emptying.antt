@@ -13,7 +13,7 @@ use Rattle.deltas.specs.declared.record.Record.TheVariants.{Base}
 use Rattle.deltas.specs.Memory.{Memory, replaced_at}
 use Rattle.deltas.specs.Records.{next_row}
 use Rattle.chain_search.specs.Discipline.{IsOwn, IsOwnBase}
-use Rattle.chain_search.specs.Knowledge.{OwnRow, Foreign, Taken, Written, OwnPage, Other, Empty, Ready, Gone, Unstamped, Knowledge, is_on_walk, taken_out, finished, cleared, handed_page, set_page}
+use Rattle.chain_search.specs.Knowledge.{OwnRow, Foreign, Taken, Written, OwnPage, Other, Empty, Ready, Gone, Unstamped, Knowledge, is_on_walk, finished, cleared, handed_page, set_page}
 use Rattle.tree_law.specs.Keys.{Key}
 use Rattle.tree_law.specs.Next.{IsHomed}
 use Rattle.tree_law.specs.Owners.{Spare, Linked, Owners, Reached, PageFits}

@@ -10,7 +10,7 @@ use Rattle.deltas.specs.declared.record.Split.{Split as SplitOf}
 use Rattle.deltas.specs.declared.record.Unterm.{Unterm as UntermOf}
 use Rattle.deltas.specs.Memory.{Memory}
 use Rattle.chain_search.specs.Discipline.{IsOwn, IsOwnBase, IsUnset}
-use Rattle.chain_search.specs.Knowledge.{OwnRow, Foreign, Written, Other, Empty, Ready, Gone, Limbo, Knowledge, linked_over, split_off, taken_out, finished, handed_over, handed_page, rebuilt, set_page}
+use Rattle.chain_search.specs.Knowledge.{OwnRow, Foreign, Written, Other, Empty, Ready, Gone, Limbo, Knowledge, linked_over, split_off, finished, handed_over, handed_page, rebuilt, set_page}
 use Rattle.tree_law.specs.Owners.{Linked, Owners}
 use Rattle.tree_law.specs.Put.{put}
 use Rattle.tree_law.specs.Shared.{shared}

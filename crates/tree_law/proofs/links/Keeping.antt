@@ -18,7 +18,7 @@ use Rattle.chain_search.specs.Discipline.{HasRead, IsBeyond, IsMet}
 use Rattle.tree_law.specs.Phase.{Stage, Fresh, Indexed, Held, Removed, Merged, PageOwner, Placed, Cleared, mark, rank, child_of, rank_of}
 use Rattle.tree_law.specs.Put.{put}
 use Rattle.tree_law.specs.Shared.{Shared}
-use Rattle.tree_law.specs.Owners.{IsChain, Owner, Owners, Reached, ChainNames, IsClosed, IsCleared, Owns, OwnsPages, SpellsLog, leaf_map, HeadFits, LinkFits, InOrder, OrderFits, Knows, IsOut}
+use Rattle.tree_law.specs.Owners.{IsChain, Owner, Owners, Reached, ChainNames, IsClosed, Owns, OwnsPages, SpellsLog, leaf_map, HeadFits, LinkFits, InOrder, OrderFits, Knows, IsOut}
 use Rattle.tree_law.specs.Tree.{SidePage, InPlace, spec, IsOff, Off, Tree, Frees, IsTree}
 use Rattle.tree_law.proofs.shape.KeyOrder.{covers_from}
 use Rattle.tree_law.proofs.shape.Puts.{by_test}

@@ -9,11 +9,11 @@ use Rattle.deltas.specs.declared.record.Record.{Record}
 use Rattle.deltas.specs.declared.record.Record.TheVariants.{Merge}
 use Rattle.chain_search.specs.Chains.{content_in, level_in, low_in, high_in, right_in, is_removed}
 use Rattle.tree_law.specs.Keys.{Key, IsBelow, IsUnder, Covers}
-use Rattle.chain_search.specs.Knowledge.{OwnRow, Foreign, OwnPage, Other, Gone, Unstamped, Knowledge, filled, emptied, finished, taken_out, cleared, handed_over, Written}
+use Rattle.chain_search.specs.Knowledge.{OwnRow, Foreign, OwnPage, Other, Gone, Knowledge, filled, emptied, finished, cleared, handed_over, Written}
 use Rattle.tree_law.specs.Phase.{Stage, Fresh, Indexed, Held, Removed, Merged, PageOwner, Placed, Cleared, rank, stage_removed}
 use Rattle.tree_law.specs.Put.{put}
 use Rattle.tree_law.specs.Shared.{Shared}
-use Rattle.tree_law.specs.Owners.{IsChain, Spare, Linked, Owners, IsLinked, OwnFits, PageFits, IsCleared, HeadFits, IsOut}
+use Rattle.tree_law.specs.Owners.{IsChain, Spare, Linked, Owners, IsLinked, OwnFits, PageFits, HeadFits, IsOut}
 use Rattle.tree_law.specs.Tree.{spec, SidePage, InPlace, IsOff, Off, IsTree}
 use Rattle.chain_search.specs.Discipline.{MayMerge, HasRead}
 use Rattle.tree_law.proofs.shape.KeyOrder.{not_below, upto_same, under_trans, by_range, covers_to}

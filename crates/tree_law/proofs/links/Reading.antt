@@ -14,7 +14,7 @@ use Rattle.chain_search.specs.Knowledge.{Knowledge, learnt_next, learn_head, lea
 use Rattle.tree_law.specs.Phase.{Stage, Indexed, Merged, PageOwner, Placed, Cleared, rank}
 use Rattle.tree_law.specs.Put.{put}
 use Rattle.tree_law.specs.Shared.{Shared}
-use Rattle.tree_law.specs.Owners.{Linked, Owners, Reached, ChainNames, IsLinked, SeenFits, SpellsLog, IsCleared, HeadFits, OrderFits, IsOut}
+use Rattle.tree_law.specs.Owners.{Linked, Owners, Reached, ChainNames, IsLinked, SeenFits, SpellsLog, HeadFits, OrderFits, IsOut}
 use Rattle.tree_law.specs.Tree.{spec, IsTree}
 use Rattle.tree_law.proofs.shape.Puts.{by_test, put_all}
 use Rattle.tree_law.proofs.shape.Chains.{chain_unique}

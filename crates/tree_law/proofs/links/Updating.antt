@@ -11,7 +11,7 @@ use Rattle.deltas.specs.declared.record.Record.TheVariants.{Remove}
 use Rattle.deltas.specs.Records.{next_row}
 use Rattle.chain_search.specs.Chains.{content_in, level_in, low_in, high_in, right_in, is_removed}
 use Rattle.tree_law.specs.Keys.{Key, Covers}
-use Rattle.chain_search.specs.Knowledge.{OwnRow, Foreign, Written, Knowledge, filled, linked_over, taken_out, finished, handed_over, rebuilt, updated}
+use Rattle.chain_search.specs.Knowledge.{OwnRow, Written, Knowledge, filled, linked_over, finished, handed_over, rebuilt, updated}
 use Rattle.tree_law.specs.Phase.{Stage, Fresh, Indexed, Held, Removed, Merged, PageOwner, Placed, rank, stage_removed}
 use Rattle.tree_law.specs.Put.{put}
 use Rattle.tree_law.specs.Shared.{Shared}

@@ -3,7 +3,7 @@ use Rattle.bw_model.specs.Bytes.{key_cmp}
 use Rattle.std.specs.Ordering.{is_eq}
 use Rattle.tree_law.proofs.shape.KeyOrder.{by_key, not_self}
 use Rattle.std.proofs.Common.{◌≡◌, ◌≢◌, ◌⊎◌, inl, inr, ℕ, zero, suc, ◌<◌, List, [], ◌∷◌, Option, Some, None, Bool, true, false, cond, eqb, refl, sym, ap, ◌∙◌, subst}
-use Rattle.std.specs.Prelude.{slice_get, if◌then◌else◌}
+use Rattle.std.specs.Prelude.{if◌then◌else◌}
 use Rattle.std.specs.Option.{option_map}
 use Rattle.std.proofs.lemmas.Option.{same_Some}
 use Rattle.bw_model.specs.declared.command.Reply.{Reply}
@@ -16,7 +16,6 @@ use Rattle.bw_model.specs.declared.step.Link.TheVariants as link
 use Rattle.bw_model.specs.Log.{Update}
 use Rattle.base_page.specs.declared.item.Content.{Content as ContentOf}
 use Rattle.base_page.specs.declared.item.Content.TheVariants.{Child}
-use Rattle.base_page.specs.declared.item.Item.{Item}
 use Rattle.base_page.specs.Pages as pages
 use Rattle.deltas.specs.declared.record.Record.{Record}
 use Rattle.deltas.specs.declared.record.Record.TheVariants.{Base, Put, Delete, Split, Term, Hold, Remove, Merge, Unterm}
@@ -30,7 +29,7 @@ use Rattle.chain_search.proofs.ChainLaws.{IsChainFrom-unique}
 use Rattle.op_machine.specs.Links.{link_without, link_of, Wins, Installs}
 use Rattle.op_machine.specs.Phases.{Phase, free, owned, fresh, indexed, held, removed, merged, cleared, MakesRoot, Moves, takes, splits, becomes_root, terms, under_root, holds, removes, merges, unterms, reuses}
 use Rattle.chain_search.specs.Discipline.{root_over, May}
-use Rattle.tree_law.specs.Keys.{Key, IsBelow}
+use Rattle.tree_law.specs.Keys.{IsBelow}
 use Rattle.chain_search.specs.Knowledge.{Knowledge}
 use Rattle.tree_law.specs.Owners.{Owners}
 use Rattle.tree_law.specs.Phase.{Fresh, Indexed, Held, Removed, Merged, PageOwner, Nobody, Keeps, Placed, Cleared}

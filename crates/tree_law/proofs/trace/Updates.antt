@@ -1,15 +1,14 @@
 -- One more entry: where updates are made.
-use Rattle.std.proofs.Common.{◌≡◌, ◌<◌, ◌≤◌, inl, inr, ℕ, suc, List, [], ◌∷◌, ◌++◌, length, take, Some, Bool, true, refl, sym, ap, ◌∙◌, subst, arith}
+use Rattle.std.proofs.Common.{◌≡◌, ◌<◌, ◌≤◌, inl, inr, ℕ, suc, List, [], ◌∷◌, ◌++◌, length, take, Some, Bool, true, sym, ap, ◌∙◌, subst, arith}
 use Rattle.std.specs.Prelude.{◌↔◌, slice_get}
 use Rattle.std.proofs.lemmas.Bool.{cases_lt}
 use Rattle.bw_model.specs.declared.limits.Limits.{Limits}
 use Rattle.bw_model.specs.Log.{Update}
-use Rattle.deltas.specs.Memory.{Memory}
 use Rattle.chain_search.specs.declared.trace.Entry.{Entry}
 use Rattle.chain_search.specs.Trace.{Happens, memory_of, memory_at}
 use Rattle.chain_search.proofs.Pushes.{slice_get-push, slice_get-push_cases, slice_get_kept, slice_get_below, take-push_whole}
 use Rattle.chain_search.proofs.TraceLaws.{memory_at-push}
-use Rattle.op_machine.specs.Points.{IsPoint, log_of, log_at}
+use Rattle.op_machine.specs.Points.{log_of, log_at}
 use Rattle.op_machine.specs.Updates.{LinksUpdate, IsUpdating, UpdatesAtLinks}
 use Rattle.op_machine.proofs.LogLaws.{log_at-push}
 use Rattle.tree_law.proofs.trace.Marks.{take_whole}
