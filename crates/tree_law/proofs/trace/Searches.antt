@@ -1,5 +1,5 @@
 -- What an operation has found stays found, and what a further step finds.
-use Rattle.std.proofs.Common.{◌≡◌, ◌<◌, ◌⊎◌, inl, inr, ℕ, zero, suc, List, [], ◌∷◌, ◌++◌, length, Option, Some, None, true, false, cond, refl, sym, ap, ◌∙◌, subst, arith}
+use Rattle.std.proofs.Common.{◌≡◌, ◌<◌, ◌⊎◌, inl, inr, ℕ, zero, suc, List, [], ◌∷◌, ◌++◌, length, Option, Some, None, Bool, true, false, cond, refl, sym, ap, ◌∙◌, subst, arith}
 use Rattle.std.specs.Prelude.{slice_get, MatchOption, unwrap_or}
 use Rattle.std.proofs.lemmas.Option.{same_Some}
 use Rattle.bw_model.specs.declared.command.Command.{Command}
@@ -21,7 +21,7 @@ use Rattle.chain_search.proofs.TraceLaws.{memory_at-push}
 use Rattle.op_machine.specs.Answered.{FindsNothingFree, FindsPageFull}
 use Rattle.op_machine.specs.Operations.{Operation, TakesOwnStep}
 use Rattle.chain_search.specs.Discipline.{LacksRoom}
-use Rattle.chain_search.specs.Knowledge.{Knowledge, begun, learn, finished}
+use Rattle.chain_search.specs.Knowledge.{Asked, Knowledge, begun, learn, finished}
 use Rattle.tree_law.specs.State.{IsUnended, operation_of, HeadAt, IsSearch}
 use Rattle.tree_law.proofs.shape.Puts.{by_test}
 use Rattle.tree_law.proofs.shape.Chains.{chain_within}
@@ -63,43 +63,39 @@ heads_cases k (Exchange p y z) (Whether false) page row e = inr (e, λ r w f. in
 heads_cases k Leave x page row e = absurd (cc)
 heads_cases k s x page row e = inr (e, λ r w f. inl f)
 
-pids_cases : (k : Knowledge) (s : StepOf Record) (x : Answer Record) (word : ℕ) → (learn k s x).asked.no_pids word ≡ true → (k.asked.no_pids word ≡ true) ⊎ Is s x (PidBits word) (Number 0)
-pids_cases k (PidBits v) (Number zero) word e = by_test word v (λ t. cond t true (k.asked.no_pids word) ≡ true → (k.asked.no_pids word ≡ true) ⊎ Is (PidBits v) (Number 0) (PidBits word) (Number 0))
-    (λ i f. inr (ap PidBits (sym i), refl)) (λ ne f. inl f) e
-pids_cases k (PidBits v) (Number (suc n)) word e = inl e
-pids_cases k Epoch (Number n) word e = inl e
-pids_cases k (Announce b) (Number n) word e = inl e
-pids_cases k (Slot zero) (Number n) word e = inl e
-pids_cases k (Slot (suc p)) (Number zero) word e = inl e
-pids_cases k (Slot (suc p)) (Number (suc n)) word e = inl e
-pids_cases k (Row q) (Content v) word e = inl e
-pids_cases k (RowBits w) (Number n) word e = inl e
-pids_cases k (TakePid q) (Whether true) word e = inl e
-pids_cases k (TakePid q) (Whether false) word e = inl e
-pids_cases k (TakeRow q) (Whether true) word e = inl e
-pids_cases k (TakeRow q) (Whether false) word e = inl e
-pids_cases k (Exchange p y z) (Whether true) word e = inl (subst (λ f. f word ≡ true) (exchanged_alike p y z k).no_pids e)
-pids_cases k (Exchange p y z) (Whether false) word e = inl e
-pids_cases k s x word e = inl e
+-- the words of free PIDs that were read as 0, or else of free rows; and the step that reads one
+abbrev no_words : Bool → Asked → ℕ → Bool
+no_words true asked = asked.no_pids
+no_words false asked = asked.no_rows
 
-rows_cases : (k : Knowledge) (s : StepOf Record) (x : Answer Record) (word : ℕ) → (learn k s x).asked.no_rows word ≡ true → (k.asked.no_rows word ≡ true) ⊎ Is s x (RowBits word) (Number 0)
-rows_cases k (RowBits v) (Number zero) word e = by_test word v (λ t. cond t true (k.asked.no_rows word) ≡ true → (k.asked.no_rows word ≡ true) ⊎ Is (RowBits v) (Number 0) (RowBits word) (Number 0))
+abbrev bits_of : Bool → ℕ → StepOf Record
+bits_of true word = PidBits word
+bits_of false word = RowBits word
+
+-- Where a word is known as 0 after a step: the step read it, or it was known before.
+words_cases : (pids : Bool) (k : Knowledge) (s : StepOf Record) (x : Answer Record) (word : ℕ) → no_words pids (learn k s x).asked word ≡ true → (no_words pids k.asked word ≡ true) ⊎ Is s x (bits_of pids word) (Number 0)
+words_cases true k (PidBits v) (Number zero) word e = by_test word v (λ t. cond t true (k.asked.no_pids word) ≡ true → (k.asked.no_pids word ≡ true) ⊎ Is (PidBits v) (Number 0) (PidBits word) (Number 0))
+    (λ i f. inr (ap PidBits (sym i), refl)) (λ ne f. inl f) e
+words_cases false k (RowBits v) (Number zero) word e = by_test word v (λ t. cond t true (k.asked.no_rows word) ≡ true → (k.asked.no_rows word ≡ true) ⊎ Is (RowBits v) (Number 0) (RowBits word) (Number 0))
     (λ i f. inr (ap RowBits (sym i), refl)) (λ ne f. inl f) e
-rows_cases k (RowBits v) (Number (suc n)) word e = inl e
-rows_cases k Epoch (Number n) word e = inl e
-rows_cases k (Announce b) (Number n) word e = inl e
-rows_cases k (Slot zero) (Number n) word e = inl e
-rows_cases k (Slot (suc p)) (Number zero) word e = inl e
-rows_cases k (Slot (suc p)) (Number (suc n)) word e = inl e
-rows_cases k (Row q) (Content v) word e = inl e
-rows_cases k (PidBits w) (Number n) word e = inl e
-rows_cases k (TakePid q) (Whether true) word e = inl e
-rows_cases k (TakePid q) (Whether false) word e = inl e
-rows_cases k (TakeRow q) (Whether true) word e = inl e
-rows_cases k (TakeRow q) (Whether false) word e = inl e
-rows_cases k (Exchange p y z) (Whether true) word e = inl (subst (λ f. f word ≡ true) (exchanged_alike p y z k).no_rows e)
-rows_cases k (Exchange p y z) (Whether false) word e = inl e
-rows_cases k s x word e = inl e
+words_cases true k (RowBits v) (Number zero) word e = inl e
+words_cases false k (PidBits v) (Number zero) word e = inl e
+words_cases true k (Exchange p y z) (Whether true) word e = inl (subst (λ f. f word ≡ true) (exchanged_alike p y z k).no_pids e)
+words_cases false k (Exchange p y z) (Whether true) word e = inl (subst (λ f. f word ≡ true) (exchanged_alike p y z k).no_rows e)
+words_cases pids k (PidBits v) (Number (suc n)) word e = inl e
+words_cases pids k (RowBits v) (Number (suc n)) word e = inl e
+words_cases pids k Epoch (Number n) word e = inl e
+words_cases pids k (Announce b) (Number n) word e = inl e
+words_cases pids k (Slot zero) (Number n) word e = inl e
+words_cases pids k (Slot (suc p)) (Number zero) word e = inl e
+words_cases pids k (Slot (suc p)) (Number (suc n)) word e = inl e
+words_cases pids k (Row q) (Content v) word e = inl e
+words_cases pids k (TakePid q) (Whether true) word e = inl e
+words_cases pids k (TakePid q) (Whether false) word e = inl e
+words_cases pids k (TakeRow q) (Whether true) word e = inl e
+words_cases pids k (TakeRow q) (Whether false) word e = inl e
+words_cases pids k (Exchange p y z) (Whether false) word e = inl e
+words_cases pids k s x word e = inl e
 
 -- each record of a chain stands at its row
 chain_at : (rows : ℕ → Option Record) (x : ℕ) (c : List Record) → IsChainFrom rows x c → (k at : ℕ) (w : Record) → slice_get (chain_rows x c) k ≡ Some at → slice_get c k ≡ Some w → rows at ≡ Some w
@@ -195,8 +191,8 @@ module _ (entries : List Entry) (last : Entry) where
       | inr old ↦ head_kept limits (operation_of start a c) rows rows' k.read.recent (learn k s x).read.recent page row (h.heads_at page row old.0) (stays page row old.0)
           (λ r w f. elim (old.1 r w f) [ inl g ↦ inl g | inr g ↦ inr (takes (Row r) (Content w) g.0 g.1) ])
     ];
-    pids_at = λ word e. elim (pids_cases k s x word e) [ inl f ↦ let g = h.pids_at word f in (g.0, takes_kept (operation_of start a c) g.0 _ _ g.1) | inr new ↦ (length entries, takes (PidBits word) (Number 0) new.0 new.1) ];
-    rows_at = λ word e. elim (rows_cases k s x word e) [ inl f ↦ let g = h.rows_at word f in (g.0, takes_kept (operation_of start a c) g.0 _ _ g.1) | inr new ↦ (length entries, takes (RowBits word) (Number 0) new.0 new.1) ];
+    pids_at = λ word e. elim (words_cases true k s x word e) [ inl f ↦ let g = h.pids_at word f in (g.0, takes_kept (operation_of start a c) g.0 _ _ g.1) | inr new ↦ (length entries, takes (PidBits word) (Number 0) new.0 new.1) ];
+    rows_at = λ word e. elim (words_cases false k s x word e) [ inl f ↦ let g = h.rows_at word f in (g.0, takes_kept (operation_of start a c) g.0 _ _ g.1) | inr new ↦ (length entries, takes (RowBits word) (Number 0) new.0 new.1) ];
   }
     where
       takes : (t : StepOf Record) (y : Answer Record) → s ≡ t → x ≡ y → TakesOwnStep (entries ++ last ∷ []) (operation_of start a c) (length entries) t y
