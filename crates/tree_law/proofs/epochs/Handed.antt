@@ -1,5 +1,5 @@
 -- One more step: what the limbos show of it, and that what it frees is freed by the rule.
-use Rattle.std.proofs.Common.{◌≡◌, ◌<◌, ◌⊎◌, inl, inr, ℕ, zero, suc, List, [], ◌∷◌, ◌++◌, length, Option, Some, None, Bool, true, cond, eqb, refl, sym, ap, ◌∙◌, subst, ⊎_elim, arith}
+use Rattle.std.proofs.Common.{◌≡◌, ◌<◌, ◌⊎◌, inl, inr, ℕ, zero, suc, List, [], ◌∷◌, ◌++◌, length, Option, Some, None, Bool, true, false, cond, eqb, refl, sym, ap, ◌∙◌, subst, ⊎_elim, arith}
 use Rattle.std.specs.Prelude.{MatchOption, IfSome, unwrap_or, slice_index_or, take}
 use Rattle.std.specs.List.{Contains}
 use Rattle.std.proofs.lemmas.Bool.{eqb-true}
@@ -36,7 +36,7 @@ use Rattle.tree_law.specs.State.{IsInTree, IsReadyPage, IsState}
 use Rattle.tree_law.specs.Times.{Outing, Times, LimboFits, Timed}
 use Rattle.tree_law.specs.Tree.{IsTree}
 use Rattle.tree_law.proofs.links.Keeping.{slot_of}
-use Rattle.tree_law.proofs.epochs.Limbed.{LimboCase, as_it_was, is_stamped, is_passed, is_out, is_freed, RowOut, PageOut, FreesRows, FreesPids, row_case, page_case, walk_contained}
+use Rattle.tree_law.proofs.epochs.Limbed.{LimboCase, as_it_was, is_stamped, is_passed, is_out, is_freed, RowOut, PageOut, FreesRows, FreesPids, limbo_case, walk_contained}
 use Rattle.tree_law.proofs.epochs.Limbos.{limbo_push, stamped_now, passed_now, freed_push, freed_now, pid_longer, row_longer}
 use Rattle.tree_law.proofs.shape.Mapping.{slot_some}
 use Rattle.tree_law.proofs.trace.Names.{slot_none}
@@ -280,7 +280,7 @@ module _ (limits : Limits) (entries : List Entry) (a : ℕ) (step : StepOf Recor
       where
         own : IsInLimbo (entries ++ last ∷ []) a (UnlinksRow limits (entries ++ last ∷ []) a q) (HandsRow q) ((learn k step answer).limbo.rows q)
         own = in_limbo (UnlinksRow limits entries a q) (UnlinksRow limits (entries ++ last ∷ []) a q) (HandsRow q) (row_longer entries last limits a q) (k.limbo.rows q) ((learn k step answer).limbo.rows q) (RowOut k step answer q) (FreesRows step)
-            (λ back. calm_row a q (λ i word bits s among. back (freed_row word bits q s among))) (unlinks_row q) (state.limbo_rows a q) (row_case k step answer q)
+            (λ back. calm_row a q (λ i word bits s among. back (freed_row word bits q s among))) (unlinks_row q) (state.limbo_rows a q) (limbo_case k false step answer q)
 
     -- an exchange that took a page out
     unlinks_pid : (q : ℕ) → PageOut k step answer q → UnlinksPid limits (entries ++ last ∷ []) a q (length entries)
@@ -300,7 +300,7 @@ module _ (limits : Limits) (entries : List Entry) (a : ℕ) (step : StepOf Recor
       where
         own : IsInLimbo (entries ++ last ∷ []) a (UnlinksPid limits (entries ++ last ∷ []) a q) (HandsPid q) ((learn k step answer).limbo.pids q)
         own = in_limbo (UnlinksPid limits entries a q) (UnlinksPid limits (entries ++ last ∷ []) a q) (HandsPid q) (pid_longer entries last limits a q) (k.limbo.pids q) ((learn k step answer).limbo.pids q) (PageOut k step answer q) (FreesPids step)
-            (λ back. calm_pid a q (λ i word bits s among. back (freed_pid word bits q s among))) (λ new. unlinks_pid q) (state.limbo_pids a q) (page_case k step answer q)
+            (λ back. calm_pid a q (λ i word bits s among. back (freed_pid word bits q s among))) (λ new. unlinks_pid q) (state.limbo_pids a q) (limbo_case k true step answer q)
 
   is_own : (other : ℕ) (s : StepOf Record) (x : Answer Record) → IsStep last other s x → a ≡ other
   is_own other s x h = let e = h.1 in cc
