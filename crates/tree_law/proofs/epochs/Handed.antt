@@ -161,17 +161,18 @@ module _ (limits : Limits) (entries : List Entry) (a : ℕ) (step : StepOf Recor
   is_last : (other : ℕ) (s : StepOf Record) (x : Answer Record) → IsStep last other s x → (step ≡ s) × (answer ≡ x)
   is_last other s x h = let e = h.1 in ((cc), (cc))
 
-  calm_row : (b q : ℕ) → ((b ≡ a) → (word bits : ℕ) → step ≡ ReuseRows word bits → is_among word bits q ≡ true → (knows entries b).limbo.rows q ≡ Absent) → ((knows entries b).limbo.rows q ≡ Absent → ⊥) → (other : ℕ) (s : StepOf Record) (x : Answer Record) → IsStep last other s x → HandsRow q s x → ⊥
-  calm_row b q own some other s x at hands =
+  -- no step hands on what is in a limbo, where nothing is left there of what the step's actor reuses
+  calm : (H : StepOf Record → Answer Record → Type 0) (Reused : Type 0) (l : Limbo) → ((l ≡ Absent → ⊥) → H step answer → Reused) → (Reused → l ≡ Absent)
+      → (l ≡ Absent → ⊥) → (other : ℕ) (s : StepOf Record) (x : Answer Record) → IsStep last other s x → H s x → ⊥
+  calm H Reused l hands own some other s x at handed =
       let e = is_last other s x at in
-      let h = hands_row b q some (subst (λ y. HandsRow q step y) (sym e.1) (subst (λ u. HandsRow q u x) (sym e.0) hands)) in
-      some (own h.0 h.1.0 h.1.1 h.1.2 h.1.3)
+      some (own (hands some (subst (λ y. H step y) (sym e.1) (subst (λ u. H u x) (sym e.0) handed))))
+
+  calm_row : (b q : ℕ) → ((b ≡ a) → (word bits : ℕ) → step ≡ ReuseRows word bits → is_among word bits q ≡ true → (knows entries b).limbo.rows q ≡ Absent) → ((knows entries b).limbo.rows q ≡ Absent → ⊥) → (other : ℕ) (s : StepOf Record) (x : Answer Record) → IsStep last other s x → HandsRow q s x → ⊥
+  calm_row b q own = calm (HandsRow q) _ ((knows entries b).limbo.rows q) (hands_row b q) (λ h. own h.0 h.1.0 h.1.1 h.1.2 h.1.3)
 
   calm_pid : (b q : ℕ) → ((b ≡ a) → (word bits : ℕ) → step ≡ ReusePids word bits → is_among word bits q ≡ true → (knows entries b).limbo.pids q ≡ Absent) → ((knows entries b).limbo.pids q ≡ Absent → ⊥) → (other : ℕ) (s : StepOf Record) (x : Answer Record) → IsStep last other s x → HandsPid q s x → ⊥
-  calm_pid b q own some other s x at hands =
-      let e = is_last other s x at in
-      let h = hands_pid b q some (subst (λ y. HandsPid q step y) (sym e.1) (subst (λ u. HandsPid q u x) (sym e.0) hands)) in
-      some (own h.0 h.1.0 h.1.1 h.1.2 h.1.3)
+  calm_pid b q own = calm (HandsPid q) _ ((knows entries b).limbo.pids q) (hands_pid b q) (λ h. own h.0 h.1.0 h.1.1 h.1.2 h.1.3)
 
   whole_before : memory_at limits (entries ++ last ∷ []) (length entries) ≡ m
   whole_before = ap (memory_of limits) (take-push_whole entries (last ∷ []))
