@@ -22,3 +22,4 @@ pub mod Sweep
 pub mod Times
 pub mod TraceLaws
 pub mod Tree
+pub mod TwoSplits
