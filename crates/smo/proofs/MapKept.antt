@@ -23,7 +23,7 @@ use Rattle.chain_search.proofs.ChainLaws.{IsChainOf-unique}
 use Rattle.chain_search.proofs.FittedLaws.{ruled}
 use Rattle.smo.specs.declared.split.SplitPlan.{SplitPlan}
 use Rattle.smo.specs.declared.version.Version.{Version}
-use Rattle.smo.specs.Linking.{HasLeaves, Holds, IsSpareRow, KeepsMap, linked, rooted}
+use Rattle.smo.specs.Linking.{HasLeaves, HasVersion, IsSpareRow, KeepsMap, linked, rooted}
 use Rattle.smo.specs.Splits.{IsSplitPlan, split_to}
 use Rattle.smo.specs.Terms.{IsTermPlan}
 use Rattle.smo.specs.Holds.{IsHoldPlan}
@@ -35,7 +35,7 @@ use Rattle.smo.proofs.Leaves.{AreAlike, Avoids, Goes, Segment, Shows, apart, avo
 use Rattle.smo.proofs.Places.{made}
 
 -- a page that was read is one
-pub chain_of : (memory : Memory) (version : Version) → Holds memory version → IsChainOf memory version.pid version.chain
+pub chain_of : (memory : Memory) (version : Version) → HasVersion memory version → IsChainOf memory version.pid version.chain
 chain_of memory version h = record { page = version.is_pid.0; linked = rw h.slot version.is_row.0; records = rw h.slot h.chain }
 
 -- every page but the linked one stands
@@ -43,20 +43,20 @@ others_stay : (memory : Memory) (page row : ℕ) (content : Record) → IsSpareR
 others_stay memory page row content spare pid chain other is = link_stays memory page row content pid chain other is (avoided memory row pid chain spare is)
 
 -- a record over an index page
-above_keeps : (memory : Memory) (version : Version) (row : ℕ) (content : Record) → HasLeaves memory → Holds memory version → IsSpareRow memory row → 0 < level_in version.chain → KeepsMap memory (linked version.pid row content memory)
+above_keeps : (memory : Memory) (version : Version) (row : ℕ) (content : Record) → HasLeaves memory → HasVersion memory version → IsSpareRow memory row → 0 < level_in version.chain → KeepsMap memory (linked version.pid row content memory)
 above_keeps memory version row content h holds spare index = beside_keeps memory (linked version.pid row content memory) version.pid h (others_stay memory version.pid row content spare)
     (λ chain is level.
     let same : chain ≡ version.chain = IsChainOf-unique memory version.pid chain version.chain is (chain_of memory version holds) in
     let leaf : level_in version.chain ≡ 0 = subst (λ (c : List Record). level_in c ≡ 0) same level in
     omega (arith, index, leaf))
 
-pub term_keeps : (memory : Memory) (parent page : Version) (term : Term) (row : ℕ) → IsTermPlan parent page term → HasLeaves memory → Holds memory parent → IsSpareRow memory row → KeepsMap memory (linked parent.pid row (kind.Term term) memory)
+pub term_keeps : (memory : Memory) (parent page : Version) (term : Term) (row : ℕ) → IsTermPlan parent page term → HasLeaves memory → HasVersion memory parent → IsSpareRow memory row → KeepsMap memory (linked parent.pid row (kind.Term term) memory)
 term_keeps memory parent page term row is h holds spare = above_keeps memory parent row (kind.Term term) h holds spare (let level = is.can.level in omega (arith, level))
 
-pub hold_keeps : (memory : Memory) (parent page : Version) (hold : Hold) (row : ℕ) → IsHoldPlan parent page hold → IsPageChain parent.chain → HasLeaves memory → Holds memory parent → IsSpareRow memory row → KeepsMap memory (linked parent.pid row (kind.Hold hold) memory)
+pub hold_keeps : (memory : Memory) (parent page : Version) (hold : Hold) (row : ℕ) → IsHoldPlan parent page hold → IsPageChain parent.chain → HasLeaves memory → HasVersion memory parent → IsSpareRow memory row → KeepsMap memory (linked parent.pid row (kind.Hold hold) memory)
 hold_keeps memory parent page hold row is rules h holds spare = above_keeps memory parent row (kind.Hold hold) h holds spare (covered parent.chain rules.fitted (low_in page.chain) page.pid false is.can.there).1
 
-pub unterm_keeps : (memory : Memory) (parent left removed : Version) (unterm : Unterm) (row : ℕ) → IsUntermPlan parent left removed unterm → IsPageChain parent.chain → HasLeaves memory → Holds memory parent → IsSpareRow memory row
+pub unterm_keeps : (memory : Memory) (parent left removed : Version) (unterm : Unterm) (row : ℕ) → IsUntermPlan parent left removed unterm → IsPageChain parent.chain → HasLeaves memory → HasVersion memory parent → IsSpareRow memory row
     → KeepsMap memory (linked parent.pid row (kind.Unterm unterm) memory)
 unterm_keeps memory parent left removed unterm row is rules h holds spare = above_keeps memory parent row (kind.Unterm unterm) h holds spare (covered parent.chain rules.fitted (low_in removed.chain) removed.pid true is.can.held).1
 
@@ -74,7 +74,7 @@ rooted_keeps memory page h = beside_keeps memory (rooted page memory) 0 h
     (λ chain is level. let some = is.page in omega (arith, some))
 
 -- a record over a page that was read
-pub over_chain : (memory : Memory) (version : Version) (row : ℕ) (content : Record) → Holds memory version → IsSpareRow memory row → next_row content ≡ Some version.head → IsChainOf (linked version.pid row content memory) version.pid (content ∷ version.chain)
+pub over_chain : (memory : Memory) (version : Version) (row : ℕ) (content : Record) → HasVersion memory version → IsSpareRow memory row → next_row content ≡ Some version.head → IsChainOf (linked version.pid row content memory) version.pid (content ∷ version.chain)
 over_chain memory version row content holds spare next =
     let is = chain_of memory version holds in
     let slot : replaced_at version.pid row memory.slots version.pid ≡ row = replaced_here version.pid row memory.slots in
@@ -84,7 +84,7 @@ over_chain memory version row content holds spare next =
     record { page = is.page; linked = rw slot spare.some; records = rw slot records }
 
 -- a removal
-pub remove_keeps : (memory : Memory) (parent page : Version) (remove : Remove) (row : ℕ) → IsRemovePlan parent page remove → HasLeaves memory → Holds memory page → IsSpareRow memory row → KeepsMap memory (linked page.pid row (kind.Remove remove) memory)
+pub remove_keeps : (memory : Memory) (parent page : Version) (remove : Remove) (row : ℕ) → IsRemovePlan parent page remove → HasLeaves memory → HasVersion memory page → IsSpareRow memory row → KeepsMap memory (linked page.pid row (kind.Remove remove) memory)
 remove_keeps memory parent page remove row is h holds spare = page_keeps memory (linked page.pid row (kind.Remove remove) memory) page.pid h stays here
   where
     stays : (pid : ℕ) (chain : List Record) → pid ≢ page.pid → IsChainOf memory pid chain → IsChainOf (linked page.pid row (kind.Remove remove) memory) pid chain
@@ -142,7 +142,7 @@ halves page plan right is key within = either (is_below key plan.upper.low)
     (λ reach. inr (in_range plan.upper.low (high_in page.chain) key (ap not reach) (ends (low_in page.chain) (high_in page.chain) key within), is.alike key reach))
 
 -- a split: the new page is made ready, and the split linked
-module _ (memory : Memory) (page : Version) (plan : SplitPlan) (right row base_row : ℕ) (is : IsSplitPlan page plan) (h : HasLeaves memory) (holds : Holds memory page) (some : 0 < right) (empty : memory.slots right ≡ 0)
+module _ (memory : Memory) (page : Version) (plan : SplitPlan) (right row base_row : ℕ) (is : IsSplitPlan page plan) (h : HasLeaves memory) (holds : HasVersion memory page) (some : 0 < right) (empty : memory.slots right ≡ 0)
     (spare : IsSpareRow memory row) (spare_base : IsSpareRow memory base_row) (distinct : row ≢ base_row) where
   abbrev base : Record
   base = base_from page.chain plan.upper.low plan.upper.items
@@ -169,7 +169,7 @@ module _ (memory : Memory) (page : Version) (plan : SplitPlan) (right row base_r
       link_stays ready page.pid row split pid chain other (others_stay memory right base_row base spare_base pid chain not_right at)
       (subst (λ head. Avoids row (chain_rows head chain)) (sym slot) (avoided memory row pid chain spare at))
 
-  ready_holds : Holds ready page
+  ready_holds : HasVersion ready page
   ready_holds = record {
     slot = replaced_other right base_row memory.slots page.pid right_other ∙ holds.slot;
     chain = chain_stays memory.rows base_row (Some base) page.head page.chain holds.chain
@@ -251,7 +251,7 @@ module _ (left removed : Version) (merge : Merge) (is : IsMergePlan left removed
   left_spans : is_below (low_in left.chain) (low_in removed.chain) ≡ true
   left_spans =
       let (page, makes) = made left.chain rules.fitted in
-      let spans : IsTrue (is_under page.low (Some (low_in removed.chain))) = subst (λ bound. IsTrue (is_under page.low bound)) (makes.high ∙ is.can.meets.high) (ruled left.chain page rules.fitted makes).is_page.spans in
+      let spans : IsTrue (is_under page.low (Some (low_in removed.chain))) = subst (λ bound. IsTrue (is_under page.low bound)) (makes.high ∙ is.can.next_to.high) (ruled left.chain page rules.fitted makes).is_page.spans in
       subst (λ low. IsTrue (is_below low (low_in removed.chain))) makes.low spans
 
   removed_spans : is_under (low_in removed.chain) (high_in removed.chain) ≡ true
@@ -266,7 +266,7 @@ module _ (left removed : Version) (merge : Merge) (is : IsMergePlan left removed
   -- a key of either page is in the range of the one that they become, which decides it as that page did
   pub from_left : (key : List ℕ) → IsTrue (covers left.chain key) → IsTrue (covers joined key) × (content_in joined key ≡ content_in left.chain key)
   from_left key within =
-      let below : is_below key (low_in removed.chain) ≡ true = subst (λ bound. is_under key bound ≡ true) is.can.meets.high (ends (low_in left.chain) (high_in left.chain) key within) in (
+      let below : is_below key (low_in removed.chain) ≡ true = subst (λ bound. is_under key bound ≡ true) is.can.next_to.high (ends (low_in left.chain) (high_in left.chain) key within) in (
         in_range (low_in left.chain) (high_in removed.chain) key (starts (low_in left.chain) (high_in left.chain) key within) (under_trans key (low_in removed.chain) (high_in removed.chain) below removed_spans),
         rw below refl,
       )
@@ -280,7 +280,7 @@ module _ (left removed : Version) (merge : Merge) (is : IsMergePlan left removed
 
 -- a merge
 module _ (memory : Memory) (left removed : Version) (merge : Merge) (row : ℕ) (is : IsMergePlan left removed merge) (rules : IsPageChain left.chain) (rules_removed : IsPageChain removed.chain)
-    (h : HasLeaves memory) (holds : Holds memory left) (holds_removed : Holds memory removed) (spare : IsSpareRow memory row) where
+    (h : HasLeaves memory) (holds : HasVersion memory left) (holds_removed : HasVersion memory removed) (spare : IsSpareRow memory row) where
   abbrev due : Record
   due = kind.Merge (merge_of left removed merge.items)
 
@@ -310,7 +310,7 @@ module _ (memory : Memory) (left removed : Version) (merge : Merge) (row : ℕ) 
       parted : IsTrue (covers (due ∷ left.chain) key) → content_in (due ∷ left.chain) key ≡ Some (Value value) → Shows key value (first ∷ second ∷ pages)
       parted within content = either (is_below key (low_in removed.chain))
           (λ below.
-          let under : is_under key (high_in left.chain) ≡ true = subst (λ bound. is_under key bound ≡ true) (sym is.can.meets.high) below in
+          let under : is_under key (high_in left.chain) ≡ true = subst (λ bound. is_under key bound ≡ true) (sym is.can.next_to.high) below in
           inl (subst (λ (c : List Record). IsTrue (covers c key)) same (in_range (low_in left.chain) (high_in left.chain) key (starts (low_in left.chain) (high_in removed.chain) key within) under), subst (λ (c : List Record). content_in c key ≡ Some (Value value)) same (rw below at content)))
           (λ reach.
           let inside : is_in_range (low_in removed.chain) (high_in removed.chain) key ≡ true = in_range (low_in removed.chain) (high_in removed.chain) key (ap not reach) (ends (low_in left.chain) (high_in removed.chain) key within) in
@@ -320,13 +320,13 @@ module _ (memory : Memory) (left removed : Version) (merge : Merge) (row : ℕ) 
   merge_here low [] s = absurd s.sides
   merge_here low (first ∷ []) s =
       let same : left.chain ≡ first.chain = IsChainOf-unique memory left.pid left.chain first.chain (chain_of memory left holds) s.sides.1 in
-      absurd (subst (λ (right : Option ℕ). MatchOption right (◌≡◌ {A = List LivePage} [] []) (λ next. IsSideChainFrom memory next [])) (ap right_in (sym same) ∙ is.can.meets.right) s.sides.2)
+      absurd (subst (λ (right : Option ℕ). MatchOption right (◌≡◌ {A = List LivePage} [] []) (λ next. IsSideChainFrom memory next [])) (ap right_in (sym same) ∙ is.can.next_to.right) s.sides.2)
   merge_here low (first ∷ second ∷ pages) s =
       let same : left.chain ≡ first.chain = IsChainOf-unique memory left.pid left.chain first.chain (chain_of memory left holds) s.sides.1 in
       let next : IsSideChainFrom memory removed.pid (second ∷ pages) =
-      subst (λ (right : Option ℕ). MatchOption right (second ∷ pages ≡ []) (λ right. IsSideChainFrom memory right (second ∷ pages))) (ap right_in (sym same) ∙ is.can.meets.right) s.sides.2 in
+      subst (λ (right : Option ℕ). MatchOption right (second ∷ pages ≡ []) (λ right. IsSideChainFrom memory right (second ∷ pages))) (ap right_in (sym same) ∙ is.can.next_to.right) s.sides.2 in
       let whole : IsWholeFrom (low_in removed.chain) (second ∷ pages) =
-      subst (λ (high : Option (List ℕ)). MatchOption high (second ∷ pages ≡ []) (λ key. IsWholeFrom key (second ∷ pages))) (ap high_in (sym same) ∙ is.can.meets.high) s.whole.1 in
+      subst (λ (high : Option (List ℕ)). MatchOption high (second ∷ pages ≡ []) (λ key. IsWholeFrom key (second ∷ pages))) (ap high_in (sym same) ∙ is.can.next_to.high) s.whole.1 in
       let same_removed : removed.chain ≡ second.chain = IsChainOf-unique memory removed.pid removed.chain second.chain (chain_of memory removed holds_removed) next.1 in
       let side = subst (λ (c : List Record). MatchOption (right_in c) (pages ≡ []) (λ right. IsSideChainFrom memory right pages)) (sym same_removed) next.2 in
       let rest = subst (λ (c : List Record). MatchOption (high_in c) (pages ≡ []) (λ high. IsWholeFrom high pages)) (sym same_removed) whole.1 in

@@ -96,7 +96,7 @@ module _ (left removed : Version) (made merged : Page) (fitted : IsFitted remove
 
   inner : low_in removed.chain ≢ []
   inner =
-      let high : made.high ≡ Some (low_in removed.chain) = makes.high ∙ can.meets.high in
+      let high : made.high ≡ Some (low_in removed.chain) = makes.high ∙ can.next_to.high in
       let above : IsTrue (is_below made.low (low_in removed.chain)) = subst (λ bound. IsTrue (is_under made.low bound)) high rules.is_page.spans in
       not_empty made.low (low_in removed.chain) (below_from made.low (low_in removed.chain) above)
 
@@ -107,7 +107,7 @@ module _ (left removed : Version) (made merged : Page) (fitted : IsFitted remove
       let roomy = of_made left.chain made (λ items. length items < 16) makes can.roomy in
       let unheld = unheld_from merged.items (of_made removed.chain merged (λ items. held_count items ≡ 0) makes_merged can.unheld) in
       let due = merge_of left removed merged.items in
-      let fit : FitsMerge made due = record { alive = makes.removed ∙ can.alive; level = makes.level; meets = makes.high ∙ can.meets.high; merged = copied_stands.ruled.is_page; room = omega (arith, few, roomy) } in
+      let fit : FitsMerge made due = record { alive = makes.removed ∙ can.alive; level = makes.level; meets = makes.high ∙ can.next_to.high; merged = copied_stands.ruled.is_page; room = omega (arith, few, roomy) } in
       record {
         can = can;
         has = rw is makes_merged.items;

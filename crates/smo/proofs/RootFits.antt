@@ -19,7 +19,7 @@ use Rattle.chain_search.specs.Fitted.{IsFitted}
 use Rattle.chain_search.proofs.FittedLaws.{items_unique, ruled}
 use Rattle.smo.specs.declared.version.Version.{Version}
 use Rattle.smo.specs.Roots.{CanRoot, IsRootPlan}
-use Rattle.smo.specs.Neighbours.{Meets}
+use Rattle.smo.specs.Neighbours.{IsNextTo}
 use Rattle.smo.proofs.Places.{made}
 use Rattle.smo.proofs.Removed.{lowest_stands}
 
@@ -55,10 +55,10 @@ root_stands level page separator right is_page is_right index top some =
     lowest (x ∷ xs) = refl
 
 -- what stands right of the page that begins at the empty key begins above it
-pub some : (left right : Version) → IsFitted left.chain → low_in left.chain ≡ [] → Meets left right → IsTrue (is_below [] (low_in right.chain))
-some left right fitted lowest meets =
+pub some : (left right : Version) → IsFitted left.chain → low_in left.chain ≡ [] → IsNextTo left right → IsTrue (is_below [] (low_in right.chain))
+some left right fitted lowest next_to =
     let (page, makes) = made left.chain fitted in
-    let spans : IsTrue (is_under page.low (Some (low_in right.chain))) = subst (λ bound. IsTrue (is_under page.low bound)) (makes.high ∙ meets.high) (ruled left.chain page fitted makes).is_page.spans in
+    let spans : IsTrue (is_under page.low (Some (low_in right.chain))) = subst (λ bound. IsTrue (is_under page.low bound)) (makes.high ∙ next_to.high) (ruled left.chain page fitted makes).is_page.spans in
     subst (λ low. IsTrue (is_below low (low_in right.chain))) (makes.low ∙ lowest) spans
 
 -- two items, put one after the other
@@ -85,6 +85,6 @@ planned left right root fitted is can = record {
   fits = rw is (
     root_page (suc (level_in left.chain)) left.pid (low_in right.chain) right.pid,
     refl,
-    root_stands (suc (level_in left.chain)) left.pid (low_in right.chain) right.pid left.is_pid right.is_pid (omega arith) (let top = can.top in omega (arith, top)) (some left right fitted can.lowest can.meets),
+    root_stands (suc (level_in left.chain)) left.pid (low_in right.chain) right.pid left.is_pid right.is_pid (omega arith) (let top = can.top in omega (arith, top)) (some left right fitted can.lowest can.next_to),
   );
 }

@@ -21,7 +21,7 @@ abbrev pub Decides : List Record → List ℕ → Option Content → Type 0
 Decides chain key content = IsTrue (covers chain key) × (content_in chain key ≡ content)
 
 -- The page stands in the memory as it was read.
-pub record Holds (memory : Memory) (version : Version) : Type 0 where
+pub record HasVersion (memory : Memory) (version : Version) : Type 0 where
   pub slot : memory.slots version.pid ≡ version.head
   pub chain : IsChainFrom memory.rows version.head version.chain
 

@@ -7,14 +7,14 @@ use Rattle.deltas.specs.declared.record.Record.TheVariants as kind
 use Rattle.chain_search.specs.Chains.{IsItemsOf, high_in, is_removed, level_in, low_in, right_in}
 use Rattle.chain_search.specs.Discipline.{FitsOn}
 use Rattle.smo.specs.declared.version.Version.{Version}
-use Rattle.smo.specs.Neighbours.{Meets}
+use Rattle.smo.specs.Neighbours.{IsNextTo}
 use Rattle.smo.specs.Sizes.{HasFewDeltas, HasFewItems, HasItems}
 
 -- The left page isn't removed, and has fewer than 8 deltas and fewer than 16 items; the other is its right, begins at its high
 -- key, is of its level and removed, and has at most 4 items, none of them held.
 pub record CanMerge (left removed : Version) : Type 0 where
   pub alive : is_removed left.chain ≡ false
-  pub meets : Meets left removed
+  pub next_to : IsNextTo left removed
   pub gone : is_removed removed.chain ≡ true
   pub level : level_in removed.chain ≡ level_in left.chain
   pub few : HasItems removed.chain (λ items. length items ≤ 4)

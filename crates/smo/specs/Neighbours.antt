@@ -4,6 +4,6 @@ use Rattle.chain_search.specs.Chains.{high_in, low_in, right_in}
 use Rattle.smo.specs.declared.version.Version.{Version}
 
 -- The page's right is the other one, which begins at the page's high key.
-pub record Meets (left other : Version) : Type 0 where
+pub record IsNextTo (left other : Version) : Type 0 where
   pub right : right_in left.chain ≡ Some other.pid
   pub high : high_in left.chain ≡ Some (low_in other.chain)

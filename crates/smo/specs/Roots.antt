@@ -5,12 +5,12 @@ use Rattle.deltas.specs.declared.record.Record.TheVariants as kind
 use Rattle.chain_search.specs.Chains.{is_removed, level_in, low_in}
 use Rattle.chain_search.specs.Discipline.{FitsOn, root_over}
 use Rattle.smo.specs.declared.version.Version.{Version}
-use Rattle.smo.specs.Neighbours.{Meets}
+use Rattle.smo.specs.Neighbours.{IsNextTo}
 
 -- The left page begins at the empty key and is below level 15; the other is its right, begins at its high key and isn't removed.
 pub record CanRoot (left right : Version) : Type 0 where
   pub lowest : low_in left.chain ≡ []
-  pub meets : Meets left right
+  pub next_to : IsNextTo left right
   pub alive : is_removed right.chain ≡ false
   pub top : level_in left.chain < 15
 

@@ -7,7 +7,7 @@ use Rattle.deltas.specs.declared.record.Unterm.{Unterm}
 use Rattle.chain_search.specs.Chains.{content_in, high_in, is_removed, level_in, low_in}
 use Rattle.chain_search.specs.Discipline.{FitsOn}
 use Rattle.smo.specs.declared.version.Version.{Version}
-use Rattle.smo.specs.Neighbours.{Meets}
+use Rattle.smo.specs.Neighbours.{IsNextTo}
 use Rattle.smo.specs.Sizes.{HasFewDeltas}
 
 -- A page that isn't removed begins below the removed page's low key and ends at or above it, or nowhere, and the removed page
@@ -16,7 +16,7 @@ pub record CanUnterm (parent left removed : Version) : Type 0 where
   pub alive : is_removed left.chain ≡ false
   pub above : IsTrue (is_below (low_in left.chain) (low_in removed.chain))
   pub within : IfSome (high_in left.chain) (λ high. IsFalse (is_below high (low_in removed.chain)))
-  pub apart : ¬ Meets left removed
+  pub apart : ¬ IsNextTo left removed
   pub held : content_in parent.chain (low_in removed.chain) ≡ Some (Child removed.pid true)
   pub short : HasFewDeltas parent.chain
   pub gone : is_removed removed.chain ≡ true

@@ -4,7 +4,7 @@ ghost use Rattle.smo.specs.Merges.{CanMerge, IsMergePlan};
 
 use crate::Version;
 use crate::held::held_count;
-use crate::neighbours::meets;
+use crate::neighbours::is_next_to;
 use crate::sizes::{MANY_DELTAS, MANY_ITEMS};
 use bw_model::Key;
 use deltas::Merge;
@@ -19,7 +19,7 @@ pub fn plan_merge(left: &Version, removed: &Version) -> Option<Merge>
     if left.chain.is_removed() {
         return None;
     }
-    if !meets(left, removed) {
+    if !is_next_to(left, removed) {
         return None;
     }
     if !removed.chain.is_removed() {

@@ -1,12 +1,12 @@
 //! Neighbours on a level, as they were read.
 ghost use Rattle.std.specs.Bool.{Decides};
-ghost use Rattle.smo.specs.Neighbours.{Meets};
+ghost use Rattle.smo.specs.Neighbours.{IsNextTo};
 
 use crate::Version;
 
 /// Whether the page's right is the other one, which begins at the page's high key.
-pub(crate) fn meets(left: &Version, other: &Version) -> bool
-    ensures { Decides result (Meets left.now other.now) }
+pub(crate) fn is_next_to(left: &Version, other: &Version) -> bool
+    ensures { Decides result (IsNextTo left.now other.now) }
 {
     if left.chain.right() != Some(other.pid) {
         return false;

@@ -5,7 +5,7 @@ ghost use Rattle.base_page.specs.declared.item.Content.TheVariants.{Child};
 ghost use Rattle.smo.specs.Roots.{CanRoot, IsRootPlan};
 
 use crate::Version;
-use crate::neighbours::meets;
+use crate::neighbours::is_next_to;
 use crate::sizes::TOP_LEVEL;
 use base_page::{Content, Items, Page};
 use bw_model::Key;
@@ -19,7 +19,7 @@ pub fn plan_root(left: &Version, right: &Version) -> Option<Page>
     if !left.chain.low().as_slice().is_empty() {
         return None;
     }
-    if !meets(left, right) {
+    if !is_next_to(left, right) {
         return None;
     }
     if right.chain.is_removed() {

@@ -6,8 +6,11 @@ ghost use Rattle.chain_search.specs.Examples.{held_page, index, index_page, term
 
 mod grown;
 mod holds;
+mod index_pages;
+mod levels;
 mod merges;
 mod roots;
+mod terms;
 
 use crate::{Version, plan_hold, plan_remove, plan_root, plan_split, plan_term};
 use base_page::{Content, Items, Page};

@@ -7,7 +7,7 @@ ghost use Rattle.smo.specs.Unterms.{CanUnterm, IsUntermPlan};
 
 use crate::Version;
 use crate::held::has_term;
-use crate::neighbours::meets;
+use crate::neighbours::is_next_to;
 use crate::sizes::MANY_DELTAS;
 use bw_model::Key;
 use chain_search::Chain;
@@ -31,7 +31,7 @@ pub fn plan_unterm(parent: &Version, left: &Version, removed: &Version) -> Optio
     if !reaches(&left.chain, low) {
         return None;
     }
-    if meets(left, removed) {
+    if is_next_to(left, removed) {
         return None;
     }
     if !has_term(parent, removed, true) {

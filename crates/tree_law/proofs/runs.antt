@@ -5,6 +5,7 @@ pub mod LinkRun
 pub mod Making
 pub mod RemovalRun
 pub mod RoomRun
+pub mod SplitRun
 pub mod Standing
 pub mod SweepRun
 pub mod Unset

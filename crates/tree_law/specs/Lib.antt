@@ -23,3 +23,4 @@ pub mod Sweep
 pub mod Times
 pub mod TraceLaws
 pub mod Tree
+pub mod TwoSplits

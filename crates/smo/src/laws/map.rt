@@ -18,7 +18,7 @@ ghost use Rattle.smo.specs.Holds.{IsHoldPlan};
 ghost use Rattle.smo.specs.Removals.{IsRemovePlan};
 ghost use Rattle.smo.specs.Merges.{IsMergePlan};
 ghost use Rattle.smo.specs.Unterms.{IsUntermPlan};
-ghost use Rattle.smo.specs.Linking.{HasLeaves, Holds, IsSpareRow, KeepsMap, linked, rooted};
+ghost use Rattle.smo.specs.Linking.{HasLeaves, HasVersion, IsSpareRow, KeepsMap, linked, rooted};
 
 /// In every memory that has the pages as they were read, and whose leaves are whole: each link of a plan, in spare rows, keeps the
 /// leaves whole and the map. A split's new page, and a root, come into a slot that is empty, before the link itself.
@@ -26,7 +26,7 @@ pub fn links_keep_the_map()
     ensures split { (memory : Memory) (page : Version) (plan : SplitPlan) (right row base_row : ℕ)
         → IsSplitPlan page plan
         → HasLeaves memory
-        → Holds memory page
+        → HasVersion memory page
         → 0 < right
         → memory.slots right ≡ 0
         → IsSpareRow memory row
@@ -44,20 +44,20 @@ pub fn links_keep_the_map()
     ensures term { (memory : Memory) (parent page : Version) (term : Term) (row : ℕ)
         → IsTermPlan parent page term
         → HasLeaves memory
-        → Holds memory parent
+        → HasVersion memory parent
         → IsSpareRow memory row
         → KeepsMap memory (linked parent.pid row (kind.Term term) memory) }
     ensures hold { (memory : Memory) (parent page : Version) (hold : Hold) (row : ℕ)
         → IsHoldPlan parent page hold
         → IsPageChain parent.chain
         → HasLeaves memory
-        → Holds memory parent
+        → HasVersion memory parent
         → IsSpareRow memory row
         → KeepsMap memory (linked parent.pid row (kind.Hold hold) memory) }
     ensures remove { (memory : Memory) (parent page : Version) (remove : Remove) (row : ℕ)
         → IsRemovePlan parent page remove
         → HasLeaves memory
-        → Holds memory page
+        → HasVersion memory page
         → IsSpareRow memory row
         → KeepsMap memory (linked page.pid row (kind.Remove remove) memory) }
     ensures merge { (memory : Memory) (left removed : Version) (merge : Merge) (row : ℕ)
@@ -65,15 +65,15 @@ pub fn links_keep_the_map()
         → IsPageChain left.chain
         → IsPageChain removed.chain
         → HasLeaves memory
-        → Holds memory left
-        → Holds memory removed
+        → HasVersion memory left
+        → HasVersion memory removed
         → IsSpareRow memory row
         → KeepsMap memory (linked left.pid row (kind.Merge merge) memory) }
     ensures unterm { (memory : Memory) (parent left removed : Version) (unterm : Unterm) (row : ℕ)
         → IsUntermPlan parent left removed unterm
         → IsPageChain parent.chain
         → HasLeaves memory
-        → Holds memory parent
+        → HasVersion memory parent
         → IsSpareRow memory row
         → KeepsMap memory (linked parent.pid row (kind.Unterm unterm) memory) }
 {}

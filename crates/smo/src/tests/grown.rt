@@ -100,12 +100,31 @@ pub(crate) fn with_term(parent: Version, place: u8) -> Version
     requires alive { is_removed parent.chain ≡ false }
     ensures alive { is_removed result.chain ≡ false }
 {
-    let parent = consolidated(parent);
-    let child = version(u16::from(place) + 10, 0, leaf(at(place), 0));
-    match plan_term(&parent, &child) {
+    with_child(consolidated(parent), u16::from(place) + 10, at(place))
+}
+
+/// The parent with the term of a page that begins at the key; itself where it can't get the delta.
+fn with_child(parent: Version, pid: u16, low: Key) -> Version
+    requires pid { IsPid pid }
+    requires alive { is_removed parent.chain ≡ false }
+    ensures alive { is_removed result.chain ≡ false }
+{
+    match posted(&parent, &version(pid, 0, leaf(low, 0))) {
         None => parent,
-        Some(term) => grown(&parent, Record::Term(term)),
+        Some(grown) => grown,
     }
+}
+
+/// The parent with the terms of pages from 40 on, in a delta each; they begin at the keys from "a" on that have these second bytes.
+pub(crate) fn with_terms(parent: Version, from: u8, to: u8) -> Version
+    requires alive { is_removed parent.chain ≡ false }
+    ensures alive { is_removed result.chain ≡ false }
+{
+    let mut page = parent;
+    for place in from..to {
+        page = with_child(page, u16::from(place) + 40, key(&[b'a', place]));
+    }
+    page
 }
 
 /// The parent where that page's term is held, if it may be.
@@ -122,7 +141,7 @@ pub(crate) fn with_hold(parent: Version, place: u8) -> Version
 }
 
 /// The page with what it has in a base alone.
-fn consolidated(page: Version) -> Version
+pub(crate) fn consolidated(page: Version) -> Version
     requires alive { is_removed page.chain ≡ false }
     ensures alive { is_removed result.chain ≡ false }
 {

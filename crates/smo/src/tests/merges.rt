@@ -2,7 +2,9 @@
 ghost use Rattle.std.specs.Prelude.{◌≡◌, false, IfSome};
 ghost use Rattle.chain_search.specs.Chains.{is_removed};
 
-use crate::tests::grown::{at, held, joined, posted, removed, root_over, split, thinned, without};
+use crate::tests::grown::{
+    at, held, joined, posted, removed, root_over, split, thinned, with_terms, without,
+};
 use crate::tests::{leaf, version};
 use crate::{Version, plan_merge, plan_remove, plan_unterm};
 use base_page::Items;
@@ -98,6 +100,18 @@ fn ends_the_term_of_a_merged_page(rt: HostRuntime) {
     assert!(rt; untermed(&root, &gone, &gone).is_none());
     let unheld = root_over(&left, &right).expect(&rt, "a root");
     assert!(rt; untermed(&unheld, &whole, &gone).is_none());
+}
+
+#[test]
+fn ends_a_term_under_seven_deltas(rt: HostRuntime) {
+    let (root, left, right) = family().expect(&rt, "a root");
+    let gone = removed(&root, &right).expect(&rt, "a removal");
+    let whole = joined(&left, &gone).expect(&rt, "a merge");
+    let seven = with_terms(root, 0, 6);
+    let given = untermed(&seven, &whole, &gone);
+    let eight = with_terms(seven, 6, 7);
+    let refused = untermed(&eight, &whole, &gone);
+    assert_eq!(rt; [given, refused], [Some((1, 7, at(8), 2)), None]);
 }
 
 #[test]

@@ -1,36 +1,11 @@
 //! Roots over a page that was split, and its right.
-ghost use Rattle.std.specs.Prelude.{codes, ◌≡◌, ◌≤◌, ◌<◌, ◌∷◌, [], false, None, Some};
-ghost use Rattle.base_page.specs.declared.item.Content.TheVariants.{Child};
+ghost use Rattle.std.specs.Prelude.{◌≡◌, None, Some};
 
-use crate::tests::grown::{at, based, held, removed, root_over, split, thinned};
+use crate::plan_root;
+use crate::tests::grown::{at, held, removed, root_over, split, thinned};
+use crate::tests::index_pages::{read, term};
 use crate::tests::{key, leaf, version};
-use crate::{Version, plan_root};
-use base_page::{Content, Items, Page};
 use bw_model::Key;
-
-fn term(page: u16) -> Content
-    ensures { result ≡ Child page false }
-{
-    Content::Child { page, held: false }
-}
-
-/// An index page from the empty key up to "k09", where page 2 begins.
-fn lower(level: u8) -> Page
-    requires index { 0 < level }
-    ensures { result ≡ record { level = level; low = []; high = Some (codes "k09"); right = Some 2; removed = false; items = record { key = []; content = Child 1 false } ∷ [] } }
-{
-    let mut items = Items::new();
-    items.put(Key::default(), term(1));
-    Page::new(level, Key::default(), Some(key(b"k09")), Some(2), items)
-}
-
-/// That page, as it was read.
-fn read(level: u8) -> Version
-    requires index { 0 < level }
-    requires top { level ≤ 15 }
-{
-    based(1, lower(level))
-}
 
 #[test]
 fn roots_over_a_page_and_its_right(rt: HostRuntime) {

@@ -140,6 +140,46 @@ module _ {limits : Limits} {m : Memory} {log : List Update} {o : Owners} {knows 
     among : ℕ → Bool
     among r = is_among word bits r
 
+    -- after the actor, which is outside, freed those among the word's bits and knows this
+    module _ (k : Knowledge) (stays_outside : k.inside ≡ (knows a).inside) where
+      same_inside : (b : ℕ) → (put knows a k b).inside ≡ true → (knows b).inside ≡ true
+      same_inside b = by_test b a (λ z. (cond z k (knows b)).inside ≡ true → (knows b).inside ≡ true) (λ e i. absurd (let f = outside in let l = stays_outside in cc)) (λ ne i. i)
+
+      -- of rows or pages: what the limbos show of those that are out
+      module _ (outs : ℕ → Option Outing) (past : (n : ℕ) (w : Outing) → outs n ≡ Some w → w.at < now) where
+        abbrev Fitted : ℕ → ℕ → Limbo → Type 0
+        Fitted b n l = LimboFits b (λ c. (knows c).inside) t.entered (outs n) l
+
+        abbrev FitsNow : ℕ → Option Outing → Limbo → Type 0
+        FitsNow b out l = LimboFits b (λ c. (put knows a k c).inside) t.entered out l
+
+        abbrev left : ℕ → Option Outing
+        left n = cond (is_among word bits n) None (outs n)
+
+        limbo_still : (b n : ℕ) (l : Limbo) → Fitted b n l → FitsNow b (outs n) l
+        limbo_still b n l h = limbo_later b now (λ c. (knows c).inside) (λ c. (put knows a k c).inside) t.entered t.entered (outs n) (outs n) l (λ w i. (i, past n w i)) (λ c u lt f i. f (same_inside c i)) h
+
+        limbo_kept : (b n : ℕ) (l : Limbo) → is_among word bits n ≡ false → Fitted b n l → FitsNow b (left n) l
+        limbo_kept b n l e h = limbo_later b now (λ c. (knows c).inside) (λ c. (put knows a k c).inside) t.entered t.entered (outs n) (left n) l (λ w i. (rw e i, past n w i)) (λ c u lt f i. f (same_inside c i)) h
+
+        own_limbo : (n : ℕ) (l : Limbo) (z : Bool) → is_among word bits n ≡ z → Fitted a n l → FitsNow a (left n) (cond z Absent l)
+        own_limbo n l true e h = tt
+        own_limbo n l false e h = limbo_kept a n l e h
+
+        module _ (gone : (n : ℕ) → is_among word bits n ≡ true → Freed (outs n)) where
+          apart : (b n : ℕ) → b ≢ a → (w : Outing) → outs n ≡ Some w → w.who ≡ b → is_among word bits n ≡ false
+          apart b n ne w e who = go (is_among word bits n) refl
+            where
+              go : (z : Bool) → is_among word bits n ≡ z → is_among word bits n ≡ false
+              go true i = absurd (let f = gone n i in ne (sym who ∙ ap (λ v. v.who) (same_Some w f.outing (sym e ∙ f.is)) ∙ f.who))
+              go false i = i
+
+          -- what another actor has in its limbo is not freed
+          others_limbo : (b n : ℕ) → b ≢ a → (l : Limbo) → Fitted b n l → FitsNow b (left n) l
+          others_limbo b n ne Absent h = tt
+          others_limbo b n ne Unstamped h = limbo_kept b n Unstamped (apart b n ne h.0 h.1 h.2) h
+          others_limbo b n ne (Stamped e p) h = limbo_kept b n (Stamped e p) (apart b n ne h.0 h.1 h.2) h
+
     module _ (may : (r : ℕ) → is_among word bits r ≡ true → IsPassed limits a ((knows a).limbo.rows r)) (r0 : Option Reply) (x : Answer Record) where
       abbrev pub first : Oldest limits.actors (λ c. (knows c).inside) t.entered now
       first = oldest limits.actors (λ c. (knows c).inside) t.entered now
@@ -228,34 +268,15 @@ module _ {limits : Limits} {m : Memory} {log : List Update} {o : Owners} {knows 
         good = rows_good;
       }
 
-      same_inside : (b : ℕ) → (put knows a k1 b).inside ≡ true → (knows b).inside ≡ true
-      same_inside b = by_test b a (λ z. (cond z k1 (knows b)).inside ≡ true → (knows b).inside ≡ true) (λ e i. absurd (let f = outside in cc)) (λ ne i. i)
-
-      limbo_kept : (b r : ℕ) (l : Limbo) → is_among word bits r ≡ false → LimboFits b (λ c. (knows c).inside) t.entered (t.row_out r) l → LimboFits b (λ c. (put knows a k1 c).inside) t.entered (t1.row_out r) l
-      limbo_kept b r l e h = limbo_later b now (λ c. (knows c).inside) (λ c. (put knows a k1 c).inside) t.entered t.entered (t.row_out r) (t1.row_out r) l (λ w i. (rw e i, (T.rows r w i).1)) (λ c u lt f i. f (same_inside c i)) h
-
-      limbo_pid : (b p : ℕ) → LimboFits b (λ c. (put knows a k1 c).inside) t.entered (t.page_out p) ((knows b).limbo.pids p)
-      limbo_pid b p = limbo_later b now (λ c. (knows c).inside) (λ c. (put knows a k1 c).inside) t.entered t.entered (t.page_out p) (t.page_out p) ((knows b).limbo.pids p) (λ w i. (i, (T.pages p w i).2)) (λ c u lt f i. f (same_inside c i)) (T.limbo_pids b p)
-
-      apart : (b r : ℕ) → b ≢ a → (w : Outing) → t.row_out r ≡ Some w → w.who ≡ b → is_among word bits r ≡ false
-      apart b r ne w e who = go (is_among word bits r) refl
-        where
-          go : (z : Bool) → is_among word bits r ≡ z → is_among word bits r ≡ false
-          go true i = absurd (let f = freed r i in ne (sym who ∙ ap (λ v. v.who) (same_Some w f.outing (sym e ∙ f.is)) ∙ f.who))
-          go false i = i
-
-      -- what another actor has in its limbo is not freed
-      others_limbo : (b r : ℕ) → b ≢ a → (l : Limbo) → LimboFits b (λ c. (knows c).inside) t.entered (t.row_out r) l → LimboFits b (λ c. (put knows a k1 c).inside) t.entered (t1.row_out r) l
-      others_limbo b r ne Absent h = tt
-      others_limbo b r ne Unstamped h = limbo_kept b r Unstamped (apart b r ne h.0 h.1 h.2) h
-      others_limbo b r ne (Stamped e p) h = limbo_kept b r (Stamped e p) (apart b r ne h.0 h.1 h.2) h
+      rows_past : (r : ℕ) (w : Outing) → t.row_out r ≡ Some w → w.at < now
+      rows_past r w e = (T.rows r w e).1
 
       pub rows_timed : Timed limits m1 o1 (put knows a k1) (suc now) t1
       rows_timed = record {
-        within = λ b i. T.within b (same_inside b i);
+        within = λ b i. T.within b (same_inside k1 refl b i);
         holds = λ b. by_test b a (λ z. Holds m.rows t1.row_out t.page_out (t.entered b) (cond z k1 (knows b)).inside (cond z k1 (knows b)).read.seen (cond z k1 (knows b)).read.learnt (cond z k1 (knows b)).read.roots (cond z k1 (knows b)).read.heads (cond z k1 (knows b)).read.before (cond z k1 (knows b)).asked.linked)
             (λ e. subst (λ j. Holds m.rows t1.row_out t.page_out (t.entered j) (knows a).inside (knows a).read.seen (knows a).read.learnt (knows a).read.roots (knows a).read.heads (knows a).read.before (knows a).asked.linked) (sym e) (holds a)) (λ ne. holds b);
-        announced = λ b i. let h = T.announced b (same_inside b i) in record { some = h.some; old = h.old; past = (let p = h.past in omega arith); rows = λ r w e. h.rows r w (freed_out (is_among word bits r) (t.row_out r) w e).1; pages = h.pages };
+        announced = λ b i. let h = T.announced b (same_inside k1 refl b i) in record { some = h.some; old = h.old; past = (let p = h.past in omega arith); rows = λ r w e. h.rows r w (freed_out (is_among word bits r) (t.row_out r) w e).1; pages = h.pages };
         epochs = λ b e. by_test b a (λ z. (cond z k1 (knows b)).limbo.epoch ≡ Some e → e ≤ m.epoch) (λ i. T.epochs a e) (λ ne. T.epochs b e);
         slots = λ p q l s h e. let v = T.slots p q l s h e in (v.0, freed_none (is_among word bits q) (t.row_out q) v.1);
         together = λ r n w l e i.
@@ -266,8 +287,8 @@ module _ {limits : Limits} {m : Memory} {log : List Update} {o : Owners} {knows 
         pages = λ p w e. let v = T.pages p w e in (v.0, v.1, (let z = v.2 in let y : w.at < suc now = omega arith in y), v.3);
         own_rows = λ b r. by_test b a (λ z. IsOwn ((cond z k1 (knows b)).own.rows r) → t1.row_out r ≡ None) (λ i h. freed_none (is_among word bits r) (t.row_out r) (T.own_rows a r h)) (λ ne h. freed_none (is_among word bits r) (t.row_out r) (T.own_rows b r h));
         gone_pages = λ b p. by_test b a (λ z. (cond z k1 (knows b)).own.pages p ≡ Gone → t.page_out p ≡ None) (λ i. T.gone_pages a p) (λ ne. T.gone_pages b p);
-        limbo_rows = λ b r. by_test b a (λ z. LimboFits b (λ c. (put knows a k1 c).inside) t.entered (t1.row_out r) ((cond z k1 (knows b)).limbo.rows r)) (λ i. subst (λ j. LimboFits j (λ c. (put knows a k1 c).inside) t.entered (t1.row_out r) (cond (is_among word bits r) Absent ((knows a).limbo.rows r))) (sym i) (own_limbo r (is_among word bits r) refl)) (λ ne. others_limbo b r ne ((knows b).limbo.rows r) (T.limbo_rows b r));
-        limbo_pids = λ b p. by_test b a (λ z. LimboFits b (λ c. (put knows a k1 c).inside) t.entered (t.page_out p) ((cond z k1 (knows b)).limbo.pids p)) (λ i. subst (λ j. LimboFits j (λ c. (put knows a k1 c).inside) t.entered (t.page_out p) ((knows a).limbo.pids p)) (sym i) (limbo_pid a p)) (λ ne. limbo_pid b p);
+        limbo_rows = λ b r. by_test b a (λ z. LimboFits b (λ c. (put knows a k1 c).inside) t.entered (t1.row_out r) ((cond z k1 (knows b)).limbo.rows r)) (λ i. subst (λ j. LimboFits j (λ c. (put knows a k1 c).inside) t.entered (t1.row_out r) (cond (is_among word bits r) Absent ((knows a).limbo.rows r))) (sym i) (own_limbo k1 refl t.row_out rows_past r ((knows a).limbo.rows r) (is_among word bits r) refl (T.limbo_rows a r))) (λ ne. others_limbo k1 refl t.row_out rows_past freed b r ne ((knows b).limbo.rows r) (T.limbo_rows b r));
+        limbo_pids = λ b p. by_test b a (λ z. LimboFits b (λ c. (put knows a k1 c).inside) t.entered (t.page_out p) ((cond z k1 (knows b)).limbo.pids p)) (λ i. subst (λ j. LimboFits j (λ c. (put knows a k1 c).inside) t.entered (t.page_out p) ((knows a).limbo.pids p)) (sym i) (pids_still a p)) (λ ne. pids_still b p);
         ready = λ b p r. by_test b a (λ z. (cond z k1 (knows b)).own.pages p ≡ Ready r → IsOwnBase ((cond z k1 (knows b)).own.rows r)) (λ i. T.ready a p r) (λ ne. T.ready b p r);
         apart = λ b p q r. by_test b a (λ z. (cond z k1 (knows b)).own.pages p ≡ Ready r → (cond z k1 (knows b)).own.pages q ≡ Ready r → p ≡ q) (λ i. T.apart a p q r) (λ ne. T.apart b p q r);
       }
@@ -275,9 +296,8 @@ module _ {limits : Limits} {m : Memory} {log : List Update} {o : Owners} {knows 
           holds : (b : ℕ) → Holds m.rows t1.row_out t.page_out (t.entered b) (knows b).inside (knows b).read.seen (knows b).read.learnt (knows b).read.roots (knows b).read.heads (knows b).read.before (knows b).asked.linked
           holds b = holds_later m.rows m.rows t.row_out t1.row_out t.page_out t.page_out (t.entered b) (knows b).inside (knows b).read.seen (knows b).read.learnt (knows b).read.roots (knows b).read.heads (knows b).read.before (knows b).asked.linked (λ i r. freed_since (is_among word bits r) (t.row_out r) (t.entered b)) (λ i p h. h) (λ x c e h. h) (T.holds b)
 
-          own_limbo : (r : ℕ) (z : Bool) → is_among word bits r ≡ z → LimboFits a (λ c. (put knows a k1 c).inside) t.entered (t1.row_out r) (cond z Absent ((knows a).limbo.rows r))
-          own_limbo r true e = tt
-          own_limbo r false e = limbo_kept a r ((knows a).limbo.rows r) e (T.limbo_rows a r)
+          pids_still : (b p : ℕ) → LimboFits b (λ c. (put knows a k1 c).inside) t.entered (t.page_out p) ((knows b).limbo.pids p)
+          pids_still b p = limbo_still k1 refl t.page_out (λ q w e. (T.pages q w e).2) b p ((knows b).limbo.pids p) (T.limbo_pids b p)
 
     module _ (may : (p : ℕ) → is_among word bits p ≡ true → IsPassed limits a ((knows a).limbo.pids p)) (r0 : Option Reply) (x : Answer Record) where
       abbrev pub page2 : ℕ → PageOwner
@@ -376,33 +396,15 @@ module _ {limits : Limits} {m : Memory} {log : List Update} {o : Owners} {knows 
         good = pages_good;
       }
 
-      inside2 : (b : ℕ) → (put knows a k2 b).inside ≡ true → (knows b).inside ≡ true
-      inside2 b = by_test b a (λ z. (cond z k2 (knows b)).inside ≡ true → (knows b).inside ≡ true) (λ e i. absurd (let f = outside in cc)) (λ ne i. i)
-
-      limbo2_kept : (b p : ℕ) (l : Limbo) → is_among word bits p ≡ false → LimboFits b (λ c. (knows c).inside) t.entered (t.page_out p) l → LimboFits b (λ c. (put knows a k2 c).inside) t.entered (t2.page_out p) l
-      limbo2_kept b p l e h = limbo_later b now (λ c. (knows c).inside) (λ c. (put knows a k2 c).inside) t.entered t.entered (t.page_out p) (t2.page_out p) l (λ w i. (rw e i, (T.pages p w i).2)) (λ c u lt f i. f (inside2 c i)) h
-
-      limbo2_row : (b r : ℕ) → LimboFits b (λ c. (put knows a k2 c).inside) t.entered (t.row_out r) ((knows b).limbo.rows r)
-      limbo2_row b r = limbo_later b now (λ c. (knows c).inside) (λ c. (put knows a k2 c).inside) t.entered t.entered (t.row_out r) (t.row_out r) ((knows b).limbo.rows r) (λ w i. (i, (T.rows r w i).1)) (λ c u lt f i. f (inside2 c i)) (T.limbo_rows b r)
-
-      apart2 : (b p : ℕ) → b ≢ a → (w : Outing) → t.page_out p ≡ Some w → w.who ≡ b → is_among word bits p ≡ false
-      apart2 b p ne w e who = go (is_among word bits p) refl
-        where
-          go : (z : Bool) → is_among word bits p ≡ z → is_among word bits p ≡ false
-          go true i = absurd (let f = freed_page p i in ne (sym who ∙ ap (λ v. v.who) (same_Some w f.outing (sym e ∙ f.is)) ∙ f.who))
-          go false i = i
-
-      others2_limbo : (b p : ℕ) → b ≢ a → (l : Limbo) → LimboFits b (λ c. (knows c).inside) t.entered (t.page_out p) l → LimboFits b (λ c. (put knows a k2 c).inside) t.entered (t2.page_out p) l
-      others2_limbo b p ne Absent h = tt
-      others2_limbo b p ne Unstamped h = limbo2_kept b p Unstamped (apart2 b p ne h.0 h.1 h.2) h
-      others2_limbo b p ne (Stamped e q) h = limbo2_kept b p (Stamped e q) (apart2 b p ne h.0 h.1 h.2) h
+      pages_past : (p : ℕ) (w : Outing) → t.page_out p ≡ Some w → w.at < now
+      pages_past p w e = (T.pages p w e).2
 
       pub pages_timed : Timed limits m2 o2 (put knows a k2) (suc now) t2
       pages_timed = record {
-        within = λ b i. T.within b (inside2 b i);
+        within = λ b i. T.within b (same_inside k2 refl b i);
         holds = λ b. by_test b a (λ z. Holds m.rows t.row_out t2.page_out (t.entered b) (cond z k2 (knows b)).inside (cond z k2 (knows b)).read.seen (cond z k2 (knows b)).read.learnt (cond z k2 (knows b)).read.roots (cond z k2 (knows b)).read.heads (cond z k2 (knows b)).read.before (cond z k2 (knows b)).asked.linked)
             (λ e. subst (λ j. Holds m.rows t.row_out t2.page_out (t.entered j) (knows a).inside (knows a).read.seen (knows a).read.learnt (knows a).read.roots (knows a).read.heads (knows a).read.before (knows a).asked.linked) (sym e) (holds a)) (λ ne. holds b);
-        announced = λ b i. let h = T.announced b (inside2 b i) in record { some = h.some; old = h.old; past = (let p = h.past in omega arith); rows = h.rows; pages = λ p w e. h.pages p w (freed_out (is_among word bits p) (t.page_out p) w e).1 };
+        announced = λ b i. let h = T.announced b (same_inside k2 refl b i) in record { some = h.some; old = h.old; past = (let p = h.past in omega arith); rows = h.rows; pages = λ p w e. h.pages p w (freed_out (is_among word bits p) (t.page_out p) w e).1 };
         epochs = λ b e. by_test b a (λ z. (cond z k2 (knows b)).limbo.epoch ≡ Some e → e ≤ m.epoch) (λ i. T.epochs a e) (λ ne. T.epochs b e);
         slots = λ p q l s h e. T.slots p q l s (reached p l s (is_among word bits p) h) e;
         together = T.together;
@@ -410,8 +412,8 @@ module _ {limits : Limits} {m : Memory} {log : List Update} {o : Owners} {knows 
         pages = λ p w e. let v = freed_out (is_among word bits p) (t.page_out p) w e in let u = T.pages p w v.1 in ((u.0.0, u.0.1, same_page p (λ i. absurd (let z = v.0 in cc)) ∙ u.0.2), u.1, (let z = u.2 in let y : w.at < suc now = omega arith in y), u.3);
         own_rows = λ b r. by_test b a (λ z. IsOwn ((cond z k2 (knows b)).own.rows r) → t.row_out r ≡ None) (λ i. T.own_rows a r) (λ ne. T.own_rows b r);
         gone_pages = λ b p. by_test b a (λ z. (cond z k2 (knows b)).own.pages p ≡ Gone → t2.page_out p ≡ None) (λ i h. freed_none (is_among word bits p) (t.page_out p) (T.gone_pages a p h)) (λ ne h. freed_none (is_among word bits p) (t.page_out p) (T.gone_pages b p h));
-        limbo_rows = λ b r. by_test b a (λ z. LimboFits b (λ c. (put knows a k2 c).inside) t.entered (t.row_out r) ((cond z k2 (knows b)).limbo.rows r)) (λ i. subst (λ j. LimboFits j (λ c. (put knows a k2 c).inside) t.entered (t.row_out r) ((knows a).limbo.rows r)) (sym i) (limbo2_row a r)) (λ ne. limbo2_row b r);
-        limbo_pids = λ b p. by_test b a (λ z. LimboFits b (λ c. (put knows a k2 c).inside) t.entered (t2.page_out p) ((cond z k2 (knows b)).limbo.pids p)) (λ i. subst (λ j. LimboFits j (λ c. (put knows a k2 c).inside) t.entered (t2.page_out p) (cond (is_among word bits p) Absent ((knows a).limbo.pids p))) (sym i) (own_limbo p (is_among word bits p) refl)) (λ ne. others2_limbo b p ne ((knows b).limbo.pids p) (T.limbo_pids b p));
+        limbo_rows = λ b r. by_test b a (λ z. LimboFits b (λ c. (put knows a k2 c).inside) t.entered (t.row_out r) ((cond z k2 (knows b)).limbo.rows r)) (λ i. subst (λ j. LimboFits j (λ c. (put knows a k2 c).inside) t.entered (t.row_out r) ((knows a).limbo.rows r)) (sym i) (rows_still a r)) (λ ne. rows_still b r);
+        limbo_pids = λ b p. by_test b a (λ z. LimboFits b (λ c. (put knows a k2 c).inside) t.entered (t2.page_out p) ((cond z k2 (knows b)).limbo.pids p)) (λ i. subst (λ j. LimboFits j (λ c. (put knows a k2 c).inside) t.entered (t2.page_out p) (cond (is_among word bits p) Absent ((knows a).limbo.pids p))) (sym i) (own_limbo k2 refl t.page_out pages_past p ((knows a).limbo.pids p) (is_among word bits p) refl (T.limbo_pids a p))) (λ ne. others_limbo k2 refl t.page_out pages_past freed_page b p ne ((knows b).limbo.pids p) (T.limbo_pids b p));
         ready = λ b p r. by_test b a (λ z. (cond z k2 (knows b)).own.pages p ≡ Ready r → IsOwnBase ((cond z k2 (knows b)).own.rows r)) (λ i. T.ready a p r) (λ ne. T.ready b p r);
         apart = λ b p q r. by_test b a (λ z. (cond z k2 (knows b)).own.pages p ≡ Ready r → (cond z k2 (knows b)).own.pages q ≡ Ready r → p ≡ q) (λ i. T.apart a p q r) (λ ne. T.apart b p q r);
       }
@@ -423,6 +425,5 @@ module _ {limits : Limits} {m : Memory} {log : List Update} {o : Owners} {knows 
           reached p l s true h = absurd h
           reached p l s false h = h
 
-          own_limbo : (p : ℕ) (z : Bool) → is_among word bits p ≡ z → LimboFits a (λ c. (put knows a k2 c).inside) t.entered (t2.page_out p) (cond z Absent ((knows a).limbo.pids p))
-          own_limbo p true e = tt
-          own_limbo p false e = limbo2_kept a p ((knows a).limbo.pids p) e (T.limbo_pids a p)
+          rows_still : (b r : ℕ) → LimboFits b (λ c. (put knows a k2 c).inside) t.entered (t.row_out r) ((knows b).limbo.rows r)
+          rows_still b r = limbo_still k2 refl t.row_out (λ q w e. (T.rows q w e).1) b r ((knows b).limbo.rows r) (T.limbo_rows b r)

@@ -1,5 +1,5 @@
 -- One more step: what the limbos show of it, and that what it frees is freed by the rule.
-use Rattle.std.proofs.Common.{◌≡◌, ◌<◌, ◌⊎◌, inl, inr, ℕ, zero, suc, List, [], ◌∷◌, ◌++◌, length, Option, Some, None, Bool, true, cond, eqb, refl, sym, ap, ◌∙◌, subst, ⊎_elim, arith}
+use Rattle.std.proofs.Common.{◌≡◌, ◌<◌, ◌⊎◌, inl, inr, ℕ, zero, suc, List, [], ◌∷◌, ◌++◌, length, Option, Some, None, Bool, true, false, cond, eqb, refl, sym, ap, ◌∙◌, subst, ⊎_elim, arith}
 use Rattle.std.specs.Prelude.{MatchOption, IfSome, unwrap_or, slice_index_or, take}
 use Rattle.std.specs.List.{Contains}
 use Rattle.std.proofs.lemmas.Bool.{eqb-true}
@@ -20,7 +20,7 @@ use Rattle.chain_search.specs.declared.trace.Entry.{Entry}
 use Rattle.chain_search.specs.declared.trace.Entry.TheVariants.{Step}
 use Rattle.chain_search.specs.Chains.{IsChainFrom, IsChainOf, IsOnChain, chain_rows, level_in, low_in}
 use Rattle.chain_search.specs.Discipline.{IsOwn, IsOwnBase, IsPassed, MayExchange, May, MayFree, IsAllowed}
-use Rattle.chain_search.specs.Knowledge.{OwnRow, Foreign, Taken, Written, OwnPage, Other, Gone, Limbo, Absent, Unstamped, Stamped, Knowledge, learn, finished, knows}
+use Rattle.chain_search.specs.Knowledge.{OwnRow, Foreign, Taken, Written, OwnPage, Other, Gone, Limbo, Absent, Unstamped, Stamped, Knowledge, learn, finished, knows, passed_by, stamped}
 use Rattle.chain_search.specs.Steps.{is_among, IsAnswer, memory_after}
 use Rattle.chain_search.specs.Trace.{memory_of, memory_at, TakesStep, IsStep}
 use Rattle.chain_search.proofs.Pushes.{slice_get-push, slice_get_below, take-push_whole}
@@ -36,7 +36,7 @@ use Rattle.tree_law.specs.State.{IsInTree, IsReadyPage, IsState}
 use Rattle.tree_law.specs.Times.{Outing, Times, LimboFits, Timed}
 use Rattle.tree_law.specs.Tree.{IsTree}
 use Rattle.tree_law.proofs.links.Keeping.{slot_of}
-use Rattle.tree_law.proofs.epochs.Limbed.{LimboCase, as_it_was, is_stamped, is_passed, is_out, is_freed, RowOut, PageOut, FreesRows, FreesPids, row_case, page_case, walk_contained}
+use Rattle.tree_law.proofs.epochs.Limbed.{LimboCase, as_it_was, is_stamped, is_passed, is_out, is_freed, RowOut, PageOut, FreesRows, FreesPids, limbo_case, walk_contained}
 use Rattle.tree_law.proofs.epochs.Limbos.{limbo_push, stamped_now, passed_now, freed_push, freed_now, pid_longer, row_longer}
 use Rattle.tree_law.proofs.shape.Mapping.{slot_some}
 use Rattle.tree_law.proofs.trace.Names.{slot_none}
@@ -54,6 +54,17 @@ own_base : (v : OwnRow) → IsOwnBase v → IsOwn v
 own_base Foreign h = absurd h
 own_base Taken h = tt
 own_base (Written w) h = tt
+
+-- what is in a limbo is there still when it was stamped, and when an actor was passed
+unstamped : (e : ℕ) (l : Limbo) → stamped e l ≡ Absent → l ≡ Absent
+unstamped e Absent h = refl
+unstamped e Unstamped h = absurd (cc)
+unstamped e (Stamped epoch passed) h = absurd (cc)
+
+unpassed : (c value : ℕ) (l : Limbo) → passed_by c value l ≡ Absent → l ≡ Absent
+unpassed c value Absent h = refl
+unpassed c value Unstamped h = absurd (cc)
+unpassed c value (Stamped epoch passed) h = absurd (cc)
 
 -- a row that is out is on no chain
 module _ {limits : Limits} {m : Memory} {log : List Update} {o : Owners} {knows : ℕ → Knowledge} {point : ℕ → Option (List Update)} {logs : ℕ → List (List Update)} {now : ℕ} {t : Times} (g : IsTree (shared m) log o knows point logs) (T : Timed limits m o knows now t)
@@ -150,17 +161,18 @@ module _ (limits : Limits) (entries : List Entry) (a : ℕ) (step : StepOf Recor
   is_last : (other : ℕ) (s : StepOf Record) (x : Answer Record) → IsStep last other s x → (step ≡ s) × (answer ≡ x)
   is_last other s x h = let e = h.1 in ((cc), (cc))
 
-  calm_row : (b q : ℕ) → ((b ≡ a) → (word bits : ℕ) → step ≡ ReuseRows word bits → is_among word bits q ≡ true → (knows entries b).limbo.rows q ≡ Absent) → ((knows entries b).limbo.rows q ≡ Absent → ⊥) → (other : ℕ) (s : StepOf Record) (x : Answer Record) → IsStep last other s x → HandsRow q s x → ⊥
-  calm_row b q own some other s x at hands =
+  -- no step hands on what is in a limbo, where nothing is left there of what the step's actor reuses
+  calm : (H : StepOf Record → Answer Record → Type 0) (Reused : Type 0) (l : Limbo) → ((l ≡ Absent → ⊥) → H step answer → Reused) → (Reused → l ≡ Absent)
+      → (l ≡ Absent → ⊥) → (other : ℕ) (s : StepOf Record) (x : Answer Record) → IsStep last other s x → H s x → ⊥
+  calm H Reused l hands own some other s x at handed =
       let e = is_last other s x at in
-      let h = hands_row b q some (subst (λ y. HandsRow q step y) (sym e.1) (subst (λ u. HandsRow q u x) (sym e.0) hands)) in
-      some (own h.0 h.1.0 h.1.1 h.1.2 h.1.3)
+      some (own (hands some (subst (λ y. H step y) (sym e.1) (subst (λ u. H u x) (sym e.0) handed))))
+
+  calm_row : (b q : ℕ) → ((b ≡ a) → (word bits : ℕ) → step ≡ ReuseRows word bits → is_among word bits q ≡ true → (knows entries b).limbo.rows q ≡ Absent) → ((knows entries b).limbo.rows q ≡ Absent → ⊥) → (other : ℕ) (s : StepOf Record) (x : Answer Record) → IsStep last other s x → HandsRow q s x → ⊥
+  calm_row b q own = calm (HandsRow q) _ ((knows entries b).limbo.rows q) (hands_row b q) (λ h. own h.0 h.1.0 h.1.1 h.1.2 h.1.3)
 
   calm_pid : (b q : ℕ) → ((b ≡ a) → (word bits : ℕ) → step ≡ ReusePids word bits → is_among word bits q ≡ true → (knows entries b).limbo.pids q ≡ Absent) → ((knows entries b).limbo.pids q ≡ Absent → ⊥) → (other : ℕ) (s : StepOf Record) (x : Answer Record) → IsStep last other s x → HandsPid q s x → ⊥
-  calm_pid b q own some other s x at hands =
-      let e = is_last other s x at in
-      let h = hands_pid b q some (subst (λ y. HandsPid q step y) (sym e.1) (subst (λ u. HandsPid q u x) (sym e.0) hands)) in
-      some (own h.0 h.1.0 h.1.1 h.1.2 h.1.3)
+  calm_pid b q own = calm (HandsPid q) _ ((knows entries b).limbo.pids q) (hands_pid b q) (λ h. own h.0 h.1.0 h.1.1 h.1.2 h.1.3)
 
   whole_before : memory_at limits (entries ++ last ∷ []) (length entries) ≡ m
   whole_before = ap (memory_of limits) (take-push_whole entries (last ∷ []))
@@ -171,6 +183,27 @@ module _ (limits : Limits) (entries : List Entry) (a : ℕ) (step : StepOf Recor
 
   freed_pid : (word bits q : ℕ) → step ≡ ReusePids word bits → is_among word bits q ≡ true → (learn k step answer).limbo.pids q ≡ Absent
   freed_pid word bits q i e = subst (λ s. (learn k s answer).limbo.pids q ≡ Absent) (sym i) (rw e refl)
+
+  -- no step comes after the last one
+  none_after : (between other : ℕ) (s : StepOf Record) (x : Answer Record) → length entries < between → TakesStep (entries ++ last ∷ []) between other s x → ⊥
+  none_after between other s x lt h = let b = slice_get_below (entries ++ last ∷ []) between _ h.1 in let e = pushed_length entries last in omega arith
+
+  now_below : length entries < length (entries ++ last ∷ [])
+  now_below = let e = pushed_length entries last in omega arith
+
+  -- of a row or a page: what its limbo shows afterwards
+  module _ (U U' : ℕ → Type 0) (H : StepOf Record → Answer Record → Type 0) (longer : (n : ℕ) → n < length entries → U n → U' n) (old new : Limbo) (Out Freed : Type 0)
+      (calm : (new ≡ Absent → old ≡ Absent) → (old ≡ Absent → ⊥) → (other : ℕ) (s : StepOf Record) (x : Answer Record) → IsStep last other s x → H s x → ⊥)
+      (unlinks : new ≡ Unstamped → Out → U' (length entries)) (was : IsInLimbo entries a U H old) where
+    abbrev Shows : Limbo → Type 0
+    Shows l = IsInLimbo (entries ++ last ∷ []) a U' H l
+
+    in_limbo : LimboCase step answer old new Out Freed → Shows new
+    in_limbo (as_it_was is) = subst Shows (sym is) (limbo_push entries last U U' H longer a old (calm (λ gone. sym is ∙ gone)) was)
+    in_limbo (is_stamped e i j is) = subst Shows (sym is) (stamped_now entries last U U' H longer a e r (λ d. Step a (i d) (j d) r) old (calm (λ gone. unstamped e old (sym is ∙ gone))) was)
+    in_limbo (is_passed c v i j is) = subst Shows (sym is) (passed_now entries last U U' H longer a c v r (λ d. Step a (i d) (j d) r) old (calm (λ gone. unpassed c v old (sym is ∙ gone))) was)
+    in_limbo (is_out is h) = subst Shows (sym is) (record { at = length entries; below = now_below; unlinked = unlinks is h; kept = λ between other s x lt took hands. none_after between other s x lt took })
+    in_limbo (is_freed is f) = subst Shows (sym is) tt
 
   module _ {log' : List Update} {o' : Owners} {point' : ℕ → Option (List Update)} {logs' : ℕ → List (List Update)} {t' : Times}
       (g' : IsTree (shared (memory_after a step m)) log' o' (put (knows entries) a (finished (learn k step answer) r)) point' logs')
@@ -240,29 +273,15 @@ module _ (limits : Limits) (entries : List Entry) (a : ℕ) (step : StepOf Recor
             whole_take (x ∷ es) zero e = absurd (omega arith)
             whole_take (x ∷ es) (suc n) e = ap (λ v. x ∷ v) (whole_take es n (omega arith))
 
-    -- no step comes after the last one
-    none_after : (between other : ℕ) (s : StepOf Record) (x : Answer Record) → length entries < between → TakesStep (entries ++ last ∷ []) between other s x → ⊥
-    none_after between other s x lt h = let b = slice_get_below (entries ++ last ∷ []) between _ h.1 in let e = pushed_length entries last in omega arith
-
-    now_below : length entries < length (entries ++ last ∷ [])
-    now_below = let e = pushed_length entries last in omega arith
-
     -- what the rows in limbos show afterwards
     pub rows_in_limbo : (b q : ℕ) → IsInLimbo (entries ++ last ∷ []) b (UnlinksRow limits (entries ++ last ∷ []) b q) (HandsRow q) ((put (knows entries) a (finished (learn k step answer) r) b).limbo.rows q)
     rows_in_limbo b q = by_test b a (λ z. IsInLimbo (entries ++ last ∷ []) b (UnlinksRow limits (entries ++ last ∷ []) b q) (HandsRow q) ((cond z (finished (learn k step answer) r) (knows entries b)).limbo.rows q))
-        (λ i. subst (λ n. IsInLimbo (entries ++ last ∷ []) n (UnlinksRow limits (entries ++ last ∷ []) n q) (HandsRow q) ((learn k step answer).limbo.rows q)) (sym i) (own (row_case k step answer q)))
+        (λ i. subst (λ n. IsInLimbo (entries ++ last ∷ []) n (UnlinksRow limits (entries ++ last ∷ []) n q) (HandsRow q) ((learn k step answer).limbo.rows q)) (sym i) own)
         (λ ne. limbo_push entries last (UnlinksRow limits entries b q) (UnlinksRow limits (entries ++ last ∷ []) b q) (HandsRow q) (row_longer entries last limits b q) b ((knows entries b).limbo.rows q) (calm_row b q (λ i. absurd (ne i))) (state.limbo_rows b q))
       where
-        own : LimboCase step answer (k.limbo.rows q) ((learn k step answer).limbo.rows q) (RowOut k step answer q) (FreesRows step) → IsInLimbo (entries ++ last ∷ []) a (UnlinksRow limits (entries ++ last ∷ []) a q) (HandsRow q) ((learn k step answer).limbo.rows q)
-        own (as_it_was e) = subst (λ (l : Limbo). IsInLimbo (entries ++ last ∷ []) a (UnlinksRow limits (entries ++ last ∷ []) a q) (HandsRow q) l) (sym e)
-            (limbo_push entries last (UnlinksRow limits entries a q) (UnlinksRow limits (entries ++ last ∷ []) a q) (HandsRow q) (row_longer entries last limits a q) a (k.limbo.rows q) (calm_row a q (λ i word bits s among. sym e ∙ freed_row word bits q s among)) (state.limbo_rows a q))
-        own (is_stamped e i j new) = subst (λ (l : Limbo). IsInLimbo (entries ++ last ∷ []) a (UnlinksRow limits (entries ++ last ∷ []) a q) (HandsRow q) l) (sym new)
-            (stamped_now entries last (UnlinksRow limits entries a q) (UnlinksRow limits (entries ++ last ∷ []) a q) (HandsRow q) (row_longer entries last limits a q) a e r (λ d. Step a (i d) (j d) r) (k.limbo.rows q) (calm_row a q (λ _ word bits s among. absurd (let z = sym i ∙ s in cc))) (state.limbo_rows a q))
-        own (is_passed c v i j new) = subst (λ (l : Limbo). IsInLimbo (entries ++ last ∷ []) a (UnlinksRow limits (entries ++ last ∷ []) a q) (HandsRow q) l) (sym new)
-            (passed_now entries last (UnlinksRow limits entries a q) (UnlinksRow limits (entries ++ last ∷ []) a q) (HandsRow q) (row_longer entries last limits a q) a c v r (λ d. Step a (i d) (j d) r) (k.limbo.rows q) (calm_row a q (λ _ word bits s among. absurd (let z = sym i ∙ s in cc))) (state.limbo_rows a q))
-        own (is_out new h) = subst (λ (l : Limbo). IsInLimbo (entries ++ last ∷ []) a (UnlinksRow limits (entries ++ last ∷ []) a q) (HandsRow q) l) (sym new)
-            (record { at = length entries; below = now_below; unlinked = unlinks_row q new h; kept = λ between other s x lt took hands. none_after between other s x lt took })
-        own (is_freed new f) = subst (λ (l : Limbo). IsInLimbo (entries ++ last ∷ []) a (UnlinksRow limits (entries ++ last ∷ []) a q) (HandsRow q) l) (sym new) tt
+        own : IsInLimbo (entries ++ last ∷ []) a (UnlinksRow limits (entries ++ last ∷ []) a q) (HandsRow q) ((learn k step answer).limbo.rows q)
+        own = in_limbo (UnlinksRow limits entries a q) (UnlinksRow limits (entries ++ last ∷ []) a q) (HandsRow q) (row_longer entries last limits a q) (k.limbo.rows q) ((learn k step answer).limbo.rows q) (RowOut k step answer q) (FreesRows step)
+            (λ back. calm_row a q (λ i word bits s among. back (freed_row word bits q s among))) (unlinks_row q) (state.limbo_rows a q) (limbo_case k false step answer q)
 
     -- an exchange that took a page out
     unlinks_pid : (q : ℕ) → PageOut k step answer q → UnlinksPid limits (entries ++ last ∷ []) a q (length entries)
@@ -277,19 +296,12 @@ module _ (limits : Limits) (entries : List Entry) (a : ℕ) (step : StepOf Recor
 
     pub pids_in_limbo : (b q : ℕ) → IsInLimbo (entries ++ last ∷ []) b (UnlinksPid limits (entries ++ last ∷ []) b q) (HandsPid q) ((put (knows entries) a (finished (learn k step answer) r) b).limbo.pids q)
     pids_in_limbo b q = by_test b a (λ z. IsInLimbo (entries ++ last ∷ []) b (UnlinksPid limits (entries ++ last ∷ []) b q) (HandsPid q) ((cond z (finished (learn k step answer) r) (knows entries b)).limbo.pids q))
-        (λ i. subst (λ n. IsInLimbo (entries ++ last ∷ []) n (UnlinksPid limits (entries ++ last ∷ []) n q) (HandsPid q) ((learn k step answer).limbo.pids q)) (sym i) (own (page_case k step answer q)))
+        (λ i. subst (λ n. IsInLimbo (entries ++ last ∷ []) n (UnlinksPid limits (entries ++ last ∷ []) n q) (HandsPid q) ((learn k step answer).limbo.pids q)) (sym i) own)
         (λ ne. limbo_push entries last (UnlinksPid limits entries b q) (UnlinksPid limits (entries ++ last ∷ []) b q) (HandsPid q) (pid_longer entries last limits b q) b ((knows entries b).limbo.pids q) (calm_pid b q (λ i. absurd (ne i))) (state.limbo_pids b q))
       where
-        own : LimboCase step answer (k.limbo.pids q) ((learn k step answer).limbo.pids q) (PageOut k step answer q) (FreesPids step) → IsInLimbo (entries ++ last ∷ []) a (UnlinksPid limits (entries ++ last ∷ []) a q) (HandsPid q) ((learn k step answer).limbo.pids q)
-        own (as_it_was e) = subst (λ (l : Limbo). IsInLimbo (entries ++ last ∷ []) a (UnlinksPid limits (entries ++ last ∷ []) a q) (HandsPid q) l) (sym e)
-            (limbo_push entries last (UnlinksPid limits entries a q) (UnlinksPid limits (entries ++ last ∷ []) a q) (HandsPid q) (pid_longer entries last limits a q) a (k.limbo.pids q) (calm_pid a q (λ i word bits s among. sym e ∙ freed_pid word bits q s among)) (state.limbo_pids a q))
-        own (is_stamped e i j new) = subst (λ (l : Limbo). IsInLimbo (entries ++ last ∷ []) a (UnlinksPid limits (entries ++ last ∷ []) a q) (HandsPid q) l) (sym new)
-            (stamped_now entries last (UnlinksPid limits entries a q) (UnlinksPid limits (entries ++ last ∷ []) a q) (HandsPid q) (pid_longer entries last limits a q) a e r (λ d. Step a (i d) (j d) r) (k.limbo.pids q) (calm_pid a q (λ _ word bits s among. absurd (let z = sym i ∙ s in cc))) (state.limbo_pids a q))
-        own (is_passed c v i j new) = subst (λ (l : Limbo). IsInLimbo (entries ++ last ∷ []) a (UnlinksPid limits (entries ++ last ∷ []) a q) (HandsPid q) l) (sym new)
-            (passed_now entries last (UnlinksPid limits entries a q) (UnlinksPid limits (entries ++ last ∷ []) a q) (HandsPid q) (pid_longer entries last limits a q) a c v r (λ d. Step a (i d) (j d) r) (k.limbo.pids q) (calm_pid a q (λ _ word bits s among. absurd (let z = sym i ∙ s in cc))) (state.limbo_pids a q))
-        own (is_out new h) = subst (λ (l : Limbo). IsInLimbo (entries ++ last ∷ []) a (UnlinksPid limits (entries ++ last ∷ []) a q) (HandsPid q) l) (sym new)
-            (record { at = length entries; below = now_below; unlinked = unlinks_pid q h; kept = λ between other s x lt took hands. none_after between other s x lt took })
-        own (is_freed new f) = subst (λ (l : Limbo). IsInLimbo (entries ++ last ∷ []) a (UnlinksPid limits (entries ++ last ∷ []) a q) (HandsPid q) l) (sym new) tt
+        own : IsInLimbo (entries ++ last ∷ []) a (UnlinksPid limits (entries ++ last ∷ []) a q) (HandsPid q) ((learn k step answer).limbo.pids q)
+        own = in_limbo (UnlinksPid limits entries a q) (UnlinksPid limits (entries ++ last ∷ []) a q) (HandsPid q) (pid_longer entries last limits a q) (k.limbo.pids q) ((learn k step answer).limbo.pids q) (PageOut k step answer q) (FreesPids step)
+            (λ back. calm_pid a q (λ i word bits s among. back (freed_pid word bits q s among))) (λ new. unlinks_pid q) (state.limbo_pids a q) (limbo_case k true step answer q)
 
   is_own : (other : ℕ) (s : StepOf Record) (x : Answer Record) → IsStep last other s x → a ≡ other
   is_own other s x h = let e = h.1 in cc

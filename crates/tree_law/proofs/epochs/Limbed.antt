@@ -11,7 +11,7 @@ use Rattle.deltas.specs.declared.record.Record.{Record}
 use Rattle.deltas.specs.declared.record.Record.TheVariants.{Base, Put, Delete, Split, Term, Hold, Remove, Merge, Unterm}
 use Rattle.deltas.specs.Records.{next_row}
 use Rattle.chain_search.specs.Chains.{IsChainFrom, chain_rows}
-use Rattle.chain_search.specs.Knowledge.{OwnRow, Foreign, Taken, Written, OwnPage, Other, Empty, Ready, Gone, Limbo, Absent, Unstamped, Knowledge, stamped, passed_by, taken_out, is_on_walk, next_seen, split_off, linked_over, filled, emptied, rooted, learn}
+use Rattle.chain_search.specs.Knowledge.{OwnRow, Foreign, Taken, Written, OwnPage, Other, Empty, Ready, Gone, Limbo, Limbos, Absent, Unstamped, Knowledge, stamped, passed_by, taken_out, is_on_walk, next_seen, split_off, linked_over, filled, emptied, rooted, learn}
 use Rattle.chain_search.specs.Steps.{is_among}
 use Rattle.tree_law.proofs.shape.Puts.{by_test}
 
@@ -46,6 +46,19 @@ FreesRows s = (word bits : ℕ) × (s ≡ ReuseRows word bits)
 
 abbrev pub FreesPids : StepOf Record → Type 0
 FreesPids s = (word bits : ℕ) × (s ≡ ReusePids word bits)
+
+-- of pages, or else of rows: those in the limbo, why one is there now, and what frees some
+abbrev pub items : Bool → Limbos → ℕ → Limbo
+items true limbo = limbo.pids
+items false limbo = limbo.rows
+
+abbrev pub ItemOut : Bool → Knowledge → StepOf Record → Answer Record → ℕ → Type 0
+ItemOut true k s x item = PageOut k s x item
+ItemOut false k s x item = RowOut k s x item
+
+abbrev pub Frees : Bool → StepOf Record → Type 0
+Frees true s = FreesPids s
+Frees false s = FreesRows s
 
 walked : (k : Knowledge) (s : StepOf Record) (x : Answer Record) (row old : ℕ) → (is_on_walk 13 k.read.seen (Some old) row ≡ true → RowOut k s x row) → LimboCase s x (k.limbo.rows row) (taken_out k.read.seen old k.limbo.rows row) (RowOut k s x row) (FreesRows (s))
 walked k s x row old f = go (is_on_walk 13 k.read.seen (Some old) row) refl
@@ -139,49 +152,35 @@ module _ (k : Knowledge) where
   word_case s x true l Out Freed f = is_freed refl f
   word_case s x false l Out Freed f = as_it_was refl
 
-  -- what a step makes of the rows in the limbo
-  pub row_case : (s : StepOf Record) (x : Answer Record) (row : ℕ) → LimboCase s x (k.limbo.rows row) ((learn k s x).limbo.rows row) (RowOut k s x row) (FreesRows (s))
+  -- what a step makes of the items in the limbo
+  pub limbo_case : (pages : Bool) (s : StepOf Record) (x : Answer Record) (item : ℕ) → LimboCase s x (items pages k.limbo item) (items pages (learn k s x).limbo item) (ItemOut pages k s x item) (Frees pages s)
   unfolding Fill
-  row_case Epoch (Number n) row = is_stamped n refl refl refl
-  row_case (Announce c) (Number n) row = is_passed c n refl refl refl
-  row_case (Exchange zero old new) (Whether true) row = as_it_was (ap (λ (f : ℕ → Limbo). f row) (rooted_rows (k.own.pages new) new k))
-  row_case (Exchange (suc p) old zero) (Whether true) row = emptied_rows p old row (k.own.pages (suc p)) refl
-  row_case (Exchange (suc p) old (suc y)) (Whether true) row = filled_case p old y row (k.own.pages (suc p)) refl
-  row_case (ReuseRows word bits) x row = word_case (ReuseRows word bits) x (is_among word bits row) (k.limbo.rows row) _ _ (word, bits, refl)
-  row_case (ReusePids word bits) x row = as_it_was refl
-  row_case (Slot zero) (Number n) row = as_it_was refl
-  row_case (Slot (suc p)) (Number zero) row = as_it_was refl
-  row_case (Slot (suc p)) (Number (suc n)) row = as_it_was refl
-  row_case (Row q) (Content w) row = as_it_was refl
-  row_case (PidBits w) (Number n) row = as_it_was refl
-  row_case (RowBits w) (Number n) row = as_it_was refl
-  row_case (TakePid p) (Whether true) row = as_it_was refl
-  row_case (TakePid p) (Whether false) row = as_it_was refl
-  row_case (TakeRow r) (Whether true) row = as_it_was refl
-  row_case (TakeRow r) (Whether false) row = as_it_was refl
-  row_case (Exchange p old new) (Whether false) row = as_it_was refl
-  row_case s x row = as_it_was refl
-
-  pub page_case : (s : StepOf Record) (x : Answer Record) (page : ℕ) → LimboCase s x (k.limbo.pids page) ((learn k s x).limbo.pids page) (PageOut k s x page) (FreesPids (s))
-  page_case Epoch (Number n) page = is_stamped n refl refl refl
-  page_case (Announce c) (Number n) page = is_passed c n refl refl refl
-  page_case (Exchange zero old new) (Whether true) page = as_it_was (ap (λ (f : ℕ → Limbo). f page) (rooted_pids (k.own.pages new) new k))
-  page_case (Exchange (suc p) old zero) (Whether true) page = emptied_pids p old page (k.own.pages (suc p)) refl
-  page_case (Exchange (suc p) old (suc y)) (Whether true) page = as_it_was (ap (λ (f : ℕ → Limbo). f page) (filled_pids (k.own.pages (suc p)) (suc p) old (suc y) k))
-  page_case (ReusePids word bits) x page = word_case (ReusePids word bits) x (is_among word bits page) (k.limbo.pids page) _ _ (word, bits, refl)
-  page_case (ReuseRows word bits) x page = as_it_was refl
-  page_case (Slot zero) (Number n) page = as_it_was refl
-  page_case (Slot (suc p)) (Number zero) page = as_it_was refl
-  page_case (Slot (suc p)) (Number (suc n)) page = as_it_was refl
-  page_case (Row q) (Content w) page = as_it_was refl
-  page_case (PidBits w) (Number n) page = as_it_was refl
-  page_case (RowBits w) (Number n) page = as_it_was refl
-  page_case (TakePid p) (Whether true) page = as_it_was refl
-  page_case (TakePid p) (Whether false) page = as_it_was refl
-  page_case (TakeRow r) (Whether true) page = as_it_was refl
-  page_case (TakeRow r) (Whether false) page = as_it_was refl
-  page_case (Exchange p old new) (Whether false) page = as_it_was refl
-  page_case s x page = as_it_was refl
+  limbo_case true Epoch (Number n) item = is_stamped n refl refl refl
+  limbo_case false Epoch (Number n) item = is_stamped n refl refl refl
+  limbo_case true (Announce c) (Number n) item = is_passed c n refl refl refl
+  limbo_case false (Announce c) (Number n) item = is_passed c n refl refl refl
+  limbo_case true (Exchange zero old new) (Whether true) item = as_it_was (ap (λ (f : ℕ → Limbo). f item) (rooted_pids (k.own.pages new) new k))
+  limbo_case false (Exchange zero old new) (Whether true) item = as_it_was (ap (λ (f : ℕ → Limbo). f item) (rooted_rows (k.own.pages new) new k))
+  limbo_case true (Exchange (suc p) old zero) (Whether true) item = emptied_pids p old item (k.own.pages (suc p)) refl
+  limbo_case false (Exchange (suc p) old zero) (Whether true) item = emptied_rows p old item (k.own.pages (suc p)) refl
+  limbo_case true (Exchange (suc p) old (suc y)) (Whether true) item = as_it_was (ap (λ (f : ℕ → Limbo). f item) (filled_pids (k.own.pages (suc p)) (suc p) old (suc y) k))
+  limbo_case false (Exchange (suc p) old (suc y)) (Whether true) item = filled_case p old y item (k.own.pages (suc p)) refl
+  limbo_case true (ReusePids word bits) x item = word_case (ReusePids word bits) x (is_among word bits item) (k.limbo.pids item) _ _ (word, bits, refl)
+  limbo_case false (ReusePids word bits) x item = as_it_was refl
+  limbo_case true (ReuseRows word bits) x item = as_it_was refl
+  limbo_case false (ReuseRows word bits) x item = word_case (ReuseRows word bits) x (is_among word bits item) (k.limbo.rows item) _ _ (word, bits, refl)
+  limbo_case pages (Slot zero) (Number n) item = as_it_was refl
+  limbo_case pages (Slot (suc p)) (Number zero) item = as_it_was refl
+  limbo_case pages (Slot (suc p)) (Number (suc n)) item = as_it_was refl
+  limbo_case pages (Row q) (Content w) item = as_it_was refl
+  limbo_case pages (PidBits w) (Number n) item = as_it_was refl
+  limbo_case pages (RowBits w) (Number n) item = as_it_was refl
+  limbo_case pages (TakePid p) (Whether true) item = as_it_was refl
+  limbo_case pages (TakePid p) (Whether false) item = as_it_was refl
+  limbo_case pages (TakeRow r) (Whether true) item = as_it_was refl
+  limbo_case pages (TakeRow r) (Whether false) item = as_it_was refl
+  limbo_case pages (Exchange p old new) (Whether false) item = as_it_was refl
+  limbo_case pages s x item = as_it_was refl
 
 -- a row on the walk from a chain's first row is on the chain
 under_contained : (seen rows : ℕ → Option Record) → ((r : ℕ) (w : Record) → seen r ≡ Some w → rows r ≡ Some w) → (x : ℕ) (w : Record) (c : List Record) → rows x ≡ Some w → MatchOption (next_row w) (c ≡ []) (λ y. IsChainFrom rows y c)

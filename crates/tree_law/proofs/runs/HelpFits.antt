@@ -17,7 +17,8 @@ use Rattle.deltas.specs.Spellable.{HasPid, IsSpellablePage}
 use Rattle.chain_search.specs.Discipline.{FitsOn}
 use Rattle.chain_search.specs.Fitted.{IsFitted}
 use Rattle.tree_law.specs.Example.{a, opening_leaf, root_a}
-use Rattle.tree_law.specs.HelpedSplit.{b, item_b, upper_b, first_split, upper_c, second_split, helped_term, other_put}
+use Rattle.tree_law.specs.HelpedSplit.{item_b, helped_term, other_put}
+use Rattle.tree_law.specs.TwoSplits.{b, upper_b, first_split, upper_c, second_split}
 use Rattle.tree_law.specs.Keys.{Key}
 use Rattle.tree_law.proofs.shape.KeyOrder.{by_key, by_below}
 use Rattle.tree_law.proofs.runs.LinkFits.{leaf, leaf_page, leaf_ruled, first, alone, both, linked, root_makes}
@@ -70,7 +71,7 @@ pub second_fits : FitsOn (upper_b ∷ []) second_split
 second_fits = (fits_over (base_makes (leaf a None None) (leaf_page a None None refl) refl) (record { alive = refl; level = refl; covered = refl; inner = refl }) (leaf_splits a None None 2 4 b) (leaf_ruled a (Some b) (Some 4) refl refl) refl (linked 0 2 b 4 (omega arith) (omega arith, omega arith) (λ e. cc) (omega arith, omega arith)), omega arith)
 
 pub term_fits : FitsOn (root_a ∷ []) helped_term
-term_fits = (fits_over root_makes (record { alive = refl; level = refl; index = omega arith; covered = refl; absent = refl; room = omega arith }) term_applies grown_ruled refl (omega arith, (linked 1 4 b 4 (omega arith) (omega arith, omega arith) (λ e. cc) (omega arith, omega arith))), omega arith)
+term_fits = (fits_over root_makes (record { alive = refl; level = refl; index = omega arith; covered = refl; absent = refl; room = omega arith }) term_applies grown_ruled refl (omega arith, (linked 1 5 b 4 (omega arith) (omega arith, omega arith) (λ e. cc) (omega arith, omega arith))), omega arith)
 
 pub put_fits : FitsOn (upper_c ∷ []) other_put
 put_fits = (fits_over (base_makes (leaf b None None) (leaf_page b None None refl) refl) (record { alive = refl; leaf = refl; covered = refl; room = λ e. omega arith }) put_applies (record { is_page = put_page; ends = refl; top = omega arith; terms = λ lt. absurd (omega arith) }) refl (omega arith, omega arith), omega arith)

@@ -1,29 +1,26 @@
 -- Each step of the run with a removal is allowed.
-use Rattle.std.proofs.Common.{ℕ, List, [], ◌∷◌, take, drop, Some, None, true, false, refl, inl, inr, lit<, arith}
+use Rattle.std.proofs.Common.{ℕ, [], ◌∷◌, take, drop, Some, None, true, false, refl, inl, inr, lit<, arith}
 use Rattle.std.specs.List.Sorted.{IsStrictlySortedBy}
 use Rattle.bw_model.specs.declared.command.Reply.TheVariants as reply
 use Rattle.deltas.specs.Applies.{Applies}
 use Rattle.base_page.specs.Pages.{Page, IsPage}
 use Rattle.base_page.specs.Rules.{IsRuled}
-use Rattle.chain_search.specs.Discipline.{FitsOn, IsMet, MayAdd, MayRoot, MayReply}
+use Rattle.chain_search.specs.Discipline.{FitsOn, IsMet, MayAdd, MayReply}
 use Rattle.chain_search.specs.Disciplined.{IsDisciplinedFrom, IsDisciplined}
-use Rattle.chain_search.specs.Knowledge.{OwnPage, Other, Empty, Ready, Knowledge, knows}
+use Rattle.chain_search.specs.Knowledge.{Knowledge, knows}
 use Rattle.tree_law.specs.Example.{small, a, get_a, opening_leaf, root_a, hold_a, remove_a}
-use Rattle.tree_law.specs.HelpedSplit.{b, upper_b, first_split, upper_c, second_split}
 use Rattle.tree_law.specs.Removal.{get_b, removal}
-use Rattle.tree_law.proofs.runs.HelpFits.{first_fits, second_fits, first_ruled, second_ruled, leaf_splits}
-use Rattle.tree_law.proofs.runs.LinkFits.{leaf, leaf_page, hold_fits, root_fitted}
+use Rattle.tree_law.specs.TwoSplits.{b, two_splits, upper_b, first_split, upper_c, second_split}
+use Rattle.tree_law.proofs.runs.HelpFits.{leaf_splits}
+use Rattle.tree_law.proofs.runs.LinkFits.{leaf, leaf_page, hold_fits}
 use Rattle.tree_law.proofs.runs.Making.{base_makes, over_makes, fits_over}
-use Rattle.tree_law.proofs.runs.Standing.{◌▸◌, quietly}
+use Rattle.tree_law.proofs.runs.SplitRun.{became, splits_twice}
+use Rattle.tree_law.proofs.runs.Standing.{◌▸◌, joined, quietly}
 use Rattle.tree_law.proofs.runs.Unset.{is_unset}
 
 -- what an actor knows before entry n
 abbrev before : ℕ → ℕ → Knowledge
 before n actor = knows (take n removal) actor
-
--- what became of the pages that the first actor took, newest first
-abbrev became : List (ℕ × OwnPage)
-became = (4, Other) ∷ (4, Ready 7) ∷ (4, Empty) ∷ (3, Other) ∷ (3, Ready 5) ∷ (3, Empty) ∷ (2, Other) ∷ (2, Ready 2) ∷ (2, Empty) ∷ []
 
 -- the removal fits the upper leaf, which is empty
 abbrev upper : Page
@@ -43,23 +40,20 @@ removal_fits = (fits_over (over_makes (base_makes (leaf a None None) (leaf_page 
     ruled = record { is_page = record { spans = is_page.spans; ordered = is_page.ordered; within = is_page.within; kinds = is_page.kinds }; ends = refl; top = omega arith; terms = λ lt. absurd (omega arith) }
 
 -- each page was named, as a right or as a child
-right_of_first : IsMet (before 34 0) 2
+right_of_first : IsMet (before 39 0) 2
 right_of_first = record { other = 1; row = 4; basis = record { head = refl; chain = first_split ∷ opening_leaf ∷ []; read = (refl, (refl, refl)); alive = refl }; named = inl refl }
 
-right_again : IsMet (before 42 0) 2
-right_again = record { other = 1; row = 4; basis = record { head = refl; chain = first_split ∷ opening_leaf ∷ []; read = (refl, (refl, refl)); alive = refl }; named = inl refl }
-
 held_child : IsMet (before 49 1) 2
-held_child = record { other = 3; row = 6; basis = record { head = refl; chain = hold_a ∷ root_a ∷ []; read = (refl, (refl, refl)); alive = refl }; named = inr (inl (0, a, true, refl, refl, refl)) }
+held_child = record { other = 3; row = 7; basis = record { head = refl; chain = hold_a ∷ root_a ∷ []; read = (refl, (refl, refl)); alive = refl }; named = inr (inl (0, a, true, refl, refl, refl)) }
 
 left_child : IsMet (before 53 1) 1
-left_child = record { other = 3; row = 6; basis = record { head = refl; chain = hold_a ∷ root_a ∷ []; read = (refl, (refl, refl)); alive = refl }; named = inr (inl (0, [], false, refl, refl, refl)) }
+left_child = record { other = 3; row = 7; basis = record { head = refl; chain = hold_a ∷ root_a ∷ []; read = (refl, (refl, refl)); alive = refl }; named = inr (inl (0, [], false, refl, refl, refl)) }
 
 held_child_again : IsMet (before 63 1) 2
-held_child_again = record { other = 3; row = 6; basis = record { head = refl; chain = hold_a ∷ root_a ∷ []; read = (refl, (refl, refl)); alive = refl }; named = inr (inl (0, a, true, refl, refl, refl)) }
+held_child_again = record { other = 3; row = 7; basis = record { head = refl; chain = hold_a ∷ root_a ∷ []; read = (refl, (refl, refl)); alive = refl }; named = inr (inl (0, a, true, refl, refl, refl)) }
 
 left_child_again : IsMet (before 67 1) 1
-left_child_again = record { other = 3; row = 6; basis = record { head = refl; chain = hold_a ∷ root_a ∷ []; read = (refl, (refl, refl)); alive = refl }; named = inr (inl (0, [], false, refl, refl, refl)) }
+left_child_again = record { other = 3; row = 7; basis = record { head = refl; chain = hold_a ∷ root_a ∷ []; read = (refl, (refl, refl)); alive = refl }; named = inr (inl (0, [], false, refl, refl, refl)) }
 
 -- or as the right of the removed leaf, which was read before its left
 right_beyond : IsMet (before 70 1) 4
@@ -70,46 +64,8 @@ right_beyond = record {
   named = inr (inr (record { removed = 2; row = 8; chain = remove_a ∷ second_split ∷ upper_b ∷ []; right = refl; order = refl; read = (refl, (refl, (refl, refl))); gone = refl; next = refl }));
 }
 
--- the first split
-splits : MayAdd 0 (before 25 0) 1 1 4
-splits = record {
-  basis = record { head = refl; chain = opening_leaf ∷ []; read = (refl, refl); alive = refl };
-  content = first_split;
-  placed = refl;
-  fits = first_fits;
-  due = record { separator = a; above = refl; below = refl; right = 2; row = 2; ready = refl; items = []; alike = λ key c n. refl; base = refl; ruled = first_ruled; is = refl };
-  unset = is_unset (drop 7 became) refl;
-}
-
--- the root
-roots : MayRoot (before 30 0) 1 3
-roots = record {
-  row = 4;
-  basis = record { head = refl; chain = first_split ∷ opening_leaf ∷ []; read = (refl, (refl, refl)); alive = refl };
-  right = 2;
-  is_right = refl;
-  separator = a;
-  is_high = refl;
-  some = refl;
-  base_row = 5;
-  ready = refl;
-  base = refl;
-  ruled = root_fitted;
-}
-
--- the second split
-splits_upper : MayAdd 0 (before 38 0) 2 2 3
-splits_upper = record {
-  basis = record { head = refl; chain = upper_b ∷ []; read = (refl, refl); alive = refl };
-  content = second_split;
-  placed = refl;
-  fits = second_fits;
-  due = record { separator = b; above = refl; below = refl; right = 4; row = 7; ready = refl; items = []; alike = λ key c n. refl; base = refl; ruled = second_ruled; is = refl };
-  unset = is_unset (drop 1 became) refl;
-}
-
 -- the hold
-holds : MayAdd 0 (before 39 0) 3 5 6
+holds : MayAdd 0 (before 36 0) 3 5 7
 holds = record {
   basis = record { head = refl; chain = root_a ∷ []; read = (refl, refl); alive = refl };
   content = hold_a;
@@ -120,13 +76,13 @@ holds = record {
 }
 
 -- the removal
-removes : MayAdd 0 (before 44 0) 2 3 8
+removes : MayAdd 0 (before 41 0) 2 3 8
 removes = record {
   basis = record { head = refl; chain = second_split ∷ upper_b ∷ []; read = (refl, (refl, refl)); alive = refl };
   content = remove_a;
   placed = refl;
   fits = removal_fits;
-  due = record { parent = 3; row = 6; above = record { head = refl; chain = hold_a ∷ root_a ∷ []; read = (refl, (refl, refl)); alive = refl }; level = refl; covers = refl; held = refl; is = refl };
+  due = record { parent = 3; row = 7; above = record { head = refl; chain = hold_a ∷ root_a ∷ []; read = (refl, (refl, refl)); alive = refl }; level = refl; covers = refl; held = refl; is = refl };
   unset = is_unset became refl;
 }
 
@@ -148,7 +104,7 @@ none_there = record {
 
 -- and so does the leaf on its right
 none_beyond : MayReply small 1 (before 72 1) reply.None
-none_beyond = record { command = get_b; going = refl; justified = inl (record { row = 7; chain = upper_c ∷ []; read = (refl, refl); leaf = refl; covers = refl; is = refl; basis = inr (inl (refl, (4, refl, refl), refl)) }) }
+none_beyond = record { command = get_b; going = refl; justified = inl (record { row = 6; chain = upper_c ∷ []; read = (refl, refl); leaf = refl; covers = refl; is = refl; basis = inr (inl (refl, (4, refl, refl), refl)) }) }
 
 -- and to its left; it goes on at the removed leaf's right, and replies from there
 goes_left_again : IsDisciplinedFrom small (take 67 removal) (drop 67 removal)
@@ -198,80 +154,24 @@ descends =
     ▸ (refl, quietly (refl, refl) tt, (upper_b, refl, refl))
     ▸ goes_left
 
--- it holds the upper leaf's term, and removes the leaf
-removes_it : IsDisciplinedFrom small (take 39 removal) (drop 39 removal)
+-- the second begins and enters
+enters : IsDisciplinedFrom small (take 42 removal) (drop 42 removal)
+enters = (lit< tt, refl) ▸ (refl, quietly tt tt, refl) ▸ (refl, quietly (refl, lit< tt, refl) tt, refl) ▸ descends
+
+-- after two splits the first holds the upper leaf's term, and removes the leaf
+removes_it : IsDisciplinedFrom small two_splits (drop 32 removal)
 removes_it =
-    (refl, quietly (refl, holds) tt, refl)
+    (refl, quietly tt tt, refl)
+    ▸ (refl, quietly tt tt, refl)
+    ▸ (refl, quietly (refl, tt, is_unset became refl) tt, refl)
+    ▸ (refl, quietly (refl, tt, is_unset became refl) tt, refl)
+    ▸ (refl, quietly (refl, holds) tt, refl)
     ▸ (refl, quietly (refl, inl refl) tt, refl)
     ▸ (refl, quietly (refl, refl) tt, (hold_a, refl, refl))
-    ▸ (refl, quietly (refl, inr right_again) tt, refl)
+    ▸ (refl, quietly (refl, inr right_of_first) tt, refl)
     ▸ (refl, quietly (refl, refl) tt, (second_split, refl, refl))
     ▸ (refl, quietly (refl, removes) tt, refl)
-    ▸ descends
-
--- it splits the upper leaf
-divides : IsDisciplinedFrom small (take 31 removal) (drop 31 removal)
-divides =
-    (refl, quietly refl tt, refl)
-    ▸ (refl, quietly (refl, inl refl) tt, refl)
-    ▸ (refl, quietly (refl, refl) tt, (root_a, refl, refl))
-    ▸ (refl, quietly (refl, inr right_of_first) tt, refl)
-    ▸ (refl, quietly (refl, refl) tt, (upper_b, refl, refl))
-    ▸ (refl, quietly tt tt, refl)
-    ▸ (refl, quietly (refl, (refl, tt, is_unset (drop 2 became) refl)) tt, refl)
-    ▸ (refl, quietly (refl, splits_upper) tt, refl)
-    ▸ removes_it
-
--- it splits the leaf and makes a root
-grows : IsDisciplinedFrom small (take 23 removal) (drop 23 removal)
-grows =
-    (refl, quietly tt tt, refl)
-    ▸ (refl, quietly (refl, (refl, tt, is_unset (drop 8 became) refl)) tt, refl)
-    ▸ (refl, quietly (refl, splits) tt, refl)
-    ▸ (refl, quietly (refl, inl refl) tt, refl)
-    ▸ (refl, quietly (refl, refl) tt, (first_split, refl, refl))
-    ▸ (refl, quietly tt tt, refl)
-    ▸ (refl, quietly (refl, (refl, tt, is_unset (drop 5 became) refl)) tt, refl)
-    ▸ (refl, quietly (refl, roots) tt, refl)
-    ▸ divides
-
--- and writes them
-places : IsDisciplinedFrom small (take 16 removal) (drop 16 removal)
-places =
-    (refl, quietly (refl, tt, is_unset [] refl) tt, refl)
-    ▸ (refl, quietly (refl, tt, is_unset [] refl) tt, refl)
-    ▸ (refl, quietly (refl, tt, is_unset [] refl) tt, refl)
-    ▸ (refl, quietly (refl, tt, is_unset [] refl) tt, refl)
-    ▸ (refl, quietly (refl, tt, is_unset [] refl) tt, refl)
-    ▸ (refl, quietly (refl, tt, is_unset [] refl) tt, refl)
-    ▸ (refl, quietly (refl, tt, is_unset [] refl) tt, refl)
-    ▸ grows
-
--- it takes its rows
-takes : IsDisciplinedFrom small (take 9 removal) (drop 9 removal)
-takes =
-    (refl, quietly tt tt, refl)
-    ▸ (refl, quietly tt tt, refl)
-    ▸ (refl, quietly tt tt, refl)
-    ▸ (refl, quietly tt tt, refl)
-    ▸ (refl, quietly tt tt, refl)
-    ▸ (refl, quietly tt tt, refl)
-    ▸ (refl, quietly tt tt, refl)
-    ▸ places
-
--- both enter, and the first reads the leaf
-begins : IsDisciplinedFrom small (take 0 removal) (drop 0 removal)
-begins =
-    (lit< tt, refl)
-    ▸ (lit< tt, refl)
-    ▸ (refl, quietly tt tt, refl)
-    ▸ (refl, quietly tt tt, refl)
-    ▸ (refl, quietly (refl, lit< tt, refl) tt, refl)
-    ▸ (refl, quietly (refl, lit< tt, refl) tt, refl)
-    ▸ (refl, quietly refl tt, refl)
-    ▸ (refl, quietly (refl, inl refl) tt, refl)
-    ▸ (refl, quietly (refl, refl) tt, (opening_leaf, refl, refl))
-    ▸ takes
+    ▸ enters
 
 pub removal_disciplined : IsDisciplined small removal
-removal_disciplined = begins
+removal_disciplined = joined small [] two_splits (drop 32 removal) splits_twice removes_it

@@ -1,5 +1,5 @@
 -- What an operation has found stays found, and what a further step finds.
-use Rattle.std.proofs.Common.{◌≡◌, ◌<◌, ◌⊎◌, inl, inr, ℕ, zero, suc, List, [], ◌∷◌, ◌++◌, length, Option, Some, None, true, false, cond, refl, sym, ap, ◌∙◌, subst, arith}
+use Rattle.std.proofs.Common.{◌≡◌, ◌<◌, ◌⊎◌, inl, inr, ℕ, zero, suc, List, [], ◌∷◌, ◌++◌, length, Option, Some, None, Bool, true, false, cond, refl, sym, ap, ◌∙◌, subst, arith}
 use Rattle.std.specs.Prelude.{slice_get}
 use Rattle.bw_model.specs.declared.command.Command.{Command}
 use Rattle.bw_model.specs.declared.command.Reply.{Reply}
@@ -15,7 +15,7 @@ use Rattle.chain_search.proofs.Pushes.{slice_get_below}
 use Rattle.op_machine.specs.Answered.{FindsNothingFree}
 use Rattle.op_machine.specs.Operations.{Operation, TakesOwnStep}
 use Rattle.chain_search.specs.Discipline.{LacksRoom}
-use Rattle.chain_search.specs.Knowledge.{Knowledge, begun, learn, finished}
+use Rattle.chain_search.specs.Knowledge.{Asked, Knowledge, begun, learn, finished}
 use Rattle.tree_law.specs.State.{IsUnended, operation_of, IsSearch}
 use Rattle.tree_law.proofs.shape.Puts.{by_test}
 use Rattle.tree_law.proofs.links.Exchanged.{exchanged_alike}
@@ -25,43 +25,39 @@ use Rattle.tree_law.proofs.trace.Owned.{pushed_length, own_kept, own_cases, take
 abbrev Is : StepOf Record → Answer Record → StepOf Record → Answer Record → Type 0
 Is s x t y = (s ≡ t) × (x ≡ y)
 
-pids_cases : (k : Knowledge) (s : StepOf Record) (x : Answer Record) (word : ℕ) → (learn k s x).asked.no_pids word ≡ true → (k.asked.no_pids word ≡ true) ⊎ Is s x (PidBits word) (Number 0)
-pids_cases k (PidBits v) (Number zero) word e = by_test word v (λ t. cond t true (k.asked.no_pids word) ≡ true → (k.asked.no_pids word ≡ true) ⊎ Is (PidBits v) (Number 0) (PidBits word) (Number 0))
-    (λ i f. inr (ap PidBits (sym i), refl)) (λ ne f. inl f) e
-pids_cases k (PidBits v) (Number (suc n)) word e = inl e
-pids_cases k Epoch (Number n) word e = inl e
-pids_cases k (Announce b) (Number n) word e = inl e
-pids_cases k (Slot zero) (Number n) word e = inl e
-pids_cases k (Slot (suc p)) (Number zero) word e = inl e
-pids_cases k (Slot (suc p)) (Number (suc n)) word e = inl e
-pids_cases k (Row q) (Content v) word e = inl e
-pids_cases k (RowBits w) (Number n) word e = inl e
-pids_cases k (TakePid q) (Whether true) word e = inl e
-pids_cases k (TakePid q) (Whether false) word e = inl e
-pids_cases k (TakeRow q) (Whether true) word e = inl e
-pids_cases k (TakeRow q) (Whether false) word e = inl e
-pids_cases k (Exchange p y z) (Whether true) word e = inl (subst (λ f. f word ≡ true) (exchanged_alike p y z k).no_pids e)
-pids_cases k (Exchange p y z) (Whether false) word e = inl e
-pids_cases k s x word e = inl e
+-- the words of free PIDs that were read as 0, or else of free rows; and the step that reads one
+abbrev no_words : Bool → Asked → ℕ → Bool
+no_words true asked = asked.no_pids
+no_words false asked = asked.no_rows
 
-rows_cases : (k : Knowledge) (s : StepOf Record) (x : Answer Record) (word : ℕ) → (learn k s x).asked.no_rows word ≡ true → (k.asked.no_rows word ≡ true) ⊎ Is s x (RowBits word) (Number 0)
-rows_cases k (RowBits v) (Number zero) word e = by_test word v (λ t. cond t true (k.asked.no_rows word) ≡ true → (k.asked.no_rows word ≡ true) ⊎ Is (RowBits v) (Number 0) (RowBits word) (Number 0))
+abbrev bits_of : Bool → ℕ → StepOf Record
+bits_of true word = PidBits word
+bits_of false word = RowBits word
+
+-- Where a word is known as 0 after a step: the step read it, or it was known before.
+words_cases : (pids : Bool) (k : Knowledge) (s : StepOf Record) (x : Answer Record) (word : ℕ) → no_words pids (learn k s x).asked word ≡ true → (no_words pids k.asked word ≡ true) ⊎ Is s x (bits_of pids word) (Number 0)
+words_cases true k (PidBits v) (Number zero) word e = by_test word v (λ t. cond t true (k.asked.no_pids word) ≡ true → (k.asked.no_pids word ≡ true) ⊎ Is (PidBits v) (Number 0) (PidBits word) (Number 0))
+    (λ i f. inr (ap PidBits (sym i), refl)) (λ ne f. inl f) e
+words_cases false k (RowBits v) (Number zero) word e = by_test word v (λ t. cond t true (k.asked.no_rows word) ≡ true → (k.asked.no_rows word ≡ true) ⊎ Is (RowBits v) (Number 0) (RowBits word) (Number 0))
     (λ i f. inr (ap RowBits (sym i), refl)) (λ ne f. inl f) e
-rows_cases k (RowBits v) (Number (suc n)) word e = inl e
-rows_cases k Epoch (Number n) word e = inl e
-rows_cases k (Announce b) (Number n) word e = inl e
-rows_cases k (Slot zero) (Number n) word e = inl e
-rows_cases k (Slot (suc p)) (Number zero) word e = inl e
-rows_cases k (Slot (suc p)) (Number (suc n)) word e = inl e
-rows_cases k (Row q) (Content v) word e = inl e
-rows_cases k (PidBits w) (Number n) word e = inl e
-rows_cases k (TakePid q) (Whether true) word e = inl e
-rows_cases k (TakePid q) (Whether false) word e = inl e
-rows_cases k (TakeRow q) (Whether true) word e = inl e
-rows_cases k (TakeRow q) (Whether false) word e = inl e
-rows_cases k (Exchange p y z) (Whether true) word e = inl (subst (λ f. f word ≡ true) (exchanged_alike p y z k).no_rows e)
-rows_cases k (Exchange p y z) (Whether false) word e = inl e
-rows_cases k s x word e = inl e
+words_cases true k (RowBits v) (Number zero) word e = inl e
+words_cases false k (PidBits v) (Number zero) word e = inl e
+words_cases true k (Exchange p y z) (Whether true) word e = inl (subst (λ f. f word ≡ true) (exchanged_alike p y z k).no_pids e)
+words_cases false k (Exchange p y z) (Whether true) word e = inl (subst (λ f. f word ≡ true) (exchanged_alike p y z k).no_rows e)
+words_cases pids k (PidBits v) (Number (suc n)) word e = inl e
+words_cases pids k (RowBits v) (Number (suc n)) word e = inl e
+words_cases pids k Epoch (Number n) word e = inl e
+words_cases pids k (Announce b) (Number n) word e = inl e
+words_cases pids k (Slot zero) (Number n) word e = inl e
+words_cases pids k (Slot (suc p)) (Number zero) word e = inl e
+words_cases pids k (Slot (suc p)) (Number (suc n)) word e = inl e
+words_cases pids k (Row q) (Content v) word e = inl e
+words_cases pids k (TakePid q) (Whether true) word e = inl e
+words_cases pids k (TakePid q) (Whether false) word e = inl e
+words_cases pids k (TakeRow q) (Whether true) word e = inl e
+words_cases pids k (TakeRow q) (Whether false) word e = inl e
+words_cases pids k (Exchange p y z) (Whether false) word e = inl e
+words_cases pids k s x word e = inl e
 
 module _ (entries : List Entry) (last : Entry) where
   pub takes_kept : (op : Operation) (n : ℕ) (step : StepOf Record) (answer : Answer Record) → TakesOwnStep entries op n step answer → TakesOwnStep (entries ++ last ∷ []) op n step answer
@@ -97,8 +93,8 @@ module _ (entries : List Entry) (last : Entry) where
       → last ≡ Step a s x None → IsSearch entries (operation_of start a c) k → IsSearch (entries ++ last ∷ []) (operation_of start a c) (finished (learn k s x) None)
   search_own start a c s x k begins unended is h = record {
     unfinished = λ n reply ends. elim (own_cases entries last (operation_of start a c) n ends.0 ends.1 (Some reply) ends.2) [ inl own ↦ h.unfinished n reply (ends.0, ends.1, own) | inr at ↦ let e = at.1 in absurd (cc) ];
-    pids_at = λ word e. elim (pids_cases k s x word e) [ inl f ↦ let g = h.pids_at word f in (g.0, takes_kept (operation_of start a c) g.0 _ _ g.1) | inr new ↦ (length entries, takes (PidBits word) (Number 0) new.0 new.1) ];
-    rows_at = λ word e. elim (rows_cases k s x word e) [ inl f ↦ let g = h.rows_at word f in (g.0, takes_kept (operation_of start a c) g.0 _ _ g.1) | inr new ↦ (length entries, takes (RowBits word) (Number 0) new.0 new.1) ];
+    pids_at = λ word e. elim (words_cases true k s x word e) [ inl f ↦ let g = h.pids_at word f in (g.0, takes_kept (operation_of start a c) g.0 _ _ g.1) | inr new ↦ (length entries, takes (PidBits word) (Number 0) new.0 new.1) ];
+    rows_at = λ word e. elim (words_cases false k s x word e) [ inl f ↦ let g = h.rows_at word f in (g.0, takes_kept (operation_of start a c) g.0 _ _ g.1) | inr new ↦ (length entries, takes (RowBits word) (Number 0) new.0 new.1) ];
   }
     where
       takes : (t : StepOf Record) (y : Answer Record) → s ≡ t → x ≡ y → TakesOwnStep (entries ++ last ∷ []) (operation_of start a c) (length entries) t y

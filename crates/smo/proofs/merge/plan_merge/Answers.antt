@@ -33,7 +33,7 @@ returns c =
     planned c.args.left.now c.args.removed.now made merged c.keeps_rules-2.ensures.fitted makes c.page.ensures.ruled makes_merged
     (record {
       alive = sym c.is_removed.ensures ∙ c.if-is_removed.false;
-      meets = c.meets.ensures.0 c.if-not-meets.false;
+      next_to = c.is_next_to.ensures.0 c.if-not-is_next_to.false;
       gone = gone;
       level = (let a = c.level.ensures in let b = c.level-2.ensures in let same = c.if-level.false in omega (arith, a, b, same));
       few = from_made removed merged (λ items. length items ≤ 4) makes_merged (few_removed removed merged c.keeps_rules-2.ensures.fitted gone makes_merged);

@@ -16,12 +16,12 @@ no_bytes (x ∷ xs) e = let none = eqb-true (length (x ∷ xs)) 0 e in absurd (o
 pub two_terms-items-requires : goal.two_terms-items-requires
 two_terms-items-requires c =
     let lowest : low_in c.args.left.now.chain ≡ [] = rw (← c.low.ensures, ← c.as_slice.ensures.bytes) (no_bytes c.as_slice.result.now (sym c.is_empty.ensures ∙ c.if-not-is_empty.false)) in
-    rw c.low-2.ensures (some c.args.left.now c.args.right.now c.keeps_rules.ensures.fitted lowest (c.meets.ensures.0 c.if-not-meets.false))
+    rw c.low-2.ensures (some c.args.left.now c.args.right.now c.keeps_rules.ensures.fitted lowest (c.is_next_to.ensures.0 c.if-not-is_next_to.false))
 
 pub new-requires : goal.new-requires
 new-requires c =
     let lowest : low_in c.args.left.now.chain ≡ [] = rw (← c.low.ensures, ← c.as_slice.ensures.bytes) (no_bytes c.as_slice.result.now (sym c.is_empty.ensures ∙ c.if-not-is_empty.false)) in
-    let above : IsTrue (is_below [] c.low-2.result.now) = rw c.low-2.ensures (some c.args.left.now c.args.right.now c.keeps_rules.ensures.fitted lowest (c.meets.ensures.0 c.if-not-meets.false)) in
+    let above : IsTrue (is_below [] c.low-2.result.now) = rw c.low-2.ensures (some c.args.left.now c.args.right.now c.keeps_rules.ensures.fitted lowest (c.is_next_to.ensures.0 c.if-not-is_next_to.false)) in
     let level : c.level-2.result + 1 ≤ 15 = (let low = c.if-level-ge-TOP_LEVEL.false in let a = c.level.ensures in let b = c.level-2.ensures in omega (arith, low, a, b)) in
     rw (c.default.ensures, c.two_terms-items.ensures)
     (root_stands (c.level-2.result + 1) c.args.left.now.pid c.low-2.result.now c.args.right.now.pid c.args.left.now.is_pid c.args.right.now.is_pid (omega arith) level above).ruled.is_page
@@ -36,7 +36,7 @@ returns c =
     (ap kind.Base (c.new.ensures ∙ (λ i. record { level = level i; low = c.default.ensures i; high = None; right = None; removed = false; items = items i })))
     (record {
       lowest = lowest;
-      meets = c.meets.ensures.0 c.if-not-meets.false;
+      next_to = c.is_next_to.ensures.0 c.if-not-is_next_to.false;
       alive = sym c.is_removed.ensures ∙ c.if-is_removed.false;
       top = (let a = c.level.ensures in let b = c.if-level-ge-TOP_LEVEL.false in omega (arith, a, b));
     })

@@ -2,13 +2,13 @@ use Rattle.std.proofs.Common.{refl, sym, ◌∙◌, arith}
 use Rattle.std.specs.Prelude.{IsTrue}
 use Rattle.bw_model.specs.Bytes.{is_below}
 use Rattle.chain_search.specs.Chains.{low_in}
-use Rattle.smo.specs.Neighbours.{Meets}
+use Rattle.smo.specs.Neighbours.{IsNextTo}
 use Rattle.smo.proofs.UntermFits.{planned}
 use Rattle.smo.proofs.unterm.plan_unterm.Goals as goal
 
 pub returns : goal.returns
 returns c =
-    let apart : ¬ Meets c.args.left.now c.args.removed.now = λ m. (let yes = c.meets.ensures.1 m in let no = c.if-meets.false in absurd cc) in
+    let apart : ¬ IsNextTo c.args.left.now c.args.removed.now = λ m. (let yes = c.is_next_to.ensures.1 m in let no = c.if-is_next_to.false in absurd cc) in
     let below : IsTrue (is_below (low_in c.args.left.now.chain) (low_in c.args.removed.now.chain)) = rw (← c.low.ensures, ← c.low-low.ensures, ← c.cmp.ensures, ← c.is_lt.ensures) c.if-not-is_lt.false in
     planned c.args.parent.now c.args.left.now c.args.removed.now _ c.requires.alive c.keeps_rules.ensures.fitted (rw (c.level.ensures, c.copied.ensures, c.low-low.ensures) refl)
     (record {
