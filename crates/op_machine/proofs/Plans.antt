@@ -26,7 +26,7 @@ use Rattle.op_machine.specs.Outcomes.{HasWritten, IsAtLeaf}
 use Rattle.op_machine.specs.Tasks.{Seeks, Task}
 
 -- a page in hand is a place for a record
-pub place_of : (limits : Limits) (k : Knowledge) (r : Recalled) (page : Version) (content : Record) → IsAlive limits k r page → ForSome (next_row content) (λ next. next < limits.rows) → change.IsPlace limits page.pid page.head content
+pub place_of : (limits : Limits) (k : Knowledge) (r : Recalled) (page : Version) (content : Record) → IsAlive limits k r page → ForSome (next_row content) (λ next. next < limits.rows) → change.IsTargetOver limits page.pid page.head content
 place_of limits k r page content alive next = record { page = page.is_pid.0; pid_below = alive.in_hand.page; linked = alive.recalled.0; head_below = alive.in_hand.row; next_below = next }
 
 module _ (task : Task) (spares : Spares) (k : Knowledge) (r : Recalled) where
