@@ -4,9 +4,13 @@
 #[cfg(test)]
 mod faults;
 #[cfg(test)]
+mod grown;
+#[cfg(test)]
 mod interleaved;
 #[cfg(test)]
 mod lines;
+#[cfg(test)]
+mod numbered;
 #[cfg(test)]
 mod pages;
 #[cfg(test)]

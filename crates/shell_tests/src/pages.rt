@@ -1,49 +1,9 @@
-//! A page that is consolidated, that is full, and that has no row left.
+//! A page that is consolidated, and rows that run out.
 
+use crate::numbered::Numbered;
 use crate::runs::{add, limits, prints};
 use bw_model::Limits;
-use std::alloc::Global;
-use std::process::Abort;
 use std::test::Fail;
-
-// Lines that insert the first keys: k01, k02 and so on, with the values v01, v02.
-fn insert_first(input: &mut String, count: u32) -> Result<(), Fail> {
-    for n in 1..=count {
-        writeln!(input, "begin 0 insert k{n:02} v{n:02}\nfinish 0")?;
-    }
-    Ok(())
-}
-
-// The listing of the first keys.
-fn list_first(output: &mut String, count: u32) -> Result<(), Fail> {
-    writeln!(output, "pairs {count}")?;
-    for n in 1..=count {
-        writeln!(output, "k{n:02} v{n:02}")?;
-    }
-    Ok(())
-}
-
-// Runs lines after those that insert the first keys. They print this, and then the listing of the first keys up to a number.
-fn after_inserts(
-    rt: &impl Abort,
-    alloc: Global,
-    count: u32,
-    lines: &str,
-    printed: &str,
-    listed: u32,
-) -> Result<(), Fail> {
-    let mut input = String::new(alloc);
-    insert_first(&mut input, count)?;
-    writeln!(input, "{lines}list")?;
-    let mut output = String::new(alloc);
-    for _ in 0..count {
-        output.push_str("0 inserted\n")?;
-    }
-    output.push_str(printed)?;
-    list_first(&mut output, listed)?;
-    prints(rt, alloc, limits(rt), input.as_bytes(), output.as_bytes());
-    Ok(())
-}
 
 #[test]
 fn a_page_is_consolidated(rt: HostRuntime) -> Result<(), Fail> {
@@ -51,24 +11,13 @@ fn a_page_is_consolidated(rt: HostRuntime) -> Result<(), Fail> {
         let lines = format!(in rt.alloc();
             "begin 0 insert k09 v09\n{turns}\nbegin 0 insert k10 v10\nturn 0 10\nturn 0 1\n"
         )?;
-        after_inserts(
-            &rt,
-            rt.alloc(),
-            8,
-            lines.as_str(),
-            "0 inserted\n0 inserted\n",
-            10,
-        )?;
+        let mut script = Numbered::new(rt.alloc(), false);
+        script.insert(1, 8)?;
+        script.add(lines.as_str(), "0 inserted\n0 inserted\n")?;
+        script.list_first(10)?;
+        script.runs(&rt, rt.alloc(), limits(&rt));
     }
     Ok(())
-}
-
-#[test]
-fn a_full_page(rt: HostRuntime) -> Result<(), Fail> {
-    let lines = "begin 0 insert k17 v17\nuntil 0 base\nfinish 0\n";
-    after_inserts(&rt, rt.alloc(), 16, lines, "0 full\n", 16)?;
-    let lines = "begin 0 delete k01\nfinish 0\nbegin 0 get k08\nfinish 0\n";
-    after_inserts(&rt, rt.alloc(), 16, lines, "0 full\n0 value v08\n", 16)
 }
 
 // Fifty-six updates and six consolidations use the 62 free rows; the next operation needs a row for a seventh one.
