@@ -160,7 +160,7 @@ module _ (task : Task) (had has : Spares) (k : Knowledge) (r : Recalled) (old ne
     where
       by : (t : Then) → then ≡ t → HasChanged task has now Won t
       by (Reply answered) is = (done Won room over, answers room over answered is)
-      by Round is = (seeks Won room over (ap (change.linked_after old.plan Won) h.asked.unlinked ∙ subst (λ t. Brings k task.command old.plan t) is h.brings), h.writer)
+      by Round is = (seeks Won room over (ap (change.linked_after old.plan Won) h.asked.unlinked ∙ (subst (λ t. Brings k task.command old.plan t) is h.brings).1), h.writer)
       by (Errand key) is =
           let b = subst (λ t. Brings k task.command old.plan t) is h.brings in
           (seeks Won room over (ap (λ plan. change.linked_after plan Won k.asked.linked) b.2 ∙ h.asked.unlinked), h.writer)
