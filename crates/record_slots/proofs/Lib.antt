@@ -1,5 +1,6 @@
 pub mod ItemLaws
 pub mod ListLaws
 pub mod Refusals
+pub mod RowLaws
 pub mod TextLaws
 pub mod WordLaws

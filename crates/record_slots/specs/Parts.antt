@@ -1,5 +1,5 @@
 -- The parts of a row, whatever its kind.
-use Rattle.std.specs.Prelude.{◌≡◌, ◌<◌, ◌≤◌, ℕ, Bool, List, [], ◌∷◌, length, Option, Some, IfSome, unwrap_or, ⊤}
+use Rattle.std.specs.Prelude.{◌≡◌, ◌==◌, ◌<◌, ◌≤◌, ◌+◌, ◌*◌, ℕ, Bool, true, ◌&&◌, List, [], ◌∷◌, length, Option, Some, IfSome, unwrap_or, ⊤}
 use Rattle.std.specs.List.{All}
 use Rattle.arrayvec.specs.ArrayVec.{ArrayVec}
 use Rattle.bw_model.specs.Bytes.{IsShort}
@@ -11,6 +11,7 @@ use Rattle.base_page.specs.Rules.{is_held}
 use Rattle.deltas.specs.Spellable.{IsPid, HasPid}
 use Rattle.deltas.specs.declared.record.Record.{Record}
 use Rattle.deltas.specs.declared.record.Record.TheVariants.{Base, Put, Delete, Split, Term, Hold, Remove, Merge, Unterm}
+use Rattle.record_slots.specs.declared.row.Header.{Header}
 use Rattle.record_slots.specs.declared.row.Row.{Row}
 use Rattle.record_slots.specs.Spelling.{row_words, content_words, item_words, items_words}
 use Rattle.record_slots.specs.Spells.{IsShortContent, IsShortItem}
@@ -41,6 +42,23 @@ pub record AreItemsIn (level count : ℕ) (words : List ℕ) (items : ArrayVec I
   pub counts : length items.items ≡ count
   pub each : All (IsItem level) items.items
   pub are : items_words items.items ≡ words
+
+-- nothing stands in the words
+abbrev pub are_zeros : List ℕ → Bool
+are_zeros [] = true
+are_zeros (word ∷ words) = (word == 0) && are_zeros words
+
+-- the number, which is below the limit
+pub record IsNumberIn (word limit number : ℕ) : Type 0 where
+  pub below : number < limit
+  pub are : number ≡ word
+
+-- what stands in the first word
+pub record IsHeaderIn (word : ℕ) (header : Header) : Type 0 where
+  pub kind : header.kind < 256
+  pub level : header.level ≤ 15
+  pub few : header.count ≤ 24
+  pub are : header.kind + 256 * header.level + 65536 * header.count ≡ word
 
 -- The numbers are in their ranges, the texts are short, and the items are of the level.
 pub record IsRowOfParts (row : Row) : Type 0 where
