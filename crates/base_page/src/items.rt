@@ -47,7 +47,8 @@ impl Items {
 
     /// These items, where each key is below the one after it.
     pub fn ordered(items: ArrayVec<Item, MAX_ITEMS>) -> Option<Items>
-        ensures { MatchOption result (AreItems items.items → ⊥) (λ ordered. ordered ≡ items.items) }
+        ensures { MatchOption result (AreItems items.items → ⊥)
+            (λ ordered. (ordered ≡ items.items) × AreItems ordered) }
     {
         for place in 1..items.len() {
             if !items[place - 1].key.cmp(&items[place].key).is_lt() {

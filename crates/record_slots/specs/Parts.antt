@@ -1,5 +1,5 @@
 -- The parts of a row, whatever its kind.
-use Rattle.std.specs.Prelude.{◌≡◌, ◌==◌, ◌<◌, ◌≤◌, ◌+◌, ◌*◌, ℕ, Bool, true, ◌&&◌, List, [], ◌∷◌, length, Option, Some, IfSome, unwrap_or, ⊤}
+use Rattle.std.specs.Prelude.{◌≡◌, ◌≢◌, ◌==◌, ◌<◌, ◌≤◌, ◌+◌, ◌*◌, ℕ, Bool, true, ◌&&◌, List, [], ◌∷◌, length, Option, Some, IfSome, unwrap_or, ⊤}
 use Rattle.std.specs.List.{All}
 use Rattle.arrayvec.specs.ArrayVec.{ArrayVec}
 use Rattle.bw_model.specs.Bytes.{IsShort}
@@ -8,7 +8,7 @@ use Rattle.base_page.specs.declared.item.Content.TheVariants.{Value, Child}
 use Rattle.base_page.specs.declared.item.Item.{Item}
 use Rattle.base_page.specs.Pages.{IsOfLevel}
 use Rattle.base_page.specs.Rules.{is_held}
-use Rattle.deltas.specs.Spellable.{IsPid, HasPid}
+use Rattle.deltas.specs.Spellable.{IsPid, HasPid, IsSpellable}
 use Rattle.deltas.specs.declared.record.Record.{Record}
 use Rattle.deltas.specs.declared.record.Record.TheVariants.{Base, Put, Delete, Split, Term, Hold, Remove, Merge, Unterm}
 use Rattle.record_slots.specs.declared.row.Header.{Header}
@@ -89,3 +89,25 @@ row_of (Hold hold) = record { kind = 6; level = hold.level; next = hold.next; pa
 row_of (Remove remove) = record { kind = 7; level = remove.level; next = remove.next; page = 0; first = []; second = Some []; items = record { items = [] } }
 row_of (Merge merge) = record { kind = 8; level = merge.level; next = merge.next; page = unwrap_or merge.right 0; first = merge.low; second = merge.high; items = record { items = merge.items } }
 row_of (Unterm unterm) = record { kind = 9; level = unterm.level; next = unterm.next; page = unterm.child; first = unterm.separator; second = Some []; items = record { items = [] } }
+
+-- A row can spell the record, and these are its parts.
+pub record IsRecordOf (row : Row) (content : Record) : Type 0 where
+  pub spellable : IsSpellable content
+  pub are : row_of content ≡ row
+
+-- no second key and no items
+pub record IsBare (row : Row) : Type 0 where
+  pub second : row.second ≡ Some []
+  pub items : row.items.items ≡ []
+
+-- a row under it, a page, a key that isn't empty, and nothing else
+pub record IsLinkOf (row : Row) : Type 0 where
+  pub next : 0 < row.next
+  pub page : 0 < row.page
+  pub above : row.first ≢ []
+  pub bare : IsBare row
+
+-- the right that the number stands for: 0 for none
+pub record IsRightOf (page : ℕ) (right : Option ℕ) : Type 0 where
+  pub pid : IfSome right IsPid
+  pub is : unwrap_or right 0 ≡ page

@@ -2,7 +2,9 @@
 #![tactic(auto)]
 
 mod item_words;
+mod records;
 mod row;
+mod rules;
 mod texts;
 
 pub use row::BadRow;

@@ -1,4 +1,4 @@
-use Rattle.std.proofs.Common.{◌≡◌, ◌-◌, ◌<◌, suc, List, length, get_or, true, false, sym, ap, ◌∙◌, arith}
+use Rattle.std.proofs.Common.{◌≡◌, ◌-◌, ◌<◌, suc, List, length, get_or, true, false, refl, sym, ap, ◌∙◌, arith}
 use Rattle.base_page.specs.declared.item.Item.{Item}
 use Rattle.std.specs.Ordering.{is_lt}
 use Rattle.bw_model.specs.Bytes.{key_cmp, is_below}
@@ -24,3 +24,6 @@ invariant_of-result c =
       few = omega (arith, c.len-place-end.ensures.fits, c.len-place-end.ensures.value);
       ascending = IsAscending_in_order c.args.items.items (λ k d under. c.loop-place.invariant k d (omega (arith, under, c.loop-place-test.false, c.len-place-end.ensures.value)));
     }
+
+pub returns : goal.returns
+returns c = (refl, invariant_of-result c)
