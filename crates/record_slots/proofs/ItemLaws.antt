@@ -56,10 +56,10 @@ items_grow level place words front now item grown before h =
     let split = take_more (10 * place) 10 (10 * (place + 1)) words (omega arith) in
     ap items_words grown ∙ items_append front (item ∷ []) ∙ (λ i. before i ++ (append_nothing (item_words item) ∙ last) i) ∙ sym split
 
-first_ten : (item : Item) (rest : List ℕ) → take 10 (item_words item ++ rest) ≡ item_words item
+pub first_ten : (item : Item) (rest : List ℕ) → take 10 (item_words item ++ rest) ≡ item_words item
 first_ten item rest = ap (λ n. take n (item_words item ++ rest)) (sym (item_ten item)) ∙ take-append_seam (item_words item) rest
 
-behind_ten : (item : Item) (rest : List ℕ) (place : ℕ) → drop (10 * suc place) (item_words item ++ rest) ≡ drop (10 * place) rest
+pub behind_ten : (item : Item) (rest : List ℕ) (place : ℕ) → drop (10 * suc place) (item_words item ++ rest) ≡ drop (10 * place) rest
 behind_ten item rest place =
     let t = item_ten item in
     let e : 10 * suc place ≡ length (item_words item) + 10 * place = omega arith in

@@ -7,3 +7,8 @@ use Rattle.record_slots.specs.Spells.{FindsOne}
 pub refused : {A E : Type 0} (has : A → Type 0) (result : Result A E) → IsErr result → ((a : A) → has a → ⊥) → FindsOne has result
 refused has (Ok a) h none = cc
 refused has (Err e) h none = none
+
+-- the same is found by a property that says the same
+pub found_as : {A E : Type 0} (has says : A → Type 0) (result : Result A E) → ((a : A) → has a → says a) → ((a : A) → says a → has a) → FindsOne has result → FindsOne says result
+found_as has says (Ok a) there back found = there a found
+found_as has says (Err e) there back none = λ a is. none a (back a is)

@@ -2,9 +2,11 @@
 #![tactic(auto)]
 
 mod item_words;
+mod read;
 mod records;
 mod row;
 mod rules;
 mod texts;
 
+pub use read::from_words;
 pub use row::BadRow;
