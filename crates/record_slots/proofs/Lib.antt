@@ -7,3 +7,4 @@ pub mod RuleLaws
 pub mod SpellingLaws
 pub mod TextLaws
 pub mod WordLaws
+pub mod WrittenLaws

@@ -1,10 +1,10 @@
 -- The bytes of a word.
-use Rattle.std.proofs.Common.{◌≡◌, ◌==◌, ◌<◌, ◌≤◌, ◌+◌, ◌*◌, ◌-◌, ◌/◌, ◌%◌, ◌^◌, inl, inr, ℕ, min, zero, suc, List, [], ◌∷◌, ◌++◌, length, refl, sym, ap, subst, ◌∙◌, arith}
+use Rattle.std.proofs.Common.{◌≡◌, ◌==◌, ◌<◌, ◌≤◌, ◌+◌, ◌*◌, ◌-◌, ◌/◌, ◌%◌, ◌^◌, inl, inr, ℕ, min, zero, suc, List, [], ◌∷◌, ◌++◌, length, get_or, drop, refl, sym, ap, subst, ◌∙◌, arith}
 use Rattle.std.specs.Prelude.{◌&&◌}
 use Rattle.std.specs.List.{AllByRecursion}
 use Rattle.std.proofs.lemmas.Nat.{pow-add, pow_pos, pow_below, div-add-mod'}
 use Rattle.std.proofs.lemmas.Bool.{cases_lt}
-use Rattle.std.proofs.Math.Nat.{pow-succ', mod-eq_of_lt, mod-lt, div-lt_iff_lt-mul, mul-le-mul_left}
+use Rattle.std.proofs.Math.Nat.{pow-succ', mod-eq_of_lt, mod-lt, div-lt_iff_lt-mul, mul-le-mul_left, mul_assoc, add-mul}
 use Rattle.record_slots.specs.Spelling.{packed}
 use Rattle.record_slots.specs.Texts.{highest, rest_below, bytes_in, ends_there}
 
@@ -133,3 +133,35 @@ unpacked (suc places) (x ∷ xs) h few =
     let same = digits (256 ^ places) (word / 256 ^ places) x (word % 256 ^ places) (packed places xs) (mod-lt word (some_bytes places)) (packed_below places xs h.1) d in
     let r = unpacked places xs h.1 (omega arith) in
     (λ i. same.0 i ∷ ((ap (highest places (length xs)) same.1 ∙ r.0) i), ap (rest_below places (length xs)) same.1 ∙ r.1)
+
+no_packed : (n : ℕ) → packed n [] ≡ 0
+no_packed zero = refl
+no_packed (suc n) = refl
+
+-- the byte at a place is the highest of those from it on
+packed_at : (n place : ℕ) (bytes : List ℕ) → packed (suc n) (drop place bytes) ≡ get_or bytes place 0 * 256 ^ n + packed n (drop (suc place) bytes)
+packed_at n zero [] = let p = no_packed n in omega arith
+packed_at n zero (byte ∷ bytes) = refl
+packed_at n (suc place) [] = let p = no_packed n in omega arith
+packed_at n (suc place) (byte ∷ bytes) = packed_at n place bytes
+
+-- one byte more
+pub packed_more : (word byte n place whole : ℕ) (bytes : List ℕ) → byte ≡ get_or bytes place 0 → word * 256 ^ suc n + packed (suc n) (drop place bytes) ≡ whole → (word * 256 + byte) * 256 ^ n + packed n (drop (suc place) bytes) ≡ whole
+packed_more word byte n place whole bytes is before =
+    let more : word * 256 ^ suc n ≡ (word * 256) * 256 ^ n = ap (λ p. word * p) (pow-succ' 256 n) ∙ sym (mul_assoc word 256 (256 ^ n)) in
+    let at = packed_at n place bytes in
+    let byte_is : byte * 256 ^ n ≡ get_or bytes place 0 * 256 ^ n = ap (λ b. b * 256 ^ n) is in
+    let spread : (word * 256 + byte) * 256 ^ n ≡ (word * 256) * 256 ^ n + byte * 256 ^ n = add-mul (word * 256) byte (256 ^ n) in
+    omega arith
+
+bytes_mono : (n : ℕ) → n ≤ 7 → 256 ^ n ≤ 256 ^ 7
+bytes_mono n h = elim (cases_lt n 7) [
+  | inl lt ↦ let p : 2 ^ (8 * n) < 2 ^ 56 = pow_below (8 * n) 56 (omega arith) in let e = pow_bytes n in omega arith
+  | inr ge ↦ let e : n ≡ 7 = omega arith in let f : 256 ^ n ≡ 256 ^ 7 = ap (λ k. 256 ^ k) e in omega arith
+]
+
+pub word_room : (word n : ℕ) → n ≤ 7 → word < 256 ^ n → word * 256 + 256 ≤ 2 ^ 64
+word_room word n few fits = let m = bytes_mono n few in omega arith
+
+pub byte_more : (word byte n : ℕ) → byte < 256 → word < 256 ^ n → word * 256 + byte < 256 ^ suc n
+byte_more word byte n small fits = let e = pow-succ' 256 n in omega arith

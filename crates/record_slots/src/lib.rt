@@ -7,6 +7,8 @@ mod records;
 mod row;
 mod rules;
 mod texts;
+mod write;
 
 pub use read::from_words;
 pub use row::BadRow;
+pub use write::to_words;
