@@ -17,7 +17,7 @@ use Rattle.record_slots.specs.Texts.{bytes_in}
 use Rattle.record_slots.specs.Parts.{IsItem, IsRowIn}
 use Rattle.record_slots.proofs.TextLaws.{read_back}
 use Rattle.record_slots.proofs.ItemLaws.{first_ten, behind_ten}
-use Rattle.record_slots.proofs.RowLaws.{HasParts, parts_of, header_of, header_is, header_one}
+use Rattle.record_slots.proofs.RowLaws.{HasParts, row_length, parts_of, header_of, header_is, header_one}
 
 text_one : (x y : List ℕ) → IsShort x → IsShort y → length x ≡ length y → text_words 4 x ≡ text_words 4 y → x ≡ y
 text_one x y h g counts e =

@@ -3,7 +3,7 @@ use Rattle.std.proofs.Common.{◌≡◌, ◌==◌, ◌<◌, ◌≤◌, ◌+◌, 
 use Rattle.std.specs.Prelude.{◌&&◌, Option, Some, None}
 use Rattle.std.specs.List.{All}
 use Rattle.std.proofs.lemmas.Bool.{eqb-true}
-use Rattle.std.proofs.lemmas.List.{take-append-drop, drop-drop, length-take-le}
+use Rattle.std.proofs.lemmas.List.{take-append-drop, drop-drop, length-replicate}
 use Rattle.std.proofs.Math.Seq.{take-append_seam, drop-append_seam}
 use Rattle.arrayvec.specs.ArrayVec.{ArrayVec}
 use Rattle.base_page.specs.declared.item.Item.{Item}
@@ -142,3 +142,13 @@ take_whole (suc n) (x ∷ xs) h = ap (λ ys. x ∷ ys) (take_whole n xs (omega a
 -- a part up to the end is all that is behind its beginning
 pub up_to_end : (words : List ℕ) (from : ℕ) → length words ≡ 256 → take (256 - from) (drop from words) ≡ drop from words
 up_to_end words from all = let l = length-drop from words in take_whole (256 - from) (drop from words) (omega arith)
+
+pub row_length : (words : List ℕ) (row : Row) → IsRowIn words row → length words ≡ 256
+row_length words row is =
+    let few = is.is.few in
+    let rest = (parts_of words row is).rest in
+    let n : ℕ = 13 + 10 * length row.items.items in
+    let l : length (drop n words) ≡ 243 - 10 * length row.items.items = ap length rest ∙ length-replicate (243 - 10 * length row.items.items) 0 in
+    let d = length-drop n words in
+    let m : length words - n ≡ 243 - 10 * length row.items.items = sym d ∙ l in
+    omega (arith, m, few)

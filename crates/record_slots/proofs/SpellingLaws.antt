@@ -16,6 +16,7 @@ use Rattle.record_slots.specs.Spelling.{words_of}
 use Rattle.record_slots.specs.Spells.{IsShortItem, HasShortTexts, IsSpelling}
 use Rattle.record_slots.specs.Parts.{IsItem, IsRowOfParts, IsRowIn, IsRecordOf, row_of, words_of_row}
 use Rattle.record_slots.proofs.OneRow.{row_one}
+use Rattle.record_slots.proofs.RowLaws.{row_length}
 
 same_words : (content : Record) → words_of_row (row_of content) ≡ words_of content
 same_words (Base page) = refl
@@ -92,3 +93,46 @@ spelled_by words row content h r = record {
 
 pub record_spelled : (words : List ℕ) (row : Row) (content : Record) → IsRowIn words row → IsSpelling content words → IsRecordOf row content
 record_spelled words row content h s = record { spellable = s.spellable; are = row_one words (row_of content) row (row_spelled words content s) h }
+
+abbrev kind_of : Record → ℕ
+kind_of content = (row_of content).kind
+
+right_one : (one other : Option ℕ) → IfSome one IsPid → IfSome other IsPid → unwrap_or one 0 ≡ unwrap_or other 0 → one ≡ other
+right_one None None h g e = refl
+right_one None (Some other) h g e = let s = g.0 in absurd (omega arith)
+right_one (Some one) None h g e = let s = h.0 in absurd (omega arith)
+right_one (Some one) (Some other) h g e = ap Some e
+
+abbrev value_or_none : List Item → List ℕ
+value_or_none [] = []
+value_or_none (item ∷ items) = elim item.content [ Value value ↦ value | Child page held ↦ [] ]
+
+abbrev key_or_none : List Item → List ℕ
+key_or_none [] = []
+key_or_none (item ∷ items) = item.key
+
+-- a record has its parts alone
+parts_one : (one other : Record) → IsSpellable one → IsSpellable other → row_of one ≡ row_of other → one ≡ other
+parts_one (Base x) (Base y) h g e =
+    let right = right_one x.right y.right h.right g.right (λ i. (e i).page) in
+    λ i. Base (record { level = (e i).level; low = (e i).first; high = (e i).second; right = right i; removed = (h.alive ∙ sym g.alive) i; items = (e i).items.items })
+parts_one (Put x) (Put y) h g e = λ i. Put (record { next = (e i).next; key = ap (λ (row : Row). key_or_none row.items.items) e i; value = ap (λ (row : Row). value_or_none row.items.items) e i })
+parts_one (Delete x) (Delete y) h g e = λ i. Delete (record { next = (e i).next; key = (e i).first })
+parts_one (Split x) (Split y) h g e = λ i. Split (record { level = (e i).level; next = (e i).next; separator = (e i).first; page = (e i).page })
+parts_one (Term x) (Term y) h g e = λ i. Term (record { level = (e i).level; next = (e i).next; separator = (e i).first; child = (e i).page })
+parts_one (Hold x) (Hold y) h g e = λ i. Hold (record { level = (e i).level; next = (e i).next; separator = (e i).first; child = (e i).page })
+parts_one (Remove x) (Remove y) h g e = λ i. Remove (record { level = (e i).level; next = (e i).next })
+parts_one (Merge x) (Merge y) h g e =
+    let right = right_one x.right y.right h.3.right g.3.right (λ i. (e i).page) in
+    λ i. Merge (record { level = (e i).level; next = (e i).next; low = (e i).first; high = (e i).second; right = right i; items = (e i).items.items })
+parts_one (Unterm x) (Unterm y) h g e = λ i. Unterm (record { level = (e i).level; next = (e i).next; separator = (e i).first; child = (e i).page })
+parts_one one other h g e = let k : kind_of one ≡ kind_of other = ap (λ (row : Row). row.kind) e in absurd (omega arith)
+
+pub spelling_one : (one other : Record) (words : List ℕ) → IsSpelling one words → IsSpelling other words → one ≡ other
+spelling_one one other words h g = parts_one one other h.spellable g.spellable (row_one words (row_of one) (row_of other) (row_spelled words one h) (row_spelled words other g))
+
+pub spelling_there : (content : Record) → IsSpellable content → HasShortTexts content → IsSpelling content (words_of content)
+spelling_there content h s = record { spellable = h; short = s; are = refl }
+
+pub spelling_length : (content : Record) (words : List ℕ) → IsSpelling content words → length words ≡ 256
+spelling_length content words h = row_length words (row_of content) (row_spelled words content h)
