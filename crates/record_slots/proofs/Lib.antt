@@ -1,3 +1,4 @@
+pub mod Flags
 pub mod ItemLaws
 pub mod ListLaws
 pub mod OneRow

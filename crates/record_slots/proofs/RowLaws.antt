@@ -13,14 +13,7 @@ use Rattle.record_slots.specs.Spelling.{field_words, bound_words, items_words}
 use Rattle.record_slots.specs.Texts.{IsField, IsBound}
 use Rattle.record_slots.specs.Parts.{are_zeros, IsItem, AreItemsIn, IsHeaderIn, IsNumberIn, IsRowOfParts, IsRowIn, words_of_row}
 use Rattle.record_slots.proofs.ItemLaws.{items_length}
-
-left : (a b : Bool) → a && b ≡ true → a ≡ true
-left true b h = refl
-left false b h = h
-
-right : (a b : Bool) → a && b ≡ true → b ≡ true
-right true b h = h
-right false b h = cc
+use Rattle.record_slots.proofs.Flags.{left, right}
 
 zeros_are : (words : List ℕ) → are_zeros words ≡ true → words ≡ replicate (length words) 0
 zeros_are [] h = refl

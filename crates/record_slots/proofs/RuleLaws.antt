@@ -10,17 +10,7 @@ use Rattle.base_page.specs.Pages.{Page, IsPage, AreItems, IsOfLevel}
 use Rattle.base_page.specs.Rules.{AreApart, AreTerms, IsFirstAt, IsRuled, is_held, held_count}
 use Rattle.base_page.proofs.KeyLaws.{same, itself}
 use Rattle.record_slots.specs.Rules.{are_within, are_apart_after, are_terms, starts_at}
-
-left : (a b : Bool) → a && b ≡ true → a ≡ true
-left true b h = refl
-left false b h = h
-
-right : (a b : Bool) → a && b ≡ true → b ≡ true
-right true b h = h
-right false b h = cc
-
-both : (a b : Bool) → a ≡ true → b ≡ true → a && b ≡ true
-both a b h g = (λ i. h i && b) ∙ g
+use Rattle.record_slots.proofs.Flags.{left, right, both}
 
 pub within_all : (low : List ℕ) (high : Option (List ℕ)) (items : List Item) → are_within low high items ≡ true → All (λ item. IsTrue (is_in_range low high item.key)) items
 within_all low high [] h = All-nil (λ (item : Item). IsTrue (is_in_range low high item.key))
@@ -47,21 +37,17 @@ apart_from last (item ∷ next ∷ items) h =
     unheld true false e h = refl
     unheld false b e h = cc
 
+not_both : (a b : Bool) → (a ≡ true → b ≡ false) → not (a && b) ≡ true
+not_both true b h = ap not (h refl)
+not_both false b h = refl
+
 apart_test : (last : Bool) (items : List Item) → ((item : Item) (rest : List Item) → items ≡ item ∷ rest → last ≡ true → is_held item.content ≡ false) → AreApart items → are_apart_after last items ≡ true
 apart_test last [] f h = refl
-apart_test last (item ∷ []) f h = both (not (last && is_held item.content)) true (unheld last (is_held item.content) (f item [] refl)) refl
-  where
-    unheld : (a b : Bool) → (a ≡ true → b ≡ false) → not (a && b) ≡ true
-    unheld true b h = ap not (h refl)
-    unheld false b h = refl
+apart_test last (item ∷ []) f h = both (not (last && is_held item.content)) true (not_both last (is_held item.content) (f item [] refl)) refl
 apart_test last (item ∷ next ∷ items) f h =
-    both (not (last && is_held item.content)) (are_apart_after (is_held item.content) (next ∷ items)) (unheld last (is_held item.content) (f item (next ∷ items) refl))
+    both (not (last && is_held item.content)) (are_apart_after (is_held item.content) (next ∷ items)) (not_both last (is_held item.content) (f item (next ∷ items) refl))
     (apart_test (is_held item.content) (next ∷ items) (λ other rest e held. subst (λ (i : Item). is_held i.content ≡ false) (heads e) (h.0 held)) h.1)
   where
-    unheld : (a b : Bool) → (a ≡ true → b ≡ false) → not (a && b) ≡ true
-    unheld true b h = ap not (h refl)
-    unheld false b h = refl
-
     heads : {a b : Item} {xs ys : List Item} → a ∷ xs ≡ b ∷ ys → a ≡ b
     heads e = cc
 

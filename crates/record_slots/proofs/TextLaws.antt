@@ -8,6 +8,7 @@ use Rattle.bw_model.specs.Bytes.{IsShort}
 use Rattle.record_slots.specs.Spelling.{packed, text_words}
 use Rattle.record_slots.specs.Texts.{IsText, highest, rest_below, bytes_in, ends_there}
 use Rattle.record_slots.proofs.WordLaws.{AreBytes, highest_length, highest_bytes, whole_word, unpacked}
+use Rattle.record_slots.proofs.Flags.{left, right}
 
 none : (xs : List ℕ) → length xs ≤ 0 → xs ≡ []
 none [] h = refl
@@ -70,14 +71,6 @@ module _ (xs ys : List ℕ) (count : ℕ) (counts : length xs ≡ min count 8) (
     | inl few ↦ ap (drop 8) (append_none xs ys (others (omega arith))) ∙ drop_all 8 xs (omega arith) ∙ sym (others (omega arith))
     | inr full ↦ drop_full 8 xs ys (omega arith)
   ]
-
-left : (a b : Bool) → a && b ≡ true → a ≡ true
-left true b h = refl
-left false b h = h
-
-right : (a b : Bool) → a && b ≡ true → b ≡ true
-right true b h = h
-right false b h = cc
 
 pub record SpellsBytes (n count : ℕ) (words : List ℕ) : Type 0 where
   pub are : text_words n (bytes_in count words) ≡ words

@@ -108,6 +108,6 @@ pub record IsLinkOf (row : Row) : Type 0 where
   pub bare : IsBare row
 
 -- the right that the number stands for: 0 for none
-pub record IsRightOf (page : ℕ) (right : Option ℕ) : Type 0 where
+pub record IsRightIn (page : ℕ) (right : Option ℕ) : Type 0 where
   pub pid : IfSome right IsPid
   pub is : unwrap_or right 0 ≡ page

@@ -4,7 +4,7 @@ ghost use Rattle.std.specs.List.{All};
 ghost use Rattle.base_page.specs.declared.item.Content.TheVariants as kind;
 ghost use Rattle.base_page.specs.Pages.{IsOfLevel};
 ghost use Rattle.base_page.specs.Rules.{IsRuled};
-ghost use Rattle.record_slots.specs.Parts.{IsBare, IsLinkOf, IsRecordOf, IsRightOf, IsRowOfParts};
+ghost use Rattle.record_slots.specs.Parts.{IsBare, IsLinkOf, IsRecordOf, IsRightIn, IsRowOfParts};
 ghost use Rattle.record_slots.specs.Spells.{FindsOne};
 
 use crate::BadRow;
@@ -222,7 +222,7 @@ fn is_empty_bound(bound: &Option<Key>) -> bool
 /// The PID of the page to the right, where 0 is none.
 fn right_in(page: u16) -> Option<u16>
     requires { page < 4096 }
-    ensures { IsRightOf page result }
+    ensures { IsRightIn page result }
 {
     if page == 0 { None } else { Some(page) }
 }
