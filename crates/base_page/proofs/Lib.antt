@@ -4,3 +4,4 @@ pub mod ItemLaws
 pub mod KeyLaws
 pub mod PageLaws
 pub mod PlaceLaws
+pub mod OrderLaws

@@ -1,5 +1,5 @@
 //! The ordered items of one page.
-ghost use Rattle.std.specs.Prelude.{◌≡◌, ◌+◌, ◌++◌, ◌<◌, ◌≤◌, ◌==◌, [], ℕ, List, Some, None, if◌then◌else◌, length, take, drop, is_some, option_copied, IfOk, IfErr};
+ghost use Rattle.std.specs.Prelude.{◌≡◌, ◌+◌, ◌++◌, ◌<◌, ◌≤◌, ◌==◌, [], ℕ, List, Some, None, if◌then◌else◌, length, take, drop, is_some, option_copied, IfOk, IfErr, MatchOption};
 ghost use Rattle.std.specs.Ordering.{is_eq};
 ghost use Rattle.bw_model.specs.Bytes.{key_cmp};
 ghost use Rattle.base_page.specs.Pages.{child_in, content_at, AreItems};
@@ -43,6 +43,19 @@ impl Items {
         Items {
             items: ArrayVec::new(),
         }
+    }
+
+    /// These items, where each key is below the one after it.
+    pub fn ordered(items: ArrayVec<Item, MAX_ITEMS>) -> Option<Items>
+        ensures { MatchOption result (AreItems items.items → ⊥)
+            (λ ordered. (ordered ≡ items.items) × AreItems ordered) }
+    {
+        for place in 1..items.len() {
+            if !items[place - 1].key.cmp(&items[place].key).is_lt() {
+                return None;
+            }
+        }
+        Some(Items { items })
     }
 
     /// The items in order.

@@ -340,3 +340,16 @@ has_child chain page passes m rules index passing Q None h =
     let none : child_in (content_at page.items page.low) ≡ None = h.none page.low (rw m.low passing) in
     let clash : None ≡ Some first.0 = sym none ∙ ap child_in first.2 in
     absurd cc
+
+nothing : (deltas : List Record) → length deltas ≡ 0 → deltas ≡ []
+nothing [] h = refl
+nothing (delta ∷ deltas) h = absurd (omega arith)
+
+-- where no delta stands over the base, the chain makes the base
+pub base_alone : (deltas : List Record) (base : Page) (chain : List Record) → IsFitted (over deltas base) → length deltas ≡ 0 → over deltas base ≡ chain → Makes chain base × IsRuled base
+base_alone deltas base chain fitted none is =
+    let empty = nothing deltas none in
+    let bare : over [] base ≡ chain = ap (λ (ds : List Record). over ds base) (sym empty) ∙ is in
+    let fits : IsFitted (over [] base) = subst (λ (ds : List Record). IsFitted (over ds base)) empty fitted in
+    let makes : Makes (over [] base) base = base_makes [] base fits in
+    (subst (λ (records : List Record). Makes records base) bare makes, ruled (over [] base) base fits makes)

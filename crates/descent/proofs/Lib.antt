@@ -10,3 +10,4 @@ pub mod Spending
 pub mod Reading
 pub mod Keeping
 pub mod Writing
+pub mod TestedRounds

@@ -85,6 +85,18 @@ impl Descent {
         }
     }
 
+    /// The page whose slot is asked for.
+    #[cfg(test)]
+    pub(crate) fn asked(&self) -> Option<u16> {
+        match &self.state {
+            State::Page { visit } => match visit.step() {
+                Step::Slot(pid) => Some(pid),
+                _ => None,
+            },
+            _ => None,
+        }
+    }
+
     /// Goes on to a page.
     pub(crate) fn go_to(&mut self, pid: u16)
         requires some { 0 < pid }

@@ -11,6 +11,9 @@ ghost use Rattle.descent.specs.declared.descent.State.TheVariants.{Root};
 ghost use Rattle.descent.specs.WriteRounds.{CanSee, CanTreat, Follows, HasCome, IsFinished, IsLong, IsSame, IsTold, Responds, Sees, Shows, Spends, Treats, beside, wanted};
 ghost use Rattle.descent.specs.Ways.{StaysLeft};
 
+#[cfg(test)]
+mod tests;
+
 use crate::Sight;
 use crate::descent::Descent;
 use crate::way::{child_on_way, right_on_way};

@@ -6,7 +6,7 @@ use Rattle.bw_model.specs.declared.step.Answer.TheVariants as answer
 use Rattle.deltas.specs.declared.record.Record.{Record}
 use Rattle.chain_search.specs.Fitting.{Fits}
 use Rattle.chain_search.specs.Knowledge.{Knowledge, learn}
-use Rattle.installs.specs.Changes.{Change, Follows, IsSame, IsSound, IsTarget, Shows, head_of, linked_number, needs_pid, slot_of, wanted, wanted_at}
+use Rattle.installs.specs.Changes.{Change, Follows, IsSame, IsSoundChange, IsTarget, Shows, head_of, linked_number, needs_pid, slot_of, wanted, wanted_at}
 use Rattle.installs.specs.Moves.{Moved, decided_by, moved, whether_in}
 use Rattle.installs.specs.Spares.{Spares}
 use Rattle.installs.specs.declared.change.End.{End}
@@ -26,7 +26,7 @@ module _ (actor : ℕ) (limits : Limits) (k : Knowledge) (plan : Plan) (spares :
   abbrev pub FollowsTo : State → Answer Record → Moved → Type 0
   FollowsTo state told now = Follows actor k (learn k (wanted_at plan spares state) told) (change state) told (change now.state) now.spares now.end
 
-  decided : (won : Bool) → IsSound (change state.Link) spares → IsTarget limits plan → Shows actor (change state.Link) spares k → Fits limits k (wanted_at plan spares state.Link) (answer.Whether won) → FollowsTo state.Link (answer.Whether won) (decided_by plan spares won)
+  decided : (won : Bool) → IsSoundChange (change state.Link) spares → IsTarget limits plan → Shows actor (change state.Link) spares k → Fits limits k (wanted_at plan spares state.Link) (answer.Whether won) → FollowsTo state.Link (answer.Whether won) (decided_by plan spares won)
   decided true sound target h fits =
       let may = may_link actor limits k plan spares sound.room sound.state h.may h.keeps h.are target h.stands.0 h.stands.1 in
       won_at actor limits k spares sound.room h.are plan sound.state target h.keeps may h.stands.0 h.stands.1 fits
@@ -36,7 +36,7 @@ module _ (actor : ℕ) (limits : Limits) (k : Knowledge) (plan : Plan) (spares :
       lost true is = rw is (lost_ready actor limits k plan spares sound.room sound.state h.may h.keeps h.are h.stands.0)
       lost false is = rw is (lost_bare actor limits k plan spares sound.room sound.state h.may h.keeps h.are is h.stands.0)
 
-  follows_at : (state : State) (told : Answer Record) → IsSound (change state) spares → IsTarget limits plan → Shows actor (change state) spares k → Fits limits k (wanted_at plan spares state) told → FollowsTo state told (moved limits plan spares state told)
+  follows_at : (state : State) (told : Answer Record) → IsSoundChange (change state) spares → IsTarget limits plan → Shows actor (change state) spares k → Fits limits k (wanted_at plan spares state) told → FollowsTo state told (moved limits plan spares state told)
   follows_at (state.Taking taking) told sound target h fits = finds actor limits k plan spares h.may h.keeps h.are h.stands.0 taking told sound.state.1 h.stands.1 fits
   follows_at state.Base told sound target h fits = base_placed actor limits k plan spares sound.room sound.state.0 h.may h.keeps h.are told sound.state.1 h.stands
   follows_at state.Ready told sound target h fits = slot_set actor limits k plan spares sound.room sound.state.0 h.may h.keeps h.are told sound.state.1 h.stands.0 h.stands.1 fits
@@ -51,6 +51,6 @@ module _ (old new : Change) (had has : Spares) (told : Answer Record) (end : Opt
   pub only_state : new ≡ record old { state = new.state }
   only_state = λ i. record { limits = same.limits i; plan = same.plan i; state = new.state }
 
-  pub follows : (actor : ℕ) (k : Knowledge) → IsSound old had → IsTarget old.limits old.plan → Shows actor old had k → Fits old.limits k (wanted old had) told → Follows actor k (learn k (wanted old had) told) old told new has end
+  pub follows : (actor : ℕ) (k : Knowledge) → IsSoundChange old had → IsTarget old.limits old.plan → Shows actor old had k → Fits old.limits k (wanted old had) told → Follows actor k (learn k (wanted old had) told) old told new has end
   follows actor k sound target h fits =
       rw only_state (subst (λ (now : Moved). Follows actor k (learn k (wanted old had) told) old told (record old { state = now.state }) now.spares now.end) is (follows_at actor old.limits k old.plan had old.state told sound target h fits))

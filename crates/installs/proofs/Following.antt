@@ -13,7 +13,7 @@ use Rattle.chain_search.specs.Discipline.{IsOwn, IsUnset, MayExchange}
 use Rattle.chain_search.specs.Fitting.{Fits}
 use Rattle.chain_search.specs.Knowledge.{Belongings, Knowledge, OwnPage, OwnRow, Written, Empty, Ready, learn, set_page}
 use Rattle.smo.specs.Splits.{split_to}
-use Rattle.installs.specs.Changes.{AreEnough, Change, GoesOn, IsLike, IsOver, IsPlaced, StandsReady, IsSound, IsTarget, KeepsSpare, MayChange, MayLinkAs, Shows, ShowsState, base_row, head_of, linked_after, linked_number, needs_pid, new_base, new_record, rows_needed, slot_of, wanted_at}
+use Rattle.installs.specs.Changes.{AreEnough, Change, GoesOn, IsLike, IsOver, IsPlaced, StandsReady, IsSoundChange, IsTarget, KeepsSpare, MayChange, MayLinkAs, Shows, ShowsState, base_row, head_of, linked_after, linked_number, needs_pid, new_base, new_record, rows_needed, slot_of, wanted_at}
 use Rattle.installs.specs.Moves.{after_ready}
 use Rattle.installs.specs.Spares.{AreSpare, AreTheSpares, AreUnset, HaveRoom, IsUnlinked, Spares, first_row, last_row, pid_of}
 use Rattle.installs.specs.declared.change.End.TheVariants as end
@@ -233,7 +233,7 @@ module _ (actor : ℕ) (limits : Limits) (k : Knowledge) (plan : Plan) (spares :
       links (Root left root) some may is target ready placed = may k (pid_of spares) (last_row spares) (like_self k) (is refl) ready.0 ready.1
 
 -- a change whose deciding exchange is wanted may ask for it
-pub may_decide : (actor : ℕ) (change : Change) (spares : Spares) (k : Knowledge) → change.state ≡ state.Link → IsSound change spares → IsTarget change.limits change.plan → Shows actor change spares k
+pub may_decide : (actor : ℕ) (change : Change) (spares : Spares) (k : Knowledge) → change.state ≡ state.Link → IsSoundChange change spares → IsTarget change.limits change.plan → Shows actor change spares k
     → (k.inside ≡ true) × MayExchange actor k (slot_of change.plan) (head_of change.plan) (linked_number change.plan spares)
 may_decide actor change spares k is sound target shows =
     let enough : AreEnough change.plan spares = rw is at sound.state in

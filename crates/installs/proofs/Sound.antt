@@ -13,7 +13,7 @@ use Rattle.bw_model.specs.declared.step.Answer.{Answer}
 use Rattle.deltas.specs.declared.record.Record.{Record}
 use Rattle.chain_search.specs.Fitting.{Fits, FitsWord}
 use Rattle.chain_search.specs.Knowledge.{Knowledge}
-use Rattle.installs.specs.Changes.{AreEnough, Change, IsMissing, IsSame, IsSound, IsSoundState, IsTarget, needs_pid, rows_needed, wanted, wanted_at}
+use Rattle.installs.specs.Changes.{AreEnough, Change, IsMissing, IsSame, IsSoundChange, IsSoundState, IsTarget, needs_pid, rows_needed, wanted, wanted_at}
 use Rattle.installs.specs.Moves.{Moved, after_ready, after_taking, decided_by, first_state, moved, moved_by, unused, whether_in, with_number}
 use Rattle.installs.specs.Spares.{HaveRoom, Spares}
 use Rattle.installs.specs.Taking.{IsSoundFound, IsSoundTaking, count_of, found_after, kind_of, wanted_number}
@@ -164,16 +164,16 @@ module _ (limits : Limits) (plan : Plan) where
       by_answer false = by_need (needs_pid plan) refl
   stays_at spares state.Undo told k fits room sound target = (room, tt)
 
-module _ (old new : Change) (had has : Spares) (told : Answer Record) (end : Option End) (is : moved old.limits old.plan had old.state told ≡ record { state = new.state; spares = has; end = end }) (same : IsSame old new) (k : Knowledge) (fits : Fits old.limits k (wanted old had) told) (sound : IsSound old had) (target : IsTarget old.limits old.plan) where
+module _ (old new : Change) (had has : Spares) (told : Answer Record) (end : Option End) (is : moved old.limits old.plan had old.state told ≡ record { state = new.state; spares = has; end = end }) (same : IsSame old new) (k : Knowledge) (fits : Fits old.limits k (wanted old had) told) (sound : IsSoundChange old had) (target : IsTarget old.limits old.plan) where
   stays : HaveRoom old.limits has × IfNone end (IsSoundState old.limits old.plan has new.state)
   stays = subst (λ (now : Moved). StaysSound old.limits old.plan now) is (stays_at old.limits old.plan had old.state told k fits sound.room sound.state target)
 
   pub room_stays : HaveRoom old.limits has
   room_stays = stays.0
 
-  pub sound_stays : IfNone end (IsSound new has)
+  pub sound_stays : IfNone end (IsSoundChange new has)
   sound_stays = by_end end stays.1
     where
-      by_end : (end : Option End) → IfNone end (IsSoundState old.limits old.plan has new.state) → IfNone end (IsSound new has)
+      by_end : (end : Option End) → IfNone end (IsSoundState old.limits old.plan has new.state) → IfNone end (IsSoundChange new has)
       by_end None h = rw (only_state old new had has told end is same) (record { room = stays.0; state = h })
       by_end (Some end) h = tt

@@ -11,7 +11,7 @@ use Rattle.chain_search.specs.Fitting.{Fits, FitsWord}
 use Rattle.chain_search.specs.Knowledge.{Knowledge}
 use Rattle.chain_search.specs.Recalled.{Recalled, WasFree, WasHead, recall}
 use Rattle.installs.specs.Bounded.{IsApart, RecallsAt, Spends, SpendsTo, left_at, numbers_missing, pid_taken, pids_missing}
-use Rattle.installs.specs.Changes.{AreEnough, Change, IsMissing, IsSame, IsSound, head_of, linked_number, needs_pid, rows_needed, slot_of, wanted, wanted_at}
+use Rattle.installs.specs.Changes.{AreEnough, Change, IsMissing, IsSame, IsSoundChange, head_of, linked_number, needs_pid, rows_needed, slot_of, wanted, wanted_at}
 use Rattle.installs.specs.Moves.{Moved, after_ready, after_taking, decided_by, first_state, moved, moved_by, whether_in, with_number}
 use Rattle.installs.specs.Spares.{HaveRoom, Spares, pid_of}
 use Rattle.installs.specs.Taking.{IsSoundTaking, count_of, found_after, kind_of, recalled_words, wanted_number}
@@ -186,7 +186,7 @@ module _ (limits : Limits) (plan : Plan) (spares : Spares) (after : ℕ) (r : Re
       lost true is = rw is (record { at = tt; apart = apart }, inr (h, omega arith))
       lost false is = rw is (inl h)
 
-  spends_at : (state : State) (told : Answer Record) (k : Knowledge) → Fits limits k (wanted_at plan spares state) told → IsSound (change state) spares → RecallsAt r plan state → IsApart plan (pid_taken (wanted_at plan spares state) told) → SpendsSo state told (moved limits plan spares state told)
+  spends_at : (state : State) (told : Answer Record) (k : Knowledge) → Fits limits k (wanted_at plan spares state) told → IsSoundChange (change state) spares → RecallsAt r plan state → IsApart plan (pid_taken (wanted_at plan spares state) told) → SpendsSo state told (moved limits plan spares state told)
   spends_at (state.Taking taking) told k fits sound h far = takes taking told k fits sound.state.0 sound.state.1 h far
   spends_at state.Base told k fits sound h far = (record { at = h; apart = apart }, inl (omega arith))
   spends_at state.Ready told k fits sound h far = set sound.state.0 sound.state.1 sound.room told h
@@ -195,6 +195,6 @@ module _ (limits : Limits) (plan : Plan) (spares : Spares) (after : ℕ) (r : Re
   spends_at state.Undo told k fits sound h far = inr (omega arith)
 
 module _ (old new : Change) (had has : Spares) (told : Answer Record) (end : Option End) (is : moved old.limits old.plan had old.state told ≡ record { state = new.state; spares = has; end = end }) (same : IsSame old new) where
-  pub spends : (k : Knowledge) → Fits old.limits k (wanted old had) told → IsSound old had → Spends old had told new has end
+  pub spends : (k : Knowledge) → Fits old.limits k (wanted old had) told → IsSoundChange old had → Spends old had told new has end
   spends k fits sound = λ after r h far.
       rw (only_state old new had has told end is same) (subst (λ (now : Moved). SpendsTo after r old had told (record old { state = now.state }) now.spares now.end) is (spends_at old.limits old.plan had after r h.apart old.state told k fits sound h.at far))

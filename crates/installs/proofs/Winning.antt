@@ -10,7 +10,7 @@ use Rattle.chain_search.specs.Discipline.{MayExchange}
 use Rattle.chain_search.specs.Fitting.{Fits}
 use Rattle.chain_search.specs.Knowledge.{Belongings, Knowledge, Foreign, Written, Other, Ready, Gone, learn, linked_over}
 use Rattle.smo.specs.Splits.{split_to}
-use Rattle.installs.specs.Changes.{AreEnough, IsKept, IsOver, IsPlaced, StandsReady, IsTarget, KeepsSpare, head_of, linked_number, slot_of, wanted_at}
+use Rattle.installs.specs.Changes.{AreEnough, KeepsSparePage, IsOver, IsPlaced, StandsReady, IsTarget, KeepsSpare, head_of, linked_number, slot_of, wanted_at}
 use Rattle.installs.specs.Moves.{unused}
 use Rattle.installs.specs.Spares.{AreTheSpares, AreUnset, HaveRoom, Spares, first_row, last_row, pid_of}
 use Rattle.installs.specs.declared.change.End.TheVariants as end
@@ -35,7 +35,7 @@ rows_two (a ∷ b ∷ []) some few = (refl, refl)
 rows_two (a ∷ b ∷ c ∷ rows) some few = absurd (omega (arith, few))
 
 -- the spare PID isn't that of the term
-kept_apart : (child : ℕ) (unterm : _) (pid : Option ℕ) → IsKept (kind.Unterm unterm) pid → pid ≡ Some unterm.child → ⊥
+kept_apart : (child : ℕ) (unterm : _) (pid : Option ℕ) → KeepsSparePage (kind.Unterm unterm) pid → pid ≡ Some unterm.child → ⊥
 kept_apart child unterm None h e = cc
 kept_apart child unterm (Some pid) h e = h (cc)
 
@@ -48,7 +48,7 @@ unset_gone own page bare = λ other row e. elim (cases_eq other page) [
 
 module _ (actor : ℕ) (limits : Limits) (k : Knowledge) (spares : Spares) (room : HaveRoom limits spares) (are : AreTheSpares k.own spares) where
   -- a record is linked over a page's newest row
-  over_row : (pid head : ℕ) (content : Record) → 1 ≤ length spares.rows → IsTarget limits (Install pid head content) → IsKept content spares.pid → MayExchange actor k pid head (last_row spares) → AreUnset k.own → k.own.rows (last_row spares) ≡ Written content
+  over_row : (pid head : ℕ) (content : Record) → 1 ≤ length spares.rows → IsTarget limits (Install pid head content) → KeepsSparePage content spares.pid → MayExchange actor k pid head (last_row spares) → AreUnset k.own → k.own.rows (last_row spares) ≡ Written content
       → IsOver k (linked_over (Written content) head (last_row spares) k) (record { limits = limits; plan = Install pid head content; state = state.Link }) (answer.Whether true) (unused (Install pid head content) spares) end.Won
   over_row pid head content some target kept may bare placed = by_content content kept placed
     where
@@ -58,7 +58,7 @@ module _ (actor : ℕ) (limits : Limits) (k : Knowledge) (spares : Spares) (room
       linked : AreTheSpares (record k.own { rows = replaced_at (last_row spares) Foreign k.own.rows }) (record spares { rows = front })
       linked = last_linked k.own spares are (last_row spares) front (rows_last spares.rows some room.few)
 
-      by_content : (content : Record) → IsKept content spares.pid → k.own.rows (last_row spares) ≡ Written content
+      by_content : (content : Record) → KeepsSparePage content spares.pid → k.own.rows (last_row spares) ≡ Written content
           → IsOver k (linked_over (Written content) head (last_row spares) k) (record { limits = limits; plan = Install pid head content; state = state.Link }) (answer.Whether true) (unused (Install pid head content) spares) end.Won
       by_content (kind.Base base) kept placed = record { like = record { inside = refl; read = refl; command = refl; linked_now = refl }; rest = record { are = linked; unset = bare }; decided = (refl, refl) }
       by_content (kind.Put put) kept placed = record { like = record { inside = refl; read = refl; command = refl; linked_now = refl }; rest = record { are = linked; unset = bare }; decided = (refl, refl) }

@@ -136,7 +136,7 @@ IsSoundState limits plan spares Link = AreEnough plan spares
 IsSoundState limits plan spares Undo = AreEnough plan spares × (needs_pid plan ≡ true)
 
 -- A change and the spares of its actor.
-pub record IsSound (change : Change) (spares : Spares) : Type 0 where
+pub record IsSoundChange (change : Change) (spares : Spares) : Type 0 where
   pub room : HaveRoom change.limits spares
   pub state : IsSoundState change.limits change.plan spares change.state
 
@@ -171,12 +171,12 @@ pub record MayChange (actor : ℕ) (k : Knowledge) (plan : Plan) : Type 0 where
   pub links : MayLinkAs actor k plan
 
 -- The spare PID isn't that of a page whose term is to go.
-abbrev pub IsKept : Record → Option ℕ → Type 0
-IsKept (kind.Unterm unterm) (Some pid) = unterm.child ≡ pid → ⊥
-IsKept content pid = ⊤
+abbrev pub KeepsSparePage : Record → Option ℕ → Type 0
+KeepsSparePage (kind.Unterm unterm) (Some pid) = unterm.child ≡ pid → ⊥
+KeepsSparePage content pid = ⊤
 
 abbrev pub KeepsSpare : Plan → Option ℕ → Type 0
-KeepsSpare (Install page head content) pid = IsKept content pid
+KeepsSpare (Install page head content) pid = KeepsSparePage content pid
 KeepsSpare plan pid = ⊤
 
 -- The new page has its base in its slot; where the plan brings none, no own page has a row in its slot.

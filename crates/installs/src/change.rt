@@ -7,7 +7,7 @@ ghost use Rattle.chain_search.specs.Fitting.{Fits};
 ghost use Rattle.chain_search.specs.Knowledge.{Knowledge, learn};
 ghost use Rattle.chain_search.specs.Recalled.{Recalled, WasHead};
 ghost use Rattle.installs.specs.Bounded.{IsApart, IsPidFrom, Recalls, Spends, pid_taken, steps_left};
-ghost use Rattle.installs.specs.Changes.{Follows, IsOfChange, IsSame, IsSound, IsTarget, IsTold, KeepsSpare, MayChange, Shows, at, base_row, head_of, linked_number, slot_of, wanted};
+ghost use Rattle.installs.specs.Changes.{Follows, IsOfChange, IsSame, IsSoundChange, IsTarget, IsTold, KeepsSpare, MayChange, Shows, at, base_row, head_of, linked_number, slot_of, wanted};
 ghost use Rattle.installs.specs.Moves.{after_ready, decided_by, first_state, moved, moved_by};
 ghost use Rattle.installs.specs.Spares.{HaveRoom, Rest};
 ghost use Rattle.installs.specs.Taking.{found_after};
@@ -71,7 +71,7 @@ impl Change {
         requires target { IsTarget limits.now plan }
         requires room { HaveRoom limits.now spares.now }
         ensures shows { (actor : ℕ) (k : Knowledge) → MayChange actor k plan → KeepsSpare plan spares.now.pid → Rest k.own spares.now → Shows actor result spares.now k }
-        ensures sound { IsSound result spares.now }
+        ensures sound { IsSoundChange result spares.now }
         ensures limits { result.limits ≡ limits.now }
         ensures plan { result.plan ≡ plan }
         ensures recalls { (r : Recalled) → WasHead r (slot_of plan) (head_of plan) → IsApart plan spares.now.pid → Recalls result spares.now r }
@@ -87,7 +87,7 @@ impl Change {
 
     /// The step that the change wants next.
     pub fn step(&self, spares: &Spares) -> Step<Record>
-        requires sound { IsSound self.now spares.now }
+        requires sound { IsSoundChange self.now spares.now }
         ensures wanted { result ≡ wanted self.now spares.now }
         ensures within { IsWithin self.now.limits result }
         ensures may { (actor : ℕ) (k : Knowledge) → Shows actor self.now spares.now k → May actor k result }
@@ -110,10 +110,10 @@ impl Change {
 
     /// Takes the answer to the step wanted last, and tells whether the change has ended.
     pub fn next(&mut self, spares: &mut Spares, answer: Answer<Record>) -> Option<End>
-        requires sound { IsSound self.old spares.old }
+        requires sound { IsSoundChange self.old spares.old }
         requires told { IsTold self.old spares.old answer }
         ensures follows { (actor : ℕ) (k : Knowledge) → Shows actor self.old spares.old k → Fits self.old.limits k (wanted self.old spares.old) answer → Follows actor k (learn k (wanted self.old spares.old) answer) self.old answer self.new spares.new result }
-        ensures sound { IfNone result (IsSound self.new spares.new) }
+        ensures sound { IfNone result (IsSoundChange self.new spares.new) }
         ensures room { HaveRoom self.old.limits spares.new }
         ensures same { IsSame self.old self.new }
         ensures pid { IsPidFrom spares.old.pid (pid_taken (wanted self.old spares.old) answer) spares.new.pid }
@@ -127,7 +127,7 @@ impl Change {
 
     /// Goes to the state that follows.
     fn move_on(&mut self, spares: &mut Spares, answer: Answer<Record>) -> Option<End>
-        requires sound { IsSound self.old spares.old }
+        requires sound { IsSoundChange self.old spares.old }
         requires told { IsTold self.old spares.old answer }
         ensures moved { moved self.old.limits self.old.plan spares.old self.old.state answer ≡ record { state = self.new.state; spares = spares.new; end = result } }
         ensures same { IsSame self.old self.new }
@@ -148,7 +148,7 @@ impl Change {
     /// Goes on with a taking; what was taken is a spare.
     fn take(&mut self, spares: &mut Spares, taking: Taking, answer: Answer<Record>) -> Option<End>
         requires state { self.old.state ≡ State.Taking taking }
-        requires sound { IsSound self.old spares.old }
+        requires sound { IsSoundChange self.old spares.old }
         requires told { IsTold self.old spares.old answer }
         ensures moved { moved_by self.old.plan spares.old self.old.state (found_after self.old.limits taking answer) ≡ record { state = self.new.state; spares = spares.new; end = result } }
         ensures same { IsSame self.old self.new }

@@ -1,6 +1,5 @@
 //! Changes step by step, over a memory in which a few numbers are free.
-ghost use Rattle.std.specs.Prelude.{◌≡◌, ◌≤◌, ℕ};
-ghost use Rattle.bw_model.specs.declared.limits.Limits.{Limits as LimitsSeen};
+ghost use Rattle.std.specs.Prelude.{◌≤◌, ℕ};
 ghost use Rattle.chain_search.specs.Fitting.{Fits, FitsWord};
 ghost use Rattle.chain_search.specs.Knowledge.{nothing};
 ghost use Rattle.installs.specs.Changes.{IsOfChange, IsTarget};
@@ -94,16 +93,14 @@ fn drive(
 }
 
 /// The smallest limits.
-fn limits() -> Limits
-    ensures pids { result.pids ≡ 64 }
-    ensures rows { result.rows ≡ 64 }
-{
+fn smallest() -> Limits {
     Limits::new(1, 64, 64, 1).unwrap()
 }
 
-fn install() -> Plan
-    ensures { (limits : LimitsSeen) → limits.pids ≡ 64 → limits.rows ≡ 64 → IsTarget limits result }
+fn install(limits: &Limits) -> Plan
+    ensures { IsTarget limits.now result }
 {
+    let _ = limits;
     Plan::Install {
         pid: 1,
         head: 7,
@@ -111,9 +108,10 @@ fn install() -> Plan
     }
 }
 
-fn split() -> Plan
-    ensures { (limits : LimitsSeen) → limits.pids ≡ 64 → limits.rows ≡ 64 → IsTarget limits result }
+fn split(limits: &Limits) -> Plan
+    ensures { IsTarget limits.now result }
 {
+    let _ = limits;
     Plan::Split {
         pid: 1,
         plan: SplitPlan {
@@ -123,9 +121,10 @@ fn split() -> Plan
     }
 }
 
-fn root() -> Plan
-    ensures { (limits : LimitsSeen) → limits.pids ≡ 64 → limits.rows ≡ 64 → IsTarget limits result }
+fn root(limits: &Limits) -> Plan
+    ensures { IsTarget limits.now result }
 {
+    let _ = limits;
     Plan::Root {
         left: 1,
         root: Page::empty_leaf(),
@@ -138,8 +137,9 @@ fn having(pids: u8, rows: u8, won: bool) -> World {
 
 #[test]
 fn installs_in_a_free_row(rt: HostRuntime) {
+    let limits = smallest();
     let mut spares = Spares::new();
-    let (log, end) = drive(&limits(), &mut spares, install(), having(2, 2, true));
+    let (log, end) = drive(&limits, &mut spares, install(&limits), having(2, 2, true));
     let steps = [
         ('r', 0, 0, 0),
         ('R', 3, 0, 0),
@@ -153,8 +153,9 @@ fn installs_in_a_free_row(rt: HostRuntime) {
 
 #[test]
 fn takes_a_pid_and_then_rows(rt: HostRuntime) {
+    let limits = smallest();
     let mut spares = Spares::new();
-    let (log, end) = drive(&limits(), &mut spares, split(), having(2, 2, true));
+    let (log, end) = drive(&limits, &mut spares, split(&limits), having(2, 2, true));
     let steps = [
         ('p', 0, 0, 0),
         ('P', 3, 0, 0),
@@ -174,17 +175,18 @@ fn takes_a_pid_and_then_rows(rt: HostRuntime) {
 
 #[test]
 fn undoes_a_lost_split_and_uses_its_spares(rt: HostRuntime) {
+    let limits = smallest();
     let mut spares = Spares::new();
-    let (log, end) = drive(&limits(), &mut spares, split(), having(2, 2, false));
+    let (log, end) = drive(&limits, &mut spares, split(&limits), having(2, 2, false));
     assert_eq!(rt; log.as_slice().last(), Some(&('x', 3, 3, 0)));
     assert_eq!(rt; (end, spares.pid()), (Some(End::Lost), Some(3)));
     assert_eq!(rt; spares.rows(), [3, 5].as_slice());
-    let (log, end) = drive(&limits(), &mut spares, install(), having(0, 0, true));
+    let (log, end) = drive(&limits, &mut spares, install(&limits), having(0, 0, true));
     let steps = [('=', 5, 7, 0), ('x', 1, 7, 5)];
     assert_eq!(rt; log.as_slice(), steps.as_slice());
     assert_eq!(rt; (end, spares.pid()), (Some(End::Won), Some(3)));
     assert_eq!(rt; spares.rows(), [3].as_slice());
-    let (log, end) = drive(&limits(), &mut spares, root(), having(0, 0, true));
+    let (log, end) = drive(&limits, &mut spares, root(&limits), having(0, 0, true));
     let steps = [('=', 3, 0, 0), ('x', 3, 0, 3), ('x', 0, 1, 3)];
     assert_eq!(rt; log.as_slice(), steps.as_slice());
     assert_eq!(rt; (end, spares.pid()), (Some(End::Won), None));
@@ -193,8 +195,9 @@ fn undoes_a_lost_split_and_uses_its_spares(rt: HostRuntime) {
 
 #[test]
 fn undoes_a_lost_root(rt: HostRuntime) {
+    let limits = smallest();
     let mut spares = Spares::new();
-    let (log, end) = drive(&limits(), &mut spares, root(), having(2, 2, false));
+    let (log, end) = drive(&limits, &mut spares, root(&limits), having(2, 2, false));
     assert_eq!(rt; log.as_slice().last(), Some(&('x', 3, 3, 0)));
     assert_eq!(rt; (end, spares.pid()), (Some(End::Lost), Some(3)));
     assert_eq!(rt; spares.rows(), [3].as_slice());
@@ -202,8 +205,9 @@ fn undoes_a_lost_root(rt: HostRuntime) {
 
 #[test]
 fn keeps_the_row_of_a_lost_record(rt: HostRuntime) {
+    let limits = smallest();
     let mut spares = Spares::new();
-    let (log, end) = drive(&limits(), &mut spares, install(), having(0, 1, false));
+    let (log, end) = drive(&limits, &mut spares, install(&limits), having(0, 1, false));
     assert_eq!(rt; log.as_slice().last(), Some(&('x', 1, 7, 5)));
     assert_eq!(rt; (end, spares.pid()), (Some(End::Lost), None));
     assert_eq!(rt; spares.rows(), [5].as_slice());
@@ -211,15 +215,16 @@ fn keeps_the_row_of_a_lost_record(rt: HostRuntime) {
 
 #[test]
 fn is_full_with_what_it_took(rt: HostRuntime) {
+    let limits = smallest();
     let mut spares = Spares::new();
-    let (log, end) = drive(&limits(), &mut spares, split(), having(0, 2, true));
+    let (log, end) = drive(&limits, &mut spares, split(&limits), having(0, 2, true));
     assert_eq!(rt; log.as_slice(), [('p', 0, 0, 0)].as_slice());
     assert_eq!(rt; (end, spares.pid()), (Some(End::Full), None));
-    let (log, end) = drive(&limits(), &mut spares, split(), having(1, 0, true));
+    let (log, end) = drive(&limits, &mut spares, split(&limits), having(1, 0, true));
     assert_eq!(rt; log.as_slice().last(), Some(&('r', 0, 0, 0)));
     assert_eq!(rt; (end, spares.pid()), (Some(End::Full), Some(5)));
     assert!(rt; spares.rows().is_empty());
-    let (log, end) = drive(&limits(), &mut spares, split(), having(0, 1, true));
+    let (log, end) = drive(&limits, &mut spares, split(&limits), having(0, 1, true));
     let steps = [('r', 0, 0, 0), ('R', 5, 0, 0), ('r', 0, 0, 0)];
     assert_eq!(rt; log.as_slice(), steps.as_slice());
     assert_eq!(rt; (end, spares.pid()), (Some(End::Full), Some(5)));

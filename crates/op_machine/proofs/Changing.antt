@@ -24,8 +24,8 @@ use Rattle.installs.specs.declared.plan.Plan.TheVariants.{Install, Split, Root}
 use Rattle.op_machine.specs.Answered.{is_writer}
 use Rattle.op_machine.specs.Bounded.{left_for, one_round}
 use Rattle.op_machine.specs.Brings.{Brings, IsReadPlan, IsUpdateOf, IsUsefulOver, IsUsefulPlan}
-use Rattle.op_machine.specs.Outcomes.{HasChanged}
-use Rattle.op_machine.specs.Shows.{Changes}
+use Rattle.op_machine.specs.Outcomes.{FacesChanged}
+use Rattle.op_machine.specs.Shows.{IsInChange}
 use Rattle.op_machine.specs.Tasks.{IsAsked, IsDone, IsUnreadPid, Seeks, Task}
 use Rattle.op_machine.specs.declared.state.Outcome.TheVariants as outcome
 use Rattle.op_machine.specs.declared.state.Then.{Then}
@@ -88,7 +88,7 @@ full_links (Install pid head content) linked = refl
 full_links (Split pid plan) linked = refl
 full_links (Root left root) linked = refl
 
-module _ (task : Task) (had has : Spares) (k : Knowledge) (r : Recalled) (old new : change.Change) (then : Then) (told : Answer Record) (h : Changes task had k r old then) (fits : Fits task.limits k (change.wanted old had) told) (pid : bound.IsPidFrom had.pid (bound.pid_taken (change.wanted old had) told) has.pid) where
+module _ (task : Task) (had has : Spares) (k : Knowledge) (r : Recalled) (old new : change.Change) (then : Then) (told : Answer Record) (h : IsInChange task had k r old then) (fits : Fits task.limits k (change.wanted old had) told) (pid : bound.IsPidFrom had.pid (bound.pid_taken (change.wanted old had) told) has.pid) where
   abbrev now : Knowledge
   now = learn k (change.wanted old had) told
 
@@ -101,7 +101,7 @@ module _ (task : Task) (had has : Spares) (k : Knowledge) (r : Recalled) (old ne
   unread : now.read ≡ k.read → IsUnreadPid has now
   unread same = rw same (unread_from k.read.heads had.pid (bound.pid_taken (change.wanted old had) told) has.pid h.unread (taken_unread task.limits k (change.wanted old had) told fits) pid)
 
-  pub change_on : change.IsSame old new → change.IsSound new has → change.GoesOn task.actor k now new has → bound.Recalls new has then_recalled → Changes task has now then_recalled new then
+  pub change_on : change.IsSame old new → change.IsSoundChange new has → change.GoesOn task.actor k now new has → bound.Recalls new has then_recalled → IsInChange task has now then_recalled new then
   change_on same sound goes recalls = record {
     asked = record { going = goes.like.command ∙ h.asked.going; unlinked = goes.like.linked_now ∙ h.asked.unlinked };
     writer = h.writer;
@@ -155,12 +155,12 @@ module _ (task : Task) (had has : Spares) (k : Knowledge) (r : Recalled) (old ne
         });
       }
 
-  pub change_ended : (end : End) → HaveRoom old.limits has → change.IsOver k now old told has end → HasChanged task has now end then
+  pub change_ended : (end : End) → HaveRoom old.limits has → change.IsOver k now old told has end → FacesChanged task has now end then
   change_ended Won room over = by then refl
     where
-      by : (t : Then) → then ≡ t → HasChanged task has now Won t
+      by : (t : Then) → then ≡ t → FacesChanged task has now Won t
       by (Reply answered) is = (done Won room over, answers room over answered is)
-      by Round is = (seeks Won room over (ap (change.linked_after old.plan Won) h.asked.unlinked ∙ subst (λ t. Brings k task.command old.plan t) is h.brings), h.writer)
+      by Round is = (seeks Won room over (ap (change.linked_after old.plan Won) h.asked.unlinked ∙ (subst (λ t. Brings k task.command old.plan t) is h.brings).1), h.writer)
       by (Errand key) is =
           let b = subst (λ t. Brings k task.command old.plan t) is h.brings in
           (seeks Won room over (ap (λ plan. change.linked_after plan Won k.asked.linked) b.2 ∙ h.asked.unlinked), h.writer)

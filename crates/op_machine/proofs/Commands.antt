@@ -22,7 +22,7 @@ use Rattle.chain_search.specs.Chains.{covers, is_removed, level_in}
 use Rattle.chain_search.specs.Discipline.{FitsOn, record_of, value_of}
 use Rattle.chain_search.specs.Fitted.{FitsOver, Makes}
 use Rattle.chain_search.specs.Knowledge.{Knowledge}
-use Rattle.installs.specs.Changes.{IsKept, linked_by}
+use Rattle.installs.specs.Changes.{KeepsSparePage, linked_by}
 use Rattle.op_machine.specs.Answered.{is_writer}
 use Rattle.op_machine.specs.Brings.{IsUsefulOver, update_over}
 -- the record that a command places makes its update
@@ -79,7 +79,7 @@ over_next (Insert key value) x rows below h = λ next e. subst (λ n. n < rows) 
 over_next (Upsert key value) x rows below h = λ next e. subst (λ n. n < rows) (same_Some x next e) below
 over_next (Delete key) x rows below h = λ next e. subst (λ n. n < rows) (same_Some x next e) below
 
-pub over_kept : (c : Command) (x : ℕ) (pid : Option ℕ) → IsKept (update_over c x) pid
+pub over_kept : (c : Command) (x : ℕ) (pid : Option ℕ) → KeepsSparePage (update_over c x) pid
 over_kept (Get key) x pid = tt
 over_kept (Insert key value) x pid = tt
 over_kept (Upsert key value) x pid = tt

@@ -22,7 +22,7 @@ use Rattle.installs.specs.Spares.{Spares}
 use Rattle.installs.specs.declared.plan.Plan.TheVariants.{Install, Split, Root}
 use Rattle.smo.specs.declared.split.SplitPlan.{SplitPlan}
 use Rattle.smo.specs.declared.version.Version.{Version}
-use Rattle.op_machine.specs.Outcomes.{HasWritten, IsAtLeaf}
+use Rattle.op_machine.specs.Outcomes.{FacesWritten, IsAtLeaf}
 use Rattle.op_machine.specs.Tasks.{Seeks, Task}
 
 -- a page in hand is a place for a record
@@ -34,22 +34,22 @@ module _ (task : Task) (spares : Spares) (k : Knowledge) (r : Recalled) where
   alive_in limits page same alive = subst (λ l. IsAlive l k r page) same alive
 
   -- where a base over a page, a split of it, the term of a page on its parent, and a root over a page are to be linked
-  pub base_target : (page : Version) (base : Page) → HasWritten task spares k r (end.Consolidate page) → change.IsTarget task.limits (Install page.pid page.head (kind.Base base))
+  pub base_target : (page : Version) (base : Page) → FacesWritten task spares k r (end.Consolidate page) → change.IsTarget task.limits (Install page.pid page.head (kind.Base base))
   base_target page base h = place_of task.limits k r page (kind.Base base) (alive_in h.round.limits page h.limits h.ends.page) (λ next e. cc)
 
-  pub split_target : (page : Version) (plan : SplitPlan) → HasWritten task spares k r (end.Split page plan) → change.IsTarget task.limits (Split page.pid plan)
+  pub split_target : (page : Version) (plan : SplitPlan) → FacesWritten task spares k r (end.Split page plan) → change.IsTarget task.limits (Split page.pid plan)
   split_target page plan h = rw h.ends.plan_due.over (place_of task.limits k r page (kind.Base plan.upper) (alive_in h.round.limits page h.limits h.ends.page) (λ next e. cc))
 
-  pub term_target : (parent : Version) (term : Term) → HasWritten task spares k r (end.Term parent term) → change.IsTarget task.limits (Install parent.pid parent.head (kind.Term term))
+  pub term_target : (parent : Version) (term : Term) → FacesWritten task spares k r (end.Term parent term) → change.IsTarget task.limits (Install parent.pid parent.head (kind.Term term))
   term_target parent term h =
       let alive = alive_in h.round.limits parent h.limits h.ends.page in
       place_of task.limits k r parent (kind.Term term) alive (rw h.ends.plan.is (λ next e. subst (λ n. n < task.limits.rows) (same_Some parent.head next e) alive.in_hand.row))
 
-  pub root_target : (left : Version) (root : Page) → HasWritten task spares k r (end.Root left root) → change.IsTarget task.limits (Root left.pid root)
+  pub root_target : (left : Version) (root : Page) → FacesWritten task spares k r (end.Root left root) → change.IsTarget task.limits (Root left.pid root)
   root_target left root h = let alive = alive_in h.round.limits left h.limits h.ends.page in (left.is_pid.0, alive.in_hand.page)
 
   -- a page that is consolidated has deltas
-  pub long_chain : (page : Version) → HasWritten task spares k r (end.Consolidate page) → 1 < length page.chain
+  pub long_chain : (page : Version) → FacesWritten task spares k r (end.Consolidate page) → 1 < length page.chain
   long_chain page h = let due = h.due in elim h.ends.long [
     | inl many ↦ omega (arith, many)
     | inr leaf ↦ let some = leaf.1 in omega (arith, some, due)

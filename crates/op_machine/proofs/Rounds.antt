@@ -13,15 +13,15 @@ use Rattle.descent.specs.declared.write_round.WriteEnd.{WriteEnd}
 use Rattle.descent.specs.declared.write_round.WriteEnd.TheVariants as write_end
 use Rattle.installs.specs.Spares.{Spares}
 use Rattle.op_machine.specs.Bounded.{left_at, left_for, one_round}
-use Rattle.op_machine.specs.Outcomes.{HasRead, HasWritten}
-use Rattle.op_machine.specs.Shows.{Reads, Writes}
+use Rattle.op_machine.specs.Outcomes.{FacesRead, FacesWritten}
+use Rattle.op_machine.specs.Shows.{IsInReadRound, IsInWriteRound}
 use Rattle.op_machine.specs.Tasks.{Task}
 use Rattle.op_machine.specs.declared.state.Outcome.TheVariants as outcome
 use Rattle.op_machine.specs.declared.state.State.TheVariants as at
 use Rattle.op_machine.proofs.Reading.{reader_reads, seeks_still, writer_reads}
 
-module _ (task : Task) (spares : Spares) (k : Knowledge) (r : Recalled) (round new : read.ReadRound) (told : Answer Record) (h : Reads task spares k r round) (fits : Fits task.limits k (read.wanted round) told) where
-  pub read_on : read.IsSame round new → read.Follows k r round told new None → Reads task spares (learn k (read.wanted round) told) (recall r (read.wanted round) told) new
+module _ (task : Task) (spares : Spares) (k : Knowledge) (r : Recalled) (round new : read.ReadRound) (told : Answer Record) (h : IsInReadRound task spares k r round) (fits : Fits task.limits k (read.wanted round) told) where
+  pub read_on : read.IsSame round new → read.Follows k r round told new None → IsInReadRound task spares (learn k (read.wanted round) told) (recall r (read.wanted round) told) new
   read_on same follows = record {
     seeks = seeks_still task spares k h.seeks task.limits (read.wanted round) told (reader_reads round k r h.shows) fits;
     reader = h.reader;
@@ -30,7 +30,7 @@ module _ (task : Task) (spares : Spares) (k : Knowledge) (r : Recalled) (round n
     shows = follows;
   }
 
-  pub read_ended : (end : ReadEnd) → read.Ends round (learn k (read.wanted round) told) (recall r (read.wanted round) told) end → HasRead task spares (learn k (read.wanted round) told) (recall r (read.wanted round) told) end
+  pub read_ended : (end : ReadEnd) → read.Ends round (learn k (read.wanted round) told) (recall r (read.wanted round) told) end → FacesRead task spares (learn k (read.wanted round) told) (recall r (read.wanted round) told) end
   read_ended end ends = record {
     seeks = seeks_still task spares k h.seeks task.limits (read.wanted round) told (reader_reads round k r h.shows) fits;
     reader = h.reader;
@@ -45,8 +45,8 @@ module _ (task : Task) (spares : Spares) (k : Knowledge) (r : Recalled) (round n
   read_left (read_end.Removed page) reserved = inl (omega (arith, reserved))
   read_left (read_end.Leaf leaf) some = inl (omega (arith, some))
 
-module _ (task : Task) (spares : Spares) (k : Knowledge) (r : Recalled) (round new : write.WriteRound) (told : Answer Record) (h : Writes task spares k r round) (fits : Fits task.limits k (write.wanted round) told) where
-  pub write_on : write.IsSame round new → write.Follows k r round told new None → Writes task spares (learn k (write.wanted round) told) (recall r (write.wanted round) told) new
+module _ (task : Task) (spares : Spares) (k : Knowledge) (r : Recalled) (round new : write.WriteRound) (told : Answer Record) (h : IsInWriteRound task spares k r round) (fits : Fits task.limits k (write.wanted round) told) where
+  pub write_on : write.IsSame round new → write.Follows k r round told new None → IsInWriteRound task spares (learn k (write.wanted round) told) (recall r (write.wanted round) told) new
   write_on same follows = record {
     seeks = seeks_still task spares k h.seeks task.limits (write.wanted round) told (writer_reads round k r h.shows) fits;
     writer = h.writer;
@@ -56,7 +56,7 @@ module _ (task : Task) (spares : Spares) (k : Knowledge) (r : Recalled) (round n
     shows = follows;
   }
 
-  pub write_ended : (end : WriteEnd) → write.Ends round (learn k (write.wanted round) told) (recall r (write.wanted round) told) end → HasWritten task spares (learn k (write.wanted round) told) (recall r (write.wanted round) told) end
+  pub write_ended : (end : WriteEnd) → write.Ends round (learn k (write.wanted round) told) (recall r (write.wanted round) told) end → FacesWritten task spares (learn k (write.wanted round) told) (recall r (write.wanted round) told) end
   write_ended end ends = record {
     seeks = seeks_still task spares k h.seeks task.limits (write.wanted round) told (writer_reads round k r h.shows) fits;
     writer = h.writer;

@@ -13,7 +13,7 @@ use Rattle.chain_search.specs.Knowledge.{Knowledge}
 use Rattle.installs.specs.declared.change.End.{End}
 use Rattle.installs.specs.declared.change.End.TheVariants.{Won}
 use Rattle.installs.specs.declared.plan.Plan.{Plan}
-use Rattle.installs.specs.declared.plan.Plan.TheVariants.{Install, Split}
+use Rattle.installs.specs.declared.plan.Plan.TheVariants.{Install, Split, Root}
 use Rattle.installs.specs.Changes.{linked_after, linked_by}
 use Rattle.smo.specs.declared.split.SplitPlan.{SplitPlan}
 use Rattle.op_machine.specs.Errands.{with_errand}
@@ -34,10 +34,16 @@ pub record IsUpdateOf (k : Knowledge) (command : Command) (plan : Plan) (answere
   pub covers : IsTrue (covers chain (command_key command))
   pub replies : reply_of command (found chain (command_key command)) ≡ Some answered
 
+-- The plan is no split.
+abbrev pub IsNoSplit : Plan → Type 0
+IsNoSplit (Install pid head content) = ⊤
+IsNoSplit (Split pid split) = ⊥
+IsNoSplit (Root left root) = ⊤
+
 -- What a change brings: an update its reply, a split the errand to its new page, another change neither.
 abbrev pub Brings : Knowledge → Command → Plan → Then → Type 0
 Brings k command plan (Reply answered) = IsUpdateOf k command plan answered
-Brings k command plan Round = linked_after plan Won None ≡ None
+Brings k command plan Round = IsNoSplit plan × (linked_after plan Won None ≡ None)
 Brings k command plan (Errand key) = (pid : ℕ) × (split : SplitPlan) × (plan ≡ Split pid split) × (split.upper.low ≡ key)
 
 -- A base comes only over a chain that has deltas.

@@ -10,7 +10,7 @@ use Rattle.chain_search.specs.Knowledge.{Knowledge}
 use Rattle.chain_search.specs.Recalled.{Recalled}
 use Rattle.installs.specs.Spares.{Spares}
 use Rattle.op_machine.specs.Outcomes.{HasLeft}
-use Rattle.op_machine.specs.Shows.{FitsLast, MayTake, Stands, learn_last, recall_last, wanted_at}
+use Rattle.op_machine.specs.Shows.{FitsLast, MayStep, Stands, learn_last, recall_last, wanted_at}
 use Rattle.op_machine.specs.Tasks.{Task}
 use Rattle.op_machine.specs.declared.op.Want.{Want}
 use Rattle.op_machine.specs.declared.op.Want.TheVariants.{Step, Done}
@@ -38,7 +38,7 @@ pub record IsTold (op : Op) (spares : Spares) (told : Answer Record) : Type 0 wh
 -- The step is wanted, the actor may take it, and the operation shows what is known.
 pub record Goes (k : Knowledge) (r : Recalled) (op : Op) (spares : Spares) (asked : StepOf Record) : Type 0 where
   pub wanted : wanted_of op spares ≡ Some asked
-  pub may : MayTake op.task k asked
+  pub may : MayStep op.task k asked
   pub shows : Shows op spares k r
 
 -- what comes of an answer: the operation wants its next step, or is done

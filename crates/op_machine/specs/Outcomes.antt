@@ -22,7 +22,7 @@ use Rattle.smo.specs.declared.version.Version.{Version}
 use Rattle.op_machine.specs.Answered.{is_writer}
 use Rattle.op_machine.specs.Errands.{way_key}
 use Rattle.op_machine.specs.Shows.{FitsLast, Stands, learn_last, recall_last, wanted_at}
-use Rattle.op_machine.specs.Tasks.{IsDone, Rests, Seeks, Task, Waits}
+use Rattle.op_machine.specs.Tasks.{IsDone, IsAtRest, Seeks, Task, Waits}
 use Rattle.op_machine.specs.declared.state.Outcome.{Outcome}
 use Rattle.op_machine.specs.declared.state.Outcome.TheVariants.{Begun, Epoch, Entered, Read, Written, Changed}
 use Rattle.op_machine.specs.declared.state.Progress.{Progress}
@@ -32,7 +32,7 @@ use Rattle.op_machine.specs.declared.state.Then.{Then}
 use Rattle.op_machine.specs.declared.state.Then.TheVariants.{Round, Errand, Reply}
 
 -- A reader's round has ended.
-pub record HasRead (task : Task) (spares : Spares) (k : Knowledge) (r : Recalled) (end : ReadEnd) : Type 0 where
+pub record FacesRead (task : Task) (spares : Spares) (k : Knowledge) (r : Recalled) (end : ReadEnd) : Type 0 where
   pub seeks : Seeks task spares k
   pub reader : is_writer task.command ≡ false
   pub round : read.ReadRound
@@ -41,7 +41,7 @@ pub record HasRead (task : Task) (spares : Spares) (k : Knowledge) (r : Recalled
   pub ends : read.Ends round k r end
 
 -- A writer's round has ended.
-pub record HasWritten (task : Task) (spares : Spares) (k : Knowledge) (r : Recalled) (end : WriteEnd) : Type 0 where
+pub record FacesWritten (task : Task) (spares : Spares) (k : Knowledge) (r : Recalled) (end : WriteEnd) : Type 0 where
   pub seeks : Seeks task spares k
   pub writer : is_writer task.command ≡ true
   pub round : write.WriteRound
@@ -62,20 +62,20 @@ pub record IsAtLeaf (task : Task) (spares : Spares) (k : Knowledge) (r : Recalle
 
 -- A change has ended: an update was linked, and justifies the reply; or no update was linked, and, where it is full, nothing
 -- is free.
-abbrev pub HasChanged : Task → Spares → Knowledge → End → Then → Type 0
-HasChanged task spares k Won (Reply answered) = IsDone task spares k × MayReply task.limits task.actor k answered
-HasChanged task spares k Won Round = Seeks task spares k × (is_writer task.command ≡ true)
-HasChanged task spares k Won (Errand key) = Seeks task spares k × (is_writer task.command ≡ true)
-HasChanged task spares k Lost then = Seeks task spares k × (is_writer task.command ≡ true)
-HasChanged task spares k Full then = Seeks task spares k × (is_writer task.command ≡ true) × LacksRoom task.limits k
+abbrev pub FacesChanged : Task → Spares → Knowledge → End → Then → Type 0
+FacesChanged task spares k Won (Reply answered) = IsDone task spares k × MayReply task.limits task.actor k answered
+FacesChanged task spares k Won Round = Seeks task spares k × (is_writer task.command ≡ true)
+FacesChanged task spares k Won (Errand key) = Seeks task spares k × (is_writer task.command ≡ true)
+FacesChanged task spares k Lost then = Seeks task spares k × (is_writer task.command ≡ true)
+FacesChanged task spares k Full then = Seeks task spares k × (is_writer task.command ≡ true) × LacksRoom task.limits k
 
 abbrev pub Faces : Task → Spares → Knowledge → Recalled → Outcome → Type 0
 Faces task spares k r Begun = Waits task spares k
 Faces task spares k r (Epoch epoch) = Waits task spares k × (0 < epoch) × (k.limbo.epoch ≡ Some epoch)
 Faces task spares k r Entered = Seeks task spares k
-Faces task spares k r (Read end) = HasRead task spares k r end
-Faces task spares k r (Written end) = HasWritten task spares k r end
-Faces task spares k r (Changed end then) = HasChanged task spares k end then
+Faces task spares k r (Read end) = FacesRead task spares k r end
+Faces task spares k r (Written end) = FacesWritten task spares k r end
+Faces task spares k r (Changed end then) = FacesChanged task spares k end then
 
 -- Something is known that the state shows, and the answer fits it.
 pub record IsToldAt (state : State) (spares : Spares) (told : Answer Record) : Type 0 where
@@ -95,7 +95,7 @@ pub record IsFaced (task : Task) (spares : Spares) (outcome : Outcome) : Type 0 
 pub record HasLeft (task : Task) (k : Knowledge) (last : Option (StepOf Record)) (told : Answer Record) (spares : Spares) (reply : ReplyOf) : Type 0 where
   pub is_last : last ≡ Some step.Leave
   pub may : MayReply task.limits task.actor k reply
-  pub rests : Rests task.limits spares (finished (learn k step.Leave told) (Some reply))
+  pub rests : IsAtRest task.limits spares (finished (learn k step.Leave told) (Some reply))
 
 -- what comes of an answer: the same state goes on, or the operation faces what comes next, or it has left
 abbrev pub Comes : Task → Knowledge → Recalled → Option (StepOf Record) → Answer Record → State → Spares → Progress → Type 0

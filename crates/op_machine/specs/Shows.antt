@@ -28,7 +28,7 @@ use Rattle.op_machine.specs.declared.state.State.TheVariants.{Begun, Epoch, Ente
 use Rattle.op_machine.specs.declared.state.Then.{Then}
 
 -- A reader's round is under way, for the command's key.
-pub record Reads (task : Task) (spares : Spares) (k : Knowledge) (r : Recalled) (round : read.ReadRound) : Type 0 where
+pub record IsInReadRound (task : Task) (spares : Spares) (k : Knowledge) (r : Recalled) (round : read.ReadRound) : Type 0 where
   pub seeks : Seeks task spares k
   pub reader : is_writer task.command ≡ false
   pub limits : round.limits ≡ task.limits
@@ -36,7 +36,7 @@ pub record Reads (task : Task) (spares : Spares) (k : Knowledge) (r : Recalled) 
   pub shows : read.Shows round k r
 
 -- A writer's round is under way, for the newest errand or the command's key.
-pub record Writes (task : Task) (spares : Spares) (k : Knowledge) (r : Recalled) (round : write.WriteRound) : Type 0 where
+pub record IsInWriteRound (task : Task) (spares : Spares) (k : Knowledge) (r : Recalled) (round : write.WriteRound) : Type 0 where
   pub seeks : Seeks task spares k
   pub writer : is_writer task.command ≡ true
   pub limits : round.limits ≡ task.limits
@@ -45,7 +45,7 @@ pub record Writes (task : Task) (spares : Spares) (k : Knowledge) (r : Recalled)
   pub shows : write.Shows round k r
 
 -- A change is under way.
-pub record Changes (task : Task) (spares : Spares) (k : Knowledge) (r : Recalled) (now : change.Change) (then : Then) : Type 0 where
+pub record IsInChange (task : Task) (spares : Spares) (k : Knowledge) (r : Recalled) (now : change.Change) (then : Then) : Type 0 where
   pub asked : IsAsked task k
   pub writer : is_writer task.command ≡ true
   pub limits : now.limits ≡ task.limits
@@ -53,7 +53,7 @@ pub record Changes (task : Task) (spares : Spares) (k : Knowledge) (r : Recalled
   pub useful : IsUsefulPlan k now.plan
   pub split : IsReadPlan k now.plan
   pub unread : IsUnreadPid spares k
-  pub sound : change.IsSound now spares
+  pub sound : change.IsSoundChange now spares
   pub shows : change.Shows task.actor now spares k
   pub recalls : bound.Recalls now spares r
 
@@ -73,9 +73,9 @@ abbrev pub Stands : Task → Spares → Knowledge → Recalled → State → Typ
 Stands task spares k r Begun = Waits task spares k
 Stands task spares k r Epoch = Waits task spares k
 Stands task spares k r (Enter epoch) = Waits task spares k × (0 < epoch) × (k.limbo.epoch ≡ Some epoch)
-Stands task spares k r (Read round) = Reads task spares k r round
-Stands task spares k r (Write round) = Writes task spares k r round
-Stands task spares k r (Change now then) = Changes task spares k r now then
+Stands task spares k r (Read round) = IsInReadRound task spares k r round
+Stands task spares k r (Write round) = IsInWriteRound task spares k r round
+Stands task spares k r (Change now then) = IsInChange task spares k r now then
 Stands task spares k r (Leave reply) = IsDone task spares k × MayReply task.limits task.actor k reply
 Stands task spares k r Over = ⊥
 
@@ -106,7 +106,7 @@ recall_last r (Some asked) told = recall r asked told
 
 -- The actor may take the step: it names no number that has no place, frees nothing that another one may hold, and puts no base
 -- over a base alone.
-pub record MayTake (task : Task) (k : Knowledge) (asked : StepOf Record) : Type 0 where
+pub record MayStep (task : Task) (k : Knowledge) (asked : StepOf Record) : Type 0 where
   pub within : IsWithin task.limits asked
   pub may : May task.actor k asked
   pub frees : MayFree task.limits task.actor k asked

@@ -28,7 +28,7 @@ abbrev pub IsUnreadPid : Spares → Knowledge → Type 0
 IsUnreadPid spares k = IfSome spares.pid (λ pid. k.read.heads pid ≡ None)
 
 -- between operations: outside, with spares of its own
-pub record Rests (limits : Limits) (spares : Spares) (k : Knowledge) : Type 0 where
+pub record IsAtRest (limits : Limits) (spares : Spares) (k : Knowledge) : Type 0 where
   pub outside : k.inside ≡ false
   pub spare : HasSpares limits spares k
 
@@ -39,7 +39,7 @@ pub record IsAsked (task : Task) (k : Knowledge) : Type 0 where
 
 -- outside, with a command, and no update linked
 pub record Waits (task : Task) (spares : Spares) (k : Knowledge) : Type 0 where
-  pub rests : Rests task.limits spares k
+  pub rests : IsAtRest task.limits spares k
   pub unread : IsUnreadPid spares k
   pub asked : IsAsked task k
 

@@ -5,7 +5,7 @@ ghost use Rattle.chain_search.specs.Recalled.{Recalled, blank};
 ghost use Rattle.installs.specs.Spares.{Spares};
 ghost use Rattle.op_machine.specs.Bounded.{Spends, steps_left};
 ghost use Rattle.op_machine.specs.Ops.{IsTold, Obeys, Shows};
-ghost use Rattle.op_machine.specs.Tasks.{IsSameTask, Rests};
+ghost use Rattle.op_machine.specs.Tasks.{IsSameTask, IsAtRest};
 
 use crate::hand::Hand;
 use crate::state::{Progress, State};
@@ -41,7 +41,7 @@ impl Model for Op {
 impl Op {
     /// An operation of an actor before its first step.
     pub fn begin(command: Command, actor: u8, limits: &Limits) -> Op
-        ensures shows { (k : Knowledge) (spares : Spares) → Rests limits.now spares k → Shows result spares (begun k command) blank }
+        ensures shows { (k : Knowledge) (spares : Spares) → IsAtRest limits.now spares k → Shows result spares (begun k command) blank }
         ensures task { result.task ≡ record { limits = limits.now; actor = actor; command = command; errands = [] } }
         ensures state { result.state ≡ State.Begun }
         ensures few { (r : Recalled) (spares : Spares) → steps_left r result spares < 2 ^ 18 }

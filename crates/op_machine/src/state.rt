@@ -4,7 +4,7 @@ ghost use Rattle.chain_search.specs.Knowledge.{Knowledge};
 ghost use Rattle.chain_search.specs.Recalled.{Recalled};
 ghost use Rattle.op_machine.specs.Bounded.{LeavesFor, left_at};
 ghost use Rattle.op_machine.specs.Outcomes.{Comes, IsToldAt};
-ghost use Rattle.op_machine.specs.Shows.{FitsLast, MayTake, Stands, wanted_at};
+ghost use Rattle.op_machine.specs.Shows.{FitsLast, MayStep, Stands, wanted_at};
 ghost use Rattle.op_machine.specs.Tasks.{Task};
 
 use bw_model::{Answer, Key, Reply, Step};
@@ -82,7 +82,7 @@ impl State {
         requires stands { (task : Task) × (k : Knowledge) × (r : Recalled) × Stands task spares.now k r self.now }
         requires asks { IsSome (wanted_at spares.now self.now) }
         ensures wanted { wanted_at spares.now self.now ≡ Some result }
-        ensures may { (task : Task) (k : Knowledge) (r : Recalled) → Stands task spares.now k r self.now → MayTake task k result }
+        ensures may { (task : Task) (k : Knowledge) (r : Recalled) → Stands task spares.now k r self.now → MayStep task k result }
     {
         match self {
             State::Begun | State::Over => unreachable!(),

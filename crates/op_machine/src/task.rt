@@ -8,7 +8,7 @@ ghost use Rattle.installs.specs.Spares.{HaveRoom, Spares};
 ghost use Rattle.op_machine.specs.Bounded.{few_changes, left_at, left_for, one_round, with_errands};
 ghost use Rattle.op_machine.specs.Brings.{errands_after, update_over};
 ghost use Rattle.op_machine.specs.Errands.{way_key};
-ghost use Rattle.op_machine.specs.Outcomes.{Faces, HasChanged, HasRead, HasWritten, IsAtLeaf, IsFaced};
+ghost use Rattle.op_machine.specs.Outcomes.{Faces, FacesChanged, FacesRead, FacesWritten, IsAtLeaf, IsFaced};
 ghost use Rattle.op_machine.specs.Shows.{MayBegin, Stands, wanted_at};
 ghost use Rattle.op_machine.specs.Tasks.{IsSameTask, Seeks};
 
@@ -111,7 +111,7 @@ impl Task {
 
     /// A reader answers at the leaf of its key; where its round was cut off, a new one begins.
     fn end_read(&self, end: ReadEnd) -> State
-        ensures stands { (spares : Spares) (k : Knowledge) (r : Recalled) → HasRead self.now spares k r end → Stands self.now spares k r result }
+        ensures stands { (spares : Spares) (k : Knowledge) (r : Recalled) → FacesRead self.now spares k r end → Stands self.now spares k r result }
         ensures few { (spares : Spares) (r : Recalled) → left_at r spares result ≤ left_for (Outcome.Read end) }
         ensures asks { (spares : Spares) → IsSome (wanted_at spares result) }
     {
@@ -125,9 +125,9 @@ impl Task {
 
     /// A writer makes the change that is due where its round ended, or goes on at the leaf.
     fn end_write(&mut self, spares: &Spares, end: WriteEnd) -> State
-        requires faced { (k : Knowledge) × (r : Recalled) × HasWritten self.old spares.now k r end }
-        ensures stands { (k : Knowledge) (r : Recalled) → HasWritten self.old spares.now k r end → Stands self.new spares.now k r result }
-        ensures few { (k : Knowledge) (r : Recalled) → HasWritten self.old spares.now k r end → with_errands self.new.errands (left_at r spares.now result) ≤ with_errands self.old.errands (left_for (Outcome.Written end)) }
+        requires faced { (k : Knowledge) × (r : Recalled) × FacesWritten self.old spares.now k r end }
+        ensures stands { (k : Knowledge) (r : Recalled) → FacesWritten self.old spares.now k r end → Stands self.new spares.now k r result }
+        ensures few { (k : Knowledge) (r : Recalled) → FacesWritten self.old spares.now k r end → with_errands self.new.errands (left_at r spares.now result) ≤ with_errands self.old.errands (left_for (Outcome.Written end)) }
         ensures asks { IsSome (wanted_at spares.now result) }
         ensures same { IsSameTask self.old self.new }
     {
@@ -205,8 +205,8 @@ impl Task {
 
     /// A base is linked in the place of a page's chain.
     fn consolidate(&self, spares: &Spares, page: Version) -> State
-        requires faced { (k : Knowledge) × (r : Recalled) × HasWritten self.now spares.now k r (WriteEnd.Consolidate page) }
-        ensures stands { (k : Knowledge) (r : Recalled) → HasWritten self.now spares.now k r (WriteEnd.Consolidate page) → Stands self.now spares.now k r result }
+        requires faced { (k : Knowledge) × (r : Recalled) × FacesWritten self.now spares.now k r (WriteEnd.Consolidate page) }
+        ensures stands { (k : Knowledge) (r : Recalled) → FacesWritten self.now spares.now k r (WriteEnd.Consolidate page) → Stands self.now spares.now k r result }
         ensures few { (r : Recalled) → left_at r spares.now result ≤ few_changes + 1 }
         ensures asks { IsSome (wanted_at spares.now result) }
     {
@@ -223,8 +223,8 @@ impl Task {
 
     /// A page is split; its new page is an errand then.
     fn split(&self, spares: &Spares, page: Version, plan: SplitPlan) -> State
-        requires faced { (k : Knowledge) × (r : Recalled) × HasWritten self.now spares.now k r (WriteEnd.Split page plan) }
-        ensures stands { (k : Knowledge) (r : Recalled) → HasWritten self.now spares.now k r (WriteEnd.Split page plan) → Stands self.now spares.now k r result }
+        requires faced { (k : Knowledge) × (r : Recalled) × FacesWritten self.now spares.now k r (WriteEnd.Split page plan) }
+        ensures stands { (k : Knowledge) (r : Recalled) → FacesWritten self.now spares.now k r (WriteEnd.Split page plan) → Stands self.now spares.now k r result }
         ensures few { (r : Recalled) → left_at r spares.now result ≤ few_changes + 1 }
         ensures asks { IsSome (wanted_at spares.now result) }
     {
@@ -239,8 +239,8 @@ impl Task {
 
     /// A page's term is linked on its parent.
     fn post(&self, spares: &Spares, parent: Version, term: Term) -> State
-        requires faced { (k : Knowledge) × (r : Recalled) × HasWritten self.now spares.now k r (WriteEnd.Term parent term) }
-        ensures stands { (k : Knowledge) (r : Recalled) → HasWritten self.now spares.now k r (WriteEnd.Term parent term) → Stands self.now spares.now k r result }
+        requires faced { (k : Knowledge) × (r : Recalled) × FacesWritten self.now spares.now k r (WriteEnd.Term parent term) }
+        ensures stands { (k : Knowledge) (r : Recalled) → FacesWritten self.now spares.now k r (WriteEnd.Term parent term) → Stands self.now spares.now k r result }
         ensures few { (r : Recalled) → left_at r spares.now result ≤ few_changes + 1 }
         ensures asks { IsSome (wanted_at spares.now result) }
     {
@@ -255,8 +255,8 @@ impl Task {
 
     /// A root is linked over a page and its right.
     fn raise(&self, spares: &Spares, left: Version, root: Page) -> State
-        requires faced { (k : Knowledge) × (r : Recalled) × HasWritten self.now spares.now k r (WriteEnd.Root left root) }
-        ensures stands { (k : Knowledge) (r : Recalled) → HasWritten self.now spares.now k r (WriteEnd.Root left root) → Stands self.now spares.now k r result }
+        requires faced { (k : Knowledge) × (r : Recalled) × FacesWritten self.now spares.now k r (WriteEnd.Root left root) }
+        ensures stands { (k : Knowledge) (r : Recalled) → FacesWritten self.now spares.now k r (WriteEnd.Root left root) → Stands self.now spares.now k r result }
         ensures few { (r : Recalled) → left_at r spares.now result ≤ few_changes + 1 }
         ensures asks { IsSome (wanted_at spares.now result) }
     {
@@ -282,7 +282,7 @@ impl Task {
 
     /// An update that won has its reply; any other change is followed by a new round, and one for which nothing was free by none.
     fn end_change(&mut self, end: End, then: Then) -> State
-        ensures stands { (spares : Spares) (k : Knowledge) (r : Recalled) → HasChanged self.old spares k end then → Stands self.new spares k r result }
+        ensures stands { (spares : Spares) (k : Knowledge) (r : Recalled) → FacesChanged self.old spares k end then → Stands self.new spares k r result }
         ensures few { (spares : Spares) (r : Recalled) → with_errands self.new.errands (left_at r spares result) ≤ with_errands self.old.errands (left_for (Outcome.Changed end then)) }
         ensures asks { (spares : Spares) → IsSome (wanted_at spares result) }
         ensures same { IsSameTask self.old self.new }

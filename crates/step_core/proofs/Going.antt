@@ -20,7 +20,7 @@ use Rattle.op_machine.specs.Bounded.{IsSpentLast, Spends, steps_left}
 use Rattle.op_machine.specs.Ops.{Goes, IsTold, Obeys, Op, Shows, wanted_of}
 use Rattle.op_machine.specs.Outcomes.{HasLeft}
 use Rattle.op_machine.specs.Shows.{FitsLast, learn_last, recall_last}
-use Rattle.op_machine.specs.Tasks.{IsSameTask, Rests}
+use Rattle.op_machine.specs.Tasks.{IsSameTask, IsAtRest}
 use Rattle.op_machine.specs.declared.op.Want.TheVariants.{Step, Done}
 use Rattle.op_machine.specs.declared.state.State.TheVariants.{Begun}
 use Rattle.step_core.specs.declared.actor.Actor.{Actor}
@@ -30,11 +30,11 @@ use Rattle.step_core.specs.Spending.{IsSpentOn}
 use Rattle.step_core.proofs.Spending.{spends_last, spent_last}
 
 -- an actor without an operation, and one with an operation
-idle_of : (limits : Limits) (actor : ℕ) (k : Knowledge) (r : Recalled) (spares : Spares) (running : Option Running) → command_at running ≡ None → IsActorWith limits actor k r spares running → Rests limits spares k
+idle_of : (limits : Limits) (actor : ℕ) (k : Knowledge) (r : Recalled) (spares : Spares) (running : Option Running) → command_at running ≡ None → IsActorWith limits actor k r spares running → IsAtRest limits spares k
 idle_of limits actor k r spares None e h = h
 idle_of limits actor k r spares (Some running) e h = cc
 
-pub idle_at : (limits : Limits) (actor : ℕ) (k : Knowledge) (r : Recalled) (spares : Spares) (running : Option Running) → command_at running ≡ None → IsActorWith limits actor k r spares running → Rests limits spares k
+pub idle_at : (limits : Limits) (actor : ℕ) (k : Knowledge) (r : Recalled) (spares : Spares) (running : Option Running) → command_at running ≡ None → IsActorWith limits actor k r spares running → IsAtRest limits spares k
 idle_at limits actor k r spares running e h = idle_of limits actor k r spares running e h
 
 pub ready_some : (limits : Limits) (actor : ℕ) (k : Knowledge) (r : Recalled) (memory : Memory) (at : Actor) (running : Running) → at.running ≡ Some running → IsReady limits actor k r memory at
@@ -48,7 +48,7 @@ within_some table actor o running e h = subst (IsWithinAt table actor) e h
 pub wanted_some : (o : Option Running) (running : Running) (asked : StepOf Record) → o ≡ Some running → wanted_by o ≡ Some asked → asked ≡ running.wanted
 wanted_some o running asked e h = same_Some asked running.wanted (sym (subst (λ p. wanted_by p ≡ Some asked) e h))
 
-pub left_idle : (limits : Limits) (actor : ℕ) (k : Knowledge) (r : Recalled) (spares : Spares) (running : Running) (reply : Option Reply) → is_some reply ≡ true → IsLeft limits actor k r spares running reply → Rests limits spares k
+pub left_idle : (limits : Limits) (actor : ℕ) (k : Knowledge) (r : Recalled) (spares : Spares) (running : Running) (reply : Option Reply) → is_some reply ≡ true → IsLeft limits actor k r spares running reply → IsAtRest limits spares k
 left_idle limits actor k r spares running None e h = cc
 left_idle limits actor k r spares running (Some reply) e h = h
 

@@ -14,7 +14,7 @@ use Rattle.chain_search.specs.Steps.{IsAnswer}
 use Rattle.chain_search.specs.Tables.{IsWithin as IsWithinTable, Table}
 use Rattle.installs.specs.Spares.{Spares}
 use Rattle.op_machine.specs.Ops.{Goes}
-use Rattle.op_machine.specs.Tasks.{Rests}
+use Rattle.op_machine.specs.Tasks.{IsAtRest}
 use Rattle.step_core.specs.declared.actor.Actor.{Actor}
 use Rattle.step_core.specs.declared.actor.Running.{Running}
 
@@ -26,7 +26,7 @@ pub record IsRunning (limits : Limits) (actor : ℕ) (k : Knowledge) (r : Recall
 
 -- An actor without an operation rests.
 abbrev pub IsActorWith : Limits → ℕ → Knowledge → Recalled → Spares → Option Running → Type 0
-IsActorWith limits actor k r spares None = Rests limits spares k
+IsActorWith limits actor k r spares None = IsAtRest limits spares k
 IsActorWith limits actor k r spares (Some running) = IsRunning limits actor k r spares running
 
 -- What the actor keeps shows what it knows and recalls. What its entries show as taken and not linked, rows and pages, is
@@ -41,7 +41,7 @@ IsServed limits k memory step = (answer : Answer Record) → IsAnswer memory ste
 -- The operation goes on, or is done with the reply.
 abbrev pub IsLeft : Limits → ℕ → Knowledge → Recalled → Spares → Running → Option Reply → Type 0
 IsLeft limits actor k r spares running None = IsRunning limits actor k r spares running
-IsLeft limits actor k r spares running (Some reply) = Rests limits spares k
+IsLeft limits actor k r spares running (Some reply) = IsAtRest limits spares k
 
 -- what the actor knows after its step
 abbrev pub knows_then : Knowledge → StepOf Record → Answer Record → Option Reply → Knowledge

@@ -40,6 +40,9 @@ impl Chain {
             (IsGreatestChild (content_in self.now) (λ q. not (is_below key.now q))) }
         ensures index { 0 < level_in self.now → IsTrue (covers self.now key.now) → IsSome result }
     {
+        if self.deltas.is_empty() {
+            return self.base.child_of(key);
+        }
         self.page().child_of(key)
     }
 
@@ -50,6 +53,9 @@ impl Chain {
             (IsGreatestChild (content_in self.now) (λ q. is_below q key.now)) }
         ensures index { 0 < level_in self.now → IsTrue (is_below (low_in self.now) key.now) → IsSome result }
     {
+        if self.deltas.is_empty() {
+            return self.base.child_below(key);
+        }
         self.page().child_below(key)
     }
 }

@@ -1,0 +1,228 @@
+//! Rounds over pages by hand, one page after another.
+ghost use Rattle.std.specs.Prelude.{◌≡◌, ◌<◌, ◌≤◌, ◌∷◌, length, None, true, false, IfSome};
+ghost use Rattle.chain_search.specs.Chains.{is_removed, low_in};
+ghost use Rattle.chain_search.specs.Examples.{index};
+ghost use Rattle.chain_search.specs.Fitted.{FitsOver};
+ghost use Rattle.descent.specs.Ways.{reaches};
+
+use super::{WriteEnd, WriteRound};
+use base_page::{Content, Items, Page};
+use bw_model::{Key, Limits, Value};
+use chain_search::ChainPart;
+use deltas::{Delete, Record};
+use smo::{Version, plan_split};
+
+/// How a round went on: to the page that it asks for, or to its end.
+#[derive(Clone, Copy, Debug, PartialEq, Eq)]
+enum Turn {
+    To(u16),
+    Removed,
+    Consolidate,
+    Split,
+    Term(u16, u16, u16),
+    Root(u16),
+    Leaf(bool),
+    Other,
+}
+
+fn key(text: &[u8]) -> Key {
+    Key::from_slice(text).unwrap_or_default()
+}
+
+/// A leaf over all keys, with so many items.
+fn leaf(count: u8) -> Page
+    ensures level { result.level ≡ 0 }
+    ensures high { result.high ≡ None }
+    ensures right { result.right ≡ None }
+    ensures alive { result.removed ≡ false }
+{
+    let mut page = Page::new(0, Key::default(), None, None, Items::new());
+    for i in 0..count {
+        let at = key(&[b'x', i]);
+        if page.covers(&at) && page.has_room(1) {
+            page = page.with_put(at, Content::Value(Value::default()));
+        }
+    }
+    page
+}
+
+/// Page 1 as it was read, under so many deltas, which change nothing.
+fn first(deltas: usize, page: Page) -> Version
+    requires few { deltas ≤ 12 }
+    requires level { page.level ≡ 0 }
+    requires high { page.high ≡ None }
+    requires right { page.right ≡ None }
+    requires alive { page.removed ≡ false }
+    ensures alive { is_removed result.chain ≡ false }
+{
+    page.keeps_rules();
+    let mut part = ChainPart::new();
+    for _ in 0..deltas {
+        part.push(Record::Delete(Delete {
+            next: 3,
+            key: page.low().copied(),
+        }));
+    }
+    let (pid, head) = (1, 9);
+    let chain = part.over(page);
+    Version { pid, head, chain }
+}
+
+/// The page with one delta more, in row 7.
+fn grown(page: &Version, newest: Record) -> Version
+    requires over { FitsOver page.now.chain newest × (length page.now.chain ≤ 12) }
+    ensures chain { result.chain ≡ newest ∷ page.now.chain }
+{
+    page.chain.keeps_rules();
+    let (under, base) = page.chain.records();
+    let mut part = ChainPart::new();
+    part.push(newest);
+    for delta in under {
+        part.push(delta.copied());
+    }
+    let chain = part.over(base.copied());
+    let (pid, head) = (page.pid, 7);
+    Version { pid, head, chain }
+}
+
+/// A leaf of 16 items that was split to page 2, and page 2.
+fn halves() -> Option<(Version, Version)> {
+    let whole = first(0, leaf(16));
+    let plan = plan_split(&whole)?;
+    let left = grown(&whole, Record::Split(plan.split(2)));
+    let chain = ChainPart::new().over(plan.upper);
+    let (pid, head) = (2, 6);
+    Some((left, Version { pid, head, chain }))
+}
+
+/// An index page that has page 1 at the empty key.
+fn index() -> Page
+    ensures { result ≡ index }
+{
+    let page = 1;
+    let held = false;
+    let mut items = Items::new();
+    items.put(Key::default(), Content::Child { page, held });
+    Page::new(1, Key::default(), None, None, items)
+}
+
+/// The same as page 5.
+fn parent() -> Version {
+    let chain = ChainPart::new().over(index());
+    let (pid, head) = (5, 8);
+    Version { pid, head, chain }
+}
+
+/// Whether the parent, where there is one, isn't removed.
+fn stands(round: &WriteRound) -> bool
+    ensures { result ≡ true → IfSome round.now.parent (λ parent. is_removed parent.chain ≡ false) }
+{
+    match &round.parent {
+        None => true,
+        Some(parent) => !parent.chain.is_removed(),
+    }
+}
+
+/// Whether the page begins at or below the key.
+fn is_reached(round: &WriteRound, page: &Version) -> bool
+    ensures { result ≡ reaches round.now.key (low_in page.now.chain) }
+{
+    !round.key.cmp(page.chain.low()).is_lt()
+}
+
+/// What the round does with a page that it has read.
+fn meet(round: &mut WriteRound, page: Version) -> Turn
+    requires limits { round.old.limits.pids ≡ 4096 }
+    ensures limits { round.new.limits.pids ≡ 4096 }
+{
+    page.chain.keeps_rules();
+    if stands(round) {
+        if is_reached(round, &page) {
+            let end = round.treat(page);
+            return told(round, end);
+        }
+    }
+    Turn::Other
+}
+
+/// The turn that an end is, or the page that the round asks for.
+fn told(round: &WriteRound, end: Option<WriteEnd>) -> Turn {
+    match end {
+        None => round.descent.asked().map_or(Turn::Other, Turn::To),
+        Some(WriteEnd::Again) => Turn::Other,
+        Some(WriteEnd::Removed(_)) => Turn::Removed,
+        Some(WriteEnd::Consolidate(_)) => Turn::Consolidate,
+        Some(WriteEnd::Split { .. }) => Turn::Split,
+        Some(WriteEnd::Term { parent, term }) => Turn::Term(parent.pid, term.next, term.child),
+        Some(WriteEnd::Root { left, .. }) => Turn::Root(left.pid),
+        Some(WriteEnd::Leaf { parent, .. }) => Turn::Leaf(parent.is_some()),
+    }
+}
+
+/// What a writer does at a leaf of so many deltas and items, where so many deltas are due.
+fn at_leaf(deltas: usize, items: u8, due: usize) -> Option<Turn>
+    requires few { deltas ≤ 12 }
+    requires due { 0 < due }
+{
+    let limits = Limits::new(1, 4096, 16384, 1).ok()?;
+    let mut round = WriteRound::new(&limits, key(b"x"), due);
+    Some(meet(&mut round, first(deltas, leaf(items))))
+}
+
+/// What a writer does at a page that was split, and at the new page.
+fn at_halves() -> Option<[Turn; 2]> {
+    let limits = Limits::new(1, 4096, 16384, 1).ok()?;
+    let mut round = WriteRound::new(&limits, key(b"y"), 8);
+    let (left, right) = halves()?;
+    let aside = meet(&mut round, left);
+    Some([aside, meet(&mut round, right)])
+}
+
+/// The same below an index page that lacks the term.
+fn below_parent() -> Option<[Turn; 3]> {
+    let limits = Limits::new(1, 4096, 16384, 1).ok()?;
+    let mut round = WriteRound::new(&limits, key(b"y"), 8);
+    let (left, right) = halves()?;
+    let down = meet(&mut round, parent());
+    let aside = meet(&mut round, left);
+    Some([down, aside, meet(&mut round, right)])
+}
+
+#[test]
+fn consolidates_at_eight_deltas(rt: HostRuntime) {
+    let turns = [
+        at_leaf(7, 3, 8),
+        at_leaf(8, 3, 8),
+        at_leaf(0, 3, 1),
+        at_leaf(1, 3, 1),
+    ];
+    let leaf = Some(Turn::Leaf(false));
+    let long = Some(Turn::Consolidate);
+    assert_eq!(rt; turns, [leaf, long, leaf, long]);
+}
+
+#[test]
+fn splits_at_sixteen_items(rt: HostRuntime) {
+    let turns = [at_leaf(0, 15, 8), at_leaf(7, 16, 8), at_leaf(8, 16, 8)];
+    assert_eq!(rt;
+        turns,
+        [
+            Some(Turn::Leaf(false)),
+            Some(Turn::Split),
+            Some(Turn::Consolidate)
+        ]
+    );
+}
+
+#[test]
+fn finishes_a_split_without_a_parent(rt: HostRuntime) {
+    assert_eq!(rt; at_halves(), Some([Turn::To(2), Turn::Root(1)]));
+}
+
+#[test]
+fn finishes_a_split_below_a_parent(rt: HostRuntime) {
+    assert_eq!(rt;
+        below_parent(),
+        Some([Turn::To(1), Turn::To(2), Turn::Term(5, 8, 2)])
+    );
+}

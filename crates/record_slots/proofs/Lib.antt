@@ -1,0 +1,11 @@
+pub mod Flags
+pub mod ItemLaws
+pub mod ListLaws
+pub mod OneRow
+pub mod Refusals
+pub mod RowLaws
+pub mod RuleLaws
+pub mod SpellingLaws
+pub mod TextLaws
+pub mod WordLaws
+pub mod WrittenLaws

@@ -1,0 +1,76 @@
+-- Words have one row at most.
+use Rattle.std.proofs.Common.{◌≡◌, ◌<◌, ◌≤◌, ◌+◌, ◌*◌, ℕ, zero, suc, Bool, true, false, List, [], ◌∷◌, ◌++◌, length, get_or, take, drop, refl, sym, ap, subst, ◌∙◌, arith}
+use Rattle.std.specs.Prelude.{Option, Some, None, IfSome, if◌then◌else◌}
+use Rattle.std.specs.List.{All}
+use Rattle.std.proofs.lemmas.List.Elements.{All-head, All-tail}
+use Rattle.arrayvec.specs.ArrayVec.{ArrayVec}
+use Rattle.bw_model.specs.Bytes.{IsShort}
+use Rattle.base_page.specs.declared.item.Content.{Content}
+use Rattle.base_page.specs.declared.item.Content.TheVariants.{Value, Child}
+use Rattle.base_page.specs.declared.item.Item.{Item}
+use Rattle.base_page.specs.Pages.{IsOfLevel}
+use Rattle.base_page.specs.Rules.{is_held}
+use Rattle.record_slots.specs.declared.row.Row.{Row}
+use Rattle.record_slots.specs.Spelling.{text_words, field_words, bound_words, content_words, item_words, items_words}
+use Rattle.record_slots.specs.Spells.{IsShortContent}
+use Rattle.record_slots.specs.Texts.{bytes_in}
+use Rattle.record_slots.specs.Parts.{IsItem, IsRowIn}
+use Rattle.record_slots.proofs.TextLaws.{read_back}
+use Rattle.record_slots.proofs.ItemLaws.{first_ten, behind_ten}
+use Rattle.record_slots.proofs.RowLaws.{HasParts, row_length, parts_of, header_of, header_is, header_one}
+
+text_one : (x y : List ℕ) → IsShort x → IsShort y → length x ≡ length y → text_words 4 x ≡ text_words 4 y → x ≡ y
+text_one x y h g counts e =
+    let a = read_back 4 x h.bytes_fit (let s = h.short in omega arith) in
+    let b = read_back 4 y g.bytes_fit (let s = g.short in omega arith) in
+    sym a.are ∙ (λ i. bytes_in (counts i) (e i)) ∙ b.are
+
+field_one : (x y : List ℕ) → IsShort x → IsShort y → field_words x ≡ field_words y → x ≡ y
+field_one x y h g e = text_one x y h g (ap (λ ws. get_or ws 0 0) e) (ap (drop 1) e)
+
+bound_one : (x y : Option (List ℕ)) → IfSome x IsShort → IfSome y IsShort → bound_words x ≡ bound_words y → x ≡ y
+bound_one None None h g e = refl
+bound_one None (Some y) h g e = let f : 255 ≡ length y = ap (λ ws. get_or ws 0 0) e in let s = g.short in absurd (omega arith)
+bound_one (Some x) None h g e = let f : length x ≡ 255 = ap (λ ws. get_or ws 0 0) e in let s = h.short in absurd (omega arith)
+bound_one (Some x) (Some y) h g e = ap Some (field_one x y h g e)
+
+held_one : (a b : Bool) (n m : ℕ) → n ≤ 32 → m ≤ 32 → n + (if a then 256 else 0) ≡ m + (if b then 256 else 0) → (n ≡ m) × (a ≡ b)
+held_one true true n m nl ml e = (omega arith, refl)
+held_one false false n m nl ml e = (omega arith, refl)
+held_one true false n m nl ml e = absurd (omega arith)
+held_one false true n m nl ml e = absurd (omega arith)
+
+content_one : (level : ℕ) (c d : Content) → IsShortContent c → IsShortContent d → IsOfLevel level c → IsOfLevel level d → is_held c ≡ is_held d → content_words c ≡ content_words d → c ≡ d
+content_one level (Value v) (Value w) h g i j k e = ap Value (field_one v w h g e)
+content_one level (Value v) (Child p a) h g i j k e = absurd (omega arith)
+content_one level (Child p a) (Value w) h g i j k e = absurd (omega arith)
+content_one level (Child p a) (Child q b) h g i j k e = λ t. Child (ap (λ ws. get_or ws 0 0) e t) (k t)
+
+item_one : (level : ℕ) (x y : Item) → IsItem level x → IsItem level y → item_words x ≡ item_words y → x ≡ y
+item_one level x y h g e =
+    let marks = held_one (is_held x.content) (is_held y.content) (length x.key) (length y.key) h.short.0.short g.short.0.short (ap (λ ws. get_or ws 0 0) e) in
+    let keys = text_one x.key y.key h.short.0 g.short.0 marks.0 (ap (λ ws. take 4 (drop 1 ws)) e) in
+    let contents = content_one level x.content y.content h.short.1 g.short.1 h.kind g.kind marks.1 (ap (drop 5) e) in
+    λ t. record { key = keys t; content = contents t }
+
+items_one : (level : ℕ) (xs ys : List Item) → All (IsItem level) xs → All (IsItem level) ys → length xs ≡ length ys → items_words xs ≡ items_words ys → xs ≡ ys
+items_one level [] [] h g l e = refl
+items_one level [] (y ∷ ys) h g l e = absurd (omega arith)
+items_one level (x ∷ xs) [] h g l e = absurd (omega arith)
+items_one level (x ∷ xs) (y ∷ ys) h g l e =
+    let first : item_words x ≡ item_words y = sym (first_ten x (items_words xs)) ∙ ap (take 10) e ∙ first_ten y (items_words ys) in
+    let behind : items_words xs ≡ items_words ys = sym (behind_ten x (items_words xs) 0) ∙ ap (drop 10) e ∙ behind_ten y (items_words ys) 0 in
+    let one = item_one level x y (All-head (IsItem level) x xs h) (All-head (IsItem level) y ys g) first in
+    let rest = items_one level xs ys (All-tail (IsItem level) x xs h) (All-tail (IsItem level) y ys g) (omega arith) behind in
+    λ i. one i ∷ rest i
+
+pub row_one : (words : List ℕ) (one other : Row) → IsRowIn words one → IsRowIn words other → one ≡ other
+row_one words one other h g =
+    let a = parts_of words one h in
+    let b = parts_of words other g in
+    let head = header_one (get_or words 0 0) (header_of one) (header_of other) (header_is words one h) (header_is words other g) in
+    let first = field_one one.first other.first h.is.first g.is.first (a.first ∙ sym b.first) in
+    let second = bound_one one.second other.second h.is.second g.is.second (a.second ∙ sym b.second) in
+    let each = subst (λ l. All (IsItem l) other.items.items) (sym head.1) g.is.items in
+    let items = items_one one.level one.items.items other.items.items h.is.items each head.2 (a.items ∙ ap (λ n. take (10 * n) (drop 13 words)) head.2 ∙ sym b.items) in
+    λ i. record { kind = head.0 i; level = head.1 i; next = (sym a.next ∙ b.next) i; page = (sym a.page ∙ b.page) i; first = first i; second = second i; items = record { items = items i } }

@@ -1,0 +1,5 @@
+pub mod Parts
+pub mod Rules
+pub mod Spelling
+pub mod Spells
+pub mod Texts

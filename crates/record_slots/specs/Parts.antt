@@ -1,0 +1,113 @@
+-- The parts of a row, whatever its kind.
+use Rattle.std.specs.Prelude.{◌≡◌, ◌≢◌, ◌==◌, ◌<◌, ◌≤◌, ◌+◌, ◌*◌, ℕ, Bool, true, ◌&&◌, List, [], ◌∷◌, length, Option, Some, IfSome, unwrap_or, ⊤}
+use Rattle.std.specs.List.{All}
+use Rattle.arrayvec.specs.ArrayVec.{ArrayVec}
+use Rattle.bw_model.specs.Bytes.{IsShort}
+use Rattle.base_page.specs.declared.item.Content.{Content}
+use Rattle.base_page.specs.declared.item.Content.TheVariants.{Value, Child}
+use Rattle.base_page.specs.declared.item.Item.{Item}
+use Rattle.base_page.specs.Pages.{IsOfLevel}
+use Rattle.base_page.specs.Rules.{is_held}
+use Rattle.deltas.specs.Spellable.{IsPid, HasPid, IsSpellable}
+use Rattle.deltas.specs.declared.record.Record.{Record}
+use Rattle.deltas.specs.declared.record.Record.TheVariants.{Base, Put, Delete, Split, Term, Hold, Remove, Merge, Unterm}
+use Rattle.record_slots.specs.declared.row.Header.{Header}
+use Rattle.record_slots.specs.declared.row.Row.{Row}
+use Rattle.record_slots.specs.Spelling.{row_words, content_words, item_words, items_words}
+use Rattle.record_slots.specs.Spells.{IsShortContent, IsShortItem}
+
+-- An item of a page of the level: its texts are short, and its child is a page.
+pub record IsItem (level : ℕ) (item : Item) : Type 0 where
+  pub short : IsShortItem item
+  pub kind : IsOfLevel level item.content
+  pub child : HasPid item.content
+
+-- the words spell a child's PID, what such an item has at its key, such an item, and such items
+pub record IsChildIn (words : List ℕ) (page : ℕ) : Type 0 where
+  pub pid : IsPid page
+  pub are : page ∷ 0 ∷ 0 ∷ 0 ∷ 0 ∷ [] ≡ words
+
+pub record IsContentIn (level : ℕ) (held : Bool) (words : List ℕ) (content : Content) : Type 0 where
+  pub short : IsShortContent content
+  pub kind : IsOfLevel level content
+  pub child : HasPid content
+  pub mark : is_held content ≡ held
+  pub are : content_words content ≡ words
+
+pub record IsItemIn (level : ℕ) (words : List ℕ) (item : Item) : Type 0 where
+  pub is : IsItem level item
+  pub are : item_words item ≡ words
+
+pub record AreItemsIn (level count : ℕ) (words : List ℕ) (items : ArrayVec Item) : Type 0 where
+  pub counts : length items.items ≡ count
+  pub each : All (IsItem level) items.items
+  pub are : items_words items.items ≡ words
+
+-- nothing stands in the words
+abbrev pub are_zeros : List ℕ → Bool
+are_zeros [] = true
+are_zeros (word ∷ words) = (word == 0) && are_zeros words
+
+-- the number, which is below the limit
+pub record IsNumberIn (word limit number : ℕ) : Type 0 where
+  pub below : number < limit
+  pub are : number ≡ word
+
+-- what stands in the first word
+pub record IsHeaderIn (word : ℕ) (header : Header) : Type 0 where
+  pub kind : header.kind < 256
+  pub level : header.level ≤ 15
+  pub few : header.count ≤ 24
+  pub are : header.kind + 256 * header.level + 65536 * header.count ≡ word
+
+-- The numbers are in their ranges, the texts are short, and the items are of the level.
+pub record IsRowOfParts (row : Row) : Type 0 where
+  pub kind : row.kind < 256
+  pub level : row.level ≤ 15
+  pub next : row.next < 16384
+  pub page : row.page < 4096
+  pub first : IsShort row.first
+  pub second : IfSome row.second IsShort
+  pub few : length row.items.items ≤ 24
+  pub items : All (IsItem row.level) row.items.items
+
+abbrev pub words_of_row : Row → List ℕ
+words_of_row row = row_words row.kind row.level row.next row.page row.first row.second row.items.items
+
+pub record IsRowIn (words : List ℕ) (row : Row) : Type 0 where
+  pub is : IsRowOfParts row
+  pub are : words_of_row row ≡ words
+
+-- the parts that each kind of record has
+abbrev pub row_of : Record → Row
+row_of (Base page) = record { kind = 1; level = page.level; next = 0; page = unwrap_or page.right 0; first = page.low; second = page.high; items = record { items = page.items } }
+row_of (Put put) = record { kind = 2; level = 0; next = put.next; page = 0; first = []; second = Some []; items = record { items = record { key = put.key; content = Value put.value } ∷ [] } }
+row_of (Delete delete) = record { kind = 3; level = 0; next = delete.next; page = 0; first = delete.key; second = Some []; items = record { items = [] } }
+row_of (Split split) = record { kind = 4; level = split.level; next = split.next; page = split.page; first = split.separator; second = Some []; items = record { items = [] } }
+row_of (Term term) = record { kind = 5; level = term.level; next = term.next; page = term.child; first = term.separator; second = Some []; items = record { items = [] } }
+row_of (Hold hold) = record { kind = 6; level = hold.level; next = hold.next; page = hold.child; first = hold.separator; second = Some []; items = record { items = [] } }
+row_of (Remove remove) = record { kind = 7; level = remove.level; next = remove.next; page = 0; first = []; second = Some []; items = record { items = [] } }
+row_of (Merge merge) = record { kind = 8; level = merge.level; next = merge.next; page = unwrap_or merge.right 0; first = merge.low; second = merge.high; items = record { items = merge.items } }
+row_of (Unterm unterm) = record { kind = 9; level = unterm.level; next = unterm.next; page = unterm.child; first = unterm.separator; second = Some []; items = record { items = [] } }
+
+-- A row can spell the record, and these are its parts.
+pub record IsRecordOf (row : Row) (content : Record) : Type 0 where
+  pub spellable : IsSpellable content
+  pub are : row_of content ≡ row
+
+-- no second key and no items
+pub record IsBare (row : Row) : Type 0 where
+  pub second : row.second ≡ Some []
+  pub items : row.items.items ≡ []
+
+-- a row under it, a page, a key that isn't empty, and nothing else
+pub record IsLinkOf (row : Row) : Type 0 where
+  pub next : 0 < row.next
+  pub page : 0 < row.page
+  pub above : row.first ≢ []
+  pub bare : IsBare row
+
+-- the right that the number stands for: 0 for none
+pub record IsRightIn (page : ℕ) (right : Option ℕ) : Type 0 where
+  pub pid : IfSome right IsPid
+  pub is : unwrap_or right 0 ≡ page

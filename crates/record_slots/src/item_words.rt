@@ -1,0 +1,71 @@
+//! Items read from words.
+ghost use Rattle.std.specs.Prelude.{◌≡◌, ◌≤◌, ◌*◌, length};
+ghost use Rattle.record_slots.specs.Parts.{IsChildIn, IsContentIn, IsItemIn, AreItemsIn};
+ghost use Rattle.record_slots.specs.Spells.{FindsOne};
+
+use crate::BadRow;
+use crate::texts::{key_in, value_in};
+use arrayvec::ArrayVec;
+use base_page::{Content, Item, MAX_ITEMS};
+
+/// The mark of a held term, beside its key's length.
+const HELD: u64 = 256;
+
+/// The items of a page of the level, from ten words each.
+pub(crate) fn items_in(
+    level: u8,
+    count: usize,
+    words: &[u64],
+) -> Result<ArrayVec<Item, MAX_ITEMS>, BadRow>
+    requires few { count ≤ 24 }
+    requires words { length words.now ≡ 10 * count }
+    ensures { FindsOne (AreItemsIn level count words.now) result }
+{
+    let mut items = ArrayVec::new();
+    for place in 0..count {
+        items.push(item_in(level, &words[10 * place..10 * place + 10])?);
+    }
+    Ok(items)
+}
+
+/// One item of a page of the level.
+fn item_in(level: u8, words: &[u64]) -> Result<Item, BadRow>
+    requires { length words.now ≡ 10 }
+    ensures { FindsOne (IsItemIn level words.now) result }
+{
+    let first = words[0];
+    let held = first >= HELD;
+    let count = if held { first - HELD } else { first };
+    let key = key_in(count, &words[1..5])?;
+    let content = content_in(level, held, &words[5..])?;
+    Ok(Item { key, content })
+}
+
+/// What an item of the level has at its key: a leaf a value, an index page a child.
+fn content_in(level: u8, held: bool, words: &[u64]) -> Result<Content, BadRow>
+    requires { length words.now ≡ 5 }
+    ensures { FindsOne (IsContentIn level held words.now) result }
+{
+    if level > 0 {
+        let page = child_in(words)?;
+        return Ok(Content::Child { page, held });
+    }
+    if held {
+        return Err(BadRow);
+    }
+    Ok(Content::Value(value_in(words[0], &words[1..])?))
+}
+
+/// The PID of a child, with four zeros behind it.
+fn child_in(words: &[u64]) -> Result<u16, BadRow>
+    requires { length words.now ≡ 5 }
+    ensures { FindsOne (IsChildIn words.now) result }
+{
+    let page = words[0];
+    let rest = words[1] == 0 && words[2] == 0 && words[3] == 0 && words[4] == 0;
+    if rest && (1..4096).contains(&page) {
+        Ok(page as u16)
+    } else {
+        Err(BadRow)
+    }
+}

@@ -1,0 +1,14 @@
+//! Records read from rows of words.
+ghost use Rattle.record_slots.specs.Spells.{FindsOne, IsSpelling};
+
+use crate::BadRow;
+use crate::records::record_in;
+use crate::row::row_in;
+use deltas::Record;
+
+/// The record that the words spell, refused exactly where they spell none.
+pub fn from_words(words: &[u64; 256]) -> Result<Record, BadRow>
+    ensures { FindsOne (λ content. IsSpelling content words.now) result }
+{
+    record_in(row_in(words)?)
+}

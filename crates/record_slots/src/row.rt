@@ -1,0 +1,101 @@
+//! The parts of a row.
+ghost use Rattle.std.specs.Prelude.{◌≡◌, ◌≤◌};
+ghost use Rattle.record_slots.specs.Parts.{are_zeros, IsHeaderIn, IsNumberIn, IsRowIn};
+ghost use Rattle.record_slots.specs.Spells.{FindsOne};
+
+use crate::item_words::items_in;
+use crate::texts::{bound_in, field_in};
+use arrayvec::ArrayVec;
+use base_page::{Item, MAX_ITEMS};
+use bw_model::Key;
+use thiserror::Error;
+
+/// The words spell no record.
+#[derive(Clone, Copy, Debug, PartialEq, Eq, Error)]
+#[error("the words spell no record")]
+pub struct BadRow;
+
+/// What a row has, whatever its kind.
+#[derive(Debug, Drop)]
+pub struct Row {
+    pub kind: u8,
+    pub level: u8,
+    pub next: u16,
+    pub page: u16,
+    pub first: Key,
+    pub second: Option<Key>,
+    pub items: ArrayVec<Item, MAX_ITEMS>,
+}
+
+/// What stands in a row's first word.
+#[derive(Clone, Copy, Debug)]
+pub struct Header {
+    pub kind: u8,
+    pub level: u8,
+    pub count: usize,
+}
+
+/// The parts of a row.
+pub(crate) fn row_in(words: &[u64; 256]) -> Result<Row, BadRow>
+    ensures { FindsOne (IsRowIn words.now) result }
+{
+    let header = header_in(words[0])?;
+    let next = number_in(words[1], 16384)?;
+    let page = number_in(words[2], 4096)?;
+    let first = field_in(&words[3..8])?;
+    let second = bound_in(&words[8..13])?;
+    let end = 13 + 10 * header.count;
+    let items = items_in(header.level, header.count, &words[13..end])?;
+    if !are_zeros(&words[end..]) {
+        return Err(BadRow);
+    }
+    Ok(Row {
+        kind: header.kind,
+        level: header.level,
+        next,
+        page,
+        first,
+        second,
+        items,
+    })
+}
+
+/// The parts of a row's first word, which has a byte each for the kind and the level and the rest for the count.
+fn header_in(word: u64) -> Result<Header, BadRow>
+    ensures { FindsOne (IsHeaderIn word) result }
+{
+    let level = word / 256 % 256;
+    let count = word / 65536;
+    if level > 15 || count > 24 {
+        return Err(BadRow);
+    }
+    Ok(Header {
+        kind: (word % 256) as u8,
+        level: level as u8,
+        count: count as usize,
+    })
+}
+
+/// The number, which is to be below a limit.
+fn number_in(word: u64, limit: u64) -> Result<u16, BadRow>
+    requires { limit ≤ 65536 }
+    ensures { FindsOne (IsNumberIn word limit) result }
+{
+    if word < limit {
+        Ok(word as u16)
+    } else {
+        Err(BadRow)
+    }
+}
+
+/// Whether nothing stands in the words.
+fn are_zeros(words: &[u64]) -> bool
+    ensures { result ≡ are_zeros words.now }
+{
+    for word in words {
+        if *word != 0 {
+            return false;
+        }
+    }
+    true
+}

@@ -1,0 +1,198 @@
+//! Records written as rows of words.
+ghost use Rattle.std.specs.Prelude.{◌≡◌, ◌≤◌, ◌+◌, ◌++◌, ◌*◌, ◌∷◌, [], Some, drop, length, option_copied, replicate, slice_index, ◌-◌};
+ghost use Rattle.record_slots.specs.Spelling.{bound_words, content_words, field_words, item_words, items_words, packed, row_words, text_words, words_of};
+
+use arrayvec::ArrayVec;
+use base_page::{Content, Item};
+use bw_model::Key;
+use deltas::Record;
+
+/// How many words a row has.
+const ROW: usize = 256;
+
+/// The words that spell the record, where a row can spell it.
+pub fn to_words(content: &Record) -> [u64; 256]
+    ensures { result ≡ words_of content.now }
+{
+    let none = Key::default();
+    match content {
+        Record::Base(page) => {
+            let right = page.right().unwrap_or(0);
+            let items = page.items().as_slice();
+            row_words(1, page.level(), 0, right, page.low(), page.high(), items)
+        }
+        Record::Put(put) => {
+            let item = Item {
+                key: put.key.copied(),
+                content: Content::Value(put.value.copied()),
+            };
+            row_words(2, 0, put.next, 0, &none, Some(&none), &[item])
+        }
+        Record::Delete(delete) => { row_words(3, 0, delete.next, 0, &delete.key, Some(&none), &[]) }
+        Record::Split(split) => link_words(
+            4,
+            split.level,
+            split.next,
+            split.page,
+            &split.separator,
+        ),
+        Record::Term(term) => link_words(5, term.level, term.next, term.child, &term.separator),
+        Record::Hold(hold) => link_words(6, hold.level, hold.next, hold.child, &hold.separator),
+        Record::Remove(remove) => link_words(7, remove.level, remove.next, 0, &none),
+        Record::Merge(merge) => {
+            let right = merge.right.unwrap_or(0);
+            let items = merge.items.as_slice();
+            row_words(
+                8,
+                merge.level,
+                merge.next,
+                right,
+                &merge.low,
+                merge.high.as_ref(),
+                items,
+            )
+        }
+        Record::Unterm(unterm) => {
+            link_words(
+                9,
+                unterm.level,
+                unterm.next,
+                unterm.child,
+                &unterm.separator,
+            )
+        }
+    }
+}
+
+/// A row with one key and no items.
+fn link_words(kind: u8, level: u8, next: u16, page: u16, first: &Key) -> [u64; 256]
+    ensures { result ≡ row_words kind level next page first.now (Some []) [] }
+{
+    row_words(kind, level, next, page, first, Some(&Key::default()), &[])
+}
+
+/// A row of these parts.
+fn row_words(
+    kind: u8,
+    level: u8,
+    next: u16,
+    page: u16,
+    first: &Key,
+    second: Option<&Key>,
+    items: &[Item],
+) -> [u64; 256]
+    requires { length items.now ≤ 24 }
+    ensures { result ≡ row_words kind level next page first.now (option_copied second.entry) items.now }
+{
+    let mut words = ArrayVec::new();
+    words.push(u64::from(kind) + 256 * u64::from(level) + 65536 * items.len() as u64);
+    words.push(u64::from(next));
+    words.push(u64::from(page));
+    push_field(&mut words, first.as_slice());
+    push_bound(&mut words, second);
+    push_items(&mut words, items);
+    push_zeros(&mut words);
+    words.into_inner().unwrap()
+}
+
+fn push_items(words: &mut ArrayVec<u64, ROW>, items: &[Item])
+    requires { length words.old.items + 10 * length items.now ≤ 256 }
+    ensures { words.new.items ≡ words.old.items ++ items_words items.now }
+{
+    for item in items {
+        push_item(words, item);
+    }
+}
+
+fn push_item(words: &mut ArrayVec<u64, ROW>, item: &Item)
+    requires { length words.old.items + 10 ≤ 256 }
+    ensures { words.new.items ≡ words.old.items ++ item_words item.now }
+{
+    let key = item.key.as_slice();
+    let count = key.len() as u64;
+    match &item.content {
+        Content::Value(value) => {
+            words.push(count);
+            push_text(words, key);
+            push_field(words, value.as_slice());
+        }
+        Content::Child { page, held } => {
+            words.push(if *held { count + 256 } else { count });
+            push_text(words, key);
+            push_five(words, u64::from(*page));
+        }
+    }
+}
+
+/// A key or a value with its length.
+fn push_field(words: &mut ArrayVec<u64, ROW>, bytes: &[u8])
+    requires room { length words.old.items + 5 ≤ 256 }
+    requires short { length bytes.now ≤ 32 }
+    ensures { words.new.items ≡ words.old.items ++ field_words bytes.now }
+{
+    words.push(bytes.len() as u64);
+    push_text(words, bytes);
+}
+
+fn push_bound(words: &mut ArrayVec<u64, ROW>, bound: Option<&Key>)
+    requires { length words.old.items + 5 ≤ 256 }
+    ensures { words.new.items ≡ words.old.items ++ bound_words (option_copied bound.entry) }
+{
+    match bound {
+        None => push_five(words, 255),
+        Some(key) => push_field(words, key.as_slice()),
+    }
+}
+
+/// A number, and four words of nothing.
+fn push_five(words: &mut ArrayVec<u64, ROW>, number: u64)
+    requires { length words.old.items + 5 ≤ 256 }
+    ensures { words.new.items ≡ words.old.items ++ number ∷ 0 ∷ 0 ∷ 0 ∷ 0 ∷ [] }
+{
+    words.push(number);
+    words.push(0);
+    words.push(0);
+    words.push(0);
+    words.push(0);
+}
+
+/// Four words of bytes.
+fn push_text(words: &mut ArrayVec<u64, ROW>, bytes: &[u8])
+    requires { length words.old.items + 4 ≤ 256 }
+    ensures { words.new.items ≡ words.old.items ++ text_words 4 bytes.now }
+{
+    words.push(word_at(bytes, 0));
+    words.push(word_at(bytes, 8));
+    words.push(word_at(bytes, 16));
+    words.push(word_at(bytes, 24));
+}
+
+/// The eight bytes from a place on as one word, with zeros behind the last byte.
+fn word_at(bytes: &[u8], from: usize) -> u64
+    requires { from ≤ 24 }
+    ensures { result ≡ packed 8 (drop from bytes.now) }
+{
+    let mut word = 0;
+    for place in from..from + 8 {
+        let byte = byte_at(bytes, place);
+        word = word * 256 + u64::from(byte);
+    }
+    word
+}
+
+/// The byte at the place, or 0 behind the last one.
+fn byte_at(bytes: &[u8], place: usize) -> u8
+    ensures { result ≡ slice_index bytes.now place }
+{
+    if place < bytes.len() { bytes[place] } else { 0 }
+}
+
+/// Zeros up to the end of the row.
+fn push_zeros(words: &mut ArrayVec<u64, ROW>)
+    requires { length words.old.items ≤ 256 }
+    ensures { words.new.items ≡ words.old.items ++ replicate (256 - length words.old.items) 0 }
+{
+    for _ in words.len()..ROW {
+        words.push(0);
+    }
+}

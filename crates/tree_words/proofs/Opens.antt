@@ -1,0 +1,241 @@
+-- The opening words are those of the opening memory.
+use Rattle.std.proofs.Common.{◌≡◌, ◌≢◌, ◌⊎◌, ◌<◌, ◌≤◌, ◌+◌, ◌*◌, ◌/◌, ◌%◌, ◌-◌, ℕ, zero, suc, List, [], ◌∷◌, length, set, get_or, replicate, Bool, true, false, eqb, inl, inr, refl, sym, ap, subst, arith, ◌∙◌, get_or-set_same, get_or-set_other, length-set, ne_eqb, eq-eqb}
+use Rattle.std.specs.Prelude.{Option, Some, None, if◌then◌else◌, nat_le, nat_lt, ◌&&◌}
+use Rattle.std.specs.Int.{bit_at}
+use Rattle.std.proofs.lemmas.Bool.{cases_lt}
+use Rattle.std.proofs.lemmas.Bool.Decides.{nat_tests}
+use Rattle.std.proofs.lemmas.List.{get_or-replicate, length-replicate}
+use Rattle.std.proofs.lemmas.Nat.Bits.{bit_at_mask_below, bit_at_mask_inside, bit_at_ones, bit_at-zero}
+use Rattle.bw_model.specs.declared.limits.Limits.{Limits}
+use Rattle.base_page.specs.Pages.{empty_leaf}
+use Rattle.deltas.specs.declared.record.Record.{Record}
+use Rattle.deltas.specs.declared.record.Record.TheVariants.{Base}
+use Rattle.deltas.specs.Memory.{Memory, opening}
+use Rattle.chain_search.specs.Steps.{IsWordOf}
+use Rattle.record_slots.specs.Spelling.{words_of}
+use Rattle.tree_words.specs.Layout.{slot_at, pid_bits_at, row_bits_at, epoch_at, announced_at, row_at, width, IsPad}
+use Rattle.tree_words.specs.Opening.{with_ones, with_free, opening_words}
+use Rattle.tree_words.specs.Words.{words_in, SpellsWhere, AreWordsOf}
+
+same_or_not : (a b : ℕ) → (a ≡ b) ⊎ (a ≢ b)
+same_or_not a b = elim (cases_lt a b) [
+  | inl lt ↦ inr (λ same. absurd (omega arith))
+  | inr ge ↦ elim (cases_lt b a) [ inl lt ↦ inr (λ same. absurd (omega arith)) | inr le ↦ inl (omega arith) ]
+]
+
+le_true : (a b : ℕ) → a ≤ b → nat_le a b ≡ true
+le_true a b h = grind (arith, nat_tests)
+
+le_false : (a b : ℕ) → b < a → nat_le a b ≡ false
+le_false a b h = grind (arith, nat_tests)
+
+lt_true : (a b : ℕ) → a < b → nat_lt a b ≡ true
+lt_true a b h = grind (arith, nat_tests)
+
+lt_false : (a b : ℕ) → b ≤ a → nat_lt a b ≡ false
+lt_false a b h = grind (arith, nat_tests)
+
+ones_length : (from n : ℕ) (ws : List ℕ) → length (with_ones from n ws) ≡ length ws
+ones_length from zero ws = refl
+ones_length from (suc n) ws = length-set (with_ones from n ws) (from + n) 18446744073709551615 ∙ ones_length from n ws
+
+free_length : (from n : ℕ) (ws : List ℕ) → length (with_free from n ws) ≡ length ws
+free_length from n ws = length-set (with_ones from n ws) from 18446744073709551612 ∙ ones_length from n ws
+
+ones_inside : (from n : ℕ) (ws : List ℕ) (k : ℕ) → k < n → from + n ≤ length ws → get_or (with_ones from n ws) (from + k) 0 ≡ 18446744073709551615
+ones_inside from zero ws k h l = absurd (omega arith)
+ones_inside from (suc n) ws k h l = elim (same_or_not k n) [
+  | inl same ↦ let len = ones_length from n ws in rw same (get_or-set_same (with_ones from n ws) (from + n) 18446744073709551615 0 (omega arith))
+  | inr apart ↦ get_or-set_other (with_ones from n ws) (from + n) (from + k) 18446744073709551615 0 (λ e. apart (omega arith)) ∙ ones_inside from n ws k (omega arith) (omega arith)
+]
+
+ones_outside : (from n : ℕ) (ws : List ℕ) (i : ℕ) → ((k : ℕ) → k < n → i ≢ from + k) → get_or (with_ones from n ws) i 0 ≡ get_or ws i 0
+ones_outside from zero ws i h = refl
+ones_outside from (suc n) ws i h = get_or-set_other (with_ones from n ws) (from + n) i 18446744073709551615 0 (h n (omega arith)) ∙ ones_outside from n ws i (λ k lt. h k (omega arith))
+
+free_outside : (from n : ℕ) (ws : List ℕ) (i : ℕ) → 0 < n → ((k : ℕ) → k < n → i ≢ from + k) → get_or (with_free from n ws) i 0 ≡ get_or ws i 0
+free_outside from n ws i some h = get_or-set_other (with_ones from n ws) from i 18446744073709551612 0 (λ e. h 0 some (omega arith)) ∙ ones_outside from n ws i h
+
+-- a word of numbers that are free from 2 on, up to the count
+abbrev Free : ℕ → ℕ → ℕ → Type 0
+Free count word bits = IsWordOf (λ n. nat_le 2 n && nat_lt n count) word bits
+
+low_word : (count : ℕ) → 64 ≤ count → Free count 0 18446744073709551612
+low_word count some = record { fits = omega arith; says = low }
+  where
+    low : (i : ℕ) → i < 64 → bit_at 18446744073709551612 i ≡ (if nat_le 2 (64 * 0 + i) && nat_lt (64 * 0 + i) count then 1 else 0)
+    low i below = elim (cases_lt i 2) [
+      | inl lt ↦ rw (le_false 2 (64 * 0 + i) (omega arith)) (bit_at_mask_below 2 64 i lt)
+      | inr ge ↦ rw (le_true 2 (64 * 0 + i) (omega arith), lt_true (64 * 0 + i) count (omega arith)) (bit_at_mask_inside 2 64 i ge below)
+    ]
+
+high_word : (count word : ℕ) → count % 64 ≡ 0 → 0 < word → word < count / 64 → Free count word 18446744073709551615
+high_word count word whole some within = record {
+  fits = omega arith;
+  says = λ i below. rw (le_true 2 (64 * word + i) (omega arith), lt_true (64 * word + i) count (omega arith)) (bit_at_ones 64 i below);
+}
+
+no_bit : (i : ℕ) → bit_at 0 i ≡ 0
+no_bit i = bit_at-zero i
+
+past_word : (count word : ℕ) → count % 64 ≡ 0 → count / 64 ≤ word → Free count word 0
+past_word count word whole past = record {
+  fits = omega arith;
+  says = λ i below. rw (lt_false (64 * word + i) count (omega arith)) (no_bit i ∙ and_false (nat_le 2 (64 * word + i)));
+}
+  where
+    and_false : (b : Bool) → ◌≡◌ {A = ℕ} 0 (if b && false then 1 else 0)
+    and_false true = refl
+    and_false false = refl
+
+free_inside : (count from word : ℕ) (ws : List ℕ) → count % 64 ≡ 0 → 64 ≤ count → word < count / 64 → from + count / 64 ≤ length ws → Free count word (get_or (with_free from (count / 64) ws) (from + word) 0)
+free_inside count from word ws whole some within long = let len = ones_length from (count / 64) ws in elim (same_or_not word 0) [
+  | inl first ↦ subst (λ w. Free count w (get_or (with_free from (count / 64) ws) (from + w) 0)) (sym first)
+      (subst (Free count 0) (sym (ap (λ i. get_or (with_free from (count / 64) ws) i 0) (omega arith) ∙ get_or-set_same (with_ones from (count / 64) ws) from 18446744073709551612 0 (omega arith))) (low_word count some))
+  | inr other ↦ subst (Free count word) (sym (get_or-set_other (with_ones from (count / 64) ws) from (from + word) 18446744073709551612 0 (λ e. other (omega arith)) ∙ ones_inside from (count / 64) ws word within long)) (high_word count word whole (omega arith) within)
+]
+
+-- the words of the row that opens: a header, the mark of no bound, and else 0
+base_word : (j : ℕ) → j ≢ 0 → j ≢ 8 → j < 256 → get_or (words_of (Base empty_leaf)) j 0 ≡ 0
+base_word zero a b lt = absurd (a refl)
+base_word (suc zero) a b lt = refl
+base_word (suc (suc zero)) a b lt = refl
+base_word (suc (suc (suc zero))) a b lt = refl
+base_word (suc (suc (suc (suc zero)))) a b lt = refl
+base_word (suc (suc (suc (suc (suc zero))))) a b lt = refl
+base_word (suc (suc (suc (suc (suc (suc zero)))))) a b lt = refl
+base_word (suc (suc (suc (suc (suc (suc (suc zero))))))) a b lt = refl
+base_word (suc (suc (suc (suc (suc (suc (suc (suc zero)))))))) a b lt = absurd (b refl)
+base_word (suc (suc (suc (suc (suc (suc (suc (suc (suc zero))))))))) a b lt = refl
+base_word (suc (suc (suc (suc (suc (suc (suc (suc (suc (suc zero)))))))))) a b lt = refl
+base_word (suc (suc (suc (suc (suc (suc (suc (suc (suc (suc (suc zero))))))))))) a b lt = refl
+base_word (suc (suc (suc (suc (suc (suc (suc (suc (suc (suc (suc (suc zero)))))))))))) a b lt = refl
+base_word (suc (suc (suc (suc (suc (suc (suc (suc (suc (suc (suc (suc (suc j))))))))))))) a b lt = get_or-replicate {A = ℕ} 243 j 0 0 (omega arith)
+
+module _ (limits : Limits) where
+  abbrev L0 : List ℕ
+  L0 = replicate (width limits) 0
+
+  abbrev L1 : List ℕ
+  L1 = with_free (pid_bits_at 0) (limits.pids / 64) L0
+
+  abbrev L2 : List ℕ
+  L2 = with_free (row_bits_at 0) (limits.rows / 64) L1
+
+  abbrev L3 : List ℕ
+  L3 = set L2 0 1
+
+  abbrev L4 : List ℕ
+  L4 = set L3 1 1
+
+  abbrev L5 : List ℕ
+  L5 = set L4 epoch_at limits.epoch
+
+  abbrev L6 : List ℕ
+  L6 = set L5 (row_at 1 0) 1
+
+  some_pids : 64 ≤ limits.pids
+  some_pids = limits.allowed.some_pids
+
+  few_pids : limits.pids ≤ 4096
+  few_pids = limits.allowed.few_pids
+
+  some_rows : 64 ≤ limits.rows
+  some_rows = limits.allowed.some_rows
+
+  few_rows : limits.rows ≤ 16384
+  few_rows = limits.allowed.few_rows
+
+  l0 : length L0 ≡ width limits
+  l0 = length-replicate (width limits) 0
+
+  l1 : length L1 ≡ width limits
+  l1 = free_length (pid_bits_at 0) (limits.pids / 64) L0 ∙ l0
+
+  l2 : length L2 ≡ width limits
+  l2 = free_length (row_bits_at 0) (limits.rows / 64) L1 ∙ l1
+
+  l3 : length L3 ≡ width limits
+  l3 = length-set L2 0 1 ∙ l2
+
+  l4 : length L4 ≡ width limits
+  l4 = length-set L3 1 1 ∙ l3
+
+  l5 : length L5 ≡ width limits
+  l5 = length-set L4 epoch_at limits.epoch ∙ l4
+
+  l6 : length L6 ≡ width limits
+  l6 = length-set L5 (row_at 1 0) 1 ∙ l5
+
+  -- but for five words
+  else_where : (i : ℕ) → i ≢ 0 → i ≢ 1 → i ≢ epoch_at → i ≢ row_at 1 0 → i ≢ row_at 1 8 → get_or (opening_words limits) i 0 ≡ get_or L2 i 0
+  else_where i a b c d e = get_or-set_other L6 (row_at 1 8) i 255 0 e ∙ get_or-set_other L5 (row_at 1 0) i 1 0 d ∙ get_or-set_other L4 epoch_at i limits.epoch 0 c ∙ get_or-set_other L3 1 i 1 0 b ∙ get_or-set_other L2 0 i 1 0 a
+
+  zero_at : (i : ℕ) → i < width limits → get_or L0 i 0 ≡ 0
+  zero_at i h = get_or-replicate (width limits) i 0 0 h
+
+  nowhere : (i : ℕ) → i < width limits → i ≢ 0 → i ≢ 1 → i ≢ epoch_at → i ≢ row_at 1 0 → i ≢ row_at 1 8 → ((k : ℕ) → k < 64 → i ≢ 4096 + k) → ((k : ℕ) → k < 256 → i ≢ 4160 + k) → get_or (opening_words limits) i 0 ≡ 0
+  nowhere i h a b c d e f g = else_where i a b c d e ∙ free2 i h f g
+    where
+      free2 : (i : ℕ) → i < width limits → ((k : ℕ) → k < 64 → i ≢ 4096 + k) → ((k : ℕ) → k < 256 → i ≢ 4160 + k) → get_or L2 i 0 ≡ 0
+      free2 i h f g = let p = few_pids in let r = few_rows in let sp = some_pids in let sr = some_rows in
+          free_outside (row_bits_at 0) (limits.rows / 64) L1 i (omega arith) (λ k lt. g k (omega arith)) ∙ free_outside (pid_bits_at 0) (limits.pids / 64) L0 i (omega arith) (λ k lt. f k (omega arith)) ∙ zero_at i h
+
+  slot_word : (pid : ℕ) → pid < 4096 → get_or (opening_words limits) pid 0 ≡ (opening limits).slots pid
+  slot_word pid lt = elim (same_or_not pid 0) [
+    | inl zero_is ↦ rw zero_is (get_or-set_other L6 (row_at 1 8) 0 255 0 (λ e. absurd (omega arith)) ∙ get_or-set_other L5 (row_at 1 0) 0 1 0 (λ e. absurd (omega arith)) ∙ get_or-set_other L4 epoch_at 0 limits.epoch 0 (λ e. absurd (omega arith)) ∙ get_or-set_other L3 1 0 1 0 (λ e. absurd (omega arith)) ∙ get_or-set_same L2 0 1 0 (let l = l2 in omega arith))
+    | inr some ↦ elim (same_or_not pid 1) [
+      | inl one_is ↦ rw one_is (get_or-set_other L6 (row_at 1 8) 1 255 0 (λ e. absurd (omega arith)) ∙ get_or-set_other L5 (row_at 1 0) 1 1 0 (λ e. absurd (omega arith)) ∙ get_or-set_other L4 epoch_at 1 limits.epoch 0 (λ e. absurd (omega arith)) ∙ get_or-set_same L3 1 1 0 (let l = l3 in omega arith))
+      | inr more ↦ rw (le_false pid 1 (omega arith)) (nowhere pid (omega arith) some more (λ e. absurd (omega arith)) (λ e. absurd (omega arith)) (λ e. absurd (omega arith)) (λ k h e. absurd (omega arith)) (λ k h e. absurd (omega arith)))
+    ]
+  ]
+
+  pid_word : (word : ℕ) → word < 64 → Free limits.pids word (get_or (opening_words limits) (pid_bits_at word) 0)
+  pid_word word lt = let p = few_pids in let sp = some_pids in let sr = some_rows in let r = few_rows in
+      let there : get_or (opening_words limits) (pid_bits_at word) 0 ≡ get_or L1 (pid_bits_at word) 0 =
+      else_where (pid_bits_at word) (λ e. absurd (omega arith)) (λ e. absurd (omega arith)) (λ e. absurd (omega arith)) (λ e. absurd (omega arith)) (λ e. absurd (omega arith))
+      ∙ free_outside (row_bits_at 0) (limits.rows / 64) L1 (pid_bits_at word) (omega arith) (λ k h e. absurd (omega arith)) in
+      subst (Free limits.pids word) (sym there) (elim (cases_lt word (limits.pids / 64)) [
+        | inl within ↦ subst (λ i. Free limits.pids word (get_or L1 i 0)) (omega arith) (free_inside limits.pids (pid_bits_at 0) word L0 limits.allowed.whole_pids sp within (let l = l0 in omega arith))
+        | inr past ↦ subst (Free limits.pids word) (sym (free_outside (pid_bits_at 0) (limits.pids / 64) L0 (pid_bits_at word) (omega arith) (λ k h e. absurd (omega arith)) ∙ zero_at (pid_bits_at word) (omega arith))) (past_word limits.pids word limits.allowed.whole_pids past)
+      ])
+
+  row_word : (word : ℕ) → word < 256 → Free limits.rows word (get_or (opening_words limits) (row_bits_at word) 0)
+  row_word word lt = let p = few_pids in let sp = some_pids in let sr = some_rows in let r = few_rows in
+      let there : get_or (opening_words limits) (row_bits_at word) 0 ≡ get_or L2 (row_bits_at word) 0 =
+      else_where (row_bits_at word) (λ e. absurd (omega arith)) (λ e. absurd (omega arith)) (λ e. absurd (omega arith)) (λ e. absurd (omega arith)) (λ e. absurd (omega arith)) in
+      subst (Free limits.rows word) (sym there) (elim (cases_lt word (limits.rows / 64)) [
+        | inl within ↦ subst (λ i. Free limits.rows word (get_or L2 i 0)) (omega arith) (free_inside limits.rows (row_bits_at 0) word L1 limits.allowed.whole_rows sr within (let l = l1 in omega arith))
+        | inr past ↦ subst (Free limits.rows word) (sym (free_outside (row_bits_at 0) (limits.rows / 64) L1 (row_bits_at word) (omega arith) (λ k h e. absurd (omega arith))
+            ∙ free_outside (pid_bits_at 0) (limits.pids / 64) L0 (row_bits_at word) (omega arith) (λ k h e. absurd (omega arith)) ∙ zero_at (row_bits_at word) (omega arith))) (past_word limits.rows word limits.allowed.whole_rows past)
+      ])
+
+  apart_from_bits : (i k : ℕ) → 4608 ≤ i → k < 256 → (i ≢ 4096 + k) × (i ≢ 4160 + k)
+  apart_from_bits i k h lt = ((λ e. absurd (omega arith)), (λ e. absurd (omega arith)))
+
+  record_word : (row j : ℕ) → row < limits.rows → j < 256 → get_or (opening_words limits) (row_at row j) 0 ≡ get_or (words_in ((opening limits).rows row)) j 0
+  record_word row j rl jl = elim (same_or_not row 1) [
+    | inl one ↦ subst (λ r. get_or (opening_words limits) (row_at r j) 0 ≡ get_or (words_in ((opening limits).rows r)) j 0) (sym one) (elim (same_or_not j 0) [
+      | inl none ↦ subst (λ k. get_or (opening_words limits) (row_at 1 k) 0 ≡ get_or (words_of (Base empty_leaf)) k 0) (sym none) (get_or-set_other L6 (row_at 1 8) (row_at 1 0) 255 0 (λ e. absurd (omega arith)) ∙ get_or-set_same L5 (row_at 1 0) 1 0 (let l = l5 in let s = some_rows in omega arith))
+      | inr some ↦ elim (same_or_not j 8) [
+        | inl eight ↦ subst (λ k. get_or (opening_words limits) (row_at 1 k) 0 ≡ get_or (words_of (Base empty_leaf)) k 0) (sym eight) (get_or-set_same L6 (row_at 1 8) 255 0 (let l = l6 in let s = some_rows in omega arith))
+        | inr other ↦ nowhere (row_at 1 j) (let s = some_rows in omega arith) (λ e. absurd (omega arith)) (λ e. absurd (omega arith)) (λ e. absurd (omega arith)) (λ e. some (omega arith)) (λ e. other (omega arith)) (λ k h e. absurd (omega arith)) (λ k h e. absurd (omega arith)) ∙ sym (base_word j some other jl)
+      ]
+    ])
+    | inr apart ↦ rw (ne_eqb row 1 apart)
+        (nowhere (row_at row j) (omega arith) (λ e. absurd (omega arith)) (λ e. absurd (omega arith)) (λ e. absurd (omega arith)) (λ e. apart (omega arith)) (λ e. apart (omega arith)) (λ k h e. absurd (omega arith)) (λ k h e. absurd (omega arith)) ∙ sym (get_or-replicate 256 j 0 0 jl))
+  ]
+
+  pub opening_is : AreWordsOf limits (opening limits) (opening_words limits)
+  opening_is = record {
+    wide = length-set L6 (row_at 1 8) 255 ∙ l6;
+    spells = record {
+      slots = slot_word;
+      pid_bits = pid_word;
+      row_bits = row_word;
+      epoch = get_or-set_other L6 (row_at 1 8) epoch_at 255 0 (λ e. absurd (omega arith)) ∙ get_or-set_other L5 (row_at 1 0) epoch_at 1 0 (λ e. absurd (omega arith)) ∙ get_or-set_same L4 epoch_at limits.epoch 0 (let l = l4 in omega arith);
+      announced = λ a al. nowhere (announced_at a) (omega arith) (λ e. absurd (omega arith)) (λ e. absurd (omega arith)) (λ e. absurd (omega arith)) (λ e. absurd (omega arith)) (λ e. absurd (omega arith)) (λ k h e. absurd (omega arith)) (λ k h e. absurd (omega arith));
+      pads = λ i pad. let low = pad.0 in let high = pad.1 in nowhere i (omega arith) (λ e. absurd (omega arith)) (λ e. absurd (omega arith)) (λ e. absurd (omega arith)) (λ e. absurd (omega arith)) (λ e. absurd (omega arith)) (λ k h e. absurd (omega arith)) (λ k h e. absurd (omega arith));
+      rows = λ r j rl jl _. record_word r j rl jl;
+    };
+  }

@@ -1,0 +1,19 @@
+-- The words of the opening memory, part by part.
+use Rattle.std.specs.Prelude.{ℕ, zero, suc, ◌+◌, ◌/◌, List, replicate, slice_set}
+use Rattle.bw_model.specs.declared.limits.Limits.{Limits}
+use Rattle.tree_words.specs.Layout.{pid_bits_at, row_bits_at, epoch_at, row_at, width}
+
+-- n words in which all bits are set
+abbrev pub with_ones : ℕ → ℕ → List ℕ → List ℕ
+with_ones from zero words = words
+with_ones from (suc n) words = slice_set (with_ones from n words) (from + n) 18446744073709551615
+
+-- words of free numbers, which are free from 2 on
+abbrev pub with_free : ℕ → ℕ → List ℕ → List ℕ
+with_free from n words = slice_set (with_ones from n words) from 18446744073709551612
+
+-- Slots 0 and 1 hold 1, and row 1 has an empty leaf: its header, and the mark of no bound.
+abbrev pub opening_words : Limits → List ℕ
+opening_words limits =
+    slice_set (slice_set (slice_set (slice_set (slice_set (with_free (row_bits_at 0) (limits.rows / 64) (with_free (pid_bits_at 0) (limits.pids / 64) (replicate (width limits) 0)))
+    0 1) 1 1) epoch_at limits.epoch) (row_at 1 0) 1) (row_at 1 8) 255

@@ -1,0 +1,54 @@
+//! Where the words of each part stand.
+ghost use Rattle.std.specs.Prelude.{◌≡◌, ◌<◌};
+ghost use Rattle.tree_words.specs.Layout.{announced_at, epoch_at, pid_bits_at, row_at, row_bits_at, slot_at, width};
+
+use bw_model::Limits;
+
+/// The place of the slot of a PID.
+pub fn slot_place(pid: u16) -> usize
+    ensures { result ≡ slot_at pid }
+{
+    usize::from(pid)
+}
+
+/// The place of a word of free PIDs.
+pub fn pid_bits_place(word: u8) -> usize
+    ensures { result ≡ pid_bits_at word }
+{
+    4096 + usize::from(word)
+}
+
+/// The place of a word of free rows.
+pub fn row_bits_place(word: u8) -> usize
+    ensures { result ≡ row_bits_at word }
+{
+    4160 + usize::from(word)
+}
+
+/// The place of the epoch.
+pub fn epoch_place() -> usize
+    ensures { result ≡ epoch_at }
+{
+    4416
+}
+
+/// The place of the epoch that an actor announced: eight words lie between two actors', as a cache line has eight.
+pub fn announced_place(actor: u8) -> usize
+    ensures { result ≡ announced_at actor }
+{
+    4424 + 8 * usize::from(actor)
+}
+
+/// The place of the first of the 256 words of a row.
+pub fn row_place(row: u16) -> usize
+    ensures { result ≡ row_at row 0 }
+{
+    4608 + 256 * usize::from(row)
+}
+
+/// How many words a table of these limits has.
+pub fn width(limits: &Limits) -> usize
+    ensures { result ≡ width limits.now }
+{
+    4608 + 256 * limits.rows as usize
+}
