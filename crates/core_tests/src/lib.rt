@@ -4,8 +4,12 @@
 #[cfg(test)]
 mod example;
 #[cfg(test)]
+mod numbered;
+#[cfg(test)]
 mod refusals;
 #[cfg(test)]
 mod runs;
 #[cfg(test)]
 mod schedules;
+#[cfg(test)]
+mod stops;

@@ -1,10 +1,11 @@
 //! Each growth of memory refused in turn, by heaps that are too small: want of memory is answered, nothing is changed, and the
 //! same call made again is answered as if there had been no refusal.
 
+use crate::numbered;
 use bw_model::{Command, Key, Limits, OpenError, Value};
 use chain_search::Turn;
 use linked_list_allocator::LocalHeap;
-use std::alloc::{AllocError, Global};
+use std::alloc::{AllocError, Allocator, Global};
 use std::test::Fail;
 use step_core::{Core, Event, RunError, run};
 
@@ -135,16 +136,17 @@ fn is_refused<'a>(
     Ok((event == twin.turn(turn.clone()?) && are_alike(alloc, core, twin)).then_some(refused))
 }
 
-/// Takes the turns so, up to one that is not refused exactly where memory is wanted, and says how many were taken.
+/// Takes the turns so, up to one that is not refused exactly where memory is wanted, and says how many were taken by then.
 fn all_refused<'a>(
     alloc: Global,
     heap: &'a LocalHeap,
     core: &mut Core<&'a LocalHeap>,
     twin: &mut Core,
     turns: &[Turn],
+    wants: &[u64],
 ) -> Result<u64, AllocError> {
     for turn in turns {
-        let wants = WANTS.contains(&core.turns());
+        let wants = wants.contains(&core.turns());
         if is_refused(alloc, heap, core, twin, turn)? != Some(wants) {
             break;
         }
@@ -152,36 +154,81 @@ fn all_refused<'a>(
     Ok(core.turns())
 }
 
-/// Takes the turns so, from the opening on.
+/// Takes first turns while there is memory, and the turns behind them so.
 fn taken_by_twins(
     alloc: Global,
     heap: &LocalHeap,
-    limits: Limits,
+    first: &[Turn],
     turns: &[Turn],
+    wants: &[u64],
 ) -> Result<u64, AllocError> {
+    let Ok(limits) = Limits::new(1, 64, 64, 1) else {
+        return Ok(0);
+    };
     let Ok(mut twin) = Core::open(alloc, limits) else {
         return Ok(0);
     };
     match Core::<&LocalHeap>::open(heap, limits) {
-        Ok(mut core) => all_refused(alloc, heap, &mut core, &mut twin, turns),
+        Ok(mut core) => {
+            if are_taken(&mut core, first) && are_taken(&mut twin, first) {
+                all_refused(alloc, heap, &mut core, &mut twin, turns, wants)
+            } else {
+                Ok(0)
+            }
+        }
         Err(_) => Ok(0),
     }
 }
 
 #[test]
 fn turn_wants_memory(rt: HostRuntime) -> Result<(), Fail> {
-    let limits = Limits::new(1, 64, 64, 1)?;
     let turns = updates(rt.alloc())?;
     let heap = LocalHeap::new(rt.alloc(), 1 << 22)?;
     assert_eq!(rt;
-        taken_by_twins(rt.alloc(), &heap, limits, turns.as_slice())?,
+        taken_by_twins(rt.alloc(), &heap, &[], turns.as_slice(), &WANTS)?,
         23
     );
     Ok(())
 }
 
+/// Sixteen inserts in the order of their keys, and their steps. The ninth consolidates the page.
+fn inserts(alloc: Global) -> Result<Vec<Turn>, AllocError> {
+    let mut turns = Vec::new(alloc);
+    for place in 0..16u32 {
+        turns.push(Turn::Begin(0, numbered::insert(place)))?;
+        let steps = if place == 8 { 25 } else { place % 8 + 10 };
+        for _ in 0..steps {
+            turns.push(Turn::Step(0))?;
+        }
+    }
+    Ok(turns)
+}
+
+/// Before which turns an insert behind these wants memory, that consolidates the page, splits it, and puts a root over it: where
+/// the trace has to grow, at 256, and for each of the five records that are placed.
+const SPLIT_WANTS: [u64; 6] = [256, 263, 274, 276, 288, 303];
+
+#[test]
+fn split_wants_memory(rt: HostRuntime) -> Result<(), Fail> {
+    let first = inserts(rt.alloc())?;
+    let mut turns = vec![in rt.alloc(); Turn::Step(0); 59]?;
+    turns[0] = Turn::Begin(0, numbered::insert(16));
+    let heap = LocalHeap::new(rt.alloc(), 1 << 22)?;
+    assert_eq!(rt;
+        taken_by_twins(
+            rt.alloc(),
+            &heap,
+            first.as_slice(),
+            turns.as_slice(),
+            &SPLIT_WANTS
+        )?,
+        306
+    );
+    Ok(())
+}
+
 /// Whether the core takes the turns.
-fn are_taken(core: &mut Core, turns: &[Turn]) -> bool {
+fn are_taken<A: Allocator + Copy>(core: &mut Core<A>, turns: &[Turn]) -> bool {
     for turn in turns {
         if core.turn(turn.clone().unwrap()).is_err() {
             return false;

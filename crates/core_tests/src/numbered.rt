@@ -1,0 +1,26 @@
+//! Keys and values by number.
+
+use bw_model::{Command, Key, Reply, Value};
+
+/// Two bytes that stand for a number; those of the numbers below 1,024 are in their order.
+fn bytes(number: u32) -> [u8; 2] {
+    [b'A' + (number / 32 % 32) as u8, b'A' + (number % 32) as u8]
+}
+
+pub(crate) fn key(number: u32) -> Key {
+    Key::from_slice(&bytes(number)).unwrap_or_default()
+}
+
+pub(crate) fn value(number: u32) -> Value {
+    Value::from_slice(&bytes(number)).unwrap_or_default()
+}
+
+/// An insert of a key with the value of its number.
+pub(crate) fn insert(number: u32) -> Command {
+    Command::Insert(key(number), value(number))
+}
+
+/// What a lookup of that key is to say.
+pub(crate) fn found(number: u32) -> Reply {
+    Reply::Value(value(number))
+}
