@@ -28,7 +28,7 @@ returns-clause-stands c k r h =
     let few = of_made leaf.chain page (λ items. length items < 16) c.page.ensures.makes h.few in
     let alive = h.page in
     let fits = over_fits leaf.chain page c.page.ensures.makes alive.alive h.level few h.short (λ put. c.updates_fit.ensures.put leaf.chain page put c.page.ensures.makes c.page.ensures.ruled) (λ delete. c.updates_fit.ensures.delete leaf.chain page delete c.page.ensures.makes c.page.ensures.ruled)
-        task.command leaf.head h.writer leaf.is_row within in
+    task.command leaf.head h.writer leaf.is_row within in
     let content = c.update_over-content.ensures in
     c.change.ensures.stands k r (rw content (record {
       seeks = h.seeks;
