@@ -1,13 +1,12 @@
-use Rattle.std.proofs.Common.{◌≡◌, ◌<◌, ◌≤◌, true, length, refl, sym, ap, subst, ◌∙◌, arith, is_some}
+use Rattle.std.proofs.Common.{◌≡◌, ◌<◌, true, length, refl, subst, is_some}
 use Rattle.std.specs.Prelude.{IsTrue}
-use Rattle.bw_model.specs.Replies.{command_key, reply_of, update_of}
-use Rattle.deltas.specs.Spellable.{IsRow}
+use Rattle.bw_model.specs.Replies.{command_key, update_of}
 use Rattle.chain_search.specs.Chains.{content_in, covers}
-use Rattle.chain_search.specs.Discipline.{MayUpdate, found}
+use Rattle.chain_search.specs.Discipline.{found}
 use Rattle.smo.proofs.Places.{of_made}
 use Rattle.op_machine.specs.Brings.{update_over}
 use Rattle.op_machine.specs.Errands.{way_key}
-use Rattle.op_machine.proofs.Commands.{change_is, due_of, none_due, over_fits, over_kept, over_links, over_next, over_useful, value_same}
+use Rattle.op_machine.proofs.Commands.{change_is, due_of, over_fits, over_kept, over_links, over_next, over_useful, value_same}
 use Rattle.op_machine.proofs.Plans.{place_of}
 use Rattle.op_machine.proofs.task.Task.execute.Goals as goal
 
