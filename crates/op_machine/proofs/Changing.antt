@@ -1,5 +1,5 @@
 -- What a change's next step leaves an operation in.
-use Rattle.std.proofs.Common.{◌≡◌, ◌<◌, ◌+◌, ◌⊎◌, inl, inr, ℕ, zero, suc, List, Option, Some, None, true, false, refl, sym, ap, subst, ◌∙◌, arith}
+use Rattle.std.proofs.Common.{◌≡◌, ◌<◌, ◌+◌, inl, inr, ℕ, Option, Some, None, true, refl, sym, ap, subst, ◌∙◌, arith}
 use Rattle.std.specs.Prelude.{IfSome}
 use Rattle.std.proofs.lemmas.Option.{same_Some}
 use Rattle.bw_model.specs.declared.command.Command.{Command}
@@ -10,7 +10,7 @@ use Rattle.bw_model.specs.declared.step.Step.{Step}
 use Rattle.bw_model.specs.declared.step.Step.TheVariants.{TakePid}
 use Rattle.deltas.specs.declared.record.Record.{Record}
 use Rattle.deltas.specs.declared.record.Record.TheVariants as kind
-use Rattle.chain_search.specs.Discipline.{LacksRoom, MayReply}
+use Rattle.chain_search.specs.Discipline.{MayReply}
 use Rattle.chain_search.specs.Fitting.{Fits}
 use Rattle.chain_search.specs.Knowledge.{Knowledge, learn}
 use Rattle.chain_search.specs.Recalled.{IsSpent, Recalled, recall}
@@ -21,12 +21,11 @@ use Rattle.installs.specs.declared.change.End.{End}
 use Rattle.installs.specs.declared.change.End.TheVariants.{Won, Lost, Full}
 use Rattle.installs.specs.declared.plan.Plan.{Plan}
 use Rattle.installs.specs.declared.plan.Plan.TheVariants.{Install, Split, Root}
-use Rattle.op_machine.specs.Answered.{is_writer}
 use Rattle.op_machine.specs.Bounded.{left_for, one_round}
 use Rattle.op_machine.specs.Brings.{Brings, IsReadPlan, IsUpdateOf, IsUsefulOver, IsUsefulPlan}
 use Rattle.op_machine.specs.Outcomes.{FacesChanged}
 use Rattle.op_machine.specs.Shows.{IsInChange}
-use Rattle.op_machine.specs.Tasks.{IsAsked, IsDone, IsUnreadPid, Seeks, Task}
+use Rattle.op_machine.specs.Tasks.{IsDone, IsUnreadPid, Seeks, Task}
 use Rattle.op_machine.specs.declared.state.Outcome.TheVariants as outcome
 use Rattle.op_machine.specs.declared.state.Then.{Then}
 use Rattle.op_machine.specs.declared.state.Then.TheVariants.{Round, Errand, Reply}

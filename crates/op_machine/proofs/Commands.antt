@@ -1,5 +1,5 @@
 -- What commands write.
-use Rattle.std.proofs.Common.{◌≡◌, ◌<◌, ◌≤◌, ℕ, true, false, List, [], length, Option, Some, None, is_some, refl, ap, sym, ◌∙◌, subst, arith}
+use Rattle.std.proofs.Common.{◌≡◌, ◌<◌, ◌≤◌, ℕ, true, false, List, [], length, Option, Some, None, is_some, refl, ap, ◌∙◌, subst, arith}
 use Rattle.std.specs.Prelude.{IsTrue}
 use Rattle.bw_model.specs.Bytes.{is_in_range}
 use Rattle.deltas.specs.declared.record.Record.{Record}
@@ -25,6 +25,7 @@ use Rattle.chain_search.specs.Knowledge.{Knowledge}
 use Rattle.installs.specs.Changes.{KeepsSparePage, linked_by}
 use Rattle.op_machine.specs.Answered.{is_writer}
 use Rattle.op_machine.specs.Brings.{IsUsefulOver, update_over}
+
 -- the record that a command places makes its update
 pub change_is : (actor : ℕ) (c : Command) (old : Option (List ℕ)) (u : Update) (x : ℕ) → update_of actor c old ≡ Some u → update_over c x ≡ record_of u x
 change_is actor (Get key) old u x h = cc

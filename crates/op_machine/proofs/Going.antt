@@ -1,10 +1,10 @@
 -- How an operation goes on, from what its state makes of an answer and what its task makes of that.
-use Rattle.std.proofs.Common.{◌≡◌, ◌<◌, ◌≤◌, ◌+◌, ◌*◌, ◌^◌, ◌⊎◌, inl, inr, ℕ, List, length, Option, Some, None, refl, sym, subst, ◌∙◌, arith}
+use Rattle.std.proofs.Common.{◌≤◌, inl, inr, ℕ, List, Option, Some, None, arith}
 use Rattle.bw_model.specs.declared.step.Answer.{Answer}
 use Rattle.bw_model.specs.declared.step.Step.{Step}
 use Rattle.deltas.specs.declared.record.Record.{Record}
 use Rattle.chain_search.specs.Recalled.{Recalled}
-use Rattle.op_machine.specs.Bounded.{IsSpentLast, one_round, with_errands}
+use Rattle.op_machine.specs.Bounded.{IsSpentLast, with_errands}
 
 -- the steps of errands come on top
 pub spent_with : (r : Recalled) (last : Option (Step Record)) (told : Answer Record) (left rest : ℕ) (errands now : List (List ℕ)) (more : ℕ) → IsSpentLast r last told left rest → with_errands now more ≤ with_errands errands rest → IsSpentLast r last told (with_errands errands left) (with_errands now more)

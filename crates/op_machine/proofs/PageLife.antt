@@ -14,7 +14,6 @@ use Rattle.chain_search.specs.Chains.{IsChainOf}
 use Rattle.chain_search.specs.Run.{IsRun, MayPlace}
 use Rattle.chain_search.specs.Trace.{memory_at, memory_of, TakesStep}
 use Rattle.chain_search.proofs.RunLaws.{IsRun-from_steps}
-use Rattle.base_page.specs.declared.item.Content.TheVariants.{Child}
 use Rattle.op_machine.specs.Points.{log_at}
 use Rattle.op_machine.specs.Quiet.{IsQuiet, HasMapOf}
 use Rattle.std.specs.Prelude.{replicate}

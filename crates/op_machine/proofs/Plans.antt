@@ -1,5 +1,5 @@
 -- What the ends of a writer's rounds give the changes that follow.
-use Rattle.std.proofs.Common.{◌≡◌, ◌<◌, ◌⊎◌, inl, inr, ℕ, suc, List, [], ◌∷◌, ◌-◌, length, Option, Some, None, true, false, refl, sym, ap, subst, ◌∙◌, arith}
+use Rattle.std.proofs.Common.{◌≡◌, ◌<◌, inl, inr, ℕ, List, [], ◌∷◌, ◌-◌, length, Option, Some, None, false, refl, sym, ap, subst, ◌∙◌, arith}
 use Rattle.std.proofs.lemmas.Option.{same_Some}
 use Rattle.std.specs.Option.{ForSome}
 use Rattle.std.specs.Prelude.{slice_get, take}
@@ -10,19 +10,17 @@ use Rattle.deltas.specs.Records.{next_row}
 use Rattle.deltas.specs.declared.record.Record.{Record}
 use Rattle.deltas.specs.declared.record.Record.TheVariants as kind
 use Rattle.deltas.specs.declared.record.Term.{Term}
-use Rattle.chain_search.specs.Chains.{IsChainFrom, IsChainOf, level_in}
+use Rattle.chain_search.specs.Chains.{IsChainFrom, IsChainOf}
 use Rattle.chain_search.specs.Knowledge.{Knowledge}
 use Rattle.chain_search.specs.Recalled.{Recalled}
 use Rattle.descent.specs.Versions.{IsAlive}
-use Rattle.descent.specs.WriteRounds as write
-use Rattle.descent.specs.declared.write_round.WriteEnd.{WriteEnd}
 use Rattle.descent.specs.declared.write_round.WriteEnd.TheVariants as end
 use Rattle.installs.specs.Changes as change
 use Rattle.installs.specs.Spares.{Spares}
 use Rattle.installs.specs.declared.plan.Plan.TheVariants.{Install, Split, Root}
 use Rattle.smo.specs.declared.split.SplitPlan.{SplitPlan}
 use Rattle.smo.specs.declared.version.Version.{Version}
-use Rattle.op_machine.specs.Outcomes.{FacesWritten, IsAtLeaf}
+use Rattle.op_machine.specs.Outcomes.{FacesWritten}
 use Rattle.op_machine.specs.Tasks.{Seeks, Task}
 
 -- a page in hand is a place for a record

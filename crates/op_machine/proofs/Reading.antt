@@ -1,5 +1,5 @@
 -- What a step that reads a slot or a row leaves as it was.
-use Rattle.std.proofs.Common.{◌≡◌, ◌<◌, ◌==◌, ◌⊎◌, inl, inr, ℕ, zero, suc, Bool, true, false, cond, Option, Some, None, refl, sym, ap, subst, ◌∙◌}
+use Rattle.std.proofs.Common.{◌≡◌, ◌<◌, ◌==◌, ◌⊎◌, inl, inr, ℕ, zero, suc, Bool, true, false, cond, Option, Some, None, refl, subst, ◌∙◌}
 use Rattle.std.specs.Prelude.{IfSome}
 use Rattle.std.proofs.lemmas.Bool.{eqb-true}
 use Rattle.bw_model.specs.declared.limits.Limits.{Limits}
@@ -21,7 +21,7 @@ use Rattle.descent.specs.declared.visit.State.TheVariants as at_visit
 use Rattle.descent.specs.declared.descent.State.{State}
 use Rattle.descent.specs.declared.descent.State.TheVariants.{Root, Page, Over}
 use Rattle.installs.specs.Spares.{IsUnlinked, Spares}
-use Rattle.op_machine.specs.Tasks.{HasSpares, IsUnreadPid, Seeks, Task}
+use Rattle.op_machine.specs.Tasks.{Seeks, Task}
 
 -- the step reads a slot, or a row
 abbrev pub IsReading : Step Record → Type 0

@@ -1,5 +1,5 @@
 -- How many steps an operation takes at most, but for those that a cause pays for.
-use Rattle.std.specs.Prelude.{◌<◌, ◌+◌, ◌*◌, ◌⊎◌, ◌^◌, ℕ, List, length, Option, None, Some, ⊤}
+use Rattle.std.specs.Prelude.{◌<◌, ◌+◌, ◌*◌, ℕ, List, length, Option, None, Some, ⊤}
 use Rattle.bw_model.specs.declared.step.Answer.{Answer}
 use Rattle.bw_model.specs.declared.step.Step.{Step as StepOf}
 use Rattle.deltas.specs.declared.record.Record.{Record}
@@ -12,11 +12,9 @@ use Rattle.descent.specs.declared.read_round.ReadEnd.TheVariants as read_end
 use Rattle.descent.specs.declared.write_round.WriteEnd.TheVariants as write_end
 use Rattle.installs.specs.Bounded as change
 use Rattle.installs.specs.Spares.{Spares}
-use Rattle.installs.specs.declared.change.End.{End}
 use Rattle.installs.specs.declared.change.End.TheVariants.{Won, Lost, Full}
 use Rattle.op_machine.specs.Ops.{Op, Shows, wanted_of}
-use Rattle.op_machine.specs.Shows.{FitsLast, Stands, recall_last, wanted_at}
-use Rattle.op_machine.specs.Tasks.{Task}
+use Rattle.op_machine.specs.Shows.{FitsLast, recall_last}
 use Rattle.op_machine.specs.declared.op.Want.{Want}
 use Rattle.op_machine.specs.declared.op.Want.TheVariants.{Step, Done}
 use Rattle.op_machine.specs.declared.state.Outcome.{Outcome}
@@ -25,7 +23,6 @@ use Rattle.op_machine.specs.declared.state.Progress.{Progress}
 use Rattle.op_machine.specs.declared.state.Progress.TheVariants.{On, To, Left}
 use Rattle.op_machine.specs.declared.state.State.{State}
 use Rattle.op_machine.specs.declared.state.State.TheVariants as at
-use Rattle.op_machine.specs.declared.state.Then.{Then}
 use Rattle.op_machine.specs.declared.state.Then.TheVariants.{Round, Errand, Reply}
 
 -- how many steps a change takes at most

@@ -1,5 +1,5 @@
 -- The life of a PID: what it is used for, in an order that is never left.
-use Rattle.std.specs.Prelude.{◌≡◌, ◌<◌, ◌≤◌, ◌==◌, ℕ, suc, List, true, false, if◌then◌else◌, Some, ◌⊎◌, Bool, IsTrue}
+use Rattle.std.specs.Prelude.{◌≡◌, ◌<◌, ◌≤◌, ◌==◌, ℕ, suc, List, true, if◌then◌else◌, Some, ◌⊎◌, Bool, IsTrue}
 use Rattle.bw_model.specs.declared.limits.Limits.{Limits}
 use Rattle.bw_model.specs.declared.step.Step.TheVariants.{TakePid, ReusePids}
 use Rattle.bw_model.specs.declared.step.Answer.{Answer}

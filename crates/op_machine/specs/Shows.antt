@@ -1,6 +1,5 @@
 -- What an operation holds is what its actor knows and recalls.
-use Rattle.std.specs.Prelude.{◌≡◌, ◌<◌, [], ℕ, Option, Some, None, true, false}
-use Rattle.bw_model.specs.declared.command.Reply.{Reply}
+use Rattle.std.specs.Prelude.{◌≡◌, ◌<◌, [], Option, Some, None, true, false}
 use Rattle.bw_model.specs.declared.step.Step.{Step as StepOf}
 use Rattle.bw_model.specs.declared.step.Step.TheVariants as step
 use Rattle.bw_model.specs.declared.step.Answer.{Answer}

@@ -1,5 +1,4 @@
-use Rattle.std.proofs.Common.{◌≡◌, ◌≤◌, refl, sym, ◌∙◌, arith}
-use Rattle.op_machine.specs.Bounded.{left_at, left_for, with_errands}
+use Rattle.std.proofs.Common.{arith}
 use Rattle.op_machine.specs.Shows.{Stands, learn_last, recall_last, wanted_at}
 use Rattle.op_machine.proofs.Going.{spent_with}
 use Rattle.op_machine.proofs.op.Op.next.Goals as goal

@@ -1,4 +1,4 @@
-use Rattle.std.proofs.Common.{refl, sym, ap, ◌∙◌}
+use Rattle.std.proofs.Common.{refl}
 use Rattle.op_machine.specs.Bounded.{one_round}
 use Rattle.op_machine.proofs.Changing.{change_ended, change_left, change_on, ended_left, taken_apart}
 use Rattle.op_machine.proofs.Rounds.{read_ended, read_left, read_on, write_ended, write_left, write_on}

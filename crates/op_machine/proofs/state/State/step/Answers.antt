@@ -1,5 +1,3 @@
-use Rattle.std.proofs.Common.{sym, ◌∙◌}
-use Rattle.std.proofs.lemmas.Option.{same_Some}
 use Rattle.op_machine.proofs.Stepping.{freely, usefully}
 use Rattle.op_machine.proofs.state.State.step.Goals as goal
 

@@ -1,4 +1,4 @@
-use Rattle.std.proofs.Common.{◌≡◌, List, ℕ, [], refl, sym, ◌∙◌}
+use Rattle.std.proofs.Common.{refl, sym}
 use Rattle.op_machine.proofs.Plans.{none_left, none_taken, without_errand}
 use Rattle.op_machine.proofs.task.Task.end_at_leaf.Goals as goal
 

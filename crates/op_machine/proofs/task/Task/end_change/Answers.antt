@@ -1,4 +1,4 @@
-use Rattle.std.proofs.Common.{inl, inr, refl}
+use Rattle.std.proofs.Common.{inr, refl}
 use Rattle.op_machine.proofs.Commands.{writes}
 use Rattle.op_machine.proofs.task.Task.end_change.Goals as goal
 

@@ -1,13 +1,12 @@
-use Rattle.std.proofs.Common.{◌≡◌, ◌<◌, ◌≤◌, true, length, refl, sym, ap, subst, ◌∙◌, arith, is_some}
+use Rattle.std.proofs.Common.{◌≡◌, ◌<◌, true, length, refl, subst, is_some}
 use Rattle.std.specs.Prelude.{IsTrue}
-use Rattle.bw_model.specs.Replies.{command_key, reply_of, update_of}
-use Rattle.deltas.specs.Spellable.{IsRow}
+use Rattle.bw_model.specs.Replies.{command_key, update_of}
 use Rattle.chain_search.specs.Chains.{content_in, covers}
-use Rattle.chain_search.specs.Discipline.{MayUpdate, found}
+use Rattle.chain_search.specs.Discipline.{found}
 use Rattle.smo.proofs.Places.{of_made}
 use Rattle.op_machine.specs.Brings.{update_over}
 use Rattle.op_machine.specs.Errands.{way_key}
-use Rattle.op_machine.proofs.Commands.{change_is, due_of, none_due, over_fits, over_kept, over_links, over_next, over_useful, value_same}
+use Rattle.op_machine.proofs.Commands.{change_is, due_of, over_fits, over_kept, over_links, over_next, over_useful, value_same}
 use Rattle.op_machine.proofs.Plans.{place_of}
 use Rattle.op_machine.proofs.task.Task.execute.Goals as goal
 
@@ -28,7 +27,7 @@ returns-clause-stands c k r h =
     let few = of_made leaf.chain page (λ items. length items < 16) c.page.ensures.makes h.few in
     let alive = h.page in
     let fits = over_fits leaf.chain page c.page.ensures.makes alive.alive h.level few h.short (λ put. c.updates_fit.ensures.put leaf.chain page put c.page.ensures.makes c.page.ensures.ruled) (λ delete. c.updates_fit.ensures.delete leaf.chain page delete c.page.ensures.makes c.page.ensures.ruled)
-        task.command leaf.head h.writer leaf.is_row within in
+    task.command leaf.head h.writer leaf.is_row within in
     let content = c.update_over-content.ensures in
     c.change.ensures.stands k r (rw content (record {
       seeks = h.seeks;
