@@ -215,7 +215,7 @@ struct Schedule {
 
 /// Takes a turn of an actor that is drawn; says whether what it did may be, beside the map.
 fn turn(core: &mut Core, twin: &mut Twin, rng: &mut Pcg32, schedule: &Schedule) -> bool {
-    let actor = draw(rng, schedule.actors) as u8;
+    let actor = (draw(rng, schedule.actors) % 16) as u8;
     if !core.is_busy(actor) {
         let asked = Asked::drawn(rng, schedule);
         twin.begin(usize::from(actor), asked);
