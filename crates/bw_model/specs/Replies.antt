@@ -1,7 +1,7 @@
 -- What a command replies and changes, by the value that its key has.
-use Rattle.std.specs.Prelude.{ℕ, List, Option, None, Some}
+use Rattle.std.specs.Prelude.{ℕ, List, Bool, true, false, Option, None, Some}
 use Rattle.bw_model.specs.declared.command.Command.{Command}
-use Rattle.bw_model.specs.declared.command.Command.TheVariants.{Get, Insert, Upsert, Delete}
+use Rattle.bw_model.specs.declared.command.Command.TheVariants.{Get, Insert, Upsert, Delete, Page, Tidy}
 use Rattle.bw_model.specs.declared.command.Reply.{Reply}
 use Rattle.bw_model.specs.declared.command.Reply.TheVariants as reply
 use Rattle.bw_model.specs.Log.{Update, set, unset}
@@ -12,8 +12,19 @@ command_key (Get key) = key
 command_key (Insert key value) = key
 command_key (Upsert key value) = key
 command_key (Delete key) = key
+command_key (Page key) = key
+command_key (Tidy key) = key
 
--- The reply of a command on one key, by the value of the key, if it has one.
+-- whether its actor may link records
+abbrev pub is_writer : Command → Bool
+is_writer (Get key) = false
+is_writer (Insert key value) = true
+is_writer (Upsert key value) = true
+is_writer (Delete key) = true
+is_writer (Page key) = false
+is_writer (Tidy key) = true
+
+-- The reply of a command on one key, by the value of the key, if it has one; a cursor page and a tidying go by more.
 abbrev pub reply_of : Command → Option (List ℕ) → Option Reply
 reply_of (Get key) None = Some reply.None
 reply_of (Get key) (Some old) = Some (reply.Value old)
@@ -23,6 +34,8 @@ reply_of (Upsert key value) None = Some reply.Set
 reply_of (Upsert key value) (Some old) = Some (reply.Replaced old)
 reply_of (Delete key) None = Some reply.Absent
 reply_of (Delete key) (Some old) = Some (reply.Deleted old)
+reply_of (Page from) old = None
+reply_of (Tidy key) old = None
 
 -- The update that an actor's command makes, if any.
 abbrev pub update_of : ℕ → Command → Option (List ℕ) → Option Update
@@ -32,3 +45,5 @@ update_of actor (Insert key value) (Some old) = None
 update_of actor (Upsert key value) old = Some (set actor key value)
 update_of actor (Delete key) None = None
 update_of actor (Delete key) (Some old) = Some (unset actor key)
+update_of actor (Page from) old = None
+update_of actor (Tidy key) old = None

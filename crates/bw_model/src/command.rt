@@ -1,8 +1,8 @@
 //! What an actor asks of the map, and what it is answered.
-ghost use Rattle.std.specs.Prelude.{◌≡◌, Some, is_some, option_copied};
-ghost use Rattle.bw_model.specs.Replies.{command_key, reply_of, update_of};
+ghost use Rattle.std.specs.Prelude.{◌≡◌, is_some, option_copied};
+ghost use Rattle.bw_model.specs.Replies.{command_key, is_writer, reply_of, update_of};
 
-use crate::{Key, Update, Value};
+use crate::{Key, Pairs, Update, Value};
 
 /// What an actor asks of the map.
 #[derive(Clone, Debug, PartialEq, Eq, Drop)]
@@ -15,6 +15,10 @@ pub enum Command {
     Upsert(Key, Value),
     /// Makes a key absent.
     Delete(Key),
+    /// A cursor page: the pairs of the leaf that has the key, from the key on.
+    Page(Key),
+    /// Upkeep that is due at the leaf that has the key; no value is changed.
+    Tidy(Key),
 }
 
 /// What an operation answers when it is done.
@@ -36,6 +40,10 @@ pub enum Reply {
     Deleted(Value),
     /// The key had no value before, and has none.
     Absent,
+    /// The pairs, keys ascending, and the key from which the next page goes on, or none at the end.
+    Page { items: Pairs, next: Option<Key> },
+    /// The upkeep was done, or none was due.
+    Tidied,
     /// Nothing was free for a change, and no key was changed.
     Full,
 }
@@ -50,22 +58,41 @@ impl Command {
             Command::Insert(key, _) => key,
             Command::Upsert(key, _) => key,
             Command::Delete(key) => key,
+            Command::Page(key) => key,
+            Command::Tidy(key) => key,
         }
     }
 
-    /// The reply of the command where its key has the value `old`, or none.
-    pub fn reply(&self, old: Option<&Value>) -> Reply
-        ensures { reply_of self.now (option_copied old.entry) ≡ Some result }
+    /// Whether an actor links records for the command; lookups and cursor pages link none.
+    pub fn is_writer(&self) -> bool
+        ensures { result ≡ is_writer self.now }
+    {
+        match self {
+            Command::Get(_) => false,
+            Command::Insert(_, _) => true,
+            Command::Upsert(_, _) => true,
+            Command::Delete(_) => true,
+            Command::Page(_) => false,
+            Command::Tidy(_) => true,
+        }
+    }
+
+    /// The reply of the command where its key has the value `old`, or none; no reply of a cursor page or a tidying, which
+    /// go by more than one value.
+    pub fn reply(&self, old: Option<&Value>) -> Option<Reply>
+        ensures { result ≡ reply_of self.now (option_copied old.entry) }
     {
         match (self, old) {
-            (Command::Get(_), None) => Reply::None,
-            (Command::Get(_), Some(value)) => Reply::Value(value.copied()),
-            (Command::Insert(_, _), None) => Reply::Inserted,
-            (Command::Insert(_, _), Some(value)) => Reply::Exists(value.copied()),
-            (Command::Upsert(_, _), None) => Reply::Set,
-            (Command::Upsert(_, _), Some(value)) => Reply::Replaced(value.copied()),
-            (Command::Delete(_), None) => Reply::Absent,
-            (Command::Delete(_), Some(value)) => Reply::Deleted(value.copied()),
+            (Command::Get(_), None) => Some(Reply::None),
+            (Command::Get(_), Some(value)) => Some(Reply::Value(value.copied())),
+            (Command::Insert(_, _), None) => Some(Reply::Inserted),
+            (Command::Insert(_, _), Some(value)) => Some(Reply::Exists(value.copied())),
+            (Command::Upsert(_, _), None) => Some(Reply::Set),
+            (Command::Upsert(_, _), Some(value)) => Some(Reply::Replaced(value.copied())),
+            (Command::Delete(_), None) => Some(Reply::Absent),
+            (Command::Delete(_), Some(value)) => Some(Reply::Deleted(value.copied())),
+            (Command::Page(_), _) => None,
+            (Command::Tidy(_), _) => None,
         }
     }
 
@@ -78,6 +105,8 @@ impl Command {
             Command::Insert(_, _) => old.is_none(),
             Command::Upsert(_, _) => true,
             Command::Delete(_) => old.is_some(),
+            Command::Page(_) => false,
+            Command::Tidy(_) => false,
         }
     }
 

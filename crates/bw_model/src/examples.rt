@@ -1,12 +1,12 @@
 //! The definitions at small values: each function does nothing, and its contract computes them.
 ghost use Rattle.std.specs.Prelude.{codes, ◌≡◌, ◌∷◌, [], true, false, None, Some};
-ghost use Rattle.bw_model.specs.declared.command.Command.TheVariants.{Get, Insert, Upsert, Delete};
+ghost use Rattle.bw_model.specs.declared.command.Command.TheVariants.{Get, Insert, Upsert, Delete, Page, Tidy};
 ghost use Rattle.bw_model.specs.declared.command.Reply.TheVariants as reply;
 ghost use Rattle.bw_model.specs.Bytes.{is_below, is_in_range};
 ghost use Rattle.bw_model.specs.Examples.{small_log};
 ghost use Rattle.bw_model.specs.Log.{set, unset, value_in};
 ghost use Rattle.bw_model.specs.Pairs.{IsPairsOf};
-ghost use Rattle.bw_model.specs.Replies.{reply_of, update_of};
+ghost use Rattle.bw_model.specs.Replies.{is_writer, reply_of, update_of};
 
 /// A proper front of a key is below it, bytes are unsigned, and the empty key is the lowest.
 pub fn keys_are_ordered()
@@ -28,6 +28,16 @@ pub fn logs_are_read()
 /// The pairs of a log have each key once, with its last value.
 pub fn pairs_are_listed()
     ensures { IsPairsOf small_log [] None ((codes "a", codes "3") ∷ []) }
+{}
+
+/// A cursor page and a tidying change nothing, and their replies are of no one key's value.
+pub fn upkeep_changes_nothing()
+    ensures page { reply_of (Page (codes "a")) (Some (codes "1")) ≡ None }
+    ensures page_keeps { update_of 0 (Page (codes "a")) (Some (codes "1")) ≡ None }
+    ensures page_reads { is_writer (Page (codes "a")) ≡ false }
+    ensures tidy { reply_of (Tidy (codes "a")) None ≡ None }
+    ensures tidy_keeps { update_of 0 (Tidy (codes "a")) None ≡ None }
+    ensures tidy_writes { is_writer (Tidy (codes "a")) ≡ true }
 {}
 
 /// A lookup changes nothing; an insert changes an absent key alone, an upsert each key, a delete a present one alone.

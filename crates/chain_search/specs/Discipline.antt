@@ -2,16 +2,19 @@
 use Rattle.std.specs.Prelude.{◌≡◌, ◌≢◌, ◌<◌, ◌≤◌, ◌/◌, ◌^◌, ℕ, zero, suc, ◌⊎◌, List, [], ◌∷◌, length, Option, None, Some, Bool, true, false, IsTrue, IsFalse, IfSome, MatchOption, ⊤}
 use Rattle.bw_model.specs.declared.command.Command.{Command}
 use Rattle.bw_model.specs.declared.command.Reply.{Reply}
-use Rattle.bw_model.specs.declared.command.Reply.TheVariants.{Full}
+use Rattle.bw_model.specs.declared.command.Command.TheVariants.{Page, Tidy}
+use Rattle.bw_model.specs.declared.command.Reply.TheVariants.{Full, Tidied, Page as PageReply}
 use Rattle.bw_model.specs.declared.limits.Limits.{Limits}
 use Rattle.bw_model.specs.declared.step.Step.{Step as StepOf}
 use Rattle.bw_model.specs.declared.step.Step.TheVariants.{Slot, Row, Epoch, Announce, PidBits, RowBits, Place, Exchange, TakePid, TakeRow, Enter, Leave, Retire, ReusePids, ReuseRows}
 use Rattle.bw_model.specs.Bytes.{is_below, is_under}
 use Rattle.bw_model.specs.Log.{Update, set, unset}
-use Rattle.bw_model.specs.Replies.{command_key, reply_of, update_of}
+use Rattle.bw_model.specs.Pairs.{ArePairsOf}
+use Rattle.bw_model.specs.Replies.{command_key, is_writer, reply_of, update_of}
 use Rattle.base_page.specs.declared.item.Content.{Content}
 use Rattle.base_page.specs.declared.item.Content.TheVariants.{Value, Child}
 use Rattle.base_page.specs.declared.item.Item.{Item}
+use Rattle.base_page.specs.declared.page.Page.{Page as BasePage}
 use Rattle.base_page.specs.Pages.{content_at}
 use Rattle.deltas.specs.declared.record.Record.{Record}
 use Rattle.deltas.specs.declared.record.Record.TheVariants.{Base, Put, Delete, Split, Term, Hold, Remove, Merge, Unterm}
@@ -280,13 +283,15 @@ pub record IsBeside (k : Knowledge) (row : ℕ) : Type 0 where
   pub right : right_in basis.chain ≡ Some other
   pub order : k.read.before left other ≡ Some row
 
--- The chain of the row gives the reply: the update was linked over it; or there is none to link, and a slot held the
--- row; or the page was removed, and its left page was read afterwards.
+-- A slot held the row and its chain isn't removed; or the page was removed, and its left page was read afterwards.
+abbrev pub WasStanding : Knowledge → ℕ → List Record → Type 0
+WasStanding k row chain = (((page : ℕ) × (k.read.heads page ≡ Some row)) × IsFalse (is_removed chain)) ⊎ (IsBeside k row × IsTrue (is_removed chain))
+
+-- The chain of the row gives the reply: the update was linked over it; or there is none to link, and the page stood with it.
 abbrev pub HasBasis : ℕ → Knowledge → Command → ℕ → List Record → Type 0
 HasBasis actor k command row chain =
     ((k.asked.linked ≡ Some (Some row)) × IsFalse (is_removed chain))
-    ⊎ ((k.asked.linked ≡ None) × ((page : ℕ) × (k.read.heads page ≡ Some row) × IsFalse (is_removed chain)) × (update_of actor command (found chain (command_key command)) ≡ None))
-    ⊎ ((k.asked.linked ≡ None) × IsBeside k row × IsTrue (is_removed chain) × (update_of actor command (found chain (command_key command)) ≡ None))
+    ⊎ ((k.asked.linked ≡ None) × WasStanding k row chain × (update_of actor command (found chain (command_key command)) ≡ None))
 
 -- a reply by the value of the command's key
 pub record MayAnswer (actor : ℕ) (k : Knowledge) (command : Command) (reply : Reply) : Type 0 where
@@ -298,23 +303,51 @@ pub record MayAnswer (actor : ℕ) (k : Knowledge) (command : Command) (reply : 
   pub is : reply_of command (found chain (command_key command)) ≡ Some reply
   pub basis : HasBasis actor k command row chain
 
+-- A cursor page: the pairs of a leaf that stood, from the command's key on, and the leaf's high key.
+pub record MayShowPage (k : Knowledge) (command : Command) (reply : Reply) : Type 0 where
+  pub from : List ℕ
+  pub asks : command ≡ Page from
+  pub row : ℕ
+  pub chain : List Record
+  pub read : IsChainFrom k.read.seen row chain
+  pub leaf : level_in chain ≡ 0
+  pub covers : IsTrue (covers chain from)
+  pub pairs : List (List ℕ × List ℕ)
+  pub exact : ArePairsOf (found chain) from (high_in chain) pairs
+  pub is : reply ≡ PageReply pairs (high_in chain)
+  pub unlinked : k.asked.linked ≡ None
+  pub basis : WasStanding k row chain
+
+-- Tidied: the leaf that has the key was read as a base alone with fewer than 16 items.
+pub record MayCallTidy (k : Knowledge) (command : Command) (reply : Reply) : Type 0 where
+  pub key : List ℕ
+  pub asks : command ≡ Tidy key
+  pub is : reply ≡ Tidied
+  pub page : ℕ
+  pub head : ℕ
+  pub basis : HasRead k page head
+  pub base : BasePage
+  pub alone : basis.chain ≡ Base base ∷ []
+  pub leaf : base.level ≡ 0
+  pub covers : IsTrue (covers basis.chain key)
+  pub few : length base.items < 16
+  pub unlinked : k.asked.linked ≡ None
+
 -- Each word of the free PIDs, or each word of the free rows, was read as 0.
 abbrev pub LacksRoom : Limits → Knowledge → Type 0
 LacksRoom limits k = ((word : ℕ) → word < limits.pids / 64 → IsTrue (k.asked.no_pids word)) ⊎ ((word : ℕ) → word < limits.rows / 64 → IsTrue (k.asked.no_rows word))
 
--- Full: the command may change the map, nothing was linked, and there is no room for the change.
-pub record MayGiveUp (limits : Limits) (actor : ℕ) (k : Knowledge) (command : Command) (reply : Reply) : Type 0 where
+-- Full: the command's actor may link records, no update was linked, and there is no room for a change.
+pub record MayGiveUp (limits : Limits) (k : Knowledge) (command : Command) (reply : Reply) : Type 0 where
   pub is : reply ≡ Full
-  pub old : Option (List ℕ)
-  pub update : Update
-  pub writes : update_of actor command old ≡ Some update
+  pub writes : IsTrue (is_writer command)
   pub unlinked : k.asked.linked ≡ None
   pub lacks : LacksRoom limits k
 
 pub record MayReply (limits : Limits) (actor : ℕ) (k : Knowledge) (reply : Reply) : Type 0 where
   pub command : Command
   pub going : k.asked.command ≡ Some command
-  pub justified : MayAnswer actor k command reply ⊎ MayGiveUp limits actor k command reply
+  pub justified : MayAnswer actor k command reply ⊎ MayShowPage k command reply ⊎ MayCallTidy k command reply ⊎ MayGiveUp limits k command reply
 
 -- a step that the actor may take by what it knows, with its reply, if it has one
 pub record IsAllowed (limits : Limits) (actor : ℕ) (k : Knowledge) (step : StepOf Record) (reply : Option Reply) : Type 0 where

@@ -23,7 +23,7 @@ use Rattle.chain_search.specs.Discipline.{FitsOn, record_of, value_of}
 use Rattle.chain_search.specs.Fitted.{FitsOver, Makes}
 use Rattle.chain_search.specs.Knowledge.{Knowledge}
 use Rattle.installs.specs.Changes.{KeepsSparePage, linked_by}
-use Rattle.op_machine.specs.Answered.{is_writer}
+use Rattle.bw_model.specs.Replies.{is_writer}
 use Rattle.op_machine.specs.Brings.{IsUsefulOver, update_over}
 
 -- the record that a command places makes its update

@@ -1,27 +1,60 @@
 -- What each finished operation has replied.
-use Rattle.std.specs.Prelude.{◌≡◌, ◌<◌, ◌/◌, ℕ, List, Bool, true, false, Some, IsTrue, ◌⊎◌}
+use Rattle.std.specs.Prelude.{◌≡◌, ◌<◌, ◌/◌, ℕ, List, [], ◌∷◌, length, Option, Bool, Some, IsTrue, ◌⊎◌}
+use Rattle.std.specs.List.{Contains}
 use Rattle.bw_model.specs.declared.command.Command.{Command}
-use Rattle.bw_model.specs.declared.command.Command.TheVariants.{Get, Insert, Upsert, Delete}
+use Rattle.bw_model.specs.declared.command.Command.TheVariants.{Page, Tidy}
 use Rattle.bw_model.specs.declared.command.Reply.{Reply}
 use Rattle.bw_model.specs.declared.command.Reply.TheVariants as reply
 use Rattle.bw_model.specs.declared.limits.Limits.{Limits}
 use Rattle.bw_model.specs.declared.step.Step.TheVariants.{PidBits, RowBits}
 use Rattle.bw_model.specs.declared.step.Answer.TheVariants.{Number}
 use Rattle.bw_model.specs.Log.{Update, value_in}
-use Rattle.bw_model.specs.Replies.{command_key, reply_of}
+use Rattle.bw_model.specs.Pairs.{IsPairsOf}
+use Rattle.bw_model.specs.Replies.{command_key, is_writer, reply_of}
+use Rattle.base_page.specs.declared.page.Page.{Page as BasePage}
+use Rattle.deltas.specs.declared.record.Record.TheVariants.{Base}
+use Rattle.deltas.specs.Memory.{Memory}
 use Rattle.chain_search.specs.declared.trace.Entry.{Entry}
+use Rattle.chain_search.specs.Chains.{covers, high_in}
+use Rattle.chain_search.specs.SideChain.{LivePage, IsLeaves}
+use Rattle.chain_search.specs.Trace.{memory_at}
 use Rattle.op_machine.specs.Operations.{Operation, IsOperation, IsOwnStep, TakesOwnStep, Finishes}
 use Rattle.op_machine.specs.Points.{log_at, IsPoint}
 
--- What a command replies at its point, where the log is this.
-abbrev pub RepliesAt : List Update → Command → Reply → Type 0
-RepliesAt log command answer = reply_of command (value_in log (command_key command)) ≡ Some answer
+-- the leaf of the memory that has the key
+pub record IsLeafOf (memory : Memory) (key : List ℕ) (leaf : LivePage) : Type 0 where
+  pub leaves : List LivePage
+  pub are : IsLeaves memory leaves
+  pub among : Contains leaves leaf
+  pub covers : IsTrue (covers leaf.chain key)
 
-abbrev pub is_writer : Command → Bool
-is_writer (Get key) = false
-is_writer (Insert key value) = true
-is_writer (Upsert key value) = true
-is_writer (Delete key) = true
+-- A cursor page ends at the high key of the leaf that has its first key, and has the log's pairs in between.
+pub record IsCursorPage (memory : Memory) (log : List Update) (from : List ℕ) (items : List (List ℕ × List ℕ)) (next : Option (List ℕ)) : Type 0 where
+  pub leaf : LivePage
+  pub stands : IsLeafOf memory from leaf
+  pub ends : high_in leaf.chain ≡ next
+  pub pairs : IsPairsOf log from next items
+
+-- a cursor page as a command's reply
+pub record ShowsPage (memory : Memory) (log : List Update) (command : Command) (answer : Reply) : Type 0 where
+  pub from : List ℕ
+  pub asks : command ≡ Page from
+  pub items : List (List ℕ × List ℕ)
+  pub next : Option (List ℕ)
+  pub is : answer ≡ reply.Page items next
+  pub page : IsCursorPage memory log from items next
+
+-- What a command replies at its point, where the memory and the log are these: by its key's value, or with a cursor page.
+abbrev pub RepliesAt : Memory → List Update → Command → Reply → Type 0
+RepliesAt memory log command answer = (reply_of command (value_in log (command_key command)) ≡ Some answer) ⊎ ShowsPage memory log command answer
+
+-- Nothing is due at the leaf that has the key: it is a base alone, with fewer than 16 items. A base alone isn't removed.
+pub record IsTidy (memory : Memory) (key : List ℕ) : Type 0 where
+  pub leaf : LivePage
+  pub stands : IsLeafOf memory key leaf
+  pub base : BasePage
+  pub alone : leaf.chain ≡ Base base ∷ []
+  pub few : length base.items < 16
 
 module _ (limits : Limits) (entries : List Entry) where
   -- The operation has read each word of the free PIDs as 0, or each word of the free rows.
@@ -29,10 +62,19 @@ module _ (limits : Limits) (entries : List Entry) where
   FindsNothingFree operation = ((word : ℕ) → word < limits.pids / 64 → (n : ℕ) × TakesOwnStep entries operation n (PidBits word) (Number 0))
       ⊎ ((word : ℕ) → word < limits.rows / 64 → (n : ℕ) × TakesOwnStep entries operation n (RowBits word) (Number 0))
 
+  -- The operation is a tidying, and nothing was due at its key's leaf at one of its own steps.
+  pub record FindsTidy (operation : Operation) : Type 0 where
+    pub key : List ℕ
+    pub asks : operation.command ≡ Tidy key
+    pub step : ℕ
+    pub own : IsOwnStep entries operation step
+    pub tidy : IsTidy (memory_at limits entries step) key
+
   -- What the reply says of the operation.
   abbrev pub IsTrueReply : List Bool → Operation → Reply → Type 0
   IsTrueReply points operation reply.Full = IsTrue (is_writer operation.command) × FindsNothingFree operation
-  IsTrueReply points operation answer = (n : ℕ) × IsOwnStep entries operation n × IsPoint points n × RepliesAt (log_at entries points n) operation.command answer
+  IsTrueReply points operation reply.Tidied = FindsTidy operation
+  IsTrueReply points operation answer = (n : ℕ) × IsOwnStep entries operation n × IsPoint points n × RepliesAt (memory_at limits entries n) (log_at entries points n) operation.command answer
 
   pub record IsAnswered (points : List Bool) : Type 0 where
     pub each : (operation : Operation) (n : ℕ) (answer : Reply) → IsOperation entries operation → Finishes entries operation n answer → IsTrueReply points operation answer

@@ -19,7 +19,7 @@ use Rattle.installs.specs.declared.change.End.TheVariants.{Won, Lost, Full}
 use Rattle.installs.specs.Spares.{Spares}
 use Rattle.smo.specs.Sizes.{HasFewItems}
 use Rattle.smo.specs.declared.version.Version.{Version}
-use Rattle.op_machine.specs.Answered.{is_writer}
+use Rattle.bw_model.specs.Replies.{is_writer}
 use Rattle.op_machine.specs.Errands.{way_key}
 use Rattle.op_machine.specs.Shows.{FitsLast, Stands, learn_last, recall_last, wanted_at}
 use Rattle.op_machine.specs.Tasks.{IsDone, IsAtRest, Seeks, Task, Waits}

@@ -54,6 +54,8 @@ has_point kind.Set = true
 has_point (kind.Replaced value) = true
 has_point (kind.Deleted value) = true
 has_point kind.Absent = true
+has_point (kind.Page items next) = true
+has_point kind.Tidied = false
 has_point kind.Full = false
 
 -- Each mark is an own step of an operation, none has two, and a finished one has one exactly where its reply asks for it.

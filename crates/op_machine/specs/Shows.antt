@@ -18,7 +18,7 @@ use Rattle.installs.specs.Bounded as bound
 use Rattle.installs.specs.Spares.{Spares}
 use Rattle.installs.specs.Within.{IsWithin}
 use Rattle.installs.specs.declared.plan.Plan.{Plan}
-use Rattle.op_machine.specs.Answered.{is_writer}
+use Rattle.bw_model.specs.Replies.{is_writer}
 use Rattle.op_machine.specs.Brings.{Brings, IsReadPlan, IsUsefulPlan}
 use Rattle.op_machine.specs.Errands.{way_key}
 use Rattle.op_machine.specs.Tasks.{IsAsked, IsDone, IsUnreadPid, Seeks, Task, Waits}

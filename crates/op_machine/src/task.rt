@@ -2,7 +2,7 @@
 ghost use Rattle.std.specs.Prelude.{◌≡◌, ◌≤◌, ◌+◌, ◌-◌, [], Some, IsSome, length, take, true};
 ghost use Rattle.chain_search.specs.Knowledge.{Knowledge};
 ghost use Rattle.chain_search.specs.Recalled.{Recalled};
-ghost use Rattle.op_machine.specs.Answered.{is_writer};
+ghost use Rattle.bw_model.specs.Replies.{is_writer};
 ghost use Rattle.installs.specs.Changes.{IsTarget};
 ghost use Rattle.installs.specs.Spares.{HaveRoom, Spares};
 ghost use Rattle.op_machine.specs.Bounded.{few_changes, left_at, left_for, one_round, with_errands};
