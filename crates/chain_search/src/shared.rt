@@ -76,11 +76,11 @@ impl<A: Allocator> Model for SharedEntry<A> {
 
 impl<A: Allocator> SharedEntry<A> {
     /// The actor began an operation.
-    pub fn begin(actor: u8, command: Command) -> SharedEntry<A>
-        ensures { result ≡ entry.Begin actor command }
+    pub fn begin(actor: u8, command: &Command) -> SharedEntry<A>
+        ensures { result ≡ entry.Begin actor command.now }
     {
         SharedEntry {
-            happened: Happening::Begin(actor, command),
+            happened: Happening::Begin(actor, command.clone().unwrap()),
         }
     }
 
