@@ -6,4 +6,5 @@ pub mod Tables
 pub mod FittedLaws
 pub mod FittedExamples
 pub mod Updated
+pub mod PairLaws
 pub mod PaidExamples

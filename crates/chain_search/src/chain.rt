@@ -5,6 +5,7 @@ ghost use Rattle.chain_search.specs.Chains.{level_in, low_in, high_in, right_in,
 ghost use Rattle.chain_search.specs.Fitted.{IsPageChain};
 
 mod pages;
+mod pairs;
 mod rows;
 mod search;
 

@@ -5,7 +5,7 @@ ghost use Rattle.chain_search.specs.Examples.{leaf, leaf_chain, index_chain};
 
 use crate::{Chain, ChainPart};
 use base_page::{Content, Items, Page};
-use bw_model::{Key, Value};
+use bw_model::{Key, Pairs, Value};
 use deltas::{Delete, Hold, Merge, Put, Record, Remove, Split, Term, Unterm};
 
 fn key(text: &[u8]) -> Key
@@ -139,4 +139,19 @@ fn finds_the_children_of_an_index_page(rt: HostRuntime) {
     let page = chain.consolidated();
     assert_eq!(rt; page.items().len(), 2);
     assert_eq!(rt; page.child_of(&key(b"k09")), Some(3));
+}
+
+#[test]
+fn shows_the_pairs_from_a_key(rt: HostRuntime) {
+    let chain = leaf_chain();
+    let mut pairs = Pairs::new();
+    pairs.push(key(b"k07"), value(b"v07"));
+    pairs.push(key(b"k09"), value(b"w09"));
+    assert_eq!(rt; chain.pairs_from(chain.low()), pairs);
+    assert_eq!(rt; chain.pairs_from(&key(b"k07")), pairs);
+    let mut rest = Pairs::new();
+    rest.push(key(b"k09"), value(b"w09"));
+    assert_eq!(rt; chain.pairs_from(&key(b"k08")), rest);
+    assert_eq!(rt; chain.pairs_from(&key(b"k10")), Pairs::new());
+    assert_eq!(rt; index_chain().pairs_from(&key(b"k08")), Pairs::new());
 }

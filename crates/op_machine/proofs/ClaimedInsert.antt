@@ -2,7 +2,7 @@
 -- at the mark the log has the key, and the memory hasn't.
 use Rattle.std.specs.Prelude.{codes, slice_get, take, map}
 use Rattle.std.specs.Option.{option_to_list}
-use Rattle.std.proofs.Common.{◌≡◌, ◌<◌, ◌≤◌, ℕ, suc, List, [], ◌∷◌, ◌++◌, Bool, true, Some, None, Option, refl, ap, arith, lit<, ◌∙◌}
+use Rattle.std.proofs.Common.{◌≡◌, ◌<◌, ◌≤◌, ℕ, suc, List, [], ◌∷◌, ◌++◌, Bool, true, Some, None, Option, refl, ap, arith, inl, inr, lit<, ◌∙◌}
 use Rattle.bw_model.specs.declared.command.Command.{Command}
 use Rattle.bw_model.specs.declared.command.Command.TheVariants.{Insert}
 use Rattle.bw_model.specs.declared.command.Reply.TheVariants as reply
@@ -11,6 +11,7 @@ use Rattle.bw_model.specs.Replies.{reply_of, update_of}
 use Rattle.bw_model.proofs.LogLaws.{value_in-push}
 use Rattle.bw_model.specs.declared.step.Step.TheVariants.{Leave}
 use Rattle.bw_model.specs.declared.step.Answer.TheVariants.{Done}
+use Rattle.deltas.specs.Memory.{Memory}
 use Rattle.chain_search.specs.declared.trace.Entry.{Entry}
 use Rattle.chain_search.specs.declared.trace.Entry.TheVariants.{Begin, Step}
 use Rattle.chain_search.specs.Chains.{IsChainOf}
@@ -21,7 +22,7 @@ use Rattle.chain_search.proofs.Pushes.{slice_get_below}
 use Rattle.chain_search.proofs.RunLaws.{IsRun-from_steps}
 use Rattle.op_machine.specs.Operations.{Operation, IsOwnStep, Finishes}
 use Rattle.op_machine.specs.Points.{HasPoints, log_at, updates_at, updates_by}
-use Rattle.op_machine.specs.Answered.{IsAnswered, IsTrueReply}
+use Rattle.op_machine.specs.Answered.{IsAnswered, IsTrueReply, RepliesAt}
 use Rattle.op_machine.specs.Quiet.{IsQuiet, HasMapOf}
 use Rattle.op_machine.specs.Linearized.{IsLinearized}
 use Rattle.op_machine.specs.Examples.{small, opening_leaf, claimed_insert}
@@ -51,6 +52,10 @@ absent : (old : Option (List ℕ)) → reply_of insert old ≡ Some reply.Insert
 absent None e = refl
 absent (Some value) e = cc
 
+absent_at : (memory : Memory) (log : List Update) → RepliesAt memory log insert reply.Inserted → value_in log (codes "a") ≡ None
+absent_at memory log (inl is) = absent (value_in log (codes "a")) is
+absent_at memory log (inr shows) = let e = shows.is in cc
+
 -- each step is one of the insert
 updates : (n : ℕ) (entry : Entry) → slice_get claimed_insert n ≡ Some entry → 0 < n → (log : List Update) → updates_at (take n claimed_insert) entry log ≡ updates_by 0 (Some insert) log
 updates n entry e low = EachAt-get (λ k x. 0 < k → (log : List Update) → updates_at (take k claimed_insert) x log ≡ updates_by 0 (Some insert) log) claimed_insert
@@ -71,7 +76,7 @@ no_map n h log has map_of =
 no_points : (points : List Bool) → HasPoints claimed_insert points → IsAnswered small claimed_insert points → IsQuiet small claimed_insert points → ⊥
 no_points points has answered quiet =
     let true_reply : IsTrueReply small claimed_insert points the_insert reply.Inserted = answered.each the_insert 6 reply.Inserted refl finishes in
-    at true_reply.0 true_reply.1 true_reply.2 (absent (value_in (log_at claimed_insert points true_reply.0) (codes "a")) true_reply.3)
+    at true_reply.0 true_reply.1 true_reply.2 (absent_at (memory_at small claimed_insert true_reply.0) (log_at claimed_insert points true_reply.0) true_reply.3)
   where
     at : (n : ℕ) → IsOwnStep claimed_insert the_insert n → slice_get points n ≡ Some true → value_in (log_at claimed_insert points n) (codes "a") ≡ None → ⊥
     at n (step, answer, (answered_by, own)) marked none =

@@ -1,12 +1,12 @@
 -- What commands write.
-use Rattle.std.proofs.Common.{◌≡◌, ◌<◌, ◌≤◌, ℕ, true, false, List, [], length, Option, Some, None, is_some, refl, ap, ◌∙◌, subst, arith}
+use Rattle.std.proofs.Common.{◌≡◌, ◌<◌, ◌≤◌, ℕ, true, false, List, length, Option, Some, None, is_some, refl, ap, ◌∙◌, subst, arith}
 use Rattle.std.specs.Prelude.{IsTrue}
 use Rattle.bw_model.specs.Bytes.{is_in_range}
 use Rattle.deltas.specs.declared.record.Record.{Record}
 use Rattle.std.specs.Option.{ForSome}
 use Rattle.std.proofs.lemmas.Option.{same_Some}
 use Rattle.bw_model.specs.declared.command.Command.{Command}
-use Rattle.bw_model.specs.declared.command.Command.TheVariants.{Get, Insert, Upsert, Delete}
+use Rattle.bw_model.specs.declared.command.Command.TheVariants.{Get, Insert, Upsert, Delete, Page as PageFrom, Tidy}
 use Rattle.bw_model.specs.Log.{Update, set, unset}
 use Rattle.bw_model.specs.Replies.{command_key, update_of}
 use Rattle.base_page.specs.declared.item.Content.{Content}
@@ -34,15 +34,19 @@ change_is actor (Insert key value) (Some before) u x h = cc
 change_is actor (Upsert key value) old u x h = ap (λ (w : Update). record_of w x) (same_Some _ _ h)
 change_is actor (Delete key) None u x h = cc
 change_is actor (Delete key) (Some before) u x h = ap (λ (w : Update). record_of w x) (same_Some _ _ h)
+change_is actor (PageFrom key) old u x h = cc
+change_is actor (Tidy key) old u x h = cc
 
 -- which update is due does not depend on whose it is
-pub due_of : (actor other : ℕ) (c : Command) (old : Option (List ℕ)) → is_some (update_of other c old) ≡ true → (u : Update) × (update_of actor c old ≡ Some u)
-due_of actor other (Get key) old h = cc
-due_of actor other (Insert key value) None h = (set actor key value, refl)
-due_of actor other (Insert key value) (Some before) h = cc
-due_of actor other (Upsert key value) old h = (set actor key value, refl)
-due_of actor other (Delete key) None h = cc
-due_of actor other (Delete key) (Some before) h = (unset actor key, refl)
+pub update_due : (actor other : ℕ) (c : Command) (old : Option (List ℕ)) → is_some (update_of other c old) ≡ true → (u : Update) × (update_of actor c old ≡ Some u)
+update_due actor other (Get key) old h = cc
+update_due actor other (Insert key value) None h = (set actor key value, refl)
+update_due actor other (Insert key value) (Some before) h = cc
+update_due actor other (Upsert key value) old h = (set actor key value, refl)
+update_due actor other (Delete key) None h = cc
+update_due actor other (Delete key) (Some before) h = (unset actor key, refl)
+update_due actor other (PageFrom key) old h = cc
+update_due actor other (Tidy key) old h = cc
 
 pub none_due : (actor other : ℕ) (c : Command) (old : Option (List ℕ)) → is_some (update_of other c old) ≡ false → update_of actor c old ≡ None
 none_due actor other (Get key) old h = refl
@@ -51,13 +55,8 @@ none_due actor other (Insert key value) (Some before) h = refl
 none_due actor other (Upsert key value) old h = cc
 none_due actor other (Delete key) None h = refl
 none_due actor other (Delete key) (Some before) h = cc
-
--- a writer would change the map where its key had one value or the other
-pub writes : (actor : ℕ) (c : Command) → is_writer c ≡ true → (old : Option (List ℕ)) × (u : Update) × (update_of actor c old ≡ Some u)
-writes actor (Get key) h = cc
-writes actor (Insert key value) h = (None, set actor key value, refl)
-writes actor (Upsert key value) h = (None, set actor key value, refl)
-writes actor (Delete key) h = (Some [], unset actor key, refl)
+none_due actor other (PageFrom key) old h = refl
+none_due actor other (Tidy key) old h = refl
 
 -- a command that is no writer changes nothing
 pub reads : (actor : ℕ) (c : Command) (old : Option (List ℕ)) → is_writer c ≡ false → is_some (update_of actor c old) ≡ false
@@ -65,6 +64,8 @@ reads actor (Get key) old h = refl
 reads actor (Insert key value) old h = cc
 reads actor (Upsert key value) old h = cc
 reads actor (Delete key) old h = cc
+reads actor (PageFrom key) old h = refl
+reads actor (Tidy key) old h = cc
 
 -- the value of a content, by either name
 pub value_same : (o : Option Content) → value_in o ≡ value_of o
@@ -72,28 +73,39 @@ value_same None = refl
 value_same (Some (Value value)) = refl
 value_same (Some (Child page held)) = refl
 
--- what a writer places over a row
+-- what a command that changes the map places over a row
 
-pub over_next : (c : Command) (x rows : ℕ) → x < rows → is_writer c ≡ true → ForSome (next_row (update_over c x)) (λ next. next < rows)
-over_next (Get key) x rows below h = cc
+abbrev pub Changes : Command → Type 0
+Changes c = (old : Option (List ℕ)) × (is_some (update_of 0 c old) ≡ true)
+
+pub over_next : (c : Command) (x rows : ℕ) → x < rows → Changes c → ForSome (next_row (update_over c x)) (λ next. next < rows)
+over_next (Get key) x rows below h = let e = h.1 in cc
+over_next (PageFrom key) x rows below h = let e = h.1 in cc
+over_next (Tidy key) x rows below h = let e = h.1 in cc
 over_next (Insert key value) x rows below h = λ next e. subst (λ n. n < rows) (same_Some x next e) below
 over_next (Upsert key value) x rows below h = λ next e. subst (λ n. n < rows) (same_Some x next e) below
 over_next (Delete key) x rows below h = λ next e. subst (λ n. n < rows) (same_Some x next e) below
 
 pub over_kept : (c : Command) (x : ℕ) (pid : Option ℕ) → KeepsSparePage (update_over c x) pid
 over_kept (Get key) x pid = tt
+over_kept (PageFrom key) x pid = tt
+over_kept (Tidy key) x pid = tt
 over_kept (Insert key value) x pid = tt
 over_kept (Upsert key value) x pid = tt
 over_kept (Delete key) x pid = tt
 
 pub over_useful : (k : Knowledge) (c : Command) (x : ℕ) → IsUsefulOver k x (update_over c x)
 over_useful k (Get key) x = tt
+over_useful k (PageFrom key) x = tt
+over_useful k (Tidy key) x = tt
 over_useful k (Insert key value) x = tt
 over_useful k (Upsert key value) x = tt
 over_useful k (Delete key) x = tt
 
-pub over_links : (c : Command) (x : ℕ) → is_writer c ≡ true → (before : Option (Option ℕ)) → linked_by (update_over c x) x before ≡ Some (Some x)
-over_links (Get key) x h before = cc
+pub over_links : (c : Command) (x : ℕ) → Changes c → (before : Option (Option ℕ)) → linked_by (update_over c x) x before ≡ Some (Some x)
+over_links (Get key) x h before = let e = h.1 in cc
+over_links (PageFrom key) x h before = let e = h.1 in cc
+over_links (Tidy key) x h before = let e = h.1 in cc
 over_links (Insert key value) x h before = refl
 over_links (Upsert key value) x h before = refl
 over_links (Delete key) x h before = refl
@@ -107,8 +119,10 @@ module _ (chain : List Record) (page : Page) (makes : Makes chain page) (alive :
   put_fits : (x : ℕ) (key value : List ℕ) → IsRow x → IsTrue (covers chain key) → FitsOn chain (kind.Put (record { next = x; key = key; value = value }))
   put_fits x key value row within = (puts (record { next = x; key = key; value = value }) row (record { alive = makes.removed ∙ alive; leaf = makes.level ∙ leaf; covered = covered key within; room = λ e. omega (arith, few) }), omega (arith, short))
 
-  pub over_fits : (c : Command) (x : ℕ) → is_writer c ≡ true → IsRow x → IsTrue (covers chain (command_key c)) → FitsOn chain (update_over c x)
-  over_fits (Get key) x h row within = cc
+  pub over_fits : (c : Command) (x : ℕ) → Changes c → IsRow x → IsTrue (covers chain (command_key c)) → FitsOn chain (update_over c x)
+  over_fits (Get key) x h row within = let e = h.1 in cc
+  over_fits (PageFrom key) x h row within = let e = h.1 in cc
+  over_fits (Tidy key) x h row within = let e = h.1 in cc
   over_fits (Insert key value) x h row within = put_fits x key value row within
   over_fits (Upsert key value) x h row within = put_fits x key value row within
   over_fits (Delete key) x h row within = (deletes (record { next = x; key = key }) row (record { alive = makes.removed ∙ alive; leaf = makes.level ∙ leaf; covered = covered key within }), omega (arith, short))

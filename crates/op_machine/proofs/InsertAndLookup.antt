@@ -243,8 +243,8 @@ has_points = record {
 is_answered : IsAnswered small insert_and_lookup points
 is_answered = record {
   each = λ operation n answered is done. elim (replies operation n answered is done) [
-    | inl which ↦ rw (which.0, which.1) (9, insert_point, refl, refl)
-    | inr which ↦ rw (which.0, which.1) (15, get_point, refl, refl)
+    | inl which ↦ rw (which.0, which.1) (9, insert_point, refl, inl refl)
+    | inr which ↦ rw (which.0, which.1) (15, get_point, refl, inl refl)
   ];
 }
 

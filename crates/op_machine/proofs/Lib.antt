@@ -16,4 +16,5 @@ pub mod Changing
 pub mod Stepping
 pub mod Plans
 pub mod Commands
+pub mod Tidying
 pub mod Going

@@ -117,7 +117,7 @@ has_points = record {
     first_begins = refl
 
 is_answered : IsAnswered small lookup points
-is_answered = record { each = λ operation n answered is ends. rw (only operation is, finished operation n answered ends) (4, own_point, refl, right) }
+is_answered = record { each = λ operation n answered is ends. rw (only operation is, finished operation n answered ends) (4, own_point, refl, inl right) }
   where
     right : reply_of the_operation.command (value_in [] (codes "a")) ≡ Some reply.None
     right = refl

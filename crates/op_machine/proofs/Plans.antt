@@ -3,6 +3,8 @@ use Rattle.std.proofs.Common.{◌≡◌, ◌<◌, inl, inr, ℕ, List, [], ◌�
 use Rattle.std.proofs.lemmas.Option.{same_Some}
 use Rattle.std.specs.Option.{ForSome}
 use Rattle.std.specs.Prelude.{slice_get, take}
+use Rattle.bw_model.specs.declared.command.Command.{Command}
+use Rattle.bw_model.specs.declared.command.Command.TheVariants.{Get, Insert, Upsert, Delete, Page as PageFrom, Tidy}
 use Rattle.bw_model.specs.declared.limits.Limits.{Limits}
 use Rattle.base_page.specs.Pages.{Page}
 use Rattle.deltas.specs.Memory.{Memory}
@@ -20,12 +22,23 @@ use Rattle.installs.specs.Spares.{Spares}
 use Rattle.installs.specs.declared.plan.Plan.TheVariants.{Install, Split, Root}
 use Rattle.smo.specs.declared.split.SplitPlan.{SplitPlan}
 use Rattle.smo.specs.declared.version.Version.{Version}
+use Rattle.op_machine.specs.Errands.{due_of}
 use Rattle.op_machine.specs.Outcomes.{FacesWritten}
 use Rattle.op_machine.specs.Tasks.{Seeks, Task}
 
 -- a page in hand is a place for a record
 pub place_of : (limits : Limits) (k : Knowledge) (r : Recalled) (page : Version) (content : Record) → IsAlive limits k r page → ForSome (next_row content) (λ next. next < limits.rows) → change.IsTargetOver limits page.pid page.head content
 place_of limits k r page content alive next = record { page = page.is_pid.0; pid_below = alive.in_hand.page; linked = alive.recalled.0; head_below = alive.in_hand.row; next_below = next }
+
+-- a base alone is never due
+pub due_some : (errands : List (List ℕ)) (command : Command) → 0 < due_of errands command
+due_some (key ∷ errands) command = omega arith
+due_some [] (Tidy key) = omega arith
+due_some [] (Get key) = omega arith
+due_some [] (Insert key value) = omega arith
+due_some [] (Upsert key value) = omega arith
+due_some [] (Delete key) = omega arith
+due_some [] (PageFrom key) = omega arith
 
 module _ (task : Task) (spares : Spares) (k : Knowledge) (r : Recalled) where
   alive_in : (limits : Limits) (page : Version) → limits ≡ task.limits → IsAlive limits k r page → IsAlive task.limits k r page
@@ -48,9 +61,9 @@ module _ (task : Task) (spares : Spares) (k : Knowledge) (r : Recalled) where
 
   -- a page that is consolidated has deltas
   pub long_chain : (page : Version) → FacesWritten task spares k r (end.Consolidate page) → 1 < length page.chain
-  long_chain page h = let due = h.due in elim h.ends.long [
+  long_chain page h = let due = h.due in let some = due_some task.errands task.command in elim h.ends.long [
     | inl many ↦ omega (arith, many)
-    | inr leaf ↦ let some = leaf.1 in omega (arith, some, due)
+    | inr leaf ↦ let longer = leaf.1 in omega (arith, longer, due, some)
   ]
 
 -- what is known at the leaf of an errand is known for the next round, and at that of the command's key

@@ -1,6 +1,7 @@
--- For which key an operation's rounds look.
+-- For which key an operation's rounds look, and what is due there.
 use Rattle.std.specs.Prelude.{◌∷◌, [], ◌++◌, ◌-◌, ℕ, List, length, nat_lt, if◌then◌else◌, slice_get, unwrap_or}
 use Rattle.bw_model.specs.declared.command.Command.{Command}
+use Rattle.bw_model.specs.declared.command.Command.TheVariants.{Tidy}
 use Rattle.bw_model.specs.Replies.{command_key}
 
 -- at most 16 errands are kept
@@ -10,3 +11,8 @@ with_errand key errands = if nat_lt (length errands) 16 then errands ++ key ∷ 
 -- the newest errand's key, or the command's
 abbrev pub way_key : List (List ℕ) → Command → List ℕ
 way_key errands command = unwrap_or (slice_get errands (length errands - 1)) (command_key command)
+
+-- At how many deltas a round consolidates the leaf that it looks for: at the leaf of its own key a tidying does at one.
+abbrev pub due_of : List (List ℕ) → Command → ℕ
+due_of [] (Tidy key) = 1
+due_of errands command = 8

@@ -20,7 +20,7 @@ use Rattle.installs.specs.Spares.{Spares}
 use Rattle.smo.specs.Sizes.{HasFewItems}
 use Rattle.smo.specs.declared.version.Version.{Version}
 use Rattle.bw_model.specs.Replies.{is_writer}
-use Rattle.op_machine.specs.Errands.{way_key}
+use Rattle.op_machine.specs.Errands.{due_of, way_key}
 use Rattle.op_machine.specs.Shows.{FitsLast, Stands, learn_last, recall_last, wanted_at}
 use Rattle.op_machine.specs.Tasks.{IsDone, IsAtRest, Seeks, Task, Waits}
 use Rattle.op_machine.specs.declared.state.Outcome.{Outcome}
@@ -47,7 +47,7 @@ pub record FacesWritten (task : Task) (spares : Spares) (k : Knowledge) (r : Rec
   pub round : write.WriteRound
   pub limits : round.limits ≡ task.limits
   pub key : round.key ≡ way_key task.errands task.command
-  pub due : round.due ≡ 8
+  pub due : round.due ≡ due_of task.errands task.command
   pub ends : write.Ends round k r end
 
 -- A writer is at the leaf that its round looked for, where nothing else is due.
@@ -58,6 +58,7 @@ pub record IsAtLeaf (task : Task) (spares : Spares) (k : Knowledge) (r : Recalle
   pub level : level_in leaf.chain ≡ 0
   pub covered : IsTrue (covers leaf.chain (way_key task.errands task.command))
   pub short : length leaf.chain ≤ 8
+  pub early : length leaf.chain ≤ due_of task.errands task.command
   pub few : HasFewItems leaf.chain
 
 -- A change has ended: an update was linked, and justifies the reply; or no update was linked, and, where it is full, nothing

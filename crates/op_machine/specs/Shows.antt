@@ -20,7 +20,7 @@ use Rattle.installs.specs.Within.{IsWithin}
 use Rattle.installs.specs.declared.plan.Plan.{Plan}
 use Rattle.bw_model.specs.Replies.{is_writer}
 use Rattle.op_machine.specs.Brings.{Brings, IsReadPlan, IsUsefulPlan}
-use Rattle.op_machine.specs.Errands.{way_key}
+use Rattle.op_machine.specs.Errands.{due_of, way_key}
 use Rattle.op_machine.specs.Tasks.{IsAsked, IsDone, IsUnreadPid, Seeks, Task, Waits}
 use Rattle.op_machine.specs.declared.state.State.{State}
 use Rattle.op_machine.specs.declared.state.State.TheVariants.{Begun, Epoch, Enter, Read, Write, Change, Leave, Over}
@@ -40,7 +40,7 @@ pub record IsInWriteRound (task : Task) (spares : Spares) (k : Knowledge) (r : R
   pub writer : is_writer task.command ≡ true
   pub limits : round.limits ≡ task.limits
   pub key : round.key ≡ way_key task.errands task.command
-  pub due : round.due ≡ 8
+  pub due : round.due ≡ due_of task.errands task.command
   pub shows : write.Shows round k r
 
 -- A change is under way.

@@ -1,13 +1,17 @@
 //! What an operation was asked, and what it makes of what it has come to.
-ghost use Rattle.std.specs.Prelude.{◌≡◌, ◌≤◌, ◌+◌, ◌-◌, [], Some, IsSome, length, take, true};
+ghost use Rattle.std.specs.Prelude.{◌≡◌, ◌<◌, ◌≤◌, ◌+◌, ◌-◌, ℕ, List, [], Option, Some, IsSome, is_some, length, take, true};
+ghost use Rattle.chain_search.specs.Chains.{high_in};
+ghost use Rattle.chain_search.specs.Discipline.{found};
 ghost use Rattle.chain_search.specs.Knowledge.{Knowledge};
 ghost use Rattle.chain_search.specs.Recalled.{Recalled};
-ghost use Rattle.bw_model.specs.Replies.{is_writer};
+ghost use Rattle.bw_model.specs.Pairs.{ArePairsOf};
+ghost use Rattle.bw_model.specs.Replies.{update_of};
+ghost use Rattle.bw_model.specs.declared.command.Reply.TheVariants as reply;
 ghost use Rattle.installs.specs.Changes.{IsTarget};
 ghost use Rattle.installs.specs.Spares.{HaveRoom, Spares};
 ghost use Rattle.op_machine.specs.Bounded.{few_changes, left_at, left_for, one_round, with_errands};
 ghost use Rattle.op_machine.specs.Brings.{errands_after, update_over};
-ghost use Rattle.op_machine.specs.Errands.{way_key};
+ghost use Rattle.op_machine.specs.Errands.{due_of, way_key};
 ghost use Rattle.op_machine.specs.Outcomes.{Faces, FacesChanged, FacesRead, FacesWritten, IsAtLeaf, IsFaced};
 ghost use Rattle.op_machine.specs.Shows.{MayBegin, Stands, wanted_at};
 ghost use Rattle.op_machine.specs.Tasks.{IsSameTask, Seeks};
@@ -16,7 +20,7 @@ use crate::errands::Errands;
 use crate::state::{Outcome, State, Then};
 use base_page::Page;
 use bw_model::{Command, Key, Limits, Reply};
-use chain_search::{chain_is_one, updates_fit};
+use chain_search::{Chain, chain_is_one, updates_fit};
 use deltas::{Delete, Put, Record, Term};
 use descent::{ReadEnd, ReadRound, WriteEnd, WriteRound};
 use installs::{Change, End, Plan, Spares, plans_may_be_linked};
@@ -84,25 +88,15 @@ impl Task {
         ensures few { (spares : Spares) (r : Recalled) → left_at r spares result ≤ one_round }
         ensures asks { (spares : Spares) → IsSome (wanted_at spares result) }
     {
-        if self.is_writer() {
+        if self.command.is_writer() {
             let key = self.way_key().copied();
             return State::Write {
-                round: WriteRound::new(&self.limits, key, MANY_DELTAS),
+                round: WriteRound::new(&self.limits, key, self.due()),
             };
         }
         let key = self.command.key().copied();
         State::Read {
             round: ReadRound::new(&self.limits, key),
-        }
-    }
-
-    /// Whether the command may change the map.
-    fn is_writer(&self) -> bool
-        ensures { result ≡ is_writer self.now.command }
-    {
-        match &self.command {
-            Command::Get(_) => false,
-            Command::Insert(_, _) | Command::Upsert(_, _) | Command::Delete(_) => true,
         }
     }
 
@@ -116,6 +110,17 @@ impl Task {
         }
     }
 
+    /// At how many deltas the leaf that is looked for is consolidated: a tidying leaves none at the leaf of its key.
+    fn due(&self) -> usize
+        ensures due { result ≡ due_of self.now.errands self.now.command }
+        ensures some { 0 < result }
+    {
+        match (&self.command, self.errands.newest()) {
+            (Command::Tidy(_), None) => 1,
+            _ => MANY_DELTAS,
+        }
+    }
+
     /// A reader answers at the leaf of its key; where its round was cut off, a new one begins.
     fn end_read(&self, end: ReadEnd) -> State
         ensures stands { (spares : Spares) (k : Knowledge) (r : Recalled) → FacesRead self.now spares k r end → Stands self.now spares k r result }
@@ -124,9 +129,15 @@ impl Task {
     {
         match end {
             ReadEnd::Again | ReadEnd::Removed(_) => self.round(),
-            ReadEnd::Leaf(leaf) => State::Leave {
-                reply: self.command.reply(leaf.chain.find(self.command.key())),
-            },
+            ReadEnd::Leaf(leaf) => {
+                let key = self.command.key();
+                State::Leave {
+                    reply: match self.command.reply(leaf.chain.find(key)) {
+                        Some(reply) => reply,
+                        None => cursor_page(&leaf.chain, key),
+                    },
+                }
+            }
         }
     }
 
@@ -166,7 +177,8 @@ impl Task {
         }
     }
 
-    /// At the leaf of its key the command answers, where nothing is to be changed; else its update is linked.
+    /// At the leaf of its key the command answers, where nothing is to be changed, a tidying so that nothing is left to do; else
+    /// its update is linked.
     fn execute(&self, spares: &Spares, leaf: Version) -> State
         requires faced { (k : Knowledge) × (r : Recalled) × IsAtLeaf self.now spares.now k r leaf }
         requires last { self.now.errands ≡ [] }
@@ -177,7 +189,11 @@ impl Task {
         updates_fit();
         plans_may_be_linked();
         let old = leaf.chain.find(self.command.key());
-        let reply = self.command.reply(old);
+        let Some(reply) = self.command.reply(old) else {
+            return State::Leave {
+                reply: Reply::Tidied,
+            };
+        };
         if !self.command.changes(old) {
             return State::Leave { reply };
         }
@@ -191,13 +207,13 @@ impl Task {
         self.change(spares, plan, Then::Reply(reply))
     }
 
-    /// The record that the command places over the row `next`.
+    /// The record that a command which changes the map places over the row `next`.
     fn update_over(&self, next: u16) -> Record
-        requires { is_writer self.now.command ≡ true }
+        requires { (old : Option (List ℕ)) × (is_some (update_of 0 self.now.command old) ≡ true) }
         ensures { result ≡ update_over self.now.command next }
     {
         match &self.command {
-            Command::Get(_) => unreachable!(),
+            Command::Get(_) | Command::Page(_) | Command::Tidy(_) => unreachable!(),
             Command::Insert(key, value) | Command::Upsert(key, value) => Record::Put(Put {
                 next,
                 key: key.copied(),
@@ -304,5 +320,18 @@ impl Task {
             (End::Won, Then::Round) | (End::Lost, _) => self.round(),
             (End::Full, _) => State::Leave { reply: Reply::Full },
         }
+    }
+}
+
+/// The pairs of a leaf from a key on, and where the next page goes on.
+fn cursor_page(leaf: &Chain, from: &Key) -> Reply
+    ensures { (pairs : List (List ℕ × List ℕ)) × ArePairsOf (found leaf.now) from.now (high_in leaf.now) pairs × (result ≡ reply.Page pairs (high_in leaf.now)) }
+{
+    Reply::Page {
+        items: leaf.pairs_from(from),
+        next: match leaf.high() {
+            None => None,
+            Some(high) => Some(high.copied()),
+        },
     }
 }

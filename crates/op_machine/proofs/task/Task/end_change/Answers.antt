@@ -1,12 +1,10 @@
 use Rattle.std.proofs.Common.{inr, refl}
-use Rattle.op_machine.proofs.Commands.{writes}
 use Rattle.op_machine.proofs.task.Task.end_change.Goals as goal
 
 pub returns-in-Full-default-clause-stands : goal.returns-in-Full-default-clause-stands
 returns-in-Full-default-clause-stands c spares k r h =
     let full = rw c.in-Full-default.is-0 at h in
-    let task = c.args.self.now in
-    let due = writes task.actor task.command full.1 in (
+    let task = c.args.self.now in (
       record { inside = full.0.inside; spare = full.0.spare; going = full.0.asked.going },
-      record { command = task.command; going = full.0.asked.going; justified = inr (record { is = refl; old = due.0; update = due.1; writes = due.2; unlinked = full.0.asked.unlinked; lacks = full.2 }) },
+      record { command = task.command; going = full.0.asked.going; justified = inr (inr (inr (record { is = refl; writes = full.1; unlinked = full.0.asked.unlinked; lacks = full.2 }))) },
     )

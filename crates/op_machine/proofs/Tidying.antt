@@ -1,0 +1,71 @@
+-- A tidying at the leaf of its key, where nothing is due.
+use Rattle.std.proofs.Common.{◌≡◌, ◌≤◌, ◌<◌, inl, inr, ℕ, List, [], ◌∷◌, length, Option, Some, None, true, refl, ap, subst, arith}
+use Rattle.std.specs.Prelude.{IsTrue}
+use Rattle.bw_model.specs.declared.command.Command.{Command}
+use Rattle.bw_model.specs.declared.command.Command.TheVariants.{Get, Insert, Upsert, Delete, Page as PageFrom, Tidy}
+use Rattle.bw_model.specs.declared.command.Reply.TheVariants.{Tidied}
+use Rattle.bw_model.specs.Replies.{is_writer, reply_of}
+use Rattle.base_page.specs.Pages.{Page}
+use Rattle.deltas.specs.Spellable.{IsSpellablePage}
+use Rattle.deltas.specs.declared.record.Record.{Record}
+use Rattle.deltas.specs.declared.record.Record.TheVariants.{Base}
+use Rattle.chain_search.specs.Chains.{covers, level_in}
+use Rattle.chain_search.specs.Discipline.{MayReply}
+use Rattle.chain_search.specs.Fitted.{IsFitted}
+use Rattle.chain_search.specs.Knowledge.{Knowledge}
+use Rattle.chain_search.specs.Recalled.{Recalled}
+use Rattle.chain_search.proofs.FittedLaws.{Makes-base}
+use Rattle.installs.specs.Spares.{Spares}
+use Rattle.smo.specs.Sizes.{HasFewItems}
+use Rattle.smo.specs.declared.version.Version.{Version}
+use Rattle.smo.proofs.Places.{of_made}
+use Rattle.op_machine.specs.Errands.{due_of}
+use Rattle.op_machine.specs.Outcomes.{IsAtLeaf}
+use Rattle.op_machine.specs.Tasks.{Task}
+
+-- a writer whose reply goes by no value is a tidying
+tidies : (c : Command) (old : Option (List ℕ)) → is_writer c ≡ true → reply_of c old ≡ None → (key : List ℕ) × (c ≡ Tidy key)
+tidies (Get key) old writes none = cc
+tidies (Insert key value) None writes none = cc
+tidies (Insert key value) (Some before) writes none = cc
+tidies (Upsert key value) None writes none = cc
+tidies (Upsert key value) (Some before) writes none = cc
+tidies (Delete key) None writes none = cc
+tidies (Delete key) (Some before) writes none = cc
+tidies (PageFrom key) old writes none = cc
+tidies (Tidy key) old writes none = (key, refl)
+
+-- a chain without deltas is a base alone
+alone : (chain : List Record) → IsFitted chain → length chain ≤ 1 → (base : Page) × (chain ≡ Base base ∷ []) × IsSpellablePage base
+alone [] fitted few = absurd fitted
+alone (newest ∷ []) fitted few = (fitted.0, ap (λ (record_of : Record). record_of ∷ []) fitted.1, fitted.2)
+alone (newest ∷ older ∷ under) fitted few = absurd (omega arith)
+
+pub may_call : (task : Task) (spares : Spares) (k : Knowledge) (r : Recalled) (leaf : Version) (old : Option (List ℕ)) → IsAtLeaf task spares k r leaf → task.errands ≡ [] → reply_of task.command old ≡ None
+    → MayReply task.limits task.actor k Tidied
+may_call task spares k r leaf old at last none =
+    let tidy = tidies task.command old at.writer none in
+    let due : due_of task.errands task.command ≡ 1 = rw (last, tidy.1) refl in
+    let early = at.early in
+    let base = alone leaf.chain at.page.in_hand.sound.is_chain.fitted (omega (arith, early, due)) in
+    let level : level_in (Base base.0 ∷ []) ≡ 0 = subst (λ (chain : List Record). level_in chain ≡ 0) base.1 at.level in
+    let few : HasFewItems (Base base.0 ∷ []) = subst HasFewItems base.1 at.few in
+    let covered : IsTrue (covers leaf.chain tidy.0) = rw (last, tidy.1) at at.covered in
+    record {
+      command = task.command;
+      going = at.seeks.asked.going;
+      justified = inr (inr (inl (record {
+        key = tidy.0;
+        asks = tidy.1;
+        is = refl;
+        page = leaf.pid;
+        head = leaf.head;
+        basis = record { head = at.page.in_hand.seen.head; chain = leaf.chain; read = at.page.in_hand.seen.read; alive = at.page.alive };
+        base = base.0;
+        alone = base.1;
+        leaf = level;
+        covers = covered;
+        few = of_made (Base base.0 ∷ []) base.0 (λ items. length items < 16) (Makes-base base.0 base.2.ruled.is_page.ordered.ascending base.2.alive) few;
+        unlinked = at.seeks.asked.unlinked;
+      })));
+    }
