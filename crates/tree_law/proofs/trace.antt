@@ -13,5 +13,6 @@ pub mod Runs
 pub mod Searches
 pub mod Separate
 pub mod Slots
+pub mod Standing
 pub mod Steps
 pub mod Updates

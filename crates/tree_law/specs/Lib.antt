@@ -19,6 +19,7 @@ pub mod Removal
 pub mod Replies
 pub mod Shared
 pub mod State
+pub mod Stood
 pub mod Sweep
 pub mod Times
 pub mod TraceLaws
