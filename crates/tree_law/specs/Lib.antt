@@ -1,5 +1,6 @@
 pub mod Direct
 pub mod AllLinks
+pub mod CursorPages
 pub mod Example
 pub mod Fitness
 pub mod HelpedSplit
