@@ -1,6 +1,7 @@
 //! The program over bytes: lines in, replies out.
 #![tactic(auto)]
 
+mod limited;
 mod lines;
 mod over_std;
 mod pieces;
@@ -15,4 +16,4 @@ pub use lines::lines_are_exact;
 pub use over_std::{HELD, READS, Reader, Writer};
 pub use refusal::Refusal;
 pub use streams::{Failed, Input, Output};
-pub use whole::weave;
+pub use whole::{script, weave};

@@ -6,29 +6,36 @@ ghost use Rattle.bw_shell.specs.Lines.{HasNoFeed};
 ghost use Rattle.bw_shell.specs.Turns.{seen};
 ghost use Rattle.bw_shell.specs.Weave.{Feeds};
 
+use crate::limited::LimitedCore;
 use crate::refusal::Refusal;
 use crate::run::run_line;
 use crate::streams::Output;
 use crate::texts::show_refused;
 use arrayvec::ArrayVec;
+use shell_lines::Language;
 use std::alloc::Global;
-use step_core::Core;
 
 /// A run: the core, the number of the line in hand, and what has come of it.
 #[derive(Drop)]
 pub struct Weaver {
-    pub core: Core,
+    pub core: LimitedCore,
     pub number: u64,
     pub part: ArrayVec<u8, 1025>,
 }
 
 /// Runs each line that ends among the bytes, and answers whether one was refused.
-pub fn feed<O: Output>(alloc: Global, weaver: &mut Weaver, bytes: &[u8], out: &mut O) -> bool
+pub fn feed<O: Output>(
+    alloc: Global,
+    language: Language,
+    weaver: &mut Weaver,
+    bytes: &[u8],
+    out: &mut O,
+) -> bool
     requires sound { (O.state out.old).failed ≡ false }
     requires part { HasNoFeed weaver.old.part.items }
     requires short { array_vec_len weaver.old.part ≤ 1024 }
     requires count { weaver.old.number + length bytes.now < 2 ^ 64 }
-    ensures fed { Feeds weaver.old.number (seen weaver.old.core) weaver.old.part.items bytes.now
+    ensures fed { Feeds language weaver.old.number (seen weaver.old.core) weaver.old.part.items bytes.now
         weaver.new.number (seen weaver.new.core) weaver.new.part.items (O.state out.old) (O.state out.new) result }
     ensures short { result ≡ false → array_vec_len weaver.new.part ≤ 1024 }
     ensures count { weaver.new.number ≤ weaver.old.number + length bytes.now }
@@ -37,6 +44,7 @@ pub fn feed<O: Output>(alloc: Global, weaver: &mut Weaver, bytes: &[u8], out: &m
         if *b == b'\n' {
             if run_line(
                 alloc,
+                language,
                 &mut weaver.core,
                 weaver.number,
                 weaver.part.as_slice(),

@@ -1,11 +1,35 @@
 -- Entries as a trace keeps them.
+use Rattle.std.specs.Prelude.{ℕ, List, ⊤}
+use Rattle.bw_model.specs.declared.command.Reply.{Reply}
+use Rattle.bw_model.specs.declared.command.Reply.TheVariants as reply
 use Rattle.deltas.specs.declared.record.Record.{Record}
 use Rattle.chain_search.specs.declared.trace.Entry.{Entry}
 use Rattle.chain_search.specs.declared.trace.Entry.TheVariants as entry
+use Rattle.chain_search.specs.declared.replies.Replied.{Replied}
+use Rattle.chain_search.specs.declared.replies.Replied.TheVariants.{Value, None, Inserted, Exists, Set, Replaced, Deleted, Absent, Page, Tidied, Full}
 use Rattle.chain_search.specs.declared.shared.Happening.{Happening}
 use Rattle.chain_search.specs.declared.shared.Happening.TheVariants.{Begin, Step}
 
+-- the reply that was kept
+abbrev pub unboxed : Replied (List (List ℕ × List ℕ)) → Reply
+unboxed (Value value) = reply.Value value
+unboxed None = reply.None
+unboxed Inserted = reply.Inserted
+unboxed (Exists value) = reply.Exists value
+unboxed Set = reply.Set
+unboxed (Replaced value) = reply.Replaced value
+unboxed (Deleted value) = reply.Deleted value
+unboxed Absent = reply.Absent
+unboxed (Page items next) = reply.Page items next
+unboxed Tidied = reply.Tidied
+unboxed Full = reply.Full
+
+-- the reply is a cursor page
+abbrev pub ShowsPairs : Reply → Type 0
+ShowsPairs (reply.Page items next) = ⊤
+ShowsPairs answer = ⊥
+
 -- the entry of what happened
-abbrev pub entry_of : Happening Record → Entry
+abbrev pub entry_of : Happening Record Reply → Entry
 entry_of (Begin actor command) = entry.Begin actor command
 entry_of (Step actor step answer reply) = entry.Step actor step answer reply

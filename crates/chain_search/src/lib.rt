@@ -5,6 +5,7 @@ mod chain;
 mod chain_part;
 mod examples;
 mod laws;
+mod replies;
 mod shared;
 mod table;
 #[cfg(test)]
@@ -21,6 +22,7 @@ pub use laws::{
     chain_is_one, command_grows, learnt_stays, memory_grows, run_grows, run_shrinks,
     side_chain_is_one, updates_fit,
 };
+pub use replies::{BoxedPairs, BoxedReply};
 pub use shared::{SharedEntry, SharedRecord, answer_of, shared_step, step_again, step_of};
 pub use table::Table;
 pub use trace::{Entry, Turn};

@@ -3,8 +3,8 @@ ghost use Rattle.std.specs.Prelude.{◌≡◌, IfOk, OnErr};
 ghost use Rattle.chain_search.specs.Steps.{MovesRecord};
 ghost use Rattle.chain_search.specs.declared.trace.Entry.TheVariants as entry;
 
-use crate::Entry;
-use bw_model::{Answer, Command, Reply, Step};
+use crate::{BoxedReply, Entry};
+use bw_model::{Answer, Command, Step};
 use deltas::Record;
 use std::alloc::{AllocError, Allocator, Global};
 use std::marker::Model;
@@ -51,17 +51,17 @@ impl<A: Allocator> SharedRecord<A> {
     }
 }
 
-/// What a turn did, over records of type `R`.
+/// What a turn did, over records of type `R` and replies of type `P`.
 #[derive(Drop)]
-pub(crate) enum Happening<R> {
+pub(crate) enum Happening<R, P> {
     Begin(u8, Command),
-    Step(u8, Step<R>, Answer<R>, Option<Reply>),
+    Step(u8, Step<R>, Answer<R>, Option<P>),
 }
 
-/// An entry whose records are shared.
+/// An entry whose records are shared, and whose reply keeps its pairs on the heap.
 #[derive(Drop)]
 pub struct SharedEntry<A: Allocator = Global> {
-    happened: Happening<SharedRecord<A>>,
+    happened: Happening<SharedRecord<A>, BoxedReply<A>>,
 }
 
 impl<A: Allocator> Model for SharedEntry<A> {
@@ -76,11 +76,11 @@ impl<A: Allocator> Model for SharedEntry<A> {
 
 impl<A: Allocator> SharedEntry<A> {
     /// The actor began an operation.
-    pub fn begin(actor: u8, command: Command) -> SharedEntry<A>
-        ensures { result ≡ entry.Begin actor command }
+    pub fn begin(actor: u8, command: &Command) -> SharedEntry<A>
+        ensures { result ≡ entry.Begin actor command.now }
     {
         SharedEntry {
-            happened: Happening::Begin(actor, command),
+            happened: Happening::Begin(actor, command.clone().unwrap()),
         }
     }
 
@@ -89,7 +89,7 @@ impl<A: Allocator> SharedEntry<A> {
         actor: u8,
         step: Step<SharedRecord<A>>,
         answer: Answer<SharedRecord<A>>,
-        reply: Option<Reply>,
+        reply: Option<BoxedReply<A>>,
     ) -> SharedEntry<A>
         ensures { result ≡ entry.Step actor step answer reply }
     {
@@ -110,7 +110,7 @@ impl<A: Allocator> SharedEntry<A> {
                 answer_of(answer),
                 match reply {
                     None => None,
-                    Some(reply) => Some(reply.clone().unwrap()),
+                    Some(reply) => Some(reply.reply()),
                 },
             ),
         }

@@ -9,7 +9,6 @@ use crate::{Sight, Visit};
 use bw_model::{Answer, Limits, Step};
 use deltas::Record;
 use std::marker::Model;
-use std::mem;
 
 /// Where a descent stands: each state is named by what it reads.
 #[derive(Debug, Drop)]
@@ -68,19 +67,13 @@ impl Descent {
         ensures responds { Responds self.old answer self.new result }
         ensures limits { self.new.limits ≡ self.old.limits }
     {
-        match mem::replace(&mut self.state, State::Over) {
+        match &mut self.state {
             State::Root => {
                 let pid = answer.into_number() as u16;
                 self.go_to(pid);
                 None
             }
-            State::Page { mut visit } => match visit.next(answer) {
-                None => {
-                    self.state = State::Page { visit };
-                    None
-                }
-                Some(sight) => Some(sight),
-            },
+            State::Page { visit } => visit.next(answer),
             State::Over => unreachable!(),
         }
     }

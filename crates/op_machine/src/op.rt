@@ -52,6 +52,13 @@ impl Op {
         }
     }
 
+    /// What the operation was asked.
+    pub fn command(&self) -> &Command
+        ensures { result.now ≡ self.now.task.command }
+    {
+        self.task.command()
+    }
+
     /// Takes the answer to the step wanted last, or `Start`, and wants the next step.
     pub fn next(&mut self, hand: &mut Hand, answer: Answer<Record>) -> Want
         requires told { IsTold self.old hand.old answer }

@@ -57,6 +57,13 @@ impl Task {
         }
     }
 
+    /// What the operation was asked.
+    pub(crate) fn command(&self) -> &Command
+        ensures { result.now ≡ self.now.command }
+    {
+        &self.command
+    }
+
     /// The state that follows what the operation has come to.
     pub(crate) fn go_on(&mut self, spares: &Spares, outcome: Outcome) -> State
         requires faced { IsFaced self.old spares.now outcome }

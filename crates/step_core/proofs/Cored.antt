@@ -29,7 +29,7 @@ use Rattle.step_core.specs.Actors.{IsActor, IsReady, IsServedAt, IsWithinAt, com
 use Rattle.step_core.proofs.Lawful.{Asks, asks, is_placed, served_at, within_at}
 use Rattle.step_core.specs.Cores.{IsCore, Pays}
 use Rattle.step_core.specs.Spending.{steps_due}
-use Rattle.step_core.specs.Turns.{Core, Demand, MovesRecordAt, WantsMemory, busy_of, refused_by, refusal_of}
+use Rattle.step_core.specs.Turns.{Core, Demand, KeepsMore, WantsMemory, busy_of, refused_by, refusal_of}
 use Rattle.step_core.proofs.Replaced.{get_below, get_is, replaced_other, replaced_same, set_cases, set_length}
 
 -- a begin that isn't refused
@@ -127,16 +127,16 @@ module _ (limits : Limits) where
         within_at limits entries core.state i apart table core.same_limits core.has goes.0 (recalls entries i) old.hand old.running shows,
       )
 
-  -- a step that moves a record may want memory
+  -- a step of which more is kept than an entry has room for may want memory
   pub core_wants : (table : Table) (actors : List Actor) (entries : List Entry) (i j : ℕ) (old : Actor) (room : ℕ) → IsCore limits table actors entries
       → (v : Core) → record { limits = limits; entries = entries; demand = record { room = room; wanted = wanted_in actors } } ≡ v → refusal_of v (turn.Step i) ≡ None → j ≡ i → old ≡ get_or actors j old
-      → MovesRecordAt (wanted_by old.running) → WantsMemory v (turn.Step i)
-  core_wants table actors entries i j old room core v is refusal same at moves =
+      → KeepsMore (running_command old) (wanted_by old.running) → WantsMemory v (turn.Step i)
+  core_wants table actors entries i j old room core v is refusal same at keeps =
       let goes : (i < limits.actors) × (is_some (command_of entries i) ≡ true) = step_goes (record { limits = limits; entries = entries; demand = record { room = room; wanted = wanted_in actors } }) i (subst (λ u. refusal_of u (turn.Step i) ≡ None) (sym is) refusal) in
       let lt : i < length actors = rw core.count goes.0 in
       let found : slice_get actors i ≡ Some old = get_is actors i old lt (subst (λ k. old ≡ get_or actors k old) same at) in
       let wanted : slice_get (wanted_in actors) i ≡ Some (wanted_by old.running) = slice_get-map (λ (at : Actor). wanted_by at.running) actors i ∙ ap (option_map (λ (at : Actor). wanted_by at.running)) found in
-      subst (λ u. WantsMemory u (turn.Step i)) is (inr (wanted_by old.running, wanted, moves))
+      subst (λ u. WantsMemory u (turn.Step i)) is (inr (wanted_by old.running, wanted, subst (λ c. KeepsMore c (wanted_by old.running)) (core.each_running i old found) keeps))
 
   pub core_begun : Begins IsState → (table : Table) (actors : List Actor) (entries entries' : List Entry) (i j : ℕ) (new : Actor) (command : Command) → IsCore limits table actors entries
       → (demand : Demand) (v : Core) → record { limits = limits; entries = entries; demand = demand } ≡ v → refusal_of v (turn.Begin i command) ≡ None → j ≡ i

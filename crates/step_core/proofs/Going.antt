@@ -1,7 +1,10 @@
 -- One step of an operation, from what `next` promises.
-use Rattle.std.proofs.Common.{◌≡◌, ◌<◌, ◌^◌, ℕ, Option, Some, None, is_some, true, false, sym, ◌∙◌, subst, refl, arith}
+use Rattle.std.proofs.Common.{◌≡◌, ◌<◌, ◌^◌, ℕ, List, Option, Some, None, is_some, true, false, inl, inr, sym, ap, ◌∙◌, subst, refl, arith}
 use Rattle.std.proofs.lemmas.Option.{same_Some}
+use Rattle.bw_model.specs.declared.command.Command.{Command}
+use Rattle.bw_model.specs.declared.command.Command.TheVariants.{Get, Insert, Upsert, Delete, Page, Tidy}
 use Rattle.bw_model.specs.declared.command.Reply.{Reply}
+use Rattle.bw_model.specs.declared.command.Reply.TheVariants as kind
 use Rattle.bw_model.specs.declared.limits.Limits.{Limits}
 use Rattle.bw_model.specs.declared.step.Answer.{Answer}
 use Rattle.bw_model.specs.declared.step.Answer.TheVariants as answer
@@ -9,7 +12,9 @@ use Rattle.bw_model.specs.declared.step.Step.{Step as StepOf}
 use Rattle.bw_model.specs.declared.step.Step.TheVariants as step
 use Rattle.deltas.specs.declared.record.Record.{Record}
 use Rattle.deltas.specs.Memory.{Memory}
-use Rattle.chain_search.specs.Discipline.{IsAllowed}
+use Rattle.bw_model.specs.Replies.{command_key, reply_of}
+use Rattle.chain_search.specs.Discipline.{IsAllowed, MayReply, found}
+use Rattle.chain_search.specs.Entries.{ShowsPairs}
 use Rattle.chain_search.specs.Fitting.{Fits}
 use Rattle.chain_search.specs.Knowledge.{Knowledge, finished, learn}
 use Rattle.chain_search.specs.Recalled.{Recalled, blank, recall}
@@ -19,14 +24,16 @@ use Rattle.installs.specs.Spares.{Spares}
 use Rattle.op_machine.specs.Bounded.{IsSpentLast, Spends, steps_left}
 use Rattle.op_machine.specs.Ops.{Goes, IsTold, Obeys, Op, Shows, wanted_of}
 use Rattle.op_machine.specs.Outcomes.{HasLeft}
-use Rattle.op_machine.specs.Shows.{FitsLast, learn_last, recall_last}
-use Rattle.op_machine.specs.Tasks.{IsSameTask, IsAtRest}
+use Rattle.op_machine.specs.Shows.{FitsLast, Stands, learn_last, recall_last}
+use Rattle.op_machine.specs.Tasks.{IsSameTask, IsAtRest, Task}
 use Rattle.op_machine.specs.declared.op.Want.TheVariants.{Step, Done}
-use Rattle.op_machine.specs.declared.state.State.TheVariants.{Begun}
+use Rattle.op_machine.specs.declared.state.State.{State}
+use Rattle.op_machine.specs.declared.state.State.TheVariants.{Begun, Epoch, Enter, Read, Write, Change, Leave, Over}
 use Rattle.step_core.specs.declared.actor.Actor.{Actor}
 use Rattle.step_core.specs.declared.actor.Running.{Running}
 use Rattle.step_core.specs.Actors.{IsActorWith, IsLeft, IsReady, IsRunning, IsServed, IsServedAt, IsWithinAt, command_at, wanted_by}
 use Rattle.step_core.specs.Spending.{IsSpentOn}
+use Rattle.step_core.specs.Turns.{EndsPage}
 use Rattle.step_core.proofs.Spending.{spends_last, spent_last}
 
 -- an actor without an operation, and one with an operation
@@ -55,6 +62,39 @@ left_idle limits actor k r spares running (Some reply) e h = h
 pub left_still : (limits : Limits) (actor : ℕ) (k : Knowledge) (r : Recalled) (spares : Spares) (running : Running) (reply : Option Reply) → is_some reply ≡ false → IsLeft limits actor k r spares running reply → IsRunning limits actor k r spares running
 left_still limits actor k r spares running None e h = h
 left_still limits actor k r spares running (Some reply) e h = cc
+
+-- no reply by a key's value is a cursor page
+no_pairs : (c : Command) (o : Option (List ℕ)) (reply : Reply) → reply_of c o ≡ Some reply → ShowsPairs reply → ⊥
+no_pairs (Get key) None reply e h = subst ShowsPairs (sym (same_Some kind.None reply e)) h
+no_pairs (Get key) (Some old) reply e h = subst ShowsPairs (sym (same_Some (kind.Value old) reply e)) h
+no_pairs (Insert key value) None reply e h = subst ShowsPairs (sym (same_Some kind.Inserted reply e)) h
+no_pairs (Insert key value) (Some old) reply e h = subst ShowsPairs (sym (same_Some (kind.Exists old) reply e)) h
+no_pairs (Upsert key value) None reply e h = subst ShowsPairs (sym (same_Some kind.Set reply e)) h
+no_pairs (Upsert key value) (Some old) reply e h = subst ShowsPairs (sym (same_Some (kind.Replaced old) reply e)) h
+no_pairs (Delete key) None reply e h = subst ShowsPairs (sym (same_Some kind.Absent reply e)) h
+no_pairs (Delete key) (Some old) reply e h = subst ShowsPairs (sym (same_Some (kind.Deleted old) reply e)) h
+no_pairs (Page from) o reply e h = cc
+no_pairs (Tidy key) o reply e h = cc
+
+-- a reply with pairs is that of a cursor page
+asks_page : (limits : Limits) (actor : ℕ) (k : Knowledge) (reply : Reply) → MayReply limits actor k reply → ShowsPairs reply → (from : List ℕ) × (k.asked.command ≡ Some (Page from))
+asks_page limits actor k reply may shows = elim may.justified [
+  | inl value ↦ absurd (no_pairs may.command (found value.chain (command_key may.command)) reply value.is shows)
+  | inr (inl page) ↦ (page.from, may.going ∙ ap Some page.asks)
+  | inr (inr (inl tidy)) ↦ absurd (subst ShowsPairs tidy.is shows)
+  | inr (inr (inr full)) ↦ absurd (subst ShowsPairs full.is shows)
+]
+
+-- an operation shows what its actor was asked
+asked_is : (task : Task) (spares : Spares) (k : Knowledge) (r : Recalled) (state : State) → Stands task spares k r state → k.asked.command ≡ Some task.command
+asked_is task spares k r Begun h = h.asked.going
+asked_is task spares k r Epoch h = h.asked.going
+asked_is task spares k r (Enter epoch) h = h.0.asked.going
+asked_is task spares k r (Read round) h = h.seeks.asked.going
+asked_is task spares k r (Write round) h = h.seeks.asked.going
+asked_is task spares k r (Change now then) h = h.asked.going
+asked_is task spares k r (Leave reply) h = h.0.going
+asked_is task spares k r Over h = absurd h
 
 less : (m n o : ℕ) → m < n → n < o → m < o
 less m n o h i = omega arith
@@ -116,6 +156,12 @@ module _ (limits : Limits) (actor : ℕ) (k : Knowledge) (r : Recalled) (had has
 
       last : old.wanted ≡ step.Leave
       last = same_Some old.wanted step.Leave (sym running.goes.wanted ∙ ends.is_last)
+
+      -- where the reply has pairs, the step ends a cursor page
+      pub page_ends : ShowsPairs reply → EndsPage (Some old.op.task.command) old.wanted
+      page_ends pairs =
+          let page : (from : List ℕ) × (k.asked.command ≡ Some (Page from)) = asks_page old.op.task.limits old.op.task.actor k reply ends.may pairs in
+          record { from = page.0; asks = sym (asked_is old.op.task had k r old.op.state running.goes.shows) ∙ page.1; leaves = last }
 
       pub allowed_done : IsAllowed limits actor k old.wanted (Some reply)
       allowed_done = record { may = rw (← running.own_actor) running.goes.may.may; frees = rw (← running.own_limits, ← running.own_actor) running.goes.may.frees; replied = (last, rw (← running.own_limits, ← running.own_actor) ends.may) }

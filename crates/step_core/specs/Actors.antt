@@ -17,6 +17,7 @@ use Rattle.op_machine.specs.Ops.{Goes}
 use Rattle.op_machine.specs.Tasks.{IsAtRest}
 use Rattle.step_core.specs.declared.actor.Actor.{Actor}
 use Rattle.step_core.specs.declared.actor.Running.{Running}
+use Rattle.step_core.specs.Turns.{EndsPage}
 
 -- An operation that is under way, with the step that it wants, which its actor may take by what it knows.
 pub record IsRunning (limits : Limits) (actor : ℕ) (k : Knowledge) (r : Recalled) (spares : Spares) (running : Running) : Type 0 where
@@ -71,6 +72,11 @@ wanted_by (Some running) = Some running.wanted
 -- the step that each actor's operation wants, if it has one
 abbrev pub wanted_in : List Actor → List (Option (StepOf Record))
 wanted_in actors = map (λ (at : Actor). wanted_by at.running) actors
+
+-- the step that its operation wants ends a cursor page
+abbrev pub NeedsRoom : Option Running → Type 0
+NeedsRoom None = ⊥
+NeedsRoom (Some running) = EndsPage (Some running.op.task.command) running.wanted
 
 -- the table has what that step asks for
 abbrev pub IsWithinAt : Table → ℕ → Option Running → Type 0

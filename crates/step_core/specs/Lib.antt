@@ -1,4 +1,5 @@
 pub mod Actors
+pub mod Logs
 pub mod Spending
 pub mod Cores
 pub mod Listed

@@ -1,12 +1,14 @@
 -- A core as its callers see it, what it refuses, and what a turn adds.
 use Rattle.std.specs.Prelude.{◌≡◌, ℕ, List, [], ◌∷◌, ◌++◌, length, Option, Some, None, Bool, true, false, is_some, nat_lt, if◌then◌else◌, slice_get, take, map, unwrap_or, ◌⊎◌, ◌≤◌}
+use Rattle.bw_model.specs.declared.command.Command.{Command}
+use Rattle.bw_model.specs.declared.command.Command.TheVariants.{Page}
 use Rattle.bw_model.specs.declared.command.Reply.{Reply}
 use Rattle.bw_model.specs.declared.limits.Limits.{Limits}
 use Rattle.bw_model.specs.declared.step.Answer.{Answer}
 use Rattle.bw_model.specs.declared.step.Answer.TheVariants.{Whether}
 use Rattle.bw_model.specs.declared.step.Link.{Link}
 use Rattle.bw_model.specs.declared.step.Step.{Step as StepOf}
-use Rattle.bw_model.specs.declared.step.Step.TheVariants.{Exchange}
+use Rattle.bw_model.specs.declared.step.Step.TheVariants.{Exchange, Leave}
 use Rattle.deltas.specs.declared.record.Record.{Record}
 use Rattle.chain_search.specs.declared.trace.Entry.{Entry}
 use Rattle.chain_search.specs.declared.trace.Entry.TheVariants as entry
@@ -52,14 +54,22 @@ actor_of (Step actor) = actor
 abbrev pub refusal_of : Core → Turn → Option RunError
 refusal_of core turn = refused_by (length core.entries) turn (busy_of core (actor_of turn))
 
-abbrev pub MovesRecordAt : Option (StepOf Record) → Type 0
-MovesRecordAt None = ⊥
-MovesRecordAt (Some step) = MovesRecord step
+-- The step is the last one of a cursor page, whose pairs are kept.
+pub record EndsPage (command : Option Command) (step : StepOf Record) : Type 0 where
+  pub from : List ℕ
+  pub asks : command ≡ Some (Page from)
+  pub leaves : step ≡ Leave
 
--- A turn wants memory only where the trace has no room left; but a step may want it also for a record that it places or reads.
+-- what an actor keeps of its step is more than an entry has room for
+abbrev pub KeepsMore : Option Command → Option (StepOf Record) → Type 0
+KeepsMore command None = ⊥
+KeepsMore command (Some step) = MovesRecord step ⊎ EndsPage command step
+
+-- A turn wants memory only where the trace has no room left; but a step may want it also for a record that it places or reads,
+-- and the last one of a cursor page for its pairs.
 abbrev pub WantsMemory : Core → Turn → Type 0
 WantsMemory core (Begin actor command) = core.demand.room ≤ length core.entries
-WantsMemory core (Step actor) = (core.demand.room ≤ length core.entries) ⊎ ((wanted : Option (StepOf Record)) × (slice_get core.demand.wanted actor ≡ Some wanted) × MovesRecordAt wanted)
+WantsMemory core (Step actor) = (core.demand.room ≤ length core.entries) ⊎ ((wanted : Option (StepOf Record)) × (slice_get core.demand.wanted actor ≡ Some wanted) × KeepsMore (command_of core.entries actor) wanted)
 
 -- what an exchange that won did, by the memory before it
 abbrev pub link_told : Memory → StepOf Record → Answer Record → Option Link

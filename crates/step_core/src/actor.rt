@@ -1,18 +1,20 @@
 //! One actor of a core.
-ghost use Rattle.std.specs.Prelude.{◌≡◌, ◌<◌, ◌^◌, [], Some, None, IfOk, OnErr, is_some, true};
+ghost use Rattle.std.specs.Prelude.{◌≡◌, ◌<◌, ◌^◌, [], Some, None, IfOk, IsSome, OnErr, is_some, true};
 ghost use Rattle.chain_search.specs.Discipline.{IsAllowed};
 ghost use Rattle.chain_search.specs.Knowledge.{Knowledge, begun};
 ghost use Rattle.chain_search.specs.Recalled.{Recalled, blank, recall};
-ghost use Rattle.chain_search.specs.Steps.{IsAnswer, MovesRecord, memory_after};
+ghost use Rattle.chain_search.specs.Steps.{IsAnswer, memory_after};
 ghost use Rattle.chain_search.specs.Tables.{IsWithin as IsWithinTable, memory_in};
 ghost use Rattle.chain_search.specs.Useful.{IsUseful};
-ghost use Rattle.step_core.specs.Actors.{IsActor, IsLeft, IsReady, IsRunning, IsServed, IsWithinAt, command_left, knows_then, running_command, wanted_by};
+ghost use Rattle.step_core.specs.Actors.{IsActor, IsLeft, IsReady, IsRunning, IsServed, IsWithinAt, NeedsRoom, command_left, knows_then, running_command, wanted_by};
 ghost use Rattle.step_core.specs.Spending.{IsSpentOn, steps_due, unless_done};
-ghost use Rattle.step_core.specs.Turns.{MovesRecordAt, link_told, step_event};
+ghost use Rattle.step_core.specs.Turns.{EndsPage, KeepsMore, link_told, step_event};
 
 use crate::event::Event;
-use bw_model::{Answer, Command, Limits, Link, Reply, Step};
-use chain_search::{SharedRecord, Table, answer_of, shared_step, step_again};
+use bw_model::{Answer, Command, Limits, Link, Step};
+use chain_search::{
+    BoxedPairs, BoxedReply, SharedRecord, Table, answer_of, shared_step, step_again,
+};
 use deltas::Record;
 use op_machine::{Hand, Op, Want, exchange_link};
 use std::alloc::{AllocError, Allocator};
@@ -31,12 +33,14 @@ pub(crate) struct Actor {
     running: Option<Running>,
 }
 
-/// A step with its answer, before it is taken: `step` for its entry, and the same again for the memory.
+/// A step with its answer, before it is taken: `step` for its entry, and the same again for the memory. Where the step ends a
+/// cursor page there is room for the pairs.
 #[derive(Drop)]
 pub(crate) struct Ready<A: Allocator> {
     step: Step<SharedRecord<A>>,
     again: Step<SharedRecord<A>>,
     answer: Answer<SharedRecord<A>>,
+    room: Option<BoxedPairs<A>>,
 }
 
 /// A step as it went, with the reply where the operation is done.
@@ -44,7 +48,7 @@ pub(crate) struct Ready<A: Allocator> {
 pub(crate) struct Stepped<A: Allocator> {
     pub(crate) step: Step<SharedRecord<A>>,
     pub(crate) answer: Answer<SharedRecord<A>>,
-    pub(crate) reply: Option<Reply>,
+    pub(crate) reply: Option<BoxedReply<A>>,
 }
 
 impl Actor {
@@ -80,8 +84,8 @@ impl Actor {
         }
     }
 
-    /// What the step that its operation wants needs of memory, and its answer; refused only where it moves a record.
-    pub(crate) fn ready<A: Allocator>(
+    /// What the step that its operation wants needs of memory, and its answer; refused only where it keeps more than an entry.
+    pub(crate) fn ready<A: Allocator + Copy>(
         &self,
         alloc: A,
         actor: u8,
@@ -92,7 +96,8 @@ impl Actor {
         ensures wanted { IfOk result (λ ready. wanted_by self.now.running ≡ Some ready.step) }
         ensures answer { IfOk result (λ ready. IsAnswer (memory_in memory.now) ready.step ready.answer) }
         ensures again { IfOk result (λ ready. ready.again ≡ ready.step) }
-        ensures err { OnErr result (MovesRecordAt (wanted_by self.now.running)) }
+        ensures room { IfOk result (λ ready. NeedsRoom self.now.running → IsSome ready.room) }
+        ensures err { OnErr result (KeepsMore (running_command self.now) (wanted_by self.now.running)) }
     {
         match &self.running {
             Some(running) => running.ready(alloc, actor, memory),
@@ -114,6 +119,7 @@ impl Actor {
         requires wanted { wanted_by self.old.running ≡ Some ready.step }
         requires answer { IsAnswer (memory_in memory.old) ready.step ready.answer }
         requires again { ready.again ≡ ready.step }
+        requires room { NeedsRoom self.old.running → IsSome ready.room }
         ensures allowed { (k : Knowledge) (r : Recalled) → IsReady limits.now actor k r (memory_in memory.old) self.old → IsAllowed limits.now actor k result.step result.reply }
         ensures useful { (k : Knowledge) (r : Recalled) → IsReady limits.now actor k r (memory_in memory.old) self.old → IsUseful k result.step }
         ensures shows { (k : Knowledge) (r : Recalled) → IsReady limits.now actor k r (memory_in memory.old) self.old → IsActor limits.now actor (knows_then k result.step result.answer result.reply) (recall r result.step result.answer) self.new }
@@ -141,7 +147,7 @@ impl<A: Allocator> Stepped<A> {
     {
         match &self.reply {
             None => Event::Stepped(self.link(memory)),
-            Some(reply) => Event::Done(reply.clone().unwrap()),
+            Some(reply) => Event::Done(reply.reply()),
         }
     }
 
@@ -159,8 +165,8 @@ impl<A: Allocator> Stepped<A> {
 }
 
 impl Running {
-    /// What the step that is wanted needs of memory, and its answer; refused only where it moves a record.
-    fn ready<A: Allocator>(
+    /// What the step that is wanted needs of memory, and its answer; refused only where it keeps more than an entry.
+    fn ready<A: Allocator + Copy>(
         &self,
         alloc: A,
         actor: u8,
@@ -170,8 +176,10 @@ impl Running {
         ensures wanted { IfOk result (λ ready. ready.step ≡ self.now.wanted) }
         ensures answer { IfOk result (λ ready. IsAnswer (memory_in memory.now) ready.step ready.answer) }
         ensures again { IfOk result (λ ready. ready.again ≡ ready.step) }
-        ensures err { OnErr result (MovesRecord self.now.wanted) }
+        ensures room { IfOk result (λ ready. EndsPage (Some self.now.op.task.command) self.now.wanted → IsSome ready.room) }
+        ensures err { OnErr result (KeepsMore (Some self.now.op.task.command) (Some self.now.wanted)) }
     {
+        let room = self.room(alloc)?;
         let step = shared_step(alloc, &self.wanted)?;
         let again = step_again(&step)?;
         let answer = memory.answer(actor, &step)?;
@@ -179,7 +187,19 @@ impl Running {
             step,
             again,
             answer,
+            room,
         })
+    }
+
+    /// Room for the pairs of a cursor page, where the step that is wanted ends one.
+    fn room<A: Allocator>(&self, alloc: A) -> Result<Option<BoxedPairs<A>>, AllocError>
+        ensures some { IfOk result (λ room. EndsPage (Some self.now.op.task.command) self.now.wanted → IsSome room) }
+        ensures err { OnErr result (EndsPage (Some self.now.op.task.command) self.now.wanted) }
+    {
+        match (&self.wanted, self.op.command()) {
+            (Step::Leave, Command::Page(_)) => Ok(Some(BoxedPairs::<A>::new(alloc)?)),
+            _ => Ok(None),
+        }
     }
 
     /// Takes the one step that is wanted.
@@ -196,6 +216,7 @@ impl Running {
         requires wanted { ready.step ≡ self.old.wanted }
         requires answer { IsAnswer (memory_in memory.old) ready.step ready.answer }
         requires again { ready.again ≡ ready.step }
+        requires room { EndsPage (Some self.old.op.task.command) self.old.wanted → IsSome ready.room }
         ensures allowed { (k : Knowledge) (r : Recalled) → IsRunning limits.now actor k r hand.old self.old → IsServed limits.now k (memory_in memory.old) self.old.wanted → IsAllowed limits.now actor k result.step result.reply }
         ensures useful { (k : Knowledge) (r : Recalled) → IsRunning limits.now actor k r hand.old self.old → IsUseful k result.step }
         ensures left { (k : Knowledge) (r : Recalled) → IsRunning limits.now actor k r hand.old self.old → IsServed limits.now k (memory_in memory.old) self.old.wanted → IsLeft limits.now actor (knows_then k result.step result.answer result.reply) (recall r result.step result.answer) hand.new self.new result.reply }
@@ -210,6 +231,7 @@ impl Running {
             step,
             again,
             answer,
+            room,
         } = ready;
         memory.take(actor, again);
         match self.op.next(hand, answer_of(&answer)) {
@@ -224,7 +246,7 @@ impl Running {
             Want::Done(reply) => Stepped {
                 step,
                 answer,
-                reply: Some(reply),
+                reply: Some(BoxedReply::<A>::new(reply, room)),
             },
         }
     }

@@ -5,6 +5,7 @@ mod actor;
 mod event;
 mod law;
 mod listing;
+mod log;
 mod machine;
 mod runs;
 

@@ -9,6 +9,7 @@ use crate::actor::{Actor, Stepped};
 use crate::event::{Event, RunError, Trace};
 use crate::law::{begins_keep_laws, states_are_lawful, steps_keep_laws};
 use crate::listing::pairs_in;
+use crate::log::Log;
 use bw_model::{Command, Key, Limits, OpenError, Value};
 use chain_search::{SharedEntry, Table, Turn, side_chain_is_one};
 use std::alloc::{AllocError, Allocator, Global};
@@ -22,20 +23,19 @@ pub struct Core<A: Allocator = Global> {
     limits: Limits,
     memory: Table<A>,
     actors: Vec<Actor, A>,
-    trace: Vec<SharedEntry<A>, A>,
+    trace: Log<A>,
 }
 
 impl<A: Allocator> Model for Core<A> {
-    ghost use Rattle.std.specs.Vec.{vec_capacity};
     ghost use Rattle.step_core.specs.Actors.{wanted_in};
     ghost use Rattle.step_core.specs.Cores.{IsCore};
     ghost use Rattle.step_core.specs.Turns.{Core};
 
     ghost Value = { Core };
 
-    ghost view = { λ c. record { limits = c.limits; entries = c.trace.items; demand = record { room = vec_capacity c.trace; wanted = wanted_in c.actors.items } } };
+    ghost view = { λ c. record { limits = c.limits; entries = c.trace.entries; demand = record { room = c.trace.room; wanted = wanted_in c.actors.items } } };
 
-    ghost invariant = { λ c. IsCore c.limits c.memory c.actors.items c.trace.items };
+    ghost invariant = { λ c. IsCore c.limits c.memory c.actors.items c.trace.entries };
 }
 
 impl<A: Allocator + Copy> Core<A> {
@@ -67,7 +67,7 @@ impl<A: Allocator + Copy> Core<A> {
             limits,
             memory,
             actors,
-            trace: Vec::new(alloc),
+            trace: Log::<A>::new(alloc),
         })
     }
 }
@@ -127,13 +127,13 @@ impl<A: Allocator + Copy> Core<A> {
         begins_keep_laws();
         entries_grow();
         let number = self.turns();
-        if self.trace.try_reserve(1).is_err() {
+        if self.trace.reserve().is_err() {
             return Err(RunError::Memory(number));
         }
-        let entry = SharedEntry::begin(actor, command.clone().unwrap());
+        let entry = SharedEntry::begin(actor, &command);
         let place = &mut self.actors[usize::from(actor)];
         place.begin(command, actor, &self.limits);
-        self.trace.push(entry).unwrap();
+        self.trace.push(entry);
         Ok(Event::Began)
     }
 
@@ -151,7 +151,7 @@ impl<A: Allocator + Copy> Core<A> {
         let Ok(ready) = place.ready(self.alloc, actor, &self.memory) else {
             return Err(RunError::Memory(number));
         };
-        if self.trace.try_reserve(1).is_err() {
+        if self.trace.reserve().is_err() {
             return Err(RunError::Memory(number));
         }
         let place = &mut self.actors[usize::from(actor)];
@@ -163,8 +163,7 @@ impl<A: Allocator + Copy> Core<A> {
             reply,
         } = stepped;
         self.trace
-            .push(SharedEntry::step(actor, step, answer, reply))
-            .unwrap();
+            .push(SharedEntry::step(actor, step, answer, reply));
         Ok(event)
     }
 }
@@ -174,7 +173,7 @@ impl<A: Allocator> Core<A> {
     pub fn turns(&self) -> u64
         ensures { result ≡ length self.now.entries }
     {
-        self.trace.len() as u64
+        self.trace.len()
     }
 
     /// Whether there is such an actor, with an operation that is not done.
@@ -243,7 +242,7 @@ impl<A: Allocator> Core<A> {
         ensures { result.entries.items ≡ self.entries }
     {
         Trace {
-            entries: self.trace,
+            entries: self.trace.into_entries(),
         }
     }
 }

@@ -3,6 +3,7 @@ pub mod HelpRun
 pub mod LinkFits
 pub mod LinkRun
 pub mod Making
+pub mod PagesRun
 pub mod RemovalRun
 pub mod RoomRun
 pub mod SplitRun

@@ -5,6 +5,7 @@ pub mod Fitness
 pub mod Frames
 pub mod Kept
 pub mod KeyOrder
+pub mod LeafPlaces
 pub mod Leaves
 pub mod Levels
 pub mod Mapping

@@ -12,6 +12,8 @@ pub mod Roots
 pub mod Runs
 pub mod Searches
 pub mod Separate
+pub mod Settling
 pub mod Slots
+pub mod Standing
 pub mod Steps
 pub mod Updates

@@ -1,5 +1,6 @@
 pub mod Direct
 pub mod AllLinks
+pub mod CursorPages
 pub mod Example
 pub mod Fitness
 pub mod HelpedSplit
@@ -19,6 +20,7 @@ pub mod Removal
 pub mod Replies
 pub mod Shared
 pub mod State
+pub mod Stood
 pub mod Sweep
 pub mod Times
 pub mod TraceLaws

@@ -1,13 +1,13 @@
 -- What a trace of allowed steps keeps true.
-use Rattle.std.specs.Prelude.{◌≡◌, ◌<◌, ◌≤◌, ◌^◌, ◌⊎◌, ℕ, List, length, take, Option, Some, MatchOption, Bool, true, false, slice_get, ⊤}
+use Rattle.std.specs.Prelude.{◌≡◌, ◌<◌, ◌≤◌, ◌^◌, ◌⊎◌, ℕ, List, length, take, Option, Some, MatchOption, Bool, true, false, IsTrue, slice_get, ⊤}
 use Rattle.bw_model.specs.declared.command.Command.{Command}
 use Rattle.bw_model.specs.declared.command.Reply.{Reply}
-use Rattle.bw_model.specs.declared.command.Reply.TheVariants.{Full}
+use Rattle.bw_model.specs.declared.command.Reply.TheVariants.{Full, Tidied}
 use Rattle.bw_model.specs.declared.limits.Limits.{Limits}
 use Rattle.bw_model.specs.declared.step.Answer.TheVariants.{Number}
 use Rattle.bw_model.specs.declared.step.Step.TheVariants.{PidBits, RowBits}
-use Rattle.bw_model.specs.Log.{Update, value_in}
-use Rattle.bw_model.specs.Replies.{command_key, reply_of, update_of}
+use Rattle.bw_model.specs.Log.{Update}
+use Rattle.bw_model.specs.Replies.{is_writer}
 use Rattle.base_page.specs.Pages as pages
 use Rattle.deltas.specs.declared.record.Record.TheVariants.{Base}
 use Rattle.deltas.specs.Memory.{Memory}
@@ -15,8 +15,8 @@ use Rattle.chain_search.specs.declared.trace.Entry.{Entry}
 use Rattle.chain_search.specs.declared.trace.Entry.TheVariants.{Begin}
 use Rattle.chain_search.specs.Learnt.{HasLearnt}
 use Rattle.chain_search.specs.Run.{IsRun}
-use Rattle.chain_search.specs.Trace.{memory_of, command_of}
-use Rattle.op_machine.specs.Answered.{FindsNothingFree}
+use Rattle.chain_search.specs.Trace.{memory_of, memory_at, command_of}
+use Rattle.op_machine.specs.Answered.{FindsNothingFree, FindsTidy, RepliesAt}
 use Rattle.op_machine.specs.Operations.{Operation, IsOperation, IsOwnStep, TakesOwnStep, Finishes}
 use Rattle.op_machine.specs.Points.{log_of, log_at, IsPoint}
 use Rattle.op_machine.specs.Quiet.{IsQuiet}
@@ -32,6 +32,7 @@ use Rattle.chain_search.specs.Knowledge.{Ready, Knowledge, knows}
 use Rattle.tree_law.specs.Owners.{Free, Spare, Linked, Owners, Among}
 use Rattle.tree_law.specs.Phase.{Fresh, Indexed, Held, Removed, Merged, PageOwner, Nobody, Keeps, Placed, Cleared}
 use Rattle.tree_law.specs.Shared.{slot_in, shared}
+use Rattle.tree_law.specs.Stood.{HaveStood}
 use Rattle.tree_law.specs.Times.{Times, Timed}
 use Rattle.tree_law.specs.Tree.{IsTree}
 
@@ -59,21 +60,23 @@ pub record IsSearch (entries : List Entry) (operation : Operation) (k : Knowledg
   pub rows_at : (word : ℕ) → k.asked.no_rows word ≡ true → (n : ℕ) × TakesOwnStep entries operation n (RowBits word) (Number 0)
 
 -- the operation has a point, at which the reply is that of its command
-abbrev pub Justifies : List Entry → List Bool → Operation → Reply → Type 0
-Justifies entries points operation reply = (m : ℕ) × IsOwnStep entries operation m × IsPoint points m × (reply_of operation.command (value_in (log_at entries points m) (command_key operation.command)) ≡ Some reply)
+abbrev pub Justifies : Limits → List Entry → List Bool → Operation → Reply → Type 0
+Justifies limits entries points operation reply = (m : ℕ) × IsOwnStep entries operation m × IsPoint points m × RepliesAt (memory_at limits entries m) (log_at entries points m) operation.command reply
 
--- the operation could change the map, has no point, and found nothing free
-pub record IsFullAnswer (limits : Limits) (entries : List Entry) (points : List Bool) (operation : Operation) : Type 0 where
-  pub old : Option (List ℕ)
-  pub update : Update
-  pub writes : update_of operation.actor operation.command old ≡ Some update
+-- what an operation without a point has found: nothing due, or, where its actor may link records, nothing free
+abbrev pub Finds : Limits → List Entry → Operation → Reply → Type 0
+Finds limits entries operation reply = ((reply ≡ Tidied) × FindsTidy limits entries operation) ⊎ ((reply ≡ Full) × IsTrue (is_writer operation.command) × FindsNothingFree limits entries operation)
+
+-- the operation has no point, and replies what it has found
+pub record IsPointless (limits : Limits) (entries : List Entry) (points : List Bool) (operation : Operation) (reply : Reply) : Type 0 where
   pub unmarked : (m : ℕ) → IsOwnStep entries operation m → IsPoint points m → ⊥
-  pub finds : FindsNothingFree limits entries operation
+  pub finds : Finds limits entries operation reply
 
 abbrev pub IsAnsweredBy : Limits → List Entry → List Bool → Operation → Reply → Type 0
-IsAnsweredBy limits entries points operation reply = Justifies entries points operation reply ⊎ ((reply ≡ Full) × IsFullAnswer limits entries points operation)
+IsAnsweredBy limits entries points operation reply = Justifies limits entries points operation reply ⊎ IsPointless limits entries points operation reply
 
--- each mark is an own step of an operation, none has two, and each finished one replied what its command does at its mark, or Full
+-- each mark is an own step of an operation, none has two, and each finished one replied what its command does at its mark, or
+-- what it found without a mark
 pub record IsMarked (limits : Limits) (entries : List Entry) (points : List Bool) : Type 0 where
   pub beside : length points ≡ length entries
   pub own : (n : ℕ) → IsPoint points n → (operation : Operation) × IsOperation entries operation × IsOwnStep entries operation n
@@ -133,6 +136,9 @@ pub record IsState (limits : Limits) (entries : List Entry) : Type 0 where
   pub tells : (actor : ℕ) (asked : Command) → command_of entries actor ≡ Some asked → Tells entries points actor asked (point actor) (logs actor)
   pub searches : (operation : Operation) → IsOperation entries operation → IsUnended entries operation.start operation.actor → command_of entries operation.actor ≡ Some operation.command
       → IsSearch entries operation (knows entries operation.actor)
+  -- the leaves that an unfinished operation has read stood at own steps of it
+  pub stood : (operation : Operation) → IsOperation entries operation → IsUnended entries operation.start operation.actor → command_of entries operation.actor ≡ Some operation.command
+      → HaveStood limits entries operation (memory_of limits entries).rows (knows entries operation.actor).read
   pub marked : IsMarked limits entries points
   pub updates : UpdatesAtLinks limits entries points
   pub run : IsRun limits entries

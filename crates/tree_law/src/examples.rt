@@ -2,6 +2,7 @@
 ghost use Rattle.std.specs.Prelude.{◌++◌};
 ghost use Rattle.chain_search.specs.Disciplined.{IsDisciplined};
 ghost use Rattle.tree_law.specs.AllLinks.{all_links};
+ghost use Rattle.tree_law.specs.CursorPages.{last_page, upkeep};
 ghost use Rattle.tree_law.specs.Example.{small};
 ghost use Rattle.tree_law.specs.HelpedSplit.{helped_split};
 ghost use Rattle.tree_law.specs.NoRoom.{no_room};
@@ -31,4 +32,11 @@ pub fn removal_is_disciplined()
 /// A run of one actor that takes each row, and replies that nothing is free for its update.
 pub fn no_room_is_disciplined()
     ensures { IsDisciplined small no_room }
+{}
+
+/// After the run with a removal the second actor shows a cursor page of the removed leaf, and finds nothing due at the leaf on
+/// its right; after the helped split it shows a cursor page with a pair.
+pub fn pages_are_disciplined()
+    ensures upkeep { IsDisciplined small (removal ++ upkeep) }
+    ensures last_page { IsDisciplined small (helped_split ++ last_page) }
 {}

@@ -11,7 +11,7 @@ mod own;
 pub use direct::{begins_directly, opens_directly, runs_directly, steps_directly};
 pub use examples::{
     all_links_are_disciplined, helped_split_is_disciplined, no_room_is_disciplined,
-    removal_is_disciplined, sweep_is_disciplined,
+    pages_are_disciplined, removal_is_disciplined, sweep_is_disciplined,
 };
 pub use invariant::{
     key_order, levels_are_indexed, one_begin_keeps, one_step_keeps, opening_is_good,

@@ -1,6 +1,6 @@
 -- A reply that an actor may give is its command's by a log of its operation.
 use Rattle.std.proofs.Common.{◌≡◌, ◌⊎◌, inl, inr, ℕ, List, Option, Some, None, false, ap, ◌∙◌, subst, ⊎_elim}
-use Rattle.std.specs.Prelude.{IsTrue, IsFalse}
+use Rattle.std.specs.Prelude.{IsFalse}
 use Rattle.bw_model.specs.declared.command.Command.{Command}
 use Rattle.bw_model.specs.declared.command.Reply.{Reply}
 use Rattle.bw_model.specs.Log.{Update, value_in}
@@ -8,7 +8,7 @@ use Rattle.bw_model.specs.Replies.{command_key, reply_of, update_of}
 use Rattle.chain_search.specs.Chains.{content_in, is_removed}
 use Rattle.tree_law.specs.Keys.{Key, Covers}
 use Rattle.chain_search.specs.Knowledge.{Knowledge}
-use Rattle.chain_search.specs.Discipline.{IsBeside, MayAnswer, value_of, found}
+use Rattle.chain_search.specs.Discipline.{WasStanding, MayAnswer, value_of, found}
 use Rattle.tree_law.specs.Shared.{Shared}
 use Rattle.tree_law.specs.Owners.{Owners, Among, leaf_map, SpellsLog, HeadFits, LinkFits, InOrder, OrderFits}
 use Rattle.tree_law.specs.Replies.{IsRepliedAt}
@@ -34,7 +34,7 @@ module _ {m : Shared} {log : List Update} {o : Owners} {knows : ℕ → Knowledg
       value = ap value_of decides ∙ value_of_map (value_in l (command_key command))
 
   pub answers : (command : Command) (reply : Reply) → MayAnswer a (knows a) command reply → IsRepliedAt a command reply (point a) (logs a)
-  answers command reply h = ⊎_elim by_link (λ (u : Unlinked ⊎ Beside). ⊎_elim by_head by_left u) h.basis
+  answers command reply h = ⊎_elim by_link (λ (u : Unlinked). by_stand u.0 u.2 u.1) h.basis
     where
       inside : Covers h.chain (command_key command)
       inside = covers_from h.chain (command_key command) h.covers
@@ -42,11 +42,11 @@ module _ {m : Shared} {log : List Update} {o : Owners} {knows : ℕ → Knowledg
       decides : is_removed h.chain ≡ false → (l : List Update) → SpellsLog o m h.row l → content_in h.chain (command_key command) ≡ leaf_map l (command_key command)
       decides alive l s = chain_decides o m (knows a).read.seen (g.sound a).seen_fits h.row h.chain h.read l s h.leaf alive (command_key command) inside
 
-      Unlinked : Type 0
-      Unlinked = ((knows a).asked.linked ≡ None) × ((page : ℕ) × ((knows a).read.heads page ≡ Some h.row) × IsFalse (is_removed h.chain)) × (update_of a command (found h.chain (command_key command)) ≡ None)
+      Changeless : Type 0
+      Changeless = update_of a command (found h.chain (command_key command)) ≡ None
 
-      Beside : Type 0
-      Beside = ((knows a).asked.linked ≡ None) × IsBeside (knows a) h.row × IsTrue (is_removed h.chain) × (update_of a command (found h.chain (command_key command)) ≡ None)
+      Unlinked : Type 0
+      Unlinked = ((knows a).asked.linked ≡ None) × WasStanding (knows a) h.row h.chain × Changeless
 
       none : (knows a).asked.linked ≡ None → point a ≡ None
       none e = subst (λ (v : Option (Option ℕ)). LinkFits o m (point a) v) e (g.sound a).linked_fits
@@ -54,14 +54,12 @@ module _ {m : Shared} {log : List Update} {o : Owners} {knows : ℕ → Knowledg
       by_link : ((knows a).asked.linked ≡ Some (Some h.row)) × IsFalse (is_removed h.chain) → IsRepliedAt a command reply (point a) (logs a)
       by_link u = let i = subst (λ (v : Option (Option ℕ)). LinkFits o m (point a) v) u.0 (g.sound a).linked_fits in replied command reply h i.0 (decides u.1 i.0 i.2) (inl i.1)
 
-      by_head : Unlinked → IsRepliedAt a command reply (point a) (logs a)
-      by_head u =
-          let i = subst (λ (v : Option ℕ). HeadFits o m (logs a) u.1.0 v) u.1.1 ((g.sound a).heads_fit u.1.0) in
-          replied command reply h i.0 (decides u.1.2 i.0 i.2) (inr (none u.0, u.2, i.1))
-
-      by_left : Beside → IsRepliedAt a command reply (point a) (logs a)
-      by_left u =
-          let b = u.1 in
+      by_stand : (knows a).asked.linked ≡ None → Changeless → WasStanding (knows a) h.row h.chain → IsRepliedAt a command reply (point a) (logs a)
+      by_stand unlinked changeless (inl u) =
+          let i = subst (λ (v : Option ℕ). HeadFits o m (logs a) u.0.0 v) u.0.1 ((g.sound a).heads_fit u.0.0) in
+          replied command reply h i.0 (decides u.1 i.0 i.2) (inr (none unlinked, changeless, i.1))
+      by_stand unlinked changeless (inr u) =
+          let b = u.0 in
           let e : InOrder o m (logs a) b.left b.head b.other h.row = subst (λ (v : Option ℕ). OrderFits o m (logs a) b.left b.other (Some b.head) v) b.order (subst (λ (v : Option ℕ). OrderFits o m (logs a) b.left b.other v ((knows a).read.before b.left b.other)) b.basis.head ((g.sound a).orders_fit b.left b.other)) in
-          let i = e.spelled h.chain b.basis.chain (chain_stands o m (knows a).read.seen (g.sound a).seen_fits h.chain (Some h.row) h.read) (chain_stands o m (knows a).read.seen (g.sound a).seen_fits b.basis.chain (Some b.head) b.basis.read) u.2 b.basis.alive h.leaf b.right in
-          replied command reply h i.0 (i.2 (command_key command) inside) (inr (none u.0, u.3, i.1))
+          let i = e.spelled h.chain b.basis.chain (chain_stands o m (knows a).read.seen (g.sound a).seen_fits h.chain (Some h.row) h.read) (chain_stands o m (knows a).read.seen (g.sound a).seen_fits b.basis.chain (Some b.head) b.basis.read) u.1 b.basis.alive h.leaf b.right in
+          replied command reply h i.0 (i.2 (command_key command) inside) (inr (none unlinked, changeless, i.1))

@@ -21,7 +21,7 @@ use Rattle.std.specs.Ordering.{is_eq}
 use Rattle.std.specs.Option.{option_map}
 use Rattle.std.proofs.lemmas.List.Sums.{fold-append}
 use Rattle.bw_model.specs.declared.command.Command.{Command}
-use Rattle.bw_model.specs.declared.command.Command.TheVariants.{Get, Insert, Upsert, Delete}
+use Rattle.bw_model.specs.declared.command.Command.TheVariants.{Get, Insert, Upsert, Delete, Page, Tidy}
 use Rattle.bw_model.specs.Bytes.{key_cmp}
 use Rattle.bw_model.specs.Log.{set, unset, updated_key, updated_value, value_in}
 use Rattle.bw_model.specs.Replies.{command_key, update_of}
@@ -67,6 +67,8 @@ key_apart u l k ne = ap (option_map Value) (value_in_push l u k ∙ by_key k (up
 -- an update is of its command's key
 key_due : (b : ℕ) (c : Command) (old : Option Key) (u : Update) → update_of b c old ≡ Some u → updated_key u ≡ command_key c
 key_due b (Get k) old u e = absurd (cc)
+key_due b (Page k) old u e = absurd (cc)
+key_due b (Tidy k) old u e = absurd (cc)
 key_due b (Insert k v) None u e = ap updated_key (sym (same_Some (set b k v) u e))
 key_due b (Insert k v) (Some x) u e = absurd (cc)
 key_due b (Upsert k v) old u e = ap updated_key (sym (same_Some (set b k v) u e))

@@ -46,7 +46,7 @@ late : MayPost (before 57 0) 3 5 (root_a ∷ []) helped_term
 late = record { child = 4; row = 9; below = record { head = refl; chain = other_put ∷ upper_c ∷ []; read = (refl, (refl, refl)); alive = refl }; level = refl; covers = refl; absent = refl; order = refl; is = refl }
 
 exists : MayReply small 0 (before 58 0) (reply.Exists (codes "2"))
-exists = record { command = insert_b; going = refl; justified = inl (record { row = 9; chain = other_put ∷ upper_c ∷ []; read = (refl, (refl, refl)); leaf = refl; covers = refl; is = refl; basis = inr (inl (refl, (4, refl, refl), refl)) }) }
+exists = record { command = insert_b; going = refl; justified = inl (record { row = 9; chain = other_put ∷ upper_c ∷ []; read = (refl, (refl, refl)); leaf = refl; covers = refl; is = refl; basis = inr (refl, inl ((4, refl), refl), refl) }) }
 
 -- the first's exchange loses, and it finds the key
 comes_late : IsDisciplinedFrom small (take 52 helped_split) (drop 52 helped_split)

@@ -98,13 +98,13 @@ none_there = record {
     leaf = refl;
     covers = refl;
     is = refl;
-    basis = inr (inr (refl, record { left = 1; head = 4; basis = record { head = refl; chain = first_split ∷ opening_leaf ∷ []; read = (refl, (refl, refl)); alive = refl }; other = 2; right = refl; order = refl }, refl, refl));
+    basis = inr (refl, inr (record { left = 1; head = 4; basis = record { head = refl; chain = first_split ∷ opening_leaf ∷ []; read = (refl, (refl, refl)); alive = refl }; other = 2; right = refl; order = refl }, refl), refl);
   });
 }
 
 -- and so does the leaf on its right
 none_beyond : MayReply small 1 (before 72 1) reply.None
-none_beyond = record { command = get_b; going = refl; justified = inl (record { row = 6; chain = upper_c ∷ []; read = (refl, refl); leaf = refl; covers = refl; is = refl; basis = inr (inl (refl, (4, refl, refl), refl)) }) }
+none_beyond = record { command = get_b; going = refl; justified = inl (record { row = 6; chain = upper_c ∷ []; read = (refl, refl); leaf = refl; covers = refl; is = refl; basis = inr (refl, inl ((4, refl), refl), refl) }) }
 
 -- and to its left; it goes on at the removed leaf's right, and replies from there
 goes_left_again : IsDisciplinedFrom small (take 67 removal) (drop 67 removal)

@@ -1,10 +1,9 @@
 -- Each step of the run without room is allowed.
 use Rattle.std.proofs.Common.{◌≡◌, ◌≢◌, ◌<◌, ◌≤◌, ℕ, zero, suc, ◌+◌, ◌*◌, ◌==◌, List, [], ◌∷◌, ◌++◌, Option, None, Bool, true, false, refl, sym, ap, ◌∙◌, subst, inr, lit<, arith}
-use Rattle.std.specs.Prelude.{codes, if◌then◌else◌, IsSome}
+use Rattle.std.specs.Prelude.{if◌then◌else◌, IsSome}
 use Rattle.std.specs.Int.{bit_at}
 use Rattle.std.proofs.lemmas.Bool.{eqb-true}
 use Rattle.std.proofs.lemmas.Bool.Decides.{nat_tests}
-use Rattle.bw_model.specs.Log.{set}
 use Rattle.bw_model.specs.declared.command.Command.{Command}
 use Rattle.bw_model.specs.declared.command.Reply.TheVariants as reply
 use Rattle.bw_model.specs.declared.step.Step.TheVariants.{RowBits, TakeRow}
@@ -20,7 +19,7 @@ use Rattle.chain_search.specs.Trace.{memory_of, command_of}
 use Rattle.chain_search.proofs.TraceLaws.{memory_of-push, command_of-push}
 use Rattle.op_machine.proofs.Listed.{all_below-at}
 use Rattle.tree_law.specs.AllLinks.{insert_a}
-use Rattle.tree_law.specs.Example.{small, a}
+use Rattle.tree_law.specs.Example.{small}
 use Rattle.tree_law.specs.NoRoom.{takes, enters, gives_up, no_room}
 use Rattle.tree_law.proofs.shape.Puts.{put_other}
 use Rattle.tree_law.proofs.runs.Standing.{◌▸◌, quietly, joined}
@@ -63,7 +62,7 @@ lacks : LacksRoom small at_last
 lacks = inr (λ word lt. let zero : word ≡ 0 = omega arith in subst (λ w. at_last.asked.no_rows w ≡ true) (sym zero) refl)
 
 full : MayReply small 0 at_last reply.Full
-full = record { command = insert_a; going = refl; justified = inr (record { is = refl; old = None; update = set 0 a (codes "1"); writes = refl; unlinked = refl; lacks = lacks }) }
+full = record { command = insert_a; going = refl; justified = inr (inr (inr (record { is = refl; writes = refl; unlinked = refl; lacks = lacks }))) }
 
 gives_up_allowed : IsDisciplinedFrom small before gives_up
 gives_up_allowed =

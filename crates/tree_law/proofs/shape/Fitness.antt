@@ -22,7 +22,7 @@ use Rattle.tree_law.specs.Owners.{IsChain, Free, Linked, Owners, IsClosed}
 use Rattle.tree_law.specs.Shared.{Shared}
 use Rattle.tree_law.proofs.trace.Opening.{opening_owners}
 use Rattle.tree_law.proofs.shape.Puts.{by_test}
-use Rattle.tree_law.proofs.shape.Rows.{rows_kept}
+use Rattle.tree_law.proofs.shape.Rows.{chain_was}
 
 -- one more delta over a page's chain
 grown : (w : Record) (under : List Record) → FitsOver under w → length under ≤ 12 → IsPageChain under → IsPageChain (w ∷ under)
@@ -37,21 +37,14 @@ page_chain w under fits below = elim (next_row w) as (λ n. MatchOption n (IsFit
 ] fits below
 
 module _ (o : Owners) (m : Shared) (closed : IsClosed o m) (fitted : AreFitted o m.rows) (o' : Owners) (rows' : ℕ → Option Record) (kept : (row : ℕ) → o.row row ≡ Linked → rows' row ≡ m.rows row) where
-  -- the chain of a row that was linked is as it was
-  chain_was : (x : ℕ) (c : List Record) → o.row x ≡ Linked → IsChainFrom rows' x c → IsChainFrom m.rows x c
-  chain_was x c l h =
-      let k = closed x l in
-      let d : IsChainFrom m.rows x (k.content ∷ k.rest) = (k.stands, k.is_rest) in
-      subst (IsChainFrom m.rows x) (IsChainFrom-unique rows' x (k.content ∷ k.rest) c (rows_kept o m rows' closed kept x (k.content ∷ k.rest) l d) h) d
-
   under_fits : (under : List Record) (n : Option ℕ) → IsChain rows' under n → IfSome n (λ x. o.row x ≡ Linked) → MatchOption n (under ≡ []) (λ x. IsPageChain under)
   under_fits under None e l = e
-  under_fits under (Some x) h l = fitted x l under (chain_was x under l h)
+  under_fits under (Some x) h l = fitted x l under (chain_was o m rows' closed kept x under l h)
 
   -- after a step that keeps the records of linked rows, and links rows that fit
   pub fitted_after : ((row : ℕ) → o'.row row ≡ Linked → (o.row row ≡ Linked) ⊎ IsAdded o rows' row) → AreFitted o' rows'
   fitted_after added row l c h = elim (added row l) [
-    | inl was ↦ fitted row was c (chain_was row c was h)
+    | inl was ↦ fitted row was c (chain_was o m rows' closed kept row c was h)
     | inr new ↦ subst IsPageChain (IsChainFrom-unique rows' row (new.content ∷ new.under) c (new.stands, new.is_under) h) (page_chain new.content new.under new.fits (under_fits new.under (next_row new.content) new.is_under new.next))
   ]
 

@@ -96,7 +96,7 @@ key_same {X} f s v = by_key s s (λ t. cond t v (f s) ≡ v) (λ e. refl) (λ ne
 pub key_other : {X : Type 0} (f : Key → X) (s : Key) (v : X) (k : Key) → k ≢ s → put_key f s v k ≡ f k
 key_other {X} f s v k ne = by_key k s (λ t. cond t v (f k) ≡ f k) (λ e. absurd (ne e)) (λ i. refl)
 
-both : (a b : Bool) → not a && b ≡ true → (a ≡ false) × (b ≡ true)
+pub both : (a b : Bool) → not a && b ≡ true → (a ≡ false) × (b ≡ true)
 both true b e = absurd (cc)
 both false b e = (refl, e)
 

@@ -6,6 +6,7 @@ use Rattle.std.proofs.lemmas.Option.{same_Some}
 use Rattle.deltas.specs.declared.record.Record.{Record}
 use Rattle.deltas.specs.Records.{next_row}
 use Rattle.chain_search.specs.Chains.{IsChainFrom, chain_rows}
+use Rattle.chain_search.proofs.ChainLaws.{IsChainFrom-unique}
 use Rattle.tree_law.specs.Owners.{Linked, Owners, IsClosed}
 use Rattle.tree_law.specs.Shared.{Shared}
 
@@ -38,3 +39,10 @@ rows_kept o m rows' closed kept x (w ∷ c) l h = (
     | Some n ↦ λ i under. rows_kept o m rows' closed kept n c i under
   ] (next_linked o m closed x w l h.0) h.1,
 )
+
+-- and it was so before
+pub chain_was : (o : Owners) (m : Shared) (rows' : ℕ → Option Record) → IsClosed o m → ((r : ℕ) → o.row r ≡ Linked → rows' r ≡ m.rows r) → (x : ℕ) (c : List Record) → o.row x ≡ Linked → IsChainFrom rows' x c → IsChainFrom m.rows x c
+chain_was o m rows' closed kept x c l h =
+    let k = closed x l in
+    let d : IsChainFrom m.rows x (k.content ∷ k.rest) = (k.stands, k.is_rest) in
+    subst (IsChainFrom m.rows x) (IsChainFrom-unique rows' x (k.content ∷ k.rest) c (rows_kept o m rows' closed kept x (k.content ∷ k.rest) l d) h) d

@@ -1,5 +1,5 @@
 -- The empty trace is a state, and a begin keeps a state.
-use Rattle.std.proofs.Common.{◌≡◌, ◌≢◌, ◌<◌, ◌≤◌, inl, inr, ℕ, zero, suc, List, [], ◌∷◌, ◌++◌, length, Option, Some, None, Bool, true, false, cond, leb, ltb, ◌⊎◌, refl, sym, ◌∙◌, subst, arith}
+use Rattle.std.proofs.Common.{◌≡◌, ◌≢◌, ◌<◌, ◌≤◌, inl, inr, ℕ, zero, suc, List, [], ◌∷◌, ◌++◌, length, Option, Some, None, Bool, true, false, cond, leb, ltb, ◌⊎◌, refl, sym, ap, ◌∙◌, subst, arith}
 use Rattle.std.specs.Prelude.{slice_get}
 use Rattle.std.proofs.lemmas.Bool.{ltb-true}
 use Rattle.bw_model.specs.declared.command.Command.{Command}
@@ -25,6 +25,7 @@ use Rattle.tree_law.specs.Phase.{Indexed, Nobody, Placed}
 use Rattle.tree_law.specs.Put.{put}
 use Rattle.tree_law.specs.Shared.{slot_in, shared}
 use Rattle.tree_law.specs.State.{phase_of, IsUnended, operation_of, Tells, IsSearch, IsInTree, IsReadyPage, IsState}
+use Rattle.tree_law.specs.Stood.{HaveStood}
 use Rattle.bw_model.specs.declared.step.Step.TheVariants.{ReusePids, ReuseRows}
 use Rattle.op_machine.specs.Reuse.{HandsPid, HandsRow, UnlinksPid, UnlinksRow}
 use Rattle.tree_law.specs.Limbos.{IsInLimbo}
@@ -48,6 +49,7 @@ use Rattle.tree_law.proofs.trace.Owned.{pushed_length}
 use Rattle.tree_law.proofs.shape.Puts.{by_test, put_same, put_other}
 use Rattle.tree_law.specs.Indexed.{IsFirst}
 use Rattle.tree_law.proofs.trace.Searches.{search_new, search_other}
+use Rattle.tree_law.proofs.trace.Standing.{stood_kept}
 
 pub knows-push : (entries : List Entry) (entry : Entry) → knows (entries ++ entry ∷ []) ≡ knows_after (knows entries) entry
 knows-push entries entry = fold-append _ _ entries (entry ∷ [])
@@ -107,6 +109,7 @@ opens limits = record {
   };
   tells = λ a asked e. absurd (cc);
   searches = λ op is u e. absurd (cc);
+  stood = λ op is u e. absurd (cc);
   marked = record { beside = refl; own = λ n e. absurd (cc); one = λ op m n is own own' p q. absurd (cc); answered = λ op n r is ends. absurd (let e = ends.2.entry in cc) };
   run = IsRun-none limits;
   updates = λ n. (λ h. absurd (let e = h.0 in cc), λ h. absurd (let e = h.at in cc));
@@ -170,6 +173,7 @@ begins limits entries a c state below idle = record {
       (λ ne f. tells_other entries state.points (Begin a c) false state.marked.beside b asked (state.point b) (state.logs b) (λ d i. ne (let j : a ≡ b = cc in sym j)) (λ s x r i. absurd (cc)) (state.tells b asked f))
       (subst (λ k. k b ≡ Some asked) (command_of-push entries (Begin a c)) e);
   searches = searches_begin;
+  stood = stood_begin;
   marked = marked_push entries state.points (Begin a c) false state.marked.beside limits state.marked (λ e. absurd (cc)) (λ e. absurd (cc)) (λ op s x r is e u. absurd (cc)) (λ e. absurd (cc));
   run = IsRun-push limits entries (Begin a c) state.run (below, idle);
   updates = updates_push limits entries state.points (Begin a c) false state.marked.beside state.updates (λ h. absurd (let e = h.0 in cc), λ h. absurd (let e = h.5.0.1 in cc));
@@ -213,18 +217,29 @@ begins limits entries a c state below idle = record {
     good_after : IsTree (shared (memory_of limits (entries ++ Begin a c ∷ []))) (log_of (entries ++ Begin a c ∷ []) (state.points ++ false ∷ [])) state.owners (knows (entries ++ Begin a c ∷ [])) (put state.point a None) (put state.logs a [])
     good_after = rw (memory_of-push limits entries (Begin a c), log_of-push entries state.points (Begin a c) false state.marked.beside, knows-push entries (Begin a c)) now
 
-    searches_begin : (op : Operation) → IsOperation (entries ++ Begin a c ∷ []) op → IsUnended (entries ++ Begin a c ∷ []) op.start op.actor → command_of (entries ++ Begin a c ∷ []) op.actor ≡ Some op.command
-        → IsSearch (entries ++ Begin a c ∷ []) op (knows (entries ++ Begin a c ∷ []) op.actor)
-    searches_begin op is unended asks = rw (knows-push entries (Begin a c)) (elim (slice_get-push_cases entries (Begin a c) op.start _ is) [
+    -- what is so of each unfinished operation: the one that begins, and those of others
+    unfinished_begin : (P : Operation → Knowledge → Type 0) → P (operation_of (length entries) a c) (begun (knows entries a) c)
+        → ((op : Operation) → IsOperation entries op → IsUnended entries op.start op.actor → command_of entries op.actor ≡ Some op.command → P op (knows entries op.actor))
+        → (op : Operation) → IsOperation (entries ++ Begin a c ∷ []) op → IsUnended (entries ++ Begin a c ∷ []) op.start op.actor → command_of (entries ++ Begin a c ∷ []) op.actor ≡ Some op.command → P op (knows (entries ++ Begin a c ∷ []) op.actor)
+    unfinished_begin P new others op is unended asks = subst (λ (ks : ℕ → Knowledge). P op (ks op.actor)) (sym (knows-push entries (Begin a c))) (elim (slice_get-push_cases entries (Begin a c) op.start _ is) [
       | inr at ↦
           let same : op ≡ operation_of (length entries) a c = same_operation op (operation_of (length entries) a c) at.0 (let e = at.1 in cc) (let e = at.1 in cc) in
-          subst (λ o. IsSearch (entries ++ Begin a c ∷ []) o (put (knows entries) a (begun (knows entries a) c) o.actor)) (sym same)
-          (subst (λ k. IsSearch (entries ++ Begin a c ∷ []) (operation_of (length entries) a c) k) (sym (put_same (knows entries) a (begun (knows entries a) c)))
-          (search_new entries (Begin a c) a c (knows entries a)))
+          subst (λ o. P o (put (knows entries) a (begun (knows entries a) c) o.actor)) (sym same)
+          (subst (λ k. P (operation_of (length entries) a c) k) (sym (put_same (knows entries) a (begun (knows entries a) c))) new)
       | inl before ↦
           let other : op.actor ≢ a = λ i. unended (length entries) c (slice_get_below entries op.start _ before) (subst (λ b. slice_get (entries ++ Begin a c ∷ []) (length entries) ≡ Some (Begin b c)) (sym i) (slice_get-push entries (Begin a c))) in
           let asks' : command_of entries op.actor ≡ Some op.command = sym (put_other (command_of entries) a (Some c) op.actor other) ∙ subst (λ k. k op.actor ≡ Some op.command) (command_of-push entries (Begin a c)) asks in
-          let old = state.searches op before (λ later d low e. unended later d low (slice_get_kept entries (Begin a c ∷ []) later _ e)) asks' in
-          subst (λ k. IsSearch (entries ++ Begin a c ∷ []) op k) (sym (put_other (knows entries) a (begun (knows entries a) c) op.actor other))
-          (search_other entries (Begin a c) op (knows entries op.actor) old (λ s x r e. absurd (cc)))
+          subst (λ k. P op k) (sym (put_other (knows entries) a (begun (knows entries a) c) op.actor other))
+          (others op before (λ later d low e. unended later d low (slice_get_kept entries (Begin a c ∷ []) later _ e)) asks')
     ])
+
+    searches_begin : (op : Operation) → IsOperation (entries ++ Begin a c ∷ []) op → IsUnended (entries ++ Begin a c ∷ []) op.start op.actor → command_of (entries ++ Begin a c ∷ []) op.actor ≡ Some op.command
+        → IsSearch (entries ++ Begin a c ∷ []) op (knows (entries ++ Begin a c ∷ []) op.actor)
+    searches_begin = unfinished_begin (IsSearch (entries ++ Begin a c ∷ [])) (search_new entries (Begin a c) a c (knows entries a))
+        (λ op is unended asks. search_other entries (Begin a c) op (knows entries op.actor) (state.searches op is unended asks) (λ s x r e. absurd (cc)))
+
+    stood_begin : (op : Operation) → IsOperation (entries ++ Begin a c ∷ []) op → IsUnended (entries ++ Begin a c ∷ []) op.start op.actor → command_of (entries ++ Begin a c ∷ []) op.actor ≡ Some op.command
+        → HaveStood limits (entries ++ Begin a c ∷ []) op (memory_of limits (entries ++ Begin a c ∷ [])).rows (knows (entries ++ Begin a c ∷ []) op.actor).read
+    stood_begin = unfinished_begin (λ op k. HaveStood limits (entries ++ Begin a c ∷ []) op (memory_of limits (entries ++ Begin a c ∷ [])).rows k.read)
+        (record { heads = λ page row chain read. absurd (cc); beside = λ page head other row basis chain read. absurd (cc) })
+        (λ op is unended asks. stood_kept limits entries (Begin a c) state.good (memory_of limits (entries ++ Begin a c ∷ [])).rows (λ row l. ap (λ (m : Memory). m.rows row) (memory_of-push limits entries (Begin a c))) op op.actor (state.stood op is unended asks))

@@ -11,14 +11,15 @@ use Rattle.bw_model.specs.Log.{Update}
 use Rattle.deltas.specs.declared.record.Record.{Record}
 use Rattle.chain_search.specs.declared.trace.Entry.{Entry}
 use Rattle.chain_search.specs.declared.trace.Entry.TheVariants.{Begin, Step}
-use Rattle.chain_search.specs.Trace.{memory_of, command_of}
+use Rattle.chain_search.specs.Trace.{memory_of, memory_at, command_of}
 use Rattle.chain_search.proofs.Pushes.{slice_get-push, slice_get_kept, slice_get_below, take-push, take-push_whole}
 use Rattle.chain_search.proofs.TraceLaws.{memory_at-push}
+use Rattle.op_machine.specs.Answered.{IsTidy}
 use Rattle.op_machine.specs.Operations.{Operation, IsOperation, IsOwnStep, Finishes}
 use Rattle.op_machine.specs.Points.{IsPoint, log_of, log_at}
 use Rattle.op_machine.specs.Quiet.{IsQuiet, HasMapOf}
 use Rattle.op_machine.proofs.LogLaws.{log_at-push}
-use Rattle.tree_law.specs.State.{IsUnended, operation_of, Tells, Justifies, IsAnsweredBy, IsMarked}
+use Rattle.tree_law.specs.State.{IsUnended, operation_of, Tells, Justifies, Finds, IsAnsweredBy, IsMarked}
 use Rattle.tree_law.proofs.trace.Searches.{nothing_free_kept}
 use Rattle.tree_law.proofs.trace.Owned.{pushed_length, point_below, point_last, own_step_kept, own_cases, step_cases, step_below, own_new, unended_kept, operation_old}
 
@@ -38,28 +39,39 @@ module _ (entries : List Entry) (points : List Bool) (last : Entry) (mark : Bool
   log_same : (op : Operation) (m : ℕ) → IsOwnStep entries op m → log_at entries' points' m ≡ log_at entries points m
   log_same op m own = let lt : m < length entries = step_below entries last op m own in log_at-push entries points (last ∷ []) (mark ∷ []) m beside (omega arith)
 
-  justifies_kept : (op : Operation) (reply : Reply) → Justifies entries points op reply → Justifies entries' points' op reply
-  justifies_kept op reply h = (h.0, own_step_kept entries last op h.0 h.1, slice_get_kept points (mark ∷ []) h.0 true h.2, rw (log_same op h.0 h.1) h.3)
+  memory_same : (limits : Limits) (op : Operation) (m : ℕ) → IsOwnStep entries op m → memory_at limits entries' m ≡ memory_at limits entries m
+  memory_same limits op m own = let lt : m < length entries = step_below entries last op m own in memory_at-push limits entries (last ∷ []) m (omega arith)
+
+  justifies_kept : (limits : Limits) (op : Operation) (reply : Reply) → Justifies limits entries points op reply → Justifies limits entries' points' op reply
+  justifies_kept limits op reply h = (h.0, own_step_kept entries last op h.0 h.1, slice_get_kept points (mark ∷ []) h.0 true h.2, rw (memory_same limits op h.0 h.1, log_same op h.0 h.1) h.3)
+
+  -- what an operation has found without a point it has found for good
+  finds_kept : (limits : Limits) (op : Operation) (reply : Reply) → Finds limits entries op reply → Finds limits entries' op reply
+  finds_kept limits op reply (inl h) = inl (
+    h.0,
+    record {
+      key = h.1.key;
+      asks = h.1.asks;
+      step = h.1.step;
+      own = own_step_kept entries last op h.1.step h.1.own;
+      tidy = subst (λ memory. IsTidy memory h.1.key) (sym (memory_same limits op h.1.step h.1.own)) h.1.tidy;
+    },
+  )
+  finds_kept limits op reply (inr h) = inr (h.0, h.1, nothing_free_kept entries last limits op h.2)
 
   point_old : (op : Operation) (m : ℕ) → IsOwnStep entries op m → IsPoint points' m → IsPoint points m
   point_old op m own p = let lt : m < length entries = step_below entries last op m own in point_below points mark m (omega arith) p
 
-  -- a full answer stays where the new step is no mark of its operation
+  -- an answer without a point stays where the new step is no mark of its operation
   answers_kept : (limits : Limits) (op : Operation) (reply : Reply) → IsOperation entries op → (mark ≡ true → IsOwnStep entries' op (length entries) → ⊥) → IsAnsweredBy limits entries points op reply → IsAnsweredBy limits entries' points' op reply
-  answers_kept limits op reply is never (inl h) = inl (justifies_kept op reply h)
-  answers_kept limits op reply is never (inr h) = inr (
-    h.0,
-    record {
-      old = h.1.old;
-      update = h.1.update;
-      writes = h.1.writes;
-      unmarked = λ m own p. elim (step_cases entries last op m own) [
-        | inl own' ↦ h.1.unmarked m own' (point_old op m own' p)
-        | inr at ↦ never (point_last points mark m (at.0 ∙ sym beside) p) (subst (IsOwnStep entries' op) at.0 own)
-      ];
-      finds = nothing_free_kept entries last limits op h.1.finds;
-    },
-  )
+  answers_kept limits op reply is never (inl h) = inl (justifies_kept limits op reply h)
+  answers_kept limits op reply is never (inr h) = inr (record {
+    unmarked = λ m own p. elim (step_cases entries last op m own) [
+      | inl own' ↦ h.unmarked m own' (point_old op m own' p)
+      | inr at ↦ never (point_last points mark m (at.0 ∙ sym beside) p) (subst (IsOwnStep entries' op) at.0 own)
+    ];
+    finds = finds_kept limits op reply h.finds;
+  })
 
   pub marked_push : (limits : Limits) → IsMarked limits entries points
       → (mark ≡ true → (op : Operation) × IsOperation entries op × IsOwnStep entries' op (length entries))

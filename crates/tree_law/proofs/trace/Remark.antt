@@ -17,7 +17,6 @@ use Rattle.op_machine.specs.Quiet.{IsQuiet}
 use Rattle.op_machine.specs.Updates.{UpdatesAtLinks}
 use Rattle.op_machine.proofs.LogLaws.{log_of-marked, log_at-step}
 use Rattle.op_machine.proofs.Listed.{same_operation}
-use Rattle.tree_law.specs.Owners.{Among}
 use Rattle.tree_law.specs.State.{operation_of, Tells, IsMarked}
 use Rattle.tree_law.proofs.shape.Puts.{by_test}
 
@@ -81,89 +80,83 @@ own_same entries p q m is is' own own' =
     same_operation p q starts actors (let e : slice_get entries p.start ≡ Some (Begin q.actor q.command) = rw starts is' in cc (is, e))
 
 module _ (limits : Limits) (entries : List Entry) (points : List Bool) (a : ℕ) (asked : Command) (logs : List (List Update)) (marked : IsMarked limits entries points) (t : Tells entries points a asked None logs)
-    (l : List Update) (among : Among l logs) (none : update_of a asked (value_in l (command_key asked)) ≡ None) where
-  abbrev at : (m : ℕ) × IsOwnStep entries (operation_of t.start a asked) m × (log_at entries points m ≡ l) × (command_of (take m entries) a ≡ Some asked)
-  at = t.logs_at l among
-
+    (place : ℕ) (mine : IsOwnStep entries (operation_of t.start a asked) place) (asks : command_of (take place entries) a ≡ Some asked) (none : update_of a asked (value_in (log_at entries points place) (command_key asked)) ≡ None) where
   abbrev pub remarked : List Bool
-  remarked = set points at.0 true
+  remarked = set points place true
 
-  below : at.0 < length points
-  below = let lt : at.0 < length entries = slice_get_below entries at.0 _ at.1.2.1.entry in let b = marked.beside in omega arith
+  below : place < length points
+  below = let lt : place < length entries = slice_get_below entries place _ mine.2.1.entry in let b = marked.beside in omega arith
 
-  was_unmarked : slice_get points at.0 ≡ Some false
-  was_unmarked = unmarked points at.0 below (t.point_at at.0 at.1)
+  was_unmarked : slice_get points place ≡ Some false
+  was_unmarked = unmarked points place below (t.point_at place mine)
 
-  no_update : updates_at (take at.0 entries) (Step a at.1.0 at.1.1 at.1.2.0) (log_at entries points at.0) ≡ []
-  no_update = rw (at.3, at.2, none) refl
+  no_update : updates_at (take place entries) (Step a mine.0 mine.1 mine.2.0) (log_at entries points place) ≡ []
+  no_update = rw (asks, none) refl
 
   pub log_of_same : log_of entries remarked ≡ log_of entries points
-  log_of_same = log_of-marked entries points at.0 _ at.1.2.1.entry was_unmarked no_update
+  log_of_same = log_of-marked entries points place _ mine.2.1.entry was_unmarked no_update
 
   pub log_at_same : (n : ℕ) → log_at entries remarked n ≡ log_at entries points n
-  log_at_same n = elim (cases_lt at.0 n) [
-    | inl lt ↦ rw (take_set_above points at.0 true n lt)
-        (log_of-marked (take n entries) (take n points) at.0 (Step a at.1.0 at.1.1 at.1.2.0) (get_take entries at.0 n lt ∙ at.1.2.1.entry) (get_take points at.0 n lt ∙ was_unmarked)
-        (rw (take_take entries at.0 n (omega arith), take_take points at.0 n (omega arith)) no_update))
-    | inr le ↦ rw (take_set_below points at.0 true n le) refl
+  log_at_same n = elim (cases_lt place n) [
+    | inl lt ↦ rw (take_set_above points place true n lt)
+        (log_of-marked (take n entries) (take n points) place (Step a mine.0 mine.1 mine.2.0) (get_take entries place n lt ∙ mine.2.1.entry) (get_take points place n lt ∙ was_unmarked)
+        (rw (take_take entries place n (omega arith), take_take points place n (omega arith)) no_update))
+    | inr le ↦ rw (take_set_below points place true n le) refl
   ]
 
   pub beside' : length remarked ≡ length entries
-  beside' = set_length points at.0 true ∙ marked.beside
+  beside' = set_length points place true ∙ marked.beside
 
   point_kept : (n : ℕ) → IsPoint points n → IsPoint remarked n
-  point_kept n p = by_test n at.0 (λ b. IsPoint remarked n) (λ e. subst (IsPoint remarked) (sym e) (get_set_same points at.0 true below)) (λ ne. get_set_other points at.0 true n ne ∙ p)
+  point_kept n p = by_test n place (λ b. IsPoint remarked n) (λ e. subst (IsPoint remarked) (sym e) (get_set_same points place true below)) (λ ne. get_set_other points place true n ne ∙ p)
 
-  point_cases : (n : ℕ) → IsPoint remarked n → (n ≡ at.0) ⊎ IsPoint points n
-  point_cases n p = by_test n at.0 (λ b. (n ≡ at.0) ⊎ IsPoint points n) (λ e. inl e) (λ ne. inr (sym (get_set_other points at.0 true n ne) ∙ p))
+  point_cases : (n : ℕ) → IsPoint remarked n → (n ≡ place) ⊎ IsPoint points n
+  point_cases n p = by_test n place (λ b. (n ≡ place) ⊎ IsPoint points n) (λ e. inl e) (λ ne. inr (sym (get_set_other points place true n ne) ∙ p))
 
   -- no own step of the operation was marked
-  alone : (op : Operation) (i j : ℕ) → IsOperation entries op → IsOwnStep entries op i → i ≡ at.0 → IsOwnStep entries op j → IsPoint points j → ⊥
+  alone : (op : Operation) (i j : ℕ) → IsOperation entries op → IsOwnStep entries op i → i ≡ place → IsOwnStep entries op j → IsPoint points j → ⊥
   alone op i j is own e own' p =
-      let own_at : IsOwnStep entries op at.0 = subst (IsOwnStep entries op) e own in
-      let same : op ≡ operation_of t.start a asked = own_same entries op (operation_of t.start a asked) at.0 is t.begins own_at at.1 in
+      let own_at : IsOwnStep entries op place = subst (IsOwnStep entries op) e own in
+      let same : op ≡ operation_of t.start a asked = own_same entries op (operation_of t.start a asked) place is t.begins own_at mine in
       t.point_at j (subst (λ o. IsOwnStep entries o j) same own') p
 
   pub marked' : ((n : ℕ) (reply : Reply) → Finishes entries (operation_of t.start a asked) n reply → ⊥) → IsMarked limits entries remarked
   marked' unfinished = record {
     beside = beside';
-    own = λ n p. elim (point_cases n p) [ inl e ↦ (operation_of t.start a asked, t.begins, subst (IsOwnStep entries (operation_of t.start a asked)) (sym e) at.1) | inr p' ↦ marked.own n p' ];
+    own = λ n p. elim (point_cases n p) [ inl e ↦ (operation_of t.start a asked, t.begins, subst (IsOwnStep entries (operation_of t.start a asked)) (sym e) mine) | inr p' ↦ marked.own n p' ];
     one = λ op i j is oi oj pi pj. elim (point_cases i pi) [
       | inl ei ↦ elim (point_cases j pj) [ inl ej ↦ ei ∙ sym ej | inr pj' ↦ absurd (alone op i j is oi ei oj pj') ]
       | inr pi' ↦ elim (point_cases j pj) [ inl ej ↦ absurd (alone op j i is oj ej oi pi') | inr pj' ↦ marked.one op i j is oi oj pi' pj' ]
     ];
     answered = λ op n reply is ends. elim (marked.answered op n reply is ends) [
       | inl h ↦ inl (h.0, h.1, point_kept h.0 h.2, rw (log_at_same h.0) h.3)
-      | inr h ↦ inr (
-        h.0,
-        record {
-          old = h.1.old;
-          update = h.1.update;
-          writes = h.1.writes;
-          unmarked = λ m own p. elim (point_cases m p) [
-            | inl e ↦
-                let same : op ≡ operation_of t.start a asked = own_same entries op (operation_of t.start a asked) at.0 is t.begins (subst (IsOwnStep entries op) e own) at.1 in
-                unfinished n reply (subst (λ o. Finishes entries o n reply) same ends)
-            | inr p' ↦ h.1.unmarked m own p'
-          ];
-          finds = h.1.finds;
-        },
-      )
+      | inr h ↦ inr (record {
+        unmarked = λ m own p. elim (point_cases m p) [
+          | inl e ↦
+              let same : op ≡ operation_of t.start a asked = own_same entries op (operation_of t.start a asked) place is t.begins (subst (IsOwnStep entries op) e own) mine in
+              unfinished n reply (subst (λ o. Finishes entries o n reply) same ends)
+          | inr p' ↦ h.unmarked m own p'
+        ];
+        finds = h.finds;
+      })
     ];
   }
 
-  logs_told : (b : ℕ) (c : Command) (start : ℕ) (k : List Update) → ((m : ℕ) × IsOwnStep entries (operation_of start b c) m × (log_at entries points m ≡ k) × (command_of (take m entries) b ≡ Some c))
+  pub logs_told : (b : ℕ) (c : Command) (start : ℕ) (k : List Update) → ((m : ℕ) × IsOwnStep entries (operation_of start b c) m × (log_at entries points m ≡ k) × (command_of (take m entries) b ≡ Some c))
       → (m : ℕ) × IsOwnStep entries (operation_of start b c) m × (log_at entries remarked m ≡ k) × (command_of (take m entries) b ≡ Some c)
   logs_told b c start k h = (h.0, h.1, log_at_same h.0 ∙ h.2, h.3)
 
+  pub marked_now : IsPoint remarked place
+  marked_now = get_set_same points place true below
+
   -- now its point is told
-  pub told : Tells entries remarked a asked (Some l) logs
+  abbrev pub told : Tells entries remarked a asked (Some (log_at entries points place)) logs
   told = record {
     start = t.start;
     begins = t.begins;
     unended = t.unended;
     logs_at = λ k h. logs_told a asked t.start k (t.logs_at k h);
-    point_at = (at.0, at.1, get_set_same points at.0 true below, log_at_same at.0 ∙ at.2);
+    point_at = (place, mine, marked_now, log_at_same place);
   }
 
   pub told_other : (b : ℕ) (c : Command) (point : Option (List Update)) (logs' : List (List Update)) → b ≢ a → Tells entries points b c point logs' → Tells entries remarked b c point logs'
@@ -178,7 +171,7 @@ module _ (limits : Limits) (entries : List Entry) (points : List Bool) (a : ℕ)
       go : (o : Option (List Update)) → MatchOption o ((m : ℕ) → IsOwnStep entries (operation_of u.start b c) m → IsPoint points m → ⊥) (λ k. (m : ℕ) × IsOwnStep entries (operation_of u.start b c) m × IsPoint points m × (log_at entries points m ≡ k))
           → MatchOption o ((m : ℕ) → IsOwnStep entries (operation_of u.start b c) m → IsPoint remarked m → ⊥) (λ k. (m : ℕ) × IsOwnStep entries (operation_of u.start b c) m × IsPoint remarked m × (log_at entries remarked m ≡ k))
       go None h = λ m own p. elim (point_cases m p) [
-        | inl e ↦ let e1 = (subst (IsOwnStep entries (operation_of u.start b c)) e own).2.1.entry in let e2 = at.1.2.1.entry in absurd (ne (cc (e1, e2)))
+        | inl e ↦ let e1 = (subst (IsOwnStep entries (operation_of u.start b c)) e own).2.1.entry in let e2 = mine.2.1.entry in absurd (ne (cc (e1, e2)))
         | inr p' ↦ h m own p'
       ]
       go (Some k) h = (h.0, h.1, point_kept h.0 h.2, log_at_same h.0 ∙ h.3)
@@ -190,7 +183,7 @@ module _ (limits : Limits) (entries : List Entry) (points : List Bool) (a : ℕ)
   pub updates' : UpdatesAtLinks limits entries points → UpdatesAtLinks limits entries remarked
   updates' old n = (
     λ h. elim (point_cases n h.0) [
-      | inl here ↦ absurd (longer (log_at entries points at.0) h.1.0 (sym (log_at-step entries points at.0 _ false marked.beside at.1.2.1.entry was_unmarked) ∙ ap (log_at entries points) (ap suc (sym here)) ∙ sym (log_at_same (suc n)) ∙ h.1.1 ∙ ap (λ l. l ++ h.1.0 ∷ []) (log_at_same n ∙ ap (log_at entries points) here)))
+      | inl here ↦ absurd (longer (log_at entries points place) h.1.0 (sym (log_at-step entries points place _ false marked.beside mine.2.1.entry was_unmarked) ∙ ap (log_at entries points) (ap suc (sym here)) ∙ sym (log_at_same (suc n)) ∙ h.1.1 ∙ ap (λ l. l ++ h.1.0 ∷ []) (log_at_same n ∙ ap (log_at entries points) here)))
       | inr was ↦ (old n).0 (was, (h.1.0, sym (log_at_same (suc n)) ∙ h.1.1 ∙ ap (λ l. l ++ h.1.0 ∷ []) (log_at_same n)))
     ],
     λ h. let was = (old n).1 h in (point_kept n was.0, (was.1.0, log_at_same (suc n) ∙ was.1.1 ∙ ap (λ l. l ++ was.1.0 ∷ []) (sym (log_at_same n)))),

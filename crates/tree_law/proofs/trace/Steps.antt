@@ -4,7 +4,7 @@ use Rattle.std.specs.Prelude.{IsSome, IfSome, MatchOption, slice_get, IsTrue, Is
 use Rattle.std.specs.Option.{option_to_list}
 use Rattle.std.proofs.lemmas.Option.{same_Some}
 use Rattle.bw_model.specs.declared.command.Command.{Command}
-use Rattle.bw_model.specs.declared.command.Command.TheVariants.{Get, Insert, Upsert, Delete}
+use Rattle.bw_model.specs.declared.command.Command.TheVariants.{Get, Insert, Upsert, Delete, Page, Tidy}
 use Rattle.bw_model.specs.declared.command.Reply.{Reply}
 use Rattle.bw_model.specs.declared.command.Reply.TheVariants as reply
 use Rattle.bw_model.specs.declared.limits.Limits.{Limits}
@@ -12,8 +12,8 @@ use Rattle.bw_model.specs.declared.step.Answer.{Answer}
 use Rattle.bw_model.specs.declared.step.Answer.TheVariants.{Number}
 use Rattle.bw_model.specs.declared.step.Step.{Step as StepOf}
 use Rattle.bw_model.specs.declared.step.Step.TheVariants.{Slot, Row, Epoch, Announce, PidBits, RowBits, Place, Exchange, TakePid, TakeRow, Enter, Leave, Retire, ReusePids, ReuseRows}
-use Rattle.bw_model.specs.Log.{Update, value_in}
-use Rattle.bw_model.specs.Replies.{command_key, reply_of, update_of}
+use Rattle.bw_model.specs.Log.{Update}
+use Rattle.bw_model.specs.Replies.{reply_of}
 use Rattle.deltas.specs.declared.record.Record.{Record}
 use Rattle.deltas.specs.Memory.{Memory}
 use Rattle.chain_search.specs.declared.trace.Entry.{Entry}
@@ -23,22 +23,20 @@ use Rattle.chain_search.specs.Trace.{memory_of, command_of, commands_after}
 use Rattle.chain_search.proofs.Pushes.{slice_get-push_cases, slice_get_kept}
 use Rattle.chain_search.proofs.TraceLaws.{memory_of-push, command_of-push}
 use Rattle.chain_search.proofs.RunLaws.{IsRun-push}
-use Rattle.op_machine.specs.Answered.{IsTrueReply, is_writer}
-use Rattle.op_machine.specs.Updates.{LinksUpdate, UpdatesAtLinks}
+use Rattle.op_machine.specs.Answered.{IsTrueReply, RepliesAt}
+use Rattle.op_machine.specs.Updates.{LinksUpdate}
 use Rattle.op_machine.specs.Operations.{Operation, IsOperation, IsOwnStep, Finishes}
 use Rattle.op_machine.specs.Phases.{Phase, Moves, IsInPhase}
 use Rattle.op_machine.specs.Points.{IsPoint, log_of, log_at, updates_by, has_point}
-use Rattle.op_machine.specs.Quiet.{IsQuiet}
 use Rattle.op_machine.proofs.Listed.{same_operation}
 use Rattle.op_machine.proofs.LogLaws.{log_of-push}
-use Rattle.chain_search.specs.Discipline.{MayAnswer, MayGiveUp, MayReply, IsAllowed}
+use Rattle.chain_search.specs.Discipline.{MayReply, IsAllowed}
 use Rattle.chain_search.specs.Knowledge.{Knowledge, learn, finished, knows}
 use Rattle.tree_law.specs.Next.{IsReuse, IsDue, grown, pointed as pointed', After}
-use Rattle.tree_law.specs.Owners.{LinkFits}
 use Rattle.tree_law.specs.Put.{put}
-use Rattle.tree_law.specs.Replies.{IsRepliedAt}
 use Rattle.tree_law.specs.Shared.{slot_in, shared}
-use Rattle.tree_law.specs.State.{phase_of, IsInTree, IsReadyPage, IsUnended, operation_of, Tells, IsSearch, IsAnsweredBy, IsMarked, IsState}
+use Rattle.tree_law.specs.State.{phase_of, IsInTree, IsReadyPage, IsUnended, operation_of, Tells, IsSearch, Finds, IsAnsweredBy, IsState}
+use Rattle.tree_law.specs.Stood.{HaveStood}
 use Rattle.tree_law.specs.TraceLaws.{StatesAreIndexed, StatesAreLinearized, StatesFreeByRule, StatesKeepPhases, Steps}
 use Rattle.tree_law.specs.Times.{Times, Timed, times_after}
 use Rattle.tree_law.specs.Tree.{IsTree}
@@ -46,7 +44,6 @@ use Rattle.tree_law.proofs.epochs.Freeing.{t1, t2, rows_after, rows_timed, pages
 use Rattle.tree_law.proofs.epochs.Reused.{rows_numbers, rows_held, pages_numbers, pages_held}
 use Rattle.tree_law.proofs.epochs.Timewise.{timed_step}
 use Rattle.tree_law.proofs.epochs.Allowed.{after_of}
-use Rattle.tree_law.proofs.answering.Answering.{answers}
 use Rattle.tree_law.proofs.trace.Beginning.{knows-push}
 use Rattle.tree_law.specs.Indexed.{IsFirst}
 use Rattle.tree_law.specs.Phase.{Indexed}
@@ -60,89 +57,21 @@ use Rattle.tree_law.proofs.shape.Mapping.{map_of}
 use Rattle.tree_law.proofs.trace.Lives.{only_after, pid_below_after, steps_in_phase, steps_phases}
 use Rattle.tree_law.proofs.links.UpdateLinks.{update_links, link_updates}
 use Rattle.tree_law.proofs.trace.Updates.{UpdatesNow, updates_push}
-use Rattle.tree_law.proofs.trace.Marks.{marked_push, tells_other, tells_own, quiet_push}
+use Rattle.tree_law.proofs.trace.Marks.{take_whole, marked_push, tells_other, tells_own, quiet_push}
 use Rattle.tree_law.proofs.trace.Names.{faithful_push, Numbers, calm_numbers, named_steps, reads_known, touches_outside, may_take}
 use Rattle.tree_law.proofs.trace.Owned.{pushed_length, same_start, own_new}
 use Rattle.tree_law.proofs.trace.Phasing.{moves_between, clears_cleared, moves_or_rests}
 use Rattle.tree_law.proofs.shape.Puts.{by_test, put_same, put_other}
-use Rattle.tree_law.proofs.trace.Remark.{own_same, remarked, log_of_same, marked', told, told_other, updates', quiet'}
-use Rattle.tree_law.proofs.trace.Searches.{search_other, search_own, lacks}
+use Rattle.tree_law.proofs.trace.Remark.{own_same, told}
+use Rattle.tree_law.proofs.trace.Searches.{search_other, search_own}
+use Rattle.tree_law.proofs.trace.Settling.{Settled, no_point, settled}
 use Rattle.tree_law.proofs.trace.Slots.{held_after}
+use Rattle.tree_law.proofs.trace.Standing.{stood_kept, stood_own}
 use Rattle.tree_law.proofs.links.Stepping.{step as one_step}
 
 abbrev is_update : Option Update → Bool
 is_update None = false
 is_update (Some u) = true
-
--- Why a reply is right, by the actor's point: it is that of the command at the point's log, or a Full without a point.
-abbrev Reasons : Limits → ℕ → Knowledge → Command → Option (List Update) → Reply → Type 0
-Reasons limits a k asked point answer = ((l : List Update) × (point ≡ Some l) × (reply_of asked (value_in l (command_key asked)) ≡ Some answer)) ⊎ ((answer ≡ reply.Full) × (point ≡ None) × MayGiveUp limits a k asked answer)
-
--- The points before a step that may reply: where it does, the reply is that of the actor's mark.
-record Settled (limits : Limits) (entries : List Entry) (log : List Update) (point : ℕ → Option (List Update)) (logs : ℕ → List (List Update)) (a : ℕ) (asked : Command) (r : Option Reply) : Type 0 where
-  points : List Bool
-  log_is : log_of entries points ≡ log
-  marked : IsMarked limits entries points
-  updates : UpdatesAtLinks limits entries points
-  quiet : IsQuiet limits entries points
-  own_point : Option (List Update)
-  mine : Tells entries points a asked own_point (logs a)
-  others : (b : ℕ) (c : Command) → b ≢ a → command_of entries b ≡ Some c → Tells entries points b c (point b) (logs b)
-  quietly : r ≡ None → own_point ≡ point a
-  replied : (reply : Reply) → r ≡ Some reply → Reasons limits a (knows entries a) asked own_point reply
-
-module _ (limits : Limits) (entries : List Entry) (a : ℕ) (asked : Command) (state : IsState limits entries) (asks : command_of entries a ≡ Some asked) where
-  -- where the points stay
-  as_they_are : (r : Option Reply) → ((reply : Reply) → r ≡ Some reply → Reasons limits a (knows entries a) asked (state.point a) reply) → Settled limits entries (log_of entries state.points) state.point state.logs a asked r
-  as_they_are r replied = record {
-    points = state.points;
-    log_is = refl;
-    marked = state.marked;
-    updates = state.updates;
-    quiet = state.quiet;
-    own_point = state.point a;
-    mine = state.tells a asked asks;
-    others = λ b c ne e. state.tells b c e;
-    quietly = λ e. refl;
-    replied = replied;
-  }
-
-  no_point : (knows entries a).asked.linked ≡ None → state.point a ≡ None
-  no_point e = subst (λ (v : Option (Option ℕ)). LinkFits state.owners (shared (memory_of limits entries)) (state.point a) v) e (state.good.sound a).linked_fits
-
-  by_value : (reply : Reply) → MayAnswer a (knows entries a) asked reply → Settled limits entries (log_of entries state.points) state.point state.logs a asked (Some reply)
-  by_value reply may = elim at.own [
-    | inl linked ↦ as_they_are (Some reply) (λ y e. inl (at.at, linked, at.same ∙ e))
-    | inr u ↦
-        let t : Tells entries state.points a asked None (state.logs a) = subst (λ o. Tells entries state.points a asked o (state.logs a)) u.0 (state.tells a asked asks) in
-        record {
-          points = remarked limits entries state.points a asked (state.logs a) state.marked t at.at u.2 u.1;
-          log_is = log_of_same limits entries state.points a asked (state.logs a) state.marked t at.at u.2 u.1;
-          marked = marked' limits entries state.points a asked (state.logs a) state.marked t at.at u.2 u.1 (state.searches (operation_of t.start a asked) t.begins t.unended asks).unfinished;
-          updates = updates' limits entries state.points a asked (state.logs a) state.marked t at.at u.2 u.1 state.updates;
-          quiet = quiet' limits entries state.points a asked (state.logs a) state.marked t at.at u.2 u.1 state.quiet;
-          own_point = Some at.at;
-          mine = told limits entries state.points a asked (state.logs a) state.marked t at.at u.2 u.1;
-          others = λ b c ne e. told_other limits entries state.points a asked (state.logs a) state.marked t at.at u.2 u.1 b c (state.point b) (state.logs b) ne (state.tells b c e);
-          quietly = λ e. absurd (cc);
-          replied = λ y e. inl (at.at, refl, at.same ∙ e);
-        }
-  ]
-    where
-      at : IsRepliedAt a asked reply (state.point a) (state.logs a)
-      at = answers state.good a asked reply may
-
-  same_asked : (c : Command) → (knows entries a).asked.command ≡ Some c → c ≡ asked
-  same_asked c going = same_Some c asked (sym going ∙ state.named.commands a ∙ asks)
-
-  settled : (r : Option Reply) → IfSome r (MayReply limits a (knows entries a)) → Settled limits entries (log_of entries state.points) state.point state.logs a asked r
-  settled None may = as_they_are None (λ reply e. absurd (cc))
-  settled (Some reply) may = elim may.justified [
-    | inl value ↦ by_value reply (subst (λ c. MayAnswer a (knows entries a) c reply) (same_asked may.command may.going) value)
-    | inr full ↦
-        let full' = subst (λ c. MayGiveUp limits a (knows entries a) c reply) (same_asked may.command may.going) full in
-        as_they_are (Some reply) (λ y e. let same : reply ≡ y = cc in inr (sym same ∙ full'.is, no_point full'.unlinked, subst (λ z. MayGiveUp limits a (knows entries a) asked z) same full'))
-  ]
 
 module _ (limits : Limits) (entries : List Entry) (a : ℕ) (step : StepOf Record) (answer : Answer Record) (r : Option Reply) (asked : Command) (state : IsState limits entries) (asks : command_of entries a ≡ Some asked)
     (allowed : IsAllowed limits a (knows entries a) step r) (is : IsAnswer (memory_of limits entries) step answer)
@@ -186,22 +115,7 @@ module _ (limits : Limits) (entries : List Entry) (a : ℕ) (step : StepOf Recor
       same_operation op (operation_of z.mine.start a asked) start actor (cc (there, b))
 
   justified : (op : Operation) (reply : Reply) → IsOperation entries op → op.actor ≡ a → IsUnended entries op.start op.actor → r ≡ Some reply → IsAnsweredBy limits entries z.points op reply
-  justified op reply begun actor unended e = subst (λ o. IsAnsweredBy limits entries z.points o reply) (sym (is_mine op begun actor unended)) (elim (z.replied reply e) [
-    | inl h ↦
-        let p = subst (λ o. MatchOption o ((m : ℕ) → IsOwnStep entries (operation_of z.mine.start a asked) m → IsPoint z.points m → ⊥) (λ l. (m : ℕ) × IsOwnStep entries (operation_of z.mine.start a asked) m × IsPoint z.points m × (log_at entries z.points m ≡ l))) h.1 z.mine.point_at in
-        inl (p.0, p.1, p.2, subst (λ l. reply_of asked (value_in l (command_key asked)) ≡ Some reply) (sym p.3) h.2)
-    | inr h ↦
-        inr (
-          h.0,
-          record {
-            old = h.2.old;
-            update = h.2.update;
-            writes = h.2.writes;
-            unmarked = subst (λ o. MatchOption o ((m : ℕ) → IsOwnStep entries (operation_of z.mine.start a asked) m → IsPoint z.points m → ⊥) (λ l. (m : ℕ) × IsOwnStep entries (operation_of z.mine.start a asked) m × IsPoint z.points m × (log_at entries z.points m ≡ l))) h.1 z.mine.point_at;
-            finds = lacks limits entries (operation_of z.mine.start a asked) (knows entries a) (state.searches (operation_of z.mine.start a asked) z.mine.begins z.mine.unended asks) h.2.lacks;
-          },
-        )
-  ])
+  justified op reply begun actor unended e = subst (λ o. IsAnsweredBy limits entries z.points o reply) (sym (is_mine op begun actor unended)) (z.replied reply e)
 
   -- what the step adds to the log is what its operation's command makes there
   logged : cond mark (log_of entries state.points ++ updates_by a (command_of entries a) (log_of entries state.points)) (log_of entries state.points) ≡ grown (log_of entries state.points) n.update
@@ -253,13 +167,15 @@ module _ (limits : Limits) (entries : List Entry) (a : ℕ) (step : StepOf Recor
       (tells_own entries z.points last mark z.marked.beside a step answer r asked (state.point a) (state.logs a) log refl z.log_is asks alone (subst (λ o. Tells entries z.points a asked o (state.logs a)) (z.quietly i) z.mine))
   tells_mine (Some y) i c f = let e = put_same (command_of entries) a None in let g : None ≡ Some c = sym e ∙ f in absurd (cc)
 
-  searches_after : (op : Operation) → IsOperation (entries ++ last ∷ []) op → IsUnended (entries ++ last ∷ []) op.start op.actor → command_of (entries ++ last ∷ []) op.actor ≡ Some op.command
-      → IsSearch (entries ++ last ∷ []) op (knows (entries ++ last ∷ []) op.actor)
-  searches_after op begun' unended' asks' = rw (knows-push entries last) (by_test op.actor a
-      (λ t. IsSearch (entries ++ last ∷ []) op (cond t (finished (learn (knows entries a) step answer) r) (knows entries op.actor)))
-      (λ i. own_search r refl i)
-      (λ ne. search_other entries last op (knows entries op.actor) (state.searches op begun unended (sym (other_command r op.actor ne) ∙ asked'))
-      (λ s x y e. ne (let j : a ≡ op.actor = cc in sym j))))
+  -- what is so of each unfinished operation: the actor's own, where it goes on, and those of others
+  unfinished_after : (P : Operation → Knowledge → Type 0)
+      → ((start : ℕ) (c : Command) → slice_get entries start ≡ Some (Begin a c) → IsUnended entries start a → command_of entries a ≡ Some c → r ≡ None → P (operation_of start a c) (finished (learn (knows entries a) step answer) r))
+      → ((op : Operation) → op.actor ≢ a → IsOperation entries op → IsUnended entries op.start op.actor → command_of entries op.actor ≡ Some op.command → P op (knows entries op.actor))
+      → (op : Operation) → IsOperation (entries ++ last ∷ []) op → IsUnended (entries ++ last ∷ []) op.start op.actor → command_of (entries ++ last ∷ []) op.actor ≡ Some op.command → P op (knows (entries ++ last ∷ []) op.actor)
+  unfinished_after P goes_on others op begun' unended' asks' = subst (λ (ks : ℕ → Knowledge). P op (ks op.actor)) (sym (knows-push entries last)) (by_test op.actor a
+      (λ t. P op (cond t (finished (learn (knows entries a) step answer) r) (knows entries op.actor)))
+      (λ i. own r refl i)
+      (λ ne. others op ne begun unended (sym (other_command r op.actor ne) ∙ asked')))
     where
       begun : IsOperation entries op
       begun = elim (slice_get-push_cases entries last op.start _ begun') [ inl before ↦ before | inr at ↦ let e = at.1 in absurd (cc) ]
@@ -270,20 +186,31 @@ module _ (limits : Limits) (entries : List Entry) (a : ℕ) (step : StepOf Recor
       asked' : commands_after (command_of entries) last op.actor ≡ Some op.command
       asked' = subst (λ k. k op.actor ≡ Some op.command) (command_of-push entries last) asks'
 
-      own_search : (o : Option Reply) → r ≡ o → op.actor ≡ a → IsSearch (entries ++ last ∷ []) op (finished (learn (knows entries a) step answer) r)
-      own_search None no_reply i =
+      own : (o : Option Reply) → r ≡ o → op.actor ≡ a → P op (finished (learn (knows entries a) step answer) r)
+      own None no_reply i =
           let same : op ≡ operation_of op.start a op.command = same_operation op (operation_of op.start a op.command) refl i refl in
           let begun_a : slice_get entries op.start ≡ Some (Begin a op.command) = subst (λ b. slice_get entries op.start ≡ Some (Begin b op.command)) i begun in
           let unended_a : IsUnended entries op.start a = subst (IsUnended entries op.start) i unended in
           let asked_a : command_of entries a ≡ Some op.command = subst (λ b. command_of entries b ≡ Some op.command) i (subst (λ o. commands_after (command_of entries) (Step a step answer o) op.actor ≡ Some op.command) no_reply asked') in
-          subst (λ o. IsSearch (entries ++ last ∷ []) o (finished (learn (knows entries a) step answer) r)) (sym same)
-          (subst (λ o. IsSearch (entries ++ last ∷ []) (operation_of op.start a op.command) (finished (learn (knows entries a) step answer) o)) (sym no_reply)
-          (search_own entries last op.start a op.command step answer (knows entries a) begun_a unended_a (λ d. Step a step answer (no_reply d))
-          (state.searches (operation_of op.start a op.command) begun_a unended_a asked_a)))
-      own_search (Some y) replies i =
+          subst (λ o. P o (finished (learn (knows entries a) step answer) r)) (sym same) (goes_on op.start op.command begun_a unended_a asked_a no_reply)
+      own (Some y) replies i =
           let e : commands_after (command_of entries) (Step a step answer (Some y)) a ≡ Some op.command = subst (λ b. commands_after (command_of entries) (Step a step answer (Some y)) b ≡ Some op.command) i (subst (λ o. commands_after (command_of entries) (Step a step answer o) op.actor ≡ Some op.command) replies asked') in
           let f = put_same (command_of entries) a None in
           let g : None ≡ Some op.command = sym f ∙ e in absurd (cc)
+
+  searches_after : (op : Operation) → IsOperation (entries ++ last ∷ []) op → IsUnended (entries ++ last ∷ []) op.start op.actor → command_of (entries ++ last ∷ []) op.actor ≡ Some op.command
+      → IsSearch (entries ++ last ∷ []) op (knows (entries ++ last ∷ []) op.actor)
+  searches_after = unfinished_after (IsSearch (entries ++ last ∷ []))
+      (λ start c begun unended asks no_reply. subst (λ o. IsSearch (entries ++ last ∷ []) (operation_of start a c) (finished (learn (knows entries a) step answer) o)) (sym no_reply)
+      (search_own entries last start a c step answer (knows entries a) begun unended (λ d. Step a step answer (no_reply d)) (state.searches (operation_of start a c) begun unended asks)))
+      (λ op ne begun unended asks. search_other entries last op (knows entries op.actor) (state.searches op begun unended asks) (λ s x y e. ne (let j : a ≡ op.actor = cc in sym j)))
+
+  stood_after : (op : Operation) → IsOperation (entries ++ last ∷ []) op → IsUnended (entries ++ last ∷ []) op.start op.actor → command_of (entries ++ last ∷ []) op.actor ≡ Some op.command
+      → HaveStood limits (entries ++ last ∷ []) op (memory_of limits (entries ++ last ∷ [])).rows (knows (entries ++ last ∷ []) op.actor).read
+  stood_after op = subst (λ (m : Memory). IsOperation (entries ++ last ∷ []) op → IsUnended (entries ++ last ∷ []) op.start op.actor → command_of (entries ++ last ∷ []) op.actor ≡ Some op.command → HaveStood limits (entries ++ last ∷ []) op m.rows (knows (entries ++ last ∷ []) op.actor).read) (sym (memory_of-push limits entries last))
+      (unfinished_after (λ op k. HaveStood limits (entries ++ last ∷ []) op (memory_after a step (memory_of limits entries)).rows k.read)
+      (λ start c begun unended asks no_reply. stood_own limits entries last (memory_of limits entries) state.good a start c step answer r (ap (memory_of limits) (take_whole entries (length entries) refl)) begun unended asks refl allowed.may is n.same (state.stood (operation_of start a c) begun unended asks))
+      (λ op ne begun unended asks. stood_kept limits entries last state.good (memory_after a step (memory_of limits entries)).rows n.same op op.actor (state.stood op begun unended asks)) op)
 
   between : (pid : ℕ) (from to : Phase) → Moves (memory_of limits entries) last pid from to → (phase_of (state.owners.page pid) ≡ from) × (phase_of (n.owners.page pid) ≡ to)
   between = moves_between (memory_of limits entries) state.good state.named.held a step answer r allowed.may is n.owners.page n.phased
@@ -326,6 +253,7 @@ module _ (limits : Limits) (entries : List Entry) (a : ℕ) (step : StepOf Recor
         (pid_below_after limits state.owners.page n.owners.page is lives state.named.free_pid_below state.named.pid_below)
         held' (command_of-push entries last));
     searches = searches_after;
+    stood = stood_after;
     tells = λ b c e. by_test b a (λ t. Tells (entries ++ last ∷ []) (z.points ++ mark ∷ []) b c (cond t (cond mark (Some (log_of entries state.points)) (state.point a)) (state.point b)) (cond t (log_of entries state.points ∷ state.logs a) (state.logs b)))
         (λ i. rw i (tells_mine r refl c (subst (λ k. commands_after (command_of entries) last k ≡ Some c) i (subst (λ k. k b ≡ Some c) (command_of-push entries last) e))))
         (λ ne. tells_other entries z.points last mark z.marked.beside b c (state.point b) (state.logs b) (λ d i. absurd (cc)) (λ s x y i. ne (let j : a ≡ b = cc in sym j))
@@ -419,6 +347,7 @@ steps limits entries a step answer r state busy allowed is = go (command_of entr
         by_kind Leave r answer allowed is z = calmly Leave (λ h. h) r answer allowed is z
         by_kind (Retire n) r answer allowed is z = calmly (Retire n) (λ h. h) r answer allowed is z
 
+-- a reply by a value is neither Full nor Tidied, nor is a cursor page
 no_full : (c : Command) (v : Option (List ℕ)) → reply_of c v ≡ Some reply.Full → ⊥
 no_full (Get k) None e = cc
 no_full (Get k) (Some o) e = cc
@@ -428,17 +357,39 @@ no_full (Upsert k w) None e = cc
 no_full (Upsert k w) (Some o) e = cc
 no_full (Delete k) None e = cc
 no_full (Delete k) (Some o) e = cc
+no_full (Page k) v e = cc
+no_full (Tidy k) v e = cc
 
--- a command that may change the map is a writer
-writer : (a : ℕ) (c : Command) (old : Option (List ℕ)) (u : Update) → update_of a c old ≡ Some u → IsTrue (is_writer c)
-writer a (Get k) old u e = cc
-writer a (Insert k w) old u e = refl
-writer a (Upsert k w) old u e = refl
-writer a (Delete k) old u e = refl
+no_tidied : (c : Command) (v : Option (List ℕ)) → reply_of c v ≡ Some reply.Tidied → ⊥
+no_tidied (Get k) None e = cc
+no_tidied (Get k) (Some o) e = cc
+no_tidied (Insert k w) None e = cc
+no_tidied (Insert k w) (Some o) e = cc
+no_tidied (Upsert k w) None e = cc
+no_tidied (Upsert k w) (Some o) e = cc
+no_tidied (Delete k) None e = cc
+no_tidied (Delete k) (Some o) e = cc
+no_tidied (Page k) v e = cc
+no_tidied (Tidy k) v e = cc
+
+never_full : (memory : Memory) (log : List Update) (c : Command) → RepliesAt memory log c reply.Full → ⊥
+never_full memory log c (inl e) = no_full c _ e
+never_full memory log c (inr shown) = let e = shown.is in cc
+
+never_tidied : (memory : Memory) (log : List Update) (c : Command) → RepliesAt memory log c reply.Tidied → ⊥
+never_tidied memory log c (inl e) = no_tidied c _ e
+never_tidied memory log c (inr shown) = let e = shown.is in cc
+
+-- an operation without a point has replied one of the two
+without_point : (limits : Limits) (entries : List Entry) (op : Operation) (answer : Reply) → Finds limits entries op answer → has_point answer ≡ false
+without_point limits entries op answer (inl h) = ap has_point h.0
+without_point limits entries op answer (inr h) = ap has_point h.0
 
 true_reply : (limits : Limits) (entries : List Entry) (points : List Bool) (op : Operation) (answer : Reply) → IsAnsweredBy limits entries points op answer → IsTrueReply limits entries points op answer
-true_reply limits entries points op reply.Full (inl h) = absurd (no_full op.command _ h.3)
-true_reply limits entries points op reply.Full (inr h) = (writer op.actor op.command h.1.old h.1.update h.1.writes, h.1.finds)
+true_reply limits entries points op reply.Full (inl h) = absurd (never_full _ _ op.command h.3)
+true_reply limits entries points op reply.Full (inr h) = elim h.finds [ inl tidied ↦ let e = tidied.0 in absurd (cc) | inr full ↦ (full.1, full.2) ]
+true_reply limits entries points op reply.Tidied (inl h) = absurd (never_tidied _ _ op.command h.3)
+true_reply limits entries points op reply.Tidied (inr h) = elim h.finds [ inl tidied ↦ tidied.1 | inr full ↦ let e = full.0 in absurd (cc) ]
 true_reply limits entries points op (reply.Value v) (inl h) = h
 true_reply limits entries points op reply.None (inl h) = h
 true_reply limits entries points op reply.Inserted (inl h) = h
@@ -447,16 +398,18 @@ true_reply limits entries points op reply.Set (inl h) = h
 true_reply limits entries points op (reply.Replaced v) (inl h) = h
 true_reply limits entries points op (reply.Deleted v) (inl h) = h
 true_reply limits entries points op reply.Absent (inl h) = h
-true_reply limits entries points op answer (inr h) = let e = h.0 in absurd (cc)
+true_reply limits entries points op (reply.Page items next) (inl h) = h
+true_reply limits entries points op answer (inr h) = let e = without_point limits entries op answer h.finds in absurd (cc)
 
 pointed_by : (limits : Limits) (entries : List Entry) (points : List Bool) (op : Operation) (answer : Reply) → IsAnsweredBy limits entries points op answer → IsTrue (has_point answer) → (m : ℕ) × IsOwnStep entries op m × IsPoint points m
 pointed_by limits entries points op answer (inl h) e = (h.0, h.1, h.2)
-pointed_by limits entries points op answer (inr h) e = let f : has_point reply.Full ≡ true = subst (λ y. IsTrue (has_point y)) h.0 e in absurd (cc)
+pointed_by limits entries points op answer (inr h) e = let f = without_point limits entries op answer h.finds in absurd (cc)
 
 pointless : (limits : Limits) (entries : List Entry) (points : List Bool) (op : Operation) (answer : Reply) → IsAnsweredBy limits entries points op answer → IsFalse (has_point answer) → (m : ℕ) → IsOwnStep entries op m → IsPoint points m → ⊥
-pointless limits entries points op reply.Full (inl h) e m own p = no_full op.command _ h.3
+pointless limits entries points op reply.Full (inl h) e m own p = never_full _ _ op.command h.3
+pointless limits entries points op reply.Tidied (inl h) e m own p = never_tidied _ _ op.command h.3
 pointless limits entries points op answer (inl h) e m own p = cc
-pointless limits entries points op answer (inr h) e m own p = h.1.unmarked m own p
+pointless limits entries points op answer (inr h) e m own p = h.unmarked m own p
 
 pub is_one_map : StatesAreLinearized
 is_one_map limits entries state = record {

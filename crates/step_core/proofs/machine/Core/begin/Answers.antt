@@ -1,4 +1,4 @@
-use Rattle.std.proofs.Common.{rules, ◌≡◌, arith}
+use Rattle.std.proofs.Common.{arith}
 use Rattle.chain_search.specs.Knowledge.{knows}
 use Rattle.chain_search.specs.Recalled.{recalls}
 use Rattle.chain_search.specs.declared.trace.Entry.TheVariants.{Begin}
@@ -7,15 +7,14 @@ use Rattle.step_core.proofs.machine.Core.begin.Goals as goal
 
 pub invariant_of-self-2 : goal.invariant_of-self-2
 invariant_of-self-2 g c =
-    let same : c.unwrap.result ≡ c.args.command = search rules in
     let begins = core_begins _ _ _ _ _ _ _ c.args.command c.self.invariant _ _ c.self.view_is c.requires.goes c.from.ensures c.index_mut-place.ensures.value in
-    core_begun _ c.begins_keep_laws.ensures.state _ _ _ _ _ _ _ c.args.command c.self.invariant _ _ c.self.view_is c.requires.goes c.from.ensures (c.begin.ensures.shows _ _ begins.1) c.begin.ensures.command (c.entries_grow.ensures _ c.self.inside.trace.items (Begin c.args.actor c.args.command))
-    (c.begins_keep_laws.ensures.direct _ _ _ _ _ c.self.invariant.direct (let few = c.begin.ensures.bounded in omega arith)) (rw (c.unwrap-2.ensures, c.begin-entry.ensures, same, c.try_reserve.ensures.items) at c.push.ensures.items)
+    core_begun _ c.begins_keep_laws.ensures.state _ _ _ _ _ _ _ c.args.command c.self.invariant _ _ c.self.view_is c.requires.goes c.from.ensures (c.begin.ensures.shows _ _ begins.1) c.begin.ensures.command (c.entries_grow.ensures _ c.self.inside.trace.entries (Begin c.args.actor c.args.command))
+    (c.begins_keep_laws.ensures.direct _ _ _ _ _ c.self.invariant.direct (let few = c.begin.ensures.bounded in omega arith)) (rw (c.begin-entry.ensures, c.reserve.ensures.entries) at c.push.ensures)
 
 pub begin-requires-clause-shows : goal.begin-requires-clause-shows
 begin-requires-clause-shows g c =
     let begins = core_begins _ _ _ _ _ _ _ c.args.command c.self.invariant _ _ c.self.view_is c.requires.goes c.from.ensures c.index_mut-place.ensures.value in
-    (knows c.self.inside.trace.items c.args.actor, recalls c.self.inside.trace.items c.args.actor, begins.1)
+    (knows c.self.inside.trace.entries c.args.actor, recalls c.self.inside.trace.entries c.args.actor, begins.1)
 
 pub begin-requires-clause-idle : goal.begin-requires-clause-idle
 begin-requires-clause-idle g c =

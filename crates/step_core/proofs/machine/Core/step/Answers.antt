@@ -17,7 +17,7 @@ invariant_of-self-2 g c =
     let affords = core_affords _ _ _ _ _ _ _ c.self.invariant c.from-2.ensures asks.1 c.index_mut-place.ensures.value in
     let stays = c.steps_keep_laws.ensures.direct _ _ _ _ _ _ _ _ c.self.invariant.state allowed (c.step-stepped.ensures.useful _ _ asks.2) took.1 c.self.invariant.direct affords (c.step-stepped.ensures.spends _ _ asks.2) in
     core_stepped _ c.steps_keep_laws.ensures.state _ _ _ _ _ _ _ _ _ c.step-stepped.result.step c.step-stepped.result.answer c.step-stepped.result.reply c.self.invariant c.from-2.ensures asks.1
-    c.index_mut-place.ensures.value asks.3 allowed (c.step-stepped.ensures.shows _ _ asks.2) c.step-stepped.ensures.command (c.entries_grow.ensures _ c.self.inside.trace.items (Step c.args.actor c.step-stepped.result.step c.step-stepped.result.answer c.step-stepped.result.reply)) stays c.step-stepped.ensures.limits took.1 c.step-stepped.ensures.memory (rw (c.unwrap.ensures, c.step.ensures, c.try_reserve.ensures.items) at c.push.ensures.items)
+    c.index_mut-place.ensures.value asks.3 allowed (c.step-stepped.ensures.shows _ _ asks.2) c.step-stepped.ensures.command (c.entries_grow.ensures _ c.self.inside.trace.entries (Step c.args.actor c.step-stepped.result.step c.step-stepped.result.answer c.step-stepped.result.reply)) stays c.step-stepped.ensures.limits took.1 c.step-stepped.ensures.memory (rw (c.step.ensures, c.reserve.ensures.entries) at c.push.ensures)
 
 pub returns-clause-ok : goal.returns-clause-ok
 returns-clause-ok g c =
@@ -26,7 +26,7 @@ returns-clause-ok g c =
     let took = core_took _ c.steps_keep_laws.ensures.apart _ _ _ _ c.step-stepped.result.step c.step-stepped.result.answer c.self.invariant c.step-stepped.ensures.answer allowed.may in
     record {
       added = Step c.args.actor c.step-stepped.result.step c.step-stepped.result.answer c.step-stepped.result.reply;
-      entries = rw (← c.self.view_is) (rw (c.unwrap.ensures, c.step.ensures, c.try_reserve.ensures.items) at c.push.ensures.items);
+      entries = rw (← c.self.view_is) (rw (c.step.ensures, c.reserve.ensures.entries) at c.push.ensures);
       of_turn = refl;
       told = rw (← c.self.view_is) took.1;
       event_of = told_to _ _ (Step c.args.actor c.step-stepped.result.step c.step-stepped.result.answer c.step-stepped.result.reply) c.event-event.result c.self.view_is (event_is _ _ c.args.actor _ _ _ _ (c.step-stepped.ensures.memory ∙ ap (memory_after c.args.actor c.step-stepped.result.step) c.self.invariant.has) (heads _ _ c.self.invariant.state c.steps_keep_laws.ensures.heads) took.0 took.1 c.event-event.ensures);
@@ -36,7 +36,7 @@ returns-clause-ok g c =
 pub step-stepped-requires-clause-knows : goal.step-stepped-requires-clause-knows
 step-stepped-requires-clause-knows g c =
     let asks = core_asks _ c.steps_keep_laws.ensures.apart c.steps_keep_laws.ensures.fit _ _ _ _ _ _ c.self.invariant _ _ c.self.view_is c.requires.goes c.from-2.ensures c.index_mut-place.ensures.value in
-    (knows c.self.inside.trace.items c.args.actor, recalls c.self.inside.trace.items c.args.actor, asks.2)
+    (knows c.self.inside.trace.entries c.args.actor, recalls c.self.inside.trace.entries c.args.actor, asks.2)
 
 pub step-stepped-requires-clause-within : goal.step-stepped-requires-clause-within
 step-stepped-requires-clause-within g c =

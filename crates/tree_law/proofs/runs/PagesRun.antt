@@ -1,0 +1,210 @@
+-- Each step of the runs with cursor pages is allowed.
+use Rattle.std.proofs.Common.{◌≡◌, ◌<◌, ℕ, zero, suc, List, [], ◌∷◌, ◌++◌, take, drop, Some, None, Bool, true, false, cond, refl, sym, subst, inl, inr, lit<, arith}
+use Rattle.std.specs.Prelude.{codes, IsTrue, not, slice_index_or}
+use Rattle.std.specs.List.{Contains}
+use Rattle.std.specs.List.Sorted.{IsStrictlySortedBy}
+use Rattle.bw_model.specs.declared.command.Reply.TheVariants as reply
+use Rattle.bw_model.specs.Bytes.{is_below, is_in_range}
+use Rattle.bw_model.specs.Pairs.{ArePairsOf}
+use Rattle.base_page.specs.declared.item.Content.TheVariants.{Value}
+use Rattle.deltas.specs.declared.record.Record.{Record}
+use Rattle.chain_search.specs.Discipline.{IsMet, MayReply, found, value_of}
+use Rattle.chain_search.specs.Disciplined.{IsDisciplinedFrom, IsDisciplined}
+use Rattle.chain_search.specs.Knowledge.{Knowledge, knows}
+use Rattle.tree_law.specs.CursorPages.{page_a, page_b, tidy_b, upkeep, last_page}
+use Rattle.tree_law.specs.Example.{small, a, opening_leaf, root_a, hold_a, remove_a}
+use Rattle.tree_law.specs.HelpedSplit.{other_put, helped_term, helped_split}
+use Rattle.tree_law.specs.Keys.{Key}
+use Rattle.tree_law.specs.Removal.{removal}
+use Rattle.tree_law.specs.TwoSplits.{b, upper_b, first_split, upper_c, second_split}
+use Rattle.tree_law.proofs.runs.HelpRun.{help_disciplined}
+use Rattle.tree_law.proofs.runs.LinkFits.{leaf}
+use Rattle.tree_law.proofs.runs.RemovalRun.{removal_disciplined}
+use Rattle.tree_law.proofs.runs.Standing.{◌▸◌, joined, quietly}
+use Rattle.tree_law.proofs.shape.KeyOrder.{by_key}
+
+-- what the actor knows before entry n of what follows the removal, and of what follows the helped split
+abbrev before : ℕ → Knowledge
+before n = knows (removal ++ take n upkeep) 1
+
+abbrev before_last : ℕ → Knowledge
+before_last n = knows (helped_split ++ take n last_page) 1
+
+-- the removed leaf's chain
+abbrev removed : List Record
+removed = remove_a ∷ second_split ∷ upper_b ∷ []
+
+-- it has no values
+empty : (key value : Key) → found removed key ≡ Some value → ⊥
+empty key value e = go (not (is_below key b)) e
+  where
+    go : (t : Bool) → value_of (cond t None None) ≡ Some value → ⊥
+    go true f = cc
+    go false f = cc
+
+no_pairs : ArePairsOf (found removed) a (Some b) []
+unfolding IsStrictlySortedBy
+no_pairs = record { ascending = tt; exact = λ key value. (λ c. let lt = c.1 in absurd (omega arith), λ h. absurd (empty key value h.1)) }
+
+-- the last leaf's chain, and its pair
+abbrev last : List Record
+last = other_put ∷ upper_c ∷ []
+
+one_pair : ArePairsOf (found last) b None ((b, codes "2") ∷ [])
+unfolding IsStrictlySortedBy
+one_pair = record { ascending = (tt, tt); exact = λ key value. (λ c. there key value c.0 c.1 c.2, λ h. pair key value h.1) }
+  where
+    there : (key value : Key) (n : ℕ) → n < 1 → ◌≡◌ {A = Key × Key} (slice_index_or ((b, codes "2") ∷ []) n (key, value)) (key, value) → IsTrue (is_in_range b None key) × (found last key ≡ Some value)
+    there key value zero lt e = subst (λ (pair : Key × Key). IsTrue (is_in_range b None pair.0) × (found last pair.0 ≡ Some pair.1)) e (refl, refl)
+    there key value (suc n) lt e = absurd (omega arith)
+
+    pair : (key value : Key) → found last key ≡ Some value → Contains {X = Key × Key} ((b, codes "2") ∷ []) (key, value)
+    pair key value = by_key key b (λ t. value_of (cond t (Some (Value (codes "2"))) None) ≡ Some value → Contains {X = Key × Key} ((b, codes "2") ∷ []) (key, value))
+        (λ same e. let is : codes "2" ≡ value = cc in (0, lit< tt, λ i. (sym same i, is i)))
+        (λ ne e. absurd (cc))
+
+-- each page was named: as a child,
+held_child : IsMet (before 6) 2
+held_child = record { other = 3; row = 7; basis = record { head = refl; chain = hold_a ∷ root_a ∷ []; read = (refl, (refl, refl)); alive = refl }; named = inr (inl (0, a, true, refl, refl, refl)) }
+
+left_child : IsMet (before 10) 1
+left_child = record { other = 3; row = 7; basis = record { head = refl; chain = hold_a ∷ root_a ∷ []; read = (refl, (refl, refl)); alive = refl }; named = inr (inl (0, [], false, refl, refl, refl)) }
+
+held_child_again : IsMet (before 20) 2
+held_child_again = record { other = 3; row = 7; basis = record { head = refl; chain = hold_a ∷ root_a ∷ []; read = (refl, (refl, refl)); alive = refl }; named = inr (inl (0, a, true, refl, refl, refl)) }
+
+left_child_again : IsMet (before 24) 1
+left_child_again = record { other = 3; row = 7; basis = record { head = refl; chain = hold_a ∷ root_a ∷ []; read = (refl, (refl, refl)); alive = refl }; named = inr (inl (0, [], false, refl, refl, refl)) }
+
+last_child : IsMet (before_last 6) 4
+last_child = record { other = 3; row = 8; basis = record { head = refl; chain = helped_term ∷ root_a ∷ []; read = (refl, (refl, refl)); alive = refl }; named = inr (inl (0, b, false, refl, refl, refl)) }
+
+-- or as the right of the removed leaf, which was read before its left
+right_beyond : IsMet (before 27) 4
+right_beyond = record {
+  other = 1;
+  row = 4;
+  basis = record { head = refl; chain = first_split ∷ opening_leaf ∷ []; read = (refl, (refl, refl)); alive = refl };
+  named = inr (inr (record { removed = 2; row = 8; chain = removed; right = refl; order = refl; read = (refl, (refl, (refl, refl))); gone = refl; next = refl }));
+}
+
+-- the removed leaf is shown, as its left was read after it
+shows_removed : MayReply small 1 (before 13) (reply.Page [] (Some b))
+shows_removed = record {
+  command = page_a;
+  going = refl;
+  justified = inr (inl (record {
+    from = a;
+    asks = refl;
+    row = 8;
+    chain = removed;
+    read = (refl, (refl, (refl, refl)));
+    leaf = refl;
+    covers = refl;
+    pairs = [];
+    exact = no_pairs;
+    is = refl;
+    unlinked = refl;
+    basis = inr (record { left = 1; head = 4; basis = record { head = refl; chain = first_split ∷ opening_leaf ∷ []; read = (refl, (refl, refl)); alive = refl }; other = 2; right = refl; order = refl }, refl);
+  }));
+}
+
+-- nothing is due at the last leaf
+nothing_due : MayReply small 1 (before 29) reply.Tidied
+nothing_due = record {
+  command = tidy_b;
+  going = refl;
+  justified = inr (inr (inl (record {
+    key = b;
+    asks = refl;
+    is = refl;
+    page = 4;
+    head = 6;
+    basis = record { head = refl; chain = upper_c ∷ []; read = (refl, refl); alive = refl };
+    base = leaf b None None;
+    alone = refl;
+    leaf = refl;
+    covers = refl;
+    few = lit< tt;
+    unlinked = refl;
+  })));
+}
+
+-- the last leaf is shown with its pair
+shows_last : MayReply small 1 (before_last 9) (reply.Page ((b, codes "2") ∷ []) None)
+shows_last = record {
+  command = page_b;
+  going = refl;
+  justified = inr (inl (record { from = b; asks = refl; row = 9; chain = last; read = (refl, (refl, refl)); leaf = refl; covers = refl; pairs = (b, codes "2") ∷ []; exact = one_pair; is = refl; unlinked = refl; basis = inl ((4, refl), refl) }));
+}
+
+-- to the leaf on the removed leaf's left, and to that on its right, at which nothing is due
+goes_on : IsDisciplinedFrom small (removal ++ take 24 upkeep) (drop 24 upkeep)
+goes_on =
+    (refl, quietly (refl, inr left_child_again) tt, refl)
+    ▸ (refl, quietly (refl, refl) tt, (first_split, refl, refl))
+    ▸ (refl, quietly (refl, refl) tt, (opening_leaf, refl, refl))
+    ▸ (refl, quietly (refl, inr right_beyond) tt, refl)
+    ▸ (refl, quietly (refl, refl) tt, (upper_c, refl, refl))
+    ▸ (refl, record { may = refl; frees = tt; replied = (refl, nothing_due) }, refl)
+    ▸ tt
+
+-- it begins again, and goes down to the removed leaf
+descends_again : IsDisciplinedFrom small (removal ++ take 14 upkeep) (drop 14 upkeep)
+descends_again =
+    (lit< tt, refl)
+    ▸ (refl, quietly (refl, lit< tt, refl) tt, refl)
+    ▸ (refl, quietly refl tt, refl)
+    ▸ (refl, quietly (refl, inl refl) tt, refl)
+    ▸ (refl, quietly (refl, refl) tt, (hold_a, refl, refl))
+    ▸ (refl, quietly (refl, refl) tt, (root_a, refl, refl))
+    ▸ (refl, quietly (refl, inr held_child_again) tt, refl)
+    ▸ (refl, quietly (refl, refl) tt, (remove_a, refl, refl))
+    ▸ (refl, quietly (refl, refl) tt, (second_split, refl, refl))
+    ▸ (refl, quietly (refl, refl) tt, (upper_b, refl, refl))
+    ▸ goes_on
+
+-- it reads the leaf on the left, and shows the removed one
+goes_left : IsDisciplinedFrom small (removal ++ take 10 upkeep) (drop 10 upkeep)
+goes_left =
+    (refl, quietly (refl, inr left_child) tt, refl)
+    ▸ (refl, quietly (refl, refl) tt, (first_split, refl, refl))
+    ▸ (refl, quietly (refl, refl) tt, (opening_leaf, refl, refl))
+    ▸ (refl, record { may = refl; frees = tt; replied = (refl, shows_removed) }, refl)
+    ▸ descends_again
+
+-- it goes down to the removed leaf
+descends : IsDisciplinedFrom small removal upkeep
+descends =
+    (lit< tt, refl)
+    ▸ (refl, quietly (refl, lit< tt, refl) tt, refl)
+    ▸ (refl, quietly refl tt, refl)
+    ▸ (refl, quietly (refl, inl refl) tt, refl)
+    ▸ (refl, quietly (refl, refl) tt, (hold_a, refl, refl))
+    ▸ (refl, quietly (refl, refl) tt, (root_a, refl, refl))
+    ▸ (refl, quietly (refl, inr held_child) tt, refl)
+    ▸ (refl, quietly (refl, refl) tt, (remove_a, refl, refl))
+    ▸ (refl, quietly (refl, refl) tt, (second_split, refl, refl))
+    ▸ (refl, quietly (refl, refl) tt, (upper_b, refl, refl))
+    ▸ goes_left
+
+pub upkeep_disciplined : IsDisciplined small (removal ++ upkeep)
+upkeep_disciplined = joined small [] removal upkeep removal_disciplined descends
+
+-- from the root to the last leaf
+shows : IsDisciplinedFrom small helped_split last_page
+shows =
+    (lit< tt, refl)
+    ▸ (refl, quietly (refl, lit< tt, refl) tt, refl)
+    ▸ (refl, quietly refl tt, refl)
+    ▸ (refl, quietly (refl, inl refl) tt, refl)
+    ▸ (refl, quietly (refl, refl) tt, (helped_term, refl, refl))
+    ▸ (refl, quietly (refl, refl) tt, (root_a, refl, refl))
+    ▸ (refl, quietly (refl, inr last_child) tt, refl)
+    ▸ (refl, quietly (refl, refl) tt, (other_put, refl, refl))
+    ▸ (refl, quietly (refl, refl) tt, (upper_c, refl, refl))
+    ▸ (refl, record { may = refl; frees = tt; replied = (refl, shows_last) }, refl)
+    ▸ tt
+
+pub last_page_disciplined : IsDisciplined small (helped_split ++ last_page)
+last_page_disciplined = joined small [] helped_split last_page help_disciplined shows

@@ -1,0 +1,77 @@
+-- A page in its place on the lowest level is a leaf, and no other leaf has its keys; and what such a leaf has, the log has.
+use Rattle.std.proofs.Common.{◌≡◌, inl, inr, ℕ, zero, suc, List, [], ◌∷◌, map, Option, Some, None, refl, ap, ◌∙◌, subst, arith}
+use Rattle.std.specs.Prelude.{IsTrue}
+use Rattle.std.specs.Option.{option_map}
+use Rattle.std.specs.List.{Contains}
+use Rattle.bw_model.specs.Bytes.{is_in_range}
+use Rattle.bw_model.specs.Log.{Update}
+use Rattle.bw_model.specs.Pairs.{ArePairsOf}
+use Rattle.base_page.specs.declared.item.Content.{Content}
+use Rattle.base_page.specs.declared.item.Content.TheVariants.{Value, Child}
+use Rattle.deltas.specs.declared.record.Record.{Record}
+use Rattle.deltas.specs.Memory.{Memory}
+use Rattle.chain_search.specs.Chains.{content_in, low_in, high_in, right_in, covers}
+use Rattle.chain_search.specs.Discipline.{value_of, found}
+use Rattle.chain_search.specs.Knowledge.{Knowledge}
+use Rattle.chain_search.specs.SideChain.{LivePage}
+use Rattle.op_machine.specs.Answered.{IsCursorPage}
+use Rattle.op_machine.specs.Quiet.{HasMapOf}
+use Rattle.tree_law.specs.Keys.{Key}
+use Rattle.tree_law.specs.Owners.{Owners, leaf_map}
+use Rattle.tree_law.specs.Shared.{shared}
+use Rattle.tree_law.specs.Stood.{IsLeafWith}
+use Rattle.tree_law.specs.Tree.{SidePage, InPlace, IsPart, HasSidePage, IsTree}
+use Rattle.tree_law.proofs.shape.KeyOrder.{both, covers_from, covers_to, upto_trans}
+use Rattle.tree_law.proofs.shape.Mapping.{live, leaves, is_leaves, map_of}
+use Rattle.tree_law.proofs.shape.Sides.{one_chain}
+
+module _ (memory : Memory) {log : List Update} {o : Owners} {knows : ℕ → Knowledge} {point : ℕ → Option (List Update)} {logs : ℕ → List (List Update)} (g : IsTree (shared memory) log o knows point logs) where
+  abbrev Here : SidePage → Type 0
+  Here f = InPlace o (shared memory) 0 (leaf_map log) f
+
+  -- a page of the list, as it stands there
+  listed : (gs : List SidePage) (p : Option ℕ) (low : Option Key) → IsPart o (shared memory) 0 (leaf_map log) gs p low None None → (page : ℕ) → HasSidePage page gs → (f : SidePage) × (f.page ≡ page) × Contains (map live gs) (live f) × Here f
+  listed [] p low h page has = absurd has
+  listed (f ∷ gs) p low h page (inl e) = (f, e, (zero, omega arith, refl), h.2)
+  listed (f ∷ gs) p low h page (inr later) = let r = listed gs (right_in f.chain) (high_in f.chain) h.3 page later in (r.0, r.1, (suc r.2.0, (let lt = r.2.1 in omega arith), r.2.2), r.3)
+
+  pub is_leaf : (page row : ℕ) (chain : List Record) → Here (record { page = page; row = row; chain = chain }) → IsLeafWith memory (record { pid = page; chain = chain })
+  is_leaf page row chain place = record {
+    leaves = map live (leaves memory g).side;
+    are = is_leaves memory g;
+    among = subst (Contains (map live (leaves memory g).side)) same there.2;
+    only = λ key value inside spells. place.is_page.same key (covers_from chain key inside) ∙ ap (option_map Value) (((map_of g).same key value).0 spells);
+  }
+    where
+      there : (f : SidePage) × (f.page ≡ page) × Contains (map live (leaves memory g).side) (live f) × Here f
+      there = listed (leaves memory g).side (Some 1) (Some []) (leaves memory g).whole page ((leaves memory g).listed page (low_in chain) place.stage place.placed place.on)
+
+      one : there.0.chain ≡ chain
+      one = one_chain o (shared memory) 0 (leaf_map log) (leaf_map log) (record { page = page; row = row; chain = chain }) there.0 place there.3 there.1
+
+      same : live there.0 ≡ record { pid = page; chain = chain }
+      same = λ i. record { pid = there.1 i; chain = one i }
+
+valued : (content : Option Content) (value : Key) → value_of content ≡ Some value → content ≡ Some (Value value)
+valued None value e = absurd (cc)
+valued (Some (Value v)) value e = ap (λ (w : Key). Some (Value w)) (let f : v ≡ value = cc in f)
+valued (Some (Child child is_held)) value e = absurd (cc)
+
+-- the pairs of such a leaf from one of its keys on are those of the log
+pub shows : (memory : Memory) (log : List Update) → HasMapOf memory log → (page : LivePage) → IsLeafWith memory page → (from : Key) → IsTrue (covers page.chain from) → (pairs : List (Key × Key)) → ArePairsOf (found page.chain) from (high_in page.chain) pairs
+    → IsCursorPage memory log from pairs (high_in page.chain)
+shows memory log has page leaf from inside pairs are = record {
+  leaf = page;
+  stands = record { leaves = leaf.leaves; are = leaf.are; among = leaf.among; covers = inside };
+  ends = refl;
+  pairs = record {
+    ascending = are.ascending;
+    exact = λ key value. (
+      λ contains. let h = (are.exact key value).0 contains in (h.0, (has.same key value).0 (leaf.leaves, page, leaf.are, leaf.among, within key h.0, valued (content_in page.chain key) value h.1)),
+      λ h. (are.exact key value).1 (h.0, ap value_of (leaf.only key value (within key h.0) ((has.same key value).1 h.1))),
+    );
+  };
+}
+  where
+    within : (key : Key) → IsTrue (is_in_range from (high_in page.chain) key) → IsTrue (covers page.chain key)
+    within key e = let h = both _ _ e in covers_to page.chain key (record { low = upto_trans (low_in page.chain) from key (covers_from page.chain from inside).low h.0; high = h.1 })

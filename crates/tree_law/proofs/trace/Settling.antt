@@ -1,0 +1,168 @@
+-- Why a reply is right: where an actor may reply, its operation is answered by the points before that step.
+use Rattle.std.proofs.Common.{◌≡◌, ◌≢◌, ◌<◌, inl, inr, ℕ, List, length, take, Option, Some, None, Bool, refl, sym, ap, ◌∙◌, subst, arith}
+use Rattle.std.specs.Prelude.{IfSome, MatchOption}
+use Rattle.std.proofs.lemmas.Option.{same_Some}
+use Rattle.bw_model.specs.declared.command.Command.{Command}
+use Rattle.bw_model.specs.declared.command.Reply.{Reply}
+use Rattle.bw_model.specs.declared.limits.Limits.{Limits}
+use Rattle.bw_model.specs.Log.{Update, value_in}
+use Rattle.bw_model.specs.Replies.{command_key, reply_of, update_of}
+use Rattle.chain_search.specs.declared.trace.Entry.{Entry}
+use Rattle.chain_search.specs.Chains.{high_in, level_in}
+use Rattle.chain_search.specs.Trace.{memory_of, memory_at, command_of}
+use Rattle.chain_search.proofs.Pushes.{slice_get_below}
+use Rattle.op_machine.specs.Answered.{RepliesAt}
+use Rattle.op_machine.specs.Updates.{UpdatesAtLinks}
+use Rattle.op_machine.specs.Operations.{Operation, IsOwnStep}
+use Rattle.op_machine.specs.Points.{IsPoint, log_of, log_at}
+use Rattle.op_machine.specs.Quiet.{IsQuiet}
+use Rattle.chain_search.specs.Discipline.{MayAnswer, MayShowPage, MayCallTidy, MayGiveUp, MayReply}
+use Rattle.chain_search.specs.Knowledge.{knows}
+use Rattle.tree_law.specs.Owners.{LinkFits}
+use Rattle.tree_law.specs.Replies.{IsRepliedAt}
+use Rattle.tree_law.specs.Shared.{shared}
+use Rattle.tree_law.specs.State.{operation_of, Tells, Finds, IsAnsweredBy, IsMarked, IsState}
+use Rattle.tree_law.specs.Stood.{WasLeafWith, HaveStood}
+use Rattle.tree_law.proofs.answering.Answering.{answers}
+use Rattle.tree_law.proofs.shape.Frames.{chain_stands}
+use Rattle.tree_law.proofs.shape.LeafPlaces.{shows}
+use Rattle.tree_law.proofs.trace.Remark.{remarked, log_of_same, log_at_same, marked', marked_now, told, told_other, updates', quiet'}
+use Rattle.tree_law.proofs.trace.Searches.{lacks}
+use Rattle.tree_law.proofs.trace.Standing.{was_standing}
+
+-- The points before a step that may reply: where it does, the actor's operation is answered by them.
+pub record Settled (limits : Limits) (entries : List Entry) (log : List Update) (point : ℕ → Option (List Update)) (logs : ℕ → List (List Update)) (a : ℕ) (asked : Command) (r : Option Reply) : Type 0 where
+  pub points : List Bool
+  pub log_is : log_of entries points ≡ log
+  pub marked : IsMarked limits entries points
+  pub updates : UpdatesAtLinks limits entries points
+  pub quiet : IsQuiet limits entries points
+  pub own_point : Option (List Update)
+  pub mine : Tells entries points a asked own_point (logs a)
+  pub others : (b : ℕ) (c : Command) → b ≢ a → command_of entries b ≡ Some c → Tells entries points b c (point b) (logs b)
+  pub quietly : r ≡ None → own_point ≡ point a
+  pub replied : (reply : Reply) → r ≡ Some reply → IsAnsweredBy limits entries points (operation_of mine.start a asked) reply
+
+module _ (limits : Limits) (entries : List Entry) (a : ℕ) (asked : Command) (state : IsState limits entries) (asks : command_of entries a ≡ Some asked) where
+  abbrev begun : Tells entries state.points a asked (state.point a) (state.logs a)
+  begun = state.tells a asked asks
+
+  abbrev mine : Operation
+  mine = operation_of begun.start a asked
+
+  -- where the points stay
+  as_they_are : (r : Option Reply) → ((reply : Reply) → r ≡ Some reply → IsAnsweredBy limits entries state.points mine reply) → Settled limits entries (log_of entries state.points) state.point state.logs a asked r
+  as_they_are r replied = record {
+    points = state.points;
+    log_is = refl;
+    marked = state.marked;
+    updates = state.updates;
+    quiet = state.quiet;
+    own_point = state.point a;
+    mine = begun;
+    others = λ b c ne e. state.tells b c e;
+    quietly = λ e. refl;
+    replied = replied;
+  }
+
+  pub no_point : (knows entries a).asked.linked ≡ None → state.point a ≡ None
+  no_point e = subst (λ (v : Option (Option ℕ)). LinkFits state.owners (shared (memory_of limits entries)) (state.point a) v) e (state.good.sound a).linked_fits
+
+  -- what is told of the actor's point, if it has one
+  point_told : (o : Option (List Update)) → state.point a ≡ o → MatchOption o ((m : ℕ) → IsOwnStep entries mine m → IsPoint state.points m → ⊥) (λ l. (m : ℕ) × IsOwnStep entries mine m × IsPoint state.points m × (log_at entries state.points m ≡ l))
+  point_told o e = subst (λ o. MatchOption o ((m : ℕ) → IsOwnStep entries mine m → IsPoint state.points m → ⊥) (λ l. (m : ℕ) × IsOwnStep entries mine m × IsPoint state.points m × (log_at entries state.points m ≡ l))) e begun.point_at
+
+  -- where a mark is set late, at an own step at which the command makes no update and has this reply
+  marked_late : (reply : Reply) → state.point a ≡ None → (m : ℕ) (own : IsOwnStep entries mine m) → command_of (take m entries) a ≡ Some asked
+      → update_of a asked (value_in (log_at entries state.points m) (command_key asked)) ≡ None → RepliesAt (memory_at limits entries m) (log_at entries state.points m) asked reply → Settled limits entries (log_of entries state.points) state.point state.logs a asked (Some reply)
+  marked_late reply none m own asked_then changeless replies = record {
+    points = remarked limits entries state.points a asked (state.logs a) state.marked t m own asked_then changeless;
+    log_is = log_of_same limits entries state.points a asked (state.logs a) state.marked t m own asked_then changeless;
+    marked = marked' limits entries state.points a asked (state.logs a) state.marked t m own asked_then changeless (state.searches mine begun.begins begun.unended asks).unfinished;
+    updates = updates' limits entries state.points a asked (state.logs a) state.marked t m own asked_then changeless state.updates;
+    quiet = quiet' limits entries state.points a asked (state.logs a) state.marked t m own asked_then changeless state.quiet;
+    own_point = Some (log_at entries state.points m);
+    mine = told limits entries state.points a asked (state.logs a) state.marked t m own asked_then changeless;
+    others = λ b c ne e. told_other limits entries state.points a asked (state.logs a) state.marked t m own asked_then changeless b c (state.point b) (state.logs b) ne (state.tells b c e);
+    quietly = λ e. absurd (cc);
+    replied = λ y e. inl (m, own, marked_now limits entries state.points a asked (state.logs a) state.marked t m own asked_then changeless, let same : reply ≡ y = cc in rw (log_at_same limits entries state.points a asked (state.logs a) state.marked t m own asked_then changeless m, sym same) replies);
+  }
+    where
+      t : Tells entries state.points a asked None (state.logs a)
+      t = record { start = begun.start; begins = begun.begins; unended = begun.unended; logs_at = begun.logs_at; point_at = point_told None none }
+
+  by_value : (reply : Reply) → MayAnswer a (knows entries a) asked reply → Settled limits entries (log_of entries state.points) state.point state.logs a asked (Some reply)
+  by_value reply may = elim at.own [
+    | inl linked ↦
+        let p = point_told (Some at.at) linked in
+        as_they_are (Some reply) (λ y e. inl (p.0, p.1, p.2, inl (subst (λ l. reply_of asked (value_in l (command_key asked)) ≡ Some y) (sym p.3) (at.same ∙ e))))
+    | inr u ↦
+        let h = begun.logs_at at.at u.2 in
+        marked_late reply u.0 h.0 h.1 h.3
+        (subst (λ l. update_of a asked (value_in l (command_key asked)) ≡ None) (sym h.2) u.1)
+        (inl (subst (λ l. reply_of asked (value_in l (command_key asked)) ≡ Some reply) (sym h.2) at.same))
+  ]
+    where
+      at : IsRepliedAt a asked reply (state.point a) (state.logs a)
+      at = answers state.good a asked reply may
+
+  stood : HaveStood limits entries mine (memory_of limits entries).rows (knows entries a).read
+  stood = state.stood mine begun.begins begun.unended asks
+
+  -- a cursor page has its point where its leaf stood
+  by_page : (reply : Reply) → MayShowPage (knows entries a) asked reply → Settled limits entries (log_of entries state.points) state.point state.logs a asked (Some reply)
+  by_page reply may = marked_late reply (no_point may.unlinked) was.1.step was.1.own was.1.asked (ap (λ c. update_of a c (value_in (log_at entries state.points was.1.step) (command_key c))) may.asks)
+      (inr (record {
+        from = may.from;
+        asks = may.asks;
+        items = may.pairs;
+        next = high_in may.chain;
+        is = may.is;
+        page = shows (memory_at limits entries was.1.step) (log_at entries state.points was.1.step) (state.quiet.at_each was.1.step (omega (arith, below))) (record { pid = was.0; chain = may.chain }) was.1.stood may.from may.covers may.pairs may.exact;
+      }))
+    where
+      was : (page : ℕ) × WasLeafWith limits entries mine (record { pid = page; chain = may.chain })
+      was = was_standing state.good a limits entries mine stood may.row may.chain may.read may.leaf may.basis
+
+      below : was.1.step < length entries
+      below = slice_get_below entries was.1.step _ was.1.own.2.1.entry
+
+  -- what an operation without a point may reply
+  pointlessly : (reply : Reply) → (knows entries a).asked.linked ≡ None → Finds limits entries mine reply → Settled limits entries (log_of entries state.points) state.point state.logs a asked (Some reply)
+  pointlessly reply unlinked finds = as_they_are (Some reply) (λ y e. let same : reply ≡ y = cc in inr (record { unmarked = point_told None (no_point unlinked); finds = subst (Finds limits entries mine) same finds }))
+
+  by_tidying : (reply : Reply) → MayCallTidy (knows entries a) asked reply → Settled limits entries (log_of entries state.points) state.point state.logs a asked (Some reply)
+  by_tidying reply may = pointlessly reply may.unlinked (inl (
+    may.is,
+    record {
+      key = may.key;
+      asks = may.asks;
+      step = was.step;
+      own = was.own;
+      tidy = record {
+        leaf = record { pid = may.page; chain = may.basis.chain };
+        stands = record { leaves = was.stood.leaves; are = was.stood.are; among = was.stood.among; covers = may.covers };
+        base = may.base;
+        alone = may.alone;
+        few = may.few;
+      };
+    },
+  ))
+    where
+      was : WasLeafWith limits entries mine (record { pid = may.page; chain = may.basis.chain })
+      was = stood.heads may.page may.head may.basis.chain may.basis.head (chain_stands state.owners (shared (memory_of limits entries)) (knows entries a).read.seen (state.good.sound a).seen_fits may.basis.chain (Some may.head) may.basis.read) (ap level_in may.alone ∙ may.leaf) may.basis.alive
+
+  by_want : (reply : Reply) → MayGiveUp limits (knows entries a) asked reply → Settled limits entries (log_of entries state.points) state.point state.logs a asked (Some reply)
+  by_want reply may = pointlessly reply may.unlinked (inr (may.is, may.writes, lacks limits entries mine (knows entries a) (state.searches mine begun.begins begun.unended asks) may.lacks))
+
+  pub settled : (r : Option Reply) → IfSome r (MayReply limits a (knows entries a)) → Settled limits entries (log_of entries state.points) state.point state.logs a asked r
+  settled None may = as_they_are None (λ reply e. absurd (cc))
+  settled (Some reply) may = elim may.justified [
+    | inl value ↦ by_value reply (subst (λ c. MayAnswer a (knows entries a) c reply) same value)
+    | inr (inl page) ↦ by_page reply (subst (λ c. MayShowPage (knows entries a) c reply) same page)
+    | inr (inr (inl tidy)) ↦ by_tidying reply (subst (λ c. MayCallTidy (knows entries a) c reply) same tidy)
+    | inr (inr (inr want)) ↦ by_want reply (subst (λ c. MayGiveUp limits (knows entries a) c reply) same want)
+  ]
+    where
+      same : may.command ≡ asked
+      same = same_Some may.command asked (sym may.going ∙ state.named.commands a ∙ asks)

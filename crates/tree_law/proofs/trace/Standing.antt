@@ -1,0 +1,189 @@
+-- The leaves that an operation has read stood at its own steps.
+use Rattle.std.proofs.Common.{◌≡◌, ◌<◌, ◌⊎◌, inl, inr, ℕ, zero, suc, List, [], ◌∷◌, ◌++◌, length, Option, Some, true, false, cond, refl, sym, ap, ◌∙◌, subst, ⊎_elim, arith}
+use Rattle.std.specs.Prelude.{slice_get}
+use Rattle.bw_model.specs.declared.command.Command.{Command}
+use Rattle.bw_model.specs.declared.command.Reply.{Reply}
+use Rattle.bw_model.specs.declared.limits.Limits.{Limits}
+use Rattle.bw_model.specs.declared.step.Answer.{Answer}
+use Rattle.bw_model.specs.declared.step.Answer.TheVariants.{Number, Content, Whether}
+use Rattle.bw_model.specs.declared.step.Step.{Step as StepOf}
+use Rattle.bw_model.specs.declared.step.Step.TheVariants.{Slot, Row, Epoch, Announce, PidBits, RowBits, Exchange, TakePid, TakeRow, Leave}
+use Rattle.bw_model.specs.Log.{Update}
+use Rattle.deltas.specs.declared.record.Record.{Record}
+use Rattle.deltas.specs.Memory.{Memory}
+use Rattle.chain_search.specs.declared.trace.Entry.{Entry}
+use Rattle.chain_search.specs.declared.trace.Entry.TheVariants.{Begin, Step}
+use Rattle.chain_search.specs.Chains.{IsChainFrom, level_in, low_in, is_removed, right_in}
+use Rattle.chain_search.specs.Discipline.{May, WasStanding}
+use Rattle.chain_search.specs.Knowledge.{Knowledge, Readings, learn}
+use Rattle.chain_search.specs.SideChain.{LivePage}
+use Rattle.chain_search.specs.Steps.{IsAnswer, memory_after}
+use Rattle.chain_search.specs.Trace.{command_of, memory_at}
+use Rattle.chain_search.proofs.Pushes.{take-push, take-push_whole}
+use Rattle.op_machine.specs.Operations.{Operation}
+use Rattle.tree_law.specs.Keys.{Key}
+use Rattle.tree_law.specs.Owners.{Linked, Owners, Reached, HeadFits, OrderFits, InOrder, IsOut}
+use Rattle.tree_law.specs.Shared.{Shared, row_in, slot_in, shared}
+use Rattle.tree_law.specs.State.{IsUnended, operation_of}
+use Rattle.tree_law.specs.Stood.{IsLeafWith, WasLeafWith, HaveStood}
+use Rattle.tree_law.specs.Tree.{InPlace, Level, spec, IsTree}
+use Rattle.tree_law.proofs.links.Exchanged.{exchanged_alike}
+use Rattle.tree_law.proofs.links.Keeping.{alive_place, met_placed}
+use Rattle.tree_law.proofs.shape.Chains.{chain_unique}
+use Rattle.tree_law.proofs.shape.Frames.{chain_stands}
+use Rattle.tree_law.proofs.shape.LeafPlaces.{is_leaf}
+use Rattle.tree_law.proofs.shape.Moments.{same_memory}
+use Rattle.tree_law.proofs.shape.Puts.{by_test}
+use Rattle.tree_law.proofs.shape.Rows.{chain_was}
+use Rattle.tree_law.proofs.shape.Sides.{in_level_as, right_page}
+use Rattle.tree_law.proofs.trace.Owned.{own_step_kept, own_new, step_below}
+
+-- The page's slot was read before a step, or the step reads it now.
+abbrev ReadBefore : Knowledge → StepOf Record → Answer Record → ℕ → ℕ → Type 0
+ReadBefore k s x page row = (k.read.heads page ≡ Some row) × ((learn k s x).read.before page ≡ k.read.before page)
+
+record ReadsNow (k : Knowledge) (s : StepOf Record) (x : Answer Record) (page row : ℕ) : Type 0 where
+  number : ℕ
+  held : ℕ
+  page_is : page ≡ suc number
+  row_is : row ≡ suc held
+  step_is : s ≡ Slot (suc number)
+  answer_is : x ≡ Number (suc held)
+  before_is : (learn k s x).read.before page ≡ k.read.heads
+
+read_cases : (k : Knowledge) (s : StepOf Record) (x : Answer Record) (page row : ℕ) → (learn k s x).read.heads page ≡ Some row → ReadBefore k s x page row ⊎ ReadsNow k s x page row
+read_cases k (Slot (suc p)) (Number (suc n)) page row e = by_test page (suc p)
+    (λ t. cond t (Some (suc n)) (k.read.heads page) ≡ Some row → (cond t k.read.heads (k.read.before page) ≡ (learn k (Slot (suc p)) (Number (suc n))).read.before page) → ReadBefore k (Slot (suc p)) (Number (suc n)) page row ⊎ ReadsNow k (Slot (suc p)) (Number (suc n)) page row)
+    (λ i f b. inr (record { number = p; held = n; page_is = i; row_is = (let same : suc n ≡ row = cc in sym same); step_is = refl; answer_is = refl; before_is = sym b }))
+    (λ ne f b. inl (f, sym b)) e refl
+read_cases k (Slot zero) (Number n) page row e = inl (e, refl)
+read_cases k (Slot (suc p)) (Number zero) page row e = inl (e, refl)
+read_cases k (Row q) (Content v) page row e = inl (e, refl)
+read_cases k (PidBits v) (Number n) page row e = inl (e, refl)
+read_cases k (RowBits v) (Number n) page row e = inl (e, refl)
+read_cases k Epoch (Number n) page row e = inl (e, refl)
+read_cases k (Announce b) (Number n) page row e = inl (e, refl)
+read_cases k (TakePid q) (Whether true) page row e = inl (e, refl)
+read_cases k (TakePid q) (Whether false) page row e = inl (e, refl)
+read_cases k (TakeRow q) (Whether true) page row e = inl (e, refl)
+read_cases k (TakeRow q) (Whether false) page row e = inl (e, refl)
+read_cases k (Exchange p y z) (Whether true) page row e = inl (subst (λ (r : Readings). r.heads page ≡ Some row) (exchanged_alike p y z k).read e, ap (λ (r : Readings). r.before page) (exchanged_alike p y z k).read)
+read_cases k (Exchange p y z) (Whether false) page row e = inl (e, refl)
+read_cases k Leave x page row e = absurd (cc)
+read_cases k s x page row e = inl (e, refl)
+
+module _ {m : Shared} {log : List Update} {o : Owners} {knows : ℕ → Knowledge} {point : ℕ → Option (List Update)} {logs : ℕ → List (List Update)} (g : IsTree m log o knows point logs) (a : ℕ) where
+  head_linked : (page row : ℕ) → (knows a).read.heads page ≡ Some row → o.row row ≡ Linked
+  head_linked page row e = (subst (λ (v : Option ℕ). HeadFits o m (logs a) page v) e ((g.sound a).heads_fit page)).2.linked
+
+  order_linked : (page head other row : ℕ) → (knows a).read.heads page ≡ Some head → (knows a).read.before page other ≡ Some row → o.row row ≡ Linked
+  order_linked page head other row e f =
+      let i : InOrder o m (logs a) page head other row = subst (λ (v : Option ℕ). OrderFits o m (logs a) page other (Some head) v) f (subst (λ (v : Option ℕ). OrderFits o m (logs a) page other v ((knows a).read.before page other)) e ((g.sound a).orders_fit page other)) in
+      i.above
+
+-- A page whose slot is read, and the removed page that is its right, as its slot was read before, are leaves.
+module _ (memory : Memory) {log : List Update} {o : Owners} {knows : ℕ → Knowledge} {point : ℕ → Option (List Update)} {logs : ℕ → List (List Update)} (g : IsTree (shared memory) log o knows point logs) (a : ℕ)
+    (page head level : ℕ) (low : Key) (reached : Reached 0 level low (o.page page)) (at : slot_in memory.slots page ≡ Some head) (basis : List Record) (is : IsChainFrom memory.rows head basis) (alive : is_removed basis ≡ false) where
+  place : InPlace o (shared memory) (level_in basis) (spec log o.index (level_in basis)) (record { page = page; row = head; chain = basis })
+  place = alive_place g a page level low reached head at basis is alive
+
+  head_leaf : level_in basis ≡ 0 → IsLeafWith memory (record { pid = page; chain = basis })
+  head_leaf leaf = is_leaf memory g page head basis (subst (λ (l : ℕ). InPlace o (shared memory) l (spec log o.index l) (record { page = page; row = head; chain = basis })) leaf place)
+
+  beside_leaf : (other row : ℕ) (chain : List Record) → right_in basis ≡ Some other → (knows a).read.heads other ≡ Some row → IsChainFrom memory.rows row chain → level_in chain ≡ 0 → is_removed chain ≡ true → IsLeafWith memory (record { pid = other; chain = chain })
+  beside_leaf other row chain right read stands leaf gone =
+      let on : Level o (shared memory) (level_in basis) (spec log o.index (level_in basis)) (g.tree.first (level_in basis)) = g.tree.levels (level_in basis) (g.tree.exact.below page (level_in basis) (low_in basis) place.stage place.placed) in
+      let n = right_page o (shared memory) (level_in basis) (spec log o.index (level_in basis)) (g.tree.first (level_in basis)) on (record { page = page; row = head; chain = basis }) place other right in
+      let h = subst (λ (v : Option ℕ). HeadFits o (shared memory) (logs a) other v) read ((g.sound a).heads_fit other) in
+      let same : h.2.chain ≡ chain = chain_unique memory.rows h.2.chain chain (Some row) h.2.is_chain stands in
+      let slot : slot_in memory.slots other ≡ Some row = ⊎_elim (λ (u : slot_in memory.slots other ≡ Some row). u) (λ (u : IsOut (o.page other) (slot_in memory.slots other)). absurd (let t = sym n.3.placed ∙ ap o.page n.1 ∙ u.1.3 in cc)) (h.4 (ap is_removed same ∙ gone)) in
+      let r = (in_level_as o (shared memory) (level_in basis) (spec log o.index (level_in basis)) (g.tree.first (level_in basis)) on other (low_in n.0.chain) n.3.stage (ap o.page (sym n.1) ∙ n.3.placed) n.3.on row slot chain stands).place in
+      is_leaf memory g other row chain (subst (λ (l : ℕ). InPlace o (shared memory) l (spec log o.index l) (record { page = other; row = row; chain = chain })) (sym r.is_page.on_level ∙ leaf) r)
+
+module _ (limits : Limits) (entries : List Entry) (last : Entry) where
+  was_kept : (op : Operation) (page : LivePage) → WasLeafWith limits entries op page → WasLeafWith limits (entries ++ last ∷ []) op page
+  was_kept op page h =
+      let below : h.step < length entries = step_below entries last op h.step h.own in
+      record {
+        step = h.step;
+        own = own_step_kept entries last op h.step h.own;
+        asked = rw (take-push entries (last ∷ []) h.step (omega arith)) h.asked;
+        stood = subst (λ memory. IsLeafWith memory page) (sym (same_memory limits entries last h.step (omega arith))) h.stood;
+      }
+
+  module _ {m : Shared} {log : List Update} {o : Owners} {knows : ℕ → Knowledge} {point : ℕ → Option (List Update)} {logs : ℕ → List (List Update)} (g : IsTree m log o knows point logs) (rows' : ℕ → Option Record) (kept : (row : ℕ) → o.row row ≡ Linked → rows' row ≡ m.rows row) where
+    -- what an actor has read stood, after an entry that keeps the records of linked rows
+    pub stood_kept : (op : Operation) (b : ℕ) → HaveStood limits entries op m.rows (knows b).read → HaveStood limits (entries ++ last ∷ []) op rows' (knows b).read
+    stood_kept op b h = record {
+      heads = λ page row chain read is level alive. was_kept op _ (h.heads page row chain read (chain_was o m rows' g.closed kept row chain (head_linked g b page row read) is) level alive);
+      beside = λ page head other row basis chain read is alive right order stands level gone. was_kept op _ (h.beside page head other row basis chain
+          read (chain_was o m rows' g.closed kept head basis (head_linked g b page head read) is) alive right
+          order (chain_was o m rows' g.closed kept row chain (order_linked g b page head other row read order) stands) level gone);
+    }
+
+  -- and after an own step
+  module _ (memory : Memory) {log : List Update} {o : Owners} {knows : ℕ → Knowledge} {point : ℕ → Option (List Update)} {logs : ℕ → List (List Update)} (g : IsTree (shared memory) log o knows point logs)
+      (a start : ℕ) (c : Command) (step : StepOf Record) (answer : Answer Record) (r : Option Reply) (now : memory_at limits entries (length entries) ≡ memory)
+      (begins : slice_get entries start ≡ Some (Begin a c)) (unended : IsUnended entries start a) (asks : command_of entries a ≡ Some c) (last_is : last ≡ Step a step answer r)
+      (may : May a (knows a) step) (is_answer : IsAnswer memory step answer) (kept : (row : ℕ) → o.row row ≡ Linked → (memory_after a step memory).rows row ≡ memory.rows row) where
+    abbrev op : Operation
+    op = operation_of start a c
+
+    was_new : (page : LivePage) → IsLeafWith memory page → WasLeafWith limits (entries ++ last ∷ []) op page
+    was_new page leaf = record {
+      step = length entries;
+      own = own_new entries last start a c step answer r begins unended last_is;
+      asked = rw (take-push_whole entries (last ∷ [])) asks;
+      stood = subst (λ memory. IsLeafWith memory page) (sym (same_memory limits entries last (length entries) (omega arith) ∙ now)) leaf;
+    }
+
+    -- the page whose slot the step reads
+    record Sees (page row : ℕ) : Type 0 where
+      level : ℕ
+      low : Key
+      reached : Reached 0 level low (o.page page)
+      at : slot_in memory.slots page ≡ Some row
+      rows : (x : ℕ) (chain : List Record) → IsChainFrom (memory_after a step memory).rows x chain → IsChainFrom memory.rows x chain
+
+    sees : (page row : ℕ) → ReadsNow (knows a) step answer page row → Sees page row
+    sees page row n =
+        let may' : May a (knows a) (Slot (suc n.number)) = subst (May a (knows a)) n.step_is may in
+        let told : Number (suc n.held) ≡ Number (memory.slots (suc n.number)) = subst (IsAnswer memory (Slot (suc n.number))) n.answer_is (subst (λ (s : StepOf Record). IsAnswer memory s answer) n.step_is is_answer) in
+        let in_slot : memory.slots (suc n.number) ≡ suc n.held = cc in
+        let placed = met_placed g a (suc n.number) may'.1 in
+        record {
+          level = placed.0;
+          low = placed.1;
+          reached = subst (λ (p : ℕ). Reached 0 placed.0 placed.1 (o.page p)) (sym n.page_is) placed.2;
+          at = ap (slot_in memory.slots) n.page_is ∙ ap row_in in_slot ∙ ap Some (sym n.row_is);
+          rows = λ x chain h. subst (λ (s : StepOf Record). IsChainFrom (memory_after a s memory).rows x chain) n.step_is h;
+        }
+
+    was : (x : ℕ) (chain : List Record) → o.row x ≡ Linked → IsChainFrom (memory_after a step memory).rows x chain → IsChainFrom memory.rows x chain
+    was x chain = chain_was o (shared memory) (memory_after a step memory).rows g.closed kept x chain
+
+    pub stood_own : HaveStood limits entries op memory.rows (knows a).read → HaveStood limits (entries ++ last ∷ []) op (memory_after a step memory).rows (learn (knows a) step answer).read
+    stood_own h = record {
+      heads = λ page row chain read is level alive. elim (read_cases (knows a) step answer page row read) [
+        | inl b ↦ was_kept op _ (h.heads page row chain b.0 (was row chain (head_linked g a page row b.0) is) level alive)
+        | inr n ↦ let s = sees page row n in was_new _ (head_leaf memory g a page row s.level s.low s.reached s.at chain (s.rows row chain is) alive level)
+      ];
+      beside = λ page head other row basis chain read is alive right order stands level gone. elim (read_cases (knows a) step answer page head read) [
+        | inl b ↦
+            let order' : (knows a).read.before page other ≡ Some row = sym (ap (λ (f : ℕ → Option ℕ). f other) b.1) ∙ order in
+            was_kept op _ (h.beside page head other row basis chain b.0 (was head basis (head_linked g a page head b.0) is) alive right order' (was row chain (order_linked g a page head other row b.0 order') stands) level gone)
+        | inr n ↦
+            let s = sees page head n in
+            let read' : (knows a).read.heads other ≡ Some row = sym (ap (λ (f : ℕ → Option ℕ). f other) n.before_is) ∙ order in
+            was_new _ (beside_leaf memory g a page head s.level s.low s.reached s.at basis (s.rows head basis is) alive other row chain right read' (s.rows row chain stands) level gone)
+      ];
+    }
+
+-- where a chain that was read stood: on its page
+pub was_standing : {m : Shared} {log : List Update} {o : Owners} {knows : ℕ → Knowledge} {point : ℕ → Option (List Update)} {logs : ℕ → List (List Update)} (g : IsTree m log o knows point logs) (a : ℕ)
+    (limits : Limits) (entries : List Entry) (of : Operation) → HaveStood limits entries of m.rows (knows a).read
+    → (row : ℕ) (chain : List Record) → IsChainFrom (knows a).read.seen row chain → level_in chain ≡ 0 → WasStanding (knows a) row chain → (page : ℕ) × WasLeafWith limits entries of (record { pid = page; chain = chain })
+was_standing {m} {log} {o} {knows} g a limits entries of h row chain read level (inl u) = (u.0.0, h.heads u.0.0 row chain u.0.1 (chain_stands o m (knows a).read.seen (g.sound a).seen_fits chain (Some row) read) level u.1)
+was_standing {m} {log} {o} {knows} g a limits entries of h row chain read level (inr u) =
+    let b = u.0 in
+    (b.other, h.beside b.left b.head b.other row b.basis.chain chain b.basis.head (chain_stands o m (knows a).read.seen (g.sound a).seen_fits b.basis.chain (Some b.head) b.basis.read) b.basis.alive b.right b.order (chain_stands o m (knows a).read.seen (g.sound a).seen_fits chain (Some row) read) level u.1)

@@ -1,0 +1,70 @@
+-- What follows two of the runs: an actor asks for cursor pages, and for upkeep where none is due.
+use Rattle.std.specs.Prelude.{codes, List, [], ◌∷◌, None, Some}
+use Rattle.bw_model.specs.declared.command.Command.{Command}
+use Rattle.bw_model.specs.declared.command.Command.TheVariants.{Page, Tidy}
+use Rattle.bw_model.specs.declared.command.Reply.TheVariants as reply
+use Rattle.bw_model.specs.declared.step.Step.TheVariants.{Slot, Row, Enter, Leave}
+use Rattle.bw_model.specs.declared.step.Answer.TheVariants.{Number, Content, Done}
+use Rattle.chain_search.specs.declared.trace.Entry.{Entry}
+use Rattle.chain_search.specs.declared.trace.Entry.TheVariants.{Begin, Step}
+use Rattle.tree_law.specs.Example.{a, opening_leaf, root_a, hold_a, remove_a}
+use Rattle.tree_law.specs.HelpedSplit.{other_put, helped_term}
+use Rattle.tree_law.specs.TwoSplits.{b, upper_b, first_split, upper_c, second_split}
+
+abbrev pub page_a : Command
+page_a = Page a
+
+abbrev pub page_b : Command
+page_b = Page b
+
+abbrev pub tidy_b : Command
+tidy_b = Tidy b
+
+-- After the removal: a cursor page from the removed leaf's first key on, which has no pairs and ends where that leaf ended;
+-- and upkeep at the leaf on its right, which is a base alone.
+abbrev pub upkeep : List Entry
+upkeep = Begin 1 page_a
+    ∷ Step 1 (Enter 1) Done None
+    ∷ Step 1 (Slot 0) (Number 3) None
+    ∷ Step 1 (Slot 3) (Number 7) None
+    ∷ Step 1 (Row 7) (Content hold_a) None
+    ∷ Step 1 (Row 5) (Content root_a) None
+    ∷ Step 1 (Slot 2) (Number 8) None
+    ∷ Step 1 (Row 8) (Content remove_a) None
+    ∷ Step 1 (Row 3) (Content second_split) None
+    ∷ Step 1 (Row 2) (Content upper_b) None
+    ∷ Step 1 (Slot 1) (Number 4) None
+    ∷ Step 1 (Row 4) (Content first_split) None
+    ∷ Step 1 (Row 1) (Content opening_leaf) None
+    ∷ Step 1 Leave Done (Some (reply.Page [] (Some b)))
+    ∷ Begin 1 tidy_b
+    ∷ Step 1 (Enter 1) Done None
+    ∷ Step 1 (Slot 0) (Number 3) None
+    ∷ Step 1 (Slot 3) (Number 7) None
+    ∷ Step 1 (Row 7) (Content hold_a) None
+    ∷ Step 1 (Row 5) (Content root_a) None
+    ∷ Step 1 (Slot 2) (Number 8) None
+    ∷ Step 1 (Row 8) (Content remove_a) None
+    ∷ Step 1 (Row 3) (Content second_split) None
+    ∷ Step 1 (Row 2) (Content upper_b) None
+    ∷ Step 1 (Slot 1) (Number 4) None
+    ∷ Step 1 (Row 4) (Content first_split) None
+    ∷ Step 1 (Row 1) (Content opening_leaf) None
+    ∷ Step 1 (Slot 4) (Number 6) None
+    ∷ Step 1 (Row 6) (Content upper_c) None
+    ∷ Step 1 Leave Done (Some reply.Tidied)
+    ∷ []
+
+-- After the helped split: a cursor page from the second key on, which has the pair that was put, and is the last.
+abbrev pub last_page : List Entry
+last_page = Begin 1 page_b
+    ∷ Step 1 (Enter 1) Done None
+    ∷ Step 1 (Slot 0) (Number 3) None
+    ∷ Step 1 (Slot 3) (Number 8) None
+    ∷ Step 1 (Row 8) (Content helped_term) None
+    ∷ Step 1 (Row 5) (Content root_a) None
+    ∷ Step 1 (Slot 4) (Number 9) None
+    ∷ Step 1 (Row 9) (Content other_put) None
+    ∷ Step 1 (Row 6) (Content upper_c) None
+    ∷ Step 1 Leave Done (Some (reply.Page ((b, codes "2") ∷ []) None))
+    ∷ []
