@@ -1,7 +1,6 @@
 //! The program over bytes: lines in, replies out.
 #![tactic(auto)]
 
-mod limited;
 mod lines;
 mod over_std;
 mod pieces;

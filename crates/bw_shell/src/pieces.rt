@@ -6,7 +6,6 @@ ghost use Rattle.bw_shell.specs.Lines.{HasNoFeed};
 ghost use Rattle.bw_shell.specs.Turns.{seen};
 ghost use Rattle.bw_shell.specs.Weave.{Feeds};
 
-use crate::limited::LimitedCore;
 use crate::refusal::Refusal;
 use crate::run::run_line;
 use crate::streams::Output;
@@ -14,11 +13,12 @@ use crate::texts::show_refused;
 use arrayvec::ArrayVec;
 use shell_lines::Language;
 use std::alloc::Global;
+use step_core::Core;
 
 /// A run: the core, the number of the line in hand, and what has come of it.
 #[derive(Drop)]
 pub struct Weaver {
-    pub core: LimitedCore,
+    pub core: Core,
     pub number: u64,
     pub part: ArrayVec<u8, 1025>,
 }

@@ -5,20 +5,20 @@ ghost use Rattle.shell_lines.specs.Request.{until_done};
 ghost use Rattle.bw_shell.specs.Turns.{seen};
 ghost use Rattle.bw_shell.specs.Weave.{RequestRuns, DrawRuns, LineRuns};
 
-use crate::limited::LimitedCore;
 use crate::refusal::Refusal;
 use crate::streams::Output;
 use crate::texts::{show_listing, show_number, show_refused, show_reply};
-use crate::turns::{Progress, begin, pairs_of, step, steps};
+use crate::turns::{Progress, begin, pairs_of, schedule_over, step, steps};
 use bw_model::{Command, Link};
 use shell_lines::{Language, LineError, Request, parse};
 use std::alloc::Global;
+use step_core::Core;
 
 /// How many turns `until` and `finish` take at most.
 const MANY: u64 = 100_000;
 
 fn run_begin<O: Output>(
-    core: &mut LimitedCore,
+    core: &mut Core,
     number: u64,
     actor: u64,
     command: Command,
@@ -35,13 +35,7 @@ fn run_begin<O: Output>(
     }
 }
 
-fn run_turn<O: Output>(
-    core: &mut LimitedCore,
-    number: u64,
-    actor: u64,
-    count: u64,
-    out: &mut O,
-) -> bool
+fn run_turn<O: Output>(core: &mut Core, number: u64, actor: u64, count: u64, out: &mut O) -> bool
     ensures { RequestRuns number (seen core.old) (Request.Turn actor count) (seen core.new) (O.state out.old) (O.state out.new) result }
 {
     match steps(core, actor, None, count) {
@@ -61,7 +55,7 @@ fn run_turn<O: Output>(
 
 // TakesTurn turns until an exchange won with the link, if one is given, or the operation is done.
 fn run_until<O: Output>(
-    core: &mut LimitedCore,
+    core: &mut Core,
     number: u64,
     actor: u64,
     link: Option<Link>,
@@ -89,7 +83,7 @@ fn run_until<O: Output>(
 }
 
 // One turn of an actor that was drawn, if it has an operation.
-fn run_drawn<O: Output>(core: &mut LimitedCore, number: u64, actor: u8, out: &mut O) -> bool
+fn run_drawn<O: Output>(core: &mut Core, number: u64, actor: u8, out: &mut O) -> bool
     ensures { DrawRuns number (seen core.old) actor (seen core.new) (O.state out.old) (O.state out.new) result }
 {
     if !core.is_busy(actor) {
@@ -112,16 +106,10 @@ fn run_drawn<O: Output>(core: &mut LimitedCore, number: u64, actor: u8, out: &mu
 }
 
 // So many draws of the seed's schedule.
-fn run_mix<O: Output>(
-    core: &mut LimitedCore,
-    number: u64,
-    seed: u64,
-    count: u64,
-    out: &mut O,
-) -> bool
+fn run_mix<O: Output>(core: &mut Core, number: u64, seed: u64, count: u64, out: &mut O) -> bool
     ensures { RequestRuns number (seen core.old) (Request.Mix seed count) (seen core.new) (O.state out.old) (O.state out.new) result }
 {
-    let mut schedule = core.schedule(seed);
+    let mut schedule = schedule_over(core, seed);
     for _draw in 0..count {
         let actor = schedule.next();
         if run_drawn(core, number, actor, out) {
@@ -132,12 +120,7 @@ fn run_mix<O: Output>(
 }
 
 // A command of a script, which actor 0 runs to its end.
-fn run_command<O: Output>(
-    core: &mut LimitedCore,
-    number: u64,
-    command: Command,
-    out: &mut O,
-) -> bool
+fn run_command<O: Output>(core: &mut Core, number: u64, command: Command, out: &mut O) -> bool
     ensures { RequestRuns number (seen core.old) (Request.Run command) (seen core.new) (O.state out.old) (O.state out.new) result }
 {
     if run_begin(core, number, 0, command, out) {
@@ -146,7 +129,7 @@ fn run_command<O: Output>(
     run_until(core, number, 0, None, out)
 }
 
-fn run_list<O: Output>(alloc: Global, core: &mut LimitedCore, number: u64, out: &mut O) -> bool
+fn run_list<O: Output>(alloc: Global, core: &mut Core, number: u64, out: &mut O) -> bool
     ensures { RequestRuns number (seen core.old) Request.List (seen core.new) (O.state out.old) (O.state out.new) result }
 {
     match pairs_of(alloc, core) {
@@ -163,7 +146,7 @@ fn run_list<O: Output>(alloc: Global, core: &mut LimitedCore, number: u64, out: 
 
 fn run_request<O: Output>(
     alloc: Global,
-    core: &mut LimitedCore,
+    core: &mut Core,
     number: u64,
     request: Request,
     out: &mut O,
@@ -185,7 +168,7 @@ fn run_request<O: Output>(
 pub fn run_line<O: Output>(
     alloc: Global,
     language: Language,
-    core: &mut LimitedCore,
+    core: &mut Core,
     number: u64,
     line: &[u8],
     out: &mut O,

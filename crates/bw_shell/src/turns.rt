@@ -1,16 +1,16 @@
 //! Turns of the core.
 
 ghost use Rattle.std.specs.Prelude.{◌≡◌, IfErr, IfOk, OnOk};
+ghost use Rattle.bw_model.specs.Schedules.{schedule_of};
 ghost use Rattle.step_core.specs.Listed.{IsListing};
 ghost use Rattle.bw_shell.specs.Turns.{seen, IsOneMap, TakesTurn, Refuses};
 ghost use Rattle.bw_shell.specs.Transcript.{ComesTo, StepTold, TurnsTold};
 
-use crate::limited::LimitedCore;
 use crate::refusal::Refusal;
-use bw_model::{Command, Key, Link, Reply, Value};
+use bw_model::{Command, Key, Link, Reply, Schedule, Value};
 use chain_search::Turn;
 use std::alloc::Global;
-use step_core::Event;
+use step_core::{Core, Event};
 
 /// What turns of an actor come to.
 #[derive(Drop)]
@@ -24,7 +24,7 @@ pub enum Progress {
 }
 
 /// Begins an operation of an actor.
-pub fn begin(core: &mut LimitedCore, actor: u64, command: Command) -> Result<(), Refusal>
+pub fn begin(core: &mut Core, actor: u64, command: Command) -> Result<(), Refusal>
     ensures ok { OnOk result (TakesTurn (seen core.old) (Turn.Begin actor command) Event.Began (seen core.new)) }
     ensures refused { IfErr result (λ refusal. Refuses (seen core.old) (Turn.Begin actor command) refusal) }
     ensures unchanged { IfErr result (λ _. seen core.new ≡ seen core.old) }
@@ -57,7 +57,7 @@ fn progress_of(event: Event, until: Option<Link>) -> Progress
 }
 
 /// One step of an actor. It stops at an exchange that won with the link, if one is given.
-pub fn step(core: &mut LimitedCore, actor: u64, until: Option<Link>) -> Result<Progress, Refusal>
+pub fn step(core: &mut Core, actor: u64, until: Option<Link>) -> Result<Progress, Refusal>
     ensures { StepTold until (seen core.old) actor result (seen core.new) }
 {
     let Ok(actor) = u8::try_from(actor) else {
@@ -71,7 +71,7 @@ pub fn step(core: &mut LimitedCore, actor: u64, until: Option<Link>) -> Result<P
 
 /// Up to so many steps of an actor, fewer if it is done, or an exchange won with the link, if one is given.
 pub fn steps(
-    core: &mut LimitedCore,
+    core: &mut Core,
     actor: u64,
     until: Option<Link>,
     limit: u64,
@@ -89,7 +89,7 @@ pub fn steps(
 }
 
 /// All pairs that stand.
-pub fn pairs_of(alloc: Global, core: &LimitedCore) -> Result<Vec<(Key, Value)>, Refusal>
+pub fn pairs_of(alloc: Global, core: &Core) -> Result<Vec<(Key, Value)>, Refusal>
     ensures pairs { IfOk result (λ pairs. IsListing core.now.limits core.now.entries pairs.items) }
     ensures linearized { IsOneMap (seen core.now) }
     ensures refused { IfErr result (λ refusal. refusal ≡ Refusal.Memory) }
@@ -99,4 +99,11 @@ pub fn pairs_of(alloc: Global, core: &LimitedCore) -> Result<Vec<(Key, Value)>, 
         Ok(pairs) => Ok(pairs),
         Err(error) => Err(Refusal::of_turn(error)),
     }
+}
+
+/// The schedule of a seed over the core's actors.
+pub fn schedule_over(core: &Core, seed: u64) -> Schedule
+    ensures { result ≡ schedule_of seed core.now.limits.actors }
+{
+    Schedule::new(seed, core.limits().actors as u8)
 }

@@ -4,7 +4,6 @@ ghost use Rattle.std.specs.Prelude.{◌≡◌, ◌≤◌, ◌^◌, ◌⊎◌, �
 ghost use Rattle.bw_shell.specs.Turns.{seen};
 ghost use Rattle.bw_shell.specs.Weave.{HasRun, IsWholeRun};
 
-use crate::limited::LimitedCore;
 use crate::pieces::{Weaver, feed};
 use crate::refusal::Refusal;
 use crate::run::run_line;
@@ -14,6 +13,7 @@ use arrayvec::ArrayVec;
 use bw_model::Limits;
 use shell_lines::Language;
 use std::alloc::Global;
+use step_core::Core;
 
 // Reads to the end of the input, or as far as it goes, and answers whether a line was refused.
 fn run<I: Input, O: Output>(
@@ -83,7 +83,7 @@ fn run_program<I: Input, O: Output>(
     ensures { IsWholeRun language limits (I.remaining input.old) (I.remaining input.new) (I.failed input.new)
         (O.state out.old).contents (O.state out.new).contents (O.state out.new).failed result }
 {
-    let mut weaver = match LimitedCore::open(alloc, limits) {
+    let mut weaver = match Core::open(alloc, limits) {
         Ok(core) => Weaver {
             core,
             number: 1,

@@ -7,7 +7,7 @@ use Rattle.bw_shell.proofs.Showing.{no_text, shows_then}
 use Rattle.bw_shell.proofs.run.run_mix.Goals as goal
 
 pub loop-draw-init : goal.loop-draw-init
-loop-draw-init g c = record { taken = ([], none_drawn _ _, no_text _); left = rw c.schedule-schedule.ensures (all_left _) }
+loop-draw-init g c = record { taken = ([], none_drawn _ _, no_text _); left = rw c.schedule_over-schedule.ensures (all_left _) }
 
 pub returns-then-run_drawn : goal.returns-then-run_drawn
 returns-then-run_drawn g c =
