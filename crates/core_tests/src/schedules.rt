@@ -433,7 +433,7 @@ fn six_commands_on_three_levels(rt: HostRuntime) -> Result<(), Fail> {
     let schedule = Schedule {
         seed: 13,
         actors: 5,
-        turns: 70_000,
+        turns: 40_000,
         kinds: &SIX,
         keys: 676,
         pids: 4096,
