@@ -134,9 +134,17 @@ impl Actor {
             None => unreachable!(),
         };
         if stepped.reply.is_some() {
-            self.running = None;
+            self.rest();
         }
         stepped
+    }
+
+    /// Has no operation any more. Not inlined: its caller, which runs at each step, needs no room for an operation then.
+    #[inline(never)]
+    fn rest(&mut self)
+        ensures { self.new ≡ record self.old { running = None } }
+    {
+        self.running = None;
     }
 }
 

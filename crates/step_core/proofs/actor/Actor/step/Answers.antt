@@ -22,7 +22,7 @@ returns-else-is_some-clause-useful g c = λ k r h. c.step-stepped.ensures.useful
 pub returns-then-is_some-clause-shows : goal.returns-then-is_some-clause-shows
 returns-then-is_some-clause-shows g c = λ k r h.
     let ready = ready_some _ _ _ _ _ _ _ c.in-Some.is h in
-    left_idle _ _ _ _ _ _ _ (sym c.is_some.ensures ∙ c.if-is_some.true) (c.step-stepped.ensures.left k r ready.0 ready.1)
+    rw c.rest.ensures (left_idle _ _ _ _ _ _ _ (sym c.is_some.ensures ∙ c.if-is_some.true) (c.step-stepped.ensures.left k r ready.0 ready.1))
 
 pub returns-else-is_some-clause-shows : goal.returns-else-is_some-clause-shows
 returns-else-is_some-clause-shows g c = λ k r h.
@@ -32,7 +32,7 @@ returns-else-is_some-clause-shows g c = λ k r h.
 pub returns-then-is_some-clause-spends : goal.returns-then-is_some-clause-spends
 returns-then-is_some-clause-spends g c = λ k r h.
     let ready = ready_some _ _ _ _ _ _ _ c.in-Some.is h in
-    spends_over _ _ _ _ _ _ _ _ _ c.in-Some.is (sym c.is_some.ensures ∙ c.if-is_some.true) (c.step-stepped.ensures.spends k r ready.0 ready.1)
+    rw c.rest.ensures (spends_over _ _ _ _ _ _ _ _ _ c.in-Some.is (sym c.is_some.ensures ∙ c.if-is_some.true) (c.step-stepped.ensures.spends k r ready.0 ready.1))
 
 pub returns-else-is_some-clause-spends : goal.returns-else-is_some-clause-spends
 returns-else-is_some-clause-spends g c = λ k r h.
