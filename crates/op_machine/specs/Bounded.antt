@@ -38,7 +38,7 @@ abbrev pub left_at : Recalled → Spares → State → ℕ
 left_at r spares at.Begun = one_round + 3
 left_at r spares at.Epoch = one_round + 2
 left_at r spares (at.Enter epoch) = one_round + 1
-left_at r spares (at.Read round) = read.reads_left one_round r round + 1
+left_at r spares (at.Read round) = read.reads_left one_round one_round r round + 1
 left_at r spares (at.Write round) = write.reads_left one_round r round + few_changes + 1
 left_at r spares (at.Change now then) = change.steps_left one_round now spares + 1
 left_at r spares (at.Leave reply) = 1
@@ -59,6 +59,7 @@ left_for Entered = one_round
 left_for (Read read_end.Again) = one_round
 left_for (Read (read_end.Removed page)) = one_round
 left_for (Read (read_end.Leaf leaf)) = 1
+left_for (Read (read_end.Beside left removed)) = one_round
 left_for (Written write_end.Again) = one_round
 left_for (Written (write_end.Removed page)) = one_round
 left_for (Written end) = few_changes + 1

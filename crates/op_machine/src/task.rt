@@ -128,7 +128,7 @@ impl Task {
         ensures asks { (spares : Spares) → IsSome (wanted_at spares result) }
     {
         match end {
-            ReadEnd::Again | ReadEnd::Removed(_) => self.round(),
+            ReadEnd::Again | ReadEnd::Removed(_) | ReadEnd::Beside { .. } => self.round(),
             ReadEnd::Leaf(leaf) => {
                 let key = self.command.key();
                 State::Leave {
