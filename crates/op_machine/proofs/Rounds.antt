@@ -11,6 +11,8 @@ use Rattle.descent.specs.declared.read_round.Goal.{Goal}
 use Rattle.descent.specs.declared.read_round.Goal.TheVariants.{Seek, Left, Beyond}
 use Rattle.descent.specs.declared.read_round.ReadEnd.{ReadEnd}
 use Rattle.descent.specs.declared.read_round.ReadEnd.TheVariants as read_end
+use Rattle.descent.specs.declared.write_round.Goal as writer
+use Rattle.descent.specs.declared.write_round.Goal.TheVariants as writes
 use Rattle.descent.specs.declared.write_round.WriteEnd.{WriteEnd}
 use Rattle.descent.specs.declared.write_round.WriteEnd.TheVariants as write_end
 use Rattle.installs.specs.Spares.{Spares}
@@ -75,11 +77,20 @@ module _ (task : Task) (spares : Spares) (k : Knowledge) (r : Recalled) (round n
     ends = ends;
   }
 
-  pub write_left : (end : WriteEnd) → write.Spends one_round r round told new (Some end) → IsSpent r (write.wanted round) told (left_at r spares (at.Write round)) (left_for (outcome.Written end))
-  write_left write_end.Again paid = inr (paid, omega arith)
+  pub write_left : (end : WriteEnd) → write.Spends one_round one_round r round told new (Some end) → IsSpent r (write.wanted round) told (left_at r spares (at.Write round)) (left_for (outcome.Written end))
+  write_left write_end.Again missed = by_goal round.goal missed
+    where
+      by_goal : (goal : writer.Goal) → write.Misses one_round one_round r round told goal → IsSpent r (write.wanted round) told (left_at r spares (at.Write round)) one_round
+      by_goal writes.Seek paid = inr (paid, omega arith)
+      by_goal (writes.Left pid) paid = inr (paid, omega arith)
+      by_goal (writes.Merge left) paid = inr (paid, omega arith)
+      by_goal (writes.Unterm parent left) kept = inl (omega (arith, kept))
   write_left (write_end.Removed page) reserved = inl (omega (arith, reserved))
   write_left (write_end.Consolidate page) some = inl (omega (arith, some))
   write_left (write_end.Split page plan) some = inl (omega (arith, some))
   write_left (write_end.Term parent term) some = inl (omega (arith, some))
   write_left (write_end.Root left root) some = inl (omega (arith, some))
   write_left (write_end.Leaf parent leaf) some = inl (omega (arith, some))
+  write_left (write_end.Merge left removed merge) kept = inl (omega (arith, kept))
+  write_left (write_end.Unterm parent left removed unterm) kept = inl (omega (arith, kept))
+  write_left write_end.Done kept = inl (omega (arith, kept))

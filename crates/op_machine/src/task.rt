@@ -150,7 +150,8 @@ impl Task {
         ensures same { IsSameTask self.old self.new }
     {
         match end {
-            WriteEnd::Again | WriteEnd::Removed(_) => self.round(),
+            WriteEnd::Again | WriteEnd::Removed(_) | WriteEnd::Done => self.round(),
+            WriteEnd::Merge { .. } | WriteEnd::Unterm { .. } => self.round(),
             WriteEnd::Consolidate(page) => self.consolidate(spares, page),
             WriteEnd::Split { page, plan } => self.split(spares, page, plan),
             WriteEnd::Term { parent, term } => self.post(spares, parent, term),
