@@ -7,8 +7,12 @@ use Rattle.chain_search.specs.Knowledge.{Knowledge, learn}
 use Rattle.chain_search.specs.Recalled.{IsSpent, Recalled, recall}
 use Rattle.descent.specs.ReadRounds as read
 use Rattle.descent.specs.WriteRounds as write
+use Rattle.descent.specs.declared.read_round.Goal.{Goal}
+use Rattle.descent.specs.declared.read_round.Goal.TheVariants.{Seek, Left, Beyond}
 use Rattle.descent.specs.declared.read_round.ReadEnd.{ReadEnd}
 use Rattle.descent.specs.declared.read_round.ReadEnd.TheVariants as read_end
+use Rattle.descent.specs.declared.write_round.Goal as writer
+use Rattle.descent.specs.declared.write_round.Goal.TheVariants as writes
 use Rattle.descent.specs.declared.write_round.WriteEnd.{WriteEnd}
 use Rattle.descent.specs.declared.write_round.WriteEnd.TheVariants as write_end
 use Rattle.installs.specs.Spares.{Spares}
@@ -40,10 +44,16 @@ module _ (task : Task) (spares : Spares) (k : Knowledge) (r : Recalled) (round n
     ends = ends;
   }
 
-  pub read_left : (end : ReadEnd) → read.Spends one_round r round told new (Some end) → IsSpent r (read.wanted round) told (left_at r spares (at.Read round)) (left_for (outcome.Read end))
-  read_left read_end.Again paid = inr (paid, omega arith)
+  pub read_left : (end : ReadEnd) → read.Spends one_round one_round r round told new (Some end) → IsSpent r (read.wanted round) told (left_at r spares (at.Read round)) (left_for (outcome.Read end))
+  read_left read_end.Again missed = by_goal round.goal missed
+    where
+      by_goal : (goal : Goal) → read.Misses one_round one_round r round told goal → IsSpent r (read.wanted round) told (left_at r spares (at.Read round)) one_round
+      by_goal Seek paid = inr (paid, omega arith)
+      by_goal (Left removed) paid = inr (paid, omega arith)
+      by_goal Beyond kept = inl (omega (arith, kept))
   read_left (read_end.Removed page) reserved = inl (omega (arith, reserved))
   read_left (read_end.Leaf leaf) some = inl (omega (arith, some))
+  read_left (read_end.Beside left removed) kept = inl (omega (arith, kept))
 
 module _ (task : Task) (spares : Spares) (k : Knowledge) (r : Recalled) (round new : write.WriteRound) (told : Answer Record) (h : IsInWriteRound task spares k r round) (fits : Fits task.limits k (write.wanted round) told) where
   pub write_on : write.IsSame round new → write.Follows k r round told new None → IsInWriteRound task spares (learn k (write.wanted round) told) (recall r (write.wanted round) told) new
@@ -67,11 +77,20 @@ module _ (task : Task) (spares : Spares) (k : Knowledge) (r : Recalled) (round n
     ends = ends;
   }
 
-  pub write_left : (end : WriteEnd) → write.Spends one_round r round told new (Some end) → IsSpent r (write.wanted round) told (left_at r spares (at.Write round)) (left_for (outcome.Written end))
-  write_left write_end.Again paid = inr (paid, omega arith)
+  pub write_left : (end : WriteEnd) → write.Spends one_round one_round r round told new (Some end) → IsSpent r (write.wanted round) told (left_at r spares (at.Write round)) (left_for (outcome.Written end))
+  write_left write_end.Again missed = by_goal round.goal missed
+    where
+      by_goal : (goal : writer.Goal) → write.Misses one_round one_round r round told goal → IsSpent r (write.wanted round) told (left_at r spares (at.Write round)) one_round
+      by_goal writes.Seek paid = inr (paid, omega arith)
+      by_goal (writes.Left pid) paid = inr (paid, omega arith)
+      by_goal (writes.Merge left) paid = inr (paid, omega arith)
+      by_goal (writes.Unterm parent left) kept = inl (omega (arith, kept))
   write_left (write_end.Removed page) reserved = inl (omega (arith, reserved))
   write_left (write_end.Consolidate page) some = inl (omega (arith, some))
   write_left (write_end.Split page plan) some = inl (omega (arith, some))
   write_left (write_end.Term parent term) some = inl (omega (arith, some))
   write_left (write_end.Root left root) some = inl (omega (arith, some))
   write_left (write_end.Leaf parent leaf) some = inl (omega (arith, some))
+  write_left (write_end.Merge left removed merge) kept = inl (omega (arith, kept))
+  write_left (write_end.Unterm parent left removed unterm) kept = inl (omega (arith, kept))
+  write_left write_end.Done kept = inl (omega (arith, kept))

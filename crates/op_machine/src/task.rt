@@ -128,7 +128,7 @@ impl Task {
         ensures asks { (spares : Spares) → IsSome (wanted_at spares result) }
     {
         match end {
-            ReadEnd::Again | ReadEnd::Removed(_) => self.round(),
+            ReadEnd::Again | ReadEnd::Removed(_) | ReadEnd::Beside { .. } => self.round(),
             ReadEnd::Leaf(leaf) => {
                 let key = self.command.key();
                 State::Leave {
@@ -150,7 +150,8 @@ impl Task {
         ensures same { IsSameTask self.old self.new }
     {
         match end {
-            WriteEnd::Again | WriteEnd::Removed(_) => self.round(),
+            WriteEnd::Again | WriteEnd::Removed(_) | WriteEnd::Done => self.round(),
+            WriteEnd::Merge { .. } | WriteEnd::Unterm { .. } => self.round(),
             WriteEnd::Consolidate(page) => self.consolidate(spares, page),
             WriteEnd::Split { page, plan } => self.split(spares, page, plan),
             WriteEnd::Term { parent, term } => self.post(spares, parent, term),

@@ -20,7 +20,7 @@ pub returns-in-Some-clause-leaves : goal.returns-in-Some-clause-leaves
 returns-in-Some-clause-leaves c task k r h f =
     let shows = rw c.in-Read.is at h in
     let fits = rw c.in-Read.is at f in
-    rw c.in-Read.is (read_left task c.args.spares.now k r c.in-Read.round c.next.new.self c.args.answer shows fits c.in-Some.end (rw c.in-Some.is at (c.next.ensures.spends one_round k r shows.shows (rw shows.limits fits))))
+    rw c.in-Read.is (read_left task c.args.spares.now k r c.in-Read.round c.next.new.self c.args.answer shows fits c.in-Some.end (rw c.in-Some.is at (c.next.ensures.spends one_round one_round k r shows.shows (rw shows.limits fits))))
 
 pub returns-in-None-next-clause-comes : goal.returns-in-None-next-clause-comes
 returns-in-None-next-clause-comes c task k r h f =
@@ -38,7 +38,7 @@ pub returns-in-Some-next-clause-leaves : goal.returns-in-Some-next-clause-leaves
 returns-in-Some-next-clause-leaves c task k r h f =
     let shows = rw c.in-Write.is at h in
     let fits = rw c.in-Write.is at f in
-    rw c.in-Write.is (write_left task c.args.spares.now k r c.in-Write.round c.next-in-Write.new.self c.args.answer shows fits c.in-Some-next.end (rw c.in-Some-next.is at (c.next-in-Write.ensures.spends one_round k r shows.shows (rw shows.limits fits))))
+    rw c.in-Write.is (write_left task c.args.spares.now k r c.in-Write.round c.next-in-Write.new.self c.args.answer shows fits c.in-Some-next.end (rw c.in-Some-next.is at (c.next-in-Write.ensures.spends one_round one_round k r shows.shows (rw shows.limits fits))))
 
 pub returns-in-None-next-2-clause-comes : goal.returns-in-None-next-2-clause-comes
 returns-in-None-next-2-clause-comes c task k r h f =
