@@ -1,7 +1,6 @@
 -- A writer's pages in hand, while other pages are read.
-use Rattle.std.proofs.Common.{◌≡◌, ◌≢◌, ◌<◌, ◌++◌, ◌==◌, ◌⊎◌, inl, inr, ℕ, zero, suc, List, [], ◌∷◌, true, Option, Some, None, refl, sym, ap, ◌∙◌, arith}
+use Rattle.std.proofs.Common.{◌≡◌, ◌≢◌, ◌<◌, ◌++◌, ◌⊎◌, inl, inr, ℕ, zero, suc, List, [], ◌∷◌, false, Option, Some, None, refl, sym, ap, ◌∙◌, arith}
 use Rattle.std.specs.Prelude.{IfSome, IsTrue}
-use Rattle.std.proofs.lemmas.Bool.{eq-eqb}
 use Rattle.std.proofs.lemmas.Bool.Decides.{eqb_tells}
 use Rattle.std.proofs.lemmas.Option.{IfSome_then}
 use Rattle.bw_model.specs.declared.limits.Limits.{Limits}
@@ -22,7 +21,7 @@ use Rattle.descent.specs.Visits.{Starts, Completes, Continues, Visit, at, wanted
 use Rattle.descent.specs.Walks.{HasArrived, IsAmong}
 use Rattle.descent.specs.Ways.{reaches}
 use Rattle.descent.specs.WriteRounds.{IsBased, IsLeftOf, IsKept, IsVisiting}
-use Rattle.descent.proofs.Holding.{in_hand_row, in_hand_slot}
+use Rattle.descent.proofs.Holding.{before_slot, in_hand_row, in_hand_slot}
 use Rattle.descent.proofs.Seeking.{arrived, seeks_row, seeks_slot}
 use Rattle.descent.proofs.Visiting.{back, row_below, there}
 
@@ -55,11 +54,6 @@ module _ (limits : Limits) (key : List ℕ) (parent left : Option Version) (k : 
   abbrev Visits : State → Type 0
   Visits state = IsVisiting limits key parent left k r (at visit state)
 
-  before_slot : (pid n other head : ℕ) → 0 < pid → 0 < n → k.read.heads other ≡ Some head → (learn_slot pid n k).read.before pid other ≡ Some head
-  before_slot zero n other head some linked is = absurd (omega (arith, some))
-  before_slot (suc pid) zero other head some linked is = absurd (omega (arith, linked))
-  before_slot (suc pid) (suc n) other head some linked is = let e : (suc pid == suc pid) ≡ true = eq-eqb (suc pid) (suc pid) refl in rw e is
-
   recall_root : (pid n : ℕ) → 0 < pid → (recall r (step.Slot pid) (answer.Number n)).heads 0 ≡ r.heads 0
   recall_root zero n some = absurd (omega (arith, some))
   recall_root (suc pid) n some = elim (eqb_tells zero (suc pid)) [ inl same ↦ absurd (let e = same.1 in omega arith) | inr differs ↦ rw differs.0 refl ]
@@ -80,8 +74,8 @@ module _ (limits : Limits) (key : List ℕ) (parent left : Option Version) (k : 
         level = h.level;
         low = h.low;
         earlier = h.earlier;
-        seeks = seeks_slot limits key k r visit h.level h.low h.earlier row linked few h.seeks;
-        above = IfSome_then parent h.above (λ other i. record { kept = kept other i.kept; up = i.up; after = before_slot visit.pid row other.pid other.head some linked i.kept.in_hand.seen.head });
+        seeks = seeks_slot limits (reaches key) false k r visit h.level h.low h.earlier row linked few h.seeks;
+        above = IfSome_then parent h.above (λ other i. record { kept = kept other i.kept; up = i.up; after = before_slot k visit.pid row other.pid other.head some linked i.kept.in_hand.seen.head });
         aside = IfSome_then left h.aside (λ other i. record { kept = kept other i.kept; inner = i.inner });
         based = based_as (recall r (step.Slot visit.pid) (answer.Number row)) (recall_root visit.pid row some) parent left visit.pid h.low h.based;
       }
@@ -101,7 +95,7 @@ module _ (limits : Limits) (key : List ℕ) (parent left : Option Version) (k : 
       level = h.level;
       low = h.low;
       earlier = h.earlier;
-      seeks = seeks_row limits key k r visit h.level h.low h.earlier row content fits head under more h.seeks;
+      seeks = seeks_row limits (reaches key) false k r visit h.level h.low h.earlier row content fits head under more h.seeks;
       above = IfSome_then parent h.above (λ other i. record { kept = kept_row other h.earlier i.kept; up = i.up; after = i.after });
       aside = IfSome_then left h.aside (λ other i. record { kept = kept_row other h.earlier i.kept; inner = i.inner });
       based = based_as walked refl parent left visit.pid h.low h.based;
@@ -113,7 +107,7 @@ module _ (limits : Limits) (key : List ℕ) (parent left : Option Version) (k : 
 
     reaches_whole : (version : Version) → version.pid ≡ visit.pid → version.chain ≡ visit.part ++ content ∷ [] → next_row content ≡ None → Visits (Row version.head row) → HasReached limits key parent left k now walked version
     reaches_whole version pid made last h =
-        let here = arrived limits key k r visit h.level h.low h.earlier row content fits version pid made last h.seeks in
+        let here = arrived limits (reaches key) false k r visit h.level h.low h.earlier row content fits version pid made last h.seeks in
         record {
           level = h.level;
           low = h.low;

@@ -29,7 +29,7 @@ use Rattle.descent.specs.declared.visit.Sight.TheVariants.{Empty, Whole}
 use Rattle.descent.specs.Versions.{IsAlive}
 use Rattle.descent.specs.Descents.{Descent, Finds, Shows as WayShows, Starts, Visits}
 use Rattle.descent.specs.Visits as page
-use Rattle.descent.specs.Ways.{LeadsDown, LeadsRight}
+use Rattle.descent.specs.Ways.{LeadsDown, LeadsRight, reaches}
 use Rattle.descent.specs.WriteRounds.{CanSee, EndsFine, EndsUnposted, EndsUnrooted, Ends, Follows, GoesFrom, GoesOnWay, IsBased, IsLeftOf, IsKept, IsLeafEnd, IsRootEnd, IsTermEnd, IsTold, IsVisiting, Responds, Sees, Shows, Spends, Treats, WriteRound, at, wanted, descent_of, going_to}
 use Rattle.descent.proofs.Keeping.{HasReached, IsOver, reached_next, visits_next}
 use Rattle.descent.proofs.PageLaws.{spans}
@@ -72,23 +72,23 @@ module _ (old : WriteRound) (k now : Knowledge) (r : Recalled) (version : Versio
   based_on None None pid low based aside = elim based [ inl is ↦ inl is | inr above ↦ inr (rw h.arrives.is_low above) ]
   based_on None (Some other) pid low based aside = inr (rw h.arrives.is_low aside.inner)
 
-  aside : (pid : ℕ) → is_removed version.chain ≡ false → LeadsRight old.key version.chain pid → IsVisiting old.limits old.key old.parent (Some version) now r (page.to_page old.limits pid)
+  aside : (pid : ℕ) → is_removed version.chain ≡ false → LeadsRight (reaches old.key) version.chain pid → IsVisiting old.limits old.key old.parent (Some version) now r (page.to_page old.limits pid)
   aside pid alive leads = record {
     level = level_in version.chain;
     low = leads.low;
     earlier = version.pid ∷ h.earlier;
-    seeks = seeks_on old.limits k now r version h.level h.low h.earlier h.arrives old.key pid (level_in version.chain) leads.low (right_names old.key version.chain pid leads) alive leads.on_way;
+    seeks = seeks_on old.limits k now r version h.level h.low h.earlier h.arrives (reaches old.key) false pid (level_in version.chain) leads.low (right_names (reaches old.key) version.chain pid leads) alive leads.on_way;
     above = IfSome_then old.parent h.above (λ other i. record { kept = kept_on other i.kept; up = i.up; after = tt });
     aside = record { kept = kept_here alive; inner = inner (low_in version.chain) leads.low (spans version.chain leads.low (hand old.limits k now r version h.level h.low h.earlier h.arrives).sound.is_chain.fitted leads.is_high) };
     based = based_on old.parent old.left pid leads.low h.based h.aside;
   }
 
-  below : (pid : ℕ) → is_removed version.chain ≡ false → 0 < level_in version.chain → LeadsDown old.key version.chain pid → IsVisiting old.limits old.key (Some version) None now r (page.to_page old.limits pid)
+  below : (pid : ℕ) → is_removed version.chain ≡ false → 0 < level_in version.chain → LeadsDown (reaches old.key) version.chain pid → IsVisiting old.limits old.key (Some version) None now r (page.to_page old.limits pid)
   below pid alive index leads = record {
     level = level_in version.chain - 1;
     low = leads.low;
     earlier = version.pid ∷ h.earlier;
-    seeks = seeks_on old.limits k now r version h.level h.low h.earlier h.arrives old.key pid (level_in version.chain - 1) leads.low (down_names old.key version.chain pid index leads) alive leads.greatest.passing;
+    seeks = seeks_on old.limits k now r version h.level h.low h.earlier h.arrives (reaches old.key) false pid (level_in version.chain - 1) leads.low (down_names (reaches old.key) version.chain pid index leads) alive leads.greatest.passing;
     above = record { kept = kept_here alive; up = omega (arith, index); after = tt };
     aside = tt;
     based = tt;
@@ -127,7 +127,7 @@ module _ (old : WriteRound) (k now : Knowledge) (r : Recalled) (version : Versio
       rw (t.is, t.above) (record {
         page = alive_here alive;
         level = t.level;
-        covered = covers_here old.key version.chain (reached old.limits k now r version h.level h.low h.earlier h.arrives old.key h.passing).reached t.here.stays;
+        covered = covers_here old.key version.chain (reached old.limits k now r version h.level h.low h.earlier h.arrives (reaches old.key) h.passing).reached t.here.stays;
         short = short;
         early = early;
         few = few_items alive short t.fine.narrow;
@@ -171,20 +171,20 @@ module _ (old new : WriteRound) (told : Answer Record) (visit : page.Visit) wher
       by_result k r (Some end) a = a
 
   paid : (next : page.Visit) (sight : Sight) (result : Option WriteEnd) → page.Responds visit told next (Some sight) → Sees here sight new result → Pays new result here told
-  paid next Empty result b sees = rw sees (λ reserve k r h f. spent_empty reserve old.limits old.key k r visit h.level h.low h.earlier told h.seeks f b)
+  paid next Empty result b sees = rw sees (λ reserve k r h f. spent_empty reserve old.limits (reaches old.key) false k r visit h.level h.low h.earlier told h.seeks f refl b)
   paid next (Whole version) result b sees = λ reserve k r h f. by_result reserve k r h f result sees
     where
       by_result : (reserve : ℕ) (k : Knowledge) (r : Recalled) → Shows here k r → Fits old.limits k (page.wanted visit) told → (o : Option WriteEnd) → Treats here version new o → Spends reserve r here told new o
       by_result reserve k r h f None t =
-          let less = left_on reserve old.limits old.key k r visit h.level h.low h.earlier told h.seeks f version b in
+          let less = left_on reserve old.limits (reaches old.key) false k r visit h.level h.low h.earlier told h.seeks f version b in
           elim t [ inl right ↦ rw right.goes (inl less) | inr down ↦ rw down.goes (inl less) ]
       by_result reserve k r h f (Some end.Again) t = absurd t
-      by_result reserve k r h f (Some (end.Removed removed)) t = left_removed reserve old.limits old.key k r visit h.level h.low h.earlier told h.seeks f version b t.1
-      by_result reserve k r h f (Some (end.Consolidate page)) t = left_some reserve old.limits old.key k r visit h.level h.low h.earlier told h.seeks f version b
-      by_result reserve k r h f (Some (end.Split page plan)) t = left_some reserve old.limits old.key k r visit h.level h.low h.earlier told h.seeks f version b
-      by_result reserve k r h f (Some (end.Term parent term)) t = left_some reserve old.limits old.key k r visit h.level h.low h.earlier told h.seeks f version b
-      by_result reserve k r h f (Some (end.Root left root)) t = left_some reserve old.limits old.key k r visit h.level h.low h.earlier told h.seeks f version b
-      by_result reserve k r h f (Some (end.Leaf parent leaf)) t = left_some reserve old.limits old.key k r visit h.level h.low h.earlier told h.seeks f version b
+      by_result reserve k r h f (Some (end.Removed removed)) t = left_removed reserve old.limits (reaches old.key) false k r visit h.level h.low h.earlier told h.seeks f version b t.1
+      by_result reserve k r h f (Some (end.Consolidate page)) t = left_some reserve old.limits (reaches old.key) false k r visit h.level h.low h.earlier told h.seeks f version b
+      by_result reserve k r h f (Some (end.Split page plan)) t = left_some reserve old.limits (reaches old.key) false k r visit h.level h.low h.earlier told h.seeks f version b
+      by_result reserve k r h f (Some (end.Term parent term)) t = left_some reserve old.limits (reaches old.key) false k r visit h.level h.low h.earlier told h.seeks f version b
+      by_result reserve k r h f (Some (end.Root left root)) t = left_some reserve old.limits (reaches old.key) false k r visit h.level h.low h.earlier told h.seeks f version b
+      by_result reserve k r h f (Some (end.Leaf parent leaf)) t = left_some reserve old.limits (reaches old.key) false k r visit h.level h.low h.earlier told h.seeks f version b
 
 root : (limits : Limits) (key : List ℕ) (k : Knowledge) (r : Recalled) (pid : ℕ) (parent left : Option Version) → parent ≡ None → left ≡ None → k.inside ≡ true → Fits limits k (step.Slot 0) (answer.Number pid)
     → IsVisiting limits key parent left (learn k (step.Slot 0) (answer.Number pid)) (recall r (step.Slot 0) (answer.Number pid)) (page.to_page limits pid)
@@ -192,7 +192,7 @@ root limits key k r pid parent left orphan alone inside fits = rw (orphan, alone
   level = 0;
   low = [];
   earlier = [];
-  seeks = seeks_root limits key k r pid fits inside;
+  seeks = seeks_root limits (reaches key) false k r pid (lowest key) fits inside;
   above = tt;
   aside = tt;
   based = inl refl;
@@ -223,7 +223,7 @@ pub spends_from : (old new : WriteRound) (told : Answer Record) (result : Option
 spends_from old new told result responds = elim responds [
   | inl way ↦ elim way.on [
     | inl b ↦ back old (Pays new result) Root (answer.Number b.root) told b.asked b.is (rw (way.none, started old new told result way b) (λ reserve k r h f. inl (omega arith)))
-    | inr b ↦ back old (Pays new result) (Page b.visit) told told b.asked refl (rw (way.none, visiting old new told result way b) (λ reserve k r h f. spent_on reserve old.limits old.key k r b.visit h.level h.low h.earlier told h.seeks f b.next b.responds))
+    | inr b ↦ back old (Pays new result) (Page b.visit) told told b.asked refl (rw (way.none, visiting old new told result way b) (λ reserve k r h f. spent_on reserve old.limits (reaches old.key) false k r b.visit h.level h.low h.earlier told h.seeks f b.next b.responds))
   ]
   | inr from ↦ back old (Pays new result) (Page from.finds.visit) told told from.finds.asked refl (paid old new told from.finds.visit from.finds.next from.sight result from.finds.responds (seen_at old new told result from))
 ]
@@ -246,7 +246,7 @@ can_see old other told (Whole version) b t =
     let f : Fits old.limits t.k (page.wanted visit) told = subst (λ (s : State). Fits old.limits t.k (wanted (at old s)) told) b.asked t.fits in
     let d = reached_next old.limits old.key old.parent old.left t.k t.r visit told h f version b.responds in
     record {
-      reached = reached old.limits t.k (learn t.k (page.wanted visit) told) (recall t.r (page.wanted visit) told) version d.level d.low d.earlier d.arrives old.key d.passing;
+      reached = reached old.limits t.k (learn t.k (page.wanted visit) told) (recall t.r (page.wanted visit) told) version d.level d.low d.earlier d.arrives (reaches old.key) d.passing;
       above = IfSome_then old.parent d.above (λ other i. i.kept.alive);
     }
 

@@ -21,12 +21,11 @@ use Rattle.smo.specs.declared.version.Version.{Version}
 use Rattle.descent.specs.Versions.{IsAlive, IsGone, IsInHand}
 use Rattle.descent.specs.Descents.{Descent, Finds, Responds as Moves, left_from, wanted_at}
 use Rattle.descent.specs.Visits as page
-use Rattle.descent.specs.Walks.{IsAmong, IsReached, IsSeeking}
-use Rattle.descent.specs.Ways.{LeadsDown, LeadsRight, StaysLeft}
+use Rattle.descent.specs.Walks.{IsAhead, IsAmong, IsReached, IsSeeking}
+use Rattle.descent.specs.Ways.{LeadsDown, LeadsRight, StaysLeft, reaches}
 use Rattle.descent.specs.declared.visit.Sight as page_sight
 use Rattle.descent.specs.declared.visit.Sight.TheVariants as page_is
 use Rattle.descent.specs.declared.visit.State as at_page
-use Rattle.descent.specs.declared.visit.State.TheVariants as at_visit
 use Rattle.descent.specs.declared.descent.State.{State}
 use Rattle.descent.specs.declared.descent.State.TheVariants.{Root, Page, Over}
 use Rattle.descent.specs.declared.write_round.WriteEnd.{WriteEnd}
@@ -67,11 +66,6 @@ pub record IsKept (limits : Limits) (k : Knowledge) (other : Version) (earlier :
   pub alive : is_removed other.chain ≡ false
   pub among : IsAmong other.pid earlier
 
--- once the page's slot was read, the other page was read before it
-abbrev pub IsAhead : Knowledge → Version → ℕ → at_page.State → Type 0
-IsAhead k other pid at_visit.Slot = ⊤
-IsAhead k other pid (at_visit.Row head row) = k.read.before pid other.pid ≡ Some other.head
-
 -- The parent in hand is one level up, and the page's slot is read after it.
 pub record IsParent (limits : Limits) (k : Knowledge) (pid : ℕ) (state : at_page.State) (level : ℕ) (earlier : List ℕ) (parent : Version) : Type 0 where
   pub kept : IsKept limits k parent earlier
@@ -94,7 +88,7 @@ pub record IsVisiting (limits : Limits) (key : List ℕ) (parent left : Option V
   pub level : ℕ
   pub low : List ℕ
   pub earlier : List ℕ
-  pub seeks : IsSeeking limits key k r visit level low earlier
+  pub seeks : IsSeeking limits (reaches key) false k r visit level low earlier
   pub above : IfSome parent (IsParent limits k visit.pid visit.state level earlier)
   pub aside : IfSome left (IsLeftOf limits k low earlier)
   pub based : IsBased r parent left visit.pid low
@@ -197,7 +191,7 @@ IsFinished (Some parent) (Some left) version = ¬ CanPost parent version
 pub record IsHere (old : WriteRound) (version : Version) : Type 0 where
   pub alive : is_removed version.chain ≡ false
   pub finished : IsFinished old.parent old.left version
-  pub stays : StaysLeft old.key version.chain
+  pub stays : StaysLeft (reaches old.key) version.chain
 
 -- The page is neither to be consolidated nor to be split.
 pub record IsFine (due : ℕ) (version : Version) : Type 0 where
@@ -209,7 +203,7 @@ pub record GoesAside (old : WriteRound) (version : Version) (new : WriteRound) :
   pub alive : is_removed version.chain ≡ false
   pub finished : IsFinished old.parent old.left version
   pub right : ℕ
-  pub leads : LeadsRight old.key version.chain right
+  pub leads : LeadsRight (reaches old.key) version.chain right
   pub goes : new ≡ going_to right (beside (Some version) old)
 
 -- Nothing is due at the page, and the round goes down to a child of it.
@@ -218,7 +212,7 @@ pub record GoesBelow (old : WriteRound) (version : Version) (new : WriteRound) :
   pub fine : IsFine old.due version
   pub index : 0 < level_in version.chain
   pub child : ℕ
-  pub leads : LeadsDown old.key version.chain child
+  pub leads : LeadsDown (reaches old.key) version.chain child
   pub goes : new ≡ going_to child (record old { parent = Some version; left = None })
 
 -- The page has too many deltas.
@@ -268,7 +262,7 @@ Treats old version new (Some (end.Leaf parent leaf)) = EndsFine old version pare
 
 -- The round has reached the page, and the parent isn't removed.
 pub record CanTreat (round : WriteRound) (version : Version) : Type 0 where
-  pub reached : IsReached round.limits round.key version
+  pub reached : IsReached round.limits (reaches round.key) version
   pub above : IfSome round.parent (λ parent. is_removed parent.chain ≡ false)
 
 -- a page was found that the round has reached, or none

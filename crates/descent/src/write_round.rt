@@ -9,7 +9,7 @@ ghost use Rattle.chain_search.specs.Recalled.{Recalled};
 ghost use Rattle.descent.specs.Visits.{ReadsWithin};
 ghost use Rattle.descent.specs.declared.descent.State.TheVariants.{Root};
 ghost use Rattle.descent.specs.WriteRounds.{CanSee, CanTreat, Follows, HasCome, IsFinished, IsLong, IsSame, IsTold, Responds, Sees, Shows, Spends, Treats, beside, wanted};
-ghost use Rattle.descent.specs.Ways.{StaysLeft};
+ghost use Rattle.descent.specs.Ways.{StaysLeft, reaches};
 
 #[cfg(test)]
 mod tests;
@@ -169,7 +169,7 @@ impl WriteRound {
         ensures treats { (left : Option Version) → IsFinished self.old.parent left version → Treats (beside left self.old) version self.new result }
         ensures same { IsSame self.old self.new }
     {
-        match right_on_way(&version.chain, &self.key) {
+        match right_on_way(&version.chain, &self.key, false) {
             None => self.settle(version),
             Some(right) => {
                 self.left = Some(version);
@@ -183,7 +183,7 @@ impl WriteRound {
     fn settle(&mut self, version: Version) -> Option<WriteEnd>
         requires can { CanTreat self.old version }
         requires alive { is_removed version.chain ≡ false }
-        requires stays { StaysLeft self.old.key version.chain }
+        requires stays { StaysLeft (reaches self.old.key) version.chain }
         ensures treats { (left : Option Version) → IsFinished self.old.parent left version → Treats (beside left self.old) version self.new result }
         ensures same { IsSame self.old self.new }
     {
@@ -199,7 +199,7 @@ impl WriteRound {
             let leaf = version;
             return Some(WriteEnd::Leaf { parent, leaf });
         }
-        let child = child_on_way(&version.chain, &self.key);
+        let child = child_on_way(&version.chain, &self.key, false);
         self.parent = Some(version);
         self.left = None;
         self.descent.go_to(child);
