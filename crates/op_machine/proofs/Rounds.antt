@@ -1,5 +1,5 @@
 -- What a round's next step leaves an operation in.
-use Rattle.std.proofs.Common.{inl, inr, Some, None, ◌∙◌, arith}
+use Rattle.std.proofs.Common.{◌≡◌, inl, inr, refl, Some, None, ◌∙◌, arith}
 use Rattle.bw_model.specs.declared.step.Answer.{Answer}
 use Rattle.deltas.specs.declared.record.Record.{Record}
 use Rattle.chain_search.specs.Fitting.{Fits}
@@ -7,12 +7,14 @@ use Rattle.chain_search.specs.Knowledge.{Knowledge, learn}
 use Rattle.chain_search.specs.Recalled.{IsSpent, Recalled, recall}
 use Rattle.descent.specs.ReadRounds as read
 use Rattle.descent.specs.WriteRounds as write
+use Rattle.descent.specs.declared.read_round.Goal.{Goal}
+use Rattle.descent.specs.declared.read_round.Goal.TheVariants.{Seek, Left, Beyond}
 use Rattle.descent.specs.declared.read_round.ReadEnd.{ReadEnd}
 use Rattle.descent.specs.declared.read_round.ReadEnd.TheVariants as read_end
 use Rattle.descent.specs.declared.write_round.WriteEnd.{WriteEnd}
 use Rattle.descent.specs.declared.write_round.WriteEnd.TheVariants as write_end
 use Rattle.installs.specs.Spares.{Spares}
-use Rattle.op_machine.specs.Bounded.{left_at, left_for, one_round}
+use Rattle.op_machine.specs.Bounded.{left_at, left_for, left_round, one_round}
 use Rattle.op_machine.specs.Outcomes.{FacesRead, FacesWritten}
 use Rattle.op_machine.specs.Shows.{IsInReadRound, IsInWriteRound}
 use Rattle.op_machine.specs.Tasks.{Task}
@@ -40,10 +42,23 @@ module _ (task : Task) (spares : Spares) (k : Knowledge) (r : Recalled) (round n
     ends = ends;
   }
 
-  pub read_left : (end : ReadEnd) → read.Spends one_round r round told new (Some end) → IsSpent r (read.wanted round) told (left_at r spares (at.Read round)) (left_for (outcome.Read end))
-  read_left read_end.Again paid = inr (paid, omega arith)
+  -- where a page wasn't there
+  missed : (goal : Goal) → round.goal ≡ goal → read.Misses left_round one_round r round told goal → IsSpent r (read.wanted round) told (left_at r spares (at.Read round)) one_round
+  missed Seek is paid = inr (paid, omega arith)
+  missed (Left removed) is paid = inr (paid, omega arith)
+  missed Beyond is kept = inl (omega (arith, kept))
+
+  pub read_went : read.Spends left_round one_round r round told new None → IsSpent r (read.wanted round) told (left_at r spares (at.Read round)) (left_at (recall r (read.wanted round) told) spares (at.Read new))
+  read_went spends = elim spends [
+    | inl less ↦ inl (omega (arith, less))
+    | inr paid ↦ let more = paid.1 in inr (paid.0, omega (arith, more))
+  ]
+
+  pub read_left : (end : ReadEnd) → read.Spends left_round one_round r round told new (Some end) → IsSpent r (read.wanted round) told (left_at r spares (at.Read round)) (left_for (outcome.Read end))
+  read_left read_end.Again misses = missed round.goal refl misses
   read_left (read_end.Removed page) reserved = inl (omega (arith, reserved))
   read_left (read_end.Leaf leaf) some = inl (omega (arith, some))
+  read_left (read_end.Beside left removed) some = inl (omega (arith, some))
 
 module _ (task : Task) (spares : Spares) (k : Knowledge) (r : Recalled) (round new : write.WriteRound) (told : Answer Record) (h : IsInWriteRound task spares k r round) (fits : Fits task.limits k (write.wanted round) told) where
   pub write_on : write.IsSame round new → write.Follows k r round told new None → IsInWriteRound task spares (learn k (write.wanted round) told) (recall r (write.wanted round) told) new

@@ -1,12 +1,12 @@
 -- What an operation faces where it goes from one state to another.
-use Rattle.std.specs.Prelude.{◌≡◌, ◌<◌, ◌≤◌, [], length, Option, Some, IsSome, IsTrue, true, false}
+use Rattle.std.specs.Prelude.{◌≡◌, ◌<◌, ◌≤◌, ℕ, List, [], length, Option, Some, IsSome, IsTrue, true, false}
 use Rattle.bw_model.specs.declared.command.Reply.{Reply as ReplyOf}
 use Rattle.bw_model.specs.declared.step.Step.{Step as StepOf}
 use Rattle.bw_model.specs.declared.step.Step.TheVariants as step
 use Rattle.bw_model.specs.declared.step.Answer.{Answer}
 use Rattle.deltas.specs.declared.record.Record.{Record}
-use Rattle.chain_search.specs.Chains.{covers, level_in}
-use Rattle.chain_search.specs.Discipline.{LacksRoom, MayReply}
+use Rattle.chain_search.specs.Chains.{IsChainFrom, covers, level_in}
+use Rattle.chain_search.specs.Discipline.{LacksRoom, MayReply, WasStanding}
 use Rattle.chain_search.specs.Knowledge.{Knowledge, finished, learn}
 use Rattle.chain_search.specs.Recalled.{Recalled}
 use Rattle.descent.specs.ReadRounds as read
@@ -19,7 +19,7 @@ use Rattle.installs.specs.declared.change.End.TheVariants.{Won, Lost, Full}
 use Rattle.installs.specs.Spares.{Spares}
 use Rattle.smo.specs.Sizes.{HasFewItems}
 use Rattle.smo.specs.declared.version.Version.{Version}
-use Rattle.bw_model.specs.Replies.{is_writer}
+use Rattle.bw_model.specs.Replies.{command_key, is_writer}
 use Rattle.op_machine.specs.Errands.{due_of, way_key}
 use Rattle.op_machine.specs.Shows.{FitsLast, Stands, learn_last, recall_last, wanted_at}
 use Rattle.op_machine.specs.Tasks.{IsDone, IsAtRest, Seeks, Task, Waits}
@@ -39,6 +39,15 @@ pub record FacesRead (task : Task) (spares : Spares) (k : Knowledge) (r : Recall
   pub limits : round.limits ≡ task.limits
   pub key : round.key ≡ way_key [] task.command
   pub ends : read.Ends round k r end
+
+-- A reader has read the chain of a leaf that has its key and stood.
+pub record StandsForReader (task : Task) (spares : Spares) (k : Knowledge) (head : ℕ) (leaf : List Record) : Type 0 where
+  pub seeks : Seeks task spares k
+  pub reader : is_writer task.command ≡ false
+  pub read : IsChainFrom k.read.seen head leaf
+  pub level : level_in leaf ≡ 0
+  pub covered : IsTrue (covers leaf (command_key task.command))
+  pub standing : WasStanding k head leaf
 
 -- A writer's round has ended.
 pub record FacesWritten (task : Task) (spares : Spares) (k : Knowledge) (r : Recalled) (end : WriteEnd) : Type 0 where

@@ -1,18 +1,19 @@
 //! What an operation was asked, and what it makes of what it has come to.
-ghost use Rattle.std.specs.Prelude.{◌≡◌, ◌<◌, ◌≤◌, ◌+◌, ◌-◌, ℕ, List, [], Option, Some, IsSome, is_some, length, take, true};
+ghost use Rattle.std.specs.Prelude.{◌≡◌, ◌<◌, ◌≤◌, ◌+◌, ◌-◌, ℕ, List, [], Option, Some, IsSome, is_some, length, take, true, false};
 ghost use Rattle.chain_search.specs.Chains.{high_in};
 ghost use Rattle.chain_search.specs.Discipline.{found};
 ghost use Rattle.chain_search.specs.Knowledge.{Knowledge};
 ghost use Rattle.chain_search.specs.Recalled.{Recalled};
 ghost use Rattle.bw_model.specs.Pairs.{ArePairsOf};
-ghost use Rattle.bw_model.specs.Replies.{update_of};
+ghost use Rattle.bw_model.specs.Replies.{command_key, is_writer, update_of};
 ghost use Rattle.bw_model.specs.declared.command.Reply.TheVariants as reply;
+ghost use Rattle.descent.specs.ReadRounds.{IsGoneAt};
 ghost use Rattle.installs.specs.Changes.{IsTarget};
 ghost use Rattle.installs.specs.Spares.{HaveRoom, Spares};
 ghost use Rattle.op_machine.specs.Bounded.{few_changes, left_at, left_for, one_round, with_errands};
 ghost use Rattle.op_machine.specs.Brings.{errands_after, update_over};
 ghost use Rattle.op_machine.specs.Errands.{due_of, way_key};
-ghost use Rattle.op_machine.specs.Outcomes.{Faces, FacesChanged, FacesRead, FacesWritten, IsAtLeaf, IsFaced};
+ghost use Rattle.op_machine.specs.Outcomes.{Faces, FacesChanged, FacesRead, FacesWritten, IsAtLeaf, IsFaced, StandsForReader};
 ghost use Rattle.op_machine.specs.Shows.{MayBegin, Stands, wanted_at};
 ghost use Rattle.op_machine.specs.Tasks.{IsSameTask, Seeks};
 
@@ -22,7 +23,7 @@ use base_page::Page;
 use bw_model::{Command, Key, Limits, Reply};
 use chain_search::{Chain, chain_is_one, updates_fit};
 use deltas::{Delete, Put, Record, Term};
-use descent::{ReadEnd, ReadRound, WriteEnd, WriteRound};
+use descent::{ReadEnd, ReadRound, WriteEnd, WriteRound, leaves_stand};
 use installs::{Change, End, Plan, Spares, plans_may_be_linked};
 use smo::{MANY_DELTAS, SplitPlan, Version};
 use std::marker::Model;
@@ -121,23 +122,46 @@ impl Task {
         }
     }
 
-    /// A reader answers at the leaf of its key; where its round was cut off, a new one begins.
+    /// A reader answers at the leaf of its key, or from what it read of a removed one, whose left page it has read since; where its
+    /// round was cut off, a new one begins, which goes to the left of a removed page.
     fn end_read(&self, end: ReadEnd) -> State
         ensures stands { (spares : Spares) (k : Knowledge) (r : Recalled) → FacesRead self.now spares k r end → Stands self.now spares k r result }
         ensures few { (spares : Spares) (r : Recalled) → left_at r spares result ≤ left_for (Outcome.Read end) }
         ensures asks { (spares : Spares) → IsSome (wanted_at spares result) }
     {
+        leaves_stand();
         match end {
-            ReadEnd::Again | ReadEnd::Removed(_) => self.round(),
-            ReadEnd::Leaf(leaf) => {
-                let key = self.command.key();
-                State::Leave {
-                    reply: match self.command.reply(leaf.chain.find(key)) {
-                        Some(reply) => reply,
-                        None => cursor_page(&leaf.chain, key),
-                    },
-                }
-            }
+            ReadEnd::Again => self.round(),
+            ReadEnd::Removed(page) => self.left_round(page),
+            ReadEnd::Leaf(leaf) => self.answer(&leaf.chain),
+            ReadEnd::Beside { removed, .. } => self.answer(&removed.chain),
+        }
+    }
+
+    /// A reader's round that goes to the left of a removed page first.
+    fn left_round(&self, removed: Version) -> State
+        ensures stands { (spares : Spares) (k : Knowledge) (r : Recalled) → Seeks self.now spares k → is_writer self.now.command ≡ false → IsGoneAt self.now.limits k (command_key self.now.command) removed → Stands self.now spares k r result }
+        ensures few { (spares : Spares) (r : Recalled) → left_at r spares result ≤ left_for (Outcome.Read (ReadEnd.Removed removed)) }
+        ensures asks { (spares : Spares) → IsSome (wanted_at spares result) }
+    {
+        let key = self.command.key().copied();
+        State::Read {
+            round: ReadRound::left(&self.limits, key, removed),
+        }
+    }
+
+    /// A reader's reply over the chain of a leaf that stood.
+    fn answer(&self, leaf: &Chain) -> State
+        ensures stands { (spares : Spares) (k : Knowledge) (r : Recalled) (head : ℕ) → StandsForReader self.now spares k head leaf.now → Stands self.now spares k r result }
+        ensures few { (spares : Spares) (r : Recalled) → left_at r spares result ≤ 1 }
+        ensures asks { (spares : Spares) → IsSome (wanted_at spares result) }
+    {
+        let key = self.command.key();
+        State::Leave {
+            reply: match self.command.reply(leaf.find(key)) {
+                Some(reply) => reply,
+                None => cursor_page(leaf, key),
+            },
         }
     }
 
