@@ -109,7 +109,7 @@ module _ (old new : ReadRound) (told : Answer Record) (visit : page.Visit) where
       by_result (Some Again) t = absurd t
       by_result (Some (Removed removed)) t = let some = left_removed reserve old.limits way (is_beyond old.goal) k r visit h.level h.low h.earlier told h.seeks f version b t.1 in omega (arith, some)
       by_result (Some (Leaf leaf)) t = let some = left_some reserve old.limits way (is_beyond old.goal) k r visit h.level h.low h.earlier told h.seeks f version b in omega (arith, some)
-      by_result (Some (Beside left removed)) t = let some = left_some reserve old.limits way (is_beyond old.goal) k r visit h.level h.low h.earlier told h.seeks f version b in omega (arith, some)
+      by_result (Some (Beside left removed)) t = let some = left_some reserve old.limits way (is_beyond old.goal) k r visit h.level h.low h.earlier told h.seeks f version b in rw t.at_left.goal (omega (arith, some))
 
   paid : (next : page.Visit) (sight : Sight) (result : Option ReadEnd) → page.Responds visit told next (Some sight) → Sees here sight new result → Pays new result here told
   paid next Empty result b sees = rw sees (λ reserve kept k r h f. missed reserve kept k r h f b old.goal h.seeks)

@@ -268,7 +268,7 @@ Spends reserve kept r old told new None = IsSpentWith (1 + reserve) r (wanted ol
 Spends reserve kept r old told new (Some Again) = Misses reserve kept r old told old.goal
 Spends reserve kept r old told new (Some (Removed removed)) = reserve + kept_for kept old.goal < reads_left reserve kept r old
 Spends reserve kept r old told new (Some (Leaf leaf)) = kept_for kept old.goal < reads_left reserve kept r old
-Spends reserve kept r old told new (Some (Beside left removed)) = kept_for kept old.goal < reads_left reserve kept r old
+Spends reserve kept r old told new (Some (Beside left removed)) = kept < reads_left reserve kept r old
 
 -- The limits and the key stay.
 pub record IsSame (old new : ReadRound) : Type 0 where
