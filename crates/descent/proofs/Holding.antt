@@ -48,7 +48,7 @@ in_hand_slot limits k page n version apart h = record { page = h.page; row = h.r
 pub named_slot : (limits : Limits) (k : Knowledge) (page n level : ℕ) (low : List ℕ) → IsNamedAt limits k page level low → IsNamedAt limits (learn_slot page n k) page level low
 named_slot limits k page n level low h = record { naming = h.naming; in_hand = in_hand_slot limits k page n h.naming h.apart h.in_hand; alive = h.alive; apart = h.apart; names = h.names }
 
-slot_before : (k : Knowledge) (page n left other row : ℕ) → left ≢ page → k.read.before left other ≡ Some row → (learn_slot page n k).read.before left other ≡ Some row
+pub slot_before : (k : Knowledge) (page n left other row : ℕ) → left ≢ page → k.read.before left other ≡ Some row → (learn_slot page n k).read.before left other ≡ Some row
 slot_before k zero n left other row apart h = h
 slot_before k (suc page) zero left other row apart h = h
 slot_before k (suc page) (suc n) left other row apart h = elim (eqb_tells left (suc page)) [ inl same ↦ absurd (apart same.1) | inr differs ↦ rw differs.0 h ]

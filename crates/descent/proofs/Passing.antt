@@ -12,13 +12,11 @@ use Rattle.base_page.proofs.KeyLaws.{not_true}
 use Rattle.deltas.specs.declared.record.Record.{Record}
 use Rattle.chain_search.specs.Chains.{high_in, is_removed, level_in, low_in, right_in}
 use Rattle.chain_search.specs.Discipline.{IsBeyond}
-use Rattle.chain_search.specs.Fitted.{IsFitted}
 use Rattle.chain_search.specs.Fitting.{Fits, FitsRow, SaysRight}
 use Rattle.chain_search.specs.Knowledge.{Knowledge, learn}
 use Rattle.chain_search.specs.Recalled.{IsUnread, Recalled, recall}
 use Rattle.smo.specs.Readings.{IsAfter}
 use Rattle.smo.specs.declared.version.Version.{Version}
-use Rattle.smo.proofs.Removed.{lowest_stands}
 use Rattle.descent.specs.declared.read_round.Goal.{Goal}
 use Rattle.descent.specs.declared.read_round.Goal.TheVariants.{Seek, Left, Beyond}
 use Rattle.descent.specs.declared.visit.State.TheVariants.{Slot, Row}
@@ -28,19 +26,11 @@ use Rattle.descent.specs.Walks.{HasArrived, IsPast, IsPastAt}
 use Rattle.descent.specs.Ways.{LeadsOn, LeadsRight, NamesAt, StaysLeft, reaches, precedes}
 use Rattle.descent.specs.ReadRounds.{Begins, IsBesideLeaf, IsGoneAt, IsLeafOf, IsVisiting, Keeps, is_beyond, way_of}
 use Rattle.descent.proofs.Holding.{before_slot, in_hand_row, in_hand_slot}
-use Rattle.descent.proofs.PageLaws.{spans}
+use Rattle.descent.proofs.PageLaws.{above_empty, spans}
 use Rattle.descent.proofs.Seeking.{arrived_next, hand, living, seeks_next, seeks_on, seeks_root}
 use Rattle.descent.proofs.Visiting.{back, there}
 use Rattle.descent.proofs.Walking.{all_past, never_there, not_itself, past_on, told_of, trans}
 use Rattle.descent.proofs.WayLaws.{covers_here, down_names, lowest, right_names}
-
--- a removed page begins above the empty key
-above_empty : (chain : List Record) → IsFitted chain → is_removed chain ≡ true → IsTrue (is_below [] (low_in chain))
-above_empty chain fit gone = by_low (low_in chain) refl
-  where
-    by_low : (low : List ℕ) → low_in chain ≡ low → IsTrue (is_below [] (low_in chain))
-    by_low [] e = let clash : true ≡ false = sym gone ∙ lowest_stands chain fit e in cc
-    by_low (x ∷ xs) e = rw e refl
 
 -- a key that is above a page that begins after another is above that one
 reached_before : (key low high : List ℕ) → IsTrue (is_below low high) → IsTrue (reaches key high) → IsTrue (reaches key low)
