@@ -1,5 +1,5 @@
 -- What an operation faces where it goes from one state to another.
-use Rattle.std.specs.Prelude.{◌≡◌, ◌<◌, ◌≤◌, ℕ, List, [], length, Option, Some, IsSome, IsTrue, true, false}
+use Rattle.std.specs.Prelude.{◌≡◌, ◌<◌, ◌≤◌, ℕ, List, [], length, Option, Some, IfSome, IsSome, IsTrue, ⊤, true, false}
 use Rattle.bw_model.specs.declared.command.Reply.{Reply as ReplyOf}
 use Rattle.bw_model.specs.declared.step.Step.{Step as StepOf}
 use Rattle.bw_model.specs.declared.step.Step.TheVariants as step
@@ -13,7 +13,9 @@ use Rattle.descent.specs.ReadRounds as read
 use Rattle.descent.specs.Versions.{IsAlive}
 use Rattle.descent.specs.WriteRounds as write
 use Rattle.descent.specs.declared.read_round.ReadEnd.{ReadEnd}
+use Rattle.descent.specs.declared.write_round.Goal.TheVariants.{Seek}
 use Rattle.descent.specs.declared.write_round.WriteEnd.{WriteEnd}
+use Rattle.descent.specs.declared.write_round.WriteEnd.TheVariants as write_end
 use Rattle.installs.specs.declared.change.End.{End}
 use Rattle.installs.specs.declared.change.End.TheVariants.{Won, Lost, Full}
 use Rattle.installs.specs.Spares.{Spares}
@@ -21,7 +23,7 @@ use Rattle.smo.specs.Sizes.{HasFewItems}
 use Rattle.smo.specs.declared.version.Version.{Version}
 use Rattle.bw_model.specs.Replies.{command_key, is_writer}
 use Rattle.op_machine.specs.Errands.{due_of, way_key}
-use Rattle.op_machine.specs.Shows.{FitsLast, Stands, learn_last, recall_last, wanted_at}
+use Rattle.op_machine.specs.Shows.{FitsLast, IsRoundOf, Stands, learn_last, recall_last, wanted_at}
 use Rattle.op_machine.specs.Tasks.{IsDone, IsAtRest, Seeks, Task, Waits}
 use Rattle.op_machine.specs.declared.state.Outcome.{Outcome}
 use Rattle.op_machine.specs.declared.state.Outcome.TheVariants.{Begun, Epoch, Entered, Read, Written, Changed}
@@ -49,14 +51,18 @@ pub record StandsForReader (task : Task) (spares : Spares) (k : Knowledge) (head
   pub covered : IsTrue (covers leaf (command_key task.command))
   pub standing : WasStanding k head leaf
 
+-- A round that ends at the leaf of a key has gone to that leaf.
+abbrev pub HasSought : write.WriteRound → WriteEnd → Type 0
+HasSought round (write_end.Leaf parent leaf) = round.goal ≡ Seek
+HasSought round end = ⊤
+
 -- A writer's round has ended.
 pub record FacesWritten (task : Task) (spares : Spares) (k : Knowledge) (r : Recalled) (end : WriteEnd) : Type 0 where
   pub seeks : Seeks task spares k
   pub writer : is_writer task.command ≡ true
   pub round : write.WriteRound
-  pub limits : round.limits ≡ task.limits
-  pub key : round.key ≡ way_key task.errands task.command
-  pub due : round.due ≡ due_of task.errands task.command
+  pub round_of : IsRoundOf task round
+  pub sought : HasSought round end
   pub ends : write.Ends round k r end
 
 -- A writer is at the leaf that its round looked for, where nothing else is due.
@@ -69,6 +75,11 @@ pub record IsAtLeaf (task : Task) (spares : Spares) (k : Knowledge) (r : Recalle
   pub short : length leaf.chain ≤ 8
   pub early : length leaf.chain ≤ due_of task.errands task.command
   pub few : HasFewItems leaf.chain
+
+-- The same, and the page above it, where one was read before it.
+pub record IsAtLeafBelow (task : Task) (spares : Spares) (k : Knowledge) (r : Recalled) (parent : Option Version) (leaf : Version) : Type 0 where
+  pub at : IsAtLeaf task spares k r leaf
+  pub above : IfSome parent (write.IsUpper task.limits k r leaf)
 
 -- A change has ended: an update was linked, and justifies the reply; or no update was linked, and, where it is full, nothing
 -- is free.
