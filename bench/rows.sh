@@ -1,6 +1,7 @@
 #!/bin/sh
-# How much processor time it takes to read a row of words as a record: bench/rows.sh [TIMES]
-# A put, and a full leaf of 24 items with keys and values of 4 and of 32 bytes; the program is proved and built first.
+# How much processor time it takes to read a row of words as a record, and to find a key in a chain: bench/rows.sh [TIMES]
+# The rows are a put, and a full leaf of 24 items with keys and values of 4 and of 32 bytes; the chain is one of 8 deltas over a leaf of
+# 15 items, and is searched by the walk and by the page that it makes. The program is proved and built first.
 set -eu
 top=$(CDPATH='' cd -- "$(dirname -- "$0")/.." && pwd)
 times=${1:-300000}
@@ -8,14 +9,14 @@ program=$top/crates/row_bench/out/row_bench
 [ -x "$program" ] || (cd "$top/crates/row_bench" && rt run -- put 1) </dev/null >/dev/null
 used=$(mktemp)
 trap 'rm -f "$used"' EXIT
-for kind in put short long; do
+for kind in put short long find page; do
     (
         read=$("$program" "$kind" "$times")
-        [ "$read" = "$times" ] || { echo "expected $times records, got $read"; exit 1; }
+        [ "$read" = "$times" ] || { echo "expected $times, got $read"; exit 1; }
         times >"$used"
     )
     awk -v kind="$kind" -v n="$times" 'NR == 2 {
         split($1, user, /[ms]/)
-        printf "%s: %.2f microseconds a row\n", kind, (user[1] * 60 + user[2]) / n * 1000000
+        printf "%s: %.2f microseconds\n", kind, (user[1] * 60 + user[2]) / n * 1000000
     }' "$used"
 done

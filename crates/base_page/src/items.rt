@@ -171,7 +171,7 @@ impl Items {
     }
 
     /// How many items are below the key.
-    pub(crate) fn count_below(&self, key: &Key) -> usize
+    pub fn count_below(&self, key: &Key) -> usize
         ensures { IsCut self.now key.now result }
     {
         let _ = &self.items;

@@ -17,7 +17,7 @@ use Rattle.deltas.specs.declared.record.Record.{Record}
 use Rattle.deltas.specs.declared.record.Record.TheVariants.{Base}
 use Rattle.deltas.specs.Applies.{Applies}
 use Rattle.deltas.specs.Spellable.{HasPid, IsPid, IsRow, IsSpellableLink, IsSpellablePage}
-use Rattle.chain_search.specs.Examples.{leaf, split, split_leaf, merge, merged_leaf, put, delete, remove, leaf_chain, index, index_page, term, hold, unterm, termed_page, held_page, untermed_page, index_chain, put_over_removal, put_outside, base_over_base, first_held, marked_base, unnamed_split}
+use Rattle.chain_search.specs.Examples.{leaf, split, split_leaf, merge, merged_leaf, put, delete, remove, leaf_chain, index, index_page, term, hold, unterm, termed_page, held_page, untermed_page, index_chain, index_split, split_index, upper_index, index_merge, merged_index, hold_again, long_index, put_over_removal, put_outside, base_over_base, first_held, marked_base, unnamed_split}
 use Rattle.chain_search.specs.Fitted.{FitsOver, IsPageChain, Makes}
 use Rattle.chain_search.proofs.FittedLaws.{by_order, first_spellable, found_first, fits_over, Makes-base, Makes-next}
 
@@ -246,9 +246,9 @@ term_contents child q = by_key q k09
     (λ is. subst (λ k. content_at (both child false).items k ≡ (if is_eq (key_cmp k k09) then Some (Child child false) else content_at index.items k)) (sym is) refl)
     (λ other. rw other refl)
 
-hold_contents : (q : List ℕ) → content_at (both 2 true).items q ≡ (if is_eq (key_cmp q k09) then Some (Child 2 true) else content_at (both 2 false).items q)
-hold_contents q = by_key q k09
-    (λ is. subst (λ k. content_at (both 2 true).items k ≡ (if is_eq (key_cmp k k09) then Some (Child 2 true) else content_at (both 2 false).items k)) (sym is) refl)
+hold_contents : (child : ℕ) (q : List ℕ) → content_at (both child true).items q ≡ (if is_eq (key_cmp q k09) then Some (Child child true) else content_at (both child false).items q)
+hold_contents child q = by_key q k09
+    (λ is. subst (λ k. content_at (both child true).items k ≡ (if is_eq (key_cmp k k09) then Some (Child child true) else content_at (both child false).items k)) (sym is) refl)
     (λ other. rw other refl)
 
 unterm_contents : (q : List ℕ) → content_at index.items q ≡ (if is_eq (key_cmp q k09) then None else content_at (both 2 true).items q)
@@ -271,7 +271,7 @@ term_makes : Makes termed_page (both 2 false)
 term_makes = Makes-next index_page (term 4 2) index (both 2 false) index_makes (term_applies 4 2)
 
 hold_applies : Applies (both 2 false) hold (both 2 true)
-hold_applies = record { ascending = (ruled_both 2 true).is_page.ordered.ascending; contents = hold_contents; level = refl; low = refl; high = refl; right = refl; removed = refl }
+hold_applies = record { ascending = (ruled_both 2 true).is_page.ordered.ascending; contents = hold_contents 2; level = refl; low = refl; high = refl; right = refl; removed = refl }
 
 hold_makes : Makes (hold ∷ termed_page) (both 2 true)
 hold_makes = Makes-next termed_page hold (both 2 false) (both 2 true) term_makes hold_applies
@@ -297,6 +297,86 @@ index_chain_fits = record {
   fitted = (term_fits untermed_page 7 3 (omega arith, omega arith) (omega arith, omega arith) unterm_makes, (unterm_fits, (hold_fits, (term_fits index_page 4 2 (omega arith, omega arith) (omega arith, omega arith) index_makes, (index, refl, stands_index)))));
   short = omega arith;
 }
+
+-- the same page split, and merged back
+
+above_first : (q : List ℕ) → key_cmp k09 q ≡ Less → is_eq (key_cmp q []) ≡ false
+above_first q more = by_key q [] (λ is. let clash : key_cmp k09 [] ≡ Less = subst (λ k. key_cmp k09 k ≡ Less) is more in absurd cc) (λ other. other)
+
+abbrev cut : Page
+cut = record index { high = Some k09; right = Some 4 }
+
+ruled_cut : IsRuled cut
+unfolding IsStrictlySortedBy
+ruled_cut = record {
+  is_page = is_page cut refl (record { few = omega arith; ascending = (tt, tt) }) (refl, tt) (omega arith, tt);
+  ends = refl;
+  top = omega arith;
+  terms = λ above. record { first = (refl, refl); few = omega arith; apart = tt };
+}
+
+cut_contents : (q : List ℕ) → content_at cut.items q ≡ (if not (is_below q k09) then None else content_at (both 3 false).items q)
+cut_contents q = by_order q k09
+    (λ less. rw less refl)
+    (λ is. subst (λ k. content_at cut.items k ≡ (if not (is_below k k09) then None else content_at (both 3 false).items k)) (sym is) refl)
+    (λ more. rw (above_09 q more, above_first q more) refl)
+
+merged_contents : (q : List ℕ) → content_at (both 5 false).items q ≡ (if not (is_below q k09) && true then content_at upper_index.items q else content_at cut.items q)
+merged_contents q = by_order q k09
+    (λ less. rw less refl)
+    (λ is. subst (λ k. content_at (both 5 false).items k ≡ (if not (is_below k k09) && true then content_at upper_index.items k else content_at cut.items k)) (sym is) refl)
+    (λ more. rw (above_09 q more, above_first q more) refl)
+
+stands_upper_index : IsSpellablePage upper_index
+unfolding IsStrictlySortedBy
+stands_upper_index = record {
+  ruled = record {
+    is_page = is_page upper_index refl (record { few = omega arith; ascending = (tt, tt) }) (refl, tt) (omega arith, tt);
+    ends = refl;
+    top = omega arith;
+    terms = λ above. record { first = (refl, refl); few = omega arith; apart = tt };
+  };
+  alive = refl;
+  right = tt;
+  children = All-from_recursion (λ (item : Item). HasPid item.content) upper_index.items ((omega arith, omega arith), tt);
+}
+
+again_makes : Makes index_chain (both 3 false)
+again_makes = Makes-next untermed_page (term 7 3) index (both 3 false) unterm_makes (term_applies 7 3)
+
+cut_applies : Applies (both 3 false) index_split cut
+cut_applies = record { ascending = ruled_cut.is_page.ordered.ascending; contents = cut_contents; level = refl; low = refl; high = refl; right = refl; removed = refl }
+
+cut_makes : Makes split_index cut
+cut_makes = Makes-next index_chain index_split (both 3 false) cut again_makes cut_applies
+
+cut_fits : FitsOver index_chain index_split
+cut_fits = fits_over index_chain index_split (both 3 false) cut refl (linked 1 8 4 (omega arith) (omega arith, omega arith) (omega arith, omega arith)) again_makes
+    (record { alive = refl; level = refl; covered = refl; inner = refl })
+    cut_applies ruled_cut
+
+back_applies : Applies cut index_merge (both 5 false)
+back_applies = record { ascending = (ruled_both 5 false).is_page.ordered.ascending; contents = merged_contents; level = refl; low = refl; high = refl; right = refl; removed = refl }
+
+back_makes : Makes merged_index (both 5 false)
+back_makes = Makes-next split_index index_merge cut (both 5 false) cut_makes back_applies
+
+back_fits : FitsOver split_index index_merge
+back_fits = fits_over split_index index_merge cut (both 5 false) refl ((omega arith, omega arith), not_empty, omega arith, stands_upper_index) cut_makes
+    (record { alive = refl; level = refl; meets = refl; merged = stands_upper_index.ruled.is_page; room = omega arith })
+    back_applies (ruled_both 5 false)
+
+held_again_fits : FitsOver merged_index hold_again
+held_again_fits = fits_over merged_index hold_again (both 5 false) (both 5 true) refl (omega arith, linked 1 10 5 (omega arith) (omega arith, omega arith) (omega arith, omega arith)) back_makes
+    (record { alive = refl; level = refl; there = refl })
+    (record { ascending = (ruled_both 5 true).is_page.ordered.ascending; contents = hold_contents 5; level = refl; low = refl; high = refl; right = refl; removed = refl })
+    (ruled_both 5 true)
+
+pub long_index_fits : IsPageChain long_index
+long_index_fits = record { fitted = (held_again_fits, (back_fits, (cut_fits, index_chain_fits.fitted))); short = omega arith }
+
+pub split_index_fits : IsPageChain split_index
+split_index_fits = record { fitted = (cut_fits, index_chain_fits.fitted); short = omega arith }
 
 -- what doesn't fit
 

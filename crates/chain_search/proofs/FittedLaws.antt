@@ -257,6 +257,10 @@ fits_at [] base i d h lt = absurd (omega (arith, lt))
 fits_at (newest ∷ under) base zero d h lt = (first_fits newest under base h).0
 fits_at (newest ∷ under) base (suc i) d h lt = fits_at under base i d (first_fits newest under base h).1 (omega arith)
 
+pub base_stands : (deltas : List Record) (base : Page) → IsFitted (over deltas base) → IsSpellablePage base
+base_stands [] base h = first_spellable (Base base) [] h
+base_stands (newest ∷ under) base h = base_stands under base (first_fits newest under base h).1
+
 pub base_makes : (deltas : List Record) (base : Page) → IsFitted (over deltas base) → Makes (over (drop (length deltas) deltas) base) base
 base_makes [] base h = let stands = first_spellable (Base base) [] h in Makes-base base stands.ruled.is_page.ordered.ascending stands.alive
 base_makes (newest ∷ under) base h = base_makes under base (first_fits newest under base h).1
@@ -330,26 +334,21 @@ first_child (item ∷ items) level low first kinds index = by_kind item.content 
     by_kind (Value value) is kind = let leaf : level ≡ 0 = subst (IsOfLevel level) is kind in absurd (omega (arith, index, leaf))
     by_kind (Child child held) is kind = (child, held, at_low ∙ ap Some is)
 
+-- the page that a fitted chain makes
+pub page_of : (chain : List Record) → IsFitted chain → (page : Page) × Makes chain page
+page_of [] h = absurd h
+page_of (newest ∷ []) (base, is, stands) = (base, subst (λ (r : Record). Makes (r ∷ []) base) (sym is) (Makes-base base stands.ruled.is_page.ordered.ascending stands.alive))
+page_of (newest ∷ older ∷ under) (over, rest) = (over.made, over.makes_now)
+
 -- an index page has a child wherever its low key passes
-pub has_child : (chain : List Record) (page : Page) (passes : List ℕ → Bool) → Makes chain page → IsRuled page → 0 < level_in chain → IsTrue (passes (low_in chain))
-    → (Q : ℕ → Type 0) (found : Option ℕ) → MatchOption found (HasNoChild (content_at page.items) passes) Q → IsSome found
-has_child chain page passes m rules index passing Q (Some child) h = refl
-has_child chain page passes m rules index passing Q None h =
-    let is_index : 0 < page.level = rw m.level index in
-    let first = first_child page.items page.level page.low (rules.terms is_index).first rules.is_page.kinds is_index in
-    let none : child_in (content_at page.items page.low) ≡ None = h.none page.low (rw m.low passing) in
-    let clash : None ≡ Some first.0 = sym none ∙ ap child_in first.2 in
+pub has_child : (chain : List Record) (passes : List ℕ → Bool) → IsFitted chain → 0 < level_in chain → IsTrue (passes (low_in chain))
+    → (Q : ℕ → Type 0) (found : Option ℕ) → MatchOption found (HasNoChild (content_in chain) passes) Q → IsSome found
+has_child chain passes fitted index passing Q (Some child) h = refl
+has_child chain passes fitted index passing Q None h =
+    let made = page_of chain fitted in
+    let rules = ruled chain made.0 fitted made.1 in
+    let is_index : 0 < made.0.level = rw made.1.level index in
+    let first = first_child made.0.items made.0.level made.0.low (rules.terms is_index).first rules.is_page.kinds is_index in
+    let none : child_in (content_in chain made.0.low) ≡ None = h.none made.0.low (rw made.1.low passing) in
+    let clash : None ≡ Some first.0 = sym none ∙ ap child_in (sym (made.1.items.contents made.0.low) ∙ first.2) in
     absurd cc
-
-nothing : (deltas : List Record) → length deltas ≡ 0 → deltas ≡ []
-nothing [] h = refl
-nothing (delta ∷ deltas) h = absurd (omega arith)
-
--- where no delta stands over the base, the chain makes the base
-pub base_alone : (deltas : List Record) (base : Page) (chain : List Record) → IsFitted (over deltas base) → length deltas ≡ 0 → over deltas base ≡ chain → Makes chain base × IsRuled base
-base_alone deltas base chain fitted none is =
-    let empty = nothing deltas none in
-    let bare : over [] base ≡ chain = ap (λ (ds : List Record). over ds base) (sym empty) ∙ is in
-    let fits : IsFitted (over [] base) = subst (λ (ds : List Record). IsFitted (over ds base)) empty fitted in
-    let makes : Makes (over [] base) base = base_makes [] base fits in
-    (subst (λ (records : List Record). Makes records base) bare makes, ruled (over [] base) base fits makes)

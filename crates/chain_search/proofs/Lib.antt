@@ -8,3 +8,5 @@ pub mod FittedExamples
 pub mod Updated
 pub mod PairLaws
 pub mod PaidExamples
+pub mod WalkLaws
+pub mod ChildWalks

@@ -74,6 +74,28 @@ untermed_page = unterm ∷ held_page
 abbrev pub index_chain : List Record
 index_chain = term 7 3 ∷ untermed_page
 
+-- then the page split there to page 4, and that one merged back, where it had a term there of page 5, which is held
+abbrev pub index_split : Record
+index_split = delta.Split (record { level = 1; next = 8; separator = codes "k09"; page = 4 })
+
+abbrev pub split_index : List Record
+split_index = index_split ∷ index_chain
+
+abbrev pub upper_index : Page
+upper_index = record { level = 1; low = codes "k09"; high = None; right = None; removed = false; items = record { key = codes "k09"; content = Child 5 false } ∷ [] }
+
+abbrev pub index_merge : Record
+index_merge = delta.Merge (record { level = 1; next = 9; low = codes "k09"; high = None; right = None; items = upper_index.items })
+
+abbrev pub merged_index : List Record
+merged_index = index_merge ∷ split_index
+
+abbrev pub hold_again : Record
+hold_again = delta.Hold (record { level = 1; next = 10; separator = codes "k09"; child = 5 })
+
+abbrev pub long_index : List Record
+long_index = hold_again ∷ merged_index
+
 -- What doesn't fit: a put over a removal, a put of a key that a split cut off, a base over a base, a hold of the first term, a
 -- base that is marked removed, and a split to a page that can't be.
 abbrev pub put_over_removal : List Record

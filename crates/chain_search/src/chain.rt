@@ -8,6 +8,7 @@ mod pages;
 mod pairs;
 mod rows;
 mod search;
+mod walk;
 
 use crate::MAX_RECORDS;
 use arrayvec::ArrayVec;

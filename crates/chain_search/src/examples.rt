@@ -4,7 +4,7 @@ ghost use Rattle.bw_model.specs.declared.step.Answer.TheVariants.{Number, Conten
 ghost use Rattle.bw_model.specs.declared.step.Step.TheVariants.{Slot, Row, Exchange, TakeRow, Leave};
 ghost use Rattle.base_page.specs.declared.item.Content.TheVariants.{Value, Child};
 ghost use Rattle.chain_search.specs.Chains.{content_in, high_in, right_in, is_removed, covers};
-ghost use Rattle.chain_search.specs.Examples.{put_leaf, deleted_leaf, split_leaf, removed_leaf, merged_leaf, leaf_chain, index_page, termed_page, held_page, untermed_page, index_chain, put_over_removal, put_outside, base_over_base, first_held, marked_base, unnamed_split, remove};
+ghost use Rattle.chain_search.specs.Examples.{put_leaf, deleted_leaf, split_leaf, removed_leaf, merged_leaf, leaf_chain, index_page, termed_page, held_page, untermed_page, index_chain, split_index, long_index, put_over_removal, put_outside, base_over_base, first_held, marked_base, unnamed_split, remove};
 ghost use Rattle.chain_search.specs.Fitted.{IsPageChain};
 ghost use Rattle.chain_search.specs.Recalled.{IsPaid, recall};
 ghost use Rattle.chain_search.specs.Recollections.{after_bits, after_loss, after_miss, after_removal, after_split};
@@ -45,12 +45,16 @@ pub fn terms_come_and_go()
     ensures held { content_in held_page (codes "k09") ≡ Some (Child 2 true) }
     ensures out { content_in untermed_page (codes "k09") ≡ None }
     ensures first { content_in untermed_page [] ≡ Some (Child 1 false) }
+    ensures cut { content_in split_index (codes "k09") ≡ None }
+    ensures merged { content_in long_index (codes "k09") ≡ Some (Child 5 true) }
 {}
 
 /// Each record of these fits what is under it.
 pub fn chains_fit()
     ensures leaf { IsPageChain leaf_chain }
     ensures index { IsPageChain index_chain }
+    ensures cut { IsPageChain split_index }
+    ensures long { IsPageChain long_index }
 {}
 
 /// The newest record of these doesn't fit what is under it, makes a page that breaks a rule, or is one that no row can spell.

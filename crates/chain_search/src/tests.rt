@@ -1,7 +1,8 @@
 //! Chains by hand, which have all nine kinds of record.
-ghost use Rattle.std.specs.Prelude.{◌≡◌, ◌≤◌, [], ◌∷◌, length};
+ghost use Rattle.std.specs.Prelude.{◌≡◌, ◌≤◌, [], ◌∷◌, false, length};
+ghost use Rattle.base_page.specs.declared.item.Content.TheVariants.{Child};
 ghost use Rattle.deltas.specs.declared.record.Record.TheVariants as kind;
-ghost use Rattle.chain_search.specs.Examples.{leaf, leaf_chain, index_chain};
+ghost use Rattle.chain_search.specs.Examples.{leaf, leaf_chain, index, index_chain, index_split, split_index, long_index};
 
 use crate::{Chain, ChainPart};
 use base_page::{Content, Items, Page};
@@ -83,31 +84,100 @@ fn leaf_chain() -> Chain
     part.over(leaf())
 }
 
+fn hold(next: u16, separator: Key, child: u16) -> Record
+    ensures { result ≡ kind.Hold (record { level = 1; next = next; separator = separator; child = child }) }
+{
+    Record::Hold(Hold {
+        level: 1,
+        next,
+        separator,
+        child,
+    })
+}
+
+fn unterm(next: u16, separator: Key, child: u16) -> Record
+    ensures { result ≡ kind.Unterm (record { level = 1; next = next; separator = separator; child = child }) }
+{
+    Record::Unterm(Unterm {
+        level: 1,
+        next,
+        separator,
+        child,
+    })
+}
+
+fn child(page: u16) -> Content
+    ensures { result ≡ Child page false }
+{
+    Content::Child { page, held: false }
+}
+
+/// The index page under the deltas.
+fn index() -> Page
+    ensures { result ≡ index }
+{
+    Page::new(
+        1,
+        Key::default(),
+        None,
+        None,
+        item(Key::default(), child(1)),
+    )
+}
+
 fn index_chain() -> Chain
     ensures { result ≡ index_chain }
 {
-    let separator = key(b"k09");
     let mut part = ChainPart::new();
-    part.push(term(7, separator.copied(), 3));
-    part.push(Record::Unterm(Unterm {
+    part.push(term(7, key(b"k09"), 3));
+    part.push(unterm(6, key(b"k09"), 2));
+    part.push(hold(5, key(b"k09"), 2));
+    part.push(term(4, key(b"k09"), 2));
+    part.over(index())
+}
+
+fn index_split() -> Record
+    ensures { result ≡ index_split }
+{
+    Record::Split(Split {
         level: 1,
-        next: 6,
-        separator: separator.copied(),
-        child: 2,
-    }));
-    part.push(Record::Hold(Hold {
+        next: 8,
+        separator: key(b"k09"),
+        page: 4,
+    })
+}
+
+fn split_index() -> Chain
+    ensures { result ≡ split_index }
+{
+    let mut part = ChainPart::new();
+    part.push(index_split());
+    part.push(term(7, key(b"k09"), 3));
+    part.push(unterm(6, key(b"k09"), 2));
+    part.push(hold(5, key(b"k09"), 2));
+    part.push(term(4, key(b"k09"), 2));
+    part.over(index())
+}
+
+fn long_index() -> Chain
+    ensures { result ≡ long_index }
+{
+    let mut part = ChainPart::new();
+    part.push(hold(10, key(b"k09"), 5));
+    part.push(Record::Merge(Merge {
         level: 1,
-        next: 5,
-        separator: separator.copied(),
-        child: 2,
+        next: 9,
+        low: key(b"k09"),
+        high: None,
+        right: None,
+        items: item(key(b"k09"), child(5)),
     }));
-    part.push(term(4, separator, 2));
-    let first = Content::Child {
-        page: 1,
-        held: false,
-    };
-    let items = item(Key::default(), first);
-    part.over(Page::new(1, Key::default(), None, None, items))
+    part.push(index_split());
+    part.push(term(7, key(b"k09"), 3));
+    part.push(unterm(6, key(b"k09"), 2));
+    part.push(hold(5, key(b"k09"), 2));
+    part.push(term(4, key(b"k09"), 2));
+    part.over(index())
 }
 
 #[test]
@@ -139,6 +209,24 @@ fn finds_the_children_of_an_index_page(rt: HostRuntime) {
     let page = chain.consolidated();
     assert_eq!(rt; page.items().len(), 2);
     assert_eq!(rt; page.child_of(&key(b"k09")), Some(3));
+}
+
+#[test]
+fn finds_no_child_past_a_split(rt: HostRuntime) {
+    let chain = split_index();
+    assert_eq!(rt; chain.child_of(&key(b"k08")), Some(1));
+    assert_eq!(rt; chain.child_of(&key(b"k09")), Some(1));
+    assert_eq!(rt; chain.child_below(&key(b"k10")), Some(1));
+}
+
+#[test]
+fn finds_the_held_child_of_a_merge(rt: HostRuntime) {
+    let chain = long_index();
+    assert_eq!(rt; chain.child_of(&key(b"k10")), Some(5));
+    assert_eq!(rt; chain.child_of(&key(b"k09")), Some(5));
+    assert_eq!(rt; chain.child_below(&key(b"k10")), Some(5));
+    assert_eq!(rt; chain.child_below(&key(b"k09")), Some(1));
+    assert_eq!(rt; chain.child_below(chain.low()), None);
 }
 
 #[test]

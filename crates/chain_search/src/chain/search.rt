@@ -1,11 +1,12 @@
 //! What a chain decides for a key.
-ghost use Rattle.std.specs.Prelude.{◌≡◌, ◌<◌, ◌++◌, List, IsSome, IsTrue, MatchOption, not, option_copied};
+ghost use Rattle.std.specs.Prelude.{◌≡◌, ◌<◌, ◌++◌, List, IsSome, IsTrue, MatchOption, not, option_copied, is_some};
 ghost use Rattle.bw_model.specs.Bytes.{is_below};
-ghost use Rattle.base_page.specs.Pages.{value_in};
+ghost use Rattle.base_page.specs.Pages.{child_in, value_in};
 ghost use Rattle.base_page.specs.Places.{IsGreatestChild, HasNoChild};
 ghost use Rattle.deltas.specs.declared.record.Record.{Record};
 ghost use Rattle.deltas.specs.Records.{content_said};
 ghost use Rattle.chain_search.specs.Chains.{content_in, covers, level_in, low_in};
+ghost use Rattle.chain_search.specs.Walks.{is_named};
 
 use crate::Chain;
 use base_page::Content;
@@ -40,10 +41,11 @@ impl Chain {
             (IsGreatestChild (content_in self.now) (λ q. not (is_below key.now q))) }
         ensures index { 0 < level_in self.now → IsTrue (covers self.now key.now) → IsSome result }
     {
-        if self.deltas.is_empty() {
-            return self.base.child_of(key);
+        self.keeps_rules();
+        match self.child_at(key) {
+            Some(child) => Some(child),
+            None => self.child_below(key),
         }
-        self.page().child_of(key)
     }
 
     /// The child of the greatest term below the key, or none.
@@ -53,18 +55,30 @@ impl Chain {
             (IsGreatestChild (content_in self.now) (λ q. is_below q key.now)) }
         ensures index { 0 < level_in self.now → IsTrue (is_below (low_in self.now) key.now) → IsSome result }
     {
-        if self.deltas.is_empty() {
-            return self.base.child_below(key);
+        self.keeps_rules();
+        match self.greatest_below(key) {
+            Some(separator) => self.child_at(separator),
+            None => None,
         }
-        self.page().child_below(key)
+    }
+
+    /// The child that the page has at the key, which the newest record that names the key says, or none.
+    fn child_at(&self, key: &Key) -> Option<u16>
+        ensures { result ≡ child_in (content_in self.now key.now) }
+    {
+        match newest_of(self.deltas.as_slice(), key) {
+            Some(newest) => child_said(newest, key),
+            None => self.base.items().child_at(key),
+        }
     }
 }
 
 /// The newest of the deltas that names the key, or none.
-fn newest_of<'a>(deltas: &'a [Record], key: &Key) -> Option<&'a Record>
-    ensures { (under : List Record) → MatchOption result
+pub(super) fn newest_of<'a>(deltas: &'a [Record], key: &Key) -> Option<&'a Record>
+    ensures said { (under : List Record) → MatchOption result
         (content_in (deltas.now ++ under) key.now ≡ content_in under key.now)
         (λ newest. content_in (deltas.now ++ under) key.now ≡ content_said newest.now key.now) }
+    ensures named { is_some result ≡ is_named deltas.now key.now }
 {
     for newest in deltas {
         if newest.names(key) {
@@ -94,6 +108,19 @@ fn value_said<'a>(newest: &'a Record, key: &Key) -> Option<&'a Value>
             Some(Content::Value(value)) => Some(value),
             _ => None,
         },
+        _ => None,
+    }
+}
+
+/// The child that a record says of a key that it names, where it says one.
+fn child_said(newest: &Record, key: &Key) -> Option<u16>
+    ensures { result ≡ child_in (content_said newest.now key.now) }
+{
+    match newest {
+        Record::Base(page) => page.items().child_at(key),
+        Record::Term(term) => Some(term.child),
+        Record::Hold(hold) => Some(hold.child),
+        Record::Merge(merge) => merge.items.child_at(key),
         _ => None,
     }
 }

@@ -1,7 +1,11 @@
 use Rattle.std.proofs.Common.{◌≡◌, ◌++◌, List, drop}
 use Rattle.deltas.specs.declared.record.Record.{Record}
 use Rattle.chain_search.specs.Chains.{content_in}
+use Rattle.chain_search.specs.Walks.{is_named}
 use Rattle.chain_search.proofs.chain.search.newest_of.Given as goal
 
 abbrev pub invariant-loop-newest : goal.invariant-loop-newest
-invariant-loop-newest l = (under : List Record) → content_in (drop l.newest-index l.deltas ++ under) l.key ≡ content_in (l.deltas ++ under) l.key
+invariant-loop-newest l = record {
+  said : (under : List Record) → content_in (drop l.newest-index l.deltas ++ under) l.key ≡ content_in (l.deltas ++ under) l.key;
+  named : is_named (drop l.newest-index l.deltas) l.key ≡ is_named l.deltas l.key;
+}
