@@ -1,5 +1,5 @@
 -- What an operation faces where it goes from one state to another.
-use Rattle.std.specs.Prelude.{◌≡◌, ◌<◌, ◌≤◌, ℕ, List, [], length, Option, Some, IfSome, IsSome, IsTrue, ⊤, true, false}
+use Rattle.std.specs.Prelude.{◌≡◌, ◌<◌, ◌≤◌, ℕ, List, [], length, Bool, Option, None, Some, IfSome, IsSome, IsTrue, ⊤, true, false}
 use Rattle.bw_model.specs.declared.command.Reply.{Reply as ReplyOf}
 use Rattle.bw_model.specs.declared.step.Step.{Step as StepOf}
 use Rattle.bw_model.specs.declared.step.Step.TheVariants as step
@@ -30,6 +30,7 @@ use Rattle.op_machine.specs.declared.state.Outcome.TheVariants.{Begun, Epoch, En
 use Rattle.op_machine.specs.declared.state.Progress.{Progress}
 use Rattle.op_machine.specs.declared.state.Progress.TheVariants.{On, To, Left}
 use Rattle.op_machine.specs.declared.state.State.{State}
+use Rattle.op_machine.specs.declared.state.State.TheVariants.{Change}
 use Rattle.op_machine.specs.declared.state.Then.{Then}
 use Rattle.op_machine.specs.declared.state.Then.TheVariants.{Round, Errand, Reply}
 
@@ -111,6 +112,16 @@ pub record IsFaced (task : Task) (spares : Spares) (outcome : Outcome) : Type 0 
   pub k : Knowledge
   pub r : Recalled
   pub faces : Faces task spares k r outcome
+
+-- whether a change is under way
+abbrev pub is_changing : State → Bool
+is_changing (Change now then) = true
+is_changing state = false
+
+-- what the end of a change, once it has come, makes of its state
+abbrev pub changed : Option (End × Then) → Progress
+changed None = On
+changed (Some ended) = To (Changed ended.0 ended.1)
 
 -- The last step was Leave, its actor may reply so with it, and rests after it.
 pub record HasLeft (task : Task) (k : Knowledge) (last : Option (StepOf Record)) (told : Answer Record) (spares : Spares) (reply : ReplyOf) : Type 0 where

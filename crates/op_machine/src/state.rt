@@ -1,9 +1,9 @@
 //! Where an operation stands: a machine for each thing that takes more than one step.
-ghost use Rattle.std.specs.Prelude.{◌≡◌, Some, IsSome};
+ghost use Rattle.std.specs.Prelude.{◌≡◌, Some, IsSome, true, false};
 ghost use Rattle.chain_search.specs.Knowledge.{Knowledge};
 ghost use Rattle.chain_search.specs.Recalled.{Recalled};
 ghost use Rattle.op_machine.specs.Bounded.{LeavesFor, left_at};
-ghost use Rattle.op_machine.specs.Outcomes.{Comes, IsToldAt};
+ghost use Rattle.op_machine.specs.Outcomes.{Comes, IsToldAt, changed, is_changing};
 ghost use Rattle.op_machine.specs.Shows.{FitsLast, MayStep, Stands, wanted_at};
 ghost use Rattle.op_machine.specs.Tasks.{Task};
 
@@ -95,9 +95,10 @@ impl State {
         }
     }
 
-    /// Takes the answer to the step wanted last.
+    /// Takes the answer to the step wanted last, where no change is under way.
     pub(crate) fn next(&mut self, spares: &mut Spares, answer: Answer<Record>) -> Progress
         requires told { IsToldAt self.old spares.old answer }
+        requires still { is_changing self.old ≡ false }
         ensures comes { (task : Task) (k : Knowledge) (r : Recalled) → Stands task spares.old k r self.old → FitsLast task.limits k (wanted_at spares.old self.old) answer → Comes task k r (wanted_at spares.old self.old) answer self.new spares.new result }
         ensures leaves { (task : Task) (k : Knowledge) (r : Recalled) → Stands task spares.old k r self.old → FitsLast task.limits k (wanted_at spares.old self.old) answer → LeavesFor r (wanted_at spares.old self.old) answer (left_at r spares.old self.old) self.new spares.new result }
     {
@@ -113,15 +114,36 @@ impl State {
                 None => Progress::On,
                 Some(end) => Progress::To(Outcome::Written(end)),
             },
-            State::Change { change, then } => match change.next(spares, answer) {
-                None => Progress::On,
-                Some(end) => Progress::To(Outcome::Changed {
-                    end,
-                    then: then.copied(),
-                }),
-            },
             State::Leave { reply } => Progress::Left(copied(reply)),
-            State::Over => unreachable!(),
+            State::Change { .. } | State::Over => unreachable!(),
+        }
+    }
+
+    /// Whether a change is under way.
+    pub(crate) fn is_changing(&self) -> bool
+        ensures { result ≡ is_changing self.now }
+    {
+        matches!(self, State::Change { .. })
+    }
+
+    /// Takes the answer to the step that a change wanted last, and tells how the change has ended and what comes then, once it
+    /// has.
+    pub(crate) fn change_next(
+        &mut self,
+        spares: &mut Spares,
+        answer: Answer<Record>,
+    ) -> Option<(End, Then)>
+        requires told { IsToldAt self.old spares.old answer }
+        requires changing { is_changing self.old ≡ true }
+        ensures comes { (task : Task) (k : Knowledge) (r : Recalled) → Stands task spares.old k r self.old → FitsLast task.limits k (wanted_at spares.old self.old) answer → Comes task k r (wanted_at spares.old self.old) answer self.new spares.new (changed result) }
+        ensures leaves { (task : Task) (k : Knowledge) (r : Recalled) → Stands task spares.old k r self.old → FitsLast task.limits k (wanted_at spares.old self.old) answer → LeavesFor r (wanted_at spares.old self.old) answer (left_at r spares.old self.old) self.new spares.new (changed result) }
+    {
+        match self {
+            State::Change { change, then } => match change.next(spares, answer) {
+                None => None,
+                Some(end) => Some((end, then.copied())),
+            },
+            _ => unreachable!(),
         }
     }
 }

@@ -1,68 +1,77 @@
-use Rattle.std.proofs.Common.{arith}
+use Rattle.std.proofs.Common.{arith, subst, sym, ◌∙◌}
+use Rattle.std.specs.Option.{IsSome}
+use Rattle.op_machine.specs.Ops.{Op}
 use Rattle.op_machine.specs.Shows.{Stands, learn_last, recall_last, wanted_at}
 use Rattle.op_machine.proofs.Going.{spent_with}
 use Rattle.op_machine.proofs.op.Op.next.Goals as goal
-use Rattle.op_machine.proofs.op.Op.next.Goals.{in-On, in-To}
+use Rattle.op_machine.proofs.op.Op.next.Goals.{in-Some, in_default}
 
-pub next-requires : goal.next-requires
-next-requires c =
+pub change_next-requires-clause-told : goal.change_next-requires-clause-told
+change_next-requires-clause-told c =
     let told = c.requires.told in
-    record { told = record { task = c.self.inside.task; k = told.k; r = told.r; stands = rw (← c.self.view_is, ← c.hand.view_is) at told.shows; fits = rw (← c.self.view_is, ← c.hand.view_is) at told.fits } }
+    record { task = c.self.inside.task; k = told.k; r = told.r; stands = rw (← c.self.view_is, ← c.hand.view_is) at told.shows; fits = rw (← c.self.view_is, ← c.hand.view_is) at told.fits }
 
-pub go_on-self-inside-requires : goal.go_on-self-inside-requires
-go_on-self-inside-requires c =
+pub end_change-requires : goal.end_change-requires
+end_change-requires c =
     let told = c.requires.told in
-    let comes = c.next.ensures.comes c.self.inside.task told.k told.r (rw (← c.self.view_is, ← c.hand.view_is) at told.shows) (rw (← c.self.view_is, ← c.hand.view_is) at told.fits) in
-    record { faced = record { k = _; r = _; faces = rw c.in-To.is at comes } }
-
-pub returns-in-Left-clause-obeys : goal.returns-in-Left-clause-obeys
-returns-in-Left-clause-obeys c k r h f =
-    let comes = c.next.ensures.comes c.self.inside.task k r (rw (← c.self.view_is, ← c.hand.view_is) at h) (rw (← c.self.view_is, ← c.hand.view_is) at f) in
-    rw (← c.self.view_is, ← c.hand.view_is) (rw c.in-Left.is at comes)
+    let comes = c.change_next.ensures.comes c.self.inside.task told.k told.r (rw (← c.self.view_is, ← c.hand.view_is) at told.shows) (rw (← c.self.view_is, ← c.hand.view_is) at told.fits) in
+    let last = wanted_at c.hand.inside.spares c.self.inside.state in
+    record { faced = record { k = learn_last told.k last c.args.answer; r = recall_last told.r last c.args.answer; faces = rw c.in-Some.is at comes } }
 
 pub step-requires-clause-stands : goal.step-requires-clause-stands
 step-requires-clause-stands c =
     let told = c.requires.told in
+    let has = c.change_next.new.spares in
     let last = wanted_at c.hand.inside.spares c.self.inside.state in
     let known = learn_last told.k last c.args.answer in
     let recalled = recall_last told.r last c.args.answer in
-    let comes = c.next.ensures.comes c.self.inside.task told.k told.r (rw (← c.self.view_is, ← c.hand.view_is) at told.shows) (rw (← c.self.view_is, ← c.hand.view_is) at told.fits) in
-    elim c.match-next.branch [
-      | in-On w ↦ let on = rw w.in-On.is at comes in (c.self.inside.task, known, recalled, rw w.self-inside-is on.0)
-      | in-To w ↦ let faces = rw w.in-To.is at comes in (w.go_on-self-inside.new.self, known, recalled, rw w.self-inside-is (w.go_on-self-inside.ensures.stands known recalled faces))
-    ]
+    let P : Op → Type 0 = λ o. Stands o.task has known recalled o.state in
+    let comes = c.change_next.ensures.comes c.self.inside.task told.k told.r (rw (← c.self.view_is, ← c.hand.view_is) at told.shows) (rw (← c.self.view_is, ← c.hand.view_is) at told.fits) in (
+      c.self-2.inside.task,
+      known,
+      recalled,
+      elim c.match-change_next.branch [
+        | in-Some w ↦ let faces = rw w.in-Some.is at comes in subst P (sym (c.self-2.view_is ∙ w.self-is)) (w.end_change.ensures.stands known recalled faces)
+        | in_default w ↦ let on = rw w.in_default.is at comes in subst P (sym (c.self-2.view_is ∙ w.self-is)) on.0
+      ],
+    )
 
 pub step-requires-clause-asks : goal.step-requires-clause-asks
 step-requires-clause-asks c =
     let told = c.requires.told in
-    let comes = c.next.ensures.comes c.self.inside.task told.k told.r (rw (← c.self.view_is, ← c.hand.view_is) at told.shows) (rw (← c.self.view_is, ← c.hand.view_is) at told.fits) in
-    elim c.match-next.branch [
-      | in-On w ↦ let on = rw w.in-On.is at comes in rw w.self-inside-is on.1
-      | in-To w ↦ rw w.self-inside-is w.go_on-self-inside.ensures.asks
+    let P : Op → Type 0 = λ o. IsSome (wanted_at c.change_next.new.spares o.state) in
+    let comes = c.change_next.ensures.comes c.self.inside.task told.k told.r (rw (← c.self.view_is, ← c.hand.view_is) at told.shows) (rw (← c.self.view_is, ← c.hand.view_is) at told.fits) in
+    elim c.match-change_next.branch [
+      | in-Some w ↦ subst P (sym (c.self-2.view_is ∙ w.self-is)) w.end_change.ensures.asks
+      | in_default w ↦ let on = rw w.in_default.is at comes in subst P (sym (c.self-2.view_is ∙ w.self-is)) on.1
     ]
 
 pub returns-clause-obeys : goal.returns-clause-obeys
 returns-clause-obeys c k r h f =
+    let has = c.change_next.new.spares in
     let last = wanted_at c.hand.inside.spares c.self.inside.state in
-    let comes = c.next.ensures.comes c.self.inside.task k r (rw (← c.self.view_is, ← c.hand.view_is) at h) (rw (← c.self.view_is, ← c.hand.view_is) at f) in
-    let stands : Stands c.match-next.self-inside.task c.next.new.spares (learn_last k last c.args.answer) (recall_last r last c.args.answer) c.match-next.self-inside.state = elim c.match-next.branch [
-      | in-On w ↦ let on = rw w.in-On.is at comes in rw w.self-inside-is on.0
-      | in-To w ↦ let faces = rw w.in-To.is at comes in rw w.self-inside-is (w.go_on-self-inside.ensures.stands _ _ faces)
+    let known = learn_last k last c.args.answer in
+    let recalled = recall_last r last c.args.answer in
+    let P : Op → Type 0 = λ o. Stands o.task has known recalled o.state in
+    let comes = c.change_next.ensures.comes c.self.inside.task k r (rw (← c.self.view_is, ← c.hand.view_is) at h) (rw (← c.self.view_is, ← c.hand.view_is) at f) in
+    let stands : Stands c.self-2.inside.task has known recalled c.self-2.inside.state = elim c.match-change_next.branch [
+      | in-Some w ↦ let faces = rw w.in-Some.is at comes in subst P (sym (c.self-2.view_is ∙ w.self-is)) (w.end_change.ensures.stands known recalled faces)
+      | in_default w ↦ let on = rw w.in_default.is at comes in subst P (sym (c.self-2.view_is ∙ w.self-is)) on.0
     ] in
-    rw (← c.self.view_is, ← c.hand.view_is) (record { wanted = c.step.ensures.wanted; may = c.step.ensures.may c.match-next.self-inside.task _ _ stands; shows = stands })
+    rw (← c.self.view_is, ← c.hand.view_is, ← c.self-2.view_is) (record { wanted = c.step.ensures.wanted; may = c.step.ensures.may c.self-2.inside.task _ _ stands; shows = stands })
 
 pub returns-clause-spends : goal.returns-clause-spends
 returns-clause-spends c k r h f =
     let last = wanted_at c.hand.inside.spares c.self.inside.state in
     let stands = rw (← c.self.view_is, ← c.hand.view_is) at h in
     let fits = rw (← c.self.view_is, ← c.hand.view_is) at f in
-    let comes = c.next.ensures.comes c.self.inside.task k r stands fits in
-    let leaves = c.next.ensures.leaves c.self.inside.task k r stands fits in
+    let comes = c.change_next.ensures.comes c.self.inside.task k r stands fits in
+    let leaves = c.change_next.ensures.leaves c.self.inside.task k r stands fits in
     let errands = c.self.inside.task.errands in
-    elim c.match-next.branch [
-      | in-On w ↦ let left = rw w.in-On.is at leaves in rw (← c.self.view_is, ← c.hand.view_is, w.self-inside-is) (spent_with r last c.args.answer _ _ errands errands _ left (omega arith))
-      | in-To w ↦
-          let left = rw w.in-To.is at leaves in
-          let faces = rw w.in-To.is at comes in
-          rw (← c.self.view_is, ← c.hand.view_is, w.self-inside-is) (spent_with r last c.args.answer _ _ errands w.go_on-self-inside.new.self.errands _ left (w.go_on-self-inside.ensures.few _ _ faces))
+    elim c.match-change_next.branch [
+      | in-Some w ↦
+          let left = rw w.in-Some.is at leaves in
+          let faces = rw w.in-Some.is at comes in
+          rw (← c.self.view_is, ← c.hand.view_is, w.self-is) (spent_with r last c.args.answer _ _ errands w.end_change.new.self.task.errands _ left (w.end_change.ensures.few (learn_last k last c.args.answer) (recall_last r last c.args.answer) faces))
+      | in_default w ↦ let left = rw w.in_default.is at leaves in rw (← c.self.view_is, ← c.hand.view_is, w.self-is) (spent_with r last c.args.answer _ _ errands errands _ left (omega arith))
     ]

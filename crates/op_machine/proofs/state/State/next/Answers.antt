@@ -52,44 +52,7 @@ returns-in-Some-next-clause-leaves c task k r h f =
     let fits = rw c.in-Write.is at f in
     rw c.in-Write.is (write_left task c.args.spares.now k r c.in-Write.round c.next-in-Write.new.self c.args.answer shows fits c.in-Some-next.end (rw c.in-Some-next.is at (c.next-in-Write.ensures.spends left_round one_round k r shows.shows (rw shows.round_of.limits fits))))
 
-pub returns-in-None-next-2-clause-comes : goal.returns-in-None-next-2-clause-comes
-returns-in-None-next-2-clause-comes c task k r h f =
-    let shows = rw c.in-Change.is at h in
-    let fits = rw c.in-Change.is at f in
-    let next = c.next-in-Change in
-    let goes = rw c.in-None-next-2.is at (next.ensures.follows task.actor k shows.shows (rw shows.limits fits)) in
-    let apart = taken_apart task c.args.spares.now next.new.spares k r c.in-Change.change next.new.self c.in-Change.then c.args.answer shows fits next.ensures.pid in
-    let spends = rw c.in-None-next-2.is at (next.ensures.spends one_round r shows.recalls apart) in
-    let sound = rw c.in-None-next-2.is at next.ensures.sound in
-    rw c.in-Change.is (change_on task c.args.spares.now next.new.spares k r c.in-Change.change next.new.self c.in-Change.then c.args.answer shows fits next.ensures.pid next.ensures.same sound goes spends.0, refl)
-
-pub returns-in-None-next-2-clause-leaves : goal.returns-in-None-next-2-clause-leaves
-returns-in-None-next-2-clause-leaves c task k r h f =
-    let shows = rw c.in-Change.is at h in
-    let fits = rw c.in-Change.is at f in
-    let next = c.next-in-Change in
-    let apart = taken_apart task c.args.spares.now next.new.spares k r c.in-Change.change next.new.self c.in-Change.then c.args.answer shows fits next.ensures.pid in
-    let spends = rw c.in-None-next-2.is at (next.ensures.spends one_round r shows.recalls apart) in
-    rw c.in-Change.is (change_left task c.args.spares.now next.new.spares k r c.in-Change.change next.new.self c.in-Change.then c.args.answer shows fits next.ensures.pid spends)
-
-pub returns-in-Some-next-2-clause-comes : goal.returns-in-Some-next-2-clause-comes
-returns-in-Some-next-2-clause-comes c task k r h f =
-    let shows = rw c.in-Change.is at h in
-    let fits = rw c.in-Change.is at f in
-    let next = c.next-in-Change in
-    let over = rw c.in-Some-next-2.is at (next.ensures.follows task.actor k shows.shows (rw shows.limits fits)) in
-    rw (c.in-Change.is, c.copied.ensures) (change_ended task c.args.spares.now next.new.spares k r c.in-Change.change next.new.self c.in-Change.then c.args.answer shows fits next.ensures.pid c.in-Some-next-2.end next.ensures.room over)
-
-pub returns-in-Some-next-2-clause-leaves : goal.returns-in-Some-next-2-clause-leaves
-returns-in-Some-next-2-clause-leaves c task k r h f =
-    let shows = rw c.in-Change.is at h in
-    let fits = rw c.in-Change.is at f in
-    let next = c.next-in-Change in
-    let apart = taken_apart task c.args.spares.now next.new.spares k r c.in-Change.change next.new.self c.in-Change.then c.args.answer shows fits next.ensures.pid in
-    let spends = rw c.in-Some-next-2.is at (next.ensures.spends one_round r shows.recalls apart) in
-    rw (c.in-Change.is, c.copied.ensures) (ended_left task c.args.spares.now next.new.spares k r c.in-Change.change next.new.self c.in-Change.then c.args.answer shows fits next.ensures.pid c.in-Some-next-2.end spends)
-
 pub returns-in-Leave-clause-comes : goal.returns-in-Leave-clause-comes
 returns-in-Leave-clause-comes c task k r h f =
     let shows = rw c.in-Leave.is at h in
-    rw (c.in-Leave.is, c.copied-in-Leave.ensures) (record { is_last = refl; may = shows.1; rests = record { outside = refl; spare = record { room = shows.0.spare.room; rest = shows.0.spare.rest } } })
+    rw (c.in-Leave.is, c.copied.ensures) (record { is_last = refl; may = shows.1; rests = record { outside = refl; spare = record { room = shows.0.spare.room; rest = shows.0.spare.rest } } })
