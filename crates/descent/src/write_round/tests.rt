@@ -26,12 +26,12 @@ enum Turn {
     Other,
 }
 
-fn key(text: &[u8]) -> Key {
+pub(crate) fn key(text: &[u8]) -> Key {
     Key::from_slice(text).unwrap_or_default()
 }
 
 /// A leaf over all keys, with so many items.
-fn leaf(count: u8) -> Page
+pub(crate) fn leaf(count: u8) -> Page
     ensures level { result.level ≡ 0 }
     ensures high { result.high ≡ None }
     ensures right { result.right ≡ None }
@@ -48,7 +48,7 @@ fn leaf(count: u8) -> Page
 }
 
 /// Page 1 as it was read, under so many deltas, which change nothing.
-fn first(deltas: usize, page: Page) -> Version
+pub(crate) fn first(deltas: usize, page: Page) -> Version
     requires few { deltas ≤ 12 }
     requires level { page.level ≡ 0 }
     requires high { page.high ≡ None }
@@ -87,7 +87,7 @@ fn grown(page: &Version, newest: Record) -> Version
 }
 
 /// A leaf of 16 items that was split to page 2, and page 2.
-fn halves() -> Option<(Version, Version)> {
+pub(crate) fn halves() -> Option<(Version, Version)> {
     let whole = first(0, leaf(16));
     let plan = plan_split(&whole)?;
     let left = grown(&whole, Record::Split(plan.split(2)));
@@ -108,7 +108,7 @@ fn index() -> Page
 }
 
 /// The same as page 5.
-fn parent() -> Version {
+pub(crate) fn parent() -> Version {
     let chain = ChainPart::new().over(index());
     let (pid, head) = (5, 8);
     Version { pid, head, chain }
