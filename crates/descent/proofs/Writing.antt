@@ -247,6 +247,7 @@ module _ (old : WriteRound) (k now : Knowledge) (r : Recalled) (version : Versio
       let short : length version.chain ≤ 8 = (let most = lt_of_not-le (λ (many : 9 ≤ length version.chain). t.fine.short (inl many)) in omega (arith, most)) in
       let early : length version.chain ≤ old.due = (let most = lt_of_not-le (λ (many : suc old.due ≤ length version.chain). t.fine.short (inr (t.level, many))) in omega (arith, most)) in
       rw (t.is, t.above) (record {
+        seeks = t.seeks;
         page = alive_here alive;
         level = t.level;
         covered = covers_here old.key version.chain (reached old.limits k now r version h.level h.low h.earlier h.arrives (reaches old.key) (subst (λ (g : Goal). IsTrue (way_of g old.key h.low)) t.seeks h.passing)).reached (subst (λ (g : Goal). StaysLeft (way_of g old.key) version.chain) t.seeks t.here.stays);

@@ -222,6 +222,7 @@ pub record IsUpper (limits : Limits) (k : Knowledge) (r : Recalled) (version : V
 
 -- The leaf has the key in its range, and few deltas and items.
 pub record IsLeafEnd (round : WriteRound) (k : Knowledge) (r : Recalled) (parent : Option Version) (leaf : Version) : Type 0 where
+  pub seeks : round.goal ≡ Seek
   pub page : IsAlive round.limits k r leaf
   pub level : level_in leaf.chain ≡ 0
   pub covered : IsTrue (covers leaf.chain round.key)

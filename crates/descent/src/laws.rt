@@ -1,14 +1,17 @@
 //! Laws of rounds: each function does nothing, and its contract is proved of all of them.
-ghost use Rattle.std.specs.Prelude.{◌≤◌, ◌+◌, ℕ, List, Some};
+ghost use Rattle.std.specs.Prelude.{◌≡◌, ◌≤◌, ◌+◌, ℕ, List, None, Some};
 ghost use Rattle.bw_model.specs.declared.limits.Limits.{Limits};
+ghost use Rattle.bw_model.specs.declared.step.Answer.{Answer};
 ghost use Rattle.chain_search.specs.Discipline.{MayHold, MayMerge, MayRemove, MayUnterm, WasStanding};
 ghost use Rattle.chain_search.specs.Knowledge.{Knowledge};
 ghost use Rattle.chain_search.specs.Recalled.{Recalled};
 ghost use Rattle.descent.specs.ReadRounds as reader;
 ghost use Rattle.descent.specs.WriteRounds as writer;
 ghost use Rattle.descent.specs.Walks.{few_reads};
+ghost use Rattle.descent.specs.declared.write_round.Goal.TheVariants.{Seek};
 ghost use Rattle.deltas.specs.declared.record.Hold.{Hold};
 ghost use Rattle.deltas.specs.declared.record.Merge.{Merge};
+ghost use Rattle.deltas.specs.declared.record.Record.{Record};
 ghost use Rattle.deltas.specs.declared.record.Record.TheVariants as kind;
 ghost use Rattle.deltas.specs.declared.record.Remove.{Remove};
 ghost use Rattle.deltas.specs.declared.record.Unterm.{Unterm};
@@ -26,6 +29,11 @@ pub fn rounds_are_short()
     ensures write { (reserve kept : ℕ) (k : Knowledge) (r : Recalled) (round : writer.WriteRound)
         → writer.Shows round k r
         → writer.reads_left reserve kept r round ≤ few_reads + reserve + writer.kept_for kept round.goal }
+{}
+
+/// A round to the left of a removed page that goes on doesn't become one to the leaf of its key.
+pub fn left_rounds_stay()
+    ensures { (old new : writer.WriteRound) (told : Answer Record) → writer.Responds old told new None → new.goal ≡ Seek → old.goal ≡ Seek }
 {}
 
 /// The leaf at which a reader's round ends was read while it stood, also the one that is removed.
