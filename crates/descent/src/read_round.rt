@@ -10,6 +10,9 @@ ghost use Rattle.descent.specs.Visits.{ReadsWithin};
 ghost use Rattle.descent.specs.Ways.{EndsHere, LeadsOn, precedes};
 ghost use Rattle.descent.specs.declared.descent.State.TheVariants.{Root};
 
+#[cfg(test)]
+mod tests;
+
 use crate::Sight;
 use crate::descent::Descent;
 use crate::way::{next_on_way, right_on_way};

@@ -13,7 +13,7 @@ ghost use Rattle.descent.specs.WriteRounds.{CanSee, CanTreat, Follows, HasCome, 
 ghost use Rattle.descent.specs.Ways.{StaysLeft};
 
 #[cfg(test)]
-mod tests;
+pub(crate) mod tests;
 
 use crate::Sight;
 use crate::descent::Descent;

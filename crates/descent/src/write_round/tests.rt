@@ -3,10 +3,9 @@ ghost use Rattle.std.specs.Prelude.{◌≡◌, ◌<◌, ◌≤◌, ◌∷◌, le
 ghost use Rattle.chain_search.specs.Chains.{is_removed, low_in};
 ghost use Rattle.chain_search.specs.Examples.{index};
 ghost use Rattle.chain_search.specs.Fitted.{FitsOver};
-ghost use Rattle.descent.specs.Ways.{reaches};
-ghost use Rattle.descent.specs.declared.write_round.Goal.TheVariants.{Seek};
+ghost use Rattle.descent.specs.WriteRounds.{CanMeet, way_of};
 
-use super::{WriteEnd, WriteRound};
+use super::{Goal, WriteEnd, WriteRound};
 use base_page::{Content, Items, Page};
 use bw_model::{Key, Limits, Value};
 use chain_search::ChainPart;
@@ -23,15 +22,16 @@ enum Turn {
     Term(u16, u16, u16),
     Root(u16),
     Leaf(bool),
+    Done,
     Other,
 }
 
-fn key(text: &[u8]) -> Key {
+pub(crate) fn key(text: &[u8]) -> Key {
     Key::from_slice(text).unwrap_or_default()
 }
 
 /// A leaf over all keys, with so many items.
-fn leaf(count: u8) -> Page
+pub(crate) fn leaf(count: u8) -> Page
     ensures level { result.level ≡ 0 }
     ensures high { result.high ≡ None }
     ensures right { result.right ≡ None }
@@ -48,7 +48,7 @@ fn leaf(count: u8) -> Page
 }
 
 /// Page 1 as it was read, under so many deltas, which change nothing.
-fn first(deltas: usize, page: Page) -> Version
+pub(crate) fn first(deltas: usize, page: Page) -> Version
     requires few { deltas ≤ 12 }
     requires level { page.level ≡ 0 }
     requires high { page.high ≡ None }
@@ -87,7 +87,7 @@ fn grown(page: &Version, newest: Record) -> Version
 }
 
 /// A leaf of 16 items that was split to page 2, and page 2.
-fn halves() -> Option<(Version, Version)> {
+pub(crate) fn halves() -> Option<(Version, Version)> {
     let whole = first(0, leaf(16));
     let plan = plan_split(&whole)?;
     let left = grown(&whole, Record::Split(plan.split(2)));
@@ -108,7 +108,7 @@ fn index() -> Page
 }
 
 /// The same as page 5.
-fn parent() -> Version {
+pub(crate) fn parent() -> Version {
     let chain = ChainPart::new().over(index());
     let (pid, head) = (5, 8);
     Version { pid, head, chain }
@@ -124,25 +124,41 @@ fn stands(round: &WriteRound) -> bool
     }
 }
 
-/// Whether the page begins at or below the key.
+/// Whether the page begins on the way.
 fn is_reached(round: &WriteRound, page: &Version) -> bool
-    ensures { result ≡ reaches round.now.key (low_in page.now.chain) }
+    ensures { result ≡ way_of round.now.goal round.now.key (low_in page.now.chain) }
 {
-    !round.key.cmp(page.chain.low()).is_lt()
+    let low = page.chain.low();
+    if round.is_left() {
+        return low.cmp(&round.key).is_lt();
+    }
+    !round.key.cmp(low).is_lt()
+}
+
+/// Whether the round may go to the removed page, and on from there.
+fn meets(round: &WriteRound) -> bool
+    requires limits { round.now.limits.pids ≡ 4096 }
+    ensures { result ≡ true → CanMeet round.now.limits round.now.goal }
+{
+    match &round.goal {
+        Goal::Seek | Goal::Merge(_) => true,
+        Goal::Left(pid) => 0 < *pid && *pid < 4096,
+        Goal::Unterm { parent, .. } => !parent.chain.is_removed(),
+    }
 }
 
 /// What the round does with a page that it has read.
 fn meet(round: &mut WriteRound, page: Version) -> Turn
     requires limits { round.old.limits.pids ≡ 4096 }
-    requires seeks { round.old.goal ≡ Seek }
     ensures limits { round.new.limits.pids ≡ 4096 }
-    ensures seeks { round.new.goal ≡ Seek }
 {
     page.chain.keeps_rules();
     if stands(round) {
         if is_reached(round, &page) {
-            let end = round.treat(page);
-            return told(round, end);
+            if meets(round) {
+                let end = round.treat(page);
+                return told(round, end);
+            }
         }
     }
     Turn::Other
@@ -159,7 +175,8 @@ fn told(round: &WriteRound, end: Option<WriteEnd>) -> Turn {
         Some(WriteEnd::Term { parent, term }) => Turn::Term(parent.pid, term.next, term.child),
         Some(WriteEnd::Root { left, .. }) => Turn::Root(left.pid),
         Some(WriteEnd::Leaf { parent, .. }) => Turn::Leaf(parent.is_some()),
-        Some(WriteEnd::Merge { .. } | WriteEnd::Unterm { .. } | WriteEnd::Done) => Turn::Other,
+        Some(WriteEnd::Merge { .. } | WriteEnd::Unterm { .. }) => Turn::Other,
+        Some(WriteEnd::Done) => Turn::Done,
     }
 }
 
@@ -229,4 +246,32 @@ fn finishes_a_split_below_a_parent(rt: HostRuntime) {
         below_parent(),
         Some([Turn::To(1), Turn::To(2), Turn::Term(5, 8, 2)])
     );
+}
+
+/// What a writer does to the left of a removed page that begins at the key, at one page and then at another.
+fn to_the_left(at: Key, removed: u16, page: Version, next: Version) -> Option<[Turn; 2]> {
+    let limits = Limits::new(1, 4096, 16384, 1).ok()?;
+    let mut round = WriteRound::left(&limits, at, removed);
+    let turn = meet(&mut round, page);
+    Some([turn, meet(&mut round, next)])
+}
+
+#[test]
+fn goes_left_of_a_removed_page(rt: HostRuntime) {
+    let down = to_the_left(key(b"y"), 2, parent(), first(0, leaf(3)));
+    assert_eq!(rt; down, Some([Turn::To(1), Turn::Done]));
+}
+
+#[test]
+fn reads_the_removed_page_to_the_right_again(rt: HostRuntime) {
+    let (left, right) = halves().expect(&rt, "a full leaf is split");
+    let turns = to_the_left(key(&[b'x', 8]), 2, left, right);
+    assert_eq!(rt; turns, Some([Turn::To(2), Turn::Done]));
+}
+
+#[test]
+fn goes_right_below_the_removed_page(rt: HostRuntime) {
+    let (left, right) = halves().expect(&rt, "a full leaf is split");
+    let turns = to_the_left(key(b"y"), 3, left, right);
+    assert_eq!(rt; turns, Some([Turn::To(2), Turn::Root(1)]));
 }
