@@ -139,9 +139,3 @@ bits_same entries i d word bits lt stays is = λ n. at n (cases_eq own n) (cases
     at n (inl same) (inr away) =
         let off : n / 64 ≢ word = λ e. away (ap (λ m. m / 64) same ∙ e) in
         rw (ne_eqb (n / 64) word off) refl
-
-pub none_yet : HasNone []
-none_yet n = refl
-
-pub no_bits : (word : ℕ) → AreBitsOf [] word 0
-no_bits word n = rw (bit_at-zero (n % 64)) refl

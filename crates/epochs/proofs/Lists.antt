@@ -115,7 +115,6 @@ few list is =
         let is : q ≡ some.1 = equal q some.1 some.4 in
         omega (arith, low, is)
 
-
 pub has_room : (list : LimboList) (number : ℕ) → IsLimboList list → IsNew list number → length list.entries < list.limit
 has_room list number is new =
     let more : length (added number list).entries ≤ list.limit = few (added number list) (added_is_list list number is new) in

@@ -1,7 +1,7 @@
 //! The limbo lists of one actor.
 ghost use Rattle.std.specs.Prelude.{◌≡◌, ◌||◌, ◌↔◌, [], IfErr, IfOk, IsTrue};
 ghost use Rattle.std.specs.List.{list_any};
-ghost use Rattle.epochs.specs.Limbo.{IsNewItem, all_restaged, compared_with, is_unstamped, stamped_by, with_item};
+ghost use Rattle.epochs.specs.Limbo.{IsLimboList, IsNewItem, all_restaged, compared_with, is_unstamped, stamped_by, with_item};
 ghost use Rattle.epochs.specs.Words.{IsHandedOn};
 
 use crate::list::LimboList;
@@ -89,6 +89,15 @@ impl<A: Allocator> Limbo<A> {
                 None => None,
             },
         }
+    }
+
+    /// Each item of a limbo is there once, and is a number of the tree: this does nothing, and its contract says so.
+    pub fn has_each_once(&self)
+        ensures rows { IsLimboList self.now.rows }
+        ensures pids { IsLimboList self.now.pids }
+    {
+        self.rows.has_each_once();
+        self.pids.has_each_once();
     }
 
     /// Whether nothing is in limbo.

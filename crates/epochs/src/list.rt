@@ -1,7 +1,7 @@
 //! The limbo list of one kind of numbers.
 ghost use Rattle.std.specs.Prelude.{◌≡◌, ◌≤◌, ◌↔◌, [], IfOk, IsTrue, MatchOption};
 ghost use Rattle.std.specs.List.{list_any};
-ghost use Rattle.epochs.specs.Limbo.{IsNew, added, compared_with, is_in, is_unstamped, restaged, stamped_by};
+ghost use Rattle.epochs.specs.Limbo.{IsLimboList, IsNew, added, compared_with, is_in, is_unstamped, restaged, stamped_by};
 ghost use Rattle.epochs.specs.Words.{HandsNothingOn, HandsOn};
 
 use crate::entry::{compare_all, stamp_all};
@@ -91,6 +91,13 @@ impl<A: Allocator> LimboList<A> {
         let bits = bits_of(&self.entries, word);
         hand_on(&mut self.entries, word);
         Some((word, bits))
+    }
+
+    /// Each number is there once, and is one of the tree.
+    pub(crate) fn has_each_once(&self)
+        ensures { IsLimboList self.now }
+    {
+        let _ = &self.entries;
     }
 
     /// Whether no number is left.
