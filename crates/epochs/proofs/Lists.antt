@@ -1,5 +1,5 @@
 -- A limbo list stays one, and has room.
-use Rattle.std.proofs.Common.{◌≡◌, ◌≢◌, ◌<◌, ◌≤◌, ◌+◌, ◌⊎◌, ℕ, zero, suc, List, [], ◌∷◌, ◌++◌, Bool, true, false, length, get_or, set, take, drop, eqb, refl, sym, ap, subst, ◌∙◌, arith, rules, map, inl, inr, length-append}
+use Rattle.std.proofs.Common.{◌≡◌, ◌≢◌, ◌<◌, ◌≤◌, ◌+◌, ℕ, zero, suc, List, [], ◌∷◌, ◌++◌, Bool, true, false, length, get_or, set, take, drop, eqb, sym, ap, ◌∙◌, arith, rules, map, inl, inr, length-append}
 use Rattle.std.specs.List.{All, AllPairs, filter, list_any}
 use Rattle.std.proofs.lemmas.Bool.{cases_lt}
 use Rattle.std.proofs.lemmas.Bool.Decides.{Decides-eqb}

@@ -1,7 +1,11 @@
--- When what was taken out of the tree may be used again: the rule of epoch-based reclamation (Fraser 2004).
+-- When what was taken out of the tree may be used again: the rule of epoch-based reclamation (Fraser, Practical lock-freedom,
+-- 2004).
 --
 -- An actor announces an epoch that it has read before it enters, and 0 while it is outside. The stamp of an item is an epoch
 -- that was read after the item was unlinked. Who entered in a later epoch entered after that, and found the item nowhere.
+--
+-- The discipline of all actors says the same of what an actor has read, one announced number after another
+-- (chain_search/Discipline, `IsPassed`). This crate stands beside that one and can't name it.
 use Rattle.std.specs.Prelude.{◌==◌, ◌||◌, ℕ, Bool, List, ltb}
 use Rattle.std.specs.List.{list_all}
 

@@ -29,6 +29,11 @@ abbrev pub IsFirstPlace : List Entry → Option ℕ → Type 0
 IsFirstPlace entries None = HasNone entries
 IsFirstPlace entries (Some word) = IsFirst entries word
 
+-- the lower of two words, if there are two
+abbrev pub lower : Option ℕ → ℕ → ℕ
+lower None word = word
+lower (Some first) word = min first word
+
 -- The bits of the word are those of its numbers that may be freed, and no others.
 abbrev pub AreBitsOf : List Entry → ℕ → ℕ → Type 0
 AreBitsOf entries word bits = (number : ℕ) → is_among word bits number ≡ ((number / 64 == word) && may_go entries number)
@@ -53,8 +58,3 @@ abbrev pub IsHandedOn : Limbo → Option Reuse → Limbo → Type 0
 IsHandedOn limbo None after = HandsNothingOn limbo.rows after.rows × HandsNothingOn limbo.pids after.pids
 IsHandedOn limbo (Some (Rows word bits)) after = HandsOn limbo.rows word bits after.rows × (after.pids ≡ limbo.pids)
 IsHandedOn limbo (Some (Pids word bits)) after = HandsNothingOn limbo.rows after.rows × HandsOn limbo.pids word bits after.pids
-
--- the lower of two words, if there are two
-abbrev pub lower : Option ℕ → ℕ → ℕ
-lower None word = word
-lower (Some first) word = min first word

@@ -26,7 +26,8 @@ impl<A: Allocator> Model for Limbo<A> {
 }
 
 impl<A: Allocator + Copy> Limbo<A> {
-    /// An empty limbo, with room for all rows and PIDs, so that no later call takes memory.
+    /// An empty limbo, with room for all rows and PIDs (24 bytes each), so that no later call takes memory. Refused only where
+    /// memory was.
     pub fn new(alloc: A, limits: &Limits) -> Result<Limbo<A>, OpenError>
         ensures ok { IfOk result (λ limbo. limbo ≡ record { rows = record { limit = limits.now.rows; entries = [] }; pids = record { limit = limits.now.pids; entries = [] } }) }
         ensures err { IfErr result (λ error. error ≡ OpenError.Memory) }
@@ -68,8 +69,8 @@ impl<A: Allocator> Limbo<A> {
         self.pids.stamp(epoch);
     }
 
-    /// What all other actors announce was read, after the stamps: the items that may be freed are just those with a stamp
-    /// that each of these actors has passed.
+    /// What all other actors announce was read, after the stamps. The items that may be freed are just those with a stamp
+    /// that each of these actors has passed: it announced 0, or a later epoch.
     pub fn may_free(&mut self, announces: &[u64])
         ensures { self.new ≡ all_restaged (compared_with announces.now) self.old }
     {
@@ -78,7 +79,7 @@ impl<A: Allocator> Limbo<A> {
     }
 
     /// The next step that frees items, if any may be freed: those of the first word that has any, rows before PIDs. They
-    /// leave the limbo.
+    /// leave the limbo. It takes time over what is in limbo, not over all rows.
     pub fn next_word(&mut self) -> Option<Reuse>
         ensures { IsHandedOn self.old result self.new }
     {

@@ -1,6 +1,5 @@
-use Rattle.std.proofs.Common.{◌∙◌, refl, sym}
+use Rattle.std.proofs.Common.{◌∙◌, sym}
 use Rattle.std.proofs.lemmas.List.{take_all}
-use Rattle.epochs.specs.Words.{IsFirstPlace}
 use Rattle.epochs.proofs.Handing.{first_more, first_same}
 use Rattle.epochs.proofs.words.first_word.Goals.{then-is_passed, else-is_passed}
 use Rattle.epochs.proofs.words.first_word.Goals as goal
