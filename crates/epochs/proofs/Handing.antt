@@ -26,16 +26,16 @@ either : (f g : Bool) → (f || g) ≡ true → (f ≡ true) ⊎ (g ≡ true)
 either true g e = inl refl
 either false g e = inr e
 
-both : (f g : Bool) → (f && g) ≡ true → f ≡ true
+pub both : (f g : Bool) → (f && g) ≡ true → f ≡ true
 both true g e = refl
 both false g e = e
 
-second : (f g : Bool) → (f && g) ≡ true → g ≡ true
+pub second : (f g : Bool) → (f && g) ≡ true → g ≡ true
 second true g e = e
 second false true e = refl
 second false false e = e
 
-equal : (a b : ℕ) → eqb a b ≡ true → a ≡ b
+pub equal : (a b : ℕ) → eqb a b ≡ true → a ≡ b
 equal a b e = grind (arith, Decides-eqb)
 
 -- one entry more

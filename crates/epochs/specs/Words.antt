@@ -5,7 +5,7 @@ use Rattle.std.specs.List.{filter, list_any}
 use Rattle.epochs.specs.declared.entry.Entry.{Entry}
 use Rattle.epochs.specs.declared.item.Reuse.{Reuse}
 use Rattle.epochs.specs.declared.item.Reuse.TheVariants.{Rows, Pids}
-use Rattle.epochs.specs.Limbo.{Limbo, LimboList, is_passed}
+use Rattle.epochs.specs.Limbo.{Limbo, LimboList, is_in, is_passed}
 
 -- The number is of the word of free bits, at a bit that is set there.
 abbrev pub is_among : ℕ → ℕ → ℕ → Bool
@@ -42,10 +42,11 @@ AreBitsOf entries word bits = (number : ℕ) → is_among word bits number ≡ (
 abbrev pub without : ℕ → List Entry → List Entry
 without word entries = filter (λ entry. not ((entry.number / 64 == word) && is_passed entry.stage)) entries
 
--- The numbers of the first word that may be freed leave the list, and all else stays.
+-- The numbers of the first word that may be freed leave the list, so that none is handed on twice, and all else stays.
 pub record HandsOn (list : LimboList) (word bits : ℕ) (after : LimboList) : Type 0 where
   pub first : IsFirst list.entries word
   pub exact : AreBitsOf list.entries word bits
+  pub gone : (number : ℕ) → IsTrue (is_among word bits number) → IsFalse (is_in after number)
   pub rest : after ≡ record list { entries = without word list.entries }
 
 -- Nothing may be freed, and nothing changes.
