@@ -1,0 +1,3 @@
+pub mod Limbo
+pub mod Reclamation
+pub mod Words

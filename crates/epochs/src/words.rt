@@ -1,0 +1,52 @@
+//! The words of free bits that entries have a part in.
+ghost use Rattle.std.specs.Prelude.{◌≡◌, ◌<◌, vec_capacity};
+ghost use Rattle.std.specs.List.{All};
+ghost use Rattle.epochs.specs.Words.{AreBitsOf, IsFirstPlace, lower, without};
+
+use crate::Entry;
+use std::alloc::Allocator;
+
+/// The place of the first word with a number that may be freed.
+pub(crate) fn first_word(entries: &[Entry]) -> Option<u8>
+    requires { All (λ entry. entry.number < 16384) entries.now }
+    ensures { IsFirstPlace entries.now result }
+{
+    let mut first = None;
+    for entry in entries {
+        if entry.stage.is_passed() {
+            first = Some(earlier(first, (entry.number / 64) as u8));
+        }
+    }
+    first
+}
+
+/// The earlier of two words, the first of which there may not be.
+fn earlier(first: Option<u8>, word: u8) -> u8
+    ensures { result ≡ lower first word }
+{
+    match first {
+        Some(first) if first < word => first,
+        _ => word,
+    }
+}
+
+/// The bits of the numbers of a word that may be freed.
+pub(crate) fn bits_of(entries: &[Entry], word: u8) -> u64
+    ensures { AreBitsOf entries.now word result }
+{
+    let mut bits = 0;
+    for entry in entries {
+        if entry.goes_with(word) {
+            bits |= 1 << (entry.number % 64);
+        }
+    }
+    bits
+}
+
+/// Takes out the numbers of a word that may be freed.
+pub(crate) fn hand_on<A: Allocator>(entries: &mut Vec<Entry, A>, word: u8)
+    ensures rest { entries.new.items ≡ without word entries.old.items }
+    ensures capacity { vec_capacity entries.new ≡ vec_capacity entries.old }
+{
+    entries.retain(|entry| !entry.goes_with(word));
+}
