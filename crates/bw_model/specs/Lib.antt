@@ -5,3 +5,4 @@ pub mod Limits
 pub mod Log
 pub mod Pairs
 pub mod Replies
+pub mod Schedules

@@ -7,6 +7,7 @@ ghost use Rattle.bw_model.specs.Examples.{small_log};
 ghost use Rattle.bw_model.specs.Log.{set, unset, value_in};
 ghost use Rattle.bw_model.specs.Pairs.{IsPairsOf};
 ghost use Rattle.bw_model.specs.Replies.{is_writer, reply_of, update_of};
+ghost use Rattle.bw_model.specs.Schedules.{drawn, schedule_of};
 
 /// A proper front of a key is below it, bytes are unsigned, and the empty key is the lowest.
 pub fn keys_are_ordered()
@@ -28,6 +29,14 @@ pub fn logs_are_read()
 /// The pairs of a log have each key once, with its last value.
 pub fn pairs_are_listed()
     ensures { IsPairsOf small_log [] None ((codes "a", codes "3") ∷ []) }
+{}
+
+/// The first draws of two seeds.
+pub fn schedules_are_drawn()
+    ensures two_actors { drawn 8 (schedule_of 1 2)
+        ≡ 0 ∷ 0 ∷ 1 ∷ 0 ∷ 1 ∷ 0 ∷ 0 ∷ 0 ∷ [] }
+    ensures three_actors { drawn 8 (schedule_of 7 3)
+        ≡ 2 ∷ 2 ∷ 1 ∷ 0 ∷ 0 ∷ 0 ∷ 2 ∷ 1 ∷ [] }
 {}
 
 /// A cursor page and a tidying change nothing, and their replies are of no one key's value.

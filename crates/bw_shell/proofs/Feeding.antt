@@ -4,6 +4,7 @@ use Rattle.std.proofs.lemmas.List.{append_assoc, append-nil, take-append-drop, d
 use Rattle.std.proofs.lemmas.Bool.{ne_eqb}
 use Rattle.std.proofs.lemmas.Grind.{flat_map-append}
 use Rattle.std.specs.List.{AllByRecursion, flat_map}
+use Rattle.shell_lines.specs.declared.request.Language.{Language}
 use Rattle.bw_shell.specs.Turns.{Trace}
 use Rattle.bw_shell.specs.Lines.{lines_of, HasNoFeed, ended}
 use Rattle.bw_shell.specs.declared.refusal.Refusal.TheVariants.{Malformed}
@@ -49,7 +50,7 @@ line_last (b ∷ c ∷ bs) h some = rw (ne_eqb b 10 h.0, line_last (c ∷ bs) h.
 
 -- ---- steps
 
-pub one_line : (n : ℕ) (m : Trace) (q : List ℕ) (after : Trace) (u : List ℕ) → HasNoFeed q → Transcript n m (q ∷ []) after u false → Weaves n m q (10 ∷ []) (n + 1) after [] u
+pub one_line : {language : Language} (n : ℕ) (m : Trace) (q : List ℕ) (after : Trace) (u : List ℕ) → HasNoFeed q → Transcript language n m (q ∷ []) after u false → Weaves language n m q (10 ∷ []) (n + 1) after [] u
 one_line n m q after u h t = record {
   lines = q ∷ [];
   splits = record { whole = sym (append-nil (q ++ 10 ∷ [])) ∙ sym (append-nil ((q ++ 10 ∷ []) ++ [])); each = (h, tt); open_end = tt };
@@ -57,7 +58,7 @@ one_line n m q after u h t = record {
   count = refl;
 }
 
-pub one_byte : (n : ℕ) (m : Trace) (q : List ℕ) (b : ℕ) → HasNoFeed q → (b ≡ 10 → ⊥) → Weaves n m q (b ∷ []) n m (q ++ b ∷ []) []
+pub one_byte : {language : Language} (n : ℕ) (m : Trace) (q : List ℕ) (b : ℕ) → HasNoFeed q → (b ≡ 10 → ⊥) → Weaves language n m q (b ∷ []) n m (q ++ b ∷ []) []
 unfolding Transcript
 one_byte n m q b h other = record {
   lines = [];
@@ -66,7 +67,7 @@ one_byte n m q b h other = record {
   count = omega arith;
 }
 
-pub no_bytes : (n : ℕ) (m : Trace) (q : List ℕ) → HasNoFeed q → Weaves n m q [] n m q []
+pub no_bytes : {language : Language} (n : ℕ) (m : Trace) (q : List ℕ) → HasNoFeed q → Weaves language n m q [] n m q []
 unfolding Transcript
 no_bytes n m q h = record {
   lines = [];
@@ -75,26 +76,26 @@ no_bytes n m q h = record {
   count = omega arith;
 }
 
-pub stop_line : (n : ℕ) (m : Trace) (q more : List ℕ) (after : Trace) (u : List ℕ) (r : Bool) → HasNoFeed q → Transcript n m (q ∷ []) after u r → StopsAmong n m q (10 ∷ more) after u r
-stop_line n m q more after u r h t rest = (
+pub stop_line : (language : Language) (n : ℕ) (m : Trace) (q more : List ℕ) (after : Trace) (u : List ℕ) (r : Bool) → HasNoFeed q → Transcript language n m (q ∷ []) after u r → StopsAmong language n m q (10 ∷ more) after u r
+stop_line language n m q more after u r h t rest = (
   q ∷ [],
   lines_of (more ++ rest),
   ap lines_of (append_assoc q (10 ∷ more) rest) ∙ line_front q (more ++ rest) h,
   t,
 )
 
-long_line : (n : ℕ) (m : Trace) (line : List ℕ) → 1024 < length line → Transcript n m (line ∷ []) m (refused_text n Malformed) true
-long_line n m line long = refused n m line Malformed m (omega arith) (inl (refl, refl, λ request says. let fits = says.0 in omega arith))
+long_line : (language : Language) (n : ℕ) (m : Trace) (line : List ℕ) → 1024 < length line → Transcript language n m (line ∷ []) m (refused_text n Malformed) true
+long_line language n m line long = refused language n m line Malformed m [] (omega arith) (inl (refl, refl, refl, λ request says. let fits = says.0 in omega arith))
 
-pub stop_long : (n : ℕ) (m : Trace) (q : List ℕ) (b : ℕ) (more : List ℕ) → HasNoFeed q → (b ≡ 10 → ⊥) → 1024 < length (q ++ b ∷ [])
-    → StopsAmong n m q (b ∷ more) m (refused_text n Malformed) true
-stop_long n m q b more h other long rest = at (q ++ b ∷ []) refl (all_then (λ x. x ≢ 10) q (b ∷ []) h (other, tt))
+pub stop_long : (language : Language) (n : ℕ) (m : Trace) (q : List ℕ) (b : ℕ) (more : List ℕ) → HasNoFeed q → (b ≡ 10 → ⊥) → 1024 < length (q ++ b ∷ [])
+    → StopsAmong language n m q (b ∷ more) m (refused_text n Malformed) true
+stop_long language n m q b more h other long rest = at (q ++ b ∷ []) refl (all_then (λ x. x ≢ 10) q (b ∷ []) h (other, tt))
   where
     regroup : (q ++ b ∷ more) ++ rest ≡ (q ++ b ∷ []) ++ (more ++ rest)
     regroup = append_assoc q (b ∷ more) rest ∙ sym (append_assoc q (b ∷ []) (more ++ rest))
 
     at : (x : List ℕ) → q ++ b ∷ [] ≡ x → HasNoFeed x
-        → (front : List (List ℕ)) × (others : List (List ℕ)) × (lines_of ((q ++ b ∷ more) ++ rest) ≡ front ++ others) × Transcript n m front m (refused_text n Malformed) true
+        → (front : List (List ℕ)) × (others : List (List ℕ)) × (lines_of ((q ++ b ∷ more) ++ rest) ≡ front ++ others) × Transcript language n m front m (refused_text n Malformed) true
     at [] e clean = let len = ap length e in absurd (omega (arith, long, len))
     at (y ∷ ys) e clean =
         let opened = line_open y ys (more ++ rest) clean in
@@ -103,13 +104,13 @@ stop_long n m q b more h other long rest = at (q ++ b ∷ []) refl (all_then (λ
           ((y ∷ ys) ++ opened.0) ∷ [],
           opened.1,
           ap lines_of (regroup ∙ ap (λ (l : List ℕ). l ++ (more ++ rest)) e) ∙ opened.2,
-          long_line n m ((y ∷ ys) ++ opened.0) (omega (arith, len, sum, long)),
+          long_line language n m ((y ∷ ys) ++ opened.0) (omega (arith, len, sum, long)),
         )
 
 -- ---- one piece behind another
 
-pub weaves_then : (n : ℕ) (m : Trace) (p bs : List ℕ) (n' : ℕ) (m' : Trace) (q t : List ℕ) (cs : List ℕ) (n'' : ℕ) (m'' : Trace) (q' u : List ℕ)
-    → Weaves n m p bs n' m' q t → Weaves n' m' q cs n'' m'' q' u → Weaves n m p (bs ++ cs) n'' m'' q' (t ++ u)
+pub weaves_then : {language : Language} (n : ℕ) (m : Trace) (p bs : List ℕ) (n' : ℕ) (m' : Trace) (q t : List ℕ) (cs : List ℕ) (n'' : ℕ) (m'' : Trace) (q' u : List ℕ)
+    → Weaves language n m p bs n' m' q t → Weaves language n' m' q cs n'' m'' q' u → Weaves language n m p (bs ++ cs) n'' m'' q' (t ++ u)
 weaves_then n m p bs n' m' q t cs n'' m'' q' u v w = record {
   lines = v.lines ++ w.lines;
   splits = record {
@@ -121,12 +122,12 @@ weaves_then n m p bs n' m' q t cs n'' m'' q' u v w = record {
     each = all_then HasNoFeed v.lines w.lines v.splits.each w.splits.each;
     open_end = w.splits.open_end;
   };
-  says = transcript_then n m v.lines m' t n' w.lines m'' u false v.says v.count w.says;
+  says = transcript_then _ n m v.lines m' t n' w.lines m'' u false v.says v.count w.says;
   count = let len = length-append v.lines w.lines in let a = v.count in let b = w.count in omega arith;
 }
 
-pub weaves_stops : (n : ℕ) (m : Trace) (p bs : List ℕ) (n' : ℕ) (m' : Trace) (q t : List ℕ) (tail : List ℕ) (m'' : Trace) (u : List ℕ) (r : Bool)
-    → Weaves n m p bs n' m' q t → StopsAmong n' m' q tail m'' u r → StopsAmong n m p (bs ++ tail) m'' (t ++ u) r
+pub weaves_stops : {language : Language} (n : ℕ) (m : Trace) (p bs : List ℕ) (n' : ℕ) (m' : Trace) (q t : List ℕ) (tail : List ℕ) (m'' : Trace) (u : List ℕ) (r : Bool)
+    → Weaves language n m p bs n' m' q t → StopsAmong language n' m' q tail m'' u r → StopsAmong language n m p (bs ++ tail) m'' (t ++ u) r
 weaves_stops n m p bs n' m' q t tail m'' u r v s rest =
     let end = s rest in
     let e : (p ++ (bs ++ tail)) ++ rest ≡ flat_map ended v.lines ++ ((q ++ tail) ++ rest)
@@ -135,22 +136,22 @@ weaves_stops n m p bs n' m' q t tail m'' u r v s rest =
       v.lines ++ end.0,
       end.1,
       ap lines_of e ∙ lines_whole v.lines ((q ++ tail) ++ rest) v.splits.each ∙ ap (λ (l : List (List ℕ)). v.lines ++ l) end.2 ∙ sym (append_assoc v.lines end.0 end.1),
-      transcript_then n m v.lines m' t n' end.0 m'' u r v.says v.count end.3,
+      transcript_then _ n m v.lines m' t n' end.0 m'' u r v.says v.count end.3,
     )
 
 -- ---- the end of the input
 
-pub end_whole : (m : Trace) (taken : List ℕ) (n : ℕ) (after : Trace) (t : List ℕ) → Weaves 1 m [] taken n after [] t → Transcript 1 m (lines_of taken) after t false
+pub end_whole : {language : Language} (m : Trace) (taken : List ℕ) (n : ℕ) (after : Trace) (t : List ℕ) → Weaves language 1 m [] taken n after [] t → Transcript language 1 m (lines_of taken) after t false
 end_whole m taken n after t v =
     let e : lines_of taken ≡ v.lines = ap lines_of v.splits.whole ∙ lines_whole v.lines [] v.splits.each ∙ append-nil v.lines in
     rw e v.says
 
-pub end_part : (m : Trace) (taken : List ℕ) (n : ℕ) (mid : Trace) (q t : List ℕ) (after : Trace) (u : List ℕ) (r : Bool)
-    → Weaves 1 m [] taken n mid q t → 0 < length q → Transcript n mid (q ∷ []) after u r → Transcript 1 m (lines_of taken) after (t ++ u) r
+pub end_part : {language : Language} (m : Trace) (taken : List ℕ) (n : ℕ) (mid : Trace) (q t : List ℕ) (after : Trace) (u : List ℕ) (r : Bool)
+    → Weaves language 1 m [] taken n mid q t → 0 < length q → Transcript language n mid (q ∷ []) after u r → Transcript language 1 m (lines_of taken) after (t ++ u) r
 end_part m taken n mid q t after u r v some last =
     let e : lines_of taken ≡ v.lines ++ q ∷ []
     = ap lines_of v.splits.whole ∙ lines_whole v.lines q v.splits.each ∙ ap (λ (l : List (List ℕ)). v.lines ++ l) (line_last q v.splits.open_end some) in
-    rw e (transcript_then 1 m v.lines mid t n (q ∷ []) after u r v.says v.count last)
+    rw e (transcript_then _ 1 m v.lines mid t n (q ∷ []) after u r v.says v.count last)
 
 -- ---- at the byte i of a piece
 
@@ -159,16 +160,16 @@ piece bytes i b h is =
     let d : drop i bytes ≡ get_or bytes i 0 ∷ drop (i + 1) bytes = drop_more bytes i 0 h in
     rw (sym is, sym d) (take-append-drop i bytes)
 
-pub stop_at : (n : ℕ) (m : Trace) (p bytes : List ℕ) (i b : ℕ) (n' : ℕ) (m' : Trace) (q t : List ℕ) (m'' : Trace) (u : List ℕ) (r : Bool)
-    → i < length bytes → get_or bytes i 0 ≡ b → Weaves n m p (take i bytes) n' m' q t → StopsAmong n' m' q (b ∷ drop (i + 1) bytes) m'' u r → StopsAmong n m p bytes m'' (t ++ u) r
-stop_at n m p bytes i b n' m' q t m'' u r h is v s =
-    subst (λ (bs : List ℕ). StopsAmong n m p bs m'' (t ++ u) r) (piece bytes i b h is) (weaves_stops n m p (take i bytes) n' m' q t (b ∷ drop (i + 1) bytes) m'' u r v s)
+pub stop_at : {language : Language} (n : ℕ) (m : Trace) (p bytes : List ℕ) (i b : ℕ) (n' : ℕ) (m' : Trace) (q t : List ℕ) (m'' : Trace) (u : List ℕ) (r : Bool)
+    → i < length bytes → get_or bytes i 0 ≡ b → Weaves language n m p (take i bytes) n' m' q t → StopsAmong language n' m' q (b ∷ drop (i + 1) bytes) m'' u r → StopsAmong language n m p bytes m'' (t ++ u) r
+stop_at {language} n m p bytes i b n' m' q t m'' u r h is v s =
+    subst (λ (bs : List ℕ). StopsAmong language n m p bs m'' (t ++ u) r) (piece bytes i b h is) (weaves_stops n m p (take i bytes) n' m' q t (b ∷ drop (i + 1) bytes) m'' u r v s)
 
-pub more_at : (n : ℕ) (m : Trace) (p bytes : List ℕ) (i b : ℕ) (n' : ℕ) (m' : Trace) (q t : List ℕ) (n'' : ℕ) (m'' : Trace) (q' u : List ℕ)
-    → i < length bytes → get_or bytes i 0 ≡ b → Weaves n m p (take i bytes) n' m' q t → Weaves n' m' q (b ∷ []) n'' m'' q' u → Weaves n m p (take (i + 1) bytes) n'' m'' q' (t ++ u)
-more_at n m p bytes i b n' m' q t n'' m'' q' u h is v w =
+pub more_at : {language : Language} (n : ℕ) (m : Trace) (p bytes : List ℕ) (i b : ℕ) (n' : ℕ) (m' : Trace) (q t : List ℕ) (n'' : ℕ) (m'' : Trace) (q' u : List ℕ)
+    → i < length bytes → get_or bytes i 0 ≡ b → Weaves language n m p (take i bytes) n' m' q t → Weaves language n' m' q (b ∷ []) n'' m'' q' u → Weaves language n m p (take (i + 1) bytes) n'' m'' q' (t ++ u)
+more_at {language} n m p bytes i b n' m' q t n'' m'' q' u h is v w =
     let e : take i bytes ++ b ∷ [] ≡ take (i + 1) bytes = rw (sym is) (sym (take_more bytes i 0 h)) in
-    subst (λ (bs : List ℕ). Weaves n m p bs n'' m'' q' (t ++ u)) e (weaves_then n m p (take i bytes) n' m' q t (b ∷ []) n'' m'' q' u v w)
+    subst (λ (bs : List ℕ). Weaves language n m p bs n'' m'' q' (t ++ u)) e (weaves_then n m p (take i bytes) n' m' q t (b ∷ []) n'' m'' q' u v w)
 
 pub match_true : (b : Bool) (P Q : Type 0) → b ≡ true → P → MatchBool b P Q
 match_true true P Q e p = p

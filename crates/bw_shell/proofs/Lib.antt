@@ -3,3 +3,4 @@ pub mod Transcripts
 pub mod Feeding
 pub mod Weaving
 pub mod Refusals
+pub mod Draws

@@ -1,10 +1,13 @@
 -- Laws of transcripts.
 use Rattle.std.proofs.Common.{◌≡◌, ℕ, ◌+◌, ◌<◌, List, [], ◌∷◌, ◌++◌, length, refl, sym, ap, ◌∙◌, arith, add-one, inl, inr, Bool, true, false, Option, Some, None}
 use Rattle.std.proofs.lemmas.List.{append_assoc, append-nil}
+use Rattle.bw_model.specs.declared.command.Command.{Command}
 use Rattle.bw_model.specs.declared.step.Link.{Link}
 use Rattle.bw_shell.specs.Turns.{Trace}
 use Rattle.shell_lines.specs.Request.{Says, IsShortRequest, until_done}
+use Rattle.shell_lines.specs.declared.request.Language.{Language}
 use Rattle.shell_lines.specs.declared.request.Request.{Request}
+use Rattle.shell_lines.specs.declared.request.Request.TheVariants.{Begin, Finish, Run}
 use Rattle.bw_shell.specs.declared.turns.Progress.{Progress}
 use Rattle.bw_shell.specs.declared.turns.Progress.TheVariants.{GoesOn}
 use Rattle.bw_shell.specs.declared.refusal.Refusal.{Refusal}
@@ -26,41 +29,50 @@ pub until_told : (n : ℕ) (m : Trace) (actor : ℕ) (until : Option Link) (afte
 until_told n m actor None after progress taken = (progress, taken, refl)
 until_told n m actor (Some link) after progress taken = (progress, taken, refl)
 
+-- a command of a script
+pub run_told : (n : ℕ) (a b c : Trace) (command : Command) (t u : List ℕ) (no : Bool) → RequestTold n a (Begin 0 command) b t false → RequestTold n b (Finish 0) c u no
+    → RequestTold n a (Run command) c (t ++ u) no
+run_told n a b c command t u false begun told = (b, begun.0, (told.0, told.1, ap (λ (l : List ℕ). l ++ u) begun.1 ∙ told.2))
+run_told n a b c command t u true begun told = (told.0, told.1, inr (b, begun.0, told.2.0, told.2.1), ap (λ (l : List ℕ). l ++ u) begun.1 ∙ told.3)
+
+pub run_refused : (n : ℕ) (a b : Trace) (command : Command) (t : List ℕ) → RequestTold n a (Begin 0 command) b t true → RequestTold n a (Run command) b t true
+run_refused n a b command t told = (told.0, told.1, inl told.2, told.3)
+
 -- ---- one line
 
-pub skipped : (n : ℕ) (m : Trace) (line : List ℕ) → length line ≡ 0 → Transcript n m (line ∷ []) m [] false
+pub skipped : (language : Language) (n : ℕ) (m : Trace) (line : List ℕ) → length line ≡ 0 → Transcript language n m (line ∷ []) m [] false
 unfolding Transcript
-skipped n m [] h = (refl, refl, refl)
-skipped n m (b ∷ bs) h = absurd (omega arith)
+skipped language n m [] h = (refl, refl, refl)
+skipped language n m (b ∷ bs) h = absurd (omega arith)
 
-pub performed : (n : ℕ) (m : Trace) (line : List ℕ) (request : Request) (after : Trace) (text : List ℕ) → 0 < length line
-    → Says line request → IsShortRequest request → Performs m request after text → Transcript n m (line ∷ []) after text false
+pub performed : (language : Language) (n : ℕ) (m : Trace) (line : List ℕ) (request : Request) (after : Trace) (text : List ℕ) → 0 < length line
+    → Says language line request → IsShortRequest request → Performs m request after text → Transcript language n m (line ∷ []) after text false
 unfolding Transcript
-performed n m [] request after text some says short p = absurd (omega arith)
-performed n m (b ∷ bs) request after text some says short p = inl (request, after, text, [], says, short, p, (refl, refl, refl), sym (append-nil text))
+performed language n m [] request after text some says short p = absurd (omega arith)
+performed language n m (b ∷ bs) request after text some says short p = inl (request, after, text, [], says, short, p, (refl, refl, refl), sym (append-nil text))
 
-pub refused : (n : ℕ) (m : Trace) (line : List ℕ) (refusal : Refusal) (after : Trace) → 0 < length line
-    → RefusesLine m line refusal after → Transcript n m (line ∷ []) after (refused_text n refusal) true
+pub refused : (language : Language) (n : ℕ) (m : Trace) (line : List ℕ) (refusal : Refusal) (after : Trace) (shown : List ℕ) → 0 < length line
+    → RefusesLine language m line refusal after shown → Transcript language n m (line ∷ []) after (shown ++ refused_text n refusal) true
 unfolding Transcript
-refused n m [] refusal after some r = absurd (omega arith)
-refused n m (b ∷ bs) refusal after some r = inr (refusal, r, refl, refl)
+refused language n m [] refusal after shown some r = absurd (omega arith)
+refused language n m (b ∷ bs) refusal after shown some r = inr (refusal, shown, r, refl, refl)
 
-pub asked : (n : ℕ) (m : Trace) (line : List ℕ) (request : Request) (after : Trace) (text : List ℕ) (no : Bool) → 0 < length line
-    → Says line request → IsShortRequest request → RequestTold n m request after text no → Transcript n m (line ∷ []) after text no
-asked n m line request after text false some says short told = performed n m line request after text some says short told
-asked n m line request after text true some says short told =
-    rw told.2 (refused n m line told.0 after some (inr (inr (request, says, short, told.1))))
+pub asked : (language : Language) (n : ℕ) (m : Trace) (line : List ℕ) (request : Request) (after : Trace) (text : List ℕ) (no : Bool) → 0 < length line
+    → Says language line request → IsShortRequest request → RequestTold n m request after text no → Transcript language n m (line ∷ []) after text no
+asked language n m line request after text false some says short told = performed language n m line request after text some says short told
+asked language n m line request after text true some says short told =
+    rw told.3 (refused language n m line told.0 after told.1 some (inr (inr (request, says, short, told.2))))
 
 -- ---- lines behind lines
 
-pub transcript_then : (n : ℕ) (a : Trace) (ls : List (List ℕ)) (b : Trace) (t : List ℕ) (k : ℕ) (ms : List (List ℕ)) (c : Trace) (u : List ℕ) (r : Bool)
-    → Transcript n a ls b t false → k ≡ n + length ls → Transcript k b ms c u r → Transcript n a (ls ++ ms) c (t ++ u) r
+pub transcript_then : (language : Language) (n : ℕ) (a : Trace) (ls : List (List ℕ)) (b : Trace) (t : List ℕ) (k : ℕ) (ms : List (List ℕ)) (c : Trace) (u : List ℕ) (r : Bool)
+    → Transcript language n a ls b t false → k ≡ n + length ls → Transcript language k b ms c u r → Transcript language n a (ls ++ ms) c (t ++ u) r
 unfolding Transcript
-transcript_then n a [] b t k ms c u r first at second =
+transcript_then language n a [] b t k ms c u r first at second =
     let same : k ≡ n = omega arith in
     rw (first.1, sym first.0, sym same) second
-transcript_then n a ([] ∷ ls) b t k ms c u r first at second = transcript_then (n + 1) a ls b t k ms c u r first (omega arith) second
-transcript_then n a ((x ∷ xs) ∷ ls) b t k ms c u r (inl p) at second =
+transcript_then language n a ([] ∷ ls) b t k ms c u r first at second = transcript_then language (n + 1) a ls b t k ms c u r first (omega arith) second
+transcript_then language n a ((x ∷ xs) ∷ ls) b t k ms c u r (inl p) at second =
     inl (
       p.0,
       p.1,
@@ -69,7 +81,7 @@ transcript_then n a ((x ∷ xs) ∷ ls) b t k ms c u r (inl p) at second =
       p.4,
       p.5,
       p.6,
-      transcript_then (n + 1) p.1 ls b p.3 k ms c u r p.7 (omega arith) second,
+      transcript_then language (n + 1) p.1 ls b p.3 k ms c u r p.7 (omega arith) second,
       ap (λ (l : List ℕ). l ++ u) p.8 ∙ append_assoc p.2 p.3 u,
     )
-transcript_then n a ((x ∷ xs) ∷ ls) b t k ms c u r (inr p) at second = cc p.3
+transcript_then language n a ((x ∷ xs) ∷ ls) b t k ms c u r (inr p) at second = cc p.4

@@ -1,13 +1,22 @@
 -- What is printed.
-use Rattle.std.specs.Prelude.{ℕ, List, [], ◌++◌, length, codes, decimal}
+use Rattle.std.specs.Prelude.{ℕ, List, [], ◌++◌, length, codes, decimal, Option, Some, None}
 use Rattle.std.specs.List.{flat_map}
 use Rattle.bw_model.specs.declared.command.Reply.{Reply}
-use Rattle.bw_model.specs.declared.command.Reply.TheVariants.{Value, None as NoValue, Inserted, Exists, Set, Replaced, Deleted, Absent, Full}
+use Rattle.bw_model.specs.declared.command.Reply.TheVariants.{Value, None as NoValue, Inserted, Exists, Set, Replaced, Deleted, Absent, Page, Tidied, Full}
 use Rattle.bw_shell.specs.declared.turns.Progress.{Progress}
 use Rattle.bw_shell.specs.declared.turns.Progress.TheVariants.{GoesOn, Linked, Done}
 use Rattle.shell_lines.specs.Token.{printed}
 use Rattle.bw_shell.specs.declared.refusal.Refusal.{Refusal}
 use Rattle.bw_shell.specs.Refusal.{code_of}
+
+-- a pair, as it stands in a cursor page
+abbrev pub item_text : List ℕ × List ℕ → List ℕ
+item_text pair = codes " " ++ printed pair.0 ++ codes " " ++ printed pair.1
+
+-- from which key the next cursor page goes on, or that there is none
+abbrev pub next_text : Option (List ℕ) → List ℕ
+next_text None = codes " end\n"
+next_text (Some key) = codes " next " ++ printed key ++ codes "\n"
 
 -- a reply, as it stands behind its actor
 abbrev pub reply_text : Reply → List ℕ
@@ -19,6 +28,8 @@ reply_text Set = codes " set\n"
 reply_text (Replaced v) = codes " replaced " ++ printed v ++ codes "\n"
 reply_text (Deleted v) = codes " deleted " ++ printed v ++ codes "\n"
 reply_text Absent = codes " absent\n"
+reply_text (Page items next) = codes " page " ++ decimal (length items) ++ flat_map item_text items ++ next_text next
+reply_text Tidied = codes " tidied\n"
 reply_text Full = codes " full\n"
 
 -- what a `turn` prints

@@ -1,19 +1,21 @@
 -- A text is a transcript of lines, for a trace of the core.
 use Rattle.std.specs.Prelude.{◌≡◌, ℕ, ◌+◌, ◌<◌, suc, zero, ◌⊎◌, List, [], ◌∷◌, ◌++◌, Bool, true, false, Option, Some, None, Result, Ok, Err}
 use Rattle.bw_model.specs.declared.step.Link.{Link}
+use Rattle.bw_model.specs.Schedules.{drawn, schedule_of}
 use Rattle.chain_search.specs.declared.trace.Turn.TheVariants.{Begin as BeginTurn, Step}
 use Rattle.step_core.specs.Listed.{IsListing}
 use Rattle.step_core.specs.declared.event.Event.{Event}
 use Rattle.step_core.specs.declared.event.Event.TheVariants as event
 use Rattle.shell_lines.specs.Request.{Says, IsShortRequest}
+use Rattle.shell_lines.specs.declared.request.Language.{Language}
 use Rattle.shell_lines.specs.declared.request.Request.{Request}
-use Rattle.shell_lines.specs.declared.request.Request.TheVariants.{Begin, Turn, Until, Finish, List as ListPairs}
+use Rattle.shell_lines.specs.declared.request.Request.TheVariants.{Begin, Turn, Until, Finish, Mix, List as ListPairs, Run}
 use Rattle.bw_shell.specs.declared.turns.Progress.{Progress}
 use Rattle.bw_shell.specs.declared.turns.Progress.TheVariants.{GoesOn, Linked, Done}
 use Rattle.bw_shell.specs.declared.refusal.Refusal.{Refusal}
 use Rattle.bw_shell.specs.declared.refusal.Refusal.TheVariants.{TooLong, Memory, Malformed}
 use Rattle.bw_shell.specs.Text.{turned_text, finished_text, listing_text, refused_text}
-use Rattle.bw_shell.specs.Turns.{Trace, IsOneMap, TakesTurn, Refuses}
+use Rattle.bw_shell.specs.Turns.{Trace, is_busy, IsOneMap, TakesTurn, Refuses}
 
 -- What a turn comes to, where turns are to stop at an exchange that won with the link, if one is given: the operation goes on, and
 -- this was no such exchange; or it was one; or the operation is done.
@@ -40,37 +42,71 @@ TakesUpTo until before actor limit progress after = (n : ℕ) × (n < limit) × 
 abbrev pub RefusedWithin : Option Link → Trace → ℕ → ℕ → Refusal → Trace → Type 0
 RefusedWithin until before actor limit refusal after = (n : ℕ) × (n < limit) × StepsOn until before actor n after × Refuses after (Step actor) refusal
 
+-- the actor takes turns until an exchange won with the link, if one is given, or it is done, and this is printed
+abbrev pub Finishes : Option Link → Trace → ℕ → Trace → List ℕ → Type 0
+Finishes until before actor after text = (progress : Progress) × TakesUpTo until before actor 100000 progress after × (text ≡ finished_text actor progress)
+
+-- an actor that was drawn takes one turn, if it has an operation, and this is printed
+abbrev pub TakesDrawn : Trace → ℕ → Trace → List ℕ → Type 0
+TakesDrawn before actor after text =
+    ((is_busy before actor ≡ false) × (after ≡ before) × (text ≡ []))
+    ⊎ ((is_busy before actor ≡ true) × (progress : Progress) × TakesOne None before actor progress after × (text ≡ turned_text actor progress))
+
+-- actors that were drawn do so, one after another
+unfoldable pub TakeDrawn : Trace → List ℕ → Trace → List ℕ → Type 0
+TakeDrawn before [] after text = (after ≡ before) × (text ≡ [])
+TakeDrawn before (actor ∷ actors) after text = (mid : Trace) × (shown : List ℕ) × (rest : List ℕ) × TakesDrawn before actor mid shown × TakeDrawn mid actors after rest × (text ≡ shown ++ rest)
+
+-- the first so many actors that the seed draws
+abbrev pub drawn_by : ℕ → Trace → ℕ → List ℕ
+drawn_by seed trace count = drawn count (schedule_of seed trace.limits.actors)
+
+-- the turn of a drawn actor is refused
+abbrev pub RefusesDrawn : Trace → ℕ → Refusal → Type 0
+RefusesDrawn trace actor refusal = (is_busy trace actor ≡ true) × Refuses trace (Step actor) refusal
+
+-- fewer actors than the count took their turns, and the turn of the next is refused
+abbrev pub RefusedAmong : ℕ → Trace → ℕ → Refusal → Trace → List ℕ → Type 0
+RefusedAmong seed before count refusal after shown =
+    (n : ℕ) × (n < count) × (actors : List ℕ) × (actor : ℕ) × (drawn_by seed before (n + 1) ≡ actors ++ actor ∷ []) × TakeDrawn before actors after shown × RefusesDrawn after actor refusal
+
 -- what is asked for is done, and this is printed; a listing has exactly the pairs that stand at that moment
 abbrev pub Performs : Trace → Request → Trace → List ℕ → Type 0
 Performs before (Begin actor command) after text = TakesTurn before (BeginTurn actor command) event.Began after × (text ≡ [])
 Performs before (Turn actor count) after text = (progress : Progress) × TakesUpTo None before actor count progress after × (text ≡ turned_text actor progress)
-Performs before (Until actor link) after text = (progress : Progress) × TakesUpTo (Some link) before actor 100000 progress after × (text ≡ finished_text actor progress)
-Performs before (Finish actor) after text = (progress : Progress) × TakesUpTo None before actor 100000 progress after × (text ≡ finished_text actor progress)
+Performs before (Until actor link) after text = Finishes (Some link) before actor after text
+Performs before (Finish actor) after text = Finishes None before actor after text
+Performs before (Mix seed count) after text = TakeDrawn before (drawn_by seed before count) after text
 Performs before ListPairs after text = (after ≡ before) × IsOneMap before × (pairs : List (List ℕ × List ℕ)) × IsListing before.limits before.entries pairs × (text ≡ listing_text pairs)
+Performs before (Run command) after text = (mid : Trace) × TakesTurn before (BeginTurn 0 command) event.Began mid × Finishes None mid 0 after text
 
--- what is asked for is refused
-abbrev pub RefusesRequest : Trace → Request → Refusal → Trace → Type 0
-RefusesRequest before (Begin actor command) refusal after = Refuses before (BeginTurn actor command) refusal × (after ≡ before)
-RefusesRequest before (Turn actor count) refusal after = RefusedWithin None before actor count refusal after
-RefusesRequest before (Until actor link) refusal after = RefusedWithin (Some link) before actor 100000 refusal after
-RefusesRequest before (Finish actor) refusal after = RefusedWithin None before actor 100000 refusal after
-RefusesRequest before ListPairs refusal after = (refusal ≡ Memory) × (after ≡ before)
+-- what is asked for is refused, after this was printed
+abbrev pub RefusesRequest : Trace → Request → Refusal → Trace → List ℕ → Type 0
+RefusesRequest before (Begin actor command) refusal after shown = Refuses before (BeginTurn actor command) refusal × (after ≡ before) × (shown ≡ [])
+RefusesRequest before (Turn actor count) refusal after shown = RefusedWithin None before actor count refusal after × (shown ≡ [])
+RefusesRequest before (Until actor link) refusal after shown = RefusedWithin (Some link) before actor 100000 refusal after × (shown ≡ [])
+RefusesRequest before (Finish actor) refusal after shown = RefusedWithin None before actor 100000 refusal after × (shown ≡ [])
+RefusesRequest before (Mix seed count) refusal after shown = RefusedAmong seed before count refusal after shown
+RefusesRequest before ListPairs refusal after shown = (refusal ≡ Memory) × (after ≡ before) × (shown ≡ [])
+RefusesRequest before (Run command) refusal after shown =
+    (Refuses before (BeginTurn 0 command) refusal × (after ≡ before) × (shown ≡ []))
+    ⊎ ((mid : Trace) × TakesTurn before (BeginTurn 0 command) event.Began mid × RefusedWithin None mid 0 100000 refusal after × (shown ≡ []))
 
 -- Why the line is refused: first that it is outside the grammar, then that a key or value is too long, then what the core refuses.
-abbrev pub RefusesLine : Trace → List ℕ → Refusal → Trace → Type 0
-RefusesLine before line refusal after =
-    ((refusal ≡ Malformed) × (after ≡ before) × ((request : Request) → Says line request → ⊥))
-    ⊎ ((refusal ≡ TooLong) × (after ≡ before) × (request : Request) × Says line request × (IsShortRequest request → ⊥))
-    ⊎ ((request : Request) × Says line request × IsShortRequest request × RefusesRequest before request refusal after)
+abbrev pub RefusesLine : Language → Trace → List ℕ → Refusal → Trace → List ℕ → Type 0
+RefusesLine language before line refusal after shown =
+    ((refusal ≡ Malformed) × (after ≡ before) × (shown ≡ []) × ((request : Request) → Says language line request → ⊥))
+    ⊎ ((refusal ≡ TooLong) × (after ≡ before) × (shown ≡ []) × (request : Request) × Says language line request × (IsShortRequest request → ⊥))
+    ⊎ ((request : Request) × Says language line request × IsShortRequest request × RefusesRequest before request refusal after shown)
 
--- From line number n on: an empty line is skipped; another is performed, and the rest goes on from there; or it is refused, which
--- is the last line of the text, and nothing behind it counts.
-unfoldable pub Transcript : ℕ → Trace → List (List ℕ) → Trace → List ℕ → Bool → Type 0
-Transcript n before [] after text refused = (after ≡ before) × (text ≡ []) × (refused ≡ false)
-Transcript n before ([] ∷ lines) after text refused = Transcript (n + 1) before lines after text refused
-Transcript n before ((b ∷ bs) ∷ lines) after text refused =
-    ((request : Request) × (mid : Trace) × (shown : List ℕ) × (rest : List ℕ) × Says (b ∷ bs) request × IsShortRequest request × Performs before request mid shown × Transcript (n + 1) mid lines after rest refused × (text ≡ shown ++ rest))
-    ⊎ ((refusal : Refusal) × RefusesLine before (b ∷ bs) refusal after × (text ≡ refused_text n refusal) × (refused ≡ true))
+-- From line number n on: an empty line is skipped; another is performed, and the rest goes on from there; or it is refused, perhaps
+-- after a part of it was printed, which is the last line of the text, and nothing behind it counts.
+unfoldable pub Transcript : Language → ℕ → Trace → List (List ℕ) → Trace → List ℕ → Bool → Type 0
+Transcript language n before [] after text refused = (after ≡ before) × (text ≡ []) × (refused ≡ false)
+Transcript language n before ([] ∷ lines) after text refused = Transcript language (n + 1) before lines after text refused
+Transcript language n before ((b ∷ bs) ∷ lines) after text refused =
+    ((request : Request) × (mid : Trace) × (shown : List ℕ) × (rest : List ℕ) × Says language (b ∷ bs) request × IsShortRequest request × Performs before request mid shown × Transcript language (n + 1) mid lines after rest refused × (text ≡ shown ++ rest))
+    ⊎ ((refusal : Refusal) × (shown : List ℕ) × RefusesLine language before (b ∷ bs) refusal after shown × (text ≡ shown ++ refused_text n refusal) × (refused ≡ true))
 
 -- what one turn answers
 abbrev pub StepTold : Option Link → Trace → ℕ → Result Progress Refusal → Trace → Type 0
@@ -85,4 +121,9 @@ TurnsTold until before actor limit (Err refusal) after = RefusedWithin until bef
 -- what is printed for what is asked on line n, and whether that is a refusal
 abbrev pub RequestTold : ℕ → Trace → Request → Trace → List ℕ → Bool → Type 0
 RequestTold n before request after text false = Performs before request after text
-RequestTold n before request after text true = (refusal : Refusal) × RefusesRequest before request refusal after × (text ≡ refused_text n refusal)
+RequestTold n before request after text true = (refusal : Refusal) × (shown : List ℕ) × RefusesRequest before request refusal after shown × (text ≡ shown ++ refused_text n refusal)
+
+-- what is printed for an actor that was drawn by line n, and whether that is a refusal
+abbrev pub DrawTold : ℕ → Trace → ℕ → Trace → List ℕ → Bool → Type 0
+DrawTold n before actor after text false = TakesDrawn before actor after text
+DrawTold n before actor after text true = (refusal : Refusal) × RefusesDrawn before actor refusal × (after ≡ before) × (text ≡ refused_text n refusal)

@@ -1,5 +1,5 @@
 -- Turns of a core, as its trace shows them, and why a turn is refused.
-use Rattle.std.specs.Prelude.{◌≡◌, ℕ, ◌⊎◌, List, [], ◌∷◌, ◌++◌, map, nat_lt, is_some, if◌then◌else◌, Option, None, Some}
+use Rattle.std.specs.Prelude.{◌≡◌, ℕ, ◌⊎◌, List, [], ◌∷◌, ◌++◌, map, nat_lt, is_some, ◌&&◌, Bool, if◌then◌else◌, Option, None, Some}
 use Rattle.bw_model.specs.declared.limits.Limits.{Limits}
 use Rattle.chain_search.specs.declared.trace.Entry.{Entry}
 use Rattle.chain_search.specs.declared.trace.Turn.{Turn}
@@ -25,6 +25,10 @@ opening_trace limits = record { limits = limits; entries = [] }
 -- The turns so far took effect one at a time, on one ordered map.
 abbrev pub IsOneMap : Trace → Type 0
 IsOneMap trace = IsLinearized trace.limits (map turn_of trace.entries) trace.entries
+
+-- whether there is such an actor, with an operation that isn't done
+abbrev pub is_busy : Trace → ℕ → Bool
+is_busy trace actor = nat_lt actor trace.limits.actors && is_some (command_of trace.entries actor)
 
 -- Why the trace refuses a turn: there is no such actor, an operation begins before the actor's last one is done, or the
 -- actor has no operation that could take a step.

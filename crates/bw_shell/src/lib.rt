@@ -15,4 +15,4 @@ pub use lines::lines_are_exact;
 pub use over_std::{HELD, READS, Reader, Writer};
 pub use refusal::Refusal;
 pub use streams::{Failed, Input, Output};
-pub use whole::weave;
+pub use whole::{script, weave};

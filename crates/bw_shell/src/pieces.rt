@@ -11,6 +11,7 @@ use crate::run::run_line;
 use crate::streams::Output;
 use crate::texts::show_refused;
 use arrayvec::ArrayVec;
+use shell_lines::Language;
 use std::alloc::Global;
 use step_core::Core;
 
@@ -23,12 +24,18 @@ pub struct Weaver {
 }
 
 /// Runs each line that ends among the bytes, and answers whether one was refused.
-pub fn feed<O: Output>(alloc: Global, weaver: &mut Weaver, bytes: &[u8], out: &mut O) -> bool
+pub fn feed<O: Output>(
+    alloc: Global,
+    language: Language,
+    weaver: &mut Weaver,
+    bytes: &[u8],
+    out: &mut O,
+) -> bool
     requires sound { (O.state out.old).failed ≡ false }
     requires part { HasNoFeed weaver.old.part.items }
     requires short { array_vec_len weaver.old.part ≤ 1024 }
     requires count { weaver.old.number + length bytes.now < 2 ^ 64 }
-    ensures fed { Feeds weaver.old.number (seen weaver.old.core) weaver.old.part.items bytes.now
+    ensures fed { Feeds language weaver.old.number (seen weaver.old.core) weaver.old.part.items bytes.now
         weaver.new.number (seen weaver.new.core) weaver.new.part.items (O.state out.old) (O.state out.new) result }
     ensures short { result ≡ false → array_vec_len weaver.new.part ≤ 1024 }
     ensures count { weaver.new.number ≤ weaver.old.number + length bytes.now }
@@ -37,6 +44,7 @@ pub fn feed<O: Output>(alloc: Global, weaver: &mut Weaver, bytes: &[u8], out: &m
         if *b == b'\n' {
             if run_line(
                 alloc,
+                language,
                 &mut weaver.core,
                 weaver.number,
                 weaver.part.as_slice(),

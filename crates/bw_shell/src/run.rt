@@ -3,14 +3,14 @@
 ghost use Rattle.std.specs.Prelude.{◌≡◌};
 ghost use Rattle.shell_lines.specs.Request.{until_done};
 ghost use Rattle.bw_shell.specs.Turns.{seen};
-ghost use Rattle.bw_shell.specs.Weave.{RequestRuns, LineRuns};
+ghost use Rattle.bw_shell.specs.Weave.{RequestRuns, DrawRuns, LineRuns};
 
 use crate::refusal::Refusal;
 use crate::streams::Output;
 use crate::texts::{show_listing, show_number, show_refused, show_reply};
-use crate::turns::{Progress, begin, pairs_of, steps};
+use crate::turns::{Progress, begin, pairs_of, schedule_over, step, steps};
 use bw_model::{Command, Link};
-use shell_lines::{LineError, Request, parse};
+use shell_lines::{Language, LineError, Request, parse};
 use std::alloc::Global;
 use step_core::Core;
 
@@ -82,6 +82,53 @@ fn run_until<O: Output>(
     }
 }
 
+// One turn of an actor that was drawn, if it has an operation.
+fn run_drawn<O: Output>(core: &mut Core, number: u64, actor: u8, out: &mut O) -> bool
+    ensures { DrawRuns number (seen core.old) actor (seen core.new) (O.state out.old) (O.state out.new) result }
+{
+    if !core.is_busy(actor) {
+        return false;
+    }
+    let actor = u64::from(actor);
+    match step(core, actor, None) {
+        Ok(Progress::GoesOn) => false,
+        Ok(Progress::Linked) => false,
+        Ok(Progress::Done(reply)) => {
+            show_number(out, actor);
+            show_reply(out, &reply);
+            false
+        }
+        Err(refusal) => {
+            show_refused(out, number, refusal);
+            true
+        }
+    }
+}
+
+// So many draws of the seed's schedule.
+fn run_mix<O: Output>(core: &mut Core, number: u64, seed: u64, count: u64, out: &mut O) -> bool
+    ensures { RequestRuns number (seen core.old) (Request.Mix seed count) (seen core.new) (O.state out.old) (O.state out.new) result }
+{
+    let mut schedule = schedule_over(core, seed);
+    for _draw in 0..count {
+        let actor = schedule.next();
+        if run_drawn(core, number, actor, out) {
+            return true;
+        }
+    }
+    false
+}
+
+// A command of a script, which actor 0 runs to its end.
+fn run_command<O: Output>(core: &mut Core, number: u64, command: Command, out: &mut O) -> bool
+    ensures { RequestRuns number (seen core.old) (Request.Run command) (seen core.new) (O.state out.old) (O.state out.new) result }
+{
+    if run_begin(core, number, 0, command, out) {
+        return true;
+    }
+    run_until(core, number, 0, None, out)
+}
+
 fn run_list<O: Output>(alloc: Global, core: &mut Core, number: u64, out: &mut O) -> bool
     ensures { RequestRuns number (seen core.old) Request.List (seen core.new) (O.state out.old) (O.state out.new) result }
 {
@@ -111,24 +158,27 @@ fn run_request<O: Output>(
         Request::Turn(actor, count) => run_turn(core, number, actor, count, out),
         Request::Until(actor, link) => run_until(core, number, actor, Some(link), out),
         Request::Finish(actor) => run_until(core, number, actor, None, out),
+        Request::Mix(seed, count) => run_mix(core, number, seed, count, out),
         Request::List => run_list(alloc, core, number, out),
+        Request::Run(command) => run_command(core, number, command, out),
     }
 }
 
 /// Runs a line, and answers whether it was refused.
 pub fn run_line<O: Output>(
     alloc: Global,
+    language: Language,
     core: &mut Core,
     number: u64,
     line: &[u8],
     out: &mut O,
 ) -> bool
-    ensures { LineRuns number (seen core.old) line.now (seen core.new) (O.state out.old) (O.state out.new) result }
+    ensures { LineRuns language number (seen core.old) line.now (seen core.new) (O.state out.old) (O.state out.new) result }
 {
     if line.is_empty() {
         return false;
     }
-    match parse(line) {
+    match parse(language, line) {
         Err(LineError::Malformed) => {
             show_refused(out, number, Refusal::Malformed);
             true

@@ -1,11 +1,11 @@
 //! What is printed.
 
-ghost use Rattle.std.specs.Prelude.{◌≡◌, ◌+◌, ◌<◌, ◌≤◌, ◌++◌, ◌∷◌, [], length, decimal, codes, map};
+ghost use Rattle.std.specs.Prelude.{◌≡◌, ◌+◌, ◌<◌, ◌≤◌, ◌++◌, ◌∷◌, [], length, decimal, codes, map, option_copied};
 ghost use Rattle.std.specs.List.{flat_map};
 ghost use Rattle.hex.specs.Hex.{encode_lower};
 ghost use Rattle.shell_lines.specs.Token.{printed};
 ghost use Rattle.bw_shell.specs.Output.{Prints};
-ghost use Rattle.bw_shell.specs.Text.{reply_text, pair_text, listing_text, refused_text, lone_refusal_text};
+ghost use Rattle.bw_shell.specs.Text.{item_text, next_text, reply_text, pair_text, listing_text, refused_text, lone_refusal_text};
 
 use crate::refusal::Refusal;
 use crate::streams::Output;
@@ -58,6 +58,52 @@ fn show_with<O: Output>(out: &mut O, word: &[u8], value: &Value)
     out.show(b"\n");
 }
 
+// A pair in a cursor page.
+fn show_item<O: Output>(out: &mut O, item: &(Key, Value))
+    ensures { Prints (O.state out.old) (O.state out.new) (item_text item.now) }
+{
+    out.show(b" ");
+    show_token(out, item.0.as_slice());
+    out.show(b" ");
+    show_token(out, item.1.as_slice());
+}
+
+fn show_items<O: Output>(out: &mut O, items: &[(Key, Value)])
+    ensures { Prints (O.state out.old) (O.state out.new) (flat_map item_text items.now) }
+{
+    for item in items {
+        show_item(out, item);
+    }
+}
+
+// Where the next cursor page goes on.
+fn show_next<O: Output>(out: &mut O, next: Option<&Key>)
+    ensures { Prints (O.state out.old) (O.state out.new) (next_text (option_copied next.entry)) }
+{
+    match next {
+        Some(key) => show_key(out, key),
+        None => out.show(b" end\n"),
+    }
+}
+
+fn show_key<O: Output>(out: &mut O, key: &Key)
+    ensures { Prints (O.state out.old) (O.state out.new) (codes " next " ++ printed key.now ++ codes "\n") }
+{
+    out.show(b" next ");
+    show_token(out, key.as_slice());
+    out.show(b"\n");
+}
+
+fn show_page<O: Output>(out: &mut O, items: &[(Key, Value)], next: Option<&Key>)
+    ensures { Prints (O.state out.old) (O.state out.new)
+        (codes " page " ++ decimal (length items.now) ++ flat_map item_text items.now ++ next_text (option_copied next.entry)) }
+{
+    out.show(b" page ");
+    show_number(out, items.len() as u64);
+    show_items(out, items);
+    show_next(out, next);
+}
+
 /// A reply, as it stands behind its actor.
 pub fn show_reply<O: Output>(out: &mut O, reply: &Reply)
     ensures { Prints (O.state out.old) (O.state out.new) (reply_text reply.now) }
@@ -71,6 +117,8 @@ pub fn show_reply<O: Output>(out: &mut O, reply: &Reply)
         Reply::Replaced(value) => show_with(out, b" replaced ", value),
         Reply::Deleted(value) => show_with(out, b" deleted ", value),
         Reply::Absent => out.show(b" absent\n"),
+        Reply::Page { items, next } => show_page(out, items.as_slice(), next.as_ref()),
+        Reply::Tidied => out.show(b" tidied\n"),
         Reply::Full => out.show(b" full\n"),
     }
 }

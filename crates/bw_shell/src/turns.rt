@@ -1,12 +1,13 @@
 //! Turns of the core.
 
 ghost use Rattle.std.specs.Prelude.{◌≡◌, IfErr, IfOk, OnOk};
+ghost use Rattle.bw_model.specs.Schedules.{schedule_of};
 ghost use Rattle.step_core.specs.Listed.{IsListing};
 ghost use Rattle.bw_shell.specs.Turns.{seen, IsOneMap, TakesTurn, Refuses};
 ghost use Rattle.bw_shell.specs.Transcript.{ComesTo, StepTold, TurnsTold};
 
 use crate::refusal::Refusal;
-use bw_model::{Command, Key, Link, Reply, Value};
+use bw_model::{Command, Key, Link, Reply, Schedule, Value};
 use chain_search::Turn;
 use std::alloc::Global;
 use step_core::{Core, Event};
@@ -98,4 +99,11 @@ pub fn pairs_of(alloc: Global, core: &Core) -> Result<Vec<(Key, Value)>, Refusal
         Ok(pairs) => Ok(pairs),
         Err(error) => Err(Refusal::of_turn(error)),
     }
+}
+
+/// The schedule of a seed over the core's actors.
+pub fn schedule_over(core: &Core, seed: u64) -> Schedule
+    ensures { result ≡ schedule_of seed core.now.limits.actors }
+{
+    Schedule::new(seed, core.limits().actors as u8)
 }

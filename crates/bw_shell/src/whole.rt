@@ -2,7 +2,7 @@
 
 ghost use Rattle.std.specs.Prelude.{◌≡◌, ◌≤◌, ◌^◌, ◌⊎◌, ◌↔◌, [], false};
 ghost use Rattle.bw_shell.specs.Turns.{seen};
-ghost use Rattle.bw_shell.specs.Weave.{HasRun, IsWoven};
+ghost use Rattle.bw_shell.specs.Weave.{HasRun, IsWholeRun};
 
 use crate::pieces::{Weaver, feed};
 use crate::refusal::Refusal;
@@ -11,17 +11,24 @@ use crate::streams::{Input, Output};
 use crate::texts::show_lone_refusal;
 use arrayvec::ArrayVec;
 use bw_model::Limits;
+use shell_lines::Language;
 use std::alloc::Global;
 use step_core::Core;
 
 // Reads to the end of the input, or as far as it goes, and answers whether a line was refused.
-fn run<I: Input, O: Output>(alloc: Global, weaver: &mut Weaver, input: &mut I, out: &mut O) -> bool
+fn run<I: Input, O: Output>(
+    alloc: Global,
+    language: Language,
+    weaver: &mut Weaver,
+    input: &mut I,
+    out: &mut O,
+) -> bool
     requires sound_in { I.failed input.old ≡ false }
     requires sound_out { (O.state out.old).failed ≡ false }
     requires bounded { I.reads_left input.old ≤ 2 ^ 31 }
     requires first { weaver.old.number ≡ 1 }
     requires empty { weaver.old.part.items ≡ [] }
-    ensures { HasRun (seen weaver.old.core) (I.remaining input.old) (I.remaining input.new) (I.failed input.new)
+    ensures { HasRun language (seen weaver.old.core) (I.remaining input.old) (I.remaining input.new) (I.failed input.new)
         (O.state out.old) (O.state out.new) (seen weaver.new.core) result }
 {
     let mut bytes = [0u8; 4096];
@@ -32,7 +39,7 @@ fn run<I: Input, O: Output>(alloc: Global, weaver: &mut Weaver, input: &mut I, o
                 if n == 0 {
                     break;
                 }
-                if feed(alloc, weaver, bytes.split_at(n).0, out) {
+                if feed(alloc, language, weaver, bytes.split_at(n).0, out) {
                     return true;
                 }
                 if out.has_failed() {
@@ -46,6 +53,7 @@ fn run<I: Input, O: Output>(alloc: Global, weaver: &mut Weaver, input: &mut I, o
     }
     run_line(
         alloc,
+        language,
         &mut weaver.core,
         weaver.number,
         weaver.part.as_slice(),
@@ -60,14 +68,19 @@ fn status(refused: bool, read_failed: bool, write_failed: bool) -> u8
     u8::from(refused || read_failed || write_failed)
 }
 
-/// Reads lines, runs them on a core of these limits, and writes a transcript. Answers the status: 0 where no read or write
-/// failed and no line was refused, else 1.
-pub fn weave<I: Input, O: Output>(alloc: Global, limits: Limits, input: &mut I, out: &mut O) -> u8
+// Reads lines of a language, runs them on a core of these limits, and writes a transcript.
+fn run_program<I: Input, O: Output>(
+    alloc: Global,
+    language: Language,
+    limits: Limits,
+    input: &mut I,
+    out: &mut O,
+) -> u8
     requires sound_in { I.failed input.old ≡ false }
     requires bounded { I.reads_left input.old ≤ 2 ^ 31 }
     requires sound_out { (O.state out.old).failed ≡ false }
     requires fresh { (O.state out.old).held ≡ [] }
-    ensures { IsWoven limits (I.remaining input.old) (I.remaining input.new) (I.failed input.new)
+    ensures { IsWholeRun language limits (I.remaining input.old) (I.remaining input.new) (I.failed input.new)
         (O.state out.old).contents (O.state out.new).contents (O.state out.new).failed result }
 {
     let mut weaver = match Core::open(alloc, limits) {
@@ -82,8 +95,34 @@ pub fn weave<I: Input, O: Output>(alloc: Global, limits: Limits, input: &mut I, 
             return 1;
         }
     };
-    let refused = run(alloc, &mut weaver, input, out);
+    let refused = run(alloc, language, &mut weaver, input, out);
     weaver.core.linearized();
     out.finish();
     status(refused, input.has_failed(), out.has_failed())
+}
+
+/// Reads commands, runs each to its end by actor 0 of a core of these limits, and writes a transcript. Answers the status: 0
+/// where no read or write failed and no line was refused, else 1.
+pub fn script<I: Input, O: Output>(alloc: Global, limits: Limits, input: &mut I, out: &mut O) -> u8
+    requires sound_in { I.failed input.old ≡ false }
+    requires bounded { I.reads_left input.old ≤ 2 ^ 31 }
+    requires sound_out { (O.state out.old).failed ≡ false }
+    requires fresh { (O.state out.old).held ≡ [] }
+    ensures { IsWholeRun Language.Script limits (I.remaining input.old) (I.remaining input.new) (I.failed input.new)
+        (O.state out.old).contents (O.state out.new).contents (O.state out.new).failed result }
+{
+    run_program(alloc, Language::Script, limits, input, out)
+}
+
+/// Reads lines, runs them turn by turn on a core of these limits, and writes a transcript. Answers the status: 0 where no read
+/// or write failed and no line was refused, else 1.
+pub fn weave<I: Input, O: Output>(alloc: Global, limits: Limits, input: &mut I, out: &mut O) -> u8
+    requires sound_in { I.failed input.old ≡ false }
+    requires bounded { I.reads_left input.old ≤ 2 ^ 31 }
+    requires sound_out { (O.state out.old).failed ≡ false }
+    requires fresh { (O.state out.old).held ≡ [] }
+    ensures { IsWholeRun Language.Weave limits (I.remaining input.old) (I.remaining input.new) (I.failed input.new)
+        (O.state out.old).contents (O.state out.new).contents (O.state out.new).failed result }
+{
+    run_program(alloc, Language::Weave, limits, input, out)
 }

@@ -1,7 +1,7 @@
 //! The program `bwtree`.
 #![tactic(auto)]
 
-use bw_shell::{Reader, Refusal, Writer, weave};
+use bw_shell::{Reader, Refusal, Writer, script, weave};
 use shell_options::{OptionsError, Program, Settings, options};
 use std::alloc::Global;
 use std::io::ErrorKind;
@@ -63,6 +63,7 @@ fn run(rt: HostRuntime, settings: Settings) -> u8 {
     let mut input = Reader::new(rt.reader());
     let mut output = Writer::new(io::writer(&rt));
     match settings.program {
+        Program::Script => script(rt.alloc(), limits, &mut input, &mut output),
         Program::Weave => weave(rt.alloc(), limits, &mut input, &mut output),
     }
 }

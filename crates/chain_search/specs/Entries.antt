@@ -11,18 +11,18 @@ use Rattle.chain_search.specs.declared.shared.Happening.{Happening}
 use Rattle.chain_search.specs.declared.shared.Happening.TheVariants.{Begin, Step}
 
 -- the reply that was kept
-abbrev pub reply_of : Replied (List (List ℕ × List ℕ)) → Reply
-reply_of (Value value) = reply.Value value
-reply_of None = reply.None
-reply_of Inserted = reply.Inserted
-reply_of (Exists value) = reply.Exists value
-reply_of Set = reply.Set
-reply_of (Replaced value) = reply.Replaced value
-reply_of (Deleted value) = reply.Deleted value
-reply_of Absent = reply.Absent
-reply_of (Page items next) = reply.Page items next
-reply_of Tidied = reply.Tidied
-reply_of Full = reply.Full
+abbrev pub unboxed : Replied (List (List ℕ × List ℕ)) → Reply
+unboxed (Value value) = reply.Value value
+unboxed None = reply.None
+unboxed Inserted = reply.Inserted
+unboxed (Exists value) = reply.Exists value
+unboxed Set = reply.Set
+unboxed (Replaced value) = reply.Replaced value
+unboxed (Deleted value) = reply.Deleted value
+unboxed Absent = reply.Absent
+unboxed (Page items next) = reply.Page items next
+unboxed Tidied = reply.Tidied
+unboxed Full = reply.Full
 
 -- the reply is a cursor page
 abbrev pub ShowsPairs : Reply → Type 0

@@ -71,11 +71,11 @@ pub struct BoxedReply<A: Allocator = Global> {
 
 impl<A: Allocator> Model for BoxedReply<A> {
     ghost use Rattle.bw_model.specs.declared.command.Reply.{Reply};
-    ghost use Rattle.chain_search.specs.Entries.{reply_of};
+    ghost use Rattle.chain_search.specs.Entries.{unboxed};
 
     ghost Value = { Reply };
 
-    ghost view = { λ r. reply_of r.replied };
+    ghost view = { λ r. unboxed r.replied };
 }
 
 impl<A: Allocator> BoxedReply<A> {

@@ -2,9 +2,15 @@
 #![tactic(auto)]
 
 #[cfg(test)]
+mod by_hand;
+#[cfg(test)]
 mod example;
 #[cfg(test)]
 mod numbered;
+#[cfg(test)]
+mod pages;
+#[cfg(test)]
+mod plain_map;
 #[cfg(test)]
 mod refusals;
 #[cfg(test)]
@@ -13,3 +19,7 @@ mod runs;
 mod schedules;
 #[cfg(test)]
 mod stops;
+#[cfg(test)]
+mod tidying;
+#[cfg(test)]
+mod walks;

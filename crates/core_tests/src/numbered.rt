@@ -24,3 +24,14 @@ pub(crate) fn insert(number: u32) -> Command {
 pub(crate) fn found(number: u32) -> Reply {
     Reply::Value(value(number))
 }
+
+/// The number of a key of these.
+pub(crate) fn number_of(key: &Key) -> Option<u32> {
+    match key.as_slice() {
+        [high, low] => {
+            let high = u32::from(high.wrapping_sub(b'A'));
+            Some(high * 32 + u32::from(low.wrapping_sub(b'A')))
+        }
+        _ => None,
+    }
+}

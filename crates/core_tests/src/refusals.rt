@@ -191,6 +191,30 @@ fn turn_wants_memory(rt: HostRuntime) -> Result<(), Fail> {
     Ok(())
 }
 
+/// Before which turns a cursor page behind one insert wants memory: where the trace has to grow, at 16, and for its pairs, at its
+/// last step.
+const PAGE_WANTS: [u64; 2] = [16, 18];
+
+#[test]
+fn page_wants_memory(rt: HostRuntime) -> Result<(), Fail> {
+    let mut first = vec![in rt.alloc(); Turn::Step(0); 11]?;
+    first[0] = insert(Key::default(), Value::default());
+    let mut turns = vec![in rt.alloc(); Turn::Step(0); 8]?;
+    turns[0] = Turn::Begin(0, Command::Page(Key::default()));
+    let heap = LocalHeap::new(rt.alloc(), 1 << 22)?;
+    assert_eq!(rt;
+        taken_by_twins(
+            rt.alloc(),
+            &heap,
+            first.as_slice(),
+            turns.as_slice(),
+            &PAGE_WANTS
+        )?,
+        19
+    );
+    Ok(())
+}
+
 /// Sixteen inserts in the order of their keys, and their steps. The ninth consolidates the page.
 fn inserts(alloc: Global) -> Result<Vec<Turn>, AllocError> {
     let mut turns = Vec::new(alloc);

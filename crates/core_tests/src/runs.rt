@@ -1,10 +1,11 @@
 //! Runs by hand, with the counts of steps and the replies that are wanted of them.
 
+use crate::by_hand::{begins, ends, lists, replies, steps};
 use bw_model::{Command, Key, Limits, Link, Reply, Value};
 use chain_search::{Entry, SharedEntry, Turn};
 use std::alloc::{AllocError, Global};
 use std::test::Fail;
-use step_core::{Core, Event, RunError, run};
+use step_core::{Core, RunError, run};
 
 fn key(text: &[u8]) -> Key {
     Key::from_slice(text).unwrap_or_default()
@@ -16,34 +17,6 @@ fn value(text: &[u8]) -> Value {
 
 fn insert(text: &[u8], of: &[u8]) -> Command {
     Command::Insert(key(text), value(of))
-}
-
-/// Whether an actor begins an operation.
-fn begins(core: &mut Core, actor: u8, command: Command) -> bool {
-    core.turn(Turn::Begin(actor, command)) == Ok(Event::Began)
-}
-
-/// Whether so many steps each tell the link, or that there is none.
-fn steps(core: &mut Core, actor: u8, times: u32, link: Option<Link>) -> bool {
-    for _ in 0..times {
-        if core.turn(Turn::Step(actor)) != Ok(Event::Stepped(link)) {
-            return false;
-        }
-    }
-    true
-}
-
-/// Whether a step tells the reply.
-fn ends(core: &mut Core, actor: u8, reply: Reply) -> bool {
-    core.turn(Turn::Step(actor)) == Ok(Event::Done(reply))
-}
-
-/// Whether the core lists these pairs.
-fn lists(alloc: Global, core: &Core, pairs: &[(Key, Value)]) -> bool {
-    match core.listing(alloc) {
-        Ok(listed) => listed.as_slice() == pairs,
-        Err(_) => false,
-    }
 }
 
 #[test]
@@ -93,37 +66,23 @@ fn listed(alloc: Global, core: &Core) -> Option<usize> {
     }
 }
 
-/// Whether a command of actor 0 has the reply, after as many steps as it takes.
-fn replies(core: &mut Core, command: Command, reply: Reply) -> bool {
-    if core.turn(Turn::Begin(0, command)).is_err() {
-        return false;
-    }
-    for _ in 0..100u32 {
-        match core.turn(Turn::Step(0)) {
-            Ok(Event::Done(done)) => return done == reply,
-            Ok(_) => {}
-            Err(_) => return false,
-        }
-    }
-    false
-}
-
 #[test]
 fn a_writer_consolidates(rt: HostRuntime) -> Result<(), Fail> {
     let mut core = Core::open(rt.alloc(), Limits::new(1, 64, 64, 1)?)?;
     for digit in b"12345678" {
         let text = [b'k', *digit];
-        assert!(rt; replies(&mut core, insert(&text, &text), Reply::Inserted));
+        assert!(rt; replies(&mut core, 0, insert(&text, &text), Reply::Inserted));
     }
     let told = [
         core.turns() == 116,
         replies(
             &mut core,
+            0,
             Command::Delete(key(b"k1")),
             Reply::Deleted(value(b"k1")),
         ),
         core.turns() == 142,
-        replies(&mut core, Command::Get(key(b"k1")), Reply::None),
+        replies(&mut core, 0, Command::Get(key(b"k1")), Reply::None),
         listed(rt.alloc(), &core) == Some(7),
     ];
     assert_eq!(rt; told, [true; 5]);

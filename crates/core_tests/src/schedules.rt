@@ -1,7 +1,8 @@
 //! Several actors in a seeded order over few keys and over many, with much room and with little, beside a plain map.
 
 use crate::numbered::{key, value};
-use bw_model::{Answer, Command, Limits, Link, Reply, Step};
+use crate::plain_map::{ABSENT, PlainMap, VALUES};
+use bw_model::{Answer, Command, Key, Limits, Link, Pairs, Reply, Step};
 use chain_search::{Entry, SharedEntry, Turn};
 use rand_core::SeedableRng;
 use rand_core::utils::NextWord;
@@ -9,11 +10,6 @@ use rand_pcg::Pcg32;
 use std::alloc::{AllocError, Global};
 use std::test::Fail;
 use step_core::{Core, Event};
-
-const VALUES: u32 = 8;
-
-/// No value, where numbers stand for values.
-const ABSENT: u32 = VALUES;
 
 /// The bit that stands for a value.
 fn bit(number: u32) -> u32 {
@@ -25,12 +21,49 @@ fn draw(rng: &mut Pcg32, count: u32) -> u32 {
     (rng.next_word() % 1024).wrapping_mul(count) / 1024
 }
 
+/// What a command does.
+#[derive(Clone, Copy, PartialEq, Eq, Drop)]
+enum Kind {
+    Get,
+    Insert,
+    Upsert,
+    Delete,
+    Page,
+    Tidy,
+}
+
+/// Of the four commands on one value, each as often as the others.
+const FOUR: [Kind; 4] = [Kind::Get, Kind::Insert, Kind::Upsert, Kind::Delete];
+
+/// One delete, and two each of the three others.
+const FEW_DELETES: [Kind; 7] = [
+    Kind::Get,
+    Kind::Insert,
+    Kind::Upsert,
+    Kind::Delete,
+    Kind::Get,
+    Kind::Insert,
+    Kind::Upsert,
+];
+
+/// All six commands, each as often as the others.
+const SIX: [Kind; 6] = [
+    Kind::Get,
+    Kind::Insert,
+    Kind::Upsert,
+    Kind::Delete,
+    Kind::Page,
+    Kind::Tidy,
+];
+
 /// What an actor was asked: the kind of the command, its key and its value by their numbers.
 #[derive(Clone, Copy, Drop)]
 struct Asked {
-    kind: u32,
+    kind: Kind,
     key: u32,
     value: u32,
+    /// At which moment of the map it was asked.
+    since: usize,
     /// A bit for each value that its key has had since, the last for none.
     met: u32,
     /// The value of its key directly before its own update.
@@ -41,9 +74,10 @@ impl Asked {
     /// A lookup of the first key.
     fn idle() -> Asked {
         Asked {
-            kind: 0,
+            kind: Kind::Get,
             key: 0,
             value: 0,
+            since: 0,
             met: 0,
             changed: None,
         }
@@ -52,9 +86,10 @@ impl Asked {
     /// A command that is drawn.
     fn drawn(rng: &mut Pcg32, schedule: &Schedule) -> Asked {
         Asked {
-            kind: draw(rng, schedule.kinds) % 4,
+            kind: drawn_kind(rng, schedule.kinds),
             key: draw(rng, schedule.keys),
             value: draw(rng, VALUES),
+            since: 0,
             met: 0,
             changed: None,
         }
@@ -63,34 +98,38 @@ impl Asked {
     fn command(&self) -> Command {
         let key = key(self.key);
         match self.kind {
-            0 => Command::Get(key),
-            1 => Command::Insert(key, value(self.value)),
-            2 => Command::Upsert(key, value(self.value)),
-            _ => Command::Delete(key),
+            Kind::Get => Command::Get(key),
+            Kind::Insert => Command::Insert(key, value(self.value)),
+            Kind::Upsert => Command::Upsert(key, value(self.value)),
+            Kind::Delete => Command::Delete(key),
+            Kind::Page => Command::Page(key),
+            Kind::Tidy => Command::Tidy(key),
         }
     }
 
     /// Whether it changes the map where its key has this value.
     fn changes(&self, old: u32) -> bool {
         match self.kind {
-            0 => false,
-            1 => old == ABSENT,
-            2 => true,
-            _ => old != ABSENT,
+            Kind::Get | Kind::Page | Kind::Tidy => false,
+            Kind::Insert => old == ABSENT,
+            Kind::Upsert => true,
+            Kind::Delete => old != ABSENT,
         }
     }
 
-    /// Its reply where its key has this value.
-    fn reply(&self, old: u32) -> Reply {
+    /// Its reply where its key has this value; of a cursor page none, which goes by more.
+    fn reply(&self, old: u32) -> Option<Reply> {
         match (self.kind, old == ABSENT) {
-            (0, true) => Reply::None,
-            (0, false) => Reply::Value(value(old)),
-            (1, true) => Reply::Inserted,
-            (1, false) => Reply::Exists(value(old)),
-            (2, true) => Reply::Set,
-            (2, false) => Reply::Replaced(value(old)),
-            (_, true) => Reply::Absent,
-            (_, false) => Reply::Deleted(value(old)),
+            (Kind::Get, true) => Some(Reply::None),
+            (Kind::Get, false) => Some(Reply::Value(value(old))),
+            (Kind::Insert, true) => Some(Reply::Inserted),
+            (Kind::Insert, false) => Some(Reply::Exists(value(old))),
+            (Kind::Upsert, true) => Some(Reply::Set),
+            (Kind::Upsert, false) => Some(Reply::Replaced(value(old))),
+            (Kind::Delete, true) => Some(Reply::Absent),
+            (Kind::Delete, false) => Some(Reply::Deleted(value(old))),
+            (Kind::Page, _) => None,
+            (Kind::Tidy, _) => Some(Reply::Tidied),
         }
     }
 
@@ -98,13 +137,14 @@ impl Asked {
     /// as a writer that changed nothing.
     fn may_reply(&self, reply: &Reply) -> bool {
         if let Some(old) = self.changed {
-            return *reply == self.reply(old);
+            return Some(reply) == self.reply(old).as_ref();
         }
         if *reply == Reply::Full {
-            return self.kind != 0;
+            return self.kind != Kind::Get && self.kind != Kind::Page;
         }
         for old in 0..=ABSENT {
-            if self.met & bit(old) != 0 && !self.changes(old) && *reply == self.reply(old) {
+            let met = self.met & bit(old) != 0 && !self.changes(old);
+            if met && Some(reply) == self.reply(old).as_ref() {
                 return true;
             }
         }
@@ -115,7 +155,7 @@ impl Asked {
 /// The plain map, by the numbers of keys and values; what each actor was asked last; and what was seen so far.
 #[derive(Drop)]
 struct Twin {
-    values: Vec<u32>,
+    map: PlainMap,
     asked: Vec<Asked>,
     /// How many roots were put over others.
     roots: u32,
@@ -127,7 +167,7 @@ struct Twin {
 impl Twin {
     fn new(alloc: Global) -> Result<Twin, AllocError> {
         Ok(Twin {
-            values: vec![in alloc; ABSENT; 1024]?,
+            map: PlainMap::new(alloc)?,
             asked: vec![in alloc; Asked::idle(); 16]?,
             roots: 0,
             full: false,
@@ -136,52 +176,63 @@ impl Twin {
     }
 
     fn begin(&mut self, actor: usize, mut asked: Asked) {
-        asked.met = bit(self.value(asked.key));
+        asked.met = bit(self.map.value(asked.key));
+        asked.since = self.map.moment();
         if let Some(place) = self.asked.get_mut(actor) {
             *place = asked;
         }
     }
 
-    fn value(&self, key: u32) -> u32 {
-        self.values.get(key as usize).copied().unwrap_or(ABSENT)
-    }
-
     /// The actor's update takes effect.
-    fn update(&mut self, actor: usize) {
+    fn update(&mut self, actor: usize) -> Result<(), AllocError> {
         self.changed_since = self.full;
         let Some(own) = self.asked.get_mut(actor) else {
-            return;
+            return Ok(());
         };
         let key = own.key;
-        let left = if own.kind == 3 { ABSENT } else { own.value };
-        own.changed = self.values.get(key as usize).copied();
+        let left = if own.kind == Kind::Delete {
+            ABSENT
+        } else {
+            own.value
+        };
+        own.changed = Some(self.map.value(key));
         for asked in self.asked.iter_mut() {
             if asked.key == key {
                 asked.met |= bit(left);
             }
         }
-        if let Some(place) = self.values.get_mut(key as usize) {
-            *place = left;
-        }
+        self.map.set(key, left)
     }
 
     /// An exchange of the actor has won.
-    fn link(&mut self, actor: usize, link: Link) {
+    fn link(&mut self, actor: usize, link: Link) -> Result<(), AllocError> {
         match link {
-            Link::Put | Link::Delete => self.update(actor),
+            Link::Put | Link::Delete => self.update(actor)?,
             Link::Root => self.roots = self.roots.saturating_add(1),
             _ => {}
         }
+        Ok(())
     }
 
     fn may_reply(&mut self, actor: usize, reply: &Reply) -> bool {
         if *reply == Reply::Full {
             self.full = true;
         }
-        match self.asked.get(actor) {
-            Some(asked) => asked.may_reply(reply),
-            None => false,
+        let Some(asked) = self.asked.get(actor) else {
+            return false;
+        };
+        match reply {
+            Reply::Page { items, next } => asked.kind == Kind::Page && self.had(asked, items, next),
+            _ => asked.may_reply(reply),
         }
+    }
+
+    /// Whether the cursor page was the map's at a moment since it was asked for.
+    fn had(&self, asked: &Asked, items: &Pairs, next: &Option<Key>) -> bool {
+        let had = self
+            .map
+            .had_page(asked.since, asked.key, items, next.as_ref());
+        had == Ok(true)
     }
 
     /// Whether the core lists exactly the map's pairs.
@@ -191,7 +242,7 @@ impl Twin {
         };
         let mut left = pairs.as_slice().iter();
         for number in 0..1024u32 {
-            let had = self.value(number);
+            let had = self.map.value(number);
             if had != ABSENT && left.next() != Some(&(key(number), value(had))) {
                 return false;
             }
@@ -200,17 +251,23 @@ impl Twin {
     }
 }
 
-/// How many actors take how many turns over how many keys, and how much room there is. Of four kinds of commands each is as often
-/// as the others; of seven, one is a delete, and the three others are two each.
+/// How many actors take how many turns, with commands of which kinds over how many keys, and how much room there is.
 #[derive(Drop)]
-struct Schedule {
+struct Schedule<'a> {
     seed: u64,
     actors: u32,
     turns: u32,
-    kinds: u32,
+    kinds: &'a [Kind],
     keys: u32,
     pids: u64,
     rows: u64,
+}
+
+/// One of the kinds.
+fn drawn_kind(rng: &mut Pcg32, kinds: &[Kind]) -> Kind {
+    let count = u32::try_from(kinds.len()).unwrap_or(1);
+    let place = draw(rng, count) as usize;
+    kinds.get(place).copied().unwrap_or(Kind::Get)
 }
 
 /// Takes a turn of an actor that is drawn; says whether what it did may be, beside the map.
@@ -223,10 +280,7 @@ fn turn(core: &mut Core, twin: &mut Twin, rng: &mut Pcg32, schedule: &Schedule) 
     }
     match core.turn(Turn::Step(actor)) {
         Ok(Event::Stepped(None)) => true,
-        Ok(Event::Stepped(Some(link))) => {
-            twin.link(usize::from(actor), link);
-            true
-        }
+        Ok(Event::Stepped(Some(link))) => twin.link(usize::from(actor), link).is_ok(),
         Ok(Event::Done(reply)) => twin.may_reply(usize::from(actor), &reply),
         _ => false,
     }
@@ -290,7 +344,7 @@ fn few_keys(rt: HostRuntime) -> Result<(), Fail> {
         seed: 7,
         actors: 3,
         turns: 20_000,
-        kinds: 4,
+        kinds: &FOUR,
         keys: 8,
         pids: 64,
         rows: 4096,
@@ -305,7 +359,7 @@ fn keys_for_three_levels(rt: HostRuntime) -> Result<(), Fail> {
         seed: 8,
         actors: 3,
         turns: 50_000,
-        kinds: 4,
+        kinds: &FOUR,
         keys: 676,
         pids: 4096,
         rows: 16384,
@@ -320,7 +374,7 @@ fn many_actors(rt: HostRuntime) -> Result<(), Fail> {
         seed: 9,
         actors: 16,
         turns: 40_000,
-        kinds: 4,
+        kinds: &FOUR,
         keys: 40,
         pids: 64,
         rows: 8192,
@@ -335,7 +389,7 @@ fn few_pids(rt: HostRuntime) -> Result<(), Fail> {
         seed: 10,
         actors: 4,
         turns: 70_000,
-        kinds: 7,
+        kinds: &FEW_DELETES,
         keys: 1024,
         pids: 64,
         rows: 16384,
@@ -350,7 +404,52 @@ fn few_rows(rt: HostRuntime) -> Result<(), Fail> {
         seed: 11,
         actors: 6,
         turns: 20_000,
-        kinds: 4,
+        kinds: &FOUR,
+        keys: 100,
+        pids: 64,
+        rows: 256,
+    };
+    assert_eq!(rt; seen(rt.alloc(), &schedule), Some((1, true, true)));
+    Ok(())
+}
+
+#[test]
+fn six_commands(rt: HostRuntime) -> Result<(), Fail> {
+    let schedule = Schedule {
+        seed: 12,
+        actors: 3,
+        turns: 20_000,
+        kinds: &SIX,
+        keys: 8,
+        pids: 64,
+        rows: 8192,
+    };
+    assert_eq!(rt; seen(rt.alloc(), &schedule), Some((0, false, false)));
+    Ok(())
+}
+
+#[test]
+fn six_commands_on_three_levels(rt: HostRuntime) -> Result<(), Fail> {
+    let schedule = Schedule {
+        seed: 13,
+        actors: 5,
+        turns: 70_000,
+        kinds: &SIX,
+        keys: 676,
+        pids: 4096,
+        rows: 16384,
+    };
+    assert_eq!(rt; seen(rt.alloc(), &schedule), Some((2, false, false)));
+    Ok(())
+}
+
+#[test]
+fn six_commands_in_few_rows(rt: HostRuntime) -> Result<(), Fail> {
+    let schedule = Schedule {
+        seed: 14,
+        actors: 6,
+        turns: 20_000,
+        kinds: &SIX,
         keys: 100,
         pids: 64,
         rows: 256,

@@ -2,35 +2,13 @@
 
 ghost use Rattle.std.specs.Prelude.{◌<◌};
 
+use crate::by_hand::{finish, replies};
 use crate::numbered::{found, insert, key, value};
-use bw_model::{Command, Key, Limits, Link, Reply, Value};
+use bw_model::{Command, Limits, Link, Reply};
 use chain_search::Turn;
 use std::alloc::Global;
 use std::test::Fail;
 use step_core::{Core, Event};
-
-/// The reply of the operation that an actor has, after as many steps as it takes, and how many they were.
-fn finish(core: &mut Core, actor: u8) -> Option<(Reply, u32)> {
-    for steps in 1..=1000u32 {
-        match core.turn(Turn::Step(actor)) {
-            Ok(Event::Done(reply)) => return Some((reply, steps)),
-            Ok(_) => {}
-            Err(_) => return None,
-        }
-    }
-    None
-}
-
-/// Whether an actor's command has this reply.
-fn replies(core: &mut Core, actor: u8, command: Command, reply: Reply) -> bool {
-    if core.turn(Turn::Begin(actor, command)).is_err() {
-        return false;
-    }
-    match finish(core, actor) {
-        Some((done, _)) => done == reply,
-        None => false,
-    }
-}
 
 /// A core with the keys of the first so many even numbers from 2 on, inserted in their order.
 fn grown(alloc: Global, count: u32) -> Option<Core> {

@@ -1,3 +1,4 @@
 pub mod Tokens
 pub mod Splits
 pub mod Requested
+pub mod Numbers

@@ -1,22 +1,24 @@
 -- What fields request for, as a function, is what the grammar says.
-use Rattle.std.proofs.Common.{◌≡◌, ℕ, ◌≤◌, ◌<◌, List, [], ◌∷◌, length, refl, sym, subst, ◌∙◌, arith, ◌⊎◌, inl, inr, Option, Some, None, Result, Ok, Err, true, cond, ◌&&◌, nat_le, IfOk, codes, option_map}
+use Rattle.std.proofs.Common.{◌≡◌, ℕ, ◌≤◌, ◌<◌, List, [], ◌∷◌, length, refl, sym, subst, ap, ◌∙◌, arith, ◌^◌, ◌⊎◌, inl, inr, Option, Some, None, Result, Ok, Err, true, cond, ◌&&◌, nat_le, nat_lt, IfOk, codes, option_map}
 use Rattle.std.specs.Option.{option_and_then}
 use Rattle.std.specs.Str.{bytes_eq}
 use Rattle.std.proofs.lemmas.Slice.Eq.{bytes_eq-Decides}
 use Rattle.std.proofs.lemmas.Bool.Decides.{nat_tests}
 use Rattle.bw_model.specs.declared.command.Command.{Command}
-use Rattle.bw_model.specs.declared.command.Command.TheVariants.{Get, Insert, Upsert, Delete}
+use Rattle.bw_model.specs.declared.command.Command.TheVariants.{Get, Insert, Upsert, Delete, Page, Tidy}
 use Rattle.bw_model.specs.declared.step.Link.{Link}
 use Rattle.bw_model.specs.declared.step.Link.TheVariants as link
+use Rattle.shell_lines.specs.declared.request.Language.{Language}
+use Rattle.shell_lines.specs.declared.request.Language.TheVariants.{Script, Weave}
 use Rattle.shell_lines.specs.declared.request.Request.{Request}
-use Rattle.shell_lines.specs.declared.request.Request.TheVariants.{Begin, Turn, Until, Finish, List as ListPairs}
+use Rattle.shell_lines.specs.declared.request.Request.TheVariants.{Begin, Turn, Until, Finish, Mix, List as ListPairs, Run}
 use Rattle.shell_lines.specs.declared.token.LineError.{LineError}
 use Rattle.shell_lines.specs.declared.token.LineError.TheVariants.{Malformed, TooLong}
 use Rattle.shell_lines.specs.Token.{Means, token_value}
-use Rattle.shell_lines.specs.Number.{number_of, capped}
+use Rattle.shell_lines.specs.Number.{number_of, capped, fitting}
 use Rattle.shell_lines.specs.Fields.{fields_of}
-use Rattle.shell_lines.specs.Request.{Says, SpellsRequest, SpellsNumber, SpellsCommand, IsShortRequest, word_of}
-use Rattle.shell_lines.specs.Reading.{key_in, pair_in, IsShortPair, command_in, capped_number, begin_in, turn_by, turn_in, link_in, until_in, finish_in, list_in, asked, GivesRequest}
+use Rattle.shell_lines.specs.Request.{Says, SpellsRequest, SpellsNumber, SpellsCommand, IsAskedIn, IsShortRequest, word_of}
+use Rattle.shell_lines.specs.Reading.{key_in, pair_in, IsShortPair, command_in, capped_number, begin_in, turn_by, turn_in, link_in, until_in, finish_in, mix_by, mix_in, list_in, woven_in, script_in, asked, GivesRequest}
 use Rattle.shell_lines.proofs.Tokens.{chosen, some_is, value_means, means_value}
 
 map_some : {A B : Type 0} (f : A → B) (o : Option A) (y : B) → option_map f o ≡ Some y → (x : A) × (o ≡ Some x) × (f x ≡ y)
@@ -109,10 +111,7 @@ unfolding command_in
 command_is [] c h = cc h
 command_is (verb ∷ args) c h =
     elim (chosen (bytes_eq verb (codes "get")) _ _ (Some c) h) [
-      | inl p ↦
-          let m = map_some Get (key_in args) c p.1 in
-          let k = key_is args m.0 m.1 in
-          subst (SpellsCommand (verb ∷ args)) m.2 (k.0, one_field verb (codes "get") k.0 args (is_text verb (codes "get") p.0) k.1, k.2)
+      | inl p ↦ one_token (codes "get") Get p.0 p.1 (λ key k. k)
       | inr q ↦ elim (chosen (bytes_eq verb (codes "insert")) _ _ (Some c) q.1) [
         | inl p ↦
             let m = map_some (λ (pair : List ℕ × List ℕ). Insert pair.0 pair.1) (pair_in args) c p.1 in
@@ -124,15 +123,25 @@ command_is (verb ∷ args) c h =
               let k = pair_is args m.0 m.1 in
               subst (SpellsCommand (verb ∷ args)) m.2 (k.0, k.1, two_fields verb (codes "upsert") k.0 k.1 args (is_text verb (codes "upsert") p.0) k.2, k.3, k.4)
           | inr s ↦ elim (chosen (bytes_eq verb (codes "delete")) _ _ (Some c) s.1) [
-            | inl p ↦
-                let m = map_some Delete (key_in args) c p.1 in
-                let k = key_is args m.0 m.1 in
-                subst (SpellsCommand (verb ∷ args)) m.2 (k.0, one_field verb (codes "delete") k.0 args (is_text verb (codes "delete") p.0) k.1, k.2)
-            | inr n ↦ cc n.1
+            | inl p ↦ one_token (codes "delete") Delete p.0 p.1 (λ key k. k)
+            | inr t ↦ elim (chosen (bytes_eq verb (codes "page")) _ _ (Some c) t.1) [
+              | inl p ↦ one_token (codes "page") Page p.0 p.1 (λ key k. k)
+              | inr u ↦ elim (chosen (bytes_eq verb (codes "tidy")) _ _ (Some c) u.1) [
+                | inl p ↦ one_token (codes "tidy") Tidy p.0 p.1 (λ key k. k)
+                | inr n ↦ cc n.1
+              ]
+            ]
           ]
         ]
       ]
     ]
+  where
+    one_token : (word : List ℕ) (made : List ℕ → Command) → bytes_eq verb word ≡ true → option_map made (key_in args) ≡ Some c
+        → ((key : List ℕ) → ((k : List ℕ) × (verb ∷ args ≡ word ∷ k ∷ []) × Means k key) → SpellsCommand (verb ∷ args) (made key)) → SpellsCommand (verb ∷ args) c
+    one_token word made is found spells =
+        let m = map_some made (key_in args) c found in
+        let k = key_is args m.0 m.1 in
+        subst (SpellsCommand (verb ∷ args)) m.2 (spells m.0 (k.0, one_field verb word k.0 args (is_text verb word is) k.1, k.2))
 
 is_command : (fs : List (List ℕ)) (c : Command) → SpellsCommand fs c → command_in fs ≡ Some c
 unfolding command_in key_in pair_in
@@ -140,6 +149,8 @@ is_command fs (Get key) h = rw (h.1, means_value h.0 key h.2) refl
 is_command fs (Insert key value) h = rw (h.2, means_value h.0 key h.3, means_value h.1 value h.4) refl
 is_command fs (Upsert key value) h = rw (h.2, means_value h.0 key h.3, means_value h.1 value h.4) refl
 is_command fs (Delete key) h = rw (h.1, means_value h.0 key h.2) refl
+is_command fs (Page key) h = rw (h.1, means_value h.0 key h.2) refl
+is_command fs (Tidy key) h = rw (h.1, means_value h.0 key h.2) refl
 
 -- a pair of which one part is too long
 pub too_long_pair : (k v key value : List ℕ) → token_value k ≡ Some key → token_value v ≡ Some value → (32 < length key) ⊎ (32 < length value)
@@ -150,15 +161,19 @@ too_long_pair k v key value a b (inr long) = ((key, value), rw (a, b) refl, λ s
 
 -- ---- lines
 
-begin_is : (args : List (List ℕ)) (request : Request) → begin_in args ≡ Some request → SpellsRequest (codes "begin" ∷ args) request
+-- the fields ask for this in a program's language
+abbrev Spells : Language → List (List ℕ) → Request → Type 0
+Spells language fs request = SpellsRequest fs request × IsAskedIn language request
+
+begin_is : (args : List (List ℕ)) (request : Request) → begin_in args ≡ Some request → Spells Weave (codes "begin" ∷ args) request
 unfolding begin_in
 begin_is [] request h = cc h
 begin_is (a ∷ rest) request h =
     let n = then_some (λ actor. option_map (Begin actor) (command_in rest)) (capped_number a) request h in
     let c = map_some (Begin n.0) (command_in rest) request n.2 in
-    rw (sym c.2) (a, rest, refl, number_is a n.0 n.1, command_is rest c.0 c.1)
+    rw (sym c.2) ((a, rest, refl, number_is a n.0 n.1, command_is rest c.0 c.1), tt)
 
-turn_is : (args : List (List ℕ)) (request : Request) → turn_in args ≡ Some request → SpellsRequest (codes "turn" ∷ args) request
+turn_is : (args : List (List ℕ)) (request : Request) → turn_in args ≡ Some request → Spells Weave (codes "turn" ∷ args) request
 unfolding turn_in
 turn_is [] request h = cc h
 turn_is (a ∷ []) request h = cc h
@@ -170,36 +185,62 @@ turn_is (a ∷ n ∷ []) request h =
           let same = some_is (Turn x.0 y.0) request p.1 in
           let low : 1 ≤ y.0 = grind (arith, nat_tests, p.0) in
           let high : y.0 ≤ 100000 = grind (arith, nat_tests, p.0) in
-          rw (sym same) (a, n, refl, number_is a x.0 x.1, number_is n y.0 y.1, low, high)
+          rw (sym same) ((a, n, refl, number_is a x.0 x.1, number_is n y.0 y.1, low, high), tt)
       | inr out ↦ cc out.1
     ]
 turn_is (a ∷ n ∷ x ∷ rest) request h = cc h
 
-until_is : (args : List (List ℕ)) (request : Request) → until_in args ≡ Some request → SpellsRequest (codes "until" ∷ args) request
+until_is : (args : List (List ℕ)) (request : Request) → until_in args ≡ Some request → Spells Weave (codes "until" ∷ args) request
 unfolding until_in
 until_is [] request h = cc h
 until_is (a ∷ []) request h = cc h
 until_is (a ∷ w ∷ []) request h =
     let x = then_some (λ actor. option_map (Until actor) (link_in w)) (capped_number a) request h in
     let y = map_some (Until x.0) (link_in w) request x.2 in
-    rw (sym y.2) (a, w, refl, number_is a x.0 x.1, link_is w y.0 y.1)
+    rw (sym y.2) ((a, w, refl, number_is a x.0 x.1, link_is w y.0 y.1), tt)
 until_is (a ∷ w ∷ x ∷ rest) request h = cc h
 
-finish_is : (args : List (List ℕ)) (request : Request) → finish_in args ≡ Some request → SpellsRequest (codes "finish" ∷ args) request
+finish_is : (args : List (List ℕ)) (request : Request) → finish_in args ≡ Some request → Spells Weave (codes "finish" ∷ args) request
 unfolding finish_in
 finish_is [] request h = cc h
-finish_is (a ∷ []) request h = let n = map_some Finish (capped_number a) request h in rw (sym n.2) (a, refl, number_is a n.0 n.1)
+finish_is (a ∷ []) request h = let n = map_some Finish (capped_number a) request h in rw (sym n.2) ((a, refl, number_is a n.0 n.1), tt)
 finish_is (a ∷ x ∷ rest) request h = cc h
 
-list_is : (args : List (List ℕ)) (request : Request) → list_in args ≡ Some request → SpellsRequest (codes "list" ∷ args) request
-unfolding list_in
-list_is [] request h = rw (sym (some_is ListPairs request h)) refl
-list_is (x ∷ rest) request h = cc h
+is_small : (n m : ℕ) → fitting n ≡ Some m → (n ≡ m) × (n < 2 ^ 64)
+is_small n m h =
+    elim (chosen (nat_lt n (2 ^ 64)) _ _ (Some m) h) [
+      | inl p ↦ let low : n < 2 ^ 64 = grind (arith, nat_tests, p.0) in (some_is n m p.1, low)
+      | inr out ↦ cc out.1
+    ]
 
-pub asked_is : (fs : List (List ℕ)) (request : Request) → asked fs ≡ Some request → SpellsRequest fs request
-unfolding asked
-asked_is [] request h = cc h
-asked_is (verb ∷ args) request h =
+mix_is : (args : List (List ℕ)) (request : Request) → mix_in args ≡ Some request → Spells Weave (codes "mix" ∷ args) request
+unfolding mix_in
+mix_is [] request h = cc h
+mix_is (s ∷ []) request h = cc h
+mix_is (s ∷ n ∷ []) request h =
+    let x = then_some (λ seed. option_and_then (mix_by seed) (capped_number n)) (option_and_then fitting (number_of s)) request h in
+    let z = then_some fitting (number_of s) x.0 x.1 in
+    let seed = is_small z.0 x.0 z.2 in
+    let y = then_some (mix_by x.0) (capped_number n) request x.2 in
+    elim (chosen (nat_le 1 y.0 && nat_le y.0 100000) _ _ (Some request) y.2) [
+      | inl p ↦
+          let same = some_is (Mix x.0 y.0) request p.1 in
+          let low : 1 ≤ y.0 = grind (arith, nat_tests, p.0) in
+          let high : y.0 ≤ 100000 = grind (arith, nat_tests, p.0) in
+          rw (sym same) ((s, n, refl, z.1 ∙ ap Some seed.0, subst (λ (m : ℕ). m < 2 ^ 64) seed.0 seed.1, number_is n y.0 y.1, low, high), tt)
+      | inr out ↦ cc out.1
+    ]
+mix_is (s ∷ n ∷ x ∷ rest) request h = cc h
+
+list_is : (language : Language) (args : List (List ℕ)) (request : Request) → IsAskedIn language ListPairs → list_in args ≡ Some request → Spells language (codes "list" ∷ args) request
+unfolding list_in
+list_is language [] request asked h = rw (sym (some_is ListPairs request h)) (refl, asked)
+list_is language (x ∷ rest) request asked h = cc h
+
+woven_is : (fs : List (List ℕ)) (request : Request) → woven_in fs ≡ Some request → Spells Weave fs request
+unfolding woven_in
+woven_is [] request h = cc h
+woven_is (verb ∷ args) request h =
     elim (chosen (bytes_eq verb (codes "begin")) _ _ (Some request) h) [
       | inl p ↦ rw (is_text verb (codes "begin") p.0) (begin_is args request p.1)
       | inr q ↦ elim (chosen (bytes_eq verb (codes "turn")) _ _ (Some request) q.1) [
@@ -208,41 +249,92 @@ asked_is (verb ∷ args) request h =
           | inl p ↦ rw (is_text verb (codes "until") p.0) (until_is args request p.1)
           | inr s ↦ elim (chosen (bytes_eq verb (codes "finish")) _ _ (Some request) s.1) [
             | inl p ↦ rw (is_text verb (codes "finish") p.0) (finish_is args request p.1)
-            | inr t ↦ elim (chosen (bytes_eq verb (codes "list")) _ _ (Some request) t.1) [
-              | inl p ↦ rw (is_text verb (codes "list") p.0) (list_is args request p.1)
-              | inr n ↦ cc n.1
+            | inr t ↦ elim (chosen (bytes_eq verb (codes "mix")) _ _ (Some request) t.1) [
+              | inl p ↦ rw (is_text verb (codes "mix") p.0) (mix_is args request p.1)
+              | inr u ↦ elim (chosen (bytes_eq verb (codes "list")) _ _ (Some request) u.1) [
+                | inl p ↦ rw (is_text verb (codes "list") p.0) (list_is Weave args request tt p.1)
+                | inr n ↦ cc n.1
+              ]
             ]
           ]
         ]
       ]
     ]
 
-pub is_asked : (fs : List (List ℕ)) (request : Request) → SpellsRequest fs request → asked fs ≡ Some request
-unfolding asked begin_in turn_in until_in finish_in list_in
-is_asked fs (Begin actor command) h = rw (h.2, is_number h.0 actor h.3, is_command h.1 command h.4) refl
-is_asked fs (Turn actor count) h =
+script_is : (fs : List (List ℕ)) (request : Request) → script_in fs ≡ Some request → Spells Script fs request
+unfolding script_in
+script_is [] request h = cc h
+script_is (verb ∷ args) request h =
+    elim (chosen (bytes_eq verb (codes "list")) _ _ (Some request) h) [
+      | inl p ↦ rw (is_text verb (codes "list") p.0) (list_is Script args request tt p.1)
+      | inr q ↦
+          let c = map_some Run (command_in (verb ∷ args)) request q.1 in
+          rw (sym c.2) (command_is (verb ∷ args) c.0 c.1, tt)
+    ]
+
+pub asked_is : (language : Language) (fs : List (List ℕ)) (request : Request) → asked language fs ≡ Some request → Spells language fs request
+asked_is Script fs request h = script_is fs request h
+asked_is Weave fs request h = woven_is fs request h
+
+is_fitting : (n : ℕ) → n < 2 ^ 64 → fitting n ≡ Some n
+is_fitting n low = let e : nat_lt n (2 ^ 64) ≡ true = grind (arith, nat_tests, low) in rw e refl
+
+is_woven : (fs : List (List ℕ)) (request : Request) → SpellsRequest fs request → IsAskedIn Weave request → woven_in fs ≡ Some request
+unfolding woven_in begin_in turn_in until_in finish_in mix_in list_in
+is_woven fs (Begin actor command) h a = rw (h.2, is_number h.0 actor h.3, is_command h.1 command h.4) refl
+is_woven fs (Turn actor count) h a =
     let fits : (nat_le 1 count && nat_le count 100000) ≡ true = grind (arith, nat_tests, h.5, h.6) in
     rw (h.2, is_number h.0 actor h.3, is_number h.1 count h.4, fits) refl
-is_asked fs (Until actor link) h = rw (h.2, is_number h.0 actor h.3, is_link h.1 link h.4) refl
-is_asked fs (Finish actor) h = rw (h.1, is_number h.0 actor h.2) refl
-is_asked fs ListPairs h = rw h refl
+is_woven fs (Until actor link) h a = rw (h.2, is_number h.0 actor h.3, is_link h.1 link h.4) refl
+is_woven fs (Finish actor) h a = rw (h.1, is_number h.0 actor h.2) refl
+is_woven fs (Mix seed count) h a =
+    let fits : (nat_le 1 count && nat_le count 100000) ≡ true = grind (arith, nat_tests, h.6, h.7) in
+    rw (h.2, h.3, is_fitting seed h.4, is_number h.1 count h.5, fits) refl
+is_woven fs ListPairs h a = rw h refl
+is_woven fs (Run command) h a = absurd a
+
+-- a command's verb isn't `list`
+is_run : (fs : List (List ℕ)) (command : Command) → SpellsCommand fs command → script_in fs ≡ option_map Run (command_in fs)
+unfolding script_in
+is_run fs (Get key) h = rw h.1 refl
+is_run fs (Insert key value) h = rw h.2 refl
+is_run fs (Upsert key value) h = rw h.2 refl
+is_run fs (Delete key) h = rw h.1 refl
+is_run fs (Page key) h = rw h.1 refl
+is_run fs (Tidy key) h = rw h.1 refl
+
+is_script : (fs : List (List ℕ)) (request : Request) → SpellsRequest fs request → IsAskedIn Script request → script_in fs ≡ Some request
+unfolding script_in list_in
+is_script fs (Run command) h a = is_run fs command h ∙ ap (option_map Run) (is_command fs command h)
+is_script fs ListPairs h a = rw h refl
+is_script fs (Begin actor command) h a = absurd a
+is_script fs (Turn actor count) h a = absurd a
+is_script fs (Until actor link) h a = absurd a
+is_script fs (Finish actor) h a = absurd a
+is_script fs (Mix seed count) h a = absurd a
+
+pub is_asked : (language : Language) (fs : List (List ℕ)) (request : Request) → Spells language fs request → asked language fs ≡ Some request
+is_asked Script fs request h = is_script fs request h.0 h.1
+is_asked Weave fs request h = is_woven fs request h.0 h.1
 
 -- ---- what reading a line answers
 
-pub parse_ok : (line : List ℕ) (r : Result Request LineError) → length line ≤ 1024 → GivesRequest r (asked (fields_of line)) → IfOk r (λ request. Says line request × IsShortRequest request)
-parse_ok line (Ok request) fits h = ((fits, asked_is (fields_of line) request h.0), h.1)
-parse_ok line (Err e) fits h = tt
+pub parse_ok : (language : Language) (line : List ℕ) (r : Result Request LineError) → length line ≤ 1024 → GivesRequest r (asked language (fields_of line))
+    → IfOk r (λ request. Says language line request × IsShortRequest request)
+parse_ok language line (Ok request) short h = let asks = asked_is language (fields_of line) request h.0 in ((short, asks.0, asks.1), h.1)
+parse_ok language line (Err e) short h = tt
 
-pub parse_malformed : (line : List ℕ) (r : Result Request LineError) → GivesRequest r (asked (fields_of line)) → r ≡ Err Malformed → (request : Request) → Says line request → ⊥
-parse_malformed line (Ok a) h e request says = cc e
-parse_malformed line (Err Malformed) h e request says = cc (sym h ∙ is_asked (fields_of line) request says.1)
-parse_malformed line (Err TooLong) h e request says = cc e
+pub parse_malformed : (language : Language) (line : List ℕ) (r : Result Request LineError) → GivesRequest r (asked language (fields_of line)) → r ≡ Err Malformed
+    → (request : Request) → Says language line request → ⊥
+parse_malformed language line (Ok a) h e request says = cc e
+parse_malformed language line (Err Malformed) h e request says = cc (sym h ∙ is_asked language (fields_of line) request (says.1, says.2))
+parse_malformed language line (Err TooLong) h e request says = cc e
 
-pub parse_too_long : (line : List ℕ) (r : Result Request LineError) → length line ≤ 1024 → GivesRequest r (asked (fields_of line)) → r ≡ Err TooLong
-    → (request : Request) × Says line request × (IsShortRequest request → ⊥)
-parse_too_long line (Ok request) fits h e = cc e
-parse_too_long line (Err Malformed) fits h e = cc e
-parse_too_long line (Err TooLong) fits h e = (h.0, (fits, asked_is (fields_of line) h.0 h.1), h.2)
+pub parse_too_long : (language : Language) (line : List ℕ) (r : Result Request LineError) → length line ≤ 1024 → GivesRequest r (asked language (fields_of line)) → r ≡ Err TooLong
+    → (request : Request) × Says language line request × (IsShortRequest request → ⊥)
+parse_too_long language line (Ok request) short h e = cc e
+parse_too_long language line (Err Malformed) short h e = cc e
+parse_too_long language line (Err TooLong) short h e = let asks = asked_is language (fields_of line) h.0 h.1 in (h.0, (short, asks.0, asks.1), h.2)
 
-pub one_request : (line : List ℕ) (a b : Request) → Says line a → Says line b → a ≡ b
-one_request line a b p q = some_is a b (sym (is_asked (fields_of line) a p.1) ∙ is_asked (fields_of line) b q.1)
+pub one_request : (language : Language) (line : List ℕ) (a b : Request) → Says language line a → Says language line b → a ≡ b
+one_request language line a b p q = some_is a b (sym (is_asked language (fields_of line) a (p.1, p.2)) ∙ is_asked language (fields_of line) b (q.1, q.2))

@@ -3,15 +3,17 @@ use Rattle.std.specs.Prelude.{◌≡◌, ℕ, ◌≤◌, length, ◌&&◌, nat_l
 use Rattle.std.specs.Option.{option_and_then}
 use Rattle.std.specs.Str.{bytes_eq}
 use Rattle.bw_model.specs.declared.command.Command.{Command}
-use Rattle.bw_model.specs.declared.command.Command.TheVariants.{Get, Insert, Upsert, Delete}
+use Rattle.bw_model.specs.declared.command.Command.TheVariants.{Get, Insert, Upsert, Delete, Page, Tidy}
 use Rattle.bw_model.specs.declared.step.Link.{Link}
 use Rattle.bw_model.specs.declared.step.Link.TheVariants as link
+use Rattle.shell_lines.specs.declared.request.Language.{Language}
+use Rattle.shell_lines.specs.declared.request.Language.TheVariants.{Script, Weave}
 use Rattle.shell_lines.specs.declared.request.Request.{Request}
-use Rattle.shell_lines.specs.declared.request.Request.TheVariants.{Begin, Turn, Until, Finish, List as ListPairs}
+use Rattle.shell_lines.specs.declared.request.Request.TheVariants.{Begin, Turn, Until, Finish, Mix, List as ListPairs, Run}
 use Rattle.shell_lines.specs.declared.token.LineError.{LineError}
 use Rattle.shell_lines.specs.declared.token.LineError.TheVariants.{Malformed, TooLong}
 use Rattle.shell_lines.specs.Token.{token_value}
-use Rattle.shell_lines.specs.Number.{number_of, capped}
+use Rattle.shell_lines.specs.Number.{number_of, capped, fitting}
 use Rattle.shell_lines.specs.Request.{IsShortRequest, IsShortCommand}
 
 -- the key that the fields after a verb give, if they are one token
@@ -34,6 +36,8 @@ command_in (verb ∷ args) =
     else if bytes_eq verb (codes "insert") then option_map (λ pair. Insert pair.0 pair.1) (pair_in args)
     else if bytes_eq verb (codes "upsert") then option_map (λ pair. Upsert pair.0 pair.1) (pair_in args)
     else if bytes_eq verb (codes "delete") then option_map Delete (key_in args)
+    else if bytes_eq verb (codes "page") then option_map Page (key_in args)
+    else if bytes_eq verb (codes "tidy") then option_map Tidy (key_in args)
     else None
 
 -- an actor's number
@@ -80,19 +84,41 @@ finish_in [] = None
 finish_in (a ∷ []) = option_map Finish (capped_number a)
 finish_in (a ∷ x ∷ rest) = None
 
+abbrev pub mix_by : ℕ → ℕ → Option Request
+mix_by seed count = if nat_le 1 count && nat_le count 100000 then Some (Mix seed count) else None
+
+unfoldable pub mix_in : List (List ℕ) → Option Request
+mix_in [] = None
+mix_in (s ∷ []) = None
+mix_in (s ∷ n ∷ []) = option_and_then (λ seed. option_and_then (mix_by seed) (capped_number n)) (option_and_then fitting (number_of s))
+mix_in (s ∷ n ∷ x ∷ rest) = None
+
 unfoldable pub list_in : List (List ℕ) → Option Request
 list_in [] = Some ListPairs
 list_in (x ∷ rest) = None
 
-unfoldable pub asked : List (List ℕ) → Option Request
-asked [] = None
-asked (verb ∷ args) =
+-- what a line of a weave asks for
+unfoldable pub woven_in : List (List ℕ) → Option Request
+woven_in [] = None
+woven_in (verb ∷ args) =
     if bytes_eq verb (codes "begin") then begin_in args
     else if bytes_eq verb (codes "turn") then turn_in args
     else if bytes_eq verb (codes "until") then until_in args
     else if bytes_eq verb (codes "finish") then finish_in args
+    else if bytes_eq verb (codes "mix") then mix_in args
     else if bytes_eq verb (codes "list") then list_in args
     else None
+
+-- what a line of a script asks for
+unfoldable pub script_in : List (List ℕ) → Option Request
+script_in [] = None
+script_in (verb ∷ args) =
+    if bytes_eq verb (codes "list") then list_in args
+    else option_map Run (command_in (verb ∷ args))
+
+abbrev pub asked : Language → List (List ℕ) → Option Request
+asked Script fields = script_in fields
+asked Weave fields = woven_in fields
 
 -- no key or value of a pair is too long
 abbrev pub IsShortPair : List ℕ × List ℕ → Type 0

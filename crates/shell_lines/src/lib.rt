@@ -6,6 +6,6 @@ mod number;
 mod request;
 mod token;
 
-pub use number::read_number;
-pub use request::{Request, parse, requests_are_exact};
+pub use number::{read_number, read_seed};
+pub use request::{Language, Request, parse, requests_are_exact};
 pub use token::{LineError, is_word, read_token, tokens_are_exact};

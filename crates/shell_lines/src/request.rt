@@ -1,26 +1,45 @@
 //! What a line asks for.
 
-ghost use Rattle.std.specs.Prelude.{◌≡◌, ℕ, List, [], ◌∷◌, IfOk, IsErrOf};
+ghost use Rattle.std.specs.Prelude.{◌≡◌, ◌&&◌, ℕ, List, [], ◌∷◌, nat_le, IfOk, IsErrOf};
 ghost use Rattle.std.specs.Option.{option_copied};
 ghost use Rattle.shell_lines.specs.Fields.{fields_in, fields_of};
 ghost use Rattle.shell_lines.specs.Gives.{Gives};
 ghost use Rattle.shell_lines.specs.Request.{Says, IsShortRequest};
-ghost use Rattle.shell_lines.specs.Reading.{GivesCommand, GivesPair, GivesRequest, key_in, pair_in, command_in, begin_in, turn_in, link_in, until_in, finish_in, list_in, asked};
+ghost use Rattle.shell_lines.specs.Reading.{GivesCommand, GivesPair, GivesRequest, key_in, pair_in, command_in, begin_in, turn_in, link_in, until_in, finish_in, mix_in, list_in, woven_in, script_in, asked};
+ghost use Rattle.shell_lines.specs.declared.request.Language.{Language as LanguageSeen};
 ghost use Rattle.shell_lines.specs.declared.request.Request.{Request as RequestSeen};
 
 use crate::fields::next_field;
-use crate::number::read_number;
+use crate::number::{read_number, read_seed};
 use crate::token::{LineError, key_of, value_of};
 use bw_model::{Command, Key, Link, Value};
+
+/// Which lines a program takes.
+#[derive(Clone, Copy, Debug, PartialEq, Eq)]
+pub enum Language {
+    /// Commands, each of which is run to its end.
+    Script,
+    /// Operations of several actors, turn by turn.
+    Weave,
+}
 
 /// What a line asks for.
 #[derive(Drop)]
 pub enum Request {
+    /// An actor begins an operation.
     Begin(u64, Command),
+    /// An actor takes so many turns, fewer if it is done.
     Turn(u64, u64),
+    /// An actor takes turns until an exchange of its own won with the link, or it is done.
     Until(u64, Link),
+    /// An actor takes turns until it is done.
     Finish(u64),
+    /// So many actors that a seed draws take a turn each.
+    Mix(u64, u64),
+    /// All pairs are shown.
     List,
+    /// Actor 0 begins an operation, and takes turns until it is done.
+    Run(Command),
 }
 
 #[tactic(auto, unfolding(crate::specs::Reading::key_in))]
@@ -92,6 +111,12 @@ fn read_command(fields: Option<&[u8]>) -> Result<Command, LineError>
     if verb == b"delete".as_slice() {
         return Ok(Command::Delete(read_key(args)?));
     }
+    if verb == b"page".as_slice() {
+        return Ok(Command::Page(read_key(args)?));
+    }
+    if verb == b"tidy".as_slice() {
+        return Ok(Command::Tidy(read_key(args)?));
+    }
     Err(LineError::Malformed)
 }
 
@@ -109,6 +134,13 @@ fn read_begin(args: Option<&[u8]>) -> Result<Request, LineError>
         Ok(command) => Ok(Request::Begin(actor, command)),
         Err(error) => Err(error),
     }
+}
+
+// Whether a line may ask for so many turns or draws.
+fn is_count(count: u64) -> bool
+    ensures { result ≡ (nat_le 1 count && nat_le count 100000) }
+{
+    count >= 1 && count <= 100_000
 }
 
 #[tactic(auto, unfolding(crate::specs::Reading::turn_in))]
@@ -130,7 +162,7 @@ fn read_turn(args: Option<&[u8]>) -> Result<Request, LineError>
     let Some(count) = read_number(count) else {
         return Err(LineError::Malformed);
     };
-    if count < 1 || count > 100_000 {
+    if !is_count(count) {
         return Err(LineError::Malformed);
     }
     Ok(Request::Turn(actor, count))
@@ -214,6 +246,31 @@ fn read_finish(args: Option<&[u8]>) -> Result<Request, LineError>
     }
 }
 
+#[tactic(auto, unfolding(crate::specs::Reading::mix_in))]
+fn read_mix(args: Option<&[u8]>) -> Result<Request, LineError>
+    ensures { GivesRequest result (mix_in (fields_in (option_copied args.entry))) }
+{
+    let Some((seed, rest)) = next_field(args) else {
+        return Err(LineError::Malformed);
+    };
+    let Some((count, rest)) = next_field(rest) else {
+        return Err(LineError::Malformed);
+    };
+    if next_field(rest).is_some() {
+        return Err(LineError::Malformed);
+    }
+    let Some(seed) = read_seed(seed) else {
+        return Err(LineError::Malformed);
+    };
+    let Some(count) = read_number(count) else {
+        return Err(LineError::Malformed);
+    };
+    if !is_count(count) {
+        return Err(LineError::Malformed);
+    }
+    Ok(Request::Mix(seed, count))
+}
+
 #[tactic(auto, unfolding(crate::specs::Reading::list_in))]
 fn read_list(args: Option<&[u8]>) -> Result<Request, LineError>
     ensures { GivesRequest result (list_in (fields_in (option_copied args.entry))) }
@@ -224,9 +281,9 @@ fn read_list(args: Option<&[u8]>) -> Result<Request, LineError>
     Ok(Request::List)
 }
 
-#[tactic(auto, unfolding(crate::specs::Reading::asked))]
-fn read_fields(line: &[u8]) -> Result<Request, LineError>
-    ensures { GivesRequest result (asked (fields_of line.now)) }
+#[tactic(auto, unfolding(crate::specs::Reading::woven_in))]
+fn read_woven(line: &[u8]) -> Result<Request, LineError>
+    ensures { GivesRequest result (woven_in (fields_of line.now)) }
 {
     let Some((verb, args)) = next_field(Some(line)) else {
         return Err(LineError::Malformed);
@@ -243,25 +300,53 @@ fn read_fields(line: &[u8]) -> Result<Request, LineError>
     if verb == b"finish".as_slice() {
         return read_finish(args);
     }
+    if verb == b"mix".as_slice() {
+        return read_mix(args);
+    }
     if verb == b"list".as_slice() {
         return read_list(args);
     }
     Err(LineError::Malformed)
 }
 
+#[tactic(auto, unfolding(crate::specs::Reading::script_in))]
+fn read_script(line: &[u8]) -> Result<Request, LineError>
+    ensures { GivesRequest result (script_in (fields_of line.now)) }
+{
+    let Some((verb, args)) = next_field(Some(line)) else {
+        return Err(LineError::Malformed);
+    };
+    if verb == b"list".as_slice() {
+        return read_list(args);
+    }
+    match read_command(Some(line)) {
+        Ok(command) => Ok(Request::Run(command)),
+        Err(error) => Err(error),
+    }
+}
+
+fn read_fields(language: Language, line: &[u8]) -> Result<Request, LineError>
+    ensures { GivesRequest result (asked language (fields_of line.now)) }
+{
+    match language {
+        Language::Script => read_script(line),
+        Language::Weave => read_woven(line),
+    }
+}
+
 /// What a line asks for, by the grammar.
-pub fn parse(line: &[u8]) -> Result<Request, LineError>
-    ensures ok { IfOk result (λ request. Says line.now request × IsShortRequest request) }
-    ensures malformed { IsErrOf result LineError.Malformed → (request : RequestSeen) → Says line.now request → ⊥ }
-    ensures too_long { IsErrOf result LineError.TooLong → (request : RequestSeen) × Says line.now request × (IsShortRequest request → ⊥) }
+pub fn parse(language: Language, line: &[u8]) -> Result<Request, LineError>
+    ensures ok { IfOk result (λ request. Says language line.now request × IsShortRequest request) }
+    ensures malformed { IsErrOf result LineError.Malformed → (request : RequestSeen) → Says language line.now request → ⊥ }
+    ensures too_long { IsErrOf result LineError.TooLong → (request : RequestSeen) × Says language line.now request × (IsShortRequest request → ⊥) }
 {
     if line.len() > 1024 {
         return Err(LineError::Malformed);
     }
-    read_fields(line)
+    read_fields(language, line)
 }
 
 /// A line asks for one thing at most.
 pub fn requests_are_exact()
-    ensures { (line : List ℕ) (a b : RequestSeen) → Says line a → Says line b → a ≡ b }
+    ensures { (language : LanguageSeen) (line : List ℕ) (a b : RequestSeen) → Says language line a → Says language line b → a ≡ b }
 {}

@@ -1,15 +1,22 @@
 -- What a number that was read says of the words.
-use Rattle.std.proofs.Common.{◌≡◌, ℕ, List, [], Option, Some, None, sym, refl, subst, true, MatchOption}
+use Rattle.std.proofs.Common.{◌≡◌, ℕ, List, [], Option, Some, None, Result, Ok, Err, sym, refl, ap, ◌∙◌, subst, true, MatchOption, IfOk, Box}
 use Rattle.std.specs.Prelude.{option_map}
 use Rattle.std.specs.Option.{option_map_or}
 use Rattle.std.specs.Str.Parse.{digits_value, without_leading_plus}
-use Rattle.clap.specs.Words.{App, Row, Text, is_simple, is_simple_and_free, one_text, rows_of, takes}
+use Rattle.std.specs.Box.{box_value}
+use Rattle.clap.specs.Words.{App, Row, Text, is_simple, is_simple_and_free, one_text, rows_of, subcommand_of, takes}
+use Rattle.clap.specs.Simple.{subcommand_rows}
+use Rattle.clap.specs.declared.parser.matches.ArgMatches.TheViews.{out-SubCommand}
 use Rattle.clap.specs.declared.error.kind.ErrorKind.{ErrorKind}
 use Rattle.clap.specs.declared.error.kind.ErrorKind.TheVariants.{OutOfMemory}
 use Rattle.clap.specs.declared.parser.matches.Found.{Found}
 use Rattle.clap.proofs.WalkLemmas.{one_text-rows}
 use Rattle.clap.proofs.OnLiterals.{clap_on_literals}
-use Rattle.shell_options.specs.Words.{bwtree_app, AreTaken, SpellsOr}
+use Rattle.clap.specs.declared.parser.matches.SubCommand.{SubCommand}
+use Rattle.shell_options.specs.declared.words.OptionsError.{OptionsError}
+use Rattle.shell_options.specs.declared.words.Program.{Program}
+use Rattle.shell_options.specs.declared.words.Settings.{Settings}
+use Rattle.shell_options.specs.Words.{bwtree_app, name_of, rows_in, AreTaken, HasNumbers, IsSpelled, SpellsOr}
 
 abbrev pub Reads : ℕ → ℕ → Option Text → Type 0
 Reads default n o = MatchOption o (n ≡ default) (λ text. digits_value 10 (without_leading_plus text) ≡ n)
@@ -41,3 +48,21 @@ rows_of_some (Some p) rows h = cc
 pub outside : (app : App) (words : List Text) (kind : ErrorKind) → app ≡ bwtree_app → (takes app words ≡ true → kind ≡ OutOfMemory) → (kind ≡ OutOfMemory → ⊥) → AreTaken words → ⊥
 unfolding AreTaken
 outside app words kind is only other taken = other (only (subst (λ (a : App). takes a words ≡ true) (sym is) taken))
+
+-- the numbers behind a program's name are those of its options
+pub is_spelled : (words : List Text) (program : Program) (read : List Row) (r : Result Settings OptionsError)
+    → option_map (λ p. p.0) (subcommand_of bwtree_app words) ≡ Some (name_of program) → option_map (λ p. p.1) (subcommand_of bwtree_app words) ≡ Some read
+    → IfOk r (HasNumbers read) → IfOk r (λ (line : Settings). line.program ≡ program) → IfOk r (IsSpelled words)
+unfolding rows_in
+is_spelled words program read (Ok line) named behind numbers same =
+    let rows : rows_in words ≡ read = rows_of_some (subcommand_of bwtree_app words) read behind in
+    record {
+      program = named ∙ ap (λ (p : Program). Some (name_of p)) (sym same);
+      numbers = subst (λ (r : List Row). HasNumbers r line) (sym rows) numbers;
+    }
+is_spelled words program read (Err error) named behind numbers same = tt
+
+module _ {Z : Type 0} where
+  pub name_is : (o : Option (Box SubCommand Z)) → option_map (λ p. p.0) (subcommand_rows o) ≡ option_map (λ b. (out-SubCommand (box_value b)).name.now) o
+  name_is None = refl
+  name_is (Some b) = refl

@@ -1,10 +1,12 @@
 -- what the words of a command line mean, by clap's own words
-use Rattle.std.specs.Prelude.{◌≡◌, ℕ, List, [], Some, true, MatchOption, codes}
+use Rattle.std.specs.Prelude.{◌≡◌, ℕ, List, [], Some, true, MatchOption, codes, option_map}
 use Rattle.std.specs.Option.{option_map_or}
 use Rattle.std.specs.Str.Parse.{digits_value, without_leading_plus}
 use Rattle.clap.specs.Words.{IsAmong, fault_of, kind_of, App, Row, Rule, Text, new_app, new_rule, one_of, subcommand_of, takes, with_rule, with_subcommand}
 use Rattle.clap.specs.Simple.{on_top}
 use Rattle.clap.specs.declared.builder.value_parser.ValueParser.TheVariants as vp
+use Rattle.shell_options.specs.declared.words.Program.{Program}
+use Rattle.shell_options.specs.declared.words.Program.TheVariants.{Script, Weave}
 use Rattle.shell_options.specs.declared.words.Settings.{Settings}
 use Rattle.shell_options.specs.declared.words.OptionsError.{OptionsError}
 use Rattle.shell_options.specs.declared.words.OptionsError.TheVariants.{Clap, Memory}
@@ -13,12 +15,18 @@ use Rattle.shell_options.specs.declared.words.OptionsError.TheVariants.{Clap, Me
 abbrev pub number_rule : Text → Rule
 number_rule id = record (new_rule id) { long = Some id; parser = Some (vp.Unsigned 0 18446744073709551615) }
 
+-- the options of the limits, but for the number of actors
+abbrev pub limits_rules : App → App
+limits_rules app = with_rule (with_rule (with_rule app (number_rule (codes "pids"))) (number_rule (codes "rows"))) (number_rule (codes "epoch"))
+
+abbrev pub script_app : App
+script_app = limits_rules (new_app (codes "script"))
+
 abbrev pub weave_app : App
-weave_app =
-    with_rule (with_rule (with_rule (with_rule (new_app (codes "weave")) (number_rule (codes "actors"))) (number_rule (codes "pids"))) (number_rule (codes "rows"))) (number_rule (codes "epoch"))
+weave_app = limits_rules (with_rule (new_app (codes "weave")) (number_rule (codes "actors")))
 
 abbrev pub bwtree_app : App
-bwtree_app = with_subcommand (on_top (λ s. record s { subcommand_required = true }) (new_app (codes "bwtree"))) weave_app.top
+bwtree_app = with_subcommand (with_subcommand (on_top (λ s. record s { subcommand_required = true }) (new_app (codes "bwtree"))) script_app.top) weave_app.top
 
 -- what the words after the subcommand's name are, by option
 unfoldable pub rows_in : List Text → List Row
@@ -29,11 +37,27 @@ abbrev pub SpellsOr : List Row → Text → ℕ → ℕ → Type 0
 SpellsOr rows id default n =
     MatchOption (one_of id rows) (n ≡ default) (λ text. digits_value 10 (without_leading_plus text) ≡ n)
 
+-- the number of actors: a script has one
+abbrev pub HasActors : Program → List Row → ℕ → Type 0
+HasActors Script rows n = n ≡ 1
+HasActors Weave rows n = SpellsOr rows (codes "actors") 2 n
+
+-- the numbers are those of the options
+pub record HasNumbers (rows_read : List Row) (line : Settings) : Type 0 where
+  pub actors : HasActors line.program rows_read line.actors
+  pub pids : SpellsOr rows_read (codes "pids") 64 line.pids
+  pub rows : SpellsOr rows_read (codes "rows") 256 line.rows
+  pub epoch : SpellsOr rows_read (codes "epoch") 1 line.epoch
+
+-- a program's name
+abbrev pub name_of : Program → Text
+name_of Script = codes "script"
+name_of Weave = codes "weave"
+
+-- The words name the program, and its numbers are those of the options behind the name.
 pub record IsSpelled (words : List Text) (line : Settings) : Type 0 where
-  pub actors : SpellsOr (rows_in words) (codes "actors") 2 line.actors
-  pub pids : SpellsOr (rows_in words) (codes "pids") 64 line.pids
-  pub rows : SpellsOr (rows_in words) (codes "rows") 256 line.rows
-  pub epoch : SpellsOr (rows_in words) (codes "epoch") 1 line.epoch
+  pub program : option_map (λ p. p.0) (subcommand_of bwtree_app words) ≡ Some (name_of line.program)
+  pub numbers : HasNumbers (rows_in words) line
 
 -- The words are in the grammar of the command line.
 unfoldable pub AreTaken : List Text → Type 0

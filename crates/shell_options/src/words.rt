@@ -5,7 +5,7 @@ ghost use Rattle.bw_model.specs.Limits.{AreLimits};
 ghost use Rattle.std.specs.String.{string_bytes};
 ghost use Rattle.clap.specs.Words.{app_of, found_of, rows_of, rule_of};
 ghost use Rattle.clap.specs.declared.builder.command.Command.TheViews.{out-Command as fields_of};
-ghost use Rattle.shell_options.specs.Words.{number_rule, weave_app, bwtree_app, SpellsOr, HasNoFault, IsSpelled, MayRefuse};
+ghost use Rattle.shell_options.specs.Words.{number_rule, limits_rules, script_app, weave_app, bwtree_app, SpellsOr, HasNumbers, HasNoFault, IsSpelled, MayRefuse};
 
 use bw_model::{BadLimits, Limits};
 use clap::error::ErrorKind;
@@ -15,7 +15,9 @@ use std::alloc::{AllocError, Global};
 /// What the program is to do.
 #[derive(Clone, Copy, Debug, PartialEq, Eq)]
 pub enum Program {
-    /// Runs lines, turn by turn.
+    /// Runs commands, one after another.
+    Script,
+    /// Runs operations of several actors, turn by turn.
     Weave,
 }
 
@@ -71,11 +73,12 @@ fn number<'a>(alloc: Global, name: &'a str, help: &'a str) -> Arg<'a>
     option(alloc, name).help(help)
 }
 
-fn weave_words<'a>(alloc: Global) -> Result<Command<'a>, AllocError>
-    ensures shape { IfOk result (λ c. app_of c ≡ weave_app) }
+// A program's words: a command with the options of its limits, but for the number of actors.
+fn with_limits<'a>(alloc: Global, command: Command<'a>) -> Result<Command<'a>, AllocError>
+    requires local { (fields_of command).has_globals ≡ false }
+    ensures shape { IfOk result (λ c. app_of c ≡ limits_rules (app_of command.entry)) }
     ensures local { IfOk result (λ c. (fields_of c).has_globals ≡ false) }
 {
-    let actors = number(alloc, "actors", "Actors, 1 to 16 [default: 2]");
     let pids = number(
         alloc,
         "pids",
@@ -91,12 +94,19 @@ fn weave_words<'a>(alloc: Global) -> Result<Command<'a>, AllocError>
         "epoch",
         "The opening epoch, 1 to 4611686018427387904 [default: 1]",
     );
-    let weave = Command::new(alloc, "weave");
-    let weave = weave.arg(actors)?;
-    let weave = weave.arg(pids)?;
-    let weave = weave.arg(rows)?;
-    let weave = weave.arg(epoch)?;
-    Ok(weave)
+    let command = command.arg(pids)?;
+    let command = command.arg(rows)?;
+    let command = command.arg(epoch)?;
+    Ok(command)
+}
+
+fn weave_words<'a>(alloc: Global) -> Result<Command<'a>, AllocError>
+    ensures shape { IfOk result (λ c. app_of c ≡ weave_app) }
+    ensures local { IfOk result (λ c. (fields_of c).has_globals ≡ false) }
+{
+    let actors = number(alloc, "actors", "Actors, 1 to 16 [default: 2]");
+    let weave = Command::new(alloc, "weave").arg(actors)?;
+    with_limits(alloc, weave)
 }
 
 fn weave_command<'a>(alloc: Global) -> Result<Command<'a>, AllocError>
@@ -104,14 +114,41 @@ fn weave_command<'a>(alloc: Global) -> Result<Command<'a>, AllocError>
     ensures local { IfOk result (λ c. (fields_of c).has_globals ≡ false) }
 {
     let weave = weave_words(alloc)?;
-    Ok(weave.about("Runs the lines of standard input, turn by turn, and prints what they answer"))
+    let weave = weave.about(
+        "Runs the lines of standard input, turn by turn, and prints what they answer",
+    );
+    Ok(weave.after_help(
+        "Example: the lines 'begin 0 insert a 1' and 'finish 0' print '0 inserted'",
+    ))
+}
+
+fn script_words<'a>(alloc: Global) -> Result<Command<'a>, AllocError>
+    ensures shape { IfOk result (λ c. app_of c ≡ script_app) }
+    ensures local { IfOk result (λ c. (fields_of c).has_globals ≡ false) }
+{
+    with_limits(alloc, Command::new(alloc, "script"))
+}
+
+fn script_command<'a>(alloc: Global) -> Result<Command<'a>, AllocError>
+    ensures shape { IfOk result (λ c. app_of c ≡ script_app) }
+    ensures local { IfOk result (λ c. (fields_of c).has_globals ≡ false) }
+{
+    let script = script_words(alloc)?;
+    let script = script.about(
+        "Runs the commands of standard input, one a line, and prints what they answer",
+    );
+    Ok(script.after_help(
+        "Example: the lines 'insert a 1' and 'get a' print '0 inserted' and '0 value 1'",
+    ))
 }
 
 fn plain_command<'a>(alloc: Global) -> Result<Command<'a>, AllocError>
     ensures { IfOk result (λ c. app_of c ≡ bwtree_app) }
 {
+    let script = script_command(alloc)?;
     let weave = weave_command(alloc)?;
     let command = Command::new(alloc, "bwtree").subcommand_required(true);
+    let command = command.subcommand(script)?;
     let command = command.subcommand(weave)?;
     Ok(command)
 }
@@ -134,6 +171,37 @@ fn chosen(matches: &ArgMatches<'_>, name: &str, default: u64) -> Option<u64>
     }
 }
 
+// The numbers of a program, from the words behind its name.
+fn numbers(program: Program, matches: &ArgMatches<'_>) -> Result<Settings, OptionsError>
+    ensures ok { IfOk result (HasNumbers (rows_of (found_of matches.now))) }
+    ensures program { IfOk result (λ settings. settings.program ≡ program) }
+    ensures refused { IfErr result (λ error. error ≡ OptionsError.Memory) }
+{
+    let actors = match program {
+        Program::Script => Some(1),
+        Program::Weave => chosen(matches, "actors", 2),
+    };
+    let Some(actors) = actors else {
+        return Err(OptionsError::Memory);
+    };
+    let Some(pids) = chosen(matches, "pids", 64) else {
+        return Err(OptionsError::Memory);
+    };
+    let Some(rows) = chosen(matches, "rows", 256) else {
+        return Err(OptionsError::Memory);
+    };
+    let Some(epoch) = chosen(matches, "epoch", 1) else {
+        return Err(OptionsError::Memory);
+    };
+    Ok(Settings {
+        program,
+        actors,
+        pids,
+        rows,
+        epoch,
+    })
+}
+
 /// Reads the words of a command line, the program's name first.
 pub fn options(alloc: Global, words: &[String]) -> Result<Settings, OptionsError>
     ensures spelled { IfOk result (IsSpelled (map string_bytes words.now)) }
@@ -148,26 +216,11 @@ pub fn options(alloc: Global, words: &[String]) -> Result<Settings, OptionsError
         Err(error) if error.kind() == ErrorKind::OutOfMemory => return Err(OptionsError::Memory),
         Err(error) => return Err(OptionsError::Clap(error)),
     };
+    if let Some(script) = matches.subcommand_matches("script") {
+        return numbers(Program::Script, script);
+    }
     let Some(weave) = matches.subcommand_matches("weave") else {
         return Err(OptionsError::Memory);
     };
-    let Some(actors) = chosen(weave, "actors", 2) else {
-        return Err(OptionsError::Memory);
-    };
-    let Some(pids) = chosen(weave, "pids", 64) else {
-        return Err(OptionsError::Memory);
-    };
-    let Some(rows) = chosen(weave, "rows", 256) else {
-        return Err(OptionsError::Memory);
-    };
-    let Some(epoch) = chosen(weave, "epoch", 1) else {
-        return Err(OptionsError::Memory);
-    };
-    Ok(Settings {
-        program: Program::Weave,
-        actors,
-        pids,
-        rows,
-        epoch,
-    })
+    numbers(Program::Weave, weave)
 }

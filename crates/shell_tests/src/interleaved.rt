@@ -4,6 +4,7 @@ ghost use Rattle.std.specs.Prelude.{◌<◌};
 
 use crate::runs::whole;
 use bw_model::Limits;
+use shell_lines::Language;
 use std::alloc::{AllocError, Global};
 use std::collections::BTreeMap;
 use std::test::Fail;
@@ -168,7 +169,7 @@ fn operations_between_one_another(rt: HostRuntime) -> Result<(), Fail> {
         script.round(&mut seed, round / 12 % 2 == 0)?;
     }
     let limits = Limits::new(3, 64, 256, 1)?;
-    let woven = whole(rt.alloc(), limits, script.lines.as_bytes());
+    let woven = whole(rt.alloc(), Language::Weave, limits, script.lines.as_bytes());
     assert_eq!(rt; woven.output.as_slice(), script.printed.as_bytes());
     assert_eq!(rt; woven.status, 0);
     Ok(())

@@ -2,6 +2,10 @@
 #![tactic(auto)]
 
 #[cfg(test)]
+mod cursor_pages;
+#[cfg(test)]
+mod drawn;
+#[cfg(test)]
 mod faults;
 #[cfg(test)]
 mod grown;
@@ -16,6 +20,10 @@ mod pages;
 #[cfg(test)]
 mod runs;
 #[cfg(test)]
+mod scripts;
+#[cfg(test)]
 mod streams;
+#[cfg(test)]
+mod tidying;
 #[cfg(test)]
 mod words;

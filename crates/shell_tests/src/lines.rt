@@ -1,6 +1,7 @@
 //! What lines print, and why they are refused.
 
 use crate::runs::{Rows, agree, limits, whole};
+use shell_lines::Language;
 use std::test::Fail;
 
 #[test]
@@ -45,7 +46,7 @@ fn replies(rt: HostRuntime) {
             0,
         ),
     ];
-    agree(&rt, rt.alloc(), rows);
+    agree(&rt, rt.alloc(), Language::Weave, rows);
 }
 
 #[test]
@@ -79,7 +80,7 @@ fn refused_lines(rt: HostRuntime) {
         ),
         (b"begin 2 get a\n", b"refused line 1: 4\n", 1),
     ];
-    agree(&rt, rt.alloc(), rows);
+    agree(&rt, rt.alloc(), Language::Weave, rows);
 }
 
 #[test]
@@ -105,16 +106,23 @@ fn odd_lines(rt: HostRuntime) {
         (b"turn 256 1\n", b"refused line 1: 4\n", 1),
         (b"begin 0 upsert a\n", b"refused line 1: 11\n", 1),
         (b"begin 0 delete a b\n", b"refused line 1: 11\n", 1),
-        (b"begin 0 page a\n", b"refused line 1: 11\n", 1),
-        (b"begin 0 tidy a\n", b"refused line 1: 11\n", 1),
-        (b"mix 1 2\n", b"refused line 1: 11\n", 1),
+        (b"begin 0 page a b\n", b"refused line 1: 11\n", 1),
+        (b"begin 0 page\n", b"refused line 1: 11\n", 1),
+        (b"begin 0 tidy =6\n", b"refused line 1: 11\n", 1),
+        (
+            b"begin 0 tidy =ffffffffffffffffffffffffffffffffffffffffffffffffffffffffffffffffff\n",
+            b"refused line 1: 1\n",
+            1,
+        ),
+        (b"begin 2 page a\n", b"refused line 1: 4\n", 1),
+        (b"get a\n", b"refused line 1: 11\n", 1),
         (
             b"begin 0 insert =00fF =3d61\nfinish 0\nbegin 1 insert =6B k\nfinish 1\nlist\n",
             b"0 inserted\n1 inserted\npairs 2\n=00ff =3d61\nk k\n",
             0,
         ),
     ];
-    agree(&rt, rt.alloc(), rows);
+    agree(&rt, rt.alloc(), Language::Weave, rows);
 }
 
 #[test]
@@ -138,11 +146,11 @@ fn until_a_link(rt: HostRuntime) -> Result<(), Fail> {
         (b"until 0 ready\n", b"refused line 1: 11\n", 1),
         (b"until 0 undo\n", b"refused line 1: 11\n", 1),
     ];
-    agree(&rt, rt.alloc(), rows);
+    agree(&rt, rt.alloc(), Language::Weave, rows);
     let words = "put delete base split term root hold remove merge unterm clear";
     for word in words.split(' ') {
         let input = format!(in rt.alloc(); "begin 0 get a\nuntil 0 {word}\n")?;
-        let woven = whole(rt.alloc(), limits(&rt), input.as_bytes());
+        let woven = whole(rt.alloc(), Language::Weave, limits(&rt), input.as_bytes());
         assert_eq!(rt; woven.output.as_slice(), b"0 none\n".as_slice(), "{word}");
     }
     Ok(())

@@ -1,7 +1,8 @@
 //! Whole runs over streams that give and take few bytes at a time, and fail.
 
 use bw_model::Limits;
-use bw_shell::{Reader, Writer, weave};
+use bw_shell::{Reader, Writer, script, weave};
+use shell_lines::Language;
 use std::alloc::{AllocError, Global};
 use std::io;
 use std::io::{ErrorKind, Read, Write};
@@ -69,10 +70,19 @@ pub struct Woven {
     pub writes: u32,
 }
 
-pub fn run_into(alloc: Global, limits: Limits, input: Choppy<'_>, out: Breaking) -> Woven {
+pub fn run_into(
+    alloc: Global,
+    language: Language,
+    limits: Limits,
+    input: Choppy<'_>,
+    out: Breaking,
+) -> Woven {
     let mut reader = Reader::new(input);
     let mut writer = Writer::new(out);
-    let status = weave(alloc, limits, &mut reader, &mut writer);
+    let status = match language {
+        Language::Script => script(alloc, limits, &mut reader, &mut writer),
+        Language::Weave => weave(alloc, limits, &mut reader, &mut writer),
+    };
     Woven {
         status,
         output: writer.inner.held,
@@ -83,6 +93,7 @@ pub fn run_into(alloc: Global, limits: Limits, input: Choppy<'_>, out: Breaking)
 // A run whose flush doesn't fail.
 pub fn run(
     alloc: Global,
+    language: Language,
     limits: Limits,
     input: Choppy<'_>,
     size: usize,
@@ -95,17 +106,17 @@ pub fn run(
         before_fault,
         flush_fails: false,
     };
-    run_into(alloc, limits, input, out)
+    run_into(alloc, language, limits, input, out)
 }
 
 // A run in which nothing fails.
-pub fn whole(alloc: Global, limits: Limits, input: &[u8]) -> Woven {
+pub fn whole(alloc: Global, language: Language, limits: Limits, input: &[u8]) -> Woven {
     let input = Choppy {
         bytes: input,
         size: 4096,
         before_fault: NEVER,
     };
-    run(alloc, limits, input, 4096, NEVER)
+    run(alloc, language, limits, input, 4096, NEVER)
 }
 
 pub fn limits(rt: &impl Abort) -> Limits {
@@ -115,10 +126,10 @@ pub fn limits(rt: &impl Abort) -> Limits {
 // Each input, its output and its status.
 pub type Rows<'a> = &'a [(&'a [u8], &'a [u8], u8)];
 
-pub fn agree(rt: &impl Abort, alloc: Global, rows: Rows<'_>) {
+pub fn agree(rt: &impl Abort, alloc: Global, language: Language, rows: Rows<'_>) {
     let limits = limits(rt);
     for (input, output, status) in rows {
-        let woven = whole(alloc, limits, input);
+        let woven = whole(alloc, language, limits, input);
         assert_eq!(rt; woven.output.as_slice(), *output);
         assert_eq!(rt; woven.status, *status);
     }
@@ -132,9 +143,9 @@ pub fn add(text: &mut Vec<u8>, part: &[u8], times: u32) -> Result<(), AllocError
     Ok(())
 }
 
-// One run, what it is to write, and that nothing is refused.
+// One run turn by turn, what it is to write, and that nothing is refused.
 pub fn prints(rt: &impl Abort, alloc: Global, limits: Limits, input: &[u8], output: &[u8]) {
-    let woven = whole(alloc, limits, input);
+    let woven = whole(alloc, Language::Weave, limits, input);
     assert_eq!(rt; woven.output.as_slice(), output);
     assert_eq!(rt; woven.status, 0);
 }

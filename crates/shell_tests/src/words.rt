@@ -1,6 +1,6 @@
 //! The words of a command line.
 
-use shell_options::{OptionsError, options};
+use shell_options::{OptionsError, Program, options};
 use std::alloc::{AllocError, Global};
 use std::test::Fail;
 
@@ -20,6 +20,7 @@ fn numbers_of_options(rt: HostRuntime) -> Result<(), Fail> {
     };
     assert_eq!(rt; (settings.actors, settings.pids), (2, 64));
     assert_eq!(rt; (settings.rows, settings.epoch), (256, 1));
+    assert_eq!(rt; settings.program, Program::Weave);
     let texts = [
         "bwtree",
         "weave",
@@ -41,6 +42,36 @@ fn numbers_of_options(rt: HostRuntime) -> Result<(), Fail> {
 }
 
 #[test]
+fn numbers_of_scripts(rt: HostRuntime) -> Result<(), Fail> {
+    let given = words(rt.alloc(), &["bwtree", "script"])?;
+    let Ok(settings) = options(rt.alloc(), given.as_slice()) else {
+        return Err(Fail::from("defaults"));
+    };
+    assert_eq!(rt; settings.program, Program::Script);
+    assert_eq!(rt; (settings.actors, settings.pids), (1, 64));
+    assert_eq!(rt; (settings.rows, settings.epoch), (256, 1));
+    let texts = [
+        "bwtree",
+        "script",
+        "--pids",
+        "4096",
+        "--rows=16384",
+        "--epoch",
+        "4611686018427387904",
+    ];
+    let given = words(rt.alloc(), &texts)?;
+    let Ok(settings) = options(rt.alloc(), given.as_slice()) else {
+        return Err(Fail::from("given numbers"));
+    };
+    assert_eq!(rt; (settings.actors, settings.pids), (1, 4096));
+    assert_eq!(rt;
+        (settings.rows, settings.epoch),
+        (16384, 4611686018427387904)
+    );
+    Ok(())
+}
+
+#[test]
 fn refused_words(rt: HostRuntime) -> Result<(), Fail> {
     let refused = [
         ["bwtree", "weave", "--rows", "x"],
@@ -50,6 +81,8 @@ fn refused_words(rt: HostRuntime) -> Result<(), Fail> {
         ["bwtree", "knit", "--rows", "64"],
         ["bwtree", "--rows", "64", "weave"],
         ["bwtree", "weave", "--rows", "64.0"],
+        ["bwtree", "script", "--actors", "1"],
+        ["bwtree", "script", "--rows", "x"],
     ];
     for texts in &refused {
         let given = words(rt.alloc(), texts)?;

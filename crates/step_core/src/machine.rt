@@ -176,6 +176,13 @@ impl<A: Allocator> Core<A> {
         self.trace.len()
     }
 
+    /// The limits with which it was opened.
+    pub fn limits(&self) -> &Limits
+        ensures { result.now ≡ self.now.limits }
+    {
+        &self.limits
+    }
+
     /// Whether there is such an actor, with an operation that is not done.
     pub fn is_busy(&self, actor: u8) -> bool
         ensures { result ≡ (nat_lt actor self.now.limits.actors && is_some (command_of self.now.entries actor)) }

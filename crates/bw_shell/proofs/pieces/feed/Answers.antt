@@ -23,7 +23,7 @@ returns-then-run_line-clause-fed g c =
       inv.0 ++ told.0,
       shows_then inv.2 told.2,
       stop_at _ _ _ _ c.loop-b.b-index 10 _ _ _ inv.0 _ told.0 _ c.loop-b-test.true c.if-b-eq10.true inv.1
-          (stop_line _ _ _ _ _ told.0 _ inv.1.splits.open_end said),
+          (stop_line _ _ _ _ _ _ told.0 _ inv.1.splits.open_end said),
     )
 
 pub returns-then-has_failed-clause-fed : goal.returns-then-has_failed-clause-fed
@@ -36,7 +36,7 @@ returns-then-has_failed-clause-fed g c =
       shows_then inv.2 told.2,
       match_true _ _ _ failed
           (stop_at _ _ _ _ c.loop-b.b-index 10 _ _ _ inv.0 _ told.0 _ c.loop-b-test.true c.if-b-eq10.true inv.1
-          (stop_line _ _ _ _ _ told.0 _ inv.1.splits.open_end said)),
+          (stop_line _ _ _ _ _ _ told.0 _ inv.1.splits.open_end said)),
     )
 
 pub returns-then-len-gt1024-clause-fed : goal.returns-then-len-gt1024-clause-fed
@@ -47,7 +47,7 @@ returns-then-len-gt1024-clause-fed g c =
       inv.0 ++ refused_text c.loop-b.weaver.number Malformed,
       shows_then inv.2 c.show_refused.ensures,
       stop_at _ _ _ _ c.loop-b.b-index (get_or c.args.bytes.now c.loop-b.b-index 0) _ _ _ inv.0 _ _ _ c.loop-b-test.true refl inv.1
-          (stop_long _ _ _ _ _ inv.1.splits.open_end c.if-b-eq10.false long),
+          (stop_long _ _ _ _ _ _ inv.1.splits.open_end c.if-b-eq10.false long),
     )
 
 pub loop-b-preserved : goal.loop-b-preserved

@@ -7,7 +7,7 @@ use Rattle.bw_shell.proofs.pieces.feed.Given as goal
 
 abbrev pub invariant-loop-b : goal.invariant-loop-b
 invariant-loop-b g l = record {
-  woven : (text : List ℕ) × Weaves l.initial.weaver.number (seen l.initial.weaver.core) l.initial.weaver.part.items (take l.b-index l.bytes)
+  woven : (text : List ℕ) × Weaves l.language l.initial.weaver.number (seen l.initial.weaver.core) l.initial.weaver.part.items (take l.b-index l.bytes)
       l.weaver.number (seen l.weaver.core) l.weaver.part.items text
       × Prints (g.O.Output.state l.initial.out) (g.O.Output.state l.out) text;
   sound : (g.O.Output.state l.out).failed ≡ false;

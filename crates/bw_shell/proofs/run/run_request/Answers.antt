@@ -8,3 +8,9 @@ returns-in-Finish g c = rw c.in-Finish.is c.run_until-in-Finish.ensures
 
 pub returns-in-Until : goal.returns-in-Until
 returns-in-Until g c = rw c.in-Until.is c.run_until.ensures
+
+pub returns-in-Mix : goal.returns-in-Mix
+returns-in-Mix g c = rw c.in-Mix.is c.run_mix.ensures
+
+pub returns-in-Run : goal.returns-in-Run
+returns-in-Run g c = rw c.in-Run.is c.run_command.ensures

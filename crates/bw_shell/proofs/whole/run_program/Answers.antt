@@ -3,8 +3,8 @@ use Rattle.bw_shell.specs.declared.refusal.Refusal.TheVariants.{NotOpened}
 use Rattle.bw_shell.specs.Text.{lone_refusal_text}
 use Rattle.bw_shell.specs.Turns.{opening_trace}
 use Rattle.bw_shell.proofs.Showing.{shows_then}
-use Rattle.bw_shell.proofs.Weaving.{consumes_none, writes_whole, one_else, is_woven}
-use Rattle.bw_shell.proofs.whole.weave.Goals as goal
+use Rattle.bw_shell.proofs.Weaving.{consumes_none, writes_whole, one_else, is_whole_run}
+use Rattle.bw_shell.proofs.whole.run_program.Goals as goal
 
 pub returns-in-Err : goal.returns-in-Err
 returns-in-Err g c = record {
@@ -21,6 +21,6 @@ returns-in-Err g c = record {
 
 pub returns : goal.returns
 returns g c =
-    is_woven _ _ _ _ _ _ _ _ _ _ (rw (c.in-Ok.ensures.entries, c.in-Ok.ensures.limits) at c.run-refused.ensures) c.linearized.ensures.linearized c.finish-2.ensures.shows
+    is_whole_run _ _ _ _ _ _ _ _ _ _ (rw (c.in-Ok.ensures.entries, c.in-Ok.ensures.limits) at c.run-refused.ensures) c.linearized.ensures.linearized c.finish-2.ensures.shows
     c.requires.sound_out c.requires.fresh c.finish-2.ensures.ends
     (rw (c.has_failed.ensures, c.has_failed-2.ensures) at c.status.ensures.zero) c.status.ensures.one

@@ -1,0 +1,87 @@
+//! A plain map of numbers to numbers, with its past: what it had at each moment.
+
+use crate::numbered::{key, number_of, value};
+use bw_model::{Key, Pairs};
+use std::alloc::{AllocError, Global};
+
+/// How many values there are.
+pub(crate) const VALUES: u32 = 8;
+
+/// No value, where numbers stand for values.
+pub(crate) const ABSENT: u32 = VALUES;
+
+/// The values of the numbers below 1,024, and each change that there was: the number, and its value before.
+#[derive(Drop)]
+pub(crate) struct PlainMap {
+    values: Vec<u32>,
+    changes: Vec<(u32, u32)>,
+}
+
+fn value_in(values: &[u32], number: u32) -> u32 {
+    values.get(number as usize).copied().unwrap_or(ABSENT)
+}
+
+/// Whether the items are the pairs from a number up to an end.
+fn has_page(values: &[u32], from: u32, end: u32, items: &Pairs) -> bool {
+    let mut left = items.as_slice().iter();
+    for number in from..end {
+        let had = value_in(values, number);
+        if had != ABSENT && left.next() != Some(&(key(number), value(had))) {
+            return false;
+        }
+    }
+    left.next().is_none()
+}
+
+impl PlainMap {
+    /// No values.
+    pub(crate) fn new(alloc: Global) -> Result<PlainMap, AllocError> {
+        Ok(PlainMap {
+            values: vec![in alloc; ABSENT; 1024]?,
+            changes: Vec::new(alloc),
+        })
+    }
+
+    pub(crate) fn value(&self, number: u32) -> u32 {
+        value_in(self.values.as_slice(), number)
+    }
+
+    /// How many changes there were.
+    pub(crate) fn moment(&self) -> usize {
+        self.changes.len()
+    }
+
+    /// Gives a number a value, or none.
+    pub(crate) fn set(&mut self, number: u32, value: u32) -> Result<(), AllocError> {
+        let before = self.value(number);
+        self.changes.push((number, before))?;
+        if let Some(place) = self.values.get_mut(number as usize) {
+            *place = value;
+        }
+        Ok(())
+    }
+
+    /// Whether these were the pairs from a number up to the next key, at one of the moments since.
+    pub(crate) fn had_page(
+        &self,
+        since: usize,
+        from: u32,
+        items: &Pairs,
+        next: Option<&Key>,
+    ) -> Result<bool, AllocError> {
+        let end = match next {
+            None => 1024,
+            Some(key) => number_of(key).unwrap_or(0),
+        };
+        let mut values = self.values.clone()?;
+        for (number, before) in self.changes.as_slice().iter().skip(since).rev() {
+            if has_page(values.as_slice(), from, end, items) {
+                return Ok(true);
+            }
+            if let Some(place) = values.get_mut(*number as usize) {
+                *place = *before;
+            }
+        }
+        Ok(has_page(values.as_slice(), from, end, items))
+    }
+}
