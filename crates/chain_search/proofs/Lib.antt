@@ -10,3 +10,4 @@ pub mod PairLaws
 pub mod PaidExamples
 pub mod WalkLaws
 pub mod ChildWalks
+pub mod DeltaLaws

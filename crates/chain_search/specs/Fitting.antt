@@ -9,6 +9,7 @@ use Rattle.bw_model.specs.declared.step.Answer.TheVariants.{Number, Content, Whe
 use Rattle.base_page.specs.declared.item.Content.TheVariants.{Child}
 use Rattle.deltas.specs.declared.record.Record.{Record}
 use Rattle.deltas.specs.Records.{next_row}
+use Rattle.deltas.specs.Spellable.{IsSpellable}
 use Rattle.chain_search.specs.Chains.{IsChainFrom, IsFront, content_in, level_in, low_in, high_in, right_in, is_removed, covers}
 use Rattle.chain_search.specs.Fitted.{IsPageChain}
 use Rattle.chain_search.specs.Knowledge.{Foreign, Other, Empty, Ready, Gone, Absent, Knowledge}
@@ -50,10 +51,11 @@ pub record ReadsRemoved (k : Knowledge) (page row : ℕ) : Type 0 where
   pub read : IsChainFrom k.read.seen row chain
   pub gone : IsTrue (is_removed chain)
 
--- A record that is read is the one that was read there before, and leads to a row. A chain that is being read has no more
+-- A record that is read is the one that was read there before, is one that a row can spell, and leads to a row. A chain that is being read has no more
 -- than 13 records; where this is its last one, it was read whole.
 pub record FitsRow (limits : Limits) (k : Knowledge) (row : ℕ) (content : Record) : Type 0 where
   pub same : (before : Record) → k.read.seen row ≡ Some before → content ≡ before
+  pub spellable : IsSpellable content
   pub next : IfSome (next_row content) (λ under. (0 < under) × (under < limits.rows))
   pub short : (page head : ℕ) (front : List Record) → k.read.heads page ≡ Some head → IsFront k.read.seen head front row → length front < 13
   pub whole : (page head : ℕ) (front : List Record) → k.read.heads page ≡ Some head → IsFront k.read.seen head front row → next_row content ≡ None → IsReadWhole limits k page (front ++ content ∷ [])

@@ -11,16 +11,16 @@ mod search;
 mod walk;
 
 use crate::MAX_RECORDS;
+use crate::delta::{Delta, Kept};
 use arrayvec::ArrayVec;
 use base_page::Page;
 use bw_model::Key;
-use deltas::Record;
 use std::marker::Model;
 
 /// The records of one page, each of which fits what is under it: at most twelve deltas, the newest first, over a base.
 #[derive(Debug, Drop)]
 pub struct Chain {
-    deltas: ArrayVec<Record, MAX_RECORDS>,
+    deltas: ArrayVec<Delta, MAX_RECORDS>,
     base: Page,
 }
 
@@ -38,7 +38,7 @@ impl Model for Chain {
 }
 
 impl Chain {
-    pub(crate) fn new(deltas: ArrayVec<Record, MAX_RECORDS>, base: Page) -> Chain
+    pub(crate) fn new(deltas: ArrayVec<Delta, MAX_RECORDS>, base: Page) -> Chain
         requires { IsPageChain (deltas.items ++ Base base ∷ []) }
         ensures { result ≡ deltas.items ++ Base base ∷ [] }
     {
@@ -78,9 +78,9 @@ impl Chain {
         ensures { option_copied result ≡ high_in self.now }
     {
         for newest in self.deltas.as_slice() {
-            match newest {
-                Record::Split(split) => return Some(&split.separator),
-                Record::Merge(merge) => return merge.high.as_ref(),
+            match &newest.kept {
+                Kept::Split(split) => return Some(&split.separator),
+                Kept::Merge(merge) => return merge.high.as_ref(),
                 _ => {}
             }
         }
@@ -92,9 +92,9 @@ impl Chain {
         ensures { result ≡ right_in self.now }
     {
         for newest in self.deltas.as_slice() {
-            match newest {
-                Record::Split(split) => return Some(split.page),
-                Record::Merge(merge) => return merge.right,
+            match &newest.kept {
+                Kept::Split(split) => return Some(split.page),
+                Kept::Merge(merge) => return merge.right,
                 _ => {}
             }
         }
@@ -105,7 +105,10 @@ impl Chain {
     pub fn is_removed(&self) -> bool
         ensures { result ≡ is_removed self.now }
     {
-        matches!(self.deltas.first(), Some(Record::Remove(_)))
+        match self.deltas.first() {
+            None => false,
+            Some(newest) => matches!(newest.kept, Kept::Remove(_)),
+        }
     }
 
     /// Whether the key is in the page's range.

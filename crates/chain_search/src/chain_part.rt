@@ -1,10 +1,12 @@
 //! A page's chain while it is read.
 ghost use Rattle.std.specs.Prelude.{◌≡◌, ◌<◌, ◌∷◌, [], ◌++◌, length};
 ghost use Rattle.deltas.specs.declared.record.Record.TheVariants.{Base};
+ghost use Rattle.chain_search.specs.Deltas.{IsSmall};
 ghost use Rattle.chain_search.specs.Fitted.{IsPageChain};
 ghost use Rattle.chain_search.specs.declared.chain_part.TheConstants.{MAX_RECORDS};
 
 use crate::Chain;
+use crate::delta::Delta;
 use arrayvec::ArrayVec;
 use base_page::Page;
 use deltas::Record;
@@ -17,7 +19,7 @@ pub const MAX_RECORDS: usize = 13;
 /// may push one more; only with the base it is known that the chain is no longer.
 #[derive(Debug, Drop)]
 pub struct ChainPart {
-    deltas: ArrayVec<Record, MAX_RECORDS>,
+    deltas: ArrayVec<Delta, MAX_RECORDS>,
 }
 
 impl Model for ChainPart {
@@ -50,10 +52,11 @@ impl ChainPart {
 
     /// Puts the delta that was read next under the others.
     pub fn push(&mut self, older: Record)
-        requires { length self.old < MAX_RECORDS }
+        requires few { length self.old < MAX_RECORDS }
+        requires small { IsSmall older }
         ensures { self.new ≡ self.old ++ older ∷ [] }
     {
-        self.deltas.push(older);
+        self.deltas.push(Delta::of(older));
     }
 
     /// The whole chain: these deltas over the base that was read last.

@@ -3,7 +3,9 @@
 
 mod chain;
 mod chain_part;
+mod delta;
 mod examples;
+mod few_items;
 mod laws;
 mod replies;
 mod shared;

@@ -1,5 +1,6 @@
 -- What the steps of a visit leave it.
 use Rattle.std.proofs.Common.{◌≡◌, ◌<◌, ◌==◌, ◌++◌, inl, inr, ℕ, zero, suc, true, List, [], ◌∷◌, Option, Some, None, refl, sym, ap, ◌∙◌, subst, arith}
+use Rattle.std.specs.Prelude.{is_some}
 use Rattle.std.proofs.lemmas.Bool.{eq-eqb}
 use Rattle.bw_model.specs.declared.limits.Limits.{Limits}
 use Rattle.bw_model.specs.declared.step.Step.TheVariants as step
@@ -9,10 +10,12 @@ use Rattle.deltas.specs.declared.record.Record.{Record}
 use Rattle.deltas.specs.Memory.{replaced_at}
 use Rattle.deltas.specs.Records.{next_row}
 use Rattle.chain_search.specs.Chains.{IsChainFrom, IsFront}
+use Rattle.chain_search.specs.Deltas.{IsSmall}
 use Rattle.chain_search.specs.Discipline.{May}
 use Rattle.chain_search.specs.Fitting.{Fits, FitsRow, IsReadWhole}
 use Rattle.chain_search.specs.Fitted.{IsPageChain}
 use Rattle.chain_search.specs.Knowledge.{Knowledge, learn, learn_slot}
+use Rattle.chain_search.proofs.DeltaLaws.{small}
 use Rattle.smo.specs.declared.version.Version.{Version}
 use Rattle.descent.specs.declared.visit.Sight.{Sight}
 use Rattle.descent.specs.declared.visit.Sight.TheVariants.{Empty, Whole}
@@ -110,6 +113,10 @@ arrives_at k visit row w version pid chain i h f =
 -- what is read whole is a page's chain
 pub is_chain : (visit : Visit) (head row : ℕ) (w : Record) → next_row w ≡ None → IsTold (at visit (Row head row)) (answer.Content w) → IsPageChain (visit.part ++ w ∷ [])
 is_chain visit head row w i told = (whole_chain told.k visit head row w i told.shows told.fits).is_chain
+
+-- a delta that is read needs little room
+pub is_small : (visit : Visit) (head row : ℕ) (w : Record) (next : ℕ) → next_row w ≡ Some next → IsTold (at visit (Row head row)) (answer.Content w) → IsSmall w
+is_small visit head row w next i told = small w (ap is_some i) told.fits.spellable
 
 -- the answer to the step wanted last is the one that the state was waiting for
 

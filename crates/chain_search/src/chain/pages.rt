@@ -18,7 +18,7 @@ impl Chain {
     {
         let mut page = self.base.copied();
         for place in (0..self.deltas.len()).rev() {
-            page = apply(page, &self.deltas[place]);
+            page = apply(page, &self.deltas[place].record());
         }
         page
     }

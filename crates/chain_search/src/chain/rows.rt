@@ -9,11 +9,15 @@ use base_page::Page;
 use deltas::Record;
 
 impl Chain {
-    /// The deltas, the newest first, and the base under them.
-    pub fn records(&self) -> (&[Record], &Page)
-        ensures { result.0.now ++ Base result.1.now ∷ [] ≡ self.now }
+    /// Copies of the deltas, the newest first, and of the base under them.
+    pub fn records(&self) -> (ArrayVec<Record, MAX_RECORDS>, Page)
+        ensures { result.0.items ++ Base result.1 ∷ [] ≡ self.now }
     {
-        (self.deltas.as_slice(), &self.base)
+        let mut records = ArrayVec::new();
+        for delta in self.deltas.as_slice() {
+            records.push(delta.record());
+        }
+        (records, self.base.copied())
     }
 
     /// The row of each record, where the newest one stands in this row: each record names the row under it.

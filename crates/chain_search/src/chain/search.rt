@@ -9,9 +9,9 @@ ghost use Rattle.chain_search.specs.Chains.{content_in, covers, level_in, low_in
 ghost use Rattle.chain_search.specs.Walks.{is_named};
 
 use crate::Chain;
+use crate::delta::{Delta, copied};
 use base_page::Content;
 use bw_model::{Key, Value};
-use deltas::Record;
 
 impl Chain {
     /// What the page has at the key: the newest record that names the key says it.
@@ -29,7 +29,7 @@ impl Chain {
         ensures { option_copied result ≡ value_in (content_in self.now key.now) }
     {
         match newest_of(self.deltas.as_slice(), key) {
-            Some(newest) => value_said(newest, key),
+            Some(newest) => newest.value_said(key),
             None => self.base.find(key),
         }
     }
@@ -67,14 +67,14 @@ impl Chain {
         ensures { result ≡ child_in (content_in self.now key.now) }
     {
         match newest_of(self.deltas.as_slice(), key) {
-            Some(newest) => child_said(newest, key),
+            Some(newest) => newest.child_said(key),
             None => self.base.items().child_at(key),
         }
     }
 }
 
 /// The newest of the deltas that names the key, or none.
-pub(super) fn newest_of<'a>(deltas: &'a [Record], key: &Key) -> Option<&'a Record>
+pub(super) fn newest_of<'a>(deltas: &'a [Delta], key: &Key) -> Option<&'a Delta>
     ensures said { (under : List Record) → MatchOption result
         (content_in (deltas.now ++ under) key.now ≡ content_in under key.now)
         (λ newest. content_in (deltas.now ++ under) key.now ≡ content_said newest.now key.now) }
@@ -86,41 +86,4 @@ pub(super) fn newest_of<'a>(deltas: &'a [Record], key: &Key) -> Option<&'a Recor
         }
     }
     None
-}
-
-fn copied(content: Option<&Content>) -> Option<Content>
-    ensures { result ≡ option_copied content.entry }
-{
-    match content {
-        None => None,
-        Some(content) => Some(content.copied()),
-    }
-}
-
-/// The value that a record says of a key that it names, where it says one.
-fn value_said<'a>(newest: &'a Record, key: &Key) -> Option<&'a Value>
-    ensures { option_copied result ≡ value_in (content_said newest.now key.now) }
-{
-    match newest {
-        Record::Base(page) => page.find(key),
-        Record::Put(put) => Some(&put.value),
-        Record::Merge(merge) => match merge.items.find(key) {
-            Some(Content::Value(value)) => Some(value),
-            _ => None,
-        },
-        _ => None,
-    }
-}
-
-/// The child that a record says of a key that it names, where it says one.
-fn child_said(newest: &Record, key: &Key) -> Option<u16>
-    ensures { result ≡ child_in (content_said newest.now key.now) }
-{
-    match newest {
-        Record::Base(page) => page.items().child_at(key),
-        Record::Term(term) => Some(term.child),
-        Record::Hold(hold) => Some(hold.child),
-        Record::Merge(merge) => merge.items.child_at(key),
-        _ => None,
-    }
 }

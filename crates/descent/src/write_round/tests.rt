@@ -78,10 +78,10 @@ fn grown(page: &Version, newest: Record) -> Version
     let (under, base) = page.chain.records();
     let mut part = ChainPart::new();
     part.push(newest);
-    for delta in under {
+    for delta in under.as_slice() {
         part.push(delta.copied());
     }
-    let chain = part.over(base.copied());
+    let chain = part.over(base);
     let (pid, head) = (page.pid, 7);
     Version { pid, head, chain }
 }

@@ -22,13 +22,13 @@ pub(crate) fn grown(page: &Version, newest: Record) -> Version
     let (under, base) = page.chain.records();
     let mut part = ChainPart::new();
     part.push(newest);
-    for delta in under {
+    for delta in under.as_slice() {
         part.push(delta.copied());
     }
     Version {
         pid: page.pid,
         head: 7,
-        chain: part.over(base.copied()),
+        chain: part.over(base),
     }
 }
 

@@ -1,6 +1,6 @@
 -- What a state's memory answers fits what each actor knows.
 use Rattle.tree_law.proofs.links.Merging.{frozen_as}
-use Rattle.std.proofs.Common.{◌≡◌, ◌<◌, ◌≤◌, ◌+◌, ◌*◌, ◌==◌, inl, inr, ℕ, zero, suc, List, [], Option, Some, None, Bool, true, false, refl, sym, ap, ◌∙◌, subst, arith, ◌⊎◌, ⊎_elim}
+use Rattle.std.proofs.Common.{◌≡◌, ◌<◌, ◌≤◌, ◌+◌, ◌*◌, ◌==◌, inl, inr, ℕ, zero, suc, List, [], ◌∷◌, Option, Some, None, Bool, true, false, refl, sym, ap, ◌∙◌, subst, arith, ◌⊎◌, ⊎_elim}
 use Rattle.std.specs.Prelude.{IfSome, if◌then◌else◌}
 use Rattle.std.specs.Int.{bit_at}
 use Rattle.std.proofs.lemmas.Bool.{eqb-true}
@@ -12,6 +12,7 @@ use Rattle.bw_model.specs.declared.step.Step.{Step as StepOf}
 use Rattle.bw_model.specs.declared.step.Step.TheVariants.{Slot, Row, Epoch, Announce, PidBits, RowBits, Place, Exchange, TakePid, TakeRow, Enter, Leave, Retire, ReusePids, ReuseRows}
 use Rattle.deltas.specs.declared.record.Record.{Record}
 use Rattle.deltas.specs.Records.{next_row}
+use Rattle.deltas.specs.Spellable.{IsSpellable}
 use Rattle.deltas.specs.Memory.{Memory}
 use Rattle.chain_search.specs.declared.trace.Entry.{Entry}
 use Rattle.chain_search.specs.Chains.{level_in, low_in}
@@ -21,6 +22,7 @@ use Rattle.chain_search.specs.Trace.{memory_of}
 use Rattle.chain_search.specs.Discipline.{MayExchange, May}
 use Rattle.chain_search.specs.Fitting.{FitsRow, FitsTaken, FitsTakenPid, FitsExchange, Fits}
 use Rattle.chain_search.specs.Knowledge.{OwnRow, Foreign, Taken, Written, OwnPage, Other, Empty, Ready, Gone, Limbo, Absent, Unstamped, Stamped, Knowledge, knows}
+use Rattle.chain_search.proofs.FittedLaws.{first_spellable}
 use Rattle.tree_law.specs.Owners.{Free, Linked, Reached, HeadFits, OwnFits, PageFits, SeenFits, IsOut}
 use Rattle.op_machine.specs.Phases as phase
 use Rattle.tree_law.specs.Keys.{Key}
@@ -80,9 +82,17 @@ module _ (limits : Limits) (entries : List Entry) (state : IsState limits entrie
   placed_below : (r p l : ℕ) (s : Key) → Reached r l s (state.owners.page p) → (0 < p) × (p < limits.pids)
   placed_below r p l s h = elim (state.named.pid_below p) [ inl f ↦ absurd (in_tree_phase (state.owners.page p) (reached_in_tree r l s (state.owners.page p) h) f) | inr below ↦ below ]
 
+  -- a record in a linked row is one that a row can spell
+  is_spellable : (q : ℕ) (w : Record) → state.owners.row q ≡ Linked → m.rows q ≡ Some w → IsSpellable w
+  is_spellable q w linked e =
+      let l = state.good.closed q linked in
+      let fitted = (state.fitted q linked (l.content ∷ l.rest) (l.stands, l.is_rest)).fitted in
+      subst IsSpellable (same_Some l.content w (sym l.stands ∙ e)) (first_spellable l.content l.rest fitted)
+
   fits_row : (q : ℕ) (w : Record) → k.read.learnt q ≡ true → m.rows q ≡ Some w → FitsRow limits k q w
   fits_row q w learnt e = record {
     same = λ before seen. same_Some w before (sym e ∙ stands q before seen);
+    spellable = is_spellable q w ((state.good.sound a).learnt_fits q learnt) e;
     next = next_some w (next_linked state.owners (shared m) state.good.closed q w ((state.good.sound a).learnt_fits q learnt) e);
     short = λ page head front at part. short_front state.good state.fitted a q w e page head front at part;
     whole = λ page head front at part last. whole_chain state.good state.fitted a q w e page head front at part limits placed_below last;

@@ -3,7 +3,7 @@ use Rattle.std.proofs.lemmas.List.{length-append}
 use Rattle.deltas.specs.declared.record.Record.TheVariants.{Base}
 use Rattle.chain_search.specs.Fitted.{IsPageChain}
 use Rattle.chain_search.specs.Tables.{memory_in}
-use Rattle.step_core.proofs.Chaining.{base_read, is_left, one_read}
+use Rattle.step_core.proofs.Chaining.{base_read, is_left, one_read, small_read}
 use Rattle.step_core.proofs.listing.chain_of.Goals as goal
 
 pub unreachable-requires : goal.unreachable-requires
@@ -22,6 +22,12 @@ returns-in_default-Base g c chain stands =
     let there : (memory_in c.args.memory.now).rows c.loop.row ≡ Some (Base c.copied.result) = sym c.record.ensures ∙ ap option_copied c.in-Some.is ∙ ap Some (c.in_default-Base.is-1 ∙ ap Base (sym c.copied.ensures)) in
     let whole : c.loop.part ++ Base c.copied.result ∷ [] ≡ chain = base_read _ _ c.loop.row c.loop.part chain c.copied.result c.loop.invariant.read there stands.records in
     rw c.over.ensures whole
+
+pub push-requires-clause-small : goal.push-requires-clause-small
+push-requires-clause-small g c =
+    let (chain, stands) = c.requires in
+    let there : (memory_in c.args.memory.now).rows c.loop.row ≡ Some c.in-Some.older.now = sym c.record.ensures ∙ ap option_copied c.in-Some.is in
+    rw c.copied.ensures (small_read _ _ c.loop.row c.in-Some-default.below c.loop.part chain c.in-Some.older.now c.loop.invariant.read there (sym c.next.ensures ∙ c.in-Some-default.is-0) stands.records stands.fits.fitted)
 
 pub loop-preserved : goal.loop-preserved
 loop-preserved g c =

@@ -29,7 +29,10 @@ loop-place-preserved c =
     (subst (IsGreatestKey (content_in (front ++ delta ∷ [])) (λ q. is_below q c.args.bound.now)) (sym c.greater-greatest.ensures) greatest)
 
 pub last_open-requires : goal.last_open-requires
-last_open-requires c = rw c.items.ensures (base_stands c.self.inside.deltas.items c.self.inside.base c.self.invariant.fitted).ruled.is_page.ordered
+last_open-requires c = record {
+  items = rw (c.as_slice.ensures.items, c.items-items.ensures) (base_stands c.self.inside.deltas.items c.self.inside.base c.self.invariant.fitted).ruled.is_page.ordered;
+  cut = rw c.as_slice.ensures.items c.count_below-count.ensures;
+}
 
 pub returns : goal.returns
 returns c =
@@ -37,7 +40,7 @@ returns c =
     let base = c.self.inside.base in
     let all : take c.loop-place.place deltas ≡ deltas = take_all c.loop-place.place deltas c.loop-place-test.false in
     let newer = subst (λ records. IsGreatestKey (content_in records) (λ q. is_below q c.args.bound.now) (option_copied c.loop-place.greatest)) all c.loop-place.invariant in
-    let older = offers_items (Base base) base.items (is_open deltas c.args.bound.now) _ (λ q. refl) (rw c.items.ensures at c.last_open.ensures) in
+    let older = offers_items (Base base) base.items (is_open deltas c.args.bound.now) _ (λ q. refl) (rw (c.as_slice.ensures.items, c.items-items.ensures) at c.last_open.ensures) in
     let chain : deltas ++ Base base ∷ [] ≡ c.args.self.now = ap (λ records. records ++ Base base ∷ []) c.as_slice-deltas.ensures.value ∙ c.self.view_is in
     subst (λ records. IsGreatestKey (content_in records) (λ q. is_below q c.args.bound.now) (option_copied c.greater.result)) chain
     (subst (IsGreatestKey (content_in (deltas ++ Base base ∷ [])) (λ q. is_below q c.args.bound.now)) (sym c.greater.ensures)

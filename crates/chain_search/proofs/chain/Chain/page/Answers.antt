@@ -9,8 +9,8 @@ loop-place-init c = rw (c.copied-page.ensures, c.len-place.ensures.value) (base_
 pub apply-page-requires : goal.apply-page-requires
 apply-page-requires c =
     let within : c.loop-place.place ≤ length c.self.inside.deltas.items = omega (arith, c.loop-place.auto.place, c.len-place.ensures.value) in
-    fits_above c.self.inside.deltas.items c.self.inside.base c.loop-place.page c.loop-place.place c.index-deref-place.result c.self.invariant.fitted c.loop-place-test.true within c.loop-place.invariant
-    (c.index-deref-place.is ∙ ap (λ (deltas : List Record). get_or deltas (c.loop-place.place - 1) c.index-deref-place.result) c.deref.ensures.0)
+    rw c.record.ensures (fits_above c.self.inside.deltas.items c.self.inside.base c.loop-place.page c.loop-place.place c.index-deref-place.result c.self.invariant.fitted c.loop-place-test.true within c.loop-place.invariant
+    (c.index-deref-place.is ∙ ap (λ (deltas : List Record). get_or deltas (c.loop-place.place - 1) c.index-deref-place.result) c.deref.ensures.0))
 
 pub returns-clause-ruled : goal.returns-clause-ruled
 returns-clause-ruled c =

@@ -6,12 +6,12 @@ use Rattle.chain_search.proofs.chain.walk.last_open.Goals as goal
 
 pub returns-then-is_none : goal.returns-then-is_none
 returns-then-is_none c =
-    let item = c.index-as_slice-place.result in
-    let free : is_named c.args.newer.now (slice_index_or c.args.items.now (c.loop-place.place - 1) item).key ≡ false = rw (← c.as_slice.ensures.items) (sym c.newest_of.ensures.named ∙ c.if-is_none.ensures) in
-    let last = last_open c.args.items.now c.requires c.args.newer.now c.args.bound.now c.count_below-count.result c.count_below-count.ensures c.loop-place.place c.loop-place.invariant
+    let item = c.index-items-place.result in
+    let free : is_named c.args.newer.now (slice_index_or c.args.items.now (c.loop-place.place - 1) item).key ≡ false = sym c.newest_of.ensures.named ∙ c.if-is_none.ensures in
+    let last = last_open c.args.items.now c.requires.items c.args.newer.now c.args.bound.now c.args.count c.requires.cut c.loop-place.place c.loop-place.invariant
     item c.loop-place-test.true (omega (arith, c.loop-place.auto.place)) free in
-    rw c.as_slice.ensures.items last
+    last
 
 pub returns : goal.returns
-returns c = none_open c.args.items.now c.requires c.args.newer.now c.args.bound.now c.count_below-count.result c.count_below-count.ensures c.loop-place.place c.loop-place.invariant
+returns c = none_open c.args.items.now c.requires.items c.args.newer.now c.args.bound.now c.args.count c.requires.cut c.loop-place.place c.loop-place.invariant
     (let end = c.loop-place-test.false in omega (arith, end))

@@ -1,9 +1,21 @@
-use Rattle.std.proofs.Common.{refl}
-use Rattle.descent.specs.Visits.{Visit}
-use Rattle.descent.proofs.Visiting.{is_chain}
+use Rattle.std.proofs.Common.{refl, sym, ◌∙◌}
+use Rattle.bw_model.specs.declared.step.Answer.TheVariants.{Content}
+use Rattle.descent.specs.declared.visit.State.TheVariants.{Row}
+use Rattle.descent.specs.Visits.{IsTold, Visit, at}
+use Rattle.descent.proofs.Visiting.{is_chain, is_small}
 use Rattle.descent.proofs.visit.Visit.keep.Goals as goal
 
 pub over-requires : goal.over-requires
 over-requires c =
     let was : Visit = record { limits = c.self.inside.limits; pid = c.self.inside.pid; part = c.self.inside.part; state = c.self.inside.state } in
     rw (c.replace-part.ensures.value, ← c.in_default-Base.is-1) (is_chain was c.args.head c.args.row c.args.older (rw c.in_default-Base.is-1 refl) (rw (← c.self.view_is) at c.requires.told))
+
+pub push-requires : goal.push-requires
+push-requires c =
+    let was : Visit = record { limits = c.self.inside.limits; pid = c.self.inside.pid; part = c.self.inside.part; state = c.self.inside.state } in
+    let told : IsTold (at was (Row c.args.head c.args.row)) (Content c.args.older) = rw (← c.self.view_is) at c.requires.told in
+    let reads = told.shows.stands in
+    record {
+      few = told.fits.short c.self.inside.pid c.args.head c.self.inside.part reads.held reads.seen;
+      small = is_small was c.args.head c.args.row c.args.older c.in-Some-default.row (sym c.next.ensures ∙ c.in-Some-default.is-0) told;
+    }
