@@ -1,8 +1,8 @@
 -- What was read stays known while other pages are read.
-use Rattle.std.proofs.Common.{◌≡◌, ◌≢◌, inl, inr, ℕ, zero, suc, ◌==◌, List, [], ◌∷◌, Bool, true, false, cond, Option, Some, None, refl, sym, ap}
+use Rattle.std.proofs.Common.{◌≡◌, ◌≢◌, ◌<◌, inl, inr, ℕ, zero, suc, ◌==◌, List, [], ◌∷◌, Bool, true, false, cond, Option, Some, None, refl, sym, ap, arith}
 use Rattle.std.specs.Prelude.{MatchOption}
 use Rattle.std.specs.List.{AllByRecursion}
-use Rattle.std.proofs.lemmas.Bool.{eqb-true}
+use Rattle.std.proofs.lemmas.Bool.{eq-eqb, eqb-true}
 use Rattle.std.proofs.lemmas.Bool.Decides.{eqb_tells}
 use Rattle.bw_model.specs.declared.limits.Limits.{Limits}
 use Rattle.bw_model.specs.declared.step.Step.TheVariants as step
@@ -15,7 +15,7 @@ use Rattle.chain_search.specs.Knowledge.{Knowledge, learn, learn_slot}
 use Rattle.chain_search.specs.Recalled.{IsUnread}
 use Rattle.smo.specs.declared.version.Version.{Version}
 use Rattle.descent.specs.Versions.{IsInHand}
-use Rattle.descent.specs.Walks.{IsNamedAt, IsPast}
+use Rattle.descent.specs.Walks.{IsNamedAt, IsNextAt, IsPast}
 
 -- A row is read again; what was seen there before is the same record.
 pub chain_more : (seen : ℕ → Option Record) (n : ℕ) (w : Record) → ((before : Record) → seen n ≡ Some before → w ≡ before) → (chain : List Record) (row : ℕ) → IsChainFrom seen row chain → IsChainFrom (replaced_at n (Some w) seen) row chain
@@ -48,12 +48,36 @@ in_hand_slot limits k page n version apart h = record { page = h.page; row = h.r
 pub named_slot : (limits : Limits) (k : Knowledge) (page n level : ℕ) (low : List ℕ) → IsNamedAt limits k page level low → IsNamedAt limits (learn_slot page n k) page level low
 named_slot limits k page n level low h = record { naming = h.naming; in_hand = in_hand_slot limits k page n h.naming h.apart h.in_hand; alive = h.alive; apart = h.apart; names = h.names }
 
+pub slot_before : (k : Knowledge) (page n left other row : ℕ) → left ≢ page → k.read.before left other ≡ Some row → (learn_slot page n k).read.before left other ≡ Some row
+slot_before k zero n left other row apart h = h
+slot_before k (suc page) zero left other row apart h = h
+slot_before k (suc page) (suc n) left other row apart h = elim (eqb_tells left (suc page)) [ inl same ↦ absurd (apart same.1) | inr differs ↦ rw differs.0 h ]
+
+pub next_slot : (limits : Limits) (k : Knowledge) (page n level : ℕ) (low : List ℕ) → IsNextAt limits k page level low → IsNextAt limits (learn_slot page n k) page level low
+next_slot limits k page n level low h =
+    let b = h.beyond in
+    record {
+      left = h.left;
+      in_hand = in_hand_slot limits k page n h.left h.apart h.in_hand;
+      alive = h.alive;
+      apart = h.apart;
+      beyond = record { removed = b.removed; row = b.row; chain = b.chain; right = b.right; order = slot_before k page n h.left.pid b.removed b.row h.apart b.order; read = slot_chain k page n b.row b.chain b.read; gone = b.gone; next = b.next };
+      is_level = h.is_level;
+      high = h.high;
+    }
+
 pub past_slot : (k : Knowledge) (page n level : ℕ) (low : List ℕ) (others : List ℕ) → IsUnread page others → AllByRecursion (IsPast k level low) others → AllByRecursion (IsPast (learn_slot page n k) level low) others
 past_slot k page n level low [] new h = tt
 past_slot k page n level low (other ∷ others) new h = (
   record { head = h.0.head; chain = h.0.chain; held = slot_head k page n other h.0.head (λ e. new.0 (sym e)) h.0.held; read = slot_chain k page n h.0.head h.0.chain h.0.read; past = h.0.past },
   past_slot k page n level low others new.1 h.1,
 )
+
+-- what was known when the slot was read
+pub before_slot : (k : Knowledge) (page n other head : ℕ) → 0 < page → 0 < n → k.read.heads other ≡ Some head → (learn_slot page n k).read.before page other ≡ Some head
+before_slot k zero n other head some linked is = absurd (omega (arith, some))
+before_slot k (suc page) zero other head some linked is = absurd (omega (arith, linked))
+before_slot k (suc page) (suc n) other head some linked is = let e : (suc page == suc page) ≡ true = eq-eqb (suc page) (suc page) refl in rw e is
 
 -- a row is read
 module _ (k : Knowledge) (row : ℕ) (w : Record) (same : (before : Record) → k.read.seen row ≡ Some before → w ≡ before) where
@@ -68,6 +92,19 @@ module _ (k : Knowledge) (row : ℕ) (w : Record) (same : (before : Record) → 
 
   pub named_row : (limits : Limits) (page level : ℕ) (low : List ℕ) → IsNamedAt limits k page level low → IsNamedAt limits now page level low
   named_row limits page level low h = record { naming = h.naming; in_hand = in_hand_row limits h.naming h.in_hand; alive = h.alive; apart = h.apart; names = h.names }
+
+  pub next_read : (limits : Limits) (page level : ℕ) (low : List ℕ) → IsNextAt limits k page level low → IsNextAt limits now page level low
+  next_read limits page level low h =
+      let b = h.beyond in
+      record {
+        left = h.left;
+        in_hand = in_hand_row limits h.left h.in_hand;
+        alive = h.alive;
+        apart = h.apart;
+        beyond = record { removed = b.removed; row = b.row; chain = b.chain; right = b.right; order = b.order; read = chain_more k.read.seen row w same b.chain b.row b.read; gone = b.gone; next = b.next };
+        is_level = h.is_level;
+        high = h.high;
+      }
 
   pub past_row : (level : ℕ) (low : List ℕ) (others : List ℕ) → AllByRecursion (IsPast k level low) others → AllByRecursion (IsPast now level low) others
   past_row level low [] h = tt

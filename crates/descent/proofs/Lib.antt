@@ -7,6 +7,7 @@ pub mod Visiting
 pub mod Walking
 pub mod Seeking
 pub mod Spending
+pub mod Passing
 pub mod Reading
 pub mod Keeping
 pub mod Writing

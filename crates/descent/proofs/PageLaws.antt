@@ -1,15 +1,16 @@
 -- What a page's chain has, by the page that it makes.
-use Rattle.std.proofs.Common.{◌≡◌, ℕ, List, Some, sym, ap, ◌∙◌}
+use Rattle.std.proofs.Common.{◌≡◌, ℕ, List, [], ◌∷◌, Some, true, false, refl, sym, ap, ◌∙◌}
 use Rattle.std.specs.Prelude.{is_some, IsTrue}
 use Rattle.bw_model.specs.Bytes.{is_below}
 use Rattle.base_page.specs.declared.item.Content.{Content}
 use Rattle.base_page.specs.Pages.{Page}
 use Rattle.base_page.specs.Rules.{IsRuled}
 use Rattle.deltas.specs.declared.record.Record.{Record}
-use Rattle.chain_search.specs.Chains.{content_in, covers, high_in, low_in, right_in}
+use Rattle.chain_search.specs.Chains.{content_in, covers, high_in, is_removed, low_in, right_in}
 use Rattle.chain_search.specs.Fitted.{IsFitted, Makes}
 use Rattle.chain_search.proofs.FittedLaws.{ruled}
 use Rattle.smo.proofs.Places.{inside, made}
+use Rattle.smo.proofs.Removed.{lowest_stands}
 
 -- a page that the chain makes, and that keeps the rules
 record Made (chain : List Record) : Type 0 where
@@ -40,3 +41,11 @@ pub covered : (chain : List Record) (q : List ℕ) (content : Content) → IsFit
 covered chain q content fit is =
     let m = made_of chain fit in
     rw (← m.makes.low, ← m.makes.high) (inside m.page m.rules q content (m.makes.items.contents q ∙ is))
+
+-- a removed page begins above the empty key
+pub above_empty : (chain : List Record) → IsFitted chain → is_removed chain ≡ true → IsTrue (is_below [] (low_in chain))
+above_empty chain fit gone = by_low (low_in chain) refl
+  where
+    by_low : (low : List ℕ) → low_in chain ≡ low → IsTrue (is_below [] (low_in chain))
+    by_low [] e = let clash : true ≡ false = sym gone ∙ lowest_stands chain fit e in cc
+    by_low (x ∷ xs) e = rw e refl

@@ -1,50 +1,63 @@
 -- What an answer leaves a reader's round.
-use Rattle.std.proofs.Common.{ap, ◌∙◌, ◌≡◌, ◌-◌, inl, inr, ℕ, List, [], ◌∷◌, false, Option, Some, None, refl, sym, subst, arith}
-use Rattle.std.specs.Prelude.{IsTrue}
+use Rattle.std.proofs.Common.{ap, ◌∙◌, ◌≡◌, ◌<◌, ◌+◌, ◌-◌, ◌*◌, inl, inr, ℕ, List, length, Bool, true, false, Option, Some, None, refl, sym, subst, arith}
 use Rattle.bw_model.specs.declared.step.Answer.{Answer}
 use Rattle.bw_model.specs.declared.step.Answer.TheVariants as answer
+use Rattle.bw_model.specs.declared.step.Step.{Step}
 use Rattle.deltas.specs.declared.record.Record.{Record}
-use Rattle.chain_search.specs.Chains.{is_removed, level_in}
+use Rattle.chain_search.specs.Chains.{low_in}
 use Rattle.chain_search.specs.Fitting.{Fits}
 use Rattle.chain_search.specs.Knowledge.{Knowledge, learn}
-use Rattle.chain_search.specs.Recalled.{Recalled, recall}
+use Rattle.chain_search.specs.Recalled.{IsSpentWith, Recalled, recall}
 use Rattle.smo.specs.declared.version.Version.{Version}
+use Rattle.descent.specs.declared.read_round.Goal.{Goal}
+use Rattle.descent.specs.declared.read_round.Goal.TheVariants.{Seek, Left, Beyond}
 use Rattle.descent.specs.declared.read_round.ReadEnd.{ReadEnd}
-use Rattle.descent.specs.declared.read_round.ReadEnd.TheVariants.{Again, Removed, Leaf}
+use Rattle.descent.specs.declared.read_round.ReadEnd.TheVariants.{Again, Removed, Leaf, Beside}
 use Rattle.descent.specs.declared.descent.State.{State}
 use Rattle.descent.specs.declared.descent.State.TheVariants.{Root, Page, Over}
 use Rattle.descent.specs.declared.visit.Sight.{Sight}
 use Rattle.descent.specs.declared.visit.Sight.TheVariants.{Empty, Whole}
-use Rattle.descent.specs.ReadRounds.{CanSee, Ends, Follows, GoesFrom, GoesOnWay, IsTold, IsVisiting, ReadRound, Responds, Sees, Shows, Spends, Treats, at, wanted, descent_of, going_to}
+use Rattle.descent.specs.ReadRounds.{Begins, CanPass, CanSee, Ends, Follows, GoesFrom, GoesOnWay, IsLeftLeaf, IsTold, IsVisiting, Misses, ReadRound, Responds, Sees, SeeksKey, Shows, Spends, Treats, at, descent_of, going_to, is_beyond, kept_for, wanted, way_of}
 use Rattle.descent.specs.Descents.{Descent, Finds, Shows as WayShows, Starts, Visits}
 use Rattle.descent.specs.Visits as page
-use Rattle.descent.specs.Walks.{HasArrived}
-use Rattle.descent.specs.Ways.{LeadsOn, reaches}
-use Rattle.descent.proofs.Seeking.{arrived_next, is_gone, living, reached, seeks_next, seeks_on, seeks_root}
-use Rattle.descent.proofs.Spending.{left_on, left_removed, left_some, spent_empty, spent_on}
-use Rattle.descent.proofs.WayLaws.{covers_here, down_names, right_names}
+use Rattle.descent.specs.Walks.{IsSeeking, left_in}
+use Rattle.descent.specs.Ways.{EndsHere, StaysLeft, precedes, reaches}
+use Rattle.descent.proofs.Passing.{HasReached, at_or_below, begins, goes_to, is_beside, is_merged, past_merged, past_removed, reached_next, visits_next, within}
+use Rattle.descent.proofs.Seeking.{is_gone, living, reached}
+use Rattle.descent.proofs.Spending.{left_empty, left_on, left_removed, left_some, spent_empty, spent_on}
+use Rattle.descent.proofs.WayLaws.{covers_here}
 
 -- what follows once a page was read whole
 abbrev After : ReadRound → Knowledge → Recalled → ReadRound → Option ReadEnd → Type 0
 After old now r new None = Shows new now r
 After old now r new (Some end) = Ends old now r end
 
-module _ (old new : ReadRound) (k now : Knowledge) (r : Recalled) (version : Version) (level : ℕ) (low : List ℕ) (earlier : List ℕ) (h : HasArrived old.limits k now r version level low earlier) (passing : IsTrue (reaches old.key low)) where
-  goes_to : (pid : ℕ) → is_removed version.chain ≡ false → LeadsOn old.key version.chain pid → IsVisiting old.limits old.key now r (page.to_page old.limits pid)
-  goes_to pid alive leads = elim leads [
-    | inl right ↦ record { level = level_in version.chain; low = right.low; earlier = version.pid ∷ earlier; seeks = seeks_on old.limits k now r version level low earlier h old.key pid (level_in version.chain) right.low (right_names old.key version.chain pid right) alive right.on_way }
-    | inr down ↦ record { level = level_in version.chain - 1; low = down.2.low; earlier = version.pid ∷ earlier; seeks = seeks_on old.limits k now r version level low earlier h old.key pid (level_in version.chain - 1) down.2.low (down_names old.key version.chain pid down.1 down.2) alive down.2.greatest.passing }
-  ]
+module _ (old : ReadRound) (k now : Knowledge) (r : Recalled) (version : Version) (h : HasReached old.limits old.key old.goal k now r version) where
+  at_goal : (goal : Goal) → old.goal ≡ goal → HasReached old.limits old.key goal k now r version
+  at_goal goal e = subst (λ (g : Goal). HasReached old.limits old.key g k now r version) e h
 
-  treated : (result : Option ReadEnd) → Treats old version new result → After old now r new result
-  treated None t = subst (λ (x : ReadRound). Shows x now r) (sym t.goes) (goes_to t.next t.alive t.leads)
-  treated (Some Again) t = absurd t
-  treated (Some (Removed removed)) t = rw t.0 (is_gone old.limits k now r version level low earlier h t.1)
-  treated (Some (Leaf leaf)) t = rw t.is (record {
-    page = living old.limits k now r version level low earlier h t.alive;
-    level = t.ends.leaf;
-    covered = covers_here old.key version.chain (reached old.limits k now r version level low earlier h old.key passing).reached t.ends.stays;
-  })
+  treated : (new : ReadRound) (result : Option ReadEnd) → Treats old version new result → After old now r new result
+  treated new None t = elim t [
+    | inl on ↦ subst (λ (x : ReadRound). Shows x now r) (sym on.goes) (goes_to old.limits old.key old.goal k now r version h on.next on.alive on.leads)
+    | inr (inl beyond) ↦ subst (λ (x : ReadRound). Shows x now r) (sym beyond.goes) (past_removed old.limits old.key beyond.removed k now r version (at_goal (Left beyond.removed) beyond.left.goal) beyond.left.alive beyond.beside beyond.next beyond.leads.is_right beyond.leads.low beyond.leads.is_high beyond.leads.on_way)
+    | inr (inr past) ↦ subst (λ (x : ReadRound). Shows x now r) (sym past.goes) (past_merged old.limits old.key past.removed k now r version (at_goal (Left past.removed) past.left.goal) past.left.alive past.next past.leads)
+  ]
+  treated new (Some Again) t = absurd t
+  treated new (Some (Removed removed)) t = rw t.0 (record { page = is_gone old.limits k now r version h.level h.low h.earlier h.arrives t.1; reached = at_or_below old.limits old.key old.goal k now r version h })
+  treated new (Some (Leaf leaf)) t = elim t [
+    | inl end ↦ rw end.is (record {
+      page = living old.limits k now r version h.level h.low h.earlier h.arrives end.alive;
+      level = end.ends.leaf;
+      covered = covers_here old.key version.chain (at_or_below old.limits old.key old.goal k now r version h) (stays old.goal end.seeks end.ends);
+    })
+    | inr merged ↦ rw merged.is (is_merged old.limits old.key merged.removed k now r version (at_goal (Left merged.removed) merged.left.goal) merged.left.alive merged.stays merged.left.ends.leaf)
+  ]
+    where
+      stays : (goal : Goal) → SeeksKey goal → EndsHere (way_of goal old.key) version.chain → StaysLeft (reaches old.key) version.chain
+      stays Seek seeks ends = ends.stays
+      stays (Left removed) seeks ends = absurd seeks
+      stays Beyond seeks ends = ends.stays
+  treated new (Some (Beside left removed)) t = rw t.is (is_beside old.limits old.key removed k now r version (at_goal (Left removed) t.at_left.goal) t.at_left.alive t.beside t.stays t.at_left.ends.leaf)
 
 -- the answer to the step wanted last is the one that the state was waiting for
 back : (old : ReadRound) (P : ReadRound → Answer Record → Type 0) (state : State) (told real : Answer Record) → old.state ≡ state → real ≡ told → P (at old state) told → P old real
@@ -54,7 +67,7 @@ abbrev Then : ReadRound → Option ReadEnd → ReadRound → Answer Record → T
 Then new result old told = (k : Knowledge) (r : Recalled) → Shows old k r → Fits old.limits k (wanted old) told → Follows k r old told new result
 
 abbrev Pays : ReadRound → Option ReadEnd → ReadRound → Answer Record → Type 0
-Pays new result old told = (reserve : ℕ) (k : Knowledge) (r : Recalled) → Shows old k r → Fits old.limits k (wanted old) told → Spends reserve r old told new result
+Pays new result old told = (reserve kept : ℕ) (k : Knowledge) (r : Recalled) → Shows old k r → Fits old.limits k (wanted old) told → Spends reserve kept r old told new result
 
 module _ (old new : ReadRound) (told : Answer Record) (visit : page.Visit) where
   abbrev here : ReadRound
@@ -63,22 +76,48 @@ module _ (old new : ReadRound) (told : Answer Record) (visit : page.Visit) where
   seen : (next : page.Visit) (sight : Sight) (result : Option ReadEnd) → page.Responds visit told next (Some sight) → Sees here sight new result → Then new result here told
   seen next Empty result b sees = rw sees (λ k r h f. tt)
   seen next (Whole version) result b sees = λ k r h f.
-      let arrived = arrived_next old.limits old.key k r visit h.level h.low h.earlier told h.seeks f version b in
-      by_result k r result (treated here new k (learn k (page.wanted visit) told) (recall r (page.wanted visit) told) version h.level h.low h.earlier arrived h.seeks.passing result sees)
+      by_result k r result (treated here k (learn k (page.wanted visit) told) (recall r (page.wanted visit) told) version (reached_next old.limits old.key old.goal k r visit told h f version b) new result sees)
     where
       by_result : (k : Knowledge) (r : Recalled) (o : Option ReadEnd) → After here (learn k (page.wanted visit) told) (recall r (page.wanted visit) told) new o → Follows k r here told new o
       by_result k r None a = a
       by_result k r (Some end) a = a
 
+  module _ (reserve kept : ℕ) (k : Knowledge) (r : Recalled) (h : IsVisiting old.limits old.key old.goal k r visit) (f : Fits old.limits k (page.wanted visit) told) where
+    -- a page wasn't there
+    missed : page.FindsEmpty visit told → (goal : Goal) → IsSeeking old.limits (way_of goal old.key) (is_beyond goal) k r visit h.level h.low h.earlier → Misses reserve kept r (record here { goal = goal }) told goal
+    missed b Seek seeks = spent_empty reserve old.limits (reaches old.key) false k r visit h.level h.low h.earlier told seeks f refl b
+    missed b (Left removed) seeks = spent_empty reserve old.limits (precedes (low_in removed.chain)) false k r visit h.level h.low h.earlier told seeks f refl b
+    missed b Beyond seeks = let some = left_empty reserve old.limits (reaches old.key) true k r visit h.level h.low h.earlier told seeks f b in omega (arith, some)
+
+    -- a page was read whole
+    module _ (version : Version) (b : page.Completes visit told version) where
+      abbrev way : List ℕ → Bool
+      way = way_of old.goal old.key
+
+      less : 14 * (4095 - length (recall r (page.wanted visit) told).walk.visited) < left_in reserve r visit
+      less = left_on reserve old.limits way (is_beyond old.goal) k r visit h.level h.low h.earlier told h.seeks f version b
+
+      more : (goal : Goal) → old.goal ≡ goal → (14 * (4095 - length (recall r (page.wanted visit) told).walk.visited)) + kept_for kept goal < left_in reserve r visit + kept_for kept old.goal
+      more goal e = let l = less in rw e (omega (arith, l))
+
+      by_result : (o : Option ReadEnd) → Treats here version new o → Spends reserve kept r here told new o
+      by_result None t = elim t [
+        | inl on ↦ rw on.goes (inl (more old.goal refl))
+        | inr (inl beyond) ↦ rw beyond.goes (inl (more (Left beyond.removed) beyond.left.goal))
+        | inr (inr past) ↦ rw past.goes (inl (more (Left past.removed) past.left.goal))
+      ]
+      by_result (Some Again) t = absurd t
+      by_result (Some (Removed removed)) t = let some = left_removed reserve old.limits way (is_beyond old.goal) k r visit h.level h.low h.earlier told h.seeks f version b t.1 in omega (arith, some)
+      by_result (Some (Leaf leaf)) t = let some = left_some reserve old.limits way (is_beyond old.goal) k r visit h.level h.low h.earlier told h.seeks f version b in omega (arith, some)
+      by_result (Some (Beside left removed)) t = let some = left_some reserve old.limits way (is_beyond old.goal) k r visit h.level h.low h.earlier told h.seeks f version b in rw t.at_left.goal (omega (arith, some))
+
   paid : (next : page.Visit) (sight : Sight) (result : Option ReadEnd) → page.Responds visit told next (Some sight) → Sees here sight new result → Pays new result here told
-  paid next Empty result b sees = rw sees (λ reserve k r h f. spent_empty reserve old.limits old.key k r visit h.level h.low h.earlier told h.seeks f b)
-  paid next (Whole version) result b sees = λ reserve k r h f. by_result reserve k r h f result sees
-    where
-      by_result : (reserve : ℕ) (k : Knowledge) (r : Recalled) → Shows here k r → Fits old.limits k (page.wanted visit) told → (o : Option ReadEnd) → Treats here version new o → Spends reserve r here told new o
-      by_result reserve k r h f None t = rw t.goes (inl (left_on reserve old.limits old.key k r visit h.level h.low h.earlier told h.seeks f version b))
-      by_result reserve k r h f (Some Again) t = absurd t
-      by_result reserve k r h f (Some (Removed removed)) t = left_removed reserve old.limits old.key k r visit h.level h.low h.earlier told h.seeks f version b t.1
-      by_result reserve k r h f (Some (Leaf leaf)) t = left_some reserve old.limits old.key k r visit h.level h.low h.earlier told h.seeks f version b
+  paid next Empty result b sees = rw sees (λ reserve kept k r h f. missed reserve kept k r h f b old.goal h.seeks)
+  paid next (Whole version) result b sees = λ reserve kept k r h f. by_result reserve kept k r h f version b result sees
+
+-- the same with more that is kept
+still : (reserve : ℕ) (r : Recalled) (asked : Step Record) (told : Answer Record) (had has kept : ℕ) → IsSpentWith (1 + reserve) r asked told had has → IsSpentWith (1 + reserve) r asked told (had + kept) (has + kept)
+still reserve r asked told had has kept h = elim h [ inl less ↦ inl (omega (arith, less)) | inr paid ↦ inr (paid.0, (let few = paid.1 in omega (arith, few))) ]
 
 -- the round that is on its way
 
@@ -95,17 +134,17 @@ seen_at old new told result from = subst (λ (s : State). Sees (at old s) from.s
 pub follows_from : (old new : ReadRound) (told : Answer Record) (result : Option ReadEnd) → Responds old told new result → (k : Knowledge) (r : Recalled) → Shows old k r → Fits old.limits k (wanted old) told → Follows k r old told new result
 follows_from old new told result responds = elim responds [
   | inl way ↦ elim way.on [
-    | inl b ↦ back old (Then new result) Root (answer.Number b.root) told b.asked b.is (rw (way.none, started old new told result way b) (λ k r h f. record { level = 0; low = []; earlier = []; seeks = seeks_root old.limits old.key k r b.root f h }))
-    | inr b ↦ back old (Then new result) (Page b.visit) told told b.asked refl (rw (way.none, visiting old new told result way b) (λ k r h f. record { level = h.level; low = h.low; earlier = h.earlier; seeks = seeks_next old.limits old.key k r b.visit h.level h.low h.earlier told h.seeks f b.next b.responds }))
+    | inl b ↦ back old (Then new result) Root (answer.Number b.root) told b.asked b.is (rw (way.none, started old new told result way b) (λ k r h f. begins old.limits old.key k r b.root f old.goal h))
+    | inr b ↦ back old (Then new result) (Page b.visit) told told b.asked refl (rw (way.none, visiting old new told result way b) (λ k r h f. visits_next old.limits old.key old.goal k r b.visit told h f b.next b.responds))
   ]
   | inr from ↦ back old (Then new result) (Page from.finds.visit) told told from.finds.asked refl (seen old new told from.finds.visit from.finds.next from.sight result from.finds.responds (seen_at old new told result from))
 ]
 
-pub spends_from : (old new : ReadRound) (told : Answer Record) (result : Option ReadEnd) → Responds old told new result → (reserve : ℕ) (k : Knowledge) (r : Recalled) → Shows old k r → Fits old.limits k (wanted old) told → Spends reserve r old told new result
+pub spends_from : (old new : ReadRound) (told : Answer Record) (result : Option ReadEnd) → Responds old told new result → (reserve kept : ℕ) (k : Knowledge) (r : Recalled) → Shows old k r → Fits old.limits k (wanted old) told → Spends reserve kept r old told new result
 spends_from old new told result responds = elim responds [
   | inl way ↦ elim way.on [
-    | inl b ↦ back old (Pays new result) Root (answer.Number b.root) told b.asked b.is (rw (way.none, started old new told result way b) (λ reserve k r h f. inl (omega arith)))
-    | inr b ↦ back old (Pays new result) (Page b.visit) told told b.asked refl (rw (way.none, visiting old new told result way b) (λ reserve k r h f. spent_on reserve old.limits old.key k r b.visit h.level h.low h.earlier told h.seeks f b.next b.responds))
+    | inl b ↦ back old (Pays new result) Root (answer.Number b.root) told b.asked b.is (rw (way.none, started old new told result way b) (λ reserve kept k r h f. inl (omega arith)))
+    | inr b ↦ back old (Pays new result) (Page b.visit) told told b.asked refl (rw (way.none, visiting old new told result way b) (λ reserve kept k r h f. still reserve r (page.wanted b.visit) told _ _ (kept_for kept old.goal) (spent_on reserve old.limits (way_of old.goal old.key) (is_beyond old.goal) k r b.visit h.level h.low h.earlier told h.seeks f b.next b.responds)))
   ]
   | inr from ↦ back old (Pays new result) (Page from.finds.visit) told told from.finds.asked refl (paid old new told from.finds.visit from.finds.next from.sight result from.finds.responds (seen_at old new told result from))
 ]
@@ -114,9 +153,14 @@ spends_from old new told result responds = elim responds [
 pub way_shows : (round : ReadRound) (k : Knowledge) (r : Recalled) → Shows round k r → WayShows (descent_of round) k
 way_shows round k r h = by_state round.state refl
   where
+    inside_at : (goal : Goal) → Begins round.limits round.key k goal → k.inside ≡ true
+    inside_at Seek inside = inside
+    inside_at (Left removed) begins = begins.0
+    inside_at Beyond inside = inside
+
     by_state : (state : State) → round.state ≡ state → WayShows (descent_of round) k
-    by_state Root e = rw e (rw e at h)
-    by_state (Page visit) e = let here : IsVisiting round.limits round.key k r visit = rw e at h in rw e here.seeks.on_way.shows
+    by_state Root e = rw e (inside_at round.goal (rw e at h))
+    by_state (Page visit) e = let here : IsVisiting round.limits round.key round.goal k r visit = rw e at h in rw e here.seeks.on_way.shows
     by_state Over e = absurd (rw e at h)
 
 -- the page that was found is one that the round has reached
@@ -124,17 +168,38 @@ pub can_see : (old : ReadRound) (other : State) (told : Answer Record) (sight : 
 can_see old other told Empty b t = tt
 can_see old other told (Whole version) b t =
     let visit = b.visit in
-    let h : IsVisiting old.limits old.key t.k t.r visit = subst (λ (s : State). Shows (at old s) t.k t.r) b.asked t.shows in
+    let h : IsVisiting old.limits old.key old.goal t.k t.r visit = subst (λ (s : State). Shows (at old s) t.k t.r) b.asked t.shows in
     let f : Fits old.limits t.k (page.wanted visit) told = subst (λ (s : State). Fits old.limits t.k (wanted (at old s)) told) b.asked t.fits in
-    reached old.limits t.k (learn t.k (page.wanted visit) told) (recall t.r (page.wanted visit) told) version h.level h.low h.earlier (arrived_next old.limits old.key t.k t.r visit h.level h.low h.earlier told h.seeks f version b.responds) old.key h.seeks.passing
+    let now = learn t.k (page.wanted visit) told in
+    let d = reached_next old.limits old.key old.goal t.k t.r visit told h f version b.responds in
+    record {
+      reached = reached old.limits t.k now (recall t.r (page.wanted visit) told) version d.level d.low d.earlier d.arrives (way_of old.goal old.key) d.passing;
+      passes = passes_at now old.goal d;
+    }
+  where
+    passes_at : (now : Knowledge) (goal : Goal) → HasReached old.limits old.key goal t.k now (recall t.r (page.wanted b.visit) told) version → CanPass old.limits version goal
+    passes_at now Seek d = tt
+    passes_at now (Left removed) d = λ alive beside next is. within old.limits old.key removed t.k now (recall t.r (page.wanted b.visit) told) version d alive beside next is
+    passes_at now Beyond d = tt
 
 -- what a round does with a page doesn't depend on the state that it had
 
+left_as : (old : ReadRound) (state other : State) (version removed : Version) → IsLeftLeaf (at old other) version removed → IsLeftLeaf (at old state) version removed
+left_as old state other version removed t = record { goal = t.goal; alive = t.alive; ends = t.ends }
+
 treats_as : (old new : ReadRound) (state other : State) (version : Version) (result : Option ReadEnd) → Treats (at old other) version new result → Treats (at old state) version new result
-treats_as old new state other version None t = record { alive = t.alive; next = t.next; leads = t.leads; goes = t.goes }
+treats_as old new state other version None t = elim t [
+  | inl on ↦ inl (record { alive = on.alive; next = on.next; leads = on.leads; goes = on.goes })
+  | inr (inl beyond) ↦ inr (inl (record { removed = beyond.removed; left = left_as old state other version beyond.removed beyond.left; beside = beyond.beside; next = beyond.next; leads = beyond.leads; goes = beyond.goes }))
+  | inr (inr past) ↦ inr (inr (record { removed = past.removed; left = left_as old state other version past.removed past.left; merged = past.merged; next = past.next; leads = past.leads; goes = past.goes }))
+]
 treats_as old new state other version (Some Again) t = t
 treats_as old new state other version (Some (Removed removed)) t = t
-treats_as old new state other version (Some (Leaf leaf)) t = record { is = t.is; alive = t.alive; ends = t.ends }
+treats_as old new state other version (Some (Leaf leaf)) t = elim t [
+  | inl end ↦ inl (record { is = end.is; seeks = end.seeks; alive = end.alive; ends = end.ends })
+  | inr merged ↦ inr (record { is = merged.is; removed = merged.removed; left = left_as old state other version merged.removed merged.left; merged = merged.merged; stays = merged.stays })
+]
+treats_as old new state other version (Some (Beside left removed)) t = record { is = t.is; at_left = left_as old state other version removed t.at_left; beside = t.beside; stays = t.stays }
 
 pub sees_as : (old new : ReadRound) (state other : State) (sight : Sight) (result : Option ReadEnd) → Sees (at old other) sight new result → Sees (at old state) sight new result
 sees_as old new state other Empty result s = s

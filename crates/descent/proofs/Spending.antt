@@ -1,6 +1,6 @@
 -- How many reads the steps of a visit leave a round.
 use Rattle.std.proofs.Common.{◌≡◌, ◌<◌, ◌≤◌, ◌+◌, ◌-◌, ◌*◌, ◌++◌, ◌||◌, inl, inr, ◌⊎◌, ℕ, zero, suc, List, [], ◌∷◌, length, Bool, true, false, None, refl, sym, ap, ◌∙◌, subst, arith, length-append}
-use Rattle.std.specs.Prelude.{IsTrue, if◌then◌else◌}
+use Rattle.std.specs.Prelude.{IsFalse, IsTrue, if◌then◌else◌}
 use Rattle.bw_model.specs.declared.limits.Limits.{Limits}
 use Rattle.bw_model.specs.declared.step.Step.TheVariants as step
 use Rattle.bw_model.specs.declared.step.Answer.{Answer}
@@ -20,9 +20,9 @@ use Rattle.descent.specs.Walks.{IsSeeking, few_reads, left_at, left_in}
 use Rattle.descent.proofs.Meeting.{few_pages, removed_push}
 use Rattle.descent.proofs.Visiting.{back, there}
 
-module _ (reserve : ℕ) (limits : Limits) (key : List ℕ) (k : Knowledge) (r : Recalled) (visit : Visit) (level : ℕ) (low : List ℕ) (earlier : List ℕ) where
+module _ (reserve : ℕ) (limits : Limits) (way : List ℕ → Bool) (beyond : Bool) (k : Knowledge) (r : Recalled) (visit : Visit) (level : ℕ) (low : List ℕ) (earlier : List ℕ) where
   abbrev Seeks : State → Type 0
-  Seeks state = IsSeeking limits key k r (at visit state) level low earlier
+  Seeks state = IsSeeking limits way beyond k r (at visit state) level low earlier
 
   recall_visited : (pid n : ℕ) → 0 < pid → (recall r (step.Slot pid) (answer.Number n)).walk.visited ≡ pid ∷ r.walk.visited
   recall_visited zero n some = absurd (omega (arith, some))
@@ -81,15 +81,15 @@ module _ (reserve : ℕ) (limits : Limits) (key : List ℕ) (k : Knowledge) (r :
   never_root zero some root fits = absurd (omega (arith, some))
   never_root (suc pid) some root fits = let more : 0 < 0 = fits.1 root in omega (arith, more)
 
-  empty : Seeks Slot → Fits limits k (step.Slot visit.pid) (answer.Number 0) → IsPaid r (step.Slot visit.pid) (answer.Number 0)
-  empty h fits = elim h.named [
+  empty : IsFalse beyond → Seeks Slot → Fits limits k (step.Slot visit.pid) (answer.Number 0) → IsPaid r (step.Slot visit.pid) (answer.Number 0)
+  empty here h fits = elim (h.named here) [
     | inl root ↦ absurd (never_root visit.pid h.on_way.shows.page root fits)
     | inr met ↦ paid_empty visit.pid h.on_way.shows.page h.on_way.rooted (rw h.on_way.visited h.on_way.distinct.2) met
   ]
 
   -- the same by what a visit makes of an answer
 
-  module _ (told : Answer Record) (h : IsSeeking limits key k r visit level low earlier) (f : Fits limits k (wanted visit) told) where
+  module _ (told : Answer Record) (h : IsSeeking limits way beyond k r visit level low earlier) (f : Fits limits k (wanted visit) told) where
     seeks_at : (state : State) → visit.state ≡ state → Seeks state
     seeks_at state e = subst (λ (s : State). Seeks s) e h
 
@@ -104,8 +104,15 @@ module _ (reserve : ℕ) (limits : Limits) (key : List ℕ) (k : Knowledge) (r :
           | inr b ↦ back visit P (Row b.head b.row) (answer.Content b.content) told b.asked b.is (rw b.goes (spent_row b.head b.row b.content b.under (there visit FitsAt (Row b.head b.row) (answer.Content b.content) told b.asked b.is f) (seeks_at (Row b.head b.row) b.asked)))
         ]
 
-    pub spent_empty : FindsEmpty visit told → IsPaid r (wanted visit) told
-    spent_empty b = back visit (λ v x. IsPaid r (wanted v) x) Slot (answer.Number 0) told b.asked b.is (empty (seeks_at Slot b.asked) (there visit FitsAt Slot (answer.Number 0) told b.asked b.is f))
+    pub spent_empty : IsFalse beyond → FindsEmpty visit told → IsPaid r (wanted visit) told
+    spent_empty here b = back visit (λ v x. IsPaid r (wanted v) x) Slot (answer.Number 0) told b.asked b.is (empty here (seeks_at Slot b.asked) (there visit FitsAt Slot (answer.Number 0) told b.asked b.is f))
+
+    -- there are pages that weren't visited
+    pub left_empty : FindsEmpty visit told → 0 < left_in reserve r visit
+    left_empty b =
+        let seeks = seeks_at Slot b.asked in
+        let few = few_pages limits (visit.pid ∷ earlier) seeks.on_way.distinct in
+        back visit (λ v x. 0 < left_in reserve r v) Slot (answer.Number 0) told b.asked b.is (rw seeks.on_way.visited (omega (arith, few)))
 
     -- a page was read whole
     module _ (version : Version) (b : Completes visit told version) where
@@ -157,8 +164,8 @@ module _ (reserve : ℕ) (limits : Limits) (key : List ℕ) (k : Knowledge) (r :
           omega (arith, more)
 
 -- a round takes few reads
-pub few_left : (reserve : ℕ) (limits : Limits) (key : List ℕ) (k : Knowledge) (r : Recalled) (visit : Visit) (level : ℕ) (low : List ℕ) (earlier : List ℕ) → IsSeeking limits key k r visit level low earlier → left_in reserve r visit ≤ few_reads + reserve
-few_left reserve limits key k r visit level low earlier h = by_state visit.state refl
+pub few_left : (reserve : ℕ) (limits : Limits) (way : List ℕ → Bool) (beyond : Bool) (k : Knowledge) (r : Recalled) (visit : Visit) (level : ℕ) (low : List ℕ) (earlier : List ℕ) → IsSeeking limits way beyond k r visit level low earlier → left_in reserve r visit ≤ few_reads + reserve
+few_left reserve limits way beyond k r visit level low earlier h = by_state visit.state refl
   where
     bound : (b : Bool) → (if b then reserve else 0) ≤ reserve
     bound true = omega arith

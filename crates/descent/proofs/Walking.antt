@@ -27,7 +27,7 @@ use Rattle.descent.specs.Versions.{NamesPages}
 use Rattle.descent.specs.Visits.{Arrives, MayVisit, Visit, at, to_page}
 use Rattle.descent.specs.Walks.{AreRecalled, HasArrived, IsAmong, IsExpected, IsNamedAt, IsOnWay, IsPast, IsPastAt}
 use Rattle.descent.specs.Ways.{NamesAt}
-use Rattle.descent.proofs.Holding.{named_row, named_slot, past_row, past_slot, read_more}
+use Rattle.descent.proofs.Holding.{named_row, named_slot, next_read, next_slot, past_row, past_slot, read_more}
 use Rattle.descent.proofs.Meeting.{kept_push, removed_push}
 use Rattle.descent.proofs.PageLaws.{spans}
 use Rattle.descent.proofs.Visiting.{arrives_at, begins_chain, goes_on}
@@ -104,7 +104,8 @@ module _ (limits : Limits) (k : Knowledge) (r : Recalled) (visit : Visit) (level
   expected_slot : (page n : ℕ) → 0 < page → IsExpected limits k page level low earlier → IsExpected limits (learn_slot page n k) page level low earlier
   expected_slot page n some h = elim h [
     | inl root ↦ inl (rw (slot_roots page n some) root.0, root.1, root.2)
-    | inr named ↦ inr (named_slot limits k page n level low named)
+    | inr (inl named) ↦ inr (inl (named_slot limits k page n level low named))
+    | inr (inr next) ↦ inr (inr (next_slot limits k page n level low next))
   ]
 
   pub on_slot : (row : ℕ) → 0 < row → row < visit.limits.rows → IsOnWay limits k r (at visit Slot) level low earlier
@@ -133,7 +134,8 @@ module _ (limits : Limits) (k : Knowledge) (r : Recalled) (visit : Visit) (level
     expected_row : (page : ℕ) → IsExpected limits k page level low earlier → IsExpected limits now page level low earlier
     expected_row page h = elim h [
       | inl root ↦ inl root
-      | inr named ↦ inr (named_row k row content fits.same limits page level low named)
+      | inr (inl named) ↦ inr (inl (named_row k row content fits.same limits page level low named))
+      | inr (inr next) ↦ inr (inr (next_read k row content fits.same limits page level low next))
     ]
 
     pub on_row : (head under : ℕ) → next_row content ≡ Some under → IsOnWay limits k r (at visit (Row head row)) level low earlier → IsOnWay limits now walked (record visit { part = visit.part ++ content ∷ []; state = Row head under }) level low earlier
@@ -155,10 +157,15 @@ module _ (limits : Limits) (k : Knowledge) (r : Recalled) (visit : Visit) (level
       where_it_is : IsReadWhole limits k version.pid version.chain → IsExpected limits k visit.pid level low earlier → (low_in version.chain ≡ low) × ((earlier ≡ []) ⊎ (level_in version.chain ≡ level))
       where_it_is whole e = elim e [
         | inl root ↦ (whole.root (rw pid root.0) ∙ sym root.1, inl root.2)
-        | inr named ↦
+        | inr (inl named) ↦
             let basis : HasRead k named.naming.pid named.naming.head = record { head = named.in_hand.seen.head; chain = named.naming.chain; read = named.in_hand.seen.read; alive = named.alive } in
             let so = told_of named.naming.chain version.pid version.chain level low (whole.named named.naming.pid named.naming.head basis) (rw pid named.names) in
             (so.1, inr so.0)
+        | inr (inr next) ↦
+            let basis : HasRead k next.left.pid next.left.head = record { head = next.in_hand.seen.head; chain = next.left.chain; read = next.in_hand.seen.read; alive = next.alive } in
+            let b = next.beyond in
+            let so = whole.beside next.left.pid next.left.head basis (record { removed = b.removed; row = b.row; chain = b.chain; right = b.right; order = b.order; read = b.read; gone = b.gone; next = b.next ∙ ap Some (sym pid) }) in
+            (same_Some _ _ (sym so.1 ∙ next.high), inr (so.0 ∙ next.is_level))
       ]
 
       pub on_base : next_row content ≡ None → IsOnWay limits k r (at visit (Row version.head row)) level low earlier → HasArrived limits k now walked version level low earlier
@@ -255,7 +262,7 @@ module _ (limits : Limits) (k now : Knowledge) (r : Recalled) (version : Version
     bare = refl;
     visited = h.visited;
     recalled = h.recalled;
-    expected = inr named;
+    expected = inr (inl named);
     distinct = (is_page.0, is_page.1, is_new, h.distinct);
     past = all_past limits k now r version was_level was_low earlier h level low on;
     rooted = h.rooted;

@@ -12,21 +12,21 @@ use Rattle.descent.specs.Versions.{NamesPages}
 use Rattle.descent.specs.Ways.{LeadsDown, LeadsOn, LeadsRight, NamesAt, StaysLeft, reaches}
 use Rattle.descent.proofs.PageLaws.{covered, ends}
 
-pub goes_down : (key : List ℕ) (chain : List Record) (child : ℕ) → IsFitted chain → IsGreatestChild (content_in chain) (reaches key) child → LeadsDown key chain child
-goes_down key chain child fit h = record { low = h.separator; held = h.held; covered = covered chain h.separator _ fit h.greatest.has; greatest = h.greatest }
+pub goes_down : (way : List ℕ → Bool) (chain : List Record) (child : ℕ) → IsFitted chain → IsGreatestChild (content_in chain) way child → LeadsDown way chain child
+goes_down way chain child fit h = record { low = h.separator; held = h.held; covered = covered chain h.separator _ fit h.greatest.has; greatest = h.greatest }
 
-pub goes_right : (key : List ℕ) (chain : List Record) (high : List ℕ) (right : Option ℕ) → IsFitted chain → high_in chain ≡ Some high → IsTrue (reaches key high) → right ≡ right_in chain
-    → MatchOption right (StaysLeft key chain) (LeadsRight key chain)
-goes_right key chain high None fit at on is = let none : Option ℕ = None in let some : is_some none ≡ true = ap is_some is ∙ ends chain fit ∙ ap is_some at in cc
-goes_right key chain high (Some right) fit at on is = record { low = high; is_right = sym is; is_high = at; on_way = on }
+pub goes_right : (way : List ℕ → Bool) (chain : List Record) (high : List ℕ) (right : Option ℕ) → IsFitted chain → high_in chain ≡ Some high → IsTrue (way high) → right ≡ right_in chain
+    → MatchOption right (StaysLeft way chain) (LeadsRight way chain)
+goes_right way chain high None fit at on is = let none : Option ℕ = None in let some : is_some none ≡ true = ap is_some is ∙ ends chain fit ∙ ap is_some at in cc
+goes_right way chain high (Some right) fit at on is = record { low = high; is_right = sym is; is_high = at; on_way = on }
 
 -- the page to which the way leads is named at a place
 
-pub right_names : (key : List ℕ) (chain : List Record) (page : ℕ) (h : LeadsRight key chain page) → NamesAt chain page (level_in chain) h.low
-right_names key chain page h = inl (h.is_right, refl, h.is_high)
+pub right_names : (way : List ℕ → Bool) (chain : List Record) (page : ℕ) (h : LeadsRight way chain page) → NamesAt chain page (level_in chain) h.low
+right_names way chain page h = inl (h.is_right, refl, h.is_high)
 
-pub down_names : (key : List ℕ) (chain : List Record) (page : ℕ) → 0 < level_in chain → (h : LeadsDown key chain page) → NamesAt chain page (level_in chain - 1) h.low
-down_names key chain page index h = inr (h.held, omega (arith, index), h.covered, h.greatest.has)
+pub down_names : (way : List ℕ → Bool) (chain : List Record) (page : ℕ) → 0 < level_in chain → (h : LeadsDown way chain page) → NamesAt chain page (level_in chain - 1) h.low
+down_names way chain page index h = inr (h.held, omega (arith, index), h.covered, h.greatest.has)
 
 -- where the way leads, there may be a page
 
@@ -36,16 +36,16 @@ named_within limits chain page level low names h = elim h [
   | inr child ↦ names.child level page low child.0 child.1 child.2 child.3
 ]
 
-pub right_within : (limits : Limits) (key : List ℕ) (chain : List Record) (page : ℕ) → NamesPages limits chain → LeadsRight key chain page → (0 < page) × (page < limits.pids)
-right_within limits key chain page names h = named_within limits chain page (level_in chain) h.low names (right_names key chain page h)
+pub right_within : (limits : Limits) (way : List ℕ → Bool) (chain : List Record) (page : ℕ) → NamesPages limits chain → LeadsRight way chain page → (0 < page) × (page < limits.pids)
+right_within limits way chain page names h = named_within limits chain page (level_in chain) h.low names (right_names way chain page h)
 
-pub down_within : (limits : Limits) (key : List ℕ) (chain : List Record) (page : ℕ) → NamesPages limits chain → 0 < level_in chain → LeadsDown key chain page → (0 < page) × (page < limits.pids)
-down_within limits key chain page names index h = named_within limits chain page (level_in chain - 1) h.low names (down_names key chain page index h)
+pub down_within : (limits : Limits) (way : List ℕ → Bool) (chain : List Record) (page : ℕ) → NamesPages limits chain → 0 < level_in chain → LeadsDown way chain page → (0 < page) × (page < limits.pids)
+down_within limits way chain page names index h = named_within limits chain page (level_in chain - 1) h.low names (down_names way chain page index h)
 
-pub on_within : (limits : Limits) (key : List ℕ) (chain : List Record) (page : ℕ) → NamesPages limits chain → LeadsOn key chain page → (0 < page) × (page < limits.pids)
-on_within limits key chain page names h = elim h [
-  | inl right ↦ right_within limits key chain page names right
-  | inr down ↦ down_within limits key chain page names down.1 down.2
+pub on_within : (limits : Limits) (way : List ℕ → Bool) (chain : List Record) (page : ℕ) → NamesPages limits chain → LeadsOn way chain page → (0 < page) × (page < limits.pids)
+on_within limits way chain page names h = elim h [
+  | inl right ↦ right_within limits way chain page names right
+  | inr down ↦ down_within limits way chain page names down.1 down.2
 ]
 
 -- nothing is below the empty key
@@ -62,5 +62,5 @@ in_range low (Some end) key e f = rw e (negated (is_below key end) (f end refl))
     negated true h = refl
     negated false h = cc
 
-pub covers_here : (key : List ℕ) (chain : List Record) → IsTrue (reaches key (low_in chain)) → StaysLeft key chain → IsTrue (covers chain key)
+pub covers_here : (key : List ℕ) (chain : List Record) → IsTrue (reaches key (low_in chain)) → StaysLeft (reaches key) chain → IsTrue (covers chain key)
 covers_here key chain reached stays = in_range (low_in chain) (high_in chain) key (not_true (is_below key (low_in chain)) reached) stays.off

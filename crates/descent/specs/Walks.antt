@@ -1,10 +1,11 @@
 -- What is known on the way from page to page.
-use Rattle.std.specs.Prelude.{◌≡◌, ◌≢◌, ◌<◌, ◌+◌, ◌-◌, ◌*◌, ◌⊎◌, ℕ, List, [], ◌∷◌, length, Some, true, false, IsTrue, IsFalse, if◌then◌else◌, ⊤}
+use Rattle.std.specs.Prelude.{◌≡◌, ◌≢◌, ◌<◌, ◌+◌, ◌-◌, ◌*◌, ◌⊎◌, ℕ, List, [], ◌∷◌, length, Bool, Some, true, false, IsTrue, IsFalse, if◌then◌else◌, ⊤}
 use Rattle.std.specs.List.{AllByRecursion}
 use Rattle.bw_model.specs.declared.limits.Limits.{Limits}
 use Rattle.bw_model.specs.Bytes.{is_below}
 use Rattle.deltas.specs.declared.record.Record.{Record}
-use Rattle.chain_search.specs.Chains.{IsChainFrom, is_removed, level_in, low_in}
+use Rattle.chain_search.specs.Chains.{IsChainFrom, high_in, is_removed, level_in, low_in}
+use Rattle.chain_search.specs.Discipline.{IsBeyond}
 use Rattle.chain_search.specs.Knowledge.{Knowledge}
 use Rattle.chain_search.specs.Recalled.{AnyNames, IsUnread, Recalled}
 use Rattle.smo.specs.declared.version.Version.{Version}
@@ -12,7 +13,7 @@ use Rattle.descent.specs.declared.visit.State.{State}
 use Rattle.descent.specs.declared.visit.State.TheVariants.{Slot, Row}
 use Rattle.descent.specs.Versions.{IsInHand, NamesPages}
 use Rattle.descent.specs.Visits.{Arrives, Shows, Visit}
-use Rattle.descent.specs.Ways.{NamesAt, reaches}
+use Rattle.descent.specs.Ways.{NamesAt}
 
 -- One place is past another: on a higher level, or on the same level to the left.
 abbrev pub IsPastAt : ℕ → List ℕ → ℕ → List ℕ → Type 0
@@ -34,14 +35,30 @@ pub record IsNamedAt (limits : Limits) (k : Knowledge) (page level : ℕ) (low :
   pub apart : naming.pid ≢ page
   pub names : NamesAt naming.chain page level low
 
--- What is known of a page that is to be read: it is the root, and the first page; or a page in hand names it.
+-- A page in hand, which isn't removed, had a removed page to its right, which was read before it, and has the page to its own right.
+pub record IsNextAt (limits : Limits) (k : Knowledge) (page level : ℕ) (low : List ℕ) : Type 0 where
+  pub left : Version
+  pub in_hand : IsInHand limits k left
+  pub alive : is_removed left.chain ≡ false
+  pub apart : left.pid ≢ page
+  pub beyond : IsBeyond k left.pid left.chain page
+  pub is_level : level_in beyond.chain ≡ level
+  pub high : high_in beyond.chain ≡ Some low
+
+-- What is known of a page that is to be read: it is the root, and the first page; or a page in hand names it, or the removed page
+-- that stood to the right of one does.
 abbrev pub IsExpected : Limits → Knowledge → ℕ → ℕ → List ℕ → List ℕ → Type 0
-IsExpected limits k page level low earlier = (IsTrue (k.read.roots page) × (low ≡ []) × (earlier ≡ [])) ⊎ IsNamedAt limits k page level low
+IsExpected limits k page level low earlier = (IsTrue (k.read.roots page) × (low ≡ []) × (earlier ≡ [])) ⊎ IsNamedAt limits k page level low ⊎ IsNextAt limits k page level low
 
 -- the pages whose slots were read since slot 0 was, by the state of the visit
 abbrev pub been : State → ℕ → List ℕ → List ℕ
 been Slot page earlier = earlier
 been (Row head row) page earlier = page ∷ earlier
+
+-- once the page's slot was read, the other page was read before it
+abbrev pub IsAhead : Knowledge → Version → ℕ → State → Type 0
+IsAhead k other page Slot = ⊤
+IsAhead k other page (Row head row) = k.read.before page other.pid ≡ Some other.head
 
 -- no record is read before the slot
 abbrev pub IsBare : State → List Record → Type 0
@@ -91,15 +108,15 @@ pub record HasArrived (limits : Limits) (k now : Knowledge) (r : Recalled) (vers
 abbrev pub IsNamedNow : Knowledge → Recalled → ℕ → Type 0
 IsNamedNow k r page = IsTrue (k.read.roots page) ⊎ AnyNames r.walk.records page
 
--- A page is visited on the way to the key.
-pub record IsSeeking (limits : Limits) (key : List ℕ) (k : Knowledge) (r : Recalled) (visit : Visit) (level : ℕ) (low : List ℕ) (earlier : List ℕ) : Type 0 where
+-- A page is visited on a way. Unless it was named before slot 0 was read, as the right of a removed page may have been, it is named now.
+pub record IsSeeking (limits : Limits) (way : List ℕ → Bool) (beyond : Bool) (k : Knowledge) (r : Recalled) (visit : Visit) (level : ℕ) (low : List ℕ) (earlier : List ℕ) : Type 0 where
   pub on_way : IsOnWay limits k r visit level low earlier
-  pub passing : IsTrue (reaches key low)
-  pub named : IsNamedNow k r visit.pid
+  pub passing : IsTrue (way low)
+  pub named : IsFalse beyond → IsNamedNow k r visit.pid
 
--- The page begins at or below the key, and the pages that it names are such as there may be.
-pub record IsReached (limits : Limits) (key : List ℕ) (version : Version) : Type 0 where
-  pub reached : IsTrue (reaches key (low_in version.chain))
+-- The page is on the way, and the pages that it names are such as there may be.
+pub record IsReached (limits : Limits) (way : List ℕ → Bool) (version : Version) : Type 0 where
+  pub reached : IsTrue (way (low_in version.chain))
   pub names : IsFalse (is_removed version.chain) → NamesPages limits version.chain
 
 -- the page is one of these

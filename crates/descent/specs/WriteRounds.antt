@@ -1,43 +1,50 @@
 -- A writer's round from the root to a change or a leaf: the step that it wants, what its actor knows meanwhile, how it ends.
-use Rattle.std.specs.Prelude.{◌≡◌, ◌<◌, ◌≤◌, ◌+◌, ◌⊎◌, ℕ, suc, List, [], length, Option, Some, None, true, false, IsTrue, IfSome, ⊤}
+use Rattle.std.specs.Prelude.{◌≡◌, ◌≢◌, ◌<◌, ◌≤◌, ◌+◌, ◌⊎◌, ℕ, suc, List, [], ◌∷◌, length, Bool, Option, Some, None, true, false, IsTrue, IfSome, ⊤}
 use Rattle.bw_model.specs.declared.limits.Limits.{Limits}
 use Rattle.bw_model.specs.declared.step.Step.{Step as StepOf}
 use Rattle.bw_model.specs.declared.step.Answer.{Answer}
 use Rattle.bw_model.specs.Bytes.{is_below}
+use Rattle.base_page.specs.declared.item.Content.TheVariants.{Child}
 use Rattle.base_page.specs.Pages.{Page as PageOf}
 use Rattle.deltas.specs.declared.record.Record.{Record}
+use Rattle.deltas.specs.declared.record.Merge.{Merge as MergeRecord}
 use Rattle.deltas.specs.declared.record.Term.{Term}
-use Rattle.chain_search.specs.Chains.{covers, is_removed, level_in, low_in}
+use Rattle.deltas.specs.declared.record.Unterm.{Unterm as UntermRecord}
+use Rattle.chain_search.specs.Chains.{content_in, covers, is_removed, level_in, low_in, right_in}
 use Rattle.chain_search.specs.Fitting.{Fits}
 use Rattle.chain_search.specs.Knowledge.{Knowledge, learn}
-use Rattle.chain_search.specs.Recalled.{IsPaid, IsSpentWith, Recalled, WasHead, recall}
+use Rattle.chain_search.specs.Recalled.{IsPaid, IsSpentWith, IsUnread, Recalled, WasHead, recall}
+use Rattle.smo.specs.Merges.{CanMerge, IsMergePlan}
 use Rattle.smo.specs.Readings.{IsAfter}
 use Rattle.smo.specs.Roots.{CanRoot, IsRootPlan}
 use Rattle.smo.specs.Sizes.{HasFewItems}
 use Rattle.smo.specs.Splits.{CanSplit, IsSplitPlan}
 use Rattle.smo.specs.Terms.{CanPost, IsTermPlan}
+use Rattle.smo.specs.Unterms.{CanUnterm, IsUntermPlan}
 use Rattle.smo.specs.declared.split.SplitPlan.{SplitPlan}
 use Rattle.smo.specs.declared.version.Version.{Version}
 use Rattle.descent.specs.Versions.{IsAlive, IsGone, IsInHand}
 use Rattle.descent.specs.Descents.{Descent, Finds, Responds as Moves, left_from, wanted_at}
 use Rattle.descent.specs.Visits as page
-use Rattle.descent.specs.Walks.{IsAmong, IsReached, IsSeeking}
-use Rattle.descent.specs.Ways.{LeadsDown, LeadsRight, StaysLeft}
+use Rattle.descent.specs.Walks.{IsAhead, IsAmong, IsReached, IsSeeking}
+use Rattle.descent.specs.Ways.{LeadsDown, LeadsRight, StaysLeft, passes}
 use Rattle.descent.specs.declared.visit.Sight as page_sight
 use Rattle.descent.specs.declared.visit.Sight.TheVariants as page_is
 use Rattle.descent.specs.declared.visit.State as at_page
-use Rattle.descent.specs.declared.visit.State.TheVariants as at_visit
 use Rattle.descent.specs.declared.descent.State.{State}
 use Rattle.descent.specs.declared.descent.State.TheVariants.{Root, Page, Over}
+use Rattle.descent.specs.declared.write_round.Goal.{Goal}
+use Rattle.descent.specs.declared.write_round.Goal.TheVariants.{Seek, Left, Merge, Unterm}
 use Rattle.descent.specs.declared.write_round.WriteEnd.{WriteEnd}
 use Rattle.descent.specs.declared.write_round.WriteEnd.TheVariants as end
 
--- The key whose leaf is sought; at how many deltas a leaf is consolidated; the parent of the pages that are read; the page to
--- whose right the round has gone, until that one was read; where the round stands.
+-- The key whose leaf is sought, or to whose left the round goes; at how many deltas a leaf is consolidated; where the round goes;
+-- the parent of the pages that are read; the page to whose right the round has gone, until that one was read; where it stands.
 pub record WriteRound : Type 0 where
   pub limits : Limits
   pub key : List ℕ
   pub due : ℕ
+  pub goal : Goal
   pub parent : Option Version
   pub left : Option Version
   pub state : State
@@ -57,20 +64,52 @@ at round state = record round { state = state }
 abbrev pub going_to : ℕ → WriteRound → WriteRound
 going_to pid round = at round (Page (page.to_page round.limits pid))
 
+-- the round, with another goal
+abbrev pub toward : Goal → WriteRound → WriteRound
+toward goal round = record round { goal = goal }
+
 -- the round where a page to the left of the next one is kept, or none
 abbrev pub beside : Option Version → WriteRound → WriteRound
 beside left round = record round { left = left }
+
+-- whether a goal is the leaf to the left of the key
+abbrev pub goes_left : Goal → Bool
+goes_left Seek = false
+goes_left (Left pid) = true
+goes_left (Merge left) = false
+goes_left (Unterm parent left) = false
+
+-- which low keys are on the way of a goal
+abbrev pub way_of : Goal → List ℕ → List ℕ → Bool
+way_of goal key = passes (goes_left goal) key
+
+-- whether a page is read that was named before the parent's children were: the one whose term the parent is to lose
+abbrev pub is_beyond : Goal → Bool
+is_beyond Seek = false
+is_beyond (Left pid) = false
+is_beyond (Merge left) = false
+is_beyond (Unterm parent left) = true
+
+-- the round is on its way to a leaf
+abbrev pub SeeksLeaf : Goal → Type 0
+SeeksLeaf Seek = ⊤
+SeeksLeaf (Left pid) = ⊤
+SeeksLeaf (Merge left) = ⊥
+SeeksLeaf (Unterm parent left) = ⊥
+
+-- The removed page begins at the key, was read before slot 0 was, and is none of these.
+pub record IsMissing (limits : Limits) (k : Knowledge) (key : List ℕ) (pid : ℕ) (visited : List ℕ) : Type 0 where
+  pub removed : Version
+  pub gone : IsGone limits k removed
+  pub is : removed.pid ≡ pid
+  pub low : low_in removed.chain ≡ key
+  pub unread : IsUnread pid visited
 
 -- A page is in hand that was read in this round, and isn't removed.
 pub record IsKept (limits : Limits) (k : Knowledge) (other : Version) (earlier : List ℕ) : Type 0 where
   pub in_hand : IsInHand limits k other
   pub alive : is_removed other.chain ≡ false
   pub among : IsAmong other.pid earlier
-
--- once the page's slot was read, the other page was read before it
-abbrev pub IsAhead : Knowledge → Version → ℕ → at_page.State → Type 0
-IsAhead k other pid at_visit.Slot = ⊤
-IsAhead k other pid (at_visit.Row head row) = k.read.before pid other.pid ≡ Some other.head
 
 -- The parent in hand is one level up, and the page's slot is read after it.
 pub record IsParent (limits : Limits) (k : Knowledge) (pid : ℕ) (state : at_page.State) (level : ℕ) (earlier : List ℕ) (parent : Version) : Type 0 where
@@ -83,6 +122,27 @@ pub record IsLeftOf (limits : Limits) (k : Knowledge) (low : List ℕ) (earlier 
   pub kept : IsKept limits k left earlier
   pub inner : IsTrue (is_below [] low)
 
+-- After the parent, which is one level up, the page was read by which the parent is to lose a term.
+pub record IsCut (limits : Limits) (k : Knowledge) (earlier : List ℕ) (parent left : Version) : Type 0 where
+  pub above : IsKept limits k parent earlier
+  pub aside : IsKept limits k left earlier
+  pub up : level_in parent.chain ≡ suc (level_in left.chain)
+  pub after : IsAfter k parent left
+
+-- by the goal of a round that has read slot 0
+abbrev pub Keeps : Limits → List ℕ → Knowledge → ℕ → List ℕ → Goal → Type 0
+Keeps limits key k pid earlier Seek = ⊤
+Keeps limits key k pid earlier (Left removed) = IsMissing limits k key removed (pid ∷ earlier)
+Keeps limits key k pid earlier (Merge left) = IsKept limits k left earlier
+Keeps limits key k pid earlier (Unterm parent left) = IsCut limits k earlier parent left
+
+-- by the goal of a round that hasn't
+abbrev pub Begins : Limits → List ℕ → Knowledge → Goal → Type 0
+Begins limits key k Seek = ⊤
+Begins limits key k (Left pid) = IsMissing limits k key pid []
+Begins limits key k (Merge left) = ⊥
+Begins limits key k (Unterm parent left) = ⊥
+
 -- Without a parent the page is the one that slot 0 had, or its left page is, or it begins above the empty key.
 abbrev pub IsBased : Recalled → Option Version → Option Version → ℕ → List ℕ → Type 0
 IsBased r (Some parent) left pid low = ⊤
@@ -90,19 +150,20 @@ IsBased r None None pid low = (r.heads 0 ≡ Some pid) ⊎ IsTrue (is_below [] l
 IsBased r None (Some left) pid low = (r.heads 0 ≡ Some left.pid) ⊎ IsTrue (is_below [] (low_in left.chain))
 
 -- A page is visited on the way to the key.
-pub record IsVisiting (limits : Limits) (key : List ℕ) (parent left : Option Version) (k : Knowledge) (r : Recalled) (visit : page.Visit) : Type 0 where
+pub record IsVisiting (limits : Limits) (key : List ℕ) (goal : Goal) (parent left : Option Version) (k : Knowledge) (r : Recalled) (visit : page.Visit) : Type 0 where
   pub level : ℕ
   pub low : List ℕ
   pub earlier : List ℕ
-  pub seeks : IsSeeking limits key k r visit level low earlier
+  pub seeks : IsSeeking limits (way_of goal key) (is_beyond goal) k r visit level low earlier
   pub above : IfSome parent (IsParent limits k visit.pid visit.state level earlier)
   pub aside : IfSome left (IsLeftOf limits k low earlier)
   pub based : IsBased r parent left visit.pid low
+  pub keeps : Keeps limits key k visit.pid earlier goal
 
 -- by the state of a round
 abbrev pub Stands : WriteRound → Knowledge → Recalled → State → Type 0
-Stands round k r Root = (k.inside ≡ true) × (round.parent ≡ None) × (round.left ≡ None)
-Stands round k r (Page visit) = IsVisiting round.limits round.key round.parent round.left k r visit
+Stands round k r Root = (k.inside ≡ true) × (round.parent ≡ None) × (round.left ≡ None) × Begins round.limits round.key k round.goal
+Stands round k r (Page visit) = IsVisiting round.limits round.key round.goal round.parent round.left k r visit
 Stands round k r Over = ⊥
 
 abbrev pub Shows : WriteRound → Knowledge → Recalled → Type 0
@@ -169,15 +230,33 @@ pub record IsLeafEnd (round : WriteRound) (k : Knowledge) (r : Recalled) (parent
   pub few : HasFewItems leaf.chain
   pub above : IfSome parent (IsUpper round.limits k r leaf)
 
+-- The page is to get what the removed page to its right has.
+pub record IsMergeEnd (round : WriteRound) (k : Knowledge) (r : Recalled) (left removed : Version) (merge : MergeRecord) : Type 0 where
+  pub page : IsAlive round.limits k r left
+  pub gone : IsGone round.limits k removed
+  pub plan : IsMergePlan left removed merge
+
+-- The parent is to lose the term of the removed page, as a page shows that was read after it.
+pub record IsUntermEnd (round : WriteRound) (k : Knowledge) (r : Recalled) (parent left removed : Version) (unterm : UntermRecord) : Type 0 where
+  pub page : IsAlive round.limits k r parent
+  pub aside : IsAlive round.limits k r left
+  pub gone : IsGone round.limits k removed
+  pub up : level_in parent.chain ≡ suc (level_in left.chain)
+  pub after : IsAfter k parent left
+  pub plan : IsUntermPlan parent left removed unterm
+
 -- what an end says
 abbrev pub Ends : WriteRound → Knowledge → Recalled → WriteEnd → Type 0
 Ends round k r end.Again = ⊤
+Ends round k r end.Done = ⊤
 Ends round k r (end.Removed removed) = IsGone round.limits k removed
 Ends round k r (end.Consolidate version) = IsLongEnd round k r version
 Ends round k r (end.Split version plan) = IsSplitEnd round k r version plan
 Ends round k r (end.Term parent term) = IsTermEnd round k r parent term
 Ends round k r (end.Root left root) = IsRootEnd round k r left root
 Ends round k r (end.Leaf parent leaf) = IsLeafEnd round k r parent leaf
+Ends round k r (end.Merge left removed merge) = IsMergeEnd round k r left removed merge
+Ends round k r (end.Unterm parent left removed unterm) = IsUntermEnd round k r parent left removed unterm
 
 -- what follows from an answer
 abbrev pub Follows : Knowledge → Recalled → WriteRound → Answer Record → WriteRound → Option WriteEnd → Type 0
@@ -195,9 +274,10 @@ IsFinished (Some parent) (Some left) version = ¬ CanPost parent version
 
 -- The page isn't removed, nothing is due at its left page, and it ends above the key.
 pub record IsHere (old : WriteRound) (version : Version) : Type 0 where
+  pub seeks : SeeksLeaf old.goal
   pub alive : is_removed version.chain ≡ false
   pub finished : IsFinished old.parent old.left version
-  pub stays : StaysLeft old.key version.chain
+  pub stays : StaysLeft (way_of old.goal old.key) version.chain
 
 -- The page is neither to be consolidated nor to be split.
 pub record IsFine (due : ℕ) (version : Version) : Type 0 where
@@ -206,10 +286,11 @@ pub record IsFine (due : ℕ) (version : Version) : Type 0 where
 
 -- The page isn't removed, nothing is due at its left page, and the round goes on to its right.
 pub record GoesAside (old : WriteRound) (version : Version) (new : WriteRound) : Type 0 where
+  pub seeks : SeeksLeaf old.goal
   pub alive : is_removed version.chain ≡ false
   pub finished : IsFinished old.parent old.left version
   pub right : ℕ
-  pub leads : LeadsRight old.key version.chain right
+  pub leads : LeadsRight (way_of old.goal old.key) version.chain right
   pub goes : new ≡ going_to right (beside (Some version) old)
 
 -- Nothing is due at the page, and the round goes down to a child of it.
@@ -218,7 +299,7 @@ pub record GoesBelow (old : WriteRound) (version : Version) (new : WriteRound) :
   pub fine : IsFine old.due version
   pub index : 0 < level_in version.chain
   pub child : ℕ
-  pub leads : LeadsDown old.key version.chain child
+  pub leads : LeadsDown (way_of old.goal old.key) version.chain child
   pub goes : new ≡ going_to child (record old { parent = Some version; left = None })
 
 -- The page has too many deltas.
@@ -236,6 +317,7 @@ pub record EndsWide (old : WriteRound) (version page : Version) (plan : SplitPla
 
 -- The page stands to the right of another one, and the parent lacks its term.
 pub record EndsUnposted (old : WriteRound) (version parent : Version) (term : Term) : Type 0 where
+  pub seeks : SeeksLeaf old.goal
   pub above : old.parent ≡ Some parent
   pub left : Version
   pub aside : old.left ≡ Some left
@@ -243,6 +325,7 @@ pub record EndsUnposted (old : WriteRound) (version parent : Version) (term : Te
 
 -- The page stands to the right of the root.
 pub record EndsUnrooted (old : WriteRound) (version left : Version) (root : PageOf) : Type 0 where
+  pub seeks : SeeksLeaf old.goal
   pub above : old.parent ≡ None
   pub aside : old.left ≡ Some left
   pub plan : IsRootPlan left version root
@@ -250,26 +333,116 @@ pub record EndsUnrooted (old : WriteRound) (version left : Version) (root : Page
 -- The page is the leaf that was sought, and nothing is due there.
 pub record EndsFine (old : WriteRound) (version : Version) (parent : Option Version) (leaf : Version) : Type 0 where
   pub is : leaf ≡ version
+  pub seeks : old.goal ≡ Seek
   pub above : parent ≡ old.parent
   pub here : IsHere old version
   pub fine : IsFine old.due version
   pub level : level_in version.chain ≡ 0
 
+-- The page is removed, on the way to a leaf.
+pub record EndsRemoved (old : WriteRound) (version removed : Version) : Type 0 where
+  pub is : removed ≡ version
+  pub seeks : SeeksLeaf old.goal
+  pub gone : is_removed version.chain ≡ true
+
+-- The page is the leaf where the way to the left of a removed page ends, and nothing is due there.
+pub record IsLeftLeaf (old : WriteRound) (version : Version) (pid : ℕ) : Type 0 where
+  pub goal : old.goal ≡ Left pid
+  pub here : IsHere old version
+  pub fine : IsFine old.due version
+  pub level : level_in version.chain ≡ 0
+
+-- the round, gone to read the removed page again
+abbrev pub going_back : Goal → ℕ → WriteRound → WriteRound
+going_back goal pid round = going_to pid (record round { goal = goal; parent = None; left = None })
+
+-- The removed page is the leaf's right.
+pub record GoesToMerge (old : WriteRound) (version : Version) (new : WriteRound) : Type 0 where
+  pub pid : ℕ
+  pub left : IsLeftLeaf old version pid
+  pub beside : right_in version.chain ≡ Some pid
+  pub goes : new ≡ going_back (Merge version) pid old
+
+-- The removed page isn't the leaf's right, and the parent has its term.
+pub record GoesToUnterm (old : WriteRound) (version : Version) (new : WriteRound) : Type 0 where
+  pub pid : ℕ
+  pub left : IsLeftLeaf old version pid
+  pub apart : right_in version.chain ≢ Some pid
+  pub parent : Version
+  pub above : old.parent ≡ Some parent
+  pub term : content_in parent.chain old.key ≡ Some (Child pid true)
+  pub goes : new ≡ going_back (Unterm parent version) pid old
+
+-- The removed page isn't the leaf's right, and no parent has its term held.
+pub record EndsClean (old : WriteRound) (version : Version) : Type 0 where
+  pub pid : ℕ
+  pub left : IsLeftLeaf old version pid
+  pub apart : right_in version.chain ≢ Some pid
+  pub lacks : IfSome old.parent (λ parent. content_in parent.chain old.key ≢ Some (Child pid true))
+
+-- The page may not come into the left page.
+pub record EndsUnmerged (old : WriteRound) (version : Version) : Type 0 where
+  pub left : Version
+  pub goal : old.goal ≡ Merge left
+  pub none : ¬ CanMerge left version
+
+-- The parent may not lose the page's term.
+pub record EndsUncut (old : WriteRound) (version : Version) : Type 0 where
+  pub parent : Version
+  pub left : Version
+  pub goal : old.goal ≡ Unterm parent left
+  pub none : ¬ CanUnterm parent left version
+
+-- The page may come into the left page.
+pub record EndsMerged (old : WriteRound) (version left removed : Version) (merge : MergeRecord) : Type 0 where
+  pub is : removed ≡ version
+  pub goal : old.goal ≡ Merge left
+  pub plan : IsMergePlan left version merge
+
+-- The parent may lose the page's term.
+pub record EndsCut (old : WriteRound) (version parent left removed : Version) (unterm : UntermRecord) : Type 0 where
+  pub is : removed ≡ version
+  pub goal : old.goal ≡ Unterm parent left
+  pub plan : IsUntermPlan parent left version unterm
+
 -- what a round does with a page that was read whole
 abbrev pub Treats : WriteRound → Version → WriteRound → Option WriteEnd → Type 0
-Treats old version new None = GoesAside old version new ⊎ GoesBelow old version new
+Treats old version new None = GoesAside old version new ⊎ GoesBelow old version new ⊎ GoesToMerge old version new ⊎ GoesToUnterm old version new
 Treats old version new (Some end.Again) = ⊥
-Treats old version new (Some (end.Removed removed)) = (removed ≡ version) × (is_removed version.chain ≡ true)
+Treats old version new (Some end.Done) = EndsClean old version ⊎ EndsUnmerged old version ⊎ EndsUncut old version
+Treats old version new (Some (end.Removed removed)) = EndsRemoved old version removed
 Treats old version new (Some (end.Consolidate page)) = EndsLong old version page
 Treats old version new (Some (end.Split page plan)) = EndsWide old version page plan
 Treats old version new (Some (end.Term parent term)) = EndsUnposted old version parent term
 Treats old version new (Some (end.Root left root)) = EndsUnrooted old version left root
 Treats old version new (Some (end.Leaf parent leaf)) = EndsFine old version parent leaf
+Treats old version new (Some (end.Merge left removed merge)) = EndsMerged old version left removed merge
+Treats old version new (Some (end.Unterm parent left removed unterm)) = EndsCut old version parent left removed unterm
+
+-- what is made of the removed page to the right of a leaf that was read again
+abbrev pub Merges : Version → Version → WriteEnd → Type 0
+Merges left version end.Done = ¬ CanMerge left version
+Merges left version (end.Merge at removed merge) = (at ≡ left) × (removed ≡ version) × IsMergePlan left version merge
+Merges left version other = ⊥
+
+-- what is made of the page that was merged
+abbrev pub Cuts : Version → Version → Version → WriteEnd → Type 0
+Cuts parent left version end.Done = ¬ CanUnterm parent left version
+Cuts parent left version (end.Unterm above at removed unterm) = (above ≡ parent) × (at ≡ left) × (removed ≡ version) × IsUntermPlan parent left version unterm
+Cuts parent left version other = ⊥
+
+-- by the goal: the removed page is one that there may be; the parent isn't removed
+abbrev pub CanMeet : Limits → Goal → Type 0
+CanMeet limits Seek = ⊤
+CanMeet limits (Left pid) = (0 < pid) × (pid < limits.pids)
+CanMeet limits (Merge left) = ⊤
+CanMeet limits (Unterm parent left) = is_removed parent.chain ≡ false
 
 -- The round has reached the page, and the parent isn't removed.
 pub record CanTreat (round : WriteRound) (version : Version) : Type 0 where
-  pub reached : IsReached round.limits round.key version
+  pub reached : IsReached round.limits (way_of round.goal round.key) version
   pub above : IfSome round.parent (λ parent. is_removed parent.chain ≡ false)
+  pub meets : CanMeet round.limits round.goal
 
 -- a page was found that the round has reached, or none
 abbrev pub CanSee : WriteRound → page_sight.Sight → Type 0
@@ -297,19 +470,43 @@ pub record GoesFrom (old : WriteRound) (told : Answer Record) (new : WriteRound)
 abbrev pub Responds : WriteRound → Answer Record → WriteRound → Option WriteEnd → Type 0
 Responds old told new result = GoesOnWay old told new result ⊎ GoesFrom old told new result
 
-abbrev pub reads_left : ℕ → Recalled → WriteRound → ℕ
-reads_left reserve r round = left_from reserve r round.state
+-- how many reads are kept for a round after this one: those of one that was begun for a removed page
+abbrev pub kept_for : ℕ → Goal → ℕ
+kept_for kept Seek = 0
+kept_for kept (Left pid) = kept
+kept_for kept (Merge left) = kept
+kept_for kept (Unterm parent left) = kept
 
--- A round that goes on has fewer reads left, or a cause paid for the reserve. Where a page wasn't there, a cause pays. Where the
--- round ends at a removed page, the reserve is left.
-abbrev pub Spends : ℕ → Recalled → WriteRound → Answer Record → WriteRound → Option WriteEnd → Type 0
-Spends reserve r old told new None = IsSpentWith (1 + reserve) r (wanted old) told (reads_left reserve r old) (reads_left reserve (recall r (wanted old) told) new)
-Spends reserve r old told new (Some end.Again) = IsPaid r (wanted old) told
-Spends reserve r old told new (Some (end.Removed removed)) = reserve < reads_left reserve r old
-Spends reserve r old told new (Some other) = 0 < reads_left reserve r old
+abbrev pub reads_left : ℕ → ℕ → Recalled → WriteRound → ℕ
+reads_left reserve kept r round = left_from reserve r round.state + kept_for kept round.goal
+
+-- Where a page wasn't there, a cause pays, but where a removed page is read for its term, the reads that were kept are left.
+abbrev pub Misses : ℕ → ℕ → Recalled → WriteRound → Answer Record → Goal → Type 0
+Misses reserve kept r old told Seek = IsPaid r (wanted old) told
+Misses reserve kept r old told (Left pid) = IsPaid r (wanted old) told
+Misses reserve kept r old told (Merge left) = IsPaid r (wanted old) told
+Misses reserve kept r old told (Unterm parent left) = kept < reads_left reserve kept r old
+
+-- A round that goes on has fewer reads left, or a cause paid for the reserve. Where the round ends at a removed page, the reserve
+-- is left; where it was begun for a removed page, so are those that were kept.
+abbrev pub Spends : ℕ → ℕ → Recalled → WriteRound → Answer Record → WriteRound → Option WriteEnd → Type 0
+Spends reserve kept r old told new None = IsSpentWith (1 + reserve) r (wanted old) told (reads_left reserve kept r old) (reads_left reserve kept (recall r (wanted old) told) new)
+Spends reserve kept r old told new (Some end.Again) = Misses reserve kept r old told old.goal
+Spends reserve kept r old told new (Some (end.Removed removed)) = reserve + kept_for kept old.goal < reads_left reserve kept r old
+Spends reserve kept r old told new (Some end.Done) = kept < reads_left reserve kept r old
+Spends reserve kept r old told new (Some (end.Merge left removed merge)) = kept < reads_left reserve kept r old
+Spends reserve kept r old told new (Some (end.Unterm parent left removed unterm)) = kept < reads_left reserve kept r old
+Spends reserve kept r old told new (Some other) = kept_for kept old.goal < reads_left reserve kept r old
 
 -- The limits, the key and the number of deltas that are due stay.
+pub record IsSameWay (old new : WriteRound) : Type 0 where
+  pub limits : new.limits ≡ old.limits
+  pub key : new.key ≡ old.key
+  pub due : new.due ≡ old.due
+
+-- So does the goal where it is the leaf of the key.
 pub record IsSame (old new : WriteRound) : Type 0 where
   pub limits : new.limits ≡ old.limits
   pub key : new.key ≡ old.key
   pub due : new.due ≡ old.due
+  pub seeks : old.goal ≡ Seek → new.goal ≡ Seek

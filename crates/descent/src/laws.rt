@@ -1,17 +1,60 @@
 //! Laws of rounds: each function does nothing, and its contract is proved of all of them.
-ghost use Rattle.std.specs.Prelude.{◌≤◌, ◌+◌, ℕ};
+ghost use Rattle.std.specs.Prelude.{◌≤◌, ◌+◌, ℕ, List, Some};
+ghost use Rattle.bw_model.specs.declared.limits.Limits.{Limits};
+ghost use Rattle.chain_search.specs.Discipline.{MayHold, MayMerge, MayRemove, MayUnterm, WasStanding};
 ghost use Rattle.chain_search.specs.Knowledge.{Knowledge};
 ghost use Rattle.chain_search.specs.Recalled.{Recalled};
 ghost use Rattle.descent.specs.ReadRounds as reader;
 ghost use Rattle.descent.specs.WriteRounds as writer;
 ghost use Rattle.descent.specs.Walks.{few_reads};
+ghost use Rattle.deltas.specs.declared.record.Hold.{Hold};
+ghost use Rattle.deltas.specs.declared.record.Merge.{Merge};
+ghost use Rattle.deltas.specs.declared.record.Record.TheVariants as kind;
+ghost use Rattle.deltas.specs.declared.record.Remove.{Remove};
+ghost use Rattle.deltas.specs.declared.record.Unterm.{Unterm};
+ghost use Rattle.smo.specs.Holds.{IsHoldPlan};
+ghost use Rattle.smo.specs.Removals.{IsRemovePlan};
+ghost use Rattle.smo.specs.declared.version.Version.{Version};
 
-/// A round takes few reads, and those that are reserved.
+use smo::plans_are_due;
+
+/// A round takes few reads, and those that are reserved, or kept for a round after it.
 pub fn rounds_are_short()
-    ensures read { (reserve : ℕ) (k : Knowledge) (r : Recalled) (round : reader.ReadRound)
+    ensures read { (reserve kept : ℕ) (k : Knowledge) (r : Recalled) (round : reader.ReadRound)
         → reader.Shows round k r
-        → reader.reads_left reserve r round ≤ few_reads + reserve }
-    ensures write { (reserve : ℕ) (k : Knowledge) (r : Recalled) (round : writer.WriteRound)
+        → reader.reads_left reserve kept r round ≤ few_reads + reserve + reader.kept_for kept round.goal }
+    ensures write { (reserve kept : ℕ) (k : Knowledge) (r : Recalled) (round : writer.WriteRound)
         → writer.Shows round k r
-        → writer.reads_left reserve r round ≤ few_reads + reserve }
+        → writer.reads_left reserve kept r round ≤ few_reads + reserve + writer.kept_for kept round.goal }
 {}
+
+/// The leaf at which a reader's round ends was read while it stood, also the one that is removed.
+pub fn leaves_stand()
+    ensures leaf { (limits : Limits) (k : Knowledge) (r : Recalled) (key : List ℕ) (leaf : Version)
+        → reader.IsLeafOf limits k r key leaf
+        → WasStanding k leaf.head leaf.chain }
+    ensures beside { (limits : Limits) (k : Knowledge) (r : Recalled) (key : List ℕ) (left removed : Version)
+        → reader.IsBesideLeaf limits k r key left removed
+        → WasStanding k removed.head removed.chain }
+{}
+
+/// The changes of a removal may be linked: the plans that a round ends with, and those that are given for the parent and the leaf
+/// of its end.
+pub fn removals_are_due()
+    ensures hold { (round : writer.WriteRound) (k : Knowledge) (r : Recalled) (parent leaf : Version) (hold : Hold)
+        → writer.IsLeafEnd round k r (Some parent) leaf
+        → IsHoldPlan parent leaf hold
+        → MayHold parent.head parent.chain (kind.Hold hold) }
+    ensures remove { (round : writer.WriteRound) (k : Knowledge) (r : Recalled) (parent leaf : Version) (remove : Remove)
+        → writer.IsLeafEnd round k r (Some parent) leaf
+        → IsRemovePlan parent leaf remove
+        → MayRemove k leaf.pid leaf.head leaf.chain (kind.Remove remove) }
+    ensures merge { (round : writer.WriteRound) (k : Knowledge) (r : Recalled) (left removed : Version) (merge : Merge)
+        → writer.IsMergeEnd round k r left removed merge
+        → MayMerge k left.head left.chain (kind.Merge merge) }
+    ensures unterm { (round : writer.WriteRound) (k : Knowledge) (r : Recalled) (parent left removed : Version) (unterm : Unterm)
+        → writer.IsUntermEnd round k r parent left removed unterm
+        → MayUnterm k parent.pid parent.head parent.chain (kind.Unterm unterm) }
+{
+    plans_are_due();
+}

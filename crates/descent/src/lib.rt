@@ -8,7 +8,7 @@ mod visit;
 mod way;
 mod write_round;
 
-pub use laws::rounds_are_short;
+pub use laws::{leaves_stand, removals_are_due, rounds_are_short};
 pub use read_round::{ReadEnd, ReadRound};
 pub use visit::{Sight, Visit};
 pub use write_round::{WriteEnd, WriteRound};

@@ -1,14 +1,15 @@
 //! A writer's round from the root to a change that is due, or to the leaf of a key.
-ghost use Rattle.std.specs.Prelude.{◌≡◌, ◌<◌, ℕ, Option, None, Some, false};
+ghost use Rattle.std.specs.Prelude.{◌≡◌, ◌<◌, ℕ, Option, None, Some, true, false};
 ghost use Rattle.std.specs.Bool.{Decides};
-ghost use Rattle.chain_search.specs.Chains.{is_removed};
+ghost use Rattle.base_page.specs.declared.item.Content.TheVariants.{Child};
+ghost use Rattle.chain_search.specs.Chains.{content_in, is_removed, level_in};
 ghost use Rattle.chain_search.specs.Discipline.{May};
 ghost use Rattle.chain_search.specs.Fitting.{Fits};
 ghost use Rattle.chain_search.specs.Knowledge.{Knowledge};
 ghost use Rattle.chain_search.specs.Recalled.{Recalled};
 ghost use Rattle.descent.specs.Visits.{ReadsWithin};
 ghost use Rattle.descent.specs.declared.descent.State.TheVariants.{Root};
-ghost use Rattle.descent.specs.WriteRounds.{CanSee, CanTreat, Follows, HasCome, IsFinished, IsLong, IsSame, IsTold, Responds, Sees, Shows, Spends, Treats, beside, wanted};
+ghost use Rattle.descent.specs.WriteRounds.{CanSee, CanTreat, Follows, HasCome, IsFine, IsFinished, IsHere, IsLeftLeaf, IsLong, IsSame, IsSameWay, IsTold, Responds, Sees, Shows, Spends, Treats, Cuts, Merges, SeeksLeaf, beside, goes_left, going_back, toward, wanted, way_of};
 ghost use Rattle.descent.specs.Ways.{StaysLeft};
 
 #[cfg(test)]
@@ -17,11 +18,13 @@ mod tests;
 use crate::Sight;
 use crate::descent::Descent;
 use crate::way::{child_on_way, right_on_way};
-use base_page::Page;
+use base_page::{Content, Page};
 use bw_model::{Answer, Key, Limits, Step};
 use chain_search::Chain;
-use deltas::{Record, Term};
-use smo::{MANY_DELTAS, SplitPlan, Version, plan_root, plan_split, plan_term};
+use deltas::{Merge, Record, Term, Unterm};
+use smo::{
+    MANY_DELTAS, SplitPlan, Version, plan_merge, plan_root, plan_split, plan_term, plan_unterm,
+};
 use std::marker::Model;
 use std::mem;
 
@@ -54,6 +57,34 @@ pub enum WriteEnd {
         parent: Option<Version>,
         leaf: Version,
     },
+    /// The page is to get what the removed page to its right has.
+    Merge {
+        left: Version,
+        removed: Version,
+        merge: Merge,
+    },
+    /// The parent is to lose the term of the removed page, which has been merged, as the left page shows.
+    Unterm {
+        parent: Version,
+        left: Version,
+        removed: Version,
+        unterm: Unterm,
+    },
+    /// Nothing is due to the left of the removed page.
+    Done,
+}
+
+/// Where a writer's round goes.
+#[derive(Debug, Drop)]
+pub(crate) enum Goal {
+    /// To the leaf of the key.
+    Seek,
+    /// To the leaf to the left of this removed page, which begins at the key.
+    Left(u16),
+    /// To the removed page, which is to come into this leaf.
+    Merge(Version),
+    /// To the removed page, whose term the parent is to lose, as the leaf shows that would have it to its right.
+    Unterm { parent: Version, left: Version },
 }
 
 /// One round of a writer from the root.
@@ -61,6 +92,7 @@ pub enum WriteEnd {
 pub struct WriteRound {
     key: Key,
     due: usize,
+    goal: Goal,
     parent: Option<Version>,
     left: Option<Version>,
     descent: Descent,
@@ -71,18 +103,33 @@ impl Model for WriteRound {
 
     ghost Value = { WriteRound };
 
-    ghost view = { λ r. record { limits = r.descent.limits; key = r.key; due = r.due; parent = r.parent; left = r.left; state = r.descent.state } };
+    ghost view = { λ r. record { limits = r.descent.limits; key = r.key; due = r.due; goal = r.goal; parent = r.parent; left = r.left; state = r.descent.state } };
 }
 
 impl WriteRound {
     /// The round to the leaf of a key, before its first step. A leaf with as many deltas as are due is consolidated.
     pub fn new(limits: &Limits, key: Key, due: usize) -> WriteRound
         requires due { 0 < due }
-        ensures { result ≡ record { limits = limits.now; key = key; due = due; parent = None; left = None; state = Root } }
+        ensures { result ≡ record { limits = limits.now; key = key; due = due; goal = Goal.Seek; parent = None; left = None; state = Root } }
     {
         WriteRound {
             key,
             due,
+            goal: Goal::Seek,
+            parent: None,
+            left: None,
+            descent: Descent::new(limits),
+        }
+    }
+
+    /// The round to the left of a removed page, which begins at the key, before its first step.
+    pub fn left(limits: &Limits, key: Key, removed: u16) -> WriteRound
+        ensures { result ≡ record { limits = limits.now; key = key; due = 8; goal = Goal.Left removed; parent = None; left = None; state = Root } }
+    {
+        WriteRound {
+            key,
+            due: MANY_DELTAS,
+            goal: Goal::Left(removed),
             parent: None,
             left: None,
             descent: Descent::new(limits),
@@ -104,7 +151,7 @@ impl WriteRound {
         requires told { IsTold self.old answer }
         ensures responds { Responds self.old answer self.new result }
         ensures follows { (k : Knowledge) (r : Recalled) → Shows self.old k r → Fits self.old.limits k (wanted self.old) answer → Follows k r self.old answer self.new result }
-        ensures spends { (reserve : ℕ) (k : Knowledge) (r : Recalled) → Shows self.old k r → Fits self.old.limits k (wanted self.old) answer → Spends reserve r self.old answer self.new result }
+        ensures spends { (reserve kept : ℕ) (k : Knowledge) (r : Recalled) → Shows self.old k r → Fits self.old.limits k (wanted self.old) answer → Spends reserve kept r self.old answer self.new result }
         ensures same { IsSame self.old self.new }
     {
         match self.descent.next(answer) {
@@ -125,9 +172,27 @@ impl WriteRound {
         }
     }
 
-    /// Goes on from a page that was read, or ends there.
+    /// Goes on from a page that was read, or ends there, by what it was read for.
     fn treat(&mut self, version: Version) -> Option<WriteEnd>
         requires can { CanTreat self.old version }
+        ensures treats { Treats self.old version self.new result }
+        ensures same { IsSame self.old self.new }
+    {
+        match mem::replace(&mut self.goal, Goal::Seek) {
+            Goal::Seek => self.meet(version),
+            Goal::Left(pid) => {
+                self.goal = Goal::Left(pid);
+                self.meet(version)
+            }
+            Goal::Merge(left) => Some(merge(left, version)),
+            Goal::Unterm { parent, left } => Some(unterm(parent, left, version)),
+        }
+    }
+
+    /// Ends at a removed page; else goes on from the page, or ends there.
+    fn meet(&mut self, version: Version) -> Option<WriteEnd>
+        requires can { CanTreat self.old version }
+        requires seeks { SeeksLeaf self.old.goal }
         ensures treats { Treats self.old version self.new result }
         ensures same { IsSame self.old self.new }
     {
@@ -143,6 +208,7 @@ impl WriteRound {
     /// Ends where a change is due that finishes the split of the left page; else treats the page as any other.
     fn finish(&mut self, left: Version, version: Version) -> Option<WriteEnd>
         requires can { CanTreat self.old version }
+        requires seeks { SeeksLeaf self.old.goal }
         requires alive { is_removed version.chain ≡ false }
         ensures treats { Treats (beside (Some left) self.old) version self.new result }
         ensures same { IsSame self.old self.new }
@@ -165,11 +231,12 @@ impl WriteRound {
     /// Goes on to the right of a page that ends on the way; else settles what is due at the page.
     fn decide(&mut self, version: Version) -> Option<WriteEnd>
         requires can { CanTreat self.old version }
+        requires seeks { SeeksLeaf self.old.goal }
         requires alive { is_removed version.chain ≡ false }
         ensures treats { (left : Option Version) → IsFinished self.old.parent left version → Treats (beside left self.old) version self.new result }
         ensures same { IsSame self.old self.new }
     {
-        match right_on_way(&version.chain, &self.key) {
+        match right_on_way(&version.chain, &self.key, self.is_left()) {
             None => self.settle(version),
             Some(right) => {
                 self.left = Some(version);
@@ -182,8 +249,9 @@ impl WriteRound {
     /// Ends where the page is to be consolidated or split, or is the leaf; else goes down.
     fn settle(&mut self, version: Version) -> Option<WriteEnd>
         requires can { CanTreat self.old version }
+        requires seeks { SeeksLeaf self.old.goal }
         requires alive { is_removed version.chain ≡ false }
-        requires stays { StaysLeft self.old.key version.chain }
+        requires stays { StaysLeft (way_of self.old.goal self.old.key) version.chain }
         ensures treats { (left : Option Version) → IsFinished self.old.parent left version → Treats (beside left self.old) version self.new result }
         ensures same { IsSame self.old self.new }
     {
@@ -195,15 +263,78 @@ impl WriteRound {
             return Some(WriteEnd::Split { page, plan });
         }
         if version.chain.level() == 0 {
-            let parent = mem::take(&mut self.parent);
-            let leaf = version;
-            return Some(WriteEnd::Leaf { parent, leaf });
+            return self.end(version);
         }
-        let child = child_on_way(&version.chain, &self.key);
+        let child = child_on_way(&version.chain, &self.key, self.is_left());
         self.parent = Some(version);
         self.left = None;
         self.descent.go_to(child);
         None
+    }
+
+    /// Ends at the leaf; to the left of a removed page, reads that one again where a change may be due.
+    fn end(&mut self, leaf: Version) -> Option<WriteEnd>
+        requires can { CanTreat self.old leaf }
+        requires here { (left : Option Version) → IsFinished self.old.parent left leaf → IsHere (beside left self.old) leaf }
+        requires fine { IsFine self.old.due leaf }
+        requires level { level_in leaf.chain ≡ 0 }
+        ensures treats { (left : Option Version) → IsFinished self.old.parent left leaf → Treats (beside left self.old) leaf self.new result }
+        ensures same { IsSame self.old self.new }
+    {
+        match mem::replace(&mut self.goal, Goal::Seek) {
+            Goal::Left(pid) => self.end_left(pid, leaf),
+            _ => {
+                let parent = mem::take(&mut self.parent);
+                Some(WriteEnd::Leaf { parent, leaf })
+            }
+        }
+    }
+
+    /// Reads the removed page again where it is the leaf's right, or the parent has its term; else nothing is due.
+    fn end_left(&mut self, pid: u16, leaf: Version) -> Option<WriteEnd>
+        requires some { 0 < pid }
+        requires below { pid < self.old.limits.pids }
+        requires left { (left : Option Version) → IsFinished self.old.parent left leaf → IsLeftLeaf (toward (Goal.Left pid) (beside left self.old)) leaf pid }
+        ensures treats { (left : Option Version) → IsFinished self.old.parent left leaf → Treats (toward (Goal.Left pid) (beside left self.old)) leaf self.new result }
+        ensures same { IsSameWay self.old self.new }
+    {
+        if leaf.chain.right() == Some(pid) {
+            self.go_back(Goal::Merge(leaf), pid);
+            return None;
+        }
+        match mem::take(&mut self.parent) {
+            None => Some(WriteEnd::Done),
+            Some(parent) => {
+                if !has_term(&parent.chain, &self.key, pid) {
+                    return Some(WriteEnd::Done);
+                }
+                let left = leaf;
+                self.go_back(Goal::Unterm { parent, left }, pid);
+                None
+            }
+        }
+    }
+
+    /// Goes to read the removed page again.
+    fn go_back(&mut self, goal: Goal, pid: u16)
+        requires some { 0 < pid }
+        requires below { pid < self.old.limits.pids }
+        ensures { self.new ≡ going_back goal pid self.old }
+    {
+        self.goal = goal;
+        self.parent = None;
+        self.left = None;
+        self.descent.go_to(pid);
+    }
+
+    /// Whether the round goes to the left of a removed page.
+    fn is_left(&self) -> bool
+        ensures { result ≡ goes_left self.now.goal }
+    {
+        match &self.goal {
+            Goal::Left(_) => true,
+            Goal::Seek | Goal::Merge(_) | Goal::Unterm { .. } => false,
+        }
     }
 
     /// Whether a page has many deltas, or a leaf those that are due.
@@ -212,5 +343,45 @@ impl WriteRound {
     {
         let deltas = chain.deltas();
         deltas >= MANY_DELTAS || chain.level() == 0 && deltas >= self.due
+    }
+}
+
+/// Ends where the removed page may come into its left page.
+fn merge(left: Version, removed: Version) -> WriteEnd
+    ensures { Merges left removed result }
+{
+    match plan_merge(&left, &removed) {
+        None => WriteEnd::Done,
+        Some(merge) => WriteEnd::Merge {
+            left,
+            removed,
+            merge,
+        },
+    }
+}
+
+/// Ends where the parent may lose the removed page's term.
+fn unterm(parent: Version, left: Version, removed: Version) -> WriteEnd
+    requires alive { is_removed parent.chain ≡ false }
+    ensures { Cuts parent left removed result }
+{
+    match plan_unterm(&parent, &left, &removed) {
+        None => WriteEnd::Done,
+        Some(unterm) => WriteEnd::Unterm {
+            parent,
+            left,
+            removed,
+            unterm,
+        },
+    }
+}
+
+/// Whether the page has this child's term at the key, held.
+fn has_term(chain: &Chain, key: &Key, pid: u16) -> bool
+    ensures { Decides result (content_in chain.now key.now ≡ Some (Child pid true)) }
+{
+    match chain.content(key) {
+        Some(Content::Child { page, held }) => page == pid && held,
+        _ => false,
     }
 }

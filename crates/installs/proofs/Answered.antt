@@ -13,6 +13,7 @@ use Rattle.installs.specs.declared.change.End.{End}
 use Rattle.installs.specs.declared.change.State.{State}
 use Rattle.installs.specs.declared.change.State.TheVariants as state
 use Rattle.installs.specs.declared.plan.Plan.{Plan}
+use Rattle.installs.proofs.Clearing.{cleared_so}
 use Rattle.installs.proofs.Following.{base_placed, lost_bare, lost_ready, may_link, record_placed, slot_set, undone}
 use Rattle.installs.proofs.Learning.{went}
 use Rattle.installs.proofs.Taken.{finds}
@@ -29,7 +30,7 @@ module _ (actor : ℕ) (limits : Limits) (k : Knowledge) (plan : Plan) (spares :
   decided : (won : Bool) → IsSoundChange (change state.Link) spares → IsTarget limits plan → Shows actor (change state.Link) spares k → Fits limits k (wanted_at plan spares state.Link) (answer.Whether won) → FollowsTo state.Link (answer.Whether won) (decided_by plan spares won)
   decided true sound target h fits =
       let may = may_link actor limits k plan spares sound.room sound.state h.may h.keeps h.are target h.stands.0 h.stands.1 in
-      won_at actor limits k spares sound.room h.are plan sound.state target h.keeps may h.stands.0 h.stands.1 fits
+      won_at actor limits k spares sound.room h.are plan sound.state target h.may h.keeps may h.stands.0 h.stands.1 fits
   decided false sound target h fits = lost (needs_pid plan) refl
     where
       lost : (needs : Bool) → needs_pid plan ≡ needs → FollowsTo state.Link (answer.Whether false) (decided_by plan spares false)
@@ -45,6 +46,7 @@ module _ (actor : ℕ) (limits : Limits) (k : Knowledge) (plan : Plan) (spares :
       let is = went k limits (slot_of plan) (head_of plan) (linked_number plan spares) told fits in
       rw is (decided (whether_in told) sound target h (rw is at fits))
   follows_at state.Undo told sound target h fits = undone actor limits k plan spares sound.room sound.state.0 h.may h.keeps h.are told sound.state.1 h.stands fits
+  follows_at state.Clear told sound target h fits = cleared_so actor limits k spares plan told sound.state target h fits
 
 -- the same of a change that has gone on so
 module _ (old new : Change) (had has : Spares) (told : Answer Record) (end : Option End) (is : moved old.limits old.plan had old.state told ≡ record { state = new.state; spares = has; end = end }) (same : IsSame old new) where

@@ -10,17 +10,17 @@ use Rattle.deltas.specs.declared.record.Record.{Record}
 use Rattle.deltas.specs.declared.record.Record.TheVariants as kind
 use Rattle.deltas.specs.Spellable.{IsPid}
 use Rattle.chain_search.specs.Discipline.{IsOwn, IsUnset, MayExchange}
-use Rattle.chain_search.specs.Fitting.{Fits}
+use Rattle.chain_search.specs.Fitting.{Fits, ReadsRemoved}
 use Rattle.chain_search.specs.Knowledge.{Belongings, Knowledge, OwnPage, OwnRow, Written, Empty, Ready, learn, set_page}
 use Rattle.smo.specs.Splits.{split_to}
-use Rattle.installs.specs.Changes.{AreEnough, Change, GoesOn, IsLike, IsOver, IsPlaced, StandsReady, IsSoundChange, IsTarget, KeepsSpare, MayChange, MayLinkAs, Shows, ShowsState, base_row, head_of, linked_after, linked_number, needs_pid, new_base, new_record, rows_needed, slot_of, wanted_at}
+use Rattle.installs.specs.Changes.{AreEnough, Change, GoesOn, IsLike, IsOver, IsPlaced, StandsReady, IsSoundChange, IsTarget, KeepsSpare, MayChange, MayInstall, MayLinkAs, Shows, ShowsState, base_row, head_of, linked_after, linked_number, needs_pid, new_base, new_record, rows_needed, slot_of, wanted_at}
 use Rattle.installs.specs.Moves.{after_ready}
 use Rattle.installs.specs.Spares.{AreSpare, AreTheSpares, AreUnset, HaveRoom, IsUnlinked, Spares, first_row, last_row, pid_of}
 use Rattle.installs.specs.declared.change.End.TheVariants as end
 use Rattle.installs.specs.declared.change.State.{State}
 use Rattle.installs.specs.declared.change.State.TheVariants as state
 use Rattle.installs.specs.declared.plan.Plan.{Plan}
-use Rattle.installs.specs.declared.plan.Plan.TheVariants.{Install, Split, Root}
+use Rattle.installs.specs.declared.plan.Plan.TheVariants.{Install, Split, Root, Unlink}
 use Rattle.installs.proofs.Learning.{empty_page, ready_learnt, ready_went, undo_went, undone_learnt}
 use Rattle.installs.proofs.SpareLaws.{apart, page_moved, replaced_other, replaced_same, row_placed}
 
@@ -30,11 +30,22 @@ like_self k = record { inside = refl; read = refl; command = refl; linked_now = 
 pub like_on : (a b c : Knowledge) (linked : Option (Option ℕ)) → IsLike a.asked.linked a b → IsLike linked b c → IsLike linked a c
 like_on a b c linked p q = record { inside = q.inside ∙ p.inside; read = q.read ∙ p.read; command = q.command ∙ p.command; linked_now = q.linked_now }
 
+-- a page that was read removed was so still
+removed_still : (k now : Knowledge) (page row : ℕ) → now.read ≡ k.read → ReadsRemoved k page row → ReadsRemoved now page row
+removed_still k now page row same h = record { head = rw same h.head; chain = h.chain; read = rw same h.read; gone = h.gone }
+
+installs_still : (actor : ℕ) (k now : Knowledge) (pid head : ℕ) (content : Record) → IsLike k.asked.linked k now → MayInstall actor k pid head content → MayInstall actor now pid head content
+installs_still actor k now pid head content like may = λ later row more some placed bare. may later row (like_on k now later k.asked.linked like (rw (← like.linked_now) more)) some placed bare
+
 -- what may be linked stays so
 still_links : (actor : ℕ) (k now : Knowledge) (plan : Plan) → IsLike k.asked.linked k now → MayLinkAs actor k plan → MayLinkAs actor now plan
-still_links actor k now (Install pid head content) like links = λ later row more some placed bare. links later row (like_on k now later k.asked.linked like (rw (← like.linked_now) more)) some placed bare
+still_links actor k now (Install pid head content) like links = installs_still actor k now pid head content like links
 still_links actor k now (Split pid plan) like links = λ later right base row more is some ready written placed bare. links later right base row (like_on k now later k.asked.linked like (rw (← like.linked_now) more)) is some ready written placed bare
 still_links actor k now (Root left root) like links = λ later new base more is ready written. links later new base (like_on k now later k.asked.linked like (rw (← like.linked_now) more)) is ready written
+still_links actor k now (Unlink pid head unterm removal) like links = (
+  installs_still actor k now pid head (kind.Unterm unterm) like links.0,
+  removed_still k now unterm.child removal like.read links.1,
+)
 
 pub still_may : (actor : ℕ) (k now : Knowledge) (plan : Plan) → IsLike k.asked.linked k now → MayChange actor k plan → MayChange actor now plan
 still_may actor k now plan like may = record { inside = like.inside ∙ may.inside; links = still_links actor k now plan like may.links }
@@ -44,6 +55,7 @@ pub unlinked : (plan : Plan) (linked : Option (Option ℕ)) → (linked_after pl
 unlinked (Install pid head content) linked = (refl, refl)
 unlinked (Split pid plan) linked = (refl, refl)
 unlinked (Root left root) linked = (refl, refl)
+unlinked (Unlink pid head unterm removal) linked = (refl, refl)
 
 -- ---- the spares that a plan uses
 pub some_pid : (pid : Option ℕ) → is_some pid ≡ true → pid ≡ Some (unwrap_or pid 0)
@@ -81,6 +93,7 @@ module _ (actor : ℕ) (limits : Limits) (k : Knowledge) (plan : Plan) (spares :
       by_plan (Install pid head content) = omega arith
       by_plan (Split pid plan) = omega arith
       by_plan (Root left root) = omega arith
+      by_plan (Unlink pid head unterm removal) = omega arith
 
   last_is : IsOwn (k.own.rows (last_row spares)) × (0 < last_row spares)
   last_is = own_last k.own.rows spares.rows (let n = needed in let m = enough.rows in omega (arith, n, m)) room.few are.rows
@@ -92,6 +105,7 @@ module _ (actor : ℕ) (limits : Limits) (k : Knowledge) (plan : Plan) (spares :
       by_plan (Install pid head content) some = own_last k.own.rows spares.rows some room.few are.rows
       by_plan (Split pid plan) some = own_first k.own.rows spares.rows (omega (arith, some)) are.rows
       by_plan (Root left root) some = own_last k.own.rows spares.rows some room.few are.rows
+      by_plan (Unlink pid head unterm removal) some = own_last k.own.rows spares.rows some room.few are.rows
 
   pid_is : needs_pid plan ≡ true → spares.pid ≡ Some (pid_of spares)
   pid_is needs = some_pid spares.pid (enough.pid needs)
@@ -139,11 +153,13 @@ module _ (actor : ℕ) (limits : Limits) (k : Knowledge) (plan : Plan) (spares :
       ready_still (Install pid head content) page some h = h
       ready_still (Split pid plan) page some h = (h.0, (let e = two_apart k.own.rows spares.rows some room.few are.rows in rw e h.1))
       ready_still (Root left root) page some h = absurd (omega (arith, page))
+      ready_still (Unlink pid head unterm removal) page some h = h
 
       placed : (plan : Plan) → IsPlaced plan spares (own plan)
       placed (Install pid head content) = replaced_same (last_row spares) (Written content) k.own.rows
       placed (Split pid plan) = replaced_same (last_row spares) (Written (kind.Split (split_to plan (pid_of spares)))) k.own.rows
       placed (Root left root) = tt
+      placed (Unlink pid head unterm removal) = replaced_same (last_row spares) (Written (kind.Unterm unterm)) k.own.rows
 
   -- the new page's slot is set
   pub slot_set : (told : Answer Record) → needs_pid plan ≡ true → AreUnset k.own → k.own.rows (base_row plan spares) ≡ Written (new_base plan) → Fits limits k (wanted_at plan spares state.Ready) told
@@ -168,6 +184,7 @@ module _ (actor : ℕ) (limits : Limits) (k : Knowledge) (plan : Plan) (spares :
 
       stands : (plan : Plan) → needs_pid plan ≡ true → k.own.rows (base_row plan spares) ≡ Written (new_base plan) → ShowsState plan spares (set_page (pid_of spares) (Ready (base_row plan spares)) k) (after_ready plan)
       stands (Install pid head content) needs base = cc
+      stands (Unlink pid head unterm removal) needs base = cc
       stands (Split pid plan) needs base = (replaced_same (pid_of spares) (Ready (base_row (Split pid plan) spares)) k.own.pages, base)
       stands (Root left root) needs base = ((replaced_same (pid_of spares) (Ready (base_row (Root left root) spares)) k.own.pages, base), tt)
 
@@ -190,6 +207,7 @@ module _ (actor : ℕ) (limits : Limits) (k : Knowledge) (plan : Plan) (spares :
       ready_page (Install pid head content) needs h = cc
       ready_page (Split pid plan) needs h = h.0
       ready_page (Root left root) needs h = h.0
+      ready_page (Unlink pid head unterm removal) needs h = cc
 
   -- the exchange that decides lost
   pub lost_bare : needs_pid plan ≡ false → StandsReady plan spares k.own → IsOver k k (change state.Link) (answer.Whether false) spares end.Lost
@@ -203,6 +221,7 @@ module _ (actor : ℕ) (limits : Limits) (k : Knowledge) (plan : Plan) (spares :
       unset (Install pid head content) bare h = h
       unset (Split pid plan) bare h = cc
       unset (Root left root) bare h = cc
+      unset (Unlink pid head unterm removal) bare h = h
 
   pub lost_ready : StandsReady plan spares k.own → GoesOn actor k k (change state.Undo) spares
   lost_ready ready = record { shows = record { may = may; keeps = keeps; are = are; stands = ready }; like = like_self k }
@@ -219,6 +238,7 @@ module _ (actor : ℕ) (limits : Limits) (k : Knowledge) (plan : Plan) (spares :
       let is : (first_row spares == last_row spares) ≡ true = eq-eqb (first_row spares) (last_row spares) rows in
       cc
   row_free (Root left root) some page ready = absurd (omega (arith, page))
+  row_free (Unlink pid head unterm removal) some page ready = λ other e. ready other (last_row spares) e
 
   pid_room : needs_pid plan ≡ true → IsPid (pid_of spares)
   pid_room needs = (rw (pid_is needs) at room.pid).0
@@ -231,6 +251,7 @@ module _ (actor : ℕ) (limits : Limits) (k : Knowledge) (plan : Plan) (spares :
       links (Install pid head content) some may is target ready placed = may k (last_row spares) (like_self k) last_is.1 placed (row_free (Install pid head content) some target.page ready)
       links (Split pid plan) some may is target ready placed = may k (pid_of spares) (first_row spares) (last_row spares) (like_self k) (is refl) last_is.1 ready.0 ready.1 placed (row_free (Split pid plan) some target.page ready)
       links (Root left root) some may is target ready placed = may k (pid_of spares) (last_row spares) (like_self k) (is refl) ready.0 ready.1
+      links (Unlink pid head unterm removal) some may is target ready placed = may.0 k (last_row spares) (like_self k) last_is.1 placed (row_free (Unlink pid head unterm removal) some target.0.page ready)
 
 -- a change whose deciding exchange is wanted may ask for it
 pub may_decide : (actor : ℕ) (change : Change) (spares : Spares) (k : Knowledge) → change.state ≡ state.Link → IsSoundChange change spares → IsTarget change.limits change.plan → Shows actor change spares k
@@ -240,4 +261,15 @@ may_decide actor change spares k is sound target shows =
     let stands : StandsReady change.plan spares k.own × IsPlaced change.plan spares k.own = rw is at shows.stands in (
       shows.may.inside,
       may_link actor change.limits k change.plan spares sound.room enough shows.may shows.keeps shows.are target stands.0 stands.1,
+    )
+
+-- a record that is wanted in a row may be placed there
+pub may_place : (actor : ℕ) (change : Change) (spares : Spares) (k : Knowledge) → change.state ≡ state.Place → IsSoundChange change spares → Shows actor change spares k
+    → (k.inside ≡ true) × IsOwn (k.own.rows (last_row spares)) × IsUnset k (last_row spares)
+may_place actor change spares k is sound shows =
+    let enough : AreEnough change.plan spares × (0 < slot_of change.plan) = rw is at sound.state in
+    let stands : StandsReady change.plan spares k.own = rw is at shows.stands in (
+      shows.may.inside,
+      (last_is actor change.limits k change.plan spares sound.room enough.0 shows.may shows.keeps shows.are).0,
+      row_free actor change.limits k change.plan spares sound.room enough.0 shows.may shows.keeps shows.are change.plan enough.0.rows enough.1 stands,
     )

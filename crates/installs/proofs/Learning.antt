@@ -8,8 +8,8 @@ use Rattle.deltas.specs.declared.record.Record.{Record}
 use Rattle.deltas.specs.declared.record.Record.TheVariants as kind
 use Rattle.deltas.specs.declared.record.Split.{Split}
 use Rattle.chain_search.specs.Discipline.{MayExchange, MayLink}
-use Rattle.chain_search.specs.Fitting.{Fits}
-use Rattle.chain_search.specs.Knowledge.{Knowledge, OwnPage, OwnRow, Foreign, Taken, Written, Other, Empty, Ready, Gone, exchanged, handed_page, linked_over, set_page}
+use Rattle.chain_search.specs.Fitting.{Fits, ReadsRemoved}
+use Rattle.chain_search.specs.Knowledge.{Knowledge, OwnPage, OwnRow, Foreign, Taken, Written, Other, Empty, Ready, Gone, cleared, exchanged, handed_page, linked_over, set_page}
 use Rattle.installs.specs.Moves.{whether_in}
 use Rattle.installs.specs.Spares.{AreUnset, IsUnlinked}
 
@@ -29,6 +29,10 @@ module _ (k : Knowledge) where
   pub undone_learnt : (page row : ℕ) → 0 < page → k.own.pages page ≡ Ready row → exchanged page row 0 k ≡ set_page page Empty k
   undone_learnt zero row p e = absurd (omega (arith, p))
   undone_learnt (suc page) row p e = rw e refl
+
+  pub cleared_learnt : (page row : ℕ) → 0 < page → k.own.pages page ≡ Gone → exchanged page row 0 k ≡ cleared page row k
+  cleared_learnt zero row p e = absurd (omega (arith, p))
+  cleared_learnt (suc page) row p e = rw e refl
 
   pub over_learnt : (page old row : ℕ) (content : Record) → 0 < page → 0 < row → k.own.pages page ≡ Other → k.own.rows row ≡ Written content → exchanged page old row k ≡ linked_over (Written content) old row k
   over_learnt zero old row content p r e w = absurd (omega (arith, p))
@@ -68,6 +72,18 @@ module _ (k : Knowledge) where
     undo_went page row (answer.Number n) p r e fits = absurd fits
     undo_went page row (answer.Content content) p r e fits = absurd fits
     undo_went page row answer.Done p r e fits = absurd fits
+
+    pub clear_went : (page row : ℕ) (told : Answer Record) → 0 < page → 0 < row → k.own.pages page ≡ Gone → ReadsRemoved k page row → Fits limits k (step.Exchange page row 0) told → told ≡ answer.Whether true
+    clear_went page row (answer.Whether b) p r e read fits = ap answer.Whether (gone page row p r e read fits)
+      where
+        gone : (page row : ℕ) → 0 < page → 0 < row → k.own.pages page ≡ Gone → ReadsRemoved k page row → Fits limits k (step.Exchange page row 0) (answer.Whether b) → b ≡ true
+        gone zero row p r e read fits = absurd (omega (arith, p))
+        gone (suc page) zero p r e read fits = absurd (omega (arith, r))
+        gone (suc page) (suc row) p r e read fits = fits.1 e read
+    clear_went page row answer.Start p r e read fits = absurd fits
+    clear_went page row (answer.Number n) p r e read fits = absurd fits
+    clear_went page row (answer.Content content) p r e read fits = absurd fits
+    clear_went page row answer.Done p r e read fits = absurd fits
 
     pub over_other : (page old new : ℕ) → 0 < page → 0 < old → 0 < new → Fits limits k (step.Exchange page old new) (answer.Whether true) → k.own.pages page ≡ Other
     over_other zero old new p o n fits = absurd (omega (arith, p))

@@ -1,18 +1,24 @@
 -- What is planned may be linked once it is placed.
-use Rattle.std.proofs.Common.{◌≡◌, ◌<◌, ◌∙◌, ℕ, zero, suc, false, arith}
+use Rattle.std.proofs.Common.{◌≡◌, ◌<◌, ◌∙◌, ℕ, zero, suc, false, ap, arith}
 use Rattle.bw_model.specs.Log.{Update, set, unset}
 use Rattle.base_page.specs.Pages.{Page}
 use Rattle.deltas.specs.declared.record.Record.{Record}
 use Rattle.deltas.specs.declared.record.Record.TheVariants as kind
+use Rattle.deltas.specs.declared.record.Hold.{Hold}
+use Rattle.deltas.specs.declared.record.Merge.{Merge}
+use Rattle.deltas.specs.declared.record.Remove.{Remove}
 use Rattle.deltas.specs.declared.record.Term.{Term}
+use Rattle.deltas.specs.declared.record.Unterm.{Unterm}
 use Rattle.chain_search.specs.Chains.{is_removed}
-use Rattle.chain_search.specs.Discipline.{FitsOn, IsUnset, MayAdd, MayConsolidate, MayExchange, MayLink, MayPost, MaySplit, MayUpdate, record_of}
+use Rattle.chain_search.specs.Discipline.{FitsOn, IsUnset, MayAdd, MayConsolidate, MayExchange, MayHold, MayLink, MayMerge, MayPost, MayRemove, MaySplit, MayUnterm, MayUpdate, record_of}
+use Rattle.chain_search.specs.Fitting.{ReadsRemoved}
 use Rattle.chain_search.specs.Knowledge.{Knowledge, Ready, Written}
 use Rattle.smo.specs.declared.split.SplitPlan.{SplitPlan}
 use Rattle.smo.specs.declared.version.Version.{Version}
 use Rattle.smo.specs.Readings.{HasSeen, IsAfter}
 use Rattle.smo.specs.Splits.{IsSplitPlan, split_to}
 use Rattle.smo.specs.Terms.{IsTermPlan}
+use Rattle.smo.specs.Unterms.{IsUntermPlan}
 use Rattle.installs.specs.Changes.{IsLike, MayDivide, MayInstall}
 
 -- over a page's row a row is added
@@ -72,3 +78,24 @@ module _ (actor : ℕ) (k : Knowledge) where
     pub split_may : (plan : SplitPlan) → ((now : Knowledge) (right base : ℕ) → now.own.pages right ≡ Ready base → now.own.rows base ≡ Written (kind.Base plan.upper) → MaySplit now page.head page.chain (kind.Split (split_to plan right))) → IsSplitPlan page plan → MayDivide actor k page.pid plan
     split_may plan due is = λ now right base row like pid some ready written placed bare.
         rw is.over (linked_so now row (kind.Split (split_to plan right)) like (is.fits right pid) (due now right base ready written) some placed bare)
+
+    pub hold_may : (hold : Hold) → MayHold page.head page.chain (kind.Hold hold) → FitsOn page.chain (kind.Hold hold) → MayInstall actor k page.pid page.head (kind.Hold hold)
+    hold_may hold due fits = λ now row like some placed bare. linked_so now row (kind.Hold hold) like fits due some placed bare
+
+    pub remove_may : (remove : Remove) (parent : Version) → ((now : Knowledge) → HasSeen now parent → MayRemove now page.pid page.head page.chain (kind.Remove remove)) → FitsOn page.chain (kind.Remove remove) → HasSeen k parent → MayInstall actor k page.pid page.head (kind.Remove remove)
+    remove_may remove parent due fits above = λ now row like some placed bare.
+        linked_so now row (kind.Remove remove) like fits (due now (seen_still k now parent like.read above)) some placed bare
+
+    pub merge_may : (merge : Merge) (removed : Version) → ((now : Knowledge) → HasSeen now removed → MayMerge now page.head page.chain (kind.Merge merge)) → FitsOn page.chain (kind.Merge merge) → HasSeen k removed → MayInstall actor k page.pid page.head (kind.Merge merge)
+    merge_may merge removed due fits met = λ now row like some placed bare.
+        linked_so now row (kind.Merge merge) like fits (due now (seen_still k now removed like.read met)) some placed bare
+
+    pub unterm_may : (left : Version) (unterm : Unterm) → ((now : Knowledge) → HasSeen now left → IsAfter now page left → MayUnterm now page.pid page.head page.chain (kind.Unterm unterm)) → FitsOn page.chain (kind.Unterm unterm) → HasSeen k left → IsAfter k page left → MayInstall actor k page.pid page.head (kind.Unterm unterm)
+    unterm_may left unterm due fits met order = λ now row like some placed bare.
+        linked_so now row (kind.Unterm unterm) like fits (due now (seen_still k now left like.read met) (rw like.read order)) some placed bare
+
+  -- the page whose term is to go was read removed
+  pub removed_read : (parent left removed : Version) (unterm : Unterm) → IsUntermPlan parent left removed unterm → HasSeen k removed → ReadsRemoved k unterm.child removed.head
+  removed_read parent left removed unterm is seen =
+      let child : unterm.child ≡ removed.pid = ap (λ (u : Unterm). u.child) is.is in
+      record { head = rw child seen.head; chain = removed.chain; read = seen.read; gone = is.can.gone }

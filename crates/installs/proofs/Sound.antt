@@ -13,7 +13,7 @@ use Rattle.bw_model.specs.declared.step.Answer.{Answer}
 use Rattle.deltas.specs.declared.record.Record.{Record}
 use Rattle.chain_search.specs.Fitting.{Fits, FitsWord}
 use Rattle.chain_search.specs.Knowledge.{Knowledge}
-use Rattle.installs.specs.Changes.{AreEnough, Change, IsMissing, IsSame, IsSoundChange, IsSoundState, IsTarget, needs_pid, rows_needed, wanted, wanted_at}
+use Rattle.installs.specs.Changes.{AreEnough, Change, IsMissing, IsSame, IsSoundChange, IsSoundState, IsTarget, clears, needs_pid, rows_needed, wanted, wanted_at}
 use Rattle.installs.specs.Moves.{Moved, after_ready, after_taking, decided_by, first_state, moved, moved_by, unused, whether_in, with_number}
 use Rattle.installs.specs.Spares.{HaveRoom, Spares}
 use Rattle.installs.specs.Taking.{IsSoundFound, IsSoundTaking, count_of, found_after, kind_of, wanted_number}
@@ -21,7 +21,7 @@ use Rattle.installs.specs.declared.change.End.{End}
 use Rattle.installs.specs.declared.change.State.{State}
 use Rattle.installs.specs.declared.change.State.TheVariants as state
 use Rattle.installs.specs.declared.plan.Plan.{Plan}
-use Rattle.installs.specs.declared.plan.Plan.TheVariants.{Install, Split, Root}
+use Rattle.installs.specs.declared.plan.Plan.TheVariants.{Install, Split, Root, Unlink}
 use Rattle.installs.specs.declared.taking.Found.{Found}
 use Rattle.installs.specs.declared.taking.Found.TheVariants.{Not, Taken, Full}
 use Rattle.installs.specs.declared.taking.Kind.{Kind}
@@ -84,6 +84,7 @@ two_at_most : (plan : Plan) → rows_needed plan ≤ 2
 two_at_most (Install pid head content) = omega arith
 two_at_most (Split pid plan) = omega arith
 two_at_most (Root left root) = omega arith
+two_at_most (Unlink pid head unterm removal) = omega arith
 
 module _ (limits : Limits) (plan : Plan) where
   -- a number that was taken is a spare that there is
@@ -125,6 +126,7 @@ module _ (limits : Limits) (plan : Plan) where
       at_place (Install pid head content) is enough = (enough, rw (← is) (rw (← is) at target).page)
       at_place (Split pid plan) is enough = (enough, rw (← is) refl)
       at_place (Root left root) is enough = (enough, rw (← is) refl)
+      at_place (Unlink pid head unterm removal) is enough = (enough, rw (← is) (rw (← is) at target).0.page)
 
       at_first : (pid : Bool) → (needs_pid plan && not (is_some spares.pid)) ≡ pid → (row : Bool) → ltb (length spares.rows) (rows_needed plan) ≡ row
           → IsSoundState limits plan spares (if pid then state.Taking (Bits Pid 0) else if row then state.Taking (Bits Row 0) else after_taking plan)
@@ -147,6 +149,7 @@ module _ (limits : Limits) (plan : Plan) where
   after_ready_sound spares (Install pid head content) is target enough needs = cc
   after_ready_sound spares (Split pid plan) is target enough needs = (enough, rw (← is) target.page)
   after_ready_sound spares (Root left root) is target enough needs = enough
+  after_ready_sound spares (Unlink pid head unterm removal) is target enough needs = cc
 
   stays_at : (spares : Spares) (state : State) (told : Answer Record) (k : Knowledge) → Fits limits k (wanted_at plan spares state) told → HaveRoom limits spares → IsSoundState limits plan spares state → IsTarget limits plan → StaysSound (moved limits plan spares state told)
   stays_at spares (state.Taking taking) told k fits room sound target = found_stays spares (state.Taking taking) (found_after limits taking told) room (kind_of taking) sound.1 target (found_sound limits k taking told fits sound.0) (found_of limits taking told)
@@ -159,10 +162,15 @@ module _ (limits : Limits) (plan : Plan) where
       by_need true is = rw is (room, (sound, is))
       by_need false is = rw is (room, tt)
 
+      by_clearing : (clearing : Bool) → clears plan ≡ clearing → StaysSound (decided_by plan spares true)
+      by_clearing true is = rw is (room_unused spares room, is)
+      by_clearing false is = rw is (room_unused spares room, tt)
+
       by_answer : (won : Bool) → StaysSound (decided_by plan spares won)
-      by_answer true = (room_unused spares room, tt)
+      by_answer true = by_clearing (clears plan) refl
       by_answer false = by_need (needs_pid plan) refl
   stays_at spares state.Undo told k fits room sound target = (room, tt)
+  stays_at spares state.Clear told k fits room sound target = (room, tt)
 
 module _ (old new : Change) (had has : Spares) (told : Answer Record) (end : Option End) (is : moved old.limits old.plan had old.state told ≡ record { state = new.state; spares = has; end = end }) (same : IsSame old new) (k : Knowledge) (fits : Fits old.limits k (wanted old had) told) (sound : IsSoundChange old had) (target : IsTarget old.limits old.plan) where
   stays : HaveRoom old.limits has × IfNone end (IsSoundState old.limits old.plan has new.state)

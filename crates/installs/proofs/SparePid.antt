@@ -1,5 +1,5 @@
 -- Where a spare PID comes from.
-use Rattle.std.proofs.Common.{◌≡◌, ◌<◌, ◌/◌, inl, inr, ℕ, zero, suc, Bool, true, false, Option, Some, None, refl, ap, subst}
+use Rattle.std.proofs.Common.{◌≡◌, ◌/◌, inl, inr, ℕ, zero, suc, Bool, true, false, Option, Some, None, refl, ap, subst}
 use Rattle.std.specs.Prelude.{ltb, if◌then◌else◌}
 use Rattle.bw_model.specs.declared.limits.Limits.{Limits}
 use Rattle.bw_model.specs.declared.step.Answer.{Answer}
@@ -13,7 +13,7 @@ use Rattle.installs.specs.Taking.{count_of, found_after, wanted_number}
 use Rattle.installs.specs.declared.change.State.{State}
 use Rattle.installs.specs.declared.change.State.TheVariants as state
 use Rattle.installs.specs.declared.plan.Plan.{Plan}
-use Rattle.installs.specs.declared.plan.Plan.TheVariants.{Install, Split, Root}
+use Rattle.installs.specs.declared.plan.Plan.TheVariants.{Install, Split, Root, Unlink}
 use Rattle.installs.specs.declared.taking.Found.{Found}
 use Rattle.installs.specs.declared.taking.Found.TheVariants.{Not, Taken, Full}
 use Rattle.installs.specs.declared.taking.Kind.TheVariants.{Pid, Row}
@@ -51,9 +51,11 @@ by_deciding : (plan : Plan) (spares : Spares) (taken : Option ℕ) (won : Bool) 
 by_deciding (Install pid head content) spares taken true = same_pid spares.pid taken
 by_deciding (Split pid plan) spares taken true = tt
 by_deciding (Root left root) spares taken true = tt
+by_deciding (Unlink pid head unterm removal) spares taken true = same_pid spares.pid taken
 by_deciding (Install pid head content) spares taken false = same_pid spares.pid taken
 by_deciding (Split pid plan) spares taken false = same_pid spares.pid taken
 by_deciding (Root left root) spares taken false = same_pid spares.pid taken
+by_deciding (Unlink pid head unterm removal) spares taken false = same_pid spares.pid taken
 
 by_state : (limits : Limits) (plan : Plan) (spares : Spares) (at : State) (told : Answer Record) → IsPidFrom spares.pid (pid_taken (wanted_at plan spares at) told) (moved limits plan spares at told).spares.pid
 by_state limits plan spares (state.Taking taking) told = by_found plan spares (state.Taking taking) (pid_taken (wanted_number taking) told) (found_after limits taking told) (is_taken limits taking told)
@@ -62,6 +64,7 @@ by_state limits plan spares state.Ready told = same_pid spares.pid _
 by_state limits plan spares state.Place told = same_pid spares.pid _
 by_state limits plan spares state.Link told = by_deciding plan spares _ (whether_in told)
 by_state limits plan spares state.Undo told = same_pid spares.pid _
+by_state limits plan spares state.Clear told = same_pid spares.pid _
 
 -- what a change's next step makes of the spare PID
 pub pid_from : (old : Change) (spares : Spares) (told : Answer Record) (now : Moved) → moved old.limits old.plan spares old.state told ≡ now → IsPidFrom spares.pid (pid_taken (wanted old spares) told) now.spares.pid

@@ -11,15 +11,15 @@ use Rattle.chain_search.specs.Fitting.{Fits, FitsWord}
 use Rattle.chain_search.specs.Knowledge.{Knowledge}
 use Rattle.chain_search.specs.Recalled.{Recalled, WasFree, WasHead, recall}
 use Rattle.installs.specs.Bounded.{IsApart, RecallsAt, Spends, SpendsTo, left_at, numbers_missing, pid_taken, pids_missing}
-use Rattle.installs.specs.Changes.{AreEnough, Change, IsMissing, IsSame, IsSoundChange, head_of, linked_number, needs_pid, rows_needed, slot_of, wanted, wanted_at}
-use Rattle.installs.specs.Moves.{Moved, after_ready, after_taking, decided_by, first_state, moved, moved_by, whether_in, with_number}
+use Rattle.installs.specs.Changes.{AreEnough, Change, IsMissing, IsSame, IsSoundChange, clears, head_of, linked_number, needs_pid, rows_needed, slot_of, wanted, wanted_at}
+use Rattle.installs.specs.Moves.{Moved, after_ready, after_taking, decided_by, first_state, moved, moved_by, unused, whether_in, with_number}
 use Rattle.installs.specs.Spares.{HaveRoom, Spares, pid_of}
 use Rattle.installs.specs.Taking.{IsSoundTaking, count_of, found_after, kind_of, recalled_words, wanted_number}
 use Rattle.installs.specs.declared.change.End.{End}
 use Rattle.installs.specs.declared.change.State.{State}
 use Rattle.installs.specs.declared.change.State.TheVariants as state
 use Rattle.installs.specs.declared.plan.Plan.{Plan}
-use Rattle.installs.specs.declared.plan.Plan.TheVariants.{Install, Split, Root}
+use Rattle.installs.specs.declared.plan.Plan.TheVariants.{Install, Split, Root, Unlink}
 use Rattle.installs.specs.declared.taking.Found.TheVariants.{Not, Full}
 use Rattle.installs.specs.declared.taking.Kind.{Kind}
 use Rattle.installs.specs.declared.taking.Kind.TheVariants.{Pid, Row}
@@ -44,6 +44,13 @@ fewer_missing plan spares Row number missing =
     let more : length (spares.rows ++ number ∷ []) ≡ length spares.rows + 1 = length-append spares.rows (number ∷ []) in
     omega (arith, some, more)
 
+-- a change that clears a page has no new one
+clears_apart : (plan : Plan) (pid : Option ℕ) → clears plan ≡ true → IsApart plan pid
+clears_apart (Install page head content) pid is = tt
+clears_apart (Split page plan) pid is = cc
+clears_apart (Root left root) pid is = tt
+clears_apart (Unlink page head unterm removal) pid is = tt
+
 -- how many steps a change takes at most from its first state on
 pub left_first : (after : ℕ) (plan : Plan) (spares : Spares) → left_at after plan spares (first_state plan spares) ≤ 257 * numbers_missing plan spares + 5
 left_first after plan spares = at_first (needs_pid plan && not (is_some spares.pid)) refl (ltb (length spares.rows) (rows_needed plan)) refl
@@ -57,6 +64,7 @@ left_first after plan spares = at_first (needs_pid plan && not (is_some spares.p
     at_place (Install pid head content) = omega arith
     at_place (Split pid plan) = omega arith
     at_place (Root left root) = omega arith
+    at_place (Unlink pid head unterm removal) = omega arith
 
     at_first : (pid : Bool) → (needs_pid plan && not (is_some spares.pid)) ≡ pid → (row : Bool) → ltb (length spares.rows) (rows_needed plan) ≡ row
         → left_at after plan spares (if pid then state.Taking (Bits Pid 0) else if row then state.Taking (Bits Row 0) else after_taking plan) ≤ 257 * numbers_missing plan spares + 5
@@ -72,6 +80,7 @@ recalls_first r plan spares h = at_first (needs_pid plan && not (is_some spares.
     at_place (Install pid head content) = h
     at_place (Split pid plan) = h
     at_place (Root left root) = h
+    at_place (Unlink pid head unterm removal) = h
 
     at_first : (pid row : Bool) → RecallsAt r plan (if pid then state.Taking (Bits Pid 0) else if row then state.Taking (Bits Row 0) else after_taking plan)
     at_first true row = h
@@ -157,6 +166,7 @@ module _ (limits : Limits) (plan : Plan) (spares : Spares) (after : ℕ) (r : Re
   -- the new page isn't the slot that decides
   slot_apart : (plan : Plan) → needs_pid plan ≡ true → IsApart plan (Some (pid_of spares)) → 0 < pid_of spares → slot_of plan ≢ pid_of spares
   slot_apart (Install pid head content) needs far some = cc
+  slot_apart (Unlink pid head unterm removal) needs far some = cc
   slot_apart (Split pid plan) needs far some = λ e. far (sym e)
   slot_apart (Root left root) needs far some = λ e. let is : 0 ≡ pid_of spares = e in omega (arith, some, is)
 
@@ -172,14 +182,20 @@ module _ (limits : Limits) (plan : Plan) (spares : Spares) (after : ℕ) (r : Re
       at_next (Install pid head content) h = h
       at_next (Split pid plan) h = h
       at_next (Root left root) h = h
+      at_next (Unlink pid head unterm removal) h = h
 
       less : (other : Plan) → left_at after plan spares (after_ready other) < 3
       less (Install pid head content) = omega arith
       less (Split pid plan) = omega arith
       less (Root left root) = omega arith
+      less (Unlink pid head unterm removal) = omega arith
 
   decided : (won : Bool) → WasHead r (slot_of plan) (head_of plan) → SpendsSo state.Link (answer.Whether won) (decided_by plan spares won)
-  decided true h = h
+  decided true h = won (clears plan) refl
+    where
+      won : (clearing : Bool) → clears plan ≡ clearing → SpendsSo state.Link (answer.Whether true) (decided_by plan spares true)
+      won true is = rw is (record { at = tt; apart = clears_apart plan (unused plan spares).pid is }, inr (h, omega arith))
+      won false is = rw is (inl h)
   decided false h = lost (needs_pid plan) refl
     where
       lost : (needs : Bool) → needs_pid plan ≡ needs → SpendsSo state.Link (answer.Whether false) (decided_by plan spares false)
@@ -193,6 +209,7 @@ module _ (limits : Limits) (plan : Plan) (spares : Spares) (after : ℕ) (r : Re
   spends_at state.Place told k fits sound h far = (record { at = h; apart = apart }, inl (omega arith))
   spends_at state.Link told k fits sound h far = let is = went k limits (slot_of plan) (head_of plan) (linked_number plan spares) told fits in rw is (decided (whether_in told) h)
   spends_at state.Undo told k fits sound h far = inr (omega arith)
+  spends_at state.Clear told k fits sound h far = inr (sound.state, omega arith)
 
 module _ (old new : Change) (had has : Spares) (told : Answer Record) (end : Option End) (is : moved old.limits old.plan had old.state told ≡ record { state = new.state; spares = has; end = end }) (same : IsSame old new) where
   pub spends : (k : Knowledge) → Fits old.limits k (wanted old had) told → IsSoundChange old had → Spends old had told new has end

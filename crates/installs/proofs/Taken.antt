@@ -18,7 +18,7 @@ use Rattle.installs.specs.Taking.{AllFull, AreFull, count_of, found_after, kind_
 use Rattle.installs.specs.declared.change.State.{State}
 use Rattle.installs.specs.declared.change.State.TheVariants as state
 use Rattle.installs.specs.declared.plan.Plan.{Plan}
-use Rattle.installs.specs.declared.plan.Plan.TheVariants.{Install, Split, Root}
+use Rattle.installs.specs.declared.plan.Plan.TheVariants.{Install, Split, Root, Unlink}
 use Rattle.installs.specs.declared.taking.Found.TheVariants.{Not, Full}
 use Rattle.installs.specs.declared.taking.Kind.{Kind}
 use Rattle.installs.specs.declared.taking.Kind.TheVariants.{Pid, Row}
@@ -50,6 +50,7 @@ shows_first actor limits k plan spares may keeps are bare = record { may = may; 
     at_place (Install pid head content) = bare
     at_place (Split pid plan) = bare
     at_place (Root left root) = bare
+    at_place (Unlink pid head unterm removal) = bare
 
     at_first : (pid row : Bool) → ShowsState plan spares k (if pid then state.Taking (Bits Pid 0) else if row then state.Taking (Bits Row 0) else after_taking plan)
     at_first true row = (bare, λ below lt. absurd (omega (arith, lt)))
@@ -141,6 +142,7 @@ module _ (actor : ℕ) (limits : Limits) (k : Knowledge) (plan : Plan) (spares :
       keeps_none (Install page head content) needs = cc
       keeps_none (Split page plan) needs = tt
       keeps_none (Root left root) needs = tt
+      keeps_none (Unlink pid head unterm removal) needs = cc
 
       unset : AreUnset now.own
       unset = λ page row e. elim (cases_eq page pid) [

@@ -6,18 +6,19 @@ use Rattle.bw_model.specs.declared.step.Answer.TheVariants as answer
 use Rattle.deltas.specs.Memory.{replaced_at}
 use Rattle.deltas.specs.declared.record.Record.{Record}
 use Rattle.deltas.specs.declared.record.Record.TheVariants as kind
+use Rattle.deltas.specs.declared.record.Unterm.{Unterm}
 use Rattle.chain_search.specs.Discipline.{MayExchange}
 use Rattle.chain_search.specs.Fitting.{Fits}
-use Rattle.chain_search.specs.Knowledge.{Belongings, Knowledge, Foreign, Written, Other, Ready, Gone, learn, linked_over}
+use Rattle.chain_search.specs.Knowledge.{Belongings, Knowledge, OwnPage, Foreign, Written, Other, Ready, Gone, handed_page, learn, linked_over}
 use Rattle.smo.specs.Splits.{split_to}
-use Rattle.installs.specs.Changes.{AreEnough, KeepsSparePage, IsOver, IsPlaced, StandsReady, IsTarget, KeepsSpare, head_of, linked_number, slot_of, wanted_at}
-use Rattle.installs.specs.Moves.{unused}
+use Rattle.installs.specs.Changes.{AreEnough, Follows, GoesOn, KeepsSparePage, IsOver, IsPlaced, StandsReady, IsTarget, KeepsSpare, MayChange, head_of, linked_number, slot_of, wanted_at}
+use Rattle.installs.specs.Moves.{Moved, decided_by, unused}
 use Rattle.installs.specs.Spares.{AreTheSpares, AreUnset, HaveRoom, Spares, first_row, last_row, pid_of}
 use Rattle.installs.specs.declared.change.End.TheVariants as end
 use Rattle.installs.specs.declared.change.State.TheVariants as state
 use Rattle.installs.specs.declared.plan.Plan.{Plan}
-use Rattle.installs.specs.declared.plan.Plan.TheVariants.{Install, Split, Root}
-use Rattle.installs.proofs.Following.{own_last, some_pid, unset_then}
+use Rattle.installs.specs.declared.plan.Plan.TheVariants.{Install, Split, Root, Unlink}
+use Rattle.installs.proofs.Following.{own_last, some_pid, still_may, unset_then}
 use Rattle.installs.proofs.Learning.{no_split, over_learnt, over_other, rooted_learnt}
 use Rattle.installs.proofs.SpareLaws.{first_linked, last_linked, page_gone, page_linked, replaced_other, replaced_same}
 
@@ -35,15 +36,15 @@ rows_two (a ∷ b ∷ []) some few = (refl, refl)
 rows_two (a ∷ b ∷ c ∷ rows) some few = absurd (omega (arith, few))
 
 -- the spare PID isn't that of the term
-kept_apart : (child : ℕ) (unterm : _) (pid : Option ℕ) → KeepsSparePage (kind.Unterm unterm) pid → pid ≡ Some unterm.child → ⊥
+pub kept_apart : (child : ℕ) (unterm : _) (pid : Option ℕ) → KeepsSparePage (kind.Unterm unterm) pid → pid ≡ Some unterm.child → ⊥
 kept_apart child unterm None h e = cc
 kept_apart child unterm (Some pid) h e = h (cc)
 
 -- no own page has a row in its slot, also once one is gone
-unset_gone : (own : Belongings) (page : ℕ) → AreUnset own → AreUnset (record own { pages = replaced_at page Gone own.pages })
-unset_gone own page bare = λ other row e. elim (cases_eq other page) [
-  | inl same ↦ (let i : Gone ≡ Ready row = sym (replaced_same page Gone own.pages) ∙ ap (replaced_at page Gone own.pages) (sym same) ∙ e in cc)
-  | inr apart ↦ bare other row (sym (replaced_other page Gone own.pages other apart) ∙ e)
+pub unset_gone : (own : Belongings) (page : ℕ) (o : OwnPage) → ((row : ℕ) → o ≡ Ready row → ⊥) → AreUnset own → AreUnset (record own { pages = replaced_at page o own.pages })
+unset_gone own page o unset bare = λ other row e. elim (cases_eq other page) [
+  | inl same ↦ unset row (sym (replaced_same page o own.pages) ∙ ap (replaced_at page o own.pages) (sym same) ∙ e)
+  | inr apart ↦ bare other row (sym (replaced_other page o own.pages other apart) ∙ e)
 ]
 
 module _ (actor : ℕ) (limits : Limits) (k : Knowledge) (spares : Spares) (room : HaveRoom limits spares) (are : AreTheSpares k.own spares) where
@@ -72,18 +73,38 @@ module _ (actor : ℕ) (limits : Limits) (k : Knowledge) (spares : Spares) (room
         like = record { inside = refl; read = refl; command = refl; linked_now = refl };
         rest = record {
           are = page_gone (record k.own { rows = replaced_at (last_row spares) Foreign k.own.rows }) (record spares { rows = front }) linked unterm.child Gone (kept_apart unterm.child unterm spares.pid kept) (λ gone. gone);
-          unset = unset_gone k.own unterm.child bare;
+          unset = unset_gone k.own unterm.child Gone (λ row e. cc) bare;
         };
         decided = (refl, refl);
       }
 
-  pub won_at : (plan : Plan) → AreEnough plan spares → IsTarget limits plan → KeepsSpare plan spares.pid → MayExchange actor k (slot_of plan) (head_of plan) (linked_number plan spares) → StandsReady plan spares k.own → IsPlaced plan spares k.own → Fits limits k (wanted_at plan spares state.Link) (answer.Whether true)
-      → IsOver k (learn k (wanted_at plan spares state.Link) (answer.Whether true)) (record { limits = limits; plan = plan; state = state.Link }) (answer.Whether true) (unused plan spares) end.Won
-  won_at (Install pid head content) enough target keeps may ready placed fits =
+  -- a term is out, and its page is to be cleared
+  term_out : (pid head : ℕ) (unterm : Unterm) (removal : ℕ) → 1 ≤ length spares.rows → MayChange actor k (Unlink pid head unterm removal) → KeepsSparePage (kind.Unterm unterm) spares.pid → AreUnset k.own
+      → GoesOn actor k (handed_page unterm.child Gone (last_row spares) k) (record { limits = limits; plan = Unlink pid head unterm removal; state = state.Clear }) (unused (Unlink pid head unterm removal) spares)
+  term_out pid head unterm removal some may kept bare =
+      let front = take (length spares.rows - 1) spares.rows in
+      let linked = last_linked k.own spares are (last_row spares) front (rows_last spares.rows some room.few) in
+      record {
+        shows = record {
+          may = still_may actor k (handed_page unterm.child Gone (last_row spares) k) (Unlink pid head unterm removal) (record { inside = refl; read = refl; command = refl; linked_now = refl }) may;
+          keeps = kept;
+          are = page_gone (record k.own { rows = replaced_at (last_row spares) Foreign k.own.rows }) (record spares { rows = front }) linked unterm.child Gone (kept_apart unterm.child unterm spares.pid kept) (λ gone. gone);
+          stands = (unset_gone k.own unterm.child Gone (λ row e. cc) bare, replaced_same unterm.child Gone k.own.pages);
+        };
+        like = record { inside = refl; read = refl; command = refl; linked_now = refl };
+      }
+
+  -- what follows where the exchange that decides has won
+  abbrev WonTo : Plan → Moved → Type 0
+  WonTo plan now = Follows actor k (learn k (wanted_at plan spares state.Link) (answer.Whether true)) (record { limits = limits; plan = plan; state = state.Link }) (answer.Whether true) (record { limits = limits; plan = plan; state = now.state }) now.spares now.end
+
+  pub won_at : (plan : Plan) → AreEnough plan spares → IsTarget limits plan → MayChange actor k plan → KeepsSpare plan spares.pid → MayExchange actor k (slot_of plan) (head_of plan) (linked_number plan spares) → StandsReady plan spares k.own → IsPlaced plan spares k.own → Fits limits k (wanted_at plan spares state.Link) (answer.Whether true)
+      → WonTo plan (decided_by plan spares true)
+  won_at (Install pid head content) enough target change keeps may ready placed fits =
       let row = (own_last k.own.rows spares.rows enough.rows room.few are.rows).1 in
       let other = over_other k limits pid head (last_row spares) target.page target.linked row fits in
       rw (over_learnt k pid head (last_row spares) content target.page row other placed) (over_row pid head content enough.rows target keeps may ready placed)
-  won_at (Split pid plan) enough target keeps may ready placed fits =
+  won_at (Split pid plan) enough target change keeps may ready placed fits =
       let row = (own_last k.own.rows spares.rows (let two = enough.rows in omega (arith, two)) room.few are.rows).1 in
       let other = over_other k limits pid plan.next (last_row spares) target.page target.linked row fits in
       let is = some_pid spares.pid (enough.pid refl) in
@@ -96,7 +117,11 @@ module _ (actor : ℕ) (limits : Limits) (k : Knowledge) (spares : Spares) (room
         rest = record { are = bare; unset = unset_then k.own spares (pid_of spares) Other are is (λ row e. cc) };
         decided = (refl, refl);
       })
-  won_at (Root left root) enough target keeps may ready placed fits =
+  won_at (Unlink pid head unterm removal) enough target change keeps may ready placed fits =
+      let row = (own_last k.own.rows spares.rows enough.rows room.few are.rows).1 in
+      let other = over_other k limits pid head (last_row spares) target.0.page target.0.linked row fits in
+      rw (over_learnt k pid head (last_row spares) (kind.Unterm unterm) target.0.page row other placed) (term_out pid head unterm removal enough.rows change keeps ready)
+  won_at (Root left root) enough target change keeps may ready placed fits =
       let is = some_pid spares.pid (enough.pid refl) in
       let front = take (length spares.rows - 1) spares.rows in
       let linked = last_linked k.own spares are (last_row spares) front (rows_last spares.rows enough.rows room.few) in

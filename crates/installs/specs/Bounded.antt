@@ -9,11 +9,11 @@ use Rattle.chain_search.specs.Recalled.{IsPaid, IsSpentWith, Recalled, WasFree, 
 use Rattle.installs.specs.declared.change.End.{End}
 use Rattle.installs.specs.declared.change.End.TheVariants.{Won, Lost, Full}
 use Rattle.installs.specs.declared.change.State.{State}
-use Rattle.installs.specs.declared.change.State.TheVariants.{Taking, Base, Ready, Place, Link, Undo}
+use Rattle.installs.specs.declared.change.State.TheVariants.{Taking, Base, Ready, Place, Link, Undo, Clear}
 use Rattle.installs.specs.declared.plan.Plan.{Plan}
 use Rattle.installs.specs.declared.plan.Plan.TheVariants.{Split}
 use Rattle.installs.specs.declared.taking.Taking.TheVariants.{Take}
-use Rattle.installs.specs.Changes.{Change, head_of, needs_pid, rows_needed, slot_of, wanted}
+use Rattle.installs.specs.Changes.{Change, clears, head_of, needs_pid, rows_needed, slot_of, wanted}
 use Rattle.installs.specs.Spares.{Spares}
 use Rattle.installs.specs.Taking.{number_left, recalled_words}
 
@@ -26,8 +26,8 @@ pids_missing true (Some pid) = 0
 abbrev pub numbers_missing : Plan → Spares → ℕ
 numbers_missing plan spares = pids_missing (needs_pid plan) spares.pid + (rows_needed plan - length spares.rows)
 
--- How many steps a change takes at most from a state on, with the one that it has asked for: after a lost change that is undone
--- so many are to be left.
+-- How many steps a change takes at most from a state on, with the one that it has asked for: after a lost change that is undone,
+-- and after a page is cleared, so many are to be left.
 abbrev pub left_at : ℕ → Plan → Spares → State → ℕ
 left_at after plan spares (Taking taking) = number_left taking + (257 * (numbers_missing plan spares - 1) + 5)
 left_at after plan spares Base = 4
@@ -35,6 +35,7 @@ left_at after plan spares Ready = 3
 left_at after plan spares Place = 2
 left_at after plan spares Link = 1
 left_at after plan spares Undo = suc after
+left_at after plan spares Clear = suc after
 
 abbrev pub steps_left : ℕ → Change → Spares → ℕ
 steps_left after change spares = left_at after change.plan spares change.state
@@ -47,6 +48,7 @@ worth after = 800 + after
 abbrev pub RecallsAt : Recalled → Plan → State → Type 0
 RecallsAt r plan (Taking (Take kind number)) = WasHead r (slot_of plan) (head_of plan) × WasFree (recalled_words r kind) number
 RecallsAt r plan Undo = ⊤
+RecallsAt r plan Clear = ⊤
 RecallsAt r plan state = WasHead r (slot_of plan) (head_of plan)
 
 -- The new page isn't the one that is split.
@@ -69,10 +71,10 @@ IsPidFrom old taken None = ⊤
 IsPidFrom old taken (Some pid) = (old ≡ Some pid) ⊎ (taken ≡ Some pid)
 
 -- A change that goes on recalls what it has read, and has fewer steps left, or a cause paid for more. Where it has ended, a cause
--- paid, or what has to be left is left.
+-- paid, or what has to be left is left: a page is cleared by what its exchange that decides has paid.
 abbrev pub SpendsTo : ℕ → Recalled → Change → Spares → Answer Record → Change → Spares → Option End → Type 0
 SpendsTo after r old had told new has None = Recalls new has (recall r (wanted old had) told) × IsSpentWith (worth after) r (wanted old had) told (steps_left after old had) (steps_left after new has)
-SpendsTo after r old had told new has (Some Won) = IsPaid r (wanted old had) told
+SpendsTo after r old had told new has (Some Won) = IsPaid r (wanted old had) told ⊎ ((clears old.plan ≡ true) × (after < steps_left after old had))
 SpendsTo after r old had told new has (Some Lost) = IsPaid r (wanted old had) told ⊎ (after < steps_left after old had)
 SpendsTo after r old had told new has (Some Full) = 0 < steps_left after old had
 

@@ -11,16 +11,16 @@ use Rattle.deltas.specs.declared.record.Record.TheVariants as kind
 use Rattle.deltas.specs.Records.{next_row}
 use Rattle.deltas.specs.Spellable.{IsPid}
 use Rattle.chain_search.specs.Discipline.{IsUnset, MayExchange}
-use Rattle.chain_search.specs.Fitting.{Fits}
-use Rattle.chain_search.specs.Knowledge.{Belongings, Knowledge, Ready, Written}
+use Rattle.chain_search.specs.Fitting.{Fits, ReadsRemoved}
+use Rattle.chain_search.specs.Knowledge.{Belongings, Knowledge, Gone, Ready, Written}
 use Rattle.smo.specs.declared.split.SplitPlan.{SplitPlan}
 use Rattle.smo.specs.Splits.{split_to}
 use Rattle.installs.specs.declared.change.End.{End}
 use Rattle.installs.specs.declared.change.End.TheVariants.{Won, Lost, Full}
 use Rattle.installs.specs.declared.change.State.{State}
-use Rattle.installs.specs.declared.change.State.TheVariants.{Taking, Base, Ready as ToReady, Place, Link, Undo}
+use Rattle.installs.specs.declared.change.State.TheVariants.{Taking, Base, Ready as ToReady, Place, Link, Undo, Clear}
 use Rattle.installs.specs.declared.plan.Plan.{Plan}
-use Rattle.installs.specs.declared.plan.Plan.TheVariants.{Install, Split, Root}
+use Rattle.installs.specs.declared.plan.Plan.TheVariants.{Install, Split, Root, Unlink}
 use Rattle.installs.specs.declared.taking.Kind.{Kind}
 use Rattle.installs.specs.declared.taking.Kind.TheVariants.{Pid, Row}
 use Rattle.installs.specs.Spares.{AreTheSpares, AreUnset, HaveRoom, Rest, Spares, first_row, last_row, pid_of}
@@ -37,11 +37,13 @@ abbrev pub needs_pid : Plan → Bool
 needs_pid (Install pid head content) = false
 needs_pid (Split pid plan) = true
 needs_pid (Root left root) = true
+needs_pid (Unlink pid head unterm removal) = false
 
 abbrev pub rows_needed : Plan → ℕ
 rows_needed (Install pid head content) = 1
 rows_needed (Split pid plan) = 2
 rows_needed (Root left root) = 1
+rows_needed (Unlink pid head unterm removal) = 1
 
 -- A number of the kind is needed next: first a PID, then rows.
 abbrev pub IsMissing : Plan → Spares → Kind → Type 0
@@ -58,33 +60,58 @@ abbrev pub new_base : Plan → Record
 new_base (Install pid head content) = content
 new_base (Split pid plan) = kind.Base plan.upper
 new_base (Root left root) = kind.Base root
+new_base (Unlink pid head unterm removal) = kind.Unterm unterm
 
 abbrev pub base_row : Plan → Spares → ℕ
 base_row (Install pid head content) spares = last_row spares
 base_row (Split pid plan) spares = first_row spares
 base_row (Root left root) spares = last_row spares
+base_row (Unlink pid head unterm removal) spares = last_row spares
 
 -- the record that is linked over a page's newest row
 abbrev pub new_record : Plan → ℕ → Record
 new_record (Install pid head content) right = content
 new_record (Split pid plan) right = kind.Split (split_to plan right)
 new_record (Root left root) right = kind.Base root
+new_record (Unlink pid head unterm removal) right = kind.Unterm unterm
 
 -- the exchange that decides: its slot, the number that was read there, and the number to come
 abbrev pub slot_of : Plan → ℕ
 slot_of (Install pid head content) = pid
 slot_of (Split pid plan) = pid
 slot_of (Root left root) = 0
+slot_of (Unlink pid head unterm removal) = pid
 
 abbrev pub head_of : Plan → ℕ
 head_of (Install pid head content) = head
 head_of (Split pid plan) = plan.next
 head_of (Root left root) = left
+head_of (Unlink pid head unterm removal) = head
 
 abbrev pub linked_number : Plan → Spares → ℕ
 linked_number (Install pid head content) spares = last_row spares
 linked_number (Split pid plan) spares = last_row spares
 linked_number (Root left root) spares = pid_of spares
+linked_number (Unlink pid head unterm removal) spares = last_row spares
+
+-- whether a page is to be cleared once its term is out; which one, and the row of its removal, or 0
+abbrev pub clears : Plan → Bool
+clears (Install pid head content) = false
+clears (Split pid plan) = false
+clears (Root left root) = false
+clears (Unlink pid head unterm removal) = true
+
+abbrev pub cleared_page : Plan → ℕ
+cleared_page (Install pid head content) = 0
+cleared_page (Split pid plan) = 0
+cleared_page (Root left root) = 0
+cleared_page (Unlink pid head unterm removal) = unterm.child
+
+abbrev pub cleared_row : Plan → ℕ
+cleared_row (Install pid head content) = 0
+cleared_row (Split pid plan) = 0
+cleared_row (Root left root) = 0
+cleared_row (Unlink pid head unterm removal) = removal
 
 -- the step that a state has asked for
 abbrev pub wanted_at : Plan → Spares → State → StepOf Record
@@ -94,6 +121,7 @@ wanted_at plan spares ToReady = step.Exchange (pid_of spares) 0 (base_row plan s
 wanted_at plan spares Place = step.Place (last_row spares) (new_record plan (pid_of spares))
 wanted_at plan spares Link = step.Exchange (slot_of plan) (head_of plan) (linked_number plan spares)
 wanted_at plan spares Undo = step.Exchange (pid_of spares) (base_row plan spares) 0
+wanted_at plan spares Clear = step.Exchange (cleared_page plan) (cleared_row plan) 0
 
 abbrev pub wanted : Change → Spares → StepOf Record
 wanted change spares = wanted_at change.plan spares change.state
@@ -125,8 +153,10 @@ abbrev pub IsTarget : Limits → Plan → Type 0
 IsTarget limits (Install pid head content) = IsTargetOver limits pid head content
 IsTarget limits (Split pid plan) = IsTargetOver limits pid plan.next (kind.Base plan.upper)
 IsTarget limits (Root left root) = (0 < left) × (left < limits.pids)
+IsTarget limits (Unlink pid head unterm removal) = IsTargetOver limits pid head (kind.Unterm unterm) × ((0 < unterm.child) × (unterm.child < limits.pids)) × (0 < removal) × (removal < limits.rows)
 
--- Such a plan has such a state: only a new page has a base, and only what comes over a page's newest row is placed for it.
+-- Such a plan has such a state: only a new page has a base, only what comes over a page's newest row is placed for it, and only
+-- what takes a page's term out clears that page.
 abbrev pub IsSoundState : Limits → Plan → Spares → State → Type 0
 IsSoundState limits plan spares (Taking taking) = IsSoundTaking limits taking × IsMissing plan spares (kind_of taking)
 IsSoundState limits plan spares Base = AreEnough plan spares × (needs_pid plan ≡ true)
@@ -134,6 +164,7 @@ IsSoundState limits plan spares ToReady = AreEnough plan spares × (needs_pid pl
 IsSoundState limits plan spares Place = AreEnough plan spares × (0 < slot_of plan)
 IsSoundState limits plan spares Link = AreEnough plan spares
 IsSoundState limits plan spares Undo = AreEnough plan spares × (needs_pid plan ≡ true)
+IsSoundState limits plan spares Clear = clears plan ≡ true
 
 -- A change and the spares of its actor.
 pub record IsSoundChange (change : Change) (spares : Spares) : Type 0 where
@@ -164,8 +195,9 @@ abbrev pub MayLinkAs : ℕ → Knowledge → Plan → Type 0
 MayLinkAs actor k (Install pid head content) = MayInstall actor k pid head content
 MayLinkAs actor k (Split pid plan) = MayDivide actor k pid plan
 MayLinkAs actor k (Root left root) = MayRaise actor k left (kind.Base root)
+MayLinkAs actor k (Unlink pid head unterm removal) = MayInstall actor k pid head (kind.Unterm unterm) × ReadsRemoved k unterm.child removal
 
--- The actor is inside, and may link what is planned once it has placed it.
+-- The actor is inside, and may link what is planned once it has placed it; a page that it is to clear it has read removed.
 pub record MayChange (actor : ℕ) (k : Knowledge) (plan : Plan) : Type 0 where
   pub inside : k.inside ≡ true
   pub links : MayLinkAs actor k plan
@@ -177,11 +209,13 @@ KeepsSparePage content pid = ⊤
 
 abbrev pub KeepsSpare : Plan → Option ℕ → Type 0
 KeepsSpare (Install page head content) pid = KeepsSparePage content pid
+KeepsSpare (Unlink page head unterm removal) pid = KeepsSparePage (kind.Unterm unterm) pid
 KeepsSpare plan pid = ⊤
 
 -- The new page has its base in its slot; where the plan brings none, no own page has a row in its slot.
 abbrev pub StandsReady : Plan → Spares → Belongings → Type 0
 StandsReady (Install pid head content) spares own = AreUnset own
+StandsReady (Unlink pid head unterm removal) spares own = AreUnset own
 StandsReady plan spares own = (own.pages (pid_of spares) ≡ Ready (base_row plan spares)) × (own.rows (base_row plan spares) ≡ Written (new_base plan))
 
 -- The record is placed that comes over a page's newest row.
@@ -197,6 +231,7 @@ ShowsState plan spares k ToReady = AreUnset k.own × (k.own.rows (base_row plan 
 ShowsState plan spares k Place = StandsReady plan spares k.own
 ShowsState plan spares k Link = StandsReady plan spares k.own × IsPlaced plan spares k.own
 ShowsState plan spares k Undo = StandsReady plan spares k.own
+ShowsState plan spares k Clear = AreUnset k.own × (k.own.pages (cleared_page plan) ≡ Gone)
 
 pub record Shows (actor : ℕ) (change : Change) (spares : Spares) (k : Knowledge) : Type 0 where
   pub may : MayChange actor k change.plan
@@ -228,9 +263,16 @@ linked_after plan end linked = linked
 abbrev pub LacksNumber : Limits → Plan → Spares → Knowledge → Type 0
 LacksNumber limits plan spares k = (IsMissing plan spares Pid × AllFull limits k.asked Pid) ⊎ (IsMissing plan spares Row × AllFull limits k.asked Row)
 
--- What decides: the exchange won; it lost, and there was no new page, or that one's slot was emptied again; or a number is wanting.
+-- the state from which a change wins
+abbrev pub last_state : Plan → State
+last_state (Install pid head content) = Link
+last_state (Split pid plan) = Link
+last_state (Root left root) = Link
+last_state (Unlink pid head unterm removal) = Clear
+
+-- What decides: the exchange won, and the page was cleared, if one was to be; it lost, and there was no new page, or that one's slot was emptied again; or a number is wanting.
 abbrev pub IsDecided : Change → Answer Record → Knowledge → Spares → End → Type 0
-IsDecided old told now has Won = (old.state ≡ Link) × (told ≡ Whether true)
+IsDecided old told now has Won = (old.state ≡ last_state old.plan) × (told ≡ Whether true)
 IsDecided old told now has Lost = ((old.state ≡ Link) × (told ≡ Whether false) × (needs_pid old.plan ≡ false)) ⊎ ((old.state ≡ Undo) × (told ≡ Whether true))
 IsDecided old told now has Full = LacksNumber old.limits old.plan has now
 

@@ -7,15 +7,15 @@ use Rattle.deltas.specs.declared.record.Record.{Record}
 use Rattle.installs.specs.declared.change.End.{End}
 use Rattle.installs.specs.declared.change.End.TheVariants as end
 use Rattle.installs.specs.declared.change.State.{State}
-use Rattle.installs.specs.declared.change.State.TheVariants.{Taking, Base, Ready, Place, Link, Undo}
+use Rattle.installs.specs.declared.change.State.TheVariants.{Taking, Base, Ready, Place, Link, Undo, Clear}
 use Rattle.installs.specs.declared.plan.Plan.{Plan}
-use Rattle.installs.specs.declared.plan.Plan.TheVariants.{Install, Split, Root}
+use Rattle.installs.specs.declared.plan.Plan.TheVariants.{Install, Split, Root, Unlink}
 use Rattle.installs.specs.declared.taking.Found.{Found}
 use Rattle.installs.specs.declared.taking.Found.TheVariants.{Not, Taken, Full}
 use Rattle.installs.specs.declared.taking.Kind.{Kind}
 use Rattle.installs.specs.declared.taking.Kind.TheVariants.{Pid, Row}
 use Rattle.installs.specs.declared.taking.Taking.TheVariants.{Bits}
-use Rattle.installs.specs.Changes.{needs_pid, rows_needed}
+use Rattle.installs.specs.Changes.{clears, needs_pid, rows_needed}
 use Rattle.installs.specs.Spares.{Spares}
 use Rattle.installs.specs.Taking.{found_after}
 
@@ -30,11 +30,13 @@ abbrev pub after_taking : Plan → State
 after_taking (Install pid head content) = Place
 after_taking (Split pid plan) = Base
 after_taking (Root left root) = Base
+after_taking (Unlink pid head unterm removal) = Place
 
 abbrev pub after_ready : Plan → State
 after_ready (Install pid head content) = Place
 after_ready (Split pid plan) = Place
 after_ready (Root left root) = Link
+after_ready (Unlink pid head unterm removal) = Place
 
 -- First a PID is taken, if one is missing, then rows.
 abbrev pub first_state : Plan → Spares → State
@@ -55,9 +57,9 @@ moved_by plan spares state (Not taking) = record { state = Taking taking; spares
 moved_by plan spares state (Taken kind number) = record { state = first_state plan (with_number kind number spares); spares = with_number kind number spares; end = None }
 moved_by plan spares state Full = record { state = state; spares = spares; end = Some end.Full }
 
--- after the exchange that decides: a new page that is not linked is emptied again
+-- after the exchange that decides: a page whose term is out is cleared; a new page that is not linked is emptied again
 abbrev pub decided_by : Plan → Spares → Bool → Moved
-decided_by plan spares true = record { state = Link; spares = unused plan spares; end = Some end.Won }
+decided_by plan spares true = if clears plan then record { state = Clear; spares = unused plan spares; end = None } else record { state = Link; spares = unused plan spares; end = Some end.Won }
 decided_by plan spares false = if needs_pid plan then record { state = Undo; spares = spares; end = None } else record { state = Link; spares = spares; end = Some end.Lost }
 
 abbrev pub whether_in : Answer Record → Bool
@@ -71,3 +73,4 @@ moved limits plan spares Ready told = record { state = after_ready plan; spares 
 moved limits plan spares Place told = record { state = Link; spares = spares; end = None }
 moved limits plan spares Link told = decided_by plan spares (whether_in told)
 moved limits plan spares Undo told = record { state = Undo; spares = spares; end = Some end.Lost }
+moved limits plan spares Clear told = record { state = Clear; spares = spares; end = Some end.Won }

@@ -1,4 +1,4 @@
-//! A change of the tree: a record over a page's newest row, the split of a page, or a new root.
+//! A change of the tree: a record over a page's newest row, the split of a page, a new root, or the end of a removed page.
 ghost use Rattle.std.specs.Prelude.{◌≡◌, ◌<◌, ◌≤◌, ◌*◌, ◌+◌, ◌/◌, ℕ, false, None, Some, IfNone};
 ghost use Rattle.std.specs.Int.{trailing_zeros, w64};
 ghost use Rattle.bw_model.specs.declared.limits.Limits.{Limits as LimitsSeen};
@@ -22,7 +22,7 @@ use std::marker::Model;
 /// How a change ended.
 #[derive(Clone, Copy, Debug, PartialEq, Eq)]
 pub enum End {
-    /// What was planned is linked.
+    /// What was planned is linked, and a page that was to be cleared is cleared.
     Won,
     /// Another actor's exchange came before.
     Lost,
@@ -45,6 +45,8 @@ pub(crate) enum State {
     Link,
     /// The new page's slot goes back to 0.
     Undo,
+    /// The slot of a removed page, whose term is out, goes to 0.
+    Clear,
 }
 
 /// A change that is under way. What it takes and places is among the spares of its actor until it is linked.
@@ -105,6 +107,7 @@ impl Change {
                 self.linked_number(spares),
             ),
             State::Undo => Step::Exchange(spares.pid_or_0(), self.base_row(spares), 0),
+            State::Clear => Step::Exchange(self.plan.cleared_page(), self.plan.cleared_row(), 0),
         }
     }
 
@@ -142,6 +145,7 @@ impl Change {
             State::Place => self.go(State::Link),
             State::Link => self.decide(spares, answer.into_whether()),
             State::Undo => Some(End::Lost),
+            State::Clear => Some(End::Won),
         }
     }
 
@@ -173,7 +177,8 @@ impl Change {
         None
     }
 
-    /// The exchange that decides was answered: what is linked is spare no more; a new page that is not linked is emptied again.
+    /// The exchange that decides was answered: what is linked is spare no more, and a page whose term is out is cleared; a new page
+    /// that is not linked is emptied again.
     fn decide(&mut self, spares: &mut Spares, won: bool) -> Option<End>
         requires state { self.old.state ≡ State.Link }
         ensures decided { decided_by self.old.plan spares.old won ≡ record { state = self.new.state; spares = spares.new; end = result } }
@@ -181,6 +186,9 @@ impl Change {
     {
         if won {
             spares.release(&self.plan);
+            if self.plan.clears() {
+                return self.go(State::Clear);
+            }
             return Some(End::Won);
         }
         if self.plan.needs_pid() {
@@ -195,7 +203,7 @@ impl Change {
     {
         match &self.plan {
             Plan::Split { .. } => spares.first_row(),
-            Plan::Install { .. } | Plan::Root { .. } => spares.last_row(),
+            Plan::Install { .. } | Plan::Root { .. } | Plan::Unlink { .. } => spares.last_row(),
         }
     }
 
@@ -204,7 +212,7 @@ impl Change {
         ensures { result ≡ linked_number self.now.plan spares.now }
     {
         match &self.plan {
-            Plan::Install { .. } | Plan::Split { .. } => spares.last_row(),
+            Plan::Install { .. } | Plan::Split { .. } | Plan::Unlink { .. } => spares.last_row(),
             Plan::Root { .. } => spares.pid_or_0(),
         }
     }
@@ -215,7 +223,7 @@ fn after_ready(plan: &Plan) -> State
     ensures { result ≡ after_ready plan.now }
 {
     match plan {
-        Plan::Install { .. } | Plan::Split { .. } => State::Place,
+        Plan::Install { .. } | Plan::Split { .. } | Plan::Unlink { .. } => State::Place,
         Plan::Root { .. } => State::Link,
     }
 }
@@ -237,7 +245,7 @@ fn first_state(plan: &Plan, spares: &Spares) -> State
         });
     }
     match plan {
-        Plan::Install { .. } => State::Place,
+        Plan::Install { .. } | Plan::Unlink { .. } => State::Place,
         Plan::Split { .. } | Plan::Root { .. } => State::Base,
     }
 }

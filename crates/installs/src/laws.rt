@@ -1,10 +1,14 @@
 //! What a planned change asks of its actor, its plan gives.
-ghost use Rattle.std.specs.Prelude.{◌≡◌, ℕ, false};
+ghost use Rattle.std.specs.Prelude.{◌≡◌, ℕ, suc, false};
 ghost use Rattle.base_page.specs.Pages.{Page};
 ghost use Rattle.deltas.specs.declared.record.Record.{Record};
 ghost use Rattle.deltas.specs.declared.record.Record.TheVariants as kind;
+ghost use Rattle.deltas.specs.declared.record.Hold.{Hold};
+ghost use Rattle.deltas.specs.declared.record.Merge.{Merge};
+ghost use Rattle.deltas.specs.declared.record.Remove.{Remove};
 ghost use Rattle.deltas.specs.declared.record.Term.{Term};
-ghost use Rattle.chain_search.specs.Chains.{is_removed};
+ghost use Rattle.deltas.specs.declared.record.Unterm.{Unterm};
+ghost use Rattle.chain_search.specs.Chains.{is_removed, level_in};
 ghost use Rattle.chain_search.specs.Discipline.{FitsOn, MayConsolidate, MayUpdate};
 ghost use Rattle.chain_search.specs.Fitted.{IsPageChain};
 ghost use Rattle.chain_search.specs.Knowledge.{Knowledge};
@@ -13,8 +17,13 @@ ghost use Rattle.smo.specs.declared.version.Version.{Version};
 ghost use Rattle.smo.specs.Splits.{IsSplitPlan};
 ghost use Rattle.smo.specs.Terms.{IsTermPlan};
 ghost use Rattle.smo.specs.Roots.{IsRootPlan};
+ghost use Rattle.smo.specs.Holds.{IsHoldPlan};
+ghost use Rattle.smo.specs.Removals.{IsRemovePlan};
+ghost use Rattle.smo.specs.Merges.{IsMergePlan};
+ghost use Rattle.smo.specs.Unterms.{IsUntermPlan};
 ghost use Rattle.smo.specs.Readings.{HasSeen, IsAfter};
-ghost use Rattle.installs.specs.Changes.{MayDivide, MayInstall, MayRaise};
+ghost use Rattle.installs.specs.Changes.{MayDivide, MayInstall, MayLinkAs, MayRaise};
+ghost use Rattle.installs.specs.declared.plan.Plan.TheVariants.{Unlink};
 
 use smo::plans_are_due;
 
@@ -48,6 +57,35 @@ pub fn plans_may_be_linked()
         → IsPageChain left.chain
         → IsRootPlan left right root
         → MayRaise actor k left.pid (kind.Base root) }
+    ensures hold { (actor : ℕ) (k : Knowledge) (parent page : Version) (hold : Hold)
+        → HasSeen k parent
+        → is_removed parent.chain ≡ false
+        → IsPageChain parent.chain
+        → IsHoldPlan parent page hold
+        → MayInstall actor k parent.pid parent.head (kind.Hold hold) }
+    ensures remove { (actor : ℕ) (k : Knowledge) (parent page : Version) (remove : Remove)
+        → HasSeen k parent
+        → is_removed parent.chain ≡ false
+        → IsPageChain parent.chain
+        → level_in parent.chain ≡ suc (level_in page.chain)
+        → HasSeen k page
+        → IsRemovePlan parent page remove
+        → MayInstall actor k page.pid page.head (kind.Remove remove) }
+    ensures merge { (actor : ℕ) (k : Knowledge) (left removed : Version) (merge : Merge)
+        → HasSeen k left
+        → IsMergePlan left removed merge
+        → HasSeen k removed
+        → MayInstall actor k left.pid left.head (kind.Merge merge) }
+    ensures unlink { (actor : ℕ) (k : Knowledge) (parent left removed : Version) (unterm : Unterm)
+        → HasSeen k parent
+        → is_removed parent.chain ≡ false
+        → IsPageChain parent.chain
+        → level_in parent.chain ≡ suc (level_in left.chain)
+        → IsUntermPlan parent left removed unterm
+        → HasSeen k left
+        → IsAfter k parent left
+        → HasSeen k removed
+        → MayLinkAs actor k (Unlink parent.pid parent.head unterm removed.head) }
 {
     plans_are_due();
 }

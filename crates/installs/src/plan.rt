@@ -1,9 +1,10 @@
 //! What a change is to link.
 ghost use Rattle.std.specs.Prelude.{◌≡◌};
-ghost use Rattle.installs.specs.Changes.{head_of, needs_pid, new_base, new_record, rows_needed, slot_of};
+ghost use Rattle.deltas.specs.declared.record.Record.TheVariants as newest;
+ghost use Rattle.installs.specs.Changes.{cleared_page, cleared_row, clears, head_of, needs_pid, new_base, new_record, rows_needed, slot_of};
 
 use base_page::Page;
-use deltas::Record;
+use deltas::{Record, Unterm};
 use smo::SplitPlan;
 
 /// What is to be linked, and where.
@@ -25,6 +26,14 @@ pub enum Plan {
         left: u16,
         root: Page,
     },
+    /// The unterm of a removed page over the row `head` of its parent `pid`; then the removed page is cleared: its slot goes from the
+    /// row `removal` to 0.
+    Unlink {
+        pid: u16,
+        head: u16,
+        unterm: Unterm,
+        removal: u16,
+    },
 }
 
 impl Plan {
@@ -33,7 +42,7 @@ impl Plan {
         ensures { result ≡ needs_pid self.now }
     {
         match self {
-            Plan::Install { .. } => false,
+            Plan::Install { .. } | Plan::Unlink { .. } => false,
             Plan::Split { .. } | Plan::Root { .. } => true,
         }
     }
@@ -43,7 +52,7 @@ impl Plan {
         ensures { result ≡ rows_needed self.now }
     {
         match self {
-            Plan::Install { .. } | Plan::Root { .. } => 1,
+            Plan::Install { .. } | Plan::Root { .. } | Plan::Unlink { .. } => 1,
             Plan::Split { .. } => 2,
         }
     }
@@ -56,6 +65,7 @@ impl Plan {
             Plan::Install { content, .. } => content.copied(),
             Plan::Split { plan, .. } => Record::Base(plan.upper.copied()),
             Plan::Root { root, .. } => Record::Base(root.copied()),
+            Plan::Unlink { unterm, .. } => copied(unterm),
         }
     }
 
@@ -67,6 +77,7 @@ impl Plan {
             Plan::Install { content, .. } => content.copied(),
             Plan::Split { plan, .. } => Record::Split(plan.split(right)),
             Plan::Root { root, .. } => Record::Base(root.copied()),
+            Plan::Unlink { unterm, .. } => copied(unterm),
         }
     }
 
@@ -75,7 +86,7 @@ impl Plan {
         ensures { result ≡ slot_of self.now }
     {
         match self {
-            Plan::Install { pid, .. } | Plan::Split { pid, .. } => *pid,
+            Plan::Install { pid, .. } | Plan::Split { pid, .. } | Plan::Unlink { pid, .. } => *pid,
             Plan::Root { .. } => 0,
         }
     }
@@ -85,9 +96,51 @@ impl Plan {
         ensures { result ≡ head_of self.now }
     {
         match self {
-            Plan::Install { head, .. } => *head,
+            Plan::Install { head, .. } | Plan::Unlink { head, .. } => *head,
             Plan::Split { plan, .. } => plan.next,
             Plan::Root { left, .. } => *left,
         }
     }
+
+    /// Whether a page is to be cleared once its term is out.
+    pub(crate) fn clears(&self) -> bool
+        ensures { result ≡ clears self.now }
+    {
+        match self {
+            Plan::Unlink { .. } => true,
+            Plan::Install { .. } | Plan::Split { .. } | Plan::Root { .. } => false,
+        }
+    }
+
+    /// The page that is to be cleared, or 0.
+    pub(crate) fn cleared_page(&self) -> u16
+        ensures { result ≡ cleared_page self.now }
+    {
+        match self {
+            Plan::Unlink { unterm, .. } => unterm.child,
+            Plan::Install { .. } | Plan::Split { .. } | Plan::Root { .. } => 0,
+        }
+    }
+
+    /// The row of that page's removal, or 0.
+    pub(crate) fn cleared_row(&self) -> u16
+        ensures { result ≡ cleared_row self.now }
+    {
+        match self {
+            Plan::Unlink { removal, .. } => *removal,
+            Plan::Install { .. } | Plan::Split { .. } | Plan::Root { .. } => 0,
+        }
+    }
+}
+
+/// The same unterm, as a record.
+fn copied(unterm: &Unterm) -> Record
+    ensures { result ≡ newest.Unterm unterm.now }
+{
+    Record::Unterm(Unterm {
+        level: unterm.level,
+        next: unterm.next,
+        separator: unterm.separator.copied(),
+        child: unterm.child,
+    })
 }

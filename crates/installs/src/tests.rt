@@ -9,8 +9,8 @@ ghost use Rattle.installs.specs.Within.{IsWithin};
 use crate::{Change, End, Plan, Spares};
 use arrayvec::ArrayVec;
 use base_page::Page;
-use bw_model::{Answer, Limits, Step};
-use deltas::{Record, Remove};
+use bw_model::{Answer, Key, Limits, Step};
+use deltas::{Record, Remove, Unterm};
 use smo::SplitPlan;
 
 /// How many PIDs and rows are free, and whether the exchange that decides wins.
@@ -131,6 +131,23 @@ fn root(limits: &Limits) -> Plan
     }
 }
 
+fn unlink(limits: &Limits) -> Plan
+    ensures { IsTarget limits.now result }
+{
+    let _ = limits;
+    Plan::Unlink {
+        pid: 1,
+        head: 7,
+        unterm: Unterm {
+            level: 1,
+            next: 7,
+            separator: Key::default(),
+            child: 9,
+        },
+        removal: 4,
+    }
+}
+
 fn having(pids: u8, rows: u8, won: bool) -> World {
     World { pids, rows, won }
 }
@@ -208,6 +225,33 @@ fn keeps_the_row_of_a_lost_record(rt: HostRuntime) {
     let limits = smallest();
     let mut spares = Spares::new();
     let (log, end) = drive(&limits, &mut spares, install(&limits), having(0, 1, false));
+    assert_eq!(rt; log.as_slice().last(), Some(&('x', 1, 7, 5)));
+    assert_eq!(rt; (end, spares.pid()), (Some(End::Lost), None));
+    assert_eq!(rt; spares.rows(), [5].as_slice());
+}
+
+#[test]
+fn clears_a_page_once_its_term_is_out(rt: HostRuntime) {
+    let limits = smallest();
+    let mut spares = Spares::new();
+    let (log, end) = drive(&limits, &mut spares, unlink(&limits), having(0, 1, true));
+    let steps = [
+        ('r', 0, 0, 0),
+        ('R', 5, 0, 0),
+        ('=', 5, 7, 0),
+        ('x', 1, 7, 5),
+        ('x', 9, 4, 0),
+    ];
+    assert_eq!(rt; log.as_slice(), steps.as_slice());
+    assert_eq!(rt; (end, spares.pid()), (Some(End::Won), None));
+    assert!(rt; spares.rows().is_empty());
+}
+
+#[test]
+fn clears_no_page_whose_term_another_took_out(rt: HostRuntime) {
+    let limits = smallest();
+    let mut spares = Spares::new();
+    let (log, end) = drive(&limits, &mut spares, unlink(&limits), having(0, 1, false));
     assert_eq!(rt; log.as_slice().last(), Some(&('x', 1, 7, 5)));
     assert_eq!(rt; (end, spares.pid()), (Some(End::Lost), None));
     assert_eq!(rt; spares.rows(), [5].as_slice());

@@ -1,5 +1,5 @@
 -- What a change's next step leaves an operation in.
-use Rattle.std.proofs.Common.{◌≡◌, ◌<◌, ◌+◌, inl, inr, ℕ, Option, Some, None, true, refl, sym, ap, subst, ◌∙◌, arith}
+use Rattle.std.proofs.Common.{◌≡◌, ◌<◌, ◌≤◌, ◌+◌, inl, inr, ℕ, Option, Some, None, true, refl, sym, ap, subst, ◌∙◌, arith}
 use Rattle.std.specs.Prelude.{IfSome}
 use Rattle.std.proofs.lemmas.Option.{same_Some}
 use Rattle.bw_model.specs.declared.command.Command.{Command}
@@ -20,7 +20,7 @@ use Rattle.installs.specs.Spares.{HaveRoom, Spares}
 use Rattle.installs.specs.declared.change.End.{End}
 use Rattle.installs.specs.declared.change.End.TheVariants.{Won, Lost, Full}
 use Rattle.installs.specs.declared.plan.Plan.{Plan}
-use Rattle.installs.specs.declared.plan.Plan.TheVariants.{Install, Split, Root}
+use Rattle.installs.specs.declared.plan.Plan.TheVariants.{Install, Split, Root, Unlink}
 use Rattle.op_machine.specs.Bounded.{left_for, one_round}
 use Rattle.op_machine.specs.Brings.{Brings, IsReadPlan, IsUpdateOf, IsUsefulOver, IsUsefulPlan}
 use Rattle.op_machine.specs.Outcomes.{FacesChanged}
@@ -41,6 +41,7 @@ apart_from k (Split page plan) (Some p) unread read = λ same. let e = unread p 
 apart_from k (Split page plan) None unread read = tt
 apart_from k (Install pid head content) o unread read = tt
 apart_from k (Root left root) o unread read = tt
+apart_from k (Unlink pid head unterm removal) o unread read = tt
 
 spare_apart : (k : Knowledge) (plan : Plan) (o : Option ℕ) → IfSome o (λ p. k.read.heads p ≡ None) → IsReadPlan k plan → bound.IsApart plan o
 spare_apart k plan None unread read = apart_from k plan None (λ p e. cc) read
@@ -70,22 +71,26 @@ useful_still : (k now : Knowledge) (plan : Plan) → now.read ≡ k.read → IsU
 useful_still k now (Install pid head content) same h = useful_over k now head content same h
 useful_still k now (Split pid plan) same h = tt
 useful_still k now (Root left root) same h = tt
+useful_still k now (Unlink pid head unterm removal) same h = tt
 
 read_still : (k now : Knowledge) (plan : Plan) → now.read ≡ k.read → IsReadPlan k plan → IsReadPlan now plan
 read_still k now (Install pid head content) same h = tt
 read_still k now (Split pid plan) same h = rw same h
 read_still k now (Root left root) same h = tt
+read_still k now (Unlink pid head unterm removal) same h = tt
 
 -- a change that has not won leaves what is known of the command's update
 lost_links : (plan : Plan) (linked : Option (Option ℕ)) → change.linked_after plan Lost linked ≡ linked
 lost_links (Install pid head content) linked = refl
 lost_links (Split pid plan) linked = refl
 lost_links (Root left root) linked = refl
+lost_links (Unlink pid head unterm removal) linked = refl
 
 full_links : (plan : Plan) (linked : Option (Option ℕ)) → change.linked_after plan Full linked ≡ linked
 full_links (Install pid head content) linked = refl
 full_links (Split pid plan) linked = refl
 full_links (Root left root) linked = refl
+full_links (Unlink pid head unterm removal) linked = refl
 
 module _ (task : Task) (had has : Spares) (k : Knowledge) (r : Recalled) (old new : change.Change) (then : Then) (told : Answer Record) (h : IsInChange task had k r old then) (fits : Fits task.limits k (change.wanted old had) told) (pid : bound.IsPidFrom had.pid (bound.pid_taken (change.wanted old had) told) has.pid) where
   abbrev now : Knowledge
@@ -175,8 +180,17 @@ module _ (task : Task) (had has : Spares) (k : Knowledge) (r : Recalled) (old ne
   won_left Round left = omega arith
   won_left (Errand key) left = omega arith
 
+  -- after a page is cleared a new round begins
+  cleared_left : (t : Then) → then ≡ t → change.clears old.plan ≡ true → left_for (outcome.Changed Won t) ≤ one_round
+  cleared_left (Reply answered) is clears = let b : IsUpdateOf k task.command old.plan answered = subst (λ t. Brings k task.command old.plan t) is h.brings in let e = sym clears ∙ ap change.clears b.is in cc
+  cleared_left Round is clears = omega arith
+  cleared_left (Errand key) is clears = let b = subst (λ t. Brings k task.command old.plan t) is h.brings in let e = sym clears ∙ ap change.clears b.2 in cc
+
   pub ended_left : (end : End) → bound.SpendsTo one_round r old had told new has (Some end) → IsSpent r (change.wanted old had) told (bound.steps_left one_round old had + 1) (left_for (outcome.Changed end then))
-  ended_left Won paid = inr (paid, won_left then (bound.steps_left one_round old had + 1))
+  ended_left Won spends = elim spends [
+    | inl paid ↦ inr (paid, won_left then (bound.steps_left one_round old had + 1))
+    | inr more ↦ inl (let after = cleared_left then refl more.0 in let left = more.1 in omega (arith, after, left))
+  ]
   ended_left Lost spends = elim spends [
     | inl paid ↦ inr (paid, omega arith)
     | inr more ↦ inl (omega (arith, more))

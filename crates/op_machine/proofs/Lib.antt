@@ -15,6 +15,8 @@ pub mod Rounds
 pub mod Changing
 pub mod Stepping
 pub mod Plans
+pub mod Unlinking
+pub mod Tending
 pub mod Commands
 pub mod Tidying
 pub mod Going

@@ -46,24 +46,24 @@ module _ (task : Task) (spares : Spares) (k : Knowledge) (r : Recalled) where
 
   -- where a base over a page, a split of it, the term of a page on its parent, and a root over a page are to be linked
   pub base_target : (page : Version) (base : Page) → FacesWritten task spares k r (end.Consolidate page) → change.IsTarget task.limits (Install page.pid page.head (kind.Base base))
-  base_target page base h = place_of task.limits k r page (kind.Base base) (alive_in h.round.limits page h.limits h.ends.page) (λ next e. cc)
+  base_target page base h = place_of task.limits k r page (kind.Base base) (alive_in h.round.limits page h.round_of.limits h.ends.page) (λ next e. cc)
 
   pub split_target : (page : Version) (plan : SplitPlan) → FacesWritten task spares k r (end.Split page plan) → change.IsTarget task.limits (Split page.pid plan)
-  split_target page plan h = rw h.ends.plan_due.over (place_of task.limits k r page (kind.Base plan.upper) (alive_in h.round.limits page h.limits h.ends.page) (λ next e. cc))
+  split_target page plan h = rw h.ends.plan_due.over (place_of task.limits k r page (kind.Base plan.upper) (alive_in h.round.limits page h.round_of.limits h.ends.page) (λ next e. cc))
 
   pub term_target : (parent : Version) (term : Term) → FacesWritten task spares k r (end.Term parent term) → change.IsTarget task.limits (Install parent.pid parent.head (kind.Term term))
   term_target parent term h =
-      let alive = alive_in h.round.limits parent h.limits h.ends.page in
+      let alive = alive_in h.round.limits parent h.round_of.limits h.ends.page in
       place_of task.limits k r parent (kind.Term term) alive (rw h.ends.plan.is (λ next e. subst (λ n. n < task.limits.rows) (same_Some parent.head next e) alive.in_hand.row))
 
   pub root_target : (left : Version) (root : Page) → FacesWritten task spares k r (end.Root left root) → change.IsTarget task.limits (Root left.pid root)
-  root_target left root h = let alive = alive_in h.round.limits left h.limits h.ends.page in (left.is_pid.0, alive.in_hand.page)
+  root_target left root h = let alive = alive_in h.round.limits left h.round_of.limits h.ends.page in (left.is_pid.0, alive.in_hand.page)
 
   -- a page that is consolidated has deltas
   pub long_chain : (page : Version) → FacesWritten task spares k r (end.Consolidate page) → 1 < length page.chain
-  long_chain page h = let due = h.due in let some = due_some task.errands task.command in elim h.ends.long [
+  long_chain page h = let some = h.round_of.some in elim h.ends.long [
     | inl many ↦ omega (arith, many)
-    | inr leaf ↦ let longer = leaf.1 in omega (arith, longer, due, some)
+    | inr leaf ↦ let longer = leaf.1 in omega (arith, longer, some)
   ]
 
 -- what is known at the leaf of an errand is known for the next round, and at that of the command's key

@@ -1,5 +1,5 @@
 -- What a round's next step leaves an operation in.
-use Rattle.std.proofs.Common.{inl, inr, Some, None, ◌∙◌, arith}
+use Rattle.std.proofs.Common.{◌≡◌, inl, inr, refl, sym, ap, subst, Some, None, ◌∙◌, arith}
 use Rattle.bw_model.specs.declared.step.Answer.{Answer}
 use Rattle.deltas.specs.declared.record.Record.{Record}
 use Rattle.chain_search.specs.Fitting.{Fits}
@@ -7,13 +7,20 @@ use Rattle.chain_search.specs.Knowledge.{Knowledge, learn}
 use Rattle.chain_search.specs.Recalled.{IsSpent, Recalled, recall}
 use Rattle.descent.specs.ReadRounds as read
 use Rattle.descent.specs.WriteRounds as write
+use Rattle.descent.specs.declared.read_round.Goal.{Goal}
+use Rattle.descent.specs.declared.read_round.Goal.TheVariants as read_to
+use Rattle.descent.specs.declared.visit.Sight.{Sight}
+use Rattle.descent.specs.declared.visit.Sight.TheVariants.{Empty, Whole}
+use Rattle.descent.specs.declared.write_round.Goal as write_goal
+use Rattle.descent.specs.declared.write_round.Goal.TheVariants as write_to
+use Rattle.descent.specs.declared.write_round.Goal.TheVariants.{Seek}
 use Rattle.descent.specs.declared.read_round.ReadEnd.{ReadEnd}
 use Rattle.descent.specs.declared.read_round.ReadEnd.TheVariants as read_end
 use Rattle.descent.specs.declared.write_round.WriteEnd.{WriteEnd}
 use Rattle.descent.specs.declared.write_round.WriteEnd.TheVariants as write_end
 use Rattle.installs.specs.Spares.{Spares}
-use Rattle.op_machine.specs.Bounded.{left_at, left_for, one_round}
-use Rattle.op_machine.specs.Outcomes.{FacesRead, FacesWritten}
+use Rattle.op_machine.specs.Bounded.{left_at, left_for, left_round, one_round}
+use Rattle.op_machine.specs.Outcomes.{FacesRead, FacesWritten, HasSought}
 use Rattle.op_machine.specs.Shows.{IsInReadRound, IsInWriteRound}
 use Rattle.op_machine.specs.Tasks.{Task}
 use Rattle.op_machine.specs.declared.state.Outcome.TheVariants as outcome
@@ -40,38 +47,112 @@ module _ (task : Task) (spares : Spares) (k : Knowledge) (r : Recalled) (round n
     ends = ends;
   }
 
-  pub read_left : (end : ReadEnd) → read.Spends one_round r round told new (Some end) → IsSpent r (read.wanted round) told (left_at r spares (at.Read round)) (left_for (outcome.Read end))
-  read_left read_end.Again paid = inr (paid, omega arith)
+  -- where a page wasn't there
+  missed : (goal : Goal) → round.goal ≡ goal → read.Misses left_round one_round r round told goal → IsSpent r (read.wanted round) told (left_at r spares (at.Read round)) one_round
+  missed read_to.Seek is paid = inr (paid, omega arith)
+  missed (read_to.Left removed) is paid = inr (paid, omega arith)
+  missed read_to.Beyond is kept = inl (omega (arith, kept))
+
+  pub read_went : read.Spends left_round one_round r round told new None → IsSpent r (read.wanted round) told (left_at r spares (at.Read round)) (left_at (recall r (read.wanted round) told) spares (at.Read new))
+  read_went spends = elim spends [
+    | inl less ↦ inl (omega (arith, less))
+    | inr paid ↦ let more = paid.1 in inr (paid.0, omega (arith, more))
+  ]
+
+  pub read_left : (end : ReadEnd) → read.Spends left_round one_round r round told new (Some end) → IsSpent r (read.wanted round) told (left_at r spares (at.Read round)) (left_for (outcome.Read end))
+  read_left read_end.Again misses = missed round.goal refl misses
   read_left (read_end.Removed page) reserved = inl (omega (arith, reserved))
   read_left (read_end.Leaf leaf) some = inl (omega (arith, some))
+  read_left (read_end.Beside left removed) some = inl (omega (arith, some))
+
+-- a round that has gone to a leaf from the first goes there, and one that hasn't doesn't
+still_goes_left : (old new : write.WriteRound) (told : Answer Record) → write.Responds old told new None → new.goal ≡ Seek → old.goal ≡ Seek
+still_goes_left old new told responds is = elim responds [
+  | inl on ↦ sym (ap (λ (round : write.WriteRound). round.goal) on.same) ∙ is
+  | inr from ↦ by_sight from.sight from.sees
+]
+  where
+    back : (to : write.WriteRound) → new ≡ to → to.goal ≡ Seek
+    back to same = subst (λ (round : write.WriteRound). round.goal ≡ Seek) same is
+
+    by_sight : (sight : Sight) → write.Sees old sight new None → old.goal ≡ Seek
+    by_sight Empty sees = cc
+    by_sight (Whole version) sees = elim sees [
+      | inl aside ↦ back _ aside.goes
+      | inr rest ↦ elim rest [
+        | inl below ↦ back _ below.goes
+        | inr last ↦ elim last [
+          | inl merge ↦ (let e = back _ merge.goes in cc)
+          | inr unterm ↦ (let e = back _ unterm.goes in cc)
+        ]
+      ]
+    ]
+
+-- a round that ends at the leaf of a key has gone there
+has_sought : (old new : write.WriteRound) (told : Answer Record) (end : WriteEnd) → write.Responds old told new (Some end) → HasSought old end
+has_sought old new told (write_end.Leaf parent leaf) responds = elim responds [
+  | inl on ↦ (let e = on.none in cc)
+  | inr from ↦ by_sight from.sight from.sees
+]
+  where
+    by_sight : (sight : Sight) → write.Sees old sight new (Some (write_end.Leaf parent leaf)) → old.goal ≡ Seek
+    by_sight Empty sees = cc
+    by_sight (Whole version) sees = sees.seeks
+has_sought old new told write_end.Again responds = tt
+has_sought old new told write_end.Done responds = tt
+has_sought old new told (write_end.Removed page) responds = tt
+has_sought old new told (write_end.Consolidate page) responds = tt
+has_sought old new told (write_end.Split page plan) responds = tt
+has_sought old new told (write_end.Term parent term) responds = tt
+has_sought old new told (write_end.Root left root) responds = tt
+has_sought old new told (write_end.Merge left removed merge) responds = tt
+has_sought old new told (write_end.Unterm parent left removed unterm) responds = tt
 
 module _ (task : Task) (spares : Spares) (k : Knowledge) (r : Recalled) (round new : write.WriteRound) (told : Answer Record) (h : IsInWriteRound task spares k r round) (fits : Fits task.limits k (write.wanted round) told) where
-  pub write_on : write.IsSame round new → write.Follows k r round told new None → IsInWriteRound task spares (learn k (write.wanted round) told) (recall r (write.wanted round) told) new
-  write_on same follows = record {
+  pub write_on : write.Responds round told new None → write.IsSame round new → write.Follows k r round told new None → IsInWriteRound task spares (learn k (write.wanted round) told) (recall r (write.wanted round) told) new
+  write_on responds same follows = record {
     seeks = seeks_still task spares k h.seeks task.limits (write.wanted round) told (writer_reads round k r h.shows) fits;
     writer = h.writer;
-    limits = same.limits ∙ h.limits;
-    key = same.key ∙ h.key;
-    due = same.due ∙ h.due;
+    round_of = record {
+      limits = same.limits ∙ h.round_of.limits;
+      some = rw same.due h.round_of.some;
+      key = λ is. same.key ∙ h.round_of.key (still_goes_left round new told responds is);
+      due = λ is. same.due ∙ h.round_of.due (still_goes_left round new told responds is);
+    };
     shows = follows;
   }
 
-  pub write_ended : (end : WriteEnd) → write.Ends round (learn k (write.wanted round) told) (recall r (write.wanted round) told) end → FacesWritten task spares (learn k (write.wanted round) told) (recall r (write.wanted round) told) end
-  write_ended end ends = record {
+  pub write_ended : (end : WriteEnd) → write.Responds round told new (Some end) → write.Ends round (learn k (write.wanted round) told) (recall r (write.wanted round) told) end → FacesWritten task spares (learn k (write.wanted round) told) (recall r (write.wanted round) told) end
+  write_ended end responds ends = record {
     seeks = seeks_still task spares k h.seeks task.limits (write.wanted round) told (writer_reads round k r h.shows) fits;
     writer = h.writer;
     round = round;
-    limits = h.limits;
-    key = h.key;
-    due = h.due;
+    round_of = h.round_of;
+    sought = has_sought round new told end responds;
     ends = ends;
   }
 
-  pub write_left : (end : WriteEnd) → write.Spends one_round r round told new (Some end) → IsSpent r (write.wanted round) told (left_at r spares (at.Write round)) (left_for (outcome.Written end))
-  write_left write_end.Again paid = inr (paid, omega arith)
+  -- where a page wasn't there
+  write_missed : (goal : write_goal.Goal) → write.Misses left_round one_round r round told goal → IsSpent r (write.wanted round) told (left_at r spares (at.Write round)) one_round
+  write_missed Seek paid = inr (paid, omega arith)
+  write_missed (write_to.Left pid) paid = inr (paid, omega arith)
+  write_missed (write_to.Merge left) paid = inr (paid, omega arith)
+  write_missed (write_to.Unterm parent left) kept = inl (omega (arith, kept))
+
+  pub write_went : write.Spends left_round one_round r round told new None → IsSpent r (write.wanted round) told (left_at r spares (at.Write round)) (left_at (recall r (write.wanted round) told) spares (at.Write new))
+  write_went spends = elim spends [
+    | inl less ↦ inl (omega (arith, less))
+    | inr paid ↦ let more = paid.1 in inr (paid.0, omega (arith, more))
+  ]
+
+  pub write_left : (end : WriteEnd) → write.Spends left_round one_round r round told new (Some end) → IsSpent r (write.wanted round) told (left_at r spares (at.Write round)) (left_for (outcome.Written end))
+  write_left write_end.Again misses = write_missed round.goal misses
+  write_left write_end.Done kept = inl (omega (arith, kept))
   write_left (write_end.Removed page) reserved = inl (omega (arith, reserved))
   write_left (write_end.Consolidate page) some = inl (omega (arith, some))
   write_left (write_end.Split page plan) some = inl (omega (arith, some))
   write_left (write_end.Term parent term) some = inl (omega (arith, some))
   write_left (write_end.Root left root) some = inl (omega (arith, some))
   write_left (write_end.Leaf parent leaf) some = inl (omega (arith, some))
+  write_left (write_end.Merge left removed merge) kept = inl (omega (arith, kept))
+  write_left (write_end.Unterm parent left removed unterm) kept = inl (omega (arith, kept))

@@ -12,9 +12,9 @@ use Rattle.installs.specs.Changes as change
 use Rattle.installs.specs.Spares.{Spares, last_row, pid_of}
 use Rattle.installs.specs.Taking.{wanted_number}
 use Rattle.installs.specs.declared.change.State.{State}
-use Rattle.installs.specs.declared.change.State.TheVariants.{Taking, Base, Ready, Place, Link, Undo}
+use Rattle.installs.specs.declared.change.State.TheVariants.{Taking, Base, Ready, Place, Link, Undo, Clear}
 use Rattle.installs.specs.declared.plan.Plan.{Plan}
-use Rattle.installs.specs.declared.plan.Plan.TheVariants.{Install, Split, Root}
+use Rattle.installs.specs.declared.plan.Plan.TheVariants.{Install, Split, Root, Unlink}
 use Rattle.installs.specs.declared.taking.Kind.TheVariants.{Pid, Row}
 use Rattle.installs.specs.declared.taking.Taking as taken
 use Rattle.installs.specs.declared.taking.Taking.TheVariants.{Bits, Take}
@@ -34,6 +34,7 @@ freely limits actor k plan spares Ready = tt
 freely limits actor k plan spares Place = tt
 freely limits actor k plan spares Link = tt
 freely limits actor k plan spares Undo = tt
+freely limits actor k plan spares Clear = tt
 
 -- an exchange that puts a base over a row only where its chain has deltas
 exchanges : (k : Knowledge) (slot old new : ℕ) → ((basis : HasRead k slot old) (page : Page) → k.own.rows new ≡ Written (kind.Base page) → 1 < length basis.chain) → IsUseful k (Exchange slot old new)
@@ -70,4 +71,6 @@ usefully k plan spares Place useful shows = tt
 usefully k (Install pid head content) spares Link useful shows = exchanges k pid head (last_row spares) (over k pid head (last_row spares) content useful shows.1)
 usefully k (Split pid plan) spares Link useful shows = exchanges k pid plan.next (last_row spares) (λ basis page is. let e = sym shows.1 ∙ is in cc)
 usefully k (Root left root) spares Link useful shows = tt
+usefully k (Unlink pid head unterm removal) spares Link useful shows = exchanges k pid head (last_row spares) (λ basis page is. let e = sym shows.1 ∙ is in cc)
 usefully k plan spares Undo useful shows = empties k (pid_of spares) (change.base_row plan spares)
+usefully k plan spares Clear useful shows = empties k (change.cleared_page plan) (change.cleared_row plan)

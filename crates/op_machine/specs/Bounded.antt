@@ -33,13 +33,17 @@ few_changes = 800
 abbrev pub one_round : ℕ
 one_round = few_reads + few_changes + 1
 
+-- how many steps a removal that a round reads keeps: for the reads of the round to its left, and for a round after that
+abbrev pub left_round : ℕ
+left_round = few_reads + one_round
+
 -- how many steps an operation takes at most from a state on, with the one that it has asked for, but for those of its errands
 abbrev pub left_at : Recalled → Spares → State → ℕ
 left_at r spares at.Begun = one_round + 3
 left_at r spares at.Epoch = one_round + 2
 left_at r spares (at.Enter epoch) = one_round + 1
-left_at r spares (at.Read round) = read.reads_left one_round r round + 1
-left_at r spares (at.Write round) = write.reads_left one_round r round + few_changes + 1
+left_at r spares (at.Read round) = read.reads_left left_round one_round r round + 1
+left_at r spares (at.Write round) = write.reads_left left_round one_round r round + few_changes + 1
 left_at r spares (at.Change now then) = change.steps_left one_round now spares + 1
 left_at r spares (at.Leave reply) = 1
 left_at r spares at.Over = 0
@@ -57,10 +61,12 @@ left_for Begun = one_round + 2
 left_for (Epoch epoch) = one_round + 1
 left_for Entered = one_round
 left_for (Read read_end.Again) = one_round
-left_for (Read (read_end.Removed page)) = one_round
+left_for (Read (read_end.Removed page)) = left_round + 1
 left_for (Read (read_end.Leaf leaf)) = 1
+left_for (Read (read_end.Beside left removed)) = 1
 left_for (Written write_end.Again) = one_round
-left_for (Written (write_end.Removed page)) = one_round
+left_for (Written (write_end.Removed page)) = left_round + few_changes + 1
+left_for (Written write_end.Done) = one_round
 left_for (Written end) = few_changes + 1
 left_for (Changed Won (Reply reply)) = 1
 left_for (Changed Won Round) = one_round

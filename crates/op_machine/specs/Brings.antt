@@ -13,7 +13,7 @@ use Rattle.chain_search.specs.Knowledge.{Knowledge}
 use Rattle.installs.specs.declared.change.End.{End}
 use Rattle.installs.specs.declared.change.End.TheVariants.{Won}
 use Rattle.installs.specs.declared.plan.Plan.{Plan}
-use Rattle.installs.specs.declared.plan.Plan.TheVariants.{Install, Split, Root}
+use Rattle.installs.specs.declared.plan.Plan.TheVariants.{Install, Split, Root, Unlink}
 use Rattle.installs.specs.Changes.{linked_after, linked_by}
 use Rattle.smo.specs.declared.split.SplitPlan.{SplitPlan}
 use Rattle.op_machine.specs.Errands.{with_errand}
@@ -39,6 +39,7 @@ abbrev pub IsNoSplit : Plan → Type 0
 IsNoSplit (Install pid head content) = ⊤
 IsNoSplit (Split pid split) = ⊥
 IsNoSplit (Root left root) = ⊤
+IsNoSplit (Unlink pid head unterm removal) = ⊤
 
 -- What a change brings: an update its reply, a split the errand to its new page, another change neither.
 abbrev pub Brings : Knowledge → Command → Plan → Then → Type 0

@@ -18,3 +18,4 @@ pub mod Shows
 pub mod Outcomes
 pub mod Ops
 pub mod Bounded
+pub mod Upkeep

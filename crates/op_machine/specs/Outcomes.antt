@@ -1,27 +1,29 @@
 -- What an operation faces where it goes from one state to another.
-use Rattle.std.specs.Prelude.{◌≡◌, ◌<◌, ◌≤◌, [], length, Option, Some, IsSome, IsTrue, true, false}
+use Rattle.std.specs.Prelude.{◌≡◌, ◌<◌, ◌≤◌, ℕ, List, [], length, Option, Some, IfSome, IsSome, IsTrue, ⊤, true, false}
 use Rattle.bw_model.specs.declared.command.Reply.{Reply as ReplyOf}
 use Rattle.bw_model.specs.declared.step.Step.{Step as StepOf}
 use Rattle.bw_model.specs.declared.step.Step.TheVariants as step
 use Rattle.bw_model.specs.declared.step.Answer.{Answer}
 use Rattle.deltas.specs.declared.record.Record.{Record}
-use Rattle.chain_search.specs.Chains.{covers, level_in}
-use Rattle.chain_search.specs.Discipline.{LacksRoom, MayReply}
+use Rattle.chain_search.specs.Chains.{IsChainFrom, covers, level_in}
+use Rattle.chain_search.specs.Discipline.{LacksRoom, MayReply, WasStanding}
 use Rattle.chain_search.specs.Knowledge.{Knowledge, finished, learn}
 use Rattle.chain_search.specs.Recalled.{Recalled}
 use Rattle.descent.specs.ReadRounds as read
 use Rattle.descent.specs.Versions.{IsAlive}
 use Rattle.descent.specs.WriteRounds as write
 use Rattle.descent.specs.declared.read_round.ReadEnd.{ReadEnd}
+use Rattle.descent.specs.declared.write_round.Goal.TheVariants.{Seek}
 use Rattle.descent.specs.declared.write_round.WriteEnd.{WriteEnd}
+use Rattle.descent.specs.declared.write_round.WriteEnd.TheVariants as write_end
 use Rattle.installs.specs.declared.change.End.{End}
 use Rattle.installs.specs.declared.change.End.TheVariants.{Won, Lost, Full}
 use Rattle.installs.specs.Spares.{Spares}
 use Rattle.smo.specs.Sizes.{HasFewItems}
 use Rattle.smo.specs.declared.version.Version.{Version}
-use Rattle.bw_model.specs.Replies.{is_writer}
+use Rattle.bw_model.specs.Replies.{command_key, is_writer}
 use Rattle.op_machine.specs.Errands.{due_of, way_key}
-use Rattle.op_machine.specs.Shows.{FitsLast, Stands, learn_last, recall_last, wanted_at}
+use Rattle.op_machine.specs.Shows.{FitsLast, IsRoundOf, Stands, learn_last, recall_last, wanted_at}
 use Rattle.op_machine.specs.Tasks.{IsDone, IsAtRest, Seeks, Task, Waits}
 use Rattle.op_machine.specs.declared.state.Outcome.{Outcome}
 use Rattle.op_machine.specs.declared.state.Outcome.TheVariants.{Begun, Epoch, Entered, Read, Written, Changed}
@@ -40,14 +42,27 @@ pub record FacesRead (task : Task) (spares : Spares) (k : Knowledge) (r : Recall
   pub key : round.key ≡ way_key [] task.command
   pub ends : read.Ends round k r end
 
+-- A reader has read the chain of a leaf that has its key and stood.
+pub record StandsForReader (task : Task) (spares : Spares) (k : Knowledge) (head : ℕ) (leaf : List Record) : Type 0 where
+  pub seeks : Seeks task spares k
+  pub reader : is_writer task.command ≡ false
+  pub read : IsChainFrom k.read.seen head leaf
+  pub level : level_in leaf ≡ 0
+  pub covered : IsTrue (covers leaf (command_key task.command))
+  pub standing : WasStanding k head leaf
+
+-- A round that ends at the leaf of a key has gone to that leaf.
+abbrev pub HasSought : write.WriteRound → WriteEnd → Type 0
+HasSought round (write_end.Leaf parent leaf) = round.goal ≡ Seek
+HasSought round end = ⊤
+
 -- A writer's round has ended.
 pub record FacesWritten (task : Task) (spares : Spares) (k : Knowledge) (r : Recalled) (end : WriteEnd) : Type 0 where
   pub seeks : Seeks task spares k
   pub writer : is_writer task.command ≡ true
   pub round : write.WriteRound
-  pub limits : round.limits ≡ task.limits
-  pub key : round.key ≡ way_key task.errands task.command
-  pub due : round.due ≡ due_of task.errands task.command
+  pub round_of : IsRoundOf task round
+  pub sought : HasSought round end
   pub ends : write.Ends round k r end
 
 -- A writer is at the leaf that its round looked for, where nothing else is due.
@@ -60,6 +75,11 @@ pub record IsAtLeaf (task : Task) (spares : Spares) (k : Knowledge) (r : Recalle
   pub short : length leaf.chain ≤ 8
   pub early : length leaf.chain ≤ due_of task.errands task.command
   pub few : HasFewItems leaf.chain
+
+-- The same, and the page above it, where one was read before it.
+pub record IsAtLeafBelow (task : Task) (spares : Spares) (k : Knowledge) (r : Recalled) (parent : Option Version) (leaf : Version) : Type 0 where
+  pub at : IsAtLeaf task spares k r leaf
+  pub above : IfSome parent (write.IsUpper task.limits k r leaf)
 
 -- A change has ended: an update was linked, and justifies the reply; or no update was linked, and, where it is full, nothing
 -- is free.

@@ -13,6 +13,7 @@ use Rattle.chain_search.specs.Recalled.{Recalled, WasHead, recall}
 use Rattle.chain_search.specs.Useful.{IsUseful}
 use Rattle.descent.specs.ReadRounds as read
 use Rattle.descent.specs.WriteRounds as write
+use Rattle.descent.specs.declared.write_round.Goal.TheVariants.{Seek}
 use Rattle.installs.specs.Changes as change
 use Rattle.installs.specs.Bounded as bound
 use Rattle.installs.specs.Spares.{Spares}
@@ -34,13 +35,18 @@ pub record IsInReadRound (task : Task) (spares : Spares) (k : Knowledge) (r : Re
   pub key : round.key ≡ way_key [] task.command
   pub shows : read.Shows round k r
 
--- A writer's round is under way, for the newest errand or the command's key.
+-- The round goes to a leaf for the newest errand or the command's key, or to the left of a removed page.
+pub record IsRoundOf (task : Task) (round : write.WriteRound) : Type 0 where
+  pub limits : round.limits ≡ task.limits
+  pub some : 0 < round.due
+  pub key : round.goal ≡ Seek → round.key ≡ way_key task.errands task.command
+  pub due : round.goal ≡ Seek → round.due ≡ due_of task.errands task.command
+
+-- A writer's round is under way.
 pub record IsInWriteRound (task : Task) (spares : Spares) (k : Knowledge) (r : Recalled) (round : write.WriteRound) : Type 0 where
   pub seeks : Seeks task spares k
   pub writer : is_writer task.command ≡ true
-  pub limits : round.limits ≡ task.limits
-  pub key : round.key ≡ way_key task.errands task.command
-  pub due : round.due ≡ due_of task.errands task.command
+  pub round_of : IsRoundOf task round
   pub shows : write.Shows round k r
 
 -- A change is under way.

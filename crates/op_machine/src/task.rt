@@ -1,28 +1,32 @@
 //! What an operation was asked, and what it makes of what it has come to.
-ghost use Rattle.std.specs.Prelude.{◌≡◌, ◌<◌, ◌≤◌, ◌+◌, ◌-◌, ℕ, List, [], Option, Some, IsSome, is_some, length, take, true};
-ghost use Rattle.chain_search.specs.Chains.{high_in};
+ghost use Rattle.std.specs.Prelude.{◌≡◌, ◌<◌, ◌≤◌, ◌+◌, ◌-◌, ℕ, List, [], Option, Some, IfSome, IsSome, MatchOption, is_some, length, take, true, false};
+ghost use Rattle.chain_search.specs.Chains.{high_in, is_removed};
 ghost use Rattle.chain_search.specs.Discipline.{found};
 ghost use Rattle.chain_search.specs.Knowledge.{Knowledge};
 ghost use Rattle.chain_search.specs.Recalled.{Recalled};
 ghost use Rattle.bw_model.specs.Pairs.{ArePairsOf};
-ghost use Rattle.bw_model.specs.Replies.{update_of};
+ghost use Rattle.bw_model.specs.Replies.{command_key, is_writer, update_of};
 ghost use Rattle.bw_model.specs.declared.command.Reply.TheVariants as reply;
+ghost use Rattle.descent.specs.ReadRounds.{IsGoneAt};
+ghost use Rattle.descent.specs.Versions.{IsGone};
 ghost use Rattle.installs.specs.Changes.{IsTarget};
 ghost use Rattle.installs.specs.Spares.{HaveRoom, Spares};
 ghost use Rattle.op_machine.specs.Bounded.{few_changes, left_at, left_for, one_round, with_errands};
 ghost use Rattle.op_machine.specs.Brings.{errands_after, update_over};
 ghost use Rattle.op_machine.specs.Errands.{due_of, way_key};
-ghost use Rattle.op_machine.specs.Outcomes.{Faces, FacesChanged, FacesRead, FacesWritten, IsAtLeaf, IsFaced};
+ghost use Rattle.op_machine.specs.Outcomes.{Faces, FacesChanged, FacesRead, FacesWritten, IsAtLeaf, IsAtLeafBelow, IsFaced, StandsForReader};
 ghost use Rattle.op_machine.specs.Shows.{MayBegin, Stands, wanted_at};
 ghost use Rattle.op_machine.specs.Tasks.{IsSameTask, Seeks};
+ghost use Rattle.op_machine.specs.Upkeep.{IsIdleFor, IsUpkeepFor};
 
 use crate::errands::Errands;
 use crate::state::{Outcome, State, Then};
+use crate::upkeep::upkeep;
 use base_page::Page;
 use bw_model::{Command, Key, Limits, Reply};
 use chain_search::{Chain, chain_is_one, updates_fit};
-use deltas::{Delete, Put, Record, Term};
-use descent::{ReadEnd, ReadRound, WriteEnd, WriteRound};
+use deltas::{Delete, Merge, Put, Record, Term, Unterm};
+use descent::{ReadEnd, ReadRound, WriteEnd, WriteRound, leaves_stand};
 use installs::{Change, End, Plan, Spares, plans_may_be_linked};
 use smo::{MANY_DELTAS, SplitPlan, Version};
 use std::marker::Model;
@@ -121,23 +125,46 @@ impl Task {
         }
     }
 
-    /// A reader answers at the leaf of its key; where its round was cut off, a new one begins.
+    /// A reader answers at the leaf of its key, or from what it read of a removed one, whose left page it has read since; where its
+    /// round was cut off, a new one begins, which goes to the left of a removed page.
     fn end_read(&self, end: ReadEnd) -> State
         ensures stands { (spares : Spares) (k : Knowledge) (r : Recalled) → FacesRead self.now spares k r end → Stands self.now spares k r result }
         ensures few { (spares : Spares) (r : Recalled) → left_at r spares result ≤ left_for (Outcome.Read end) }
         ensures asks { (spares : Spares) → IsSome (wanted_at spares result) }
     {
+        leaves_stand();
         match end {
-            ReadEnd::Again | ReadEnd::Removed(_) => self.round(),
-            ReadEnd::Leaf(leaf) => {
-                let key = self.command.key();
-                State::Leave {
-                    reply: match self.command.reply(leaf.chain.find(key)) {
-                        Some(reply) => reply,
-                        None => cursor_page(&leaf.chain, key),
-                    },
-                }
-            }
+            ReadEnd::Again => self.round(),
+            ReadEnd::Removed(page) => self.left_round(page),
+            ReadEnd::Leaf(leaf) => self.answer(&leaf.chain),
+            ReadEnd::Beside { removed, .. } => self.answer(&removed.chain),
+        }
+    }
+
+    /// A reader's round that goes to the left of a removed page first.
+    fn left_round(&self, removed: Version) -> State
+        ensures stands { (spares : Spares) (k : Knowledge) (r : Recalled) → Seeks self.now spares k → is_writer self.now.command ≡ false → IsGoneAt self.now.limits k (command_key self.now.command) removed → Stands self.now spares k r result }
+        ensures few { (spares : Spares) (r : Recalled) → left_at r spares result ≤ left_for (Outcome.Read (ReadEnd.Removed removed)) }
+        ensures asks { (spares : Spares) → IsSome (wanted_at spares result) }
+    {
+        let key = self.command.key().copied();
+        State::Read {
+            round: ReadRound::left(&self.limits, key, removed),
+        }
+    }
+
+    /// A reader's reply over the chain of a leaf that stood.
+    fn answer(&self, leaf: &Chain) -> State
+        ensures stands { (spares : Spares) (k : Knowledge) (r : Recalled) (head : ℕ) → StandsForReader self.now spares k head leaf.now → Stands self.now spares k r result }
+        ensures few { (spares : Spares) (r : Recalled) → left_at r spares result ≤ 1 }
+        ensures asks { (spares : Spares) → IsSome (wanted_at spares result) }
+    {
+        let key = self.command.key();
+        State::Leave {
+            reply: match self.command.reply(leaf.find(key)) {
+                Some(reply) => reply,
+                None => cursor_page(leaf, key),
+            },
         }
     }
 
@@ -150,30 +177,80 @@ impl Task {
         ensures same { IsSameTask self.old self.new }
     {
         match end {
-            WriteEnd::Again | WriteEnd::Removed(_) => self.round(),
+            WriteEnd::Again | WriteEnd::Done => self.round(),
+            WriteEnd::Removed(page) => self.round_to_the_left(page),
             WriteEnd::Consolidate(page) => self.consolidate(spares, page),
             WriteEnd::Split { page, plan } => self.split(spares, page, plan),
             WriteEnd::Term { parent, term } => self.post(spares, parent, term),
             WriteEnd::Root { left, root } => self.raise(spares, left, root),
-            WriteEnd::Leaf { leaf, .. } => self.end_at_leaf(spares, leaf),
+            WriteEnd::Leaf { parent, leaf } => self.end_at_leaf(spares, parent, leaf),
+            WriteEnd::Merge {
+                left,
+                removed,
+                merge,
+            } => self.merge(spares, left, removed, merge),
+            WriteEnd::Unterm {
+                parent,
+                left,
+                removed,
+                unterm,
+            } => self.unlink(spares, parent, left, removed, unterm),
         }
     }
 
-    /// At the leaf of an errand the errand is done; at that of its key the command answers, or its update is linked.
-    fn end_at_leaf(&mut self, spares: &Spares, leaf: Version) -> State
-        requires faced { (k : Knowledge) × (r : Recalled) × IsAtLeaf self.old spares.now k r leaf }
-        ensures stands { (k : Knowledge) (r : Recalled) → IsAtLeaf self.old spares.now k r leaf → Stands self.new spares.now k r result }
+    /// A writer's round that goes to the left of a removed page.
+    fn round_to_the_left(&self, removed: Version) -> State
+        ensures stands { (spares : Spares) (k : Knowledge) (r : Recalled) → Seeks self.now spares k → is_writer self.now.command ≡ true → IsGone self.now.limits k removed → Stands self.now spares k r result }
+        ensures few { (spares : Spares) (r : Recalled) → left_at r spares result ≤ left_for (Outcome.Written (WriteEnd.Removed removed)) }
+        ensures asks { (spares : Spares) → IsSome (wanted_at spares result) }
+    {
+        let key = removed.chain.low().copied();
+        State::Write {
+            round: WriteRound::left(&self.limits, key, removed.pid),
+        }
+    }
+
+    /// At the leaf of an errand the errand is done; at that of its key the leaf is tended.
+    fn end_at_leaf(&mut self, spares: &Spares, parent: Option<Version>, leaf: Version) -> State
+        requires faced { (k : Knowledge) × (r : Recalled) × IsAtLeafBelow self.old spares.now k r parent leaf }
+        ensures stands { (k : Knowledge) (r : Recalled) → IsAtLeafBelow self.old spares.now k r parent leaf → Stands self.new spares.now k r result }
         ensures few { (r : Recalled) → with_errands self.new.errands (left_at r spares.now result) ≤ with_errands self.old.errands (few_changes + 1) }
         ensures asks { IsSome (wanted_at spares.now result) }
         ensures same { IsSameTask self.old self.new }
         ensures errands { self.new.errands ≡ take (length self.old.errands - 1) self.old.errands }
     {
         match self.errands.newest() {
-            None => self.execute(spares, leaf),
+            None => self.tend(spares, parent, leaf),
             Some(_) => {
                 self.errands.finish();
                 self.round()
             }
+        }
+    }
+
+    /// At the leaf of its key a deletion or a tidying removes a small leaf first; then the command is executed.
+    fn tend(&self, spares: &Spares, parent: Option<Version>, leaf: Version) -> State
+        requires faced { (k : Knowledge) × (r : Recalled) × IsAtLeafBelow self.now spares.now k r parent leaf }
+        requires last { self.now.errands ≡ [] }
+        ensures stands { (k : Knowledge) (r : Recalled) → IsAtLeafBelow self.now spares.now k r parent leaf → Stands self.now spares.now k r result }
+        ensures few { (r : Recalled) → left_at r spares.now result ≤ few_changes + 1 }
+        ensures asks { IsSome (wanted_at spares.now result) }
+    {
+        plans_may_be_linked();
+        match self.upkeep(&parent, &leaf) {
+            Some(plan) => self.change(spares, plan, Then::Round),
+            None => self.execute(spares, leaf),
+        }
+    }
+
+    /// What a deletion or a tidying does at a small leaf first.
+    fn upkeep(&self, parent: &Option<Version>, leaf: &Version) -> Option<Plan>
+        requires above { IfSome parent.now (λ above. is_removed above.chain ≡ false) }
+        ensures { MatchOption result (IsIdleFor self.now.command parent.now leaf.now) (IsUpkeepFor self.now.command parent.now leaf.now) }
+    {
+        match (&self.command, parent) {
+            (Command::Delete(_) | Command::Tidy(_), Some(parent)) => upkeep(parent, leaf),
+            _ => None,
         }
     }
 
@@ -272,6 +349,49 @@ impl Task {
             pid: parent.pid,
             head: parent.head,
             content: Record::Term(term),
+        };
+        self.change(spares, plan, Then::Round)
+    }
+
+    /// What a removed page has comes into the leaf to its left.
+    fn merge(&self, spares: &Spares, left: Version, removed: Version, merge: Merge) -> State
+        requires faced { (k : Knowledge) × (r : Recalled) × FacesWritten self.now spares.now k r (WriteEnd.Merge left removed merge) }
+        ensures stands { (k : Knowledge) (r : Recalled) → FacesWritten self.now spares.now k r (WriteEnd.Merge left removed merge) → Stands self.now spares.now k r result }
+        ensures few { (r : Recalled) → left_at r spares.now result ≤ few_changes + 1 }
+        ensures asks { IsSome (wanted_at spares.now result) }
+    {
+        plans_may_be_linked();
+        let _ = &removed;
+        let plan = Plan::Install {
+            pid: left.pid,
+            head: left.head,
+            content: Record::Merge(merge),
+        };
+        self.change(spares, plan, Then::Round)
+    }
+
+    /// A parent loses the term of a page that was merged, and the page is cleared.
+    fn unlink(
+        &self,
+        spares: &Spares,
+        parent: Version,
+        left: Version,
+        removed: Version,
+        unterm: Unterm,
+    ) -> State
+        requires faced { (k : Knowledge) × (r : Recalled) × FacesWritten self.now spares.now k r (WriteEnd.Unterm parent left removed unterm) }
+        ensures stands { (k : Knowledge) (r : Recalled) → FacesWritten self.now spares.now k r (WriteEnd.Unterm parent left removed unterm) → Stands self.now spares.now k r result }
+        ensures few { (r : Recalled) → left_at r spares.now result ≤ few_changes + 1 }
+        ensures asks { IsSome (wanted_at spares.now result) }
+    {
+        plans_may_be_linked();
+        let _ = &left;
+        let (pid, head) = (parent.pid, parent.head);
+        let plan = Plan::Unlink {
+            pid,
+            head,
+            unterm,
+            removal: removed.head,
         };
         self.change(spares, plan, Then::Round)
     }

@@ -4,6 +4,7 @@ ghost use Rattle.chain_search.specs.Chains.{is_removed, low_in};
 ghost use Rattle.chain_search.specs.Examples.{index};
 ghost use Rattle.chain_search.specs.Fitted.{FitsOver};
 ghost use Rattle.descent.specs.Ways.{reaches};
+ghost use Rattle.descent.specs.declared.write_round.Goal.TheVariants.{Seek};
 
 use super::{WriteEnd, WriteRound};
 use base_page::{Content, Items, Page};
@@ -133,7 +134,9 @@ fn is_reached(round: &WriteRound, page: &Version) -> bool
 /// What the round does with a page that it has read.
 fn meet(round: &mut WriteRound, page: Version) -> Turn
     requires limits { round.old.limits.pids ≡ 4096 }
+    requires seeks { round.old.goal ≡ Seek }
     ensures limits { round.new.limits.pids ≡ 4096 }
+    ensures seeks { round.new.goal ≡ Seek }
 {
     page.chain.keeps_rules();
     if stands(round) {
@@ -156,6 +159,7 @@ fn told(round: &WriteRound, end: Option<WriteEnd>) -> Turn {
         Some(WriteEnd::Term { parent, term }) => Turn::Term(parent.pid, term.next, term.child),
         Some(WriteEnd::Root { left, .. }) => Turn::Root(left.pid),
         Some(WriteEnd::Leaf { parent, .. }) => Turn::Leaf(parent.is_some()),
+        Some(WriteEnd::Merge { .. } | WriteEnd::Unterm { .. } | WriteEnd::Done) => Turn::Other,
     }
 }
 

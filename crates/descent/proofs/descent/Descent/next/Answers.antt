@@ -1,7 +1,6 @@
 use Rattle.std.proofs.Common.{◌≡◌, Option, Some, None, inr, refl}
 use Rattle.bw_model.specs.declared.step.Answer.{Answer}
 use Rattle.deltas.specs.declared.record.Record.{Record}
-use Rattle.descent.specs.declared.descent.State.{State}
 use Rattle.descent.specs.declared.descent.State.TheVariants.{Page}
 use Rattle.descent.specs.declared.visit.Sight.{Sight}
 use Rattle.descent.specs.Descents.{Descent, Responds, at}

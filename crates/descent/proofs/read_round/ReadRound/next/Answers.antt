@@ -15,7 +15,7 @@ pub returns-in-None : goal.returns-in-None
 returns-in-None c =
     let old = c.args.self.now in
     let limits : c.next.new.self.limits ≡ old.limits = rw (← c.self.view_is) c.next.ensures.limits in
-    let new : ReadRound = record { limits = c.next.new.self.limits; key = c.self.inside.key; state = c.next.new.self.state } in
+    let new : ReadRound = record { limits = c.next.new.self.limits; key = c.self.inside.key; goal = c.self.inside.goal; state = c.next.new.self.state } in
     let same : new ≡ at old new.state = ap (λ (round : ReadRound). record round { limits = c.next.new.self.limits; state = c.next.new.self.state }) c.self.view_is ∙ ap (λ (l : Limits). record old { limits = l; state = c.next.new.self.state }) limits in
     let responds : Responds old c.args.answer new None = inl (record { on = rw (← c.self.view_is) c.in-None.ensures.responds; same = same; none = refl }) in
     record {

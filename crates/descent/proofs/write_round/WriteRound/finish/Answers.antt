@@ -4,4 +4,4 @@ use Rattle.descent.proofs.write_round.WriteRound.finish.Goals as goal
 pub returns-in-Some-plan_term-clause-treats : goal.returns-in-Some-plan_term-clause-treats
 returns-in-Some-plan_term-clause-treats c =
     let is : c.args.self.now.parent ≡ Some c.in-Some.parent = rw (← c.self.view_is) (sym c.take.ensures.value ∙ c.in-Some.is) in
-    record { above = is; left = c.args.left; aside = refl; plan = c.in-Some-plan_term.ensures }
+    record { seeks = c.requires.seeks; above = is; left = c.args.left; aside = refl; plan = c.in-Some-plan_term.ensures }

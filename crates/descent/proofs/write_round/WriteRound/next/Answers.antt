@@ -15,14 +15,14 @@ pub returns-in-None : goal.returns-in-None
 returns-in-None c =
     let old = c.args.self.now in
     let limits : c.next.new.self.limits ≡ old.limits = rw (← c.self.view_is) c.next.ensures.limits in
-    let new : WriteRound = record { limits = c.next.new.self.limits; key = c.self.inside.key; due = c.self.inside.due; parent = c.self.inside.parent; left = c.self.inside.left; state = c.next.new.self.state } in
+    let new : WriteRound = record { limits = c.next.new.self.limits; key = c.self.inside.key; due = c.self.inside.due; goal = c.self.inside.goal; parent = c.self.inside.parent; left = c.self.inside.left; state = c.next.new.self.state } in
     let same : new ≡ at old new.state = ap (λ (round : WriteRound). record round { limits = c.next.new.self.limits; state = c.next.new.self.state }) c.self.view_is ∙ ap (λ (l : Limits). record old { limits = l; state = c.next.new.self.state }) limits in
     let responds : Responds old c.args.answer new None = inl (record { on = rw (← c.self.view_is) c.in-None.ensures.responds; same = same; none = refl }) in
     record {
       responds = responds;
       follows = follows_from old new c.args.answer None responds;
       spends = spends_from old new c.args.answer None responds;
-      same = rw same (record { limits = refl; key = refl; due = refl });
+      same = rw same (record { limits = refl; key = refl; due = refl; seeks = λ e. e });
     }
 
 pub returns-in-Some : goal.returns-in-Some
@@ -38,5 +38,5 @@ returns-in-Some c =
       responds = responds;
       follows = follows_from old c.see.new.self c.args.answer c.see.result responds;
       spends = spends_from old c.see.new.self c.args.answer c.see.result responds;
-      same = record { limits = c.see.ensures.same.limits ∙ limits; key = rw (← c.self.view_is) c.see.ensures.same.key; due = rw (← c.self.view_is) c.see.ensures.same.due };
+      same = record { limits = c.see.ensures.same.limits ∙ limits; key = rw (← c.self.view_is) c.see.ensures.same.key; due = rw (← c.self.view_is) c.see.ensures.same.due; seeks = rw (← c.self.view_is) c.see.ensures.same.seeks };
     }

@@ -1,0 +1,15 @@
+use Rattle.descent.proofs.laws.removals_are_due.Goals as goal
+
+pub returns-clause-hold : goal.returns-clause-hold
+returns-clause-hold c = λ round k r parent leaf hold h plan. c.plans_are_due.ensures.hold parent leaf hold plan h.above.page.in_hand.sound.is_chain
+
+pub returns-clause-remove : goal.returns-clause-remove
+returns-clause-remove c = λ round k r parent leaf remove h plan.
+    let above = h.above in
+    c.plans_are_due.ensures.remove k parent leaf remove plan above.page.in_hand.sound.is_chain above.page.alive above.up above.page.in_hand.seen
+
+pub returns-clause-merge : goal.returns-clause-merge
+returns-clause-merge c = λ round k r left removed merge h. c.plans_are_due.ensures.merge k left removed merge h.plan h.gone.in_hand.seen
+
+pub returns-clause-unterm : goal.returns-clause-unterm
+returns-clause-unterm c = λ round k r parent left removed unterm h. c.plans_are_due.ensures.unterm k parent left removed unterm h.plan h.page.in_hand.sound.is_chain h.up h.aside.in_hand.seen h.after
