@@ -14,9 +14,21 @@ mod plain_map;
 #[cfg(test)]
 mod refusals;
 #[cfg(test)]
+mod removal_neighbours;
+#[cfg(test)]
+mod removal_readers;
+#[cfg(test)]
+mod removal_stops;
+#[cfg(test)]
 mod runs;
 #[cfg(test)]
 mod schedules;
+#[cfg(test)]
+mod seeded;
+#[cfg(test)]
+mod shrinking;
+#[cfg(test)]
+mod small_leaves;
 #[cfg(test)]
 mod stops;
 #[cfg(test)]

@@ -18,6 +18,8 @@ mod numbered;
 #[cfg(test)]
 mod pages;
 #[cfg(test)]
+mod removal;
+#[cfg(test)]
 mod runs;
 #[cfg(test)]
 mod scripts;

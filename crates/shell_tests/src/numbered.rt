@@ -41,6 +41,20 @@ impl Numbered {
         Ok(())
     }
 
+    // Deletes keys that are there, from one number down to another, each without a stop.
+    pub fn delete(&mut self, first: u32, last: u32) -> Result<(), AllocError> {
+        for n in (last..=first).rev() {
+            if self.wide {
+                writeln!(self.lines, "begin 0 delete k{n:03}\nfinish 0")?;
+                writeln!(self.printed, "0 deleted v{n:03}")?;
+            } else {
+                writeln!(self.lines, "begin 0 delete k{n:02}\nfinish 0")?;
+                writeln!(self.printed, "0 deleted v{n:02}")?;
+            }
+        }
+        Ok(())
+    }
+
     // A listing is to begin, with so many pairs.
     pub fn list(&mut self, count: u32) -> Result<(), AllocError> {
         self.lines.push_str("list\n")?;

@@ -1,0 +1,185 @@
+//! Four actors in the order of a schedule, with the six commands over 64 keys, beside an ordered map.
+
+use crate::pages::key;
+use bw_model::{Command, Key, Limits, Link, Schedule, Value};
+use chain_search::Turn;
+use rand_core::SeedableRng;
+use rand_core::utils::NextWord;
+use rand_pcg::Pcg32;
+use std::alloc::{AllocError, Global};
+use std::collections::BTreeMap;
+use std::test::Fail;
+use step_core::{Core, Event};
+
+/// The value of a turn's number.
+fn value_of(alloc: Global, turn: u32) -> Result<Value, AllocError> {
+    let text = format!(in alloc; "v{turn}")?;
+    Ok(Value::from_slice(text.as_bytes()).unwrap_or_default())
+}
+
+/// One of the six commands.
+fn command(key: Key, value: Value, number: u32) -> Command {
+    match number % 6 {
+        0 => Command::Get(key),
+        1 => Command::Insert(key, value),
+        2 => Command::Upsert(key, value),
+        3 => Command::Delete(key),
+        4 => Command::Page(key),
+        _ => Command::Tidy(key),
+    }
+}
+
+/// The map, each key by its number and each value by its turn; for each actor the key and the value of its command; and how many
+/// slots of merged pages were cleared.
+#[derive(Drop)]
+struct Beside {
+    map: BTreeMap<u8, u32>,
+    asked: [(u8, u32); 4],
+    cleared: u32,
+}
+
+impl Beside {
+    fn new(alloc: Global) -> Beside {
+        Beside {
+            map: BTreeMap::new(alloc),
+            asked: [(0, 0); 4],
+            cleared: 0,
+        }
+    }
+
+    /// The command of a word.
+    fn begin(
+        &mut self,
+        alloc: Global,
+        actor: u8,
+        word: u32,
+        turn: u32,
+    ) -> Result<Command, AllocError> {
+        let number = (word % 64) as u8;
+        if let Some(asked) = self.asked.get_mut(usize::from(actor)) {
+            *asked = (number, turn);
+        }
+        Ok(command(key(number), value_of(alloc, turn)?, word / 64))
+    }
+
+    /// An exchange of the actor has won.
+    fn link(&mut self, actor: u8, link: Link) -> Result<(), AllocError> {
+        let Some((number, turn)) = self.asked.get(usize::from(actor)).copied() else {
+            return Ok(());
+        };
+        match link {
+            Link::Put => {
+                self.map.insert(number, turn)?;
+            }
+            Link::Delete => {
+                self.map.remove(&number);
+            }
+            Link::Clear => self.cleared = self.cleared.saturating_add(1),
+            _ => {}
+        }
+        Ok(())
+    }
+
+    /// Whether the core lists exactly the map's pairs.
+    fn is_listed(&self, alloc: Global, core: &Core) -> Result<bool, AllocError> {
+        let Ok(pairs) = core.listing(alloc) else {
+            return Ok(false);
+        };
+        let mut left = pairs.as_slice().iter();
+        for (number, turn) in &self.map {
+            if left.next() != Some(&(key(*number), value_of(alloc, *turn)?)) {
+                return Ok(false);
+            }
+        }
+        Ok(left.next().is_none())
+    }
+}
+
+/// Takes an actor's turn with this number.
+fn turn(
+    alloc: Global,
+    core: &mut Core,
+    beside: &mut Beside,
+    actor: u8,
+    words: &mut Pcg32,
+    number: u32,
+) -> Result<bool, AllocError> {
+    if !core.is_busy(actor) {
+        let command = beside.begin(alloc, actor, words.next_word(), number)?;
+        return Ok(core.turn(Turn::Begin(actor, command)) == Ok(Event::Began));
+    }
+    match core.turn(Turn::Step(actor)) {
+        Ok(Event::Stepped(Some(link))) => {
+            beside.link(actor, link)?;
+            Ok(true)
+        }
+        Ok(_) => Ok(true),
+        Err(_) => Ok(false),
+    }
+}
+
+/// How many slots of merged pages 20,000 turns clear; none where a turn is refused or a listing is not the map's.
+fn cleared(alloc: Global, seed: u64) -> Result<Option<u32>, Fail> {
+    let mut core = Core::open(alloc, Limits::new(4, 256, 16384, 1)?)?;
+    let mut schedule = Schedule::new(seed, 4);
+    let mut words = Pcg32::seed_from_u64(seed.wrapping_add(1000));
+    let mut beside = Beside::new(alloc);
+    for number in 1..=20_000u32 {
+        let actor = schedule.next();
+        if !turn(alloc, &mut core, &mut beside, actor, &mut words, number)? {
+            return Ok(None);
+        }
+        if number % 1000 == 0 && !beside.is_listed(alloc, &core)? {
+            return Ok(None);
+        }
+    }
+    Ok(Some(beside.cleared))
+}
+
+#[test]
+fn seed_1(rt: HostRuntime) -> Result<(), Fail> {
+    assert!(rt; cleared(rt.alloc(), 1)?.is_some());
+    Ok(())
+}
+
+#[test]
+fn seed_2(rt: HostRuntime) -> Result<(), Fail> {
+    assert!(rt; cleared(rt.alloc(), 2)?.is_some());
+    Ok(())
+}
+
+#[test]
+fn seed_3(rt: HostRuntime) -> Result<(), Fail> {
+    assert!(rt; cleared(rt.alloc(), 3)?.is_some());
+    Ok(())
+}
+
+#[test]
+fn seed_4(rt: HostRuntime) -> Result<(), Fail> {
+    assert!(rt; cleared(rt.alloc(), 4)?.is_some());
+    Ok(())
+}
+
+#[test]
+fn seed_5(rt: HostRuntime) -> Result<(), Fail> {
+    assert!(rt; cleared(rt.alloc(), 5)?.is_some());
+    Ok(())
+}
+
+#[test]
+fn seed_6(rt: HostRuntime) -> Result<(), Fail> {
+    assert!(rt; cleared(rt.alloc(), 6)?.is_some());
+    Ok(())
+}
+
+#[test]
+fn seed_7(rt: HostRuntime) -> Result<(), Fail> {
+    assert!(rt; cleared(rt.alloc(), 7)?.is_some());
+    Ok(())
+}
+
+#[test]
+fn seed_8(rt: HostRuntime) -> Result<(), Fail> {
+    assert!(rt; cleared(rt.alloc(), 8)?.is_some());
+    Ok(())
+}
