@@ -96,38 +96,37 @@ fn is_empty(alloc: Global, core: &mut Core) -> bool {
     replies(core, 1, Command::Page(Key::default()), empty) && lists(alloc, core, false)
 }
 
-/// Whether the tree grows to ten leaves and shrinks to one, and once more.
-fn lives_twice(alloc: Global, order: Order) -> Option<bool> {
+/// Whether the tree grows to nine leaves, of eight keys each but the last, and shrinks to one, and whether it does so once more.
+fn lives_twice(alloc: Global, order: Order) -> Option<[bool; 9]> {
     let mut core = Core::open(alloc, Limits::new(2, 64, 4096, 1).ok()?).ok()?;
-    let told = [
+    Some([
         grows(&mut core),
         lists(alloc, &core, true),
-        leaves(&mut core) == Some(10),
+        leaves(&mut core) == Some(9),
         shrinks(&mut core, order),
         is_empty(alloc, &mut core),
         grows(&mut core),
         lists(alloc, &core, true),
         shrinks(&mut core, order),
         is_empty(alloc, &mut core),
-    ];
-    Some(told == [true; 9])
+    ])
 }
 
 #[test]
 fn a_tree_shrinks_from_its_first_key(rt: HostRuntime) -> Result<(), Fail> {
-    assert_eq!(rt; lives_twice(rt.alloc(), Order::Ascending), Some(true));
+    assert_eq!(rt; lives_twice(rt.alloc(), Order::Ascending), Some([true; 9]));
     Ok(())
 }
 
 #[test]
 fn a_tree_shrinks_from_its_last_key(rt: HostRuntime) -> Result<(), Fail> {
-    assert_eq!(rt; lives_twice(rt.alloc(), Order::Descending), Some(true));
+    assert_eq!(rt; lives_twice(rt.alloc(), Order::Descending), Some([true; 9]));
     Ok(())
 }
 
 #[test]
 fn a_tree_shrinks_everywhere(rt: HostRuntime) -> Result<(), Fail> {
-    assert_eq!(rt; lives_twice(rt.alloc(), Order::Scattered), Some(true));
+    assert_eq!(rt; lives_twice(rt.alloc(), Order::Scattered), Some([true; 9]));
     Ok(())
 }
 
@@ -178,9 +177,9 @@ fn is_tidied(core: &mut Core) -> bool {
 }
 
 /// Whether the tree grows, shrinks by two actors to one leaf, and grows again.
-fn is_shared(alloc: Global, order: Order) -> Option<bool> {
+fn is_shared(alloc: Global, order: Order) -> Option<[bool; 7]> {
     let mut core = Core::open(alloc, Limits::new(2, 64, 4096, 1).ok()?).ok()?;
-    let told = [
+    Some([
         grows(&mut core),
         shrinks_in_turns(&mut core, order),
         lists(alloc, &core, false),
@@ -188,14 +187,13 @@ fn is_shared(alloc: Global, order: Order) -> Option<bool> {
         is_empty(alloc, &mut core),
         grows(&mut core),
         lists(alloc, &core, true),
-    ];
-    Some(told == [true; 7])
+    ])
 }
 
 #[test]
 fn two_actors_shrink_a_tree(rt: HostRuntime) -> Result<(), Fail> {
     for order in [Order::Ascending, Order::Descending, Order::Scattered] {
-        assert_eq!(rt; is_shared(rt.alloc(), order), Some(true));
+        assert_eq!(rt; is_shared(rt.alloc(), order), Some([true; 7]));
     }
     Ok(())
 }
