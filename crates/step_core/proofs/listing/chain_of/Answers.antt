@@ -27,7 +27,7 @@ pub push-requires-clause-small : goal.push-requires-clause-small
 push-requires-clause-small g c =
     let (chain, stands) = c.requires in
     let there : (memory_in c.args.memory.now).rows c.loop.row ≡ Some c.in-Some.older.now = sym c.record.ensures ∙ ap option_copied c.in-Some.is in
-    rw c.copied.ensures (small_read _ _ c.loop.row c.in-Some-default.below c.loop.part chain c.in-Some.older.now c.loop.invariant.read there (sym c.next.ensures ∙ c.in-Some-default.is-0) stands.records stands.fits.fitted)
+    rw c.copied-in-Some-default.ensures (small_read _ _ c.loop.row c.in-Some-default.below c.loop.part chain c.in-Some.older.now c.loop.invariant.read there (sym c.next.ensures ∙ c.in-Some-default.is-0) stands.records stands.fits.fitted)
 
 pub loop-preserved : goal.loop-preserved
 loop-preserved g c =
