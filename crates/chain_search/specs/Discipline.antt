@@ -21,6 +21,7 @@ use Rattle.deltas.specs.declared.record.Record.TheVariants.{Base, Put, Delete, S
 use Rattle.deltas.specs.Records.{next_row}
 use Rattle.chain_search.specs.Chains.{IsChainFrom, content_in, level_in, low_in, high_in, right_in, is_removed, covers}
 use Rattle.chain_search.specs.Fitted.{FitsOver, IsFitted}
+use Rattle.chain_search.specs.HeldBack.{HoldsBack}
 use Rattle.chain_search.specs.Knowledge.{OwnRow, Foreign, Taken, Written, Empty, Ready, Gone, Limbo, Stamped, Knowledge}
 use Rattle.chain_search.specs.Steps.{is_among}
 
@@ -318,7 +319,16 @@ pub record MayShowPage (k : Knowledge) (command : Command) (reply : Reply) : Typ
   pub unlinked : k.asked.linked ≡ None
   pub basis : WasStanding k row chain
 
--- Tidied: the leaf that has the key was read as a base alone with fewer than 16 items.
+-- Before the page was read, the page above it was read, which held it back.
+pub record IsHeldBack (k : Knowledge) (page : ℕ) (low : List ℕ) : Type 0 where
+  pub parent : ℕ
+  pub row : ℕ
+  pub above : HasRead k parent row
+  pub order : k.read.before page parent ≡ Some row
+  pub holds : HoldsBack above.chain page low
+
+-- Tidied: the leaf that has the key was read as a base alone with fewer than 16 items; a small one is the first leaf, or was held
+-- back.
 pub record MayCallTidy (k : Knowledge) (command : Command) (reply : Reply) : Type 0 where
   pub key : List ℕ
   pub asks : command ≡ Tidy key
@@ -331,6 +341,7 @@ pub record MayCallTidy (k : Knowledge) (command : Command) (reply : Reply) : Typ
   pub leaf : base.level ≡ 0
   pub covers : IsTrue (covers basis.chain key)
   pub few : length base.items < 16
+  pub back : page ≢ 1 → length base.items ≤ 4 → (low_in basis.chain ≡ []) ⊎ IsHeldBack k page (low_in basis.chain)
   pub unlinked : k.asked.linked ≡ None
 
 -- Each word of the free PIDs, or each word of the free rows, was read as 0.

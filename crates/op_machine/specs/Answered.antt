@@ -1,21 +1,23 @@
 -- What each finished operation has replied.
-use Rattle.std.specs.Prelude.{◌≡◌, ◌<◌, ◌/◌, ℕ, List, [], ◌∷◌, length, Option, Bool, Some, IsTrue, ◌⊎◌}
+use Rattle.std.specs.Prelude.{◌≡◌, ◌≢◌, ◌<◌, ◌≤◌, ◌/◌, ℕ, List, [], ◌∷◌, length, Option, Bool, Some, IsTrue, ◌⊎◌}
 use Rattle.std.specs.List.{Contains}
 use Rattle.bw_model.specs.declared.command.Command.{Command}
 use Rattle.bw_model.specs.declared.command.Command.TheVariants.{Page, Tidy}
 use Rattle.bw_model.specs.declared.command.Reply.{Reply}
 use Rattle.bw_model.specs.declared.command.Reply.TheVariants as reply
 use Rattle.bw_model.specs.declared.limits.Limits.{Limits}
-use Rattle.bw_model.specs.declared.step.Step.TheVariants.{PidBits, RowBits}
+use Rattle.bw_model.specs.declared.step.Step.TheVariants.{PidBits, RowBits, Slot}
 use Rattle.bw_model.specs.declared.step.Answer.TheVariants.{Number}
 use Rattle.bw_model.specs.Log.{Update, value_in}
 use Rattle.bw_model.specs.Pairs.{IsPairsOf}
 use Rattle.bw_model.specs.Replies.{command_key, is_writer, reply_of}
 use Rattle.base_page.specs.declared.page.Page.{Page as BasePage}
+use Rattle.deltas.specs.declared.record.Record.{Record}
 use Rattle.deltas.specs.declared.record.Record.TheVariants.{Base}
 use Rattle.deltas.specs.Memory.{Memory}
 use Rattle.chain_search.specs.declared.trace.Entry.{Entry}
-use Rattle.chain_search.specs.Chains.{covers, high_in}
+use Rattle.chain_search.specs.Chains.{IsChainOf, covers, high_in, low_in}
+use Rattle.chain_search.specs.HeldBack.{HoldsBack}
 use Rattle.chain_search.specs.SideChain.{LivePage, IsLeaves}
 use Rattle.chain_search.specs.Trace.{memory_at}
 use Rattle.op_machine.specs.Operations.{Operation, IsOperation, IsOwnStep, TakesOwnStep, Finishes}
@@ -62,13 +64,26 @@ module _ (limits : Limits) (entries : List Entry) where
   FindsNothingFree operation = ((word : ℕ) → word < limits.pids / 64 → (n : ℕ) × TakesOwnStep entries operation n (PidBits word) (Number 0))
       ⊎ ((word : ℕ) → word < limits.rows / 64 → (n : ℕ) × TakesOwnStep entries operation n (RowBits word) (Number 0))
 
-  -- The operation is a tidying, and nothing was due at its key's leaf at one of its own steps.
+  -- At an own step before this one the operation read the slot of a page above the leaf, which held the leaf back.
+  pub record WasHeldBack (operation : Operation) (n : ℕ) (leaf : LivePage) : Type 0 where
+    pub step : ℕ
+    pub before : step < n
+    pub parent : ℕ
+    pub row : ℕ
+    pub own : TakesOwnStep entries operation step (Slot parent) (Number row)
+    pub chain : List Record
+    pub stood : IsChainOf (memory_at limits entries step) parent chain
+    pub holds : HoldsBack chain leaf.pid (low_in leaf.chain)
+
+  -- The operation is a tidying, and nothing was due at its key's leaf at one of its own steps; a small leaf is page 1, or was
+  -- held back.
   pub record FindsTidy (operation : Operation) : Type 0 where
     pub key : List ℕ
     pub asks : operation.command ≡ Tidy key
     pub step : ℕ
     pub own : IsOwnStep entries operation step
     pub tidy : IsTidy (memory_at limits entries step) key
+    pub back : tidy.leaf.pid ≢ 1 → length tidy.base.items ≤ 4 → WasHeldBack operation step tidy.leaf
 
   -- What the reply says of the operation.
   abbrev pub IsTrueReply : List Bool → Operation → Reply → Type 0
