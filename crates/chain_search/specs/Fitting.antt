@@ -12,7 +12,7 @@ use Rattle.deltas.specs.Records.{next_row}
 use Rattle.deltas.specs.Spellable.{IsSpellable}
 use Rattle.chain_search.specs.Chains.{IsChainFrom, IsFront, content_in, level_in, low_in, high_in, right_in, is_removed, covers}
 use Rattle.chain_search.specs.Fitted.{IsPageChain}
-use Rattle.chain_search.specs.Knowledge.{Foreign, Other, Empty, Ready, Gone, Absent, Knowledge}
+use Rattle.chain_search.specs.Knowledge.{Foreign, Other, Empty, Ready, Gone, Absent, Knowledge, is_on_walk}
 use Rattle.chain_search.specs.Discipline.{HasRead, IsBeyond}
 
 -- a number that a word of free bits shows as free is above 0 and below the limit
@@ -77,22 +77,29 @@ pub record FitsTakenPid (limits : Limits) (k : Knowledge) (pid : ℕ) : Type 0 w
   pub unread : k.read.heads pid ≡ None
   pub freed : k.limbo.pids pid ≡ Absent
 
+-- The rows of the chain from this row on, as far as it was read, are rows that there are, and none is in limbo.
+abbrev pub AreOutOfLimbo : Limits → Knowledge → ℕ → Type 0
+AreOutOfLimbo limits k first = (row : ℕ) → IsTrue (is_on_walk 13 k.read.seen (Some first) row) → (0 < row) × (row < limits.rows) × (k.limbo.rows row ≡ Absent)
+
 -- An exchange of an own page's slot, from 0 or back to 0, wins; so does the one to 0 of a page whose term the actor took out,
--- where its slot was read as this removed chain. One that links a row does not win on an own page.
-abbrev pub FitsExchange : Knowledge → ℕ → ℕ → ℕ → Bool → Type 0
-FitsExchange k zero old new went = ⊤
-FitsExchange k (suc page) zero new went = went ≡ true
-FitsExchange k (suc page) (suc old) zero went = (k.own.pages (suc page) ≡ Ready (suc old) → went ≡ true) × (k.own.pages (suc page) ≡ Gone → ReadsRemoved k (suc page) (suc old) → went ≡ true)
-FitsExchange k (suc page) (suc old) (suc new) went = went ≡ true → k.own.pages (suc page) ≡ Other
+-- where its slot was read as this removed chain. One that links a row does not win on an own page. What an exchange takes out of
+-- the tree was in no limbo.
+abbrev pub FitsExchange : Limits → Knowledge → ℕ → ℕ → ℕ → Bool → Type 0
+FitsExchange limits k zero old new went = ⊤
+FitsExchange limits k (suc page) zero new went = went ≡ true
+FitsExchange limits k (suc page) (suc old) zero went = (k.own.pages (suc page) ≡ Ready (suc old) → went ≡ true)
+    × (k.own.pages (suc page) ≡ Gone → ReadsRemoved k (suc page) (suc old) → went ≡ true)
+    × (went ≡ true → k.own.pages (suc page) ≡ Gone → (k.limbo.pids (suc page) ≡ Absent) × AreOutOfLimbo limits k (suc old))
+FitsExchange limits k (suc page) (suc old) (suc new) went = went ≡ true → (k.own.pages (suc page) ≡ Other) × AreOutOfLimbo limits k (suc old)
 
 -- Slot 0 has a PID, of a page that begins at the empty key; another slot that may be read has a row, or 0 if its page was cleared,
 -- which no page is that was the root; one that was read removed stays as it was until then; and it is not the slot of a page
--- that the actor took and has not set.
+-- that the actor took and has not set. The epoch never goes back.
 abbrev pub Fits : Limits → Knowledge → StepOf Record → Answer Record → Type 0
 Fits limits k (Slot zero) (Number n) = (0 < n) × (n < limits.pids) × ((head : ℕ) (chain : List Record) → k.read.heads n ≡ Some head → IsChainFrom k.read.seen head chain → low_in chain ≡ [])
 Fits limits k (Slot (suc page)) (Number n) = (n < limits.rows) × (IsTrue (k.read.roots (suc page)) → 0 < n) × ((head : ℕ) → ReadsRemoved k (suc page) head → (n ≡ head) ⊎ (n ≡ 0)) × (k.own.pages (suc page) ≡ Empty → ⊥)
 Fits limits k (Row row) (Content content) = FitsRow limits k row content
-Fits limits k Epoch (Number n) = (0 < n) × (n ≤ 2 ^ 62)
+Fits limits k Epoch (Number n) = (0 < n) × (n ≤ 2 ^ 62) × IfSome k.limbo.epoch (λ before. before ≤ n)
 Fits limits k (Announce other) (Number n) = n ≤ 2 ^ 62
 Fits limits k (PidBits word) (Number bits) = FitsWord limits.pids word bits
 Fits limits k (RowBits word) (Number bits) = FitsWord limits.rows word bits
@@ -101,7 +108,7 @@ Fits limits k (TakePid pid) (Whether false) = ⊤
 Fits limits k (TakeRow row) (Whether true) = FitsTaken limits k row
 Fits limits k (TakeRow row) (Whether false) = ⊤
 Fits limits k (Place row content) Done = ⊤
-Fits limits k (Exchange slot old new) (Whether went) = FitsExchange k slot old new went
+Fits limits k (Exchange slot old new) (Whether went) = FitsExchange limits k slot old new went
 Fits limits k (Enter epoch) Done = ⊤
 Fits limits k Leave Done = ⊤
 Fits limits k (Retire epoch) (Whether went) = ⊤
