@@ -220,6 +220,11 @@ pub record IsUpper (limits : Limits) (k : Knowledge) (r : Recalled) (version : V
   pub up : level_in parent.chain ≡ suc (level_in version.chain)
   pub after : IsAfter k parent version
 
+-- The page above has the leaf's term, and few deltas; a leaf with no page above it begins at the empty key.
+abbrev pub IsTermed : Version → Option Version → Type 0
+IsTermed leaf None = low_in leaf.chain ≡ []
+IsTermed leaf (Some parent) = (length parent.chain ≤ 8) × ((held : Bool) × (content_in parent.chain (low_in leaf.chain) ≡ Some (Child leaf.pid held)))
+
 -- The leaf has the key in its range, and few deltas and items.
 pub record IsLeafEnd (round : WriteRound) (k : Knowledge) (r : Recalled) (parent : Option Version) (leaf : Version) : Type 0 where
   pub seeks : round.goal ≡ Seek
@@ -230,6 +235,7 @@ pub record IsLeafEnd (round : WriteRound) (k : Knowledge) (r : Recalled) (parent
   pub early : length leaf.chain ≤ round.due
   pub few : HasFewItems leaf.chain
   pub above : IfSome parent (IsUpper round.limits k r leaf)
+  pub termed : IsTermed leaf parent
 
 -- The page is to get what the removed page to its right has.
 pub record IsMergeEnd (round : WriteRound) (k : Knowledge) (r : Recalled) (left removed : Version) (merge : MergeRecord) : Type 0 where
