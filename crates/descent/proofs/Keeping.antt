@@ -21,7 +21,7 @@ use Rattle.descent.specs.Visits.{Starts, Completes, Continues, Visit, at, wanted
 use Rattle.descent.specs.Walks.{HasArrived, IsAmong}
 use Rattle.descent.specs.declared.write_round.Goal.{Goal}
 use Rattle.descent.specs.declared.write_round.Goal.TheVariants.{Seek, Left, Merge, Unterm}
-use Rattle.descent.specs.WriteRounds.{IsCut, IsMissing, Keeps, is_beyond, way_of, IsBased, IsLeftOf, IsKept, IsVisiting}
+use Rattle.descent.specs.WriteRounds.{IsCut, IsMissing, Keeps, is_beyond, way_of, IsBased, IsLed, IsLeftOf, IsKept, IsVisiting, SeeksLeaf}
 use Rattle.descent.proofs.Holding.{before_slot, in_hand_row, in_hand_slot, slot_before}
 use Rattle.descent.proofs.Seeking.{arrived, seeks_row, seeks_slot}
 use Rattle.descent.proofs.Visiting.{back, row_below, there}
@@ -33,6 +33,11 @@ differs page other (first ∷ others) new among e = elim among [
   | inl here ↦ new.0 (sym e ∙ here)
   | inr there ↦ differs page other others new.1 there e
 ]
+
+-- what has a page among it isn't empty
+pub some_among : (other : ℕ) (others : List ℕ) → IsAmong other others → others ≡ [] → ⊥
+some_among other [] among e = among
+some_among other (first ∷ others) among e = cc
 
 -- the parent, once the page was read whole
 pub record IsOver (limits : Limits) (now : Knowledge) (version : Version) (earlier : List ℕ) (parent : Version) : Type 0 where
@@ -57,6 +62,7 @@ pub record HasReached (limits : Limits) (key : List ℕ) (goal : Goal) (parent l
   pub above : IfSome parent (IsOver limits now version earlier)
   pub aside : IfSome left (IsLeftOf limits now low earlier)
   pub based : IsBased r parent left version.pid low
+  pub led : SeeksLeaf goal → IsLed (way_of goal key) parent left version.pid level low
   pub passed : Passed limits key k now version.pid earlier goal
 
 module _ (limits : Limits) (key : List ℕ) (goal : Goal) (parent left : Option Version) (k : Knowledge) (r : Recalled) (visit : Visit) where
@@ -107,6 +113,7 @@ module _ (limits : Limits) (key : List ℕ) (goal : Goal) (parent left : Option 
         above = IfSome_then parent h.above (λ other i. record { kept = kept other i.kept; up = i.up; after = before_slot k visit.pid row other.pid other.head some linked i.kept.in_hand.seen.head });
         aside = IfSome_then left h.aside (λ other i. record { kept = kept other i.kept; inner = i.inner });
         based = based_as (recall r (step.Slot visit.pid) (answer.Number row)) (recall_root visit.pid row some) parent left visit.pid h.low h.based;
+        led = h.led;
         keeps = keeps_slot row some linked h.earlier new goal h.keeps;
       }
 
@@ -147,12 +154,9 @@ module _ (limits : Limits) (key : List ℕ) (goal : Goal) (parent left : Option 
       above = IfSome_then parent h.above (λ other i. record { kept = kept_row other h.earlier i.kept; up = i.up; after = i.after });
       aside = IfSome_then left h.aside (λ other i. record { kept = kept_row other h.earlier i.kept; inner = i.inner });
       based = based_as walked refl parent left visit.pid h.low h.based;
+      led = h.led;
       keeps = keeps_row visit.pid h.earlier goal h.keeps;
     }
-
-    some_among : (other : ℕ) (others : List ℕ) → IsAmong other others → others ≡ [] → ⊥
-    some_among other [] among e = among
-    some_among other (first ∷ others) among e = cc
 
     reaches_whole : (version : Version) → version.pid ≡ visit.pid → version.chain ≡ visit.part ++ content ∷ [] → next_row content ≡ None → Visits (Row version.head row) → HasReached limits key goal parent left k now walked version
     reaches_whole version pid made last h =
@@ -170,6 +174,7 @@ module _ (limits : Limits) (key : List ℕ) (goal : Goal) (parent left : Option 
           });
           aside = IfSome_then left h.aside (λ other i. record { kept = kept_row other h.earlier i.kept; inner = i.inner });
           based = rw pid (based_as walked refl parent left visit.pid h.low h.based);
+          led = rw pid h.led;
           passed = rw pid (passed_row visit.pid h.earlier goal h.keeps);
         }
 

@@ -10,5 +10,6 @@ pub mod Spending
 pub mod Passing
 pub mod Reading
 pub mod Keeping
+pub mod Leading
 pub mod Writing
 pub mod TestedRounds

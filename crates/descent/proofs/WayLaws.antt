@@ -53,14 +53,14 @@ pub lowest : (key : List ℕ) → IsTrue (reaches key [])
 lowest [] = refl
 lowest (x ∷ xs) = refl
 
+pub negated : (b : Bool) → not b ≡ false → b ≡ true
+negated true h = refl
+negated false h = cc
+
 -- a key that the page reaches, and that its end doesn't reach, is in the range
-in_range : (low : List ℕ) (high : Option (List ℕ)) (key : List ℕ) → is_below key low ≡ false → ((end : List ℕ) → high ≡ Some end → reaches key end ≡ false) → IsTrue (is_in_range low high key)
+pub in_range : (low : List ℕ) (high : Option (List ℕ)) (key : List ℕ) → is_below key low ≡ false → ((end : List ℕ) → high ≡ Some end → reaches key end ≡ false) → IsTrue (is_in_range low high key)
 in_range low None key e f = rw e refl
 in_range low (Some end) key e f = rw e (negated (is_below key end) (f end refl))
-  where
-    negated : (b : Bool) → not b ≡ false → b ≡ true
-    negated true h = refl
-    negated false h = cc
 
 pub covers_here : (key : List ℕ) (chain : List Record) → IsTrue (reaches key (low_in chain)) → StaysLeft (reaches key) chain → IsTrue (covers chain key)
 covers_here key chain reached stays = in_range (low_in chain) (high_in chain) key (not_true (is_below key (low_in chain)) reached) stays.off

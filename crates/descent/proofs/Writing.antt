@@ -39,8 +39,9 @@ use Rattle.descent.specs.Descents.{Descent, Finds, Shows as WayShows, Starts, Vi
 use Rattle.descent.specs.Visits as page
 use Rattle.descent.specs.Walks.{IsSeeking, left_in}
 use Rattle.descent.specs.Ways.{LeadsDown, LeadsRight, NamesAt, StaysLeft, precedes, reaches}
-use Rattle.descent.specs.WriteRounds.{Begins, CanMeet, Cuts, Merges, EndsCut, EndsMerged, IsCut, IsHere, IsLeftLeaf, IsMergeEnd, IsMissing, IsUntermEnd, Keeps, Misses, SeeksLeaf, is_beyond, kept_for, way_of, CanSee, EndsFine, EndsUnposted, EndsUnrooted, Ends, Follows, GoesFrom, GoesOnWay, IsBased, IsLeftOf, IsKept, IsLeafEnd, IsRootEnd, IsTermEnd, IsTold, IsVisiting, Responds, Sees, Shows, Spends, Treats, WriteRound, at, wanted, descent_of, going_to}
+use Rattle.descent.specs.WriteRounds.{Begins, CanMeet, Cuts, Merges, EndsCut, EndsMerged, IsCut, IsHere, IsLeftLeaf, IsMergeEnd, IsMissing, IsUntermEnd, Keeps, Misses, SeeksLeaf, is_beyond, kept_for, way_of, CanSee, EndsFine, EndsUnposted, EndsUnrooted, Ends, Follows, GoesFrom, GoesOnWay, IsBased, IsFine, IsFinished, IsLeftOf, IsKept, IsLeafEnd, IsLong, IsRootEnd, IsTermEnd, IsTold, IsVisiting, Responds, Sees, Shows, Spends, Treats, WriteRound, at, wanted, descent_of, going_to, goes_left}
 use Rattle.descent.proofs.Keeping.{HasReached, IsOver, Passed, differs, reached_next, visits_next}
+use Rattle.descent.proofs.Leading.{led_aside, termed}
 use Rattle.descent.proofs.PageLaws.{above_empty, covered, spans}
 use Rattle.descent.proofs.Seeking.{hand, is_gone, living, reached, seeks_on, seeks_root}
 use Rattle.descent.proofs.Spending.{left_empty, left_on, left_removed, left_some, spent_empty, spent_on}
@@ -102,6 +103,14 @@ module _ (old : WriteRound) (k now : Knowledge) (r : Recalled) (version : Versio
   keeps_on alive pid level low names (Merge left) seeks passing by = absurd seeks
   keeps_on alive pid level low names (Unterm parent left) seeks passing by = absurd seeks
 
+  few_deltas : ¬ IsLong old.due version.chain → length version.chain ≤ 8
+  few_deltas short = let most = lt_of_not-le (λ (many : 9 ≤ length version.chain). short (inl many)) in omega (arith, most)
+
+  few_items : is_removed version.chain ≡ false → length version.chain ≤ 8 → ¬ CanSplit version → HasFewItems version.chain
+  few_items alive short narrow =
+      let m = made version.chain (hand old.limits k now r version h.level h.low h.earlier h.arrives).sound.is_chain.fitted in
+      (m.0.items, m.1.items, lt_of_not-le (λ many. narrow (record { alive = alive; short = short; wide = (m.0.items, m.1.items, many) })))
+
   -- goes on
 
   based_on : (parent left : Option Version) (pid : ℕ) (low : List ℕ) → IsBased r parent left version.pid h.low → IfSome left (IsLeftOf old.limits now h.low h.earlier) → IsBased r parent (Some version) pid low
@@ -109,8 +118,8 @@ module _ (old : WriteRound) (k now : Knowledge) (r : Recalled) (version : Versio
   based_on None None pid low based aside = elim based [ inl is ↦ inl is | inr above ↦ inr (rw h.arrives.is_low above) ]
   based_on None (Some other) pid low based aside = inr (rw h.arrives.is_low aside.inner)
 
-  aside : (pid : ℕ) → is_removed version.chain ≡ false → SeeksLeaf old.goal → LeadsRight way version.chain pid → IsVisiting old.limits old.key old.goal old.parent (Some version) now r (page.to_page old.limits pid)
-  aside pid alive seeks leads =
+  aside : (pid : ℕ) → is_removed version.chain ≡ false → SeeksLeaf old.goal → IsFinished old.parent old.left version → LeadsRight way version.chain pid → IsVisiting old.limits old.key old.goal old.parent (Some version) now r (page.to_page old.limits pid)
+  aside pid alive seeks finished leads =
       let names = right_names way version.chain pid leads in
       record {
         level = level_in version.chain;
@@ -120,11 +129,13 @@ module _ (old : WriteRound) (k now : Knowledge) (r : Recalled) (version : Versio
         above = IfSome_then old.parent h.above (λ other i. record { kept = kept_on other i.kept; up = i.up; after = tt });
         aside = record { kept = kept_here alive; inner = inner (low_in version.chain) leads.low (spans version.chain leads.low (hand old.limits k now r version h.level h.low h.earlier h.arrives).sound.is_chain.fitted leads.is_high) };
         based = based_on old.parent old.left pid leads.low h.based h.aside;
+        led = λ so. led_aside old.limits (goes_left old.goal) old.key k now r version h.level h.low h.earlier h.arrives alive pid leads old.parent old.left h.above h.aside (h.led so) finished;
         keeps = keeps_on alive pid (level_in version.chain) leads.low names old.goal seeks leads.on_way h.passed;
       }
 
-  below : (pid : ℕ) → is_removed version.chain ≡ false → SeeksLeaf old.goal → 0 < level_in version.chain → LeadsDown way version.chain pid → IsVisiting old.limits old.key old.goal (Some version) None now r (page.to_page old.limits pid)
-  below pid alive seeks index leads =
+  below : (pid : ℕ) → IsHere old version → IsFine old.due version → 0 < level_in version.chain → LeadsDown way version.chain pid → IsVisiting old.limits old.key old.goal (Some version) None now r (page.to_page old.limits pid)
+  below pid here fine index leads =
+      let alive = here.alive in
       let names = down_names way version.chain pid index leads in
       record {
         level = level_in version.chain - 1;
@@ -134,7 +145,8 @@ module _ (old : WriteRound) (k now : Knowledge) (r : Recalled) (version : Versio
         above = record { kept = kept_here alive; up = omega (arith, index); after = tt };
         aside = tt;
         based = tt;
-        keeps = keeps_on alive pid (level_in version.chain - 1) leads.low names old.goal seeks leads.greatest.passing h.passed;
+        led = λ so. record { short = few_deltas fine.short; roomy = few_items alive (few_deltas fine.short) fine.narrow; stays = here.stays; held = leads.held; greatest = leads.greatest };
+        keeps = keeps_on alive pid (level_in version.chain - 1) leads.low names old.goal here.seeks leads.greatest.passing h.passed;
       }
 
   -- reads the removed page again
@@ -161,6 +173,7 @@ module _ (old : WriteRound) (k now : Knowledge) (r : Recalled) (version : Versio
           above = tt;
           aside = tt;
           based = inr above_low;
+          led = λ so. absurd so;
           keeps = kept_here alive;
         }
 
@@ -213,6 +226,7 @@ module _ (old : WriteRound) (k now : Knowledge) (r : Recalled) (version : Versio
         above = tt;
         aside = tt;
         based = inr above_low;
+        led = λ so. absurd so;
         keeps = record { above = kept_on parent over.kept; aside = kept_here alive; up = over.up; after = over.after };
       }
 
@@ -236,15 +250,10 @@ module _ (old : WriteRound) (k now : Knowledge) (r : Recalled) (version : Versio
       subst (λ (o : Option Version). IsBased r None o version.pid h.low) t.aside (subst (λ (o : Option Version). IsBased r o old.left version.pid h.low) t.above h.based) in
       record { page = alive_of left beside.kept; right = version; aside = alive_here t.plan.can.alive; rooted = root_of left based t.plan.can.lowest; plan = t.plan }
 
-  few_items : is_removed version.chain ≡ false → length version.chain ≤ 8 → ¬ CanSplit version → HasFewItems version.chain
-  few_items alive short narrow =
-      let m = made version.chain (hand old.limits k now r version h.level h.low h.earlier h.arrives).sound.is_chain.fitted in
-      (m.0.items, m.1.items, lt_of_not-le (λ many. narrow (record { alive = alive; short = short; wide = (m.0.items, m.1.items, many) })))
-
   leaf_end : (parent : Option Version) (leaf : Version) → EndsFine old version parent leaf → IsLeafEnd old now r parent leaf
   leaf_end parent leaf t =
       let alive = t.here.alive in
-      let short : length version.chain ≤ 8 = (let most = lt_of_not-le (λ (many : 9 ≤ length version.chain). t.fine.short (inl many)) in omega (arith, most)) in
+      let short = few_deltas t.fine.short in
       let early : length version.chain ≤ old.due = (let most = lt_of_not-le (λ (many : suc old.due ≤ length version.chain). t.fine.short (inr (t.level, many))) in omega (arith, most)) in
       rw (t.is, t.above) (record {
         seeks = t.seeks;
@@ -255,6 +264,7 @@ module _ (old : WriteRound) (k now : Knowledge) (r : Recalled) (version : Versio
         early = early;
         few = few_items alive short t.fine.narrow;
         above = IfSome_then old.parent h.above (λ other i. record { page = alive_of other i.kept; up = i.up; after = i.after });
+        termed = termed old.limits (goes_left old.goal) old.key k now r version h.level h.low h.earlier h.arrives alive old.parent old.left h.above h.aside (h.led (subst SeeksLeaf (sym t.seeks) tt)) t.here.finished t.level;
       })
 
   merge_end : (left removed : Version) (merge : MergeRecord) → EndsMerged old version left removed merge → IsMergeEnd old now r left removed merge
@@ -276,8 +286,8 @@ module _ (old : WriteRound) (k now : Knowledge) (r : Recalled) (version : Versio
 
   treated : (new : WriteRound) (result : Option WriteEnd) → Treats old version new result → After old now r new result
   treated new None t = elim t [
-    | inl right ↦ subst (λ (x : WriteRound). Shows x now r) (sym right.goes) (aside right.right right.alive right.seeks right.leads)
-    | inr (inl down) ↦ subst (λ (x : WriteRound). Shows x now r) (sym down.goes) (below down.child down.here.alive down.here.seeks down.index down.leads)
+    | inl right ↦ subst (λ (x : WriteRound). Shows x now r) (sym right.goes) (aside right.right right.alive right.seeks right.finished right.leads)
+    | inr (inl down) ↦ subst (λ (x : WriteRound). Shows x now r) (sym down.goes) (below down.child down.here down.fine down.index down.leads)
     | inr (inr (inl merge)) ↦ subst (λ (x : WriteRound). Shows x now r) (sym merge.goes) (back_to_merge merge.pid merge.left.goal merge.left.here.alive merge.beside)
     | inr (inr (inr cut)) ↦
         let over : IsOver old.limits now version h.earlier cut.parent = subst (λ (o : Option Version). IfSome o (IsOver old.limits now version h.earlier)) cut.above h.above in
@@ -402,6 +412,7 @@ module _ (limits : Limits) (key : List ℕ) (k : Knowledge) (r : Recalled) (pid 
     above = tt;
     aside = tt;
     based = inl refl;
+    led = λ so. refl;
     keeps = keeps_first goal b;
   })
 

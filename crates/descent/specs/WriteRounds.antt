@@ -6,18 +6,19 @@ use Rattle.bw_model.specs.declared.step.Answer.{Answer}
 use Rattle.bw_model.specs.Bytes.{is_below}
 use Rattle.base_page.specs.declared.item.Content.TheVariants.{Child}
 use Rattle.base_page.specs.Pages.{Page as PageOf}
+use Rattle.base_page.specs.Places.{IsGreatest}
 use Rattle.deltas.specs.declared.record.Record.{Record}
 use Rattle.deltas.specs.declared.record.Merge.{Merge as MergeRecord}
 use Rattle.deltas.specs.declared.record.Term.{Term}
 use Rattle.deltas.specs.declared.record.Unterm.{Unterm as UntermRecord}
-use Rattle.chain_search.specs.Chains.{content_in, covers, is_removed, level_in, low_in, right_in}
+use Rattle.chain_search.specs.Chains.{content_in, covers, high_in, is_removed, level_in, low_in, right_in}
 use Rattle.chain_search.specs.Fitting.{Fits}
 use Rattle.chain_search.specs.Knowledge.{Knowledge, learn}
 use Rattle.chain_search.specs.Recalled.{IsPaid, IsSpentWith, IsUnread, Recalled, WasHead, recall}
 use Rattle.smo.specs.Merges.{CanMerge, IsMergePlan}
 use Rattle.smo.specs.Readings.{IsAfter}
 use Rattle.smo.specs.Roots.{CanRoot, IsRootPlan}
-use Rattle.smo.specs.Sizes.{HasFewItems}
+use Rattle.smo.specs.Sizes.{HasFewDeltas, HasFewItems}
 use Rattle.smo.specs.Splits.{CanSplit, IsSplitPlan}
 use Rattle.smo.specs.Terms.{CanPost, IsTermPlan}
 use Rattle.smo.specs.Unterms.{CanUnterm, IsUntermPlan}
@@ -149,6 +150,36 @@ IsBased r (Some parent) left pid low = ⊤
 IsBased r None None pid low = (r.heads 0 ≡ Some pid) ⊎ IsTrue (is_below [] low)
 IsBased r None (Some left) pid low = (r.heads 0 ≡ Some left.pid) ⊎ IsTrue (is_below [] (low_in left.chain))
 
+-- The page's term is the greatest of the parent on the way; the parent ends beyond the way, and has few deltas and few items.
+pub record HasGreatest (way : List ℕ → Bool) (parent : Version) (pid : ℕ) (low : List ℕ) : Type 0 where
+  pub short : HasFewDeltas parent.chain
+  pub roomy : HasFewItems parent.chain
+  pub stays : StaysLeft way parent.chain
+  pub held : Bool
+  pub greatest : IsGreatest (content_in parent.chain) way low (Child pid held)
+
+-- The parent has the low key in its range and no term there, few deltas and few items.
+pub record HasRoomAt (parent : Version) (low : List ℕ) : Type 0 where
+  pub short : HasFewDeltas parent.chain
+  pub roomy : HasFewItems parent.chain
+  pub covered : IsTrue (covers parent.chain low)
+  pub absent : content_in parent.chain low ≡ None
+
+-- The page is the right of the leaf, which begins at the empty key.
+pub record IsNextToFirst (left : Version) (pid : ℕ) (low : List ℕ) : Type 0 where
+  pub leaf : level_in left.chain ≡ 0
+  pub lowest : low_in left.chain ≡ []
+  pub right : right_in left.chain ≡ Some pid
+  pub high : high_in left.chain ≡ Some low
+
+-- A parent has led to the page, or could get its term; without a parent the page begins at the empty key, is next to such a leaf, or
+-- is no leaf.
+abbrev pub IsLed : (List ℕ → Bool) → Option Version → Option Version → ℕ → ℕ → List ℕ → Type 0
+IsLed way (Some parent) None pid level low = HasGreatest way parent pid low
+IsLed way (Some parent) (Some left) pid level low = HasRoomAt parent low
+IsLed way None None pid level low = low ≡ []
+IsLed way None (Some left) pid level low = (0 < level) ⊎ IsNextToFirst left pid low
+
 -- A page is visited on the way to the key.
 pub record IsVisiting (limits : Limits) (key : List ℕ) (goal : Goal) (parent left : Option Version) (k : Knowledge) (r : Recalled) (visit : page.Visit) : Type 0 where
   pub level : ℕ
@@ -158,6 +189,7 @@ pub record IsVisiting (limits : Limits) (key : List ℕ) (goal : Goal) (parent l
   pub above : IfSome parent (IsParent limits k visit.pid visit.state level earlier)
   pub aside : IfSome left (IsLeftOf limits k low earlier)
   pub based : IsBased r parent left visit.pid low
+  pub led : SeeksLeaf goal → IsLed (way_of goal key) parent left visit.pid level low
   pub keeps : Keeps limits key k visit.pid earlier goal
 
 -- by the state of a round
