@@ -18,5 +18,6 @@ pub mod Plans
 pub mod Unlinking
 pub mod Tending
 pub mod Commands
+pub mod HoldingBack
 pub mod Tidying
 pub mod Going

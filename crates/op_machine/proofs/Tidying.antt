@@ -18,10 +18,12 @@ use Rattle.chain_search.proofs.FittedLaws.{Makes-base}
 use Rattle.installs.specs.Spares.{Spares}
 use Rattle.smo.specs.Sizes.{HasFewItems}
 use Rattle.smo.specs.declared.version.Version.{Version}
-use Rattle.smo.proofs.Places.{of_made}
+use Rattle.smo.proofs.Places.{from_made, of_made}
 use Rattle.op_machine.specs.Errands.{due_of}
-use Rattle.op_machine.specs.Outcomes.{IsAtLeaf}
+use Rattle.op_machine.specs.Outcomes.{IsAtLeafBelow}
 use Rattle.op_machine.specs.Tasks.{Task}
+use Rattle.op_machine.specs.Upkeep.{IsIdleFor}
+use Rattle.op_machine.proofs.HoldingBack.{kept_back}
 
 -- a writer whose reply goes by no value is a tidying
 tidies : (c : Command) (old : Option (List ℕ)) → is_writer c ≡ true → reply_of c old ≡ None → (key : List ℕ) × (c ≡ Tidy key)
@@ -41,15 +43,17 @@ alone [] fitted few = absurd fitted
 alone (newest ∷ []) fitted few = (fitted.0, ap (λ (record_of : Record). record_of ∷ []) fitted.1, fitted.2)
 alone (newest ∷ older ∷ under) fitted few = absurd (omega arith)
 
-pub may_call : (task : Task) (spares : Spares) (k : Knowledge) (r : Recalled) (leaf : Version) (old : Option (List ℕ)) → IsAtLeaf task spares k r leaf → task.errands ≡ [] → reply_of task.command old ≡ None
+pub may_call : (task : Task) (spares : Spares) (k : Knowledge) (r : Recalled) (parent : Option Version) (leaf : Version) (old : Option (List ℕ)) → IsAtLeafBelow task spares k r parent leaf → IsIdleFor task.command parent leaf → task.errands ≡ [] → reply_of task.command old ≡ None
     → MayReply task.limits task.actor k Tidied
-may_call task spares k r leaf old at last none =
+may_call task spares k r parent leaf old below idle last none =
+    let at = below.at in
     let tidy = tidies task.command old at.writer none in
     let due : due_of task.errands task.command ≡ 1 = rw (last, tidy.1) refl in
     let early = at.early in
     let base = alone leaf.chain at.page.in_hand.sound.is_chain.fitted (omega (arith, early, due)) in
     let level : level_in (Base base.0 ∷ []) ≡ 0 = subst (λ (chain : List Record). level_in chain ≡ 0) base.1 at.level in
     let few : HasFewItems (Base base.0 ∷ []) = subst HasFewItems base.1 at.few in
+    let makes = Makes-base base.0 base.2.ruled.is_page.ordered.ascending base.2.alive in
     let covered : IsTrue (covers leaf.chain tidy.0) = rw (last, tidy.1) at at.covered in
     record {
       command = task.command;
@@ -65,7 +69,10 @@ may_call task spares k r leaf old at last none =
         alone = base.1;
         leaf = level;
         covers = covered;
-        few = of_made (Base base.0 ∷ []) base.0 (λ items. length items < 16) (Makes-base base.0 base.2.ruled.is_page.ordered.ascending base.2.alive) few;
+        few = of_made (Base base.0 ∷ []) base.0 (λ items. length items < 16) makes few;
+        back = λ other small.
+            kept_back task.limits k r task.command parent leaf (rw tidy.1 refl) below.above below.termed idle at.page.alive at.short
+            (record { other = other; few = rw base.1 (from_made (Base base.0 ∷ []) base.0 (λ items. length items ≤ 4) makes small) });
         unlinked = at.seeks.asked.unlinked;
       })));
     }

@@ -259,7 +259,7 @@ impl Task {
     fn execute(&self, spares: &Spares, leaf: Version) -> State
         requires faced { (k : Knowledge) × (r : Recalled) × IsAtLeaf self.now spares.now k r leaf }
         requires last { self.now.errands ≡ [] }
-        ensures stands { (k : Knowledge) (r : Recalled) → IsAtLeaf self.now spares.now k r leaf → Stands self.now spares.now k r result }
+        ensures stands { (parent : Option Version) (k : Knowledge) (r : Recalled) → IsAtLeafBelow self.now spares.now k r parent leaf → IsIdleFor self.now.command parent leaf → Stands self.now spares.now k r result }
         ensures few { (r : Recalled) → left_at r spares.now result ≤ few_changes + 1 }
         ensures asks { IsSome (wanted_at spares.now result) }
     {

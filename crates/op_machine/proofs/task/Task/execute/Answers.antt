@@ -17,7 +17,8 @@ change-requires-clause-target c =
     rw c.update_over-content.ensures (place_of c.args.self.now.limits faced.0 faced.1 c.args.leaf _ faced.2.page (over_next c.args.self.now.command c.args.leaf.head c.args.self.now.limits.rows faced.2.page.in_hand.row (option_copied c.find-old.result, rw (← c.self.view_is) (sym c.changes.ensures ∙ c.if-not-changes.false))))
 
 pub returns-clause-stands : goal.returns-clause-stands
-returns-clause-stands c k r h =
+returns-clause-stands c parent k r below idle =
+    let h = below.at in
     let task = c.args.self.now in
     let leaf = c.args.leaf in
     let page = c.page.result in
@@ -59,4 +60,6 @@ returns-clause-stands c k r h =
     }))
 
 pub returns-in_default-clause-stands : goal.returns-in_default-clause-stands
-returns-in_default-clause-stands c k r h = (record { inside = h.seeks.inside; spare = h.seeks.spare; going = h.seeks.asked.going }, may_call c.args.self.now c.args.spares.now k r c.args.leaf (option_copied c.find-old.result) h c.requires.last (rw (← c.self.view_is) (sym c.reply.ensures ∙ c.in_default.is)))
+returns-in_default-clause-stands c parent k r below idle =
+    let h = below.at in
+    (record { inside = h.seeks.inside; spare = h.seeks.spare; going = h.seeks.asked.going }, may_call c.args.self.now c.args.spares.now k r parent c.args.leaf (option_copied c.find-old.result) below idle c.requires.last (rw (← c.self.view_is) (sym c.reply.ensures ∙ c.in_default.is)))
