@@ -1,10 +1,12 @@
--- What follows two of the runs: an actor asks for cursor pages, and for upkeep where none is due.
-use Rattle.std.specs.Prelude.{codes, List, [], ◌∷◌, None, Some}
+-- What follows two of the runs: an actor asks for cursor pages, and for upkeep.
+use Rattle.std.specs.Prelude.{codes, List, [], ◌∷◌, true, None, Some}
 use Rattle.bw_model.specs.declared.command.Command.{Command}
 use Rattle.bw_model.specs.declared.command.Command.TheVariants.{Page, Tidy}
 use Rattle.bw_model.specs.declared.command.Reply.TheVariants as reply
-use Rattle.bw_model.specs.declared.step.Step.TheVariants.{Slot, Row, Enter, Leave}
-use Rattle.bw_model.specs.declared.step.Answer.TheVariants.{Number, Content, Done}
+use Rattle.bw_model.specs.declared.step.Step.TheVariants.{Slot, Row, Place, Exchange, TakeRow, Enter, Leave}
+use Rattle.bw_model.specs.declared.step.Answer.TheVariants.{Number, Content, Whether, Done}
+use Rattle.deltas.specs.declared.record.Record.{Record}
+use Rattle.deltas.specs.declared.record.Record.TheVariants as delta
 use Rattle.chain_search.specs.declared.trace.Entry.{Entry}
 use Rattle.chain_search.specs.declared.trace.Entry.TheVariants.{Begin, Step}
 use Rattle.tree_law.specs.Example.{a, opening_leaf, root_a, hold_a, remove_a}
@@ -20,8 +22,13 @@ page_b = Page b
 abbrev pub tidy_b : Command
 tidy_b = Tidy b
 
+-- the term of the leaf on the removed one's right
+abbrev pub right_term : Record
+right_term = delta.Term (record { level = 1; next = 7; separator = b; child = 4 })
+
 -- After the removal: a cursor page from the removed leaf's first key on, which has no pairs and ends where that leaf ended;
--- and upkeep at the leaf on its right, which is a base alone.
+-- and upkeep at the leaf on its right, whose term is due and is posted. Then nothing is: the leaf is a base alone, and is not removed
+-- while the term beside its own is held.
 abbrev pub upkeep : List Entry
 upkeep = Begin 1 page_a
     ∷ Step 1 (Enter 1) Done None
@@ -52,6 +59,12 @@ upkeep = Begin 1 page_a
     ∷ Step 1 (Row 1) (Content opening_leaf) None
     ∷ Step 1 (Slot 4) (Number 6) None
     ∷ Step 1 (Row 6) (Content upper_c) None
+    ∷ Step 1 (TakeRow 9) (Whether true) None
+    ∷ Step 1 (Place 9 right_term) Done None
+    ∷ Step 1 (Exchange 3 7 9) (Whether true) None
+    ∷ Step 1 (Slot 3) (Number 9) None
+    ∷ Step 1 (Row 9) (Content right_term) None
+    ∷ Step 1 (Slot 4) (Number 6) None
     ∷ Step 1 Leave Done (Some reply.Tidied)
     ∷ []
 

@@ -34,8 +34,8 @@ pub fn no_room_is_disciplined()
     ensures { IsDisciplined small no_room }
 {}
 
-/// After the run with a removal the second actor shows a cursor page of the removed leaf, and finds nothing due at the leaf on
-/// its right; after the helped split it shows a cursor page with a pair.
+/// After the run with a removal the second actor shows a cursor page of the removed leaf, and posts the term of the leaf on its
+/// right, at which then nothing is due; after the helped split it shows a cursor page with a pair.
 pub fn pages_are_disciplined()
     ensures upkeep { IsDisciplined small (removal ++ upkeep) }
     ensures last_page { IsDisciplined small (helped_split ++ last_page) }

@@ -1,5 +1,5 @@
 -- What each link of the helped split puts over a chain fits it.
-use Rattle.std.proofs.Common.{◌≡◌, ℕ, [], ◌∷◌, Option, Some, None, false, refl, arith}
+use Rattle.std.proofs.Common.{◌≡◌, ◌≤◌, ℕ, [], ◌∷◌, Option, Some, None, Bool, true, false, refl, arith}
 use Rattle.std.specs.Prelude.{if◌then◌else◌, not}
 use Rattle.std.specs.List.Sorted.{IsStrictlySortedBy}
 use Rattle.std.specs.Ordering.{is_eq}
@@ -9,19 +9,20 @@ use Rattle.base_page.specs.declared.item.Content.{Content}
 use Rattle.base_page.specs.declared.item.Content.TheVariants.{Child}
 use Rattle.base_page.specs.declared.item.Item.{Item}
 use Rattle.base_page.specs.Pages.{Page, IsPage, content_at}
-use Rattle.base_page.specs.Rules.{IsRuled}
+use Rattle.base_page.specs.Rules.{held_count, IsRuled}
 use Rattle.base_page.proofs.PageLaws.{IsPage-from}
-use Rattle.deltas.specs.declared.record.Record.TheVariants.{Split}
+use Rattle.deltas.specs.declared.record.Record.TheVariants.{Split, Term}
 use Rattle.deltas.specs.Applies.{Applies}
 use Rattle.deltas.specs.Spellable.{HasPid, IsSpellablePage}
 use Rattle.chain_search.specs.Discipline.{FitsOn}
 use Rattle.chain_search.specs.Fitted.{IsFitted}
-use Rattle.tree_law.specs.Example.{a, opening_leaf, root_a}
+use Rattle.tree_law.specs.CursorPages.{right_term}
+use Rattle.tree_law.specs.Example.{a, opening_leaf, root_a, hold_a}
 use Rattle.tree_law.specs.HelpedSplit.{item_b, helped_term, other_put}
 use Rattle.tree_law.specs.TwoSplits.{b, upper_b, first_split, upper_c, second_split}
 use Rattle.tree_law.specs.Keys.{Key}
 use Rattle.tree_law.proofs.shape.KeyOrder.{by_key, by_below}
-use Rattle.tree_law.proofs.runs.LinkFits.{leaf, leaf_page, leaf_ruled, first, alone, both, linked, root_makes}
+use Rattle.tree_law.proofs.runs.LinkFits.{leaf, leaf_page, leaf_ruled, first, alone, both, linked, root_makes, hold_makes}
 use Rattle.tree_law.proofs.runs.Making.{base_makes, fits_over}
 
 pub leaf_splits : (low : Key) (high : Option Key) (right : Option ℕ) (next page : ℕ) (key : Key) → Applies (leaf low high right) (Split (record { level = 0; next = next; separator = key; page = page })) (leaf low (Some key) (Some page))
@@ -39,23 +40,27 @@ put_page = IsPage-from put refl (record { few = omega arith; ascending = (tt, tt
 abbrev third : Item
 third = record { key = b; content = Child 4 false }
 
-abbrev grown : Page
-grown = record alone { items = first ∷ record { key = a; content = Child 2 false } ∷ third ∷ [] }
+abbrev pub grown : Bool → Page
+grown held = record alone { items = first ∷ record { key = a; content = Child 2 held } ∷ third ∷ [] }
 
-grown_page : IsPage grown
+grown_page : (held : Bool) → IsPage (grown held)
 unfolding IsStrictlySortedBy
-grown_page = IsPage-from grown refl (record { few = omega arith; ascending = ((refl, (refl, tt)), ((refl, tt), (tt, tt))) }) (record { within = refl; kind = omega arith }, (record { within = refl; kind = omega arith }, (record { within = refl; kind = omega arith }, tt)))
+grown_page held = IsPage-from (grown held) refl (record { few = omega arith; ascending = ((refl, (refl, tt)), ((refl, tt), (tt, tt))) }) (record { within = refl; kind = omega arith }, (record { within = refl; kind = omega arith }, (record { within = refl; kind = omega arith }, tt)))
 
-grown_ruled : IsRuled grown
-grown_ruled = record { is_page = grown_page; ends = refl; top = omega arith; terms = λ lt. record { first = (refl, refl); few = omega arith; apart = (λ e. absurd (cc), (λ e. absurd (cc), tt)) } }
+grown_ruled : (held : Bool) → IsRuled (grown held)
+grown_ruled held = record { is_page = grown_page held; ends = refl; top = omega arith; terms = λ lt. record { first = (refl, refl); few = few held; apart = (λ e. absurd (cc), (λ e. refl, tt)) } }
+  where
+    few : (held : Bool) → held_count (grown held).items ≤ 4
+    few true = omega arith
+    few false = omega arith
 
 put_applies : Applies (leaf b None None) other_put put
 put_applies = record { ascending = put_page.ordered.ascending; contents = λ key. refl; level = refl; low = refl; high = refl; right = refl; removed = refl }
 
-term_applies : Applies (both 2 false) helped_term grown
-term_applies = record {
-  ascending = grown_page.ordered.ascending;
-  contents = λ key. by_key key b (λ t. (if is_eq (key_cmp key []) then Some first.content else (if is_eq (key_cmp key a) then Some (Child 2 false) else (if t then Some third.content else None))) ≡ (if t then Some third.content else content_at (both 2 false).items key))
+pub term_applies : (held : Bool) (next : ℕ) → Applies (both 2 held) (Term (record { level = 1; next = next; separator = b; child = 4 })) (grown held)
+term_applies held next = record {
+  ascending = (grown_page held).ordered.ascending;
+  contents = λ key. by_key key b (λ t. (if is_eq (key_cmp key []) then Some first.content else (if is_eq (key_cmp key a) then Some (Child 2 held) else (if t then Some third.content else None))) ≡ (if t then Some third.content else content_at (both 2 held).items key))
       (λ same. rw same refl) (λ ne. refl);
   level = refl;
   low = refl;
@@ -71,7 +76,10 @@ pub second_fits : FitsOn (upper_b ∷ []) second_split
 second_fits = (fits_over (base_makes (leaf a None None) (leaf_page a None None refl) refl) (record { alive = refl; level = refl; covered = refl; inner = refl }) (leaf_splits a None None 2 4 b) (leaf_ruled a (Some b) (Some 4) refl refl) refl (linked 0 2 b 4 (omega arith) (omega arith, omega arith) (λ e. cc) (omega arith, omega arith)), omega arith)
 
 pub term_fits : FitsOn (root_a ∷ []) helped_term
-term_fits = (fits_over root_makes (record { alive = refl; level = refl; index = omega arith; covered = refl; absent = refl; room = omega arith }) term_applies grown_ruled refl (omega arith, (linked 1 5 b 4 (omega arith) (omega arith, omega arith) (λ e. cc) (omega arith, omega arith))), omega arith)
+term_fits = (fits_over root_makes (record { alive = refl; level = refl; index = omega arith; covered = refl; absent = refl; room = omega arith }) (term_applies false 5) (grown_ruled false) refl (omega arith, (linked 1 5 b 4 (omega arith) (omega arith, omega arith) (λ e. cc) (omega arith, omega arith))), omega arith)
+
+pub right_fits : FitsOn (hold_a ∷ root_a ∷ []) right_term
+right_fits = (fits_over hold_makes (record { alive = refl; level = refl; index = omega arith; covered = refl; absent = refl; room = omega arith }) (term_applies true 7) (grown_ruled true) refl (omega arith, (linked 1 7 b 4 (omega arith) (omega arith, omega arith) (λ e. cc) (omega arith, omega arith))), omega arith)
 
 pub put_fits : FitsOn (upper_c ∷ []) other_put
 put_fits = (fits_over (base_makes (leaf b None None) (leaf_page b None None refl) refl) (record { alive = refl; leaf = refl; covered = refl; room = λ e. omega arith }) put_applies (record { is_page = put_page; ends = refl; top = omega arith; terms = λ lt. absurd (omega arith) }) refl (omega arith, omega arith), omega arith)

@@ -167,7 +167,7 @@ merge_makes = over_makes split_makes merge_applies
 pub root_makes : Makes (root_a ∷ []) (both 2 false)
 root_makes = base_makes (both 2 false) (both_page 2 false) refl
 
-hold_makes : Makes (hold_a ∷ root_a ∷ []) (both 2 true)
+pub hold_makes : Makes (hold_a ∷ root_a ∷ []) (both 2 true)
 hold_makes = over_makes root_makes hold_applies
 
 unterm_makes : Makes (unterm_a ∷ hold_a ∷ root_a ∷ []) alone

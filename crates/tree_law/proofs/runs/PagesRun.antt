@@ -8,19 +8,23 @@ use Rattle.bw_model.specs.Bytes.{is_below, is_in_range}
 use Rattle.bw_model.specs.Pairs.{ArePairsOf}
 use Rattle.base_page.specs.declared.item.Content.TheVariants.{Value}
 use Rattle.deltas.specs.declared.record.Record.{Record}
-use Rattle.chain_search.specs.Discipline.{IsMet, MayReply, found, value_of}
+use Rattle.chain_search.specs.Discipline.{IsMet, MayAdd, MayReply, found, value_of}
 use Rattle.chain_search.specs.Disciplined.{IsDisciplinedFrom, IsDisciplined}
+use Rattle.chain_search.specs.HeldBack.{HoldsBack}
 use Rattle.chain_search.specs.Knowledge.{Knowledge, knows}
-use Rattle.tree_law.specs.CursorPages.{page_a, page_b, tidy_b, upkeep, last_page}
+use Rattle.tree_law.specs.CursorPages.{page_a, page_b, tidy_b, right_term, upkeep, last_page}
 use Rattle.tree_law.specs.Example.{small, a, opening_leaf, root_a, hold_a, remove_a}
 use Rattle.tree_law.specs.HelpedSplit.{other_put, helped_term, helped_split}
 use Rattle.tree_law.specs.Keys.{Key}
 use Rattle.tree_law.specs.Removal.{removal}
 use Rattle.tree_law.specs.TwoSplits.{b, upper_b, first_split, upper_c, second_split}
+use Rattle.tree_law.proofs.runs.HelpFits.{grown, right_fits, term_applies}
 use Rattle.tree_law.proofs.runs.HelpRun.{help_disciplined}
-use Rattle.tree_law.proofs.runs.LinkFits.{leaf}
+use Rattle.tree_law.proofs.runs.LinkFits.{leaf, hold_makes}
+use Rattle.tree_law.proofs.runs.Making.{over_makes}
 use Rattle.tree_law.proofs.runs.RemovalRun.{removal_disciplined}
 use Rattle.tree_law.proofs.runs.Standing.{◌▸◌, joined, quietly}
+use Rattle.tree_law.proofs.runs.Unset.{is_unset}
 use Rattle.tree_law.proofs.shape.KeyOrder.{by_key}
 
 -- what the actor knows before entry n of what follows the removal, and of what follows the helped split
@@ -109,8 +113,26 @@ shows_removed = record {
   }));
 }
 
+-- the term that it posts for that leaf
+posts : MayAdd 1 (before 31) 3 7 9
+posts = record {
+  basis = record { head = refl; chain = hold_a ∷ root_a ∷ []; read = (refl, (refl, refl)); alive = refl };
+  content = right_term;
+  placed = refl;
+  fits = right_fits;
+  due = record { child = 4; row = 6; below = record { head = refl; chain = upper_c ∷ []; read = (refl, refl); alive = refl }; level = refl; covers = refl; absent = refl; order = refl; is = refl };
+  unset = is_unset [] refl;
+}
+
+right_child : IsMet (before 34) 4
+right_child = record { other = 3; row = 9; basis = record { head = refl; chain = right_term ∷ hold_a ∷ root_a ∷ []; read = (refl, (refl, (refl, refl))); alive = refl }; named = inr (inl (0, b, false, refl, refl, refl)) }
+
+-- the root holds that leaf back, as the term beside the leaf's own is held
+held_back : HoldsBack (right_term ∷ hold_a ∷ root_a ∷ []) 4 b
+held_back = record { held = false; there = refl; items = (grown true).items; are = (over_makes hold_makes (term_applies true 7)).items; why = inr (refl, inr refl) }
+
 -- nothing is due at the last leaf
-nothing_due : MayReply small 1 (before 29) reply.Tidied
+nothing_due : MayReply small 1 (before 35) reply.Tidied
 nothing_due = record {
   command = tidy_b;
   going = refl;
@@ -126,6 +148,7 @@ nothing_due = record {
     leaf = refl;
     covers = refl;
     few = lit< tt;
+    back = λ other few. inr (record { parent = 3; row = 9; above = record { head = refl; chain = right_term ∷ hold_a ∷ root_a ∷ []; read = (refl, (refl, (refl, refl))); alive = refl }; order = refl; holds = held_back });
     unlinked = refl;
   })));
 }
@@ -138,7 +161,19 @@ shows_last = record {
   justified = inr (inl (record { from = b; asks = refl; row = 9; chain = last; read = (refl, (refl, refl)); leaf = refl; covers = refl; pairs = (b, codes "2") ∷ []; exact = one_pair; is = refl; unlinked = refl; basis = inl ((4, refl), refl) }));
 }
 
--- to the leaf on the removed leaf's left, and to that on its right, at which nothing is due
+-- it posts the term of that leaf, at which then nothing is due
+tidies : IsDisciplinedFrom small (removal ++ take 29 upkeep) (drop 29 upkeep)
+tidies =
+    (refl, quietly tt tt, refl)
+    ▸ (refl, quietly (refl, tt, is_unset [] refl) tt, refl)
+    ▸ (refl, quietly (refl, posts) tt, refl)
+    ▸ (refl, quietly (refl, inl refl) tt, refl)
+    ▸ (refl, quietly (refl, refl) tt, (right_term, refl, refl))
+    ▸ (refl, quietly (refl, inr right_child) tt, refl)
+    ▸ (refl, record { may = refl; frees = tt; replied = (refl, nothing_due) }, refl)
+    ▸ tt
+
+-- to the leaf on the removed leaf's left, and to that on its right
 goes_on : IsDisciplinedFrom small (removal ++ take 24 upkeep) (drop 24 upkeep)
 goes_on =
     (refl, quietly (refl, inr left_child_again) tt, refl)
@@ -146,8 +181,7 @@ goes_on =
     ▸ (refl, quietly (refl, refl) tt, (opening_leaf, refl, refl))
     ▸ (refl, quietly (refl, inr right_beyond) tt, refl)
     ▸ (refl, quietly (refl, refl) tt, (upper_c, refl, refl))
-    ▸ (refl, record { may = refl; frees = tt; replied = (refl, nothing_due) }, refl)
-    ▸ tt
+    ▸ tidies
 
 -- it begins again, and goes down to the removed leaf
 descends_again : IsDisciplinedFrom small (removal ++ take 14 upkeep) (drop 14 upkeep)

@@ -18,9 +18,11 @@ use Rattle.op_machine.specs.Answered.{IsCursorPage}
 use Rattle.op_machine.specs.Quiet.{HasMapOf}
 use Rattle.tree_law.specs.Keys.{Key}
 use Rattle.tree_law.specs.Owners.{Owners, leaf_map}
+use Rattle.tree_law.specs.Phase.{Placed}
 use Rattle.tree_law.specs.Shared.{shared}
 use Rattle.tree_law.specs.Stood.{IsLeafWith}
 use Rattle.tree_law.specs.Tree.{SidePage, InPlace, IsPart, HasSidePage, IsTree}
+use Rattle.tree_law.proofs.shape.Exactness.{is_indexed}
 use Rattle.tree_law.proofs.shape.KeyOrder.{both, covers_from, covers_to, upto_trans}
 use Rattle.tree_law.proofs.shape.Mapping.{live, leaves, is_leaves, map_of}
 use Rattle.tree_law.proofs.shape.Sides.{one_chain}
@@ -41,6 +43,7 @@ module _ (memory : Memory) {log : List Update} {o : Owners} {knows : ℕ → Kno
     are = is_leaves memory g;
     among = subst (Contains (map live (leaves memory g).side)) same there.2;
     only = λ key value inside spells. place.is_page.same key (covers_from chain key inside) ∙ ap (option_map Value) (((map_of g).same key value).0 spells);
+    first = λ e. (is_indexed memory g).only page 0 place.stage (omega arith) (place.placed ∙ ap (λ (low : Key). Placed place.stage 0 low) e) place.on ∙ (is_indexed memory g).leftmost;
   }
     where
       there : (f : SidePage) × (f.page ≡ page) × Contains (map live (leaves memory g).side) (live f) × Here f

@@ -241,5 +241,5 @@ begins limits entries a c state below idle = record {
     stood_begin : (op : Operation) → IsOperation (entries ++ Begin a c ∷ []) op → IsUnended (entries ++ Begin a c ∷ []) op.start op.actor → command_of (entries ++ Begin a c ∷ []) op.actor ≡ Some op.command
         → HaveStood limits (entries ++ Begin a c ∷ []) op (memory_of limits (entries ++ Begin a c ∷ [])).rows (knows (entries ++ Begin a c ∷ []) op.actor).read
     stood_begin = unfinished_begin (λ op k. HaveStood limits (entries ++ Begin a c ∷ []) op (memory_of limits (entries ++ Begin a c ∷ [])).rows k.read)
-        (record { heads = λ page row chain read. absurd (cc); beside = λ page head other row basis chain read. absurd (cc) })
+        (record { reads = λ page row chain read. absurd (cc); heads = λ page row chain read. absurd (cc); beside = λ page head other row basis chain read. absurd (cc) })
         (λ op is unended asks. stood_kept limits entries (Begin a c) state.good (memory_of limits (entries ++ Begin a c ∷ [])).rows (λ row l. ap (λ (m : Memory). m.rows row) (memory_of-push limits entries (Begin a c))) op op.actor (state.stood op is unended asks))

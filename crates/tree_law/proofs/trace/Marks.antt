@@ -14,13 +14,13 @@ use Rattle.chain_search.specs.declared.trace.Entry.TheVariants.{Begin, Step}
 use Rattle.chain_search.specs.Trace.{memory_of, memory_at, command_of}
 use Rattle.chain_search.proofs.Pushes.{slice_get-push, slice_get_kept, slice_get_below, take-push, take-push_whole}
 use Rattle.chain_search.proofs.TraceLaws.{memory_at-push}
-use Rattle.op_machine.specs.Answered.{IsTidy}
+use Rattle.op_machine.specs.Answered.{IsLeafOf}
 use Rattle.op_machine.specs.Operations.{Operation, IsOperation, IsOwnStep, Finishes}
 use Rattle.op_machine.specs.Points.{IsPoint, log_of, log_at}
 use Rattle.op_machine.specs.Quiet.{IsQuiet, HasMapOf}
 use Rattle.op_machine.proofs.LogLaws.{log_at-push}
 use Rattle.tree_law.specs.State.{IsUnended, operation_of, Tells, Justifies, Finds, IsAnsweredBy, IsMarked}
-use Rattle.tree_law.proofs.trace.Searches.{nothing_free_kept}
+use Rattle.tree_law.proofs.trace.Searches.{held_back_kept, nothing_free_kept}
 use Rattle.tree_law.proofs.trace.Owned.{pushed_length, point_below, point_last, own_step_kept, own_cases, step_cases, step_below, own_new, unended_kept, operation_old}
 
 pub take_whole : {X : Type 0} (xs : List X) (n : ℕ) → n ≡ length xs → take n xs ≡ xs
@@ -54,7 +54,14 @@ module _ (entries : List Entry) (points : List Bool) (last : Entry) (mark : Bool
       asks = h.1.asks;
       step = h.1.step;
       own = own_step_kept entries last op h.1.step h.1.own;
-      tidy = subst (λ memory. IsTidy memory h.1.key) (sym (memory_same limits op h.1.step h.1.own)) h.1.tidy;
+      tidy = record {
+        leaf = h.1.tidy.leaf;
+        stands = subst (λ memory. IsLeafOf memory h.1.key h.1.tidy.leaf) (sym (memory_same limits op h.1.step h.1.own)) h.1.tidy.stands;
+        base = h.1.tidy.base;
+        alone = h.1.tidy.alone;
+        few = h.1.tidy.few;
+      };
+      back = λ other small. held_back_kept entries last limits op h.1.step h.1.tidy.leaf (h.1.back other small);
     },
   )
   finds_kept limits op reply (inr h) = inr (h.0, h.1, nothing_free_kept entries last limits op h.2)

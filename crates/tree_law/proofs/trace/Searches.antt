@@ -1,5 +1,5 @@
 -- What an operation has found stays found, and what a further step finds.
-use Rattle.std.proofs.Common.{◌≡◌, ◌<◌, ◌⊎◌, inl, inr, ℕ, zero, suc, List, [], ◌∷◌, ◌++◌, length, Option, Some, None, Bool, true, false, cond, refl, sym, ap, ◌∙◌, subst, arith}
+use Rattle.std.proofs.Common.{◌≡◌, ◌<◌, ◌≤◌, ◌⊎◌, inl, inr, ℕ, zero, suc, List, [], ◌∷◌, ◌++◌, length, Option, Some, None, Bool, true, false, cond, refl, sym, ap, ◌∙◌, subst, arith}
 use Rattle.std.specs.Prelude.{slice_get}
 use Rattle.bw_model.specs.declared.command.Command.{Command}
 use Rattle.bw_model.specs.declared.command.Reply.{Reply}
@@ -11,12 +11,17 @@ use Rattle.bw_model.specs.declared.step.Answer.TheVariants.{Number, Content, Whe
 use Rattle.deltas.specs.declared.record.Record.{Record}
 use Rattle.chain_search.specs.declared.trace.Entry.{Entry}
 use Rattle.chain_search.specs.declared.trace.Entry.TheVariants.{Begin, Step}
+use Rattle.chain_search.specs.Chains.{IsChainOf, low_in}
+use Rattle.chain_search.specs.HeldBack.{HoldsBack}
+use Rattle.chain_search.specs.SideChain.{LivePage}
 use Rattle.chain_search.proofs.Pushes.{slice_get_below}
-use Rattle.op_machine.specs.Answered.{FindsNothingFree}
+use Rattle.chain_search.proofs.TraceLaws.{memory_at-push}
+use Rattle.op_machine.specs.Answered.{FindsNothingFree, WasHeldBack}
 use Rattle.op_machine.specs.Operations.{Operation, TakesOwnStep}
 use Rattle.chain_search.specs.Discipline.{LacksRoom}
 use Rattle.chain_search.specs.Knowledge.{Asked, Knowledge, begun, learn, finished}
 use Rattle.tree_law.specs.State.{IsUnended, operation_of, IsSearch}
+use Rattle.tree_law.specs.Stood.{WasRead}
 use Rattle.tree_law.proofs.shape.Puts.{by_test}
 use Rattle.tree_law.proofs.links.Exchanged.{exchanged_alike}
 use Rattle.tree_law.proofs.trace.Owned.{pushed_length, own_kept, own_cases, takes_new}
@@ -59,6 +64,10 @@ words_cases pids k (TakeRow q) (Whether false) word e = inl e
 words_cases pids k (Exchange p y z) (Whether false) word e = inl e
 words_cases pids k s x word e = inl e
 
+-- a page above the leaf was read, which held it back
+pub held_back : {limits : Limits} {entries : List Entry} {op : Operation} {n : ℕ} (leaf : LivePage) (page row : ℕ) (chain : List Record) → WasRead limits entries op n page row chain → HoldsBack chain leaf.pid (low_in leaf.chain) → WasHeldBack limits entries op n leaf
+held_back leaf page row chain read holds = record { step = read.step; before = read.before; parent = page; row = row; own = read.own; chain = chain; stood = read.stood; holds = holds }
+
 module _ (entries : List Entry) (last : Entry) where
   pub takes_kept : (op : Operation) (n : ℕ) (step : StepOf Record) (answer : Answer Record) → TakesOwnStep entries op n step answer → TakesOwnStep (entries ++ last ∷ []) op n step answer
   takes_kept op n step answer h = (h.0, own_kept entries last op n step answer h.0 h.1)
@@ -66,6 +75,22 @@ module _ (entries : List Entry) (last : Entry) where
   pub nothing_free_kept : (limits : Limits) (op : Operation) → FindsNothingFree limits entries op → FindsNothingFree limits (entries ++ last ∷ []) op
   nothing_free_kept limits op (inl h) = inl (λ word lt. let f = h word lt in (f.0, takes_kept op f.0 _ _ f.1))
   nothing_free_kept limits op (inr h) = inr (λ word lt. let f = h word lt in (f.0, takes_kept op f.0 _ _ f.1))
+
+  -- what was read before a step was read before each later one
+  pub read_kept : (limits : Limits) (op : Operation) (n later page row : ℕ) (chain : List Record) → n ≤ later → WasRead limits entries op n page row chain → WasRead limits (entries ++ last ∷ []) op later page row chain
+  read_kept limits op n later page row chain le h =
+      let early : h.step < n = h.before in
+      let below : h.step < length entries = slice_get_below entries h.step _ h.own.1.entry in
+      record {
+        step = h.step;
+        before = omega arith;
+        own = takes_kept op h.step _ _ h.own;
+        stood = subst (λ memory. IsChainOf memory page chain) (sym (memory_at-push limits entries (last ∷ []) h.step (omega arith))) h.stood;
+      }
+
+  pub held_back_kept : (limits : Limits) (op : Operation) (n : ℕ) (leaf : LivePage) → WasHeldBack limits entries op n leaf → WasHeldBack limits (entries ++ last ∷ []) op n leaf
+  held_back_kept limits op n leaf h =
+      held_back leaf h.parent h.row h.chain (read_kept limits op n n h.parent h.row h.chain (omega arith) (record { step = h.step; before = h.before; own = h.own; stood = h.stood })) h.holds
 
   -- what an operation has found stays found at an entry that isn't its own
   pub search_other : (op : Operation) (k : Knowledge) → IsSearch entries op k → ((step : StepOf Record) (answer : Answer Record) (reply : Option Reply) → last ≡ Step op.actor step answer reply → ⊥)

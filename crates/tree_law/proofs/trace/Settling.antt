@@ -1,5 +1,5 @@
 -- Why a reply is right: where an actor may reply, its operation is answered by the points before that step.
-use Rattle.std.proofs.Common.{◌≡◌, ◌≢◌, ◌<◌, inl, inr, ℕ, List, length, take, Option, Some, None, Bool, refl, sym, ap, ◌∙◌, subst, arith}
+use Rattle.std.proofs.Common.{◌≡◌, ◌≢◌, ◌<◌, inl, inr, ℕ, List, [], length, take, Option, Some, None, Bool, refl, sym, ap, ◌∙◌, subst, ⊎_elim, arith}
 use Rattle.std.specs.Prelude.{IfSome, MatchOption}
 use Rattle.std.proofs.lemmas.Option.{same_Some}
 use Rattle.bw_model.specs.declared.command.Command.{Command}
@@ -7,27 +7,28 @@ use Rattle.bw_model.specs.declared.command.Reply.{Reply}
 use Rattle.bw_model.specs.declared.limits.Limits.{Limits}
 use Rattle.bw_model.specs.Log.{Update, value_in}
 use Rattle.bw_model.specs.Replies.{command_key, reply_of, update_of}
+use Rattle.deltas.specs.declared.record.Record.{Record}
 use Rattle.chain_search.specs.declared.trace.Entry.{Entry}
-use Rattle.chain_search.specs.Chains.{high_in, level_in}
+use Rattle.chain_search.specs.Chains.{IsChainFrom, high_in, level_in, low_in}
 use Rattle.chain_search.specs.Trace.{memory_of, memory_at, command_of}
 use Rattle.chain_search.proofs.Pushes.{slice_get_below}
-use Rattle.op_machine.specs.Answered.{RepliesAt}
+use Rattle.op_machine.specs.Answered.{RepliesAt, WasHeldBack}
 use Rattle.op_machine.specs.Updates.{UpdatesAtLinks}
 use Rattle.op_machine.specs.Operations.{Operation, IsOwnStep}
 use Rattle.op_machine.specs.Points.{IsPoint, log_of, log_at}
 use Rattle.op_machine.specs.Quiet.{IsQuiet}
-use Rattle.chain_search.specs.Discipline.{MayAnswer, MayShowPage, MayCallTidy, MayGiveUp, MayReply}
+use Rattle.chain_search.specs.Discipline.{IsHeldBack, MayAnswer, MayShowPage, MayCallTidy, MayGiveUp, MayReply}
 use Rattle.chain_search.specs.Knowledge.{knows}
 use Rattle.tree_law.specs.Owners.{LinkFits}
 use Rattle.tree_law.specs.Replies.{IsRepliedAt}
 use Rattle.tree_law.specs.Shared.{shared}
 use Rattle.tree_law.specs.State.{operation_of, Tells, Finds, IsAnsweredBy, IsMarked, IsState}
-use Rattle.tree_law.specs.Stood.{WasLeafWith, HaveStood}
+use Rattle.tree_law.specs.Stood.{WasLeafWith, WereRead, HaveStood}
 use Rattle.tree_law.proofs.answering.Answering.{answers}
 use Rattle.tree_law.proofs.shape.Frames.{chain_stands}
 use Rattle.tree_law.proofs.shape.LeafPlaces.{shows}
 use Rattle.tree_law.proofs.trace.Remark.{remarked, log_of_same, log_at_same, marked', marked_now, told, told_other, updates', quiet'}
-use Rattle.tree_law.proofs.trace.Searches.{lacks}
+use Rattle.tree_law.proofs.trace.Searches.{held_back, lacks}
 use Rattle.tree_law.proofs.trace.Standing.{was_standing}
 
 -- The points before a step that may reply: where it does, the actor's operation is answered by them.
@@ -137,20 +138,28 @@ module _ (limits : Limits) (entries : List Entry) (a : ℕ) (asked : Command) (s
     record {
       key = may.key;
       asks = may.asks;
-      step = was.step;
-      own = was.own;
+      step = was.0.step;
+      own = was.0.own;
       tidy = record {
         leaf = record { pid = may.page; chain = may.basis.chain };
-        stands = record { leaves = was.stood.leaves; are = was.stood.are; among = was.stood.among; covers = may.covers };
+        stands = record { leaves = was.0.stood.leaves; are = was.0.stood.are; among = was.0.stood.among; covers = may.covers };
         base = may.base;
         alone = may.alone;
         few = may.few;
       };
+      back = λ other few. ⊎_elim (λ (first : low_in may.basis.chain ≡ []). absurd (other (was.0.stood.first first))) back (may.back other few);
     },
   ))
     where
-      was : WasLeafWith limits entries mine (record { pid = may.page; chain = may.basis.chain })
-      was = stood.heads may.page may.head may.basis.chain may.basis.head (chain_stands state.owners (shared (memory_of limits entries)) (knows entries a).read.seen (state.good.sound a).seen_fits may.basis.chain (Some may.head) may.basis.read) (ap level_in may.alone ∙ may.leaf) may.basis.alive
+      stands : (row : ℕ) (chain : List Record) → IsChainFrom (knows entries a).read.seen row chain → IsChainFrom (memory_of limits entries).rows row chain
+      stands row chain = chain_stands state.owners (shared (memory_of limits entries)) (knows entries a).read.seen (state.good.sound a).seen_fits chain (Some row)
+
+      was : (leaf : WasLeafWith limits entries mine (record { pid = may.page; chain = may.basis.chain })) × WereRead limits entries mine (memory_of limits entries).rows ((knows entries a).read.before may.page) leaf.step
+      was = stood.heads may.page may.head may.basis.chain may.basis.head (stands may.head may.basis.chain may.basis.read) (ap level_in may.alone ∙ may.leaf) may.basis.alive
+
+      -- before it the page was read that held it back
+      back : IsHeldBack (knows entries a) may.page (low_in may.basis.chain) → WasHeldBack limits entries mine was.0.step (record { pid = may.page; chain = may.basis.chain })
+      back h = held_back _ h.parent h.row h.above.chain (was.1 h.parent h.row h.above.chain h.order (stands h.row h.above.chain h.above.read)) h.holds
 
   by_want : (reply : Reply) → MayGiveUp limits (knows entries a) asked reply → Settled limits entries (log_of entries state.points) state.point state.logs a asked (Some reply)
   by_want reply may = pointlessly reply may.unlinked (inr (may.is, may.writes, lacks limits entries mine (knows entries a) (state.searches mine begun.begins begun.unended asks) may.lacks))

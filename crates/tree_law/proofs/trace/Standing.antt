@@ -1,5 +1,5 @@
--- The leaves that an operation has read stood at its own steps.
-use Rattle.std.proofs.Common.{◌≡◌, ◌<◌, ◌⊎◌, inl, inr, ℕ, zero, suc, List, [], ◌∷◌, ◌++◌, length, Option, Some, true, false, cond, refl, sym, ap, ◌∙◌, subst, ⊎_elim, arith}
+-- The pages and leaves that an operation has read stood at its own steps.
+use Rattle.std.proofs.Common.{◌≡◌, ◌<◌, ◌≤◌, ◌⊎◌, inl, inr, ℕ, zero, suc, List, [], ◌∷◌, ◌++◌, length, Option, Some, true, false, cond, refl, sym, ap, ◌∙◌, subst, ⊎_elim, arith}
 use Rattle.std.specs.Prelude.{slice_get}
 use Rattle.bw_model.specs.declared.command.Command.{Command}
 use Rattle.bw_model.specs.declared.command.Reply.{Reply}
@@ -13,7 +13,7 @@ use Rattle.deltas.specs.declared.record.Record.{Record}
 use Rattle.deltas.specs.Memory.{Memory}
 use Rattle.chain_search.specs.declared.trace.Entry.{Entry}
 use Rattle.chain_search.specs.declared.trace.Entry.TheVariants.{Begin, Step}
-use Rattle.chain_search.specs.Chains.{IsChainFrom, level_in, low_in, is_removed, right_in}
+use Rattle.chain_search.specs.Chains.{IsChainFrom, IsChainOf, level_in, low_in, is_removed, right_in}
 use Rattle.chain_search.specs.Discipline.{May, WasStanding}
 use Rattle.chain_search.specs.Knowledge.{Knowledge, Readings, learn}
 use Rattle.chain_search.specs.SideChain.{LivePage}
@@ -25,18 +25,20 @@ use Rattle.tree_law.specs.Keys.{Key}
 use Rattle.tree_law.specs.Owners.{Linked, Owners, Reached, HeadFits, OrderFits, InOrder, IsOut}
 use Rattle.tree_law.specs.Shared.{Shared, row_in, slot_in, shared}
 use Rattle.tree_law.specs.State.{IsUnended, operation_of}
-use Rattle.tree_law.specs.Stood.{IsLeafWith, WasLeafWith, HaveStood}
+use Rattle.tree_law.specs.Stood.{IsLeafWith, WasLeafWith, WasRead, WereRead, HaveStood}
 use Rattle.tree_law.specs.Tree.{InPlace, Level, spec, IsTree}
 use Rattle.tree_law.proofs.links.Exchanged.{exchanged_alike}
 use Rattle.tree_law.proofs.links.Keeping.{alive_place, met_placed}
 use Rattle.tree_law.proofs.shape.Chains.{chain_unique}
 use Rattle.tree_law.proofs.shape.Frames.{chain_stands}
 use Rattle.tree_law.proofs.shape.LeafPlaces.{is_leaf}
+use Rattle.tree_law.proofs.shape.Mapping.{chain_at}
 use Rattle.tree_law.proofs.shape.Moments.{same_memory}
 use Rattle.tree_law.proofs.shape.Puts.{by_test}
 use Rattle.tree_law.proofs.shape.Rows.{chain_was}
 use Rattle.tree_law.proofs.shape.Sides.{in_level_as, right_page}
-use Rattle.tree_law.proofs.trace.Owned.{own_step_kept, own_new, step_below}
+use Rattle.tree_law.proofs.trace.Owned.{own_step_kept, own_new, pushed_length, step_below, takes_new}
+use Rattle.tree_law.proofs.trace.Searches.{read_kept}
 
 -- The page's slot was read before a step, or the step reads it now.
 abbrev ReadBefore : Knowledge → StepOf Record → Answer Record → ℕ → ℕ → Type 0
@@ -111,14 +113,31 @@ module _ (limits : Limits) (entries : List Entry) (last : Entry) where
         stood = subst (λ memory. IsLeafWith memory page) (sym (same_memory limits entries last h.step (omega arith))) h.stood;
       }
 
+  -- the leaf stood, and before it pages were read, whose chains were as they are
+  leaf_kept : (op : Operation) (page : LivePage) (rows rows' : ℕ → Option Record) (before : ℕ → Option ℕ) → ((other row : ℕ) (chain : List Record) → before other ≡ Some row → IsChainFrom rows' row chain → IsChainFrom rows row chain)
+      → (h : WasLeafWith limits entries op page) → WereRead limits entries op rows before h.step → (w : WasLeafWith limits (entries ++ last ∷ []) op page) × WereRead limits (entries ++ last ∷ []) op rows' before w.step
+  unfolding was_kept
+  leaf_kept op page rows rows' before was h were = (was_kept op page h, λ other row chain order is. read_kept entries last limits op h.step h.step other row chain (omega arith) (were other row chain order (was other row chain order is)))
+
+  longer : length entries ≤ length (entries ++ last ∷ [])
+  longer = let long : length (entries ++ last ∷ []) ≡ suc (length entries) = pushed_length entries last in omega arith
+
   module _ {m : Shared} {log : List Update} {o : Owners} {knows : ℕ → Knowledge} {point : ℕ → Option (List Update)} {logs : ℕ → List (List Update)} (g : IsTree m log o knows point logs) (rows' : ℕ → Option Record) (kept : (row : ℕ) → o.row row ≡ Linked → rows' row ≡ m.rows row) where
+    -- the chain of a page as its slot was last read, and as it had been read before
+    head_was : (b page row : ℕ) (chain : List Record) → (knows b).read.heads page ≡ Some row → IsChainFrom rows' row chain → IsChainFrom m.rows row chain
+    head_was b page row chain read = chain_was o m rows' g.closed kept row chain (head_linked g b page row read)
+
+    order_was : (b page head : ℕ) → (knows b).read.heads page ≡ Some head → (other row : ℕ) (chain : List Record) → (knows b).read.before page other ≡ Some row → IsChainFrom rows' row chain → IsChainFrom m.rows row chain
+    order_was b page head read other row chain order = chain_was o m rows' g.closed kept row chain (order_linked g b page head other row read order)
+
     -- what an actor has read stood, after an entry that keeps the records of linked rows
     pub stood_kept : (op : Operation) (b : ℕ) → HaveStood limits entries op m.rows (knows b).read → HaveStood limits (entries ++ last ∷ []) op rows' (knows b).read
     stood_kept op b h = record {
-      heads = λ page row chain read is level alive. was_kept op _ (h.heads page row chain read (chain_was o m rows' g.closed kept row chain (head_linked g b page row read) is) level alive);
+      reads = λ page row chain read is. read_kept entries last limits op (length entries) _ page row chain longer (h.reads page row chain read (head_was b page row chain read is));
+      heads = λ page row chain read is level alive. let was = h.heads page row chain read (head_was b page row chain read is) level alive in leaf_kept op _ m.rows rows' _ (order_was b page row read) was.0 was.1;
       beside = λ page head other row basis chain read is alive right order stands level gone. was_kept op _ (h.beside page head other row basis chain
-          read (chain_was o m rows' g.closed kept head basis (head_linked g b page head read) is) alive right
-          order (chain_was o m rows' g.closed kept row chain (order_linked g b page head other row read order) stands) level gone);
+          read (head_was b page head basis read is) alive right
+          order (order_was b page head read other row chain order stands) level gone);
     }
 
   -- and after an own step
@@ -159,19 +178,45 @@ module _ (limits : Limits) (entries : List Entry) (last : Entry) where
           rows = λ x chain h. subst (λ (s : StepOf Record). IsChainFrom (memory_after a s memory).rows x chain) n.step_is h;
         }
 
-    was : (x : ℕ) (chain : List Record) → o.row x ≡ Linked → IsChainFrom (memory_after a step memory).rows x chain → IsChainFrom memory.rows x chain
-    was x chain = chain_was o (shared memory) (memory_after a step memory).rows g.closed kept x chain
+    abbrev rows' : ℕ → Option Record
+    rows' = (memory_after a step memory).rows
+
+    -- a slot's chain is read as it is
+    now_read : (page row : ℕ) (chain : List Record) → ReadsNow (knows a) step answer page row → IsChainFrom rows' row chain → WasRead limits (entries ++ last ∷ []) op (length (entries ++ last ∷ [])) page row chain
+    now_read page row chain n is =
+        let s = sees page row n in
+        let long : length (entries ++ last ∷ []) ≡ suc (length entries) = pushed_length entries last in
+        let slot : step ≡ Slot page = n.step_is ∙ ap Slot (sym n.page_is) in
+        let held : answer ≡ Number row = n.answer_is ∙ ap Number (sym n.row_is) in
+        record {
+          step = length entries;
+          before = omega arith;
+          own = takes_new entries last start a c (Slot page) (Number row) r begins unended (last_is ∙ λ d. Step a (slot d) (held d) r);
+          stood = subst (λ (x : Memory). IsChainOf x page chain) (sym (same_memory limits entries last (length entries) (omega arith) ∙ now)) (chain_at memory page row chain s.at (s.rows row chain is));
+        }
+
+    -- the leaf stands now, and before it pages were read
+    leaf_new : (page : LivePage) → IsLeafWith memory page → ((row : ℕ) (chain : List Record) → IsChainFrom rows' row chain → IsChainFrom memory.rows row chain)
+        → WereRead limits entries op memory.rows (knows a).read.heads (length entries) → (w : WasLeafWith limits (entries ++ last ∷ []) op page) × WereRead limits (entries ++ last ∷ []) op rows' (knows a).read.heads w.step
+    unfolding was_new
+    leaf_new page leaf was reads = (was_new page leaf, λ other row chain order is. read_kept entries last limits op (length entries) (length entries) other row chain (omega arith) (reads other row chain order (was row chain is)))
 
     pub stood_own : HaveStood limits entries op memory.rows (knows a).read → HaveStood limits (entries ++ last ∷ []) op (memory_after a step memory).rows (learn (knows a) step answer).read
     stood_own h = record {
+      reads = λ page row chain read is. elim (read_cases (knows a) step answer page row read) [
+        | inl b ↦ read_kept entries last limits op (length entries) _ page row chain longer (h.reads page row chain b.0 (head_was g rows' kept a page row chain b.0 is))
+        | inr n ↦ now_read page row chain n is
+      ];
       heads = λ page row chain read is level alive. elim (read_cases (knows a) step answer page row read) [
-        | inl b ↦ was_kept op _ (h.heads page row chain b.0 (was row chain (head_linked g a page row b.0) is) level alive)
-        | inr n ↦ let s = sees page row n in was_new _ (head_leaf memory g a page row s.level s.low s.reached s.at chain (s.rows row chain is) alive level)
+        | inl b ↦
+            let was = h.heads page row chain b.0 (head_was g rows' kept a page row chain b.0 is) level alive in
+            rw b.1 (leaf_kept op _ memory.rows rows' _ (order_was g rows' kept a page row b.0) was.0 was.1)
+        | inr n ↦ let s = sees page row n in rw n.before_is (leaf_new _ (head_leaf memory g a page row s.level s.low s.reached s.at chain (s.rows row chain is) alive level) s.rows h.reads)
       ];
       beside = λ page head other row basis chain read is alive right order stands level gone. elim (read_cases (knows a) step answer page head read) [
         | inl b ↦
             let order' : (knows a).read.before page other ≡ Some row = sym (ap (λ (f : ℕ → Option ℕ). f other) b.1) ∙ order in
-            was_kept op _ (h.beside page head other row basis chain b.0 (was head basis (head_linked g a page head b.0) is) alive right order' (was row chain (order_linked g a page head other row b.0 order') stands) level gone)
+            was_kept op _ (h.beside page head other row basis chain b.0 (head_was g rows' kept a page head basis b.0 is) alive right order' (order_was g rows' kept a page head b.0 other row chain order' stands) level gone)
         | inr n ↦
             let s = sees page head n in
             let read' : (knows a).read.heads other ≡ Some row = sym (ap (λ (f : ℕ → Option ℕ). f other) n.before_is) ∙ order in
@@ -183,7 +228,7 @@ module _ (limits : Limits) (entries : List Entry) (last : Entry) where
 pub was_standing : {m : Shared} {log : List Update} {o : Owners} {knows : ℕ → Knowledge} {point : ℕ → Option (List Update)} {logs : ℕ → List (List Update)} (g : IsTree m log o knows point logs) (a : ℕ)
     (limits : Limits) (entries : List Entry) (of : Operation) → HaveStood limits entries of m.rows (knows a).read
     → (row : ℕ) (chain : List Record) → IsChainFrom (knows a).read.seen row chain → level_in chain ≡ 0 → WasStanding (knows a) row chain → (page : ℕ) × WasLeafWith limits entries of (record { pid = page; chain = chain })
-was_standing {m} {log} {o} {knows} g a limits entries of h row chain read level (inl u) = (u.0.0, h.heads u.0.0 row chain u.0.1 (chain_stands o m (knows a).read.seen (g.sound a).seen_fits chain (Some row) read) level u.1)
+was_standing {m} {log} {o} {knows} g a limits entries of h row chain read level (inl u) = (u.0.0, (h.heads u.0.0 row chain u.0.1 (chain_stands o m (knows a).read.seen (g.sound a).seen_fits chain (Some row) read) level u.1).0)
 was_standing {m} {log} {o} {knows} g a limits entries of h row chain read level (inr u) =
     let b = u.0 in
     (b.other, h.beside b.left b.head b.other row b.basis.chain chain b.basis.head (chain_stands o m (knows a).read.seen (g.sound a).seen_fits b.basis.chain (Some b.head) b.basis.read) b.basis.alive b.right b.order (chain_stands o m (knows a).read.seen (g.sound a).seen_fits chain (Some row) read) level u.1)
