@@ -136,7 +136,7 @@ pub record IsState (limits : Limits) (entries : List Entry) : Type 0 where
   pub tells : (actor : ℕ) (asked : Command) → command_of entries actor ≡ Some asked → Tells entries points actor asked (point actor) (logs actor)
   pub searches : (operation : Operation) → IsOperation entries operation → IsUnended entries operation.start operation.actor → command_of entries operation.actor ≡ Some operation.command
       → IsSearch entries operation (knows entries operation.actor)
-  -- the leaves that an unfinished operation has read stood at own steps of it
+  -- the pages and leaves that an unfinished operation has read stood at own steps of it
   pub stood : (operation : Operation) → IsOperation entries operation → IsUnended entries operation.start operation.actor → command_of entries operation.actor ≡ Some operation.command
       → HaveStood limits entries operation (memory_of limits entries).rows (knows entries operation.actor).read
   pub marked : IsMarked limits entries points
