@@ -8,8 +8,8 @@ use Rattle.deltas.specs.declared.record.Record.{Record}
 use Rattle.deltas.specs.declared.record.Record.TheVariants as kind
 use Rattle.deltas.specs.declared.record.Split.{Split}
 use Rattle.chain_search.specs.Discipline.{MayExchange, MayLink}
-use Rattle.chain_search.specs.Fitting.{Fits, ReadsRemoved}
-use Rattle.chain_search.specs.Knowledge.{Knowledge, OwnPage, OwnRow, Foreign, Taken, Written, Other, Empty, Ready, Gone, cleared, exchanged, handed_page, linked_over, set_page}
+use Rattle.chain_search.specs.Fitting.{AreOutOfLimbo, Fits, ReadsRemoved}
+use Rattle.chain_search.specs.Knowledge.{Absent, Knowledge, OwnPage, OwnRow, Foreign, Taken, Written, Other, Empty, Ready, Gone, cleared, exchanged, handed_page, linked_over, set_page}
 use Rattle.installs.specs.Moves.{whether_in}
 use Rattle.installs.specs.Spares.{AreUnset, IsUnlinked}
 
@@ -85,11 +85,23 @@ module _ (k : Knowledge) where
     clear_went page row (answer.Content content) p r e read fits = absurd fits
     clear_went page row answer.Done p r e read fits = absurd fits
 
+    -- what is taken out was in no limbo
+    pub clear_fresh : (page row : ℕ) → 0 < page → 0 < row → k.own.pages page ≡ Gone → Fits limits k (step.Exchange page row 0) (answer.Whether true) → (k.limbo.pids page ≡ Absent) × AreOutOfLimbo limits k row
+    clear_fresh zero row p r e fits = absurd (omega (arith, p))
+    clear_fresh (suc page) zero p r e fits = absurd (omega (arith, r))
+    clear_fresh (suc page) (suc row) p r e fits = fits.2 refl e
+
+    pub over_fresh : (page old new : ℕ) → 0 < page → 0 < old → 0 < new → Fits limits k (step.Exchange page old new) (answer.Whether true) → AreOutOfLimbo limits k old
+    over_fresh zero old new p o n fits = absurd (omega (arith, p))
+    over_fresh (suc page) zero new p o n fits = absurd (omega (arith, o))
+    over_fresh (suc page) (suc old) zero p o n fits = absurd (omega (arith, n))
+    over_fresh (suc page) (suc old) (suc new) p o n fits = (fits refl).1
+
     pub over_other : (page old new : ℕ) → 0 < page → 0 < old → 0 < new → Fits limits k (step.Exchange page old new) (answer.Whether true) → k.own.pages page ≡ Other
     over_other zero old new p o n fits = absurd (omega (arith, p))
     over_other (suc page) zero new p o n fits = absurd (omega (arith, o))
     over_other (suc page) (suc old) zero p o n fits = absurd (omega (arith, n))
-    over_other (suc page) (suc old) (suc new) p o n fits = fits refl
+    over_other (suc page) (suc old) (suc new) p o n fits = (fits refl).0
 
 -- what is in a written row
 content_in_row : Record → OwnRow → Record

@@ -20,7 +20,7 @@ use Rattle.chain_search.specs.Fitting.{FitsWord, ReadsRemoved}
 use Rattle.chain_search.specs.Steps.{IsWordOf, IsAnswer}
 use Rattle.chain_search.specs.Trace.{memory_of}
 use Rattle.chain_search.specs.Discipline.{MayExchange, May}
-use Rattle.chain_search.specs.Fitting.{FitsRow, FitsTaken, FitsTakenPid, FitsExchange, Fits}
+use Rattle.chain_search.specs.Fitting.{FitsRow, FitsTaken, FitsTakenPid, AreOutOfLimbo, FitsExchange, Fits}
 use Rattle.chain_search.specs.Knowledge.{OwnRow, Foreign, Taken, Written, OwnPage, Other, Empty, Ready, Gone, Limbo, Absent, Unstamped, Stamped, Knowledge, knows}
 use Rattle.chain_search.proofs.FittedLaws.{first_spellable}
 use Rattle.tree_law.specs.Owners.{Free, Linked, Reached, HeadFits, OwnFits, PageFits, SeenFits, IsOut}
@@ -30,6 +30,7 @@ use Rattle.tree_law.specs.Phase.{Fresh, Indexed, Held, Removed, Merged, PageOwne
 use Rattle.tree_law.specs.Shared.{row_in, slot_in, shared}
 use Rattle.tree_law.specs.State.{phase_of, IsInTree, IsState}
 use Rattle.tree_law.specs.Times.{Outing, LimboFits}
+use Rattle.tree_law.proofs.epochs.Exchanging.{on_walk, slot_linked}
 use Rattle.tree_law.proofs.links.Keeping.{slot_of, met_placed}
 use Rattle.tree_law.proofs.shape.Exactness.{is_indexed, below_top}
 use Rattle.tree_law.proofs.shape.Kept.{placed_reached}
@@ -208,7 +209,24 @@ module _ (limits : Limits) (entries : List Entry) (state : IsState limits entrie
   fits_take_pid q true e = fits_taken_pid q e
   fits_take_pid q false e = tt
 
-  fits_exchange : (p x y : ℕ) (t : Bool) → MayExchange a k p x y → (m.slots p == x) ≡ t → FitsExchange k p x y t
+  -- the rows from that in the slot of a page of the tree on are in it, and none is in limbo
+  walk_out_of_limbo : (p x l : ℕ) (s : Key) → Reached 0 l s (state.owners.page p) → slot_in m.slots p ≡ Some x → AreOutOfLimbo limits k x
+  walk_out_of_limbo p x l s reached held = λ row walk.
+      let first = state.timed.slots p x l s reached held in
+      let on = on_walk state.good state.timed a p 13 (Some x) row (slot_linked state.good state.timed a p x l s reached held, first.0, first.1) walk in
+      let some = linked_some row on.0 in
+      (some.0, some.1, not_in_limbo (state.times.row_out row) on.2 (k.limbo.rows row) (state.timed.limbo_rows a row))
+
+  -- a page whose term the actor took out is in no limbo, nor is its chain
+  gone_out_of_limbo : (p x : ℕ) → k.own.pages p ≡ Gone → slot_in m.slots p ≡ Some x → (k.limbo.pids p ≡ Absent) × AreOutOfLimbo limits k x
+  gone_out_of_limbo p x gone held =
+      let was = subst (λ (v : OwnPage). PageFits a (state.owners.page p) (slot_in m.slots p) v) gone (state.good.owns_pages a p) in
+      let reached = subst (λ (v : PageOwner). Reached 0 was.0 was.1 v) (sym was.2) (refl, refl) in (
+        not_in_limbo (state.times.page_out p) (state.timed.gone_pages a p gone) (k.limbo.pids p) (state.timed.limbo_pids a p),
+        walk_out_of_limbo p x was.0 was.1 reached held,
+      )
+
+  fits_exchange : (p x y : ℕ) (t : Bool) → MayExchange a k p x y → (m.slots p == x) ≡ t → FitsExchange limits k p x y t
   fits_exchange zero x y t may e = tt
   fits_exchange (suc p) zero zero t may e = absurd may
   fits_exchange (suc p) zero (suc y) t may e =
@@ -225,6 +243,7 @@ module _ (limits : Limits) (entries : List Entry) (state : IsState limits entrie
         (λ (u : slot_in m.slots (suc p) ≡ Some (suc x)). wins (slot_some m.slots (suc p) (suc x) u).1)
         (λ (u : IsOut (state.owners.page (suc p)) (slot_in m.slots (suc p))). absurd (let f = u.0 in let g = own.3 in cc))
         (frozen_as state.good a (suc p) (suc x) h.head h.chain h.read h.gone),
+    λ won gone. gone_out_of_limbo (suc p) (suc x) gone (ap row_in (eqb-true (m.slots (suc p)) (suc x) (e ∙ won))),
   )
     where
       wins : m.slots (suc p) ≡ suc x → t ≡ true
@@ -233,12 +252,19 @@ module _ (limits : Limits) (entries : List Entry) (state : IsState limits entrie
       let at : m.slots (suc p) ≡ suc x = eqb-true (m.slots (suc p)) (suc x) (e ∙ won) in
       let read = may.basis in
       let place = place_of state.good a (suc p) (suc x) read.chain (found state.good a (suc p) (suc x) read) read.alive (ap row_in at) in
-      not_own state.good a (suc p) (level_in read.chain) (low_in read.chain) place.stage place.placed (k.own.pages (suc p)) (state.good.owns_pages a (suc p))
+      let reached = placed_reached (level_in read.chain) (low_in read.chain) place.stage (state.owners.page (suc p)) place.placed in (
+        not_own state.good a (suc p) (level_in read.chain) (low_in read.chain) place.stage place.placed (k.own.pages (suc p)) (state.good.owns_pages a (suc p)),
+        walk_out_of_limbo (suc p) (suc x) (level_in read.chain) (low_in read.chain) reached (ap row_in at),
+      )
 
   pub fits : (step : StepOf Record) (answer : Answer Record) → May a k step → IsAnswer m step answer → Fits limits k step answer
   fits (Slot p) answer may is = subst (Fits limits k (Slot p)) (sym is) (fits_slot p may)
   fits (Row q) answer may is = subst (Fits limits k (Row q)) (sym is.2) (fits_row q is.0 may.1 is.1)
-  fits Epoch answer may is = subst (Fits limits k Epoch) (sym is) state.named.epoch
+  fits Epoch answer may is = subst (Fits limits k Epoch) (sym is) (state.named.epoch.0, state.named.epoch.1, not_before k.limbo.epoch refl)
+    where
+      not_before : (o : Option ℕ) → k.limbo.epoch ≡ o → IfSome o (λ before. before ≤ m.epoch)
+      not_before None e = tt
+      not_before (Some before) e = state.timed.epochs a before e
   fits (PidBits word) answer may is = subst (Fits limits k (PidBits word)) (sym is.2) (fits_word m.free_pids limits.pids word is.0 state.named.free_pid_below is.1)
   fits (RowBits word) answer may is = subst (Fits limits k (RowBits word)) (sym is.2) (fits_word m.free_rows limits.rows word is.0 free_some is.1)
   fits (Place q w) answer may is = subst (Fits limits k (Place q w)) (sym is) tt
