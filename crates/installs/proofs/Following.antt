@@ -95,7 +95,7 @@ module _ (actor : ℕ) (limits : Limits) (k : Knowledge) (plan : Plan) (spares :
       by_plan (Root left root) = omega arith
       by_plan (Unlink pid head unterm removal) = omega arith
 
-  last_is : IsOwn (k.own.rows (last_row spares)) × (0 < last_row spares)
+  pub last_is : IsOwn (k.own.rows (last_row spares)) × (0 < last_row spares)
   last_is = own_last k.own.rows spares.rows (let n = needed in let m = enough.rows in omega (arith, n, m)) room.few are.rows
 
   base_is : IsOwn (k.own.rows (base_row plan spares)) × (0 < base_row plan spares)
@@ -161,20 +161,24 @@ module _ (actor : ℕ) (limits : Limits) (k : Knowledge) (plan : Plan) (spares :
       placed (Root left root) = tt
       placed (Unlink pid head unterm removal) = replaced_same (last_row spares) (Written (kind.Unterm unterm)) k.own.rows
 
+  -- what is known then
+  pub set_learnt : (told : Answer Record) → needs_pid plan ≡ true → AreUnset k.own → Fits limits k (wanted_at plan spares state.Ready) told → learn k (wanted_at plan spares state.Ready) told ≡ set_page (pid_of spares) (Ready (base_row plan spares)) k
+  set_learnt told needs bare fits =
+      let empty = empty_page (k.own.pages (pid_of spares)) (pid_own needs).1 (bare (pid_of spares)) in
+      rw (ready_went k limits (pid_of spares) (base_row plan spares) told (pid_own needs).0 fits) (ready_learnt k (pid_of spares) (base_row plan spares) (pid_own needs).0 base_is.1 empty)
+
   -- the new page's slot is set
   pub slot_set : (told : Answer Record) → needs_pid plan ≡ true → AreUnset k.own → k.own.rows (base_row plan spares) ≡ Written (new_base plan) → Fits limits k (wanted_at plan spares state.Ready) told
       → GoesOn actor k (learn k (wanted_at plan spares state.Ready) told) (change (after_ready plan)) spares
-  slot_set told needs bare base fits =
-      let empty = empty_page (k.own.pages (pid_of spares)) (pid_own needs).1 (bare (pid_of spares)) in
-      rw (ready_went k limits (pid_of spares) (base_row plan spares) told (pid_own needs).0 fits, ready_learnt k (pid_of spares) (base_row plan spares) (pid_own needs).0 base_is.1 empty) (record {
-        shows = record {
-          may = still_may actor k now plan like may;
-          keeps = keeps;
-          are = page_moved k.own spares are (pid_of spares) (Ready (base_row plan spares)) (pid_own needs).0 (pid_is needs) tt;
-          stands = stands plan needs base;
-        };
-        like = like;
-      })
+  slot_set told needs bare base fits = rw (set_learnt told needs bare fits) (record {
+    shows = record {
+      may = still_may actor k now plan like may;
+      keeps = keeps;
+      are = page_moved k.own spares are (pid_of spares) (Ready (base_row plan spares)) (pid_own needs).0 (pid_is needs) tt;
+      stands = stands plan needs base;
+    };
+    like = like;
+  })
     where
       now : Knowledge
       now = set_page (pid_of spares) (Ready (base_row plan spares)) k
@@ -188,13 +192,25 @@ module _ (actor : ℕ) (limits : Limits) (k : Knowledge) (plan : Plan) (spares :
       stands (Split pid plan) needs base = (replaced_same (pid_of spares) (Ready (base_row (Split pid plan) spares)) k.own.pages, base)
       stands (Root left root) needs base = ((replaced_same (pid_of spares) (Ready (base_row (Root left root) spares)) k.own.pages, base), tt)
 
+  -- what is known once it is emptied again
+  pub undo_learnt : (told : Answer Record) → needs_pid plan ≡ true → StandsReady plan spares k.own → Fits limits k (wanted_at plan spares state.Undo) told
+      → (told ≡ answer.Whether true) × (learn k (wanted_at plan spares state.Undo) (answer.Whether true) ≡ set_page (pid_of spares) Empty k)
+  undo_learnt told needs ready fits =
+      let is = ready_page plan needs ready in
+      (undo_went k limits (pid_of spares) (base_row plan spares) told (pid_own needs).0 base_is.1 is fits, undone_learnt k (pid_of spares) (base_row plan spares) (pid_own needs).0 is)
+    where
+      ready_page : (plan : Plan) → needs_pid plan ≡ true → StandsReady plan spares k.own → k.own.pages (pid_of spares) ≡ Ready (base_row plan spares)
+      ready_page (Install pid head content) needs h = cc
+      ready_page (Split pid plan) needs h = h.0
+      ready_page (Root left root) needs h = h.0
+      ready_page (Unlink pid head unterm removal) needs h = cc
+
   -- it is emptied again
   pub undone : (told : Answer Record) → needs_pid plan ≡ true → StandsReady plan spares k.own → Fits limits k (wanted_at plan spares state.Undo) told
       → IsOver k (learn k (wanted_at plan spares state.Undo) told) (change state.Undo) told spares end.Lost
   undone told needs ready fits =
-      let is = ready_page plan needs ready in
-      let is_told = undo_went k limits (pid_of spares) (base_row plan spares) told (pid_own needs).0 base_is.1 is fits in
-      rw (is_told, undone_learnt k (pid_of spares) (base_row plan spares) (pid_own needs).0 is) (record {
+      let is = undo_learnt told needs ready fits in
+      rw (is.0, is.1) (record {
         like = rw (unlinked plan k.asked.linked).0 (record { inside = refl; read = refl; command = refl; linked_now = refl });
         rest = record {
           are = page_moved k.own spares are (pid_of spares) Empty (pid_own needs).0 (pid_is needs) tt;
@@ -202,12 +218,6 @@ module _ (actor : ℕ) (limits : Limits) (k : Knowledge) (plan : Plan) (spares :
         };
         decided = inr (refl, refl);
       })
-    where
-      ready_page : (plan : Plan) → needs_pid plan ≡ true → StandsReady plan spares k.own → k.own.pages (pid_of spares) ≡ Ready (base_row plan spares)
-      ready_page (Install pid head content) needs h = cc
-      ready_page (Split pid plan) needs h = h.0
-      ready_page (Root left root) needs h = h.0
-      ready_page (Unlink pid head unterm removal) needs h = cc
 
   -- the exchange that decides lost
   pub lost_bare : needs_pid plan ≡ false → StandsReady plan spares k.own → IsOver k k (change state.Link) (answer.Whether false) spares end.Lost

@@ -4,3 +4,4 @@ pub mod Taking
 pub mod Changes
 pub mod Moves
 pub mod Bounded
+pub mod Outs

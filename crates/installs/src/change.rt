@@ -9,6 +9,7 @@ ghost use Rattle.chain_search.specs.Recalled.{Recalled, WasHead};
 ghost use Rattle.installs.specs.Bounded.{IsApart, IsPidFrom, Recalls, Spends, pid_taken, steps_left};
 ghost use Rattle.installs.specs.Changes.{Follows, IsOfChange, IsSame, IsSoundChange, IsTarget, IsTold, KeepsSpare, MayChange, Shows, at, base_row, head_of, linked_number, slot_of, wanted};
 ghost use Rattle.installs.specs.Moves.{after_ready, decided_by, first_state, moved, moved_by};
+ghost use Rattle.installs.specs.Outs.{TakesFresh, limbo_after};
 ghost use Rattle.installs.specs.Spares.{HaveRoom, Rest};
 ghost use Rattle.installs.specs.Taking.{found_after};
 ghost use Rattle.installs.specs.Within.{IsWithin};
@@ -116,6 +117,8 @@ impl Change {
         requires sound { IsSoundChange self.old spares.old }
         requires told { IsTold self.old spares.old answer }
         ensures follows { (actor : ℕ) (k : Knowledge) → Shows actor self.old spares.old k → Fits self.old.limits k (wanted self.old spares.old) answer → Follows actor k (learn k (wanted self.old spares.old) answer) self.old answer self.new spares.new result }
+        ensures limbo { (actor : ℕ) (k : Knowledge) → Shows actor self.old spares.old k → Fits self.old.limits k (wanted self.old spares.old) answer → (learn k (wanted self.old spares.old) answer).limbo ≡ limbo_after self.old.plan result k }
+        ensures fresh { (actor : ℕ) (k : Knowledge) → Shows actor self.old spares.old k → Fits self.old.limits k (wanted self.old spares.old) answer → TakesFresh self.old.limits k self.old.plan result }
         ensures sound { IfNone result (IsSoundChange self.new spares.new) }
         ensures room { HaveRoom self.old.limits spares.new }
         ensures same { IsSame self.old self.new }

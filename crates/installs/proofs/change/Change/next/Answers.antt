@@ -1,4 +1,5 @@
 use Rattle.installs.proofs.Answered.{follows}
+use Rattle.installs.proofs.Outs.{outs}
 use Rattle.installs.proofs.Sound.{room_stays, sound_stays}
 use Rattle.installs.proofs.SparePid.{pid_from}
 use Rattle.installs.proofs.Spending.{spends}
@@ -7,6 +8,14 @@ use Rattle.installs.proofs.change.Change.next.Goals as goal
 pub returns-clause-follows : goal.returns-clause-follows
 returns-clause-follows c = λ actor k h fits.
     follows c.args.self.now c.move_on.new.self c.args.spares.now c.move_on.new.spares c.args.answer c.move_on.result c.move_on.ensures.moved c.move_on.ensures.same actor k c.requires.sound (rw (← c.self.view_is) c.self.invariant) h fits
+
+pub returns-clause-limbo : goal.returns-clause-limbo
+returns-clause-limbo c = λ actor k h fits.
+    (outs c.args.self.now c.move_on.new.self c.args.spares.now c.move_on.new.spares c.args.answer c.move_on.result c.move_on.ensures.moved actor k c.requires.sound (rw (← c.self.view_is) c.self.invariant) h fits).limbo
+
+pub returns-clause-fresh : goal.returns-clause-fresh
+returns-clause-fresh c = λ actor k h fits.
+    (outs c.args.self.now c.move_on.new.self c.args.spares.now c.move_on.new.spares c.args.answer c.move_on.result c.move_on.ensures.moved actor k c.requires.sound (rw (← c.self.view_is) c.self.invariant) h fits).fresh
 
 pub returns-clause-spends : goal.returns-clause-spends
 returns-clause-spends c =
