@@ -161,7 +161,7 @@ module _ (actor : ℕ) (limits : Limits) (k : Knowledge) (plan : Plan) (spares :
       placed (Root left root) = tt
       placed (Unlink pid head unterm removal) = replaced_same (last_row spares) (Written (kind.Unterm unterm)) k.own.rows
 
-  -- what is known then
+  -- what is known once the new page's slot is set
   pub set_learnt : (told : Answer Record) → needs_pid plan ≡ true → AreUnset k.own → Fits limits k (wanted_at plan spares state.Ready) told → learn k (wanted_at plan spares state.Ready) told ≡ set_page (pid_of spares) (Ready (base_row plan spares)) k
   set_learnt told needs bare fits =
       let empty = empty_page (k.own.pages (pid_of spares)) (pid_own needs).1 (bare (pid_of spares)) in

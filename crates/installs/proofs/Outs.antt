@@ -76,7 +76,8 @@ module _ (k : Knowledge) where
   number_limbo (Take Row number) answer.Done = refl
 
   module _ (limits : Limits) where
-    fresh_over : (content : Record) (page old new : ℕ) → 0 < page → 0 < old → 0 < new → Fits limits k (step.Exchange page old new) (answer.Whether true) → IsFreshOver limits k content old
+    fresh_over : (content : Record) (page old new : ℕ) → 0 < page → 0 < old → 0 < new → Fits limits k (step.Exchange page old new) (answer.Whether true)
+        → IsFreshOver limits k content old
     fresh_over (kind.Base base) page old new p o n fits = over_fresh k limits page old new p o n fits
     fresh_over (kind.Put put) page old new p o n fits = tt
     fresh_over (kind.Delete delete) page old new p o n fits = tt
@@ -88,7 +89,8 @@ module _ (k : Knowledge) where
     fresh_over (kind.Unterm unterm) page old new p o n fits = tt
 
     -- a record was linked over a page's newest row
-    linked_outs : (page old new : ℕ) (content : Record) → 0 < page → 0 < old → 0 < new → k.own.rows new ≡ Written content → Fits limits k (step.Exchange page old new) (answer.Whether true) → (exchanged page old new k).limbo ≡ limbo_over content old k
+    linked_outs : (page old new : ℕ) (content : Record) → 0 < page → 0 < old → 0 < new → k.own.rows new ≡ Written content → Fits limits k (step.Exchange page old new) (answer.Whether true)
+        → (exchanged page old new k).limbo ≡ limbo_over content old k
     linked_outs page old new content p o n placed fits = rw (over_learnt k page old new content p n (over_other k limits page old new p o n fits) placed) (linked_limbo content old new)
 
     module _ (plan : Plan) (spares : Spares) where
@@ -102,7 +104,8 @@ module _ (k : Knowledge) where
       TakesOutTo state told = TakesOut limits k (learn k (wanted_at plan spares state) told) plan (moved limits plan spares state told).end
 
 -- the exchange that decides won
-won_outs : (k : Knowledge) (limits : Limits) (plan : Plan) (spares : Spares) → 0 < last_row spares → IsTarget limits plan → StandsReady plan spares k.own → IsPlaced plan spares k.own → Fits limits k (wanted_at plan spares state.Link) (answer.Whether true) → TakesOutTo k limits plan spares state.Link (answer.Whether true)
+won_outs : (k : Knowledge) (limits : Limits) (plan : Plan) (spares : Spares) → 0 < last_row spares → IsTarget limits plan → StandsReady plan spares k.own → IsPlaced plan spares k.own → Fits limits k (wanted_at plan spares state.Link) (answer.Whether true)
+    → TakesOutTo k limits plan spares state.Link (answer.Whether true)
 won_outs k limits (Install pid head content) spares row target ready placed fits = record {
   limbo = linked_outs k limits pid head (last_row spares) content target.page target.linked row placed fits;
   fresh = fresh_over k limits content pid head (last_row spares) target.page target.linked row fits;
@@ -122,14 +125,16 @@ module _ (actor : ℕ) (limits : Limits) (k : Knowledge) (spares : Spares) where
   abbrev change : Plan → State → Change
   change plan state = record { limits = limits; plan = plan; state = state }
 
-  decided_outs : (plan : Plan) (won : Bool) → IsSoundChange (change plan state.Link) spares → IsTarget limits plan → Shows actor (change plan state.Link) spares k → Fits limits k (wanted_at plan spares state.Link) (answer.Whether won) → TakesOutTo k limits plan spares state.Link (answer.Whether won)
+  decided_outs : (plan : Plan) (won : Bool) → IsSoundChange (change plan state.Link) spares → IsTarget limits plan → Shows actor (change plan state.Link) spares k → Fits limits k (wanted_at plan spares state.Link) (answer.Whether won)
+      → TakesOutTo k limits plan spares state.Link (answer.Whether won)
   decided_outs plan true sound target h fits =
       let row = (last_is actor limits k plan spares sound.room sound.state h.may h.keeps h.are).1 in
       won_outs k limits plan spares row target h.stands.0 h.stands.1 fits
   decided_outs plan false sound target h fits = lost_outs k limits plan spares
 
   -- a page whose term is out was cleared
-  cleared_outs : (plan : Plan) (told : Answer Record) → clears plan ≡ true → IsTarget limits plan → Shows actor (change plan state.Clear) spares k → Fits limits k (wanted_at plan spares state.Clear) told → TakesOutTo k limits plan spares state.Clear told
+  cleared_outs : (plan : Plan) (told : Answer Record) → clears plan ≡ true → IsTarget limits plan → Shows actor (change plan state.Clear) spares k → Fits limits k (wanted_at plan spares state.Clear) told
+      → TakesOutTo k limits plan spares state.Clear told
   cleared_outs (Install pid head content) told is target h fits = cc
   cleared_outs (Split pid plan) told is target h fits = cc
   cleared_outs (Root left root) told is target h fits = cc
@@ -138,7 +143,8 @@ module _ (actor : ℕ) (limits : Limits) (k : Knowledge) (spares : Spares) where
       let is_told = clear_went k limits unterm.child removal told page target.2 h.stands.1 h.may.links.1 fits in
       rw (is_told, cleared_learnt k unterm.child removal page h.stands.1) (record { limbo = refl; fresh = clear_fresh k limits unterm.child removal page target.2 h.stands.1 (rw is_told at fits) })
 
-  outs_at : (plan : Plan) (state : State) (told : Answer Record) → IsSoundChange (change plan state) spares → IsTarget limits plan → Shows actor (change plan state) spares k → Fits limits k (wanted_at plan spares state) told → TakesOutTo k limits plan spares state told
+  outs_at : (plan : Plan) (state : State) (told : Answer Record) → IsSoundChange (change plan state) spares → IsTarget limits plan → Shows actor (change plan state) spares k → Fits limits k (wanted_at plan spares state) told
+      → TakesOutTo k limits plan spares state told
   outs_at plan (state.Taking taking) told sound target h fits = taking_outs k limits plan spares (learn k (wanted_number taking) told) (number_limbo k taking told) (state.Taking taking) (found_after limits taking told)
   outs_at plan state.Base told sound target h fits = record { limbo = refl; fresh = tt }
   outs_at plan state.Ready told sound target h fits = rw (set_learnt actor limits k plan spares sound.room sound.state.0 h.may h.keeps h.are told sound.state.1 h.stands.0 fits) (record { limbo = refl; fresh = tt })
@@ -153,5 +159,6 @@ module _ (actor : ℕ) (limits : Limits) (k : Knowledge) (spares : Spares) where
 
 -- the same of a change that has gone on so
 module _ (old new : Change) (had has : Spares) (told : Answer Record) (end : Option End) (is : moved old.limits old.plan had old.state told ≡ record { state = new.state; spares = has; end = end }) where
-  pub outs : (actor : ℕ) (k : Knowledge) → IsSoundChange old had → IsTarget old.limits old.plan → Shows actor old had k → Fits old.limits k (wanted old had) told → TakesOut old.limits k (learn k (wanted old had) told) old.plan end
+  pub outs : (actor : ℕ) (k : Knowledge) → IsSoundChange old had → IsTarget old.limits old.plan → Shows actor old had k → Fits old.limits k (wanted old had) told
+      → TakesOut old.limits k (learn k (wanted old had) told) old.plan end
   outs actor k sound target h fits = subst (λ (now : Moved). TakesOut old.limits k (learn k (wanted old had) told) old.plan now.end) is (outs_at actor old.limits k had old.plan old.state told sound target h fits)
