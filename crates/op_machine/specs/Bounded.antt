@@ -3,7 +3,6 @@ use Rattle.std.specs.Prelude.{◌<◌, ◌+◌, ◌*◌, ℕ, List, length, Opti
 use Rattle.bw_model.specs.declared.step.Answer.{Answer}
 use Rattle.bw_model.specs.declared.step.Step.{Step as StepOf}
 use Rattle.deltas.specs.declared.record.Record.{Record}
-use Rattle.chain_search.specs.Knowledge.{Knowledge}
 use Rattle.chain_search.specs.Recalled.{Recalled, IsSpent}
 use Rattle.descent.specs.ReadRounds as read
 use Rattle.descent.specs.WriteRounds as write
@@ -13,17 +12,14 @@ use Rattle.descent.specs.declared.write_round.WriteEnd.TheVariants as write_end
 use Rattle.installs.specs.Bounded as change
 use Rattle.installs.specs.Spares.{Spares}
 use Rattle.installs.specs.declared.change.End.TheVariants.{Won, Lost, Full}
-use Rattle.op_machine.specs.Ops.{Op, Shows, wanted_of}
-use Rattle.op_machine.specs.Shows.{FitsLast, recall_last}
-use Rattle.op_machine.specs.declared.op.Want.{Want}
-use Rattle.op_machine.specs.declared.op.Want.TheVariants.{Step, Done}
+use Rattle.op_machine.specs.Shows.{recall_last}
 use Rattle.op_machine.specs.declared.state.Outcome.{Outcome}
 use Rattle.op_machine.specs.declared.state.Outcome.TheVariants.{Begun, Epoch, Entered, Read, Written, Changed}
 use Rattle.op_machine.specs.declared.state.Progress.{Progress}
 use Rattle.op_machine.specs.declared.state.Progress.TheVariants.{On, To, Left}
 use Rattle.op_machine.specs.declared.state.State.{State}
 use Rattle.op_machine.specs.declared.state.State.TheVariants as at
-use Rattle.op_machine.specs.declared.state.Then.TheVariants.{Round, Errand, Reply}
+use Rattle.op_machine.specs.declared.state.Then.TheVariants.{Round, Limbo, Errand, Reply}
 
 -- how many steps a change takes at most
 abbrev pub few_changes : ℕ
@@ -52,9 +48,6 @@ left_at r spares at.Over = 0
 abbrev pub with_errands : List (List ℕ) → ℕ → ℕ
 with_errands errands left = left + one_round * length errands
 
-abbrev pub steps_left : Recalled → Op → Spares → ℕ
-steps_left r op spares = with_errands op.task.errands (left_at r spares op.state)
-
 -- how many steps are to be left for what an outcome faces
 abbrev pub left_for : Outcome → ℕ
 left_for Begun = one_round + 2
@@ -70,6 +63,7 @@ left_for (Written write_end.Done) = one_round
 left_for (Written end) = few_changes + 1
 left_for (Changed Won (Reply reply)) = 1
 left_for (Changed Won Round) = one_round
+left_for (Changed Won (Limbo unlinked)) = one_round
 left_for (Changed Won (Errand key)) = one_round + one_round
 left_for (Changed Lost then) = one_round
 left_for (Changed Full then) = 1
@@ -84,11 +78,3 @@ abbrev pub LeavesFor : Recalled → Option (StepOf Record) → Answer Record →
 LeavesFor r last told left new has On = IsSpentLast r last told left (left_at (recall_last r last told) has new)
 LeavesFor r last told left new has (To outcome) = IsSpentLast r last told left (left_for outcome)
 LeavesFor r last told left new has (Left reply) = ⊤
-
--- An operation that goes on has fewer steps left, or a cause paid for more.
-abbrev pub SpendsTo : Recalled → Op → Spares → Answer Record → Op → Spares → Want → Type 0
-SpendsTo r old had told new has (Step asked) = IsSpentLast r (wanted_of old had) told (steps_left r old had) (steps_left (recall_last r (wanted_of old had) told) new has)
-SpendsTo r old had told new has (Done reply) = ⊤
-
-abbrev pub Spends : Op → Spares → Answer Record → Op → Spares → Want → Type 0
-Spends old had told new has want = (k : Knowledge) (r : Recalled) → Shows old had k r → FitsLast old.task.limits k (wanted_of old had) told → SpendsTo r old had told new has want

@@ -17,8 +17,9 @@ use Rattle.installs.specs.declared.plan.Plan.TheVariants.{Install, Split, Root, 
 use Rattle.installs.specs.Changes.{linked_after, linked_by}
 use Rattle.smo.specs.declared.split.SplitPlan.{SplitPlan}
 use Rattle.op_machine.specs.Errands.{with_errand}
+use Rattle.op_machine.specs.Hands.{IsTakenBy, TakesNothing}
 use Rattle.op_machine.specs.declared.state.Then.{Then}
-use Rattle.op_machine.specs.declared.state.Then.TheVariants.{Round, Errand, Reply}
+use Rattle.op_machine.specs.declared.state.Then.TheVariants.{Round, Limbo, Errand, Reply}
 
 -- The plan links the command's update over a leaf as it was read, and this is the reply over that leaf.
 pub record IsUpdateOf (k : Knowledge) (command : Command) (plan : Plan) (answered : ReplyOf) : Type 0 where
@@ -41,10 +42,12 @@ IsNoSplit (Split pid split) = ⊥
 IsNoSplit (Root left root) = ⊤
 IsNoSplit (Unlink pid head unterm removal) = ⊤
 
--- What a change brings: an update its reply, a split the errand to its new page, another change neither.
+-- What a change brings: an update its reply, a split the errand to its new page, a change that takes something out of the tree what it
+-- takes out, another change nothing.
 abbrev pub Brings : Knowledge → Command → Plan → Then → Type 0
 Brings k command plan (Reply answered) = IsUpdateOf k command plan answered
-Brings k command plan Round = IsNoSplit plan × (linked_after plan Won None ≡ None)
+Brings k command plan Round = IsNoSplit plan × TakesNothing plan × (linked_after plan Won None ≡ None)
+Brings k command plan (Limbo unlinked) = IsTakenBy k plan unlinked
 Brings k command plan (Errand key) = (pid : ℕ) × (split : SplitPlan) × (plan ≡ Split pid split) × (split.upper.low ≡ key)
 
 -- A base comes only over a chain that has deltas.

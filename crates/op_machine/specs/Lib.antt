@@ -19,3 +19,7 @@ pub mod Outcomes
 pub mod Ops
 pub mod Bounded
 pub mod Upkeep
+pub mod Hands
+pub mod Works
+pub mod Spending
+pub mod Sweeping

@@ -7,7 +7,8 @@ use Rattle.bw_model.specs.declared.step.Answer.{Answer}
 use Rattle.deltas.specs.declared.record.Record.{Record}
 use Rattle.chain_search.specs.Chains.{IsChainFrom, covers, level_in}
 use Rattle.chain_search.specs.Discipline.{LacksRoom, MayReply, WasStanding}
-use Rattle.chain_search.specs.Knowledge.{Knowledge, finished, learn}
+use Rattle.chain_search.specs.Knowledge.{Knowledge, Limbos, finished, learn}
+use Rattle.bw_model.specs.declared.limits.Limits.{Limits}
 use Rattle.chain_search.specs.Recalled.{Recalled}
 use Rattle.descent.specs.ReadRounds as read
 use Rattle.descent.specs.Versions.{IsAlive}
@@ -23,6 +24,7 @@ use Rattle.smo.specs.Sizes.{HasFewItems}
 use Rattle.smo.specs.declared.version.Version.{Version}
 use Rattle.bw_model.specs.Replies.{command_key, is_writer}
 use Rattle.op_machine.specs.Errands.{due_of, way_key}
+use Rattle.op_machine.specs.Hands.{Unlinks}
 use Rattle.op_machine.specs.Shows.{FitsLast, IsRoundOf, Stands, learn_last, recall_last, wanted_at}
 use Rattle.op_machine.specs.Tasks.{IsDone, IsAtRest, Seeks, Task, Waits}
 use Rattle.op_machine.specs.declared.state.Outcome.{Outcome}
@@ -30,9 +32,10 @@ use Rattle.op_machine.specs.declared.state.Outcome.TheVariants.{Begun, Epoch, En
 use Rattle.op_machine.specs.declared.state.Progress.{Progress}
 use Rattle.op_machine.specs.declared.state.Progress.TheVariants.{On, To, Left}
 use Rattle.op_machine.specs.declared.state.State.{State}
+use Rattle.op_machine.specs.declared.state.State.TheVariants as at
 use Rattle.op_machine.specs.declared.state.State.TheVariants.{Change}
 use Rattle.op_machine.specs.declared.state.Then.{Then}
-use Rattle.op_machine.specs.declared.state.Then.TheVariants.{Round, Errand, Reply}
+use Rattle.op_machine.specs.declared.state.Then.TheVariants.{Round, Limbo, Errand, Reply}
 
 -- A reader's round has ended.
 pub record FacesRead (task : Task) (spares : Spares) (k : Knowledge) (r : Recalled) (end : ReadEnd) : Type 0 where
@@ -88,6 +91,7 @@ pub record IsAtLeafBelow (task : Task) (spares : Spares) (k : Knowledge) (r : Re
 abbrev pub FacesChanged : Task → Spares → Knowledge → End → Then → Type 0
 FacesChanged task spares k Won (Reply answered) = IsDone task spares k × MayReply task.limits task.actor k answered
 FacesChanged task spares k Won Round = Seeks task spares k × (is_writer task.command ≡ true)
+FacesChanged task spares k Won (Limbo unlinked) = Seeks task spares k × (is_writer task.command ≡ true)
 FacesChanged task spares k Won (Errand key) = Seeks task spares k × (is_writer task.command ≡ true)
 FacesChanged task spares k Lost then = Seeks task spares k × (is_writer task.command ≡ true)
 FacesChanged task spares k Full then = Seeks task spares k × (is_writer task.command ≡ true) × LacksRoom task.limits k
@@ -114,10 +118,20 @@ pub record IsFaced (task : Task) (spares : Spares) (outcome : Outcome) : Type 0 
   pub r : Recalled
   pub faces : Faces task spares k r outcome
 
+-- whether the first step was asked for
+abbrev pub has_begun : State → Bool
+has_begun at.Begun = false
+has_begun state = true
+
 -- whether a change is under way
 abbrev pub is_changing : State → Bool
 is_changing (Change now then) = true
 is_changing state = false
+
+-- what is known to be in limbo after a change's step
+abbrev pub UnlinksAfter : Limits → Knowledge → Option (End × Then) → Limbos → Type 0
+UnlinksAfter limits k None after = after ≡ k.limbo
+UnlinksAfter limits k (Some ended) after = Unlinks limits k ended.0 ended.1 after
 
 -- what the end of a change, once it has come, makes of its state
 abbrev pub changed : Option (End × Then) → Progress

@@ -1,30 +1,57 @@
 //! What an actor keeps between operations.
-ghost use Rattle.std.specs.Prelude.{◌≡◌, [], None};
+ghost use Rattle.std.specs.Prelude.{◌≡◌, ℕ, IfErr, IfOk};
+ghost use Rattle.bw_model.specs.declared.limits.Limits.{Limits as LimitsSeen};
+ghost use Rattle.chain_search.specs.Knowledge.{Knowledge, Limbos};
+ghost use Rattle.op_machine.specs.Hands.{Unlinks, empty_hand};
+ghost use Rattle.sweep.specs.Kept.{AreKept};
 
-use installs::Spares;
+use crate::state::Then;
+use bw_model::{Limits, OpenError};
+use epochs::Limbo;
+use installs::{End, Spares};
+use std::alloc::{Allocator, Global};
 use std::marker::Model;
+use sweep::take_out;
 
-/// What an actor keeps between operations: the rows and the PID that it took and never linked.
-#[derive(Debug, Drop)]
-pub struct Hand {
+/// What an actor keeps between operations: the rows and the PID that it took and never linked, and what it took out of the tree and
+/// has not freed.
+#[derive(Drop)]
+pub struct Hand<A: Allocator = Global> {
     pub(crate) spares: Spares,
+    pub(crate) limbo: Limbo<A>,
 }
 
-impl Model for Hand {
-    ghost use Rattle.installs.specs.Spares.{Spares};
+impl<A: Allocator> Model for Hand<A> {
+    ghost use Rattle.op_machine.specs.Hands.{Hand};
 
-    ghost Value = { Spares };
+    ghost Value = { Hand };
 
-    ghost view = { λ h. h.spares };
+    ghost view = { λ h. record { spares = h.spares; limbo = h.limbo } };
 }
 
-impl Hand {
-    /// A hand that holds nothing.
-    pub fn plain() -> Hand
-        ensures { result ≡ record { pid = None; rows = [] } }
+impl<A: Allocator + Copy> Hand<A> {
+    /// A hand that holds nothing, with room for all rows and PIDs in its limbo, so that no later call takes memory. Refused only
+    /// where memory was.
+    pub fn new(alloc: A, limits: &Limits) -> Result<Hand<A>, OpenError>
+        ensures ok { IfOk result (λ hand. hand ≡ empty_hand limits.now) }
+        ensures err { IfErr result (λ error. error ≡ OpenError.Memory) }
     {
-        Hand {
+        Ok(Hand {
             spares: Spares::new(),
+            limbo: Limbo::<A>::new(alloc, limits)?,
+        })
+    }
+}
+
+impl<A: Allocator> Hand<A> {
+    /// What a change has taken out of the tree, if it has won, comes into limbo.
+    pub(crate) fn unlink(&mut self, end: End, then: &Then)
+        requires due { (limits : LimitsSeen) × (actor : ℕ) × (k : Knowledge) × (after : Limbos) × AreKept limits actor self.old.limbo k.limbo × Unlinks limits k end then.now after }
+        ensures keeps { (limits : LimitsSeen) (actor : ℕ) (k : Knowledge) (after : Limbos) → AreKept limits actor self.old.limbo k.limbo → Unlinks limits k end then.now after → AreKept limits actor self.new.limbo after }
+        ensures spares { self.new.spares ≡ self.old.spares }
+    {
+        if let (End::Won, Then::Limbo(unlinked)) = (end, then) {
+            take_out(&mut self.limbo, unlinked.rows.as_slice(), unlinked.pid);
         }
     }
 }

@@ -10,6 +10,7 @@ mod listing;
 mod op;
 mod state;
 mod task;
+mod unlinked;
 mod upkeep;
 
 pub use errands::MAX_ERRANDS;

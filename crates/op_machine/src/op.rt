@@ -1,21 +1,30 @@
 //! One operation as a machine, apart from the memory: it wants one step at a time, and goes on by the answer.
-ghost use Rattle.std.specs.Prelude.{◌≡◌, ◌<◌, ◌≤◌, ◌^◌, ℕ, [], length, IsSome, false};
-ghost use Rattle.chain_search.specs.Knowledge.{Knowledge, begun};
+ghost use Rattle.std.specs.Prelude.{◌≡◌, ◌<◌, ◌≤◌, ◌^◌, ℕ, [], length, IfSome, IsSome, None, false, true};
+ghost use Rattle.chain_search.specs.Fitting.{Fits};
+ghost use Rattle.chain_search.specs.Knowledge.{Knowledge, begun, learn};
 ghost use Rattle.chain_search.specs.Recalled.{Recalled, blank};
-ghost use Rattle.installs.specs.Spares.{Spares as SparesSeen};
-ghost use Rattle.op_machine.specs.Bounded.{Spends, left_at, left_for, steps_left, with_errands};
-ghost use Rattle.op_machine.specs.Ops.{IsTold, Obeys, Shows};
+ghost use Rattle.op_machine.specs.Bounded.{left_at, left_for, with_errands};
+ghost use Rattle.op_machine.specs.Hands.{Hand as HandSeen};
+ghost use Rattle.op_machine.specs.Ops.{IsAtRestWith, IsTold, Obeys, Shows};
 ghost use Rattle.op_machine.specs.Outcomes.{Faces, IsFaced, is_changing};
 ghost use Rattle.op_machine.specs.Shows.{Stands, wanted_at};
-ghost use Rattle.op_machine.specs.Tasks.{IsSameTask, IsAtRest};
+ghost use Rattle.op_machine.specs.Spending.{Spends, steps_left};
+ghost use Rattle.op_machine.specs.Sweeping.{FollowsSweep, HasFewer, IsSameWork, IsToldSweep, MovesSweep, ObeysSweep};
+ghost use Rattle.op_machine.specs.Tasks.{IsSameTask};
+ghost use Rattle.sweep.specs.Bounded.{steps_left as steps_of};
+ghost use Rattle.sweep.specs.Sweeps.{IsSoundSweep, IsTold as IsToldAlone, Shows as ShowsSweep, wanted};
+ghost use Rattle.op_machine.specs.Works.{IsToldOn, IsToldWith, KeepsLimbo, ObeysOn, SpendsOn};
 
 use crate::hand::Hand;
 use crate::state::{Outcome, Progress, State, Then};
 use crate::task::Task;
 use bw_model::{Answer, Command, Limits, Reply, Step};
 use deltas::Record;
+use epochs::Limbo;
 use installs::{End, Spares};
+use std::alloc::Allocator;
 use std::marker::Model;
+use sweep::Sweep;
 
 /// What an operation wants next.
 #[derive(Debug, Drop)]
@@ -26,10 +35,11 @@ pub enum Want {
     Done(Reply),
 }
 
-/// An operation that is under way: what it was asked, and where it stands.
+/// An operation that is under way: what it was asked, the sweep with which a writer begins, and where it stands after that.
 #[derive(Debug, Drop)]
 pub struct Op {
     task: Task,
+    sweep: Option<Sweep>,
     state: State,
 }
 
@@ -38,19 +48,22 @@ impl Model for Op {
 
     ghost Value = { Op };
 
-    ghost view = { λ o. record { task = o.task; state = o.state } };
+    ghost view = { λ o. record { task = o.task; sweep = o.sweep; state = o.state } };
 }
 
 impl Op {
     /// An operation of an actor before its first step.
     pub fn begin(command: Command, actor: u8, limits: &Limits) -> Op
-        ensures shows { (k : Knowledge) (spares : SparesSeen) → IsAtRest limits.now spares k → Shows result spares (begun k command) blank }
+        requires { actor < limits.now.actors }
+        ensures shows { (k : Knowledge) (hand : HandSeen) → IsAtRestWith limits.now actor hand k → Shows result hand (begun k command) blank }
         ensures task { result.task ≡ record { limits = limits.now; actor = actor; command = command; errands = [] } }
+        ensures sweep { result.sweep ≡ None }
         ensures state { result.state ≡ State.Begun }
-        ensures few { (r : Recalled) (spares : SparesSeen) → steps_left r result spares < 2 ^ 18 }
+        ensures few { (r : Recalled) (hand : HandSeen) → steps_left r result hand < 2 ^ 18 }
     {
         Op {
             task: Task::new(command, actor, limits),
+            sweep: None,
             state: State::Begun,
         }
     }
@@ -63,16 +76,68 @@ impl Op {
     }
 
     /// Takes the answer to the step wanted last, or `Start`, and wants the next step.
-    pub fn next(&mut self, hand: &mut Hand, answer: Answer<Record>) -> Want
+    pub fn next<A: Allocator>(&mut self, hand: &mut Hand<A>, answer: Answer<Record>) -> Want
         requires told { IsTold self.old hand.old answer }
         ensures obeys { Obeys self.old hand.old answer self.new hand.new result }
         ensures spends { Spends self.old hand.old answer self.new hand.new result }
         ensures same { IsSameTask self.old.task self.new.task }
     {
-        if !self.state.is_changing() {
-            return self.go_on(hand, answer);
+        if self.state.is_changing() {
+            return self.change_on(hand, answer);
         }
+        if self.state.has_begun() {
+            return self.go_on(&mut hand.spares, answer);
+        }
+        match self.sweep_on(&mut hand.limbo, answer) {
+            Some(step) => Want::Step(step),
+            None => self.go_on(&mut hand.spares, Answer::Start),
+        }
+    }
+
+    /// Before anything else a writer frees what it may of its limbo: the step that its sweep wants, if it isn't over.
+    #[inline(never)]
+    fn sweep_on<A: Allocator>(
+        &mut self,
+        limbo: &mut Limbo<A>,
+        answer: Answer<Record>,
+    ) -> Option<Step<Record>>
+        requires told { IsToldSweep self.old limbo.old answer }
+        requires first { self.old.state ≡ State.Begun }
+        ensures obeys { ObeysSweep self.old limbo.old answer self.new limbo.new result }
+        ensures few { HasFewer self.old self.new }
+        ensures same { IsSameWork self.old self.new }
+    {
+        self.move_sweep(limbo, answer);
+        let sweep = self.sweep.as_ref()?;
+        Some(sweep.step(limbo))
+    }
+
+    /// Begins the sweep of a writer, or goes on with it.
+    fn move_sweep<A: Allocator>(&mut self, limbo: &mut Limbo<A>, answer: Answer<Record>)
+        requires told { IsToldSweep self.old limbo.old answer }
+        requires first { self.old.state ≡ State.Begun }
+        ensures shows { MovesSweep self.old limbo.old answer self.new limbo.new }
+        ensures few { HasFewer self.old self.new }
+        ensures same { IsSameWork self.old self.new }
+    {
+        self.sweep = match self.sweep.take() {
+            None => self.task.sweep(limbo),
+            Some(sweep) => swept(sweep, limbo, answer),
+        };
+    }
+
+    /// Takes the answer where a change is under way. What the change has taken out of the tree comes into limbo.
+    fn change_on<A: Allocator>(&mut self, hand: &mut Hand<A>, answer: Answer<Record>) -> Want
+        requires told { IsToldWith self.old hand.old answer }
+        requires changing { is_changing self.old.state ≡ true }
+        ensures obeys { ObeysOn self.old hand.old.spares answer self.new hand.new.spares result }
+        ensures spends { SpendsOn self.old hand.old.spares answer self.new hand.new.spares result }
+        ensures keeps { KeepsLimbo self.old hand.old answer hand.new }
+        ensures same { IsSameTask self.old.task self.new.task }
+        ensures sweep { self.new.sweep ≡ self.old.sweep }
+    {
         if let Some((end, then)) = self.state.change_next(&mut hand.spares, answer) {
+            hand.unlink(end, &then);
             self.end_change(&hand.spares, end, then);
         }
         Want::Step(self.state.step(&hand.spares))
@@ -81,19 +146,20 @@ impl Op {
     /// The same where no change is under way. Not inlined, so that a change, whose steps are many, needs no room for the pages
     /// of a round.
     #[inline(never)]
-    fn go_on(&mut self, hand: &mut Hand, answer: Answer<Record>) -> Want
-        requires told { IsTold self.old hand.old answer }
+    fn go_on(&mut self, spares: &mut Spares, answer: Answer<Record>) -> Want
+        requires told { IsToldOn self.old spares.old answer }
         requires still { is_changing self.old.state ≡ false }
-        ensures obeys { Obeys self.old hand.old answer self.new hand.new result }
-        ensures spends { Spends self.old hand.old answer self.new hand.new result }
+        ensures obeys { ObeysOn self.old spares.old answer self.new spares.new result }
+        ensures spends { SpendsOn self.old spares.old answer self.new spares.new result }
         ensures same { IsSameTask self.old.task self.new.task }
+        ensures sweep { self.new.sweep ≡ self.old.sweep }
     {
-        match self.state.next(&mut hand.spares, answer) {
+        match self.state.next(spares, answer) {
             Progress::On => {}
-            Progress::To(outcome) => self.state = self.task.go_on(&hand.spares, outcome),
+            Progress::To(outcome) => self.state = self.task.go_on(spares, outcome),
             Progress::Left(reply) => return Want::Done(reply),
         }
-        Want::Step(self.state.step(&hand.spares))
+        Want::Step(self.state.step(spares))
     }
 
     /// Goes on to what comes after a change has ended.
@@ -104,7 +170,25 @@ impl Op {
         ensures few { (k : Knowledge) (r : Recalled) → Faces self.old.task spares.now k r (Outcome.Changed end then) → with_errands self.new.task.errands (left_at r spares.now self.new.state) ≤ with_errands self.old.task.errands (left_for (Outcome.Changed end then)) }
         ensures asks { IsSome (wanted_at spares.now self.new.state) }
         ensures same { IsSameTask self.old.task self.new.task }
+        ensures sweep { self.new.sweep ≡ self.old.sweep }
     {
         self.state = self.task.go_on(spares, Outcome::Changed { end, then });
+    }
+}
+
+/// The sweep after an answer, if it goes on.
+fn swept<A: Allocator>(sweep: Sweep, limbo: &mut Limbo<A>, answer: Answer<Record>) -> Option<Sweep>
+    requires sound { IsSoundSweep sweep limbo.old }
+    requires told { IsToldAlone sweep answer }
+    ensures follows { (k : Knowledge) → ShowsSweep sweep limbo.old k → Fits sweep.limits k (wanted sweep) answer → FollowsSweep k (learn k (wanted sweep) answer) sweep result limbo.new }
+    ensures sound { IfSome result (λ next. IsSoundSweep next limbo.new) }
+    ensures few { IfSome result (λ next. steps_of next.state < steps_of sweep.state) }
+    ensures same { IfSome result (λ next. (next.limits ≡ sweep.limits) × (next.actor ≡ sweep.actor)) }
+{
+    let mut sweep = sweep;
+    if sweep.next(limbo, answer) {
+        Some(sweep)
+    } else {
+        None
     }
 }

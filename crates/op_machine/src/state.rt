@@ -3,10 +3,11 @@ ghost use Rattle.std.specs.Prelude.{◌≡◌, Some, IsSome, true, false};
 ghost use Rattle.chain_search.specs.Knowledge.{Knowledge};
 ghost use Rattle.chain_search.specs.Recalled.{Recalled};
 ghost use Rattle.op_machine.specs.Bounded.{LeavesFor, left_at};
-ghost use Rattle.op_machine.specs.Outcomes.{Comes, IsToldAt, changed, is_changing};
-ghost use Rattle.op_machine.specs.Shows.{FitsLast, MayStep, Stands, wanted_at};
+ghost use Rattle.op_machine.specs.Outcomes.{Comes, IsToldAt, UnlinksAfter, changed, has_begun, is_changing};
+ghost use Rattle.op_machine.specs.Shows.{FitsLast, MayStep, Stands, learn_last, wanted_at};
 ghost use Rattle.op_machine.specs.Tasks.{Task};
 
+use crate::unlinked::Unlinked;
 use bw_model::{Answer, Key, Reply, Step};
 use deltas::Record;
 use descent::{ReadEnd, ReadRound, WriteEnd, WriteRound};
@@ -17,6 +18,8 @@ use installs::{Change, End, Spares};
 pub(crate) enum Then {
     /// A new round.
     Round,
+    /// A new round, once this is in limbo, which the change has taken out of the tree.
+    Limbo(Unlinked),
     /// A new round, with one errand more: the page that was split off begins at this key.
     Errand(Key),
     /// The reply.
@@ -70,6 +73,7 @@ impl Then {
     {
         match self {
             Then::Round => Then::Round,
+            Then::Limbo(unlinked) => Then::Limbo(unlinked.copied()),
             Then::Errand(key) => Then::Errand(key.copied()),
             Then::Reply(reply) => Then::Reply(copied(reply)),
         }
@@ -119,6 +123,13 @@ impl State {
         }
     }
 
+    /// Whether the first step of the work was asked for.
+    pub(crate) fn has_begun(&self) -> bool
+        ensures { result ≡ has_begun self.now }
+    {
+        !matches!(self, State::Begun)
+    }
+
     /// Whether a change is under way.
     pub(crate) fn is_changing(&self) -> bool
         ensures { result ≡ is_changing self.now }
@@ -137,6 +148,7 @@ impl State {
         requires changing { is_changing self.old ≡ true }
         ensures comes { (task : Task) (k : Knowledge) (r : Recalled) → Stands task spares.old k r self.old → FitsLast task.limits k (wanted_at spares.old self.old) answer → Comes task k r (wanted_at spares.old self.old) answer self.new spares.new (changed result) }
         ensures leaves { (task : Task) (k : Knowledge) (r : Recalled) → Stands task spares.old k r self.old → FitsLast task.limits k (wanted_at spares.old self.old) answer → LeavesFor r (wanted_at spares.old self.old) answer (left_at r spares.old self.old) self.new spares.new (changed result) }
+        ensures unlinks { (task : Task) (k : Knowledge) (r : Recalled) → Stands task spares.old k r self.old → FitsLast task.limits k (wanted_at spares.old self.old) answer → UnlinksAfter task.limits k result (learn_last k (wanted_at spares.old self.old) answer).limbo }
     {
         match self {
             State::Change { change, then } => match change.next(spares, answer) {

@@ -18,18 +18,26 @@ ghost use Rattle.op_machine.specs.Outcomes.{Faces, FacesChanged, FacesRead, Face
 ghost use Rattle.op_machine.specs.Shows.{MayBegin, Stands, wanted_at};
 ghost use Rattle.op_machine.specs.Tasks.{IsSameTask, Seeks};
 ghost use Rattle.op_machine.specs.Upkeep.{IsIdleFor, IsUpkeepFor};
+ghost use Rattle.sweep.specs.Bounded.{steps_left as steps_of};
+ghost use Rattle.sweep.specs.Kept.{IsLimboOf};
+ghost use Rattle.sweep.specs.Moves.{IsEmpty};
+ghost use Rattle.sweep.specs.Sweeps.{IsSoundSweep, Rests, Shows as ShowsSweep};
 
 use crate::errands::Errands;
 use crate::state::{Outcome, State, Then};
+use crate::unlinked::Unlinked;
 use crate::upkeep::upkeep;
 use base_page::Page;
 use bw_model::{Command, Key, Limits, Reply};
 use chain_search::{Chain, chain_is_one, updates_fit};
 use deltas::{Delete, Merge, Put, Record, Term, Unterm};
 use descent::{ReadEnd, ReadRound, WriteEnd, WriteRound, leaves_stand};
+use epochs::Limbo;
 use installs::{Change, End, Plan, Spares, plans_may_be_linked};
 use smo::{MANY_DELTAS, SplitPlan, Version};
+use std::alloc::Allocator;
 use std::marker::Model;
+use sweep::Sweep;
 
 /// What an operation was asked, by whom, and what it is still to visit.
 #[derive(Debug, Drop)]
@@ -41,16 +49,20 @@ pub(crate) struct Task {
 }
 
 impl Model for Task {
+    ghost use Rattle.std.specs.Prelude.{◌<◌};
     ghost use Rattle.op_machine.specs.Tasks.{Task};
 
     ghost Value = { Task };
 
     ghost view = { λ t. record { limits = t.limits; actor = t.actor; command = t.command; errands = t.errands } };
+
+    ghost invariant = { λ t. t.actor < t.limits.actors };
 }
 
 impl Task {
     /// Nothing visited yet.
     pub(crate) fn new(command: Command, actor: u8, limits: &Limits) -> Task
+        requires { actor < limits.now.actors }
         ensures { result ≡ record { limits = limits.now; actor = actor; command = command; errands = [] } }
     {
         Task {
@@ -66,6 +78,23 @@ impl Task {
         ensures { result.now ≡ self.now.command }
     {
         &self.command
+    }
+
+    /// The sweep with which a writer begins, if there is anything in limbo.
+    pub(crate) fn sweep<A: Allocator>(&self, limbo: &mut Limbo<A>) -> Option<Sweep>
+        requires lists { IsLimboOf self.now.limits limbo.old }
+        ensures shows { (k : Knowledge) → Rests self.now.limits self.now.actor limbo.old k → MatchOption result (Rests self.now.limits self.now.actor limbo.new k) (λ sweep. ShowsSweep sweep limbo.new k) }
+        ensures sound { IfSome result (λ sweep. IsSoundSweep sweep limbo.new) }
+        ensures same { IfSome result (λ sweep. (sweep.limits ≡ self.now.limits) × (sweep.actor ≡ self.now.actor)) }
+        ensures few { IfSome result (λ sweep. steps_of sweep.state < 338) }
+        ensures writer { IsSome result → is_writer self.now.command ≡ true }
+        ensures all { is_writer self.now.command ≡ true → result ≡ None → IsEmpty limbo.old }
+    {
+        if self.command.is_writer() {
+            Sweep::begin(&self.limits, self.actor, limbo)
+        } else {
+            None
+        }
     }
 
     /// The state that follows what the operation has come to.
@@ -318,7 +347,8 @@ impl Task {
             head: page.head,
             content: Record::Base(base),
         };
-        self.change(spares, plan, Then::Round)
+        let unlinked = Unlinked::chain(page.head, &page.chain);
+        self.change(spares, plan, Then::Limbo(unlinked))
     }
 
     /// A page is split; its new page is an errand then.
@@ -393,7 +423,8 @@ impl Task {
             unterm,
             removal: removed.head,
         };
-        self.change(spares, plan, Then::Round)
+        let unlinked = Unlinked::page(&removed);
+        self.change(spares, plan, Then::Limbo(unlinked))
     }
 
     /// A root is linked over a page and its right.
@@ -437,7 +468,7 @@ impl Task {
                 self.errands.add(separator);
                 self.round()
             }
-            (End::Won, Then::Round) | (End::Lost, _) => self.round(),
+            (End::Won, Then::Round | Then::Limbo(_)) | (End::Lost, _) => self.round(),
             (End::Full, _) => State::Leave { reply: Reply::Full },
         }
     }

@@ -1,0 +1,33 @@
+-- How many steps an operation has left, its sweep included.
+use Rattle.std.specs.Prelude.{◌+◌, ℕ, Option, Some, None, ⊤}
+use Rattle.bw_model.specs.declared.step.Answer.{Answer}
+use Rattle.deltas.specs.declared.record.Record.{Record}
+use Rattle.chain_search.specs.Knowledge.{Knowledge}
+use Rattle.chain_search.specs.Recalled.{Recalled}
+use Rattle.op_machine.specs.Bounded.{IsSpentLast, left_at, with_errands}
+use Rattle.op_machine.specs.Hands.{Hand}
+use Rattle.op_machine.specs.Ops.{Op, Shows, wanted_of}
+use Rattle.op_machine.specs.Shows.{FitsLast, recall_last}
+use Rattle.op_machine.specs.declared.op.Want.{Want}
+use Rattle.op_machine.specs.declared.op.Want.TheVariants.{Step, Done}
+use Rattle.op_machine.specs.declared.state.State.{State}
+use Rattle.op_machine.specs.declared.state.State.TheVariants.{Begun}
+use Rattle.sweep.specs.Bounded as sweep
+use Rattle.sweep.specs.Sweeps.{Sweep}
+
+-- how many steps the sweep has left at most: before the operation has begun, all of them
+abbrev pub sweep_left : Option Sweep → State → ℕ
+sweep_left (Some now) state = sweep.steps_left now.state
+sweep_left None Begun = 338
+sweep_left None state = 0
+
+abbrev pub steps_left : Recalled → Op → Hand → ℕ
+steps_left r op hand = with_errands op.task.errands (sweep_left op.sweep op.state + left_at r hand.spares op.state)
+
+-- An operation that goes on has fewer steps left, or a cause paid for more.
+abbrev pub SpendsTo : Recalled → Op → Hand → Answer Record → Op → Hand → Want → Type 0
+SpendsTo r old had told new has (Step asked) = IsSpentLast r (wanted_of old had) told (steps_left r old had) (steps_left (recall_last r (wanted_of old had) told) new has)
+SpendsTo r old had told new has (Done reply) = ⊤
+
+abbrev pub Spends : Op → Hand → Answer Record → Op → Hand → Want → Type 0
+Spends old had told new has want = (k : Knowledge) (r : Recalled) → Shows old had k r → FitsLast old.task.limits k (wanted_of old had) told → SpendsTo r old had told new has want

@@ -1,0 +1,62 @@
+-- An operation after its sweep, over the spares alone.
+use Rattle.std.specs.Prelude.{◌≡◌, ◌<◌, Option, Some, None, ⊤}
+use Rattle.bw_model.specs.declared.step.Step.{Step as StepOf}
+use Rattle.bw_model.specs.declared.step.Answer.{Answer}
+use Rattle.deltas.specs.declared.record.Record.{Record}
+use Rattle.chain_search.specs.Knowledge.{Knowledge}
+use Rattle.chain_search.specs.Recalled.{Recalled}
+use Rattle.installs.specs.Spares.{Spares}
+use Rattle.op_machine.specs.Bounded.{IsSpentLast, left_at, with_errands}
+use Rattle.op_machine.specs.Hands.{Hand}
+use Rattle.op_machine.specs.Ops.{Op}
+use Rattle.op_machine.specs.Outcomes.{HasLeft}
+use Rattle.op_machine.specs.Shows.{FitsLast, MayStep, Stands, learn_last, recall_last, wanted_at}
+use Rattle.op_machine.specs.declared.op.Want.{Want}
+use Rattle.op_machine.specs.declared.op.Want.TheVariants.{Step, Done}
+use Rattle.sweep.specs.Kept.{AreKept}
+
+abbrev pub Works : Op → Spares → Knowledge → Recalled → Type 0
+Works op spares k r = Stands op.task spares k r op.state
+
+-- the step that it has asked for
+abbrev pub asked_of : Op → Spares → Option (StepOf Record)
+asked_of op spares = wanted_at spares op.state
+
+-- Something is known that the operation shows, and the answer fits it.
+pub record IsToldOn (op : Op) (spares : Spares) (told : Answer Record) : Type 0 where
+  pub k : Knowledge
+  pub r : Recalled
+  pub works : Works op spares k r
+  pub fits : FitsLast op.task.limits k (asked_of op spares) told
+
+-- The same, and the limbo list keeps what is known.
+pub record IsToldWith (op : Op) (hand : Hand) (told : Answer Record) : Type 0 where
+  pub told_on : IsToldOn op hand.spares told
+  pub kept : AreKept op.task.limits op.task.actor hand.limbo told_on.k.limbo
+
+-- The step is wanted, the actor may take it, and the operation shows what is known.
+pub record GoesOn (k : Knowledge) (r : Recalled) (op : Op) (spares : Spares) (asked : StepOf Record) : Type 0 where
+  pub wanted : asked_of op spares ≡ Some asked
+  pub may : MayStep op.task k asked
+  pub works : Works op spares k r
+
+abbrev pub AnswersOn : Knowledge → Recalled → Op → Spares → Answer Record → Op → Spares → Want → Type 0
+AnswersOn k r old had told new has (Step asked) = GoesOn (learn_last k (asked_of old had) told) (recall_last r (asked_of old had) told) new has asked
+AnswersOn k r old had told new has (Done reply) = HasLeft old.task k (asked_of old had) told has reply
+
+-- It goes on as its actor may,
+abbrev pub ObeysOn : Op → Spares → Answer Record → Op → Spares → Want → Type 0
+ObeysOn old had told new has want = (k : Knowledge) (r : Recalled) → Works old had k r → FitsLast old.task.limits k (asked_of old had) told → AnswersOn k r old had told new has want
+
+-- with fewer steps left, or a cause paid for more,
+abbrev pub SpendsOnTo : Recalled → Op → Spares → Answer Record → Op → Spares → Want → Type 0
+SpendsOnTo r old had told new has (Step asked) = IsSpentLast r (asked_of old had) told (with_errands old.task.errands (left_at r had old.state)) (with_errands new.task.errands (left_at (recall_last r (asked_of old had) told) has new.state))
+SpendsOnTo r old had told new has (Done reply) = ⊤
+
+abbrev pub SpendsOn : Op → Spares → Answer Record → Op → Spares → Want → Type 0
+SpendsOn old had told new has want = (k : Knowledge) (r : Recalled) → Works old had k r → FitsLast old.task.limits k (asked_of old had) told → SpendsOnTo r old had told new has want
+
+-- and the limbo list keeps what is known to be in limbo.
+abbrev pub KeepsLimbo : Op → Hand → Answer Record → Hand → Type 0
+KeepsLimbo old had told has = (k : Knowledge) (r : Recalled) → Works old had.spares k r → FitsLast old.task.limits k (asked_of old had.spares) told
+    → AreKept old.task.limits old.task.actor had.limbo k.limbo → AreKept old.task.limits old.task.actor has.limbo (learn_last k (asked_of old had.spares) told).limbo
