@@ -17,7 +17,6 @@ use Rattle.deltas.specs.Memory.{opening}
 use Rattle.chain_search.specs.Steps.{IsAnswer, memory_after}
 use Rattle.chain_search.specs.Tables.{Table, memory_in}
 use Rattle.chain_search.specs.Trace.{command_of, commands_after, memory_of}
-use Rattle.step_core.specs.declared.actor.Actor.{Actor}
 use Rattle.chain_search.specs.Discipline.{IsAllowed, May}
 use Rattle.chain_search.specs.Knowledge.{Knowledge, begun, finished, knows, knows_after, learn}
 use Rattle.tree_law.specs.Direct.{IsDirectState, StaysDirect}
@@ -25,7 +24,8 @@ use Rattle.tree_law.specs.Own.{RowsAreApart}
 use Rattle.tree_law.specs.State.{IsState}
 use Rattle.tree_law.specs.TraceLaws.{AnswersFit, Begins, Grows, Steps}
 use Rattle.chain_search.specs.Recalled.{Recalled, blank, recall, recalls, recalls_after}
-use Rattle.step_core.specs.Actors.{IsActor, IsReady, IsServedAt, IsWithinAt, command_left, knows_then, running_command, wanted_by, wanted_in}
+use Rattle.op_machine.specs.Hands.{empty_hand}
+use Rattle.step_core.specs.Actors.{Actor, IsActor, IsReady, IsServedAt, IsWithinAt, command_left, knows_then, running_command, wanted_by, wanted_in}
 use Rattle.step_core.proofs.Lawful.{Asks, asks, is_placed, served_at, within_at}
 use Rattle.step_core.specs.Cores.{IsCore, Pays}
 use Rattle.step_core.specs.Spending.{steps_due}
@@ -77,7 +77,7 @@ pays_set limits actors entries entry i new grows each others stays a at e = elim
 
 module _ (limits : Limits) where
   pub core_opens : (table : Table) (actors : List Actor) (entries : List Entry) → table.limits ≡ limits → memory_in table ≡ opening limits → length actors ≡ limits.actors
-      → ((a : ℕ) (at : Actor) → slice_get actors a ≡ Some at → at ≡ record { hand = record { pid = None; rows = [] }; running = None }) → IsState limits [] → IsDirectState limits [] → entries ≡ [] → IsCore limits table actors entries
+      → ((a : ℕ) (at : Actor) → slice_get actors a ≡ Some at → at ≡ record { hand = empty_hand limits; running = None }) → IsState limits [] → IsDirectState limits [] → entries ≡ [] → IsCore limits table actors entries
   core_opens table actors entries same has count each state direct none = rw none (record {
     state = state;
     direct = direct;
@@ -85,11 +85,14 @@ module _ (limits : Limits) where
     has = has;
     count = count;
     each_shows = λ a at e. rw (each a at e) (record {
-      outside = refl;
-      spare = record {
-        room = record { pid = tt; rows = λ row d h. absurd (omega arith); few = omega arith };
-        rest = record { are = record { rows = tt; all_rows = λ row own. absurd own; page = tt; all_pages = λ page own. absurd own }; unset = λ page row ready. cc };
+      spares = record {
+        outside = refl;
+        spare = record {
+          room = record { pid = tt; rows = λ row d h. absurd (omega arith); few = omega arith };
+          rest = record { are = record { rows = tt; all_rows = λ row own. absurd own; page = tt; all_pages = λ page own. absurd own }; unset = λ page row ready. cc };
+        };
       };
+      limbo = record { lists = record { rows = refl; pids = refl }; rows = λ row. tt; pids = λ pid. tt };
     });
     each_running = λ a at e. rw (each a at e) refl;
     each_pays = λ a at e. rw (each a at e) (λ operation last own. cc);
@@ -98,12 +101,12 @@ module _ (limits : Limits) where
   -- the actor of a turn that isn't refused
   pub core_begins : (table : Table) (actors : List Actor) (entries : List Entry) (i j : ℕ) (old : Actor) (command : Command) → IsCore limits table actors entries
       → (demand : Demand) (v : Core) → record { limits = limits; entries = entries; demand = demand } ≡ v → refusal_of v (turn.Begin i command) ≡ None → j ≡ i → old ≡ get_or actors j old
-      → (j < length actors) × IsActor limits i (knows entries i) (recalls entries i) old × (running_command old ≡ None)
+      → (j < length actors) × IsActor limits i (knows entries i) (recalls entries i) old × (running_command old ≡ None) × (i < limits.actors)
   core_begins table actors entries i j old command core demand v is refusal same at =
       let goes : (i < limits.actors) × (command_of entries i ≡ None) = begin_goes (record { limits = limits; entries = entries; demand = demand }) i command (subst (λ u. refusal_of u (turn.Begin i command) ≡ None) (sym is) refusal) in
       let lt : i < length actors = rw core.count goes.0 in
       let found : slice_get actors i ≡ Some old = get_is actors i old lt (subst (λ k. old ≡ get_or actors k old) same at) in
-      (rw same lt, core.each_shows i old found, core.each_running i old found ∙ goes.1)
+      (rw same lt, core.each_shows i old found, core.each_running i old found ∙ goes.1, goes.0)
 
   -- whether an actor that there is has an operation
   pub core_busy : (table : Table) (actors : List Actor) (entries : List Entry) (i : ℕ) (at : Actor) → IsCore limits table actors entries → (demand : Demand) (v : Core) → record { limits = limits; entries = entries; demand = demand } ≡ v

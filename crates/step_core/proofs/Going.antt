@@ -21,28 +21,30 @@ use Rattle.chain_search.specs.Recalled.{Recalled, blank, recall}
 use Rattle.chain_search.specs.Tables.{IsWithin as IsWithinTable, Table}
 use Rattle.chain_search.specs.Useful.{IsUseful}
 use Rattle.installs.specs.Spares.{Spares}
-use Rattle.op_machine.specs.Bounded.{IsSpentLast, Spends, steps_left}
-use Rattle.op_machine.specs.Ops.{Goes, IsTold, Obeys, Op, Shows, wanted_of}
+use Rattle.op_machine.specs.Hands.{Hand}
+use Rattle.op_machine.specs.Bounded.{IsSpentLast}
+use Rattle.op_machine.specs.Spending.{Spends, steps_left}
+use Rattle.op_machine.specs.Ops.{Goes, IsAtRestWith, IsOver, IsTold, Obeys, Op, Shows, wanted_of}
 use Rattle.op_machine.specs.Outcomes.{HasLeft}
 use Rattle.op_machine.specs.Shows.{FitsLast, Stands, learn_last, recall_last}
-use Rattle.op_machine.specs.Tasks.{IsSameTask, IsAtRest, Task}
+use Rattle.op_machine.specs.Tasks.{IsSameTask, Task}
 use Rattle.op_machine.specs.declared.op.Want.TheVariants.{Step, Done}
 use Rattle.op_machine.specs.declared.state.State.{State}
 use Rattle.op_machine.specs.declared.state.State.TheVariants.{Begun, Epoch, Enter, Read, Write, Change, Leave, Over}
-use Rattle.step_core.specs.declared.actor.Actor.{Actor}
 use Rattle.step_core.specs.declared.actor.Running.{Running}
-use Rattle.step_core.specs.Actors.{IsActorWith, IsLeft, IsReady, IsRunning, IsServed, IsServedAt, IsWithinAt, command_at, wanted_by}
+use Rattle.sweep.specs.Kept.{AreKept}
+use Rattle.step_core.specs.Actors.{Actor, IsActorWith, IsLeft, IsReady, IsRunning, IsServed, IsServedAt, IsWithinAt, command_at, wanted_by}
 use Rattle.step_core.specs.Spending.{IsSpentOn}
 use Rattle.step_core.specs.Turns.{EndsPage}
 use Rattle.step_core.proofs.Spending.{spends_last, spent_last}
 
 -- an actor without an operation, and one with an operation
-idle_of : (limits : Limits) (actor : ℕ) (k : Knowledge) (r : Recalled) (spares : Spares) (running : Option Running) → command_at running ≡ None → IsActorWith limits actor k r spares running → IsAtRest limits spares k
-idle_of limits actor k r spares None e h = h
-idle_of limits actor k r spares (Some running) e h = cc
+idle_of : (limits : Limits) (actor : ℕ) (k : Knowledge) (r : Recalled) (hand : Hand) (running : Option Running) → command_at running ≡ None → IsActorWith limits actor k r hand running → IsAtRestWith limits actor hand k
+idle_of limits actor k r hand None e h = h
+idle_of limits actor k r hand (Some running) e h = cc
 
-pub idle_at : (limits : Limits) (actor : ℕ) (k : Knowledge) (r : Recalled) (spares : Spares) (running : Option Running) → command_at running ≡ None → IsActorWith limits actor k r spares running → IsAtRest limits spares k
-idle_at limits actor k r spares running e h = idle_of limits actor k r spares running e h
+pub idle_at : (limits : Limits) (actor : ℕ) (k : Knowledge) (r : Recalled) (hand : Hand) (running : Option Running) → command_at running ≡ None → IsActorWith limits actor k r hand running → IsAtRestWith limits actor hand k
+idle_at limits actor k r hand running e h = idle_of limits actor k r hand running e h
 
 pub ready_some : (limits : Limits) (actor : ℕ) (k : Knowledge) (r : Recalled) (memory : Memory) (at : Actor) (running : Running) → at.running ≡ Some running → IsReady limits actor k r memory at
     → IsRunning limits actor k r at.hand running × IsServed limits k memory running.wanted
@@ -55,13 +57,13 @@ within_some table actor o running e h = subst (IsWithinAt table actor) e h
 pub wanted_some : (o : Option Running) (running : Running) (asked : StepOf Record) → o ≡ Some running → wanted_by o ≡ Some asked → asked ≡ running.wanted
 wanted_some o running asked e h = same_Some asked running.wanted (sym (subst (λ p. wanted_by p ≡ Some asked) e h))
 
-pub left_idle : (limits : Limits) (actor : ℕ) (k : Knowledge) (r : Recalled) (spares : Spares) (running : Running) (reply : Option Reply) → is_some reply ≡ true → IsLeft limits actor k r spares running reply → IsAtRest limits spares k
-left_idle limits actor k r spares running None e h = cc
-left_idle limits actor k r spares running (Some reply) e h = h
+pub left_idle : (limits : Limits) (actor : ℕ) (k : Knowledge) (r : Recalled) (hand : Hand) (running : Running) (reply : Option Reply) → is_some reply ≡ true → IsLeft limits actor k r hand running reply → IsAtRestWith limits actor hand k
+left_idle limits actor k r hand running None e h = cc
+left_idle limits actor k r hand running (Some reply) e h = h
 
-pub left_still : (limits : Limits) (actor : ℕ) (k : Knowledge) (r : Recalled) (spares : Spares) (running : Running) (reply : Option Reply) → is_some reply ≡ false → IsLeft limits actor k r spares running reply → IsRunning limits actor k r spares running
-left_still limits actor k r spares running None e h = h
-left_still limits actor k r spares running (Some reply) e h = cc
+pub left_still : (limits : Limits) (actor : ℕ) (k : Knowledge) (r : Recalled) (hand : Hand) (running : Running) (reply : Option Reply) → is_some reply ≡ false → IsLeft limits actor k r hand running reply → IsRunning limits actor k r hand running
+left_still limits actor k r hand running None e h = h
+left_still limits actor k r hand running (Some reply) e h = cc
 
 -- no reply by a key's value is a cursor page
 no_pairs : (c : Command) (o : Option (List ℕ)) (reply : Reply) → reply_of c o ≡ Some reply → ShowsPairs reply → ⊥
@@ -100,9 +102,9 @@ less : (m n o : ℕ) → m < n → n < o → m < o
 less m n o h i = omega arith
 
 -- the first step
-module _ (k : Knowledge) (had : Spares) (old : Op) (begun : old.state ≡ Begun) (shows : Shows old had k blank) where
+module _ (k : Knowledge) (had : Hand) (old : Op) (unswept : old.sweep ≡ None) (begun : old.state ≡ Begun) (shows : Shows old had k blank) where
   none : wanted_of old had ≡ None
-  none = rw begun refl
+  none = rw (unswept, begun) refl
 
   fits_start : FitsLast old.task.limits k (wanted_of old had) answer.Start
   fits_start = subst (λ w. FitsLast old.task.limits k w answer.Start) (sym none) refl
@@ -110,7 +112,7 @@ module _ (k : Knowledge) (had : Spares) (old : Op) (begun : old.state ≡ Begun)
   pub told_start : IsTold old had answer.Start
   told_start = record { k = k; r = blank; shows = shows; fits = fits_start }
 
-  pub begun_left : (limits : Limits) (actor : ℕ) (new : Op) (has : Spares) → old.task.limits ≡ limits → old.task.actor ≡ actor → (asked : StepOf Record) → Obeys old had answer.Start new has (Step asked) → IsSameTask old.task new.task
+  pub begun_left : (limits : Limits) (actor : ℕ) (new : Op) (has : Hand) → old.task.limits ≡ limits → old.task.actor ≡ actor → (asked : StepOf Record) → Obeys old had answer.Start new has (Step asked) → IsSameTask old.task new.task
       → IsRunning limits actor k blank has (record { op = new; wanted = asked })
   begun_left limits actor new has own_limits own_actor asked o same = record {
     own_limits = same.limits ∙ own_limits;
@@ -119,16 +121,16 @@ module _ (k : Knowledge) (had : Spares) (old : Op) (begun : old.state ≡ Begun)
   }
 
   -- it is not done
-  pub begun_on : (new : Op) (has : Spares) (reply : Reply) → Obeys old had answer.Start new has (Done reply) → ⊥
+  pub begun_on : (new : Op) (has : Hand) (reply : Reply) → Obeys old had answer.Start new has (Done reply) → ⊥
   begun_on new has reply o =
-      let left : HasLeft old.task k (wanted_of old had) answer.Start has reply = o k blank shows fits_start in
-      let last : wanted_of old had ≡ Some step.Leave = left.is_last in cc
+      let over : IsOver old.task k (wanted_of old had) answer.Start has reply = o k blank shows fits_start in
+      let last : wanted_of old had ≡ Some step.Leave = over.left.is_last in cc
 
-  pub begun_few : (new : Op) (has : Spares) (asked : StepOf Record) → Spends old had answer.Start new has (Step asked) → ((r : Recalled) (spares : Spares) → steps_left r old spares < 2 ^ 18) → steps_left blank new has < 2 ^ 18
+  pub begun_few : (new : Op) (has : Hand) (asked : StepOf Record) → Spends old had answer.Start new has (Step asked) → ((r : Recalled) (hand : Hand) → steps_left r old hand < 2 ^ 18) → steps_left blank new has < 2 ^ 18
   begun_few new has asked spends few = less (steps_left blank new has) (steps_left blank old had) (2 ^ 18) (subst (λ w. IsSpentLast blank w answer.Start (steps_left blank old had) (steps_left (recall_last blank w answer.Start) new has)) none (spends k blank shows fits_start)) (few blank had)
 
 -- a step with its answer
-module _ (limits : Limits) (actor : ℕ) (k : Knowledge) (r : Recalled) (had has : Spares) (old : Running) (new : Op) (a : Answer Record) (running : IsRunning limits actor k r had old) where
+module _ (limits : Limits) (actor : ℕ) (k : Knowledge) (r : Recalled) (had has : Hand) (old : Running) (new : Op) (a : Answer Record) (running : IsRunning limits actor k r had old) where
   pub useful : IsUseful k old.wanted
   useful = running.goes.may.useful
 
@@ -151,8 +153,11 @@ module _ (limits : Limits) (actor : ℕ) (k : Knowledge) (r : Recalled) (had has
     spends_on asked spends = spent_last r (wanted_of old.op had) old.wanted a (steps_left r old.op had) (λ q. steps_left q new has) running.goes.wanted (spends k r running.goes.shows fits_last)
 
     module _ (reply : Reply) (o : Obeys old.op had a new has (Done reply)) where
-      ends : HasLeft old.op.task k (wanted_of old.op had) a has reply
-      ends = o k r running.goes.shows fits_last
+      over : IsOver old.op.task k (wanted_of old.op had) a has reply
+      over = o k r running.goes.shows fits_last
+
+      ends : HasLeft old.op.task k (wanted_of old.op had) a has.spares reply
+      ends = over.left
 
       last : old.wanted ≡ step.Leave
       last = same_Some old.wanted step.Leave (sym running.goes.wanted ∙ ends.is_last)
@@ -161,13 +166,16 @@ module _ (limits : Limits) (actor : ℕ) (k : Knowledge) (r : Recalled) (had has
       pub page_ends : ShowsPairs reply → EndsPage (Some old.op.task.command) old.wanted
       page_ends pairs =
           let page : (from : List ℕ) × (k.asked.command ≡ Some (Page from)) = asks_page old.op.task.limits old.op.task.actor k reply ends.may pairs in
-          record { from = page.0; asks = sym (asked_is old.op.task had k r old.op.state running.goes.shows) ∙ page.1; leaves = last }
+          record { from = page.0; asks = sym (asked_is old.op.task had.spares k r old.op.state running.goes.shows.stands) ∙ page.1; leaves = last }
 
       pub allowed_done : IsAllowed limits actor k old.wanted (Some reply)
       allowed_done = record { may = rw (← running.own_actor) running.goes.may.may; frees = rw (← running.own_limits, ← running.own_actor) running.goes.may.frees; replied = (last, rw (← running.own_limits, ← running.own_actor) ends.may) }
 
       pub left_done : (left : Running) → IsLeft limits actor (finished (learn k old.wanted a) (Some reply)) (recall r old.wanted a) has left (Some reply)
-      left_done left = rw (← running.own_limits) (rw last ends.rests)
+      left_done left = record {
+        spares = rw (← running.own_limits) (rw last ends.rests);
+        limbo = rw (← running.own_limits, ← running.own_actor) (subst (λ w. AreKept old.op.task.limits old.op.task.actor has.limbo (learn_last k w a).limbo) running.goes.wanted over.limbo);
+      }
 
       pub spends_done : IsSpentOn r had (Some old) old.wanted a has None
       spends_done = spends_last r had has old a ends.is_last

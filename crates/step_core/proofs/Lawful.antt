@@ -12,7 +12,7 @@ use Rattle.chain_search.specs.Knowledge.{knows}
 use Rattle.chain_search.specs.Recalled.{Recalled}
 use Rattle.chain_search.specs.Tables.{IsWithin as IsWithinTable, Table, memory_in}
 use Rattle.chain_search.specs.Trace.{memory_of}
-use Rattle.installs.specs.Spares.{Spares}
+use Rattle.op_machine.specs.Hands.{Hand}
 use Rattle.installs.specs.Within.{IsWithin}
 use Rattle.tree_law.specs.Own.{RowsAreApart}
 use Rattle.tree_law.specs.State.{IsState}
@@ -55,12 +55,12 @@ module _ (limits : Limits) (entries : List Entry) (state : IsState limits entrie
     served : AnswersFit → (step : StepOf Record) → May a (knows entries a) step → IsServed limits (knows entries a) m step
     served fit step may = λ answer told. fit limits entries a step answer state may told
 
-    may_take : (r : Recalled) (spares : Spares) (running : Running) → IsRunning limits a (knows entries a) r spares running → May a (knows entries a) running.wanted
-    may_take r spares running at = subst (λ n. May n (knows entries a) running.wanted) at.own_actor at.goes.may.may
+    may_take : (r : Recalled) (hand : Hand) (running : Running) → IsRunning limits a (knows entries a) r hand running → May a (knows entries a) running.wanted
+    may_take r hand running at = subst (λ n. May n (knows entries a) running.wanted) at.own_actor at.goes.may.may
 
-    pub served_at : AnswersFit → (r : Recalled) (spares : Spares) (running : Option Running) → IsActorWith limits a (knows entries a) r spares running → IsServedAt limits (knows entries a) m running
-    served_at fit r spares None at = tt
-    served_at fit r spares (Some running) at = served fit running.wanted (may_take r spares running at)
+    pub served_at : AnswersFit → (r : Recalled) (hand : Hand) (running : Option Running) → IsActorWith limits a (knows entries a) r hand running → IsServedAt limits (knows entries a) m running
+    served_at fit r hand None at = tt
+    served_at fit r hand (Some running) at = served fit running.wanted (may_take r hand running at)
 
     -- the table that has the memory has what the step asks for
     module _ (apart : RowsAreApart) (table : Table) (same : table.limits ≡ limits) (has : memory_in table ≡ m) (who : a < limits.actors) where
@@ -81,6 +81,6 @@ module _ (limits : Limits) (entries : List Entry) (state : IsState limits entrie
       within (ReusePids word bits) h may = rw same h.0
       within (ReuseRows word bits) h may = rw same h.0
 
-      pub within_at : (r : Recalled) (spares : Spares) (running : Option Running) → IsActorWith limits a (knows entries a) r spares running → IsWithinAt table a running
-      within_at r spares None at = tt
-      within_at r spares (Some running) at = within running.wanted (subst (λ l. IsWithin l running.wanted) at.own_limits at.goes.may.within) (may_take r spares running at)
+      pub within_at : (r : Recalled) (hand : Hand) (running : Option Running) → IsActorWith limits a (knows entries a) r hand running → IsWithinAt table a running
+      within_at r hand None at = tt
+      within_at r hand (Some running) at = within running.wanted (subst (λ l. IsWithin l running.wanted) at.own_limits at.goes.may.within) (may_take r hand running at)

@@ -21,7 +21,7 @@ use Rattle.tree_law.specs.Keys.{Covers, IsBelow, IsUnder, IsUpTo, Key}
 use Rattle.tree_law.specs.Leaves.{HasLeafPages, IsLeafPage}
 use Rattle.tree_law.specs.TraceLaws.{LeavesHaveMap, LeavesStand}
 use Rattle.tree_law.proofs.shape.KeyOrder.{below_not, covers_to, empty_lowest, upto_trans}
-use Rattle.step_core.specs.declared.actor.Actor.{Actor}
+use Rattle.step_core.specs.Actors.{Actor}
 use Rattle.step_core.specs.Cores.{IsCore}
 use Rattle.step_core.specs.Listed.{HavePages, IsListing}
 use Rattle.step_core.specs.Turns.{Core, Demand}

@@ -7,12 +7,19 @@ use Rattle.bw_model.specs.declared.step.Step.{Step as StepOf}
 use Rattle.bw_model.specs.declared.step.Step.TheVariants as step
 use Rattle.deltas.specs.declared.record.Record.{Record}
 use Rattle.chain_search.specs.Recalled.{IsSpent, Recalled, recall}
+use Rattle.epochs.specs.declared.item.Reuse.{Reuse}
+use Rattle.epochs.specs.declared.item.Reuse.TheVariants.{Rows, Pids}
 use Rattle.installs.specs.Spares.{Spares}
+use Rattle.op_machine.specs.Hands.{Hand}
 use Rattle.op_machine.specs.Bounded.{IsSpentLast, left_at, one_round}
-use Rattle.op_machine.specs.Ops.{wanted_of}
+use Rattle.op_machine.specs.Ops.{asked_by, wanted_of}
 use Rattle.op_machine.specs.Shows.{recall_last, wanted_at}
+use Rattle.op_machine.specs.Spending.{sweep_left}
 use Rattle.op_machine.specs.declared.state.State.{State}
 use Rattle.op_machine.specs.declared.state.State.TheVariants.{Begun, Epoch, Enter, Read, Write, Change, Leave, Over}
+use Rattle.sweep.specs.Sweeps.{Sweep, step_of, wanted_at as wanted_at_sweep}
+use Rattle.sweep.specs.declared.sweep.State as sweeping
+use Rattle.sweep.specs.declared.sweep.State.TheVariants as at_sweep
 use Rattle.step_core.specs.declared.actor.Running.{Running}
 use Rattle.step_core.specs.Spending.{IsSpentOn, unless_done}
 
@@ -31,20 +38,35 @@ leaves r spares Epoch e = cc
 leaves r spares (Enter epoch) e = cc
 leaves r spares Over e = cc
 
+-- and so has a sweep, which asks for none
+stays : (r : Recalled) (spares : Spares) (sweep : Option Sweep) (state : State) → asked_by sweep (wanted_at spares state) ≡ Some step.Leave → 0 < sweep_left sweep state + left_at r spares state
+stays r spares None state e = let some = leaves r spares state e in omega (arith, some)
+stays r spares (Some sweep) state e = absurd (sweeps_on sweep.actor sweep.state e)
+  where
+    reuses : (reuse : Reuse) → Some (step_of reuse) ≡ Some step.Leave → ⊥
+    reuses (Rows word bits) e = cc
+    reuses (Pids word bits) e = cc
+
+    sweeps_on : (actor : ℕ) (state : sweeping.State) → Some (wanted_at_sweep actor state) ≡ Some step.Leave → ⊥
+    sweeps_on actor at_sweep.Epoch e = cc
+    sweeps_on actor (at_sweep.Retire epoch) e = cc
+    sweeps_on actor (at_sweep.Announce announces) e = cc
+    sweeps_on actor (at_sweep.Reuse reuse) e = reuses reuse e
+
 more : (n m : ℕ) → 0 < n → 0 < n + m
 more n m some = omega arith
 
 -- it is done
-pub spends_last : (r : Recalled) (had has : Spares) (old : Running) (a : Answer Record) → wanted_of old.op had ≡ Some step.Leave → IsSpentOn r had (Some old) old.wanted a has None
-spends_last r had has old a e = inl (more (left_at r had old.op.state) (one_round * length old.op.task.errands) (leaves r had old.op.state e))
+pub spends_last : (r : Recalled) (had has : Hand) (old : Running) (a : Answer Record) → wanted_of old.op had ≡ Some step.Leave → IsSpentOn r had (Some old) old.wanted a has None
+spends_last r had has old a e = inl (more (sweep_left old.op.sweep old.op.state + left_at r had.spares old.op.state) (one_round * length old.op.task.errands) (stays r had.spares old.op.sweep old.op.state e))
 
 -- the operation that the actor had, and whether it is done
-pub spends_over : (r : Recalled) (had has : Spares) (old : Option Running) (running new : Running) (step : StepOf Record) (a : Answer Record) (reply : Option Reply) → old ≡ Some running → is_some reply ≡ true
+pub spends_over : (r : Recalled) (had has : Hand) (old : Option Running) (running new : Running) (step : StepOf Record) (a : Answer Record) (reply : Option Reply) → old ≡ Some running → is_some reply ≡ true
     → IsSpentOn r had (Some running) step a has (unless_done new reply) → IsSpentOn r had old step a has None
 spends_over r had has old running new step a None e done s = cc
 spends_over r had has old running new step a (Some reply) e done s = subst (λ o. IsSpentOn r had o step a has None) (sym e) s
 
-pub spends_still : (r : Recalled) (had has : Spares) (old : Option Running) (running new : Running) (step : StepOf Record) (a : Answer Record) (reply : Option Reply) → old ≡ Some running → is_some reply ≡ false
+pub spends_still : (r : Recalled) (had has : Hand) (old : Option Running) (running new : Running) (step : StepOf Record) (a : Answer Record) (reply : Option Reply) → old ≡ Some running → is_some reply ≡ false
     → IsSpentOn r had (Some running) step a has (unless_done new reply) → IsSpentOn r had old step a has (Some new)
 spends_still r had has old running new step a None e done s = subst (λ o. IsSpentOn r had o step a has (Some new)) (sym e) s
 spends_still r had has old running new step a (Some reply) e done s = cc

@@ -12,26 +12,29 @@ use Rattle.chain_search.specs.Knowledge.{Knowledge, learn, finished}
 use Rattle.chain_search.specs.Recalled.{Recalled}
 use Rattle.chain_search.specs.Steps.{IsAnswer}
 use Rattle.chain_search.specs.Tables.{IsWithin as IsWithinTable, Table}
-use Rattle.installs.specs.Spares.{Spares}
-use Rattle.op_machine.specs.Ops.{Goes}
-use Rattle.op_machine.specs.Tasks.{IsAtRest}
-use Rattle.step_core.specs.declared.actor.Actor.{Actor}
+use Rattle.op_machine.specs.Hands.{Hand}
+use Rattle.op_machine.specs.Ops.{Goes, IsAtRestWith}
 use Rattle.step_core.specs.declared.actor.Running.{Running}
 use Rattle.step_core.specs.Turns.{EndsPage}
 
+-- what an actor keeps between operations, and the operation that it is at
+pub record Actor : Type 0 where
+  pub hand : Hand
+  pub running : Option Running
+
 -- An operation that is under way, with the step that it wants, which its actor may take by what it knows.
-pub record IsRunning (limits : Limits) (actor : ℕ) (k : Knowledge) (r : Recalled) (spares : Spares) (running : Running) : Type 0 where
+pub record IsRunning (limits : Limits) (actor : ℕ) (k : Knowledge) (r : Recalled) (hand : Hand) (running : Running) : Type 0 where
   pub own_limits : running.op.task.limits ≡ limits
   pub own_actor : running.op.task.actor ≡ actor
-  pub goes : Goes k r running.op spares running.wanted
+  pub goes : Goes k r running.op hand running.wanted
 
 -- An actor without an operation rests.
-abbrev pub IsActorWith : Limits → ℕ → Knowledge → Recalled → Spares → Option Running → Type 0
-IsActorWith limits actor k r spares None = IsAtRest limits spares k
-IsActorWith limits actor k r spares (Some running) = IsRunning limits actor k r spares running
+abbrev pub IsActorWith : Limits → ℕ → Knowledge → Recalled → Hand → Option Running → Type 0
+IsActorWith limits actor k r hand None = IsAtRestWith limits actor hand k
+IsActorWith limits actor k r hand (Some running) = IsRunning limits actor k r hand running
 
 -- What the actor keeps shows what it knows and recalls. What its entries show as taken and not linked, rows and pages, is
--- exactly its spares.
+-- exactly its spares, and what they show as taken out of the tree and not freed is exactly its limbo.
 abbrev pub IsActor : Limits → ℕ → Knowledge → Recalled → Actor → Type 0
 IsActor limits actor k r at = IsActorWith limits actor k r at.hand at.running
 
@@ -40,9 +43,9 @@ abbrev pub IsServed : Limits → Knowledge → Memory → StepOf Record → Type
 IsServed limits k memory step = (answer : Answer Record) → IsAnswer memory step answer → Fits limits k step answer
 
 -- The operation goes on, or is done with the reply.
-abbrev pub IsLeft : Limits → ℕ → Knowledge → Recalled → Spares → Running → Option Reply → Type 0
-IsLeft limits actor k r spares running None = IsRunning limits actor k r spares running
-IsLeft limits actor k r spares running (Some reply) = IsAtRest limits spares k
+abbrev pub IsLeft : Limits → ℕ → Knowledge → Recalled → Hand → Running → Option Reply → Type 0
+IsLeft limits actor k r hand running None = IsRunning limits actor k r hand running
+IsLeft limits actor k r hand running (Some reply) = IsAtRestWith limits actor hand k
 
 -- what the actor knows after its step
 abbrev pub knows_then : Knowledge → StepOf Record → Answer Record → Option Reply → Knowledge

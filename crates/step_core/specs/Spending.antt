@@ -5,14 +5,14 @@ use Rattle.bw_model.specs.declared.step.Answer.{Answer}
 use Rattle.bw_model.specs.declared.step.Step.{Step as StepOf}
 use Rattle.deltas.specs.declared.record.Record.{Record}
 use Rattle.chain_search.specs.Recalled.{Recalled, IsSpent, recall}
-use Rattle.installs.specs.Spares.{Spares}
-use Rattle.op_machine.specs.Bounded.{steps_left}
+use Rattle.op_machine.specs.Hands.{Hand}
+use Rattle.op_machine.specs.Spending.{steps_left}
 use Rattle.step_core.specs.declared.actor.Running.{Running}
 
 -- how many steps an actor's operation takes at most, if it has one, but for those that a cause pays for
-abbrev pub steps_due : Recalled → Spares → Option Running → ℕ
-steps_due r spares None = 0
-steps_due r spares (Some running) = steps_left r running.op spares
+abbrev pub steps_due : Recalled → Hand → Option Running → ℕ
+steps_due r hand None = 0
+steps_due r hand (Some running) = steps_left r running.op hand
 
 -- the operation after a step, unless it is done with a reply
 abbrev pub unless_done : Running → Option Reply → Option Running
@@ -20,5 +20,5 @@ unless_done running None = Some running
 unless_done running (Some reply) = None
 
 -- A step is taken: of the steps that were left it has spent one, or a cause paid for more.
-abbrev pub IsSpentOn : Recalled → Spares → Option Running → StepOf Record → Answer Record → Spares → Option Running → Type 0
+abbrev pub IsSpentOn : Recalled → Hand → Option Running → StepOf Record → Answer Record → Hand → Option Running → Type 0
 IsSpentOn r had old step answer has new = IsSpent r step answer (steps_due r had old) (steps_due (recall r step answer) has new)

@@ -1,11 +1,12 @@
 //! One actor of a core.
-ghost use Rattle.std.specs.Prelude.{◌≡◌, ◌<◌, ◌^◌, [], Some, None, IfOk, IsSome, OnErr, is_some, true};
+ghost use Rattle.std.specs.Prelude.{◌≡◌, ◌<◌, ◌^◌, Some, None, IfOk, IsSome, OnErr, is_some, true};
 ghost use Rattle.chain_search.specs.Discipline.{IsAllowed};
 ghost use Rattle.chain_search.specs.Knowledge.{Knowledge, begun};
 ghost use Rattle.chain_search.specs.Recalled.{Recalled, blank, recall};
 ghost use Rattle.chain_search.specs.Steps.{IsAnswer, memory_after};
 ghost use Rattle.chain_search.specs.Tables.{IsWithin as IsWithinTable, memory_in};
 ghost use Rattle.chain_search.specs.Useful.{IsUseful};
+ghost use Rattle.op_machine.specs.Hands.{empty_hand};
 ghost use Rattle.step_core.specs.Actors.{IsActor, IsLeft, IsReady, IsRunning, IsServed, IsWithinAt, NeedsRoom, command_left, knows_then, running_command, wanted_by};
 ghost use Rattle.step_core.specs.Spending.{IsSpentOn, steps_due, unless_done};
 ghost use Rattle.step_core.specs.Turns.{EndsPage, KeepsMore, link_told, step_event};
@@ -18,6 +19,7 @@ use chain_search::{
 use deltas::Record;
 use op_machine::{Hand, Op, Want, exchange_link};
 use std::alloc::{AllocError, Allocator};
+use std::marker::Model;
 
 /// An operation, and the step that it wants.
 #[derive(Debug, Drop)]
@@ -27,10 +29,18 @@ pub(crate) struct Running {
 }
 
 /// What an actor keeps, and the operation that it is at.
-#[derive(Debug, Drop)]
-pub(crate) struct Actor {
-    hand: Hand,
+#[derive(Drop)]
+pub(crate) struct Actor<A: Allocator> {
+    hand: Hand<A>,
     running: Option<Running>,
+}
+
+impl<A: Allocator> Model for Actor<A> {
+    ghost use Rattle.step_core.specs.Actors.{Actor};
+
+    ghost Value = { Actor };
+
+    ghost view = { λ a. record { hand = a.hand; running = a.running } };
 }
 
 /// A step with its answer, before it is taken: `step` for its entry, and the same again for the memory. Where the step ends a
@@ -51,41 +61,22 @@ pub(crate) struct Stepped<A: Allocator> {
     pub(crate) reply: Option<BoxedReply<A>>,
 }
 
-impl Actor {
+impl<A: Allocator + Copy> Actor<A> {
     /// An actor that holds nothing and has no operation.
-    pub(crate) fn idle() -> Actor
-        ensures { result ≡ record { hand = record { pid = None; rows = [] }; running = None } }
+    pub(crate) fn idle(alloc: A, limits: &Limits) -> Result<Actor<A>, AllocError>
+        ensures { IfOk result (λ actor. actor ≡ record { hand = empty_hand limits.now; running = None }) }
     {
-        Actor {
-            hand: Hand::plain(),
-            running: None,
-        }
-    }
-
-    /// Whether it has an operation.
-    pub(crate) fn is_running(&self) -> bool
-        ensures { result ≡ is_some (running_command self.now) }
-    {
-        self.running.is_some()
-    }
-
-    /// Begins an operation.
-    pub(crate) fn begin(&mut self, command: Command, actor: u8, limits: &Limits)
-        requires shows { (k : Knowledge) × (r : Recalled) × IsActor limits.now actor k r self.old }
-        requires idle { running_command self.old ≡ None }
-        ensures shows { (k : Knowledge) (r : Recalled) → IsActor limits.now actor k r self.old → IsActor limits.now actor (begun k command) blank self.new }
-        ensures command { running_command self.new ≡ Some command }
-        ensures bounded { steps_due blank self.new.hand self.new.running < 2 ^ 18 }
-    {
-        let mut op = Op::begin(command, actor, limits);
-        match op.next(&mut self.hand, Answer::Start) {
-            Want::Step(wanted) => self.running = Some(Running { op, wanted }),
-            Want::Done(_) => unreachable!(),
+        match Hand::<A>::new(alloc, limits) {
+            Ok(hand) => Ok(Actor {
+                hand,
+                running: None,
+            }),
+            Err(_) => Err(AllocError),
         }
     }
 
     /// What the step that its operation wants needs of memory, and its answer; refused only where it keeps more than an entry.
-    pub(crate) fn ready<A: Allocator + Copy>(
+    pub(crate) fn ready(
         &self,
         alloc: A,
         actor: u8,
@@ -104,9 +95,34 @@ impl Actor {
             None => unreachable!(),
         }
     }
+}
+
+impl<A: Allocator> Actor<A> {
+    /// Whether it has an operation.
+    pub(crate) fn is_running(&self) -> bool
+        ensures { result ≡ is_some (running_command self.now) }
+    {
+        self.running.is_some()
+    }
+
+    /// Begins an operation.
+    pub(crate) fn begin(&mut self, command: Command, actor: u8, limits: &Limits)
+        requires shows { (k : Knowledge) × (r : Recalled) × IsActor limits.now actor k r self.old }
+        requires idle { running_command self.old ≡ None }
+        requires there { actor < limits.now.actors }
+        ensures shows { (k : Knowledge) (r : Recalled) → IsActor limits.now actor k r self.old → IsActor limits.now actor (begun k command) blank self.new }
+        ensures command { running_command self.new ≡ Some command }
+        ensures bounded { steps_due blank self.new.hand self.new.running < 2 ^ 18 }
+    {
+        let mut op = Op::begin(command, actor, limits);
+        match op.next(&mut self.hand, Answer::Start) {
+            Want::Step(wanted) => self.running = Some(Running { op, wanted }),
+            Want::Done(_) => unreachable!(),
+        }
+    }
 
     /// Takes the one step that its operation wants.
-    pub(crate) fn step<A: Allocator>(
+    pub(crate) fn step(
         &mut self,
         actor: u8,
         limits: &Limits,
@@ -215,7 +231,7 @@ impl Running {
         &mut self,
         actor: u8,
         limits: &Limits,
-        hand: &mut Hand,
+        hand: &mut Hand<A>,
         memory: &mut Table<A>,
         ready: Ready<A>,
     ) -> Stepped<A>

@@ -22,7 +22,7 @@ pub struct Core<A: Allocator = Global> {
     alloc: A,
     limits: Limits,
     memory: Table<A>,
-    actors: Vec<Actor, A>,
+    actors: Vec<Actor<A>, A>,
     trace: Log<A>,
 }
 
@@ -60,7 +60,7 @@ impl<A: Allocator + Copy> Core<A> {
         let memory = Table::<A>::open(alloc, &limits)?;
         let mut actors = Vec::with_capacity(alloc, limits.actors as usize)?;
         for _ in 0..limits.actors {
-            actors.push(Actor::idle())?;
+            actors.push(Actor::<A>::idle(alloc, &limits)?)?;
         }
         Ok(Core {
             alloc,

@@ -8,22 +8,22 @@ pub next-requires : goal.next-requires
 next-requires c =
     let (k, r, at) = c.requires.shows in
     let idle = idle_at _ _ k r _ _ c.requires.idle at in
-    record { told = told_start (begun k c.args.command) c.args.self.now.hand c.begin-op.result c.begin-op.ensures.state (c.begin-op.ensures.shows _ _ idle) }
+    record { told = told_start (begun k c.args.command) c.args.self.now.hand c.begin-op.result c.begin-op.ensures.sweep c.begin-op.ensures.state (c.begin-op.ensures.shows _ _ idle) }
 
 pub returns-clause-shows : goal.returns-clause-shows
 returns-clause-shows c = λ k r h.
     let idle = idle_at _ _ k r _ _ c.requires.idle h in
-    begun_left (begun k c.args.command) c.args.self.now.hand c.begin-op.result c.begin-op.ensures.state (c.begin-op.ensures.shows _ _ idle) _ _ _ _ (ap (λ (t : Task). t.limits) c.begin-op.ensures.task) (ap (λ (t : Task). t.actor) c.begin-op.ensures.task) c.in-Step.wanted c.in-Step.ensures.obeys
+    begun_left (begun k c.args.command) c.args.self.now.hand c.begin-op.result c.begin-op.ensures.sweep c.begin-op.ensures.state (c.begin-op.ensures.shows _ _ idle) _ _ _ _ (ap (λ (t : Task). t.limits) c.begin-op.ensures.task) (ap (λ (t : Task). t.actor) c.begin-op.ensures.task) c.in-Step.wanted c.in-Step.ensures.obeys
     c.in-Step.ensures.same
 
 pub returns-clause-bounded : goal.returns-clause-bounded
 returns-clause-bounded c =
     let (k, r, at) = c.requires.shows in
     let idle = idle_at _ _ k r _ _ c.requires.idle at in
-    begun_few (begun k c.args.command) c.args.self.now.hand c.begin-op.result c.begin-op.ensures.state (c.begin-op.ensures.shows _ _ idle) c.next.new.self _ c.in-Step.wanted c.in-Step.ensures.spends c.begin-op.ensures.few
+    begun_few (begun k c.args.command) c.args.self.now.hand c.begin-op.result c.begin-op.ensures.sweep c.begin-op.ensures.state (c.begin-op.ensures.shows _ _ idle) c.next.new.self _ c.in-Step.wanted c.in-Step.ensures.spends c.begin-op.ensures.few
 
 pub unreachable-requires : goal.unreachable-requires
 unreachable-requires c =
     let (k, r, at) = c.requires.shows in
     let idle = idle_at _ _ k r _ _ c.requires.idle at in
-    begun_on (begun k c.args.command) c.args.self.now.hand c.begin-op.result c.begin-op.ensures.state (c.begin-op.ensures.shows _ _ idle) c.next.new.self _ _ c.in-Done.ensures.obeys
+    begun_on (begun k c.args.command) c.args.self.now.hand c.begin-op.result c.begin-op.ensures.sweep c.begin-op.ensures.state (c.begin-op.ensures.shows _ _ idle) c.next.new.self _ _ c.in-Done.ensures.obeys

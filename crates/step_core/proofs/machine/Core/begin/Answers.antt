@@ -20,3 +20,8 @@ pub begin-requires-clause-idle : goal.begin-requires-clause-idle
 begin-requires-clause-idle g c =
     let begins = core_begins _ _ _ _ _ _ _ c.args.command c.self.invariant _ _ c.self.view_is c.requires.goes c.from.ensures c.index_mut-place.ensures.value in
     begins.2
+
+pub begin-requires-clause-there : goal.begin-requires-clause-there
+begin-requires-clause-there g c =
+    let begins = core_begins _ _ _ _ _ _ _ c.args.command c.self.invariant _ _ c.self.view_is c.requires.goes c.from.ensures c.index_mut-place.ensures.value in
+    begins.3

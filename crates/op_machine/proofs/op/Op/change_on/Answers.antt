@@ -3,30 +3,30 @@ use Rattle.std.specs.Option.{IsSome}
 use Rattle.op_machine.specs.Ops.{Op}
 use Rattle.op_machine.specs.Shows.{Stands, learn_last, recall_last, wanted_at}
 use Rattle.op_machine.proofs.Going.{spent_with}
-use Rattle.op_machine.proofs.op.Op.next.Goals as goal
-use Rattle.op_machine.proofs.op.Op.next.Goals.{in-Some, in_default}
+use Rattle.op_machine.proofs.op.Op.change_on.Goals as goal
+use Rattle.op_machine.proofs.op.Op.change_on.Goals.{in-Some, in_default}
 
 pub change_next-requires-clause-told : goal.change_next-requires-clause-told
 change_next-requires-clause-told c =
-    let told = c.requires.told in
-    record { task = c.self.inside.task; k = told.k; r = told.r; stands = rw (← c.self.view_is, ← c.hand.view_is) at told.shows; fits = rw (← c.self.view_is, ← c.hand.view_is) at told.fits }
+    let told = c.requires.told.told_on in
+    record { task = c.self.inside.task; k = told.k; r = told.r; stands = rw (← c.self.view_is, ← c.hand.view_is) at told.works; fits = rw (← c.self.view_is, ← c.hand.view_is) at told.fits }
 
 pub end_change-requires : goal.end_change-requires
 end_change-requires c =
-    let told = c.requires.told in
-    let comes = c.change_next.ensures.comes c.self.inside.task told.k told.r (rw (← c.self.view_is, ← c.hand.view_is) at told.shows) (rw (← c.self.view_is, ← c.hand.view_is) at told.fits) in
+    let told = c.requires.told.told_on in
+    let comes = c.change_next.ensures.comes c.self.inside.task told.k told.r (rw (← c.self.view_is, ← c.hand.view_is) at told.works) (rw (← c.self.view_is, ← c.hand.view_is) at told.fits) in
     let last = wanted_at c.hand.inside.spares c.self.inside.state in
     record { faced = record { k = learn_last told.k last c.args.answer; r = recall_last told.r last c.args.answer; faces = rw c.in-Some.is at comes } }
 
 pub step-requires-clause-stands : goal.step-requires-clause-stands
 step-requires-clause-stands c =
-    let told = c.requires.told in
+    let told = c.requires.told.told_on in
     let has = c.change_next.new.spares in
     let last = wanted_at c.hand.inside.spares c.self.inside.state in
     let known = learn_last told.k last c.args.answer in
     let recalled = recall_last told.r last c.args.answer in
     let P : Op → Type 0 = λ o. Stands o.task has known recalled o.state in
-    let comes = c.change_next.ensures.comes c.self.inside.task told.k told.r (rw (← c.self.view_is, ← c.hand.view_is) at told.shows) (rw (← c.self.view_is, ← c.hand.view_is) at told.fits) in (
+    let comes = c.change_next.ensures.comes c.self.inside.task told.k told.r (rw (← c.self.view_is, ← c.hand.view_is) at told.works) (rw (← c.self.view_is, ← c.hand.view_is) at told.fits) in (
       c.self-2.inside.task,
       known,
       recalled,
@@ -38,9 +38,9 @@ step-requires-clause-stands c =
 
 pub step-requires-clause-asks : goal.step-requires-clause-asks
 step-requires-clause-asks c =
-    let told = c.requires.told in
+    let told = c.requires.told.told_on in
     let P : Op → Type 0 = λ o. IsSome (wanted_at c.change_next.new.spares o.state) in
-    let comes = c.change_next.ensures.comes c.self.inside.task told.k told.r (rw (← c.self.view_is, ← c.hand.view_is) at told.shows) (rw (← c.self.view_is, ← c.hand.view_is) at told.fits) in
+    let comes = c.change_next.ensures.comes c.self.inside.task told.k told.r (rw (← c.self.view_is, ← c.hand.view_is) at told.works) (rw (← c.self.view_is, ← c.hand.view_is) at told.fits) in
     elim c.match-change_next.branch [
       | in-Some w ↦ subst P (sym (c.self-2.view_is ∙ w.self-is)) w.end_change.ensures.asks
       | in_default w ↦ let on = rw w.in_default.is at comes in subst P (sym (c.self-2.view_is ∙ w.self-is)) on.1
@@ -58,7 +58,7 @@ returns-clause-obeys c k r h f =
       | in-Some w ↦ let faces = rw w.in-Some.is at comes in subst P (sym (c.self-2.view_is ∙ w.self-is)) (w.end_change.ensures.stands known recalled faces)
       | in_default w ↦ let on = rw w.in_default.is at comes in subst P (sym (c.self-2.view_is ∙ w.self-is)) on.0
     ] in
-    rw (← c.self.view_is, ← c.hand.view_is, ← c.self-2.view_is) (record { wanted = c.step.ensures.wanted; may = c.step.ensures.may c.self-2.inside.task _ _ stands; shows = stands })
+    rw (← c.self.view_is, ← c.hand.view_is, ← c.self-2.view_is) (record { wanted = c.step.ensures.wanted; may = c.step.ensures.may c.self-2.inside.task _ _ stands; works = stands })
 
 pub returns-clause-spends : goal.returns-clause-spends
 returns-clause-spends c k r h f =
