@@ -1,5 +1,5 @@
 -- What a change's next step leaves an operation in.
-use Rattle.std.proofs.Common.{◌≡◌, ◌<◌, ◌≤◌, ◌+◌, inl, inr, ℕ, Option, Some, None, true, refl, sym, ap, subst, ◌∙◌, arith}
+use Rattle.std.proofs.Common.{◌≡◌, ◌<◌, ◌≤◌, ◌+◌, inl, inr, ℕ, List, Option, Some, None, true, refl, sym, ap, subst, ◌∙◌, arith}
 use Rattle.std.specs.Prelude.{IfSome}
 use Rattle.std.proofs.lemmas.Option.{same_Some}
 use Rattle.bw_model.specs.declared.command.Command.{Command}
@@ -23,12 +23,14 @@ use Rattle.installs.specs.declared.plan.Plan.{Plan}
 use Rattle.installs.specs.declared.plan.Plan.TheVariants.{Install, Split, Root, Unlink}
 use Rattle.op_machine.specs.Bounded.{left_for, one_round}
 use Rattle.op_machine.specs.Brings.{Brings, IsReadPlan, IsUpdateOf, IsUsefulOver, IsUsefulPlan}
+use Rattle.op_machine.specs.Hands.{AreRowsOf, IsTakenBy}
 use Rattle.op_machine.specs.Outcomes.{FacesChanged}
 use Rattle.op_machine.specs.Shows.{IsInChange}
 use Rattle.op_machine.specs.Tasks.{IsDone, IsUnreadPid, Seeks, Task}
 use Rattle.op_machine.specs.declared.state.Outcome.TheVariants as outcome
 use Rattle.op_machine.specs.declared.state.Then.{Then}
-use Rattle.op_machine.specs.declared.state.Then.TheVariants.{Round, Errand, Reply}
+use Rattle.op_machine.specs.declared.state.Then.TheVariants.{Round, Limbo, Errand, Reply}
+use Rattle.op_machine.specs.declared.unlinked.Unlinked.{Unlinked}
 
 -- a PID that is taken is of no page that was read
 taken_unread : (limits : Limits) (k : Knowledge) (asked : Step Record) (told : Answer Record) → Fits limits k asked told → (p : ℕ) → bound.pid_taken asked told ≡ Some p → k.read.heads p ≡ None
@@ -58,9 +60,20 @@ unread_from heads old taken (Some p) was now from = elim from [
 ]
 
 -- what else is known of own rows, own pages and words of free bits changes nothing
+rows_still : (k now : Knowledge) (head : ℕ) (rows : List ℕ) → now.read ≡ k.read → AreRowsOf k head rows → AreRowsOf now head rows
+rows_still k now head rows same h = record { chain = h.chain; read = rw same h.read; short = h.short; are = h.are }
+
+taken_still : (k now : Knowledge) (plan : Plan) (unlinked : Unlinked) → now.read ≡ k.read → IsTakenBy k plan unlinked → IsTakenBy now plan unlinked
+taken_still k now (Install pid head (kind.Base page)) unlinked same h = (rows_still k now head unlinked.rows.items same h.0, h.1)
+taken_still k now (Unlink pid head unterm removal) unlinked same h = (rows_still k now removal unlinked.rows.items same h.0, h.1)
+taken_still k now (Install pid head content) unlinked same h = absurd h
+taken_still k now (Split pid split) unlinked same h = absurd h
+taken_still k now (Root left root) unlinked same h = absurd h
+
 brings_still : (k now : Knowledge) (command : Command) (plan : Plan) (then : Then) → now.read ≡ k.read → Brings k command plan then → Brings now command plan then
 brings_still k now command plan (Reply answered) same b = record { pid = b.pid; head = b.head; content = b.content; is = b.is; updates = b.updates; chain = b.chain; read = rw same b.read; leaf = b.leaf; alive = b.alive; covers = b.covers; replies = b.replies }
 brings_still k now command plan Round same b = b
+brings_still k now command plan (Limbo unlinked) same b = taken_still k now plan unlinked same b
 brings_still k now command plan (Errand key) same b = b
 
 useful_over : (k now : Knowledge) (head : ℕ) (content : Record) → now.read ≡ k.read → IsUsefulOver k head content → IsUsefulOver now head content
@@ -91,6 +104,14 @@ full_links (Install pid head content) linked = refl
 full_links (Split pid plan) linked = refl
 full_links (Root left root) linked = refl
 full_links (Unlink pid head unterm removal) linked = refl
+
+-- a change that takes something out of the tree links no update
+taken_links : (k : Knowledge) (unlinked : Unlinked) (plan : Plan) (linked : Option (Option ℕ)) → IsTakenBy k plan unlinked → change.linked_after plan Won linked ≡ linked
+taken_links k unlinked (Install pid head (kind.Base page)) linked h = refl
+taken_links k unlinked (Unlink pid head unterm removal) linked h = refl
+taken_links k unlinked (Install pid head content) linked h = absurd h
+taken_links k unlinked (Split pid split) linked h = absurd h
+taken_links k unlinked (Root left root) linked h = absurd h
 
 module _ (task : Task) (had has : Spares) (k : Knowledge) (r : Recalled) (old new : change.Change) (then : Then) (told : Answer Record) (h : IsInChange task had k r old then) (fits : Fits task.limits k (change.wanted old had) told) (pid : bound.IsPidFrom had.pid (bound.pid_taken (change.wanted old had) told) has.pid) where
   abbrev now : Knowledge
@@ -164,7 +185,8 @@ module _ (task : Task) (had has : Spares) (k : Knowledge) (r : Recalled) (old ne
     where
       by : (t : Then) → then ≡ t → FacesChanged task has now Won t
       by (Reply answered) is = (done Won room over, answers room over answered is)
-      by Round is = (seeks Won room over (ap (change.linked_after old.plan Won) h.asked.unlinked ∙ (subst (λ t. Brings k task.command old.plan t) is h.brings).1), h.writer)
+      by Round is = (seeks Won room over (ap (change.linked_after old.plan Won) h.asked.unlinked ∙ (subst (λ t. Brings k task.command old.plan t) is h.brings).2), h.writer)
+      by (Limbo unlinked) is = (seeks Won room over (taken_links k unlinked old.plan k.asked.linked (subst (λ t. Brings k task.command old.plan t) is h.brings) ∙ h.asked.unlinked), h.writer)
       by (Errand key) is =
           let b = subst (λ t. Brings k task.command old.plan t) is h.brings in
           (seeks Won room over (ap (λ plan. change.linked_after plan Won k.asked.linked) b.2 ∙ h.asked.unlinked), h.writer)
@@ -178,12 +200,14 @@ module _ (task : Task) (had has : Spares) (k : Knowledge) (r : Recalled) (old ne
   won_left : (t : Then) (left : ℕ) → left_for (outcome.Changed Won t) < left + 262144
   won_left (Reply answered) left = omega arith
   won_left Round left = omega arith
+  won_left (Limbo unlinked) left = omega arith
   won_left (Errand key) left = omega arith
 
   -- after a page is cleared a new round begins
   cleared_left : (t : Then) → then ≡ t → change.clears old.plan ≡ true → left_for (outcome.Changed Won t) ≤ one_round
   cleared_left (Reply answered) is clears = let b : IsUpdateOf k task.command old.plan answered = subst (λ t. Brings k task.command old.plan t) is h.brings in let e = sym clears ∙ ap change.clears b.is in cc
   cleared_left Round is clears = omega arith
+  cleared_left (Limbo unlinked) is clears = omega arith
   cleared_left (Errand key) is clears = let b = subst (λ t. Brings k task.command old.plan t) is h.brings in let e = sym clears ∙ ap change.clears b.2 in cc
 
   pub ended_left : (end : End) → bound.SpendsTo one_round r old had told new has (Some end) → IsSpent r (change.wanted old had) told (bound.steps_left one_round old had + 1) (left_for (outcome.Changed end then))

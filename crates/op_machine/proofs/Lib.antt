@@ -21,3 +21,5 @@ pub mod Commands
 pub mod HoldingBack
 pub mod Tidying
 pub mod Going
+pub mod Keeping
+pub mod TakingOut

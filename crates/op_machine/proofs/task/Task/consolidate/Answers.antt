@@ -20,7 +20,7 @@ returns-clause-stands c k r h =
         links = c.plans_may_be_linked.ensures.base c.args.self.now.actor k page base.result alive.in_hand.seen alive.alive (record { items = base.result.items; alike = λ key within. base.ensures.makes.items.contents key; is = base.ensures.base }) base.ensures.stands.fitted;
       };
       keeps = tt;
-      brings = (tt, refl);
+      brings = (record { chain = page.chain; read = alive.in_hand.seen.read; short = alive.in_hand.sound.is_chain.short; are = c.chain-unlinked.ensures.rows }, c.chain-unlinked.ensures.pid);
       useful = λ chain read. subst (λ x. 1 < length x) (sym (one_chain c.chain_is_one.ensures k.read.seen page.head alive.recalled.0 chain page.chain read alive.in_hand.seen.read)) (long_chain c.args.self.now c.args.spares.now k r page h);
       split = tt;
       recalled = alive.recalled;

@@ -1,0 +1,63 @@
+-- What is in limbo stays as it is known, but for what a sweep does and a change.
+use Rattle.std.proofs.Common.{◌≡◌, inl, inr, ℕ, zero, suc, Some, None, false, refl, sym, subst}
+use Rattle.bw_model.specs.declared.limits.Limits.{Limits}
+use Rattle.bw_model.specs.declared.step.Answer.{Answer}
+use Rattle.bw_model.specs.declared.step.Answer.TheVariants.{Start, Number, Content, Whether, Done}
+use Rattle.bw_model.specs.declared.step.Step.{Step}
+use Rattle.bw_model.specs.declared.step.Step.TheVariants as step
+use Rattle.deltas.specs.declared.record.Record.{Record}
+use Rattle.chain_search.specs.Fitting.{Fits}
+use Rattle.chain_search.specs.Knowledge.{Knowledge, Limbos, learn}
+use Rattle.chain_search.specs.Recalled.{Recalled}
+use Rattle.epochs.specs.Limbo.{Limbo}
+use Rattle.installs.specs.Spares.{Spares}
+use Rattle.op_machine.specs.Outcomes.{is_changing}
+use Rattle.op_machine.specs.Shows.{FitsLast, Stands, learn_last, wanted_at}
+use Rattle.op_machine.specs.Tasks.{Task}
+use Rattle.op_machine.specs.declared.state.State.{State}
+use Rattle.op_machine.specs.declared.state.State.TheVariants.{Begun, Epoch, Enter, Read, Write, Change, Leave, Over}
+use Rattle.op_machine.proofs.Reading.{IsReading, reader_reads, writer_reads}
+use Rattle.sweep.specs.Kept.{AreKept}
+use Rattle.sweep.proofs.Keeping.{epoch_kept}
+
+-- the step reads a slot, or a record
+slot_limbo : (k : Knowledge) (page : ℕ) (told : Answer Record) → (learn k (step.Slot page) told).limbo ≡ k.limbo
+slot_limbo k zero (Number n) = refl
+slot_limbo k (suc page) (Number zero) = refl
+slot_limbo k (suc page) (Number (suc row)) = refl
+slot_limbo k page Start = refl
+slot_limbo k page (Content content) = refl
+slot_limbo k page (Whether whether) = refl
+slot_limbo k page Done = refl
+
+row_limbo : (k : Knowledge) (row : ℕ) (told : Answer Record) → (learn k (step.Row row) told).limbo ≡ k.limbo
+row_limbo k row Start = refl
+row_limbo k row (Number n) = refl
+row_limbo k row (Content content) = refl
+row_limbo k row (Whether whether) = refl
+row_limbo k row Done = refl
+
+read_limbo : (k : Knowledge) (asked : Step Record) (told : Answer Record) → IsReading asked → (learn k asked told).limbo ≡ k.limbo
+read_limbo k asked told (inl slot) = rw slot.1 (slot_limbo k slot.0 told)
+read_limbo k asked told (inr row) = rw row.1 (row_limbo k row.0 told)
+
+module _ (task : Task) (spares : Spares) (k : Knowledge) (r : Recalled) (limbo : Limbo) (told : Answer Record) (kept : AreKept task.limits task.actor limbo k.limbo) where
+  still : (now : Limbos) → now ≡ k.limbo → AreKept task.limits task.actor limbo now
+  still now same = subst (AreKept task.limits task.actor limbo) (sym same) kept
+
+  epoch : (a : Answer Record) → Fits task.limits k step.Epoch a → AreKept task.limits task.actor limbo (learn k step.Epoch a).limbo
+  epoch (Number n) fits = epoch_kept task.limits task.actor limbo k.limbo n fits.2 kept
+  epoch Start fits = absurd fits
+  epoch (Content content) fits = absurd fits
+  epoch (Whether whether) fits = absurd fits
+  epoch Done fits = absurd fits
+
+  pub work_keeps : (state : State) → Stands task spares k r state → is_changing state ≡ false → FitsLast task.limits k (wanted_at spares state) told → AreKept task.limits task.actor limbo (learn_last k (wanted_at spares state) told).limbo
+  work_keeps Begun stands at_rest fits = kept
+  work_keeps Epoch stands at_rest fits = epoch told fits
+  work_keeps (Enter epoch) stands at_rest fits = kept
+  work_keeps (Read round) stands at_rest fits = still _ (read_limbo k _ told (reader_reads round k r stands.shows))
+  work_keeps (Write round) stands at_rest fits = still _ (read_limbo k _ told (writer_reads round k r stands.shows))
+  work_keeps (Leave reply) stands at_rest fits = kept
+  work_keeps (Change now then) stands at_rest fits = cc
+  work_keeps Over stands at_rest fits = absurd stands

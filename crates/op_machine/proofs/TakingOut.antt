@@ -1,0 +1,84 @@
+-- What a change has taken out of the tree once it has ended.
+use Rattle.std.proofs.Common.{◌≡◌, ℕ, Option, Some, None, refl}
+use Rattle.bw_model.specs.declared.command.Command.{Command}
+use Rattle.bw_model.specs.declared.limits.Limits.{Limits}
+use Rattle.deltas.specs.declared.record.Record.{Record}
+use Rattle.deltas.specs.declared.record.Record.TheVariants as kind
+use Rattle.chain_search.specs.Knowledge.{Knowledge, Limbos}
+use Rattle.installs.specs.Changes.{IsTarget, linked_by}
+use Rattle.installs.specs.Outs.{TakesFresh, limbo_after, limbo_over}
+use Rattle.installs.specs.declared.change.End.{End}
+use Rattle.installs.specs.declared.change.End.TheVariants.{Won, Lost, Full}
+use Rattle.installs.specs.declared.plan.Plan.{Plan}
+use Rattle.installs.specs.declared.plan.Plan.TheVariants.{Install, Split, Root, Unlink}
+use Rattle.op_machine.specs.Brings.{Brings}
+use Rattle.op_machine.specs.Hands.{IsTakenBy, IsUnlinked, TakesNothing, Unlinks}
+use Rattle.op_machine.specs.declared.state.Then.{Then}
+use Rattle.op_machine.specs.declared.state.Then.TheVariants.{Round, Limbo, Errand, Reply}
+use Rattle.op_machine.specs.declared.unlinked.Unlinked.{Unlinked}
+
+-- a plan that takes nothing out leaves the limbo as it is
+takes_nothing : (plan : Plan) (k : Knowledge) → TakesNothing plan → limbo_after plan (Some Won) k ≡ k.limbo
+takes_nothing (Install pid head content) k h = over content h
+  where
+    over : (content : Record) → TakesNothing (Install pid head content) → limbo_over content head k ≡ k.limbo
+    over (kind.Base page) h = absurd h
+    over (kind.Put put) h = refl
+    over (kind.Delete delete) h = refl
+    over (kind.Split split) h = refl
+    over (kind.Term term) h = refl
+    over (kind.Hold hold) h = refl
+    over (kind.Remove remove) h = refl
+    over (kind.Merge merge) h = refl
+    over (kind.Unterm unterm) h = refl
+takes_nothing (Split pid split) k h = refl
+takes_nothing (Root left root) k h = refl
+takes_nothing (Unlink pid head unterm removal) k h = absurd h
+
+-- an update takes nothing out
+update_takes_nothing : (content : Record) (pid head : ℕ) → linked_by content head None ≡ Some (Some head) → TakesNothing (Install pid head content)
+update_takes_nothing (kind.Base page) pid head e = cc
+update_takes_nothing (kind.Put put) pid head e = tt
+update_takes_nothing (kind.Delete delete) pid head e = tt
+update_takes_nothing (kind.Split split) pid head e = tt
+update_takes_nothing (kind.Term term) pid head e = tt
+update_takes_nothing (kind.Hold hold) pid head e = tt
+update_takes_nothing (kind.Remove remove) pid head e = tt
+update_takes_nothing (kind.Merge merge) pid head e = tt
+update_takes_nothing (kind.Unterm unterm) pid head e = tt
+
+module _ (limits : Limits) (k : Knowledge) (unlinked : Unlinked) where
+  takes : (plan : Plan) → IsTarget limits plan → IsTakenBy k plan unlinked → TakesFresh limits k plan (Some Won) → IsUnlinked limits k unlinked (limbo_after plan (Some Won) k)
+  takes (Install pid head content) target taken fresh = over content taken fresh
+    where
+      over : (content : Record) → IsTakenBy k (Install pid head content) unlinked → TakesFresh limits k (Install pid head content) (Some Won) → IsUnlinked limits k unlinked (limbo_over content head k)
+      over (kind.Base page) taken fresh = record { head = head; rows_of = taken.0; absent = fresh; page = rw taken.1 refl }
+      over (kind.Put put) taken fresh = absurd taken
+      over (kind.Delete delete) taken fresh = absurd taken
+      over (kind.Split split) taken fresh = absurd taken
+      over (kind.Term term) taken fresh = absurd taken
+      over (kind.Hold hold) taken fresh = absurd taken
+      over (kind.Remove remove) taken fresh = absurd taken
+      over (kind.Merge merge) taken fresh = absurd taken
+      over (kind.Unterm unterm) taken fresh = absurd taken
+  takes (Split pid split) target taken fresh = absurd taken
+  takes (Root left root) target taken fresh = absurd taken
+  takes (Unlink pid head unterm removal) target taken fresh = record {
+    head = removal;
+    rows_of = taken.0;
+    absent = fresh.1;
+    page = rw taken.1 (record { some = target.1.0; below = target.1.1; absent = fresh.0; is = refl });
+  }
+
+module _ (limits : Limits) (k : Knowledge) (command : Command) (plan : Plan) (target : IsTarget limits plan) where
+  won : (then : Then) → Brings k command plan then → TakesFresh limits k plan (Some Won) → Unlinks limits k Won then (limbo_after plan (Some Won) k)
+  won Round brings fresh = takes_nothing plan k brings.1
+  won (Limbo unlinked) brings fresh = takes limits k unlinked plan target brings fresh
+  won (Errand key) brings fresh = takes_nothing plan k (rw brings.2 tt)
+  won (Reply answered) brings fresh = takes_nothing plan k (rw brings.is (update_takes_nothing brings.content brings.pid brings.head (brings.updates None)))
+
+  -- what is known to be in limbo once the change has ended
+  pub unlinks : (end : End) (then : Then) (after : Limbos) → Brings k command plan then → after ≡ limbo_after plan (Some end) k → TakesFresh limits k plan (Some end) → Unlinks limits k end then after
+  unlinks Won then after brings is fresh = rw is (won then brings fresh)
+  unlinks Lost then after brings is fresh = is
+  unlinks Full then after brings is fresh = is

@@ -1,0 +1,1 @@
+void scratch_never(void) { for (;;) {} }
