@@ -1,1 +1,0 @@
-void scratch_never(void) { for (;;) {} }

@@ -1,5 +1,0 @@
-pub mod Kept
-pub mod Sweeps
-pub mod Moves
-pub mod Bounded
-pub mod Taken
