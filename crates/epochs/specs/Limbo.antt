@@ -1,5 +1,5 @@
 -- Limbo lists: what an actor has taken out of the tree, and has not freed yet.
-use Rattle.std.specs.Prelude.{◌≢◌, ◌<◌, ◌≤◌, ◌==◌, ℕ, Bool, true, false, if◌then◌else◌, IsFalse, List, [], ◌∷◌, ◌++◌, map}
+use Rattle.std.specs.Prelude.{◌≢◌, ◌<◌, ◌≤◌, ◌==◌, ℕ, Bool, true, false, if◌then◌else◌, IsFalse, List, [], ◌∷◌, ◌++◌, Option, None, Some, map}
 use Rattle.std.specs.List.{All, AllPairs, list_any}
 use Rattle.epochs.specs.declared.entry.Entry.{Entry}
 use Rattle.epochs.specs.declared.entry.Stage.{Stage}
@@ -52,6 +52,14 @@ all_restaged stage_after limbo = record {
 
 abbrev pub is_in : LimboList → ℕ → Bool
 is_in list number = list_any (λ entry. entry.number == number) list.entries
+
+-- the stage of a number, if there is one
+abbrev pub stage_in : List Entry → ℕ → Option Stage
+stage_in [] number = None
+stage_in (entry ∷ entries) number = if entry.number == number then Some entry.stage else stage_in entries number
+
+abbrev pub stage_of : LimboList → ℕ → Option Stage
+stage_of list number = stage_in list.entries number
 
 -- the list with one number more, without a stamp
 abbrev pub added : ℕ → LimboList → LimboList

@@ -1,5 +1,4 @@
 pub mod Spares
-pub mod Within
 pub mod Taking
 pub mod Changes
 pub mod Moves

@@ -12,7 +12,7 @@ ghost use Rattle.installs.specs.Moves.{after_ready, decided_by, first_state, mov
 ghost use Rattle.installs.specs.Outs.{TakesFresh, limbo_after};
 ghost use Rattle.installs.specs.Spares.{HaveRoom, Rest};
 ghost use Rattle.installs.specs.Taking.{found_after};
-ghost use Rattle.installs.specs.Within.{IsWithin};
+ghost use Rattle.chain_search.specs.Within.{IsWithin};
 
 use crate::taking::{Found, Kind, Taking};
 use crate::{Plan, Spares};

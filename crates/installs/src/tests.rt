@@ -4,7 +4,7 @@ ghost use Rattle.chain_search.specs.Fitting.{Fits, FitsWord};
 ghost use Rattle.chain_search.specs.Knowledge.{nothing};
 ghost use Rattle.installs.specs.Changes.{IsOfChange, IsTarget};
 ghost use Rattle.installs.specs.Spares.{HaveRoom};
-ghost use Rattle.installs.specs.Within.{IsWithin};
+ghost use Rattle.chain_search.specs.Within.{IsWithin};
 
 use crate::{Change, End, Plan, Spares};
 use arrayvec::ArrayVec;

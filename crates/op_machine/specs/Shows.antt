@@ -17,7 +17,7 @@ use Rattle.descent.specs.declared.write_round.Goal.TheVariants.{Seek}
 use Rattle.installs.specs.Changes as change
 use Rattle.installs.specs.Bounded as bound
 use Rattle.installs.specs.Spares.{Spares}
-use Rattle.installs.specs.Within.{IsWithin}
+use Rattle.chain_search.specs.Within.{IsWithin}
 use Rattle.installs.specs.declared.plan.Plan.{Plan}
 use Rattle.bw_model.specs.Replies.{is_writer}
 use Rattle.op_machine.specs.Brings.{Brings, IsReadPlan, IsUsefulPlan}

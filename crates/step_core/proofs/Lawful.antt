@@ -12,8 +12,8 @@ use Rattle.chain_search.specs.Knowledge.{knows}
 use Rattle.chain_search.specs.Recalled.{Recalled}
 use Rattle.chain_search.specs.Tables.{IsWithin as IsWithinTable, Table, memory_in}
 use Rattle.chain_search.specs.Trace.{memory_of}
+use Rattle.chain_search.specs.Within.{IsWithin}
 use Rattle.op_machine.specs.Hands.{Hand}
-use Rattle.installs.specs.Within.{IsWithin}
 use Rattle.tree_law.specs.Own.{RowsAreApart}
 use Rattle.tree_law.specs.State.{IsState}
 use Rattle.tree_law.specs.TraceLaws.{AnswersFit, HeadsStand}

@@ -1,0 +1,167 @@
+-- What each step of a sweep leaves of the agreement between a limbo and what is known.
+use Rattle.std.proofs.Common.{◌≡◌, ◌≢◌, ◌<◌, ◌≤◌, ◌+◌, ◌-◌, ◌++◌, ◌==◌, inl, inr, ◌⊎◌, ℕ, zero, suc, List, [], ◌∷◌, length, get_or, eqb, Option, Some, None, Bool, true, false, refl, sym, ap, ◌∙◌, arith, IsTrue, length-append}
+use Rattle.std.specs.Prelude.{◌||◌, ltb, if◌then◌else◌, IfSome}
+use Rattle.std.specs.List.{list_all}
+use Rattle.std.proofs.lemmas.Bool.{cases_Bool, cases_eq, cases_lt, eq-eqb, ne_eqb, lt-ltb, ltb-true}
+use Rattle.std.proofs.lemmas.List.{get_or_append_left}
+use Rattle.std.proofs.lemmas.List.Sums.{AllPass-from_list_all}
+use Rattle.std.proofs.Math.Seq.{get_or-append_seam}
+use Rattle.bw_model.specs.declared.limits.Limits.{Limits}
+use Rattle.deltas.specs.Memory.{replaced_at}
+use Rattle.chain_search.specs.Discipline.{IsPassed}
+use Rattle.chain_search.specs.Knowledge as known
+use Rattle.chain_search.specs.Knowledge.{passed_by, stamped}
+use Rattle.epochs.specs.declared.entry.Stage.{Stage}
+use Rattle.epochs.specs.declared.entry.Stage.TheVariants.{Unstamped, Stamped, Passed}
+use Rattle.epochs.specs.Limbo.{compared_with, stamped_by}
+use Rattle.epochs.specs.Reclamation.{has_passed, may_be_freed}
+use Rattle.sweep.specs.Kept.{Agrees, HavePassed, WasRead}
+use Rattle.sweep.specs.Sweeps.{HaveTold, Told, other_at}
+use Rattle.sweep.proofs.Stages.{after, one_of, or_true}
+
+read_before : (last : Option ℕ) (t epoch : ℕ) → IfSome last (λ before. before ≤ t) → WasRead last epoch → epoch ≤ t
+read_before None t epoch later was = absurd was
+read_before (Some before) t epoch later was = omega (arith, later, was)
+
+-- the epoch was read, and is the stamp of what has none
+pub stamped_agrees : (limits : Limits) (actor t : ℕ) (last : Option ℕ) (stage : Option Stage) (limbo : known.Limbo) → IfSome last (λ before. before ≤ t) → Agrees limits actor last stage limbo → Agrees limits actor (Some t) (after (stamped_by t) stage) (stamped t limbo)
+stamped_agrees limits actor t last None known.Absent later h = tt
+stamped_agrees limits actor t last None known.Unstamped later h = absurd h
+stamped_agrees limits actor t last None (known.Stamped epoch passed) later h = absurd h
+stamped_agrees limits actor t last (Some Unstamped) known.Absent later h = absurd h
+stamped_agrees limits actor t last (Some Unstamped) known.Unstamped later h = (omega arith, omega arith)
+stamped_agrees limits actor t last (Some Unstamped) (known.Stamped epoch passed) later h = (read_before last t epoch later h, read_before last t epoch later h)
+stamped_agrees limits actor t last (Some (Stamped stamp)) known.Absent later h = absurd h
+stamped_agrees limits actor t last (Some (Stamped stamp)) known.Unstamped later h = absurd h
+stamped_agrees limits actor t last (Some (Stamped stamp)) (known.Stamped epoch passed) later h = (read_before last t epoch later h.0, h.1)
+stamped_agrees limits actor t last (Some (Passed stamp)) known.Absent later h = absurd h
+stamped_agrees limits actor t last (Some (Passed stamp)) known.Unstamped later h = absurd h
+stamped_agrees limits actor t last (Some (Passed stamp)) (known.Stamped epoch passed) later h = (read_before last t epoch later h.0, h.1, h.2)
+
+-- the epoch was read outside of a sweep
+pub read_agrees : (limits : Limits) (actor t : ℕ) (last : Option ℕ) (stage : Option Stage) (limbo : known.Limbo) → IfSome last (λ before. before ≤ t) → Agrees limits actor last stage limbo → Agrees limits actor (Some t) stage (stamped t limbo)
+read_agrees limits actor t last None known.Absent later h = tt
+read_agrees limits actor t last None known.Unstamped later h = absurd h
+read_agrees limits actor t last None (known.Stamped epoch passed) later h = absurd h
+read_agrees limits actor t last (Some Unstamped) known.Absent later h = absurd h
+read_agrees limits actor t last (Some Unstamped) known.Unstamped later h = omega arith
+read_agrees limits actor t last (Some Unstamped) (known.Stamped epoch passed) later h = read_before last t epoch later h
+read_agrees limits actor t last (Some (Stamped stamp)) known.Absent later h = absurd h
+read_agrees limits actor t last (Some (Stamped stamp)) known.Unstamped later h = absurd h
+read_agrees limits actor t last (Some (Stamped stamp)) (known.Stamped epoch passed) later h = (read_before last t epoch later h.0, h.1)
+read_agrees limits actor t last (Some (Passed stamp)) known.Absent later h = absurd h
+read_agrees limits actor t last (Some (Passed stamp)) known.Unstamped later h = absurd h
+read_agrees limits actor t last (Some (Passed stamp)) (known.Stamped epoch passed) later h = (read_before last t epoch later h.0, h.1, h.2)
+
+-- nobody is known to have announced anything, and all is stamped
+pub stamped_told : (actor t : ℕ) (stage : Option Stage) (limbo : known.Limbo) → Told actor [] (after (stamped_by t) stage) limbo
+stamped_told actor t None limbo = tt
+stamped_told actor t (Some Unstamped) known.Absent = tt
+stamped_told actor t (Some Unstamped) known.Unstamped = tt
+stamped_told actor t (Some Unstamped) (known.Stamped epoch passed) = λ place lt. absurd (omega (arith, lt))
+stamped_told actor t (Some (Stamped stamp)) known.Absent = tt
+stamped_told actor t (Some (Stamped stamp)) known.Unstamped = tt
+stamped_told actor t (Some (Stamped stamp)) (known.Stamped epoch passed) = λ place lt. absurd (omega (arith, lt))
+stamped_told actor t (Some (Passed stamp)) known.Absent = tt
+stamped_told actor t (Some (Passed stamp)) known.Unstamped = tt
+stamped_told actor t (Some (Passed stamp)) (known.Stamped epoch passed) = λ place lt. absurd (omega (arith, lt))
+
+-- ---- an announced epoch was read
+-- those that are known to have passed, then
+abbrev passed_then : ℕ → ℕ → ℕ → (ℕ → Bool) → ℕ → Bool
+passed_then other n epoch passed = if (n == 0) || ltb epoch n then replaced_at other true passed else passed
+
+still_passed : (other n epoch : ℕ) (passed : ℕ → Bool) (a : ℕ) → IsTrue (passed a) → IsTrue (passed_then other n epoch passed a)
+still_passed other n epoch passed a h = elim ((n == 0) || ltb epoch n) as (λ b. IsTrue ((if b then replaced_at other true passed else passed) a)) [
+  | false ↦ h
+  | true ↦ elim (a == other) as (λ b. IsTrue (if b then true else passed a)) [
+    | true ↦ refl
+    | false ↦ h
+  ]
+]
+
+now_passed : (other n epoch : ℕ) (passed : ℕ → Bool) → IsTrue (has_passed epoch n) → IsTrue (passed_then other n epoch passed other)
+now_passed other n epoch passed h = rw (h, eq-eqb other other refl) refl
+
+passes_below : (epoch stamp n : ℕ) → epoch ≤ stamp → IsTrue (has_passed stamp n) → IsTrue (has_passed epoch n)
+passes_below epoch stamp n low h = elim (one_of (n == 0) (ltb stamp n) h) [
+  | inl none ↦ rw none refl
+  | inr above ↦ or_true (n == 0) (ltb epoch n) (lt-ltb epoch n (let far = ltb-true stamp n above in omega (arith, low, far)))
+]
+
+pub announced_agrees : (limits : Limits) (actor other n : ℕ) (last : Option ℕ) (stage : Option Stage) (limbo : known.Limbo) → Agrees limits actor last stage limbo → Agrees limits actor last stage (passed_by other n limbo)
+announced_agrees limits actor other n last None known.Absent h = tt
+announced_agrees limits actor other n last None known.Unstamped h = absurd h
+announced_agrees limits actor other n last None (known.Stamped epoch passed) h = absurd h
+announced_agrees limits actor other n last (Some Unstamped) known.Absent h = absurd h
+announced_agrees limits actor other n last (Some Unstamped) known.Unstamped h = tt
+announced_agrees limits actor other n last (Some Unstamped) (known.Stamped epoch passed) h = h
+announced_agrees limits actor other n last (Some (Stamped stamp)) known.Absent h = absurd h
+announced_agrees limits actor other n last (Some (Stamped stamp)) known.Unstamped h = absurd h
+announced_agrees limits actor other n last (Some (Stamped stamp)) (known.Stamped epoch passed) h = h
+announced_agrees limits actor other n last (Some (Passed stamp)) known.Absent h = absurd h
+announced_agrees limits actor other n last (Some (Passed stamp)) known.Unstamped h = absurd h
+announced_agrees limits actor other n last (Some (Passed stamp)) (known.Stamped epoch passed) h = (h.0, h.1, λ a below apart. still_passed other n epoch passed a (h.2 a below apart))
+
+more_told : (actor n : ℕ) (announces : List ℕ) (stamp epoch : ℕ) (passed : ℕ → Bool) → epoch ≤ stamp → HaveTold actor announces stamp passed → HaveTold actor (announces ++ n ∷ []) stamp (passed_then (other_at actor (length announces)) n epoch passed)
+more_told actor n announces stamp epoch passed low h place lt has = elim (cases_lt place (length announces)) [
+  | inl before ↦ still_passed (other_at actor (length announces)) n epoch passed (other_at actor place) (h place before (rw (get_or_append_left announces (n ∷ []) 0 place before) at has))
+  | inr after ↦
+      let last : place ≡ length announces = omega (arith, after, lt, length-append announces (n ∷ [])) in
+      let heard : IsTrue (has_passed stamp n) = rw (last, get_or-append_seam announces n [] 0) at has in
+      rw last (now_passed (other_at actor (length announces)) n epoch passed (passes_below epoch stamp n low heard))
+]
+
+pub announced_told : (limits : Limits) (actor n : ℕ) (announces : List ℕ) (last : Option ℕ) (stage : Option Stage) (limbo : known.Limbo) → Agrees limits actor last stage limbo → Told actor announces stage limbo → Told actor (announces ++ n ∷ []) stage (passed_by (other_at actor (length announces)) n limbo)
+announced_told limits actor n announces last None limbo h told = tt
+announced_told limits actor n announces last (Some Unstamped) limbo h told = absurd told
+announced_told limits actor n announces last (Some (Stamped stamp)) known.Absent h told = tt
+announced_told limits actor n announces last (Some (Stamped stamp)) known.Unstamped h told = tt
+announced_told limits actor n announces last (Some (Stamped stamp)) (known.Stamped epoch passed) h told = more_told actor n announces stamp epoch passed h.1 told
+announced_told limits actor n announces last (Some (Passed stamp)) known.Absent h told = tt
+announced_told limits actor n announces last (Some (Passed stamp)) known.Unstamped h told = tt
+announced_told limits actor n announces last (Some (Passed stamp)) (known.Stamped epoch passed) h told = more_told actor n announces stamp epoch passed h.1 told
+
+-- ---- all other actors have been read
+-- each other actor has a place
+place_of : (limits : Limits) (actor other : ℕ) → actor < limits.actors → other < limits.actors → other ≢ actor → (place : ℕ) × (suc place < limits.actors) × (other_at actor place ≡ other)
+place_of limits actor other inside below apart = elim (cases_lt other actor) [
+  | inl before ↦ (other, omega (arith, before, inside), rw (lt-ltb other actor before) refl)
+  | inr after ↦ beyond other below apart after
+]
+  where
+    beyond : (other : ℕ) → other < limits.actors → other ≢ actor → actor ≤ other → (place : ℕ) × (suc place < limits.actors) × (other_at actor place ≡ other)
+    beyond zero below apart after = absurd (apart (omega (arith, after)))
+    beyond (suc place) below apart after = (place, below, (elim (cases_Bool (ltb place actor)) [
+      | inl lt ↦ absurd (apart (let under = ltb-true place actor lt in omega (arith, under, after)))
+      | inr ge ↦ rw ge refl
+    ]))
+
+all_passed : (limits : Limits) (actor stamp : ℕ) (announces : List ℕ) (passed : ℕ → Bool) → actor < limits.actors → limits.actors ≤ suc (length announces) → may_be_freed stamp announces ≡ true → HaveTold actor announces stamp passed → HavePassed limits actor passed
+all_passed limits actor stamp announces passed inside all free told other below apart =
+    let at = place_of limits actor other inside below apart in
+    let lt : at.0 < length announces = (let small = at.1 in omega (arith, small, all)) in
+    rw at.2 at (told at.0 lt (AllPass-from_list_all (has_passed stamp) announces free at.0 0 lt))
+
+freed_agrees : (limits : Limits) (actor : ℕ) (last : Option ℕ) (announces : List ℕ) (stamp epoch : ℕ) (passed : ℕ → Bool) → actor < limits.actors → limits.actors ≤ suc (length announces) → WasRead last epoch → epoch ≤ stamp → HaveTold actor announces stamp passed
+    → Agrees limits actor last (Some (if may_be_freed stamp announces then Passed stamp else Stamped stamp)) (known.Stamped epoch passed)
+freed_agrees limits actor last announces stamp epoch passed inside all was low told = elim (may_be_freed stamp announces) as (λ b. may_be_freed stamp announces ≡ b → Agrees limits actor last (Some (if b then Passed stamp else Stamped stamp)) (known.Stamped epoch passed)) [
+  | true ↦ λ e. (was, low, all_passed limits actor stamp announces passed inside all e told)
+  | false ↦ λ e. (was, low)
+] refl
+
+pub compared_agrees : (limits : Limits) (actor : ℕ) (last : Option ℕ) (announces : List ℕ) (stage : Option Stage) (limbo : known.Limbo) → actor < limits.actors → limits.actors ≤ suc (length announces) → Agrees limits actor last stage limbo → Told actor announces stage limbo → Agrees limits actor last (after (compared_with announces) stage) limbo
+compared_agrees limits actor last announces None limbo inside all h told = h
+compared_agrees limits actor last announces (Some Unstamped) limbo inside all h told = h
+compared_agrees limits actor last announces (Some (Stamped stamp)) known.Absent inside all h told = absurd h
+compared_agrees limits actor last announces (Some (Stamped stamp)) known.Unstamped inside all h told = absurd h
+compared_agrees limits actor last announces (Some (Stamped stamp)) (known.Stamped epoch passed) inside all h told = freed_agrees limits actor last announces stamp epoch passed inside all h.0 h.1 told
+compared_agrees limits actor last announces (Some (Passed stamp)) known.Absent inside all h told = absurd h
+compared_agrees limits actor last announces (Some (Passed stamp)) known.Unstamped inside all h told = absurd h
+compared_agrees limits actor last announces (Some (Passed stamp)) (known.Stamped epoch passed) inside all h told = freed_agrees limits actor last announces stamp epoch passed inside all h.0 h.1 told
+
+-- what may be freed each other actor has passed
+pub may_free : (limits : Limits) (actor stamp : ℕ) (last : Option ℕ) (limbo : known.Limbo) → Agrees limits actor last (Some (Passed stamp)) limbo → IsPassed limits actor limbo
+may_free limits actor stamp last known.Absent h = absurd h
+may_free limits actor stamp last known.Unstamped h = absurd h
+may_free limits actor stamp last (known.Stamped epoch passed) h = record { epoch = epoch; passed = passed; stamped = refl; all = h.2 }

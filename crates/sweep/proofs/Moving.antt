@@ -1,0 +1,182 @@
+-- What an answer leaves a sweep in: what is known then.
+use Rattle.std.proofs.Common.{◌≡◌, ◌≢◌, ◌<◌, ◌≤◌, ◌/◌, ◌^◌, ◌++◌, inl, inr, ◌⊎◌, ℕ, suc, List, [], ◌∷◌, length, eqb, Option, Some, None, Bool, true, false, refl, sym, ap, ◌∙◌, arith, IsTrue, IsFalse}
+use Rattle.std.specs.Prelude.{◌&&◌, if◌then◌else◌, IfSome}
+use Rattle.std.proofs.lemmas.Bool.{cases_Bool, cases_lt}
+use Rattle.bw_model.specs.declared.limits.Limits.{Limits}
+use Rattle.bw_model.specs.declared.step.Answer.{Answer}
+use Rattle.bw_model.specs.declared.step.Answer.TheVariants as answer
+use Rattle.bw_model.specs.declared.step.Step.TheVariants as step
+use Rattle.deltas.specs.declared.record.Record.{Record}
+use Rattle.chain_search.specs.Discipline.{IsPassed, MayFree}
+use Rattle.chain_search.specs.Fitting.{Fits}
+use Rattle.chain_search.specs.Knowledge as known
+use Rattle.chain_search.specs.Knowledge.{Knowledge, Limbos, freed, learn}
+use Rattle.chain_search.specs.Steps.{is_among}
+use Rattle.epochs.specs.declared.entry.Entry.{Entry}
+use Rattle.epochs.specs.declared.entry.Stage.{Stage}
+use Rattle.epochs.specs.declared.item.Reuse.{Reuse}
+use Rattle.epochs.specs.declared.item.Reuse.TheVariants.{Rows, Pids}
+use Rattle.epochs.specs.Limbo.{Limbo, LimboList, all_restaged, compared_with, stage_in, stage_of, stamped_by}
+use Rattle.epochs.specs.Words.{HandsNothingOn, HandsOn, IsHandedOn, may_go, without}
+use Rattle.sweep.specs.declared.sweep.State.{State}
+use Rattle.sweep.specs.declared.sweep.State.TheVariants as state
+use Rattle.sweep.specs.Kept.{Agrees, AreKept, IsLimboOf}
+use Rattle.sweep.specs.Moves.{Compares, Frees, Moves, Stamps, state_if}
+use Rattle.sweep.specs.Sweeps.{AreTold, Follows, IsSame, Rests, Shows, ShowsState, ShowsThen, Sweep, other_at, step_of, wanted, wanted_at}
+use Rattle.sweep.proofs.Agreeing.{announced_agrees, announced_told, compared_agrees, may_free, stamped_agrees, stamped_told}
+use Rattle.sweep.proofs.Stages.{kept_stage, no_stage, passed_stage, restaged_stage, both_of}
+
+-- what is shown by what follows, if anything does
+abbrev pub ShowsNext : Limits → ℕ → Option State → Limbo → Knowledge → Type 0
+ShowsNext limits actor None limbo k = AreKept limits actor limbo k.limbo
+ShowsNext limits actor (Some next) limbo k = ShowsState limits actor next limbo k
+
+-- ---- one list
+module _ (limits : Limits) (actor : ℕ) (last : Option ℕ) (list : LimboList) (knows : ℕ → known.Limbo) (agree : (n : ℕ) → Agrees limits actor last (stage_of list n) (knows n)) where
+  -- what one reuse frees may be freed
+  pub hands_passed : (word bits : ℕ) (now : LimboList) → HandsOn list word bits now → (n : ℕ) → is_among word bits n ≡ true → IsPassed limits actor (knows n)
+  hands_passed word bits now hands n among =
+      let may = both_of (eqb (n / 64) word) (may_go list.entries n) (sym (hands.exact n) ∙ among) in
+      let stage = passed_stage list.entries word n (rw hands.rest at (hands.gone n among)) may.1 in
+      may_free limits actor stage.0 last (knows n) (rw stage.1 at (agree n))
+
+  -- and the rest agrees once it is freed
+  pub hands_agree : (word bits : ℕ) (now : LimboList) → HandsOn list word bits now → (n : ℕ) → Agrees limits actor last (stage_of now n) (freed word bits knows n)
+  hands_agree word bits now hands n = elim (is_among word bits n) as (λ b. is_among word bits n ≡ b → Agrees limits actor last (stage_of now n) (if b then known.Absent else knows n)) [
+    | true ↦ λ among. rw (hands.rest, no_stage (without word list.entries) n (rw hands.rest at (hands.gone n among))) tt
+    | false ↦ λ among. rw (hands.rest, kept_stage list.entries word n (sym (hands.exact n) ∙ among)) (agree n)
+  ] refl
+
+  pub same_agree : (now : LimboList) → now ≡ list → (n : ℕ) → Agrees limits actor last (stage_of now n) (knows n)
+  same_agree now same n = rw same (agree n)
+
+module _ (limits : Limits) (actor : ℕ) where
+  hands_lists : (limbo now : Limbo) → IsLimboOf limits limbo → now.rows.limit ≡ limbo.rows.limit → now.pids.limit ≡ limbo.pids.limit → IsLimboOf limits now
+  hands_lists limbo now lists rows pids = record { rows = rows ∙ lists.rows; pids = pids ∙ lists.pids }
+
+  limit_of : (a b : LimboList) → a ≡ b → a.limit ≡ b.limit
+  limit_of a b e = ap (λ (list : LimboList). list.limit) e
+
+  pub frees_shows : (k : Knowledge) (limbo after : Limbo) (next : Option State) → AreKept limits actor limbo k.limbo → Frees limbo next after → ShowsNext limits actor next after k
+  frees_shows k limbo after None kept frees = record {
+    lists = hands_lists limbo after kept.lists (limit_of after.rows limbo.rows frees.0.rest) (limit_of after.pids limbo.pids frees.1.rest);
+    rows = same_agree limits actor k.limbo.epoch limbo.rows k.limbo.rows kept.rows after.rows frees.0.rest;
+    pids = same_agree limits actor k.limbo.epoch limbo.pids k.limbo.pids kept.pids after.pids frees.1.rest;
+  }
+  frees_shows k limbo after (Some (state.Reuse (Rows word bits))) kept frees = (
+    hands_passed limits actor k.limbo.epoch limbo.rows k.limbo.rows kept.rows word bits after.rows frees.0,
+    record {
+      lists = hands_lists limbo after kept.lists (ap (λ (list : LimboList). list.limit) frees.0.rest) (limit_of after.pids limbo.pids frees.1);
+      rows = hands_agree limits actor k.limbo.epoch limbo.rows k.limbo.rows kept.rows word bits after.rows frees.0;
+      pids = same_agree limits actor k.limbo.epoch limbo.pids k.limbo.pids kept.pids after.pids frees.1;
+    },
+  )
+  frees_shows k limbo after (Some (state.Reuse (Pids word bits))) kept frees = (
+    hands_passed limits actor k.limbo.epoch limbo.pids k.limbo.pids kept.pids word bits after.pids frees.1,
+    record {
+      lists = hands_lists limbo after kept.lists (limit_of after.rows limbo.rows frees.0.rest) (ap (λ (list : LimboList). list.limit) frees.1.rest);
+      rows = same_agree limits actor k.limbo.epoch limbo.rows k.limbo.rows kept.rows after.rows frees.0.rest;
+      pids = hands_agree limits actor k.limbo.epoch limbo.pids k.limbo.pids kept.pids word bits after.pids frees.1;
+    },
+  )
+  frees_shows k limbo after (Some state.Epoch) kept frees = absurd frees
+  frees_shows k limbo after (Some (state.Retire epoch)) kept frees = absurd frees
+  frees_shows k limbo after (Some (state.Announce announces)) kept frees = absurd frees
+
+  compared_kept : (announces : List ℕ) (limbo : Limbo) (now : Limbos) → actor < limits.actors → limits.actors ≤ suc (length announces) → AreKept limits actor limbo now → AreTold actor announces limbo now → AreKept limits actor (all_restaged (compared_with announces) limbo) now
+  compared_kept announces limbo now inside all kept told = record {
+    lists = record { rows = kept.lists.rows; pids = kept.lists.pids };
+    rows = λ row. rw (restaged_stage (compared_with announces) limbo.rows.entries row) (compared_agrees limits actor now.epoch announces (stage_of limbo.rows row) (now.rows row) inside all (kept.rows row) (told.rows row));
+    pids = λ pid. rw (restaged_stage (compared_with announces) limbo.pids.entries pid) (compared_agrees limits actor now.epoch announces (stage_of limbo.pids pid) (now.pids pid) inside all (kept.pids pid) (told.pids pid));
+  }
+
+  pub compares_shows : (k : Knowledge) (announces : List ℕ) (limbo after : Limbo) (next : Option State) → actor < limits.actors → AreKept limits actor limbo k.limbo → AreTold actor announces limbo k.limbo → Compares limits announces limbo next after → ShowsNext limits actor next after k
+  compares_shows k announces limbo after next inside kept told compares = elim (cases_lt (suc (length announces)) limits.actors) [
+    | inl more ↦ let is = compares.reads more in rw (is.0, is.1) (kept, told)
+    | inr all ↦ frees_shows k (all_restaged (compared_with announces) limbo) after next (compared_kept announces limbo k.limbo inside all kept told) (compares.frees all)
+  ]
+
+  -- ---- the epoch was read
+  stamped_kept : (k : Knowledge) (epoch : ℕ) (limbo : Limbo) → IfSome k.limbo.epoch (λ before. before ≤ epoch) → AreKept limits actor limbo k.limbo → AreKept limits actor (all_restaged (stamped_by epoch) limbo) (learn k step.Epoch (answer.Number epoch)).limbo
+  stamped_kept k epoch limbo later kept = record {
+    lists = record { rows = kept.lists.rows; pids = kept.lists.pids };
+    rows = λ row. rw (restaged_stage (stamped_by epoch) limbo.rows.entries row) (stamped_agrees limits actor epoch k.limbo.epoch (stage_of limbo.rows row) (k.limbo.rows row) later (kept.rows row));
+    pids = λ pid. rw (restaged_stage (stamped_by epoch) limbo.pids.entries pid) (stamped_agrees limits actor epoch k.limbo.epoch (stage_of limbo.pids pid) (k.limbo.pids pid) later (kept.pids pid));
+  }
+
+  all_stamped : (now : Limbos) (epoch : ℕ) (limbo : Limbo) → AreTold actor [] (all_restaged (stamped_by epoch) limbo) now
+  all_stamped now epoch limbo = record {
+    rows = λ row. rw (restaged_stage (stamped_by epoch) limbo.rows.entries row) (stamped_told actor epoch (stage_of limbo.rows row) (now.rows row));
+    pids = λ pid. rw (restaged_stage (stamped_by epoch) limbo.pids.entries pid) (stamped_told actor epoch (stage_of limbo.pids pid) (now.pids pid));
+  }
+
+  stamps_shows : (k : Knowledge) (epoch : ℕ) (limbo after : Limbo) (next : Option State) → actor < limits.actors → IfSome k.limbo.epoch (λ before. before ≤ epoch) → AreKept limits actor limbo k.limbo → Stamps limits epoch limbo next after → ShowsNext limits actor next after (learn k step.Epoch (answer.Number epoch))
+  stamps_shows k epoch limbo after next inside later kept stamps =
+      let now : Knowledge = learn k step.Epoch (answer.Number epoch) in
+      let kept_now = stamped_kept k epoch limbo later kept in
+      let told_now = all_stamped now.limbo epoch limbo in
+      elim (cases_lt epoch (2 ^ 62)) [
+        | inl below ↦ let is = stamps.retires below in rw (is.0, is.1) (kept_now, told_now)
+        | inr last ↦ compares_shows now [] (all_restaged (stamped_by epoch) limbo) after next inside kept_now told_now (stamps.last last)
+      ]
+
+  -- ---- an announced epoch was read
+  announced_kept : (k : Knowledge) (announces : List ℕ) (n : ℕ) (limbo : Limbo) → AreKept limits actor limbo k.limbo → AreTold actor announces limbo k.limbo
+      → AreKept limits actor limbo (learn k (step.Announce (other_at actor (length announces))) (answer.Number n)).limbo × AreTold actor (announces ++ n ∷ []) limbo (learn k (step.Announce (other_at actor (length announces))) (answer.Number n)).limbo
+  announced_kept k announces n limbo kept told = (
+    record {
+      lists = kept.lists;
+      rows = λ row. announced_agrees limits actor (other_at actor (length announces)) n k.limbo.epoch (stage_of limbo.rows row) (k.limbo.rows row) (kept.rows row);
+      pids = λ pid. announced_agrees limits actor (other_at actor (length announces)) n k.limbo.epoch (stage_of limbo.pids pid) (k.limbo.pids pid) (kept.pids pid);
+    },
+    record {
+      rows = λ row. announced_told limits actor n announces k.limbo.epoch (stage_of limbo.rows row) (k.limbo.rows row) (kept.rows row) (told.rows row);
+      pids = λ pid. announced_told limits actor n announces k.limbo.epoch (stage_of limbo.pids pid) (k.limbo.pids pid) (kept.pids pid) (told.pids pid);
+    },
+  )
+
+  -- ---- any answer
+  pub moves_show : (k : Knowledge) (old : State) (told : Answer Record) (limbo after : Limbo) (next : Option State) → actor < limits.actors → Fits limits k (wanted_at actor old) told → ShowsState limits actor old limbo k → Moves limits old limbo told next after
+      → ShowsNext limits actor next after (learn k (wanted_at actor old) told)
+  moves_show k state.Epoch (answer.Number n) limbo after next inside fits shows moves = stamps_shows k n limbo after next inside fits.2 shows moves
+  moves_show k state.Epoch answer.Start limbo after next inside fits shows moves = absurd fits
+  moves_show k state.Epoch (answer.Content content) limbo after next inside fits shows moves = absurd fits
+  moves_show k state.Epoch (answer.Whether b) limbo after next inside fits shows moves = absurd fits
+  moves_show k state.Epoch answer.Done limbo after next inside fits shows moves = absurd fits
+  moves_show k (state.Retire epoch) told limbo after next inside fits shows moves = compares_shows k [] limbo after next inside shows.0 shows.1 moves
+  moves_show k (state.Announce announces) (answer.Number n) limbo after next inside fits shows moves =
+      let now = announced_kept k announces n limbo shows.0 shows.1 in
+      compares_shows (learn k (step.Announce (other_at actor (length announces))) (answer.Number n)) (announces ++ n ∷ []) limbo after next inside now.0 now.1 moves
+  moves_show k (state.Announce announces) answer.Start limbo after next inside fits shows moves = absurd fits
+  moves_show k (state.Announce announces) (answer.Content content) limbo after next inside fits shows moves = absurd fits
+  moves_show k (state.Announce announces) (answer.Whether b) limbo after next inside fits shows moves = absurd fits
+  moves_show k (state.Announce announces) answer.Done limbo after next inside fits shows moves = absurd fits
+  moves_show k (state.Reuse (Rows word bits)) told limbo after next inside fits shows moves = frees_shows (learn k (step.ReuseRows word bits) told) limbo after next shows.1 moves
+  moves_show k (state.Reuse (Pids word bits)) told limbo after next inside fits shows moves = frees_shows (learn k (step.ReusePids word bits) told) limbo after next shows.1 moves
+
+  -- nothing but the limbo is learnt
+  pub only_limbo : (k : Knowledge) (old : State) (told : Answer Record) → Fits limits k (wanted_at actor old) told → learn k (wanted_at actor old) told ≡ record k { limbo = (learn k (wanted_at actor old) told).limbo }
+  only_limbo k state.Epoch (answer.Number n) fits = refl
+  only_limbo k state.Epoch answer.Start fits = absurd fits
+  only_limbo k state.Epoch (answer.Content content) fits = absurd fits
+  only_limbo k state.Epoch (answer.Whether b) fits = absurd fits
+  only_limbo k state.Epoch answer.Done fits = absurd fits
+  only_limbo k (state.Retire epoch) told fits = refl
+  only_limbo k (state.Announce announces) (answer.Number n) fits = refl
+  only_limbo k (state.Announce announces) answer.Start fits = absurd fits
+  only_limbo k (state.Announce announces) (answer.Content content) fits = absurd fits
+  only_limbo k (state.Announce announces) (answer.Whether b) fits = absurd fits
+  only_limbo k (state.Announce announces) answer.Done fits = absurd fits
+  only_limbo k (state.Reuse (Rows word bits)) told fits = refl
+  only_limbo k (state.Reuse (Pids word bits)) told fits = refl
+
+shown_then : (goes : Bool) (limits : Limits) (actor : ℕ) (next : State) (limbo : Limbo) (k : Knowledge) → IsFalse k.inside → ShowsNext limits actor (state_if goes next) limbo k → ShowsThen goes (record { limits = limits; actor = actor; state = next }) limbo k
+shown_then true limits actor next limbo k outside h = record { outside = outside; stands = h }
+shown_then false limits actor next limbo k outside h = record { outside = outside; kept = h }
+
+pub follows : (old new : Sweep) (limbo after : Limbo) (told : Answer Record) (goes : Bool) → old.actor < old.limits.actors → IsSame old new → Moves old.limits old.state limbo told (state_if goes new.state) after
+    → (k : Knowledge) → Shows old limbo k → Fits old.limits k (wanted old) told → Follows k (learn k (wanted old) told) new after goes
+follows old new limbo after told goes inside same moves k shows fits = record {
+  only = only_limbo old.limits old.actor k old.state told fits;
+  shows = rw (same.limits, same.actor) (shown_then goes old.limits old.actor new.state after (learn k (wanted old) told) (let only = only_limbo old.limits old.actor k old.state told fits in ap (λ (k : Knowledge). k.inside) only ∙ shows.outside) (moves_show old.limits old.actor k old.state told limbo after (state_if goes new.state) inside fits shows.stands moves));
+}

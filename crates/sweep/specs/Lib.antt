@@ -1,0 +1,5 @@
+pub mod Kept
+pub mod Sweeps
+pub mod Moves
+pub mod Bounded
+pub mod Taken

@@ -1,0 +1,15 @@
+//! The sweep of an actor's limbo: the steps by which what it took out of the tree is freed.
+//!
+//! A writer begins with a sweep, while it is outside of the epochs. It reads the epoch for what has no stamp yet, and retires it;
+//! it reads what each other actor has announced; and it frees, word by word, what all of them have passed. What is in limbo is
+//! the business of `epochs`; here are the steps, and their place in the discipline of actors.
+#![tactic(auto)]
+
+mod announces;
+mod sweep;
+mod taking_out;
+#[cfg(test)]
+mod tests;
+
+pub use sweep::Sweep;
+pub use taking_out::take_out;

@@ -1,0 +1,182 @@
+//! The sweep of an actor's limbo, one step at a time.
+ghost use Rattle.std.specs.Prelude.{◌≡◌, ◌<◌, ◌≤◌, ◌+◌, ◌∷◌, [], ◌↔◌, ℕ, length, IsFalse, IsNone, IsTrue, None, Some, MatchOption, IfSome};
+ghost use Rattle.chain_search.specs.Discipline.{May, MayFree};
+ghost use Rattle.chain_search.specs.Fitting.{Fits};
+ghost use Rattle.chain_search.specs.Knowledge.{Knowledge, learn};
+ghost use Rattle.chain_search.specs.Useful.{IsUseful};
+ghost use Rattle.epochs.specs.Limbo.{all_restaged, stamped_by};
+ghost use Rattle.chain_search.specs.Within.{IsWithin};
+ghost use Rattle.sweep.specs.Bounded.{Spends, steps_left};
+ghost use Rattle.sweep.specs.Kept.{AreKept, IsLimboOf};
+ghost use Rattle.sweep.specs.Moves.{Begins, Compares, Frees, IsEmpty, Moves, Stamps, state_if};
+ghost use Rattle.sweep.specs.Sweeps.{Follows, IsSame, IsSoundSweep, IsSoundState, IsTold, Rests, Shows, other_at, step_of, wanted};
+
+use crate::announces::Announces;
+use bw_model::{Answer, Limits, Step};
+use deltas::Record;
+use epochs::{Limbo, Reuse};
+use std::alloc::Allocator;
+use std::marker::Model;
+use std::mem;
+
+/// Where a sweep stands: each state is named by the step that it has asked for.
+#[derive(Debug, Drop)]
+pub(crate) enum State {
+    Epoch,
+    Retire { epoch: u64 },
+    /// The next of the other actors is read, after these.
+    Announce { announces: Announces },
+    Reuse { reuse: Reuse },
+}
+
+/// The sweep of an actor's limbo that is under way. It takes at most 337 steps.
+#[derive(Debug, Drop)]
+pub struct Sweep {
+    limits: Limits,
+    actor: u8,
+    state: State,
+}
+
+impl Model for Sweep {
+    ghost use Rattle.sweep.specs.Sweeps.{Sweep};
+
+    ghost Value = { Sweep };
+
+    ghost view = { λ s. record { limits = s.limits; actor = s.actor; state = s.state } };
+}
+
+impl Sweep {
+    /// The sweep of what is in limbo, if there is anything. Where all of it has stamps, no epoch is read.
+    pub fn begin<A: Allocator>(limits: &Limits, actor: u8, limbo: &mut Limbo<A>) -> Option<Sweep>
+        requires actor { actor < limits.now.actors }
+        requires lists { IsLimboOf limits.now limbo.old }
+        ensures begins { MatchOption result (Begins limits.now limbo.old None limbo.new) (λ sweep. Begins limits.now limbo.old (Some sweep.state) limbo.new) }
+        ensures none { IsNone result ↔ IsEmpty limbo.old }
+        ensures limits { IfSome result (λ sweep. (sweep.limits ≡ limits.now) × (sweep.actor ≡ actor)) }
+        ensures sound { IfSome result (λ sweep. IsSoundSweep sweep limbo.new) }
+        ensures lists { IsLimboOf limits.now limbo.new }
+        ensures shows { (k : Knowledge) → Rests limits.now actor limbo.old k → MatchOption result (Rests limits.now actor limbo.new k) (λ sweep. Shows sweep limbo.new k) }
+        ensures few { IfSome result (λ sweep. steps_left sweep.state ≤ 337) }
+    {
+        limbo.has_each_once();
+        let state = first(limits, limbo)?;
+        Some(Sweep {
+            limits: *limits,
+            actor,
+            state,
+        })
+    }
+
+    /// The step that the sweep wants next.
+    pub fn step<A: Allocator>(&self, limbo: &Limbo<A>) -> Step<Record>
+        requires sound { IsSoundSweep self.now limbo.now }
+        ensures wanted { result ≡ wanted self.now }
+        ensures within { IsWithin self.now.limits result }
+        ensures may { (k : Knowledge) → Shows self.now limbo.now k → May self.now.actor k result }
+        ensures frees { (k : Knowledge) → Shows self.now limbo.now k → MayFree self.now.limits self.now.actor k result }
+        ensures useful { (k : Knowledge) → IsUseful k result }
+    {
+        let _ = limbo;
+        match &self.state {
+            State::Epoch => Step::Epoch,
+            State::Retire { epoch } => Step::Retire(*epoch),
+            State::Announce { announces } => Step::Announce(self.other_at(announces.len())),
+            State::Reuse { reuse } => match *reuse {
+                Reuse::Rows(word, bits) => Step::ReuseRows(word, bits),
+                Reuse::Pids(word, bits) => Step::ReusePids(word, bits),
+            },
+        }
+    }
+
+    /// Takes the answer to the step wanted last, and tells whether the sweep goes on.
+    pub fn next<A: Allocator>(&mut self, limbo: &mut Limbo<A>, answer: Answer<Record>) -> bool
+        requires sound { IsSoundSweep self.old limbo.old }
+        requires told { IsTold self.old answer }
+        ensures moves { Moves self.old.limits self.old.state limbo.old answer (state_if result self.new.state) limbo.new }
+        ensures same { IsSame self.old self.new }
+        ensures follows { (k : Knowledge) → Shows self.old limbo.old k → Fits self.old.limits k (wanted self.old) answer → Follows k (learn k (wanted self.old) answer) self.new limbo.new result }
+        ensures sound { IsTrue result → IsSoundSweep self.new limbo.new }
+        ensures lists { IsLimboOf self.old.limits limbo.new }
+        ensures spends { Spends result self.old.state self.new.state }
+    {
+        limbo.has_each_once();
+        match self.move_on(limbo, answer) {
+            Some(state) => {
+                self.state = state;
+                true
+            }
+            None => false,
+        }
+    }
+
+    /// The state that follows, if the sweep goes on.
+    fn move_on<A: Allocator>(&mut self, limbo: &mut Limbo<A>, answer: Answer<Record>) -> Option<State>
+        requires sound { IsSoundSweep self.old limbo.old }
+        requires told { IsTold self.old answer }
+        ensures moves { Moves self.old.limits self.old.state limbo.old answer result limbo.new }
+        ensures same { IsSame self.old self.new }
+    {
+        match mem::replace(&mut self.state, State::Epoch) {
+            State::Epoch => stamp(&self.limits, limbo, answer.into_number()),
+            State::Retire { .. } => compare(&self.limits, limbo, Announces::new()),
+            State::Announce { announces } => {
+                compare(&self.limits, limbo, announces.with(answer.into_number()))
+            }
+            State::Reuse { .. } => free(limbo),
+        }
+    }
+
+    /// The actor at this place among all others.
+    fn other_at(&self, place: usize) -> u8
+        requires { place < 15 }
+        ensures { result ≡ other_at self.now.actor place }
+    {
+        let place = place as u8;
+        if place < self.actor { place } else { place + 1 }
+    }
+}
+
+/// Where a sweep begins.
+fn first<A: Allocator>(limits: &Limits, limbo: &mut Limbo<A>) -> Option<State>
+    ensures { Begins limits.now limbo.old result limbo.new }
+{
+    if limbo.is_empty() {
+        return None;
+    }
+    if limbo.has_unstamped() {
+        return Some(State::Epoch);
+    }
+    compare(limits, limbo, Announces::new())
+}
+
+/// The epoch was read.
+fn stamp<A: Allocator>(limits: &Limits, limbo: &mut Limbo<A>, epoch: u64) -> Option<State>
+    ensures { Stamps limits.now epoch limbo.old result limbo.new }
+{
+    limbo.stamped(epoch);
+    if epoch < 1 << 62 {
+        return Some(State::Retire { epoch });
+    }
+    compare(limits, limbo, Announces::new())
+}
+
+/// Reads the next actor, or finds out what may be freed once all are read.
+fn compare<A: Allocator>(limits: &Limits, limbo: &mut Limbo<A>, announces: Announces) -> Option<State>
+    ensures { Compares limits.now announces limbo.old result limbo.new }
+{
+    if (announces.len() as u64) + 1 < limits.actors {
+        return Some(State::Announce { announces });
+    }
+    limbo.may_free(announces.as_slice());
+    free(limbo)
+}
+
+/// Frees the next word.
+fn free<A: Allocator>(limbo: &mut Limbo<A>) -> Option<State>
+    ensures { Frees limbo.old result limbo.new }
+{
+    match limbo.next_word() {
+        Some(reuse) => Some(State::Reuse { reuse }),
+        None => None,
+    }
+}
