@@ -1,3 +1,4 @@
 pub mod Stages
 pub mod Agreeing
 pub mod Moving
+pub mod Sound

@@ -1,6 +1,7 @@
 -- What an answer leaves a sweep in: what is known then.
 use Rattle.std.proofs.Common.{◌≡◌, ◌≢◌, ◌<◌, ◌≤◌, ◌/◌, ◌^◌, ◌++◌, inl, inr, ◌⊎◌, ℕ, suc, List, [], ◌∷◌, length, eqb, Option, Some, None, Bool, true, false, refl, sym, ap, ◌∙◌, arith, IsTrue, IsFalse}
-use Rattle.std.specs.Prelude.{◌&&◌, if◌then◌else◌, IfSome}
+use Rattle.std.specs.Prelude.{◌&&◌, ◌||◌, if◌then◌else◌, IfSome}
+use Rattle.std.specs.List.{list_any}
 use Rattle.std.proofs.lemmas.Bool.{cases_Bool, cases_lt}
 use Rattle.bw_model.specs.declared.limits.Limits.{Limits}
 use Rattle.bw_model.specs.declared.step.Answer.{Answer}
@@ -14,17 +15,18 @@ use Rattle.chain_search.specs.Knowledge.{Knowledge, Limbos, freed, learn}
 use Rattle.chain_search.specs.Steps.{is_among}
 use Rattle.epochs.specs.declared.entry.Entry.{Entry}
 use Rattle.epochs.specs.declared.entry.Stage.{Stage}
+use Rattle.epochs.specs.declared.entry.Stage.TheVariants.{Unstamped, Stamped, Passed}
 use Rattle.epochs.specs.declared.item.Reuse.{Reuse}
 use Rattle.epochs.specs.declared.item.Reuse.TheVariants.{Rows, Pids}
-use Rattle.epochs.specs.Limbo.{Limbo, LimboList, all_restaged, compared_with, stage_in, stage_of, stamped_by}
+use Rattle.epochs.specs.Limbo.{Limbo, LimboList, all_restaged, compared_with, is_unstamped, stage_in, stage_of, stamped_by}
 use Rattle.epochs.specs.Words.{HandsNothingOn, HandsOn, IsHandedOn, may_go, without}
 use Rattle.sweep.specs.declared.sweep.State.{State}
 use Rattle.sweep.specs.declared.sweep.State.TheVariants as state
 use Rattle.sweep.specs.Kept.{Agrees, AreKept, IsLimboOf}
-use Rattle.sweep.specs.Moves.{Compares, Frees, Moves, Stamps, state_if}
-use Rattle.sweep.specs.Sweeps.{AreTold, Follows, IsSame, Rests, Shows, ShowsState, ShowsThen, Sweep, other_at, step_of, wanted, wanted_at}
+use Rattle.sweep.specs.Moves.{Begins, Compares, Frees, IsEmpty, Moves, Stamps, has_unstamped, state_if}
+use Rattle.sweep.specs.Sweeps.{AreTold, Follows, IsSame, Rests, Shows, ShowsState, ShowsThen, Sweep, Told, other_at, step_of, wanted, wanted_at}
 use Rattle.sweep.proofs.Agreeing.{announced_agrees, announced_told, compared_agrees, may_free, stamped_agrees, stamped_told}
-use Rattle.sweep.proofs.Stages.{kept_stage, no_stage, passed_stage, restaged_stage, both_of}
+use Rattle.sweep.proofs.Stages.{both_of, kept_stage, neither, no_item, no_stage, passed_stage, restaged_stage}
 
 -- what is shown by what follows, if anything does
 abbrev pub ShowsNext : Limits → ℕ → Option State → Limbo → Knowledge → Type 0
@@ -180,3 +182,38 @@ follows old new limbo after told goes inside same moves k shows fits = record {
   only = only_limbo old.limits old.actor k old.state told fits;
   shows = rw (same.limits, same.actor) (shown_then goes old.limits old.actor new.state after (learn k (wanted old) told) (let only = only_limbo old.limits old.actor k old.state told fits in ap (λ (k : Knowledge). k.inside) only ∙ shows.outside) (moves_show old.limits old.actor k old.state told limbo after (state_if goes new.state) inside fits shows.stands moves));
 }
+
+-- ---- the begin
+-- all that has no stamp is found
+has_stamp : (entries : List Entry) → list_any (λ (entry : Entry). is_unstamped entry.stage) entries ≡ false → (n : ℕ) → stage_in entries n ≡ Some Unstamped → ⊥
+has_stamp [] stamped n is = cc
+has_stamp (e ∷ es) stamped n is =
+    let both = neither (is_unstamped e.stage) (list_any (λ (entry : Entry). is_unstamped entry.stage) es) stamped in
+    elim (eqb e.number n) as (λ b. (if b then Some e.stage else stage_in es n) ≡ Some Unstamped → ⊥) [
+      | true ↦ λ same. (let stage : e.stage ≡ Unstamped = cc in let h : true ≡ false = rw stage at both.0 in cc)
+      | false ↦ has_stamp es both.1 n
+    ] is
+
+told_first : (actor : ℕ) (stage : Option Stage) (limbo : known.Limbo) → (stage ≡ Some Unstamped → ⊥) → Told actor [] stage limbo
+told_first actor None limbo stamped = tt
+told_first actor (Some Unstamped) limbo stamped = absurd (stamped refl)
+told_first actor (Some (Stamped stamp)) known.Absent stamped = tt
+told_first actor (Some (Stamped stamp)) known.Unstamped stamped = tt
+told_first actor (Some (Stamped stamp)) (known.Stamped epoch passed) stamped = λ place lt. absurd (omega (arith, lt))
+told_first actor (Some (Passed stamp)) known.Absent stamped = tt
+told_first actor (Some (Passed stamp)) known.Unstamped stamped = tt
+told_first actor (Some (Passed stamp)) (known.Stamped epoch passed) stamped = λ place lt. absurd (omega (arith, lt))
+
+pub begins_show : (limits : Limits) (actor : ℕ) (limbo after : Limbo) (first : Option State) → actor < limits.actors → Begins limits limbo first after → (k : Knowledge) → AreKept limits actor limbo k.limbo → ShowsNext limits actor first after k
+begins_show limits actor limbo after first inside begins k kept = elim (no_item limbo) [
+  | inl empty ↦ let is = begins.empty empty in rw (is.0, is.1) kept
+  | inr some ↦ elim (cases_Bool (has_unstamped limbo)) [
+    | inl unstamped ↦ let is = begins.epoch unstamped in rw (is.0, is.1) kept
+    | inr stamped ↦
+        let both = neither (list_any (λ (entry : Entry). is_unstamped entry.stage) limbo.rows.entries) (list_any (λ (entry : Entry). is_unstamped entry.stage) limbo.pids.entries) stamped in
+        compares_shows limits actor k [] limbo after first inside kept (record {
+          rows = λ row. told_first actor (stage_of limbo.rows row) (k.limbo.rows row) (has_stamp limbo.rows.entries both.0 row);
+          pids = λ pid. told_first actor (stage_of limbo.pids pid) (k.limbo.pids pid) (has_stamp limbo.pids.entries both.1 pid);
+        }) (begins.stamped some stamped)
+  ]
+]

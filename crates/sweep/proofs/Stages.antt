@@ -6,8 +6,9 @@ use Rattle.std.proofs.lemmas.Bool.{cases_Bool, cases_eq, eq-eqb, eqb-true, ne_eq
 use Rattle.epochs.specs.declared.entry.Entry.{Entry}
 use Rattle.epochs.specs.declared.entry.Stage.{Stage}
 use Rattle.epochs.specs.declared.entry.Stage.TheVariants.{Unstamped, Stamped, Passed}
-use Rattle.epochs.specs.Limbo.{is_passed, restaged, stage_in}
+use Rattle.epochs.specs.Limbo.{Limbo, is_passed, restaged, stage_in}
 use Rattle.epochs.specs.Words.{may_go, without}
+use Rattle.sweep.specs.Moves.{IsEmpty}
 
 -- what becomes of a stage, if there is one
 abbrev pub after : (Stage → Stage) → Option Stage → Option Stage
@@ -119,3 +120,16 @@ left_later (e ∷ es) word n may =
     now kept (same, passed) =
         let is : e.number ≡ n = eqb-true e.number n same in
         (rw (same, passed) refl, rw is at (away (eqb (e.number / 64) word) (is_passed e.stage) passed kept))
+
+pub neither : (a b : Bool) → (a || b) ≡ false → (a ≡ false) × (b ≡ false)
+neither true b e = cc
+neither false b e = (refl, e)
+
+-- whether a limbo is empty
+pub no_item : (limbo : Limbo) → IsEmpty limbo ⊎ (IsEmpty limbo → ⊥)
+no_item limbo = both limbo.rows.entries limbo.pids.entries
+  where
+    both : (rows pids : List Entry) → ((rows ≡ []) × (pids ≡ [])) ⊎ ((rows ≡ []) × (pids ≡ []) → ⊥)
+    both [] [] = inl (refl, refl)
+    both [] (e ∷ es) = inr (λ h. cc (h.1))
+    both (e ∷ es) pids = inr (λ h. cc (h.0))

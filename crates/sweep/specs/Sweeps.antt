@@ -1,5 +1,5 @@
 -- The sweep of an actor's limbo: the steps by which it is freed.
-use Rattle.std.specs.Prelude.{◌≡◌, ◌<◌, ◌/◌, ◌^◌, ℕ, suc, ltb, List, [], length, get_or, Bool, true, false, if◌then◌else◌, Option, None, Some, IsTrue, IsFalse, ⊤}
+use Rattle.std.specs.Prelude.{◌≡◌, ◌<◌, ◌*◌, ◌/◌, ◌^◌, ℕ, suc, ltb, List, [], length, get_or, Bool, true, false, if◌then◌else◌, Option, None, Some, IsTrue, IsFalse, ⊤}
 use Rattle.bw_model.specs.declared.limits.Limits.{Limits}
 use Rattle.bw_model.specs.declared.step.Answer.{Answer}
 use Rattle.bw_model.specs.declared.step.Answer.TheVariants.{Done}
@@ -17,7 +17,6 @@ use Rattle.epochs.specs.declared.item.Reuse.TheVariants.{Rows, Pids}
 use Rattle.epochs.specs.Limbo.{Limbo, stage_of}
 use Rattle.epochs.specs.Reclamation.{has_passed}
 use Rattle.epochs.specs.Words.{HasNone, may_go}
-use Rattle.chain_search.specs.Within.{IsWithin}
 use Rattle.sweep.specs.declared.sweep.State.{State}
 use Rattle.sweep.specs.declared.sweep.State.TheVariants as state
 use Rattle.sweep.specs.Kept.{AreKept, IsLimboOf}
@@ -45,6 +44,11 @@ wanted_at actor (state.Reuse reuse) = step_of reuse
 abbrev pub wanted : Sweep → StepOf Record
 wanted sweep = wanted_at sweep.actor sweep.state
 
+-- The word of the reuse is there.
+abbrev pub HasPlace : Limits → Reuse → Type 0
+HasPlace limits (Rows word bits) = 64 * word < limits.rows
+HasPlace limits (Pids word bits) = 64 * word < limits.pids
+
 -- What may be freed now comes after this reuse.
 abbrev pub ComesFirst : Reuse → Limbo → Type 0
 ComesFirst (Rows word bits) limbo = (row : ℕ) → IsTrue (may_go limbo.rows.entries row) → word < row / 64
@@ -54,7 +58,7 @@ abbrev pub IsSoundState : Limits → Limbo → State → Type 0
 IsSoundState limits limbo state.Epoch = ⊤
 IsSoundState limits limbo (state.Retire epoch) = epoch < 2 ^ 62
 IsSoundState limits limbo (state.Announce announces) = suc (length announces) < limits.actors
-IsSoundState limits limbo (state.Reuse reuse) = IsWithin limits (step_of reuse) × ComesFirst reuse limbo
+IsSoundState limits limbo (state.Reuse reuse) = HasPlace limits reuse × ComesFirst reuse limbo
 
 -- A sweep and the limbo of its actor.
 pub record IsSoundSweep (sweep : Sweep) (limbo : Limbo) : Type 0 where

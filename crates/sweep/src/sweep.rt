@@ -81,9 +81,9 @@ impl Sweep {
             State::Epoch => Step::Epoch,
             State::Retire { epoch } => Step::Retire(*epoch),
             State::Announce { announces } => Step::Announce(self.other_at(announces.len())),
-            State::Reuse { reuse } => match *reuse {
-                Reuse::Rows(word, bits) => Step::ReuseRows(word, bits),
-                Reuse::Pids(word, bits) => Step::ReusePids(word, bits),
+            State::Reuse { reuse } => match reuse {
+                Reuse::Rows(word, bits) => Step::ReuseRows(*word, *bits),
+                Reuse::Pids(word, bits) => Step::ReusePids(*word, *bits),
             },
         }
     }

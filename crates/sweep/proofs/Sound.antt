@@ -1,0 +1,237 @@
+-- A sweep stays sound, and has fewer steps left after each answer.
+use Rattle.std.proofs.Common.{◌≡◌, ◌≢◌, ◌<◌, ◌≤◌, ◌*◌, ◌-◌, ◌/◌, ◌^◌, ◌++◌, inl, inr, ◌⊎◌, ℕ, suc, List, [], ◌∷◌, length, length-append, get_or, eqb, Option, Some, None, Bool, true, false, refl, sym, ap, ◌∙◌, arith, IsTrue, IsFalse}
+use Rattle.std.specs.Prelude.{◌&&◌, ◌||◌, if◌then◌else◌}
+use Rattle.std.specs.List.{All, list_any}
+use Rattle.std.proofs.lemmas.Bool.{cases_Bool, cases_eq, cases_lt, eq-eqb, eqb-true}
+use Rattle.std.proofs.lemmas.List.Elements.{All-map}
+use Rattle.std.proofs.lemmas.List.Folds.{Any-from_list_any}
+use Rattle.bw_model.specs.declared.limits.Limits.{Limits}
+use Rattle.bw_model.specs.declared.step.Answer.{Answer}
+use Rattle.bw_model.specs.declared.step.Answer.TheVariants as answer
+use Rattle.deltas.specs.declared.record.Record.{Record}
+use Rattle.chain_search.specs.Fitting.{Fits}
+use Rattle.chain_search.specs.Knowledge.{Knowledge}
+use Rattle.epochs.specs.declared.entry.Entry.{Entry}
+use Rattle.epochs.specs.declared.entry.Stage.{Stage}
+use Rattle.epochs.specs.declared.entry.Stage.TheVariants.{Unstamped, Stamped, Passed}
+use Rattle.epochs.specs.declared.item.Reuse.{Reuse}
+use Rattle.epochs.specs.declared.item.Reuse.TheVariants.{Rows, Pids}
+use Rattle.epochs.specs.Limbo.{IsLimboList, Limbo, LimboList, all_restaged, compared_with, is_passed, is_unstamped, restaged, stamped_by}
+use Rattle.epochs.specs.Words.{HandsNothingOn, HandsOn, HasNone, IsFirst, IsHandedOn, may_go, without}
+use Rattle.sweep.specs.declared.sweep.State.{State}
+use Rattle.sweep.specs.declared.sweep.State.TheVariants as state
+use Rattle.sweep.specs.Bounded.{Spends, reuses_left, steps_left}
+use Rattle.sweep.specs.Kept.{IsLimboOf}
+use Rattle.sweep.specs.Moves.{Begins, Compares, Frees, IsEmpty, Moves, Stamps, has_unstamped, state_if}
+use Rattle.sweep.specs.Sweeps.{ComesFirst, HasPlace, IsSame, IsSoundState, IsSoundSweep, IsTold, Sweep, wanted, wanted_at}
+use Rattle.sweep.proofs.Stages.{both_of, left_later, neither, no_item}
+
+-- the numbers of the list are below its limit
+abbrev AreBelow : LimboList → Type 0
+AreBelow list = All (λ (entry : Entry). entry.number < list.limit) list.entries
+
+pub are_below : (list : LimboList) → IsLimboList list → AreBelow list
+are_below list is k d lt = (is.within k d lt).1
+
+restaged_below : (f : Stage → Stage) (list : LimboList) → AreBelow list → AreBelow (record list { entries = restaged f list.entries })
+restaged_below f list below = All-map (λ (entry : Entry). entry.number < list.limit) (λ (entry : Entry). record entry { stage = f entry.stage }) list.entries below
+
+-- what may go is a number that there is
+number_below : (list : LimboList) → AreBelow list → (n : ℕ) → may_go list.entries n ≡ true → n < list.limit
+number_below list is n may =
+    let found = Any-from_list_any (λ (entry : Entry). eqb entry.number n && is_passed entry.stage) list.entries may in
+    let within : found.1.number < list.limit = rw found.3 at (is found.0 found.1 found.2) in
+    let same : found.1.number ≡ n = eqb-true found.1.number n (both_of (eqb found.1.number n) (is_passed found.1.stage) found.4).0 in
+    rw same at within
+
+-- the word of a reuse is there, and comes before what may go then
+hands_place : (list : LimboList) → AreBelow list → (word bits : ℕ) (now : LimboList) → HandsOn list word bits now → (64 * word < list.limit) × ((n : ℕ) → may_go now.entries n ≡ true → word < n / 64)
+hands_place list is word bits now hands =
+    let some = hands.first.some in
+    let below = number_below list is some.0 some.2 in
+    let place : some.0 / 64 ≡ word = some.1 in
+    (omega (arith, below, place), λ n may. beyond n (left_later list.entries word n (rw hands.rest at may)))
+  where
+    beyond : (n : ℕ) → (may_go list.entries n ≡ true) × (eqb (n / 64) word ≡ false) → word < n / 64
+    beyond n (may, apart) = elim (cases_eq (n / 64) word) [
+      | inl same ↦ absurd (let e : true ≡ false = rw (eq-eqb (n / 64) word same) at apart in cc)
+      | inr other ↦ let least = hands.first.first n may in omega (arith, least, other)
+    ]
+
+none_then : (list now : LimboList) → HandsNothingOn list now → HasNone now.entries
+none_then list now hands = rw hands.rest hands.none
+
+-- A limbo whose numbers are numbers that there are.
+pub record IsWhole (limits : Limits) (limbo : Limbo) : Type 0 where
+  pub rows : AreBelow limbo.rows
+  pub pids : AreBelow limbo.pids
+  pub lists : IsLimboOf limits limbo
+
+pub whole : (limits : Limits) (limbo : Limbo) → IsLimboList limbo.rows → IsLimboList limbo.pids → IsLimboOf limits limbo → IsWhole limits limbo
+whole limits limbo rows pids lists = record { rows = are_below limbo.rows rows; pids = are_below limbo.pids pids; lists = lists }
+
+-- a state that is sound, with fewer steps left than this
+pub record Follow (limits : Limits) (limbo : Limbo) (next : State) (few : ℕ) : Type 0 where
+  pub lists : IsLimboOf limits limbo
+  pub sound : IsSoundState limits limbo next
+  pub fewer : steps_left next < few
+
+module _ (limits : Limits) where
+  restaged_whole : (f : Stage → Stage) (limbo : Limbo) → IsWhole limits limbo → IsWhole limits (all_restaged f limbo)
+  restaged_whole f limbo whole = record {
+    rows = restaged_below f limbo.rows whole.rows;
+    pids = restaged_below f limbo.pids whole.pids;
+    lists = record { rows = whole.lists.rows; pids = whole.lists.pids };
+  }
+
+  -- the first reuse
+  frees_follow : (limbo after : Limbo) (next : State) → IsWhole limits limbo → Frees limbo (Some next) after → Follow limits after next 321
+  frees_follow limbo after (state.Reuse (Rows word bits)) whole frees =
+      let place = hands_place limbo.rows whole.rows word bits after.rows frees.0 in
+      record {
+        lists = record { rows = rw frees.0.rest whole.lists.rows; pids = rw frees.1 whole.lists.pids };
+        sound = (rw whole.lists.rows at place.0, place.1);
+        fewer = omega arith;
+      }
+  frees_follow limbo after (state.Reuse (Pids word bits)) whole frees =
+      let place = hands_place limbo.pids whole.pids word bits after.pids frees.1 in
+      record {
+        lists = record { rows = rw frees.0.rest whole.lists.rows; pids = rw frees.1.rest whole.lists.pids };
+        sound = (rw whole.lists.pids at place.0, (none_then limbo.rows after.rows frees.0, place.1));
+        fewer = omega arith;
+      }
+  frees_follow limbo after state.Epoch whole frees = absurd frees
+  frees_follow limbo after (state.Retire epoch) whole frees = absurd frees
+  frees_follow limbo after (state.Announce announces) whole frees = absurd frees
+
+  -- the next one has a later word
+  later_follow : (limbo after : Limbo) (reuse : Reuse) (next : State) → IsWhole limits limbo → HasPlace limits reuse → ComesFirst reuse limbo → Frees limbo (Some next) after → Follow limits after next (reuses_left reuse)
+  later_follow limbo after (Rows word bits) (state.Reuse (Rows word' bits')) whole place first frees =
+      let h = frees_follow limbo after (state.Reuse (Rows word' bits')) whole frees in
+      let some = frees.0.first.some in
+      let beyond : word < some.0 / 64 = first some.0 some.2 in
+      let at : some.0 / 64 ≡ word' = some.1 in
+      let few = limits.allowed.few_rows in
+      record { lists = h.lists; sound = h.sound; fewer = omega (arith, beyond, at, place, few) }
+  later_follow limbo after (Rows word bits) (state.Reuse (Pids word' bits')) whole place first frees =
+      let h = frees_follow limbo after (state.Reuse (Pids word' bits')) whole frees in
+      let few = limits.allowed.few_rows in
+      record { lists = h.lists; sound = h.sound; fewer = omega (arith, place, few) }
+  later_follow limbo after (Pids word bits) (state.Reuse (Rows word' bits')) whole place first frees =
+      let some = frees.0.first.some in
+      absurd (let e : true ≡ false = sym some.2 ∙ first.0 some.0 in cc)
+  later_follow limbo after (Pids word bits) (state.Reuse (Pids word' bits')) whole place first frees =
+      let h = frees_follow limbo after (state.Reuse (Pids word' bits')) whole frees in
+      let some = frees.1.first.some in
+      let beyond : word < some.0 / 64 = first.1 some.0 some.2 in
+      let at : some.0 / 64 ≡ word' = some.1 in
+      let few = limits.allowed.few_pids in
+      record { lists = h.lists; sound = h.sound; fewer = omega (arith, beyond, at, place, few) }
+  later_follow limbo after reuse state.Epoch whole place first frees = absurd frees
+  later_follow limbo after reuse (state.Retire epoch) whole place first frees = absurd frees
+  later_follow limbo after reuse (state.Announce announces) whole place first frees = absurd frees
+
+  pub compares_follow : (announces : List ℕ) (limbo after : Limbo) (next : State) → IsWhole limits limbo → length announces ≤ 15 → Compares limits announces limbo (Some next) after → Follow limits after next (suc (335 - length announces))
+  compares_follow announces limbo after next whole short compares = elim (cases_lt (suc (length announces)) limits.actors) [
+    | inl more ↦ reads next (compares.reads more) more
+    | inr all ↦
+        let h = frees_follow (all_restaged (compared_with announces) limbo) after next (restaged_whole (compared_with announces) limbo whole) (compares.frees all) in
+        record { lists = h.lists; sound = h.sound; fewer = (let few = h.fewer in omega (arith, few, short)) }
+  ]
+    where
+      reads : (next : State) → (Some next ≡ Some (state.Announce announces)) × (after ≡ limbo) → suc (length announces) < limits.actors → Follow limits after next (suc (335 - length announces))
+      reads (state.Announce others) is more =
+          let same : others ≡ announces = cc (is.0) in
+          rw (is.1, same) (record { lists = whole.lists; sound = more; fewer = omega arith })
+      reads state.Epoch is more = absurd (cc (is.0))
+      reads (state.Retire epoch) is more = absurd (cc (is.0))
+      reads (state.Reuse reuse) is more = absurd (cc (is.0))
+
+  stamps_follow : (epoch : ℕ) (limbo after : Limbo) (next : State) → IsWhole limits limbo → Stamps limits epoch limbo (Some next) after → Follow limits after next 337
+  stamps_follow epoch limbo after next whole stamps = elim (cases_lt epoch (2 ^ 62)) [
+    | inl below ↦ retires next (stamps.retires below) below
+    | inr last ↦
+        let h = compares_follow [] (all_restaged (stamped_by epoch) limbo) after next (restaged_whole (stamped_by epoch) limbo whole) (omega arith) (stamps.last last) in
+        record { lists = h.lists; sound = h.sound; fewer = (let few = h.fewer in omega (arith, few)) }
+  ]
+    where
+      retires : (next : State) → (Some next ≡ Some (state.Retire epoch)) × (after ≡ all_restaged (stamped_by epoch) limbo) → epoch < 2 ^ 62 → Follow limits after next 337
+      retires (state.Retire other) is below =
+          let same : other ≡ epoch = cc (is.0) in
+          rw (is.1, same) (record { lists = record { rows = whole.lists.rows; pids = whole.lists.pids }; sound = below; fewer = omega arith })
+      retires state.Epoch is below = absurd (cc (is.0))
+      retires (state.Announce announces) is below = absurd (cc (is.0))
+      retires (state.Reuse reuse) is below = absurd (cc (is.0))
+
+  moves_follow : (old next : State) (told : Answer Record) (limbo after : Limbo) → IsWhole limits limbo → IsSoundState limits limbo old → Moves limits old limbo told (Some next) after → Follow limits after next (steps_left old)
+  moves_follow state.Epoch next (answer.Number n) limbo after whole sound moves = stamps_follow n limbo after next whole moves
+  moves_follow state.Epoch next answer.Start limbo after whole sound moves = absurd moves
+  moves_follow state.Epoch next (answer.Content content) limbo after whole sound moves = absurd moves
+  moves_follow state.Epoch next (answer.Whether b) limbo after whole sound moves = absurd moves
+  moves_follow state.Epoch next answer.Done limbo after whole sound moves = absurd moves
+  moves_follow (state.Retire epoch) next told limbo after whole sound moves = compares_follow [] limbo after next whole (omega arith) moves
+  moves_follow (state.Announce announces) next (answer.Number n) limbo after whole sound moves =
+      let more : length (announces ++ n ∷ []) ≡ suc (length announces) = (let long = length-append announces (n ∷ []) in omega (arith, long)) in
+      let few = limits.allowed.few_actors in
+      let h = compares_follow (announces ++ n ∷ []) limbo after next whole (omega (arith, more, sound, few)) moves in
+      record { lists = h.lists; sound = h.sound; fewer = (let fewer = h.fewer in omega (arith, fewer, more, sound, few)) }
+  moves_follow (state.Announce announces) next answer.Start limbo after whole sound moves = absurd moves
+  moves_follow (state.Announce announces) next (answer.Content content) limbo after whole sound moves = absurd moves
+  moves_follow (state.Announce announces) next (answer.Whether b) limbo after whole sound moves = absurd moves
+  moves_follow (state.Announce announces) next answer.Done limbo after whole sound moves = absurd moves
+  moves_follow (state.Reuse reuse) next told limbo after whole sound moves = later_follow limbo after reuse next whole sound.0 sound.1 moves
+
+-- a sweep that goes on
+pub goes_on : (old new : Sweep) (told : Answer Record) (limbo after : Limbo) → IsLimboList limbo.rows → IsLimboList limbo.pids → IsSoundSweep old limbo → IsSame old new → Moves old.limits old.state limbo told (Some new.state) after → IsSoundSweep new after × (steps_left new.state < steps_left old.state)
+goes_on old new told limbo after rows pids sound same moves =
+    let h = moves_follow old.limits old.state new.state told limbo after (whole old.limits limbo rows pids sound.lists) sound.state moves in
+    (record { lists = rw same.limits h.lists; actor = rw (same.limits, same.actor) sound.actor; state = rw same.limits h.sound }, h.fewer)
+
+-- ---- the begin
+-- what has a stamp may be freed where there is no other actor
+none_left : (entries : List Entry) → list_any (λ (entry : Entry). is_unstamped entry.stage) entries ≡ false → HasNone (restaged (compared_with []) entries) → entries ≡ []
+none_left [] stamped none = refl
+none_left (e ∷ es) stamped none = at_first e.stage refl
+  where
+    may : is_passed (compared_with [] e.stage) ≡ true → may_go (restaged (compared_with []) (e ∷ es)) e.number ≡ true
+    may passed = rw (eq-eqb e.number e.number refl, passed) refl
+
+    at_first : (stage : Stage) → e.stage ≡ stage → e ∷ es ≡ []
+    at_first Unstamped is = absurd (let h : true ≡ false = rw is at stamped in cc)
+    at_first (Stamped stamp) is = absurd (let h : true ≡ false = sym (may (ap (λ s. is_passed (compared_with [] s)) is)) ∙ none e.number in cc)
+    at_first (Passed stamp) is = absurd (let h : true ≡ false = sym (may (ap (λ s. is_passed (compared_with [] s)) is)) ∙ none e.number in cc)
+
+-- a sweep that doesn't begin has nothing to sweep
+pub begins_not : (limits : Limits) (limbo after : Limbo) → Begins limits limbo None after → IsEmpty limbo
+begins_not limits limbo after begins = elim (no_item limbo) [
+  | inl empty ↦ empty
+  | inr some ↦ elim (cases_Bool (has_unstamped limbo)) [
+    | inl unstamped ↦ absurd (cc ((begins.epoch unstamped).0))
+    | inr stamped ↦ elim (cases_lt 1 limits.actors) [
+      | inl others ↦ absurd (cc (((begins.stamped some stamped).reads others).0))
+      | inr alone ↦
+          let frees = (begins.stamped some stamped).frees alone in
+          let both = neither (list_any (λ (entry : Entry). is_unstamped entry.stage) limbo.rows.entries) (list_any (λ (entry : Entry). is_unstamped entry.stage) limbo.pids.entries) stamped in
+          (none_left limbo.rows.entries both.0 frees.0.none, none_left limbo.pids.entries both.1 frees.1.none)
+    ]
+  ]
+]
+
+-- one that begins is sound
+pub begins_sound : (limits : Limits) (actor : ℕ) (limbo after : Limbo) (first : State) → IsLimboList limbo.rows → IsLimboList limbo.pids → IsLimboOf limits limbo → actor < limits.actors → Begins limits limbo (Some first) after
+    → IsSoundSweep (record { limits = limits; actor = actor; state = first }) after
+begins_sound limits actor limbo after first rows pids lists inside begins = elim (no_item limbo) [
+  | inl empty ↦ absurd (cc ((begins.empty empty).0))
+  | inr some ↦ elim (cases_Bool (has_unstamped limbo)) [
+    | inl unstamped ↦ reads first (begins.epoch unstamped)
+    | inr stamped ↦
+        let h = compares_follow limits [] limbo after first (whole limits limbo rows pids lists) (omega arith) (begins.stamped some stamped) in
+        record { lists = h.lists; actor = inside; state = h.sound }
+  ]
+]
+  where
+    reads : (first : State) → (Some first ≡ Some state.Epoch) × (after ≡ limbo) → IsSoundSweep (record { limits = limits; actor = actor; state = first }) after
+    reads state.Epoch is = record { lists = rw is.1 lists; actor = inside; state = tt }
+    reads (state.Retire epoch) is = absurd (cc (is.0))
+    reads (state.Announce announces) is = absurd (cc (is.0))
+    reads (state.Reuse reuse) is = absurd (cc (is.0))
