@@ -1,5 +1,5 @@
 -- How an actor's limbo agrees with what the actor knows of what it took out of the tree.
-use Rattle.std.specs.Prelude.{◌≡◌, ◌≢◌, ◌<◌, ◌≤◌, ℕ, Bool, Option, None, Some, IsTrue, ⊤}
+use Rattle.std.specs.Prelude.{◌≡◌, ◌≢◌, ◌<◌, ◌≤◌, ℕ, [], Bool, Option, None, Some, IsTrue, ⊤}
 use Rattle.bw_model.specs.declared.limits.Limits.{Limits}
 use Rattle.chain_search.specs.Knowledge as known
 use Rattle.chain_search.specs.Knowledge.{Limbos}
@@ -44,3 +44,7 @@ pub record AreKept (limits : Limits) (actor : ℕ) (limbo : Limbo) (known : Limb
   pub lists : IsLimboOf limits limbo
   pub rows : (row : ℕ) → Agrees limits actor known.epoch (stage_of limbo.rows row) (known.rows row)
   pub pids : (pid : ℕ) → Agrees limits actor known.epoch (stage_of limbo.pids pid) (known.pids pid)
+
+-- nothing, with room for the numbers that there are
+abbrev pub empty_limbo : Limits → Limbo
+empty_limbo limits = record { rows = record { limit = limits.rows; entries = [] }; pids = record { limit = limits.pids; entries = [] } }

@@ -1,9 +1,12 @@
 -- What an exchange takes out of the tree comes into limbo.
 use Rattle.std.specs.Prelude.{◌≢◌, ◌++◌, ℕ, List, map, Option, None, Some, IfSome}
 use Rattle.std.specs.List.{All, AllPairs}
+use Rattle.bw_model.specs.declared.limits.Limits.{Limits}
+use Rattle.chain_search.specs.Knowledge.{Limbos}
 use Rattle.epochs.specs.declared.entry.Entry.{Entry}
 use Rattle.epochs.specs.declared.entry.Stage.TheVariants.{Unstamped}
 use Rattle.epochs.specs.Limbo.{IsNew, Limbo, LimboList, added}
+use Rattle.sweep.specs.Kept.{AreKept}
 
 -- a number without a stamp
 abbrev pub fresh : ℕ → Entry
@@ -27,3 +30,8 @@ pub record AreNew (rows : List ℕ) (pid : Option ℕ) (limbo : Limbo) : Type 0 
 -- the limbo with these rows, and with the PID
 abbrev pub with_taken : List ℕ → Option ℕ → Limbo → Limbo
 with_taken rows pid limbo = record { rows = with_rows rows limbo.rows; pids = with_pid pid limbo.pids }
+
+-- The rows and the PID may come into limbo, which then agrees with this.
+pub record IsTakenOut (limits : Limits) (actor : ℕ) (limbo : Limbo) (rows : List ℕ) (pid : Option ℕ) (now : Limbos) : Type 0 where
+  pub new : AreNew rows pid limbo
+  pub kept : AreKept limits actor (with_taken rows pid limbo) now

@@ -6,10 +6,12 @@
 #![tactic(auto)]
 
 mod announces;
+mod laws;
 mod sweep;
 mod taking_out;
 #[cfg(test)]
 mod tests;
 
+pub use laws::{chains_go_to_limbo, limbos_are_kept};
 pub use sweep::Sweep;
 pub use taking_out::take_out;

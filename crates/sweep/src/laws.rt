@@ -1,0 +1,51 @@
+//! Laws of limbos: each function does nothing, and its contract is proved of all of them.
+ghost use Rattle.std.specs.Prelude.{◌≡◌, ◌<◌, ◌≤◌, ◌↔◌, ℕ, List, Option, None, Some, IsTrue, length};
+ghost use Rattle.std.specs.List.{Contains};
+ghost use Rattle.bw_model.specs.declared.limits.Limits.{Limits};
+ghost use Rattle.bw_model.specs.declared.step.Answer.TheVariants.{Number};
+ghost use Rattle.bw_model.specs.declared.step.Step.TheVariants.{Epoch};
+ghost use Rattle.chain_search.specs.Chains.{IsChainFrom, chain_rows};
+ghost use Rattle.chain_search.specs.Fitting.{AreOutOfLimbo, Fits};
+ghost use Rattle.chain_search.specs.Knowledge.{Absent, Unstamped, Knowledge, is_on_walk, learn, nothing, taken_out};
+ghost use Rattle.deltas.specs.Memory.{replaced_at};
+ghost use Rattle.deltas.specs.declared.record.Record.{Record};
+ghost use Rattle.epochs.specs.Limbo.{Limbo};
+ghost use Rattle.sweep.specs.Kept.{AreKept, empty_limbo};
+ghost use Rattle.sweep.specs.Taken.{IsTakenOut};
+
+use chain_search::chain_is_one;
+
+/// A new limbo agrees with nothing being known, and a limbo agrees still where the epoch is read outside of a sweep.
+pub fn limbos_are_kept()
+    ensures new { (limits : Limits) (actor : ℕ) → AreKept limits actor (empty_limbo limits) nothing.limbo }
+    ensures read { (limits : Limits) (actor epoch : ℕ) (limbo : Limbo) (k : Knowledge)
+        → AreKept limits actor limbo k.limbo
+        → Fits limits k Epoch (Number epoch)
+        → AreKept limits actor limbo (learn k Epoch (Number epoch)).limbo }
+{}
+
+/// The rows of a chain that was read whole, and the PID of its page, may come into limbo, which then agrees with what is known
+/// once they are out of the tree: these are the rows that are known to be out.
+pub fn chains_go_to_limbo()
+    ensures walk { (seen : ℕ → Option Record) (head row : ℕ) (chain : List Record)
+        → IsChainFrom seen head chain
+        → length chain ≤ 13
+        → IsTrue (is_on_walk 13 seen (Some head) row) ↔ Contains (chain_rows head chain) row }
+    ensures rows { (limits : Limits) (actor head : ℕ) (limbo : Limbo) (k : Knowledge) (chain : List Record)
+        → AreKept limits actor limbo k.limbo
+        → AreOutOfLimbo limits k head
+        → IsChainFrom k.read.seen head chain
+        → length chain ≤ 13
+        → IsTakenOut limits actor limbo (chain_rows head chain) None (record k.limbo { rows = taken_out k.read.seen head k.limbo.rows }) }
+    ensures page { (limits : Limits) (actor head page : ℕ) (limbo : Limbo) (k : Knowledge) (chain : List Record)
+        → AreKept limits actor limbo k.limbo
+        → AreOutOfLimbo limits k head
+        → IsChainFrom k.read.seen head chain
+        → length chain ≤ 13
+        → 0 < page
+        → page < limits.pids
+        → k.limbo.pids page ≡ Absent
+        → IsTakenOut limits actor limbo (chain_rows head chain) (Some page) (record k.limbo { rows = taken_out k.read.seen head k.limbo.rows; pids = replaced_at page Unstamped k.limbo.pids }) }
+{
+    chain_is_one();
+}
