@@ -18,7 +18,6 @@ use Rattle.op_machine.specs.declared.state.State.{State}
 use Rattle.op_machine.specs.declared.state.State.TheVariants.{Begun, Epoch, Enter, Read, Write, Change, Leave, Over}
 use Rattle.op_machine.proofs.Reading.{IsReading, reader_reads, writer_reads}
 use Rattle.sweep.specs.Kept.{AreKept}
-use Rattle.sweep.proofs.Keeping.{epoch_kept}
 
 -- the step reads a slot, or a record
 slot_limbo : (k : Knowledge) (page : ℕ) (told : Answer Record) → (learn k (step.Slot page) told).limbo ≡ k.limbo
@@ -41,12 +40,13 @@ read_limbo : (k : Knowledge) (asked : Step Record) (told : Answer Record) → Is
 read_limbo k asked told (inl slot) = rw slot.1 (slot_limbo k slot.0 told)
 read_limbo k asked told (inr row) = rw row.1 (row_limbo k row.0 told)
 
-module _ (task : Task) (spares : Spares) (k : Knowledge) (r : Recalled) (limbo : Limbo) (told : Answer Record) (kept : AreKept task.limits task.actor limbo k.limbo) where
+module _ (task : Task) (spares : Spares) (k : Knowledge) (r : Recalled) (limbo : Limbo) (told : Answer Record) (kept : AreKept task.limits task.actor limbo k.limbo)
+    (reads : (limits : Limits) (actor n : ℕ) (limbo : Limbo) (k : Knowledge) → AreKept limits actor limbo k.limbo → Fits limits k step.Epoch (Number n) → AreKept limits actor limbo (learn k step.Epoch (Number n)).limbo) where
   still : (now : Limbos) → now ≡ k.limbo → AreKept task.limits task.actor limbo now
   still now same = subst (AreKept task.limits task.actor limbo) (sym same) kept
 
   epoch : (a : Answer Record) → Fits task.limits k step.Epoch a → AreKept task.limits task.actor limbo (learn k step.Epoch a).limbo
-  epoch (Number n) fits = epoch_kept task.limits task.actor limbo k.limbo n fits.2 kept
+  epoch (Number n) fits = reads task.limits task.actor n limbo k kept fits
   epoch Start fits = absurd fits
   epoch (Content content) fits = absurd fits
   epoch (Whether whether) fits = absurd fits

@@ -23,3 +23,4 @@ pub mod Tidying
 pub mod Going
 pub mod Keeping
 pub mod TakingOut
+pub mod SweepMoves

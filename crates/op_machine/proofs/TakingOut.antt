@@ -1,10 +1,15 @@
 -- What a change has taken out of the tree once it has ended.
-use Rattle.std.proofs.Common.{◌≡◌, ℕ, Option, Some, None, refl}
+use Rattle.std.proofs.Common.{◌≡◌, ◌<◌, ◌≤◌, ℕ, List, length, Option, Some, None, refl}
+use Rattle.std.specs.Prelude.{MatchOption}
 use Rattle.bw_model.specs.declared.command.Command.{Command}
 use Rattle.bw_model.specs.declared.limits.Limits.{Limits}
 use Rattle.deltas.specs.declared.record.Record.{Record}
 use Rattle.deltas.specs.declared.record.Record.TheVariants as kind
-use Rattle.chain_search.specs.Knowledge.{Knowledge, Limbos}
+use Rattle.deltas.specs.Memory.{replaced_at}
+use Rattle.chain_search.specs.Chains.{IsChainFrom, chain_rows}
+use Rattle.chain_search.specs.Fitting.{AreOutOfLimbo}
+use Rattle.chain_search.specs.Knowledge.{Absent, Unstamped, Knowledge, Limbos, taken_out}
+use Rattle.epochs.specs.Limbo.{Limbo as LimboSeen}
 use Rattle.installs.specs.Changes.{IsTarget, linked_by}
 use Rattle.installs.specs.Outs.{TakesFresh, limbo_after, limbo_over}
 use Rattle.installs.specs.declared.change.End.{End}
@@ -12,10 +17,12 @@ use Rattle.installs.specs.declared.change.End.TheVariants.{Won, Lost, Full}
 use Rattle.installs.specs.declared.plan.Plan.{Plan}
 use Rattle.installs.specs.declared.plan.Plan.TheVariants.{Install, Split, Root, Unlink}
 use Rattle.op_machine.specs.Brings.{Brings}
-use Rattle.op_machine.specs.Hands.{IsTakenBy, IsUnlinked, TakesNothing, Unlinks}
+use Rattle.op_machine.specs.Hands.{IsPageOut, IsTakenBy, GoesToLimbo, TakesNothing, Unlinks}
 use Rattle.op_machine.specs.declared.state.Then.{Then}
 use Rattle.op_machine.specs.declared.state.Then.TheVariants.{Round, Limbo, Errand, Reply}
 use Rattle.op_machine.specs.declared.unlinked.Unlinked.{Unlinked}
+use Rattle.sweep.specs.Kept.{AreKept}
+use Rattle.sweep.specs.Taken.{IsTakenOut}
 
 -- a plan that takes nothing out leaves the limbo as it is
 takes_nothing : (plan : Plan) (k : Knowledge) → TakesNothing plan → limbo_after plan (Some Won) k ≡ k.limbo
@@ -48,10 +55,10 @@ update_takes_nothing (kind.Merge merge) pid head e = tt
 update_takes_nothing (kind.Unterm unterm) pid head e = tt
 
 module _ (limits : Limits) (k : Knowledge) (unlinked : Unlinked) where
-  takes : (plan : Plan) → IsTarget limits plan → IsTakenBy k plan unlinked → TakesFresh limits k plan (Some Won) → IsUnlinked limits k unlinked (limbo_after plan (Some Won) k)
+  takes : (plan : Plan) → IsTarget limits plan → IsTakenBy k plan unlinked → TakesFresh limits k plan (Some Won) → GoesToLimbo limits k unlinked (limbo_after plan (Some Won) k)
   takes (Install pid head content) target taken fresh = over content taken fresh
     where
-      over : (content : Record) → IsTakenBy k (Install pid head content) unlinked → TakesFresh limits k (Install pid head content) (Some Won) → IsUnlinked limits k unlinked (limbo_over content head k)
+      over : (content : Record) → IsTakenBy k (Install pid head content) unlinked → TakesFresh limits k (Install pid head content) (Some Won) → GoesToLimbo limits k unlinked (limbo_over content head k)
       over (kind.Base page) taken fresh = record { head = head; rows_of = taken.0; absent = fresh; page = rw taken.1 refl }
       over (kind.Put put) taken fresh = absurd taken
       over (kind.Delete delete) taken fresh = absurd taken
@@ -82,3 +89,22 @@ module _ (limits : Limits) (k : Knowledge) (command : Command) (plan : Plan) (ta
   unlinks Won then after brings is fresh = rw is (won then brings fresh)
   unlinks Lost then after brings is fresh = is
   unlinks Full then after brings is fresh = is
+
+-- what has gone out where a change has won
+pub gone : (limits : Limits) (k : Knowledge) (end : End) (then : Then) (unlinked : Unlinked) (after : Limbos) → end ≡ Won → then ≡ Limbo unlinked → Unlinks limits k end then after → GoesToLimbo limits k unlinked after
+gone limits k end then unlinked after won is h = rw (won, is) at h
+
+-- What a change has taken out of the tree may come into limbo, by the laws of chains that go there.
+module _ (limits : Limits) (actor : ℕ) (limbo : LimboSeen) (k : Knowledge) (kept : AreKept limits actor limbo k.limbo)
+    (rows : (limits : Limits) (actor head : ℕ) (limbo : LimboSeen) (k : Knowledge) (chain : List Record) → AreKept limits actor limbo k.limbo → AreOutOfLimbo limits k head → IsChainFrom k.read.seen head chain → length chain ≤ 13
+        → IsTakenOut limits actor limbo (chain_rows head chain) None (record k.limbo { rows = taken_out k.read.seen head k.limbo.rows }))
+    (page : (limits : Limits) (actor head page : ℕ) (limbo : LimboSeen) (k : Knowledge) (chain : List Record) → AreKept limits actor limbo k.limbo → AreOutOfLimbo limits k head → IsChainFrom k.read.seen head chain → length chain ≤ 13
+        → 0 < page → page < limits.pids → k.limbo.pids page ≡ Absent
+        → IsTakenOut limits actor limbo (chain_rows head chain) (Some page) (record k.limbo { rows = taken_out k.read.seen head k.limbo.rows; pids = replaced_at page Unstamped k.limbo.pids })) where
+  pub taken : (unlinked : Unlinked) (after : Limbos) → GoesToLimbo limits k unlinked after → IsTakenOut limits actor limbo unlinked.rows.items unlinked.pid after
+  taken unlinked after out = by unlinked.pid out.page
+    where
+      by : (pid : Option ℕ) → MatchOption pid (after ≡ record k.limbo { rows = taken_out k.read.seen out.head k.limbo.rows }) (IsPageOut limits k.limbo (record k.limbo { rows = taken_out k.read.seen out.head k.limbo.rows }) after)
+          → IsTakenOut limits actor limbo unlinked.rows.items pid after
+      by None is = rw (out.rows_of.are, is) (rows limits actor out.head limbo k out.rows_of.chain kept out.absent out.rows_of.read out.rows_of.short)
+      by (Some pid) is = rw (out.rows_of.are, is.is) (page limits actor out.head pid limbo k out.rows_of.chain kept out.absent out.rows_of.read out.rows_of.short is.some is.below is.absent)

@@ -16,6 +16,7 @@ use Rattle.installs.specs.declared.plan.Plan.TheVariants.{Install, Unlink}
 use Rattle.op_machine.specs.declared.state.Then.{Then}
 use Rattle.op_machine.specs.declared.state.Then.TheVariants as then
 use Rattle.op_machine.specs.declared.unlinked.Unlinked.{Unlinked}
+use Rattle.sweep.specs.Kept.{empty_limbo}
 
 -- what was taken and not linked, and what was taken out of the tree and is not freed
 pub record Hand : Type 0 where
@@ -25,7 +26,7 @@ pub record Hand : Type 0 where
 abbrev pub empty_hand : Limits → Hand
 empty_hand limits = record {
   spares = record { pid = None; rows = [] };
-  limbo = record { rows = record { limit = limits.rows; entries = [] }; pids = record { limit = limits.pids; entries = [] } };
+  limbo = empty_limbo limits;
 }
 
 -- The rows are those of the chain that was read from this row on.
@@ -55,7 +56,7 @@ pub record IsPageOut (limits : Limits) (limbo : Limbos) (rows : Limbos) (after :
   pub is : after ≡ record rows { pids = replaced_at pid Unstamped limbo.pids }
 
 -- What was taken out of the tree was in no limbo before, and all of it is in limbo after.
-pub record IsUnlinked (limits : Limits) (k : Knowledge) (unlinked : Unlinked) (after : Limbos) : Type 0 where
+pub record GoesToLimbo (limits : Limits) (k : Knowledge) (unlinked : Unlinked) (after : Limbos) : Type 0 where
   pub head : ℕ
   pub rows_of : AreRowsOf k head unlinked.rows.items
   pub absent : AreOutOfLimbo limits k head
@@ -65,5 +66,5 @@ pub record IsUnlinked (limits : Limits) (k : Knowledge) (unlinked : Unlinked) (a
 
 -- What is known to be in limbo once a change has ended: a change that has won may have taken something out.
 abbrev pub Unlinks : Limits → Knowledge → End → Then → Limbos → Type 0
-Unlinks limits k Won (then.Limbo unlinked) after = IsUnlinked limits k unlinked after
+Unlinks limits k Won (then.Limbo unlinked) after = GoesToLimbo limits k unlinked after
 Unlinks limits k end then after = after ≡ k.limbo

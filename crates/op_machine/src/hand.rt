@@ -11,7 +11,7 @@ use epochs::Limbo;
 use installs::{End, Spares};
 use std::alloc::{Allocator, Global};
 use std::marker::Model;
-use sweep::take_out;
+use sweep::{chains_go_to_limbo, take_out};
 
 /// What an actor keeps between operations: the rows and the PID that it took and never linked, and what it took out of the tree and
 /// has not freed.
@@ -50,6 +50,7 @@ impl<A: Allocator> Hand<A> {
         ensures keeps { (limits : LimitsSeen) (actor : ℕ) (k : Knowledge) (after : Limbos) → AreKept limits actor self.old.limbo k.limbo → Unlinks limits k end then.now after → AreKept limits actor self.new.limbo after }
         ensures spares { self.new.spares ≡ self.old.spares }
     {
+        chains_go_to_limbo();
         if let (End::Won, Then::Limbo(unlinked)) = (end, then) {
             take_out(&mut self.limbo, unlinked.rows.as_slice(), unlinked.pid);
         }

@@ -24,7 +24,7 @@ use epochs::Limbo;
 use installs::{End, Spares};
 use std::alloc::Allocator;
 use std::marker::Model;
-use sweep::Sweep;
+use sweep::{Sweep, limbos_are_kept};
 
 /// What an operation wants next.
 #[derive(Debug, Drop)]
@@ -82,6 +82,7 @@ impl Op {
         ensures spends { Spends self.old hand.old answer self.new hand.new result }
         ensures same { IsSameTask self.old.task self.new.task }
     {
+        limbos_are_kept();
         if self.state.is_changing() {
             return self.change_on(hand, answer);
         }

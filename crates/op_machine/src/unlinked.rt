@@ -39,12 +39,8 @@ impl Unlinked {
     pub(crate) fn copied(&self) -> Unlinked
         ensures { result ≡ self.now }
     {
-        let mut rows = ArrayVec::new();
-        for row in self.rows.as_slice() {
-            rows.push(*row);
-        }
         Unlinked {
-            rows,
+            rows: self.rows.clone().unwrap(),
             pid: self.pid,
         }
     }

@@ -7,19 +7,19 @@ use Rattle.op_machine.proofs.op.Op.change_on.Goals as goal
 use Rattle.op_machine.proofs.op.Op.change_on.Goals.{in-Some, in_default}
 
 pub change_next-requires-clause-told : goal.change_next-requires-clause-told
-change_next-requires-clause-told c =
+change_next-requires-clause-told g c =
     let told = c.requires.told.told_on in
     record { task = c.self.inside.task; k = told.k; r = told.r; stands = rw (← c.self.view_is, ← c.hand.view_is) at told.works; fits = rw (← c.self.view_is, ← c.hand.view_is) at told.fits }
 
 pub end_change-requires : goal.end_change-requires
-end_change-requires c =
+end_change-requires g c =
     let told = c.requires.told.told_on in
     let comes = c.change_next.ensures.comes c.self.inside.task told.k told.r (rw (← c.self.view_is, ← c.hand.view_is) at told.works) (rw (← c.self.view_is, ← c.hand.view_is) at told.fits) in
     let last = wanted_at c.hand.inside.spares c.self.inside.state in
     record { faced = record { k = learn_last told.k last c.args.answer; r = recall_last told.r last c.args.answer; faces = rw c.in-Some.is at comes } }
 
 pub step-requires-clause-stands : goal.step-requires-clause-stands
-step-requires-clause-stands c =
+step-requires-clause-stands g c =
     let told = c.requires.told.told_on in
     let has = c.change_next.new.spares in
     let last = wanted_at c.hand.inside.spares c.self.inside.state in
@@ -37,7 +37,7 @@ step-requires-clause-stands c =
     )
 
 pub step-requires-clause-asks : goal.step-requires-clause-asks
-step-requires-clause-asks c =
+step-requires-clause-asks g c =
     let told = c.requires.told.told_on in
     let P : Op → Type 0 = λ o. IsSome (wanted_at c.change_next.new.spares o.state) in
     let comes = c.change_next.ensures.comes c.self.inside.task told.k told.r (rw (← c.self.view_is, ← c.hand.view_is) at told.works) (rw (← c.self.view_is, ← c.hand.view_is) at told.fits) in
@@ -47,7 +47,7 @@ step-requires-clause-asks c =
     ]
 
 pub returns-clause-obeys : goal.returns-clause-obeys
-returns-clause-obeys c k r h f =
+returns-clause-obeys g c k r h f =
     let has = c.change_next.new.spares in
     let last = wanted_at c.hand.inside.spares c.self.inside.state in
     let known = learn_last k last c.args.answer in
@@ -61,7 +61,7 @@ returns-clause-obeys c k r h f =
     rw (← c.self.view_is, ← c.hand.view_is, ← c.self-2.view_is) (record { wanted = c.step.ensures.wanted; may = c.step.ensures.may c.self-2.inside.task _ _ stands; works = stands })
 
 pub returns-clause-spends : goal.returns-clause-spends
-returns-clause-spends c k r h f =
+returns-clause-spends g c k r h f =
     let last = wanted_at c.hand.inside.spares c.self.inside.state in
     let stands = rw (← c.self.view_is, ← c.hand.view_is) at h in
     let fits = rw (← c.self.view_is, ← c.hand.view_is) at f in

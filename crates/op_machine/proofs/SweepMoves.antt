@@ -1,0 +1,83 @@
+-- What the sweep with which an operation begins leaves as it was, and what it keeps.
+use Rattle.std.proofs.Common.{◌≡◌, Option, Some, None, true, false, refl, sym, subst, ◌∙◌}
+use Rattle.std.specs.Prelude.{IfSome, MatchOption}
+use Rattle.bw_model.specs.declared.step.Answer.{Answer}
+use Rattle.deltas.specs.declared.record.Record.{Record}
+use Rattle.chain_search.specs.Fitting.{Fits}
+use Rattle.chain_search.specs.Knowledge.{Knowledge, Limbos, learn}
+use Rattle.chain_search.specs.Recalled.{Recalled, recall}
+use Rattle.epochs.specs.Limbo.{Limbo}
+use Rattle.installs.specs.Spares.{Spares}
+use Rattle.op_machine.specs.Ops.{HoldsLimbo, Shows, asked_by}
+use Rattle.op_machine.specs.Shows.{FitsLast, Stands, learn_last, recall_last}
+use Rattle.op_machine.specs.Sweeping.{FollowsSweep, with_limbo}
+use Rattle.op_machine.specs.Tasks.{Task, Waits}
+use Rattle.op_machine.specs.declared.state.State.{State}
+use Rattle.op_machine.specs.declared.state.State.TheVariants.{Begun}
+use Rattle.sweep.specs.Sweeps.{IsSoundSweep, Rests, Sweep, wanted}
+use Rattle.sweep.specs.Sweeps.{Shows as ShowsSweep}
+
+module _ (task : Task) (spares : Spares) where
+  -- what is known of the limbo is of no matter before the first step of the work
+  waits_still : (k now : Knowledge) → now ≡ record k { limbo = now.limbo } → Waits task spares k → Waits task spares now
+  waits_still k now only h = subst (Waits task spares) (sym only) (with_limbos now.limbo)
+    where
+      with_limbos : (limbo : Limbos) → Waits task spares (record k { limbo = limbo })
+      with_limbos limbo = record {
+        rests = record { outside = h.rests.outside; spare = record { room = h.rests.spare.room; rest = h.rests.spare.rest } };
+        unread = h.unread;
+        asked = record { going = h.asked.going; unlinked = h.asked.unlinked };
+      }
+
+  abbrev IsSweepOf : Limbo → Sweep → Type 0
+  IsSweepOf limbo next = IsSoundSweep next limbo × (next.limits ≡ task.limits) × (next.actor ≡ task.actor)
+
+  holds : (limbo : Limbo) (k : Knowledge) (next : Option Sweep) → MatchOption next (Rests task.limits task.actor limbo k) (λ sweep. ShowsSweep sweep limbo k) → IfSome next (IsSweepOf limbo) → HoldsLimbo task Begun limbo k next
+  holds limbo k None rests of = rests.kept
+  holds limbo k (Some sweep) shows of = record { first = refl; limits = of.1; actor = of.2; sound = of.0; shows = shows }
+
+  -- an operation begins with this sweep, or without one
+  pub begins : (limbo : Limbo) (k : Knowledge) (r : Recalled) (state : State) (next : Option Sweep) → state ≡ Begun → Stands task spares k r state → MatchOption next (Rests task.limits task.actor limbo k) (λ sweep. ShowsSweep sweep limbo k) → IfSome next (IsSweepOf limbo)
+      → Shows (record { task = task; sweep = next; state = state }) (with_limbo spares limbo) k r
+  begins limbo k r state next first stands shows of = record { stands = stands; limbo = rw first (holds limbo k next shows of) }
+
+  pub begins_from : (had limbo : Limbo) (k : Knowledge) (r : Recalled) (state : State) (old next : Option Sweep) (told : Answer Record) → old ≡ None → state ≡ Begun → Shows (record { task = task; sweep = old; state = state }) (with_limbo spares had) k r
+      → ((k : Knowledge) → Rests task.limits task.actor had k → MatchOption next (Rests task.limits task.actor limbo k) (λ sweep. ShowsSweep sweep limbo k)) → IfSome next (λ sweep. IsSoundSweep sweep limbo) → IfSome next (λ sweep. (sweep.limits ≡ task.limits) × (sweep.actor ≡ task.actor))
+      → Shows (record { task = task; sweep = next; state = state }) (with_limbo spares limbo) (learn_last k (asked_by old None) told) (recall_last r (asked_by old None) told)
+  begins_from had limbo k r state old next told none first shows starts sound same =
+      let h = rw none at shows in
+      let waits : Waits task spares k = rw first at h.stands in
+      rw none (begins limbo k r state next first h.stands (starts k (record { outside = waits.rests.outside; kept = h.limbo })) (both next sound same))
+    where
+      both : (o : Option Sweep) → IfSome o (λ sweep. IsSoundSweep sweep limbo) → IfSome o (λ sweep. (sweep.limits ≡ task.limits) × (sweep.actor ≡ task.actor)) → IfSome o (IsSweepOf limbo)
+      both None sound same = tt
+      both (Some sweep) sound same = (sound, same.0, same.1)
+
+  -- its sweep goes on so, or is over
+  module _ (had limbo : Limbo) (k : Knowledge) (r : Recalled) (state : State) (sweep : Sweep) (next : Option Sweep) (first : state ≡ Begun) (told : Answer Record)
+      (shows : Shows (record { task = task; sweep = Some sweep; state = state }) (with_limbo spares had) k r) where
+    abbrev now : Knowledge
+    now = learn k (wanted sweep) told
+
+    same_rests : Rests sweep.limits sweep.actor limbo now → Rests task.limits task.actor limbo now
+    same_rests h = rw (← shows.limbo.limits, ← shows.limbo.actor) h
+
+    follows : (o : Option Sweep) → MatchOption o (Rests sweep.limits sweep.actor limbo now) (λ next. ShowsSweep next limbo now) → MatchOption o (Rests task.limits task.actor limbo now) (λ next. ShowsSweep next limbo now)
+    follows None h = same_rests h
+    follows (Some other) h = h
+
+    pub goes_on : FollowsSweep k now sweep next limbo → IfSome next (IsSweepOf limbo) → Shows (record { task = task; sweep = next; state = state }) (with_limbo spares limbo) now (recall r (wanted sweep) told)
+    goes_on f of = begins limbo now (recall r (wanted sweep) told) state next first (rw first (waits_still k now f.only (rw first at shows.stands))) (follows next f.then) of
+
+  pub goes_on_from : (had limbo : Limbo) (k : Knowledge) (r : Recalled) (state : State) (old next : Option Sweep) (sweep : Sweep) (told : Answer Record) → old ≡ Some sweep → state ≡ Begun → Shows (record { task = task; sweep = old; state = state }) (with_limbo spares had) k r
+      → FitsLast task.limits k (asked_by old None) told
+      → ((k : Knowledge) → ShowsSweep sweep had k → Fits sweep.limits k (wanted sweep) told → FollowsSweep k (learn k (wanted sweep) told) sweep next limbo) → IfSome next (λ next. IsSoundSweep next limbo) → IfSome next (λ next. (next.limits ≡ sweep.limits) × (next.actor ≡ sweep.actor))
+      → Shows (record { task = task; sweep = next; state = state }) (with_limbo spares limbo) (learn_last k (asked_by old None) told) (recall_last r (asked_by old None) told)
+  goes_on_from had limbo k r state old next sweep told some first shows fits follows sound same =
+      let h = rw some at shows in
+      let fits' : Fits task.limits k (wanted sweep) told = rw some at fits in
+      rw some (goes_on had limbo k r state sweep next first told h (follows k h.limbo.shows (rw h.limbo.limits fits')) (both next sound same))
+    where
+      both : (o : Option Sweep) → IfSome o (λ sweep. IsSoundSweep sweep limbo) → IfSome o (λ next. (next.limits ≡ sweep.limits) × (next.actor ≡ sweep.actor)) → IfSome o (IsSweepOf limbo)
+      both None sound same = tt
+      both (Some other) sound same = let h = rw some at shows in (sound, same.0 ∙ h.limbo.limits, same.1 ∙ h.limbo.actor)
