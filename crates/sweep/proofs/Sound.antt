@@ -23,7 +23,7 @@ use Rattle.sweep.specs.declared.sweep.State.TheVariants as state
 use Rattle.sweep.specs.Bounded.{Spends, reuses_left, steps_left}
 use Rattle.sweep.specs.Kept.{IsLimboOf}
 use Rattle.sweep.specs.Moves.{Begins, Compares, Frees, IsEmpty, Moves, Stamps, has_unstamped, state_if}
-use Rattle.sweep.specs.Sweeps.{ComesFirst, HasPlace, IsSame, IsSoundState, IsSoundSweep, IsTold, Sweep, wanted, wanted_at}
+use Rattle.sweep.specs.Sweeps.{ComesFirst, HasPlace, IsInOrder, IsSame, IsSoundState, IsSoundSweep, Sweep}
 use Rattle.sweep.proofs.Stages.{both_of, left_later, neither, no_item}
 
 -- the numbers of the list are below its limit
@@ -73,7 +73,8 @@ whole limits limbo rows pids lists = record { rows = are_below limbo.rows rows; 
 -- a state that is sound, with fewer steps left than this
 pub record Follow (limits : Limits) (limbo : Limbo) (next : State) (few : ℕ) : Type 0 where
   pub lists : IsLimboOf limits limbo
-  pub sound : IsSoundState limits limbo next
+  pub sound : IsSoundState limits next
+  pub order : IsInOrder next limbo
   pub fewer : steps_left next < few
 
 module _ (limits : Limits) where
@@ -90,14 +91,16 @@ module _ (limits : Limits) where
       let place = hands_place limbo.rows whole.rows word bits after.rows frees.0 in
       record {
         lists = record { rows = rw frees.0.rest whole.lists.rows; pids = rw frees.1 whole.lists.pids };
-        sound = (rw whole.lists.rows at place.0, place.1);
+        sound = rw whole.lists.rows at place.0;
+        order = place.1;
         fewer = omega arith;
       }
   frees_follow limbo after (state.Reuse (Pids word bits)) whole frees =
       let place = hands_place limbo.pids whole.pids word bits after.pids frees.1 in
       record {
         lists = record { rows = rw frees.0.rest whole.lists.rows; pids = rw frees.1.rest whole.lists.pids };
-        sound = (rw whole.lists.pids at place.0, (none_then limbo.rows after.rows frees.0, place.1));
+        sound = rw whole.lists.pids at place.0;
+        order = (none_then limbo.rows after.rows frees.0, place.1);
         fewer = omega arith;
       }
   frees_follow limbo after state.Epoch whole frees = absurd frees
@@ -112,11 +115,11 @@ module _ (limits : Limits) where
       let beyond : word < some.0 / 64 = first some.0 some.2 in
       let at : some.0 / 64 ≡ word' = some.1 in
       let few = limits.allowed.few_rows in
-      record { lists = h.lists; sound = h.sound; fewer = omega (arith, beyond, at, place, few) }
+      record { lists = h.lists; sound = h.sound; order = h.order; fewer = omega (arith, beyond, at, place, few) }
   later_follow limbo after (Rows word bits) (state.Reuse (Pids word' bits')) whole place first frees =
       let h = frees_follow limbo after (state.Reuse (Pids word' bits')) whole frees in
       let few = limits.allowed.few_rows in
-      record { lists = h.lists; sound = h.sound; fewer = omega (arith, place, few) }
+      record { lists = h.lists; sound = h.sound; order = h.order; fewer = omega (arith, place, few) }
   later_follow limbo after (Pids word bits) (state.Reuse (Rows word' bits')) whole place first frees =
       let some = frees.0.first.some in
       absurd (let e : true ≡ false = sym some.2 ∙ first.0 some.0 in cc)
@@ -126,7 +129,7 @@ module _ (limits : Limits) where
       let beyond : word < some.0 / 64 = first.1 some.0 some.2 in
       let at : some.0 / 64 ≡ word' = some.1 in
       let few = limits.allowed.few_pids in
-      record { lists = h.lists; sound = h.sound; fewer = omega (arith, beyond, at, place, few) }
+      record { lists = h.lists; sound = h.sound; order = h.order; fewer = omega (arith, beyond, at, place, few) }
   later_follow limbo after reuse state.Epoch whole place first frees = absurd frees
   later_follow limbo after reuse (state.Retire epoch) whole place first frees = absurd frees
   later_follow limbo after reuse (state.Announce announces) whole place first frees = absurd frees
@@ -136,13 +139,13 @@ module _ (limits : Limits) where
     | inl more ↦ reads next (compares.reads more) more
     | inr all ↦
         let h = frees_follow (all_restaged (compared_with announces) limbo) after next (restaged_whole (compared_with announces) limbo whole) (compares.frees all) in
-        record { lists = h.lists; sound = h.sound; fewer = (let few = h.fewer in omega (arith, few, short)) }
+        record { lists = h.lists; sound = h.sound; order = h.order; fewer = (let few = h.fewer in omega (arith, few, short)) }
   ]
     where
       reads : (next : State) → (Some next ≡ Some (state.Announce announces)) × (after ≡ limbo) → suc (length announces) < limits.actors → Follow limits after next (suc (335 - length announces))
       reads (state.Announce others) is more =
           let same : others ≡ announces = cc (is.0) in
-          rw (is.1, same) (record { lists = whole.lists; sound = more; fewer = omega arith })
+          rw (is.1, same) (record { lists = whole.lists; sound = more; order = tt; fewer = omega arith })
       reads state.Epoch is more = absurd (cc (is.0))
       reads (state.Retire epoch) is more = absurd (cc (is.0))
       reads (state.Reuse reuse) is more = absurd (cc (is.0))
@@ -152,40 +155,41 @@ module _ (limits : Limits) where
     | inl below ↦ retires next (stamps.retires below) below
     | inr last ↦
         let h = compares_follow [] (all_restaged (stamped_by epoch) limbo) after next (restaged_whole (stamped_by epoch) limbo whole) (omega arith) (stamps.last last) in
-        record { lists = h.lists; sound = h.sound; fewer = (let few = h.fewer in omega (arith, few)) }
+        record { lists = h.lists; sound = h.sound; order = h.order; fewer = (let few = h.fewer in omega (arith, few)) }
   ]
     where
       retires : (next : State) → (Some next ≡ Some (state.Retire epoch)) × (after ≡ all_restaged (stamped_by epoch) limbo) → epoch < 2 ^ 62 → Follow limits after next 337
       retires (state.Retire other) is below =
           let same : other ≡ epoch = cc (is.0) in
-          rw (is.1, same) (record { lists = record { rows = whole.lists.rows; pids = whole.lists.pids }; sound = below; fewer = omega arith })
+          rw (is.1, same) (record { lists = record { rows = whole.lists.rows; pids = whole.lists.pids }; sound = below; order = tt; fewer = omega arith })
       retires state.Epoch is below = absurd (cc (is.0))
       retires (state.Announce announces) is below = absurd (cc (is.0))
       retires (state.Reuse reuse) is below = absurd (cc (is.0))
 
-  moves_follow : (old next : State) (told : Answer Record) (limbo after : Limbo) → IsWhole limits limbo → IsSoundState limits limbo old → Moves limits old limbo told (Some next) after → Follow limits after next (steps_left old)
-  moves_follow state.Epoch next (answer.Number n) limbo after whole sound moves = stamps_follow n limbo after next whole moves
-  moves_follow state.Epoch next answer.Start limbo after whole sound moves = absurd moves
-  moves_follow state.Epoch next (answer.Content content) limbo after whole sound moves = absurd moves
-  moves_follow state.Epoch next (answer.Whether b) limbo after whole sound moves = absurd moves
-  moves_follow state.Epoch next answer.Done limbo after whole sound moves = absurd moves
-  moves_follow (state.Retire epoch) next told limbo after whole sound moves = compares_follow [] limbo after next whole (omega arith) moves
-  moves_follow (state.Announce announces) next (answer.Number n) limbo after whole sound moves =
+  moves_follow : (old next : State) (told : Answer Record) (limbo after : Limbo) → IsWhole limits limbo → IsSoundState limits old → IsInOrder old limbo → Moves limits old limbo told (Some next) after → Follow limits after next (steps_left old)
+  moves_follow state.Epoch next (answer.Number n) limbo after whole sound order moves = stamps_follow n limbo after next whole moves
+  moves_follow state.Epoch next answer.Start limbo after whole sound order moves = absurd moves
+  moves_follow state.Epoch next (answer.Content content) limbo after whole sound order moves = absurd moves
+  moves_follow state.Epoch next (answer.Whether b) limbo after whole sound order moves = absurd moves
+  moves_follow state.Epoch next answer.Done limbo after whole sound order moves = absurd moves
+  moves_follow (state.Retire epoch) next told limbo after whole sound order moves = compares_follow [] limbo after next whole (omega arith) moves
+  moves_follow (state.Announce announces) next (answer.Number n) limbo after whole sound order moves =
       let more : length (announces ++ n ∷ []) ≡ suc (length announces) = (let long = length-append announces (n ∷ []) in omega (arith, long)) in
       let few = limits.allowed.few_actors in
       let h = compares_follow (announces ++ n ∷ []) limbo after next whole (omega (arith, more, sound, few)) moves in
-      record { lists = h.lists; sound = h.sound; fewer = (let fewer = h.fewer in omega (arith, fewer, more, sound, few)) }
-  moves_follow (state.Announce announces) next answer.Start limbo after whole sound moves = absurd moves
-  moves_follow (state.Announce announces) next (answer.Content content) limbo after whole sound moves = absurd moves
-  moves_follow (state.Announce announces) next (answer.Whether b) limbo after whole sound moves = absurd moves
-  moves_follow (state.Announce announces) next answer.Done limbo after whole sound moves = absurd moves
-  moves_follow (state.Reuse reuse) next told limbo after whole sound moves = later_follow limbo after reuse next whole sound.0 sound.1 moves
+      record { lists = h.lists; sound = h.sound; order = h.order; fewer = (let fewer = h.fewer in omega (arith, fewer, more, sound, few)) }
+  moves_follow (state.Announce announces) next answer.Start limbo after whole sound order moves = absurd moves
+  moves_follow (state.Announce announces) next (answer.Content content) limbo after whole sound order moves = absurd moves
+  moves_follow (state.Announce announces) next (answer.Whether b) limbo after whole sound order moves = absurd moves
+  moves_follow (state.Announce announces) next answer.Done limbo after whole sound order moves = absurd moves
+  moves_follow (state.Reuse reuse) next told limbo after whole sound order moves = later_follow limbo after reuse next whole sound order moves
 
 -- a sweep that goes on
-pub goes_on : (old new : Sweep) (told : Answer Record) (limbo after : Limbo) → IsLimboList limbo.rows → IsLimboList limbo.pids → IsSoundSweep old limbo → IsSame old new → Moves old.limits old.state limbo told (Some new.state) after → IsSoundSweep new after × (steps_left new.state < steps_left old.state)
-goes_on old new told limbo after rows pids sound same moves =
-    let h = moves_follow old.limits old.state new.state told limbo after (whole old.limits limbo rows pids sound.lists) sound.state moves in
-    (record { lists = rw same.limits h.lists; actor = rw (same.limits, same.actor) sound.actor; state = rw same.limits h.sound }, h.fewer)
+pub goes_on : (old new : Sweep) (told : Answer Record) (limbo after : Limbo) → IsLimboList limbo.rows → IsLimboList limbo.pids → IsSoundState old.limits old.state → IsSoundSweep old limbo → IsSame old new → Moves old.limits old.state limbo told (Some new.state) after
+    → IsSoundState new.limits new.state × IsSoundSweep new after × (steps_left new.state < steps_left old.state)
+goes_on old new told limbo after rows pids sound swept same moves =
+    let h = moves_follow old.limits old.state new.state told limbo after (whole old.limits limbo rows pids swept.lists) sound swept.order moves in
+    (rw same.limits h.sound, record { lists = rw same.limits h.lists; order = h.order }, h.fewer)
 
 -- ---- the begin
 -- what has a stamp may be freed where there is no other actor
@@ -218,20 +222,20 @@ begins_not limits limbo after begins = elim (no_item limbo) [
 ]
 
 -- one that begins is sound
-pub begins_sound : (limits : Limits) (actor : ℕ) (limbo after : Limbo) (first : State) → IsLimboList limbo.rows → IsLimboList limbo.pids → IsLimboOf limits limbo → actor < limits.actors → Begins limits limbo (Some first) after
-    → IsSoundSweep (record { limits = limits; actor = actor; state = first }) after
-begins_sound limits actor limbo after first rows pids lists inside begins = elim (no_item limbo) [
+pub begins_sound : (limits : Limits) (actor : ℕ) (limbo after : Limbo) (first : State) → IsLimboList limbo.rows → IsLimboList limbo.pids → IsLimboOf limits limbo → Begins limits limbo (Some first) after
+    → IsSoundState limits first × IsSoundSweep (record { limits = limits; actor = actor; state = first }) after
+begins_sound limits actor limbo after first rows pids lists begins = elim (no_item limbo) [
   | inl empty ↦ absurd (cc ((begins.empty empty).0))
   | inr some ↦ elim (cases_Bool (has_unstamped limbo)) [
     | inl unstamped ↦ reads first (begins.epoch unstamped)
     | inr stamped ↦
         let h = compares_follow limits [] limbo after first (whole limits limbo rows pids lists) (omega arith) (begins.stamped some stamped) in
-        record { lists = h.lists; actor = inside; state = h.sound }
+        (h.sound, record { lists = h.lists; order = h.order })
   ]
 ]
   where
-    reads : (first : State) → (Some first ≡ Some state.Epoch) × (after ≡ limbo) → IsSoundSweep (record { limits = limits; actor = actor; state = first }) after
-    reads state.Epoch is = record { lists = rw is.1 lists; actor = inside; state = tt }
+    reads : (first : State) → (Some first ≡ Some state.Epoch) × (after ≡ limbo) → IsSoundState limits first × IsSoundSweep (record { limits = limits; actor = actor; state = first }) after
+    reads state.Epoch is = (tt, record { lists = rw is.1 lists; order = tt })
     reads (state.Retire epoch) is = absurd (cc (is.0))
     reads (state.Announce announces) is = absurd (cc (is.0))
     reads (state.Reuse reuse) is = absurd (cc (is.0))

@@ -54,17 +54,21 @@ abbrev pub ComesFirst : Reuse → Limbo → Type 0
 ComesFirst (Rows word bits) limbo = (row : ℕ) → IsTrue (may_go limbo.rows.entries row) → word < row / 64
 ComesFirst (Pids word bits) limbo = HasNone limbo.rows.entries × ((pid : ℕ) → IsTrue (may_go limbo.pids.entries pid) → word < pid / 64)
 
-abbrev pub IsSoundState : Limits → Limbo → State → Type 0
-IsSoundState limits limbo state.Epoch = ⊤
-IsSoundState limits limbo (state.Retire epoch) = epoch < 2 ^ 62
-IsSoundState limits limbo (state.Announce announces) = suc (length announces) < limits.actors
-IsSoundState limits limbo (state.Reuse reuse) = HasPlace limits reuse × ComesFirst reuse limbo
+-- What a state names is there.
+abbrev pub IsSoundState : Limits → State → Type 0
+IsSoundState limits state.Epoch = ⊤
+IsSoundState limits (state.Retire epoch) = epoch < 2 ^ 62
+IsSoundState limits (state.Announce announces) = suc (length announces) < limits.actors
+IsSoundState limits (state.Reuse reuse) = HasPlace limits reuse
+
+abbrev pub IsInOrder : State → Limbo → Type 0
+IsInOrder (state.Reuse reuse) limbo = ComesFirst reuse limbo
+IsInOrder state limbo = ⊤
 
 -- A sweep and the limbo of its actor.
 pub record IsSoundSweep (sweep : Sweep) (limbo : Limbo) : Type 0 where
   pub lists : IsLimboOf sweep.limits limbo
-  pub actor : sweep.actor < sweep.limits.actors
-  pub state : IsSoundState sweep.limits limbo sweep.state
+  pub order : IsInOrder sweep.state limbo
 
 -- The other actors whose announced epochs were read, and let the stamp pass, are known to have passed.
 abbrev pub HaveTold : ℕ → List ℕ → ℕ → (ℕ → Bool) → Type 0

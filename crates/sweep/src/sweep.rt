@@ -4,12 +4,12 @@ ghost use Rattle.chain_search.specs.Discipline.{May, MayFree};
 ghost use Rattle.chain_search.specs.Fitting.{Fits};
 ghost use Rattle.chain_search.specs.Knowledge.{Knowledge, learn};
 ghost use Rattle.chain_search.specs.Useful.{IsUseful};
-ghost use Rattle.epochs.specs.Limbo.{all_restaged, stamped_by};
+ghost use Rattle.epochs.specs.Limbo.{Limbo as LimboSeen};
 ghost use Rattle.chain_search.specs.Within.{IsWithin};
 ghost use Rattle.sweep.specs.Bounded.{Spends, steps_left};
 ghost use Rattle.sweep.specs.Kept.{AreKept, IsLimboOf};
 ghost use Rattle.sweep.specs.Moves.{Begins, Compares, Frees, IsEmpty, Moves, Stamps, state_if};
-ghost use Rattle.sweep.specs.Sweeps.{Follows, IsSame, IsSoundSweep, IsSoundState, IsTold, Rests, Shows, other_at, step_of, wanted};
+ghost use Rattle.sweep.specs.Sweeps.{Follows, IsSame, IsSoundSweep, IsTold, Rests, Shows, other_at, wanted};
 
 use crate::announces::Announces;
 use bw_model::{Answer, Limits, Step};
@@ -38,11 +38,14 @@ pub struct Sweep {
 }
 
 impl Model for Sweep {
-    ghost use Rattle.sweep.specs.Sweeps.{Sweep};
+    ghost use Rattle.std.specs.Prelude.{◌<◌};
+    ghost use Rattle.sweep.specs.Sweeps.{IsSoundState, Sweep};
 
     ghost Value = { Sweep };
 
     ghost view = { λ s. record { limits = s.limits; actor = s.actor; state = s.state } };
+
+    ghost invariant = { λ s. (s.actor < s.limits.actors) × IsSoundState s.limits s.state };
 }
 
 impl Sweep {
@@ -68,15 +71,13 @@ impl Sweep {
     }
 
     /// The step that the sweep wants next.
-    pub fn step<A: Allocator>(&self, limbo: &Limbo<A>) -> Step<Record>
-        requires sound { IsSoundSweep self.now limbo.now }
+    pub fn step(&self) -> Step<Record>
         ensures wanted { result ≡ wanted self.now }
         ensures within { IsWithin self.now.limits result }
-        ensures may { (k : Knowledge) → Shows self.now limbo.now k → May self.now.actor k result }
-        ensures frees { (k : Knowledge) → Shows self.now limbo.now k → MayFree self.now.limits self.now.actor k result }
+        ensures may { (limbo : LimboSeen) (k : Knowledge) → Shows self.now limbo k → May self.now.actor k result }
+        ensures frees { (limbo : LimboSeen) (k : Knowledge) → Shows self.now limbo k → MayFree self.now.limits self.now.actor k result }
         ensures useful { (k : Knowledge) → IsUseful k result }
     {
-        let _ = limbo;
         match &self.state {
             State::Epoch => Step::Epoch,
             State::Retire { epoch } => Step::Retire(*epoch),
@@ -99,6 +100,7 @@ impl Sweep {
         ensures lists { IsLimboOf self.old.limits limbo.new }
         ensures spends { Spends result self.old.state self.new.state }
     {
+        let _ = &self.limits;
         limbo.has_each_once();
         match self.move_on(limbo, answer) {
             Some(state) => {
