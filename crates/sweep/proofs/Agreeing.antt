@@ -132,10 +132,14 @@ place_of limits actor other inside below apart = elim (cases_lt other actor) [
   where
     beyond : (other : ℕ) → other < limits.actors → other ≢ actor → actor ≤ other → (place : ℕ) × (suc place < limits.actors) × (other_at actor place ≡ other)
     beyond zero below apart after = absurd (apart (omega (arith, after)))
-    beyond (suc place) below apart after = (place, below, (elim (cases_Bool (ltb place actor)) [
-      | inl lt ↦ absurd (apart (let under = ltb-true place actor lt in omega (arith, under, after)))
-      | inr ge ↦ rw ge refl
-    ]))
+    beyond (suc place) below apart after = (
+      place,
+      below,
+      (elim (cases_Bool (ltb place actor)) [
+        | inl lt ↦ absurd (apart (let under = ltb-true place actor lt in omega (arith, under, after)))
+        | inr ge ↦ rw ge refl
+      ]),
+    )
 
 all_passed : (limits : Limits) (actor stamp : ℕ) (announces : List ℕ) (passed : ℕ → Bool) → actor < limits.actors → limits.actors ≤ suc (length announces) → may_be_freed stamp announces ≡ true → HaveTold actor announces stamp passed → HavePassed limits actor passed
 all_passed limits actor stamp announces passed inside all free told other below apart =

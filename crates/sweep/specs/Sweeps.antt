@@ -44,6 +44,15 @@ wanted_at actor (state.Reuse reuse) = step_of reuse
 abbrev pub wanted : Sweep → StepOf Record
 wanted sweep = wanted_at sweep.actor sweep.state
 
+-- the steps of a sweep
+abbrev pub IsOfSweep : StepOf Record → Type 0
+IsOfSweep step.Epoch = ⊤
+IsOfSweep (step.Retire epoch) = ⊤
+IsOfSweep (step.Announce other) = ⊤
+IsOfSweep (step.ReuseRows word bits) = ⊤
+IsOfSweep (step.ReusePids word bits) = ⊤
+IsOfSweep asked = ⊥
+
 -- The word of the reuse is there.
 abbrev pub HasPlace : Limits → Reuse → Type 0
 HasPlace limits (Rows word bits) = 64 * word < limits.rows

@@ -9,7 +9,7 @@ ghost use Rattle.chain_search.specs.Within.{IsWithin};
 ghost use Rattle.sweep.specs.Bounded.{Spends, steps_left};
 ghost use Rattle.sweep.specs.Kept.{AreKept, IsLimboOf};
 ghost use Rattle.sweep.specs.Moves.{Begins, Compares, Frees, IsEmpty, Moves, Stamps, state_if};
-ghost use Rattle.sweep.specs.Sweeps.{Follows, IsSame, IsSoundSweep, IsTold, Rests, Shows, other_at, wanted};
+ghost use Rattle.sweep.specs.Sweeps.{Follows, IsOfSweep, IsSame, IsSoundSweep, IsTold, Rests, Shows, other_at, wanted};
 
 use crate::announces::Announces;
 use bw_model::{Answer, Limits, Step};
@@ -74,6 +74,7 @@ impl Sweep {
     pub fn step(&self) -> Step<Record>
         ensures wanted { result ≡ wanted self.now }
         ensures within { IsWithin self.now.limits result }
+        ensures only { IsOfSweep result }
         ensures may { (limbo : LimboSeen) (k : Knowledge) → Shows self.now limbo k → May self.now.actor k result }
         ensures frees { (limbo : LimboSeen) (k : Knowledge) → Shows self.now limbo k → MayFree self.now.limits self.now.actor k result }
         ensures useful { (k : Knowledge) → IsUseful k result }
@@ -112,7 +113,11 @@ impl Sweep {
     }
 
     /// The state that follows, if the sweep goes on.
-    fn move_on<A: Allocator>(&mut self, limbo: &mut Limbo<A>, answer: Answer<Record>) -> Option<State>
+    fn move_on<A: Allocator>(
+        &mut self,
+        limbo: &mut Limbo<A>,
+        answer: Answer<Record>,
+    ) -> Option<State>
         requires sound { IsSoundSweep self.old limbo.old }
         requires told { IsTold self.old answer }
         ensures moves { Moves self.old.limits self.old.state limbo.old answer result limbo.new }
@@ -163,7 +168,11 @@ fn stamp<A: Allocator>(limits: &Limits, limbo: &mut Limbo<A>, epoch: u64) -> Opt
 }
 
 /// Reads the next actor, or finds out what may be freed once all are read.
-fn compare<A: Allocator>(limits: &Limits, limbo: &mut Limbo<A>, announces: Announces) -> Option<State>
+fn compare<A: Allocator>(
+    limits: &Limits,
+    limbo: &mut Limbo<A>,
+    announces: Announces,
+) -> Option<State>
     ensures { Compares limits.now announces limbo.old result limbo.new }
 {
     if (announces.len() as u64) + 1 < limits.actors {
