@@ -118,7 +118,6 @@ impl Sweep {
         limbo: &mut Limbo<A>,
         answer: Answer<Record>,
     ) -> Option<State>
-        requires sound { IsSoundSweep self.old limbo.old }
         requires told { IsTold self.old answer }
         ensures moves { Moves self.old.limits self.old.state limbo.old answer result limbo.new }
         ensures same { IsSame self.old self.new }
