@@ -1,8 +1,7 @@
 -- What each step of a sweep leaves of the agreement between a limbo and what is known.
-use Rattle.std.proofs.Common.{◌≡◌, ◌≢◌, ◌<◌, ◌≤◌, ◌+◌, ◌-◌, ◌++◌, ◌==◌, inl, inr, ◌⊎◌, ℕ, zero, suc, List, [], ◌∷◌, length, get_or, eqb, Option, Some, None, Bool, true, false, refl, sym, ap, ◌∙◌, arith, IsTrue, length-append}
+use Rattle.std.proofs.Common.{◌≡◌, ◌≢◌, ◌<◌, ◌≤◌, ◌++◌, ◌==◌, inl, inr, ℕ, zero, suc, List, [], ◌∷◌, length, Option, Some, None, Bool, true, false, refl, arith, IsTrue, length-append}
 use Rattle.std.specs.Prelude.{◌||◌, ltb, if◌then◌else◌, IfSome}
-use Rattle.std.specs.List.{list_all}
-use Rattle.std.proofs.lemmas.Bool.{cases_Bool, cases_eq, cases_lt, eq-eqb, ne_eqb, lt-ltb, ltb-true}
+use Rattle.std.proofs.lemmas.Bool.{cases_Bool, cases_lt, eq-eqb, lt-ltb, ltb-true}
 use Rattle.std.proofs.lemmas.List.{get_or_append_left}
 use Rattle.std.proofs.lemmas.List.Sums.{AllPass-from_list_all}
 use Rattle.std.proofs.Math.Seq.{get_or-append_seam}

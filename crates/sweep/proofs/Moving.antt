@@ -1,6 +1,6 @@
 -- What an answer leaves a sweep in: what is known then.
-use Rattle.std.proofs.Common.{◌≡◌, ◌≢◌, ◌<◌, ◌≤◌, ◌/◌, ◌^◌, ◌++◌, inl, inr, ◌⊎◌, ℕ, suc, List, [], ◌∷◌, length, eqb, Option, Some, None, Bool, true, false, refl, sym, ap, ◌∙◌, arith, IsTrue, IsFalse}
-use Rattle.std.specs.Prelude.{◌&&◌, ◌||◌, if◌then◌else◌, IfSome}
+use Rattle.std.proofs.Common.{◌≡◌, ◌<◌, ◌≤◌, ◌/◌, ◌^◌, ◌++◌, inl, inr, ℕ, suc, List, [], ◌∷◌, length, eqb, Option, Some, None, Bool, true, false, refl, sym, ap, ◌∙◌, arith, IsFalse}
+use Rattle.std.specs.Prelude.{if◌then◌else◌, IfSome}
 use Rattle.std.specs.List.{list_any}
 use Rattle.std.proofs.lemmas.Bool.{cases_Bool, cases_lt}
 use Rattle.bw_model.specs.declared.limits.Limits.{Limits}
@@ -8,7 +8,7 @@ use Rattle.bw_model.specs.declared.step.Answer.{Answer}
 use Rattle.bw_model.specs.declared.step.Answer.TheVariants as answer
 use Rattle.bw_model.specs.declared.step.Step.TheVariants as step
 use Rattle.deltas.specs.declared.record.Record.{Record}
-use Rattle.chain_search.specs.Discipline.{IsPassed, MayFree}
+use Rattle.chain_search.specs.Discipline.{IsPassed}
 use Rattle.chain_search.specs.Fitting.{Fits}
 use Rattle.chain_search.specs.Knowledge as known
 use Rattle.chain_search.specs.Knowledge.{Knowledge, Limbos, freed, learn}
@@ -16,15 +16,14 @@ use Rattle.chain_search.specs.Steps.{is_among}
 use Rattle.epochs.specs.declared.entry.Entry.{Entry}
 use Rattle.epochs.specs.declared.entry.Stage.{Stage}
 use Rattle.epochs.specs.declared.entry.Stage.TheVariants.{Unstamped, Stamped, Passed}
-use Rattle.epochs.specs.declared.item.Reuse.{Reuse}
 use Rattle.epochs.specs.declared.item.Reuse.TheVariants.{Rows, Pids}
 use Rattle.epochs.specs.Limbo.{Limbo, LimboList, all_restaged, compared_with, is_unstamped, stage_in, stage_of, stamped_by}
-use Rattle.epochs.specs.Words.{HandsNothingOn, HandsOn, IsHandedOn, may_go, without}
+use Rattle.epochs.specs.Words.{HandsOn, may_go, without}
 use Rattle.sweep.specs.declared.sweep.State.{State}
 use Rattle.sweep.specs.declared.sweep.State.TheVariants as state
 use Rattle.sweep.specs.Kept.{Agrees, AreKept, IsLimboOf}
-use Rattle.sweep.specs.Moves.{Begins, Compares, Frees, IsEmpty, Moves, Stamps, has_unstamped, state_if}
-use Rattle.sweep.specs.Sweeps.{AreTold, Follows, IsSame, Rests, Shows, ShowsState, ShowsThen, Sweep, Told, other_at, step_of, wanted, wanted_at}
+use Rattle.sweep.specs.Moves.{Begins, Compares, Frees, Moves, Stamps, has_unstamped, state_if}
+use Rattle.sweep.specs.Sweeps.{AreTold, Follows, IsSame, Shows, ShowsState, ShowsThen, Sweep, Told, other_at, wanted, wanted_at}
 use Rattle.sweep.proofs.Agreeing.{announced_agrees, announced_told, compared_agrees, may_free, stamped_agrees, stamped_told}
 use Rattle.sweep.proofs.Stages.{both_of, kept_stage, neither, no_item, no_stage, passed_stage, restaged_stage}
 

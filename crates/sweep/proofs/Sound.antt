@@ -1,6 +1,6 @@
 -- A sweep stays sound, and has fewer steps left after each answer.
-use Rattle.std.proofs.Common.{◌≡◌, ◌≢◌, ◌<◌, ◌≤◌, ◌*◌, ◌-◌, ◌/◌, ◌^◌, ◌++◌, inl, inr, ◌⊎◌, ℕ, suc, List, [], ◌∷◌, length, length-append, get_or, eqb, Option, Some, None, Bool, true, false, refl, sym, ap, ◌∙◌, arith, IsTrue, IsFalse}
-use Rattle.std.specs.Prelude.{◌&&◌, ◌||◌, if◌then◌else◌}
+use Rattle.std.proofs.Common.{◌≡◌, ◌<◌, ◌≤◌, ◌*◌, ◌-◌, ◌/◌, ◌^◌, ◌++◌, inl, inr, ℕ, suc, List, [], ◌∷◌, length, length-append, eqb, Some, None, true, false, refl, sym, ap, ◌∙◌, arith}
+use Rattle.std.specs.Prelude.{◌&&◌}
 use Rattle.std.specs.List.{All, list_any}
 use Rattle.std.proofs.lemmas.Bool.{cases_Bool, cases_eq, cases_lt, eq-eqb, eqb-true}
 use Rattle.std.proofs.lemmas.List.Elements.{All-map}
@@ -9,20 +9,18 @@ use Rattle.bw_model.specs.declared.limits.Limits.{Limits}
 use Rattle.bw_model.specs.declared.step.Answer.{Answer}
 use Rattle.bw_model.specs.declared.step.Answer.TheVariants as answer
 use Rattle.deltas.specs.declared.record.Record.{Record}
-use Rattle.chain_search.specs.Fitting.{Fits}
-use Rattle.chain_search.specs.Knowledge.{Knowledge}
 use Rattle.epochs.specs.declared.entry.Entry.{Entry}
 use Rattle.epochs.specs.declared.entry.Stage.{Stage}
 use Rattle.epochs.specs.declared.entry.Stage.TheVariants.{Unstamped, Stamped, Passed}
 use Rattle.epochs.specs.declared.item.Reuse.{Reuse}
 use Rattle.epochs.specs.declared.item.Reuse.TheVariants.{Rows, Pids}
 use Rattle.epochs.specs.Limbo.{IsLimboList, Limbo, LimboList, all_restaged, compared_with, is_passed, is_unstamped, restaged, stamped_by}
-use Rattle.epochs.specs.Words.{HandsNothingOn, HandsOn, HasNone, IsFirst, IsHandedOn, may_go, without}
+use Rattle.epochs.specs.Words.{HandsNothingOn, HandsOn, HasNone, may_go}
 use Rattle.sweep.specs.declared.sweep.State.{State}
 use Rattle.sweep.specs.declared.sweep.State.TheVariants as state
-use Rattle.sweep.specs.Bounded.{Spends, reuses_left, steps_left}
+use Rattle.sweep.specs.Bounded.{reuses_left, steps_left}
 use Rattle.sweep.specs.Kept.{IsLimboOf}
-use Rattle.sweep.specs.Moves.{Begins, Compares, Frees, IsEmpty, Moves, Stamps, has_unstamped, state_if}
+use Rattle.sweep.specs.Moves.{Begins, Compares, Frees, IsEmpty, Moves, Stamps, has_unstamped}
 use Rattle.sweep.specs.Sweeps.{ComesFirst, HasPlace, IsInOrder, IsSame, IsSoundState, IsSoundSweep, Sweep}
 use Rattle.sweep.proofs.Stages.{both_of, left_later, neither, no_item}
 

@@ -1,10 +1,9 @@
 -- What is taken out of the tree comes into limbo.
-use Rattle.std.proofs.Common.{◌≡◌, ◌≢◌, ◌<◌, ◌≤◌, ◌+◌, ◌++◌, ◌==◌, inl, inr, ◌⊎◌, ℕ, zero, suc, List, [], ◌∷◌, length, map, take, get_or, eqb, Option, Some, None, Bool, true, false, refl, sym, subst, ap, ◌∙◌, arith, IsTrue, IsFalse}
+use Rattle.std.proofs.Common.{◌≡◌, ◌≢◌, ◌<◌, ◌≤◌, ◌++◌, inl, inr, ℕ, zero, suc, List, [], ◌∷◌, length, map, take, get_or, eqb, Option, Some, None, Bool, true, false, refl, sym, subst, ap, ◌∙◌, arith, IsTrue}
 use Rattle.std.specs.Prelude.{◌||◌, if◌then◌else◌, MatchOption, unwrap_or}
 use Rattle.std.specs.List.{All, AllPairs, Contains, list_any}
 use Rattle.std.proofs.lemmas.Bool.{cases_Bool, cases_eq, eq-eqb, eqb-true, ne_eqb}
 use Rattle.std.proofs.lemmas.List.{get_or-take, get_or_default, length-take-le}
-use Rattle.std.proofs.lemmas.List.Elements.{All-cons}
 use Rattle.std.proofs.lemmas.List.Folds.{Any-from_list_any, list_any-append, list_any_at}
 use Rattle.std.proofs.lemmas.List.Kept.{AllPairs-cons}
 use Rattle.bw_model.specs.declared.limits.Limits.{Limits}
@@ -18,9 +17,9 @@ use Rattle.chain_search.specs.Knowledge.{Knowledge, Limbos, is_on_walk, next_see
 use Rattle.epochs.specs.declared.entry.Entry.{Entry}
 use Rattle.epochs.specs.declared.entry.Stage.{Stage}
 use Rattle.epochs.specs.declared.entry.Stage.TheVariants.{Unstamped, Stamped, Passed}
-use Rattle.epochs.specs.Limbo.{IsNew, Limbo, LimboList, added, is_in, stage_in, stage_of}
+use Rattle.epochs.specs.Limbo.{IsNew, Limbo, LimboList, added, stage_in, stage_of}
 use Rattle.sweep.specs.Kept.{Agrees, AreKept}
-use Rattle.sweep.specs.Taken.{AreNew, IsTakenOut, fresh, with_pid, with_rows, with_taken}
+use Rattle.sweep.specs.Taken.{IsTakenOut, fresh, with_rows}
 use Rattle.sweep.proofs.Stages.{or_true}
 
 -- whether the row is one of these
