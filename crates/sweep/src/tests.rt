@@ -1,12 +1,12 @@
 //! Sweeps step by step: what they ask for, in which order, and what is left in limbo.
-ghost use Rattle.std.specs.Prelude.{◌<◌, ◌≤◌, ◌^◌, ℕ};
+ghost use Rattle.std.specs.Prelude.{◌≡◌, ◌<◌, ◌≤◌, ◌^◌};
 ghost use Rattle.bw_model.specs.declared.limits.Limits.{Limits as LimitsSeen};
 ghost use Rattle.chain_search.specs.Fitting.{Fits};
 ghost use Rattle.chain_search.specs.Knowledge.{nothing};
-ghost use Rattle.sweep.specs.Kept.{IsLimboOf};
+ghost use Rattle.sweep.specs.Kept.{IsLimboOf, empty_limbo};
 ghost use Rattle.sweep.specs.Sweeps.{IsOfSweep};
 
-use crate::Sweep;
+use crate::{Sweep, take_out};
 use arrayvec::ArrayVec;
 use bw_model::{Answer, Limits, Step};
 use deltas::Record;
@@ -183,6 +183,32 @@ fn frees_word_by_word(rt: HostRuntime) -> Result<(), Fail> {
         ('r', 0, 0x22),
         ('r', 2, 0x4),
         ('p', 0, 0x8000000000000000),
+    ];
+    assert_eq!(rt; log.as_slice(), steps.as_slice());
+    assert!(rt; limbo.is_empty());
+    Ok(())
+}
+
+/// Two rows and a PID are taken out of the tree.
+fn take_out_some(limits: &Limits, limbo: &mut Limbo)
+    requires { limbo.old ≡ empty_limbo limits.now }
+    ensures { IsLimboOf limits.now limbo.new }
+{
+    let _ = limits;
+    take_out(limbo, &[3, 42], Some(2));
+}
+
+#[test]
+fn frees_what_was_taken_out(rt: HostRuntime) -> Result<(), Fail> {
+    let limits = Limits::new(1, 64, 256, 1)?;
+    let mut limbo = Limbo::new(rt.alloc(), &limits)?;
+    take_out_some(&limits, &mut limbo);
+    let log = drive(&limits, 0, &mut limbo, 1, &[]);
+    let steps = [
+        ('e', 0, 0),
+        ('t', 1, 0),
+        ('r', 0, 0x40000000008),
+        ('p', 0, 0x4),
     ];
     assert_eq!(rt; log.as_slice(), steps.as_slice());
     assert!(rt; limbo.is_empty());
