@@ -141,7 +141,8 @@ module _ (actor : ℕ) (limits : Limits) (k : Knowledge) (spares : Spares) where
   cleared_outs (Unlink pid head unterm removal) told is target h fits =
       let page = target.1.0 in
       let is_told = clear_went k limits unterm.child removal told page target.2 h.stands.1 h.may.links.1 fits in
-      rw (is_told, cleared_learnt k unterm.child removal page h.stands.1) (record { limbo = refl; fresh = clear_fresh k limits unterm.child removal page target.2 h.stands.1 (rw is_told at fits) })
+      let fresh = clear_fresh k limits unterm.child removal page target.2 h.stands.1 (rw is_told at fits) in
+      rw (is_told, cleared_learnt k unterm.child removal page h.stands.1) (record { limbo = refl; fresh = (page, target.1.1, fresh.0, fresh.1) })
 
   outs_at : (plan : Plan) (state : State) (told : Answer Record) → IsSoundChange (change plan state) spares → IsTarget limits plan → Shows actor (change plan state) spares k → Fits limits k (wanted_at plan spares state) told
       → TakesOutTo k limits plan spares state told

@@ -1,5 +1,5 @@
 -- What a change takes out of the tree, and so into the limbo of its actor.
-use Rattle.std.specs.Prelude.{◌≡◌, ℕ, Option, Some, ⊤}
+use Rattle.std.specs.Prelude.{◌≡◌, ◌<◌, ℕ, Option, Some, ⊤}
 use Rattle.bw_model.specs.declared.limits.Limits.{Limits}
 use Rattle.deltas.specs.Memory.{replaced_at}
 use Rattle.deltas.specs.declared.record.Record.{Record}
@@ -32,10 +32,10 @@ abbrev pub IsFreshOver : Limits → Knowledge → Record → ℕ → Type 0
 IsFreshOver limits k (Base page) head = AreOutOfLimbo limits k head
 IsFreshOver limits k _ head = ⊤
 
--- What a change that won takes out was in no limbo.
+-- What a change that won takes out was in no limbo, and is of numbers that there are.
 abbrev pub IsFreshWon : Limits → Knowledge → Plan → Type 0
 IsFreshWon limits k (Install pid head content) = IsFreshOver limits k content head
-IsFreshWon limits k (Unlink pid head unterm removal) = (k.limbo.pids unterm.child ≡ Absent) × AreOutOfLimbo limits k removal
+IsFreshWon limits k (Unlink pid head unterm removal) = (0 < unterm.child) × (unterm.child < limits.pids) × (k.limbo.pids unterm.child ≡ Absent) × AreOutOfLimbo limits k removal
 IsFreshWon limits k _ = ⊤
 
 -- the same of a change that ended so, or goes on

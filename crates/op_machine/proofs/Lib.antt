@@ -24,3 +24,4 @@ pub mod Going
 pub mod Keeping
 pub mod TakingOut
 pub mod SweepMoves
+pub mod Nexts

@@ -1,14 +1,19 @@
 -- What the sweep with which an operation begins leaves as it was, and what it keeps.
-use Rattle.std.proofs.Common.{◌≡◌, Option, Some, None, true, false, refl, sym, subst, ◌∙◌}
+use Rattle.std.proofs.Common.{◌≡◌, Option, Some, None, refl, sym, subst, ◌∙◌}
 use Rattle.std.specs.Prelude.{IfSome, MatchOption}
 use Rattle.bw_model.specs.declared.step.Answer.{Answer}
+use Rattle.bw_model.specs.declared.step.Step.{Step}
 use Rattle.deltas.specs.declared.record.Record.{Record}
+use Rattle.chain_search.specs.Discipline.{May, MayFree}
 use Rattle.chain_search.specs.Fitting.{Fits}
 use Rattle.chain_search.specs.Knowledge.{Knowledge, Limbos, learn}
 use Rattle.chain_search.specs.Recalled.{Recalled, recall}
+use Rattle.chain_search.specs.Useful.{IsUseful}
+use Rattle.chain_search.specs.Within.{IsWithin}
 use Rattle.epochs.specs.Limbo.{Limbo}
 use Rattle.installs.specs.Spares.{Spares}
-use Rattle.op_machine.specs.Ops.{HoldsLimbo, Shows, asked_by}
+use Rattle.op_machine.specs.Hands.{Hand}
+use Rattle.op_machine.specs.Ops.{Goes, HoldsLimbo, IsSweeping, Op, Shows, asked_by}
 use Rattle.op_machine.specs.Shows.{FitsLast, Stands, learn_last, recall_last}
 use Rattle.op_machine.specs.Sweeping.{FollowsSweep, with_limbo}
 use Rattle.op_machine.specs.Tasks.{Task, Waits}
@@ -81,3 +86,19 @@ module _ (task : Task) (spares : Spares) where
       both : (o : Option Sweep) → IfSome o (λ sweep. IsSoundSweep sweep limbo) → IfSome o (λ next. (next.limits ≡ sweep.limits) × (next.actor ≡ sweep.actor)) → IfSome o (IsSweepOf limbo)
       both None sound same = tt
       both (Some other) sound same = let h = rw some at shows in (sound, same.0 ∙ h.limbo.limits, same.1 ∙ h.limbo.actor)
+
+-- the step that the sweep wants may be taken
+pub sweeps : (op : Op) (hand : Hand) (k : Knowledge) (r : Recalled) (sweep : Sweep) (asked : Step Record) → op.sweep ≡ Some sweep → Shows op hand k r → asked ≡ wanted sweep → IsWithin sweep.limits asked
+    → ((limbo : Limbo) (k : Knowledge) → ShowsSweep sweep limbo k → May sweep.actor k asked) → ((limbo : Limbo) (k : Knowledge) → ShowsSweep sweep limbo k → MayFree sweep.limits sweep.actor k asked) → IsUseful k asked → Goes k r op hand asked
+sweeps op hand k r sweep asked some shows is within may frees useful =
+    let of : IsSweeping op.task op.state hand.limbo k sweep = rw some at shows.limbo in
+    record {
+      wanted = rw (some, is) refl;
+      may = record {
+        within = rw (← of.limits) within;
+        may = rw (← of.actor) (may hand.limbo k of.shows);
+        frees = rw (← of.limits, ← of.actor) (frees hand.limbo k of.shows);
+        useful = useful;
+      };
+      shows = shows;
+    }

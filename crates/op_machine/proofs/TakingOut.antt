@@ -10,7 +10,7 @@ use Rattle.chain_search.specs.Chains.{IsChainFrom, chain_rows}
 use Rattle.chain_search.specs.Fitting.{AreOutOfLimbo}
 use Rattle.chain_search.specs.Knowledge.{Absent, Unstamped, Knowledge, Limbos, taken_out}
 use Rattle.epochs.specs.Limbo.{Limbo as LimboSeen}
-use Rattle.installs.specs.Changes.{IsTarget, linked_by}
+use Rattle.installs.specs.Changes.{linked_by}
 use Rattle.installs.specs.Outs.{TakesFresh, limbo_after, limbo_over}
 use Rattle.installs.specs.declared.change.End.{End}
 use Rattle.installs.specs.declared.change.End.TheVariants.{Won, Lost, Full}
@@ -55,8 +55,8 @@ update_takes_nothing (kind.Merge merge) pid head e = tt
 update_takes_nothing (kind.Unterm unterm) pid head e = tt
 
 module _ (limits : Limits) (k : Knowledge) (unlinked : Unlinked) where
-  takes : (plan : Plan) → IsTarget limits plan → IsTakenBy k plan unlinked → TakesFresh limits k plan (Some Won) → GoesToLimbo limits k unlinked (limbo_after plan (Some Won) k)
-  takes (Install pid head content) target taken fresh = over content taken fresh
+  takes : (plan : Plan) → IsTakenBy k plan unlinked → TakesFresh limits k plan (Some Won) → GoesToLimbo limits k unlinked (limbo_after plan (Some Won) k)
+  takes (Install pid head content) taken fresh = over content taken fresh
     where
       over : (content : Record) → IsTakenBy k (Install pid head content) unlinked → TakesFresh limits k (Install pid head content) (Some Won) → GoesToLimbo limits k unlinked (limbo_over content head k)
       over (kind.Base page) taken fresh = record { head = head; rows_of = taken.0; absent = fresh; page = rw taken.1 refl }
@@ -68,19 +68,19 @@ module _ (limits : Limits) (k : Knowledge) (unlinked : Unlinked) where
       over (kind.Remove remove) taken fresh = absurd taken
       over (kind.Merge merge) taken fresh = absurd taken
       over (kind.Unterm unterm) taken fresh = absurd taken
-  takes (Split pid split) target taken fresh = absurd taken
-  takes (Root left root) target taken fresh = absurd taken
-  takes (Unlink pid head unterm removal) target taken fresh = record {
+  takes (Split pid split) taken fresh = absurd taken
+  takes (Root left root) taken fresh = absurd taken
+  takes (Unlink pid head unterm removal) taken fresh = record {
     head = removal;
     rows_of = taken.0;
-    absent = fresh.1;
-    page = rw taken.1 (record { some = target.1.0; below = target.1.1; absent = fresh.0; is = refl });
+    absent = fresh.3;
+    page = rw taken.1 (record { some = fresh.0; below = fresh.1; absent = fresh.2; is = refl });
   }
 
-module _ (limits : Limits) (k : Knowledge) (command : Command) (plan : Plan) (target : IsTarget limits plan) where
+module _ (limits : Limits) (k : Knowledge) (command : Command) (plan : Plan) where
   won : (then : Then) → Brings k command plan then → TakesFresh limits k plan (Some Won) → Unlinks limits k Won then (limbo_after plan (Some Won) k)
   won Round brings fresh = takes_nothing plan k brings.1
-  won (Limbo unlinked) brings fresh = takes limits k unlinked plan target brings fresh
+  won (Limbo unlinked) brings fresh = takes limits k unlinked plan brings fresh
   won (Errand key) brings fresh = takes_nothing plan k (rw brings.2 tt)
   won (Reply answered) brings fresh = takes_nothing plan k (rw brings.is (update_takes_nothing brings.content brings.pid brings.head (brings.updates None)))
 
@@ -97,10 +97,10 @@ gone limits k end then unlinked after won is h = rw (won, is) at h
 -- What a change has taken out of the tree may come into limbo, by the laws of chains that go there.
 module _ (limits : Limits) (actor : ℕ) (limbo : LimboSeen) (k : Knowledge) (kept : AreKept limits actor limbo k.limbo)
     (rows : (limits : Limits) (actor head : ℕ) (limbo : LimboSeen) (k : Knowledge) (chain : List Record) → AreKept limits actor limbo k.limbo → AreOutOfLimbo limits k head → IsChainFrom k.read.seen head chain → length chain ≤ 13
-        → IsTakenOut limits actor limbo (chain_rows head chain) None (record k.limbo { rows = taken_out k.read.seen head k.limbo.rows }))
+    → IsTakenOut limits actor limbo (chain_rows head chain) None (record k.limbo { rows = taken_out k.read.seen head k.limbo.rows }))
     (page : (limits : Limits) (actor head page : ℕ) (limbo : LimboSeen) (k : Knowledge) (chain : List Record) → AreKept limits actor limbo k.limbo → AreOutOfLimbo limits k head → IsChainFrom k.read.seen head chain → length chain ≤ 13
-        → 0 < page → page < limits.pids → k.limbo.pids page ≡ Absent
-        → IsTakenOut limits actor limbo (chain_rows head chain) (Some page) (record k.limbo { rows = taken_out k.read.seen head k.limbo.rows; pids = replaced_at page Unstamped k.limbo.pids })) where
+    → 0 < page → page < limits.pids → k.limbo.pids page ≡ Absent
+    → IsTakenOut limits actor limbo (chain_rows head chain) (Some page) (record k.limbo { rows = taken_out k.read.seen head k.limbo.rows; pids = replaced_at page Unstamped k.limbo.pids })) where
   pub taken : (unlinked : Unlinked) (after : Limbos) → GoesToLimbo limits k unlinked after → IsTakenOut limits actor limbo unlinked.rows.items unlinked.pid after
   taken unlinked after out = by unlinked.pid out.page
     where

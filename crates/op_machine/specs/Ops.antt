@@ -8,7 +8,6 @@ use Rattle.deltas.specs.declared.record.Record.{Record}
 use Rattle.chain_search.specs.Knowledge.{Knowledge}
 use Rattle.chain_search.specs.Recalled.{Recalled}
 use Rattle.epochs.specs.Limbo.{Limbo}
-use Rattle.installs.specs.Spares.{Spares}
 use Rattle.op_machine.specs.Hands.{Hand}
 use Rattle.op_machine.specs.Outcomes.{HasLeft}
 use Rattle.op_machine.specs.Shows.{FitsLast, MayStep, Stands, learn_last, recall_last, wanted_at}

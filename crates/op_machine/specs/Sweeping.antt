@@ -1,5 +1,5 @@
 -- The sweep with which a writer's operation begins.
-use Rattle.std.specs.Prelude.{◌≡◌, ◌<◌, Option, None, Some, MatchOption, IfSome}
+use Rattle.std.specs.Prelude.{◌≡◌, ◌<◌, Option, None, MatchOption, IfSome}
 use Rattle.bw_model.specs.declared.step.Answer.{Answer}
 use Rattle.bw_model.specs.declared.step.Step.{Step as StepOf}
 use Rattle.deltas.specs.declared.record.Record.{Record}
@@ -35,8 +35,8 @@ MovesSweep old had told new has = (k : Knowledge) (r : Recalled) (spares : Spare
 abbrev pub ObeysSweep : Op → Limbo → Answer Record → Op → Limbo → Option (StepOf Record) → Type 0
 ObeysSweep old had told new has want = (k : Knowledge) (r : Recalled) (spares : Spares) → Shows old (with_limbo spares had) k r → FitsLast old.task.limits k (swept_by old) told
     → MatchOption want
-        ((new.sweep ≡ None) × Shows new (with_limbo spares has) (learn_last k (swept_by old) told) (recall_last r (swept_by old) told))
-        (λ asked. Goes (learn_last k (swept_by old) told) (recall_last r (swept_by old) told) new (with_limbo spares has) asked)
+    ((new.sweep ≡ None) × Shows new (with_limbo spares has) (learn_last k (swept_by old) told) (recall_last r (swept_by old) told))
+    (λ asked. Goes (learn_last k (swept_by old) told) (recall_last r (swept_by old) told) new (with_limbo spares has) asked)
 
 -- A sweep that goes on is shown, and one that has ended leaves its actor at rest; nothing is learnt but of the limbo.
 pub record FollowsSweep (k now : Knowledge) (old : Sweep) (next : Option Sweep) (limbo : Limbo) : Type 0 where

@@ -1,5 +1,5 @@
 -- An operation after its sweep, over the spares alone.
-use Rattle.std.specs.Prelude.{◌≡◌, ◌<◌, Option, Some, None, ⊤}
+use Rattle.std.specs.Prelude.{◌≡◌, Option, Some, ⊤}
 use Rattle.bw_model.specs.declared.step.Step.{Step as StepOf}
 use Rattle.bw_model.specs.declared.step.Answer.{Answer}
 use Rattle.deltas.specs.declared.record.Record.{Record}
@@ -11,8 +11,10 @@ use Rattle.op_machine.specs.Hands.{Hand}
 use Rattle.op_machine.specs.Ops.{Op}
 use Rattle.op_machine.specs.Outcomes.{HasLeft}
 use Rattle.op_machine.specs.Shows.{FitsLast, MayStep, Stands, learn_last, recall_last, wanted_at}
+use Rattle.op_machine.specs.Tasks.{Task}
 use Rattle.op_machine.specs.declared.op.Want.{Want}
 use Rattle.op_machine.specs.declared.op.Want.TheVariants.{Step, Done}
+use Rattle.op_machine.specs.declared.state.State.{State}
 use Rattle.sweep.specs.Kept.{AreKept}
 
 abbrev pub Works : Op → Spares → Knowledge → Recalled → Type 0
@@ -33,6 +35,15 @@ pub record IsToldOn (op : Op) (spares : Spares) (told : Answer Record) : Type 0 
 pub record IsToldWith (op : Op) (hand : Hand) (told : Answer Record) : Type 0 where
   pub told_on : IsToldOn op hand.spares told
   pub kept : AreKept op.task.limits op.task.actor hand.limbo told_on.k.limbo
+
+-- The same of a change that is under way.
+pub record IsToldChange (state : State) (hand : Hand) (told : Answer Record) : Type 0 where
+  pub task : Task
+  pub k : Knowledge
+  pub r : Recalled
+  pub stands : Stands task hand.spares k r state
+  pub fits : FitsLast task.limits k (wanted_at hand.spares state) told
+  pub kept : AreKept task.limits task.actor hand.limbo k.limbo
 
 -- The step is wanted, the actor may take it, and the operation shows what is known.
 pub record GoesOn (k : Knowledge) (r : Recalled) (op : Op) (spares : Spares) (asked : StepOf Record) : Type 0 where

@@ -3,17 +3,18 @@ ghost use Rattle.std.specs.Prelude.{◌≡◌, ◌<◌, ◌≤◌, ◌^◌, ℕ,
 ghost use Rattle.chain_search.specs.Fitting.{Fits};
 ghost use Rattle.chain_search.specs.Knowledge.{Knowledge, begun, learn};
 ghost use Rattle.chain_search.specs.Recalled.{Recalled, blank};
-ghost use Rattle.op_machine.specs.Bounded.{left_at, left_for, with_errands};
+ghost use Rattle.op_machine.specs.Bounded.{LeavesFor, left_at, left_for, with_errands};
 ghost use Rattle.op_machine.specs.Hands.{Hand as HandSeen};
 ghost use Rattle.op_machine.specs.Ops.{IsAtRestWith, IsTold, Obeys, Shows};
-ghost use Rattle.op_machine.specs.Outcomes.{Faces, IsFaced, is_changing};
-ghost use Rattle.op_machine.specs.Shows.{Stands, wanted_at};
+ghost use Rattle.op_machine.specs.Outcomes.{Comes, Faces, IsFaced, changed, is_changing};
+ghost use Rattle.op_machine.specs.Shows.{FitsLast, Stands, learn_last, wanted_at};
 ghost use Rattle.op_machine.specs.Spending.{Spends, steps_left};
 ghost use Rattle.op_machine.specs.Sweeping.{FollowsSweep, HasFewer, IsSameWork, IsToldSweep, MovesSweep, ObeysSweep};
-ghost use Rattle.op_machine.specs.Tasks.{IsSameTask};
+ghost use Rattle.op_machine.specs.Tasks.{IsSameTask, Task};
 ghost use Rattle.sweep.specs.Bounded.{steps_left as steps_of};
 ghost use Rattle.sweep.specs.Sweeps.{IsSoundSweep, IsTold as IsToldAlone, Shows as ShowsSweep, wanted};
-ghost use Rattle.op_machine.specs.Works.{IsToldOn, IsToldWith, KeepsLimbo, ObeysOn, SpendsOn};
+ghost use Rattle.sweep.specs.Kept.{AreKept};
+ghost use Rattle.op_machine.specs.Works.{IsToldChange, IsToldOn, IsToldWith, KeepsLimbo, ObeysOn, SpendsOn};
 
 use crate::hand::Hand;
 use crate::state::{Outcome, Progress, State, Then};
@@ -110,7 +111,7 @@ impl Op {
     {
         self.move_sweep(limbo, answer);
         let sweep = self.sweep.as_ref()?;
-        Some(sweep.step(limbo))
+        Some(sweep.step())
     }
 
     /// Begins the sweep of a writer, or goes on with it.
@@ -137,8 +138,7 @@ impl Op {
         ensures same { IsSameTask self.old.task self.new.task }
         ensures sweep { self.new.sweep ≡ self.old.sweep }
     {
-        if let Some((end, then)) = self.state.change_next(&mut hand.spares, answer) {
-            hand.unlink(end, &then);
+        if let Some((end, then)) = ended(&mut self.state, hand, answer) {
             self.end_change(&hand.spares, end, then);
         }
         Want::Step(self.state.step(&hand.spares))
@@ -191,5 +191,26 @@ fn swept<A: Allocator>(sweep: Sweep, limbo: &mut Limbo<A>, answer: Answer<Record
         Some(sweep)
     } else {
         None
+    }
+}
+
+/// How a change has ended, once it has. What it has taken out of the tree comes into limbo.
+fn ended<A: Allocator>(
+    state: &mut State,
+    hand: &mut Hand<A>,
+    answer: Answer<Record>,
+) -> Option<(End, Then)>
+    requires told { IsToldChange state.old hand.old answer }
+    requires changing { is_changing state.old ≡ true }
+    ensures comes { (task : Task) (k : Knowledge) (r : Recalled) → Stands task hand.old.spares k r state.old → FitsLast task.limits k (wanted_at hand.old.spares state.old) answer → Comes task k r (wanted_at hand.old.spares state.old) answer state.new hand.new.spares (changed result) }
+    ensures leaves { (task : Task) (k : Knowledge) (r : Recalled) → Stands task hand.old.spares k r state.old → FitsLast task.limits k (wanted_at hand.old.spares state.old) answer → LeavesFor r (wanted_at hand.old.spares state.old) answer (left_at r hand.old.spares state.old) state.new hand.new.spares (changed result) }
+    ensures keeps { (task : Task) (k : Knowledge) (r : Recalled) → Stands task hand.old.spares k r state.old → FitsLast task.limits k (wanted_at hand.old.spares state.old) answer → AreKept task.limits task.actor hand.old.limbo k.limbo → AreKept task.limits task.actor hand.new.limbo (learn_last k (wanted_at hand.old.spares state.old) answer).limbo }
+{
+    match state.change_next(&mut hand.spares, answer) {
+        None => None,
+        Some((end, then)) => {
+            hand.unlink(end, &then);
+            Some((end, then))
+        }
     }
 }

@@ -1,4 +1,4 @@
-use Rattle.std.proofs.Common.{ap, subst}
+use Rattle.std.proofs.Common.{ap}
 use Rattle.op_machine.specs.Hands.{Hand}
 use Rattle.op_machine.proofs.TakingOut.{gone, taken}
 use Rattle.op_machine.proofs.hand.Hand.unlink.Goals as goal

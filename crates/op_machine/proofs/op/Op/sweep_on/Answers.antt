@@ -1,31 +1,17 @@
-use Rattle.std.proofs.Common.{rules, ◌≡◌, ◌<◌, ◌≤◌, ◌^◌, ℕ, [], length, IfSome, IsSome, None, false, true, ◌+◌, ◌-◌, ◌*◌, ◌/◌, ◌%◌, Bool, nat_eq, nat_lt, List, ◌∷◌, ◌++◌, slice_index_or, slice_set, bit_and, bit_or, w8, w32, w64, Bor, MutBor}
-use Rattle.chain_search.specs.Fitting.{Fits}
-use Rattle.chain_search.specs.Knowledge.{Knowledge, begun, learn}
-use Rattle.chain_search.specs.Recalled.{Recalled, blank}
-use Rattle.op_machine.specs.Bounded.{left_at, left_for, with_errands}
-use Rattle.op_machine.specs.Hands.{Hand as HandSeen}
-use Rattle.op_machine.specs.Ops.{IsAtRestWith, IsTold, Obeys, Shows}
-use Rattle.op_machine.specs.Outcomes.{Faces, IsFaced, is_changing}
-use Rattle.op_machine.specs.Shows.{Stands, wanted_at}
-use Rattle.op_machine.specs.Spending.{Spends, steps_left}
-use Rattle.op_machine.specs.Sweeping.{FollowsSweep, HasFewer, IsSameWork, IsToldSweep, MovesSweep, ObeysSweep}
-use Rattle.op_machine.specs.Tasks.{IsSameTask}
-use Rattle.sweep.specs.Bounded.{steps_left as steps_of}
-use Rattle.sweep.specs.Sweeps.{IsSoundSweep}
-use Rattle.sweep.specs.Sweeps.{IsTold as IsToldAlone}
-use Rattle.sweep.specs.Sweeps.{Shows as ShowsSweep}
-use Rattle.sweep.specs.Sweeps.{wanted}
-use Rattle.op_machine.specs.Works.{IsToldOn, IsToldWith, KeepsLimbo, ObeysOn, SpendsOn}
+use Rattle.std.proofs.Common.{ap, sym, ◌∙◌}
+use Rattle.std.specs.Option.{option_copied}
+use Rattle.op_machine.specs.Ops.{Op}
+use Rattle.op_machine.specs.Sweeping.{with_limbo}
+use Rattle.op_machine.proofs.SweepMoves.{sweeps}
 use Rattle.op_machine.proofs.op.Op.sweep_on.Goals as goal
 
--- src/op.rt:112:21
 pub returns-in_err-sweep-clause-obeys : goal.returns-in_err-sweep-clause-obeys
-returns-in_err-sweep-clause-obeys g c = ?
+returns-in_err-sweep-clause-obeys g c k r spares h f =
+    let none = sym (ap (λ (o : Op). o.sweep) c.self.view_is) ∙ sym c.as_ref.ensures.value ∙ ap option_copied c.in_err-sweep.was in
+    rw c.from_residual.ensures (none, c.move_sweep.ensures.shows k r spares h f)
 
--- src/op.rt:113:14
-pub step-requires : goal.step-requires
-step-requires g c = ?
-
--- src/op.rt:99:5
 pub returns-clause-obeys : goal.returns-clause-obeys
-returns-clause-obeys g c = ?
+returns-clause-obeys g c k r spares h f =
+    let some = sym (ap (λ (o : Op). o.sweep) c.self.view_is) ∙ sym c.as_ref.ensures.value ∙ ap option_copied c.in_ok-sweep.was in
+    let step = c.step.ensures in
+    sweeps c.move_sweep.new.self (with_limbo spares c.move_sweep.new.limbo) _ _ c.in_ok-sweep.sweep.now c.step.result some (c.move_sweep.ensures.shows k r spares h f) step.wanted step.within step.may step.frees (step.useful _)

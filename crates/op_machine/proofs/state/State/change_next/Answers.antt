@@ -53,4 +53,4 @@ returns-in-Some-clause-unlinks c task k r h f =
     let fits = rw c.in-Change.is at f in
     let limbo = rw c.in-Some.is at (c.next.ensures.limbo task.actor k shows.shows (rw shows.limits fits)) in
     let fresh = rw c.in-Some.is at (c.next.ensures.fresh task.actor k shows.shows (rw shows.limits fits)) in
-    rw (c.in-Change.is, c.copied.ensures) (unlinks task.limits k task.command c.in-Change.change.plan (rw (← shows.limits) c.in-Change.change.target) c.in-Some.end c.in-Change.then _ shows.brings limbo (rw shows.limits at fresh))
+    rw (c.in-Change.is, c.copied.ensures, ← shows.limits) (unlinks c.in-Change.change.limits k task.command c.in-Change.change.plan c.in-Some.end c.in-Change.then _ shows.brings limbo fresh)

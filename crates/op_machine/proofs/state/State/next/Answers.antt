@@ -1,6 +1,5 @@
 use Rattle.std.proofs.Common.{refl}
 use Rattle.op_machine.specs.Bounded.{left_round, one_round}
-use Rattle.op_machine.proofs.Changing.{change_ended, change_left, change_on, ended_left, taken_apart}
 use Rattle.op_machine.proofs.Rounds.{read_ended, read_left, read_on, read_went, write_ended, write_left, write_on, write_went}
 use Rattle.op_machine.proofs.state.State.next.Goals as goal
 

@@ -1,4 +1,4 @@
-use Rattle.std.proofs.Common.{◌<◌, length, refl, sym, subst}
+use Rattle.std.proofs.Common.{◌<◌, length, sym, subst}
 use Rattle.op_machine.proofs.Plans.{base_target, long_chain, one_chain}
 use Rattle.op_machine.proofs.task.Task.consolidate.Goals as goal
 

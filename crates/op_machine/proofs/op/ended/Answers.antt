@@ -1,0 +1,52 @@
+use Rattle.std.proofs.Common.{subst, sym}
+use Rattle.chain_search.specs.Knowledge.{Limbos}
+use Rattle.op_machine.specs.Shows.{learn_last, wanted_at}
+use Rattle.sweep.specs.Kept.{AreKept}
+use Rattle.op_machine.proofs.op.ended.Goals as goal
+
+pub change_next-requires-clause-told : goal.change_next-requires-clause-told
+change_next-requires-clause-told g c =
+    let told = c.requires.told in
+    record { task = told.task; k = told.k; r = told.r; stands = rw (← c.hand.view_is) at told.stands; fits = rw (← c.hand.view_is) at told.fits }
+
+pub unlink-requires : goal.unlink-requires
+unlink-requires g c =
+    let told = c.requires.told in
+    let stands = rw (← c.hand.view_is) at told.stands in
+    let fits = rw (← c.hand.view_is) at told.fits in
+    record {
+      due = (
+        told.task.limits,
+        told.task.actor,
+        told.k,
+        (learn_last told.k (wanted_at c.hand.inside.spares c.args.state.now) c.args.answer).limbo,
+        rw (← c.hand.view_is) at told.kept,
+        rw c.in-Some.is at (c.change_next.ensures.unlinks told.task told.k told.r stands fits),
+      );
+    }
+
+pub returns-in-None-clause-comes : goal.returns-in-None-clause-comes
+returns-in-None-clause-comes g c task k r h f =
+    let stands = rw (← c.hand.view_is) at h in
+    let fits = rw (← c.hand.view_is) at f in
+    rw (← c.hand.view_is) (rw c.in-None.is at (c.change_next.ensures.comes task k r stands fits))
+
+pub returns-in-None-clause-keeps : goal.returns-in-None-clause-keeps
+returns-in-None-clause-keeps g c task k r h f kept =
+    let stands = rw (← c.hand.view_is) at h in
+    let fits = rw (← c.hand.view_is) at f in
+    let here = rw (← c.hand.view_is) at kept in
+    rw (← c.hand.view_is) (subst (λ (now : Limbos). AreKept task.limits task.actor c.hand.inside.limbo now) (sym (rw c.in-None.is at (c.change_next.ensures.unlinks task k r stands fits))) here)
+
+pub returns-in-Some-clause-comes : goal.returns-in-Some-clause-comes
+returns-in-Some-clause-comes g c task k r h f =
+    let stands = rw (← c.hand.view_is) at h in
+    let fits = rw (← c.hand.view_is) at f in
+    rw (c.unlink.ensures.spares, ← c.hand.view_is) (rw c.in-Some.is at (c.change_next.ensures.comes task k r stands fits))
+
+pub returns-in-Some-clause-keeps : goal.returns-in-Some-clause-keeps
+returns-in-Some-clause-keeps g c task k r h f kept =
+    let stands = rw (← c.hand.view_is) at h in
+    let fits = rw (← c.hand.view_is) at f in
+    let here = rw (← c.hand.view_is) at kept in
+    rw (← c.hand.view_is) (c.unlink.ensures.keeps task.limits task.actor k _ here (rw c.in-Some.is at (c.change_next.ensures.unlinks task k r stands fits)))
