@@ -8,6 +8,7 @@ pub mod FittedExamples
 pub mod Updated
 pub mod PairLaws
 pub mod PaidExamples
+pub mod HeldExamples
 pub mod WalkLaws
 pub mod ChildWalks
 pub mod DeltaLaws
