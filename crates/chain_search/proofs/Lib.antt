@@ -9,5 +9,6 @@ pub mod Updated
 pub mod PairLaws
 pub mod PaidExamples
 pub mod WalkLaws
+pub mod CountLaws
 pub mod ChildWalks
 pub mod DeltaLaws
