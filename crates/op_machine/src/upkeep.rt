@@ -16,7 +16,7 @@ pub(crate) fn upkeep(parent: &Version, leaf: &Version) -> Option<Plan>
     if leaf.pid == 1 {
         return None;
     }
-    if leaf.chain.page().items().len() > FEW_ITEMS {
+    if leaf.chain.item_count() > FEW_ITEMS {
         return None;
     }
     if let Some(remove) = plan_remove(parent, leaf) {
