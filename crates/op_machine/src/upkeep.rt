@@ -13,6 +13,7 @@ pub(crate) fn upkeep(parent: &Version, leaf: &Version) -> Option<Plan>
     requires alive { is_removed parent.now.chain ≡ false }
     ensures { MatchOption result (IsIdle parent.now leaf.now) (IsUpkeep parent.now leaf.now) }
 {
+    leaf.chain.keeps_rules();
     if leaf.pid == 1 {
         return None;
     }
