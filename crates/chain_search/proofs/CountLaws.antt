@@ -1,6 +1,6 @@
 -- How many ascending items are below a bound, and what one record of a chain makes of their number.
 use Rattle.std.proofs.Common.{◌≡◌, ◌<◌, ◌+◌, ◌-◌, ℕ, suc, List, [], ◌∷◌, ◌++◌, length, get_or, take, drop, drop-cons, add-one, Bool, true, false, Option, Some, None, refl, sym, ap, ◌∙◌, arith}
-use Rattle.std.specs.Prelude.{if◌then◌else◌, is_some, not, ◌&&◌}
+use Rattle.std.specs.Prelude.{if◌then◌else◌, is_some, ◌&&◌}
 use Rattle.std.specs.List.{AllByRecursion, filter}
 use Rattle.std.specs.Ordering.{is_eq, is_lt}
 use Rattle.std.specs.declared.cmp.Ordering.TheVariants.{Less}
@@ -17,7 +17,6 @@ use Rattle.deltas.specs.declared.record.Record.{Record}
 use Rattle.deltas.specs.declared.record.Record.TheVariants as kind
 use Rattle.deltas.specs.declared.record.Merge.{Merge}
 use Rattle.deltas.specs.declared.record.Split.{Split}
-use Rattle.deltas.specs.Fits.{FitsMerge}
 use Rattle.deltas.specs.Records.{names, content_said}
 use Rattle.chain_search.specs.Chains.{IsItemsOf, content_in}
 use Rattle.chain_search.specs.Fitted.{FitsOver, IsFitted}
