@@ -1,4 +1,4 @@
-use Rattle.std.proofs.Common.{◌≤◌, length, refl, sym, ◌∙◌, arith}
+use Rattle.std.proofs.Common.{refl, sym, ◌∙◌, arith}
 use Rattle.chain_search.proofs.FittedLaws.{page_of, ruled}
 use Rattle.smo.proofs.RemoveFits.{planned}
 use Rattle.smo.proofs.remove.plan_remove.Goals as goal
