@@ -10,5 +10,6 @@ pub mod PairLaws
 pub mod PaidExamples
 pub mod HeldExamples
 pub mod WalkLaws
+pub mod CountLaws
 pub mod ChildWalks
 pub mod DeltaLaws
