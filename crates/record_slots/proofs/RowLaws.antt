@@ -1,6 +1,6 @@
 -- A row's words by its parts.
 use Rattle.std.proofs.Common.{◌≡◌, ◌==◌, ◌<◌, ◌≤◌, ◌+◌, ◌*◌, ◌-◌, ℕ, zero, suc, Bool, true, false, List, [], ◌∷◌, ◌++◌, length, get_or, take, drop, replicate, refl, sym, ap, subst, ◌∙◌, arith, length-append, length-drop, eq-eqb}
-use Rattle.std.specs.Prelude.{◌&&◌, Option, Some, None}
+use Rattle.std.specs.Prelude.{◌&&◌, bit_or, Option, Some, None}
 use Rattle.std.specs.List.{All}
 use Rattle.std.proofs.lemmas.Bool.{eqb-true}
 use Rattle.std.proofs.lemmas.List.{take-append-drop, drop-drop, length-replicate}
@@ -12,6 +12,7 @@ use Rattle.record_slots.specs.Spelling.{field_words, bound_words, items_words, r
 use Rattle.record_slots.specs.Parts.{are_zeros, IsHeaderIn, IsRowOfParts, IsRowIn}
 use Rattle.record_slots.proofs.ItemLaws.{items_length}
 use Rattle.record_slots.proofs.Flags.{left, right}
+use Rattle.record_slots.proofs.WordLaws.{or_zeros}
 
 zeros_are : (words : List ℕ) → are_zeros words ≡ true → words ≡ replicate (length words) 0
 zeros_are [] h = refl
@@ -23,6 +24,14 @@ zeros_are (word ∷ words) h =
 are_zeros_all : (n : ℕ) → are_zeros (replicate n 0) ≡ true
 are_zeros_all zero = refl
 are_zeros_all (suc n) = are_zeros_all n
+
+and_assoc : (a b c : Bool) → (a && b) && c ≡ a && (b && c)
+and_assoc true b c = refl
+and_assoc false b c = refl
+
+-- one word more
+pub zeros_more : (all word : ℕ) (words : List ℕ) → (bit_or all word == 0) && are_zeros words ≡ (all == 0) && are_zeros (word ∷ words)
+zeros_more all word words = ap (λ none. none && are_zeros words) (or_zeros all word) ∙ and_assoc (all == 0) (word == 0) (are_zeros words)
 
 module _ (h n p : ℕ) (key : List ℕ) (rest : List ℕ) where
   abbrev behind : Option (List ℕ) → List ℕ

@@ -1,8 +1,11 @@
 -- The bytes of a word.
-use Rattle.std.proofs.Common.{◌≡◌, ◌<◌, ◌≤◌, ◌+◌, ◌*◌, ◌-◌, ◌^◌, inl, inr, ℕ, zero, suc, List, [], ◌∷◌, length, get_or, take, drop, refl, sym, ap, subst, ◌∙◌, arith}
+use Rattle.std.proofs.Common.{◌≡◌, ◌==◌, ◌<◌, ◌≤◌, ◌+◌, ◌*◌, ◌-◌, ◌^◌, inl, inr, ℕ, zero, suc, List, [], ◌∷◌, length, get_or, take, drop, refl, sym, ap, subst, ◌∙◌, arith}
+use Rattle.std.specs.Prelude.{◌&&◌, bit_or}
+use Rattle.std.specs.Int.Bits.{or_zero_l}
 use Rattle.std.specs.List.{AllByRecursion}
-use Rattle.std.proofs.lemmas.Nat.{pow-add, pow_pos, pow_below}
+use Rattle.std.proofs.lemmas.Nat.{le_or_l, pow-add, pow_pos, pow_below}
 use Rattle.std.proofs.lemmas.Bool.{cases_lt}
+use Rattle.std.proofs.Math.Dec.{eqb-suc-zero}
 use Rattle.std.proofs.Math.Nat.{pow-succ', mul-le-mul_left, mul_assoc, add-mul}
 use Rattle.record_slots.specs.Spelling.{packed}
 
@@ -92,3 +95,11 @@ word_room word n few fits = let m = bytes_mono n few in omega arith
 
 pub byte_more : (word byte n : ℕ) → byte < 256 → word < 256 ^ n → word * 256 + byte < 256 ^ suc n
 byte_more word byte n small fits = let e = pow-succ' 256 n in omega arith
+
+-- of two words nothing stands in either where nothing stands in both together
+pub or_zeros : (a b : ℕ) → (bit_or a b == 0) ≡ ((a == 0) && (b == 0))
+or_zeros zero b = ap (λ n. n == 0) (or_zero_l b)
+or_zeros (suc a) b =
+    let least = le_or_l (suc a) b in
+    let more : bit_or (suc a) b ≡ suc (bit_or (suc a) b - 1) = omega (arith, least) in
+    ap (λ n. n == 0) more ∙ eqb-suc-zero (bit_or (suc a) b - 1) ∙ ap (λ none. none && (b == 0)) (sym (eqb-suc-zero a))

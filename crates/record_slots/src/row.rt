@@ -87,9 +87,9 @@ fn number_in(word: u64, limit: u64) -> Result<u16, BadRow>
 fn are_zeros(words: &[u64]) -> bool
     ensures { result ≡ are_zeros words.now }
 {
-    let mut zeros = true;
+    let mut all = 0;
     for word in words {
-        zeros &= *word == 0;
+        all |= *word;
     }
-    zeros
+    all == 0
 }
