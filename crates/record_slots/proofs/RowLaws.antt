@@ -1,7 +1,6 @@
 -- A row's words by its parts.
-use Rattle.std.proofs.Common.{◌≡◌, ◌==◌, ◌<◌, ◌≤◌, ◌+◌, ◌*◌, ◌-◌, ℕ, zero, suc, Bool, true, false, List, [], ◌∷◌, ◌++◌, length, get_or, take, drop, replicate, refl, sym, ap, subst, ◌∙◌, arith, length-append, length-drop, eq-eqb}
+use Rattle.std.proofs.Common.{◌≡◌, ◌==◌, ◌≤◌, ◌+◌, ◌*◌, ◌-◌, ℕ, zero, suc, Bool, true, false, List, [], ◌∷◌, ◌++◌, length, get_or, take, drop, replicate, refl, sym, ap, subst, ◌∙◌, arith, length-drop}
 use Rattle.std.specs.Prelude.{◌&&◌, bit_or, Option, Some, None}
-use Rattle.std.specs.List.{All}
 use Rattle.std.proofs.lemmas.Bool.{eqb-true}
 use Rattle.std.proofs.lemmas.List.{take-append-drop, drop-drop, length-replicate}
 use Rattle.std.proofs.Math.Seq.{take-append_seam, drop-append_seam}
@@ -92,7 +91,7 @@ whole_row (a ∷ b ∷ []) row items long is counts are = absurd (omega arith)
 whole_row (a ∷ b ∷ c ∷ words) row items long is counts are =
     let n : ℕ = 10 * row.count in
     let rest : drop (10 + n) words ≡ replicate (243 - 10 * length items) 0 =
-        let three : 13 + n ≡ suc (suc (suc (10 + n))) = omega arith in ap (λ k. drop k (a ∷ b ∷ c ∷ words)) (sym three) ∙ is.rest ∙ ap (λ k. replicate (243 - 10 * k) 0) (sym counts) in
+    let three : 13 + n ≡ suc (suc (suc (10 + n))) = omega arith in ap (λ k. drop k (a ∷ b ∷ c ∷ words)) (sym three) ∙ is.rest ∙ ap (λ k. replicate (243 - 10 * k) 0) (sym counts) in
     let head : row.kind + 256 * row.level + 65536 * length items ≡ a = ap (λ k. row.kind + 256 * row.level + 65536 * k) counts ∙ is.first_word in
     (λ i. head i ∷ is.next i ∷ is.page i ∷ (is.first i ++ (is.second i ++ (are i ++ sym rest i)))) ∙ ap (λ ws. a ∷ b ∷ c ∷ ws) (cut_twice n words)
 

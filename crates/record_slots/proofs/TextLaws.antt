@@ -1,5 +1,5 @@
 -- The bytes of texts in words.
-use Rattle.std.proofs.Common.{◌≡◌, ◌==◌, ◌<◌, ◌≤◌, ◌+◌, ◌*◌, ◌-◌, ◌/◌, ◌%◌, ◌^◌, inl, inr, ℕ, zero, suc, Bool, true, false, List, [], ◌∷◌, ◌++◌, length, get_or, take, drop, refl, sym, ap, subst, ◌∙◌, arith, eq-eqb}
+use Rattle.std.proofs.Common.{◌≡◌, ◌==◌, ◌<◌, ◌≤◌, ◌+◌, ◌*◌, ◌-◌, ◌/◌, ◌%◌, ◌^◌, inl, inr, ℕ, zero, suc, true, false, List, [], ◌∷◌, ◌++◌, length, get_or, take, drop, refl, sym, ap, subst, ◌∙◌, arith}
 use Rattle.std.specs.Prelude.{◌&&◌}
 use Rattle.std.specs.Int.{w64, to_be_bytes, from_be_bytes}
 use Rattle.std.specs.List.{AllByRecursion}
@@ -9,7 +9,6 @@ use Rattle.std.proofs.lemmas.Nat.{be_bytes_8, from_be_bytes-to_be_bytes_8, mod-m
 use Rattle.std.proofs.Math.Dec.{eqb-suc-zero}
 use Rattle.std.proofs.Math.Nat.{mod-lt, mod-one, mul-mod_left, mul_assoc, add-mul, mul-le-mul_left}
 use Rattle.std.proofs.Math.Seq.{take-append-add}
-use Rattle.bw_model.specs.Bytes.{IsShort}
 use Rattle.record_slots.specs.Spelling.{packed, text_words}
 use Rattle.record_slots.specs.Texts.{IsText, bytes_of, ends_there}
 use Rattle.record_slots.proofs.WordLaws.{AreBytes, bytes_at, multiple, no_packed, packed_below, packed_split, pow_bytes, some_bytes}
@@ -112,19 +111,19 @@ spelled (word ∷ words) count h few ends =
     let nothing : word % 256 ^ (8 - count) ≡ 0 = eqb-true (word % 256 ^ (8 - count)) 0 (left (word % 256 ^ (8 - count) == 0) (ends_there (count - 8) words) ends) in
     elim (cases_lt count 8) [
       | inl few ↦
-        let text : take count (front ++ bytes_of words) ≡ take count front = take-append-le count front (bytes_of words) (let e = eight word h.0 in omega arith) in
-        let short : length (take count front) ≡ count = takes count front (let e = eight word h.0 in omega arith) in
-        let first = first_packed word h.0 count (omega arith) nothing in
-        let none : back ≡ [] = let z : count - 8 ≡ 0 = omega arith in ap (λ k. take k (bytes_of words)) z in
-        let behind : text_words (length words) (drop 8 (take count front)) ≡ words = ap (text_words (length words)) (drop_all 8 (take count front) (omega (arith, short)) ∙ sym none) ∙ rest.are in
-        subst (SpellsBytes (length (word ∷ words)) count (word ∷ words)) (sym text) (record { are = λ i. first i ∷ behind i; counts = short; bytes = take_bytes count front (word_bytes word h.0) })
+          let text : take count (front ++ bytes_of words) ≡ take count front = take-append-le count front (bytes_of words) (let e = eight word h.0 in omega arith) in
+          let short : length (take count front) ≡ count = takes count front (let e = eight word h.0 in omega arith) in
+          let first = first_packed word h.0 count (omega arith) nothing in
+          let none : back ≡ [] = let z : count - 8 ≡ 0 = omega arith in ap (λ k. take k (bytes_of words)) z in
+          let behind : text_words (length words) (drop 8 (take count front)) ≡ words = ap (text_words (length words)) (drop_all 8 (take count front) (omega (arith, short)) ∙ sym none) ∙ rest.are in
+          subst (SpellsBytes (length (word ∷ words)) count (word ∷ words)) (sym text) (record { are = λ i. first i ∷ behind i; counts = short; bytes = take_bytes count front (word_bytes word h.0) })
       | inr full ↦
-        let more : count ≡ length front + (count - 8) = let e = eight word h.0 in omega arith in
-        let text : take count (front ++ bytes_of words) ≡ front ++ back = ap (λ k. take k (front ++ bytes_of words)) more ∙ take-append-add front (bytes_of words) (count - 8) in
-        let first : packed 8 (front ++ back) ≡ word = packed_full 8 front back (eight word h.0) ∙ word_packed word h.0 in
-        let behind : text_words (length words) (drop 8 (front ++ back)) ≡ words = ap (text_words (length words)) (drop_full 8 front back (eight word h.0)) ∙ rest.are in
-        let counts : length (front ++ back) ≡ count = let c = rest.counts in omega arith in
-        subst (SpellsBytes (length (word ∷ words)) count (word ∷ words)) (sym text) (record { are = λ i. first i ∷ behind i; counts = counts; bytes = append_bytes front back (word_bytes word h.0) rest.bytes })
+          let more : count ≡ length front + (count - 8) = let e = eight word h.0 in omega arith in
+          let text : take count (front ++ bytes_of words) ≡ front ++ back = ap (λ k. take k (front ++ bytes_of words)) more ∙ take-append-add front (bytes_of words) (count - 8) in
+          let first : packed 8 (front ++ back) ≡ word = packed_full 8 front back (eight word h.0) ∙ word_packed word h.0 in
+          let behind : text_words (length words) (drop 8 (front ++ back)) ≡ words = ap (text_words (length words)) (drop_full 8 front back (eight word h.0)) ∙ rest.are in
+          let counts : length (front ++ back) ≡ count = let c = rest.counts in omega arith in
+          subst (SpellsBytes (length (word ∷ words)) count (word ∷ words)) (sym text) (record { are = λ i. first i ∷ behind i; counts = counts; bytes = append_bytes front back (word_bytes word h.0) rest.bytes })
     ]
   where
     takes : (n : ℕ) (xs : List ℕ) → n ≤ length xs → length (take n xs) ≡ n
@@ -164,10 +163,10 @@ packed_fits xs h = let p = packed_below 8 xs h in let e = pow_bytes 8 in omega a
 nothing_behind : (xs : List ℕ) → packed 8 xs % 256 ^ (8 - length xs) ≡ 0
 nothing_behind xs = elim (cases_lt (length xs) 8) [
   | inl few ↦
-    let m : ℕ = 8 - length xs in
-    let eight : 8 ≡ length xs + m = omega arith in
-    let q = multiple (length xs) m 8 xs eight (omega arith) in
-    ap (λ n. n % 256 ^ m) q.1 ∙ mul-mod_left q.0 (256 ^ m)
+      let m : ℕ = 8 - length xs in
+      let eight : 8 ≡ length xs + m = omega arith in
+      let q = multiple (length xs) m 8 xs eight (omega arith) in
+      ap (λ n. n % 256 ^ m) q.1 ∙ mul-mod_left q.0 (256 ^ m)
   | inr full ↦ let z : 8 - length xs ≡ 0 = omega arith in ap (λ m. packed 8 xs % 256 ^ m) z ∙ mod-one (packed 8 xs)
 ]
 

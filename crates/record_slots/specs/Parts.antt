@@ -3,7 +3,7 @@ use Rattle.std.specs.Prelude.{◌≡◌, ◌≢◌, ◌==◌, ◌<◌, ◌≤◌
 use Rattle.std.specs.List.{All}
 use Rattle.bw_model.specs.Bytes.{IsShort}
 use Rattle.base_page.specs.declared.item.Content.{Content}
-use Rattle.base_page.specs.declared.item.Content.TheVariants.{Value, Child}
+use Rattle.base_page.specs.declared.item.Content.TheVariants.{Value}
 use Rattle.base_page.specs.declared.item.Item.{Item}
 use Rattle.base_page.specs.Pages.{IsOfLevel}
 use Rattle.base_page.specs.Rules.{is_held}

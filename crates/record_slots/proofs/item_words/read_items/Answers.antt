@@ -1,7 +1,6 @@
-use Rattle.std.proofs.Common.{◌≡◌, ◌+◌, List, length, arith}
+use Rattle.std.proofs.Common.{arith}
 use Rattle.std.proofs.lemmas.List.Elements.{All-push}
-use Rattle.base_page.specs.declared.item.Item.{Item}
-use Rattle.record_slots.specs.Parts.{IsItem, AreItemsIn}
+use Rattle.record_slots.specs.Parts.{IsItem}
 use Rattle.record_slots.proofs.ItemLaws.{items_grow, no_items}
 use Rattle.record_slots.proofs.item_words.read_items.Goals as goal
 

@@ -1,4 +1,4 @@
-use Rattle.std.proofs.Common.{◌≡◌, ◌+◌, ◌*◌, ◌-◌, length, take, drop, ap, subst, sym, arith}
+use Rattle.std.proofs.Common.{◌≡◌, ◌+◌, ◌*◌, ◌-◌, take, drop, ap, subst, sym, arith}
 use Rattle.deltas.specs.declared.record.Record.{Record}
 use Rattle.record_slots.specs.Spells.{IsSpelling}
 use Rattle.record_slots.specs.Parts.{IsRecordOf}

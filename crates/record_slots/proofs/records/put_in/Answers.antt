@@ -1,4 +1,4 @@
-use Rattle.std.proofs.Common.{◌≡◌, ◌<◌, ◌*◌, [], Some, length, take, drop, get_or, sym, arith}
+use Rattle.std.proofs.Common.{◌≡◌, [], Some, take, drop, get_or, sym, arith}
 use Rattle.record_slots.specs.Texts.{IsField, IsText}
 use Rattle.record_slots.proofs.ItemLaws.{pair_spelled}
 use Rattle.record_slots.proofs.records.put_in.Goals as goal

@@ -1,4 +1,4 @@
-use Rattle.std.proofs.Common.{◌≡◌, ◌+◌, ◌*◌, ◌-◌, ◌≤◌, List, true, false, length, get_or, take, drop, sym, ap, ◌∙◌, arith}
+use Rattle.std.proofs.Common.{◌≡◌, ◌+◌, ◌*◌, ◌-◌, true, false, take, drop, sym, ap, ◌∙◌}
 use Rattle.record_slots.specs.Texts.{IsField, IsBound}
 use Rattle.record_slots.specs.Parts.{IsRowIn, are_zeros}
 use Rattle.record_slots.proofs.RowLaws.{header_of, header_is, zeros_behind, zeros_there, up_to_end}

@@ -1,4 +1,4 @@
-use Rattle.std.proofs.Common.{◌≡◌, ◌<◌, arith}
+use Rattle.std.proofs.Common.{arith}
 use Rattle.record_slots.proofs.TextLaws.{shifted}
 use Rattle.record_slots.proofs.texts.ends_after.Goals as goal
 
