@@ -1,5 +1,5 @@
 #!/bin/sh
-# How much processor time it takes to read a row of words as a record, and to find a key in a chain: bench/rows.sh [TIMES]
+# How much processor time it takes to read a row of words as a record, to find a key in a chain, and to count its items: bench/rows.sh [TIMES]
 # The rows are a put, and a full leaf of 24 items with keys and values of 4 and of 32 bytes; the chain is one of 8 deltas over a leaf of
 # 15 items, and is searched by the walk and by the page that it makes. The program is proved and built first.
 set -eu
@@ -9,7 +9,7 @@ program=$top/crates/row_bench/out/row_bench
 [ -x "$program" ] || (cd "$top/crates/row_bench" && rt run -- put 1) </dev/null >/dev/null
 used=$(mktemp)
 trap 'rm -f "$used"' EXIT
-for kind in put short long find page; do
+for kind in put short long find page count; do
     (
         read=$("$program" "$kind" "$times")
         [ "$read" = "$times" ] || { echo "expected $times, got $read"; exit 1; }

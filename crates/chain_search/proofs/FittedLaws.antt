@@ -242,7 +242,7 @@ stands chain page h m alive = record { ruled = ruled chain page h m; alive = ali
 abbrev pub over : List Record → Page → List Record
 over deltas base = deltas ++ Base base ∷ []
 
-first_fits : (newest : Record) (under : List Record) (base : Page) → IsFitted (over (newest ∷ under) base) → FitsOver (over under base) newest × IsFitted (over under base)
+pub first_fits : (newest : Record) (under : List Record) (base : Page) → IsFitted (over (newest ∷ under) base) → FitsOver (over under base) newest × IsFitted (over under base)
 first_fits newest [] base h = h
 first_fits newest (older ∷ under) base h = h
 

@@ -8,6 +8,8 @@ pub mod FittedExamples
 pub mod Updated
 pub mod PairLaws
 pub mod PaidExamples
+pub mod HeldExamples
 pub mod WalkLaws
+pub mod CountLaws
 pub mod ChildWalks
 pub mod DeltaLaws

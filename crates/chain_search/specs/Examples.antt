@@ -1,7 +1,8 @@
 -- Small chains, newest record first.
-use Rattle.std.specs.Prelude.{codes, ℕ, List, [], ◌∷◌, true, false, None}
+use Rattle.std.specs.Prelude.{codes, ℕ, List, [], ◌∷◌, Bool, true, false, None}
 use Rattle.base_page.specs.Pages.{Page, empty_leaf}
 use Rattle.base_page.specs.declared.item.Content.TheVariants.{Value, Child}
+use Rattle.base_page.specs.declared.item.Item.{Item}
 use Rattle.deltas.specs.declared.record.Record.{Record}
 use Rattle.deltas.specs.declared.record.Record.TheVariants as delta
 
@@ -95,6 +96,19 @@ hold_again = delta.Hold (record { level = 1; next = 10; separator = codes "k09";
 
 abbrev pub long_index : List Record
 long_index = hold_again ∷ merged_index
+
+-- the terms of two index pages: of the one the middle term is held, of the other four are
+abbrev pub child : List ℕ → ℕ → Bool → Item
+child key page held = record { key = key; content = Child page held }
+
+abbrev pub one_held : List Item
+one_held = child [] 1 false ∷ child (codes "a") 2 false ∷ child (codes "b") 3 true ∷ child (codes "c") 4 false ∷ child (codes "d") 5 false ∷ []
+
+abbrev pub four_held : List Item
+four_held = child [] 1 false ∷ child (codes "a") 2 true ∷ child (codes "b") 3 false ∷ child (codes "c") 4 true ∷ child (codes "d") 5 false ∷ child (codes "e") 6 true ∷ child (codes "f") 7 false ∷ child (codes "g") 8 true ∷ child (codes "h") 9 false ∷ child (codes "i") 10 false ∷ []
+
+abbrev pub index_of : List Item → List Record
+index_of items = delta.Base (record index { items = items }) ∷ []
 
 -- What doesn't fit: a put over a removal, a put of a key that a split cut off, a base over a base, a hold of the first term, a
 -- base that is marked removed, and a split to a page that can't be.

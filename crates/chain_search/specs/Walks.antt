@@ -1,9 +1,11 @@
 -- What a walk over the records of a chain finds below a key.
-use Rattle.std.specs.Prelude.{◌≡◌, ℕ, List, [], ◌∷◌, Bool, true, false, if◌then◌else◌, Option, None, Some, IsTrue, not, ◌&&◌}
-use Rattle.bw_model.specs.Bytes.{is_below}
+use Rattle.std.specs.Prelude.{◌≡◌, ◌+◌, ℕ, List, [], ◌∷◌, Bool, true, false, if◌then◌else◌, Option, None, Some, IsTrue, not, ◌&&◌}
+use Rattle.bw_model.specs.Bytes.{is_below, is_under}
 use Rattle.base_page.specs.declared.item.Content.{Content}
+use Rattle.base_page.specs.declared.item.Item.{Item}
 use Rattle.base_page.specs.Places.{IsGreatest}
 use Rattle.deltas.specs.declared.record.Record.{Record}
+use Rattle.deltas.specs.declared.record.Record.TheVariants.{Split}
 use Rattle.deltas.specs.Records.{names}
 
 -- whether one of the records names the key
@@ -25,3 +27,13 @@ abbrev pub greater : Option (List ℕ) → Option (List ℕ) → Option (List �
 greater None two = two
 greater (Some one) None = Some one
 greater (Some one) (Some two) = if is_below one two then Some two else Some one
+
+-- how many of the items are below the bound; all of them where there is none
+abbrev pub count_under : Option (List ℕ) → List Item → ℕ
+count_under bound [] = 0
+count_under bound (item ∷ items) = (if is_under item.key bound then 1 else 0) + count_under bound items
+
+-- The bound of what is under a record: a split's separator, where it is below the bound.
+abbrev pub bound_under : Record → Option (List ℕ) → Option (List ℕ)
+bound_under (Split split) bound = if is_under split.separator bound then Some split.separator else bound
+bound_under newest bound = bound

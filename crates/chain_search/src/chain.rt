@@ -4,6 +4,7 @@ ghost use Rattle.deltas.specs.declared.record.Record.TheVariants.{Base};
 ghost use Rattle.chain_search.specs.Chains.{level_in, low_in, high_in, right_in, is_removed, covers};
 ghost use Rattle.chain_search.specs.Fitted.{IsPageChain};
 
+mod count;
 mod pages;
 mod pairs;
 mod rows;

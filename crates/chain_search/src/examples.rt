@@ -4,8 +4,9 @@ ghost use Rattle.bw_model.specs.declared.step.Answer.TheVariants.{Number, Conten
 ghost use Rattle.bw_model.specs.declared.step.Step.TheVariants.{Slot, Row, Exchange, TakeRow, Leave};
 ghost use Rattle.base_page.specs.declared.item.Content.TheVariants.{Value, Child};
 ghost use Rattle.chain_search.specs.Chains.{content_in, high_in, right_in, is_removed, covers};
-ghost use Rattle.chain_search.specs.Examples.{put_leaf, deleted_leaf, split_leaf, removed_leaf, merged_leaf, leaf_chain, index_page, termed_page, held_page, untermed_page, index_chain, split_index, long_index, put_over_removal, put_outside, base_over_base, first_held, marked_base, unnamed_split, remove};
+ghost use Rattle.chain_search.specs.Examples.{put_leaf, deleted_leaf, split_leaf, removed_leaf, merged_leaf, leaf_chain, index_page, termed_page, held_page, untermed_page, index_chain, split_index, long_index, put_over_removal, put_outside, base_over_base, first_held, marked_base, unnamed_split, remove, one_held, four_held, index_of};
 ghost use Rattle.chain_search.specs.Fitted.{IsPageChain};
+ghost use Rattle.chain_search.specs.HeldBack.{HoldsBack, begins_at, has_held_neighbour};
 ghost use Rattle.chain_search.specs.Recalled.{IsPaid, recall};
 ghost use Rattle.chain_search.specs.Recollections.{after_bits, after_loss, after_miss, after_removal, after_split};
 
@@ -65,6 +66,29 @@ pub fn unfit_chains_are_refused()
     ensures held { ¬ IsPageChain first_held }
     ensures marked { ¬ IsPageChain marked_base }
     ensures unnamed { ¬ IsPageChain unnamed_split }
+{}
+
+/// Which term is the first one, and which have a held neighbour.
+pub fn held_neighbours_are_found()
+    ensures first { begins_at [] one_held ≡ true }
+    ensures later { begins_at (codes "a") one_held ≡ false }
+    ensures none { begins_at [] [] ≡ false }
+    ensures left { has_held_neighbour (codes "a") one_held ≡ true }
+    ensures right { has_held_neighbour (codes "c") one_held ≡ true }
+    ensures itself { has_held_neighbour (codes "b") one_held ≡ false }
+    ensures apart { has_held_neighbour (codes "d") one_held ≡ false }
+    ensures absent { has_held_neighbour (codes "bb") one_held ≡ false }
+{}
+
+/// Which pages these index pages keep from being removed: not the one that is held, none without a held neighbour unless four
+/// are held, and none whose term isn't there.
+pub fn pages_are_held_back()
+    ensures first { HoldsBack (index_of one_held) 1 [] }
+    ensures beside { HoldsBack (index_of one_held) 2 (codes "a") }
+    ensures many { HoldsBack (index_of four_held) 10 (codes "i") }
+    ensures held { ¬ HoldsBack (index_of one_held) 3 (codes "b") }
+    ensures apart { ¬ HoldsBack (index_of one_held) 5 (codes "d") }
+    ensures other { ¬ HoldsBack (index_of one_held) 3 (codes "a") }
 {}
 
 /// Which steps a cause pays for, after an operation's first reads.

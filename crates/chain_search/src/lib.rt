@@ -17,8 +17,8 @@ mod trace;
 pub use chain::Chain;
 pub use chain_part::{ChainPart, MAX_RECORDS};
 pub use examples::{
-    chains_fit, leaves_decide, merge_adds, paid_steps_are_told, split_cuts, terms_come_and_go,
-    unfit_chains_are_refused,
+    chains_fit, held_neighbours_are_found, leaves_decide, merge_adds, pages_are_held_back,
+    paid_steps_are_told, split_cuts, terms_come_and_go, unfit_chains_are_refused,
 };
 pub use laws::{
     chain_is_one, command_grows, learnt_stays, memory_grows, run_grows, run_shrinks,

@@ -180,6 +180,11 @@ fn long_index() -> Chain
     part.over(index())
 }
 
+/// How many items the chain has, and how many the page that it makes.
+fn counted(chain: &Chain) -> (usize, usize) {
+    (chain.item_count(), chain.page().items().len())
+}
+
 #[test]
 fn decides_the_keys_of_a_leaf(rt: HostRuntime) {
     let chain = leaf_chain();
@@ -242,4 +247,12 @@ fn shows_the_pairs_from_a_key(rt: HostRuntime) {
     assert_eq!(rt; chain.pairs_from(&key(b"k08")), rest);
     assert_eq!(rt; chain.pairs_from(&key(b"k10")), Pairs::new());
     assert_eq!(rt; index_chain().pairs_from(&key(b"k08")), Pairs::new());
+}
+
+#[test]
+fn counts_the_items_of_each_kind_of_record(rt: HostRuntime) {
+    assert_eq!(rt; counted(&leaf_chain()), (2, 2));
+    assert_eq!(rt; counted(&index_chain()), (2, 2));
+    assert_eq!(rt; counted(&split_index()), (1, 1));
+    assert_eq!(rt; counted(&long_index()), (2, 2));
 }

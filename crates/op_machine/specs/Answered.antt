@@ -1,5 +1,5 @@
 -- What each finished operation has replied.
-use Rattle.std.specs.Prelude.{◌≡◌, ◌≢◌, ◌<◌, ◌≤◌, ◌/◌, ℕ, List, [], ◌∷◌, length, Option, Bool, Some, IsTrue, ◌⊎◌}
+use Rattle.std.specs.Prelude.{◌≡◌, ◌≢◌, ◌<◌, ◌≤◌, ◌/◌, ℕ, List, [], ◌∷◌, length, Option, Bool, Some, IsTrue, ◌⊎◌, false}
 use Rattle.std.specs.List.{Contains}
 use Rattle.bw_model.specs.declared.command.Command.{Command}
 use Rattle.bw_model.specs.declared.command.Command.TheVariants.{Page, Tidy}
@@ -16,7 +16,7 @@ use Rattle.deltas.specs.declared.record.Record.{Record}
 use Rattle.deltas.specs.declared.record.Record.TheVariants.{Base}
 use Rattle.deltas.specs.Memory.{Memory}
 use Rattle.chain_search.specs.declared.trace.Entry.{Entry}
-use Rattle.chain_search.specs.Chains.{IsChainOf, covers, high_in, low_in}
+use Rattle.chain_search.specs.Chains.{IsChainOf, covers, high_in, is_removed, low_in}
 use Rattle.chain_search.specs.HeldBack.{HoldsBack}
 use Rattle.chain_search.specs.SideChain.{LivePage, IsLeaves}
 use Rattle.chain_search.specs.Trace.{memory_at}
@@ -64,7 +64,8 @@ module _ (limits : Limits) (entries : List Entry) where
   FindsNothingFree operation = ((word : ℕ) → word < limits.pids / 64 → (n : ℕ) × TakesOwnStep entries operation n (PidBits word) (Number 0))
       ⊎ ((word : ℕ) → word < limits.rows / 64 → (n : ℕ) × TakesOwnStep entries operation n (RowBits word) (Number 0))
 
-  -- At an own step before this one the operation read the slot of a page above the leaf, which held the leaf back.
+  -- At an own step before this one the operation read the slot of a page above the leaf, which was not removed and held the
+  -- leaf back.
   pub record WasHeldBack (operation : Operation) (n : ℕ) (leaf : LivePage) : Type 0 where
     pub step : ℕ
     pub before : step < n
@@ -73,6 +74,7 @@ module _ (limits : Limits) (entries : List Entry) where
     pub own : TakesOwnStep entries operation step (Slot parent) (Number row)
     pub chain : List Record
     pub stood : IsChainOf (memory_at limits entries step) parent chain
+    pub alive : is_removed chain ≡ false
     pub holds : HoldsBack chain leaf.pid (low_in leaf.chain)
 
   -- The operation is a tidying, and nothing was due at its key's leaf at one of its own steps; a small leaf is page 1, or was

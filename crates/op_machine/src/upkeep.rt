@@ -13,10 +13,11 @@ pub(crate) fn upkeep(parent: &Version, leaf: &Version) -> Option<Plan>
     requires alive { is_removed parent.now.chain ≡ false }
     ensures { MatchOption result (IsIdle parent.now leaf.now) (IsUpkeep parent.now leaf.now) }
 {
+    leaf.chain.keeps_rules();
     if leaf.pid == 1 {
         return None;
     }
-    if leaf.chain.page().items().len() > FEW_ITEMS {
+    if leaf.chain.item_count() > FEW_ITEMS {
         return None;
     }
     if let Some(remove) = plan_remove(parent, leaf) {

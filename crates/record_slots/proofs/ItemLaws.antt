@@ -1,15 +1,14 @@
 -- The words of items.
-use Rattle.std.proofs.Common.{◌≡◌, ◌<◌, ◌≤◌, ◌+◌, ◌*◌, ◌-◌, ℕ, zero, suc, Bool, true, false, List, [], ◌∷◌, ◌++◌, length, get_or, take, drop, refl, sym, ap, subst, ◌∙◌, arith, append_assoc, length-append}
+use Rattle.std.proofs.Common.{◌≡◌, ◌<◌, ◌≤◌, ◌+◌, ◌*◌, ◌-◌, ℕ, zero, suc, Bool, true, false, List, [], ◌∷◌, ◌++◌, length, get_or, take, drop, refl, sym, ap, ◌∙◌, arith, append_assoc, length-append}
 use Rattle.std.specs.Prelude.{if◌then◌else◌}
 use Rattle.std.specs.List.{All}
 use Rattle.std.proofs.lemmas.List.Elements.{All-head, All-tail}
 use Rattle.std.proofs.Math.Seq.{take-append_seam, drop-append-add}
-use Rattle.arrayvec.specs.ArrayVec.{ArrayVec}
 use Rattle.base_page.specs.declared.item.Content.{Content}
 use Rattle.base_page.specs.declared.item.Content.TheVariants.{Value, Child}
 use Rattle.base_page.specs.declared.item.Item.{Item}
 use Rattle.base_page.specs.Rules.{is_held}
-use Rattle.record_slots.specs.Spelling.{text_words, content_words, item_words, items_words}
+use Rattle.record_slots.specs.Spelling.{text_words, field_words, content_words, item_words, items_words}
 use Rattle.record_slots.specs.Texts.{IsText}
 use Rattle.record_slots.specs.Parts.{IsItem, IsItemIn, AreItemsIn}
 use Rattle.record_slots.proofs.ListLaws.{take_more}
@@ -74,8 +73,17 @@ item_there level (suc place) (item ∷ items) within each =
 
 -- where no item has ten of the words, no items have the words
 pub no_items : (level count place : ℕ) (words : List ℕ) → place < count → ((item : Item) → IsItemIn level (take (10 * place + 10 - 10 * place) (drop (10 * place) words)) item → ⊥)
-    → (items : ArrayVec Item) → AreItemsIn level count words items → ⊥
+    → (items : List Item) → AreItemsIn level count words items → ⊥
 no_items level count place words within none items are =
-    let there = item_there level place items.items (let c = are.counts in omega arith) are.each in
+    let there = item_there level place items (let c = are.counts in omega arith) are.each in
     let ten : 10 ≡ 10 * place + 10 - 10 * place = omega arith in
     none there.0 (record { is = there.1.is; are = there.1.are ∙ (λ i. take (ten i) (drop (10 * place) (are.are i))) })
+
+-- the words of a key's value are two fields
+pub pair_spelled : (words key value : List ℕ) → length words ≡ 10 → field_words key ≡ take 5 words → length value ≡ get_or words 5 0 → text_words 4 value ≡ take 4 (drop 6 words)
+    → items_words (record { key = key; content = Value value } ∷ []) ≡ words
+pair_spelled (a ∷ b ∷ c ∷ d ∷ e ∷ f ∷ g ∷ h ∷ i ∷ j ∷ []) key value ten first count second =
+    let unmarked : length key + 0 ≡ length key = omega arith in
+    let head : length key + 0 ≡ a = unmarked ∙ ap (λ ws. get_or ws 0 0) first in
+    λ t. head t ∷ (ap (drop 1) first t ++ (count t ∷ second t))
+pair_spelled _ key value ten first count second = absurd (omega arith)

@@ -2,6 +2,7 @@ pub mod Flags
 pub mod ItemLaws
 pub mod ListLaws
 pub mod OneRow
+pub mod PageParts
 pub mod Refusals
 pub mod RowLaws
 pub mod RuleLaws

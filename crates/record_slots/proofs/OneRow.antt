@@ -1,9 +1,8 @@
 -- Words have one row at most.
-use Rattle.std.proofs.Common.{◌≡◌, ◌<◌, ◌≤◌, ◌+◌, ◌*◌, ℕ, zero, suc, Bool, true, false, List, [], ◌∷◌, ◌++◌, length, get_or, take, drop, refl, sym, ap, subst, ◌∙◌, arith}
+use Rattle.std.proofs.Common.{◌≡◌, ◌≤◌, ◌+◌, ℕ, Bool, true, false, List, [], ◌∷◌, length, get_or, take, drop, refl, sym, ap, ◌∙◌, arith}
 use Rattle.std.specs.Prelude.{Option, Some, None, IfSome, if◌then◌else◌}
 use Rattle.std.specs.List.{All}
 use Rattle.std.proofs.lemmas.List.Elements.{All-head, All-tail}
-use Rattle.arrayvec.specs.ArrayVec.{ArrayVec}
 use Rattle.bw_model.specs.Bytes.{IsShort}
 use Rattle.base_page.specs.declared.item.Content.{Content}
 use Rattle.base_page.specs.declared.item.Content.TheVariants.{Value, Child}
@@ -13,17 +12,17 @@ use Rattle.base_page.specs.Rules.{is_held}
 use Rattle.record_slots.specs.declared.row.Row.{Row}
 use Rattle.record_slots.specs.Spelling.{text_words, field_words, bound_words, content_words, item_words, items_words}
 use Rattle.record_slots.specs.Spells.{IsShortContent}
-use Rattle.record_slots.specs.Texts.{bytes_in}
+use Rattle.record_slots.specs.Texts.{bytes_of}
 use Rattle.record_slots.specs.Parts.{IsItem, IsRowIn}
 use Rattle.record_slots.proofs.TextLaws.{read_back}
 use Rattle.record_slots.proofs.ItemLaws.{first_ten, behind_ten}
-use Rattle.record_slots.proofs.RowLaws.{HasParts, row_length, parts_of, header_of, header_is, header_one}
+use Rattle.record_slots.proofs.RowLaws.{header_of, header_is, header_one}
 
 text_one : (x y : List ℕ) → IsShort x → IsShort y → length x ≡ length y → text_words 4 x ≡ text_words 4 y → x ≡ y
 text_one x y h g counts e =
     let a = read_back 4 x h.bytes_fit (let s = h.short in omega arith) in
     let b = read_back 4 y g.bytes_fit (let s = g.short in omega arith) in
-    sym a.are ∙ (λ i. bytes_in (counts i) (e i)) ∙ b.are
+    sym a.are ∙ (λ i. take (counts i) (bytes_of (e i))) ∙ b.are
 
 field_one : (x y : List ℕ) → IsShort x → IsShort y → field_words x ≡ field_words y → x ≡ y
 field_one x y h g e = text_one x y h g (ap (λ ws. get_or ws 0 0) e) (ap (drop 1) e)
@@ -53,7 +52,7 @@ item_one level x y h g e =
     let contents = content_one level x.content y.content h.short.1 g.short.1 h.kind g.kind marks.1 (ap (drop 5) e) in
     λ t. record { key = keys t; content = contents t }
 
-items_one : (level : ℕ) (xs ys : List Item) → All (IsItem level) xs → All (IsItem level) ys → length xs ≡ length ys → items_words xs ≡ items_words ys → xs ≡ ys
+pub items_one : (level : ℕ) (xs ys : List Item) → All (IsItem level) xs → All (IsItem level) ys → length xs ≡ length ys → items_words xs ≡ items_words ys → xs ≡ ys
 items_one level [] [] h g l e = refl
 items_one level [] (y ∷ ys) h g l e = absurd (omega arith)
 items_one level (x ∷ xs) [] h g l e = absurd (omega arith)
@@ -66,11 +65,7 @@ items_one level (x ∷ xs) (y ∷ ys) h g l e =
 
 pub row_one : (words : List ℕ) (one other : Row) → IsRowIn words one → IsRowIn words other → one ≡ other
 row_one words one other h g =
-    let a = parts_of words one h in
-    let b = parts_of words other g in
     let head = header_one (get_or words 0 0) (header_of one) (header_of other) (header_is words one h) (header_is words other g) in
-    let first = field_one one.first other.first h.is.first g.is.first (a.first ∙ sym b.first) in
-    let second = bound_one one.second other.second h.is.second g.is.second (a.second ∙ sym b.second) in
-    let each = subst (λ l. All (IsItem l) other.items.items) (sym head.1) g.is.items in
-    let items = items_one one.level one.items.items other.items.items h.is.items each head.2 (a.items ∙ ap (λ n. take (10 * n) (drop 13 words)) head.2 ∙ sym b.items) in
-    λ i. record { kind = head.0 i; level = head.1 i; next = (sym a.next ∙ b.next) i; page = (sym a.page ∙ b.page) i; first = first i; second = second i; items = record { items = items i } }
+    let first = field_one one.first other.first h.is.first g.is.first (h.first ∙ sym g.first) in
+    let second = bound_one one.second other.second h.is.second g.is.second (h.second ∙ sym g.second) in
+    λ i. record { kind = head.0 i; level = head.1 i; count = head.2 i; next = (h.next ∙ sym g.next) i; page = (h.page ∙ sym g.page) i; first = first i; second = second i }

@@ -1,12 +1,12 @@
 -- The rules of a page and the tests of them.
-use Rattle.std.proofs.Common.{◌≡◌, ◌<◌, ◌≤◌, ◌+◌, ℕ, zero, suc, Bool, true, false, List, [], ◌∷◌, length, refl, sym, ap, subst, ◌∙◌, arith, IsTrue}
-use Rattle.std.specs.Prelude.{◌&&◌, not, nat_le, Option, Some, None, is_some, if◌then◌else◌}
+use Rattle.std.proofs.Common.{◌≡◌, ◌<◌, ◌≤◌, ℕ, Bool, true, false, List, [], ◌∷◌, refl, ap, subst, ◌∙◌, arith, IsTrue}
+use Rattle.std.specs.Prelude.{◌&&◌, not, nat_le, Option, is_some}
 use Rattle.std.specs.List.{All}
 use Rattle.std.specs.Ordering.{is_eq}
 use Rattle.std.proofs.lemmas.List.Elements.{All-nil, All-head, All-tail, All-cons}
 use Rattle.bw_model.specs.Bytes.{key_cmp, is_in_range, is_under}
 use Rattle.base_page.specs.declared.item.Item.{Item}
-use Rattle.base_page.specs.Pages.{Page, IsPage, AreItems, IsOfLevel}
+use Rattle.base_page.specs.Pages.{Page, AreItems, IsOfLevel}
 use Rattle.base_page.specs.Rules.{AreApart, AreTerms, IsFirstAt, IsRuled, is_held, held_count}
 use Rattle.base_page.proofs.KeyLaws.{same, itself}
 use Rattle.record_slots.specs.Rules.{are_within, are_apart_after, are_terms, starts_at}

@@ -1,24 +1,23 @@
 -- What spells a record has its parts, and the other way round.
-use Rattle.std.proofs.Common.{◌≡◌, ◌<◌, ◌≤◌, ◌+◌, ◌*◌, ℕ, zero, suc, Bool, true, false, List, [], ◌∷◌, length, refl, sym, ap, subst, ◌∙◌, arith}
+use Rattle.std.proofs.Common.{◌≡◌, ◌<◌, ◌*◌, ℕ, List, [], ◌∷◌, length, take, drop, refl, sym, ap, subst, ◌∙◌, arith}
 use Rattle.std.specs.Prelude.{Option, Some, None, IfSome, unwrap_or}
 use Rattle.std.specs.List.{All}
-use Rattle.std.proofs.lemmas.List.Elements.{All-nil, All-cons, All-weaker}
+use Rattle.std.proofs.lemmas.List.Elements.{All-nil, All-cons}
 use Rattle.bw_model.specs.Bytes.{IsShort}
-use Rattle.base_page.specs.declared.item.Content.{Content}
 use Rattle.base_page.specs.declared.item.Content.TheVariants.{Value, Child}
 use Rattle.base_page.specs.declared.item.Item.{Item}
 use Rattle.base_page.specs.Pages.{IsOfLevel}
-use Rattle.deltas.specs.Spellable.{IsPid, HasPid, IsSpellable, IsSpellablePage}
+use Rattle.deltas.specs.Spellable.{IsPid, HasPid, IsSpellable}
 use Rattle.deltas.specs.declared.record.Record.{Record}
 use Rattle.deltas.specs.declared.record.Record.TheVariants.{Base, Put, Delete, Split, Term, Hold, Remove, Merge, Unterm}
 use Rattle.record_slots.specs.declared.row.Row.{Row}
-use Rattle.record_slots.specs.Spelling.{words_of}
+use Rattle.record_slots.specs.Spelling.{items_words, words_of}
 use Rattle.record_slots.specs.Spells.{IsShortItem, HasShortTexts, IsSpelling}
-use Rattle.record_slots.specs.Parts.{IsItem, IsRowOfParts, IsRowIn, IsRecordOf, row_of, words_of_row}
-use Rattle.record_slots.proofs.OneRow.{row_one}
-use Rattle.record_slots.proofs.RowLaws.{row_length}
+use Rattle.record_slots.specs.Parts.{IsItem, IsRowOfParts, IsRowIn, IsRecordOf, row_of, items_of}
+use Rattle.record_slots.proofs.OneRow.{row_one, items_one}
+use Rattle.record_slots.proofs.RowLaws.{words_of_row, row_there, items_there, whole_row, row_length}
 
-same_words : (content : Record) → words_of_row (row_of content) ≡ words_of content
+same_words : (content : Record) → words_of_row (row_of content) (items_of content) ≡ words_of content
 same_words (Base page) = refl
 same_words (Put put) = refl
 same_words (Delete delete) = refl
@@ -29,6 +28,17 @@ same_words (Remove remove) = refl
 same_words (Merge merge) = refl
 same_words (Unterm unterm) = refl
 
+pub counts : (content : Record) → length (items_of content) ≡ (row_of content).count
+counts (Base page) = refl
+counts (Put put) = refl
+counts (Delete delete) = refl
+counts (Split split) = refl
+counts (Term term) = refl
+counts (Hold hold) = refl
+counts (Remove remove) = refl
+counts (Merge merge) = refl
+counts (Unterm unterm) = refl
+
 right_below : (right : Option ℕ) → IfSome right IsPid → unwrap_or right 0 < 4096
 right_below None h = omega arith
 right_below (Some page) h = h.1
@@ -36,9 +46,6 @@ right_below (Some page) h = h.1
 module _ (level : ℕ) where
   each_item : (items : List Item) → All IsShortItem items → All (λ item. IsOfLevel level item.content) items → All (λ item. HasPid item.content) items → All (IsItem level) items
   each_item items short kinds pids k d within = record { short = short k d within; kind = kinds k d within; child = pids k d within }
-
-  short_items : (items : List Item) → All (IsItem level) items → All IsShortItem items
-  short_items items each k d within = (each k d within).short
 
 no_items : (level : ℕ) → All (IsItem level) []
 no_items level = All-nil (IsItem level)
@@ -48,56 +55,61 @@ empty_short = record { short = omega arith; bytes_fit = tt }
 
 -- a record that a row can spell has parts in their ranges
 pub parts_fit : (content : Record) → IsSpellable content → HasShortTexts content → IsRowOfParts (row_of content)
-parts_fit (Base page) h s = record { kind = omega arith; level = h.ruled.top; next = omega arith; page = right_below page.right h.right; first = s.0; second = s.1; few = h.ruled.is_page.ordered.few; items = each_item page.level page.items s.2 h.ruled.is_page.kinds h.children }
-parts_fit (Put put) h s = record {
-  kind = omega arith;
-  level = omega arith;
-  next = h.1;
-  page = omega arith;
-  first = empty_short;
-  second = empty_short;
-  few = omega arith;
-  items = All-cons (IsItem 0) (record { key = put.key; content = Value put.value }) [] (record { short = (s.0, s.1); kind = refl; child = tt }) (no_items 0);
-}
-parts_fit (Delete delete) h s = record { kind = omega arith; level = omega arith; next = h.1; page = omega arith; first = s; second = empty_short; few = omega arith; items = no_items 0 }
-parts_fit (Split split) h s = record { kind = omega arith; level = h.top; next = h.over.1; page = h.names.1; first = s; second = empty_short; few = omega arith; items = no_items split.level }
-parts_fit (Term term) h s = record { kind = omega arith; level = h.1.top; next = h.1.over.1; page = h.1.names.1; first = s; second = empty_short; few = omega arith; items = no_items term.level }
-parts_fit (Hold hold) h s = record { kind = omega arith; level = h.1.top; next = h.1.over.1; page = h.1.names.1; first = s; second = empty_short; few = omega arith; items = no_items hold.level }
-parts_fit (Remove remove) h s = record { kind = omega arith; level = h.0; next = h.1.1; page = omega arith; first = empty_short; second = empty_short; few = omega arith; items = no_items remove.level }
-parts_fit (Merge merge) h s = record { kind = omega arith; level = h.3.ruled.top; next = h.0.1; page = right_below merge.right h.3.right; first = s.0; second = s.1; few = h.3.ruled.is_page.ordered.few; items = each_item merge.level merge.items s.2 h.3.ruled.is_page.kinds h.3.children }
-parts_fit (Unterm unterm) h s = record { kind = omega arith; level = h.1.top; next = h.1.over.1; page = h.1.names.1; first = s; second = empty_short; few = omega arith; items = no_items unterm.level }
+parts_fit (Base page) h s = record { kind = omega arith; level = h.ruled.top; few = h.ruled.is_page.ordered.few; next = omega arith; page = right_below page.right h.right; first = s.0; second = s.1 }
+parts_fit (Put put) h s = record { kind = omega arith; level = omega arith; few = omega arith; next = h.1; page = omega arith; first = empty_short; second = empty_short }
+parts_fit (Delete delete) h s = record { kind = omega arith; level = omega arith; few = omega arith; next = h.1; page = omega arith; first = s; second = empty_short }
+parts_fit (Split split) h s = record { kind = omega arith; level = h.top; few = omega arith; next = h.over.1; page = h.names.1; first = s; second = empty_short }
+parts_fit (Term term) h s = record { kind = omega arith; level = h.1.top; few = omega arith; next = h.1.over.1; page = h.1.names.1; first = s; second = empty_short }
+parts_fit (Hold hold) h s = record { kind = omega arith; level = h.1.top; few = omega arith; next = h.1.over.1; page = h.1.names.1; first = s; second = empty_short }
+parts_fit (Remove remove) h s = record { kind = omega arith; level = h.0; few = omega arith; next = h.1.1; page = omega arith; first = empty_short; second = empty_short }
+parts_fit (Merge merge) h s = record { kind = omega arith; level = h.3.ruled.top; few = h.3.ruled.is_page.ordered.few; next = h.0.1; page = right_below merge.right h.3.right; first = s.0; second = s.1 }
+parts_fit (Unterm unterm) h s = record { kind = omega arith; level = h.1.top; few = omega arith; next = h.1.over.1; page = h.1.names.1; first = s; second = empty_short }
 
-item_first : (level : ℕ) (item : Item) → All (IsItem level) (item ∷ []) → IsShortItem item
-item_first level item each = (each 0 item (omega arith)).short
+-- its items are of its level
+pub items_fit : (content : Record) → IsSpellable content → HasShortTexts content → All (IsItem (row_of content).level) (items_of content)
+items_fit (Base page) h s = each_item page.level page.items s.2 h.ruled.is_page.kinds h.children
+items_fit (Put put) h s = All-cons (IsItem 0) (record { key = put.key; content = Value put.value }) [] (record { short = (s.0, s.1); kind = refl; child = tt }) (no_items 0)
+items_fit (Merge merge) h s = each_item merge.level merge.items s.2 h.3.ruled.is_page.kinds h.3.children
+items_fit (Delete delete) h s = no_items 0
+items_fit (Split split) h s = no_items split.level
+items_fit (Term term) h s = no_items term.level
+items_fit (Hold hold) h s = no_items hold.level
+items_fit (Remove remove) h s = no_items remove.level
+items_fit (Unterm unterm) h s = no_items unterm.level
 
-texts_short : (content : Record) → IsRowOfParts (row_of content) → HasShortTexts content
-texts_short (Base page) h = (h.first, h.second, short_items page.level page.items h.items)
-texts_short (Put put) h = let i = item_first 0 (record { key = put.key; content = Value put.value }) h.items in (i.0, i.1)
-texts_short (Delete delete) h = h.first
-texts_short (Split split) h = h.first
-texts_short (Term term) h = h.first
-texts_short (Hold hold) h = h.first
-texts_short (Remove remove) h = tt
-texts_short (Merge merge) h = (h.first, h.second, short_items merge.level merge.items h.items)
-texts_short (Unterm unterm) h = h.first
+module _ (words : List ℕ) (content : Record) (h : IsSpelling content words) where
+  abbrev are : words_of_row (row_of content) (items_of content) ≡ words
+  are = same_words content ∙ h.are
 
-pub row_spelled : (words : List ℕ) (content : Record) → IsSpelling content words → IsRowIn words (row_of content)
-row_spelled words content h = record { is = parts_fit content h.spellable h.short; are = same_words content ∙ h.are }
+  pub row_spelled : IsRowIn words (row_of content)
+  row_spelled = row_there words (row_of content) (items_of content) (parts_fit content h.spellable h.short) (counts content) are
 
-pub spelled_by : (words : List ℕ) (row : Row) (content : Record) → IsRowIn words row → IsRecordOf row content → IsSpelling content words
-spelled_by words row content h r = record {
-  spellable = r.spellable;
-  short = texts_short content (subst IsRowOfParts (sym r.are) h.is);
-  are = sym (same_words content) ∙ ap words_of_row r.are ∙ h.are;
-}
+  pub items_spelled : items_words (items_of content) ≡ take (10 * (row_of content).count) (drop 13 words)
+  items_spelled = items_there words (row_of content) (items_of content) (parts_fit content h.spellable h.short) (counts content) are
 
-pub record_spelled : (words : List ℕ) (row : Row) (content : Record) → IsRowIn words row → IsSpelling content words → IsRecordOf row content
-record_spelled words row content h s = record { spellable = s.spellable; are = row_one words (row_of content) row (row_spelled words content s) h }
+pub spelled_by : (words : List ℕ) (row : Row) (content : Record) → length words ≡ 256 → IsRowIn words row → IsRecordOf row (take (10 * row.count) (drop 13 words)) content → IsSpelling content words
+spelled_by words row content all h r =
+    let many : length (items_of content) ≡ row.count = counts content ∙ ap (λ (one : Row). one.count) r.are in
+    record {
+      spellable = r.spellable;
+      short = r.short;
+      are = sym (same_words content) ∙ ap (λ one. words_of_row one (items_of content)) r.are ∙ whole_row words row (items_of content) (omega (arith, all)) h many r.items;
+    }
+
+pub record_spelled : (words : List ℕ) (row : Row) (content : Record) → IsRowIn words row → IsSpelling content words → IsRecordOf row (take (10 * row.count) (drop 13 words)) content
+record_spelled words row content h s =
+    let same = row_one words (row_of content) row (row_spelled words content s) h in
+    record {
+      spellable = s.spellable;
+      short = s.short;
+      are = same;
+      items = items_spelled words content s ∙ ap (λ (one : Row). take (10 * one.count) (drop 13 words)) same;
+    }
 
 abbrev kind_of : Record → ℕ
 kind_of content = (row_of content).kind
 
-right_one : (one other : Option ℕ) → IfSome one IsPid → IfSome other IsPid → unwrap_or one 0 ≡ unwrap_or other 0 → one ≡ other
+pub right_one : (one other : Option ℕ) → IfSome one IsPid → IfSome other IsPid → unwrap_or one 0 ≡ unwrap_or other 0 → one ≡ other
 right_one None None h g e = refl
 right_one None (Some other) h g e = let s = g.0 in absurd (omega arith)
 right_one (Some one) None h g e = let s = h.0 in absurd (omega arith)
@@ -111,25 +123,32 @@ abbrev key_or_none : List Item → List ℕ
 key_or_none [] = []
 key_or_none (item ∷ items) = item.key
 
--- a record has its parts alone
-parts_one : (one other : Record) → IsSpellable one → IsSpellable other → row_of one ≡ row_of other → one ≡ other
-parts_one (Base x) (Base y) h g e =
+-- a record has its parts and its items alone
+parts_one : (one other : Record) → IsSpellable one → IsSpellable other → row_of one ≡ row_of other → items_of one ≡ items_of other → one ≡ other
+parts_one (Base x) (Base y) h g e f =
     let right = right_one x.right y.right h.right g.right (λ i. (e i).page) in
-    λ i. Base (record { level = (e i).level; low = (e i).first; high = (e i).second; right = right i; removed = (h.alive ∙ sym g.alive) i; items = (e i).items.items })
-parts_one (Put x) (Put y) h g e = λ i. Put (record { next = (e i).next; key = ap (λ (row : Row). key_or_none row.items.items) e i; value = ap (λ (row : Row). value_or_none row.items.items) e i })
-parts_one (Delete x) (Delete y) h g e = λ i. Delete (record { next = (e i).next; key = (e i).first })
-parts_one (Split x) (Split y) h g e = λ i. Split (record { level = (e i).level; next = (e i).next; separator = (e i).first; page = (e i).page })
-parts_one (Term x) (Term y) h g e = λ i. Term (record { level = (e i).level; next = (e i).next; separator = (e i).first; child = (e i).page })
-parts_one (Hold x) (Hold y) h g e = λ i. Hold (record { level = (e i).level; next = (e i).next; separator = (e i).first; child = (e i).page })
-parts_one (Remove x) (Remove y) h g e = λ i. Remove (record { level = (e i).level; next = (e i).next })
-parts_one (Merge x) (Merge y) h g e =
+    λ i. Base (record { level = (e i).level; low = (e i).first; high = (e i).second; right = right i; removed = (h.alive ∙ sym g.alive) i; items = f i })
+parts_one (Put x) (Put y) h g e f = λ i. Put (record { next = (e i).next; key = key_or_none (f i); value = value_or_none (f i) })
+parts_one (Delete x) (Delete y) h g e f = λ i. Delete (record { next = (e i).next; key = (e i).first })
+parts_one (Split x) (Split y) h g e f = λ i. Split (record { level = (e i).level; next = (e i).next; separator = (e i).first; page = (e i).page })
+parts_one (Term x) (Term y) h g e f = λ i. Term (record { level = (e i).level; next = (e i).next; separator = (e i).first; child = (e i).page })
+parts_one (Hold x) (Hold y) h g e f = λ i. Hold (record { level = (e i).level; next = (e i).next; separator = (e i).first; child = (e i).page })
+parts_one (Remove x) (Remove y) h g e f = λ i. Remove (record { level = (e i).level; next = (e i).next })
+parts_one (Merge x) (Merge y) h g e f =
     let right = right_one x.right y.right h.3.right g.3.right (λ i. (e i).page) in
-    λ i. Merge (record { level = (e i).level; next = (e i).next; low = (e i).first; high = (e i).second; right = right i; items = (e i).items.items })
-parts_one (Unterm x) (Unterm y) h g e = λ i. Unterm (record { level = (e i).level; next = (e i).next; separator = (e i).first; child = (e i).page })
-parts_one one other h g e = let k : kind_of one ≡ kind_of other = ap (λ (row : Row). row.kind) e in absurd (omega arith)
+    λ i. Merge (record { level = (e i).level; next = (e i).next; low = (e i).first; high = (e i).second; right = right i; items = f i })
+parts_one (Unterm x) (Unterm y) h g e f = λ i. Unterm (record { level = (e i).level; next = (e i).next; separator = (e i).first; child = (e i).page })
+parts_one one other h g e f = let k : kind_of one ≡ kind_of other = ap (λ (row : Row). row.kind) e in absurd (omega arith)
 
 pub spelling_one : (one other : Record) (words : List ℕ) → IsSpelling one words → IsSpelling other words → one ≡ other
-spelling_one one other words h g = parts_one one other h.spellable g.spellable (row_one words (row_of one) (row_of other) (row_spelled words one h) (row_spelled words other g))
+spelling_one one other words h g =
+    let rows = row_one words (row_of one) (row_of other) (row_spelled words one h) (row_spelled words other g) in
+    let level = ap (λ (row : Row). row.level) rows in
+    let count = ap (λ (row : Row). row.count) rows in
+    let each = subst (λ l. All (IsItem l) (items_of other)) (sym level) (items_fit other g.spellable g.short) in
+    let same = items_spelled words one h ∙ ap (λ n. take (10 * n) (drop 13 words)) count ∙ sym (items_spelled words other g) in
+    let items = items_one (row_of one).level (items_of one) (items_of other) (items_fit one h.spellable h.short) each (counts one ∙ count ∙ sym (counts other)) same in
+    parts_one one other h.spellable g.spellable rows items
 
 pub spelling_there : (content : Record) → IsSpellable content → HasShortTexts content → IsSpelling content (words_of content)
 spelling_there content h s = record { spellable = h; short = s; are = refl }

@@ -1,10 +1,9 @@
 -- The parts of a row, whatever its kind.
-use Rattle.std.specs.Prelude.{◌≡◌, ◌≢◌, ◌==◌, ◌<◌, ◌≤◌, ◌+◌, ◌*◌, ℕ, Bool, true, ◌&&◌, List, [], ◌∷◌, length, Option, Some, IfSome, unwrap_or, ⊤}
+use Rattle.std.specs.Prelude.{◌≡◌, ◌≢◌, ◌==◌, ◌<◌, ◌≤◌, ◌+◌, ◌*◌, ℕ, Bool, true, ◌&&◌, List, [], ◌∷◌, length, Option, Some, IfSome, unwrap_or, get_or, take, drop, replicate, ◌-◌}
 use Rattle.std.specs.List.{All}
-use Rattle.arrayvec.specs.ArrayVec.{ArrayVec}
 use Rattle.bw_model.specs.Bytes.{IsShort}
 use Rattle.base_page.specs.declared.item.Content.{Content}
-use Rattle.base_page.specs.declared.item.Content.TheVariants.{Value, Child}
+use Rattle.base_page.specs.declared.item.Content.TheVariants.{Value}
 use Rattle.base_page.specs.declared.item.Item.{Item}
 use Rattle.base_page.specs.Pages.{IsOfLevel}
 use Rattle.base_page.specs.Rules.{is_held}
@@ -13,8 +12,8 @@ use Rattle.deltas.specs.declared.record.Record.{Record}
 use Rattle.deltas.specs.declared.record.Record.TheVariants.{Base, Put, Delete, Split, Term, Hold, Remove, Merge, Unterm}
 use Rattle.record_slots.specs.declared.row.Header.{Header}
 use Rattle.record_slots.specs.declared.row.Row.{Row}
-use Rattle.record_slots.specs.Spelling.{row_words, content_words, item_words, items_words}
-use Rattle.record_slots.specs.Spells.{IsShortContent, IsShortItem}
+use Rattle.record_slots.specs.Spelling.{field_words, bound_words, content_words, item_words, items_words}
+use Rattle.record_slots.specs.Spells.{HasShortTexts, IsShortContent, IsShortItem}
 
 -- An item of a page of the level: its texts are short, and its child is a page.
 pub record IsItem (level : ℕ) (item : Item) : Type 0 where
@@ -38,10 +37,10 @@ pub record IsItemIn (level : ℕ) (words : List ℕ) (item : Item) : Type 0 wher
   pub is : IsItem level item
   pub are : item_words item ≡ words
 
-pub record AreItemsIn (level count : ℕ) (words : List ℕ) (items : ArrayVec Item) : Type 0 where
-  pub counts : length items.items ≡ count
-  pub each : All (IsItem level) items.items
-  pub are : items_words items.items ≡ words
+pub record AreItemsIn (level count : ℕ) (words : List ℕ) (items : List Item) : Type 0 where
+  pub counts : length items ≡ count
+  pub each : All (IsItem level) items
+  pub are : items_words items ≡ words
 
 -- nothing stands in the words
 abbrev pub are_zeros : List ℕ → Bool
@@ -60,45 +59,55 @@ pub record IsHeaderIn (word : ℕ) (header : Header) : Type 0 where
   pub few : header.count ≤ 24
   pub are : header.kind + 256 * header.level + 65536 * header.count ≡ word
 
--- The numbers are in their ranges, the texts are short, and the items are of the level.
+-- The numbers are in their ranges, and the texts are short.
 pub record IsRowOfParts (row : Row) : Type 0 where
   pub kind : row.kind < 256
   pub level : row.level ≤ 15
+  pub few : row.count ≤ 24
   pub next : row.next < 16384
   pub page : row.page < 4096
   pub first : IsShort row.first
   pub second : IfSome row.second IsShort
-  pub few : length row.items.items ≤ 24
-  pub items : All (IsItem row.level) row.items.items
 
-abbrev pub words_of_row : Row → List ℕ
-words_of_row row = row_words row.kind row.level row.next row.page row.first row.second row.items.items
-
+-- Such parts stand in the words before the items, and nothing behind the items.
 pub record IsRowIn (words : List ℕ) (row : Row) : Type 0 where
   pub is : IsRowOfParts row
-  pub are : words_of_row row ≡ words
+  pub first_word : row.kind + 256 * row.level + 65536 * row.count ≡ get_or words 0 0
+  pub next : row.next ≡ get_or words 1 0
+  pub page : row.page ≡ get_or words 2 0
+  pub first : field_words row.first ≡ take 5 (drop 3 words)
+  pub second : bound_words row.second ≡ take 5 (drop 8 words)
+  pub rest : drop (13 + 10 * row.count) words ≡ replicate (243 - 10 * row.count) 0
 
--- the parts that each kind of record has
+-- the parts and the items that each kind of record has
 abbrev pub row_of : Record → Row
-row_of (Base page) = record { kind = 1; level = page.level; next = 0; page = unwrap_or page.right 0; first = page.low; second = page.high; items = record { items = page.items } }
-row_of (Put put) = record { kind = 2; level = 0; next = put.next; page = 0; first = []; second = Some []; items = record { items = record { key = put.key; content = Value put.value } ∷ [] } }
-row_of (Delete delete) = record { kind = 3; level = 0; next = delete.next; page = 0; first = delete.key; second = Some []; items = record { items = [] } }
-row_of (Split split) = record { kind = 4; level = split.level; next = split.next; page = split.page; first = split.separator; second = Some []; items = record { items = [] } }
-row_of (Term term) = record { kind = 5; level = term.level; next = term.next; page = term.child; first = term.separator; second = Some []; items = record { items = [] } }
-row_of (Hold hold) = record { kind = 6; level = hold.level; next = hold.next; page = hold.child; first = hold.separator; second = Some []; items = record { items = [] } }
-row_of (Remove remove) = record { kind = 7; level = remove.level; next = remove.next; page = 0; first = []; second = Some []; items = record { items = [] } }
-row_of (Merge merge) = record { kind = 8; level = merge.level; next = merge.next; page = unwrap_or merge.right 0; first = merge.low; second = merge.high; items = record { items = merge.items } }
-row_of (Unterm unterm) = record { kind = 9; level = unterm.level; next = unterm.next; page = unterm.child; first = unterm.separator; second = Some []; items = record { items = [] } }
+row_of (Base page) = record { kind = 1; level = page.level; count = length page.items; next = 0; page = unwrap_or page.right 0; first = page.low; second = page.high }
+row_of (Put put) = record { kind = 2; level = 0; count = 1; next = put.next; page = 0; first = []; second = Some [] }
+row_of (Delete delete) = record { kind = 3; level = 0; count = 0; next = delete.next; page = 0; first = delete.key; second = Some [] }
+row_of (Split split) = record { kind = 4; level = split.level; count = 0; next = split.next; page = split.page; first = split.separator; second = Some [] }
+row_of (Term term) = record { kind = 5; level = term.level; count = 0; next = term.next; page = term.child; first = term.separator; second = Some [] }
+row_of (Hold hold) = record { kind = 6; level = hold.level; count = 0; next = hold.next; page = hold.child; first = hold.separator; second = Some [] }
+row_of (Remove remove) = record { kind = 7; level = remove.level; count = 0; next = remove.next; page = 0; first = []; second = Some [] }
+row_of (Merge merge) = record { kind = 8; level = merge.level; count = length merge.items; next = merge.next; page = unwrap_or merge.right 0; first = merge.low; second = merge.high }
+row_of (Unterm unterm) = record { kind = 9; level = unterm.level; count = 0; next = unterm.next; page = unterm.child; first = unterm.separator; second = Some [] }
 
--- A row can spell the record, and these are its parts.
-pub record IsRecordOf (row : Row) (content : Record) : Type 0 where
+abbrev pub items_of : Record → List Item
+items_of (Base page) = page.items
+items_of (Put put) = record { key = put.key; content = Value put.value } ∷ []
+items_of (Merge merge) = merge.items
+items_of content = []
+
+-- A row can spell the record, which has these parts, and these words spell its items.
+pub record IsRecordOf (row : Row) (words : List ℕ) (content : Record) : Type 0 where
   pub spellable : IsSpellable content
+  pub short : HasShortTexts content
   pub are : row_of content ≡ row
+  pub items : items_words (items_of content) ≡ words
 
 -- no second key and no items
 pub record IsBare (row : Row) : Type 0 where
   pub second : row.second ≡ Some []
-  pub items : row.items.items ≡ []
+  pub items : row.count ≡ 0
 
 -- a row under it, a page, a key that isn't empty, and nothing else
 pub record IsLinkOf (row : Row) : Type 0 where

@@ -1,5 +1,5 @@
 -- Which words spell a record.
-use Rattle.std.specs.Prelude.{◌≡◌, ℕ, List, Option, Some, IfSome, MatchResult, Result, ⊤}
+use Rattle.std.specs.Prelude.{◌≡◌, ℕ, List, IfSome, MatchResult, Result, ⊤}
 use Rattle.std.specs.List.{All}
 use Rattle.bw_model.specs.Bytes.{IsShort}
 use Rattle.base_page.specs.declared.item.Content.{Content}

@@ -1,5 +1,6 @@
 //! Items read from words.
-ghost use Rattle.std.specs.Prelude.{◌≡◌, ◌≤◌, ◌*◌, length};
+ghost use Rattle.std.specs.Prelude.{◌≡◌, ◌≤◌, ◌*◌, List, [], IsTrue, IsFalse, length};
+ghost use Rattle.base_page.specs.declared.item.Item.{Item};
 ghost use Rattle.record_slots.specs.Parts.{IsChildIn, IsContentIn, IsItemIn, AreItemsIn};
 ghost use Rattle.record_slots.specs.Spells.{FindsOne};
 
@@ -11,21 +12,27 @@ use base_page::{Content, Item, MAX_ITEMS};
 /// The mark of a held term, beside its key's length.
 const HELD: u64 = 256;
 
-/// The items of a page of the level, from ten words each.
-pub(crate) fn items_in(
+/// Adds the items of a page of the level, from ten words each, and answers whether there are such items.
+#[inline(never)]
+pub(crate) fn read_items(
     level: u8,
     count: usize,
     words: &[u64],
-) -> Result<ArrayVec<Item, MAX_ITEMS>, BadRow>
+    items: &mut ArrayVec<Item, MAX_ITEMS>,
+) -> bool
     requires few { count ≤ 24 }
     requires words { length words.now ≡ 10 * count }
-    ensures { FindsOne (AreItemsIn level count words.now) result }
+    requires none { items.old.items ≡ [] }
+    ensures read { IsTrue result → AreItemsIn level count words.now items.new.items }
+    ensures none { IsFalse result → (others : List Item) → AreItemsIn level count words.now others → ⊥ }
 {
-    let mut items = ArrayVec::new();
     for place in 0..count {
-        items.push(item_in(level, &words[10 * place..10 * place + 10])?);
+        match item_in(level, &words[10 * place..10 * place + 10]) {
+            Ok(item) => items.push(item),
+            Err(_) => return false,
+        }
     }
-    Ok(items)
+    true
 }
 
 /// One item of a page of the level.

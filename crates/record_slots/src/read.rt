@@ -10,5 +10,7 @@ use deltas::Record;
 pub fn from_words(words: &[u64; 256]) -> Result<Record, BadRow>
     ensures { FindsOne (λ content. IsSpelling content words.now) result }
 {
-    record_in(row_in(words)?)
+    let row = row_in(words)?;
+    let end = 13 + 10 * row.count;
+    record_in(row, &words[13..end])
 }

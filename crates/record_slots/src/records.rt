@@ -1,83 +1,86 @@
 //! Records from the parts of a row.
-ghost use Rattle.std.specs.Prelude.{◌≡◌, ◌≤◌, ◌<◌, ◌↔◌, ℕ, List, ◌∷◌, [], IsTrue, MatchOption, Some, false};
-ghost use Rattle.std.specs.List.{All};
-ghost use Rattle.base_page.specs.declared.item.Content.TheVariants as kind;
-ghost use Rattle.base_page.specs.Pages.{IsOfLevel};
-ghost use Rattle.base_page.specs.Rules.{IsRuled};
+ghost use Rattle.std.specs.Prelude.{◌≡◌, ◌<◌, ◌*◌, ◌↔◌, [], IsTrue, Some, length};
 ghost use Rattle.record_slots.specs.Parts.{IsBare, IsLinkOf, IsRecordOf, IsRightIn, IsRowOfParts};
 ghost use Rattle.record_slots.specs.Spells.{FindsOne};
 
 use crate::BadRow;
+use crate::item_words::read_items;
 use crate::row::Row;
 use crate::rules::keeps_rules;
+use crate::texts::{field_in, value_in};
 use arrayvec::ArrayVec;
-use base_page::{Content, Item, Items, MAX_ITEMS, Page};
-use bw_model::{Key, Value};
+use base_page::{Items, Page};
+use bw_model::Key;
 use deltas::{Delete, Hold, Merge, Put, Record, Remove, Split, Term, Unterm};
 
 /// The record that has these parts.
-pub(crate) fn record_in(row: Row) -> Result<Record, BadRow>
-    requires { IsRowOfParts row }
-    ensures { FindsOne (IsRecordOf row) result }
+pub(crate) fn record_in(row: Row, words: &[u64]) -> Result<Record, BadRow>
+    requires parts { IsRowOfParts row }
+    requires words { length words.now ≡ 10 * row.count }
+    ensures { FindsOne (IsRecordOf row words.now) result }
 {
     match row.kind {
-        1 => base_in(row),
-        2 => put_in(row),
-        3 => delete_in(row),
-        4 => split_in(row),
-        5 => term_in(row),
-        6 => hold_in(row),
-        7 => remove_in(row),
-        8 => merge_in(row),
-        9 => unterm_in(row),
+        1 => base_in(row, words),
+        2 => put_in(row, words),
+        3 => delete_in(row, words),
+        4 => split_in(row, words),
+        5 => term_in(row, words),
+        6 => hold_in(row, words),
+        7 => remove_in(row, words),
+        8 => merge_in(row, words),
+        9 => unterm_in(row, words),
         _ => Err(BadRow),
     }
 }
 
-fn base_in(row: Row) -> Result<Record, BadRow>
+#[inline(never)]
+fn base_in(row: Row, words: &[u64]) -> Result<Record, BadRow>
     requires parts { IsRowOfParts row }
+    requires words { length words.now ≡ 10 * row.count }
     requires kind { row.kind ≡ 1 }
-    ensures { FindsOne (IsRecordOf row) result }
+    ensures { FindsOne (IsRecordOf row words.now) result }
 {
-    if row.next != 0 {
+    let mut items = ArrayVec::new();
+    if row.next > 0 || !read_items(row.level, row.count, words, &mut items) {
         return Err(BadRow);
     }
+    let Some(items) = Items::ordered(items) else {
+        return Err(BadRow);
+    };
     let right = right_in(row.page);
-    let items = row.items;
-    match ruled_items(row.level, &row.first, &row.second, right, items) {
-        None => Err(BadRow),
-        Some(items) => {
-            let page = Page::new(row.level, row.first, row.second, right, items);
-            Ok(Record::Base(page))
-        }
+    if !keeps_rules(row.level, &row.first, &row.second, right, &items) {
+        return Err(BadRow);
     }
+    let page = Page::new(row.level, row.first, row.second, right, items);
+    Ok(Record::Base(page))
 }
 
-fn put_in(row: Row) -> Result<Record, BadRow>
+fn put_in(row: Row, words: &[u64]) -> Result<Record, BadRow>
     requires parts { IsRowOfParts row }
+    requires words { length words.now ≡ 10 * row.count }
     requires kind { row.kind ≡ 2 }
-    ensures { FindsOne (IsRecordOf row) result }
+    ensures { FindsOne (IsRecordOf row words.now) result }
 {
-    if row.level > 0 || row.page > 0 || row.next == 0 {
+    if row.level > 0 || row.page > 0 || row.next == 0 || row.count != 1 {
         return Err(BadRow);
     }
     if !is_empty(&row.first) || !is_empty_bound(&row.second) {
         return Err(BadRow);
     }
-    match pair_in(row.items) {
-        None => Err(BadRow),
-        Some((key, value)) => Ok(Record::Put(Put {
-            next: row.next,
-            key,
-            value,
-        })),
-    }
+    let key = field_in(&words[..5])?;
+    let value = value_in(words[5], &words[6..10])?;
+    Ok(Record::Put(Put {
+        next: row.next,
+        key,
+        value,
+    }))
 }
 
-fn delete_in(row: Row) -> Result<Record, BadRow>
+fn delete_in(row: Row, words: &[u64]) -> Result<Record, BadRow>
     requires parts { IsRowOfParts row }
+    requires words { length words.now ≡ 10 * row.count }
     requires kind { row.kind ≡ 3 }
-    ensures { FindsOne (IsRecordOf row) result }
+    ensures { FindsOne (IsRecordOf row words.now) result }
 {
     if row.level > 0 || row.page > 0 || row.next == 0 || !is_bare(&row) {
         return Err(BadRow);
@@ -88,10 +91,11 @@ fn delete_in(row: Row) -> Result<Record, BadRow>
     }))
 }
 
-fn split_in(row: Row) -> Result<Record, BadRow>
+fn split_in(row: Row, words: &[u64]) -> Result<Record, BadRow>
     requires parts { IsRowOfParts row }
+    requires words { length words.now ≡ 10 * row.count }
     requires kind { row.kind ≡ 4 }
-    ensures { FindsOne (IsRecordOf row) result }
+    ensures { FindsOne (IsRecordOf row words.now) result }
 {
     if !is_link(&row) {
         return Err(BadRow);
@@ -104,10 +108,11 @@ fn split_in(row: Row) -> Result<Record, BadRow>
     }))
 }
 
-fn term_in(row: Row) -> Result<Record, BadRow>
+fn term_in(row: Row, words: &[u64]) -> Result<Record, BadRow>
     requires parts { IsRowOfParts row }
+    requires words { length words.now ≡ 10 * row.count }
     requires kind { row.kind ≡ 5 }
-    ensures { FindsOne (IsRecordOf row) result }
+    ensures { FindsOne (IsRecordOf row words.now) result }
 {
     if row.level == 0 || !is_link(&row) {
         return Err(BadRow);
@@ -120,10 +125,11 @@ fn term_in(row: Row) -> Result<Record, BadRow>
     }))
 }
 
-fn hold_in(row: Row) -> Result<Record, BadRow>
+fn hold_in(row: Row, words: &[u64]) -> Result<Record, BadRow>
     requires parts { IsRowOfParts row }
+    requires words { length words.now ≡ 10 * row.count }
     requires kind { row.kind ≡ 6 }
-    ensures { FindsOne (IsRecordOf row) result }
+    ensures { FindsOne (IsRecordOf row words.now) result }
 {
     if row.level == 0 || !is_link(&row) {
         return Err(BadRow);
@@ -136,10 +142,11 @@ fn hold_in(row: Row) -> Result<Record, BadRow>
     }))
 }
 
-fn remove_in(row: Row) -> Result<Record, BadRow>
+fn remove_in(row: Row, words: &[u64]) -> Result<Record, BadRow>
     requires parts { IsRowOfParts row }
+    requires words { length words.now ≡ 10 * row.count }
     requires kind { row.kind ≡ 7 }
-    ensures { FindsOne (IsRecordOf row) result }
+    ensures { FindsOne (IsRecordOf row words.now) result }
 {
     if row.page > 0 || row.next == 0 || !is_empty(&row.first) || !is_bare(&row) {
         return Err(BadRow);
@@ -150,33 +157,42 @@ fn remove_in(row: Row) -> Result<Record, BadRow>
     }))
 }
 
-fn merge_in(row: Row) -> Result<Record, BadRow>
+#[inline(never)]
+fn merge_in(row: Row, words: &[u64]) -> Result<Record, BadRow>
     requires parts { IsRowOfParts row }
+    requires words { length words.now ≡ 10 * row.count }
     requires kind { row.kind ≡ 8 }
-    ensures { FindsOne (IsRecordOf row) result }
+    ensures { FindsOne (IsRecordOf row words.now) result }
 {
-    if row.next == 0 || is_empty(&row.first) || row.items.len() > 4 {
+    let mut items = ArrayVec::new();
+    if row.next == 0 || is_empty(&row.first) || row.count > 4 {
         return Err(BadRow);
     }
-    let right = right_in(row.page);
-    let items = row.items;
-    match ruled_items(row.level, &row.first, &row.second, right, items) {
-        None => Err(BadRow),
-        Some(items) => Ok(Record::Merge(Merge {
-            level: row.level,
-            next: row.next,
-            low: row.first,
-            high: row.second,
-            right,
-            items,
-        })),
+    if !read_items(row.level, row.count, words, &mut items) {
+        return Err(BadRow);
     }
+    let Some(items) = Items::ordered(items) else {
+        return Err(BadRow);
+    };
+    let right = right_in(row.page);
+    if !keeps_rules(row.level, &row.first, &row.second, right, &items) {
+        return Err(BadRow);
+    }
+    Ok(Record::Merge(Merge {
+        level: row.level,
+        next: row.next,
+        low: row.first,
+        high: row.second,
+        right,
+        items,
+    }))
 }
 
-fn unterm_in(row: Row) -> Result<Record, BadRow>
+fn unterm_in(row: Row, words: &[u64]) -> Result<Record, BadRow>
     requires parts { IsRowOfParts row }
+    requires words { length words.now ≡ 10 * row.count }
     requires kind { row.kind ≡ 9 }
-    ensures { FindsOne (IsRecordOf row) result }
+    ensures { FindsOne (IsRecordOf row words.now) result }
 {
     if row.level == 0 || !is_link(&row) {
         return Err(BadRow);
@@ -200,7 +216,7 @@ fn is_link(row: &Row) -> bool
 fn is_bare(row: &Row) -> bool
     ensures { IsTrue result ↔ IsBare row.now }
 {
-    is_empty_bound(&row.second) && row.items.is_empty()
+    is_empty_bound(&row.second) && row.count == 0
 }
 
 fn is_empty(key: &Key) -> bool
@@ -225,43 +241,4 @@ fn right_in(page: u16) -> Option<u16>
     ensures { IsRightIn page result }
 {
     if page == 0 { None } else { Some(page) }
-}
-
-/// The key and the value, where there is one item and it has a value.
-fn pair_in(items: ArrayVec<Item, MAX_ITEMS>) -> Option<(Key, Value)>
-    ensures { MatchOption result
-        ((key value : List ℕ) → items.items ≡ record { key = key; content = kind.Value value } ∷ [] → ⊥)
-        (λ pair. items.items ≡ record { key = pair.0; content = kind.Value pair.1 } ∷ []) }
-{
-    let mut items = items;
-    let Item { key, content } = items.pop()?;
-    if !items.is_empty() {
-        return None;
-    }
-    match content {
-        Content::Value(value) => Some((key, value)),
-        Content::Child { .. } => None,
-    }
-}
-
-/// The items, where the parts make a page that keeps the rules.
-fn ruled_items(
-    level: u8,
-    low: &Key,
-    high: &Option<Key>,
-    right: Option<u16>,
-    items: ArrayVec<Item, MAX_ITEMS>,
-) -> Option<Items>
-    requires kinds { All (λ item. IsOfLevel level item.content) items.items }
-    requires top { level ≤ 15 }
-    ensures { MatchOption result
-        (IsRuled (record { level = level; low = low.now; high = high.now; right = right; removed = false; items = items.items }) → ⊥)
-        (λ ordered. (ordered ≡ items.items) × IsRuled (record { level = level; low = low.now; high = high.now; right = right; removed = false; items = items.items })) }
-{
-    let items = Items::ordered(items)?;
-    if keeps_rules(level, low, high, right, &items) {
-        Some(items)
-    } else {
-        None
-    }
 }

@@ -1,12 +1,9 @@
-//! The parts of a row.
+//! The parts of a row before its items.
 ghost use Rattle.std.specs.Prelude.{◌≡◌, ◌≤◌};
 ghost use Rattle.record_slots.specs.Parts.{are_zeros, IsHeaderIn, IsNumberIn, IsRowIn};
 ghost use Rattle.record_slots.specs.Spells.{FindsOne};
 
-use crate::item_words::items_in;
 use crate::texts::{bound_in, field_in};
-use arrayvec::ArrayVec;
-use base_page::{Item, MAX_ITEMS};
 use bw_model::Key;
 use thiserror::Error;
 
@@ -15,16 +12,16 @@ use thiserror::Error;
 #[error("the words spell no record")]
 pub struct BadRow;
 
-/// What a row has, whatever its kind.
+/// What a row has before its items, whatever its kind.
 #[derive(Debug, Drop)]
 pub struct Row {
     pub kind: u8,
     pub level: u8,
+    pub count: usize,
     pub next: u16,
     pub page: u16,
     pub first: Key,
     pub second: Option<Key>,
-    pub items: ArrayVec<Item, MAX_ITEMS>,
 }
 
 /// What stands in a row's first word.
@@ -35,7 +32,7 @@ pub struct Header {
     pub count: usize,
 }
 
-/// The parts of a row.
+/// The parts of a row, where nothing stands behind its items.
 pub(crate) fn row_in(words: &[u64; 256]) -> Result<Row, BadRow>
     ensures { FindsOne (IsRowIn words.now) result }
 {
@@ -44,19 +41,17 @@ pub(crate) fn row_in(words: &[u64; 256]) -> Result<Row, BadRow>
     let page = number_in(words[2], 4096)?;
     let first = field_in(&words[3..8])?;
     let second = bound_in(&words[8..13])?;
-    let end = 13 + 10 * header.count;
-    let items = items_in(header.level, header.count, &words[13..end])?;
-    if !are_zeros(&words[end..]) {
+    if !are_zeros(&words[13 + 10 * header.count..]) {
         return Err(BadRow);
     }
     Ok(Row {
         kind: header.kind,
         level: header.level,
+        count: header.count,
         next,
         page,
         first,
         second,
-        items,
     })
 }
 
@@ -92,10 +87,9 @@ fn number_in(word: u64, limit: u64) -> Result<u16, BadRow>
 fn are_zeros(words: &[u64]) -> bool
     ensures { result ≡ are_zeros words.now }
 {
+    let mut all = 0;
     for word in words {
-        if *word != 0 {
-            return false;
-        }
+        all |= *word;
     }
-    true
+    all == 0
 }

@@ -13,6 +13,7 @@ use bw_model::Key;
 const MAX_HELD: usize = 4;
 
 /// Whether a page of these parts keeps the rules.
+#[inline(never)]
 pub(crate) fn keeps_rules(
     level: u8,
     low: &Key,

@@ -1,7 +1,7 @@
 //! Keys and values read from words.
-ghost use Rattle.std.specs.Prelude.{◌≡◌, ◌≤◌, ◌+◌, ◌++◌, ◌==◌, length, false, true, MatchOption, MatchResult};
+ghost use Rattle.std.specs.Prelude.{◌≡◌, ◌==◌, ◌%◌, ◌^◌, ◌-◌, [], length};
 ghost use Rattle.record_slots.specs.Spells.{FindsOne};
-ghost use Rattle.record_slots.specs.Texts.{IsText, IsField, IsBound, highest, rest_below, bytes_in, ends_there};
+ghost use Rattle.record_slots.specs.Texts.{IsText, IsField, IsBound, bytes_of, ends_there};
 
 use crate::BadRow;
 use arrayvec::ArrayVec;
@@ -11,21 +11,31 @@ use bw_model::{Key, MAX_LENGTH, Value};
 const NO_BOUND: u64 = 255;
 
 /// A key, from its length and four words of bytes.
+#[inline(never)]
 pub(crate) fn key_in(count: u64, words: &[u64]) -> Result<Key, BadRow>
     requires { length words.now ≡ 4 }
     ensures { FindsOne (IsText count words.now) result }
 {
-    let bytes = text_in(count, words)?;
-    Ok(Key::from_slice(bytes.as_slice()).unwrap())
+    let mut bytes = ArrayVec::new();
+    if count > 32 || !read_bytes(count, words, &mut bytes) {
+        return Err(BadRow);
+    }
+    let text = &bytes.as_slice()[..count as usize];
+    Ok(Key::from_slice(text).unwrap())
 }
 
 /// A value, from its length and four words of bytes.
+#[inline(never)]
 pub(crate) fn value_in(count: u64, words: &[u64]) -> Result<Value, BadRow>
     requires { length words.now ≡ 4 }
     ensures { FindsOne (IsText count words.now) result }
 {
-    let bytes = text_in(count, words)?;
-    Ok(Value::from_slice(bytes.as_slice()).unwrap())
+    let mut bytes = ArrayVec::new();
+    if count > 32 || !read_bytes(count, words, &mut bytes) {
+        return Err(BadRow);
+    }
+    let text = &bytes.as_slice()[..count as usize];
+    Ok(Value::from_slice(text).unwrap())
 }
 
 /// A key, from the five words of its field.
@@ -33,7 +43,7 @@ pub(crate) fn field_in(words: &[u64]) -> Result<Key, BadRow>
     requires { length words.now ≡ 5 }
     ensures { FindsOne (IsField words.now) result }
 {
-    key_in(words[0], &words[1..])
+    key_in(words[0], &words[1..5])
 }
 
 /// A key or no bound, from the five words of its field.
@@ -51,49 +61,27 @@ pub(crate) fn bound_in(words: &[u64]) -> Result<Option<Key>, BadRow>
     }
 }
 
-/// The bytes of a text of this length, with nothing behind them.
-fn text_in(count: u64, words: &[u64]) -> Result<ArrayVec<u8, MAX_LENGTH>, BadRow>
-    requires { length words.now ≡ 4 }
-    ensures { FindsOne (λ bytes. IsText count words.now bytes.items) result }
-{
-    if count > 32 {
-        return Err(BadRow);
-    }
-    let (bytes, ends) = bytes_in(count as usize, words);
-    if ends { Ok(bytes) } else { Err(BadRow) }
-}
-
-/// The first bytes of the words, and whether there is nothing behind them.
-fn bytes_in(count: usize, words: &[u64]) -> (ArrayVec<u8, MAX_LENGTH>, bool)
+/// Adds the bytes of four words, and answers whether there is nothing behind the first ones.
+#[inline(always)]
+fn read_bytes(count: u64, words: &[u64], bytes: &mut ArrayVec<u8, MAX_LENGTH>) -> bool
     requires words { length words.now ≡ 4 }
-    requires few { count ≤ 32 }
-    ensures bytes { result.0.items ≡ bytes_in count words.now }
-    ensures rest { result.1 ≡ ends_there count words.now }
+    requires none { bytes.old.items ≡ [] }
+    ensures bytes { bytes.new.items ≡ bytes_of words.now }
+    ensures rest { result ≡ ends_there count words.now }
 {
-    let mut bytes = ArrayVec::new();
     let mut left = count;
     let mut ends = true;
     for word in words {
-        let here = left.min(8);
-        let stops = push_bytes(*word, here, &mut bytes);
-        ends = ends && stops;
-        left -= here;
+        bytes.try_extend_from_slice(&word.to_be_bytes()).unwrap();
+        ends &= ends_after(left, *word);
+        left = left.saturating_sub(8);
     }
-    (bytes, ends)
+    ends
 }
 
-/// Adds the highest bytes of the word, and answers whether the others are 0.
-fn push_bytes(word: u64, count: usize, bytes: &mut ArrayVec<u8, MAX_LENGTH>) -> bool
-    requires eight { count ≤ 8 }
-    requires room { length bytes.old.items + count ≤ 32 }
-    ensures added { bytes.new.items ≡ bytes.old.items ++ highest 8 count word }
-    ensures rest { result ≡ (rest_below 8 count word == 0) }
+/// Whether there is nothing behind the word's first bytes.
+fn ends_after(count: u64, word: u64) -> bool
+    ensures { result ≡ (word % 256 ^ (8 - count) == 0) }
 {
-    let mut rest = word;
-    for place in 0..count {
-        let lower = 56 - 8 * place;
-        bytes.push((rest >> lower) as u8);
-        rest %= 1 << lower;
-    }
-    rest == 0
+    count >= 8 || word << (8 * count) == 0
 }

@@ -1,7 +1,7 @@
 //! Does one thing again and again, as often as the command line says: `row_bench WHAT TIMES`. Where WHAT is `put`, `short` or `long`
 //! it reads a row of words as a record: a put, or a leaf of 24 items whose keys and values have 4 or 32 bytes. Where it is `find` or
-//! `page` it searches a key in a chain of 8 deltas over a leaf of 15 items: by the walk, or by the page that the chain makes.
-//! bench/rows.sh times it.
+//! `page` it searches a key in a chain of 8 deltas over a leaf of 15 items: by the walk, or by the page that the chain makes. Where it is
+//! `count` it counts the items of that chain. bench/rows.sh times it.
 #![tactic(auto)]
 
 ghost use Rattle.std.specs.Prelude.{◌≤◌};
@@ -9,7 +9,7 @@ ghost use Rattle.std.specs.Prelude.{◌≤◌};
 mod searches;
 
 use record_slots::from_words;
-use searches::search_again;
+use searches::{count_again, search_again};
 use std::{env, io};
 
 fn main(rt: HostRuntime) -> io::Result<()> {
@@ -20,6 +20,7 @@ fn main(rt: HostRuntime) -> io::Result<()> {
             "put" => read_again(put(), times),
             "short" => read_again(leaf(24, 4), times),
             "long" => read_again(leaf(24, 32), times),
+            "count" => count_again(&leaf(15, 4), times),
             other => search_again(&leaf(15, 4), other == "page", times),
         };
         println!(rt; "{done}")?;

@@ -1,4 +1,4 @@
-//! Searches in a chain of 8 deltas.
+//! Searches in a chain of 8 deltas, and counts of its items.
 ghost use Rattle.std.specs.Prelude.{◌≡◌, [], None};
 ghost use Rattle.deltas.specs.Spellable.{IsSpellablePage};
 
@@ -10,13 +10,9 @@ use record_slots::from_words;
 
 /// How often one of the keys was found in the chain over the leaf that the row spells, by the page that the chain makes or by a walk.
 pub fn search_again(row: &[u64; 256], by_page: bool, times: u32) -> u32 {
-    let Ok(Record::Base(page)) = from_words(row) else {
+    let Some(chain) = chain_of(row) else {
         return 0;
     };
-    if page.level() > 0 || !page.low().as_slice().is_empty() || page.high().is_some() {
-        return 0;
-    }
-    let chain = chain_over(page);
     let mut found = 0u32;
     for time in 0..times {
         let key = key(8 + (time % 7) as u8);
@@ -25,6 +21,31 @@ pub fn search_again(row: &[u64; 256], by_page: bool, times: u32) -> u32 {
         }
     }
     found
+}
+
+/// How often the items of the chain over the leaf that the row spells were counted, and were some.
+pub fn count_again(row: &[u64; 256], times: u32) -> u32 {
+    let Some(chain) = chain_of(row) else {
+        return 0;
+    };
+    let mut counted = 0u32;
+    for _ in 0..times {
+        if chain.item_count() > 0 {
+            counted = counted.saturating_add(1);
+        }
+    }
+    counted
+}
+
+/// The chain over the leaf that the row spells; none where it spells no leaf of all keys.
+fn chain_of(row: &[u64; 256]) -> Option<Chain> {
+    let Ok(Record::Base(page)) = from_words(row) else {
+        return None;
+    };
+    if page.level() > 0 || !page.low().as_slice().is_empty() || page.high().is_some() {
+        return None;
+    }
+    Some(chain_over(page))
 }
 
 fn has(chain: &Chain, key: &Key, by_page: bool) -> bool {

@@ -31,7 +31,7 @@ pub fn plan_merge(left: &Version, removed: &Version) -> Option<Merge>
     if left.chain.deltas() >= MANY_DELTAS {
         return None;
     }
-    if left.chain.page().items().len() >= MANY_ITEMS {
+    if left.chain.item_count() >= MANY_ITEMS {
         return None;
     }
     let merged = removed.chain.page();

@@ -14,6 +14,7 @@ pub fn plan_remove(parent: &Version, page: &Version) -> Option<Remove>
     ensures { MatchOption result (¬ CanRemove parent.now page.now) (IsRemovePlan parent.now page.now) }
 {
     parent.chain.keeps_rules();
+    page.chain.keeps_rules();
     if !has_term(parent, page, true) {
         return None;
     }
@@ -23,7 +24,7 @@ pub fn plan_remove(parent: &Version, page: &Version) -> Option<Remove>
     if page.chain.deltas() >= MANY_DELTAS {
         return None;
     }
-    if page.chain.page().items().len() > FEW_ITEMS {
+    if page.chain.item_count() > FEW_ITEMS {
         return None;
     }
     Some(Remove {

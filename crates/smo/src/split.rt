@@ -42,10 +42,10 @@ pub fn plan_split(page: &Version) -> Option<SplitPlan>
     if page.chain.deltas() >= MANY_DELTAS {
         return None;
     }
-    let whole = page.chain.page();
-    if whole.items().len() < MANY_ITEMS {
+    if page.chain.item_count() < MANY_ITEMS {
         return None;
     }
+    let whole = page.chain.page();
     let place = split_place(whole.items());
     let (_, upper) = whole.cut_at(place, 1);
     Some(SplitPlan {

@@ -13,6 +13,7 @@ pub fn plan_term(parent: &Version, page: &Version) -> Option<Term>
     requires alive { is_removed parent.now.chain ≡ false }
     ensures { MatchOption result (¬ CanPost parent.now page.now) (IsTermPlan parent.now page.now) }
 {
+    parent.chain.keeps_rules();
     let low = page.chain.low();
     if page.chain.is_removed() {
         return None;
@@ -29,7 +30,7 @@ pub fn plan_term(parent: &Version, page: &Version) -> Option<Term>
     if parent.chain.deltas() >= MANY_DELTAS {
         return None;
     }
-    if parent.chain.page().items().len() >= MANY_ITEMS {
+    if parent.chain.item_count() >= MANY_ITEMS {
         return None;
     }
     Some(Term {

@@ -1,5 +1,5 @@
 //! Which keys a delta names, and what it says of them.
-ghost use Rattle.std.specs.Prelude.{◌≡◌, option_copied};
+ghost use Rattle.std.specs.Prelude.{◌≡◌, is_some, option_copied};
 ghost use Rattle.bw_model.specs.Bytes.{is_in_range};
 ghost use Rattle.base_page.specs.Pages.{child_in, value_in};
 ghost use Rattle.deltas.specs.Records.{names, content_said};
@@ -41,6 +41,17 @@ impl Delta {
             }),
             Kept::Merge(merge) => copied(merge.items.find(key)),
             _ => None,
+        }
+    }
+
+    /// Whether the delta says that a key that it names has an item.
+    pub(crate) fn says_some(&self, key: &Key) -> bool
+        ensures { result ≡ is_some (content_said self.now key.now) }
+    {
+        match &self.kept {
+            Kept::Put(_) | Kept::Term(_) | Kept::Hold(_) => true,
+            Kept::Merge(merge) => merge.items.find(key).is_some(),
+            _ => false,
         }
     }
 

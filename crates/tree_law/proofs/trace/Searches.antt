@@ -11,7 +11,7 @@ use Rattle.bw_model.specs.declared.step.Answer.TheVariants.{Number, Content, Whe
 use Rattle.deltas.specs.declared.record.Record.{Record}
 use Rattle.chain_search.specs.declared.trace.Entry.{Entry}
 use Rattle.chain_search.specs.declared.trace.Entry.TheVariants.{Begin, Step}
-use Rattle.chain_search.specs.Chains.{IsChainOf, low_in}
+use Rattle.chain_search.specs.Chains.{IsChainOf, is_removed, low_in}
 use Rattle.chain_search.specs.HeldBack.{HoldsBack}
 use Rattle.chain_search.specs.SideChain.{LivePage}
 use Rattle.chain_search.proofs.Pushes.{slice_get_below}
@@ -65,8 +65,8 @@ words_cases pids k (Exchange p y z) (Whether false) word e = inl e
 words_cases pids k s x word e = inl e
 
 -- a page above the leaf was read, which held it back
-pub held_back : {limits : Limits} {entries : List Entry} {op : Operation} {n : ℕ} (leaf : LivePage) (page row : ℕ) (chain : List Record) → WasRead limits entries op n page row chain → HoldsBack chain leaf.pid (low_in leaf.chain) → WasHeldBack limits entries op n leaf
-held_back leaf page row chain read holds = record { step = read.step; before = read.before; parent = page; row = row; own = read.own; chain = chain; stood = read.stood; holds = holds }
+pub held_back : {limits : Limits} {entries : List Entry} {op : Operation} {n : ℕ} (leaf : LivePage) (page row : ℕ) (chain : List Record) → WasRead limits entries op n page row chain → is_removed chain ≡ false → HoldsBack chain leaf.pid (low_in leaf.chain) → WasHeldBack limits entries op n leaf
+held_back leaf page row chain read alive holds = record { step = read.step; before = read.before; parent = page; row = row; own = read.own; chain = chain; stood = read.stood; alive = alive; holds = holds }
 
 module _ (entries : List Entry) (last : Entry) where
   pub takes_kept : (op : Operation) (n : ℕ) (step : StepOf Record) (answer : Answer Record) → TakesOwnStep entries op n step answer → TakesOwnStep (entries ++ last ∷ []) op n step answer
@@ -90,7 +90,7 @@ module _ (entries : List Entry) (last : Entry) where
 
   pub held_back_kept : (limits : Limits) (op : Operation) (n : ℕ) (leaf : LivePage) → WasHeldBack limits entries op n leaf → WasHeldBack limits (entries ++ last ∷ []) op n leaf
   held_back_kept limits op n leaf h =
-      held_back leaf h.parent h.row h.chain (read_kept limits op n n h.parent h.row h.chain (omega arith) (record { step = h.step; before = h.before; own = h.own; stood = h.stood })) h.holds
+      held_back leaf h.parent h.row h.chain (read_kept limits op n n h.parent h.row h.chain (omega arith) (record { step = h.step; before = h.before; own = h.own; stood = h.stood })) h.alive h.holds
 
   -- what an operation has found stays found at an entry that isn't its own
   pub search_other : (op : Operation) (k : Knowledge) → IsSearch entries op k → ((step : StepOf Record) (answer : Answer Record) (reply : Option Reply) → last ≡ Step op.actor step answer reply → ⊥)

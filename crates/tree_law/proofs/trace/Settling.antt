@@ -159,7 +159,7 @@ module _ (limits : Limits) (entries : List Entry) (a : ℕ) (asked : Command) (s
 
       -- before it the page was read that held it back
       back : IsHeldBack (knows entries a) may.page (low_in may.basis.chain) → WasHeldBack limits entries mine was.0.step (record { pid = may.page; chain = may.basis.chain })
-      back h = held_back _ h.parent h.row h.above.chain (was.1 h.parent h.row h.above.chain h.order (stands h.row h.above.chain h.above.read)) h.holds
+      back h = held_back _ h.parent h.row h.above.chain (was.1 h.parent h.row h.above.chain h.order (stands h.row h.above.chain h.above.read)) h.above.alive h.holds
 
   by_want : (reply : Reply) → MayGiveUp limits (knows entries a) asked reply → Settled limits entries (log_of entries state.points) state.point state.logs a asked (Some reply)
   by_want reply may = pointlessly reply may.unlinked (inr (may.is, may.writes, lacks limits entries mine (knows entries a) (state.searches mine begun.begins begun.unended asks) may.lacks))

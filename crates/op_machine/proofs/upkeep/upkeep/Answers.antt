@@ -1,11 +1,20 @@
-use Rattle.std.proofs.Common.{◌≤◌, length, ap, arith}
-use Rattle.smo.proofs.Places.{of_made}
+use Rattle.std.proofs.Common.{inr, refl, arith}
+use Rattle.smo.proofs.Places.{made}
 use Rattle.op_machine.proofs.upkeep.upkeep.Goals as goal
 
-pub returns-then-len-gt-FEW_ITEMS : goal.returns-then-len-gt-FEW_ITEMS
-returns-then-len-gt-FEW_ITEMS c = λ small.
-    let few = of_made c.args.leaf.now.chain c.page.result (λ items. length items ≤ 4) c.page.ensures.makes small.few in
-    let count = c.len.ensures.count in
-    let items = ap length c.items.ensures in
-    let many = c.if-len-gt-FEW_ITEMS.true in
-    absurd (omega (arith, few, count, items, many))
+pub returns-then-item_count-gt-FEW_ITEMS : goal.returns-then-item_count-gt-FEW_ITEMS
+returns-then-item_count-gt-FEW_ITEMS c = λ small.
+    let (items, has, few) = small.few in
+    let count = c.item_count.ensures items has in
+    let many = c.if-item_count-gt-FEW_ITEMS.true in
+    absurd (omega (arith, few, count, many))
+
+pub returns : goal.returns
+returns c =
+    let (page, makes) = made c.args.leaf.now.chain c.keeps_rules.ensures.fitted in
+    let count = c.item_count.ensures page.items makes.items in
+    let few = c.if-item_count-gt-FEW_ITEMS.false in
+    record {
+      small = record { other = c.if-leaf-eq1.false; few = (page.items, makes.items, omega (arith, count, few)) };
+      is = inr (record { unheld = c.in_default.ensures; hold = c.in_ok-hold.hold; is = refl; due = c.in_ok-hold.ensures });
+    }

@@ -1,5 +1,4 @@
 use Rattle.std.proofs.Common.{◌≡◌, length, get_or, take, drop, subst, sym, ◌∙◌}
-use Rattle.base_page.specs.declared.item.Item.{Item}
 use Rattle.base_page.specs.Rules.{is_held}
 use Rattle.record_slots.specs.Texts.{IsText}
 use Rattle.record_slots.specs.Parts.{IsItemIn}

@@ -1,9 +1,7 @@
-use Rattle.std.proofs.Common.{◌≡◌, ◌+◌, ◌*◌, ◌-◌, ◌≤◌, ℕ, List, true, false, length, get_or, take, drop, replicate, sym, ap, subst, ◌∙◌, arith}
-use Rattle.std.specs.List.{All}
-use Rattle.base_page.specs.declared.item.Item.{Item}
+use Rattle.std.proofs.Common.{◌≡◌, ◌+◌, ◌*◌, ◌-◌, true, false, take, drop, sym, ap, ◌∙◌}
 use Rattle.record_slots.specs.Texts.{IsField, IsBound}
-use Rattle.record_slots.specs.Parts.{IsItem, IsRowIn, AreItemsIn, are_zeros}
-use Rattle.record_slots.proofs.RowLaws.{whole_row, header_one, header_of, header_is, zeros_behind, zeros_there, up_to_end}
+use Rattle.record_slots.specs.Parts.{IsRowIn, are_zeros}
+use Rattle.record_slots.proofs.RowLaws.{header_of, header_is, zeros_behind, zeros_there, up_to_end}
 use Rattle.record_slots.proofs.Refusals.{refused}
 use Rattle.record_slots.proofs.row.row_in.Goals as goal
 
@@ -26,32 +24,22 @@ returns c =
     let head = c.in_ok-header.ensures in
     let first : IsField (take 5 (drop 3 words)) c.in_ok-first.first = c.in_ok-first.ensures in
     let second : IsBound (take 5 (drop 8 words)) c.in_ok-second.second = c.in_ok-second.ensures in
-    let items : AreItemsIn header.level header.count (take (13 + 10 * header.count - 13) (drop 13 words)) c.in_ok-items.items = c.in_ok-items.ensures in
     let answer : c.are_zeros.result ≡ are_zeros (take (256 - (13 + 10 * header.count)) (drop (13 + 10 * header.count) words)) = c.are_zeros.ensures in
     let end = up_to_end words (13 + 10 * header.count) c.told-words in
-    let zeros = zeros_there words header.count c.told-words (ap are_zeros (sym end) ∙ sym answer ∙ c.if-not-are_zeros.false) in
-    let counts : header.count ≡ length c.in_ok-items.items.items = sym items.counts in
-    let span : 13 + 10 * header.count - 13 ≡ 10 * length c.in_ok-items.items.items = omega (arith, counts) in
-    let few = head.few in
-    let long : 13 ≤ length words = omega (arith, c.told-words) in
     record {
       is = record {
         kind = head.kind;
         level = head.level;
+        few = head.few;
         next = c.in_ok-next.ensures.below;
         page = c.in_ok-page.ensures.below;
         first = first.short;
         second = second.short;
-        few = omega (arith, few, counts);
-        items = items.each;
       };
-      are = whole_row words (record { kind = header.kind; level = header.level; next = c.in_ok-next.next; page = c.in_ok-page.page; first = c.in_ok-first.first; second = c.in_ok-second.second; items = c.in_ok-items.items }) long (record {
-        first_word = sym head.are ∙ ap (λ n. header.kind + 256 * header.level + 65536 * n) counts;
-        next = sym c.in_ok-next.ensures.are;
-        page = sym c.in_ok-page.ensures.are;
-        first = first.are;
-        second = second.are;
-        items = items.are ∙ ap (λ n. take n (drop 13 words)) span;
-        rest = ap (λ n. drop (13 + 10 * n) words) (sym counts) ∙ zeros ∙ ap (λ n. replicate (243 - 10 * n) 0) counts;
-      });
+      first_word = head.are;
+      next = c.in_ok-next.ensures.are;
+      page = c.in_ok-page.ensures.are;
+      first = first.are;
+      second = second.are;
+      rest = zeros_there words header.count c.told-words (ap are_zeros (sym end) ∙ sym answer ∙ c.if-not-are_zeros.false);
     }

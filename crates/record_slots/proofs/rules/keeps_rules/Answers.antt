@@ -1,9 +1,7 @@
-use Rattle.std.proofs.Common.{◌≡◌, ◌<◌, ℕ, Bool, true, false, List, IsTrue, sym, ap, ◌∙◌, arith, refl, eq-eqb}
-use Rattle.std.specs.Prelude.{is_some, not, Option}
+use Rattle.std.proofs.Common.{◌≡◌, Bool, true, false, sym, ap, ◌∙◌, arith, refl, eq-eqb}
+use Rattle.std.specs.Prelude.{is_some, not}
 use mathlib.Core.Bool.{beq}
 use Rattle.bw_model.specs.Bytes.{is_under}
-use Rattle.base_page.specs.declared.item.Item.{Item}
-use Rattle.base_page.specs.Rules.{IsRuled}
 use Rattle.record_slots.specs.Rules.{are_within, are_terms}
 use Rattle.record_slots.proofs.RuleLaws.{all_within, terms_test, ruled_from}
 use Rattle.record_slots.proofs.rules.keeps_rules.Goals as goal

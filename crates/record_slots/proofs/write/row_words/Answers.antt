@@ -1,7 +1,7 @@
-use Rattle.std.proofs.Common.{◌≡◌, ◌+◌, ◌*◌, ◌++◌, ℕ, List, length, ap, ◌∙◌, sym, arith, subst, Result}
+use Rattle.std.proofs.Common.{◌≡◌, ◌+◌, ◌*◌, ◌++◌, ℕ, List, length, ap, ◌∙◌, arith, subst, Result}
 use Rattle.std.specs.Prelude.{option_copied, IfOk}
 use Rattle.record_slots.specs.Spelling.{field_words, row_words}
-use Rattle.record_slots.proofs.WrittenLaws.{used, used_length, written, filled}
+use Rattle.record_slots.proofs.WrittenLaws.{used_length, written, filled}
 use Rattle.record_slots.proofs.write.row_words.Goals as goal
 
 pub push_zeros-requires : goal.push_zeros-requires

@@ -1,4 +1,4 @@
-use Rattle.std.proofs.Common.{◌≡◌, ◌<◌, ◌≤◌, ◌+◌, ◌-◌, ◌*◌, ◌^◌, ℕ, suc, List, get_or, drop, sym, ap, subst, ◌∙◌, arith}
+use Rattle.std.proofs.Common.{◌≡◌, ◌<◌, ◌≤◌, ◌+◌, ◌-◌, ◌*◌, ◌^◌, ℕ, suc, List, get_or, drop, subst, ◌∙◌, arith}
 use Rattle.record_slots.specs.Spelling.{packed}
 use Rattle.record_slots.proofs.WordLaws.{packed_more, word_room, byte_more}
 use Rattle.record_slots.proofs.write.word_at.Goals as goal

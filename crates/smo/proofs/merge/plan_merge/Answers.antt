@@ -1,36 +1,36 @@
 use Rattle.std.proofs.Common.{◌≡◌, ◌<◌, ◌≤◌, length, sym, ap, ◌∙◌, arith}
 use Rattle.base_page.specs.Rules.{held_count}
+use Rattle.chain_search.proofs.FittedLaws.{page_of, ruled}
 use Rattle.smo.proofs.MergeFits.{planned}
 use Rattle.smo.proofs.Places.{from_made, of_made}
 use Rattle.smo.proofs.Removed.{few_removed}
 use Rattle.smo.proofs.merge.plan_merge.Goals as goal
 
-pub returns-then-len-ge-MANY_ITEMS : goal.returns-then-len-ge-MANY_ITEMS
-returns-then-len-ge-MANY_ITEMS c = λ can.
-    let few = of_made c.args.left.now.chain c.page.result (λ items. length items < 16) c.page.ensures.makes can.roomy in
-    let count = c.len.ensures.count in
-    let items = ap length c.items.ensures in
-    let many = c.if-len-ge-MANY_ITEMS.true in
-    omega (arith, few, count, items, many)
+pub returns-then-item_count-ge-MANY_ITEMS : goal.returns-then-item_count-ge-MANY_ITEMS
+returns-then-item_count-ge-MANY_ITEMS c = λ can.
+    let (items, has, few) = can.roomy in
+    let count = c.item_count.ensures items has in
+    let many = c.if-item_count-ge-MANY_ITEMS.true in
+    omega (arith, few, count, many)
 
 pub returns-then-held_count-gt0 : goal.returns-then-held_count-gt0
 returns-then-held_count-gt0 c = λ can.
     let none = of_made c.args.removed.now.chain c.page-merged.result (λ items. held_count items ≡ 0) c.page-merged.ensures.makes can.unheld in
-    let count = c.held_count.ensures ∙ ap held_count (c.as_slice.ensures.items ∙ c.items-2.ensures) in
+    let count = c.held_count.ensures ∙ ap held_count (c.as_slice.ensures.items ∙ c.items.ensures) in
     let some = c.if-held_count-gt0.true in
     omega (arith, none, count, some)
 
 pub returns : goal.returns
 returns c =
     let removed = c.args.removed.now.chain in
-    let made = c.page.result in
+    let fitted = c.keeps_rules.ensures.fitted in
+    let (made, makes) = page_of c.args.left.now.chain fitted in
     let merged = c.page-merged.result in
-    let makes = c.page.ensures.makes in
     let makes_merged = c.page-merged.ensures.makes in
     let gone = sym c.is_removed-2.ensures ∙ c.if-not-is_removed.false in
-    let unheld : held_count merged.items ≡ 0 = (let count = c.held_count.ensures ∙ ap held_count (c.as_slice.ensures.items ∙ c.items-2.ensures) in let none = c.if-held_count-gt0.false in omega (arith, count, none)) in
-    let roomy : length made.items < 16 = (let a = c.len.ensures.count in let b = ap length c.items.ensures in let d = c.if-len-ge-MANY_ITEMS.false in omega (arith, a, b, d)) in
-    planned c.args.left.now c.args.removed.now made merged c.keeps_rules-2.ensures.fitted makes c.page.ensures.ruled makes_merged
+    let unheld : held_count merged.items ≡ 0 = (let count = c.held_count.ensures ∙ ap held_count (c.as_slice.ensures.items ∙ c.items.ensures) in let none = c.if-held_count-gt0.false in omega (arith, count, none)) in
+    let roomy : length made.items < 16 = (let a = c.item_count.ensures made.items makes.items in let d = c.if-item_count-ge-MANY_ITEMS.false in omega (arith, a, d)) in
+    planned c.args.left.now c.args.removed.now made merged c.keeps_rules-2.ensures.fitted makes (ruled c.args.left.now.chain made fitted makes) makes_merged
     (record {
       alive = sym c.is_removed.ensures ∙ c.if-is_removed.false;
       next_to = c.is_next_to.ensures.0 c.if-not-is_next_to.false;
@@ -48,5 +48,5 @@ returns c =
       low = (c.copied.ensures ∙ c.low.ensures ∙ makes_merged.low) i;
       high = (c.copied-2.ensures ∙ c.high.ensures ∙ makes_merged.high) i;
       right = (c.right.ensures ∙ makes_merged.right) i;
-      items = (c.copied-3.ensures ∙ c.items-3.ensures) i;
+      items = (c.copied-3.ensures ∙ c.items-2.ensures) i;
     })

@@ -1,22 +1,24 @@
-use Rattle.std.proofs.Common.{◌≤◌, length, refl, sym, ap, ◌∙◌, arith}
-use Rattle.smo.proofs.Places.{from_made, of_made}
+use Rattle.std.proofs.Common.{refl, sym, ◌∙◌, arith}
+use Rattle.chain_search.proofs.FittedLaws.{page_of, ruled}
 use Rattle.smo.proofs.RemoveFits.{planned}
 use Rattle.smo.proofs.remove.plan_remove.Goals as goal
 
-pub returns-then-len-gt-FEW_ITEMS : goal.returns-then-len-gt-FEW_ITEMS
-returns-then-len-gt-FEW_ITEMS c = λ can.
-    let few = of_made c.args.page.now.chain c.page.result (λ items. length items ≤ 4) c.page.ensures.makes can.few in
-    let count = c.len.ensures.count in
-    let items = ap length c.items.ensures in
-    let many = c.if-len-gt-FEW_ITEMS.true in
-    omega (arith, few, count, items, many)
+pub returns-then-item_count-gt-FEW_ITEMS : goal.returns-then-item_count-gt-FEW_ITEMS
+returns-then-item_count-gt-FEW_ITEMS c = λ can.
+    let (items, has, few) = can.few in
+    let count = c.item_count.ensures items has in
+    let many = c.if-item_count-gt-FEW_ITEMS.true in
+    omega (arith, few, count, many)
 
 pub returns : goal.returns
-returns c = planned c.args.parent.now c.args.page.now c.page.result _ c.keeps_rules.ensures.fitted c.page.ensures.makes c.page.ensures.ruled (rw c.level.ensures refl)
+returns c =
+    let chain = c.args.page.now.chain in
+    let fitted = c.keeps_rules-2.ensures.fitted in
+    let (made, makes) = page_of chain fitted in
+    planned c.args.parent.now c.args.page.now made _ c.keeps_rules.ensures.fitted makes (ruled chain made fitted makes) (rw c.level.ensures refl)
     (record {
       held = c.has_term.ensures.0 c.if-not-has_term.false;
       alive = sym c.is_removed.ensures ∙ c.if-is_removed.false;
-      few = from_made c.args.page.now.chain c.page.result (λ items. length items ≤ 4) c.page.ensures.makes
-          (let a = c.len.ensures.count in let b = ap length c.items.ensures in let d = c.if-len-gt-FEW_ITEMS.false in omega (arith, a, b, d));
+      few = (made.items, makes.items, (let a = c.item_count.ensures made.items makes.items in let d = c.if-item_count-gt-FEW_ITEMS.false in omega (arith, a, d)));
       short = (let a = c.deltas.ensures in let b = c.if-deltas-ge-MANY_DELTAS.false in omega (arith, a, b));
     })

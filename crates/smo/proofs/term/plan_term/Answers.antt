@@ -1,7 +1,7 @@
-use Rattle.std.proofs.Common.{◌≡◌, ◌<◌, false, length, Option, Some, None, refl, sym, ap, ◌∙◌, arith}
+use Rattle.std.proofs.Common.{◌≡◌, false, Option, Some, None, refl, sym, ◌∙◌, arith}
 use Rattle.std.specs.Prelude.{is_some}
 use Rattle.base_page.specs.declared.item.Content.{Content}
-use Rattle.smo.proofs.Places.{of_made}
+use Rattle.chain_search.proofs.FittedLaws.{page_of, ruled}
 use Rattle.smo.proofs.TermFits.{planned}
 use Rattle.smo.proofs.term.plan_term.Goals as goal
 
@@ -9,17 +9,20 @@ none_from : (o : Option Content) → is_some o ≡ false → o ≡ None
 none_from None e = refl
 none_from (Some content) e = absurd cc
 
-pub returns-then-len-ge-MANY_ITEMS : goal.returns-then-len-ge-MANY_ITEMS
-returns-then-len-ge-MANY_ITEMS c = λ can.
-    let few = of_made c.args.parent.now.chain c.page.result (λ items. length items < 16) c.page.ensures.makes can.roomy in
-    let count = c.len.ensures.count in
-    let items = ap length c.items.ensures in
-    let many = c.if-len-ge-MANY_ITEMS.true in
-    omega (arith, few, count, items, many)
+pub returns-then-item_count-ge-MANY_ITEMS : goal.returns-then-item_count-ge-MANY_ITEMS
+returns-then-item_count-ge-MANY_ITEMS c = λ can.
+    let (items, has, few) = can.roomy in
+    let count = c.item_count.ensures items has in
+    let many = c.if-item_count-ge-MANY_ITEMS.true in
+    omega (arith, few, count, many)
 
 pub returns : goal.returns
-returns c = planned c.args.parent.now c.args.page.now c.page.result _ c.requires.alive c.page.ensures.makes c.page.ensures.ruled
-    (let a = c.len.ensures.count in let b = ap length c.items.ensures in let d = c.if-len-ge-MANY_ITEMS.false in omega (arith, a, b, d))
+returns c =
+    let chain = c.args.parent.now.chain in
+    let fitted = c.keeps_rules.ensures.fitted in
+    let (made, makes) = page_of chain fitted in
+    planned c.args.parent.now c.args.page.now made _ c.requires.alive makes (ruled chain made fitted makes)
+    (let a = c.item_count.ensures made.items makes.items in let d = c.if-item_count-ge-MANY_ITEMS.false in omega (arith, a, d))
     (rw (c.level-3.ensures, c.copied.ensures, c.low-low.ensures) refl)
     (sym c.is_removed.ensures ∙ c.if-is_removed.false)
     (let a = c.if-from.false in let b = c.from.ensures in let d = c.from-2.ensures in let e = c.level.ensures in let f = c.level-2.ensures in omega (arith, a, b, d, e, f))

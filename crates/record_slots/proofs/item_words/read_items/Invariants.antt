@@ -2,7 +2,7 @@ use Rattle.std.proofs.Common.{◌≡◌, ◌*◌, take, length}
 use Rattle.std.specs.List.{All}
 use Rattle.record_slots.specs.Spelling.{items_words}
 use Rattle.record_slots.specs.Parts.{IsItem}
-use Rattle.record_slots.proofs.item_words.items_in.Given as goal
+use Rattle.record_slots.proofs.item_words.read_items.Given as goal
 
 abbrev pub invariant-loop-place : goal.invariant-loop-place
 invariant-loop-place l = record {
