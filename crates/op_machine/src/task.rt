@@ -90,11 +90,10 @@ impl Task {
         ensures writer { IsSome result → is_writer self.now.command ≡ true }
         ensures all { is_writer self.now.command ≡ true → result ≡ None → IsEmpty limbo.old }
     {
-        if self.command.is_writer() {
-            Sweep::begin(&self.limits, self.actor, limbo)
-        } else {
-            None
+        if !self.command.is_writer() {
+            return None;
         }
+        Sweep::begin(&self.limits, self.actor, limbo)
     }
 
     /// The state that follows what the operation has come to.
