@@ -9,3 +9,4 @@ pub mod Replaced
 pub mod Stopping
 pub mod Walking
 pub mod Spending
+pub mod Reserving

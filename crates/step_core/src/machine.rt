@@ -60,7 +60,8 @@ impl<A: Allocator + Copy> Core<A> {
         let memory = Table::<A>::open(alloc, &limits)?;
         let mut actors = Vec::with_capacity(alloc, limits.actors as usize)?;
         for _ in 0..limits.actors {
-            actors.push(Actor::<A>::idle(alloc, &limits)?)?;
+            let actor = Actor::<A>::idle(alloc, &limits)?;
+            actors.push(actor)?;
         }
         Ok(Core {
             alloc,

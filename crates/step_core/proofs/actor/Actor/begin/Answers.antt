@@ -5,25 +5,25 @@ use Rattle.step_core.proofs.Going.{begun_few, begun_left, begun_on, idle_at, tol
 use Rattle.step_core.proofs.actor.Actor.begin.Goals as goal
 
 pub next-requires : goal.next-requires
-next-requires c =
+next-requires g c =
     let (k, r, at) = c.requires.shows in
-    let idle = idle_at _ _ k r _ _ c.requires.idle at in
-    record { told = told_start (begun k c.args.command) c.args.self.now.hand c.begin-op.result c.begin-op.ensures.sweep c.begin-op.ensures.state (c.begin-op.ensures.shows _ _ idle) }
+    let idle = idle_at _ _ k r c.self.inside.hand c.self.inside.running (rw (← c.self.view_is) at c.requires.idle) (rw (← c.self.view_is) at at) in
+    record { told = told_start (begun k c.args.command) c.self.inside.hand c.begin-op.result c.begin-op.ensures.sweep c.begin-op.ensures.state (c.begin-op.ensures.shows _ _ idle) }
 
 pub returns-clause-shows : goal.returns-clause-shows
-returns-clause-shows c = λ k r h.
-    let idle = idle_at _ _ k r _ _ c.requires.idle h in
-    begun_left (begun k c.args.command) c.args.self.now.hand c.begin-op.result c.begin-op.ensures.sweep c.begin-op.ensures.state (c.begin-op.ensures.shows _ _ idle) _ _ _ _ (ap (λ (t : Task). t.limits) c.begin-op.ensures.task) (ap (λ (t : Task). t.actor) c.begin-op.ensures.task) c.in-Step.wanted c.in-Step.ensures.obeys
+returns-clause-shows g c = λ k r h.
+    let idle = idle_at _ _ k r c.self.inside.hand c.self.inside.running (rw (← c.self.view_is) at c.requires.idle) (rw (← c.self.view_is) at h) in
+    begun_left (begun k c.args.command) c.self.inside.hand c.begin-op.result c.begin-op.ensures.sweep c.begin-op.ensures.state (c.begin-op.ensures.shows _ _ idle) _ _ _ _ (ap (λ (t : Task). t.limits) c.begin-op.ensures.task) (ap (λ (t : Task). t.actor) c.begin-op.ensures.task) c.in-Step.wanted c.in-Step.ensures.obeys
     c.in-Step.ensures.same
 
 pub returns-clause-bounded : goal.returns-clause-bounded
-returns-clause-bounded c =
+returns-clause-bounded g c =
     let (k, r, at) = c.requires.shows in
-    let idle = idle_at _ _ k r _ _ c.requires.idle at in
-    begun_few (begun k c.args.command) c.args.self.now.hand c.begin-op.result c.begin-op.ensures.sweep c.begin-op.ensures.state (c.begin-op.ensures.shows _ _ idle) c.next.new.self _ c.in-Step.wanted c.in-Step.ensures.spends c.begin-op.ensures.few
+    let idle = idle_at _ _ k r c.self.inside.hand c.self.inside.running (rw (← c.self.view_is) at c.requires.idle) (rw (← c.self.view_is) at at) in
+    begun_few (begun k c.args.command) c.self.inside.hand c.begin-op.result c.begin-op.ensures.sweep c.begin-op.ensures.state (c.begin-op.ensures.shows _ _ idle) c.next.new.self c.next.new.hand c.in-Step.wanted c.in-Step.ensures.spends c.begin-op.ensures.few
 
 pub unreachable-requires : goal.unreachable-requires
-unreachable-requires c =
+unreachable-requires g c =
     let (k, r, at) = c.requires.shows in
-    let idle = idle_at _ _ k r _ _ c.requires.idle at in
-    begun_on (begun k c.args.command) c.args.self.now.hand c.begin-op.result c.begin-op.ensures.sweep c.begin-op.ensures.state (c.begin-op.ensures.shows _ _ idle) c.next.new.self _ _ c.in-Done.ensures.obeys
+    let idle = idle_at _ _ k r c.self.inside.hand c.self.inside.running (rw (← c.self.view_is) at c.requires.idle) (rw (← c.self.view_is) at at) in
+    begun_on (begun k c.args.command) c.self.inside.hand c.begin-op.result c.begin-op.ensures.sweep c.begin-op.ensures.state (c.begin-op.ensures.shows _ _ idle) c.next.new.self _ _ c.in-Done.ensures.obeys

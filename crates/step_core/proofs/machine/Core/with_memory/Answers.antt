@@ -6,7 +6,7 @@ use Rattle.step_core.proofs.machine.Core.with_memory.Goals as goal
 pub loop-preserved : goal.loop-preserved
 loop-preserved g c = (
   omega (arith, c.in_ok-push.ensures.len, c.loop.invariant.0),
-  λ a at e. elim (push_cases _ _ a at (rw c.in_ok-push.ensures.items at e)) [ inl before ↦ c.loop.invariant.1 a at before | inr last ↦ last ∙ c.idle.ensures ],
+  λ a at e. elim (push_cases _ _ a at (rw c.in_ok-push.ensures.items at e)) [ inl before ↦ c.loop.invariant.1 a at before | inr last ↦ last ∙ c.in_ok-actor.ensures ],
 )
 
 pub invariant_of-result : goal.invariant_of-result

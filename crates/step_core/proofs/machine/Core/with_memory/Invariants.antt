@@ -7,4 +7,4 @@ use Rattle.step_core.proofs.machine.Core.with_memory.Given as goal
 
 abbrev pub invariant-loop : goal.invariant-loop
 invariant-loop g l =
-    (vec_len l.actors ≡ l.counter) × ((a : ℕ) (at : Actor) → slice_get l.actors.items a ≡ Some at → at ≡ record { hand = empty_hand g.limits; running = None })
+    (vec_len l.actors ≡ l.counter) × ((a : ℕ) (at : Actor) → slice_get l.actors.items a ≡ Some at → at ≡ record { hand = empty_hand l.limits; running = None })
