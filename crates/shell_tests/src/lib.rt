@@ -16,9 +16,9 @@ mod lines;
 #[cfg(test)]
 mod numbered;
 #[cfg(test)]
-mod pages;
-#[cfg(test)]
 mod removal;
+#[cfg(test)]
+mod reuse;
 #[cfg(test)]
 mod runs;
 #[cfg(test)]

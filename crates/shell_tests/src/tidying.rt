@@ -36,11 +36,13 @@ fn a_delta_is_tidied(rt: HostRuntime) {
     agree(&rt, rt.alloc(), Language::Weave, rows);
 }
 
-// Fifty-six updates and six consolidations use the 62 free rows, as the last of them leaves eight deltas.
+// A get stays at its second turn all the while. Fifty-six updates and six consolidations use the 62 free rows, as the last of them
+// leaves eight deltas.
 #[test]
 fn no_row_is_left_to_tidy(rt: HostRuntime) -> Result<(), Fail> {
-    let limits = Limits::new(1, 64, 64, 1)?;
+    let limits = Limits::new(2, 64, 64, 1)?;
     let mut input = Vec::new(rt.alloc());
+    add(&mut input, b"begin 1 get a\nturn 1 2\n", 1)?;
     add(&mut input, b"begin 0 upsert a x\nfinish 0\n", 56)?;
     add(
         &mut input,
