@@ -2,11 +2,15 @@
 #![tactic(auto)]
 
 #[cfg(test)]
+mod accounts;
+#[cfg(test)]
 mod by_hand;
 #[cfg(test)]
 mod example;
 #[cfg(test)]
 mod numbered;
+#[cfg(test)]
+mod numbers;
 #[cfg(test)]
 mod pages;
 #[cfg(test)]
@@ -20,6 +24,8 @@ mod removal_readers;
 #[cfg(test)]
 mod removal_stops;
 #[cfg(test)]
+mod reuse;
+#[cfg(test)]
 mod runs;
 #[cfg(test)]
 mod schedules;
@@ -31,6 +37,8 @@ mod shrinking;
 mod small_leaves;
 #[cfg(test)]
 mod stops;
+#[cfg(test)]
+mod sweeps;
 #[cfg(test)]
 mod tidying;
 #[cfg(test)]

@@ -1,9 +1,10 @@
 //! Several actors in a seeded order over few keys and over many, with much room and with little, beside a plain map.
 
+use crate::accounts::is_settled;
 use crate::numbered::{key, value};
 use crate::plain_map::{ABSENT, PlainMap, VALUES};
-use bw_model::{Answer, Command, Key, Limits, Link, Pairs, Reply, Step};
-use chain_search::{Entry, SharedEntry, Turn};
+use bw_model::{Command, Key, Limits, Link, Pairs, Reply};
+use chain_search::Turn;
 use rand_core::SeedableRng;
 use rand_core::utils::NextWord;
 use rand_pcg::Pcg32;
@@ -300,160 +301,87 @@ fn agrees(alloc: Global, core: &mut Core, twin: &mut Twin, schedule: &Schedule) 
     true
 }
 
-/// How many PIDs and rows an entry takes.
-fn taken(entry: &SharedEntry) -> (u64, u64) {
-    match entry.entry() {
-        Entry::Step(_, Step::TakePid(_), Answer::Whether(true), _) => (1, 0),
-        Entry::Step(_, Step::TakeRow(_), Answer::Whether(true), _) => (0, 1),
-        _ => (0, 0),
-    }
-}
-
-/// Whether the reply that there is no room came only when all PIDs or all rows were taken.
-fn is_full_when_taken(limits: &Limits, entries: &[SharedEntry]) -> bool {
-    let (mut pids, mut rows) = (2u64, 2u64);
-    for entry in entries {
-        let (pid, row) = taken(entry);
-        pids = pids.saturating_add(pid);
-        rows = rows.saturating_add(row);
-        if let Entry::Step(_, _, _, Some(Reply::Full)) = entry.entry() {
-            if pids < limits.pids && rows < limits.rows {
-                return false;
-            }
-        }
-    }
-    true
-}
-
-/// How many roots came, whether room was wanted, and whether a key was changed after that; none where anything was wrong.
+/// How many roots came, whether room was wanted, and whether a key was changed after that; none where anything was wrong, also with
+/// rows or PIDs.
 fn seen(alloc: Global, schedule: &Schedule) -> Option<(u32, bool, bool)> {
     let limits = Limits::new(u64::from(schedule.actors), schedule.pids, schedule.rows, 1).ok()?;
     let mut core = Core::open(alloc, limits).ok()?;
     let mut twin = Twin::new(alloc).ok()?;
-    if !agrees(alloc, &mut core, &mut twin, schedule) {
-        return None;
-    }
-    let trace = core.into_trace();
-    let right = is_full_when_taken(&limits, trace.entries.as_slice());
+    let agrees = agrees(alloc, &mut core, &mut twin, schedule);
+    let right = agrees && is_settled(alloc, core, &key(1023));
     right.then_some((twin.roots, twin.full, twin.changed_since))
+}
+
+/// The same for one of these commands over so many keys: by its seed, how many actors take how many turns, and how many PIDs and
+/// rows there are.
+fn run(
+    alloc: Global,
+    (kinds, keys): (&[Kind], u32),
+    (seed, actors, turns): (u64, u32, u32),
+    (pids, rows): (u64, u64),
+) -> Option<(u32, bool, bool)> {
+    seen(
+        alloc,
+        &Schedule {
+            seed,
+            actors,
+            turns,
+            kinds,
+            keys,
+            pids,
+            rows,
+        },
+    )
 }
 
 #[test]
 fn few_keys(rt: HostRuntime) -> Result<(), Fail> {
-    let schedule = Schedule {
-        seed: 7,
-        actors: 3,
-        turns: 20_000,
-        kinds: &FOUR,
-        keys: 8,
-        pids: 64,
-        rows: 4096,
-    };
-    assert_eq!(rt; seen(rt.alloc(), &schedule), Some((0, false, false)));
+    let four = run(rt.alloc(), (&FOUR, 8), (7, 3, 20_000), (64, 64));
+    let six = run(rt.alloc(), (&SIX, 8), (12, 3, 20_000), (64, 64));
+    assert_eq!(rt;
+        (four, six),
+        (Some((0, false, false)), Some((0, false, false)))
+    );
     Ok(())
 }
 
 #[test]
 fn keys_for_three_levels(rt: HostRuntime) -> Result<(), Fail> {
-    let schedule = Schedule {
-        seed: 8,
-        actors: 3,
-        turns: 50_000,
-        kinds: &FOUR,
-        keys: 676,
-        pids: 4096,
-        rows: 16384,
-    };
-    assert_eq!(rt; seen(rt.alloc(), &schedule), Some((2, false, false)));
-    Ok(())
-}
-
-#[test]
-fn many_actors(rt: HostRuntime) -> Result<(), Fail> {
-    let schedule = Schedule {
-        seed: 9,
-        actors: 16,
-        turns: 40_000,
-        kinds: &FOUR,
-        keys: 40,
-        pids: 64,
-        rows: 8192,
-    };
-    assert_eq!(rt; seen(rt.alloc(), &schedule), Some((1, false, false)));
-    Ok(())
-}
-
-#[test]
-fn few_pids(rt: HostRuntime) -> Result<(), Fail> {
-    let schedule = Schedule {
-        seed: 10,
-        actors: 4,
-        turns: 70_000,
-        kinds: &FEW_DELETES,
-        keys: 1024,
-        pids: 64,
-        rows: 16384,
-    };
-    assert_eq!(rt; seen(rt.alloc(), &schedule), Some((2, true, true)));
-    Ok(())
-}
-
-#[test]
-fn few_rows(rt: HostRuntime) -> Result<(), Fail> {
-    let schedule = Schedule {
-        seed: 11,
-        actors: 6,
-        turns: 20_000,
-        kinds: &FOUR,
-        keys: 100,
-        pids: 64,
-        rows: 256,
-    };
-    assert_eq!(rt; seen(rt.alloc(), &schedule), Some((1, true, true)));
-    Ok(())
-}
-
-#[test]
-fn six_commands(rt: HostRuntime) -> Result<(), Fail> {
-    let schedule = Schedule {
-        seed: 12,
-        actors: 3,
-        turns: 20_000,
-        kinds: &SIX,
-        keys: 8,
-        pids: 64,
-        rows: 8192,
-    };
-    assert_eq!(rt; seen(rt.alloc(), &schedule), Some((0, false, false)));
+    let four = run(rt.alloc(), (&FOUR, 676), (8, 3, 50_000), (256, 2048));
+    assert_eq!(rt; four, Some((2, false, false)));
     Ok(())
 }
 
 #[test]
 fn six_commands_on_three_levels(rt: HostRuntime) -> Result<(), Fail> {
-    let schedule = Schedule {
-        seed: 13,
-        actors: 5,
-        turns: 40_000,
-        kinds: &SIX,
-        keys: 676,
-        pids: 4096,
-        rows: 16384,
-    };
-    assert_eq!(rt; seen(rt.alloc(), &schedule), Some((2, false, false)));
+    let six = run(rt.alloc(), (&SIX, 676), (13, 5, 40_000), (256, 2048));
+    assert_eq!(rt; six, Some((2, false, false)));
     Ok(())
 }
 
 #[test]
-fn six_commands_in_few_rows(rt: HostRuntime) -> Result<(), Fail> {
-    let schedule = Schedule {
-        seed: 14,
-        actors: 6,
-        turns: 20_000,
-        kinds: &SIX,
-        keys: 100,
-        pids: 64,
-        rows: 256,
-    };
-    assert_eq!(rt; seen(rt.alloc(), &schedule), Some((1, true, true)));
+fn many_actors(rt: HostRuntime) -> Result<(), Fail> {
+    let four = run(rt.alloc(), (&FOUR, 40), (9, 16, 30_000), (64, 512));
+    assert_eq!(rt; four, Some((1, false, false)));
+    Ok(())
+}
+
+#[test]
+fn few_pids(rt: HostRuntime) -> Result<(), Fail> {
+    let four = run(
+        rt.alloc(),
+        (&FEW_DELETES, 1024),
+        (10, 4, 60_000),
+        (64, 1024),
+    );
+    assert_eq!(rt; four, Some((2, true, true)));
+    Ok(())
+}
+
+#[test]
+fn few_rows(rt: HostRuntime) -> Result<(), Fail> {
+    let four = run(rt.alloc(), (&FOUR, 100), (11, 6, 20_000), (64, 64));
+    let six = run(rt.alloc(), (&SIX, 300), (14, 6, 20_000), (64, 64));
+    assert_eq!(rt; (four, six), (Some((1, true, true)), Some((1, true, true))));
     Ok(())
 }

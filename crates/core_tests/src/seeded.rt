@@ -1,5 +1,6 @@
 //! Four actors in the order of a schedule, with the six commands over 64 keys, beside an ordered map.
 
+use crate::accounts::is_settled;
 use crate::pages::key;
 use bw_model::{Command, Key, Limits, Link, Schedule, Value};
 use chain_search::Turn;
@@ -118,9 +119,10 @@ fn turn(
     }
 }
 
-/// How many slots of merged pages 20,000 turns clear; none where a turn is refused or a listing is not the map's.
+/// How many slots of merged pages 20,000 turns clear; none where a turn is refused, a listing is not the map's, or a row or PID is not
+/// where it is to be at the end.
 fn cleared(alloc: Global, seed: u64) -> Result<Option<u32>, Fail> {
-    let mut core = Core::open(alloc, Limits::new(4, 256, 16384, 1)?)?;
+    let mut core = Core::open(alloc, Limits::new(4, 256, 4096, 1)?)?;
     let mut schedule = Schedule::new(seed, 4);
     let mut words = Pcg32::seed_from_u64(seed.wrapping_add(1000));
     let mut beside = Beside::new(alloc);
@@ -133,53 +135,29 @@ fn cleared(alloc: Global, seed: u64) -> Result<Option<u32>, Fail> {
             return Ok(None);
         }
     }
-    Ok(Some(beside.cleared))
+    Ok(is_settled(alloc, core, &key(99)).then_some(beside.cleared))
+}
+
+/// How many slots these seeds clear, each without a fault.
+fn all_cleared(alloc: Global, first: u64) -> Result<Option<u32>, Fail> {
+    let mut count = 0u32;
+    for more in 0..4u64 {
+        match cleared(alloc, first.wrapping_add(more))? {
+            Some(cleared) => count = count.saturating_add(cleared),
+            None => return Ok(None),
+        }
+    }
+    Ok(Some(count))
 }
 
 #[test]
-fn seed_1(rt: HostRuntime) -> Result<(), Fail> {
-    assert!(rt; cleared(rt.alloc(), 1)?.is_some());
+fn seeds_1_to_4(rt: HostRuntime) -> Result<(), Fail> {
+    assert!(rt; all_cleared(rt.alloc(), 1)? > Some(0));
     Ok(())
 }
 
 #[test]
-fn seed_2(rt: HostRuntime) -> Result<(), Fail> {
-    assert!(rt; cleared(rt.alloc(), 2)?.is_some());
-    Ok(())
-}
-
-#[test]
-fn seed_3(rt: HostRuntime) -> Result<(), Fail> {
-    assert!(rt; cleared(rt.alloc(), 3)?.is_some());
-    Ok(())
-}
-
-#[test]
-fn seed_4(rt: HostRuntime) -> Result<(), Fail> {
-    assert!(rt; cleared(rt.alloc(), 4)?.is_some());
-    Ok(())
-}
-
-#[test]
-fn seed_5(rt: HostRuntime) -> Result<(), Fail> {
-    assert!(rt; cleared(rt.alloc(), 5)?.is_some());
-    Ok(())
-}
-
-#[test]
-fn seed_6(rt: HostRuntime) -> Result<(), Fail> {
-    assert!(rt; cleared(rt.alloc(), 6)?.is_some());
-    Ok(())
-}
-
-#[test]
-fn seed_7(rt: HostRuntime) -> Result<(), Fail> {
-    assert!(rt; cleared(rt.alloc(), 7)?.is_some());
-    Ok(())
-}
-
-#[test]
-fn seed_8(rt: HostRuntime) -> Result<(), Fail> {
-    assert!(rt; cleared(rt.alloc(), 8)?.is_some());
+fn seeds_5_to_8(rt: HostRuntime) -> Result<(), Fail> {
+    assert!(rt; all_cleared(rt.alloc(), 5)? > Some(0));
     Ok(())
 }

@@ -100,9 +100,9 @@ fn a_split_stops_anywhere(rt: HostRuntime) -> Result<(), Fail> {
 }
 
 // The leaf is consolidated and split; its term is the sixteenth of the root, which is split too, with a new root over both. The
-// insert takes the rows 188 to 195, of which those from 192 on are behind a fourth word of free bits.
+// insert takes eight rows. All of them are in the first word of free bits, since the rows of old chains are used again.
 #[test]
 fn a_split_of_the_root_stops_anywhere(rt: HostRuntime) -> Result<(), Fail> {
-    assert_eq!(rt; steps_of(rt.alloc(), 128, 9), Some(146));
+    assert_eq!(rt; steps_of(rt.alloc(), 128, 9), Some(126));
     Ok(())
 }
