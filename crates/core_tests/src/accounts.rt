@@ -61,6 +61,16 @@ const OUTSIDE: Reading = Reading {
     ready: 0,
 };
 
+/// How many words from the first on were read as 0 one after another, where so many were before, and one more was read.
+fn words_on(before: u64, word: u8, bits: u64) -> u64 {
+    let place = u64::from(word);
+    if bits == 0 && (place == 0 || place == before) {
+        place.saturating_add(1)
+    } else {
+        before
+    }
+}
+
 impl Accounts {
     /// As a tree opens.
     fn new(alloc: Global, limits: &Limits) -> Result<Accounts, AllocError> {
@@ -152,13 +162,12 @@ impl Accounts {
         if !self.rows.links(actor, row) {
             return false;
         }
-        match self.placed(row).link {
+        let placed = self.placed(row);
+        let ready = self.reading(actor).ready;
+        match placed.link {
             Link::Base => self.unlink_chain(actor, head),
-            link => {
-                let is_over = self.placed(row).next == Some(head);
-                let split = link == Link::Split;
-                is_over && (!split || self.pids.links(actor, self.reading(actor).ready))
-            }
+            Link::Split => placed.next == Some(head) && self.pids.links(actor, ready),
+            _ => placed.next == Some(head),
         }
     }
 
@@ -212,23 +221,18 @@ impl Accounts {
         u64::from(head) == row && self.reading(actor).announced > 0
     }
 
-    fn reads_word(&mut self, actor: u8, word: u8, bits: u64, rows: bool) -> bool {
+    fn reads_row_word(&mut self, actor: u8, word: u8, bits: u64) -> bool {
         let mut reading = self.reading(actor);
-        let word_before = if rows {
-            &mut reading.row_words
-        } else {
-            &mut reading.pid_words
-        };
-        let place = u64::from(word);
-        if bits == 0 && (place == 0 || place == *word_before) {
-            *word_before = place.saturating_add(1);
-        }
+        reading.row_words = words_on(reading.row_words, word, bits);
         self.set_reading(actor, reading);
-        if rows {
-            self.rows.has_word(word, bits)
-        } else {
-            self.pids.has_word(word, bits)
-        }
+        self.rows.has_word(word, bits)
+    }
+
+    fn reads_pid_word(&mut self, actor: u8, word: u8, bits: u64) -> bool {
+        let mut reading = self.reading(actor);
+        reading.pid_words = words_on(reading.pid_words, word, bits);
+        self.set_reading(actor, reading);
+        self.pids.has_word(word, bits)
     }
 
     fn reads_epoch(&mut self, actor: u8, epoch: u64) -> bool {
@@ -303,8 +307,8 @@ impl Accounts {
             Step::Slot(page) => self.reads_slot(actor, *page, number),
             Step::Epoch => self.reads_epoch(actor, number),
             Step::Announce(other) => self.reads_announce(actor, *other, number),
-            Step::PidBits(word) => self.reads_word(actor, *word, number, false),
-            Step::RowBits(word) => self.reads_word(actor, *word, number, true),
+            Step::PidBits(word) => self.reads_pid_word(actor, *word, number),
+            Step::RowBits(word) => self.reads_row_word(actor, *word, number),
             _ => false,
         }
     }
@@ -437,8 +441,8 @@ pub(crate) fn is_sound(alloc: Global, limits: &Limits, entries: &[SharedEntry]) 
     }
 }
 
-/// Whether all operations are done, and then four deletes by each actor of a key that is absent, so that each has freed what it may.
-pub(crate) fn comes_to_rest(core: &mut Core, absent: &Key) -> bool {
+/// Whether all operations are done, and then four deletes of a key by each actor, after which each has freed all that it took out.
+pub(crate) fn comes_to_rest(core: &mut Core, key: &Key) -> bool {
     for actor in 0..16u8 {
         if core.is_busy(actor) && finish(core, actor).is_none() {
             return false;
@@ -447,7 +451,7 @@ pub(crate) fn comes_to_rest(core: &mut Core, absent: &Key) -> bool {
     for turn in 0..64u8 {
         let actor = turn % 16;
         let is_one = u64::from(actor) < core.limits().actors;
-        if is_one && reply(core, actor, Command::Delete(absent.copied())).is_none() {
+        if is_one && reply(core, actor, Command::Delete(key.copied())).is_none() {
             return false;
         }
     }
@@ -455,10 +459,10 @@ pub(crate) fn comes_to_rest(core: &mut Core, absent: &Key) -> bool {
 }
 
 /// Whether a core comes to rest, and its trace is sound then.
-pub(crate) fn is_settled(alloc: Global, core: Core, absent: &Key) -> bool {
+pub(crate) fn is_settled(alloc: Global, core: Core, key: &Key) -> bool {
     let mut core = core;
     let limits = *core.limits();
-    let rests = comes_to_rest(&mut core, absent);
+    let rests = comes_to_rest(&mut core, key);
     let trace = core.into_trace();
     rests && is_sound(alloc, &limits, trace.entries.as_slice())
 }

@@ -252,7 +252,7 @@ impl Twin {
     }
 }
 
-/// How many actors take how many turns, with commands of which kinds over how many keys, and how much room there is.
+/// How many actors take how many turns, with commands of which kinds over how many keys.
 #[derive(Drop)]
 struct Schedule<'a> {
     seed: u64,
@@ -260,8 +260,6 @@ struct Schedule<'a> {
     turns: u32,
     kinds: &'a [Kind],
     keys: u32,
-    pids: u64,
-    rows: u64,
 }
 
 /// One of the kinds.
@@ -302,42 +300,33 @@ fn agrees(alloc: Global, core: &mut Core, twin: &mut Twin, schedule: &Schedule) 
 }
 
 /// How many roots came, whether room was wanted, and whether a key was changed after that; none where anything was wrong, also with
-/// rows or PIDs.
-fn seen(alloc: Global, schedule: &Schedule) -> Option<(u32, bool, bool)> {
-    let limits = Limits::new(u64::from(schedule.actors), schedule.pids, schedule.rows, 1).ok()?;
-    let mut core = Core::open(alloc, limits).ok()?;
-    let mut twin = Twin::new(alloc).ok()?;
-    let agrees = agrees(alloc, &mut core, &mut twin, schedule);
-    let right = agrees && is_settled(alloc, core, &key(1023));
-    right.then_some((twin.roots, twin.full, twin.changed_since))
-}
-
-/// The same for one of these commands over so many keys: by its seed, how many actors take how many turns, and how many PIDs and
-/// rows there are.
-fn run(
+/// rows or PIDs. It is a schedule of these commands over so many keys, by its seed, how many actors take how many turns, and how many
+/// PIDs and rows there are.
+fn seen(
     alloc: Global,
     (kinds, keys): (&[Kind], u32),
     (seed, actors, turns): (u64, u32, u32),
     (pids, rows): (u64, u64),
 ) -> Option<(u32, bool, bool)> {
-    seen(
-        alloc,
-        &Schedule {
-            seed,
-            actors,
-            turns,
-            kinds,
-            keys,
-            pids,
-            rows,
-        },
-    )
+    let schedule = Schedule {
+        seed,
+        actors,
+        turns,
+        kinds,
+        keys,
+    };
+    let mut core = Core::open(alloc, Limits::new(u64::from(actors), pids, rows, 1).ok()?).ok()?;
+    let mut twin = Twin::new(alloc).ok()?;
+    let agrees = agrees(alloc, &mut core, &mut twin, &schedule);
+    let right = agrees && is_settled(alloc, core, &key(1023));
+    right.then_some((twin.roots, twin.full, twin.changed_since))
 }
 
+// All rows but one leaf's are used again and again.
 #[test]
 fn few_keys(rt: HostRuntime) -> Result<(), Fail> {
-    let four = run(rt.alloc(), (&FOUR, 8), (7, 3, 20_000), (64, 64));
-    let six = run(rt.alloc(), (&SIX, 8), (12, 3, 20_000), (64, 64));
+    let four = seen(rt.alloc(), (&FOUR, 8), (7, 3, 20_000), (64, 64));
+    let six = seen(rt.alloc(), (&SIX, 8), (12, 3, 20_000), (64, 64));
     assert_eq!(rt;
         (four, six),
         (Some((0, false, false)), Some((0, false, false)))
@@ -347,28 +336,28 @@ fn few_keys(rt: HostRuntime) -> Result<(), Fail> {
 
 #[test]
 fn keys_for_three_levels(rt: HostRuntime) -> Result<(), Fail> {
-    let four = run(rt.alloc(), (&FOUR, 676), (8, 3, 50_000), (256, 2048));
+    let four = seen(rt.alloc(), (&FOUR, 676), (8, 3, 50_000), (256, 2048));
     assert_eq!(rt; four, Some((2, false, false)));
     Ok(())
 }
 
 #[test]
 fn six_commands_on_three_levels(rt: HostRuntime) -> Result<(), Fail> {
-    let six = run(rt.alloc(), (&SIX, 676), (13, 5, 40_000), (256, 2048));
+    let six = seen(rt.alloc(), (&SIX, 676), (13, 5, 40_000), (256, 2048));
     assert_eq!(rt; six, Some((2, false, false)));
     Ok(())
 }
 
 #[test]
 fn many_actors(rt: HostRuntime) -> Result<(), Fail> {
-    let four = run(rt.alloc(), (&FOUR, 40), (9, 16, 30_000), (64, 512));
+    let four = seen(rt.alloc(), (&FOUR, 40), (9, 16, 30_000), (64, 512));
     assert_eq!(rt; four, Some((1, false, false)));
     Ok(())
 }
 
 #[test]
 fn few_pids(rt: HostRuntime) -> Result<(), Fail> {
-    let four = run(
+    let four = seen(
         rt.alloc(),
         (&FEW_DELETES, 1024),
         (10, 4, 60_000),
@@ -380,8 +369,8 @@ fn few_pids(rt: HostRuntime) -> Result<(), Fail> {
 
 #[test]
 fn few_rows(rt: HostRuntime) -> Result<(), Fail> {
-    let four = run(rt.alloc(), (&FOUR, 100), (11, 6, 20_000), (64, 64));
-    let six = run(rt.alloc(), (&SIX, 300), (14, 6, 20_000), (64, 64));
+    let four = seen(rt.alloc(), (&FOUR, 100), (11, 6, 20_000), (64, 64));
+    let six = seen(rt.alloc(), (&SIX, 300), (14, 6, 20_000), (64, 64));
     assert_eq!(rt; (four, six), (Some((1, true, true)), Some((1, true, true))));
     Ok(())
 }

@@ -4,7 +4,8 @@ use crate::accounts::is_settled;
 use crate::by_hand::{begins, finish, replies, steps};
 use crate::pages::{key, value};
 use crate::reuse::{is_round, rounds, served_by};
-use bw_model::{Command, Limits, Reply};
+use bw_model::{Command, Limits, Reply, Step};
+use chain_search::{Entry, SharedEntry};
 use std::alloc::Global;
 use std::test::Fail;
 use step_core::Core;
@@ -54,7 +55,38 @@ fn goes_on(alloc: Global, stop: u32) -> Option<[bool; 9]> {
     ])
 }
 
-// The sweep reads the epoch and retires it, reads what two actors announce, and frees three words of rows and one of PIDs.
+/// A letter for each step of a sweep, and for the entry.
+fn letter(entry: &SharedEntry) -> u8 {
+    match entry.entry() {
+        Entry::Step(0, Step::Epoch, _, _) => b'e',
+        Entry::Step(0, Step::Retire(_), _, _) => b't',
+        Entry::Step(0, Step::Announce(_), _, _) => b'a',
+        Entry::Step(0, Step::ReuseRows(_, _), _, _) => b'r',
+        Entry::Step(0, Step::ReusePids(_, _), _, _) => b'p',
+        Entry::Step(0, Step::Enter(_), _, _) => b'i',
+        _ => b'-',
+    }
+}
+
+// The epoch is read and retired, two announces are read, three words of rows and one of PIDs are freed; then the upsert enters.
+#[test]
+fn the_steps_of_a_long_sweep(rt: HostRuntime) -> Result<(), Fail> {
+    let Some(mut core) = with_limbo(rt.alloc()) else {
+        return Err(Fail::from("no limbo"));
+    };
+    let turns = core.turns();
+    assert!(rt; replies(&mut core, 0, upsert(), Reply::Replaced(value(9))));
+    let trace = core.into_trace();
+    let mut letters = [b'-'; 11];
+    let entries = trace.entries.iter().skip(turns as usize);
+    for (place, entry) in letters.iter_mut().zip(entries) {
+        *place = letter(entry);
+    }
+    assert_eq!(rt; letters.as_slice(), b"-etaarrrpei".as_slice());
+    Ok(())
+}
+
+// These are the stops before each step of the sweep, before the entry, and after it.
 #[test]
 fn a_sweep_stops_anywhere(rt: HostRuntime) -> Result<(), Fail> {
     for stop in 0..11u32 {
