@@ -1,4 +1,4 @@
-//! Rows and PIDs that are used again, and an actor that stays inside, so that nothing is that it may reach.
+//! Rows and PIDs that are used again, and what an actor that stays inside keeps out of use.
 
 use crate::accounts::{comes_to_rest, is_settled, is_sound};
 use crate::by_hand::{begins, finish, replies, reply, steps};
@@ -124,7 +124,7 @@ fn waits(alloc: Global, rows: u64, epoch: u64, count: u32) -> Option<[bool; 9]> 
     ])
 }
 
-// With few rows these are gone before the seventh round, with many the identifiers are before the seventieth.
+// With few rows these are gone before the twelfth round, with many the identifiers are before the seventieth.
 #[test]
 fn what_an_actor_inside_may_reach_waits(rt: HostRuntime) -> Result<(), Fail> {
     for epoch in [1, LAST_EPOCH - 1, LAST_EPOCH] {
