@@ -127,7 +127,7 @@ fn waits(alloc: Global, rows: u64, epoch: u64, count: u32) -> Option<[bool; 9]> 
 // With few rows these are gone before the twelfth round, with many the identifiers are before the seventieth.
 #[test]
 fn what_an_actor_inside_may_reach_waits(rt: HostRuntime) -> Result<(), Fail> {
-    for epoch in [1, LAST_EPOCH - 1, LAST_EPOCH] {
+    for epoch in [1, LAST_EPOCH.wrapping_sub(1), LAST_EPOCH] {
         assert_eq!(rt;
             waits(rt.alloc(), 128, epoch, 12),
             Some([true; 9]),
@@ -154,7 +154,7 @@ fn retired(alloc: Global, epoch: u64) -> Option<u32> {
 #[test]
 fn the_last_epoch_stays(rt: HostRuntime) -> Result<(), Fail> {
     for before in [0u32, 1, 5] {
-        let epoch = LAST_EPOCH - u64::from(before);
+        let epoch = LAST_EPOCH.wrapping_sub(u64::from(before));
         assert_eq!(rt; retired(rt.alloc(), epoch), Some(before));
     }
     Ok(())
@@ -195,9 +195,10 @@ fn the_steps_of_a_sweep(rt: HostRuntime) -> Result<(), Fail> {
             Reply::Inserted
         )
     );
-    assert_eq!(rt; core.turns(), turns + 16);
+    assert_eq!(rt; core.turns(), turns.wrapping_add(16));
     let trace = core.into_trace();
-    let sweep = trace.entries.iter().skip(turns as usize + 1).take(6);
+    let first = turns.wrapping_add(1) as usize;
+    let sweep = trace.entries.iter().skip(first).take(6);
     for (place, entry) in sweep.enumerate() {
         assert!(rt; is_swept(place, entry), "{place}");
     }

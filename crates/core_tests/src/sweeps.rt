@@ -77,12 +77,10 @@ fn the_steps_of_a_long_sweep(rt: HostRuntime) -> Result<(), Fail> {
     let turns = core.turns();
     assert!(rt; replies(&mut core, 0, upsert(), Reply::Replaced(value(9))));
     let trace = core.into_trace();
-    let mut letters = [b'-'; 11];
-    let entries = trace.entries.iter().skip(turns as usize);
-    for (place, entry) in letters.iter_mut().zip(entries) {
-        *place = letter(entry);
+    let mut wanted = b"-etaarrrpei".iter();
+    for entry in trace.entries.iter().skip(turns as usize).take(11) {
+        assert!(rt; wanted.next() == Some(&letter(entry)));
     }
-    assert_eq!(rt; letters.as_slice(), b"-etaarrrpei".as_slice());
     Ok(())
 }
 
