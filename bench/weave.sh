@@ -1,7 +1,8 @@
 #!/bin/sh
 # How many turns a second `weave` takes, reading and printing included, and how many bytes a turn it keeps: bench/weave.sh [OPERATIONS]
-# Every second operation looks a key up, the others give a key a value; the page is consolidated at 8 deltas. How many turns
-# that is follows from how many deltas stand and how many rows are taken. Bytes need GNU time.
+# Every second operation looks a key up, the others give a key a value; the page is consolidated at 8 deltas, and the next operation that
+# gives a value frees the rows that went out, so that all rows in use are of the first word of free bits. How many turns that is follows
+# from how many deltas stand. Bytes need GNU time.
 set -eu
 top=$(CDPATH='' cd -- "$(dirname -- "$0")/.." && pwd)
 operations=${1:-10000}
@@ -15,14 +16,15 @@ awk -v n="$operations" 'BEGIN {
     }
 }' >"$input"
 turns=$(awk -v n="$operations" '
-    function taken() { word = int(row / 64); row++; return word + 4 }  # words of free bits, the take, the place, the exchange
     BEGIN {
-        row = 2
+        record = 4  # the word of free bits, the take, the place, the exchange
+        sweep = 4  # the epoch, its retirement, what the other actor announces, the rows that are free
         for (i = 0; i < n; i++) {
             turns += 5 + deltas + 1 + 1  # up to the slot, the chain, the leave
             if (i % 2 == 0) continue
-            if (deltas == 8) { turns += taken() + 3; deltas = 0 }
-            turns += taken()
+            if (out) { turns += sweep; out = 0 }
+            if (deltas == 8) { turns += record + 3; deltas = 0; out = 1 }
+            turns += record
             deltas++
         }
         print turns
