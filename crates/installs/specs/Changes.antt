@@ -9,7 +9,7 @@ use Rattle.bw_model.specs.declared.step.Answer.TheVariants.{Whether}
 use Rattle.deltas.specs.declared.record.Record.{Record}
 use Rattle.deltas.specs.declared.record.Record.TheVariants as kind
 use Rattle.deltas.specs.Records.{next_row}
-use Rattle.deltas.specs.Spellable.{IsPid}
+use Rattle.deltas.specs.Spellable.{IsPid, IsSpellable, IsSpellablePage}
 use Rattle.chain_search.specs.Discipline.{IsUnset, MayExchange}
 use Rattle.chain_search.specs.Fitting.{Fits, ReadsRemoved}
 use Rattle.chain_search.specs.Knowledge.{Belongings, Knowledge, Gone, Ready, Written}
@@ -154,6 +154,13 @@ IsTarget limits (Install pid head content) = IsTargetOver limits pid head conten
 IsTarget limits (Split pid plan) = IsTargetOver limits pid plan.next (kind.Base plan.upper)
 IsTarget limits (Root left root) = (0 < left) × (left < limits.pids)
 IsTarget limits (Unlink pid head unterm removal) = IsTargetOver limits pid head (kind.Unterm unterm) × ((0 < unterm.child) × (unterm.child < limits.pids)) × (0 < removal) × (removal < limits.rows)
+
+-- A row can spell each record that the plan places; the split, whichever page it names as the new one.
+abbrev pub IsSpellablePlan : Plan → Type 0
+IsSpellablePlan (Install pid head content) = IsSpellable content
+IsSpellablePlan (Split pid plan) = IsSpellablePage plan.upper × ((right : ℕ) → IsPid right → IsSpellable (kind.Split (split_to plan right)))
+IsSpellablePlan (Root left root) = IsSpellablePage root
+IsSpellablePlan (Unlink pid head unterm removal) = IsSpellable (kind.Unterm unterm)
 
 -- Such a plan has such a state: only a new page has a base, only what comes over a page's newest row is placed for it, and only
 -- what takes a page's term out clears that page.

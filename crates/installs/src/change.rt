@@ -7,7 +7,7 @@ ghost use Rattle.chain_search.specs.Fitting.{Fits};
 ghost use Rattle.chain_search.specs.Knowledge.{Knowledge, learn};
 ghost use Rattle.chain_search.specs.Recalled.{Recalled, WasHead};
 ghost use Rattle.installs.specs.Bounded.{IsApart, IsPidFrom, Recalls, Spends, pid_taken, steps_left};
-ghost use Rattle.installs.specs.Changes.{Follows, IsOfChange, IsSame, IsSoundChange, IsTarget, IsTold, KeepsSpare, MayChange, Shows, at, base_row, head_of, linked_number, slot_of, wanted};
+ghost use Rattle.installs.specs.Changes.{Follows, IsOfChange, IsSame, IsSoundChange, IsSpellablePlan, IsTarget, IsTold, KeepsSpare, MayChange, Shows, at, base_row, head_of, linked_number, slot_of, wanted};
 ghost use Rattle.installs.specs.Moves.{after_ready, decided_by, first_state, moved, moved_by};
 ghost use Rattle.installs.specs.Outs.{TakesFresh, limbo_after};
 ghost use Rattle.installs.specs.Spares.{HaveRoom, Rest};
@@ -59,19 +59,20 @@ pub struct Change {
 }
 
 impl Model for Change {
-    ghost use Rattle.installs.specs.Changes.{Change, IsTarget};
+    ghost use Rattle.installs.specs.Changes.{Change, IsSpellablePlan, IsTarget};
 
     ghost Value = { Change };
 
     ghost view = { λ c. record { limits = c.limits; plan = c.plan; state = c.state } };
 
-    ghost invariant = { λ c. IsTarget c.limits c.plan };
+    ghost invariant = { λ c. IsTarget c.limits c.plan × IsSpellablePlan c.plan };
 }
 
 impl Change {
     /// The change that links what is planned. It takes a number only where no spare one of the kind is left: a PID first, then rows.
     pub fn new(limits: &Limits, spares: &Spares, plan: Plan) -> Change
         requires target { IsTarget limits.now plan }
+        requires spells { IsSpellablePlan plan }
         requires room { HaveRoom limits.now spares.now }
         ensures shows { (actor : ℕ) (k : Knowledge) → MayChange actor k plan → KeepsSpare plan spares.now.pid → Rest k.own spares.now → Shows actor result spares.now k }
         ensures sound { IsSoundChange result spares.now }

@@ -1,14 +1,14 @@
 //! Changes step by step, over a memory in which a few numbers are free.
-ghost use Rattle.std.specs.Prelude.{◌≤◌, ℕ};
+ghost use Rattle.std.specs.Prelude.{◌≡◌, ◌≤◌, ◌∷◌, [], ℕ};
 ghost use Rattle.chain_search.specs.Fitting.{Fits, FitsWord};
 ghost use Rattle.chain_search.specs.Knowledge.{nothing};
-ghost use Rattle.installs.specs.Changes.{IsOfChange, IsTarget};
+ghost use Rattle.installs.specs.Changes.{IsOfChange, IsSpellablePlan, IsTarget};
 ghost use Rattle.installs.specs.Spares.{HaveRoom};
 ghost use Rattle.chain_search.specs.Within.{IsWithin};
 
 use crate::{Change, End, Plan, Spares};
 use arrayvec::ArrayVec;
-use base_page::Page;
+use base_page::{Items, Page};
 use bw_model::{Answer, Key, Limits, Step};
 use deltas::{Record, Remove, Unterm};
 use smo::SplitPlan;
@@ -75,6 +75,7 @@ fn drive(
     world: World,
 ) -> (ArrayVec<(char, u16, u16, u16), 16>, Option<End>)
     requires target { IsTarget limits.now plan }
+    requires spells { IsSpellablePlan plan }
     requires room { HaveRoom limits.now spares.old }
     ensures room { HaveRoom limits.now spares.new }
 {
@@ -97,8 +98,16 @@ fn smallest() -> Limits {
     Limits::new(1, 64, 64, 1).unwrap()
 }
 
+/// A key that isn't the empty one.
+fn key_k() -> Key
+    ensures { result ≡ 107 ∷ [] }
+{
+    Key::from_slice(b"k").unwrap()
+}
+
 fn install(limits: &Limits) -> Plan
-    ensures { IsTarget limits.now result }
+    ensures target { IsTarget limits.now result }
+    ensures spells { IsSpellablePlan result }
 {
     let _ = limits;
     Plan::Install {
@@ -109,20 +118,22 @@ fn install(limits: &Limits) -> Plan
 }
 
 fn split(limits: &Limits) -> Plan
-    ensures { IsTarget limits.now result }
+    ensures target { IsTarget limits.now result }
+    ensures spells { IsSpellablePlan result }
 {
     let _ = limits;
     Plan::Split {
         pid: 1,
         plan: SplitPlan {
-            upper: Page::empty_leaf(),
+            upper: Page::new(0, key_k(), None, None, Items::new()),
             next: 7,
         },
     }
 }
 
 fn root(limits: &Limits) -> Plan
-    ensures { IsTarget limits.now result }
+    ensures target { IsTarget limits.now result }
+    ensures spells { IsSpellablePlan result }
 {
     let _ = limits;
     Plan::Root {
@@ -132,7 +143,8 @@ fn root(limits: &Limits) -> Plan
 }
 
 fn unlink(limits: &Limits) -> Plan
-    ensures { IsTarget limits.now result }
+    ensures target { IsTarget limits.now result }
+    ensures spells { IsSpellablePlan result }
 {
     let _ = limits;
     Plan::Unlink {
@@ -141,7 +153,7 @@ fn unlink(limits: &Limits) -> Plan
         unterm: Unterm {
             level: 1,
             next: 7,
-            separator: Key::default(),
+            separator: key_k(),
             child: 9,
         },
         removal: 4,

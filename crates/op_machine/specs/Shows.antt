@@ -109,8 +109,8 @@ abbrev pub recall_last : Recalled → Option (StepOf Record) → Answer Record �
 recall_last r None told = r
 recall_last r (Some asked) told = recall r asked told
 
--- The actor may take the step: it names no number that has no place, frees nothing that another one may hold, and puts no base
--- over a base alone.
+-- The actor may take the step: it names no number that has no place, places nothing that a row can't spell, frees nothing that
+-- another one may hold, and puts no base over a base alone.
 pub record MayStep (task : Task) (k : Knowledge) (asked : StepOf Record) : Type 0 where
   pub within : IsWithin task.limits asked
   pub may : May task.actor k asked

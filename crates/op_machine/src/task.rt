@@ -9,7 +9,7 @@ ghost use Rattle.bw_model.specs.Replies.{command_key, is_writer, update_of};
 ghost use Rattle.bw_model.specs.declared.command.Reply.TheVariants as reply;
 ghost use Rattle.descent.specs.ReadRounds.{IsGoneAt};
 ghost use Rattle.descent.specs.Versions.{IsGone};
-ghost use Rattle.installs.specs.Changes.{IsTarget};
+ghost use Rattle.installs.specs.Changes.{IsSpellablePlan, IsTarget};
 ghost use Rattle.installs.specs.Spares.{HaveRoom, Spares};
 ghost use Rattle.op_machine.specs.Bounded.{few_changes, left_at, left_for, one_round, with_errands};
 ghost use Rattle.op_machine.specs.Brings.{errands_after, update_over};
@@ -444,6 +444,7 @@ impl Task {
     /// A change begins.
     fn change(&self, spares: &Spares, plan: Plan, then: Then) -> State
         requires target { IsTarget self.now.limits plan }
+        requires spells { IsSpellablePlan plan }
         requires room { HaveRoom self.now.limits spares.now }
         ensures stands { (k : Knowledge) (r : Recalled) → MayBegin self.now spares.now k r plan then → Stands self.now spares.now k r result }
         ensures few { (r : Recalled) → left_at r spares.now result ≤ few_changes + 1 }

@@ -31,7 +31,7 @@ content_five : (content : Content) → length (content_words content) ≡ 5
 content_five (Value value) = refl
 content_five (Child page held) = refl
 
-item_ten : (item : Item) → length (item_words item) ≡ 10
+pub item_ten : (item : Item) → length (item_words item) ≡ 10
 item_ten item = let c = content_five item.content in let l = length-append (text_words 4 item.key) (content_words item.content) in let t : length (text_words 4 item.key) ≡ 4 = refl in omega arith
 
 pub items_length : (items : List Item) → length (items_words items) ≡ 10 * length items

@@ -6,6 +6,7 @@ pub mod PageParts
 pub mod Refusals
 pub mod RowLaws
 pub mod RuleLaws
+pub mod ShortTexts
 pub mod SpellingLaws
 pub mod TextLaws
 pub mod WordLaws

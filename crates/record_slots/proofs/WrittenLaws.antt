@@ -1,9 +1,10 @@
 -- A row that is written part by part.
-use Rattle.std.proofs.Common.{◌≡◌, ◌+◌, ◌*◌, ◌-◌, ℕ, List, [], ◌∷◌, ◌++◌, length, replicate, refl, ap, ◌∙◌, arith, append_assoc, length-append}
+use Rattle.std.proofs.Common.{◌≡◌, ◌<◌, ◌≤◌, ◌+◌, ◌*◌, ◌-◌, ℕ, suc, List, [], ◌∷◌, ◌++◌, length, get_or, drop, replicate, refl, sym, ap, ◌∙◌, arith, append_assoc, length-append}
 use Rattle.std.specs.Prelude.{Option, Some, None}
+use Rattle.std.proofs.lemmas.List.{drop_more}
 use Rattle.base_page.specs.declared.item.Item.{Item}
-use Rattle.record_slots.specs.Spelling.{field_words, bound_words, items_words}
-use Rattle.record_slots.proofs.ItemLaws.{items_length}
+use Rattle.record_slots.specs.Spelling.{field_words, bound_words, item_words, items_words}
+use Rattle.record_slots.proofs.ItemLaws.{item_ten, items_length}
 
 bound_five : (bound : Option (List ℕ)) → length (bound_words bound) ≡ 5
 bound_five None = refl
@@ -37,3 +38,23 @@ module _ (head next page : ℕ) (key : List ℕ) (bound : Option (List ℕ)) (it
       let inner = append_assoc (bound_words bound) (items_words items) zeros in
       let outer = append_assoc (field_words key) (bound_words bound ++ items_words items) zeros in
       more ∙ (λ i. is i ++ replicate (left i) 0) ∙ ap (λ xs. head ∷ next ∷ page ∷ xs) (outer ∙ ap (λ xs. field_words key ++ xs) inner)
+
+-- an item is written, and those behind it are left
+module _ (items : List Item) (place : ℕ) (item : Item) (within : place < length items) (is : item ≡ get_or items place item) where
+  left_items : drop place items ≡ item ∷ drop (place + 1) items
+  left_items = drop_more items place item within ∙ ap (λ one. one ∷ drop (place + 1) items) (sym is)
+
+  module _ (before now : List ℕ) (more : now ≡ before ++ item_words item) where
+    pub item_written : (whole : List ℕ) → before ++ items_words (drop place items) ≡ whole → now ++ items_words (drop (place + 1) items) ≡ whole
+    item_written whole so =
+        ap (λ words. words ++ items_words (drop (place + 1) items)) more
+        ∙ append_assoc before (item_words item) (items_words (drop (place + 1) items))
+        ∙ ap (λ left. before ++ items_words left) (sym left_items)
+        ∙ so
+
+    pub room_left : length before + 10 * length (drop place items) ≤ 256 → length now + 10 * length (drop (place + 1) items) ≤ 256
+    room_left room =
+        let left : length (drop place items) ≡ suc (length (drop (place + 1) items)) = ap length left_items in
+        let grown : length now ≡ length before + length (item_words item) = ap length more ∙ length-append before (item_words item) in
+        let ten = item_ten item in
+        omega arith

@@ -1,18 +1,23 @@
 //! Records written as rows of words.
-ghost use Rattle.std.specs.Prelude.{◌≡◌, ◌≤◌, ◌+◌, ◌++◌, ◌*◌, ◌∷◌, [], Some, drop, length, option_copied, replicate, slice_index, ◌-◌};
+ghost use Rattle.std.specs.Prelude.{◌≡◌, ◌≤◌, ◌+◌, ◌++◌, ◌*◌, ◌∷◌, [], IfSome, Some, drop, length, option_copied, replicate, slice_index, ◌-◌};
+ghost use Rattle.std.specs.List.{All};
+ghost use Rattle.bw_model.specs.Bytes.{IsShort};
+ghost use Rattle.deltas.specs.Spellable.{IsSpellable};
 ghost use Rattle.record_slots.specs.Spelling.{bound_words, content_words, field_words, item_words, items_words, packed, row_words, text_words, words_of};
+ghost use Rattle.record_slots.specs.Spells.{IsShortItem, IsSpelling};
 
 use arrayvec::ArrayVec;
 use base_page::{Content, Item};
-use bw_model::Key;
+use bw_model::{Key, Value};
 use deltas::Record;
 
 /// How many words a row has.
 const ROW: usize = 256;
 
-/// The words that spell the record, where a row can spell it.
+/// The words of the record; where a row can spell it, they do.
 pub fn to_words(content: &Record) -> [u64; 256]
-    ensures { result ≡ words_of content.now }
+    ensures words { result ≡ words_of content.now }
+    ensures spells { IsSpellable content.now → IsSpelling content.now result }
 {
     let none = Key::default();
     match content {
@@ -66,12 +71,13 @@ pub fn to_words(content: &Record) -> [u64; 256]
 
 /// A row with one key and no items.
 fn link_words(kind: u8, level: u8, next: u16, page: u16, first: &Key) -> [u64; 256]
-    ensures { result ≡ row_words kind level next page first.now (Some []) [] }
+    ensures words { result ≡ row_words kind level next page first.now (Some []) [] }
+    ensures short { IsShort first.now }
 {
     row_words(kind, level, next, page, first, Some(&Key::default()), &[])
 }
 
-/// A row of these parts.
+/// A row of these parts, whose texts are short by their types.
 fn row_words(
     kind: u8,
     level: u8,
@@ -82,13 +88,16 @@ fn row_words(
     items: &[Item],
 ) -> [u64; 256]
     requires { length items.now ≤ 24 }
-    ensures { result ≡ row_words kind level next page first.now (option_copied second.entry) items.now }
+    ensures words { result ≡ row_words kind level next page first.now (option_copied second.entry) items.now }
+    ensures first { IsShort first.now }
+    ensures second { IfSome (option_copied second.entry) IsShort }
+    ensures items { All IsShortItem items.now }
 {
     let mut words = ArrayVec::new();
     words.push(u64::from(kind) + 256 * u64::from(level) + 65536 * items.len() as u64);
     words.push(u64::from(next));
     words.push(u64::from(page));
-    push_field(&mut words, first.as_slice());
+    push_field(&mut words, key_bytes(first));
     push_bound(&mut words, second);
     push_items(&mut words, items);
     push_zeros(&mut words);
@@ -97,7 +106,8 @@ fn row_words(
 
 fn push_items(words: &mut ArrayVec<u64, ROW>, items: &[Item])
     requires { length words.old.items + 10 * length items.now ≤ 256 }
-    ensures { words.new.items ≡ words.old.items ++ items_words items.now }
+    ensures words { words.new.items ≡ words.old.items ++ items_words items.now }
+    ensures short { All IsShortItem items.now }
 {
     for item in items {
         push_item(words, item);
@@ -106,15 +116,16 @@ fn push_items(words: &mut ArrayVec<u64, ROW>, items: &[Item])
 
 fn push_item(words: &mut ArrayVec<u64, ROW>, item: &Item)
     requires { length words.old.items + 10 ≤ 256 }
-    ensures { words.new.items ≡ words.old.items ++ item_words item.now }
+    ensures words { words.new.items ≡ words.old.items ++ item_words item.now }
+    ensures short { IsShortItem item.now }
 {
-    let key = item.key.as_slice();
+    let key = key_bytes(&item.key);
     let count = key.len() as u64;
     match &item.content {
         Content::Value(value) => {
             words.push(count);
             push_text(words, key);
-            push_field(words, value.as_slice());
+            push_field(words, value_bytes(value));
         }
         Content::Child { page, held } => {
             words.push(if *held { count + 256 } else { count });
@@ -136,13 +147,40 @@ fn push_field(words: &mut ArrayVec<u64, ROW>, bytes: &[u8])
 
 fn push_bound(words: &mut ArrayVec<u64, ROW>, bound: Option<&Key>)
     requires { length words.old.items + 5 ≤ 256 }
-    ensures { words.new.items ≡ words.old.items ++ bound_words (option_copied bound.entry) }
+    ensures words { words.new.items ≡ words.old.items ++ bound_words (option_copied bound.entry) }
+    ensures short { IfSome (option_copied bound.entry) IsShort }
 {
     match bound {
         None => push_five(words, 255),
-        Some(key) => push_field(words, key.as_slice()),
+        Some(key) => push_field(words, key_bytes(key)),
     }
 }
+
+/// The bytes of a key, which are few.
+fn key_bytes(key: &Key) -> &[u8]
+    ensures bytes { result.now ≡ key.now }
+    ensures short { IsShort key.now }
+{
+    let bytes = key.as_slice();
+    are_short(bytes);
+    bytes
+}
+
+/// The bytes of a value, which are few.
+fn value_bytes(value: &Value) -> &[u8]
+    ensures bytes { result.now ≡ value.now }
+    ensures short { IsShort value.now }
+{
+    let bytes = value.as_slice();
+    are_short(bytes);
+    bytes
+}
+
+/// At most 32 bytes are a key or a value.
+fn are_short(bytes: &[u8])
+    requires { length bytes.now ≤ 32 }
+    ensures { IsShort bytes.now }
+{}
 
 /// A number, and four words of nothing.
 fn push_five(words: &mut ArrayVec<u64, ROW>, number: u64)

@@ -1,9 +1,12 @@
-use Rattle.std.proofs.Common.{◌≡◌, ◌≤◌, ◌+◌, ◌*◌, ◌++◌, drop, length}
+use Rattle.std.proofs.Common.{◌≡◌, ◌≤◌, ◌+◌, ◌*◌, ◌++◌, drop, length, take}
+use Rattle.std.specs.List.{All}
 use Rattle.record_slots.specs.Spelling.{items_words}
+use Rattle.record_slots.specs.Spells.{IsShortItem}
 use Rattle.record_slots.proofs.write.push_items.Given as goal
 
 abbrev pub invariant-loop-item : goal.invariant-loop-item
 invariant-loop-item l = record {
   written : l.words.items ++ items_words (drop l.item-index l.items) ≡ l.initial.words.items ++ items_words l.items;
   room : length l.words.items + 10 * length (drop l.item-index l.items) ≤ 256;
+  short : All IsShortItem (take l.item-index l.items);
 }
