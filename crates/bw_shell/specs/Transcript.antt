@@ -3,7 +3,7 @@ use Rattle.std.specs.Prelude.{◌≡◌, ℕ, ◌+◌, ◌<◌, suc, zero, ◌�
 use Rattle.bw_model.specs.declared.step.Link.{Link}
 use Rattle.bw_model.specs.Schedules.{drawn, schedule_of}
 use Rattle.chain_search.specs.declared.trace.Turn.TheVariants.{Begin as BeginTurn, Step}
-use Rattle.step_core.specs.Listed.{IsListing}
+use Rattle.listing.specs.Listed.{IsListing}
 use Rattle.step_core.specs.declared.event.Event.{Event}
 use Rattle.step_core.specs.declared.event.Event.TheVariants as event
 use Rattle.shell_lines.specs.Request.{Says, IsShortRequest}

@@ -2,7 +2,7 @@
 
 ghost use Rattle.std.specs.Prelude.{◌≡◌, IfErr, IfOk, OnOk};
 ghost use Rattle.bw_model.specs.Schedules.{schedule_of};
-ghost use Rattle.step_core.specs.Listed.{IsListing};
+ghost use Rattle.listing.specs.Listed.{IsListing};
 ghost use Rattle.bw_shell.specs.Turns.{seen, IsOneMap, TakesTurn, Refuses};
 ghost use Rattle.bw_shell.specs.Transcript.{ComesTo, StepTold, TurnsTold};
 

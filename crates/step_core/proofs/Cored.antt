@@ -1,5 +1,5 @@
 -- What a turn makes of a core.
-use Rattle.std.proofs.Common.{◌≡◌, ◌≢◌, ◌<◌, inl, inr, ℕ, List, [], ◌∷◌, ◌++◌, length, Some, None, Option, Bool, true, false, set, get_or, ltb, arith, refl, sym, ap, subst, ◌∙◌}
+use Rattle.std.proofs.Common.{◌≡◌, ◌≢◌, ◌<◌, inl, inr, ℕ, List, [], ◌∷◌, ◌++◌, length, Some, None, Option, Bool, true, false, set, get_or, ltb, refl, sym, ap, subst, ◌∙◌}
 use Rattle.std.specs.Prelude.{slice_get, is_some, if◌then◌else◌}
 use Rattle.std.specs.Option.{option_map}
 use Rattle.std.proofs.lemmas.Option.{slice_get-map}
@@ -18,17 +18,17 @@ use Rattle.chain_search.specs.Steps.{IsAnswer, memory_after}
 use Rattle.chain_search.specs.Tables.{Table, memory_in}
 use Rattle.chain_search.specs.Trace.{command_of, commands_after, memory_of}
 use Rattle.chain_search.specs.Discipline.{IsAllowed, May}
-use Rattle.chain_search.specs.Knowledge.{Knowledge, begun, finished, knows, knows_after, learn}
+use Rattle.chain_search.specs.Knowledge.{Knowledge, begun, finished, knows, knows_after, learn, nothing}
 use Rattle.tree_law.specs.Direct.{IsDirectState, StaysDirect}
 use Rattle.tree_law.specs.Own.{RowsAreApart}
 use Rattle.tree_law.specs.State.{IsState}
 use Rattle.tree_law.specs.TraceLaws.{AnswersFit, Begins, Grows, Steps}
 use Rattle.chain_search.specs.Recalled.{Recalled, blank, recall, recalls, recalls_after}
-use Rattle.op_machine.specs.Hands.{empty_hand}
-use Rattle.step_core.specs.Actors.{Actor, IsActor, IsReady, IsServedAt, IsWithinAt, command_left, knows_then, running_command, wanted_by, wanted_in}
+use Rattle.actors.specs.Actors.{Actor, IsActor, command_left, idle_actor, knows_then, running_command, wanted_by}
+use Rattle.actors.specs.Spending.{steps_due}
+use Rattle.step_core.specs.Actors.{IsReady, IsServedAt, IsWithinAt, wanted_in}
 use Rattle.step_core.proofs.Lawful.{Asks, asks, is_placed, served_at, within_at}
 use Rattle.step_core.specs.Cores.{IsCore, Pays}
-use Rattle.step_core.specs.Spending.{steps_due}
 use Rattle.step_core.specs.Turns.{Core, Demand, KeepsMore, WantsMemory, busy_of, refused_by, refusal_of}
 use Rattle.step_core.proofs.Replaced.{get_below, get_is, replaced_other, replaced_same, set_cases, set_length}
 
@@ -77,23 +77,14 @@ pays_set limits actors entries entry i new grows each others stays a at e = elim
 
 module _ (limits : Limits) where
   pub core_opens : (table : Table) (actors : List Actor) (entries : List Entry) → table.limits ≡ limits → memory_in table ≡ opening limits → length actors ≡ limits.actors
-      → ((a : ℕ) (at : Actor) → slice_get actors a ≡ Some at → at ≡ record { hand = empty_hand limits; running = None }) → IsState limits [] → IsDirectState limits [] → entries ≡ [] → IsCore limits table actors entries
-  core_opens table actors entries same has count each state direct none = rw none (record {
+      → ((a : ℕ) (at : Actor) → slice_get actors a ≡ Some at → at ≡ idle_actor limits) → ((limits : Limits) (number : ℕ) (r : Recalled) → IsActor limits number nothing r (idle_actor limits)) → IsState limits [] → IsDirectState limits [] → entries ≡ [] → IsCore limits table actors entries
+  core_opens table actors entries same has count each rest state direct none = rw none (record {
     state = state;
     direct = direct;
     same_limits = same;
     has = has;
     count = count;
-    each_shows = λ a at e. rw (each a at e) (record {
-      spares = record {
-        outside = refl;
-        spare = record {
-          room = record { pid = tt; rows = λ row d h. absurd (omega arith); few = omega arith };
-          rest = record { are = record { rows = tt; all_rows = λ row own. absurd own; page = tt; all_pages = λ page own. absurd own }; unset = λ page row ready. cc };
-        };
-      };
-      limbo = record { lists = record { rows = refl; pids = refl }; rows = λ row. tt; pids = λ pid. tt };
-    });
+    each_shows = λ a at e. rw (each a at e) (rest limits a blank);
     each_running = λ a at e. rw (each a at e) refl;
     each_pays = λ a at e. rw (each a at e) (λ operation last own. cc);
   })
@@ -117,7 +108,7 @@ module _ (limits : Limits) where
 
   pub core_asks : RowsAreApart → AnswersFit → (table : Table) (actors : List Actor) (entries : List Entry) (i j : ℕ) (old : Actor) → IsCore limits table actors entries
       → (demand : Demand) (v : Core) → record { limits = limits; entries = entries; demand = demand } ≡ v → refusal_of v (turn.Step i) ≡ None → j ≡ i → old ≡ get_or actors j old
-      → (i < limits.actors) × (j < length actors) × IsReady limits i (knows entries i) (recalls entries i) (memory_in table) old × (is_some (running_command old) ≡ true) × IsWithinAt table i old.running
+      → (i < limits.actors) × (j < length actors) × IsReady limits i (knows entries i) (recalls entries i) (memory_in table) old × (is_some (running_command old) ≡ true) × IsWithinAt table i (wanted_by old.running)
   core_asks apart fit table actors entries i j old core demand v is refusal same at =
       let goes : (i < limits.actors) × (is_some (command_of entries i) ≡ true) = step_goes (record { limits = limits; entries = entries; demand = demand }) i (subst (λ u. refusal_of u (turn.Step i) ≡ None) (sym is) refusal) in
       let lt : i < length actors = rw core.count goes.0 in
@@ -125,7 +116,7 @@ module _ (limits : Limits) where
       let shows = core.each_shows i old found in (
         goes.0,
         rw same lt,
-        (shows, subst (λ m. IsServedAt limits (knows entries i) m old.running) (sym core.has) (served_at limits entries core.state i fit (recalls entries i) old.hand old.running shows)),
+        (shows, subst (λ m. IsServedAt limits (knows entries i) m (wanted_by old.running)) (sym core.has) (served_at limits entries core.state i fit (recalls entries i) old.hand old.running shows)),
         ap is_some (core.each_running i old found) ∙ goes.1,
         within_at limits entries core.state i apart table core.same_limits core.has goes.0 (recalls entries i) old.hand old.running shows,
       )

@@ -17,8 +17,9 @@ use Rattle.op_machine.specs.Hands.{Hand}
 use Rattle.tree_law.specs.Own.{RowsAreApart}
 use Rattle.tree_law.specs.State.{IsState}
 use Rattle.tree_law.specs.TraceLaws.{AnswersFit, HeadsStand}
-use Rattle.step_core.specs.declared.actor.Running.{Running}
-use Rattle.step_core.specs.Actors.{IsActorWith, IsRunning, IsServed, IsServedAt, IsWithinAt}
+use Rattle.actors.specs.declared.actor.Running.{Running}
+use Rattle.actors.specs.Actors.{IsActorWith, IsRunning, wanted_by}
+use Rattle.step_core.specs.Actors.{IsServed, IsServedAt, IsWithinAt}
 
 -- whether a record was placed in the row
 abbrev pub is_placed : Memory → ℕ → Bool
@@ -58,7 +59,7 @@ module _ (limits : Limits) (entries : List Entry) (state : IsState limits entrie
     may_take : (r : Recalled) (hand : Hand) (running : Running) → IsRunning limits a (knows entries a) r hand running → May a (knows entries a) running.wanted
     may_take r hand running at = subst (λ n. May n (knows entries a) running.wanted) at.own_actor at.goes.may.may
 
-    pub served_at : AnswersFit → (r : Recalled) (hand : Hand) (running : Option Running) → IsActorWith limits a (knows entries a) r hand running → IsServedAt limits (knows entries a) m running
+    pub served_at : AnswersFit → (r : Recalled) (hand : Hand) (running : Option Running) → IsActorWith limits a (knows entries a) r hand running → IsServedAt limits (knows entries a) m (wanted_by running)
     served_at fit r hand None at = tt
     served_at fit r hand (Some running) at = served fit running.wanted (may_take r hand running at)
 
@@ -81,6 +82,6 @@ module _ (limits : Limits) (entries : List Entry) (state : IsState limits entrie
       within (ReusePids word bits) h may = rw same h.0
       within (ReuseRows word bits) h may = rw same h.0
 
-      pub within_at : (r : Recalled) (hand : Hand) (running : Option Running) → IsActorWith limits a (knows entries a) r hand running → IsWithinAt table a running
+      pub within_at : (r : Recalled) (hand : Hand) (running : Option Running) → IsActorWith limits a (knows entries a) r hand running → IsWithinAt table a (wanted_by running)
       within_at r hand None at = tt
       within_at r hand (Some running) at = within running.wanted (subst (λ l. IsWithin l running.wanted) at.own_limits at.goes.may.within) (may_take r hand running at)

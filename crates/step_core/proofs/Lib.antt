@@ -1,12 +1,7 @@
-pub mod Chaining
 pub mod Cored
-pub mod Going
 pub mod Lawful
-pub mod LeafPairs
 pub mod Linked
-pub mod Listings
 pub mod Replaced
 pub mod Stopping
-pub mod Walking
-pub mod Spending
+pub mod Taking
 pub mod Reserving

@@ -1,5 +1,6 @@
 -- A function or a list with one value replaced, or a list with one more.
-use Rattle.std.proofs.Common.{◌≡◌, ◌≢◌, ◌<◌, ◌⊎◌, inl, inr, ℕ, zero, suc, List, [], ◌∷◌, ◌++◌, length, Some, set, get_or, eq-eqb, ne_eqb, refl, sym, ap, arith}
+use Rattle.std.proofs.Common.{◌≡◌, ◌≢◌, ◌<◌, ◌⊎◌, inl, inr, ℕ, zero, suc, List, [], ◌∷◌, ◌++◌, length, Some, set, get_or, eq-eqb, ne_eqb, refl, sym, ap, subst, ◌∙◌, arith}
+use Rattle.std.proofs.lemmas.Option.{same_Some}
 use Rattle.std.specs.Prelude.{slice_get}
 use Rattle.deltas.specs.Memory.{replaced_at}
 
@@ -13,6 +14,10 @@ pub get_is : {X : Type 0} (xs : List X) (i : ℕ) (x : X) → i < length xs → 
 get_is [] i x h e = absurd (omega arith)
 get_is (y ∷ xs) zero x h e = ap Some (sym e)
 get_is (y ∷ xs) (suc i) x h e = get_is xs i x (omega arith) e
+
+-- what stands at one place is one
+pub get_same : {X : Type 0} (xs : List X) (i j : ℕ) (x y : X) → i ≡ j → i < length xs → x ≡ get_or xs i x → y ≡ get_or xs j y → x ≡ y
+get_same xs i j x y same h e f = same_Some x y (sym (get_is xs i x h e) ∙ get_is xs i y h (subst (λ k. y ≡ get_or xs k y) (sym same) f))
 
 pub set_cases : {X : Type 0} (xs : List X) (i : ℕ) (x : X) (a : ℕ) (y : X) → slice_get (set xs i x) a ≡ Some y → ((a ≡ i) × (y ≡ x)) ⊎ ((a ≢ i) × (slice_get xs a ≡ Some y))
 set_cases [] i x a y e = cc

@@ -8,8 +8,8 @@ use Rattle.chain_search.specs.Tables.{Table, memory_in}
 use Rattle.chain_search.specs.Trace.{command_of, memory_of}
 use Rattle.tree_law.specs.Direct.{Accounts, IsDirectState}
 use Rattle.tree_law.specs.State.{IsState}
-use Rattle.step_core.specs.Actors.{Actor, IsActor, running_command}
-use Rattle.step_core.specs.Spending.{steps_due}
+use Rattle.actors.specs.Actors.{Actor, IsActor, running_command}
+use Rattle.actors.specs.Spending.{steps_due}
 
 -- Causes pay for the steps that the actor's operation has taken, and for those that it has left.
 abbrev pub Pays : Limits → List Entry → ℕ → Actor → Type 0

@@ -4,7 +4,6 @@
 mod actor;
 mod event;
 mod law;
-mod listing;
 mod log;
 mod machine;
 mod runs;

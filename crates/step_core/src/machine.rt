@@ -1,17 +1,18 @@
 //! The core: all actors over one memory, one turn at a time.
 ghost use Rattle.std.specs.Prelude.{◌≡◌, ◌<◌, ◌≤◌, ◌&&◌, [], length, map, nat_lt, is_some, IfOk, IfErr, OnErr, Some, None};
 ghost use Rattle.chain_search.specs.Trace.{command_of, turn_of};
+ghost use Rattle.listing.specs.Listed.{IsListing};
 ghost use Rattle.op_machine.specs.Linearized.{IsLinearized, IsOrderly};
-ghost use Rattle.step_core.specs.Listed.{IsListing};
 ghost use Rattle.step_core.specs.Turns.{AddsTurn, AddsTurns, StopsAt, WantsMemory, busy_of, refusal_of};
 
-use crate::actor::{Actor, Stepped};
+use crate::actor::{Stepped, prepare, take_step};
 use crate::event::{Event, RunError, Trace};
 use crate::law::{begins_keep_laws, states_are_lawful, steps_keep_laws};
-use crate::listing::pairs_in;
 use crate::log::Log;
+use actors::{Actor, idle_actors_rest};
 use bw_model::{Command, Key, Limits, OpenError, Value};
-use chain_search::{SharedEntry, Table, Turn, side_chain_is_one};
+use chain_search::{SharedEntry, Table, Turn};
+use listing::{add_pairs, pages_are_listed};
 use std::alloc::{AllocError, Allocator, Global};
 use std::marker::Model;
 use tree_law::{entries_grow, leaves_stand, opens, opens_directly};
@@ -57,10 +58,13 @@ impl<A: Allocator + Copy> Core<A> {
     {
         opens();
         opens_directly();
+        idle_actors_rest();
         let memory = Table::<A>::open(alloc, &limits)?;
         let mut actors = Vec::with_capacity(alloc, limits.actors as usize)?;
         for _ in 0..limits.actors {
-            let actor = Actor::<A>::idle(alloc, &limits)?;
+            let Ok(actor) = Actor::<A>::idle(alloc, &limits) else {
+                return Err(AllocError);
+            };
             actors.push(actor)?;
         }
         Ok(Core {
@@ -149,14 +153,14 @@ impl<A: Allocator + Copy> Core<A> {
         entries_grow();
         let number = self.turns();
         let place = &self.actors[usize::from(actor)];
-        let Ok(ready) = place.ready(self.alloc, actor, &self.memory) else {
+        let Ok(ready) = prepare(self.alloc, place, actor, &self.memory) else {
             return Err(RunError::Memory(number));
         };
         if self.trace.reserve().is_err() {
             return Err(RunError::Memory(number));
         }
         let place = &mut self.actors[usize::from(actor)];
-        let stepped = place.step(actor, &self.limits, &mut self.memory, ready);
+        let stepped = take_step(place, actor, &mut self.memory, ready);
         let event = stepped.event(&self.memory);
         let Stepped {
             step,
@@ -238,9 +242,10 @@ impl<A: Allocator> Core<A> {
         ensures err { IfErr result (λ error. error ≡ RunError.Memory (length self.now.entries)) }
     {
         leaves_stand();
-        side_chain_is_one();
-        match pairs_in(alloc, &self.limits, &self.memory) {
-            Ok(pairs) => Ok(pairs),
+        pages_are_listed();
+        let mut pairs = Vec::new(alloc);
+        match add_pairs(&mut pairs, &self.limits, &self.memory) {
+            Ok(()) => Ok(pairs),
             Err(_) => Err(RunError::Memory(self.turns())),
         }
     }

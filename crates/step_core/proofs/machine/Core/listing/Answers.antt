@@ -1,8 +1,16 @@
-use Rattle.step_core.proofs.Listings.{core_lists, leaves_in_place}
+use Rattle.std.proofs.Common.{sym, subst}
+use Rattle.chain_search.specs.Trace.{memory_of}
+use Rattle.listing.specs.Listed.{IsListing}
 use Rattle.step_core.proofs.machine.Core.listing.Goals as goal
 
-pub pairs_in-requires : goal.pairs_in-requires
-pairs_in-requires g c = leaves_in_place _ _ c.leaves_stand.ensures.stand _ _ c.self.invariant
+pub add_pairs-requires-clause-stand : goal.add_pairs-requires-clause-stand
+add_pairs-requires-clause-stand g c =
+    let core = c.self.invariant in
+    (memory_of c.self.inside.limits c.self.inside.trace.entries, sym core.has, c.leaves_stand.ensures.stand _ _ core.state)
 
 pub returns-in-Ok-clause-ok : goal.returns-in-Ok-clause-ok
-returns-in-Ok-clause-ok g c = core_lists _ _ c.leaves_stand.ensures.stand _ _ c.self.invariant c.leaves_stand.ensures.map c.side_chain_is_one.ensures _ _ _ c.self.view_is c.in-Ok.ensures
+returns-in-Ok-clause-ok g c =
+    let core = c.self.invariant in
+    let leaves = c.leaves_stand.ensures.stand _ _ core.state in
+    subst (λ v. IsListing v.limits v.entries c.add_pairs.new.pairs.items) c.self.view_is
+        (c.pages_are_listed.ensures _ _ leaves _ (c.in-Ok.ensures.ok _ (sym core.has) leaves))

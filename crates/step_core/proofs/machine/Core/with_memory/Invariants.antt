@@ -1,10 +1,9 @@
-use Rattle.std.proofs.Common.{◌≡◌, ℕ, None, Some}
+use Rattle.std.proofs.Common.{◌≡◌, ℕ, Some}
 use Rattle.std.specs.Prelude.{slice_get}
 use Rattle.std.specs.Vec.{vec_len}
-use Rattle.op_machine.specs.Hands.{empty_hand}
-use Rattle.step_core.specs.Actors.{Actor}
+use Rattle.actors.specs.Actors.{Actor, idle_actor}
 use Rattle.step_core.proofs.machine.Core.with_memory.Given as goal
 
 abbrev pub invariant-loop : goal.invariant-loop
 invariant-loop g l =
-    (vec_len l.actors ≡ l.counter) × ((a : ℕ) (at : Actor) → slice_get l.actors.items a ≡ Some at → at ≡ record { hand = empty_hand l.limits; running = None })
+    (vec_len l.actors ≡ l.counter) × ((a : ℕ) (at : Actor) → slice_get l.actors.items a ≡ Some at → at ≡ idle_actor l.limits)

@@ -1,0 +1,4 @@
+pub mod Chaining
+pub mod LeafPairs
+pub mod Listings
+pub mod Walking

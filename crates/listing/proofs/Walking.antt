@@ -1,0 +1,97 @@
+-- Going over the leaves from left to right, and what is listed of each.
+use Rattle.std.proofs.Common.{◌≡◌, ◌<◌, ◌+◌, ℕ, List, [], ◌∷◌, ◌++◌, length, Option, Some, None, MatchOption, refl, sym, subst, ap, ◌∙◌, arith, append_assoc}
+use Rattle.std.specs.List.{AllByRecursion}
+use Rattle.std.proofs.lemmas.List.{append-nil, length-append}
+use Rattle.base_page.proofs.ItemLaws.{back_all}
+use Rattle.bw_model.specs.declared.limits.Limits.{Limits}
+use Rattle.deltas.specs.declared.record.Record.{Record}
+use Rattle.deltas.specs.Memory.{Memory}
+use Rattle.chain_search.specs.Chains.{right_in}
+use Rattle.chain_search.specs.SideChain.{IsSideChainFrom, LivePage}
+use Rattle.tree_law.specs.Leaves.{HasLeafPages, IsLeafPage}
+use Rattle.listing.specs.Listed.{HasPage, HavePages, StandsAt}
+
+abbrev pub Pairs : Type 0
+Pairs = List (List ℕ × List ℕ)
+
+-- Of the leaves that stand these pairs are those of the first ones, as many as counted; the others stand from the page on.
+pub record IsPartly (memory : Memory) (pages : List LivePage) (pairs : Pairs) (count pid : ℕ) : Type 0 where
+  pub front : List LivePage
+  pub rest : List LivePage
+  pub whole : pages ≡ front ++ rest
+  pub long : length front ≡ count
+  pub listed : HavePages front pairs
+  pub next : IsSideChainFrom memory pid rest
+
+abbrev pub HasListed : Limits → Memory → Pairs → ℕ → ℕ → Type 0
+HasListed limits memory pairs count pid = (leaves : HasLeafPages limits memory) → IsPartly memory leaves.pages pairs count pid
+
+pub none_listed : (limits : Limits) (memory : Memory) → HasListed limits memory [] 0 1
+none_listed limits memory leaves = record { front = []; rest = leaves.pages; whole = refl; long = refl; listed = refl; next = leaves.leaves }
+
+-- a page more
+listed_one : (chain : List Record) (page : LivePage) (own : Pairs) → page.chain ≡ chain → HasPage chain own → HavePages (page ∷ []) own
+listed_one chain page own same has = (own, [], subst (λ c. HasPage c own) (sym same) has, refl, sym (append-nil own))
+
+listed_more : (front back : List LivePage) (before own : Pairs) → HavePages front before → HavePages back own → HavePages (front ++ back) (before ++ own)
+listed_more [] back before own none has = rw none has
+listed_more (page ∷ front) back before own (first, rest, is, others, all) has = (first, rest ++ own, is, listed_more front back rest own others has, ap (λ p. p ++ own) all ∙ append_assoc first rest own)
+
+-- the leaf that is next, and those to its right
+record IsNext (limits : Limits) (memory : Memory) (pages front : List LivePage) (pid : ℕ) : Type 0 where
+  pub page : LivePage
+  pub later : List LivePage
+  pub whole : pages ≡ front ++ page ∷ later
+  pub below : pid < limits.pids
+  pub stands : StandsAt memory pid page.chain
+  pub right : MatchOption (right_in page.chain) (later ≡ []) (λ right. IsSideChainFrom memory right later)
+
+module _ (limits : Limits) (memory : Memory) (leaves : HasLeafPages limits memory) (pairs : Pairs) (count pid : ℕ) (at : IsPartly memory leaves.pages pairs count pid) where
+  next_leaf : IsNext limits memory leaves.pages at.front pid
+  next_leaf = go at.rest at.whole at.next
+    where
+      go : (rest : List LivePage) → leaves.pages ≡ at.front ++ rest → IsSideChainFrom memory pid rest → IsNext limits memory leaves.pages at.front pid
+      go [] whole next = absurd next
+      go (page ∷ later) whole next =
+          let each : AllByRecursion (IsLeafPage limits memory) (page ∷ later) = back_all (IsLeafPage limits memory) at.front (page ∷ later) (subst (AllByRecursion (IsLeafPage limits memory)) whole leaves.each) in
+          record { page = page; later = later; whole = whole; below = subst (λ p. p < limits.pids) next.0 each.0.pid; stands = record { records = next.1.records; fits = each.0.fits }; right = next.2 }
+
+  -- there is a leaf more
+  pub is_more : count < limits.pids
+  is_more =
+      let next = next_leaf in
+      let long : length leaves.pages ≡ length at.front + length (next.page ∷ next.later) = ap length next.whole ∙ length-append at.front (next.page ∷ next.later) in
+      omega (arith, leaves.few, at.long)
+
+  -- its PID is in range
+  pub leaf_below : pid < limits.pids
+  leaf_below = next_leaf.below
+
+  -- its chain stands
+  pub leaf_at : (chain : List Record) × StandsAt memory pid chain
+  leaf_at = (next_leaf.page.chain, next_leaf.stands)
+
+  module _ (chain : List Record) (is : (stands : List Record) → StandsAt memory pid stands → chain ≡ stands) (own : Pairs) (has : HasPage chain own) where
+    same : next_leaf.page.chain ≡ chain
+    same = sym (is next_leaf.page.chain next_leaf.stands)
+
+    with_own : HavePages (at.front ++ next_leaf.page ∷ []) (pairs ++ own)
+    with_own = listed_more at.front (next_leaf.page ∷ []) pairs own at.listed (listed_one chain next_leaf.page own same has)
+
+    right_is : (right : Option ℕ) → right_in chain ≡ right → MatchOption right (next_leaf.later ≡ []) (λ next. IsSideChainFrom memory next next_leaf.later)
+    right_is right e = subst (λ o. MatchOption o (next_leaf.later ≡ []) (λ next. IsSideChainFrom memory next next_leaf.later)) (ap right_in same ∙ e) next_leaf.right
+
+    -- the next leaf is to the right
+    pub leaf_more : (right : ℕ) → right_in chain ≡ Some right → IsPartly memory leaves.pages (pairs ++ own) (count + 1) right
+    leaf_more right e = record {
+      front = at.front ++ next_leaf.page ∷ [];
+      rest = next_leaf.later;
+      whole = next_leaf.whole ∙ sym (append_assoc at.front (next_leaf.page ∷ []) next_leaf.later);
+      long = length-append at.front (next_leaf.page ∷ []) ∙ ap (λ n. n + 1) at.long;
+      listed = with_own;
+      next = right_is (Some right) e;
+    }
+
+    -- this was the last one
+    pub leaf_last : right_in chain ≡ None → HavePages leaves.pages (pairs ++ own)
+    leaf_last e = rw (next_leaf.whole, right_is None e) with_own

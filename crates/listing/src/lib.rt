@@ -1,0 +1,11 @@
+//! The pairs that stand in a memory, leaf by leaf, whatever keeps the memory.
+#![tactic(auto)]
+
+mod law;
+mod pairs;
+mod rows;
+mod table;
+
+pub use law::pages_are_listed;
+pub use pairs::add_pairs;
+pub use rows::Rows;

@@ -1,0 +1,78 @@
+//! The pairs of the leaves.
+ghost use Rattle.std.specs.Prelude.{◌≡◌, ◌<◌, ◌≤◌, ◌+◌, ◌*◌, ◌++◌, List, [], length, OnErr, OnOk};
+ghost use Rattle.std.specs.Vec.{vec_capacity};
+ghost use Rattle.deltas.specs.Memory.{Memory};
+ghost use Rattle.deltas.specs.declared.record.Record.{Record};
+ghost use Rattle.listing.specs.Listed.{HavePages, StandsAt, pairs_of};
+ghost use Rattle.tree_law.specs.Leaves.{HasLeafPages};
+
+use crate::rows::Rows;
+use base_page::{Content, Items};
+use bw_model::{Key, Limits, Value};
+use chain_search::{Chain, ChainPart};
+use deltas::Record;
+use std::alloc::{AllocError, Allocator};
+
+/// Adds the pairs of the leaves, from left to right, each leaf's in the order of their keys. Refused only where there is no room for
+/// 24 pairs of each page and a growth was refused.
+pub fn add_pairs<M: Rows, B: Allocator>(
+    pairs: &mut Vec<(Key, Value), B>,
+    limits: &Limits,
+    rows: &M,
+) -> Result<(), AllocError>
+    requires empty { pairs.old.items ≡ [] }
+    requires stand { (memory : Memory) × M.has rows.now memory × HasLeafPages limits.now memory }
+    ensures ok { OnOk result ((memory : Memory) → M.has rows.now memory → (leaves : HasLeafPages limits.now memory) → HavePages leaves.pages pairs.new.items) }
+    ensures err { OnErr result (vec_capacity pairs.old < 24 * limits.now.pids) }
+{
+    let mut pid = 1;
+    for _ in 0..limits.pids {
+        let leaf = chain_of(rows, pid);
+        add_values(pairs, leaf.page().items())?;
+        match leaf.right() {
+            Some(right) => pid = right,
+            None => return Ok(()),
+        }
+    }
+    unreachable!()
+}
+
+/// The chain of a page.
+fn chain_of<M: Rows>(rows: &M, pid: u16) -> Chain
+    requires there { pid < 4096 }
+    requires stands { (memory : Memory) × (chain : List Record) × M.has rows.now memory × StandsAt memory pid chain }
+    ensures { (memory : Memory) (chain : List Record) → M.has rows.now memory → StandsAt memory pid chain → result ≡ chain }
+{
+    let mut part = ChainPart::new();
+    let mut row = rows.slot(pid);
+    for _ in 0..13u32 {
+        let older = rows.record(row);
+        match (older.next(), older) {
+            (_, Record::Base(page)) => return part.over(page),
+            (Some(below), delta) => {
+                row = below;
+                part.push(delta);
+            }
+            (None, _) => unreachable!(),
+        }
+    }
+    unreachable!()
+}
+
+/// Adds the values of the items, each with its key.
+fn add_values<B: Allocator>(
+    pairs: &mut Vec<(Key, Value), B>,
+    items: &Items,
+) -> Result<(), AllocError>
+    ensures ok { OnOk result (pairs.new.items ≡ pairs.old.items ++ pairs_of items.now) }
+    ensures count { OnOk result (length pairs.new.items ≤ length pairs.old.items + 24) }
+    ensures capacity { vec_capacity pairs.old ≤ vec_capacity pairs.new }
+    ensures err { OnErr result (vec_capacity pairs.old < length pairs.old.items + 24) }
+{
+    for item in items.as_slice() {
+        if let Content::Value(value) = &item.content {
+            pairs.push((item.key.copied(), value.copied()))?;
+        }
+    }
+    Ok(())
+}

@@ -1,0 +1,24 @@
+//! A table keeps a memory.
+
+use crate::rows::Rows;
+use chain_search::Table;
+use deltas::Record;
+use std::alloc::Allocator;
+
+impl<A: Allocator> Rows for Table<A> {
+    ghost use Rattle.std.specs.Prelude.{◌≡◌};
+    ghost use Rattle.chain_search.specs.Tables.{memory_in};
+
+    ghost has = { λ table memory. memory ≡ memory_in table };
+
+    fn slot(&self, pid: u16) -> u16 {
+        self.slot(pid)
+    }
+
+    fn record(&self, row: u16) -> Record {
+        match self.record(row) {
+            Some(record) => record.copied(),
+            None => unreachable!(),
+        }
+    }
+}

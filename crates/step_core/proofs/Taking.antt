@@ -1,0 +1,91 @@
+-- One step of an actor: what is asked of it, and which step keeps pairs.
+use Rattle.std.proofs.Common.{◌≡◌, ℕ, List, Option, Some, None, is_some, true, inl, inr, sym, ap, ◌∙◌, subst, refl}
+use Rattle.std.proofs.lemmas.Option.{same_Some}
+use Rattle.actors.specs.declared.actor.Running.{Running}
+use Rattle.actors.specs.Actors.{Actor, GoesOn, IsActor, IsActorWith, IsGoing, command_at, running_command, wanted_by}
+use Rattle.bw_model.specs.declared.command.Command.{Command}
+use Rattle.bw_model.specs.declared.command.Command.TheVariants.{Get, Insert, Upsert, Delete, Page, Tidy}
+use Rattle.bw_model.specs.declared.command.Reply.{Reply}
+use Rattle.bw_model.specs.declared.command.Reply.TheVariants as kind
+use Rattle.bw_model.specs.declared.limits.Limits.{Limits}
+use Rattle.bw_model.specs.declared.step.Answer.{Answer}
+use Rattle.bw_model.specs.declared.step.Step.{Step as StepOf}
+use Rattle.bw_model.specs.Replies.{command_key, reply_of}
+use Rattle.deltas.specs.declared.record.Record.{Record}
+use Rattle.deltas.specs.Memory.{Memory}
+use Rattle.chain_search.specs.Discipline.{MayReply, found}
+use Rattle.chain_search.specs.Entries.{ShowsPairs}
+use Rattle.chain_search.specs.Knowledge.{Knowledge}
+use Rattle.chain_search.specs.Recalled.{Recalled}
+use Rattle.chain_search.specs.Steps.{IsAnswer}
+use Rattle.installs.specs.Spares.{Spares}
+use Rattle.op_machine.specs.Hands.{Hand}
+use Rattle.op_machine.specs.Shows.{Stands}
+use Rattle.op_machine.specs.Tasks.{Task}
+use Rattle.op_machine.specs.declared.state.State.{State}
+use Rattle.op_machine.specs.declared.state.State.TheVariants.{Begun, Epoch, Enter, Read, Write, Change, Leave, Over}
+use Rattle.step_core.specs.Actors.{IsPageEnd, IsReady, NeedsRoom}
+
+-- no reply by a key's value is a cursor page
+no_pairs : (c : Command) (o : Option (List ℕ)) (reply : Reply) → reply_of c o ≡ Some reply → ShowsPairs reply → ⊥
+no_pairs (Get key) None reply e h = subst ShowsPairs (sym (same_Some kind.None reply e)) h
+no_pairs (Get key) (Some old) reply e h = subst ShowsPairs (sym (same_Some (kind.Value old) reply e)) h
+no_pairs (Insert key value) None reply e h = subst ShowsPairs (sym (same_Some kind.Inserted reply e)) h
+no_pairs (Insert key value) (Some old) reply e h = subst ShowsPairs (sym (same_Some (kind.Exists old) reply e)) h
+no_pairs (Upsert key value) None reply e h = subst ShowsPairs (sym (same_Some kind.Set reply e)) h
+no_pairs (Upsert key value) (Some old) reply e h = subst ShowsPairs (sym (same_Some (kind.Replaced old) reply e)) h
+no_pairs (Delete key) None reply e h = subst ShowsPairs (sym (same_Some kind.Absent reply e)) h
+no_pairs (Delete key) (Some old) reply e h = subst ShowsPairs (sym (same_Some (kind.Deleted old) reply e)) h
+no_pairs (Page from) o reply e h = cc
+no_pairs (Tidy key) o reply e h = cc
+
+-- a reply with pairs is that of a cursor page
+asks_page : (limits : Limits) (actor : ℕ) (k : Knowledge) (reply : Reply) → MayReply limits actor k reply → ShowsPairs reply → (from : List ℕ) × (k.asked.command ≡ Some (Page from))
+asks_page limits actor k reply may shows = elim may.justified [
+  | inl value ↦ absurd (no_pairs may.command (found value.chain (command_key may.command)) reply value.is shows)
+  | inr (inl page) ↦ (page.from, may.going ∙ ap Some page.asks)
+  | inr (inr (inl tidy)) ↦ absurd (subst ShowsPairs tidy.is shows)
+  | inr (inr (inr full)) ↦ absurd (subst ShowsPairs full.is shows)
+]
+
+-- an operation shows what its actor was asked
+asked_is : (task : Task) (spares : Spares) (k : Knowledge) (r : Recalled) (state : State) → Stands task spares k r state → k.asked.command ≡ Some task.command
+asked_is task spares k r Begun h = h.asked.going
+asked_is task spares k r Epoch h = h.asked.going
+asked_is task spares k r (Enter epoch) h = h.0.asked.going
+asked_is task spares k r (Read round) h = h.seeks.asked.going
+asked_is task spares k r (Write round) h = h.seeks.asked.going
+asked_is task spares k r (Change now then) h = h.asked.going
+asked_is task spares k r (Leave reply) h = h.0.going
+asked_is task spares k r Over h = absurd h
+
+-- an actor with an operation shows that command, and wants a step
+command_shown : (limits : Limits) (number : ℕ) (k : Knowledge) (r : Recalled) (hand : Hand) (running : Option Running) → is_some (command_at running) ≡ true → IsActorWith limits number k r hand running → k.asked.command ≡ command_at running
+command_shown limits number k r hand None some at = cc
+command_shown limits number k r hand (Some running) some at = asked_is running.op.task hand.spares k r running.op.state at.goes.shows.stands
+
+module _ (limits : Limits) (number : ℕ) (k : Knowledge) (r : Recalled) (memory : Memory) (step : StepOf Record) (answer : Answer Record) where
+  -- the answer of the memory fits
+  going_with : (hand : Hand) (o : Option Running) → is_some (command_at o) ≡ true → IsReady limits number k r memory (record { hand = hand; running = o }) → wanted_by o ≡ Some step → IsAnswer memory step answer
+      → (going : IsGoing limits number k r (record { hand = hand; running = o }) answer) × (going.running.wanted ≡ step)
+  going_with hand None some ready is answered = cc
+  going_with hand (Some running) some ready is answered =
+      let same : running.wanted ≡ step = same_Some running.wanted step is in
+      (record { running = running; is = refl; shows = ready.0; fits = ready.1 answer (subst (λ s. IsAnswer memory s answer) (sym same) answered) }, same)
+
+  pub going : (at : Actor) → is_some (running_command at) ≡ true → IsReady limits number k r memory at → wanted_by at.running ≡ Some step → IsAnswer memory step answer → (going : IsGoing limits number k r at answer) × (going.running.wanted ≡ step)
+  going at some ready is answered = going_with at.hand at.running some ready is answered
+
+  -- it goes on by that answer
+  pub goes_by : (at new : Actor) (told : Answer Record) (reply : Option Reply) → is_some (running_command at) ≡ true → IsReady limits number k r memory at → wanted_by at.running ≡ Some step → IsAnswer memory step answer → told ≡ answer
+      → ((going : IsGoing limits number k r at told) → GoesOn limits number k r at going.running.wanted told reply new) → GoesOn limits number k r at step answer reply new
+  goes_by at new told reply some ready is answered same goes =
+      let on = going at some ready is answered in
+      let from : GoesOn limits number k r at on.0.running.wanted answer reply new = subst (λ a. (g : IsGoing limits number k r at a) → GoesOn limits number k r at g.running.wanted a reply new) same goes on.0 in
+      subst (λ asked. GoesOn limits number k r at asked answer reply new) on.1 from
+
+  -- where the reply has pairs, the step ends a cursor page
+  pub needs_room : (at new : Actor) (reply : Reply) → is_some (running_command at) ≡ true → IsActor limits number k r at → wanted_by at.running ≡ Some step → GoesOn limits number k r at step answer (Some reply) new → ShowsPairs reply → NeedsRoom at
+  needs_room at new reply some shows is goes pairs =
+      let page = asks_page limits number k reply goes.allowed.replied.1 pairs in
+      subst (IsPageEnd (running_command at)) (sym is) (record { from = page.0; asks = sym (command_shown limits number k r at.hand at.running some shows) ∙ page.1; leaves = goes.allowed.replied.0 })
