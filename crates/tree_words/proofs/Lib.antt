@@ -1,1 +1,3 @@
 pub mod Opens
+pub mod FreeBits
+pub mod Changed

@@ -1,6 +1,6 @@
 -- The opening words are those of the opening memory.
-use Rattle.std.proofs.Common.{◌≡◌, ◌≢◌, ◌⊎◌, ◌<◌, ◌≤◌, ◌+◌, ◌*◌, ◌/◌, ◌%◌, ◌-◌, ℕ, zero, suc, List, [], ◌∷◌, length, set, get_or, replicate, Bool, true, false, eqb, inl, inr, refl, sym, ap, subst, arith, ◌∙◌, get_or-set_same, get_or-set_other, length-set, ne_eqb, eq-eqb}
-use Rattle.std.specs.Prelude.{Option, Some, None, if◌then◌else◌, nat_le, nat_lt, ◌&&◌}
+use Rattle.std.proofs.Common.{◌≡◌, ◌≢◌, ◌⊎◌, ◌<◌, ◌≤◌, ◌+◌, ◌*◌, ◌/◌, ◌%◌, ℕ, zero, suc, List, length, set, get_or, replicate, Bool, true, false, inl, inr, refl, sym, ap, subst, arith, ◌∙◌, get_or-set_same, get_or-set_other, length-set, ne_eqb}
+use Rattle.std.specs.Prelude.{if◌then◌else◌, nat_le, nat_lt, ◌&&◌}
 use Rattle.std.specs.Int.{bit_at}
 use Rattle.std.proofs.lemmas.Bool.{cases_lt}
 use Rattle.std.proofs.lemmas.Bool.Decides.{nat_tests}
@@ -8,14 +8,13 @@ use Rattle.std.proofs.lemmas.List.{get_or-replicate, length-replicate}
 use Rattle.std.proofs.lemmas.Nat.Bits.{bit_at_mask_below, bit_at_mask_inside, bit_at_ones, bit_at-zero}
 use Rattle.bw_model.specs.declared.limits.Limits.{Limits}
 use Rattle.base_page.specs.Pages.{empty_leaf}
-use Rattle.deltas.specs.declared.record.Record.{Record}
 use Rattle.deltas.specs.declared.record.Record.TheVariants.{Base}
-use Rattle.deltas.specs.Memory.{Memory, opening}
+use Rattle.deltas.specs.Memory.{opening}
 use Rattle.chain_search.specs.Steps.{IsWordOf}
 use Rattle.record_slots.specs.Spelling.{words_of}
-use Rattle.tree_words.specs.Layout.{slot_at, pid_bits_at, row_bits_at, epoch_at, announced_at, row_at, width, IsPad}
+use Rattle.tree_words.specs.Layout.{pid_bits_at, row_bits_at, epoch_at, announced_at, row_at, width}
 use Rattle.tree_words.specs.Opening.{with_ones, with_free, opening_words}
-use Rattle.tree_words.specs.Words.{words_in, SpellsWhere, AreWordsOf}
+use Rattle.tree_words.specs.Words.{words_in, AreWordsOf}
 
 same_or_not : (a b : ℕ) → (a ≡ b) ⊎ (a ≢ b)
 same_or_not a b = elim (cases_lt a b) [

@@ -1,3 +1,4 @@
 pub mod Layout
 pub mod Words
 pub mod Opening
+pub mod Changes

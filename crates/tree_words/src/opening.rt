@@ -7,7 +7,7 @@ ghost use Rattle.tree_words.specs.Words.{AreWordsOf};
 
 use crate::places::{epoch_place, pid_bits_place, row_bits_place, row_place, width};
 use bw_model::Limits;
-use std::alloc::{AllocError, Global};
+use std::alloc::{AllocError, Allocator};
 
 /// The opening words are those of the opening memory.
 pub fn opening_is_spelled()
@@ -15,7 +15,7 @@ pub fn opening_is_spelled()
 {}
 
 /// The words that open a table of these limits.
-pub fn opening_words(alloc: Global, limits: &Limits) -> Result<Vec<u64>, AllocError>
+pub fn opening_words<A: Allocator>(alloc: A, limits: &Limits) -> Result<Vec<u64, A>, AllocError>
     ensures { IfOk result (λ words. words.items ≡ opening_words limits.now) }
 {
     let mut words = vec![in alloc; 0; width(limits)]?;

@@ -1,0 +1,9 @@
+mod Parts
+mod Turns
+mod Acting
+mod ByWord
+mod Gathered
+mod Filled
+mod Roster
+mod Dealt
+mod Left

@@ -1,0 +1,4 @@
+pub mod Running
+pub mod Views
+pub mod Steps
+pub mod Closing

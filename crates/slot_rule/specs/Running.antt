@@ -1,0 +1,92 @@
+-- The rule: what the words of a table and the views of its seats have to do with each other between any two atomic operations.
+use Rattle.std.specs.Prelude.{◌≡◌, ◌≢◌, ℕ, ◌+◌, ◌<◌, ◌≤◌, ◌==◌, if◌then◌else◌, List, [], ◌∷◌, length, slice_index, take, Some, IsTrue, ⊤}
+use mathlib.Core.Option.{some}
+use lib.ListN.{get_elem?}
+use Rattle.atomic_table.specs.Table.{State}
+use Rattle.bw_model.specs.declared.limits.Limits.{Limits}
+use Rattle.deltas.specs.declared.record.Record.{Record}
+use Rattle.chain_search.specs.declared.trace.Entry.{Entry}
+use Rattle.chain_search.specs.Discipline.{IsOwn, IsUnset}
+use Rattle.chain_search.specs.Disciplined.{Extends}
+use Rattle.chain_search.specs.Knowledge.{Knowledge, knows}
+use Rattle.chain_search.specs.Trace.{memory_of}
+use Rattle.record_slots.specs.Spelling.{words_of}
+use Rattle.record_slots.specs.Spells.{IsSpelling}
+use Rattle.tree_words.specs.Layout.{row_at, width}
+use Rattle.tree_words.specs.Words.{words_in, SpellsWhere}
+use Rattle.slot_rule.specs.declared.view.Reach.{Reach}
+use Rattle.slot_rule.specs.declared.view.Reach.TheVariants.{Idle, Reading, Writing}
+use Rattle.slot_rule.specs.declared.view.Part.{Part}
+
+-- it holds of each element
+abbrev pub Each : {A : Type 0} → (A → Type 0) → List A → Type 0
+Each P [] = ⊤
+Each P (x ∷ xs) = P x × Each P xs
+
+-- By what it knows, an actor may read the row; it may place a record there.
+abbrev pub MayRead : Knowledge → ℕ → Type 0
+MayRead k row = IsTrue k.inside × IsTrue (k.read.learnt row)
+
+abbrev pub MayPlace : Knowledge → ℕ → Type 0
+MayPlace k row = IsTrue k.inside × IsOwn (k.own.rows row) × IsUnset k row
+
+-- What the rule asks of the runs that there may be: into a row in which one actor may place a record, no other one may, and nobody
+-- may read it; a row that may be read has a record.
+pub record KeepsRowsApart (limits : Limits) (law : List Entry → Type 0) : Type 0 where
+  pub one_owner : (actor other row : ℕ) (run : List Entry) → law run → MayPlace (knows run actor) row → MayPlace (knows run other) row → actor ≡ other
+  pub unread : (actor other row : ℕ) (run : List Entry) → law run → MayPlace (knows run actor) row → MayRead (knows run other) row → ⊥
+  pub placed : (actor row : ℕ) (run : List Entry) → law run → MayRead (knows run actor) row → (content : Record) × ((memory_of limits run).rows row ≡ Some content)
+
+-- The seat is not in the midst of placing a record into the row.
+abbrev pub LeavesRow : ℕ → Reach → Type 0
+LeavesRow row Idle = ⊤
+LeavesRow row (Reading at words) = ⊤
+LeavesRow row (Writing at words) = at ≢ row
+
+-- no seat is
+abbrev pub IsSettled : List (List Part) → ℕ → Type 0
+IsSettled views row = (id : ℕ) (view : List Part) → get_elem? views id ≡ some view → Each (λ part. LeavesRow row part.reach) view
+
+-- how many parts of the view are the actor's, and how many of all views
+abbrev pub times : ℕ → List Part → ℕ
+times actor [] = 0
+times actor (part ∷ parts) = (if part.actor == actor then 1 else 0) + times actor parts
+
+abbrev pub everywhere : ℕ → List (List Part) → ℕ
+everywhere actor [] = 0
+everywhere actor (view ∷ views) = times actor view + everywhere actor views
+
+-- What was read stands in a row that the actor may read; what was written stands behind the header of a row of its own, into which it
+-- may place a record.
+abbrev pub ReachFits : Limits → List ℕ → List Entry → ℕ → Reach → Type 0
+ReachFits limits words run actor Idle = ⊤
+ReachFits limits words run actor (Reading row read) = MayRead (knows run actor) row × (read ≡ take (length read) (words_in ((memory_of limits run).rows row)))
+ReachFits limits words run actor (Writing row written) = MayPlace (knows run actor) row × (row < limits.rows) × (length written < 256)
+    × ((j : ℕ) → j < length written → slice_index words (row_at row (j + 1)) ≡ slice_index written j)
+
+-- A row of words can spell the record.
+abbrev pub HasSpelling : Record → Type 0
+HasSpelling content = IsSpelling content (words_of content)
+
+-- There is the row, and a row of words can spell the record that stands there.
+pub record IsKept (limits : Limits) (row : ℕ) (content : Record) : Type 0 where
+  pub there : row < limits.rows
+  pub spelling : HasSpelling content
+
+-- The run goes on from what was seen by steps of others alone.
+pub record PartFits (limits : Limits) (words : List ℕ) (run : List Entry) (part : Part) : Type 0 where
+  pub extends : Extends part.actor part.seen run
+  pub reach : ReachFits limits words run part.actor part.reach
+  pub there : part.actor < limits.actors
+  pub own_limits : part.limits ≡ limits
+
+-- There is a longest run, which has the law, and which goes on from what each seat has seen. The words are those of the memory after it,
+-- but for rows into which a seat is in the midst of placing a record. No actor stands in two seats.
+pub record Running (limits : Limits) (law : List Entry → Type 0) (s : State (Unit {0}) (List Part)) : Type 0 where
+  pub run : List Entry
+  pub legal : law run
+  pub wide : length s.words ≡ width limits
+  pub spells : SpellsWhere limits s.words (memory_of limits run) (IsSettled s.views)
+  pub kept : (row : ℕ) (content : Record) → (memory_of limits run).rows row ≡ Some content → IsKept limits row content
+  pub once : (actor : ℕ) → everywhere actor s.views ≤ 1
+  pub each : (id : ℕ) (view : List Part) → get_elem? s.views id ≡ some view → Each (PartFits limits s.words run) view

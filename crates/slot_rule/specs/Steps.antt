@@ -1,0 +1,91 @@
+-- Steps of an actor by its seat: what one is asked, and what it tells.
+use Rattle.std.specs.Prelude.{◌≡◌, ℕ, ◌+◌, List, [], ◌∷◌, ◌++◌, length, Option, None, Some}
+use Rattle.atomic_table.specs.Table.{Step as Made}
+use Rattle.bw_model.specs.declared.command.Command.{Command}
+use Rattle.bw_model.specs.declared.command.Reply.{Reply}
+use Rattle.bw_model.specs.declared.limits.Limits.{Limits}
+use Rattle.bw_model.specs.declared.step.Answer.{Answer}
+use Rattle.bw_model.specs.declared.step.Answer.TheVariants.{Content, Done}
+use Rattle.bw_model.specs.declared.step.Step.{Step as StepOf}
+use Rattle.bw_model.specs.declared.step.Step.TheVariants.{Row}
+use Rattle.deltas.specs.declared.record.Record.{Record}
+use Rattle.chain_search.specs.declared.trace.Entry.{Entry}
+use Rattle.chain_search.specs.declared.trace.Entry.TheVariants.{Begin, Step}
+use Rattle.chain_search.specs.Disciplined.{Extends}
+use Rattle.chain_search.specs.Steps.{IsAnswer}
+use Rattle.chain_search.specs.Trace.{memory_of}
+use Rattle.record_slots.specs.Spells.{IsSpelling}
+use Rattle.tree_words.specs.Changes.{told}
+use Rattle.tree_words.specs.Layout.{row_at}
+use Rattle.slot_rule.specs.declared.view.Reach.{Reach}
+use Rattle.slot_rule.specs.declared.view.Reach.TheVariants.{Idle, Reading, Writing}
+use Rattle.slot_rule.specs.Views.{IsAt, Mine, seen_of}
+
+-- the begin that stands before a step with which an operation begins
+abbrev pub opened : ℕ → Option Command → List Entry
+opened actor None = []
+opened actor (Some command) = Begin actor command ∷ []
+
+-- the run with one more step, and its begin
+abbrev pub with_step : List Entry → ℕ → Option Command → StepOf Record → Answer Record → Option Reply → List Entry
+with_step run actor begun step answer reply = (run ++ opened actor begun) ++ Step actor step answer reply ∷ []
+
+-- The actor may take the step, whatever the others have done since: the run keeps the law.
+abbrev pub MayTake : (Limits → List Entry → Type 0) → Limits → ℕ → List Entry → Option Command → StepOf Record → Option Reply → Type 0
+MayTake law limits actor seen begun step reply = (run : List Entry) (answer : Answer Record) → law limits run → Extends actor seen run → IsAnswer (memory_of limits run) step answer
+    → law limits (with_step run actor begun step answer reply)
+
+-- The actor took the step after the longest run, which goes on from what it had seen by steps of others alone; the answer is what
+-- the memory gave there.
+pub record Took (law : Limits → List Entry → Type 0) (limits : Limits) (actor : ℕ) (seen : List Entry) (begun : Option Command) (step : StepOf Record) (answer : Answer Record) (reply : Option Reply)
+    (later : List Entry) : Type 0 where
+  pub run : List Entry
+  pub legal : law limits run
+  pub extends : Extends actor seen run
+  pub answered : IsAnswer (memory_of limits run) step answer
+  pub grown : later ≡ with_step run actor begun step answer reply
+  pub kept : law limits later
+
+-- The words spell the record that was read.
+abbrev pub ReadsRow : (Limits → List Entry → Type 0) → Limits → ℕ → List Entry → ℕ → List ℕ → List Entry → Type 0
+ReadsRow law limits actor seen row words later = (content : Record) × IsSpelling content words × Took law limits actor seen None (Row row) (Content content) None later
+
+-- What a step tells its seat, which stood there before.
+abbrev pub Event : (Limits → List Entry → Type 0) → Option Command → StepOf Record → Option Reply → Reach → Mine → Answer Record → Mine → Type 0
+Event law begun step reply reach me answer me' = (limits : Limits) (actor : ℕ) → IsAt limits actor reach me
+    → IsAt limits actor Idle me' × Took law limits actor (seen_of me) begun step answer reply (seen_of me')
+
+abbrev pub Acts : (Limits → List Entry → Type 0) → Option Command → StepOf Record → Option Reply → Mine → ℕ → Mine → Type 0
+Acts law begun step reply me found me' = Event law begun step reply Idle me (told step found) me'
+
+-- where a seat stands that has read these words of a row, or has written them behind the header
+abbrev pub in_row : ℕ → List ℕ → Reach
+in_row row [] = Idle
+in_row row (word ∷ words) = Reading row (word ∷ words)
+
+abbrev pub into_row : ℕ → List ℕ → Reach
+into_row row [] = Idle
+into_row row (word ∷ words) = Writing row (word ∷ words)
+
+-- what stands behind the header
+abbrev pub tail_from : List ℕ → List ℕ
+tail_from [] = []
+tail_from (word ∷ words) = words
+
+-- One more word of a row is read, and the last one, which is the step.
+abbrev pub Gathers : Made (Unit {0}) → Mine → ℕ → Mine → Type 0
+Gathers made me found me' = (limits : Limits) (actor row : ℕ) (read : List ℕ) → IsAt limits actor (in_row row read) me → made.word ≡ row_at row (length read)
+    → IsAt limits actor (in_row row (read ++ found ∷ [])) me' × (seen_of me' ≡ seen_of me)
+
+abbrev pub Finishes : (Limits → List Entry → Type 0) → Made (Unit {0}) → Mine → ℕ → Mine → Type 0
+Finishes law made me found me' = (limits : Limits) (actor row : ℕ) (read : List ℕ) → IsAt limits actor (in_row row read) me → made.word ≡ row_at row (length read) → length read ≡ 255
+    → IsAt limits actor Idle me' × ReadsRow law limits actor (seen_of me) row (read ++ found ∷ []) (seen_of me')
+
+-- One more word of a row is written behind the header, and the header, which is the step: it is told with the record.
+abbrev pub Fills : Made (Unit {0}) → Mine → ℕ → Mine → Type 0
+Fills made me found me' = (limits : Limits) (actor row : ℕ) (written : List ℕ) → IsAt limits actor (into_row row written) me → made.word ≡ row_at row (length written + 1)
+    → IsAt limits actor (into_row row (written ++ found ∷ [])) me' × (seen_of me' ≡ seen_of me)
+
+abbrev pub Places : (Limits → List Entry → Type 0) → StepOf Record → Mine → ℕ → Mine → Type 0
+Places law step me found me' = (limits : Limits) (actor row : ℕ) (written : List ℕ) → IsAt limits actor (into_row row written) me
+    → IsAt limits actor Idle me' × Took law limits actor (seen_of me) None step Done None (seen_of me')

@@ -1,0 +1,31 @@
+//! What a seat knows.
+
+use bw_model::Limits;
+use chain_search::Entry;
+use std::collections::LinkedList;
+
+/// Where a seat stands between two atomic operations of one step: in the midst of a row, with the words that it has read there, or
+/// has written behind the header.
+pub enum Reach {
+    /// Between two steps.
+    Idle,
+    /// In the midst of reading this row.
+    Reading(u16, LinkedList<u64>),
+    /// In the midst of placing a record into this row.
+    Writing(u16, LinkedList<u64>),
+}
+
+/// What a seat knows of one actor: the run that was seen, and where the seat stands. No value of it is ever made.
+pub struct Part {
+    /// The limits of the tree.
+    pub limits: Limits,
+    /// The actor's number.
+    pub actor: u8,
+    /// The entries of the run, oldest first.
+    pub seen: LinkedList<Entry>,
+    /// Where the seat stands.
+    pub reach: Reach,
+}
+
+/// A part for each actor of the seat. It has one, and others only while seats are dealt or meet.
+pub type View = LinkedList<Part>;

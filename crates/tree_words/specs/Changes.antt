@@ -1,0 +1,103 @@
+-- The steps that are one atomic operation on a word: which word that is, what it says, and what the step leaves in it.
+use Rattle.std.specs.Prelude.{◌≡◌, ◌<◌, ℕ, ◌+◌, ◌/◌, ◌%◌, ◌^◌, ◌==◌, ⊤, not, if◌then◌else◌, List, length, slice_index, slice_set, bit_and, bit_or}
+use Rattle.std.specs.Int.{bit_not, w64}
+use Rattle.bw_model.specs.declared.limits.Limits.{Limits}
+use Rattle.bw_model.specs.declared.step.Answer.{Answer}
+use Rattle.bw_model.specs.declared.step.Answer.TheVariants.{Number, Whether, Done}
+use Rattle.bw_model.specs.declared.step.Step.{Step}
+use Rattle.bw_model.specs.declared.step.Step.TheVariants.{Slot, Row, Epoch, Announce, PidBits, RowBits, Place, Exchange, TakePid, TakeRow, Enter, Leave, Retire, ReusePids, ReuseRows}
+use Rattle.deltas.specs.declared.record.Record.{Record}
+use Rattle.deltas.specs.Memory.{Memory}
+use Rattle.chain_search.specs.Steps.{IsAnswer, memory_after}
+use Rattle.tree_words.specs.Layout.{slot_at, pid_bits_at, row_bits_at, epoch_at, announced_at, row_at, width}
+use Rattle.tree_words.specs.Words.{SpellsWhere}
+
+-- a step that is one atomic operation on a word, and has one
+abbrev pub HasWord : Step Record → Type 0
+HasWord (Slot pid) = pid < 4096
+HasWord (Row row) = ⊥
+HasWord Epoch = ⊤
+HasWord (Announce actor) = actor < 16
+HasWord (PidBits word) = word < 64
+HasWord (RowBits word) = word < 256
+HasWord (Place row content) = ⊥
+HasWord (Exchange slot old new) = slot < 4096
+HasWord (TakePid pid) = pid < 4096
+HasWord (TakeRow row) = row < 16384
+HasWord (Enter epoch) = ⊤
+HasWord Leave = ⊤
+HasWord (Retire epoch) = epoch < 2 ^ 62
+HasWord (ReusePids word bits) = word < 64
+HasWord (ReuseRows word bits) = word < 256
+
+-- the bits that a step sets are those of one word
+abbrev pub SetsBits : Step Record → Type 0
+SetsBits (ReusePids word bits) = bits < 2 ^ 64
+SetsBits (ReuseRows word bits) = bits < 2 ^ 64
+SetsBits _ = ⊤
+
+-- The place of the word of an actor's step. A record has no one word, but a row of them, from here on.
+abbrev pub word_of : ℕ → Step Record → ℕ
+word_of actor (Slot pid) = slot_at pid
+word_of actor (Row row) = row_at row 0
+word_of actor Epoch = epoch_at
+word_of actor (Announce other) = announced_at other
+word_of actor (PidBits word) = pid_bits_at word
+word_of actor (RowBits word) = row_bits_at word
+word_of actor (Place row content) = row_at row 0
+word_of actor (Exchange slot old new) = slot_at slot
+word_of actor (TakePid pid) = pid_bits_at (pid / 64)
+word_of actor (TakeRow row) = row_bits_at (row / 64)
+word_of actor (Enter epoch) = announced_at actor
+word_of actor Leave = announced_at actor
+word_of actor (Retire epoch) = epoch_at
+word_of actor (ReusePids word bits) = pid_bits_at word
+word_of actor (ReuseRows word bits) = row_bits_at word
+
+-- the number that such a step found in its word, as its answer
+abbrev pub told : Step Record → ℕ → Answer Record
+told (Exchange slot old new) found = Whether (found == old)
+told (TakePid pid) found = Whether (not (bit_and found (2 ^ (pid % 64)) == 0))
+told (TakeRow row) found = Whether (not (bit_and found (2 ^ (row % 64)) == 0))
+told (Retire epoch) found = Whether (found == epoch)
+told (Enter epoch) found = Done
+told Leave found = Done
+told (Place row content) found = Done
+told (ReusePids word bits) found = Done
+told (ReuseRows word bits) found = Done
+told _ found = Number found
+
+-- what the step leaves there
+abbrev pub left_in : Step Record → ℕ → ℕ
+left_in (Exchange slot old new) found = if found == old then new else found
+left_in (TakePid pid) found = bit_and found (bit_not w64 (2 ^ (pid % 64)))
+left_in (TakeRow row) found = bit_and found (bit_not w64 (2 ^ (row % 64)))
+left_in (Enter epoch) found = epoch
+left_in Leave found = 0
+left_in (Retire epoch) found = if found == epoch then epoch + 1 else found
+left_in (ReusePids word bits) found = bit_or found bits
+left_in (ReuseRows word bits) found = bit_or found bits
+left_in _ found = found
+
+-- the words once the step has changed its word
+abbrev pub words_after : ℕ → Step Record → List ℕ → List ℕ
+words_after actor step words = slice_set words (word_of actor step) (left_in step (slice_index words (word_of actor step)))
+
+-- The words are those of the memory, but for the rows.
+abbrev pub SpellsParts : Limits → List ℕ → Memory → Type 0
+SpellsParts limits words memory = SpellsWhere limits words memory (λ row. ⊥)
+
+-- Its word has the memory's answer, and once it is changed, the words are those of the memory after the step. No record is placed.
+pub record ChangesOneWord (limits : Limits) (words : List ℕ) (memory : Memory) (actor : ℕ) (step : Step Record) : Type 0 where
+  pub answers : IsAnswer memory step (told step (slice_index words (word_of actor step)))
+  pub spells : SpellsParts limits (words_after actor step words) (memory_after actor step memory)
+  pub records : (memory_after actor step memory).rows ≡ memory.rows
+
+-- So does each such step, wherever the words are the memory's.
+abbrev pub StepsChangeOneWord : Type 0
+StepsChangeOneWord = (limits : Limits) (words : List ℕ) (memory : Memory) (actor : ℕ) (step : Step Record) → length words ≡ width limits → SpellsParts limits words memory
+    → actor < 16 → HasWord step → SetsBits step → ChangesOneWord limits words memory actor step
+
+-- The words of all of them stand before the rows.
+abbrev pub WordsStandFirst : Type 0
+WordsStandFirst = (actor : ℕ) (step : Step Record) → actor < 16 → HasWord step → word_of actor step < row_at 0 0
