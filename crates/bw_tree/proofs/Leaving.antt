@@ -1,0 +1,47 @@
+-- What a tree leaves that is closed with all its seats.
+use Rattle.std.proofs.Common.{◌≡◌, ◌≤◌, ℕ, zero, suc, List, [], ◌∷◌, length, Some, refl, sym, ap, ◌∙◌, subst, arith}
+use Rattle.std.specs.Prelude.{slice_get}
+use Rattle.atomic_table.specs.Table.{Final, Seen}
+use Rattle.bw_model.specs.declared.limits.Limits.{Limits}
+use Rattle.chain_search.specs.declared.trace.Entry.{Entry}
+use Rattle.chain_search.specs.Disciplined.{Extends}
+use Rattle.chain_search.specs.Trace.{memory_of}
+use Rattle.listing.specs.Listed.{IsListing}
+use Rattle.slot_rule.specs.Closing.{AllStand, AreLeft, LeavesWords}
+use Rattle.slot_rule.specs.declared.view.Part.{Part}
+use Rattle.slot_rule.specs.declared.view.Reach.TheVariants.{Idle}
+use Rattle.slot_rule.specs.Running.{Each, Running}
+use Rattle.slot_rule.specs.Views.{part}
+use Rattle.bw_tree.specs.Closed.{KeepMemory}
+use Rattle.bw_tree.specs.Runs.{IsLawfulRun, IsOneHistory}
+use Rattle.bw_tree.specs.Seats.{Seat}
+use Rattle.bw_tree.specs.Trees.{AreClosed, HasPartsOf}
+
+each_weaker : (P Q : Part → Type 0) → ((p : Part) → P p → Q p) → (parts : List Part) → Each P parts → Each Q parts
+each_weaker P Q f [] each = tt
+each_weaker P Q f (p ∷ parts) each = (f p each.0, each_weaker P Q f parts each.1)
+
+each_get : (P : Part → Type 0) (parts : List Part) (n : ℕ) (p : Part) → Each P parts → slice_get parts n ≡ Some p → P p
+each_get P [] n p each e = cc
+each_get P (q ∷ parts) zero p each e = let same : q ≡ p = cc in subst P same each.0
+each_get P (q ∷ parts) (suc n) p each e = each_get P parts n p each.1 e
+
+module _ (limits key : Limits) (own : key ≡ limits) (spells : (limits : Limits) → LeavesWords limits (IsLawfulRun limits)) (seats : List Seat) (parts : List Part) (id : ℕ) (words : List ℕ) (homes : List (Unit {0}))
+    (many : limits.actors ≤ length seats) (has : HasPartsOf limits seats parts) (final : Final (Seen (Running key (IsLawfulRun key)) id parts) words homes) where
+  all_stand : AllStand limits parts
+  all_stand = record { all = omega (arith, many, has.count); idle = each_weaker _ _ (λ p at. at.0) parts has.idle }
+
+  left : AreLeft limits (IsLawfulRun limits) parts words
+  left = spells limits id parts words homes all_stand (subst (λ (l : Limits). Final (Seen (Running l (IsLawfulRun l)) id parts) words homes) own final)
+
+  pub keeps : (run : List Entry) × IsLawfulRun limits run × KeepMemory words (memory_of limits run)
+  keeps = (left.run, left.legal, record { limits = limits; are = left.are; kept = left.kept })
+
+  pub closes : ((limits : Limits) (run : List Entry) → IsLawfulRun limits run → IsOneHistory limits run) → (pairs : List (List ℕ × List ℕ))
+      → ((run : List Entry) → IsLawfulRun limits run → KeepMemory words (memory_of limits run) → IsListing limits run pairs) → AreClosed limits seats pairs
+  closes history pairs lists = record {
+    run = left.run;
+    history = history limits left.run left.legal;
+    extends = λ n seat at. let (m, there) = has.each n seat at in each_get (λ p. Extends p.actor p.seen left.run) parts m (part limits seat.actor seat.seen Idle) left.extends there;
+    listing = lists left.run left.legal (record { limits = limits; are = left.are; kept = left.kept });
+  }

@@ -1,0 +1,10 @@
+pub mod Seats
+pub mod Advancing
+pub mod Begun
+pub mod Going
+mod Joining
+mod Resting
+mod Meeting
+mod Opened
+mod Kept
+mod Leaving

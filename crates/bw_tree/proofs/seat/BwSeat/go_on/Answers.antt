@@ -1,0 +1,30 @@
+use Rattle.std.proofs.Common.{arith}
+use Rattle.bw_tree.proofs.Going.{busy_still, finished, of_same, same_on, same_self, still_at, still_on, still_self}
+use Rattle.bw_tree.proofs.seat.BwSeat.go_on.Goals as goal
+
+pub loop-init : goal.loop-init
+loop-init g c = record { same = same_self c.args.self.now; still = still_self c.args.self.now }
+
+pub advance-requires-clause-own : goal.advance-requires-clause-own
+advance-requires-clause-own g c = of_same _ _ c.args.self.now c.loop.self c.loop.invariant.same c.requires.own
+
+pub advance-requires-clause-busy : goal.advance-requires-clause-busy
+advance-requires-clause-busy g c = busy_still c.args.self.now c.loop.self c.loop.counter c.loop.invariant.still c.requires.busy
+
+pub returns-in-Some-clause-same : goal.returns-in-Some-clause-same
+returns-in-Some-clause-same g c = same_on _ _ _ c.loop.invariant.same c.in-Some.ensures.same
+
+pub returns-in-Some-clause-goes : goal.returns-in-Some-clause-goes
+returns-in-Some-clause-goes g c = finished c.args.self.now c.loop.self c.loop.counter c.loop.invariant.same c.loop.invariant.still c.advance.new.self c.in-Some.ensures.same c.args.budget c.in-Some.reply c.loop-test.true c.in-Some.ensures.advances
+
+pub loop-preserved : goal.loop-preserved
+loop-preserved g c = record {
+  same = same_on _ _ _ c.loop.invariant.same c.advance.ensures.same;
+  still = still_on c.args.self.now c.loop.self c.loop.counter c.loop.invariant.same c.loop.invariant.still c.advance.new.self c.advance.ensures.same c.advance.result c.in_default.is c.advance.ensures.advances;
+}
+
+pub returns-clause-same : goal.returns-clause-same
+returns-clause-same g c = c.loop.invariant.same
+
+pub returns-clause-goes : goal.returns-clause-goes
+returns-clause-goes g c = still_at c.args.self.now c.loop.self c.loop.counter c.args.budget (let past = c.loop-test.false in let few = c.loop.auto.counter-end in omega arith) c.loop.invariant.still

@@ -1,0 +1,78 @@
+use Rattle.std.proofs.Common.{◌≡◌, List, sym, ap, subst, ◌∙◌}
+use Rattle.bw_model.specs.declared.limits.Limits.{Limits}
+use Rattle.chain_search.specs.declared.trace.Entry.{Entry}
+use Rattle.chain_search.specs.Disciplined.{Extends}
+use Rattle.slot_rule.specs.declared.view.Reach.TheVariants.{Idle}
+use Rattle.slot_rule.specs.Views.{IsAt, Mine, seen_of}
+use Rattle.bw_tree.specs.Runs.{StartsWith}
+use Rattle.bw_tree.specs.Seats.{IsSeat, Seat}
+use Rattle.bw_tree.specs.Trees.{Tree}
+use Rattle.bw_tree.proofs.Meeting.{has_part, left_extends, left_from, left_seat, right_extends, right_from, right_seat}
+use Rattle.bw_tree.proofs.tree.Tree.meet.Goals as goal
+
+pub look-requires-clause-some : goal.look-requires-clause-some
+look-requires-clause-some g c =
+    let tree : c.args.self.now.limits ≡ c.self.inside.limits = sym (ap (λ (t : Tree). t.limits) c.self.view_is) in
+    let same : c.one.inside.limits ≡ c.self.inside.limits = ap (λ (s : Seat). s.limits) c.one.view_is ∙ c.requires.own.limits ∙ tree in
+    let same_other : c.other.inside.limits ≡ c.self.inside.limits = ap (λ (s : Seat). s.limits) c.other.view_is ∙ c.requires.own_other.limits ∙ tree in
+    let moved : c.other.inside.place.me ≡ c.replace-others.result.me = sym (ap (λ place. place.me) c.replace-others.ensures.value) in
+    let at_other : IsAt c.self.inside.limits c.other.inside.number Idle c.replace-others.result.me = subst (IsAt c.self.inside.limits c.other.inside.number Idle) moved (subst (λ (l : Limits). IsAt l c.other.inside.number Idle c.other.inside.place.me) same_other c.other.invariant.place) in
+    has_part c.self.inside.limits c.one.inside.number c.other.inside.number c.one.inside.place.me c.replace-others.result.me c.join.new.seat.me
+    (subst (λ (l : Limits). IsAt l c.one.inside.number Idle c.one.inside.place.me) same c.one.invariant.place) at_other c.join.ensures.both
+
+pub invariant_of-one : goal.invariant_of-one
+invariant_of-one g c =
+    let tree : c.args.self.now.limits ≡ c.self.inside.limits = sym (ap (λ (t : Tree). t.limits) c.self.view_is) in
+    let same : c.one.inside.limits ≡ c.self.inside.limits = ap (λ (s : Seat). s.limits) c.one.view_is ∙ c.requires.own.limits ∙ tree in
+    let same_other : c.other.inside.limits ≡ c.self.inside.limits = ap (λ (s : Seat). s.limits) c.other.view_is ∙ c.requires.own_other.limits ∙ tree in
+    let moved : c.other.inside.place.me ≡ c.replace-others.result.me = sym (ap (λ place. place.me) c.replace-others.ensures.value) in
+    let at_other : IsAt c.self.inside.limits c.other.inside.number Idle c.replace-others.result.me = subst (IsAt c.self.inside.limits c.other.inside.number Idle) moved (subst (λ (l : Limits). IsAt l c.other.inside.number Idle c.other.inside.place.me) same_other c.other.invariant.place) in
+    let seat : IsSeat c.self.inside.limits c.one.inside.number c.one.inside.place.me c.one.inside.actor = subst (λ (l : Limits). IsSeat l c.one.inside.number c.one.inside.place.me c.one.inside.actor) same c.one.invariant in
+    subst (λ (l : Limits). IsSeat l c.one.inside.number c.part.new.seat.me c.one.inside.actor) (sym same)
+    (left_seat c.self.inside.limits c.one.inside.number c.other.inside.number c.one.inside.place.me c.replace-others.result.me c.join.new.seat.me seat.place at_other c.join.ensures.both
+    c.look.new.seat.me c.part.new.seat.me c.part.result.me c.look.ensures.saw c.part.ensures.first c.part.ensures.others c.own_lasts.ensures c.one.inside.actor seat)
+
+pub invariant_of-other : goal.invariant_of-other
+invariant_of-other g c =
+    let tree : c.args.self.now.limits ≡ c.self.inside.limits = sym (ap (λ (t : Tree). t.limits) c.self.view_is) in
+    let same : c.one.inside.limits ≡ c.self.inside.limits = ap (λ (s : Seat). s.limits) c.one.view_is ∙ c.requires.own.limits ∙ tree in
+    let same_other : c.other.inside.limits ≡ c.self.inside.limits = ap (λ (s : Seat). s.limits) c.other.view_is ∙ c.requires.own_other.limits ∙ tree in
+    let moved : c.other.inside.place.me ≡ c.replace-others.result.me = sym (ap (λ place. place.me) c.replace-others.ensures.value) in
+    let seat : IsSeat c.self.inside.limits c.other.inside.number c.replace-others.result.me c.other.inside.actor =
+    subst (λ (m : Mine). IsSeat c.self.inside.limits c.other.inside.number m c.other.inside.actor) moved (subst (λ (l : Limits). IsSeat l c.other.inside.number c.other.inside.place.me c.other.inside.actor) same_other c.other.invariant) in
+    subst (λ (l : Limits). IsSeat l c.other.inside.number c.part.result.me c.other.inside.actor) (sym same_other)
+    (right_seat c.self.inside.limits c.one.inside.number c.other.inside.number c.one.inside.place.me c.replace-others.result.me c.join.new.seat.me
+    (subst (λ (l : Limits). IsAt l c.one.inside.number Idle c.one.inside.place.me) same c.one.invariant.place) seat.place c.join.ensures.both
+    c.look.new.seat.me c.part.new.seat.me c.part.result.me c.look.ensures.saw c.part.ensures.first c.part.ensures.others c.own_lasts.ensures c.other.inside.actor seat)
+
+pub returns-clause-met : goal.returns-clause-met
+returns-clause-met g c =
+    let tree : c.args.self.now.limits ≡ c.self.inside.limits = sym (ap (λ (t : Tree). t.limits) c.self.view_is) in
+    let same : c.one.inside.limits ≡ c.self.inside.limits = ap (λ (s : Seat). s.limits) c.one.view_is ∙ c.requires.own.limits ∙ tree in
+    let same_other : c.other.inside.limits ≡ c.self.inside.limits = ap (λ (s : Seat). s.limits) c.other.view_is ∙ c.requires.own_other.limits ∙ tree in
+    let moved : c.other.inside.place.me ≡ c.replace-others.result.me = sym (ap (λ place. place.me) c.replace-others.ensures.value) in
+    let at : IsAt c.self.inside.limits c.one.inside.number Idle c.one.inside.place.me = subst (λ (l : Limits). IsAt l c.one.inside.number Idle c.one.inside.place.me) same c.one.invariant.place in
+    let at_other : IsAt c.self.inside.limits c.other.inside.number Idle c.replace-others.result.me = subst (IsAt c.self.inside.limits c.other.inside.number Idle) moved (subst (λ (l : Limits). IsAt l c.other.inside.number Idle c.other.inside.place.me) same_other c.other.invariant.place) in
+    let ours : Extends c.one.inside.number (seen_of c.one.inside.place.me) (seen_of c.part.new.seat.me) =
+    left_extends c.self.inside.limits c.one.inside.number c.other.inside.number c.one.inside.place.me c.replace-others.result.me c.join.new.seat.me at at_other c.join.ensures.both
+    c.look.new.seat.me c.part.new.seat.me c.part.result.me c.look.ensures.saw c.part.ensures.first c.part.ensures.others in
+    let theirs : Extends c.other.inside.number (seen_of c.replace-others.result.me) (seen_of c.part.result.me) =
+    right_extends c.self.inside.limits c.one.inside.number c.other.inside.number c.one.inside.place.me c.replace-others.result.me c.join.new.seat.me at at_other c.join.ensures.both
+    c.look.new.seat.me c.part.new.seat.me c.part.result.me c.look.ensures.saw c.part.ensures.first c.part.ensures.others in
+    let ours_there : Extends c.one.inside.number (seen_of c.one.inside.place.me) (seen_of c.part.result.me) =
+    left_from c.self.inside.limits c.one.inside.number c.other.inside.number c.one.inside.place.me c.replace-others.result.me c.join.new.seat.me at at_other c.join.ensures.both
+    c.look.new.seat.me c.part.new.seat.me c.part.result.me c.look.ensures.saw c.part.ensures.first c.part.ensures.others in
+    let theirs_here : Extends c.other.inside.number (seen_of c.replace-others.result.me) (seen_of c.part.new.seat.me) =
+    right_from c.self.inside.limits c.one.inside.number c.other.inside.number c.one.inside.place.me c.replace-others.result.me c.join.new.seat.me at at_other c.join.ensures.both
+    c.look.new.seat.me c.part.new.seat.me c.part.result.me c.look.ensures.saw c.part.ensures.first c.part.ensures.others in
+    let back : seen_of c.replace-others.result.me ≡ seen_of c.other.inside.place.me = ap seen_of (sym moved) in
+    let table = c.part.ensures.same ∙ c.look.ensures.same ∙ c.join.ensures.same ∙ ap (λ (s : Seat). s.table) c.one.view_is in
+    let table_other = c.part.ensures.table ∙ c.look.ensures.same ∙ c.join.ensures.same ∙ ap (λ (s : Seat). s.table) c.one.view_is ∙ c.requires.own.table ∙ sym c.requires.own_other.table in
+    record {
+      same = record { table = table; limits = ap (λ (s : Seat). s.limits) c.one.view_is; actor = ap (λ (s : Seat). s.actor) c.one.view_is };
+      same_other = record { table = table_other; limits = ap (λ (s : Seat). s.limits) c.other.view_is; actor = ap (λ (s : Seat). s.actor) c.other.view_is };
+      extends = subst (λ (s : Seat). Extends s.actor s.seen (seen_of c.part.new.seat.me)) c.one.view_is ours;
+      extends_other = subst (λ (s : Seat). Extends s.actor s.seen (seen_of c.part.result.me)) c.other.view_is (subst (λ (z : List Entry). Extends c.other.inside.number z (seen_of c.part.result.me)) back theirs);
+      from_other = subst (λ (s : Seat). StartsWith (seen_of c.part.new.seat.me) s.seen) c.other.view_is (subst (λ (z : List Entry). StartsWith (seen_of c.part.new.seat.me) z) back (theirs_here.0, theirs_here.1));
+      from_one = subst (λ (s : Seat). StartsWith (seen_of c.part.result.me) s.seen) c.one.view_is (ours_there.0, ours_there.1);
+    }

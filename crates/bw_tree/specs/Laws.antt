@@ -1,0 +1,16 @@
+-- What the law of the tree gives a seat, of runs with steps of others that it has not seen.
+use Rattle.tree_law.specs.Direct.{BeginsDirectly, StepsDirectly}
+use Rattle.tree_law.specs.Own.{OwnLasts}
+use Rattle.tree_law.specs.State.{IsState}
+use Rattle.tree_law.specs.TraceLaws.{AnswersFit, Begins, EntriesGrow, Steps}
+
+-- What an entry changes, and what is an actor's own and outlasts the entries of others; what a step may count on; and that begins and
+-- steps keep a run lawful.
+pub record HaveLaws : Type 0 where
+  pub grow : EntriesGrow
+  pub own : OwnLasts
+  pub fit : AnswersFit
+  pub begins : Begins IsState
+  pub begins_directly : BeginsDirectly
+  pub steps : Steps
+  pub steps_directly : StepsDirectly

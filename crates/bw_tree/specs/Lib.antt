@@ -1,0 +1,7 @@
+pub mod Runs
+pub mod Laws
+pub mod Seats
+pub mod Calls
+pub mod Trees
+pub mod Examples
+pub mod Closed

@@ -1,0 +1,23 @@
+-- The runs of a running tree.
+use Rattle.std.specs.Prelude.{◌≡◌, ◌++◌, List, map}
+use Rattle.bw_model.specs.declared.limits.Limits.{Limits}
+use Rattle.chain_search.specs.declared.trace.Entry.{Entry}
+use Rattle.chain_search.specs.Trace.{turn_of}
+use Rattle.op_machine.specs.Linearized.{IsLinearized, IsOrderly}
+use Rattle.tree_law.specs.Direct.{IsDirectState}
+use Rattle.tree_law.specs.State.{IsState}
+
+-- Each actor obeyed its discipline, by few steps.
+pub record IsLawfulRun (limits : Limits) (run : List Entry) : Type 0 where
+  pub state : IsState limits run
+  pub direct : IsDirectState limits run
+
+-- What the theorem says of a run: its operations took effect one at a time, each at a step of its own, on one ordered map; and what
+-- stands beside it, of pages, levels, steps and freeing.
+pub record IsOneHistory (limits : Limits) (run : List Entry) : Type 0 where
+  pub linearized : IsLinearized limits (map turn_of run) run
+  pub orderly : IsOrderly limits run
+
+-- One run begins another.
+abbrev pub StartsWith : List Entry → List Entry → Type 0
+StartsWith later seen = (rest : List Entry) × (later ≡ seen ++ rest)

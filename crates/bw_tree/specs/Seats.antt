@@ -1,0 +1,46 @@
+-- What a seat of a running tree shows, and what it keeps.
+use Rattle.std.specs.Prelude.{◌≡◌, ◌<◌, ℕ, List, Option}
+use Rattle.atomic_table.specs.Seated.{TableId}
+use Rattle.bw_model.specs.declared.command.Command.{Command}
+use Rattle.bw_model.specs.declared.limits.Limits.{Limits}
+use Rattle.actors.specs.Actors.{Actor, IsActor, running_command}
+use Rattle.actors.specs.Spending.{steps_due}
+use Rattle.chain_search.specs.declared.trace.Entry.{Entry}
+use Rattle.chain_search.specs.Knowledge.{knows}
+use Rattle.chain_search.specs.Recalled.{recalls}
+use Rattle.chain_search.specs.Trace.{command_of}
+use Rattle.slot_rule.specs.declared.view.Reach.TheVariants.{Idle}
+use Rattle.slot_rule.specs.Views.{IsAt, Mine, seen_of}
+use Rattle.tree_law.specs.Direct.{Accounts}
+use Rattle.bw_tree.specs.Runs.{IsLawfulRun}
+
+-- a seat: of which table, of a tree of which limits, for which actor, and the run that it has seen
+pub record Seat : Type 0 where
+  pub table : TableId
+  pub limits : Limits
+  pub actor : ℕ
+  pub seen : List Entry
+
+-- the command that its operation has, if it has one
+abbrev pub command_in : Seat → Option Command
+command_in seat = command_of seat.seen seat.actor
+
+-- What an actor keeps shows what its own entries let it know and recall; it runs what the run says that it has not finished, and
+-- causes pay for the steps that it has taken and those that it has left.
+pub record IsSeated (limits : Limits) (number : ℕ) (seen : List Entry) (at : Actor) : Type 0 where
+  pub lawful : IsLawfulRun limits seen
+  pub shows : IsActor limits number (knows seen number) (recalls seen number) at
+  pub runs : running_command at ≡ command_of seen number
+  pub pays : Accounts limits seen number (steps_due (recalls seen number) at.hand at.running)
+
+-- what a seat keeps between two calls
+pub record IsSeat (limits : Limits) (number : ℕ) (me : Mine) (at : Actor) : Type 0 where
+  pub there : number < limits.actors
+  pub place : IsAt limits number Idle me
+  pub seated : IsSeated limits number (seen_of me) at
+
+-- the same seat, which may have seen more
+pub record IsSame (old new : Seat) : Type 0 where
+  pub table : new.table ≡ old.table
+  pub limits : new.limits ≡ old.limits
+  pub actor : new.actor ≡ old.actor

@@ -1,0 +1,41 @@
+//! What calls answer.
+
+use crate::seat::BwSeat;
+use crate::tree::Tree;
+use bw_model::Reply;
+use std::alloc::Allocator;
+use thiserror::Error;
+
+/// What became of a call.
+#[derive(Clone, Debug, Drop, PartialEq, Eq)]
+pub enum Called {
+    /// The operation is done, with this reply.
+    Done(Reply),
+    /// The budget is spent. The operation stays in the seat: resume it.
+    Spent,
+}
+
+/// Why a tree wasn't closed.
+#[derive(Clone, Copy, Debug, PartialEq, Eq, Error)]
+pub enum CloseRefusal {
+    /// There are fewer seats than actors.
+    #[error("a seat is missing")]
+    Seats,
+    /// A seat has an unfinished operation.
+    #[error("a seat isn't idle")]
+    NotIdle,
+    /// The growth of the list was refused.
+    #[error("no memory for the list")]
+    Memory,
+}
+
+/// A refusal to close, which hands back the tree and its seats.
+#[derive(Drop)]
+pub struct CloseError<A: Allocator> {
+    /// Why.
+    pub refusal: CloseRefusal,
+    /// The tree, as it was.
+    pub tree: Tree<A>,
+    /// The seats, as they were.
+    pub seats: Vec<BwSeat<A>, A>,
+}

@@ -1,0 +1,81 @@
+//! What a closed table has: its words as the slots and rows of a memory, and the pairs in its leaves.
+ghost use Rattle.std.specs.Prelude.{◌≡◌, ◌<◌, ◌≤◌, ◌*◌, ℕ, List, [], length, slice_index};
+ghost use Rattle.std.specs.Vec.{vec_capacity};
+ghost use Rattle.bw_tree.specs.Closed.{AreFull, KeepMemory};
+ghost use Rattle.bw_tree.specs.Runs.{IsLawfulRun};
+ghost use Rattle.chain_search.specs.declared.trace.Entry.{Entry};
+ghost use Rattle.chain_search.specs.Trace.{memory_of};
+ghost use Rattle.listing.specs.Listed.{IsListing};
+ghost use Rattle.tree_words.specs.Layout.{row_at};
+
+use atomic_table::Closed;
+use bw_model::{Key, Limits, Value};
+use deltas::Record;
+use listing::{Rows, add_pairs, pages_are_listed};
+use record_slots::{from_words, rows_have_256_words, spelling_is_one};
+use std::alloc::Allocator;
+use tree_law::leaves_stand;
+use tree_words::{row_place, slot_place};
+
+/// The words of a closed table.
+#[derive(Drop)]
+struct ClosedRows<'a, A: Allocator> {
+    closed: &'a Closed<(), A>,
+}
+
+impl<'a, A: Allocator> Rows for ClosedRows<'a, A> {
+    ghost use Rattle.bw_tree.specs.Closed.{AreFull, KeepMemory};
+
+    ghost has = { λ rows memory. AreFull rows.closed.now.words.filled rows.closed.now.words.len × KeepMemory rows.closed.now.words.items memory };
+
+    fn slot(&self, pid: u16) -> u16 {
+        self.closed.word(slot_place(pid)) as u16
+    }
+
+    fn record(&self, row: u16) -> Record {
+        rows_have_256_words();
+        spelling_is_one();
+        match from_words(&row_of(self.closed, row)) {
+            Ok(record) => record,
+            Err(_) => unreachable!(),
+        }
+    }
+}
+
+/// The words of a row.
+fn row_of<A: Allocator>(closed: &Closed<(), A>, row: u16) -> [u64; 256]
+    requires full { AreFull closed.now.words.filled closed.now.words.len }
+    requires there { row_at row 255 < closed.now.words.len }
+    ensures long { length result ≡ 256 }
+    ensures words { (j : ℕ) → j < 256 → slice_index result j ≡ slice_index closed.now.words.items (row_at row j) }
+{
+    let mut words = [0; 256];
+    let base = row_place(row);
+    for j in 0..256 {
+        words[j] = closed.word(base + j);
+    }
+    words
+}
+
+/// The pairs in the leaves of a closed table, for which there is room.
+pub(crate) fn list<A: Allocator, B: Allocator>(
+    closed: Closed<(), A>,
+    limits: &Limits,
+    pairs: Vec<(Key, Value), B>,
+) -> Vec<(Key, Value), B>
+    requires empty { pairs.items ≡ [] }
+    requires room { 24 * limits.now.pids ≤ vec_capacity pairs }
+    requires slots { closed.slots.len ≡ 0 }
+    requires full { AreFull closed.words.filled closed.words.len }
+    requires left { (run : List Entry) × IsLawfulRun limits.now run × KeepMemory closed.words.items (memory_of limits.now run) }
+    ensures { (run : List Entry) → IsLawfulRun limits.now run → KeepMemory closed.words.items (memory_of limits.now run) → IsListing limits.now run result.items }
+{
+    leaves_stand();
+    pages_are_listed();
+    let mut pairs = pairs;
+    let Ok(()) = add_pairs(&mut pairs, limits, &ClosedRows { closed: &closed }) else {
+        unreachable!()
+    };
+    closed.free();
+    pairs
+}

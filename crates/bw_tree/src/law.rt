@@ -1,0 +1,63 @@
+//! The law of the tree as that of the rule, and what it says of runs.
+ghost use Rattle.std.specs.Prelude.{List, []};
+ghost use Rattle.bw_model.specs.declared.limits.Limits.{Limits};
+ghost use Rattle.bw_tree.specs.Laws.{HaveLaws};
+ghost use Rattle.bw_tree.specs.Runs.{IsLawfulRun, IsOneHistory};
+ghost use Rattle.chain_search.specs.declared.trace.Entry.{Entry};
+ghost use Rattle.slot_rule.specs.Running.{KeepsRowsApart};
+
+use slot_rule::{Law, Words};
+use tree_law::{
+    answers, begins, begins_directly, entries_grow, frees_by_rule, index_is_exact, is_one_map,
+    keeps_phases, opens, opens_directly, own_lasts, rows_are_apart, steps, steps_directly,
+};
+
+/// In each run of the tree each actor obeyed its discipline, by few steps.
+pub struct TreeLaw;
+
+impl Law for TreeLaw {
+    ghost use Rattle.bw_tree.specs.Runs.{IsLawfulRun};
+
+    ghost law = { IsLawfulRun };
+}
+
+/// The words of a tree.
+pub(crate) type TreeWords = Words<TreeLaw>;
+
+/// The empty run is lawful.
+pub(crate) fn empty_run_is_lawful()
+    ensures { (limits : Limits) → IsLawfulRun limits [] }
+{
+    opens();
+    opens_directly();
+}
+
+/// Lawful runs keep the rows of actors apart.
+pub(crate) fn runs_keep_rows_apart()
+    ensures { (limits : Limits) → KeepsRowsApart limits (IsLawfulRun limits) }
+{
+    rows_are_apart();
+}
+
+/// A lawful run is one history.
+pub(crate) fn runs_are_one_history()
+    ensures { (limits : Limits) (run : List Entry) → IsLawfulRun limits run → IsOneHistory limits run }
+{
+    is_one_map();
+    keeps_phases();
+    index_is_exact();
+    frees_by_rule();
+}
+
+/// What a seat counts on: what is an actor's own outlasts the steps of others, and begins and steps keep a run lawful.
+pub(crate) fn laws_of_runs()
+    ensures { HaveLaws }
+{
+    entries_grow();
+    own_lasts();
+    answers();
+    begins();
+    begins_directly();
+    steps();
+    steps_directly();
+}

@@ -1,0 +1,71 @@
+//! A tree is opened.
+ghost use Rattle.std.specs.Prelude.{◌≡◌, IfErr, IfOk};
+ghost use Rattle.bw_tree.specs.Trees.{AreFresh, IsRefusedAt, OpensAt};
+
+use crate::law::{TreeLaw, empty_run_is_lawful};
+use crate::seat::BwSeat;
+use crate::tree::Tree;
+use actors::{Actor, idle_actors_rest};
+use atomic_table::Table;
+use bw_model::{Limits, OpenError};
+use slot_rule::{opening_keeps, part};
+use std::alloc::{AllocError, Allocator};
+use std::mem::replace;
+use tree_words::opening_words;
+
+impl<A: Allocator + Copy> Tree<A> {
+    /// A tree with one leaf, and a seat for each actor, in order; refused for want of memory alone. No later call on a seat takes
+    /// memory.
+    pub fn open(alloc: A, limits: Limits) -> Result<(Tree<A>, Vec<BwSeat<A>, A>), OpenError>
+        ensures limits { IfOk result (λ opened. opened.0.limits ≡ limits) }
+        ensures seats { IfOk result (λ opened. AreFresh opened.0 opened.1.items) }
+        ensures err { IfErr result (λ error. error ≡ OpenError.Memory) }
+    {
+        match Tree::<A>::opened(alloc, limits) {
+            Ok(opened) => Ok(opened),
+            Err(_) => Err(OpenError::Memory),
+        }
+    }
+
+    /// The same with another opening epoch, 1 to 2^62.
+    pub fn open_at(
+        alloc: A,
+        limits: Limits,
+        epoch: u64,
+    ) -> Result<(Tree<A>, Vec<BwSeat<A>, A>), OpenError>
+        ensures limits { IfOk result (λ opened. OpensAt limits epoch opened.0.limits) }
+        ensures seats { IfOk result (λ opened. AreFresh opened.0 opened.1.items) }
+        ensures err { IfErr result (λ error. IsRefusedAt epoch error) }
+    {
+        match Limits::new(limits.actors, limits.pids, limits.rows, epoch) {
+            Ok(limits) => Tree::<A>::open(alloc, limits),
+            Err(_) => Err(OpenError::BadEpoch),
+        }
+    }
+
+    fn opened(alloc: A, limits: Limits) -> Result<(Tree<A>, Vec<BwSeat<A>, A>), AllocError>
+        ensures limits { IfOk result (λ opened. opened.0.limits ≡ limits) }
+        ensures seats { IfOk result (λ opened. AreFresh opened.0 opened.1.items) }
+    {
+        empty_run_is_lawful();
+        opening_keeps::<TreeLaw>();
+        idle_actors_rest();
+        let mut seats = Vec::with_capacity(alloc, limits.actors as usize)?;
+        let words = opening_words(alloc, &limits)?;
+        let (table, mut rest) = Table::of_words(alloc, words.as_slice(), &limits)?;
+        for number in 0..limits.actors as u8 {
+            let others = part(&table.shared, &mut rest, &limits);
+            let place = replace(&mut rest, others);
+            let Ok(actor) = Actor::<A>::idle(alloc, &limits) else {
+                return Err(AllocError);
+            };
+            seats.push(BwSeat {
+                place,
+                limits,
+                number,
+                actor,
+            })?;
+        }
+        Ok((Tree { limits, table }, seats))
+    }
+}

@@ -1,0 +1,120 @@
+//! A seat of a running tree.
+ghost use Rattle.std.specs.Prelude.{◌≡◌, None, IsSome, is_none};
+ghost use Rattle.bw_tree.specs.Calls.{Advances, Begins, IsResumed};
+ghost use Rattle.bw_tree.specs.Runs.{IsOneHistory};
+ghost use Rattle.bw_tree.specs.Seats.{IsSame, command_in};
+ghost use Rattle.slot_rule.specs.Views.{IsOf};
+
+use crate::called::Called;
+use crate::law::{TreeWords, laws_of_runs, runs_are_one_history};
+use crate::taking::take;
+use actors::Actor;
+use bw_model::{Answer, Command, Limits, Reply, Step};
+use slot_rule::{TableSeat, act};
+use std::alloc::{Allocator, Global};
+use std::marker::Model;
+
+/// A seat of a tree: one actor, and the thread that has the seat is the actor.
+#[derive(Drop)]
+pub struct BwSeat<A: Allocator = Global> {
+    pub(crate) place: TableSeat,
+    pub(crate) limits: Limits,
+    pub(crate) number: u8,
+    pub(crate) actor: Actor<A>,
+}
+
+impl<A: Allocator> Model for BwSeat<A> {
+    ghost use Rattle.bw_tree.specs.Seats.{IsSeat, Seat};
+    ghost use Rattle.slot_rule.specs.Views.{seen_of};
+
+    ghost Value = { Seat };
+
+    ghost view = { λ s. record { table = s.place.table_id; limits = s.limits; actor = s.number; seen = seen_of s.place.me } };
+
+    ghost invariant = { λ s. IsSeat s.limits s.number s.place.me s.actor };
+}
+
+impl<A: Allocator> BwSeat<A> {
+    /// Whether it has no unfinished operation.
+    pub fn is_idle(&self) -> bool
+        ensures { result ≡ is_none (command_in self.now) }
+    {
+        !self.actor.is_running()
+    }
+
+    /// What it has seen is one history.
+    pub(crate) fn saw_one_history(&self)
+        ensures { IsOneHistory self.now.limits self.now.seen }
+    {
+        runs_are_one_history();
+        let _ = &self.limits;
+    }
+
+    /// Begins an operation, with its first step.
+    pub(crate) fn begin(&mut self, words: &TreeWords, command: Command)
+        requires own { IsOf self.old.limits words.now.key words.now.table_id self.old.table }
+        requires idle { command_in self.old ≡ None }
+        ensures same { IsSame self.old self.new }
+        ensures begins { Begins self.old command self.new }
+    {
+        laws_of_runs();
+        self.actor.begin(command, self.number, &self.limits);
+        let Some(first) = self.actor.wanted() else {
+            unreachable!()
+        };
+        let answer = act(
+            words,
+            &mut self.place,
+            &self.limits,
+            self.number,
+            first,
+            self.actor.command(),
+            None,
+        );
+        self.actor.take(answer);
+    }
+
+    /// Goes on with its operation for so many steps, or to its end.
+    pub(crate) fn go_on(&mut self, words: &TreeWords, budget: u32) -> Called
+        requires own { IsOf self.old.limits words.now.key words.now.table_id self.old.table }
+        requires busy { IsSome (command_in self.old) }
+        ensures same { IsSame self.old self.new }
+        ensures goes { IsResumed self.old budget result self.new }
+    {
+        for _ in 0..budget {
+            if let Some(reply) = self.advance(words) {
+                return Called::Done(reply);
+            }
+        }
+        Called::Spent
+    }
+
+    /// Takes the one step that its operation wants, and answers the reply, if it is done.
+    fn advance(&mut self, words: &TreeWords) -> Option<Reply>
+        requires own { IsOf self.old.limits words.now.key words.now.table_id self.old.table }
+        requires busy { IsSome (command_in self.old) }
+        ensures same { IsSame self.old self.new }
+        ensures advances { Advances self.old result self.new }
+    {
+        laws_of_runs();
+        if self.actor.is_leaving() {
+            // A leave answers nothing, so the reply is asked for before the store that ends the operation.
+            let reply = self.actor.take(Answer::Done);
+            act(
+                words,
+                &mut self.place,
+                &self.limits,
+                self.number,
+                &Step::Leave,
+                None,
+                reply.as_ref(),
+            );
+            return reply;
+        }
+        let Some(wanted) = self.actor.wanted() else {
+            unreachable!()
+        };
+        let answer = take(words, &mut self.place, &self.limits, self.number, wanted);
+        self.actor.take(answer)
+    }
+}

@@ -1,0 +1,52 @@
+//! One step on the words of the tree.
+ghost use Rattle.std.specs.Prelude.{◌≡◌, ◌<◌, None};
+ghost use Rattle.bw_tree.specs.Runs.{IsLawfulRun};
+ghost use Rattle.chain_search.specs.Discipline.{May};
+ghost use Rattle.chain_search.specs.Knowledge.{knows};
+ghost use Rattle.chain_search.specs.Within.{IsWithin};
+ghost use Rattle.slot_rule.specs.declared.view.Reach.TheVariants.{Idle};
+ghost use Rattle.slot_rule.specs.Steps.{MayTake, Took};
+ghost use Rattle.slot_rule.specs.Views.{IsAt, IsOf, seen_of};
+
+use crate::law::{TreeWords, runs_keep_rows_apart};
+use bw_model::{Answer, Limits, Step};
+use deltas::Record;
+use record_slots::{from_words, spelling_is_one, to_words};
+use slot_rule::{TableSeat, act, place_row, read_row};
+
+/// Takes a step that the seat's actor may take, and answers what the memory does.
+pub(crate) fn take(
+    words: &TreeWords,
+    place: &mut TableSeat,
+    limits: &Limits,
+    number: u8,
+    step: &Step<Record>,
+) -> Answer<Record>
+    requires table { IsOf limits.now words.now.key words.now.table_id place.old.table_id }
+    requires there { number < limits.now.actors }
+    requires within { IsWithin limits.now step.now }
+    requires seat { IsAt limits.now number Idle place.old.me }
+    requires known { May number (knows (seen_of place.old.me) number) step.now }
+    requires may { MayTake IsLawfulRun limits.now number (seen_of place.old.me) None step.now None }
+    ensures same { place.new.table_id ≡ place.old.table_id }
+    ensures seat { IsAt limits.now number Idle place.new.me }
+    ensures took { Took IsLawfulRun limits.now number (seen_of place.old.me) None step.now result None (seen_of place.new.me) }
+{
+    runs_keep_rows_apart();
+    spelling_is_one();
+    match step {
+        Step::Row(row) => {
+            let spelt = read_row(words, place, limits, number, *row);
+            match from_words(&spelt) {
+                Ok(record) => Answer::Content(record),
+                Err(_) => unreachable!(),
+            }
+        }
+        Step::Place(row, record) => {
+            let spelt = to_words(record);
+            place_row(words, place, limits, number, *row, record, &spelt);
+            Answer::Done
+        }
+        _ => act(words, place, limits, number, step, None, None),
+    }
+}

@@ -1,0 +1,83 @@
+//! A running tree.
+ghost use Rattle.std.specs.Prelude.{◌≡◌, ◌≤◌, None, IsSome};
+ghost use Rattle.bw_tree.specs.Calls.{IsCalled, IsResumed};
+ghost use Rattle.bw_tree.specs.Runs.{IsOneHistory};
+ghost use Rattle.bw_tree.specs.Seats.{IsSame, command_in};
+ghost use Rattle.bw_tree.specs.Trees.{HaveMet, IsSeatOf};
+
+use crate::called::Called;
+use crate::law::{TreeLaw, runs_are_one_history};
+use crate::seat::BwSeat;
+use atomic_table::Table;
+use bw_model::{Command, Limits};
+use slot_rule::{Rule, View, blank, join, look, part};
+use std::alloc::{Allocator, Global};
+use std::marker::Model;
+use std::mem::replace;
+use tree_law::own_lasts;
+
+/// A tree that threads share by reference.
+#[derive(Drop)]
+pub struct Tree<A: Allocator = Global> {
+    pub(crate) limits: Limits,
+    pub(crate) table: Table<(), View, Limits, Rule<TreeLaw>, A>,
+}
+
+impl<A: Allocator> Model for Tree<A> {
+    ghost use Rattle.bw_tree.specs.Trees.{IsTree, Tree};
+
+    ghost Value = { Tree };
+
+    ghost view = { λ t. record { limits = t.limits; table = t.table.shared.table_id } };
+
+    ghost invariant = { λ t. IsTree t.limits t.table.shared.key t.table.shared.table_id };
+}
+
+impl<A: Allocator> Tree<A> {
+    /// Runs a command on an idle seat, for at most `budget` steps. It takes no lock and no memory, and waits for nobody. `Spent`
+    /// comes after exactly `budget` steps; the operation stays in the seat, to be resumed.
+    pub fn call(&self, seat: &mut BwSeat<A>, command: Command, budget: u32) -> Called
+        requires own { IsSeatOf self.now seat.old }
+        requires idle { command_in seat.old ≡ None }
+        requires some { 1 ≤ budget }
+        ensures same { IsSame seat.old seat.new }
+        ensures called { IsCalled seat.old command budget result seat.new }
+        ensures history { IsOneHistory seat.new.limits seat.new.seen }
+    {
+        seat.begin(&self.table.shared, command);
+        let called = seat.go_on(&self.table.shared, budget - 1);
+        seat.saw_one_history();
+        called
+    }
+
+    /// Goes on with the operation of a seat, for at most `budget` steps. `Spent` comes after exactly `budget` steps.
+    pub fn resume(&self, seat: &mut BwSeat<A>, budget: u32) -> Called
+        requires own { IsSeatOf self.now seat.old }
+        requires busy { IsSome (command_in seat.old) }
+        requires some { 1 ≤ budget }
+        ensures same { IsSame seat.old seat.new }
+        ensures resumed { IsResumed seat.old budget result seat.new }
+        ensures history { IsOneHistory seat.new.limits seat.new.seen }
+    {
+        let called = seat.go_on(&self.table.shared, budget);
+        seat.saw_one_history();
+        called
+    }
+
+    /// Two seats meet: afterwards each has seen all that the other had seen. No step is taken.
+    pub fn meet(&self, one: &mut BwSeat<A>, other: &mut BwSeat<A>)
+        requires own { IsSeatOf self.now one.old }
+        requires own_other { IsSeatOf self.now other.old }
+        ensures met { HaveMet one.old one.new other.old other.new }
+        ensures history { IsOneHistory one.new.limits one.new.seen }
+        ensures history_other { IsOneHistory other.new.limits other.new.seen }
+    {
+        runs_are_one_history();
+        own_lasts();
+        let words = &self.table.shared;
+        let others = replace(&mut other.place, blank(words));
+        join(words, &mut one.place, others, &self.limits);
+        look(words, &mut one.place, &self.limits);
+        other.place = part(words, &mut one.place, &self.limits);
+    }
+}
