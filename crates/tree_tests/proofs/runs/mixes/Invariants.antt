@@ -1,0 +1,5 @@
+use Rattle.bw_tree.specs.Trees.{IsSeatOf}
+use Rattle.tree_tests.proofs.runs.mixes.Given as goal
+
+abbrev pub invariant-loop-place : goal.invariant-loop-place
+invariant-loop-place l = record { one : IsSeatOf l.tree l.one; other : IsSeatOf l.tree l.other }

@@ -1,0 +1,19 @@
+//! What a running tree is to do, with one thread and with several: tests alone, over its public calls.
+#![tactic(auto)]
+
+#[cfg(test)]
+mod clients;
+#[cfg(test)]
+mod example;
+#[cfg(test)]
+mod numbered;
+#[cfg(test)]
+mod opening;
+#[cfg(test)]
+mod runs;
+#[cfg(test)]
+mod stops;
+#[cfg(test)]
+mod threads;
+#[cfg(test)]
+mod trees;

@@ -1,0 +1,171 @@
+//! What two seats of one tree do, one after the other, and whether each reply is right.
+ghost use Rattle.bw_tree.specs.Trees.{IsSeatOf};
+
+use crate::numbered::{found, get, insert};
+use crate::stops::Stop;
+use bw_model::{Command, Key, Reply, Value};
+use bw_tree::{BwSeat, Called, Tree};
+use tree_clients::{called, reply, resumed};
+
+/// What is done.
+#[derive(Clone, Copy, Debug)]
+pub(crate) enum Run {
+    /// Nothing.
+    Nothing,
+    /// A lookup, one step at a time.
+    Steps,
+    /// Updates, while a lookup stands after its second step.
+    Stays,
+    /// That lookup is done, and one more update.
+    Goes,
+    /// Inserts of one seat, each looked up by it and by the other.
+    Inserts(u32),
+    /// Inserts of both seats, in another order than that of the keys.
+    Mixed,
+    /// Inserts of one seat, between meetings.
+    Meets,
+    /// An operation that is stopped after so many steps, while the other seat goes on.
+    Stopped(Stop, u32),
+}
+
+/// Does it with two seats, and answers whether all replies were right.
+pub(crate) fn is_right(tree: &Tree, one: &mut BwSeat, other: &mut BwSeat, run: Run) -> bool
+    requires one { IsSeatOf tree.now one.old }
+    requires other { IsSeatOf tree.now other.old }
+    ensures one { IsSeatOf tree.now one.new }
+    ensures other { IsSeatOf tree.now other.new }
+{
+    match run {
+        Run::Nothing => true,
+        Run::Steps => steps(tree, one),
+        Run::Stays => stays(tree, one, other),
+        Run::Goes => goes(tree, one, other),
+        Run::Inserts(count) => inserts(tree, one, other, count),
+        Run::Mixed => mixes(tree, one, other),
+        Run::Meets => meets(tree, one, other),
+        Run::Stopped(stop, steps) => stop.is_right(tree, one, other, steps),
+    }
+}
+
+fn key() -> Key {
+    Key::from_slice(b"a").unwrap_or_default()
+}
+
+fn value() -> Value {
+    Value::from_slice(b"x").unwrap_or_default()
+}
+
+/// A lookup on an empty tree takes six steps: it reads the epoch, enters, reads slot 0, slot 1 and row 1, and leaves.
+fn steps(tree: &Tree, seat: &mut BwSeat) -> bool
+    requires own { IsSeatOf tree.now seat.old }
+    ensures own { IsSeatOf tree.now seat.new }
+{
+    let mut last = called(tree, seat, Command::Get(key()), 1);
+    for _ in 0..5u32 {
+        if last != Some(Called::Spent) {
+            return false;
+        }
+        last = resumed(tree, seat, 1);
+    }
+    last == Some(Called::Done(Reply::None))
+}
+
+/// While a lookup stands after its second step, fifty-six updates use all rows, and the next one finds none.
+fn stays(tree: &Tree, writer: &mut BwSeat, reader: &mut BwSeat) -> bool
+    requires one { IsSeatOf tree.now writer.old }
+    requires other { IsSeatOf tree.now reader.old }
+    ensures one { IsSeatOf tree.now writer.new }
+    ensures other { IsSeatOf tree.now reader.new }
+{
+    let stopped = called(tree, reader, Command::Get(key()), 2);
+    for round in 0..57u32 {
+        let wanted = match round {
+            0 => Reply::Set,
+            56 => Reply::Full,
+            _ => Reply::Replaced(value()),
+        };
+        if reply(tree, writer, Command::Upsert(key(), value())) != Some(wanted) {
+            return false;
+        }
+    }
+    stopped == Some(Called::Spent)
+}
+
+/// Once that lookup is done, an update has room again.
+fn goes(tree: &Tree, writer: &mut BwSeat, reader: &mut BwSeat) -> bool
+    requires one { IsSeatOf tree.now writer.old }
+    requires other { IsSeatOf tree.now reader.old }
+    ensures one { IsSeatOf tree.now writer.new }
+    ensures other { IsSeatOf tree.now reader.new }
+{
+    let last = resumed(tree, reader, 4096);
+    let replaced = reply(tree, writer, Command::Upsert(key(), value()));
+    last == Some(Called::Done(Reply::Value(value()))) && replaced == Some(Reply::Replaced(value()))
+}
+
+/// Inserts within 4,096 steps each, so that the page is consolidated at the ninth and split at the seventeenth.
+fn inserts(tree: &Tree, one: &mut BwSeat, other: &mut BwSeat, count: u32) -> bool
+    requires one { IsSeatOf tree.now one.old }
+    requires other { IsSeatOf tree.now other.old }
+    ensures one { IsSeatOf tree.now one.new }
+    ensures other { IsSeatOf tree.now other.new }
+{
+    for number in 0..count {
+        let inserted = called(tree, one, insert(number), 4096);
+        let own = called(tree, one, get(number), 4096);
+        let others = called(tree, other, get(number), 4096);
+        if inserted != Some(Called::Done(Reply::Inserted))
+            || own != Some(Called::Done(found(number)))
+            || others != own
+        {
+            return false;
+        }
+    }
+    true
+}
+
+/// Inserts of 200 keys, every third by the first seat.
+fn mixes(tree: &Tree, one: &mut BwSeat, other: &mut BwSeat) -> bool
+    requires one { IsSeatOf tree.now one.old }
+    requires other { IsSeatOf tree.now other.old }
+    ensures one { IsSeatOf tree.now one.new }
+    ensures other { IsSeatOf tree.now other.new }
+{
+    for place in 0..200u32 {
+        let number = place * 77 % 200;
+        let inserted = if number % 3 == 0 {
+            reply(tree, one, insert(number))
+        } else {
+            reply(tree, other, insert(number))
+        };
+        if inserted != Some(Reply::Inserted) {
+            return false;
+        }
+    }
+    true
+}
+
+/// Seats that meet between operations, and in the midst of one.
+fn meets(tree: &Tree, one: &mut BwSeat, other: &mut BwSeat) -> bool
+    requires one { IsSeatOf tree.now one.old }
+    requires other { IsSeatOf tree.now other.old }
+    ensures one { IsSeatOf tree.now one.new }
+    ensures other { IsSeatOf tree.now other.new }
+{
+    for number in 0..20u32 {
+        let inserted = reply(tree, one, insert(number));
+        let stopped = called(tree, one, get(number), 1 + number % 6);
+        tree.meet(one, other);
+        let others = reply(tree, other, get(number));
+        tree.meet(other, one);
+        let last = resumed(tree, one, 4096);
+        if inserted != Some(Reply::Inserted)
+            || stopped != Some(Called::Spent)
+            || others != Some(found(number))
+            || last != Some(Called::Done(found(number)))
+        {
+            return false;
+        }
+    }
+    true
+}

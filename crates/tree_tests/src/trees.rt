@@ -1,0 +1,169 @@
+//! Trees that are opened, run and closed.
+ghost use Rattle.std.specs.Prelude.{◌≡◌, true};
+ghost use Rattle.bw_tree.specs.Trees.{AreSeatsOf};
+
+use crate::numbered::are_first;
+use crate::runs::{Run, is_right};
+use crate::stops::Stop;
+use bw_model::{Key, Limits, Value};
+use bw_tree::{BwSeat, CloseRefusal, Tree};
+use linked_list_allocator::LocalHeap;
+use std::alloc::Global;
+use std::test::Fail;
+use tree_clients::{give_seat, opened, take_seat};
+
+/// Takes the last two seats of a list, does it, and gives them back, the first one last.
+fn runs(tree: &Tree, seats: &mut Vec<BwSeat>, run: Run) -> bool
+    requires own { AreSeatsOf tree.now seats.old.items }
+    ensures own { result ≡ true → AreSeatsOf tree.now seats.new.items }
+{
+    let Some(mut other) = take_seat(tree, seats) else {
+        return false;
+    };
+    let Some(mut one) = take_seat(tree, seats) else {
+        return false;
+    };
+    is_right(tree, &mut one, &mut other, run)
+        && give_seat(tree, seats, one).is_ok()
+        && give_seat(tree, seats, other).is_ok()
+}
+
+/// The pairs of a tree of two actors that is closed after the run; none where a reply was wrong.
+fn pairs_after(alloc: Global, limits: Limits, run: Run) -> Option<Vec<(Key, Value)>> {
+    let Ok((tree, mut seats)) = opened(alloc, limits) else {
+        return None;
+    };
+    if !runs(&tree, &mut seats, run) {
+        return None;
+    }
+    tree.close(alloc, seats).ok()
+}
+
+/// Why a tree isn't closed after the first run, on a heap with room for nothing, and its pairs once it is closed after the second one.
+fn closed_later(
+    alloc: Global,
+    heap: &LocalHeap,
+    first: Run,
+    second: Run,
+) -> Option<(CloseRefusal, Vec<(Key, Value)>)> {
+    let limits = Limits::new(2, 64, 64, 1).ok()?;
+    let Ok((tree, mut seats)) = opened(alloc, limits) else {
+        return None;
+    };
+    if !runs(&tree, &mut seats, first) {
+        return None;
+    }
+    let refused = tree.close(heap, seats).err()?;
+    let (refusal, tree, mut seats) = (refused.refusal, refused.tree, refused.seats);
+    if !runs(&tree, &mut seats, second) {
+        return None;
+    }
+    let pairs = tree.close(alloc, seats).ok()?;
+    Some((refusal, pairs))
+}
+
+/// Why a tree isn't closed without one of its seats, where another one isn't idle, and how many seats come back.
+fn closed_without(alloc: Global, heap: &LocalHeap) -> Option<(CloseRefusal, usize)> {
+    let limits = Limits::new(2, 64, 64, 1).ok()?;
+    let Ok((tree, mut seats)) = opened(alloc, limits) else {
+        return None;
+    };
+    if !runs(&tree, &mut seats, Run::Stays) {
+        return None;
+    }
+    let reader = take_seat(&tree, &mut seats)?;
+    take_seat(&tree, &mut seats)?;
+    give_seat(&tree, &mut seats, reader).ok()?;
+    let refused = tree.close(heap, seats).err()?;
+    Some((refused.refusal, refused.seats.len()))
+}
+
+/// Whether the tree has the first keys after the run, and no others.
+fn lists_first(alloc: Global, limits: Limits, run: Run, count: u32) -> bool {
+    match pairs_after(alloc, limits, run) {
+        Some(pairs) => are_first(pairs.as_slice(), count),
+        None => false,
+    }
+}
+
+#[test]
+fn one_step_at_a_time(rt: HostRuntime) -> Result<(), Fail> {
+    assert!(rt; lists_first(rt.alloc(), Limits::new(2, 64, 64, 1)?, Run::Steps, 0));
+    Ok(())
+}
+
+#[test]
+fn each_call_is_done_within_its_budget(rt: HostRuntime) -> Result<(), Fail> {
+    assert!(rt;
+        lists_first(
+            rt.alloc(),
+            Limits::new(2, 64, 256, 1)?,
+            Run::Inserts(40),
+            40
+        )
+    );
+    Ok(())
+}
+
+#[test]
+fn all_pairs_are_listed(rt: HostRuntime) -> Result<(), Fail> {
+    assert!(rt; lists_first(rt.alloc(), Limits::new(2, 256, 1024, 1)?, Run::Mixed, 200));
+    Ok(())
+}
+
+#[test]
+fn seats_meet(rt: HostRuntime) -> Result<(), Fail> {
+    assert!(rt; lists_first(rt.alloc(), Limits::new(2, 64, 256, 1)?, Run::Meets, 20));
+    Ok(())
+}
+
+// A seat whose operation is unfinished holds up closing, but no other seat.
+#[test]
+fn a_seat_that_stays_keeps_rows(rt: HostRuntime) -> Result<(), Fail> {
+    let heap = LocalHeap::new(rt.alloc(), 64)?;
+    let closed = closed_later(rt.alloc(), &heap, Run::Stays, Run::Goes);
+    let pair = (Key::from_slice(b"a")?, Value::from_slice(b"x")?);
+    let Some((refusal, pairs)) = closed else {
+        assert!(rt; false);
+        return Ok(());
+    };
+    assert!(rt; refusal == CloseRefusal::NotIdle);
+    assert!(rt; pairs.as_slice() == [pair].as_slice());
+    Ok(())
+}
+
+// A seat that is kept back is missed before it isn't idle, and that before memory.
+#[test]
+fn refusals_come_in_order(rt: HostRuntime) -> Result<(), Fail> {
+    let heap = LocalHeap::new(rt.alloc(), 64)?;
+    assert!(rt; closed_without(rt.alloc(), &heap) == Some((CloseRefusal::Seats, 1)));
+    let closed = closed_later(rt.alloc(), &heap, Run::Inserts(3), Run::Nothing);
+    let Some((refusal, pairs)) = closed else {
+        assert!(rt; false);
+        return Ok(());
+    };
+    assert!(rt; refusal == CloseRefusal::Memory);
+    assert!(rt; are_first(pairs.as_slice(), 3));
+    Ok(())
+}
+
+/// Whether all replies are right wherever the operation is stopped.
+fn stops_anywhere(alloc: Global, stop: Stop) -> bool {
+    for steps in 1..stop.most_steps() {
+        let Ok(limits) = Limits::new(2, 64, 256, 1) else {
+            return false;
+        };
+        if pairs_after(alloc, limits, Run::Stopped(stop, steps)).is_none() {
+            return false;
+        }
+    }
+    true
+}
+
+#[test]
+fn operations_are_stopped(rt: HostRuntime) -> Result<(), Fail> {
+    for stop in [Stop::Splits, Stop::Frees, Stop::Removes] {
+        assert!(rt; stops_anywhere(rt.alloc(), stop));
+    }
+    Ok(())
+}
