@@ -13,4 +13,4 @@ returns-in-Ok-clause-ok g c =
     let core = c.self.invariant in
     let leaves = c.leaves_stand.ensures.stand _ _ core.state in
     subst (λ v. IsListing v.limits v.entries c.add_pairs.new.pairs.items) c.self.view_is
-        (c.pages_are_listed.ensures _ _ leaves _ (c.in-Ok.ensures.ok _ (sym core.has) leaves))
+    (c.pages_are_listed.ensures _ _ leaves _ (c.in-Ok.ensures.ok _ (sym core.has) leaves))
