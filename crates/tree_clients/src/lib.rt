@@ -1,8 +1,10 @@
-//! Seats at hand, for tests of a running tree: lists of them, and commands that run to their end.
+//! Seats at hand, commands that run to their end, and threads over one tree, for its tests and for its benchmark.
 #![tactic(auto)]
 
 mod replies;
 mod seats;
+mod threads;
 
 pub use replies::{called, first_reply, reply, resumed};
 pub use seats::{give_seat, opened, take_seat};
+pub use threads::{Work, work_in_threads};

@@ -1,5 +1,5 @@
 //! Lists of a tree's seats.
-ghost use Rattle.std.specs.Prelude.{IfOk, IfSome, OnOk};
+ghost use Rattle.std.specs.Prelude.{◌≡◌, ◌+◌, IfOk, IfSome, OnOk, OnSome, vec_len};
 ghost use Rattle.bw_tree.specs.Trees.{AreSeatsOf, IsSeatOf};
 
 use bw_model::{Limits, OpenError};
@@ -18,6 +18,7 @@ pub fn take_seat(tree: &Tree, seats: &mut Vec<BwSeat>) -> Option<BwSeat>
     requires own { AreSeatsOf tree.now seats.old.items }
     ensures left { AreSeatsOf tree.now seats.new.items }
     ensures taken { IfSome result (IsSeatOf tree.now) }
+    ensures count { OnSome result (vec_len seats.new + 1 ≡ vec_len seats.old) }
 {
     let _ = tree;
     seats.pop()
@@ -27,7 +28,8 @@ pub fn take_seat(tree: &Tree, seats: &mut Vec<BwSeat>) -> Option<BwSeat>
 pub fn give_seat(tree: &Tree, seats: &mut Vec<BwSeat>, seat: BwSeat) -> Result<(), AllocError>
     requires own { AreSeatsOf tree.now seats.old.items }
     requires given { IsSeatOf tree.now seat }
-    ensures { OnOk result (AreSeatsOf tree.now seats.new.items) }
+    ensures own { OnOk result (AreSeatsOf tree.now seats.new.items) }
+    ensures count { OnOk result (vec_len seats.new ≡ vec_len seats.old + 1) }
 {
     let _ = tree;
     seats.push(seat)?;

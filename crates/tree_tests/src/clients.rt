@@ -1,11 +1,9 @@
 //! A client of one seat, which draws commands and knows the values of its own keys: nobody else changes these, so each reply on them is
 //! known beforehand. All clients change the shared keys.
-ghost use Rattle.bw_tree.specs.Trees.{IsSeatOf};
-
 use crate::numbered::{key, value};
 use bw_model::{Command, Reply};
 use bw_tree::{BwSeat, Tree};
-use tree_clients::reply;
+use tree_clients::{Work, reply};
 
 /// How many keys each client has of its own, and how many all share.
 pub(crate) const OWN: u32 = 16;
@@ -16,9 +14,10 @@ const SHARED: u32 = 24;
 const FIRST_SHARED: u32 = 4 * OWN;
 
 /// What a client knows of its own keys: the number of each one's value, or 0 where it has none; and how many replies were wrong.
-#[derive(Clone, Copy, Debug)]
+#[derive(Clone, Copy, Debug, Drop)]
 pub(crate) struct Client {
     number: u32,
+    rounds: u32,
     values: [u32; 16],
     pub(crate) wrong: u32,
 }
@@ -40,9 +39,11 @@ fn command(kind: u32, number: u32, new: u32) -> Command {
 }
 
 impl Client {
-    pub(crate) fn new(number: u32) -> Client {
+    /// A client that is to run so many commands.
+    pub(crate) fn new(number: u32, rounds: u32) -> Client {
         Client {
             number,
+            rounds,
             values: [0; 16],
             wrong: 0,
         }
@@ -78,14 +79,13 @@ impl Client {
         }
         *reply == wanted
     }
+}
 
-    /// Runs so many commands, every second one on an own key.
-    pub(crate) fn run(&mut self, tree: &Tree, seat: &mut BwSeat, rounds: u32)
-        requires own { IsSeatOf tree.now seat.old }
-        ensures own { IsSeatOf tree.now seat.new }
-    {
+impl Work for Client {
+    /// Runs its commands, every second one on an own key.
+    fn work(&mut self, tree: &Tree, seat: &mut BwSeat) {
         let mut drawn = self.number;
-        for round in 0..rounds {
+        for round in 0..self.rounds {
             drawn = next(drawn);
             let (kind, new) = (drawn >> 8, 1 + (drawn >> 20) % 4000);
             let place = (drawn >> 16) % OWN;

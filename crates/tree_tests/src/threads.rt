@@ -1,6 +1,5 @@
 //! Threads over one tree, each with a seat of its own.
-ghost use Rattle.std.specs.Prelude.{◌≡◌, IfSome, IsSome, true};
-ghost use Rattle.bw_tree.specs.Trees.{AreSeatsOf, IsSeatOf};
+ghost use Rattle.bw_tree.specs.Trees.{IsSeatOf};
 
 use crate::clients::{Client, OWN};
 use crate::numbered::{are_first, found, get, insert, key, value};
@@ -8,113 +7,49 @@ use bw_model::{Key, Limits, Reply, Value};
 use bw_tree::{BwSeat, Tree};
 use std::alloc::Global;
 use std::test::Fail;
-use std::thread::{Threads, join};
-use tree_clients::{give_seat, opened, reply, take_seat};
+use std::thread::Threads;
+use tree_clients::{Work, opened, reply, work_in_threads};
 
-/// Inserts the keys from a number on, each followed by a lookup of it, and counts the replies that are right.
-fn insert_and_get(tree: &Tree, seat: &mut BwSeat, from: u32, count: u32) -> u32
-    requires own { IsSeatOf tree.now seat.old }
-    ensures own { IsSeatOf tree.now seat.new }
-{
-    let mut right = 0u32;
-    for place in 0..count {
-        let number = from.wrapping_add(place);
-        if reply(tree, seat, insert(number)) == Some(Reply::Inserted) {
-            right = right.saturating_add(1);
+/// Inserts 1,000 keys from a number on, each followed by a lookup of it, and counts the replies that are right.
+#[derive(Drop)]
+struct Inserts {
+    from: u32,
+    right: u32,
+}
+
+impl Inserts {
+    fn new(from: u32) -> Inserts {
+        Inserts { from, right: 0 }
+    }
+}
+
+impl Work for Inserts {
+    fn work(&mut self, tree: &Tree, seat: &mut BwSeat) {
+        for place in 0..1000u32 {
+            let number = self.from.wrapping_add(place);
+            if reply(tree, seat, insert(number)) == Some(Reply::Inserted) {
+                self.right = self.right.saturating_add(1);
+            }
+            if reply(tree, seat, get(number)) == Some(found(number)) {
+                self.right = self.right.saturating_add(1);
+            }
         }
-        if reply(tree, seat, get(number)) == Some(found(number)) {
-            right = right.saturating_add(1);
-        }
-    }
-    right
-}
-
-/// Takes the last two seats of a list.
-fn take_two(tree: &Tree, seats: &mut Vec<BwSeat>) -> Option<(BwSeat, BwSeat)>
-    requires own { AreSeatsOf tree.now seats.old.items }
-    ensures left { AreSeatsOf tree.now seats.new.items }
-    ensures one { IfSome result (λ taken. IsSeatOf tree.now taken.0) }
-    ensures other { IfSome result (λ taken. IsSeatOf tree.now taken.1) }
-{
-    let one = take_seat(tree, seats)?;
-    match take_seat(tree, seats) {
-        Some(other) => Some((one, other)),
-        None => None,
     }
 }
 
-/// Gives two seats back, and answers whether there was room.
-fn give_two(tree: &Tree, seats: &mut Vec<BwSeat>, one: BwSeat, other: BwSeat) -> bool
-    requires own { AreSeatsOf tree.now seats.old.items }
-    requires one { IsSeatOf tree.now one }
-    requires other { IsSeatOf tree.now other }
-    ensures { result ≡ true → AreSeatsOf tree.now seats.new.items }
-{
-    match give_seat(tree, seats, one) {
-        Ok(()) => give_seat(tree, seats, other).is_ok(),
-        Err(_) => false,
-    }
-}
-
-/// Inserts and looks up 1,000 keys in each of two threads, and counts the replies that are right.
-fn insert_by_two<R: Threads + Sync>(
-    rt: &R,
-    tree: &Tree,
-    one: BwSeat,
-    other: BwSeat,
-) -> ((BwSeat, u32), (BwSeat, u32))
-    requires one { IsSeatOf tree.now one }
-    requires other { IsSeatOf tree.now other }
-    ensures one { IsSeatOf tree.now result.0.0 }
-    ensures other { IsSeatOf tree.now result.1.0 }
-{
-    let mut one = one;
-    let mut other = other;
-    join(
-        rt,
-        || -> (BwSeat, u32)
-            requires { IsSeatOf tree.now one }
-            ensures { IsSeatOf tree.entry.now result.0 }
-        {
-            let right = insert_and_get(tree, &mut one, 0, 1000);
-            (one, right)
-        },
-        || -> (BwSeat, u32)
-            requires { IsSeatOf tree.now other }
-            ensures { IsSeatOf tree.entry.now result.0 }
-        {
-            let right = insert_and_get(tree, &mut other, 1000, 1000);
-            (other, right)
-        },
-    )
-}
-
-/// How many replies of two threads are right on a tree; none where a seat is missing.
-fn count_of_two<R: Threads + Sync>(rt: &R, tree: &Tree, seats: &mut Vec<BwSeat>) -> Option<u32>
-    requires own { AreSeatsOf tree.now seats.old.items }
-    ensures own { IsSome result → AreSeatsOf tree.now seats.new.items }
-{
-    let (one, other) = take_two(tree, seats)?;
-    let ((one, right), (other, others)) = insert_by_two(rt, tree, one, other);
-    if give_two(tree, seats, one, other) {
-        Some(right.saturating_add(others))
-    } else {
-        None
-    }
-}
-
-/// How many replies of two threads were right, and the pairs of their tree.
-fn inserted_by_two<R: Threads + Sync>(
+/// The works once they are done on a new tree, all at once, and its pairs.
+fn done_at_once<R: Threads + Sync, W: Work>(
     rt: &R,
     alloc: Global,
     limits: Limits,
-) -> Option<(u32, Vec<(Key, Value)>)> {
+    works: Vec<W>,
+) -> Option<(Vec<W>, Vec<(Key, Value)>)> {
     let Ok((tree, mut seats)) = opened(alloc, limits) else {
         return None;
     };
-    let right = count_of_two(rt, &tree, &mut seats)?;
+    let done = work_in_threads(rt, &tree, &mut seats, works)?;
     match tree.close(alloc, seats) {
-        Ok(pairs) => Some((right, pairs)),
+        Ok(pairs) => Some((done, pairs)),
         Err(_) => None,
     }
 }
@@ -122,100 +57,16 @@ fn inserted_by_two<R: Threads + Sync>(
 #[test]
 fn two_threads_insert(rt: HostRuntime) -> Result<(), Fail> {
     let limits = Limits::new(2, 4096, 16384, 1)?;
-    let Some((right, pairs)) = inserted_by_two(&rt, rt.alloc(), limits) else {
+    let works = vec![in rt.alloc(); Inserts::new(0), Inserts::new(1000)]?;
+    let Some((works, pairs)) = done_at_once(&rt, rt.alloc(), limits, works) else {
         assert!(rt; false);
         return Ok(());
     };
-    assert_eq!(rt; right, 4000);
+    for work in works.as_slice() {
+        assert_eq!(rt; work.right, 2000);
+    }
     assert!(rt; are_first(pairs.as_slice(), 2000));
     Ok(())
-}
-
-/// Runs two clients, each in a thread of its own.
-fn run_two<R: Threads + Sync>(
-    rt: &R,
-    tree: &Tree,
-    one: BwSeat,
-    other: BwSeat,
-    first: u32,
-    rounds: u32,
-) -> ((BwSeat, Client), (BwSeat, Client))
-    requires one { IsSeatOf tree.now one }
-    requires other { IsSeatOf tree.now other }
-    ensures one { IsSeatOf tree.now result.0.0 }
-    ensures other { IsSeatOf tree.now result.1.0 }
-{
-    let mut one = one;
-    let mut other = other;
-    join(
-        rt,
-        || -> (BwSeat, Client)
-            requires { IsSeatOf tree.now one }
-            ensures { IsSeatOf tree.entry.now result.0 }
-        {
-            let mut client = Client::new(first);
-            client.run(tree, &mut one, rounds);
-            (one, client)
-        },
-        || -> (BwSeat, Client)
-            requires { IsSeatOf tree.now other }
-            ensures { IsSeatOf tree.entry.now result.0 }
-        {
-            let mut client = Client::new(first.wrapping_add(1));
-            client.run(tree, &mut other, rounds);
-            (other, client)
-        },
-    )
-}
-
-/// Runs four clients, each in a thread of its own; none where a seat is missing.
-fn run_four<R: Threads + Sync>(
-    rt: &R,
-    tree: &Tree,
-    seats: &mut Vec<BwSeat>,
-    rounds: u32,
-) -> Option<[Client; 4]>
-    requires own { AreSeatsOf tree.now seats.old.items }
-    ensures own { IsSome result → AreSeatsOf tree.now seats.new.items }
-{
-    let (a, b) = take_two(tree, seats)?;
-    let (c, d) = take_two(tree, seats)?;
-    let (((a, first), (b, second)), ((c, third), (d, fourth))) = join(
-        rt,
-        || -> ((BwSeat, Client), (BwSeat, Client))
-            requires one { IsSeatOf tree.now a }
-            requires other { IsSeatOf tree.now b }
-            ensures one { IsSeatOf tree.entry.now result.0.0 }
-            ensures other { IsSeatOf tree.entry.now result.1.0 }
-        { run_two(rt, tree, a, b, 0, rounds) },
-        || -> ((BwSeat, Client), (BwSeat, Client))
-            requires one { IsSeatOf tree.now c }
-            requires other { IsSeatOf tree.now d }
-            ensures one { IsSeatOf tree.entry.now result.0.0 }
-            ensures other { IsSeatOf tree.entry.now result.1.0 }
-        { run_two(rt, tree, c, d, 2, rounds) },
-    );
-    if give_two(tree, seats, d, b) && give_two(tree, seats, c, a) {
-        Some([first, second, third, fourth])
-    } else {
-        None
-    }
-}
-
-/// What four clients know in the end, and the pairs of their tree.
-fn known_by_four<R: Threads + Sync>(
-    rt: &R,
-    alloc: Global,
-    limits: Limits,
-) -> Option<([Client; 4], Vec<(Key, Value)>)> {
-    let Ok((tree, mut seats)) = opened(alloc, limits) else {
-        return None;
-    };
-    let clients = run_four(rt, &tree, &mut seats, 2000)?;
-    match tree.close(alloc, seats) {
-        Ok(pairs) => Some((clients, pairs)),
-        Err(_) => None,
-    }
 }
 
 /// Whether the pairs have exactly what the client knows of its own keys.
@@ -239,15 +90,15 @@ fn knows(client: &Client, first: u32, pairs: &[(Key, Value)]) -> bool {
 #[test]
 fn four_threads_collide(rt: HostRuntime) -> Result<(), Fail> {
     let limits = Limits::new(4, 64, 128, 1)?;
-    let Some(known) = known_by_four(&rt, rt.alloc(), limits) else {
+    let client = |number| Client::new(number, 2000);
+    let works = vec![in rt.alloc(); client(0), client(1), client(2), client(3)]?;
+    let Some((clients, pairs)) = done_at_once(&rt, rt.alloc(), limits, works) else {
         assert!(rt; false);
         return Ok(());
     };
-    let clients = known.0;
-    let pairs = known.1;
     for (number, client) in clients.iter().enumerate() {
         assert_eq!(rt; client.wrong, 0);
-        assert!(rt; knows(client, number as u32 * OWN, pairs.as_slice()));
+        assert!(rt; knows(client, (number % 4) as u32 * OWN, pairs.as_slice()));
     }
     Ok(())
 }

@@ -1,0 +1,79 @@
+//! Words that are loaded and not read as records: how fast rows can be read at most.
+ghost use Rattle.std.specs.Prelude.{◌≡◌, ◌<◌, ◌*◌};
+
+use crate::scale::Scale;
+use atomic_table::{Shared, Table, TableRule};
+use rand_core::SeedableRng;
+use rand_core::utils::NextWord;
+use rand_pcg::Pcg32;
+use std::alloc::Global;
+use std::thread::{Threads, map_indices};
+
+/// How many rows the table has, and how many words a row.
+const ROWS: u32 = 16384;
+
+const WIDTH: usize = 256;
+
+/// The rule of words that may be any numbers.
+struct AnyWords;
+
+impl TableRule<(), (), ()> for AnyWords {
+    ghost holds = { λ key state. Unit {0} };
+
+    ghost first = { λ key. tt };
+}
+
+type Words = Shared<(), (), (), AnyWords>;
+
+/// How many operations in all threads have read what stands in the rows; none without memory.
+pub(crate) fn run<R: Threads + Sync>(rt: &R, alloc: Global, scale: Scale) -> Option<u64> {
+    let words = vec![in alloc; 0u64; ROWS as usize * WIDTH].ok()?;
+    let opened = Table::<(), (), (), AnyWords, Global>::of_words(alloc, words.as_slice(), &());
+    let (table, _) = opened.ok()?;
+    let shared = &table.shared;
+    let read = |thread: usize| -> u64
+        requires { shared.now.table_id.words ≡ ROWS * WIDTH }
+    { read(shared, scale, thread as u64) };
+    let done = map_indices(rt, alloc, scale.threads as usize, &read).ok()?;
+    Some(
+        done.iter()
+            .fold(0u64, |sum, done| sum.saturating_add(*done)),
+    )
+}
+
+/// How many operations of one thread have read what stands there.
+fn read(words: &Words, scale: Scale, seed: u64) -> u64
+    requires { words.now.table_id.words ≡ ROWS * WIDTH }
+{
+    let mut drawn = Pcg32::seed_from_u64(seed);
+    let mut done = 0u64;
+    for _ in 0..scale.operations {
+        if folded(words, scale.size, &mut drawn) == 0 {
+            done = done.saturating_add(1);
+        }
+    }
+    done
+}
+
+/// All words of so many drawn rows, folded into one.
+fn folded(words: &Words, rows: u32, drawn: &mut Pcg32) -> u64
+    requires { words.now.table_id.words ≡ ROWS * WIDTH }
+{
+    let mut folded = 0;
+    for _ in 0..rows {
+        folded ^= row(words, (drawn.next_word() % ROWS) as usize);
+    }
+    folded
+}
+
+/// The words of a row, folded into one.
+fn row(words: &Words, row: usize) -> u64
+    requires range { row < ROWS }
+    requires words { words.now.table_id.words ≡ ROWS * WIDTH }
+{
+    let mut folded = 0;
+    for place in 0..WIDTH {
+        folded ^= words.peek(row * WIDTH + place);
+    }
+    folded
+}

@@ -1,0 +1,78 @@
+//! Trees that are loaded and worked on.
+ghost use Rattle.std.specs.Prelude.{IsSome};
+ghost use Rattle.bw_tree.specs.Trees.{AreSeatsOf};
+
+use crate::scale::Scale;
+use crate::worker::{What, Worker};
+use bw_model::Limits;
+use bw_tree::{BwSeat, Tree};
+use std::alloc::{AllocError, Global};
+use std::thread::Threads;
+use tree_clients::{opened, work_in_threads};
+
+/// Loads a new tree, and does what is asked on it, if that is more: how much of it was done; none without memory or seats.
+pub(crate) fn run<R: Threads + Sync>(
+    rt: &R,
+    alloc: Global,
+    what: What,
+    scale: Scale,
+) -> Option<u64> {
+    let Ok(limits) = Limits::new(4, 4096, 16384, 1) else {
+        return None;
+    };
+    let Ok((tree, mut seats)) = opened(alloc, limits) else {
+        return None;
+    };
+    on_loaded(rt, alloc, &tree, &mut seats, what, scale)
+}
+
+fn on_loaded<R: Threads + Sync>(
+    rt: &R,
+    alloc: Global,
+    tree: &Tree,
+    seats: &mut Vec<BwSeat>,
+    what: What,
+    scale: Scale,
+) -> Option<u64>
+    requires own { AreSeatsOf tree.now seats.old.items }
+{
+    let keys = Scale {
+        threads: 1,
+        operations: scale.size,
+        ..scale
+    };
+    let loaded = done(rt, alloc, tree, seats, What::Load, keys)?;
+    match what {
+        What::Load => Some(loaded),
+        _ => done(rt, alloc, tree, seats, what, scale),
+    }
+}
+
+/// How much all threads have done.
+fn done<R: Threads + Sync>(
+    rt: &R,
+    alloc: Global,
+    tree: &Tree,
+    seats: &mut Vec<BwSeat>,
+    what: What,
+    scale: Scale,
+) -> Option<u64>
+    requires own { AreSeatsOf tree.now seats.old.items }
+    ensures own { IsSome result → AreSeatsOf tree.now seats.new.items }
+{
+    let Ok(workers) = workers(alloc, what, scale) else {
+        return None;
+    };
+    let workers = work_in_threads(rt, tree, seats, workers)?;
+    let all = workers.iter();
+    Some(all.fold(0u64, |sum, worker| sum.saturating_add(worker.done)))
+}
+
+/// One worker for each thread, each with a seed of its own.
+fn workers(alloc: Global, what: What, scale: Scale) -> Result<Vec<Worker>, AllocError> {
+    let mut workers = Vec::new(alloc);
+    for seed in 0..scale.threads {
+        workers.push(Worker::new(what, scale, seed))?;
+    }
+    Ok(workers)
+}

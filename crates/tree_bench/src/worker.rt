@@ -1,0 +1,129 @@
+//! What a thread does with its seat.
+ghost use Rattle.bw_tree.specs.Trees.{IsSeatOf};
+
+use crate::scale::Scale;
+use bw_model::{Command, Key, Reply, Value};
+use bw_tree::{BwSeat, Called, Tree};
+use rand_core::SeedableRng;
+use rand_core::utils::NextWord;
+use rand_pcg::Pcg32;
+use tree_clients::{Work, called, reply, resumed};
+
+/// More steps than an operation takes.
+const MOST_STEPS: u32 = 1 << 16;
+
+/// An odd number, so that products with it modulo 2^64 are as many as the numbers.
+const SCATTER: u64 = 0x9e37_79b9_7f4a_7c15;
+
+/// What is done.
+#[derive(Clone, Copy, Debug, PartialEq, Eq, Drop)]
+pub(crate) enum What {
+    /// The keys are inserted.
+    Load,
+    /// Drawn keys are looked up.
+    Reads,
+    /// Every second operation is an upsert of a drawn key, the others look one up.
+    Half,
+    /// Drawn keys are looked up one step at a time, and the steps are counted.
+    Steps,
+}
+
+impl What {
+    /// What a word of the command line names.
+    pub(crate) fn named(word: &str) -> Option<What> {
+        match word {
+            "load" => Some(What::Load),
+            "reads" => Some(What::Reads),
+            "half" => Some(What::Half),
+            "steps" => Some(What::Steps),
+            _ => None,
+        }
+    }
+}
+
+/// One thread's operations.
+#[derive(Drop)]
+pub(crate) struct Worker {
+    what: What,
+    scale: Scale,
+    drawn: Pcg32,
+    /// How many operations succeeded, or how many steps they took.
+    pub(crate) done: u64,
+}
+
+impl Worker {
+    pub(crate) fn new(what: What, scale: Scale, seed: u32) -> Worker {
+        Worker {
+            what,
+            scale,
+            drawn: Pcg32::seed_from_u64(u64::from(seed)),
+            done: 0,
+        }
+    }
+
+    /// The next command.
+    fn command(&mut self, operation: u32) -> Command {
+        let drawn = self.drawn.next_word();
+        let number = drawn.checked_rem(self.scale.size).unwrap_or(0);
+        match self.what {
+            What::Load => Command::Insert(key(operation), value(operation)),
+            What::Half if operation % 2 == 0 => Command::Upsert(key(number), value(operation)),
+            _ => Command::Get(key(number)),
+        }
+    }
+}
+
+impl Work for Worker {
+    fn work(&mut self, tree: &Tree, seat: &mut BwSeat) {
+        for operation in 0..self.scale.operations {
+            let command = self.command(operation);
+            let done = match self.what {
+                What::Steps => steps(tree, seat, command),
+                _ => u64::from(succeeds(tree, seat, command)),
+            };
+            self.done = self.done.saturating_add(done);
+        }
+    }
+}
+
+/// Whether a command finds what it is about: an insert no value, a lookup or an upsert one.
+fn succeeds(tree: &Tree, seat: &mut BwSeat, command: Command) -> bool
+    requires own { IsSeatOf tree.now seat.old }
+    ensures own { IsSeatOf tree.now seat.new }
+{
+    match reply(tree, seat, command) {
+        Some(Reply::Inserted | Reply::Value(_) | Reply::Replaced(_)) => true,
+        _ => false,
+    }
+}
+
+/// How many steps a command takes.
+fn steps(tree: &Tree, seat: &mut BwSeat, command: Command) -> u64
+    requires own { IsSeatOf tree.now seat.old }
+    ensures own { IsSeatOf tree.now seat.new }
+{
+    let mut last = called(tree, seat, command, 1);
+    for step in 1..MOST_STEPS {
+        if last != Some(Called::Spent) {
+            return u64::from(step);
+        }
+        last = resumed(tree, seat, 1);
+    }
+    0
+}
+
+/// The key of a number, 16 hexadecimal digits: neighbours among the numbers are none among the keys.
+fn key(number: u32) -> Key {
+    let product = u64::from(number).wrapping_mul(SCATTER);
+    let scattered = (product ^ (product >> 32)).wrapping_mul(SCATTER);
+    let mut digits = [0; 16];
+    match hex::encode_to_slice(scattered.to_be_bytes(), &mut digits) {
+        Ok(()) => Key::from_slice(&digits).unwrap_or_default(),
+        Err(_) => Key::default(),
+    }
+}
+
+/// The value of a number, 8 bytes.
+fn value(number: u32) -> Value {
+    Value::from_slice(&u64::from(number).to_be_bytes()).unwrap_or_default()
+}

@@ -1,0 +1,20 @@
+use Rattle.std.proofs.Common.{All, [], ◌∷◌, arith, sym, subst}
+use Rattle.std.proofs.lemmas.List.{length-append}
+use Rattle.std.proofs.lemmas.List.Elements.{All-push}
+use Rattle.bw_tree.specs.Trees.{IsSeatOf}
+use Rattle.tree_clients.proofs.threads.seated.Goals as goal
+
+pub loop-work-preserved : goal.loop-work-preserved
+loop-work-preserved g c =
+    let all = All-push (λ job. IsSeatOf c.args.tree.now job.0) c.loop-work.jobs.items (c.in_ok-seat.seat, c.in-Some.work) c.loop-work.invariant.jobs c.in_ok-seat.ensures.taken in
+    let pushed = c.in-Ok.ensures.len in
+    let taken = c.in_ok-seat.ensures.count in
+    let yielded = length-append c.loop-work.yielded (c.in-Some.work ∷ []) in
+    let seats = c.loop-work.invariant.seats in
+    let works = c.loop-work.invariant.works in
+    record {
+      left = c.take_seat.ensures.left;
+      jobs = subst (All (λ job. IsSeatOf c.args.tree.now job.0)) (sym c.in-Ok.ensures.items) all;
+      seats = omega (arith, pushed, taken, seats);
+      works = omega (arith, pushed, yielded, works);
+    }
