@@ -1,16 +1,16 @@
-//! Works in threads as often as the command line says: `tree_bench WHAT SIZE THREADS OPERATIONS`. Where WHAT is `load`, it inserts SIZE keys into
-//! a new tree by one seat. Where it is `reads` or `half`, each of so many threads then does so many operations on drawn keys: lookups, or
-//! upserts and lookups by turns. Where it is `steps`, they do lookups, and their steps are counted. Where it is `rows`, there is no tree:
-//! an operation loads the words of SIZE drawn rows, as many times 256 words. It prints how many operations succeeded, or took how many steps.
-//! bench/tree.sh times it.
+//! Works in threads as often as the command line says: `tree_bench WHAT SIZE THREADS OPERATIONS`. It opens a tree and inserts SIZE keys by
+//! one seat; that is all where WHAT is `load`. Where it is `reads` or `half`, each of so many threads then does so many operations on drawn
+//! keys: lookups, or upserts and lookups by turns. Where it is `steps`, they do lookups, and count their steps. Where it is `rows`, there
+//! is no tree: an operation loads the words of SIZE drawn rows, 256 each. It prints how many operations succeeded or steps were taken by
+//! what came last, and on standard error how many nanoseconds that took. bench/tree.sh runs it.
 #![tactic(auto)]
 
+mod amounts;
 mod rows;
-mod scale;
 mod trees;
 mod worker;
 
-use scale::Scale;
+use amounts::Scale;
 use std::{env, io};
 use worker::What;
 
@@ -26,7 +26,9 @@ fn main(rt: HostRuntime) -> io::Result<()> {
             Some(what) => trees::run(&rt, rt.alloc(), what, scale),
             None => rows::run(&rt, rt.alloc(), scale),
         };
-        println!(rt; "{}", done.unwrap_or(0))?;
+        let done = done.unwrap_or_default();
+        println!(rt; "{}", done.count)?;
+        eprintln!(rt; "{}", done.time.as_nanos())?;
     }
     Ok(())
 }

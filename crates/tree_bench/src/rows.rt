@@ -1,13 +1,14 @@
 //! Words that are loaded and not read as records: how fast rows can be read at most.
 ghost use Rattle.std.specs.Prelude.{◌≡◌, ◌<◌, ◌*◌};
 
-use crate::scale::Scale;
+use crate::amounts::{Done, Scale};
 use atomic_table::{Shared, Table, TableRule};
 use rand_core::SeedableRng;
 use rand_core::utils::NextWord;
 use rand_pcg::Pcg32;
 use std::alloc::Global;
 use std::thread::{Threads, map_indices};
+use std::time::{Clock, Instant};
 
 /// How many rows the table has, and how many words a row.
 const ROWS: u32 = 16384;
@@ -25,8 +26,8 @@ impl TableRule<(), (), ()> for AnyWords {
 
 type Words = Shared<(), (), (), AnyWords>;
 
-/// How many operations in all threads have read what stands in the rows; none without memory.
-pub(crate) fn run<R: Threads + Sync>(rt: &R, alloc: Global, scale: Scale) -> Option<u64> {
+/// Reads rows in threads; none without memory or a clock.
+pub(crate) fn run<R: Threads + Clock + Sync>(rt: &R, alloc: Global, scale: Scale) -> Option<Done> {
     let words = vec![in alloc; 0u64; ROWS as usize * WIDTH].ok()?;
     let opened = Table::<(), (), (), AnyWords, Global>::of_words(alloc, words.as_slice(), &());
     let (table, _) = opened.ok()?;
@@ -34,11 +35,11 @@ pub(crate) fn run<R: Threads + Sync>(rt: &R, alloc: Global, scale: Scale) -> Opt
     let read = |thread: usize| -> u64
         requires { shared.now.table_id.words ≡ ROWS * WIDTH }
     { read(shared, scale, thread as u64) };
-    let done = map_indices(rt, alloc, scale.threads as usize, &read).ok()?;
-    Some(
-        done.iter()
-            .fold(0u64, |sum, done| sum.saturating_add(*done)),
-    )
+    let start = Instant::now(rt).ok()?;
+    let all = map_indices(rt, alloc, scale.threads as usize, &read).ok()?;
+    let time = start.elapsed(rt).ok()?;
+    let count = all.iter().fold(0u64, |sum, done| sum.saturating_add(*done));
+    Some(Done { count, time })
 }
 
 /// How many operations of one thread have read what stands there.

@@ -2,21 +2,22 @@
 ghost use Rattle.std.specs.Prelude.{IsSome};
 ghost use Rattle.bw_tree.specs.Trees.{AreSeatsOf};
 
-use crate::scale::Scale;
+use crate::amounts::{Done, Scale};
 use crate::worker::{What, Worker};
 use bw_model::Limits;
 use bw_tree::{BwSeat, Tree};
 use std::alloc::{AllocError, Global};
 use std::thread::Threads;
+use std::time::{Clock, Instant};
 use tree_clients::{opened, work_in_threads};
 
-/// Loads a new tree, and does what is asked on it, if that is more: how much of it was done; none without memory or seats.
-pub(crate) fn run<R: Threads + Sync>(
+/// Loads a new tree, and does what is asked on it, if that is more. Answers what was done last; none without memory, seats or a clock.
+pub(crate) fn run<R: Threads + Clock + Sync>(
     rt: &R,
     alloc: Global,
     what: What,
     scale: Scale,
-) -> Option<u64> {
+) -> Option<Done> {
     let Ok(limits) = Limits::new(4, 4096, 16384, 1) else {
         return None;
     };
@@ -26,14 +27,14 @@ pub(crate) fn run<R: Threads + Sync>(
     on_loaded(rt, alloc, &tree, &mut seats, what, scale)
 }
 
-fn on_loaded<R: Threads + Sync>(
+fn on_loaded<R: Threads + Clock + Sync>(
     rt: &R,
     alloc: Global,
     tree: &Tree,
     seats: &mut Vec<BwSeat>,
     what: What,
     scale: Scale,
-) -> Option<u64>
+) -> Option<Done>
     requires own { AreSeatsOf tree.now seats.old.items }
 {
     let keys = Scale {
@@ -41,31 +42,34 @@ fn on_loaded<R: Threads + Sync>(
         operations: scale.size,
         ..scale
     };
-    let loaded = done(rt, alloc, tree, seats, What::Load, keys)?;
+    let loaded = does(rt, alloc, tree, seats, What::Load, keys)?;
     match what {
         What::Load => Some(loaded),
-        _ => done(rt, alloc, tree, seats, what, scale),
+        _ => does(rt, alloc, tree, seats, what, scale),
     }
 }
 
-/// How much all threads have done.
-fn done<R: Threads + Sync>(
+/// Does what is asked in threads.
+fn does<R: Threads + Clock + Sync>(
     rt: &R,
     alloc: Global,
     tree: &Tree,
     seats: &mut Vec<BwSeat>,
     what: What,
     scale: Scale,
-) -> Option<u64>
+) -> Option<Done>
     requires own { AreSeatsOf tree.now seats.old.items }
     ensures own { IsSome result → AreSeatsOf tree.now seats.new.items }
 {
     let Ok(workers) = workers(alloc, what, scale) else {
         return None;
     };
+    let start = Instant::now(rt).ok()?;
     let workers = work_in_threads(rt, tree, seats, workers)?;
+    let time = start.elapsed(rt).ok()?;
     let all = workers.iter();
-    Some(all.fold(0u64, |sum, worker| sum.saturating_add(worker.done)))
+    let count = all.fold(0u64, |sum, worker| sum.saturating_add(worker.done));
+    Some(Done { count, time })
 }
 
 /// One worker for each thread, each with a seed of its own.

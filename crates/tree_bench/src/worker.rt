@@ -1,7 +1,7 @@
 //! What a thread does with its seat.
 ghost use Rattle.bw_tree.specs.Trees.{IsSeatOf};
 
-use crate::scale::Scale;
+use crate::amounts::Scale;
 use bw_model::{Command, Key, Reply, Value};
 use bw_tree::{BwSeat, Called, Tree};
 use rand_core::SeedableRng;
