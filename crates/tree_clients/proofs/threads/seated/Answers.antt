@@ -1,4 +1,4 @@
-use Rattle.std.proofs.Common.{All, [], ◌∷◌, arith, sym, subst}
+use Rattle.std.proofs.Common.{[], ◌∷◌, arith}
 use Rattle.std.proofs.lemmas.List.{length-append}
 use Rattle.std.proofs.lemmas.List.Elements.{All-push}
 use Rattle.bw_tree.specs.Trees.{IsSeatOf}
@@ -14,7 +14,7 @@ loop-work-preserved g c =
     let works = c.loop-work.invariant.works in
     record {
       left = c.take_seat.ensures.left;
-      jobs = subst (All (λ job. IsSeatOf c.args.tree.now job.0)) (sym c.in-Ok.ensures.items) all;
+      jobs = rw c.in-Ok.ensures.items all;
       seats = omega (arith, pushed, taken, seats);
       works = omega (arith, pushed, yielded, works);
     }
