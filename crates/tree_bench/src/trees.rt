@@ -27,6 +27,7 @@ pub(crate) fn run<R: Threads + Clock + Sync>(
     on_loaded(rt, alloc, &tree, &mut seats, what, scale)
 }
 
+/// The same on a new tree.
 fn on_loaded<R: Threads + Clock + Sync>(
     rt: &R,
     alloc: Global,
@@ -42,15 +43,15 @@ fn on_loaded<R: Threads + Clock + Sync>(
         operations: scale.size,
         ..scale
     };
-    let loaded = does(rt, alloc, tree, seats, What::Load, keys)?;
+    let loaded = in_threads(rt, alloc, tree, seats, What::Load, keys)?;
     match what {
         What::Load => Some(loaded),
-        _ => does(rt, alloc, tree, seats, what, scale),
+        _ => in_threads(rt, alloc, tree, seats, what, scale),
     }
 }
 
-/// Does what is asked in threads.
-fn does<R: Threads + Clock + Sync>(
+/// Does what is asked, in as many threads.
+fn in_threads<R: Threads + Clock + Sync>(
     rt: &R,
     alloc: Global,
     tree: &Tree,

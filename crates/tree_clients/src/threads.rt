@@ -8,8 +8,6 @@ use std::thread::{Threads, map_vec};
 
 /// What a thread does over a tree with its seat.
 pub trait Work: Drop + Send {
-    ghost use Rattle.bw_tree.specs.Trees.{IsSeatOf};
-
     fn work(&mut self, tree: &Tree, seat: &mut BwSeat)
         requires own { IsSeatOf tree.now seat.old }
         ensures own { IsSeatOf tree.now seat.new };

@@ -1,5 +1,4 @@
 //! Threads over one tree, each with a seat of its own.
-ghost use Rattle.bw_tree.specs.Trees.{IsSeatOf};
 
 use crate::clients::{Client, OWN};
 use crate::numbered::{are_first, found, get, insert, key, value};
