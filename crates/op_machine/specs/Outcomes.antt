@@ -12,6 +12,7 @@ use Rattle.bw_model.specs.declared.limits.Limits.{Limits}
 use Rattle.chain_search.specs.Recalled.{Recalled}
 use Rattle.descent.specs.ReadRounds as read
 use Rattle.descent.specs.Versions.{IsAlive}
+use Rattle.descent.specs.Visits.{reads_on}
 use Rattle.descent.specs.WriteRounds as write
 use Rattle.descent.specs.declared.read_round.ReadEnd.{ReadEnd}
 use Rattle.descent.specs.declared.write_round.Goal.TheVariants.{Seek}
@@ -122,6 +123,12 @@ pub record IsFaced (task : Task) (spares : Spares) (outcome : Outcome) : Type 0 
 abbrev pub has_begun : State → Bool
 has_begun at.Begun = false
 has_begun state = true
+
+-- whether a round reads on after the answer
+abbrev pub reads_on_at : State → Answer Record → Bool
+reads_on_at (at.Read round) told = reads_on told
+reads_on_at (at.Write round) told = reads_on told
+reads_on_at state told = false
 
 -- whether a change is under way
 abbrev pub is_changing : State → Bool

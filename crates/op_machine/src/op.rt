@@ -144,10 +144,26 @@ impl Op {
         Want::Step(self.state.step(&hand.spares))
     }
 
-    /// The same where no change is under way. Not inlined, so that a change, whose steps are many, needs no room for the pages
-    /// of a round.
-    #[inline(never)]
+    /// The same where no change is under way.
     fn go_on(&mut self, spares: &mut Spares, answer: Answer<Record>) -> Want
+        requires told { IsToldOn self.old spares.old answer }
+        requires still { is_changing self.old.state ≡ false }
+        ensures obeys { ObeysOn self.old spares.old answer self.new spares.new result }
+        ensures spends { SpendsOn self.old spares.old answer self.new spares.new result }
+        ensures same { IsSameTask self.old.task self.new.task }
+        ensures sweep { self.new.sweep ≡ self.old.sweep }
+    {
+        if !self.state.reads_on(&answer) {
+            return self.go_further(spares, answer);
+        }
+        self.state.read_on(spares, answer);
+        Want::Step(self.state.step(spares))
+    }
+
+    /// The same where more may follow than that a round reads on. Not inlined, so that steps which are many, those of a change and
+    /// the reads of a page, need no room for whole pages.
+    #[inline(never)]
+    fn go_further(&mut self, spares: &mut Spares, answer: Answer<Record>) -> Want
         requires told { IsToldOn self.old spares.old answer }
         requires still { is_changing self.old.state ≡ false }
         ensures obeys { ObeysOn self.old spares.old answer self.new spares.new result }

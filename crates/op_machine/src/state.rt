@@ -3,14 +3,14 @@ ghost use Rattle.std.specs.Prelude.{◌≡◌, Some, IsSome, true, false};
 ghost use Rattle.chain_search.specs.Knowledge.{Knowledge};
 ghost use Rattle.chain_search.specs.Recalled.{Recalled};
 ghost use Rattle.op_machine.specs.Bounded.{LeavesFor, left_at};
-ghost use Rattle.op_machine.specs.Outcomes.{Comes, IsToldAt, UnlinksAfter, changed, has_begun, is_changing};
+ghost use Rattle.op_machine.specs.Outcomes.{Comes, IsToldAt, UnlinksAfter, changed, has_begun, is_changing, reads_on_at};
 ghost use Rattle.op_machine.specs.Shows.{FitsLast, MayStep, Stands, learn_last, wanted_at};
 ghost use Rattle.op_machine.specs.Tasks.{Task};
 
 use crate::unlinked::Unlinked;
 use bw_model::{Answer, Key, Reply, Step};
 use deltas::Record;
-use descent::{ReadEnd, ReadRound, WriteEnd, WriteRound};
+use descent::{ReadEnd, ReadRound, WriteEnd, WriteRound, reads_on};
 use installs::{Change, End, Spares};
 
 /// What comes once a change has won.
@@ -96,6 +96,27 @@ impl State {
             State::Write { round } => round.step(),
             State::Change { change, .. } => change.step(spares),
             State::Leave { .. } => Step::Leave,
+        }
+    }
+
+    /// Whether the answer leaves a round in the midst of a page, or on its way to the root.
+    pub(crate) fn reads_on(&self, answer: &Answer<Record>) -> bool
+        ensures { result ≡ reads_on_at self.now answer.now }
+    {
+        matches!(self, State::Read { .. } | State::Write { .. }) && reads_on(answer)
+    }
+
+    /// Takes such an answer.
+    pub(crate) fn read_on(&mut self, spares: &Spares, answer: Answer<Record>)
+        requires told { IsToldAt self.old spares.now answer }
+        requires on { reads_on_at self.old answer ≡ true }
+        ensures comes { (task : Task) (k : Knowledge) (r : Recalled) → Stands task spares.now k r self.old → FitsLast task.limits k (wanted_at spares.now self.old) answer → Comes task k r (wanted_at spares.now self.old) answer self.new spares.now Progress.On }
+        ensures leaves { (task : Task) (k : Knowledge) (r : Recalled) → Stands task spares.now k r self.old → FitsLast task.limits k (wanted_at spares.now self.old) answer → LeavesFor r (wanted_at spares.now self.old) answer (left_at r spares.now self.old) self.new spares.now Progress.On }
+    {
+        match self {
+            State::Read { round } => round.read_on(answer),
+            State::Write { round } => round.read_on(answer),
+            _ => unreachable!(),
         }
     }
 
