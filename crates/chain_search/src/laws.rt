@@ -14,7 +14,7 @@ ghost use Rattle.deltas.specs.Memory.{Memory};
 ghost use Rattle.deltas.specs.Spellable.{IsRow};
 ghost use Rattle.chain_search.specs.declared.trace.Entry.{Entry};
 ghost use Rattle.chain_search.specs.Chains.{IsChainOf};
-ghost use Rattle.chain_search.specs.Fitted.{FitsOver, Makes};
+ghost use Rattle.chain_search.specs.Fitted.{FitsOver, IsPageChain, Makes};
 ghost use Rattle.chain_search.specs.Learnt.{HasLearnt};
 ghost use Rattle.chain_search.specs.SideChain.{LivePage, IsSideChainFrom};
 ghost use Rattle.chain_search.specs.Run.{IsNext, IsRun};
@@ -75,6 +75,13 @@ pub fn learnt_stays()
         → HasLearnt entries actor row
         → ((answer : Answer Record) → ¬ IsStep entry actor Leave answer)
         → HasLearnt (entries ++ entry ∷ []) actor row }
+{}
+
+/// A page's chain makes a page that keeps the rules.
+pub fn chains_make_pages()
+    ensures { (chain : List Record)
+        → IsPageChain chain
+        → (page : Page) × Makes chain page × IsRuled page }
 {}
 
 /// A put or a delete that fits the page of a chain makes of it one that keeps the rules, where that page does: over a row it fits the chain.

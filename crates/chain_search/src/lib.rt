@@ -21,8 +21,8 @@ pub use examples::{
     paid_steps_are_told, split_cuts, terms_come_and_go, unfit_chains_are_refused,
 };
 pub use laws::{
-    chain_is_one, command_grows, learnt_stays, memory_grows, run_grows, run_shrinks,
-    side_chain_is_one, updates_fit,
+    chain_is_one, chains_make_pages, command_grows, learnt_stays, memory_grows, run_grows,
+    run_shrinks, side_chain_is_one, updates_fit,
 };
 pub use replies::{BoxedPairs, BoxedReply};
 pub use shared::{SharedEntry, SharedRecord, answer_of, shared_step, step_again, step_of};

@@ -1,5 +1,5 @@
 -- The reading of one page: the step that it wants, what its actor knows meanwhile, and what it finds.
-use Rattle.std.specs.Prelude.{◌≡◌, ◌<◌, ◌++◌, ◌∷◌, ◌⊎◌, ℕ, List, [], Option, Some, None, true, IsTrue, ⊤}
+use Rattle.std.specs.Prelude.{◌≡◌, ◌<◌, ◌==◌, ◌++◌, ◌∷◌, ◌⊎◌, ℕ, List, [], Bool, Option, Some, None, true, false, not, is_some, IsTrue, ⊤}
 use Rattle.bw_model.specs.declared.limits.Limits.{Limits}
 use Rattle.bw_model.specs.declared.step.Step.{Step as StepOf}
 use Rattle.bw_model.specs.declared.step.Step.TheVariants as step
@@ -131,6 +131,12 @@ pub record Completes (old : Visit) (told : Answer Record) (version : Version) : 
 pub record FindsEmpty (old : Visit) (told : Answer Record) : Type 0 where
   pub asked : old.state ≡ Slot
   pub is : told ≡ Number 0
+
+-- A visit reads on after the answer: the slot has a row, or the record stands over another one.
+abbrev pub reads_on : Answer Record → Bool
+reads_on (Number row) = not (row == 0)
+reads_on (Content content) = is_some (next_row content)
+reads_on other = false
 
 -- what a visit makes of an answer
 abbrev pub Responds : Visit → Answer Record → Visit → Option Sight → Type 0

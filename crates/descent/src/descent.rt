@@ -1,9 +1,9 @@
 //! The way from the root to a page, as far as a round goes on.
-ghost use Rattle.std.specs.Prelude.{◌≡◌, ◌<◌, ℕ};
+ghost use Rattle.std.specs.Prelude.{◌≡◌, ◌<◌, ℕ, None, Some, false, true};
 ghost use Rattle.chain_search.specs.Discipline.{May};
 ghost use Rattle.chain_search.specs.Knowledge.{Knowledge};
 ghost use Rattle.descent.specs.Descents.{HasCome, IsTold, Responds, Shows, going_to, wanted};
-ghost use Rattle.descent.specs.Visits.{ReadsWithin};
+ghost use Rattle.descent.specs.Visits.{ReadsWithin, reads_on};
 
 use crate::{Sight, Visit};
 use bw_model::{Answer, Limits, Step};
@@ -61,20 +61,33 @@ impl Descent {
         }
     }
 
-    /// Takes the answer to the step wanted last, and tells what was found, once a page was read.
-    pub(crate) fn next(&mut self, answer: Answer<Record>) -> Option<Sight>
+    /// Takes an answer after which the descent reads on.
+    pub(crate) fn read_on(&mut self, answer: Answer<Record>)
         requires told { IsTold self.old answer }
-        ensures responds { Responds self.old answer self.new result }
+        requires on { reads_on answer ≡ true }
+        ensures responds { Responds self.old answer self.new None }
         ensures limits { self.new.limits ≡ self.old.limits }
     {
         match &mut self.state {
             State::Root => {
                 let pid = answer.into_number() as u16;
                 self.go_to(pid);
-                None
             }
-            State::Page { visit } => visit.next(answer),
+            State::Page { visit } => visit.read_on(answer),
             State::Over => unreachable!(),
+        }
+    }
+
+    /// Takes an answer that ends the visit of a page, and tells what was found.
+    pub(crate) fn end(&mut self, answer: Answer<Record>) -> Sight
+        requires told { IsTold self.old answer }
+        requires ends { reads_on answer ≡ false }
+        ensures responds { Responds self.old answer self.new (Some result) }
+        ensures limits { self.new.limits ≡ self.old.limits }
+    {
+        match &mut self.state {
+            State::Page { visit } => visit.end(answer),
+            State::Root | State::Over => unreachable!(),
         }
     }
 
@@ -90,7 +103,8 @@ impl Descent {
         }
     }
 
-    /// Goes on to a page.
+    /// Goes on to a page. Not inlined: where a descent reads on, it needs no room for another visit.
+    #[inline(never)]
     pub(crate) fn go_to(&mut self, pid: u16)
         requires some { 0 < pid }
         requires below { pid < self.old.limits.pids }

@@ -10,5 +10,5 @@ mod write_round;
 
 pub use laws::{leaves_stand, left_rounds_stay, removals_are_due, rounds_are_short};
 pub use read_round::{ReadEnd, ReadRound};
-pub use visit::{Sight, Visit};
+pub use visit::{Sight, Visit, reads_on};
 pub use write_round::{WriteEnd, WriteRound};

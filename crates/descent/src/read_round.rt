@@ -1,21 +1,21 @@
 //! A reader's round from the root to the leaf of a key.
-ghost use Rattle.std.specs.Prelude.{◌≡◌, ◌<◌, ◌+◌, ℕ, IsTrue, MatchOption, false};
+ghost use Rattle.std.specs.Prelude.{◌≡◌, ◌<◌, ◌+◌, ℕ, IsTrue, MatchOption, None, false, true};
 ghost use Rattle.chain_search.specs.Chains.{is_removed, low_in};
 ghost use Rattle.chain_search.specs.Discipline.{May};
 ghost use Rattle.chain_search.specs.Fitting.{Fits};
 ghost use Rattle.chain_search.specs.Knowledge.{Knowledge};
 ghost use Rattle.chain_search.specs.Recalled.{Recalled};
 ghost use Rattle.descent.specs.ReadRounds.{CanSee, CanTreat, Follows, HasCome, IsSame, IsTold, Responds, Sees, Shows, Spends, Treats, toward, wanted, way_of};
-ghost use Rattle.descent.specs.Visits.{ReadsWithin};
+ghost use Rattle.descent.specs.Visits.{ReadsWithin, reads_on};
 ghost use Rattle.descent.specs.Ways.{EndsHere, LeadsOn, precedes};
 ghost use Rattle.descent.specs.declared.descent.State.TheVariants.{Root};
 
 #[cfg(test)]
 mod tests;
 
-use crate::Sight;
 use crate::descent::Descent;
 use crate::way::{next_on_way, right_on_way};
+use crate::{Sight, reads_on};
 use bw_model::{Answer, Key, Limits, Step};
 use chain_search::Chain;
 use deltas::Record;
@@ -96,6 +96,18 @@ impl ReadRound {
         self.descent.step()
     }
 
+    /// Takes an answer after which the round reads on.
+    pub fn read_on(&mut self, answer: Answer<Record>)
+        requires told { IsTold self.old answer }
+        requires on { reads_on answer ≡ true }
+        ensures responds { Responds self.old answer self.new None }
+        ensures follows { (k : Knowledge) (r : Recalled) → Shows self.old k r → Fits self.old.limits k (wanted self.old) answer → Follows k r self.old answer self.new None }
+        ensures spends { (reserve kept : ℕ) (k : Knowledge) (r : Recalled) → Shows self.old k r → Fits self.old.limits k (wanted self.old) answer → Spends reserve kept r self.old answer self.new None }
+        ensures same { IsSame self.old self.new }
+    {
+        self.descent.read_on(answer);
+    }
+
     /// Takes the answer to the step wanted last, and tells how the round ends, once it does.
     pub fn next(&mut self, answer: Answer<Record>) -> Option<ReadEnd>
         requires told { IsTold self.old answer }
@@ -104,10 +116,12 @@ impl ReadRound {
         ensures spends { (reserve kept : ℕ) (k : Knowledge) (r : Recalled) → Shows self.old k r → Fits self.old.limits k (wanted self.old) answer → Spends reserve kept r self.old answer self.new result }
         ensures same { IsSame self.old self.new }
     {
-        match self.descent.next(answer) {
-            None => None,
-            Some(sight) => self.see(sight),
+        if reads_on(&answer) {
+            self.read_on(answer);
+            return None;
         }
+        let sight = self.descent.end(answer);
+        self.see(sight)
     }
 
     /// Goes on from what a visit found, or ends.

@@ -1,9 +1,10 @@
 //! The reading of one page.
-ghost use Rattle.std.specs.Prelude.{◌≡◌, ◌<◌, ℕ, []};
+ghost use Rattle.std.specs.Prelude.{◌≡◌, ◌<◌, ℕ, [], None, Some, is_some, false, true};
 ghost use Rattle.chain_search.specs.Discipline.{May};
 ghost use Rattle.chain_search.specs.Fitting.{Fits};
 ghost use Rattle.chain_search.specs.Knowledge.{Knowledge};
-ghost use Rattle.descent.specs.Visits.{Follows, IsSame, IsSoundState, IsTold, ReadsWithin, Responds, Shows, at, to_page, wanted};
+ghost use Rattle.deltas.specs.Records.{next_row};
+ghost use Rattle.descent.specs.Visits.{Completes, Follows, IsSame, IsSoundState, IsTold, ReadsWithin, Responds, Shows, at, reads_on, to_page, wanted};
 
 use bw_model::{Answer, Limits, Step};
 use chain_search::ChainPart;
@@ -74,54 +75,88 @@ impl Visit {
         }
     }
 
-    /// Takes the answer to the step wanted last, and tells what was found, once it was.
-    pub fn next(&mut self, answer: Answer<Record>) -> Option<Sight>
+    /// Takes an answer after which the visit reads on.
+    pub fn read_on(&mut self, answer: Answer<Record>)
         requires told { IsTold self.old answer }
-        ensures responds { Responds self.old answer self.new result }
-        ensures follows { (k : Knowledge) → Shows self.old k → Fits self.old.limits k (wanted self.old) answer → Follows k self.old answer self.new result }
+        requires on { reads_on answer ≡ true }
+        ensures responds { Responds self.old answer self.new None }
+        ensures follows { (k : Knowledge) → Shows self.old k → Fits self.old.limits k (wanted self.old) answer → Follows k self.old answer self.new None }
         ensures same { IsSame self.old self.new }
     {
         match self.state {
-            State::Slot => {
-                let head = answer.into_number() as u16;
-                if head == 0 {
-                    return Some(Sight::Empty);
-                }
-                self.part = ChainPart::new();
-                self.state = State::Row { head, row: head };
-                None
-            }
-            State::Row { head, row } => {
-                let older = answer.into_content();
-                self.keep(head, row, older)
-            }
+            State::Slot => self.begin(answer.into_number() as u16),
+            State::Row { head, row } => self.push(head, row, answer.into_content()),
         }
     }
 
-    /// Keeps the delta that was read, and goes on below it; at the base the chain is whole.
-    fn keep(&mut self, head: u16, row: u16, older: Record) -> Option<Sight>
-        requires told { IsTold (at self.old (State.Row head row)) (Answer.Content older) }
+    /// Takes an answer that ends the visit, and tells what was found.
+    pub fn end(&mut self, answer: Answer<Record>) -> Sight
+        requires told { IsTold self.old answer }
+        requires ends { reads_on answer ≡ false }
+        ensures responds { Responds self.old answer self.new (Some result) }
+        ensures follows { (k : Knowledge) → Shows self.old k → Fits self.old.limits k (wanted self.old) answer → Follows k self.old answer self.new (Some result) }
+        ensures same { IsSame self.old self.new }
+    {
+        match self.state {
+            State::Slot => Sight::Empty,
+            State::Row { head, row } => Sight::Whole(self.whole(head, row, answer.into_content())),
+        }
+    }
+
+    /// Goes on to the newest record of the page's chain.
+    fn begin(&mut self, head: u16)
+        requires some { 0 < head }
+        requires below { head < self.old.limits.rows }
+        ensures { self.new ≡ record self.old { part = []; state = State.Row head head } }
+    {
+        self.part = ChainPart::new();
+        self.state = State::Row { head, row: head };
+    }
+
+    /// Keeps a delta, and goes on to the record under it.
+    fn push(&mut self, head: u16, row: u16, delta: Record)
+        requires told { IsTold (at self.old (State.Row head row)) (Answer.Content delta) }
         requires sound { IsSoundState self.old.limits self.old.pid (State.Row head row) }
-        ensures responds { Responds (at self.old (State.Row head row)) (Answer.Content older) self.new result }
+        requires on { is_some (next_row delta) ≡ true }
+        ensures responds { Responds (at self.old (State.Row head row)) (Answer.Content delta) self.new None }
         ensures same { IsSame self.old self.new }
     {
         let _ = row;
-        match (older.next(), older) {
-            (_, Record::Base(base)) => {
-                let part = mem::replace(&mut self.part, ChainPart::new());
-                let version = Version {
-                    pid: self.pid,
-                    head,
-                    chain: part.over(base),
-                };
-                Some(Sight::Whole(version))
-            }
-            (Some(row), delta) => {
-                self.part.push(delta);
-                self.state = State::Row { head, row };
-                None
-            }
-            (None, _) => unreachable!(),
+        let Some(row) = delta.next() else {
+            unreachable!()
+        };
+        self.part.push(delta);
+        self.state = State::Row { head, row };
+    }
+
+    /// The page that is whole with its base.
+    fn whole(&mut self, head: u16, row: u16, base: Record) -> Version
+        requires told { IsTold (at self.old (State.Row head row)) (Answer.Content base) }
+        requires sound { IsSoundState self.old.limits self.old.pid (State.Row head row) }
+        requires last { next_row base ≡ None }
+        ensures completes { Completes (at self.old (State.Row head row)) (Answer.Content base) result }
+        ensures same { IsSame self.old self.new }
+    {
+        let _ = row;
+        let Record::Base(base) = base else {
+            unreachable!()
+        };
+        let part = mem::replace(&mut self.part, ChainPart::new());
+        Version {
+            pid: self.pid,
+            head,
+            chain: part.over(base),
         }
+    }
+}
+
+/// Whether a visit reads on after the answer: the slot has a row, or the record stands over another one.
+pub fn reads_on(answer: &Answer<Record>) -> bool
+    ensures { result ≡ reads_on answer.now }
+{
+    match answer {
+        Answer::Number(row) => *row != 0,
+        Answer::Content(record) => record.next().is_some(),
+        _ => false,
     }
 }

@@ -7,7 +7,7 @@ ghost use Rattle.chain_search.specs.Discipline.{May};
 ghost use Rattle.chain_search.specs.Fitting.{Fits};
 ghost use Rattle.chain_search.specs.Knowledge.{Knowledge};
 ghost use Rattle.chain_search.specs.Recalled.{Recalled};
-ghost use Rattle.descent.specs.Visits.{ReadsWithin};
+ghost use Rattle.descent.specs.Visits.{ReadsWithin, reads_on};
 ghost use Rattle.descent.specs.declared.descent.State.TheVariants.{Root};
 ghost use Rattle.descent.specs.WriteRounds.{CanSee, CanTreat, Follows, HasCome, IsFine, IsFinished, IsHere, IsLeftLeaf, IsLong, IsSame, IsSameWay, IsTold, Responds, Sees, Shows, Spends, Treats, Cuts, Merges, SeeksLeaf, beside, goes_left, going_back, toward, wanted, way_of};
 ghost use Rattle.descent.specs.Ways.{StaysLeft};
@@ -15,9 +15,9 @@ ghost use Rattle.descent.specs.Ways.{StaysLeft};
 #[cfg(test)]
 pub(crate) mod tests;
 
-use crate::Sight;
 use crate::descent::Descent;
 use crate::way::{child_on_way, right_on_way};
+use crate::{Sight, reads_on};
 use base_page::{Content, Page};
 use bw_model::{Answer, Key, Limits, Step};
 use chain_search::Chain;
@@ -146,6 +146,18 @@ impl WriteRound {
         self.descent.step()
     }
 
+    /// Takes an answer after which the round reads on.
+    pub fn read_on(&mut self, answer: Answer<Record>)
+        requires told { IsTold self.old answer }
+        requires on { reads_on answer ≡ true }
+        ensures responds { Responds self.old answer self.new None }
+        ensures follows { (k : Knowledge) (r : Recalled) → Shows self.old k r → Fits self.old.limits k (wanted self.old) answer → Follows k r self.old answer self.new None }
+        ensures spends { (reserve kept : ℕ) (k : Knowledge) (r : Recalled) → Shows self.old k r → Fits self.old.limits k (wanted self.old) answer → Spends reserve kept r self.old answer self.new None }
+        ensures same { IsSame self.old self.new }
+    {
+        self.descent.read_on(answer);
+    }
+
     /// Takes the answer to the step wanted last, and tells how the round ends, once it does.
     pub fn next(&mut self, answer: Answer<Record>) -> Option<WriteEnd>
         requires told { IsTold self.old answer }
@@ -154,10 +166,12 @@ impl WriteRound {
         ensures spends { (reserve kept : ℕ) (k : Knowledge) (r : Recalled) → Shows self.old k r → Fits self.old.limits k (wanted self.old) answer → Spends reserve kept r self.old answer self.new result }
         ensures same { IsSame self.old self.new }
     {
-        match self.descent.next(answer) {
-            None => None,
-            Some(sight) => self.see(sight),
+        if reads_on(&answer) {
+            self.read_on(answer);
+            return None;
         }
+        let sight = self.descent.end(answer);
+        self.see(sight)
     }
 
     /// Goes on from what a visit found, or ends.

@@ -1,5 +1,5 @@
 -- What a round's next step leaves an operation in.
-use Rattle.std.proofs.Common.{◌≡◌, inl, inr, refl, sym, ap, subst, Some, None, ◌∙◌, arith}
+use Rattle.std.proofs.Common.{◌≡◌, inl, inr, refl, sym, ap, subst, Option, Some, None, ◌∙◌, arith}
 use Rattle.bw_model.specs.declared.step.Answer.{Answer}
 use Rattle.deltas.specs.declared.record.Record.{Record}
 use Rattle.chain_search.specs.Fitting.{Fits}
@@ -19,8 +19,8 @@ use Rattle.descent.specs.declared.read_round.ReadEnd.TheVariants as read_end
 use Rattle.descent.specs.declared.write_round.WriteEnd.{WriteEnd}
 use Rattle.descent.specs.declared.write_round.WriteEnd.TheVariants as write_end
 use Rattle.installs.specs.Spares.{Spares}
-use Rattle.op_machine.specs.Bounded.{left_at, left_for, left_round, one_round}
-use Rattle.op_machine.specs.Outcomes.{FacesRead, FacesWritten, HasSought}
+use Rattle.op_machine.specs.Bounded.{LeavesFor, left_at, left_for, left_round, one_round}
+use Rattle.op_machine.specs.Outcomes.{Comes, FacesRead, FacesWritten, HasSought, read_out, written_out}
 use Rattle.op_machine.specs.Shows.{IsInReadRound, IsInWriteRound}
 use Rattle.op_machine.specs.Tasks.{Task}
 use Rattle.op_machine.specs.declared.state.Outcome.TheVariants as outcome
@@ -64,6 +64,15 @@ module _ (task : Task) (spares : Spares) (k : Knowledge) (r : Recalled) (round n
   read_left (read_end.Removed page) reserved = inl (omega (arith, reserved))
   read_left (read_end.Leaf leaf) some = inl (omega (arith, some))
   read_left (read_end.Beside left removed) some = inl (omega (arith, some))
+
+  -- whatever the round makes of the answer
+  pub read_comes : read.IsSame round new → (result : Option ReadEnd) → read.Follows k r round told new result → Comes task k r (Some (read.wanted round)) told (at.Read new) spares (read_out result)
+  read_comes same None follows = (read_on same follows, refl)
+  read_comes same (Some end) ends = read_ended end ends
+
+  pub read_leaves : (result : Option ReadEnd) → read.Spends left_round one_round r round told new result → LeavesFor r (Some (read.wanted round)) told (left_at r spares (at.Read round)) (at.Read new) spares (read_out result)
+  read_leaves None spends = read_went spends
+  read_leaves (Some end) spends = read_left end spends
 
 -- a round that has gone to a leaf from the first goes there, and one that hasn't doesn't
 still_goes_left : (old new : write.WriteRound) (told : Answer Record) → write.Responds old told new None → new.goal ≡ Seek → old.goal ≡ Seek
@@ -156,3 +165,12 @@ module _ (task : Task) (spares : Spares) (k : Knowledge) (r : Recalled) (round n
   write_left (write_end.Leaf parent leaf) some = inl (omega (arith, some))
   write_left (write_end.Merge left removed merge) kept = inl (omega (arith, kept))
   write_left (write_end.Unterm parent left removed unterm) kept = inl (omega (arith, kept))
+
+  -- whatever the round makes of the answer
+  pub write_comes : write.IsSame round new → (result : Option WriteEnd) → write.Responds round told new result → write.Follows k r round told new result → Comes task k r (Some (write.wanted round)) told (at.Write new) spares (written_out result)
+  write_comes same None responds follows = (write_on responds same follows, refl)
+  write_comes same (Some end) responds ends = write_ended end responds ends
+
+  pub write_leaves : (result : Option WriteEnd) → write.Spends left_round one_round r round told new result → LeavesFor r (Some (write.wanted round)) told (left_at r spares (at.Write round)) (at.Write new) spares (written_out result)
+  write_leaves None spends = write_went spends
+  write_leaves (Some end) spends = write_left end spends

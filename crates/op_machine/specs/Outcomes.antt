@@ -1,5 +1,5 @@
 -- What an operation faces where it goes from one state to another.
-use Rattle.std.specs.Prelude.{◌≡◌, ◌<◌, ◌≤◌, ℕ, List, [], length, Bool, Option, None, Some, IfSome, IsSome, IsTrue, ⊤, true, false}
+use Rattle.std.specs.Prelude.{◌≡◌, ◌<◌, ◌≤◌, ℕ, List, [], length, Bool, Option, None, Some, IfSome, IsSome, IsTrue, ◌||◌, ⊤, true, false}
 use Rattle.bw_model.specs.declared.command.Reply.{Reply as ReplyOf}
 use Rattle.bw_model.specs.declared.step.Step.{Step as StepOf}
 use Rattle.bw_model.specs.declared.step.Step.TheVariants as step
@@ -12,6 +12,7 @@ use Rattle.bw_model.specs.declared.limits.Limits.{Limits}
 use Rattle.chain_search.specs.Recalled.{Recalled}
 use Rattle.descent.specs.ReadRounds as read
 use Rattle.descent.specs.Versions.{IsAlive}
+use Rattle.descent.specs.Visits.{reads_on}
 use Rattle.descent.specs.WriteRounds as write
 use Rattle.descent.specs.declared.read_round.ReadEnd.{ReadEnd}
 use Rattle.descent.specs.declared.write_round.Goal.TheVariants.{Seek}
@@ -128,10 +129,38 @@ abbrev pub is_changing : State → Bool
 is_changing (Change now then) = true
 is_changing state = false
 
+-- whether a reader's round is under way, and a writer's
+abbrev pub is_reading : State → Bool
+is_reading (at.Read round) = true
+is_reading state = false
+
+abbrev pub is_writing : State → Bool
+is_writing (at.Write round) = true
+is_writing state = false
+
+-- whether the state has a machine of its own
+abbrev pub has_machine : State → Bool
+has_machine state = is_reading state || is_writing state || is_changing state
+
+-- whether a round reads on after the answer
+abbrev pub reads_on_at : State → Answer Record → Bool
+reads_on_at (at.Read round) told = reads_on told
+reads_on_at (at.Write round) told = reads_on told
+reads_on_at state told = false
+
 -- what is known to be in limbo after a change's step
 abbrev pub UnlinksAfter : Limits → Knowledge → Option (End × Then) → Limbos → Type 0
 UnlinksAfter limits k None after = after ≡ k.limbo
 UnlinksAfter limits k (Some ended) after = Unlinks limits k ended.0 ended.1 after
+
+-- what the end of a round, once it has come, makes of its state
+abbrev pub read_out : Option ReadEnd → Progress
+read_out None = On
+read_out (Some end) = To (Read end)
+
+abbrev pub written_out : Option WriteEnd → Progress
+written_out None = On
+written_out (Some end) = To (Written end)
 
 -- what the end of a change, once it has come, makes of its state
 abbrev pub changed : Option (End × Then) → Progress

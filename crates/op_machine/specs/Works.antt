@@ -1,19 +1,20 @@
 -- An operation after its sweep, over the spares alone.
-use Rattle.std.specs.Prelude.{◌≡◌, Option, Some, ⊤}
+use Rattle.std.specs.Prelude.{◌≡◌, ◌≤◌, Option, Some, IsSome, ⊤}
 use Rattle.bw_model.specs.declared.step.Step.{Step as StepOf}
 use Rattle.bw_model.specs.declared.step.Answer.{Answer}
 use Rattle.deltas.specs.declared.record.Record.{Record}
 use Rattle.chain_search.specs.Knowledge.{Knowledge}
 use Rattle.chain_search.specs.Recalled.{Recalled}
 use Rattle.installs.specs.Spares.{Spares}
-use Rattle.op_machine.specs.Bounded.{IsSpentLast, left_at, with_errands}
+use Rattle.op_machine.specs.Bounded.{IsSpentLast, left_at, left_for, with_errands}
 use Rattle.op_machine.specs.Hands.{Hand}
 use Rattle.op_machine.specs.Ops.{Op}
-use Rattle.op_machine.specs.Outcomes.{HasLeft}
+use Rattle.op_machine.specs.Outcomes.{Faces, HasLeft}
 use Rattle.op_machine.specs.Shows.{FitsLast, MayStep, Stands, learn_last, recall_last, wanted_at}
-use Rattle.op_machine.specs.Tasks.{Task}
+use Rattle.op_machine.specs.Tasks.{IsSameTask, Task}
 use Rattle.op_machine.specs.declared.op.Want.{Want}
 use Rattle.op_machine.specs.declared.op.Want.TheVariants.{Step, Done}
+use Rattle.op_machine.specs.declared.state.Outcome.{Outcome}
 use Rattle.op_machine.specs.declared.state.State.{State}
 use Rattle.sweep.specs.Kept.{AreKept}
 
@@ -71,3 +72,18 @@ SpendsOn old had told new has want = (k : Knowledge) (r : Recalled) → Works ol
 abbrev pub KeepsLimbo : Op → Hand → Answer Record → Hand → Type 0
 KeepsLimbo old had told has = (k : Knowledge) (r : Recalled) → Works old had.spares k r → FitsLast old.task.limits k (asked_of old had.spares) told
     → AreKept old.task.limits old.task.actor had.limbo k.limbo → AreKept old.task.limits old.task.actor has.limbo (learn_last k (asked_of old had.spares) told).limbo
+
+-- An operation after its sweep goes ahead: as its actor may, with fewer steps left, at the same task.
+pub record GoesAhead (old : Op) (had : Spares) (told : Answer Record) (new : Op) (has : Spares) (want : Want) : Type 0 where
+  pub obeys : ObeysOn old had told new has want
+  pub spends : SpendsOn old had told new has want
+  pub same : IsSameTask old.task new.task
+  pub sweep : new.sweep ≡ old.sweep
+
+-- It goes from what it has come to into the state that follows, whose step it wants.
+pub record Follows (old : Op) (spares : Spares) (outcome : Outcome) (new : Op) : Type 0 where
+  pub stands : (k : Knowledge) (r : Recalled) → Faces old.task spares k r outcome → Works new spares k r
+  pub few : (k : Knowledge) (r : Recalled) → Faces old.task spares k r outcome → with_errands new.task.errands (left_at r spares new.state) ≤ with_errands old.task.errands (left_for outcome)
+  pub asks : IsSome (asked_of new spares)
+  pub same : IsSameTask old.task new.task
+  pub sweep : new.sweep ≡ old.sweep

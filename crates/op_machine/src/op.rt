@@ -3,10 +3,10 @@ ghost use Rattle.std.specs.Prelude.{◌≡◌, ◌<◌, ◌≤◌, ◌^◌, ℕ,
 ghost use Rattle.chain_search.specs.Fitting.{Fits};
 ghost use Rattle.chain_search.specs.Knowledge.{Knowledge, begun, learn};
 ghost use Rattle.chain_search.specs.Recalled.{Recalled, blank};
-ghost use Rattle.op_machine.specs.Bounded.{LeavesFor, left_at, left_for, with_errands};
+ghost use Rattle.op_machine.specs.Bounded.{LeavesFor, left_at};
 ghost use Rattle.op_machine.specs.Hands.{Hand as HandSeen};
 ghost use Rattle.op_machine.specs.Ops.{IsAtRestWith, IsTold, Obeys, Shows};
-ghost use Rattle.op_machine.specs.Outcomes.{Comes, Faces, IsFaced, changed, is_changing};
+ghost use Rattle.op_machine.specs.Outcomes.{Comes, IsFaced, changed, has_machine, is_changing, is_reading, is_writing, reads_on_at};
 ghost use Rattle.op_machine.specs.Shows.{FitsLast, Stands, learn_last, wanted_at};
 ghost use Rattle.op_machine.specs.Spending.{Spends, steps_left};
 ghost use Rattle.op_machine.specs.Sweeping.{FollowsSweep, HasFewer, IsSameWork, IsToldSweep, MovesSweep, ObeysSweep};
@@ -14,13 +14,14 @@ ghost use Rattle.op_machine.specs.Tasks.{IsSameTask, Task};
 ghost use Rattle.sweep.specs.Bounded.{steps_left as steps_of};
 ghost use Rattle.sweep.specs.Sweeps.{IsSoundSweep, IsTold as IsToldAlone, Shows as ShowsSweep, wanted};
 ghost use Rattle.sweep.specs.Kept.{AreKept};
-ghost use Rattle.op_machine.specs.Works.{IsToldChange, IsToldOn, IsToldWith, KeepsLimbo, ObeysOn, SpendsOn};
+ghost use Rattle.op_machine.specs.Works.{Follows, GoesAhead, IsToldChange, IsToldOn, IsToldWith, KeepsLimbo, ObeysOn, SpendsOn};
 
 use crate::hand::Hand;
 use crate::state::{Outcome, Progress, State, Then};
 use crate::task::Task;
 use bw_model::{Answer, Command, Limits, Reply, Step};
 use deltas::Record;
+use descent::{ReadEnd, WriteEnd};
 use epochs::Limbo;
 use installs::{End, Spares};
 use std::alloc::Allocator;
@@ -88,12 +89,12 @@ impl Op {
             return self.change_on(hand, answer);
         }
         if self.state.has_begun() {
-            return self.go_on(&mut hand.spares, answer);
+            return self.go_on(&hand.spares, answer);
         }
-        match self.sweep_on(&mut hand.limbo, answer) {
-            Some(step) => Want::Step(step),
-            None => self.go_on(&mut hand.spares, Answer::Start),
+        if let Some(step) = self.sweep_on(&mut hand.limbo, answer) {
+            return Want::Step(step);
         }
+        self.go_on(&hand.spares, Answer::Start)
     }
 
     /// Before anything else a writer frees what it may of its limbo: the step that its sweep wants, if it isn't over.
@@ -144,36 +145,105 @@ impl Op {
         Want::Step(self.state.step(&hand.spares))
     }
 
-    /// The same where no change is under way. Not inlined, so that a change, whose steps are many, needs no room for the pages
-    /// of a round.
-    #[inline(never)]
-    fn go_on(&mut self, spares: &mut Spares, answer: Answer<Record>) -> Want
-        requires told { IsToldOn self.old spares.old answer }
+    /// The same where no change is under way.
+    fn go_on(&mut self, spares: &Spares, answer: Answer<Record>) -> Want
+        requires told { IsToldOn self.old spares.now answer }
         requires still { is_changing self.old.state ≡ false }
-        ensures obeys { ObeysOn self.old spares.old answer self.new spares.new result }
-        ensures spends { SpendsOn self.old spares.old answer self.new spares.new result }
-        ensures same { IsSameTask self.old.task self.new.task }
-        ensures sweep { self.new.sweep ≡ self.old.sweep }
+        ensures { GoesAhead self.old spares.now answer self.new spares.now result }
+    {
+        if self.state.reads_on(&answer) {
+            return self.read_on(spares, answer);
+        }
+        if self.state.is_reading() {
+            return self.read_page(spares, answer);
+        }
+        if self.state.is_writing() {
+            return self.write_page(spares, answer);
+        }
+        self.turn(spares, answer)
+    }
+
+    /// A round reads on. These steps are many, so that this needs no room for whole pages, and what does isn't inlined.
+    fn read_on(&mut self, spares: &Spares, answer: Answer<Record>) -> Want
+        requires told { IsToldOn self.old spares.now answer }
+        requires on { reads_on_at self.old.state answer ≡ true }
+        ensures { GoesAhead self.old spares.now answer self.new spares.now result }
+    {
+        self.state.read_on(spares, answer);
+        Want::Step(self.state.step(spares))
+    }
+
+    /// A reader's round has read a page, or found none.
+    #[inline(never)]
+    fn read_page(&mut self, spares: &Spares, answer: Answer<Record>) -> Want
+        requires told { IsToldOn self.old spares.now answer }
+        requires reading { is_reading self.old.state ≡ true }
+        ensures { GoesAhead self.old spares.now answer self.new spares.now result }
+    {
+        if let Some(end) = self.state.read_next(spares, answer) {
+            self.end_read(spares, end);
+        }
+        Want::Step(self.state.step(spares))
+    }
+
+    /// A writer's round has read a page, or found none.
+    #[inline(never)]
+    fn write_page(&mut self, spares: &Spares, answer: Answer<Record>) -> Want
+        requires told { IsToldOn self.old spares.now answer }
+        requires writing { is_writing self.old.state ≡ true }
+        ensures { GoesAhead self.old spares.now answer self.new spares.now result }
+    {
+        if let Some(end) = self.state.write_next(spares, answer) {
+            self.end_write(spares, end);
+        }
+        Want::Step(self.state.step(spares))
+    }
+
+    /// From a state without a machine the operation goes to another one, or it has left.
+    #[inline(never)]
+    fn turn(&mut self, spares: &Spares, answer: Answer<Record>) -> Want
+        requires told { IsToldOn self.old spares.now answer }
+        requires alone { has_machine self.old.state ≡ false }
+        ensures { GoesAhead self.old spares.now answer self.new spares.now result }
     {
         match self.state.next(spares, answer) {
             Progress::On => {}
-            Progress::To(outcome) => self.state = self.task.go_on(spares, outcome),
+            Progress::To(outcome) => self.follow(spares, outcome),
             Progress::Left(reply) => return Want::Done(reply),
         }
         Want::Step(self.state.step(spares))
     }
 
-    /// Goes on to what comes after a change has ended.
+    #[inline(never)]
+    fn end_read(&mut self, spares: &Spares, end: ReadEnd)
+        requires faced { IsFaced self.old.task spares.now (Outcome.Read end) }
+        ensures { Follows self.old spares.now (Outcome.Read end) self.new }
+    {
+        self.follow(spares, Outcome::Read(end));
+    }
+
+    #[inline(never)]
+    fn end_write(&mut self, spares: &Spares, end: WriteEnd)
+        requires faced { IsFaced self.old.task spares.now (Outcome.Written end) }
+        ensures { Follows self.old spares.now (Outcome.Written end) self.new }
+    {
+        self.follow(spares, Outcome::Written(end));
+    }
+
     #[inline(never)]
     fn end_change(&mut self, spares: &Spares, end: End, then: Then)
         requires faced { IsFaced self.old.task spares.now (Outcome.Changed end then) }
-        ensures stands { (k : Knowledge) (r : Recalled) → Faces self.old.task spares.now k r (Outcome.Changed end then) → Stands self.new.task spares.now k r self.new.state }
-        ensures few { (k : Knowledge) (r : Recalled) → Faces self.old.task spares.now k r (Outcome.Changed end then) → with_errands self.new.task.errands (left_at r spares.now self.new.state) ≤ with_errands self.old.task.errands (left_for (Outcome.Changed end then)) }
-        ensures asks { IsSome (wanted_at spares.now self.new.state) }
-        ensures same { IsSameTask self.old.task self.new.task }
-        ensures sweep { self.new.sweep ≡ self.old.sweep }
+        ensures { Follows self.old spares.now (Outcome.Changed end then) self.new }
     {
-        self.state = self.task.go_on(spares, Outcome::Changed { end, then });
+        self.follow(spares, Outcome::Changed { end, then });
+    }
+
+    /// Goes to the state that follows what the operation has come to.
+    fn follow(&mut self, spares: &Spares, outcome: Outcome)
+        requires faced { IsFaced self.old.task spares.now outcome }
+        ensures { Follows self.old spares.now outcome self.new }
+    {
+        self.state = self.task.go_on(spares, outcome);
     }
 }
 

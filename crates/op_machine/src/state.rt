@@ -3,14 +3,14 @@ ghost use Rattle.std.specs.Prelude.{◌≡◌, Some, IsSome, true, false};
 ghost use Rattle.chain_search.specs.Knowledge.{Knowledge};
 ghost use Rattle.chain_search.specs.Recalled.{Recalled};
 ghost use Rattle.op_machine.specs.Bounded.{LeavesFor, left_at};
-ghost use Rattle.op_machine.specs.Outcomes.{Comes, IsToldAt, UnlinksAfter, changed, has_begun, is_changing};
+ghost use Rattle.op_machine.specs.Outcomes.{Comes, IsToldAt, UnlinksAfter, changed, has_begun, has_machine, is_changing, is_reading, is_writing, read_out, reads_on_at, written_out};
 ghost use Rattle.op_machine.specs.Shows.{FitsLast, MayStep, Stands, learn_last, wanted_at};
 ghost use Rattle.op_machine.specs.Tasks.{Task};
 
 use crate::unlinked::Unlinked;
 use bw_model::{Answer, Key, Reply, Step};
 use deltas::Record;
-use descent::{ReadEnd, ReadRound, WriteEnd, WriteRound};
+use descent::{ReadEnd, ReadRound, WriteEnd, WriteRound, reads_on};
 use installs::{Change, End, Spares};
 
 /// What comes once a change has won.
@@ -99,27 +99,66 @@ impl State {
         }
     }
 
-    /// Takes the answer to the step wanted last, where no change is under way.
-    pub(crate) fn next(&mut self, spares: &mut Spares, answer: Answer<Record>) -> Progress
-        requires told { IsToldAt self.old spares.old answer }
-        requires still { is_changing self.old ≡ false }
-        ensures comes { (task : Task) (k : Knowledge) (r : Recalled) → Stands task spares.old k r self.old → FitsLast task.limits k (wanted_at spares.old self.old) answer → Comes task k r (wanted_at spares.old self.old) answer self.new spares.new result }
-        ensures leaves { (task : Task) (k : Knowledge) (r : Recalled) → Stands task spares.old k r self.old → FitsLast task.limits k (wanted_at spares.old self.old) answer → LeavesFor r (wanted_at spares.old self.old) answer (left_at r spares.old self.old) self.new spares.new result }
+    /// Whether the answer leaves a round in the midst of a page, or on its way to the root.
+    pub(crate) fn reads_on(&self, answer: &Answer<Record>) -> bool
+        ensures { result ≡ reads_on_at self.now answer.now }
+    {
+        matches!(self, State::Read { .. } | State::Write { .. }) && reads_on(answer)
+    }
+
+    /// Takes such an answer.
+    pub(crate) fn read_on(&mut self, spares: &Spares, answer: Answer<Record>)
+        requires told { IsToldAt self.old spares.now answer }
+        requires on { reads_on_at self.old answer ≡ true }
+        ensures comes { (task : Task) (k : Knowledge) (r : Recalled) → Stands task spares.now k r self.old → FitsLast task.limits k (wanted_at spares.now self.old) answer → Comes task k r (wanted_at spares.now self.old) answer self.new spares.now Progress.On }
+        ensures leaves { (task : Task) (k : Knowledge) (r : Recalled) → Stands task spares.now k r self.old → FitsLast task.limits k (wanted_at spares.now self.old) answer → LeavesFor r (wanted_at spares.now self.old) answer (left_at r spares.now self.old) self.new spares.now Progress.On }
+    {
+        match self {
+            State::Read { round } => round.read_on(answer),
+            State::Write { round } => round.read_on(answer),
+            _ => unreachable!(),
+        }
+    }
+
+    /// Takes the answer to the step that a reader's round wanted last, and tells how the round ends, once it does.
+    pub(crate) fn read_next(&mut self, spares: &Spares, answer: Answer<Record>) -> Option<ReadEnd>
+        requires told { IsToldAt self.old spares.now answer }
+        requires reading { is_reading self.old ≡ true }
+        ensures comes { (task : Task) (k : Knowledge) (r : Recalled) → Stands task spares.now k r self.old → FitsLast task.limits k (wanted_at spares.now self.old) answer → Comes task k r (wanted_at spares.now self.old) answer self.new spares.now (read_out result) }
+        ensures leaves { (task : Task) (k : Knowledge) (r : Recalled) → Stands task spares.now k r self.old → FitsLast task.limits k (wanted_at spares.now self.old) answer → LeavesFor r (wanted_at spares.now self.old) answer (left_at r spares.now self.old) self.new spares.now (read_out result) }
+    {
+        match self {
+            State::Read { round } => round.next(answer),
+            _ => unreachable!(),
+        }
+    }
+
+    /// The same of a writer's round.
+    pub(crate) fn write_next(&mut self, spares: &Spares, answer: Answer<Record>) -> Option<WriteEnd>
+        requires told { IsToldAt self.old spares.now answer }
+        requires writing { is_writing self.old ≡ true }
+        ensures comes { (task : Task) (k : Knowledge) (r : Recalled) → Stands task spares.now k r self.old → FitsLast task.limits k (wanted_at spares.now self.old) answer → Comes task k r (wanted_at spares.now self.old) answer self.new spares.now (written_out result) }
+        ensures leaves { (task : Task) (k : Knowledge) (r : Recalled) → Stands task spares.now k r self.old → FitsLast task.limits k (wanted_at spares.now self.old) answer → LeavesFor r (wanted_at spares.now self.old) answer (left_at r spares.now self.old) self.new spares.now (written_out result) }
+    {
+        match self {
+            State::Write { round } => round.next(answer),
+            _ => unreachable!(),
+        }
+    }
+
+    /// Takes the answer to the step wanted last, where no machine is under way.
+    pub(crate) fn next(&self, spares: &Spares, answer: Answer<Record>) -> Progress
+        requires told { IsToldAt self.now spares.now answer }
+        requires alone { has_machine self.now ≡ false }
+        ensures comes { (task : Task) (k : Knowledge) (r : Recalled) → Stands task spares.now k r self.now → FitsLast task.limits k (wanted_at spares.now self.now) answer → Comes task k r (wanted_at spares.now self.now) answer self.now spares.now result }
+        ensures leaves { (task : Task) (k : Knowledge) (r : Recalled) → Stands task spares.now k r self.now → FitsLast task.limits k (wanted_at spares.now self.now) answer → LeavesFor r (wanted_at spares.now self.now) answer (left_at r spares.now self.now) self.now spares.now result }
     {
         match self {
             State::Begun => Progress::To(Outcome::Begun),
             State::Epoch => Progress::To(Outcome::Epoch(answer.into_number())),
             State::Enter { .. } => Progress::To(Outcome::Entered),
-            State::Read { round } => match round.next(answer) {
-                None => Progress::On,
-                Some(end) => Progress::To(Outcome::Read(end)),
-            },
-            State::Write { round } => match round.next(answer) {
-                None => Progress::On,
-                Some(end) => Progress::To(Outcome::Written(end)),
-            },
             State::Leave { reply } => Progress::Left(copied(reply)),
-            State::Change { .. } | State::Over => unreachable!(),
+            _ => unreachable!(),
         }
     }
 
@@ -128,6 +167,20 @@ impl State {
         ensures { result ≡ has_begun self.now }
     {
         !matches!(self, State::Begun)
+    }
+
+    /// Whether a reader's round is under way.
+    pub(crate) fn is_reading(&self) -> bool
+        ensures { result ≡ is_reading self.now }
+    {
+        matches!(self, State::Read { .. })
+    }
+
+    /// Whether a writer's round is under way.
+    pub(crate) fn is_writing(&self) -> bool
+        ensures { result ≡ is_writing self.now }
+    {
+        matches!(self, State::Write { .. })
     }
 
     /// Whether a change is under way.

@@ -29,7 +29,7 @@ use crate::unlinked::Unlinked;
 use crate::upkeep::upkeep;
 use base_page::Page;
 use bw_model::{Command, Key, Limits, Reply};
-use chain_search::{Chain, chain_is_one, updates_fit};
+use chain_search::{Chain, chain_is_one, chains_make_pages, updates_fit};
 use deltas::{Delete, Merge, Put, Record, Term, Unterm};
 use descent::{ReadEnd, ReadRound, WriteEnd, WriteRound, leaves_stand};
 use epochs::Limbo;
@@ -292,7 +292,9 @@ impl Task {
         ensures asks { IsSome (wanted_at spares.now result) }
     {
         updates_fit();
+        chains_make_pages();
         plans_may_be_linked();
+        leaf.chain.keeps_rules();
         let old = leaf.chain.find(self.command.key());
         let Some(reply) = self.command.reply(old) else {
             return State::Leave {
@@ -302,7 +304,6 @@ impl Task {
         if !self.command.changes(old) {
             return State::Leave { reply };
         }
-        let _ = leaf.chain.page();
         let content = self.update_over(leaf.head);
         let plan = Plan::Install {
             pid: leaf.pid,

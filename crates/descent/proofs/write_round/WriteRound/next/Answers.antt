@@ -1,4 +1,4 @@
-use Rattle.std.proofs.Common.{◌≡◌, inl, inr, None, refl, sym, ap, ◌∙◌, subst}
+use Rattle.std.proofs.Common.{◌≡◌, inr, sym, ◌∙◌, subst}
 use Rattle.bw_model.specs.declared.limits.Limits.{Limits}
 use Rattle.descent.specs.WriteRounds.{CanSee, WriteRound, Responds, Sees, at}
 use Rattle.descent.proofs.Writing.{can_see, follows_from, sees_as, spends_from}
@@ -6,34 +6,20 @@ use Rattle.descent.proofs.write_round.WriteRound.next.Goals as goal
 
 pub see-requires : goal.see-requires
 see-requires c =
-    let there = can_see c.args.self.now c.next.new.self.state c.args.answer c.in-Some.sight (rw (← c.self.view_is) c.in-Some.ensures.responds) c.requires.told in
-    let here : WriteRound → Type 0 = λ round. CanSee (record round { limits = c.next.new.self.limits; state = c.next.new.self.state }) c.in-Some.sight in
-    let can : here c.args.self.now = subst (λ (l : Limits). CanSee (record c.args.self.now { limits = l; state = c.next.new.self.state }) c.in-Some.sight) (rw (← c.self.view_is) (sym c.next.ensures.limits)) there in
+    let there = can_see c.args.self.now c.end-sight.new.self.state c.args.answer c.end-sight.result (rw (← c.self.view_is) c.end-sight.ensures.responds) c.requires.told in
+    let here : WriteRound → Type 0 = λ round. CanSee (record round { limits = c.end-sight.new.self.limits; state = c.end-sight.new.self.state }) c.end-sight.result in
+    let can : here c.args.self.now = subst (λ (l : Limits). CanSee (record c.args.self.now { limits = l; state = c.end-sight.new.self.state }) c.end-sight.result) (rw (← c.self.view_is) (sym c.end-sight.ensures.limits)) there in
     record { can = subst here (sym c.self.view_is) can }
 
-pub returns-in-None : goal.returns-in-None
-returns-in-None c =
+pub returns : goal.returns
+returns c =
     let old = c.args.self.now in
-    let limits : c.next.new.self.limits ≡ old.limits = rw (← c.self.view_is) c.next.ensures.limits in
-    let new : WriteRound = record { limits = c.next.new.self.limits; key = c.self.inside.key; due = c.self.inside.due; goal = c.self.inside.goal; parent = c.self.inside.parent; left = c.self.inside.left; state = c.next.new.self.state } in
-    let same : new ≡ at old new.state = ap (λ (round : WriteRound). record round { limits = c.next.new.self.limits; state = c.next.new.self.state }) c.self.view_is ∙ ap (λ (l : Limits). record old { limits = l; state = c.next.new.self.state }) limits in
-    let responds : Responds old c.args.answer new None = inl (record { on = rw (← c.self.view_is) c.in-None.ensures.responds; same = same; none = refl }) in
-    record {
-      responds = responds;
-      follows = follows_from old new c.args.answer None responds;
-      spends = spends_from old new c.args.answer None responds;
-      same = rw same (record { limits = refl; key = refl; due = refl; seeks = λ e. e });
-    }
-
-pub returns-in-Some : goal.returns-in-Some
-returns-in-Some c =
-    let old = c.args.self.now in
-    let limits : c.next.new.self.limits ≡ old.limits = rw (← c.self.view_is) c.next.ensures.limits in
-    let there : WriteRound → Type 0 = λ round. Sees (record round { limits = c.next.new.self.limits; state = c.next.new.self.state }) c.in-Some.sight c.see.new.self c.see.result in
-    let sees : Sees (at old c.next.new.self.state) c.in-Some.sight c.see.new.self c.see.result =
-    subst (λ (l : Limits). Sees (record old { limits = l; state = c.next.new.self.state }) c.in-Some.sight c.see.new.self c.see.result) limits (subst there c.self.view_is c.see.ensures.sees) in
+    let limits : c.end-sight.new.self.limits ≡ old.limits = rw (← c.self.view_is) c.end-sight.ensures.limits in
+    let there : WriteRound → Type 0 = λ round. Sees (record round { limits = c.end-sight.new.self.limits; state = c.end-sight.new.self.state }) c.end-sight.result c.see.new.self c.see.result in
+    let sees : Sees (at old c.end-sight.new.self.state) c.end-sight.result c.see.new.self c.see.result =
+    subst (λ (l : Limits). Sees (record old { limits = l; state = c.end-sight.new.self.state }) c.end-sight.result c.see.new.self c.see.result) limits (subst there c.self.view_is c.see.ensures.sees) in
     let responds : Responds old c.args.answer c.see.new.self c.see.result =
-    inr (record { sight = c.in-Some.sight; finds = rw (← c.self.view_is) c.in-Some.ensures.responds; sees = sees_as old c.see.new.self old.state c.next.new.self.state c.in-Some.sight c.see.result sees }) in
+    inr (record { sight = c.end-sight.result; finds = rw (← c.self.view_is) c.end-sight.ensures.responds; sees = sees_as old c.see.new.self old.state c.end-sight.new.self.state c.end-sight.result c.see.result sees }) in
     record {
       responds = responds;
       follows = follows_from old c.see.new.self c.args.answer c.see.result responds;

@@ -46,7 +46,7 @@ returns-then-has_begun-clause-obeys g c k r h f =
     let fits = rw (← c.hand.view_is) at (fits_on k c.args.self.now c.args.hand.now c.args.answer none f) in
     let kept = kept_begun c.args.self.now _ k r shows begun in
     let after = c.go_on.ensures in
-    rw (← c.hand.view_is) (answers_on k r c.args.self.now c.go_on.new.self (record { spares = c.hand.inside.spares; limbo = c.hand.inside.limbo }) (record { spares = c.go_on.new.spares; limbo = c.hand.inside.limbo }) c.args.answer none after.sweep after.same c.go_on.result (after.obeys k r shows.stands fits)
+    rw (← c.hand.view_is) (answers_on k r c.args.self.now c.go_on.new.self (record { spares = c.hand.inside.spares; limbo = c.hand.inside.limbo }) (record { spares = c.hand.inside.spares; limbo = c.hand.inside.limbo }) c.args.answer none after.sweep after.same c.go_on.result (after.obeys k r shows.stands fits)
     (work_keeps c.args.self.now.task c.hand.inside.spares k r c.hand.inside.limbo c.args.answer kept c.limbos_are_kept.ensures.read c.args.self.now.state shows.stands still fits))
 
 pub returns-then-has_begun-clause-spends : goal.returns-then-has_begun-clause-spends
@@ -57,7 +57,7 @@ returns-then-has_begun-clause-spends g c k r h f =
     let shows = rw (← c.hand.view_is) at h in
     let fits = rw (← c.hand.view_is) at (fits_on k c.args.self.now c.args.hand.now c.args.answer none f) in
     let after = c.go_on.ensures in
-    rw (← c.hand.view_is) (spends_on k r c.args.self.now c.go_on.new.self (record { spares = c.hand.inside.spares; limbo = c.hand.inside.limbo }) (record { spares = c.go_on.new.spares; limbo = c.hand.inside.limbo }) c.args.answer none after.sweep after.same c.go_on.result begun (after.obeys k r shows.stands fits) (after.spends k r shows.stands fits))
+    rw (← c.hand.view_is) (spends_on k r c.args.self.now c.go_on.new.self (record { spares = c.hand.inside.spares; limbo = c.hand.inside.limbo }) (record { spares = c.hand.inside.spares; limbo = c.hand.inside.limbo }) c.args.answer none after.sweep after.same c.go_on.result begun (after.obeys k r shows.stands fits) (after.spends k r shows.stands fits))
 
 pub returns-in-Some-clause-obeys : goal.returns-in-Some-clause-obeys
 returns-in-Some-clause-obeys g c k r h f =
@@ -73,26 +73,26 @@ returns-in-Some-clause-spends g c k r h f =
     let goes = rw c.in-Some.is at (c.sweep_on.ensures.obeys k r c.hand.inside.spares shows (fits_swept k r c.args.self.now c.args.hand.now c.args.answer first f)) in
     spends_swept k r c.args.self.now c.args.hand.now c.args.answer first c.sweep_on.new.self (record { spares = c.hand.inside.spares; limbo = c.sweep_on.new.limbo }) c.in-Some.step goes.wanted c.sweep_on.ensures.same c.sweep_on.ensures.few
 
-pub returns-in-None-clause-obeys : goal.returns-in-None-clause-obeys
-returns-in-None-clause-obeys g c k r h f =
+pub returns-clause-obeys : goal.returns-clause-obeys
+returns-clause-obeys g c k r h f =
     let first = not_begun c.args.self.now.state (ap has_begun (sym (ap (λ (o : Op). o.state) c.self.view_is)) ∙ sym c.has_begun.ensures ∙ c.if-has_begun.false) in
     let had : Hand = record { spares = c.hand.inside.spares; limbo = c.hand.inside.limbo } in
-    let has : Hand = record { spares = c.go_on-in-None.new.spares; limbo = c.sweep_on.new.limbo } in
+    let has : Hand = record { spares = c.hand.inside.spares; limbo = c.sweep_on.new.limbo } in
     let shows = rw (← c.hand.view_is) at h in
     let fits = rw (← c.hand.view_is) at f in
-    let over = rw c.in-None.is at (c.sweep_on.ensures.obeys k r c.hand.inside.spares shows (fits_swept k r c.args.self.now had c.args.answer first fits)) in
-    let after = c.go_on-in-None.ensures in
-    let start = starts k r c.args.self.now had c.args.answer first c.sweep_on.new.self c.go_on-in-None.new.self has over.0 c.sweep_on.ensures.same after.sweep after.same over.1 in
-    rw (← c.hand.view_is) (answers_after k r c.args.self.now had c.args.answer first c.sweep_on.new.self c.go_on-in-None.new.self has over.0 c.sweep_on.ensures.same after.sweep after.same over.1 c.go_on-in-None.result (after.obeys _ _ over.1.stands start))
+    let over = rw c.in_default.is at (c.sweep_on.ensures.obeys k r c.hand.inside.spares shows (fits_swept k r c.args.self.now had c.args.answer first fits)) in
+    let after = c.go_on-2.ensures in
+    let start = starts k r c.args.self.now had c.args.answer first c.sweep_on.new.self c.go_on-2.new.self has over.0 c.sweep_on.ensures.same after.sweep after.same over.1 in
+    rw (← c.hand.view_is) (answers_after k r c.args.self.now had c.args.answer first c.sweep_on.new.self c.go_on-2.new.self has over.0 c.sweep_on.ensures.same after.sweep after.same over.1 c.go_on-2.result (after.obeys _ _ over.1.stands start))
 
-pub returns-in-None-clause-spends : goal.returns-in-None-clause-spends
-returns-in-None-clause-spends g c k r h f =
+pub returns-clause-spends : goal.returns-clause-spends
+returns-clause-spends g c k r h f =
     let first = not_begun c.args.self.now.state (ap has_begun (sym (ap (λ (o : Op). o.state) c.self.view_is)) ∙ sym c.has_begun.ensures ∙ c.if-has_begun.false) in
     let had : Hand = record { spares = c.hand.inside.spares; limbo = c.hand.inside.limbo } in
-    let has : Hand = record { spares = c.go_on-in-None.new.spares; limbo = c.sweep_on.new.limbo } in
+    let has : Hand = record { spares = c.hand.inside.spares; limbo = c.sweep_on.new.limbo } in
     let shows = rw (← c.hand.view_is) at h in
     let fits = rw (← c.hand.view_is) at f in
-    let over = rw c.in-None.is at (c.sweep_on.ensures.obeys k r c.hand.inside.spares shows (fits_swept k r c.args.self.now had c.args.answer first fits)) in
-    let after = c.go_on-in-None.ensures in
-    let start = starts k r c.args.self.now had c.args.answer first c.sweep_on.new.self c.go_on-in-None.new.self has over.0 c.sweep_on.ensures.same after.sweep after.same over.1 in
-    rw (← c.hand.view_is) (spends_after k r c.args.self.now had c.args.answer first c.sweep_on.new.self c.go_on-in-None.new.self has over.0 c.sweep_on.ensures.same after.sweep after.same over.1 c.go_on-in-None.result (after.obeys _ _ over.1.stands start) (after.spends _ _ over.1.stands start))
+    let over = rw c.in_default.is at (c.sweep_on.ensures.obeys k r c.hand.inside.spares shows (fits_swept k r c.args.self.now had c.args.answer first fits)) in
+    let after = c.go_on-2.ensures in
+    let start = starts k r c.args.self.now had c.args.answer first c.sweep_on.new.self c.go_on-2.new.self has over.0 c.sweep_on.ensures.same after.sweep after.same over.1 in
+    rw (← c.hand.view_is) (spends_after k r c.args.self.now had c.args.answer first c.sweep_on.new.self c.go_on-2.new.self has over.0 c.sweep_on.ensures.same after.sweep after.same over.1 c.go_on-2.result (after.obeys _ _ over.1.stands start) (after.spends _ _ over.1.stands start))

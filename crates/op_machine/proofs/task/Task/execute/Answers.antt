@@ -21,14 +21,17 @@ returns-clause-stands c parent k r below idle =
     let h = below.at in
     let task = c.args.self.now in
     let leaf = c.args.leaf in
-    let page = c.page.result in
+    let made = c.chains_make_pages.ensures leaf.chain c.keeps_rules.ensures in
+    let page = made.0 in
+    let makes = made.1 in
+    let ruled = made.2 in
     let old = found leaf.chain (command_key task.command) in
     let some : is_some (update_of 0 task.command old) ≡ true = rw (← c.self.view_is, ← c.key.ensures, ← value_same (content_in leaf.chain c.key.result.now), ← c.find-old.ensures, ← c.changes.ensures) c.if-not-changes.false in
     let due = update_due task.actor 0 task.command old some in
     let within : IsTrue (covers leaf.chain (command_key task.command)) = subst (λ errands. IsTrue (covers leaf.chain (way_key errands task.command))) c.requires.last h.covered in
-    let few = of_made leaf.chain page (λ items. length items < 16) c.page.ensures.makes h.few in
+    let few = of_made leaf.chain page (λ items. length items < 16) makes h.few in
     let alive = h.page in
-    let fits = over_fits leaf.chain page c.page.ensures.makes alive.alive h.level few h.short (λ put. c.updates_fit.ensures.put leaf.chain page put c.page.ensures.makes c.page.ensures.ruled) (λ delete. c.updates_fit.ensures.delete leaf.chain page delete c.page.ensures.makes c.page.ensures.ruled)
+    let fits = over_fits leaf.chain page makes alive.alive h.level few h.short (λ put. c.updates_fit.ensures.put leaf.chain page put makes ruled) (λ delete. c.updates_fit.ensures.delete leaf.chain page delete makes ruled)
     task.command leaf.head (old, some) leaf.is_row within in
     let content = c.update_over-content.ensures in
     c.change.ensures.stands k r (rw content (record {
