@@ -22,7 +22,7 @@ use Rattle.op_machine.specs.declared.op.Want.TheVariants.{Step, Done}
 use Rattle.op_machine.specs.declared.state.State.TheVariants.{Begun}
 use Rattle.actors.specs.declared.actor.Running.{Running}
 use Rattle.sweep.specs.Kept.{AreKept}
-use Rattle.actors.specs.Actors.{Actor, GoesOn, IsActorWith, IsGoing, IsRunning, at_work, command_at, command_left, left_at}
+use Rattle.actors.specs.Actors.{Actor, GoesOn, IsActorWith, IsGoing, IsRunning, at_work, command_at, command_left, left_with}
 use Rattle.actors.proofs.Spending.{spends_last, spent_last}
 
 -- an actor without an operation, and one with an operation
@@ -123,11 +123,11 @@ module _ (limits : Limits) (actor : ℕ) (k : Knowledge) (r : Recalled) (hand : 
       subst (λ (run : Running). GoesOn limits actor k r (record { hand = hand; running = old }) run.wanted a reply new) (sym same) from
 
 -- whether it is done
-pub is_over : (hand : Hand) (new : Running) (reply : Option Reply) → is_some reply ≡ true → left_at hand new reply ≡ record { hand = hand; running = None }
+pub is_over : (hand : Hand) (new : Running) (reply : Option Reply) → is_some reply ≡ true → left_with hand new reply ≡ record { hand = hand; running = None }
 is_over hand new None done = cc
 is_over hand new (Some reply) done = refl
 
-pub is_still : (hand : Hand) (new : Running) (reply : Option Reply) → is_some reply ≡ false → left_at hand new reply ≡ at_work hand new
+pub is_still : (hand : Hand) (new : Running) (reply : Option Reply) → is_some reply ≡ false → left_with hand new reply ≡ at_work hand new
 is_still hand new None done = refl
 is_still hand new (Some reply) done = cc
 

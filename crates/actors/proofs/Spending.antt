@@ -4,7 +4,7 @@ use Rattle.bw_model.specs.declared.step.Answer.{Answer}
 use Rattle.bw_model.specs.declared.step.Step.{Step as StepOf}
 use Rattle.bw_model.specs.declared.step.Step.TheVariants as step
 use Rattle.deltas.specs.declared.record.Record.{Record}
-use Rattle.chain_search.specs.Recalled.{IsSpent, Recalled, recall}
+use Rattle.chain_search.specs.Recalled.{IsStepSpent, Recalled, recall}
 use Rattle.epochs.specs.declared.item.Reuse.{Reuse}
 use Rattle.epochs.specs.declared.item.Reuse.TheVariants.{Rows, Pids}
 use Rattle.installs.specs.Spares.{Spares}
@@ -22,7 +22,7 @@ use Rattle.actors.specs.declared.actor.Running.{Running}
 use Rattle.actors.specs.Spending.{IsSpentOn}
 
 -- what an answer leaves, where the step that was wanted is known
-pub spent_last : (r : Recalled) (last : Option (StepOf Record)) (asked : StepOf Record) (a : Answer Record) (left : ℕ) (rest : Recalled → ℕ) → last ≡ Some asked → IsSpentLast r last a left (rest (recall_last r last a)) → IsSpent r asked a left (rest (recall r asked a))
+pub spent_last : (r : Recalled) (last : Option (StepOf Record)) (asked : StepOf Record) (a : Answer Record) (left : ℕ) (rest : Recalled → ℕ) → last ≡ Some asked → IsSpentLast r last a left (rest (recall_last r last a)) → IsStepSpent r asked a left (rest (recall r asked a))
 spent_last r last asked a left rest e spent = subst (λ w. IsSpentLast r w a left (rest (recall_last r w a))) e spent
 
 -- a state that has asked for Leave has a step left

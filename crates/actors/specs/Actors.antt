@@ -29,8 +29,8 @@ abbrev pub at_work : Hand → Running → Actor
 at_work hand running = record { hand = hand; running = Some running }
 
 -- it has come to the end of its operation with the reply, or is at it still
-abbrev pub left_at : Hand → Running → Option Reply → Actor
-left_at hand running reply = record { hand = hand; running = unless_done running reply }
+abbrev pub left_with : Hand → Running → Option Reply → Actor
+left_with hand running reply = record { hand = hand; running = unless_done running reply }
 
 -- An operation that is under way, with the step that it wants, which its actor may take by what it knows.
 pub record IsRunning (limits : Limits) (actor : ℕ) (k : Knowledge) (r : Recalled) (hand : Hand) (running : Running) : Type 0 where

@@ -4,7 +4,7 @@ use Rattle.bw_model.specs.declared.command.Reply.{Reply}
 use Rattle.bw_model.specs.declared.step.Answer.{Answer}
 use Rattle.bw_model.specs.declared.step.Step.{Step as StepOf}
 use Rattle.deltas.specs.declared.record.Record.{Record}
-use Rattle.chain_search.specs.Recalled.{Recalled, IsSpent, recall}
+use Rattle.chain_search.specs.Recalled.{Recalled, IsStepSpent, recall}
 use Rattle.op_machine.specs.Hands.{Hand}
 use Rattle.op_machine.specs.Spending.{steps_left}
 use Rattle.actors.specs.declared.actor.Running.{Running}
@@ -21,4 +21,4 @@ unless_done running (Some reply) = None
 
 -- A step is taken: of the steps that were left it has spent one, or a cause paid for more.
 abbrev pub IsSpentOn : Recalled → Hand → Option Running → StepOf Record → Answer Record → Hand → Option Running → Type 0
-IsSpentOn r had old step answer has new = IsSpent r step answer (steps_due r had old) (steps_due (recall r step answer) has new)
+IsSpentOn r had old step answer has new = IsStepSpent r step answer (steps_due r had old) (steps_due (recall r step answer) has new)

@@ -1,6 +1,6 @@
 //! One actor.
 ghost use Rattle.std.specs.Prelude.{◌≡◌, ◌≢◌, ◌<◌, ◌^◌, ℕ, IfErr, IfOk, MatchBool, None, Some, is_some, option_copied};
-ghost use Rattle.actors.specs.Actors.{GoesOn, IsActor, IsGoing, IsRunning, IsTold, at_work, command_left, idle_actor, left_at, running_command, wanted_by};
+ghost use Rattle.actors.specs.Actors.{GoesOn, IsActor, IsGoing, IsRunning, IsTold, at_work, command_left, idle_actor, left_with, running_command, wanted_by};
 ghost use Rattle.actors.specs.Spending.{steps_due};
 ghost use Rattle.bw_model.specs.declared.limits.Limits.{Limits as LimitsSeen};
 ghost use Rattle.chain_search.specs.Fitting.{Fits};
@@ -133,7 +133,7 @@ impl Running {
     /// Takes the answer to the step that is wanted, and answers the reply, if the operation is done.
     fn take<A: Allocator>(&mut self, hand: &mut Hand<A>, answer: Answer<Record>) -> Option<Reply>
         requires told { (limits : LimitsSeen) × (number : ℕ) × (k : Knowledge) × (r : Recalled) × IsRunning limits number k r hand.old self.old × Fits limits k self.old.wanted answer }
-        ensures goes { (limits : LimitsSeen) (number : ℕ) (k : Knowledge) (r : Recalled) → IsRunning limits number k r hand.old self.old → Fits limits k self.old.wanted answer → GoesOn limits number k r (at_work hand.old self.old) self.old.wanted answer result (left_at hand.new self.new result) }
+        ensures goes { (limits : LimitsSeen) (number : ℕ) (k : Knowledge) (r : Recalled) → IsRunning limits number k r hand.old self.old → Fits limits k self.old.wanted answer → GoesOn limits number k r (at_work hand.old self.old) self.old.wanted answer result (left_with hand.new self.new result) }
         ensures command { self.new.op.task.command ≡ self.old.op.task.command }
     {
         match self.op.next(hand, answer) {

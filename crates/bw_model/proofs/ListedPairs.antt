@@ -8,7 +8,7 @@ use Rattle.std.proofs.Common.{◌≡◌, ◌<◌, List, [], ◌∷◌, ℕ, zero
 use Rattle.std.proofs.lemmas.Map.Lookups.{exact_bytes}
 use Rattle.bw_model.specs.Pairs.{IsPairsOf}
 use Rattle.bw_model.specs.Bytes.{key_cmp, is_in_range}
-use Rattle.bw_model.specs.Log.{value_in}
+use Rattle.bw_model.specs.Log.{logged_value}
 use Rattle.bw_model.specs.Examples.{small_log}
 
 -- the list of the log's pairs in a range without a high key
@@ -30,7 +30,7 @@ listed = record {
     alone zero h e = (sym (ap (λ p. p.0) e), sym (ap (λ p. p.1) e))
     alone (suc k) h e = absurd (omega arith)
 
-    there : (key value : List ℕ) → (key ≡ codes "a") × (value ≡ codes "3") → value_in small_log key ≡ Some value
+    there : (key value : List ℕ) → (key ≡ codes "a") × (value ≡ codes "3") → logged_value small_log key ≡ Some value
     there key value (k, v) = rw (k, v) refl
 
     only_equal : (o : Ordering) → is_eq o ≡ true → o ≡ Equal
@@ -47,5 +47,5 @@ listed = record {
     tells key value false true at e = cc
     tells key value false false at e = cc
 
-    is_it : (key value : List ℕ) → value_in small_log key ≡ Some value → Contains {X = List ℕ × List ℕ} ((codes "a", codes "3") ∷ []) (key, value)
+    is_it : (key value : List ℕ) → logged_value small_log key ≡ Some value → Contains {X = List ℕ × List ℕ} ((codes "a", codes "3") ∷ []) (key, value)
     is_it key value e = let same : (key ≡ codes "a") × (value ≡ codes "3") = tells key value (is_eq (key_cmp key (codes "a"))) (is_eq (key_cmp key (codes "b"))) refl e in rw (same.0, same.1) (0, lit< tt, refl)

@@ -6,3 +6,4 @@ pub mod Log
 pub mod Pairs
 pub mod Replies
 pub mod Schedules
+pub mod Words

@@ -4,7 +4,7 @@ ghost use Rattle.bw_model.specs.declared.command.Command.TheVariants.{Get, Inser
 ghost use Rattle.bw_model.specs.declared.command.Reply.TheVariants as reply;
 ghost use Rattle.bw_model.specs.Bytes.{is_below, is_in_range};
 ghost use Rattle.bw_model.specs.Examples.{small_log};
-ghost use Rattle.bw_model.specs.Log.{set, unset, value_in};
+ghost use Rattle.bw_model.specs.Log.{set, unset, logged_value};
 ghost use Rattle.bw_model.specs.Pairs.{IsPairsOf};
 ghost use Rattle.bw_model.specs.Replies.{is_writer, reply_of, update_of};
 ghost use Rattle.bw_model.specs.Schedules.{drawn, schedule_of};
@@ -21,9 +21,9 @@ pub fn keys_are_ordered()
 
 /// The last update of a key says its value; the other keys' updates say nothing of it.
 pub fn logs_are_read()
-    ensures newest { value_in small_log (codes "a") ≡ Some (codes "3") }
-    ensures unset { value_in small_log (codes "b") ≡ None }
-    ensures never { value_in small_log (codes "c") ≡ None }
+    ensures newest { logged_value small_log (codes "a") ≡ Some (codes "3") }
+    ensures unset { logged_value small_log (codes "b") ≡ None }
+    ensures never { logged_value small_log (codes "c") ≡ None }
 {}
 
 /// The pairs of a log have each key once, with its last value.

@@ -1,6 +1,6 @@
 //! Updates of the map, and what a log of them says.
 ghost use Rattle.std.specs.Prelude.{◌≡◌, option_copied};
-ghost use Rattle.bw_model.specs.Log.{set, unset, updated_key, updated_value, value_in};
+ghost use Rattle.bw_model.specs.Log.{set, unset, updated_key, updated_value, logged_value};
 
 use crate::{Key, Value};
 use std::marker::Model;
@@ -61,7 +61,7 @@ impl Update {
 
 /// What the last update of the key says: its value, or none.
 pub fn logged_value<'a>(log: &'a [Update], key: &Key) -> Option<&'a Value>
-    ensures { option_copied result ≡ value_in log.now key.now }
+    ensures { option_copied result ≡ logged_value log.now key.now }
 {
     let mut found = None;
     for update in log {

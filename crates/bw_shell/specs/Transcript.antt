@@ -43,8 +43,8 @@ abbrev pub RefusedWithin : Option Link → Trace → ℕ → ℕ → Refusal →
 RefusedWithin until before actor limit refusal after = (n : ℕ) × (n < limit) × StepsOn until before actor n after × Refuses after (Step actor) refusal
 
 -- the actor takes turns until an exchange won with the link, if one is given, or it is done, and this is printed
-abbrev pub Finishes : Option Link → Trace → ℕ → Trace → List ℕ → Type 0
-Finishes until before actor after text = (progress : Progress) × TakesUpTo until before actor 100000 progress after × (text ≡ finished_text actor progress)
+abbrev pub TakesToEnd : Option Link → Trace → ℕ → Trace → List ℕ → Type 0
+TakesToEnd until before actor after text = (progress : Progress) × TakesUpTo until before actor 100000 progress after × (text ≡ finished_text actor progress)
 
 -- an actor that was drawn takes one turn, if it has an operation, and this is printed
 abbrev pub TakesDrawn : Trace → ℕ → Trace → List ℕ → Type 0
@@ -74,11 +74,11 @@ RefusedAmong seed before count refusal after shown =
 abbrev pub Performs : Trace → Request → Trace → List ℕ → Type 0
 Performs before (Begin actor command) after text = TakesTurn before (BeginTurn actor command) event.Began after × (text ≡ [])
 Performs before (Turn actor count) after text = (progress : Progress) × TakesUpTo None before actor count progress after × (text ≡ turned_text actor progress)
-Performs before (Until actor link) after text = Finishes (Some link) before actor after text
-Performs before (Finish actor) after text = Finishes None before actor after text
+Performs before (Until actor link) after text = TakesToEnd (Some link) before actor after text
+Performs before (Finish actor) after text = TakesToEnd None before actor after text
 Performs before (Mix seed count) after text = TakeDrawn before (drawn_by seed before count) after text
 Performs before ListPairs after text = (after ≡ before) × IsOneMap before × (pairs : List (List ℕ × List ℕ)) × IsListing before.limits before.entries pairs × (text ≡ listing_text pairs)
-Performs before (Run command) after text = (mid : Trace) × TakesTurn before (BeginTurn 0 command) event.Began mid × Finishes None mid 0 after text
+Performs before (Run command) after text = (mid : Trace) × TakesTurn before (BeginTurn 0 command) event.Began mid × TakesToEnd None mid 0 after text
 
 -- what is asked for is refused, after this was printed
 abbrev pub RefusesRequest : Trace → Request → Refusal → Trace → List ℕ → Type 0

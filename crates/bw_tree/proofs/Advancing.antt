@@ -17,11 +17,11 @@ use Rattle.chain_search.specs.Knowledge.{Knowledge, knows}
 use Rattle.chain_search.specs.Recalled.{Recalled, recalls}
 use Rattle.chain_search.specs.Trace.{command_of}
 use Rattle.chain_search.specs.Within.{IsWithin}
-use Rattle.slot_rule.specs.Steps.{MayTake, Took}
+use Rattle.slot_rule.specs.Steps.{IsLawfulStep, Took}
 use Rattle.bw_tree.specs.Calls.{Advances}
 use Rattle.bw_tree.specs.Laws.{HaveLaws}
 use Rattle.bw_tree.specs.Runs.{IsLawfulRun}
-use Rattle.bw_tree.specs.Seats.{IsSeated, Seat, command_in}
+use Rattle.bw_tree.specs.Seats.{IsSeated, Seat, unfinished_command}
 use Rattle.bw_tree.proofs.Seats.{Wants, wants, may, allowed, useful, due, going, is_told, goes_so, no_reply, may_take, grown, fits, leaves, command_then, seated_then}
 
 -- what an actor promises of an answer that it takes
@@ -32,8 +32,8 @@ abbrev pub seat_of : TableId → Limits → ℕ → List Entry → Seat
 seat_of table limits a seen = record { table = table; limits = limits; actor = a; seen = seen }
 
 -- what is asked and ensured of a seat, of what it shows
-pub busy_of : (old seat : Seat) → seat ≡ old → IsSome (command_in old) → IsSome (command_in seat)
-busy_of old seat is busy = subst (λ s. IsSome (command_in s)) (sym is) busy
+pub busy_of : (old seat : Seat) → seat ≡ old → IsSome (unfinished_command old) → IsSome (unfinished_command seat)
+busy_of old seat is busy = subst (λ s. IsSome (unfinished_command s)) (sym is) busy
 
 pub advances_of : (old seat new : Seat) (reply : Option Reply) → seat ≡ old → Advances seat reply new → Advances old reply new
 advances_of old seat new reply is h = subst (λ s. Advances s reply new) is h
@@ -48,7 +48,7 @@ module _ (laws : HaveLaws) (limits : Limits) (a : ℕ) (seen : List Entry) (now 
   w : Wants limits a k r now asked
   w = wants limits a k r now asked h.shows e
 
-  pub may_go : MayTake IsLawfulRun limits a seen None asked None
+  pub may_go : IsLawfulStep IsLawfulRun limits a seen None asked None
   may_go = may_take laws limits a seen now h asked None (allowed limits a k r now asked w) (useful limits a k r now asked w) busy (due limits a k r now asked w)
 
   pub known_may : May a k asked
@@ -110,7 +110,7 @@ module _ (laws : HaveLaws) (limits : Limits) (a : ℕ) (seen : List Entry) (now 
     g : GoesOn limits a (knows seen a) (recalls seen a) now Leave Done reply new
     g = goes laws limits a seen now h busy Leave e Done reply new tt takes
 
-    pub leave_may : MayTake IsLawfulRun limits a seen None Leave reply
+    pub leave_may : IsLawfulStep IsLawfulRun limits a seen None Leave reply
     leave_may = may_take laws limits a seen now h Leave reply g.allowed g.useful busy (due limits a (knows seen a) (recalls seen a) now Leave wl)
 
     module _ (told : Answer Record) (later : List Entry) (took : Took IsLawfulRun limits a seen None Leave told reply later) where

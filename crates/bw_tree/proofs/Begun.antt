@@ -21,12 +21,12 @@ use Rattle.chain_search.specs.Steps.{IsAnswer}
 use Rattle.chain_search.specs.Trace.{command_of, memory_of}
 use Rattle.chain_search.specs.Within.{IsWithin}
 use Rattle.op_machine.specs.Hands.{Hand}
-use Rattle.slot_rule.specs.Steps.{MayTake, Took}
+use Rattle.slot_rule.specs.Steps.{IsLawfulStep, Took}
 use Rattle.tree_law.specs.Direct.{Accounts}
 use Rattle.tree_words.specs.Changes.{HasWord}
 use Rattle.bw_tree.specs.Laws.{HaveLaws}
 use Rattle.bw_tree.specs.Runs.{IsLawfulRun}
-use Rattle.bw_tree.specs.Seats.{IsSeated, Seat, command_in}
+use Rattle.bw_tree.specs.Seats.{IsSeated, Seat, unfinished_command}
 use Rattle.bw_tree.proofs.Advancing.{Takes, known_may, may_go, seated_on, told_on, within}
 use Rattle.bw_tree.proofs.Seats.{replaced_same, without_begin}
 
@@ -61,8 +61,8 @@ word_of limits a k (step.ReusePids b c) m w out = let l = limits.allowed.few_pid
 word_of limits a k (step.ReuseRows b c) m w out = let l = limits.allowed.few_rows in let v = w.0 in omega arith
 
 -- what is asked of a seat, of what it shows
-pub idle_of : (old seat : Seat) → seat ≡ old → command_in old ≡ None → command_in seat ≡ None
-idle_of old seat is idle = subst (λ s. command_in s ≡ None) (sym is) idle
+pub idle_of : (old seat : Seat) → seat ≡ old → unfinished_command old ≡ None → unfinished_command seat ≡ None
+idle_of old seat is idle = subst (λ s. unfinished_command s ≡ None) (sym is) idle
 
 module _ (laws : HaveLaws) (limits : Limits) (a : ℕ) (seen : List Entry) (now new : Actor) (command : Command) (there : a < limits.actors) (h : IsSeated limits a seen now) (free : command_of seen a ≡ None)
     (begins : (k : Knowledge) (r : Recalled) → IsActor limits a k r now → IsActor limits a (begun k command) blank new) (has : running_command new ≡ Some command) (few : steps_due blank new.hand new.running < 2 ^ 18) where
@@ -102,7 +102,7 @@ module _ (laws : HaveLaws) (limits : Limits) (a : ℕ) (seen : List Entry) (now 
   busy_then run legal x = subst IsSome (sym has ∙ (begun_seated run legal x).runs) refl
 
   module _ (asked : StepOf Record) (e : wanted_by new.running ≡ Some asked) where
-    pub may_begin : MayTake IsLawfulRun limits a seen (Some command) asked None
+    pub may_begin : IsLawfulStep IsLawfulRun limits a seen (Some command) asked None
     may_begin run told legal x is =
         let seen' : List Entry = run ++ Begin a command ∷ [] in
         let at' : IsSeated limits a seen' new = begun_seated run legal x in

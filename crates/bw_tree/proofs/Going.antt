@@ -14,11 +14,11 @@ use Rattle.chain_search.specs.declared.trace.Entry.{Entry}
 use Rattle.chain_search.specs.declared.trace.Entry.TheVariants.{Begin, Step}
 use Rattle.chain_search.specs.Disciplined.{Extends, is_entry_of, own_entries}
 use Rattle.slot_rule.specs.Views.{IsOf}
-use Rattle.bw_tree.specs.Calls.{Advances, Begins, EndsWith, IsDone, IsCalled, IsFinished, IsResumed, IsSpent, IsStill, answered_last, call_after, calls_along, calls_in, own_count}
+use Rattle.bw_tree.specs.Calls.{Advances, HasBegun, EndsWith, IsDone, IsCalled, IsFinished, IsResumed, IsSpent, IsStill, answered_last, call_after, calls_along, calls_in, own_count}
 use Rattle.bw_tree.specs.Runs.{StartsWith}
 use Rattle.bw_tree.specs.declared.called.Called.{Called}
 use Rattle.bw_tree.specs.declared.called.Called.TheVariants as called
-use Rattle.bw_tree.specs.Seats.{IsSame, Seat, command_in}
+use Rattle.bw_tree.specs.Seats.{IsSame, Seat, unfinished_command}
 
 -- the own entries of a longer run
 own_append : (a : ℕ) (run rest : List Entry) → own_entries a (run ++ rest) ≡ own_entries a run ++ own_entries a rest
@@ -61,7 +61,7 @@ same_on s t u p q = record { table = q.table ∙ p.table; limits = q.limits ∙ 
 pub of_same : (key : Limits) (table : TableId) (s t : Seat) → IsSame s t → IsOf s.limits key table s.table → IsOf t.limits key table t.table
 of_same key table s t p h = record { same = p.table ∙ h.same; wide = rw p.limits h.wide; own = h.own ∙ sym p.limits }
 
-pub busy_still : (s t : Seat) (n : ℕ) → IsStill s n t → IsSome (command_in s) → IsSome (command_in t)
+pub busy_still : (s t : Seat) (n : ℕ) → IsStill s n t → IsSome (unfinished_command s) → IsSome (unfinished_command t)
 busy_still s t n still busy = subst IsSome (sym still.busy) busy
 
 pub still_at : (s t : Seat) (n budget : ℕ) → n ≡ budget → IsStill s n t → IsStill s budget t
@@ -116,7 +116,7 @@ module _ (old mid : Seat) (n : ℕ) (same : IsSame old mid) (still : IsStill old
       }
 
 -- a call: its operation began, and went on
-module _ (old mid : Seat) (command : Command) (same : IsSame old mid) (h : Begins old command mid) where
+module _ (old mid : Seat) (command : Command) (same : IsSame old mid) (h : HasBegun old command mid) where
   abbrev first : Entry
   first = Step old.actor h.step h.told None
 

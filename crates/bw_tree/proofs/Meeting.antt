@@ -10,7 +10,7 @@ use Rattle.chain_search.specs.Recalled.{recalls}
 use Rattle.slot_rule.specs.declared.view.Part.{Part}
 use Rattle.slot_rule.specs.declared.view.Reach.TheVariants.{Idle}
 use Rattle.slot_rule.specs.Running.{Each}
-use Rattle.slot_rule.specs.Views.{HasPart, IsAt, Looked, Mine, alone, first_part, other_parts, part, refreshed, seen_of}
+use Rattle.slot_rule.specs.Views.{HasPart, SitsAt, Looked, Mine, alone, first_part, other_parts, part, refreshed, seen_of}
 use Rattle.tree_law.specs.Direct.{Accounts}
 use Rattle.tree_law.specs.Own.{OwnLasts}
 use Rattle.bw_tree.specs.Runs.{IsLawfulRun}
@@ -27,7 +27,7 @@ seated_extends own limits number seen run at seated legal extends =
       pays = subst (λ r. Accounts limits run number (steps_due r at.hand at.running)) (sym lasts.recalled) (lasts.affords (steps_due (recalls seen number) at.hand at.running) seated.pays);
     }
 
-pub seat_extends : OwnLasts → (limits : Limits) (number : ℕ) (me me' : Mine) (run : List Entry) (at : Actor) → IsSeat limits number me at → IsLawfulRun limits run → Extends number (seen_of me) run → IsAt limits number Idle me' → seen_of me' ≡ run
+pub seat_extends : OwnLasts → (limits : Limits) (number : ℕ) (me me' : Mine) (run : List Entry) (at : Actor) → IsSeat limits number me at → IsLawfulRun limits run → Extends number (seen_of me) run → SitsAt limits number Idle me' → seen_of me' ≡ run
     → IsSeat limits number me' at
 seat_extends own limits number me me' run at seat legal extends place saw = record {
   there = seat.there;
@@ -35,7 +35,7 @@ seat_extends own limits number me me' run at seat legal extends place saw = reco
   seated = subst (λ seen. IsSeated limits number seen at) (sym saw) (seated_extends own limits number (seen_of me) run at seat.seated legal extends);
 }
 
-module _ (limits : Limits) (a b : ℕ) (one other joined : Mine) (at : IsAt limits a Idle one) (at_other : IsAt limits b Idle other) (both : joined ≡ (one.0 ++ other.0, one.1)) where
+module _ (limits : Limits) (a b : ℕ) (one other joined : Mine) (at : SitsAt limits a Idle one) (at_other : SitsAt limits b Idle other) (both : joined ≡ (one.0 ++ other.0, one.1)) where
   both_is : joined ≡ (part limits a (seen_of one) Idle ∷ part limits b (seen_of other) Idle ∷ [], [])
   both_is = both ∙ ap (λ (z : List Part). (z ++ other.0, one.1)) (ap (λ (m : Mine). m.0) at)
       ∙ ap (λ (z : List Part). (alone limits a (seen_of one) Idle ++ z, one.1)) (ap (λ (m : Mine). m.0) at_other)
@@ -60,10 +60,10 @@ module _ (limits : Limits) (a b : ℕ) (one other joined : Mine) (at : IsAt limi
     pub right_saw : seen_of right ≡ saw.run
     right_saw = ap seen_of right_is
 
-    left_at : IsAt limits a Idle left
+    left_at : SitsAt limits a Idle left
     left_at = subst (λ run. left ≡ (alone limits a run Idle, [])) (sym left_saw) left_is
 
-    right_at : IsAt limits b Idle right
+    right_at : SitsAt limits b Idle right
     right_at = subst (λ run. right ≡ (alone limits b run Idle, [])) (sym right_saw) right_is
 
     both_extend : Each (λ p. Extends p.actor p.seen saw.run) (part limits a (seen_of one) Idle ∷ part limits b (seen_of other) Idle ∷ [])

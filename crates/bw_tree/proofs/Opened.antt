@@ -12,11 +12,11 @@ use Rattle.chain_search.specs.Knowledge.{nothing}
 use Rattle.chain_search.specs.Recalled.{Recalled, blank}
 use Rattle.slot_rule.specs.declared.view.Reach.TheVariants.{Idle}
 use Rattle.slot_rule.specs.Running.{Running}
-use Rattle.slot_rule.specs.Views.{IsAt, Mine, alone, dealt, dealt_from, first_part, other_parts, seen_of}
+use Rattle.slot_rule.specs.Views.{SitsAt, Mine, alone, dealt, dealt_from, first_part, other_parts, seen_of}
 use Rattle.tree_words.specs.Opening.{opening_words}
 use Rattle.bw_tree.specs.Runs.{IsLawfulRun}
 use Rattle.bw_tree.specs.Seats.{IsSeat, Seat}
-use Rattle.bw_tree.specs.Trees.{IsTree, Tree, fresh_seat}
+use Rattle.bw_tree.specs.Trees.{IsTreeTable, Tree, fresh_seat}
 
 abbrev IdleRest : Type 0
 IdleRest = (limits : Limits) (number : ℕ) (r : Recalled) → IsActor limits number nothing r (idle_actor limits)
@@ -36,7 +36,7 @@ pub fresh : (limits : Limits) (number : ℕ) (me : Mine) (actor : Actor) → Idl
 fresh limits number me actor rest legal there is idle = subst (IsSeat limits number me) (sym idle) (fresh_idle limits number me rest legal there is)
 
 pub is_tree : (limits key : Limits) (table : TableId) (words : List ℕ) → table.words ≡ length words → table.slots ≡ 0 → key ≡ limits → words ≡ opening_words limits
-    → Running limits (IsLawfulRun limits) (opening (opening_words limits) [] (dealt limits)) → IsTree limits key table
+    → Running limits (IsLawfulRun limits) (opening (opening_words limits) [] (dealt limits)) → IsTreeTable limits key table
 is_tree limits key table words many none own are rule = record { wide = many ∙ ap length are ∙ rule.wide; slots = none; own = own }
 
 -- the first of the actors that are left gets a seat, and the others are left

@@ -20,7 +20,7 @@ use Rattle.chain_search.specs.Discipline.{IsAllowed, May, MayFree, MayReply}
 use Rattle.chain_search.specs.Disciplined.{Extends}
 use Rattle.chain_search.specs.Fitting.{Fits}
 use Rattle.chain_search.specs.Knowledge.{Knowledge, finished, knows, learn}
-use Rattle.chain_search.specs.Recalled.{IsSpent, Recalled, recall, recalls}
+use Rattle.chain_search.specs.Recalled.{IsStepSpent, Recalled, recall, recalls}
 use Rattle.chain_search.specs.Steps.{IsAnswer}
 use Rattle.chain_search.specs.Trace.{command_of, commands_after, memory_of}
 use Rattle.chain_search.specs.Useful.{IsUseful}
@@ -31,7 +31,7 @@ use Rattle.op_machine.specs.Spending.{sweep_left}
 use Rattle.op_machine.specs.Tasks.{Task}
 use Rattle.op_machine.specs.declared.state.State.{State}
 use Rattle.op_machine.specs.declared.state.State.TheVariants as state
-use Rattle.slot_rule.specs.Steps.{MayTake, Took, with_step}
+use Rattle.slot_rule.specs.Steps.{IsLawfulStep, Took, with_step}
 use Rattle.tree_law.specs.Direct.{Accounts, StaysDirect}
 use Rattle.bw_tree.specs.Laws.{HaveLaws}
 use Rattle.bw_tree.specs.Runs.{IsLawfulRun}
@@ -122,14 +122,14 @@ module _ (laws : HaveLaws) (limits : Limits) (a : ℕ) (seen : List Entry) (now 
   k = knows seen a
 
   stays : (run : List Entry) (told : Answer Record) (rest : ℕ) → IsLawfulRun limits run → Extends a seen run → IsAnswer (memory_of limits run) asked told
-      → IsSpent (recalls seen a) asked told (steps_due (recalls seen a) now.hand now.running) rest → StaysDirect limits run (Step a asked told reply) a rest
+      → IsStepSpent (recalls seen a) asked told (steps_due (recalls seen a) now.hand now.running) rest → StaysDirect limits run (Step a asked told reply) a rest
   stays run told rest legal x is spent =
       let lasts = laws.own limits a seen run x in
       laws.steps_directly limits run a (steps_due (recalls seen a) now.hand now.running) rest asked told reply legal.state
       (subst (λ q. IsAllowed limits a q asked reply) (sym lasts.known) allowed) (subst (λ q. IsUseful q asked) (sym lasts.known) useful) is legal.direct (lasts.affords _ h.pays)
-      (subst (λ q. IsSpent q asked told (steps_due (recalls seen a) now.hand now.running) rest) (sym lasts.recalled) spent)
+      (subst (λ q. IsStepSpent q asked told (steps_due (recalls seen a) now.hand now.running) rest) (sym lasts.recalled) spent)
 
-  pub may_take : IsSome (command_of seen a) → 0 < steps_due (recalls seen a) now.hand now.running → MayTake IsLawfulRun limits a seen None asked reply
+  pub may_take : IsSome (command_of seen a) → 0 < steps_due (recalls seen a) now.hand now.running → IsLawfulStep IsLawfulRun limits a seen None asked reply
   may_take busy some run told legal x is =
       let lasts = laws.own limits a seen run x in
       subst (IsLawfulRun limits) (without_begin run a asked told reply) (record {

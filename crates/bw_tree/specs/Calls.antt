@@ -14,7 +14,7 @@ use Rattle.chain_search.specs.Disciplined.{Extends, own_entries}
 use Rattle.chain_search.specs.Steps.{IsAnswer}
 use Rattle.chain_search.specs.Trace.{memory_of}
 use Rattle.bw_tree.specs.Runs.{StartsWith}
-use Rattle.bw_tree.specs.Seats.{Seat, command_in}
+use Rattle.bw_tree.specs.Seats.{Seat, unfinished_command}
 use Rattle.bw_tree.specs.declared.called.Called.{Called}
 use Rattle.bw_tree.specs.declared.called.Called.TheVariants.{Done, Spent}
 
@@ -55,7 +55,7 @@ pub record IsDone (old : Seat) (command : Command) (budget : ℕ) (reply : Reply
   pub ends : EndsWith new reply
   pub steps : own_count new ≤ own_count old + (1 + budget)
   pub calls : calls_in new ≡ calls_in old ++ (command, Some reply) ∷ []
-  pub idle : command_in new ≡ None
+  pub idle : unfinished_command new ≡ None
 
 -- A call that is spent: it has taken exactly so many own steps, beside the begin, and is the last call, without a reply. Its
 -- operation is unfinished.
@@ -63,7 +63,7 @@ pub record IsSpent (old : Seat) (command : Command) (budget : ℕ) (new : Seat) 
   pub grows : StartsWith new.seen old.seen
   pub steps : own_count new ≡ own_count old + (1 + budget)
   pub calls : calls_in new ≡ calls_in old ++ (command, None) ∷ []
-  pub busy : command_in new ≡ Some command
+  pub busy : unfinished_command new ≡ Some command
 
 abbrev pub IsCalled : Seat → Command → ℕ → Called → Seat → Type 0
 IsCalled old command budget (Done reply) new = IsDone old command budget reply new
@@ -75,28 +75,28 @@ pub record IsFinished (old : Seat) (budget : ℕ) (reply : Reply) (new : Seat) :
   pub ends : EndsWith new reply
   pub steps : own_count new ≤ own_count old + budget
   pub calls : calls_in new ≡ answered_last (calls_in old) reply
-  pub idle : command_in new ≡ None
+  pub idle : unfinished_command new ≡ None
 
 -- One that went on is spent again, after exactly so many: the same operation is unfinished.
 pub record IsStill (old : Seat) (budget : ℕ) (new : Seat) : Type 0 where
   pub grows : StartsWith new.seen old.seen
   pub steps : own_count new ≡ own_count old + budget
   pub calls : calls_in new ≡ calls_in old
-  pub busy : command_in new ≡ command_in old
+  pub busy : unfinished_command new ≡ unfinished_command old
 
 abbrev pub IsResumed : Seat → ℕ → Called → Seat → Type 0
 IsResumed old budget (Done reply) new = IsFinished old budget reply new
 IsResumed old budget Spent new = IsStill old budget new
 
 -- The seat's operation began, with its first step, after a run that goes on from what was seen by steps of others alone.
-pub record Begins (old : Seat) (asked : Command) (new : Seat) : Type 0 where
+pub record HasBegun (old : Seat) (asked : Command) (new : Seat) : Type 0 where
   pub run : List Entry
   pub extends : Extends old.actor old.seen run
   pub step : StepOf Record
   pub told : Answer Record
   pub answered : IsAnswer (memory_of old.limits run) step told
   pub grown : new.seen ≡ (run ++ Begin old.actor asked ∷ []) ++ Step old.actor step told None ∷ []
-  pub command : command_in new ≡ Some asked
+  pub command : unfinished_command new ≡ Some asked
 
 -- The seat's actor took one step after such a run, and ended its operation with it, or not.
 pub record Advances (old : Seat) (reply : Option Reply) (new : Seat) : Type 0 where
@@ -107,4 +107,4 @@ pub record Advances (old : Seat) (reply : Option Reply) (new : Seat) : Type 0 wh
   pub answered : IsAnswer (memory_of old.limits run) step told
   pub grown : new.seen ≡ run ++ Step old.actor step told reply ∷ []
   pub last : IfSome reply (λ given. (step ≡ Leave) × (told ≡ answer.Done))
-  pub command : command_in new ≡ command_left reply (command_in old)
+  pub command : unfinished_command new ≡ command_left reply (unfinished_command old)

@@ -3,15 +3,15 @@ use Rattle.std.specs.Prelude.{◌≡◌, ◌<◌, ◌≤◌, ℕ, Bool, true, fa
 use Rattle.bw_model.specs.declared.limits.Limits.{Limits}
 use Rattle.deltas.specs.declared.record.Record.{Record}
 use Rattle.deltas.specs.Memory.{Memory}
-use Rattle.slot_rule.specs.Running.{IsKept}
+use Rattle.slot_rule.specs.Running.{IsSpelledRow}
 use Rattle.tree_words.specs.Words.{AreWordsOf}
 
 -- Each of so many places holds its word.
-abbrev pub AreFull : List Bool → ℕ → Type 0
-AreFull filled count = (place : ℕ) → 0 ≤ place → place < count → slice_index_or filled place false ≡ true
+abbrev pub AreFilled : List Bool → ℕ → Type 0
+AreFilled filled count = (place : ℕ) → 0 ≤ place → place < count → slice_index_or filled place false ≡ true
 
 -- The words are those of the memory, and each record of it has words.
 pub record KeepMemory (words : List ℕ) (memory : Memory) : Type 0 where
   pub limits : Limits
   pub are : AreWordsOf limits memory words
-  pub kept : (row : ℕ) (content : Record) → memory.rows row ≡ Some content → IsKept limits row content
+  pub kept : (row : ℕ) (content : Record) → memory.rows row ≡ Some content → IsSpelledRow limits row content

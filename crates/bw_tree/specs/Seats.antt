@@ -10,7 +10,7 @@ use Rattle.chain_search.specs.Knowledge.{knows}
 use Rattle.chain_search.specs.Recalled.{recalls}
 use Rattle.chain_search.specs.Trace.{command_of}
 use Rattle.slot_rule.specs.declared.view.Reach.TheVariants.{Idle}
-use Rattle.slot_rule.specs.Views.{IsAt, Mine, seen_of}
+use Rattle.slot_rule.specs.Views.{SitsAt, Mine, seen_of}
 use Rattle.tree_law.specs.Direct.{Accounts}
 use Rattle.bw_tree.specs.Runs.{IsLawfulRun}
 
@@ -22,8 +22,8 @@ pub record Seat : Type 0 where
   pub seen : List Entry
 
 -- the command that its operation has, if it has one
-abbrev pub command_in : Seat → Option Command
-command_in seat = command_of seat.seen seat.actor
+abbrev pub unfinished_command : Seat → Option Command
+unfinished_command seat = command_of seat.seen seat.actor
 
 -- What an actor keeps shows what its own entries let it know and recall; it runs what the run says that it has not finished, and
 -- causes pay for the steps that it has taken and those that it has left.
@@ -36,7 +36,7 @@ pub record IsSeated (limits : Limits) (number : ℕ) (seen : List Entry) (at : A
 -- what a seat keeps between two calls
 pub record IsSeat (limits : Limits) (number : ℕ) (me : Mine) (at : Actor) : Type 0 where
   pub there : number < limits.actors
-  pub place : IsAt limits number Idle me
+  pub place : SitsAt limits number Idle me
   pub seated : IsSeated limits number (seen_of me) at
 
 -- the same seat, which may have seen more

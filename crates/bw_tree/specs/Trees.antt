@@ -13,7 +13,7 @@ use Rattle.slot_rule.specs.Running.{Each}
 use Rattle.slot_rule.specs.Views.{part}
 use Rattle.tree_words.specs.Layout.{width}
 use Rattle.bw_tree.specs.Runs.{IsOneHistory, StartsWith}
-use Rattle.bw_tree.specs.Seats.{IsSame, Seat, command_in}
+use Rattle.bw_tree.specs.Seats.{IsSame, Seat, unfinished_command}
 
 -- a tree: its limits, and which table it has
 pub record Tree : Type 0 where
@@ -21,7 +21,7 @@ pub record Tree : Type 0 where
   pub table : TableId
 
 -- its table has the words of a tree of these limits, and nothing else
-pub record IsTree (limits key : Limits) (table : TableId) : Type 0 where
+pub record IsTreeTable (limits key : Limits) (table : TableId) : Type 0 where
   pub wide : table.words ≡ width limits
   pub slots : table.slots ≡ 0
   pub own : key ≡ limits
@@ -63,7 +63,7 @@ AreSeatsOf tree seats = (n : ℕ) (seat : Seat) → slice_get seats n ≡ Some s
 
 -- A seat has an operation.
 abbrev pub HasBusy : List Seat → Type 0
-HasBusy seats = (n : ℕ) × (seat : Seat) × (slice_get seats n ≡ Some seat) × (command_in seat ≡ None → ⊥)
+HasBusy seats = (n : ℕ) × (seat : Seat) × (slice_get seats n ≡ Some seat) × (unfinished_command seat ≡ None → ⊥)
 
 -- The parts are those of the seats, in some order, each between two steps: as many seats, and for each seat a part.
 pub record HasPartsOf (limits : Limits) (seats : List Seat) (parts : List Part) : Type 0 where

@@ -1,7 +1,7 @@
 //! What a closed table has: its words as the slots and rows of a memory, and the pairs in its leaves.
 ghost use Rattle.std.specs.Prelude.{◌≡◌, ◌<◌, ◌≤◌, ◌*◌, ℕ, List, [], length, slice_index};
 ghost use Rattle.std.specs.Vec.{vec_capacity};
-ghost use Rattle.bw_tree.specs.Closed.{AreFull, KeepMemory};
+ghost use Rattle.bw_tree.specs.Closed.{AreFilled, KeepMemory};
 ghost use Rattle.bw_tree.specs.Runs.{IsLawfulRun};
 ghost use Rattle.chain_search.specs.declared.trace.Entry.{Entry};
 ghost use Rattle.chain_search.specs.Trace.{memory_of};
@@ -24,9 +24,9 @@ struct ClosedRows<'a, A: Allocator> {
 }
 
 impl<'a, A: Allocator> Rows for ClosedRows<'a, A> {
-    ghost use Rattle.bw_tree.specs.Closed.{AreFull, KeepMemory};
+    ghost use Rattle.bw_tree.specs.Closed.{AreFilled, KeepMemory};
 
-    ghost has = { λ rows memory. AreFull rows.closed.now.words.filled rows.closed.now.words.len × KeepMemory rows.closed.now.words.items memory };
+    ghost has = { λ rows memory. AreFilled rows.closed.now.words.filled rows.closed.now.words.len × KeepMemory rows.closed.now.words.items memory };
 
     fn slot(&self, pid: u16) -> u16 {
         self.closed.word(slot_place(pid)) as u16
@@ -44,7 +44,7 @@ impl<'a, A: Allocator> Rows for ClosedRows<'a, A> {
 
 /// The words of a row.
 fn row_of<A: Allocator>(closed: &Closed<(), A>, row: u16) -> [u64; 256]
-    requires full { AreFull closed.now.words.filled closed.now.words.len }
+    requires full { AreFilled closed.now.words.filled closed.now.words.len }
     requires there { row_at row 255 < closed.now.words.len }
     ensures long { length result ≡ 256 }
     ensures words { (j : ℕ) → j < 256 → slice_index result j ≡ slice_index closed.now.words.items (row_at row j) }
@@ -66,7 +66,7 @@ pub(crate) fn list<A: Allocator, B: Allocator>(
     requires empty { pairs.items ≡ [] }
     requires room { 24 * limits.now.pids ≤ vec_capacity pairs }
     requires slots { closed.slots.len ≡ 0 }
-    requires full { AreFull closed.words.filled closed.words.len }
+    requires full { AreFilled closed.words.filled closed.words.len }
     requires left { (run : List Entry) × IsLawfulRun limits.now run × KeepMemory closed.words.items (memory_of limits.now run) }
     ensures { (run : List Entry) → IsLawfulRun limits.now run → KeepMemory closed.words.items (memory_of limits.now run) → IsListing limits.now run result.items }
 {

@@ -1,7 +1,7 @@
 //! A tree is closed.
 ghost use Rattle.std.specs.Prelude.{◌≡◌, ◌<◌, ◌≤◌, ◌*◌, [], length, IfErr, IfOk, MatchBool};
 ghost use Rattle.std.specs.Vec.{vec_capacity};
-ghost use Rattle.bw_tree.specs.Trees.{AreClosed, AreSeatsOf, HasBusy, HasPartsOf, IsTree};
+ghost use Rattle.bw_tree.specs.Trees.{AreClosed, AreSeatsOf, HasBusy, HasPartsOf, IsTreeTable};
 
 use crate::called::{CloseError, CloseRefusal};
 use crate::closed::list;
@@ -94,7 +94,7 @@ fn are_idle<A: Allocator>(seats: &[BwSeat<A>]) -> bool
 
 /// All seats in one.
 fn joined<A: Allocator>(words: &TreeWords, limits: &Limits, seats: Vec<BwSeat<A>, A>) -> TableSeat
-    requires table { IsTree limits.now words.now.key words.now.table_id }
+    requires table { IsTreeTable limits.now words.now.key words.now.table_id }
     requires own { AreSeatsOf (record { limits = limits.now; table = words.now.table_id }) seats.items }
     ensures table { result.table_id ≡ words.now.table_id }
     ensures home { result.me.1 ≡ [] }

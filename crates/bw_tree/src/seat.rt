@@ -1,8 +1,8 @@
 //! A seat of a running tree.
 ghost use Rattle.std.specs.Prelude.{◌≡◌, None, IsSome, is_none};
-ghost use Rattle.bw_tree.specs.Calls.{Advances, Begins, IsResumed};
+ghost use Rattle.bw_tree.specs.Calls.{Advances, HasBegun, IsResumed};
 ghost use Rattle.bw_tree.specs.Runs.{IsOneHistory};
-ghost use Rattle.bw_tree.specs.Seats.{IsSame, command_in};
+ghost use Rattle.bw_tree.specs.Seats.{IsSame, unfinished_command};
 ghost use Rattle.slot_rule.specs.Views.{IsOf};
 
 use crate::called::Called;
@@ -37,7 +37,7 @@ impl<A: Allocator> Model for BwSeat<A> {
 impl<A: Allocator> BwSeat<A> {
     /// Whether it has no unfinished operation.
     pub fn is_idle(&self) -> bool
-        ensures { result ≡ is_none (command_in self.now) }
+        ensures { result ≡ is_none (unfinished_command self.now) }
     {
         !self.actor.is_running()
     }
@@ -53,9 +53,9 @@ impl<A: Allocator> BwSeat<A> {
     /// Begins an operation, with its first step.
     pub(crate) fn begin(&mut self, words: &TreeWords, command: Command)
         requires own { IsOf self.old.limits words.now.key words.now.table_id self.old.table }
-        requires idle { command_in self.old ≡ None }
+        requires idle { unfinished_command self.old ≡ None }
         ensures same { IsSame self.old self.new }
-        ensures begins { Begins self.old command self.new }
+        ensures begins { HasBegun self.old command self.new }
     {
         laws_of_runs();
         self.actor.begin(command, self.number, &self.limits);
@@ -77,7 +77,7 @@ impl<A: Allocator> BwSeat<A> {
     /// Goes on with its operation for so many steps, or to its end.
     pub(crate) fn go_on(&mut self, words: &TreeWords, budget: u32) -> Called
         requires own { IsOf self.old.limits words.now.key words.now.table_id self.old.table }
-        requires busy { IsSome (command_in self.old) }
+        requires busy { IsSome (unfinished_command self.old) }
         ensures same { IsSame self.old self.new }
         ensures goes { IsResumed self.old budget result self.new }
     {
@@ -92,7 +92,7 @@ impl<A: Allocator> BwSeat<A> {
     /// Takes the one step that its operation wants, and answers the reply, if it is done.
     fn advance(&mut self, words: &TreeWords) -> Option<Reply>
         requires own { IsOf self.old.limits words.now.key words.now.table_id self.old.table }
-        requires busy { IsSome (command_in self.old) }
+        requires busy { IsSome (unfinished_command self.old) }
         ensures same { IsSame self.old self.new }
         ensures advances { Advances self.old result self.new }
     {

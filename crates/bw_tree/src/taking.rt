@@ -5,8 +5,8 @@ ghost use Rattle.chain_search.specs.Discipline.{May};
 ghost use Rattle.chain_search.specs.Knowledge.{knows};
 ghost use Rattle.chain_search.specs.Within.{IsWithin};
 ghost use Rattle.slot_rule.specs.declared.view.Reach.TheVariants.{Idle};
-ghost use Rattle.slot_rule.specs.Steps.{MayTake, Took};
-ghost use Rattle.slot_rule.specs.Views.{IsAt, IsOf, seen_of};
+ghost use Rattle.slot_rule.specs.Steps.{IsLawfulStep, Took};
+ghost use Rattle.slot_rule.specs.Views.{SitsAt, IsOf, seen_of};
 
 use crate::law::{TreeWords, runs_keep_rows_apart};
 use bw_model::{Answer, Limits, Step};
@@ -25,11 +25,11 @@ pub(crate) fn take(
     requires table { IsOf limits.now words.now.key words.now.table_id place.old.table_id }
     requires there { number < limits.now.actors }
     requires within { IsWithin limits.now step.now }
-    requires seat { IsAt limits.now number Idle place.old.me }
+    requires seat { SitsAt limits.now number Idle place.old.me }
     requires known { May number (knows (seen_of place.old.me) number) step.now }
-    requires may { MayTake IsLawfulRun limits.now number (seen_of place.old.me) None step.now None }
+    requires may { IsLawfulStep IsLawfulRun limits.now number (seen_of place.old.me) None step.now None }
     ensures same { place.new.table_id ≡ place.old.table_id }
-    ensures seat { IsAt limits.now number Idle place.new.me }
+    ensures seat { SitsAt limits.now number Idle place.new.me }
     ensures took { Took IsLawfulRun limits.now number (seen_of place.old.me) None step.now result None (seen_of place.new.me) }
 {
     runs_keep_rows_apart();

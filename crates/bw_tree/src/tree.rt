@@ -2,7 +2,7 @@
 ghost use Rattle.std.specs.Prelude.{◌≡◌, ◌≤◌, None, IsSome};
 ghost use Rattle.bw_tree.specs.Calls.{IsCalled, IsResumed};
 ghost use Rattle.bw_tree.specs.Runs.{IsOneHistory};
-ghost use Rattle.bw_tree.specs.Seats.{IsSame, command_in};
+ghost use Rattle.bw_tree.specs.Seats.{IsSame, unfinished_command};
 ghost use Rattle.bw_tree.specs.Trees.{HaveMet, IsSeatOf};
 
 use crate::called::Called;
@@ -24,13 +24,13 @@ pub struct Tree<A: Allocator = Global> {
 }
 
 impl<A: Allocator> Model for Tree<A> {
-    ghost use Rattle.bw_tree.specs.Trees.{IsTree, Tree};
+    ghost use Rattle.bw_tree.specs.Trees.{IsTreeTable, Tree};
 
     ghost Value = { Tree };
 
     ghost view = { λ t. record { limits = t.limits; table = t.table.shared.table_id } };
 
-    ghost invariant = { λ t. IsTree t.limits t.table.shared.key t.table.shared.table_id };
+    ghost invariant = { λ t. IsTreeTable t.limits t.table.shared.key t.table.shared.table_id };
 }
 
 impl<A: Allocator> Tree<A> {
@@ -38,7 +38,7 @@ impl<A: Allocator> Tree<A> {
     /// comes after exactly `budget` steps; the operation stays in the seat, to be resumed.
     pub fn call(&self, seat: &mut BwSeat<A>, command: Command, budget: u32) -> Called
         requires own { IsSeatOf self.now seat.old }
-        requires idle { command_in seat.old ≡ None }
+        requires idle { unfinished_command seat.old ≡ None }
         requires some { 1 ≤ budget }
         ensures same { IsSame seat.old seat.new }
         ensures called { IsCalled seat.old command budget result seat.new }
@@ -53,7 +53,7 @@ impl<A: Allocator> Tree<A> {
     /// Goes on with the operation of a seat, for at most `budget` steps. `Spent` comes after exactly `budget` steps.
     pub fn resume(&self, seat: &mut BwSeat<A>, budget: u32) -> Called
         requires own { IsSeatOf self.now seat.old }
-        requires busy { IsSome (command_in seat.old) }
+        requires busy { IsSome (unfinished_command seat.old) }
         requires some { 1 ≤ budget }
         ensures same { IsSame seat.old seat.new }
         ensures resumed { IsResumed seat.old budget result seat.new }

@@ -11,12 +11,12 @@ use Rattle.deltas.specs.Spellable.{IsSpellable}
 use Rattle.chain_search.specs.declared.delta.Kept.{Kept}
 use Rattle.chain_search.specs.declared.delta.Kept.TheVariants as kept
 use Rattle.chain_search.specs.declared.delta.KeptMerge.{KeptMerge}
-use Rattle.chain_search.specs.Deltas.{IsSmall, record_of}
+use Rattle.chain_search.specs.Deltas.{IsSmallDelta, record_of}
 use Rattle.chain_search.specs.Fitted.{IsFitted}
 use Rattle.chain_search.proofs.FittedLaws.{fits_at, over}
 
 -- a delta that a row can spell needs little room
-pub small : (delta : Record) → is_some (next_row delta) ≡ true → IsSpellable delta → IsSmall delta
+pub small : (delta : Record) → is_some (next_row delta) ≡ true → IsSpellable delta → IsSmallDelta delta
 small (kind.Base page) next h = cc
 small (kind.Put put) next h = tt
 small (kind.Delete delete) next h = tt
@@ -28,7 +28,7 @@ small (kind.Merge merge) next h = (h.2, h.3.ruled.is_page.ordered)
 small (kind.Unterm unterm) next h = tt
 
 -- so does each delta of a chain
-pub small_at : (deltas : List Record) (base : Page) (place : ℕ) (d : Record) → IsFitted (over deltas base) → place < length deltas → IsSmall (get_or deltas place d)
+pub small_at : (deltas : List Record) (base : Page) (place : ℕ) (d : Record) → IsFitted (over deltas base) → place < length deltas → IsSmallDelta (get_or deltas place d)
 small_at deltas base place d h within =
     let fits = fits_at deltas base place d h within in
     small (get_or deltas place d) fits.delta fits.spellable

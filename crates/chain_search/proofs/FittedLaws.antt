@@ -24,7 +24,7 @@ use Rattle.deltas.specs.declared.record.Record.TheVariants as kind
 use Rattle.deltas.specs.declared.record.Record.TheVariants.{Base}
 use Rattle.deltas.specs.Records.{names, content_said, next_row, level_after, low_after, high_after, right_after, removed_after}
 use Rattle.deltas.specs.Applies.{Applies}
-use Rattle.deltas.specs.Fits.{Fits}
+use Rattle.deltas.specs.Fits.{FitsOnPage}
 use Rattle.deltas.specs.Spellable.{HasPid, IsPid, IsSpellable, IsSpellablePage}
 use Rattle.chain_search.specs.Chains.{content_in, level_in, low_in, high_in, right_in}
 use Rattle.chain_search.specs.Fitted.{FitsOver, IsFitted, Makes}
@@ -128,7 +128,7 @@ Makes-next under newest page made m a = record {
 
 -- a delta that fits the page made under it, and makes of it one that keeps the rules
 pub fits_over : (under : List Record) (newest : Record) (page made : Page) → is_some (next_row newest) ≡ true → IsSpellable newest
-    → Makes under page → Fits page newest → Applies page newest made → IsRuled made → FitsOver under newest
+    → Makes under page → FitsOnPage page newest → Applies page newest made → IsRuled made → FitsOver under newest
 fits_over under newest page made delta spellable makes fit applies ruled = record {
   delta = delta;
   spellable = spellable;
@@ -141,8 +141,8 @@ fits_over under newest page made delta spellable makes fit applies ruled = recor
 }
 
 -- the delta fits each page that is made under it
-pub fits : (under : List Record) (newest : Record) (page : Page) → FitsOver under newest → Makes under page → Fits page newest
-fits under newest page f m = subst (λ (p : Page). Fits p newest) (Makes-unique under f.page page f.makes m) f.fits
+pub fits : (under : List Record) (newest : Record) (page : Page) → FitsOver under newest → Makes under page → FitsOnPage page newest
+fits under newest page f m = subst (λ (p : Page). FitsOnPage p newest) (Makes-unique under f.page page f.makes m) f.fits
 
 -- the page that a fitted chain makes keeps the rules
 pub ruled : (chain : List Record) (page : Page) → IsFitted chain → Makes chain page → IsRuled page
@@ -267,11 +267,11 @@ base_makes (newest ∷ under) base h = base_makes under base (first_fits newest 
 
 -- the delta above the ones that made the page fits it
 pub fits_above : (deltas : List Record) (base page : Page) (place : ℕ) (delta : Record) → IsFitted (over deltas base) → 0 < place → place ≤ length deltas
-    → Makes (over (drop place deltas) base) page → delta ≡ get_or deltas (place - 1) delta → Fits page delta
+    → Makes (over (drop place deltas) base) page → delta ≡ get_or deltas (place - 1) delta → FitsOnPage page delta
 fits_above deltas base page place delta h some within m is =
     let is_next : place ≡ suc (place - 1) = omega arith in
     let makes = subst (λ n. Makes (over (drop n deltas) base) page) is_next m in
-    subst (Fits page) (sym is) (fits _ _ page (fits_at deltas base (place - 1) delta h (omega arith)) makes)
+    subst (FitsOnPage page) (sym is) (fits _ _ page (fits_at deltas base (place - 1) delta h (omega arith)) makes)
 
 -- a delta keeps the level and the low key
 keeps_start : (delta : Record) (level : ℕ) (low : List ℕ) → is_some (next_row delta) ≡ true → (level_after delta level ≡ level) × (low_after delta low ≡ low)

@@ -13,7 +13,7 @@ use Rattle.base_page.specs.Pages.{empty_leaf}
 use Rattle.deltas.specs.declared.record.Record.{Record}
 use Rattle.deltas.specs.declared.record.Record.TheVariants.{Base}
 use Rattle.deltas.specs.Memory.{opening, replaced_at}
-use Rattle.chain_search.specs.Steps.{is_among}
+use Rattle.bw_model.specs.Words.{is_among}
 use Rattle.chain_search.specs.Tables.{Table, is_free, memory_in}
 
 same_or_not : (a b : ℕ) → (a ≡ b) ⊎ (a ≢ b)

@@ -7,10 +7,10 @@ use Rattle.chain_search.specs.declared.delta.Kept.{Kept}
 use Rattle.chain_search.specs.declared.delta.Kept.TheVariants.{Put, Delete, Split, Term, Hold, Remove, Merge, Unterm}
 
 -- A record that is no base, and that brings four items at most.
-abbrev pub IsSmall : Record → Type 0
-IsSmall (kind.Base page) = ⊥
-IsSmall (kind.Merge merge) = (length merge.items ≤ 4) × AreItems merge.items
-IsSmall delta = ⊤
+abbrev pub IsSmallDelta : Record → Type 0
+IsSmallDelta (kind.Base page) = ⊥
+IsSmallDelta (kind.Merge merge) = (length merge.items ≤ 4) × AreItems merge.items
+IsSmallDelta delta = ⊤
 
 -- the record that was kept
 abbrev pub record_of : Kept → Record

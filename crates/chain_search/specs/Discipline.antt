@@ -22,8 +22,8 @@ use Rattle.deltas.specs.Records.{next_row}
 use Rattle.chain_search.specs.Chains.{IsChainFrom, content_in, level_in, low_in, high_in, right_in, is_removed, covers}
 use Rattle.chain_search.specs.Fitted.{FitsOver, IsFitted}
 use Rattle.chain_search.specs.HeldBack.{HoldsBack}
-use Rattle.chain_search.specs.Knowledge.{OwnRow, Foreign, Taken, Written, Empty, Ready, Gone, Limbo, Stamped, Knowledge}
-use Rattle.chain_search.specs.Steps.{is_among}
+use Rattle.chain_search.specs.Knowledge.{OwnRow, Foreign, Taken, Written, Empty, Ready, Gone, LimboMark, Stamped, Knowledge}
+use Rattle.bw_model.specs.Words.{is_among}
 
 abbrev pub IsOwn : OwnRow → Type 0
 IsOwn Foreign = ⊥
@@ -263,7 +263,7 @@ May actor k (ReusePids word bits) = IsFalse k.inside
 May actor k (ReuseRows word bits) = IsFalse k.inside
 
 -- Each other actor was read as outside, or in a later epoch than the stamp, after the stamp was read.
-pub record IsPassed (limits : Limits) (actor : ℕ) (limbo : Limbo) : Type 0 where
+pub record IsPassed (limits : Limits) (actor : ℕ) (limbo : LimboMark) : Type 0 where
   pub epoch : ℕ
   pub passed : ℕ → Bool
   pub stamped : limbo ≡ Stamped epoch passed

@@ -4,7 +4,7 @@ use Rattle.base_page.specs.Pages.{Page}
 use Rattle.base_page.specs.Rules.{IsRuled}
 use Rattle.deltas.specs.declared.record.Record.{Record}
 use Rattle.deltas.specs.declared.record.Record.TheVariants.{Base}
-use Rattle.deltas.specs.Fits.{Fits}
+use Rattle.deltas.specs.Fits.{FitsOnPage}
 use Rattle.deltas.specs.Records.{next_row}
 use Rattle.deltas.specs.Spellable.{IsSpellable, IsSpellablePage}
 use Rattle.chain_search.specs.Chains.{IsItemsOf, level_in, low_in, high_in, right_in, is_removed}
@@ -25,7 +25,7 @@ pub record FitsOver (under : List Record) (newest : Record) : Type 0 where
   pub spellable : IsSpellable newest
   pub page : Page
   pub makes : Makes under page
-  pub fits : Fits page newest
+  pub fits : FitsOnPage page newest
   pub made : Page
   pub makes_now : Makes (newest ∷ under) made
   pub ruled : IsRuled made

@@ -13,7 +13,7 @@ use Rattle.deltas.specs.Records.{next_row}
 use Rattle.deltas.specs.Memory.{replaced_at}
 use Rattle.chain_search.specs.declared.trace.Entry.{Entry}
 use Rattle.chain_search.specs.declared.trace.Entry.TheVariants.{Begin, Step}
-use Rattle.chain_search.specs.Steps.{is_among}
+use Rattle.bw_model.specs.Words.{is_among}
 
 -- a row as its actor sees it: not its own, taken, or with what it placed there last
 pub data OwnRow : Type 0 where
@@ -30,10 +30,10 @@ pub data OwnPage : Type 0 where
 
 -- a row or a page that its actor took out of the tree: without a stamp, or with an epoch that was read afterwards and the
 -- actors that were since read as outside or in a later epoch
-pub data Limbo : Type 0 where
-  Absent : Limbo
-  Unstamped : Limbo
-  Stamped : (epoch : ℕ) (passed : ℕ → Bool) → Limbo
+pub data LimboMark : Type 0 where
+  Absent : LimboMark
+  Unstamped : LimboMark
+  Stamped : (epoch : ℕ) (passed : ℕ → Bool) → LimboMark
 
 -- what it has read since it entered last
 pub record Readings : Type 0 where
@@ -58,8 +58,8 @@ pub record Asked : Type 0 where
 -- what it took out of the tree and has not freed
 pub record Limbos : Type 0 where
   pub epoch : Option ℕ  -- the epoch, as last read
-  pub rows : ℕ → Limbo
-  pub pids : ℕ → Limbo
+  pub rows : ℕ → LimboMark
+  pub pids : ℕ → LimboMark
 
 pub record Knowledge : Type 0 where
   pub inside : Bool
@@ -123,23 +123,23 @@ is_on_walk (suc n) seen None row = false
 is_on_walk (suc n) seen (Some first) row = (row == first) || is_on_walk n seen (next_seen (seen first)) row
 
 -- The rows of the chain from this row on, as far as it was read, are out of the tree.
-abbrev pub taken_out : (ℕ → Option Record) → ℕ → (ℕ → Limbo) → ℕ → Limbo
+abbrev pub taken_out : (ℕ → Option Record) → ℕ → (ℕ → LimboMark) → ℕ → LimboMark
 taken_out seen first limbo row = if is_on_walk 13 seen (Some first) row then Unstamped else limbo row
 
 -- after an epoch was read
-abbrev pub stamped : ℕ → Limbo → Limbo
+abbrev pub stamped : ℕ → LimboMark → LimboMark
 stamped epoch Absent = Absent
 stamped epoch Unstamped = Stamped epoch (λ actor. false)
 stamped epoch (Stamped stamp passed) = Stamped stamp passed
 
 -- after an actor's announced epoch was read
-abbrev pub passed_by : ℕ → ℕ → Limbo → Limbo
+abbrev pub passed_by : ℕ → ℕ → LimboMark → LimboMark
 passed_by actor announced Absent = Absent
 passed_by actor announced Unstamped = Unstamped
 passed_by actor announced (Stamped stamp passed) = Stamped stamp (if (announced == 0) || ltb stamp announced then replaced_at actor true passed else passed)
 
 -- after the numbers of the word's bits were freed
-abbrev pub freed : ℕ → ℕ → (ℕ → Limbo) → ℕ → Limbo
+abbrev pub freed : ℕ → ℕ → (ℕ → LimboMark) → ℕ → LimboMark
 freed word bits limbo n = if is_among word bits n then Absent else limbo n
 
 -- The operation has left: it no more knows over which row its update was linked.

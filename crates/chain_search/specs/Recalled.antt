@@ -98,5 +98,5 @@ abbrev pub IsSpentWith : ℕ → Recalled → StepOf Record → Answer Record �
 IsSpentWith worth r step answer left rest = (rest < left) ⊎ (IsPaid r step answer × (rest < left + worth))
 
 -- of an operation: a cause is worth 2^18 steps
-abbrev pub IsSpent : Recalled → StepOf Record → Answer Record → ℕ → ℕ → Type 0
-IsSpent r step answer left rest = IsSpentWith (2 ^ 18) r step answer left rest
+abbrev pub IsStepSpent : Recalled → StepOf Record → Answer Record → ℕ → ℕ → Type 0
+IsStepSpent r step answer left rest = IsSpentWith (2 ^ 18) r step answer left rest

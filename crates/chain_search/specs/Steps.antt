@@ -1,16 +1,13 @@
 -- What each step answers, and what memory it leaves.
-use Rattle.std.specs.Prelude.{◌≡◌, ◌<◌, ◌+◌, ◌*◌, ◌/◌, ◌%◌, ◌^◌, ◌==◌, ◌||◌, ◌&&◌, ℕ, Bool, false, if◌then◌else◌, Some, ⊤}
+use Rattle.std.specs.Prelude.{◌≡◌, ◌<◌, ◌+◌, ◌*◌, ◌^◌, ◌==◌, ◌||◌, ℕ, Bool, false, if◌then◌else◌, Some, ⊤}
 use Rattle.std.specs.Int.{bit_at}
+use Rattle.bw_model.specs.Words.{is_among}
 use Rattle.bw_model.specs.declared.step.Step.{Step}
 use Rattle.bw_model.specs.declared.step.Step.TheVariants.{Slot, Row, Epoch, Announce, PidBits, RowBits, Place, Exchange, TakePid, TakeRow, Enter, Leave, Retire, ReusePids, ReuseRows}
 use Rattle.bw_model.specs.declared.step.Answer.{Answer}
 use Rattle.bw_model.specs.declared.step.Answer.TheVariants.{Number, Content, Whether, Done}
 use Rattle.deltas.specs.declared.record.Record.{Record}
 use Rattle.deltas.specs.Memory.{Memory, replaced_at}
-
--- The number n is of the word of free bits, at a bit that is set there.
-abbrev pub is_among : ℕ → ℕ → ℕ → Bool
-is_among word bits n = (n / 64 == word) && (bit_at bits (n % 64) == 1)
 
 -- Bit i of the word says whether number 64 * word + i is free.
 pub record IsWordOf (free : ℕ → Bool) (word bits : ℕ) : Type 0 where

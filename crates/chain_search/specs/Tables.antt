@@ -41,19 +41,19 @@ pub record HasPlaces (table : Table) : Type 0 where
   pub announced : length table.announced ≡ table.limits.actors
 
 -- The actor's step names numbers that have places, and reads a row only where a record was placed.
-abbrev pub IsWithin : Table → ℕ → Step Record → Type 0
-IsWithin table actor (Slot pid) = pid < table.limits.pids
-IsWithin table actor (Row row) = IsSome ((memory_in table).rows row)
-IsWithin table actor Epoch = Unit {0}
-IsWithin table actor (Announce other) = other < table.limits.actors
-IsWithin table actor (PidBits word) = 64 * word < table.limits.pids
-IsWithin table actor (RowBits word) = 64 * word < table.limits.rows
-IsWithin table actor (Place row content) = row < table.limits.rows
-IsWithin table actor (Exchange slot old new) = slot < table.limits.pids
-IsWithin table actor (TakePid pid) = pid < table.limits.pids
-IsWithin table actor (TakeRow row) = row < table.limits.rows
-IsWithin table actor (Enter epoch) = actor < table.limits.actors
-IsWithin table actor Leave = actor < table.limits.actors
-IsWithin table actor (Retire epoch) = epoch + 1 < 2 ^ 64
-IsWithin table actor (ReusePids word bits) = 64 * word < table.limits.pids
-IsWithin table actor (ReuseRows word bits) = 64 * word < table.limits.rows
+abbrev pub IsWithinTable : Table → ℕ → Step Record → Type 0
+IsWithinTable table actor (Slot pid) = pid < table.limits.pids
+IsWithinTable table actor (Row row) = IsSome ((memory_in table).rows row)
+IsWithinTable table actor Epoch = Unit {0}
+IsWithinTable table actor (Announce other) = other < table.limits.actors
+IsWithinTable table actor (PidBits word) = 64 * word < table.limits.pids
+IsWithinTable table actor (RowBits word) = 64 * word < table.limits.rows
+IsWithinTable table actor (Place row content) = row < table.limits.rows
+IsWithinTable table actor (Exchange slot old new) = slot < table.limits.pids
+IsWithinTable table actor (TakePid pid) = pid < table.limits.pids
+IsWithinTable table actor (TakeRow row) = row < table.limits.rows
+IsWithinTable table actor (Enter epoch) = actor < table.limits.actors
+IsWithinTable table actor Leave = actor < table.limits.actors
+IsWithinTable table actor (Retire epoch) = epoch + 1 < 2 ^ 64
+IsWithinTable table actor (ReusePids word bits) = 64 * word < table.limits.pids
+IsWithinTable table actor (ReuseRows word bits) = 64 * word < table.limits.rows

@@ -1,7 +1,7 @@
 //! A page's chain while it is read.
 ghost use Rattle.std.specs.Prelude.{◌≡◌, ◌<◌, ◌∷◌, [], ◌++◌, length};
 ghost use Rattle.deltas.specs.declared.record.Record.TheVariants.{Base};
-ghost use Rattle.chain_search.specs.Deltas.{IsSmall};
+ghost use Rattle.chain_search.specs.Deltas.{IsSmallDelta};
 ghost use Rattle.chain_search.specs.Fitted.{IsPageChain};
 ghost use Rattle.chain_search.specs.declared.chain_part.TheConstants.{MAX_RECORDS};
 
@@ -53,7 +53,7 @@ impl ChainPart {
     /// Puts the delta that was read next under the others.
     pub fn push(&mut self, older: Record)
         requires few { length self.old < MAX_RECORDS }
-        requires small { IsSmall older }
+        requires small { IsSmallDelta older }
         ensures { self.new ≡ self.old ++ older ∷ [] }
     {
         self.deltas.push(Delta::of(older));

@@ -1,7 +1,7 @@
 //! The deltas of a chain, each in little room.
 ghost use Rattle.std.specs.Prelude.{◌≡◌};
 ghost use Rattle.deltas.specs.Records.{next_row};
-ghost use Rattle.chain_search.specs.Deltas.{IsSmall};
+ghost use Rattle.chain_search.specs.Deltas.{IsSmallDelta};
 
 mod says;
 
@@ -68,7 +68,7 @@ impl Default for Delta {
 impl Delta {
     /// The record in little room.
     pub(crate) fn of(delta: Record) -> Delta
-        requires { IsSmall delta }
+        requires { IsSmallDelta delta }
         ensures { result ≡ delta }
     {
         let kept = match delta {

@@ -1,8 +1,9 @@
 //! The memory that all actors share, and what one step makes of it.
 ghost use Rattle.std.specs.Prelude.{◌≡◌, ◌<◌, ◌≤◌, ◌*◌, ◌%◌, ◌&&◌, ◌||◌, None, false, length, nat_le, nat_lt, replicate, slice_set, IfOk, OnErr, Some, option_copied};
 ghost use Rattle.deltas.specs.Memory.{opening, replaced_at};
-ghost use Rattle.chain_search.specs.Steps.{IsAnswer, IsWordOf, MovesRecord, is_among, memory_after};
-ghost use Rattle.chain_search.specs.Tables.{IsWithin, is_free, memory_in};
+ghost use Rattle.bw_model.specs.Words.{is_among};
+ghost use Rattle.chain_search.specs.Steps.{IsAnswer, IsWordOf, MovesRecord, memory_after};
+ghost use Rattle.chain_search.specs.Tables.{IsWithinTable, is_free, memory_in};
 
 use crate::SharedRecord;
 use base_page::Page;
@@ -81,7 +82,7 @@ impl<A: Allocator> Table<A> {
         actor: u8,
         step: &Step<SharedRecord<A>>,
     ) -> Result<Answer<SharedRecord<A>>, AllocError>
-        requires { IsWithin self.now actor step.now }
+        requires { IsWithinTable self.now actor step.now }
         ensures ok { IfOk result (IsAnswer (memory_in self.now) step.now) }
         ensures err { OnErr result (MovesRecord step.now) }
     {
@@ -109,7 +110,7 @@ impl<A: Allocator> Table<A> {
 
     /// Takes one step of an actor.
     pub fn take(&mut self, actor: u8, step: Step<SharedRecord<A>>)
-        requires { IsWithin self.old actor step }
+        requires { IsWithinTable self.old actor step }
         ensures memory { memory_in self.new ≡ memory_after actor step (memory_in self.old) }
         ensures limits { self.new.limits ≡ self.old.limits }
     {

@@ -71,13 +71,13 @@ pub record FitsUnterm (page : Page) (unterm : Unterm) : Type 0 where
   pub there : content_at page.items unterm.separator ≡ Some (Child unterm.child true)
 
 -- A base has no page under it, and asks of none; every other record asks for a page that isn't removed.
-abbrev pub Fits : Page → Record → Type 0
-Fits page (kind.Base base) = base.removed ≡ false
-Fits page (kind.Put put) = FitsPut page put
-Fits page (kind.Delete delete) = FitsDelete page delete
-Fits page (kind.Split split) = FitsSplit page split
-Fits page (kind.Term term) = FitsTerm page term
-Fits page (kind.Hold hold) = FitsHold page hold
-Fits page (kind.Remove remove) = FitsRemove page remove
-Fits page (kind.Merge merge) = FitsMerge page merge
-Fits page (kind.Unterm unterm) = FitsUnterm page unterm
+abbrev pub FitsOnPage : Page → Record → Type 0
+FitsOnPage page (kind.Base base) = base.removed ≡ false
+FitsOnPage page (kind.Put put) = FitsPut page put
+FitsOnPage page (kind.Delete delete) = FitsDelete page delete
+FitsOnPage page (kind.Split split) = FitsSplit page split
+FitsOnPage page (kind.Term term) = FitsTerm page term
+FitsOnPage page (kind.Hold hold) = FitsHold page hold
+FitsOnPage page (kind.Remove remove) = FitsRemove page remove
+FitsOnPage page (kind.Merge merge) = FitsMerge page merge
+FitsOnPage page (kind.Unterm unterm) = FitsUnterm page unterm

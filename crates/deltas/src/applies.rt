@@ -2,7 +2,7 @@
 ghost use Rattle.std.specs.Prelude.{◌≡◌, false};
 ghost use Rattle.base_page.specs.Pages.{IsPage};
 ghost use Rattle.deltas.specs.Applies.{Applies};
-ghost use Rattle.deltas.specs.Fits.{Fits, FitsPut, FitsDelete, FitsSplit, FitsTerm, FitsHold, FitsRemove, FitsMerge, FitsUnterm};
+ghost use Rattle.deltas.specs.Fits.{FitsOnPage, FitsPut, FitsDelete, FitsSplit, FitsTerm, FitsHold, FitsRemove, FitsMerge, FitsUnterm};
 ghost use Rattle.deltas.specs.declared.record.Record.TheVariants as kind;
 
 use crate::{Delete, Hold, Merge, Put, Record, Remove, Split, Term, Unterm};
@@ -10,7 +10,7 @@ use base_page::{Content, Page};
 
 /// The page that the record makes of the page under it; a base makes its own.
 pub fn apply(page: Page, change: &Record) -> Page
-    requires { Fits page change.now }
+    requires { FitsOnPage page change.now }
     ensures applies { Applies page change.now result }
     ensures page { IsPage result }
 {

@@ -21,7 +21,7 @@ use Rattle.descent.specs.Visits.{Starts, Completes, Continues, Visit, at, wanted
 use Rattle.descent.specs.Walks.{HasArrived, IsAmong}
 use Rattle.descent.specs.declared.write_round.Goal.{Goal}
 use Rattle.descent.specs.declared.write_round.Goal.TheVariants.{Seek, Left, Merge, Unterm}
-use Rattle.descent.specs.WriteRounds.{IsCut, IsMissing, Keeps, is_beyond, way_of, IsBased, IsLed, IsLeftOf, IsKept, IsVisiting, SeeksLeaf}
+use Rattle.descent.specs.WriteRounds.{IsLosingTerm, IsMissing, Keeps, is_beyond, way_of, IsBased, IsLed, IsLeftOf, IsKept, IsVisiting, SeeksLeaf}
 use Rattle.descent.proofs.Holding.{before_slot, in_hand_row, in_hand_slot, slot_before}
 use Rattle.descent.proofs.Seeking.{arrived, seeks_row, seeks_slot}
 use Rattle.descent.proofs.Visiting.{back, row_below, there}
@@ -50,7 +50,7 @@ abbrev pub Passed : Limits → List ℕ → Knowledge → Knowledge → ℕ → 
 Passed limits key k now pid earlier Seek = ⊤
 Passed limits key k now pid earlier (Left removed) = IsMissing limits k key removed (pid ∷ earlier) × IsMissing limits now key removed (pid ∷ earlier)
 Passed limits key k now pid earlier (Merge left) = IsKept limits now left earlier
-Passed limits key k now pid earlier (Unterm parent left) = IsCut limits now earlier parent left
+Passed limits key k now pid earlier (Unterm parent left) = IsLosingTerm limits now earlier parent left
 
 -- A page was read whole, on the way of the goal.
 pub record HasReached (limits : Limits) (key : List ℕ) (goal : Goal) (parent left : Option Version) (k now : Knowledge) (r : Recalled) (version : Version) : Type 0 where
@@ -130,7 +130,7 @@ module _ (limits : Limits) (key : List ℕ) (goal : Goal) (parent left : Option 
     missing_row : (pid : ℕ) (visited : List ℕ) → IsMissing limits k key pid visited → IsMissing limits now key pid visited
     missing_row pid visited h = record { removed = h.removed; gone = record { in_hand = in_hand_row k row content fits.same limits h.removed h.gone.in_hand; gone = h.gone.gone }; is = h.is; low = h.low; unread = h.unread }
 
-    cut_row : (above at_left : Version) (earlier : List ℕ) → IsCut limits k earlier above at_left → IsCut limits now earlier above at_left
+    cut_row : (above at_left : Version) (earlier : List ℕ) → IsLosingTerm limits k earlier above at_left → IsLosingTerm limits now earlier above at_left
     cut_row above at_left earlier h = record { above = kept_row above earlier h.above; aside = kept_row at_left earlier h.aside; up = h.up; after = h.after }
 
     keeps_row : (pid : ℕ) (earlier : List ℕ) (other : Goal) → Keeps limits key k pid earlier other → Keeps limits key now pid earlier other

@@ -24,7 +24,7 @@ use Rattle.descent.specs.Versions.{IsInHand}
 use Rattle.descent.specs.Visits.{Starts, Completes, Continues, Visit, at, to_page, wanted}
 use Rattle.descent.specs.Walks.{HasArrived, IsPast, IsPastAt}
 use Rattle.descent.specs.Ways.{LeadsOn, LeadsRight, NamesAt, StaysLeft, reaches, precedes}
-use Rattle.descent.specs.ReadRounds.{Begins, IsBesideLeaf, IsGoneAt, IsLeafOf, IsVisiting, Keeps, is_beyond, way_of}
+use Rattle.descent.specs.ReadRounds.{Begins, IsBesideLeaf, IsGoneAt, IsAliveLeaf, IsVisiting, Keeps, is_beyond, way_of}
 use Rattle.descent.proofs.Holding.{before_slot, in_hand_row, in_hand_slot}
 use Rattle.descent.proofs.PageLaws.{above_empty, spans}
 use Rattle.descent.proofs.Seeking.{arrived_next, hand, living, seeks_next, seeks_on, seeks_root}
@@ -311,7 +311,7 @@ module _ (limits : Limits) (key : List ℕ) (removed : Version) (k now : Knowled
       covered = covers_here key removed.chain by.gone.reached stays;
     }
 
-  pub is_merged : StaysLeft (reaches key) here → level_in here ≡ 0 → IsLeafOf limits now r key version
+  pub is_merged : StaysLeft (reaches key) here → level_in here ≡ 0 → IsAliveLeaf limits now r key version
   is_merged stays leaf = record {
     page = living limits k now r version h.level h.low h.earlier h.arrives alive;
     level = leaf;

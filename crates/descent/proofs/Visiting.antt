@@ -10,7 +10,7 @@ use Rattle.deltas.specs.declared.record.Record.{Record}
 use Rattle.deltas.specs.Memory.{replaced_at}
 use Rattle.deltas.specs.Records.{next_row}
 use Rattle.chain_search.specs.Chains.{IsChainFrom, IsFront}
-use Rattle.chain_search.specs.Deltas.{IsSmall}
+use Rattle.chain_search.specs.Deltas.{IsSmallDelta}
 use Rattle.chain_search.specs.Discipline.{May}
 use Rattle.chain_search.specs.Fitting.{Fits, FitsRow, IsReadWhole}
 use Rattle.chain_search.specs.Fitted.{IsPageChain}
@@ -115,7 +115,7 @@ pub is_chain : (visit : Visit) (head row : ℕ) (w : Record) → next_row w ≡ 
 is_chain visit head row w i told = (whole_chain told.k visit head row w i told.shows told.fits).is_chain
 
 -- a delta that is read needs little room
-pub is_small : (visit : Visit) (head row : ℕ) (w : Record) (next : ℕ) → next_row w ≡ Some next → IsTold (at visit (Row head row)) (answer.Content w) → IsSmall w
+pub is_small : (visit : Visit) (head row : ℕ) (w : Record) (next : ℕ) → next_row w ≡ Some next → IsTold (at visit (Row head row)) (answer.Content w) → IsSmallDelta w
 is_small visit head row w next i told = small w (ap is_some i) told.fits.spellable
 
 -- the answer to the step wanted last is the one that the state was waiting for

@@ -39,7 +39,7 @@ use Rattle.descent.specs.Descents.{Descent, Finds, Shows as WayShows, Starts, Vi
 use Rattle.descent.specs.Visits as page
 use Rattle.descent.specs.Walks.{IsSeeking, left_in}
 use Rattle.descent.specs.Ways.{LeadsDown, LeadsRight, NamesAt, StaysLeft, precedes, reaches}
-use Rattle.descent.specs.WriteRounds.{Begins, CanMeet, Cuts, Merges, EndsCut, EndsMerged, IsCut, IsHere, IsLeftLeaf, IsMergeEnd, IsMissing, IsUntermEnd, Keeps, Misses, SeeksLeaf, is_beyond, kept_for, way_of, CanSee, EndsFine, EndsUnposted, EndsUnrooted, Ends, Follows, GoesFrom, GoesOnWay, IsBased, IsFine, IsFinished, IsLeftOf, IsKept, IsLeafEnd, IsLong, IsRootEnd, IsTermEnd, IsTold, IsVisiting, Responds, Sees, Shows, Spends, Treats, WriteRound, at, wanted, descent_of, going_to, goes_left}
+use Rattle.descent.specs.WriteRounds.{Begins, CanMeet, Cuts, Merges, EndsCut, EndsMerged, IsLosingTerm, IsHere, IsLeftLeaf, IsMergeEnd, IsMissing, IsUntermEnd, Keeps, Misses, SeeksLeaf, is_beyond, kept_for, way_of, CanSee, EndsFine, EndsUnposted, EndsUnrooted, Ends, Follows, GoesFrom, GoesOnWay, IsBased, IsFine, IsSplitFinished, IsLeftOf, IsKept, IsLeafEnd, IsLong, IsRootEnd, IsTermEnd, IsTold, IsVisiting, Responds, Sees, Shows, Spends, Treats, WriteRound, at, wanted, descent_of, going_to, goes_left}
 use Rattle.descent.proofs.Keeping.{HasReached, IsOver, Passed, differs, reached_next, visits_next}
 use Rattle.descent.proofs.Leading.{led_aside, termed}
 use Rattle.descent.proofs.PageLaws.{above_empty, covered, spans}
@@ -118,7 +118,7 @@ module _ (old : WriteRound) (k now : Knowledge) (r : Recalled) (version : Versio
   based_on None None pid low based aside = elim based [ inl is ↦ inl is | inr above ↦ inr (rw h.arrives.is_low above) ]
   based_on None (Some other) pid low based aside = inr (rw h.arrives.is_low aside.inner)
 
-  aside : (pid : ℕ) → is_removed version.chain ≡ false → SeeksLeaf old.goal → IsFinished old.parent old.left version → LeadsRight way version.chain pid → IsVisiting old.limits old.key old.goal old.parent (Some version) now r (page.to_page old.limits pid)
+  aside : (pid : ℕ) → is_removed version.chain ≡ false → SeeksLeaf old.goal → IsSplitFinished old.parent old.left version → LeadsRight way version.chain pid → IsVisiting old.limits old.key old.goal old.parent (Some version) now r (page.to_page old.limits pid)
   aside pid alive seeks finished leads =
       let names = right_names way version.chain pid leads in
       record {
@@ -274,7 +274,7 @@ module _ (old : WriteRound) (k now : Knowledge) (r : Recalled) (version : Versio
 
   unterm_end : (parent left removed : Version) (unterm : UntermRecord) → EndsCut old version parent left removed unterm → IsUntermEnd old now r parent left removed unterm
   unterm_end parent left removed unterm t =
-      let cut : IsCut old.limits now h.earlier parent left = subst (λ (g : Goal). Passed old.limits old.key k now version.pid h.earlier g) t.goal h.passed in
+      let cut : IsLosingTerm old.limits now h.earlier parent left = subst (λ (g : Goal). Passed old.limits old.key k now version.pid h.earlier g) t.goal h.passed in
       rw t.is (record {
         page = alive_of parent cut.above;
         aside = alive_of left cut.aside;

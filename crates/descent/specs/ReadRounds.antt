@@ -115,7 +115,7 @@ pub record IsTold (round : ReadRound) (told : Answer Record) : Type 0 where
   pub fits : Fits round.limits k (wanted round) told
 
 -- The leaf has the key in its range, and isn't removed.
-pub record IsLeafOf (limits : Limits) (k : Knowledge) (r : Recalled) (key : List ℕ) (leaf : Version) : Type 0 where
+pub record IsAliveLeaf (limits : Limits) (k : Knowledge) (r : Recalled) (key : List ℕ) (leaf : Version) : Type 0 where
   pub page : IsAlive limits k r leaf
   pub level : level_in leaf.chain ≡ 0
   pub covered : IsTrue (covers leaf.chain key)
@@ -133,7 +133,7 @@ pub record IsBesideLeaf (limits : Limits) (k : Knowledge) (r : Recalled) (key : 
 abbrev pub Ends : ReadRound → Knowledge → Recalled → ReadEnd → Type 0
 Ends round k r Again = ⊤
 Ends round k r (Removed removed) = IsGoneAt round.limits k round.key removed
-Ends round k r (Leaf leaf) = IsLeafOf round.limits k r round.key leaf
+Ends round k r (Leaf leaf) = IsAliveLeaf round.limits k r round.key leaf
 Ends round k r (Beside left removed) = IsBesideLeaf round.limits k r round.key left removed
 
 -- what follows from an answer

@@ -61,9 +61,9 @@ IsAhead k other page Slot = ⊤
 IsAhead k other page (Row head row) = k.read.before page other.pid ≡ Some other.head
 
 -- no record is read before the slot
-abbrev pub IsBare : State → List Record → Type 0
-IsBare Slot part = part ≡ []
-IsBare (Row head row) part = ⊤
+abbrev pub HasNoneRead : State → List Record → Type 0
+HasNoneRead Slot part = part ≡ []
+HasNoneRead (Row head row) part = ⊤
 
 -- No page is twice among these, and each is one that there may be.
 abbrev pub AreDistinct : Limits → List ℕ → Type 0
@@ -78,7 +78,7 @@ AreRecalled k r pages = AllByRecursion (λ page. r.heads page ≡ k.read.heads p
 pub record IsOnWay (limits : Limits) (k : Knowledge) (r : Recalled) (visit : Visit) (level : ℕ) (low : List ℕ) (earlier : List ℕ) : Type 0 where
   pub shows : Shows visit k
   pub same : visit.limits ≡ limits
-  pub bare : IsBare visit.state visit.part
+  pub bare : HasNoneRead visit.state visit.part
   pub visited : r.walk.visited ≡ been visit.state visit.pid earlier
   pub recalled : AreRecalled k r (been visit.state visit.pid earlier)
   pub expected : IsExpected limits k visit.pid level low earlier

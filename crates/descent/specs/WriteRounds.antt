@@ -124,7 +124,7 @@ pub record IsLeftOf (limits : Limits) (k : Knowledge) (low : List ℕ) (earlier 
   pub inner : IsTrue (is_below [] low)
 
 -- After the parent, which is one level up, the page was read by which the parent is to lose a term.
-pub record IsCut (limits : Limits) (k : Knowledge) (earlier : List ℕ) (parent left : Version) : Type 0 where
+pub record IsLosingTerm (limits : Limits) (k : Knowledge) (earlier : List ℕ) (parent left : Version) : Type 0 where
   pub above : IsKept limits k parent earlier
   pub aside : IsKept limits k left earlier
   pub up : level_in parent.chain ≡ suc (level_in left.chain)
@@ -135,7 +135,7 @@ abbrev pub Keeps : Limits → List ℕ → Knowledge → ℕ → List ℕ → Go
 Keeps limits key k pid earlier Seek = ⊤
 Keeps limits key k pid earlier (Left removed) = IsMissing limits k key removed (pid ∷ earlier)
 Keeps limits key k pid earlier (Merge left) = IsKept limits k left earlier
-Keeps limits key k pid earlier (Unterm parent left) = IsCut limits k earlier parent left
+Keeps limits key k pid earlier (Unterm parent left) = IsLosingTerm limits k earlier parent left
 
 -- by the goal of a round that hasn't
 abbrev pub Begins : Limits → List ℕ → Knowledge → Goal → Type 0
@@ -306,16 +306,16 @@ Follows k r old told new (Some end) = Ends old (learn k (wanted old) told) (reca
 
 -- No change is due that finishes the split of the page's left page: the parent can't get the page's term, nor, where there is no
 -- parent, the two pages a root.
-abbrev pub IsFinished : Option Version → Option Version → Version → Type 0
-IsFinished parent None version = ⊤
-IsFinished None (Some left) version = ¬ CanRoot left version
-IsFinished (Some parent) (Some left) version = ¬ CanPost parent version
+abbrev pub IsSplitFinished : Option Version → Option Version → Version → Type 0
+IsSplitFinished parent None version = ⊤
+IsSplitFinished None (Some left) version = ¬ CanRoot left version
+IsSplitFinished (Some parent) (Some left) version = ¬ CanPost parent version
 
 -- The page isn't removed, nothing is due at its left page, and it ends above the key.
 pub record IsHere (old : WriteRound) (version : Version) : Type 0 where
   pub seeks : SeeksLeaf old.goal
   pub alive : is_removed version.chain ≡ false
-  pub finished : IsFinished old.parent old.left version
+  pub finished : IsSplitFinished old.parent old.left version
   pub stays : StaysLeft (way_of old.goal old.key) version.chain
 
 -- The page is neither to be consolidated nor to be split.
@@ -327,7 +327,7 @@ pub record IsFine (due : ℕ) (version : Version) : Type 0 where
 pub record GoesAside (old : WriteRound) (version : Version) (new : WriteRound) : Type 0 where
   pub seeks : SeeksLeaf old.goal
   pub alive : is_removed version.chain ≡ false
-  pub finished : IsFinished old.parent old.left version
+  pub finished : IsSplitFinished old.parent old.left version
   pub right : ℕ
   pub leads : LeadsRight (way_of old.goal old.key) version.chain right
   pub goes : new ≡ going_to right (beside (Some version) old)

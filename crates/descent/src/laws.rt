@@ -39,7 +39,7 @@ pub fn left_rounds_stay()
 /// The leaf at which a reader's round ends was read while it stood, also the one that is removed.
 pub fn leaves_stand()
     ensures leaf { (limits : Limits) (k : Knowledge) (r : Recalled) (key : List ℕ) (leaf : Version)
-        → reader.IsLeafOf limits k r key leaf
+        → reader.IsAliveLeaf limits k r key leaf
         → WasStanding k leaf.head leaf.chain }
     ensures beside { (limits : Limits) (k : Knowledge) (r : Recalled) (key : List ℕ) (left removed : Version)
         → reader.IsBesideLeaf limits k r key left removed

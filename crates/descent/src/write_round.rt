@@ -9,7 +9,7 @@ ghost use Rattle.chain_search.specs.Knowledge.{Knowledge};
 ghost use Rattle.chain_search.specs.Recalled.{Recalled};
 ghost use Rattle.descent.specs.Visits.{ReadsWithin, reads_on};
 ghost use Rattle.descent.specs.declared.descent.State.TheVariants.{Root};
-ghost use Rattle.descent.specs.WriteRounds.{CanSee, CanTreat, Follows, HasCome, IsFine, IsFinished, IsHere, IsLeftLeaf, IsLong, IsSame, IsSameWay, IsTold, Responds, Sees, Shows, Spends, Treats, Cuts, Merges, SeeksLeaf, beside, goes_left, going_back, toward, wanted, way_of};
+ghost use Rattle.descent.specs.WriteRounds.{CanSee, CanTreat, Follows, HasCome, IsFine, IsSplitFinished, IsHere, IsLeftLeaf, IsLong, IsSame, IsSameWay, IsTold, Responds, Sees, Shows, Spends, Treats, Cuts, Merges, SeeksLeaf, beside, goes_left, going_back, toward, wanted, way_of};
 ghost use Rattle.descent.specs.Ways.{StaysLeft};
 
 #[cfg(test)]
@@ -247,7 +247,7 @@ impl WriteRound {
         requires can { CanTreat self.old version }
         requires seeks { SeeksLeaf self.old.goal }
         requires alive { is_removed version.chain ≡ false }
-        ensures treats { (left : Option Version) → IsFinished self.old.parent left version → Treats (beside left self.old) version self.new result }
+        ensures treats { (left : Option Version) → IsSplitFinished self.old.parent left version → Treats (beside left self.old) version self.new result }
         ensures same { IsSame self.old self.new }
     {
         match right_on_way(&version.chain, &self.key, self.is_left()) {
@@ -266,7 +266,7 @@ impl WriteRound {
         requires seeks { SeeksLeaf self.old.goal }
         requires alive { is_removed version.chain ≡ false }
         requires stays { StaysLeft (way_of self.old.goal self.old.key) version.chain }
-        ensures treats { (left : Option Version) → IsFinished self.old.parent left version → Treats (beside left self.old) version self.new result }
+        ensures treats { (left : Option Version) → IsSplitFinished self.old.parent left version → Treats (beside left self.old) version self.new result }
         ensures same { IsSame self.old self.new }
     {
         if self.is_long(&version.chain) {
@@ -289,10 +289,10 @@ impl WriteRound {
     /// Ends at the leaf; to the left of a removed page, reads that one again where a change may be due.
     fn end(&mut self, leaf: Version) -> Option<WriteEnd>
         requires can { CanTreat self.old leaf }
-        requires here { (left : Option Version) → IsFinished self.old.parent left leaf → IsHere (beside left self.old) leaf }
+        requires here { (left : Option Version) → IsSplitFinished self.old.parent left leaf → IsHere (beside left self.old) leaf }
         requires fine { IsFine self.old.due leaf }
         requires level { level_in leaf.chain ≡ 0 }
-        ensures treats { (left : Option Version) → IsFinished self.old.parent left leaf → Treats (beside left self.old) leaf self.new result }
+        ensures treats { (left : Option Version) → IsSplitFinished self.old.parent left leaf → Treats (beside left self.old) leaf self.new result }
         ensures same { IsSame self.old self.new }
     {
         match mem::replace(&mut self.goal, Goal::Seek) {
@@ -308,8 +308,8 @@ impl WriteRound {
     fn end_left(&mut self, pid: u16, leaf: Version) -> Option<WriteEnd>
         requires some { 0 < pid }
         requires below { pid < self.old.limits.pids }
-        requires left { (left : Option Version) → IsFinished self.old.parent left leaf → IsLeftLeaf (toward (Goal.Left pid) (beside left self.old)) leaf pid }
-        ensures treats { (left : Option Version) → IsFinished self.old.parent left leaf → Treats (toward (Goal.Left pid) (beside left self.old)) leaf self.new result }
+        requires left { (left : Option Version) → IsSplitFinished self.old.parent left leaf → IsLeftLeaf (toward (Goal.Left pid) (beside left self.old)) leaf pid }
+        ensures treats { (left : Option Version) → IsSplitFinished self.old.parent left leaf → Treats (toward (Goal.Left pid) (beside left self.old)) leaf self.new result }
         ensures same { IsSameWay self.old self.new }
     {
         if leaf.chain.right() == Some(pid) {

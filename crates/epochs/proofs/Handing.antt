@@ -8,7 +8,8 @@ use Rattle.std.proofs.lemmas.List.Folds.{list_any_more}
 use Rattle.std.proofs.lemmas.Nat.Bits.{bit_at_set_same, bit_at_set_other}
 use Rattle.epochs.specs.declared.entry.Entry.{Entry}
 use Rattle.epochs.specs.Limbo.{is_passed}
-use Rattle.epochs.specs.Words.{AreBitsOf, IsFirst, IsFirstPlace, is_among, lower, may_go}
+use Rattle.bw_model.specs.Words.{is_among}
+use Rattle.epochs.specs.Words.{AreBitsOf, IsFirstWord, IsFirstPlace, lower, may_go}
 
 or_false : (f : Bool) → (f || false) ≡ f
 or_false true = refl
@@ -73,7 +74,7 @@ first_same entries i d (Some word) lt stays is = record {
   first = λ n there. is.first n (sym (may_go_same entries i d n lt stays) ∙ there);
 }
 
-pub first_more : (entries : List Entry) (i : ℕ) (d : Entry) (first : Option ℕ) → i < length entries → is_passed (get_or entries i d).stage ≡ true → IsFirstPlace (take i entries) first → IsFirst (take (i + 1) entries) (lower first ((get_or entries i d).number / 64))
+pub first_more : (entries : List Entry) (i : ℕ) (d : Entry) (first : Option ℕ) → i < length entries → is_passed (get_or entries i d).stage ≡ true → IsFirstPlace (take i entries) first → IsFirstWord (take (i + 1) entries) (lower first ((get_or entries i d).number / 64))
 first_more entries i d None lt passed is = record {
   some = ((get_or entries i d).number, refl, may_go_own entries i d lt passed);
   first = λ n there. elim (may_go_from entries i d n lt there) [

@@ -9,7 +9,8 @@ use Rattle.std.proofs.lemmas.List.Elements.{All-filter, filter_passes}
 use Rattle.std.proofs.lemmas.List.Folds.{Any-from_list_any, list_any_none}
 use Rattle.epochs.specs.declared.entry.Entry.{Entry}
 use Rattle.epochs.specs.Limbo.{IsLimboList, LimboList, is_in, is_passed}
-use Rattle.epochs.specs.Words.{AreBitsOf, HandsOn, IsFirst, is_among, may_go, without}
+use Rattle.bw_model.specs.Words.{is_among}
+use Rattle.epochs.specs.Words.{AreBitsOf, HandsOn, IsFirstWord, may_go, without}
 use Rattle.epochs.proofs.Handing.{both, equal, second}
 
 -- The entry has this number, so it may be freed.
@@ -64,7 +65,7 @@ gone list is word bits exact n among = list_any_none (λ (entry : Entry). eqb en
       | inl same ↦ absurd (differ (rw (same.1, place, passes i d lt same.0) at (filter_passes kept list.entries i d lt)))
     ]
 
-pub hands_on : (list : LimboList) → IsLimboList list → (word bits : ℕ) → IsFirst list.entries word → AreBitsOf list.entries word bits → HandsOn list word bits (record list { entries = without word list.entries })
+pub hands_on : (list : LimboList) → IsLimboList list → (word bits : ℕ) → IsFirstWord list.entries word → AreBitsOf list.entries word bits → HandsOn list word bits (record list { entries = without word list.entries })
 hands_on list is word bits first exact = record {
   first = first;
   exact = exact;

@@ -1,15 +1,11 @@
 -- Numbers by words of 64 bits, and what one reuse hands on.
-use Rattle.std.specs.Prelude.{◌≡◌, ◌≤◌, ◌==◌, ◌/◌, ◌%◌, ◌&&◌, ℕ, Bool, min, not, IsTrue, IsFalse, List, Option, None, Some}
-use Rattle.std.specs.Int.{bit_at}
+use Rattle.std.specs.Prelude.{◌≡◌, ◌≤◌, ◌==◌, ◌/◌, ◌&&◌, ℕ, Bool, min, not, IsTrue, IsFalse, List, Option, None, Some}
 use Rattle.std.specs.List.{filter, list_any}
+use Rattle.bw_model.specs.Words.{is_among}
 use Rattle.epochs.specs.declared.entry.Entry.{Entry}
 use Rattle.epochs.specs.declared.item.Reuse.{Reuse}
 use Rattle.epochs.specs.declared.item.Reuse.TheVariants.{Rows, Pids}
 use Rattle.epochs.specs.Limbo.{Limbo, LimboList, is_in, is_passed}
-
--- The number is of the word of free bits, at a bit that is set there.
-abbrev pub is_among : ℕ → ℕ → ℕ → Bool
-is_among word bits number = (number / 64 == word) && (bit_at bits (number % 64) == 1)
 
 -- The number is in the list, and may be freed.
 abbrev pub may_go : List Entry → ℕ → Bool
@@ -20,14 +16,14 @@ abbrev pub HasNone : List Entry → Type 0
 HasNone entries = (number : ℕ) → IsFalse (may_go entries number)
 
 -- The word is the first with a number that may be freed.
-pub record IsFirst (entries : List Entry) (word : ℕ) : Type 0 where
+pub record IsFirstWord (entries : List Entry) (word : ℕ) : Type 0 where
   pub some : (number : ℕ) × (number / 64 ≡ word) × IsTrue (may_go entries number)
   pub first : (number : ℕ) → IsTrue (may_go entries number) → word ≤ number / 64
 
 -- the same, where there may be no such word
 abbrev pub IsFirstPlace : List Entry → Option ℕ → Type 0
 IsFirstPlace entries None = HasNone entries
-IsFirstPlace entries (Some word) = IsFirst entries word
+IsFirstPlace entries (Some word) = IsFirstWord entries word
 
 -- the lower of two words, if there are two
 abbrev pub lower : Option ℕ → ℕ → ℕ
@@ -44,7 +40,7 @@ without word entries = filter (λ entry. not ((entry.number / 64 == word) && is_
 
 -- The numbers of the first word that may be freed leave the list, so that none is handed on twice, and all else stays.
 pub record HandsOn (list : LimboList) (word bits : ℕ) (after : LimboList) : Type 0 where
-  pub first : IsFirst list.entries word
+  pub first : IsFirstWord list.entries word
   pub exact : AreBitsOf list.entries word bits
   pub gone : (number : ℕ) → IsTrue (is_among word bits number) → IsFalse (is_in after number)
   pub rest : after ≡ record list { entries = without word list.entries }

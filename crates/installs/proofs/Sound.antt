@@ -13,7 +13,7 @@ use Rattle.bw_model.specs.declared.step.Answer.{Answer}
 use Rattle.deltas.specs.declared.record.Record.{Record}
 use Rattle.chain_search.specs.Fitting.{Fits, FitsWord}
 use Rattle.chain_search.specs.Knowledge.{Knowledge}
-use Rattle.installs.specs.Changes.{AreEnough, Change, IsMissing, IsSame, IsSoundChange, IsSoundState, IsTarget, clears, needs_pid, rows_needed, wanted, wanted_at}
+use Rattle.installs.specs.Changes.{AreEnough, Change, IsNeededNext, IsSame, IsSoundChange, IsSoundState, IsTarget, clears, needs_pid, rows_needed, wanted, wanted_at}
 use Rattle.installs.specs.Moves.{Moved, after_ready, after_taking, decided_by, first_state, moved, moved_by, unused, whether_in, with_number}
 use Rattle.installs.specs.Spares.{HaveRoom, Spares}
 use Rattle.installs.specs.Taking.{IsSoundFound, IsSoundTaking, count_of, found_after, kind_of, wanted_number}
@@ -88,7 +88,7 @@ two_at_most (Unlink pid head unterm removal) = omega arith
 
 module _ (limits : Limits) (plan : Plan) where
   -- a number that was taken is a spare that there is
-  room_taken : (spares : Spares) (kind : Kind) (number : ℕ) → HaveRoom limits spares → IsMissing plan spares kind → (0 < number) × (number < count_of limits kind) → HaveRoom limits (with_number kind number spares)
+  room_taken : (spares : Spares) (kind : Kind) (number : ℕ) → HaveRoom limits spares → IsNeededNext plan spares kind → (0 < number) × (number < count_of limits kind) → HaveRoom limits (with_number kind number spares)
   room_taken spares Pid pid room missing there = record { pid = ((there.0, (let few = limits.allowed.few_pids in let below = there.1 in omega (arith, few, below))), there.1); rows = room.rows; few = room.few }
   room_taken spares Row row room missing there = record {
     pid = room.pid;
@@ -138,7 +138,7 @@ module _ (limits : Limits) (plan : Plan) where
   abbrev pub StaysSound : Moved → Type 0
   StaysSound now = HaveRoom limits now.spares × IfNone now.end (IsSoundState limits plan now.spares now.state)
 
-  found_stays : (spares : Spares) (state : State) (found : Found) → HaveRoom limits spares → (kind : Kind) → IsMissing plan spares kind → IsTarget limits plan → IsSoundFound limits found → IsFoundOf kind found → StaysSound (moved_by plan spares state found)
+  found_stays : (spares : Spares) (state : State) (found : Found) → HaveRoom limits spares → (kind : Kind) → IsNeededNext plan spares kind → IsTarget limits plan → IsSoundFound limits found → IsFoundOf kind found → StaysSound (moved_by plan spares state found)
   found_stays spares state (Not taking) room kind missing target sound of = (room, (sound, rw of missing))
   found_stays spares state (Taken other number) room kind missing target sound of =
       let there = room_taken spares other number room (rw of missing) sound in

@@ -7,7 +7,7 @@ use Rattle.std.specs.List.{Contains}
 use Rattle.deltas.specs.Memory.{replaced_at}
 use Rattle.chain_search.specs.Discipline.{IsOwn}
 use Rattle.chain_search.specs.Knowledge.{Belongings, OwnPage, OwnRow, Foreign, Taken, Other, Empty}
-use Rattle.installs.specs.Spares.{AreSpare, AreTheSpares, IsNew, IsUnlinked, Spares}
+use Rattle.installs.specs.Spares.{AreSpare, AreTheSpares, IsNoneOf, IsUnlinked, Spares}
 
 pub replaced_same : {X : Type 0} (n : ℕ) (x : X) (f : ℕ → X) → replaced_at n x f n ≡ x
 replaced_same n x f = rw (eq-eqb n n refl) refl
@@ -25,14 +25,14 @@ spare_placed own row o [] h s = tt
 spare_placed own row o (spare ∷ spares) h s = ((own_put (spare == row) o (own spare) h s.0.0, s.0.1), s.1, spare_placed own row o spares h s.2)
 
 -- a row that is none of the spares is linked
-pub spare_left : (own : ℕ → OwnRow) (row : ℕ) (spares : List ℕ) → IsNew row spares → AreSpare own spares → AreSpare (replaced_at row Foreign own) spares
+pub spare_left : (own : ℕ → OwnRow) (row : ℕ) (spares : List ℕ) → IsNoneOf row spares → AreSpare own spares → AreSpare (replaced_at row Foreign own) spares
 spare_left own row [] n s = tt
 spare_left own row (spare ∷ spares) n s = ((rw n.0 s.0.0, s.0.1), s.1, spare_left own row spares n.1 s.2)
 
 pub apart : (a b : ℕ) → (a == b) ≡ false → (b == a) ≡ false
 apart a b h = ne_eqb b a (λ e. let i : (a == b) ≡ true = eq-eqb a b (sym e) in cc)
 
-new_last : (row last : ℕ) (spares : List ℕ) → IsNew row spares → (last == row) ≡ false → IsNew row (spares ++ last ∷ [])
+new_last : (row last : ℕ) (spares : List ℕ) → IsNoneOf row spares → (last == row) ≡ false → IsNoneOf row (spares ++ last ∷ [])
 new_last row last [] n e = (e, tt)
 new_last row last (spare ∷ spares) n e = (n.0, new_last row last spares n.1 e)
 
@@ -41,7 +41,7 @@ spare_kept : (own : ℕ → OwnRow) (row : ℕ) (spares : List ℕ) → AreSpare
 spare_kept own row [] s = s
 spare_kept own row (spare ∷ spares) s = (s.2.0, new_last spare row spares s.2.1 (apart spare row s.1.0), spare_kept own row spares (s.0, s.1.1, s.2.2))
 
-new_front : (row last : ℕ) (spares : List ℕ) → IsNew row (spares ++ last ∷ []) → IsNew row spares × ((last == row) ≡ false)
+new_front : (row last : ℕ) (spares : List ℕ) → IsNoneOf row (spares ++ last ∷ []) → IsNoneOf row spares × ((last == row) ≡ false)
 new_front row last [] n = (tt, n.0)
 new_front row last (spare ∷ spares) n = let rest = new_front row last spares n.1 in ((n.0, rest.0), rest.1)
 
@@ -54,7 +54,7 @@ spare_taken own row (spare ∷ spares) s =
     (rest.0, (apart row spare new.1, rest.1), (s.0, new.0, rest.2))
 
 -- a row that is not the actor's own is none of the spares
-new_foreign : (own : ℕ → OwnRow) (row : ℕ) (spares : List ℕ) → own row ≡ Foreign → AreSpare own spares → IsNew row spares
+new_foreign : (own : ℕ → OwnRow) (row : ℕ) (spares : List ℕ) → own row ≡ Foreign → AreSpare own spares → IsNoneOf row spares
 new_foreign own row [] e s = tt
 new_foreign own row (spare ∷ spares) e s = (ne_eqb spare row (λ same. subst IsOwn (ap own same ∙ e) s.0.0), new_foreign own row spares e s.2)
 

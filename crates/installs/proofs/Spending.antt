@@ -11,7 +11,7 @@ use Rattle.chain_search.specs.Fitting.{Fits, FitsWord}
 use Rattle.chain_search.specs.Knowledge.{Knowledge}
 use Rattle.chain_search.specs.Recalled.{Recalled, WasFree, WasHead, recall}
 use Rattle.installs.specs.Bounded.{IsApart, RecallsAt, Spends, SpendsTo, left_at, numbers_missing, pid_taken, pids_missing}
-use Rattle.installs.specs.Changes.{AreEnough, Change, IsMissing, IsSame, IsSoundChange, clears, head_of, linked_number, needs_pid, rows_needed, slot_of, wanted, wanted_at}
+use Rattle.installs.specs.Changes.{AreEnough, Change, IsNeededNext, IsSame, IsSoundChange, clears, head_of, linked_number, needs_pid, rows_needed, slot_of, wanted, wanted_at}
 use Rattle.installs.specs.Moves.{Moved, after_ready, after_taking, decided_by, first_state, moved, moved_by, unused, whether_in, with_number}
 use Rattle.installs.specs.Spares.{HaveRoom, Spares, pid_of}
 use Rattle.installs.specs.Taking.{IsSoundTaking, count_of, found_after, kind_of, recalled_words, wanted_number}
@@ -37,7 +37,7 @@ few_words limits Pid word below = let few = limits.allowed.few_pids in omega (ar
 few_words limits Row word below = let few = limits.allowed.few_rows in omega (arith, below, few)
 
 -- one number less is missing once it is taken
-fewer_missing : (plan : Plan) (spares : Spares) (kind : Kind) (number : ℕ) → IsMissing plan spares kind → suc (numbers_missing plan (with_number kind number spares)) ≡ numbers_missing plan spares
+fewer_missing : (plan : Plan) (spares : Spares) (kind : Kind) (number : ℕ) → IsNeededNext plan spares kind → suc (numbers_missing plan (with_number kind number spares)) ≡ numbers_missing plan spares
 fewer_missing plan spares Pid number missing = rw (missing.0, missing.1) (omega arith)
 fewer_missing plan spares Row number missing =
     let some = missing.0 in
@@ -128,7 +128,7 @@ module _ (limits : Limits) (plan : Plan) (spares : Spares) (after : ℕ) (r : Re
   missed Pid number h free = (record { at = h; apart = apart }, inr (free, omega arith))
   missed Row number h free = (record { at = h; apart = apart }, inr (free, omega arith))
 
-  took : (kind : Kind) (number : ℕ) → IsMissing plan spares kind → WasHead r (slot_of plan) (head_of plan) → IsApart plan (pid_taken (wanted_number (Take kind number)) (answer.Whether true))
+  took : (kind : Kind) (number : ℕ) → IsNeededNext plan spares kind → WasHead r (slot_of plan) (head_of plan) → IsApart plan (pid_taken (wanted_number (Take kind number)) (answer.Whether true))
       → SpendsSo (state.Taking (Take kind number)) (answer.Whether true) (moved_by plan spares (state.Taking (Take kind number)) (found_after limits (Take kind number) (answer.Whether true)))
   took Pid number missing h far =
       let less = fewer_missing plan spares Pid number missing in
@@ -139,7 +139,7 @@ module _ (limits : Limits) (plan : Plan) (spares : Spares) (after : ℕ) (r : Re
       let first = left_first after plan (with_number Row number spares) in
       (record { at = recalls_first (recall r (wanted_number (Take Row number)) (answer.Whether true)) plan (with_number Row number spares) h; apart = apart }, inl (omega (arith, less, first)))
 
-  takes : (taking : Taking) (told : Answer Record) → (k : Knowledge) → Fits limits k (wanted_number taking) told → IsSoundTaking limits taking → IsMissing plan spares (kind_of taking) → RecallsAt r plan (state.Taking taking) → IsApart plan (pid_taken (wanted_number taking) told)
+  takes : (taking : Taking) (told : Answer Record) → (k : Knowledge) → Fits limits k (wanted_number taking) told → IsSoundTaking limits taking → IsNeededNext plan spares (kind_of taking) → RecallsAt r plan (state.Taking taking) → IsApart plan (pid_taken (wanted_number taking) told)
       → SpendsSo (state.Taking taking) told (moved_by plan spares (state.Taking taking) (found_after limits taking told))
   takes (Bits kind word) (answer.Number zero) k fits sound missing h far = empty_word kind word sound h
   takes (Bits Pid word) (answer.Number (suc bits)) k fits sound missing h far = some_word Pid word bits sound fits h

@@ -11,7 +11,7 @@ use Rattle.deltas.specs.Memory.{replaced_at}
 use Rattle.deltas.specs.declared.record.Record.{Record}
 use Rattle.chain_search.specs.Fitting.{Fits, FitsTaken, FitsTakenPid, FitsWord}
 use Rattle.chain_search.specs.Knowledge.{Knowledge, Empty, Ready, learn}
-use Rattle.installs.specs.Changes.{Change, Follows, IsLike, IsMissing, KeepsSpare, LacksNumber, MayChange, Shows, ShowsState, needs_pid, rows_needed}
+use Rattle.installs.specs.Changes.{Change, Follows, IsLike, IsNeededNext, KeepsSpare, LacksNumber, MayChange, Shows, ShowsState, needs_pid, rows_needed}
 use Rattle.installs.specs.Moves.{Moved, after_taking, first_state, moved_by, with_number}
 use Rattle.installs.specs.Spares.{AreTheSpares, AreUnset, Spares}
 use Rattle.installs.specs.Taking.{AllFull, AreFull, count_of, found_after, kind_of, wanted_number, word_read}
@@ -83,12 +83,12 @@ module _ (actor : ℕ) (limits : Limits) (k : Knowledge) (plan : Plan) (spares :
   full_still Pid word bits full = full
   full_still Row word bits full = full
 
-  lacks : (kind : Kind) (now : Knowledge) → IsMissing plan spares kind → AllFull limits now.asked kind → LacksNumber limits plan spares now
+  lacks : (kind : Kind) (now : Knowledge) → IsNeededNext plan spares kind → AllFull limits now.asked kind → LacksNumber limits plan spares now
   lacks Pid now missing all = inl (missing, all)
   lacks Row now missing all = inr (missing, all)
 
   -- a word was read as 0, and there is a next one, or none
-  pub empty_word : (kind : Kind) (word : ℕ) → IsMissing plan spares kind → AreFull k.asked kind word → Finds (Bits kind word) (answer.Number 0)
+  pub empty_word : (kind : Kind) (word : ℕ) → IsNeededNext plan spares kind → AreFull k.asked kind word → Finds (Bits kind word) (answer.Number 0)
   empty_word kind word missing full = go (ltb (suc word) (count_of limits kind / 64)) refl
     where
       now : Knowledge
@@ -126,7 +126,7 @@ module _ (actor : ℕ) (limits : Limits) (k : Knowledge) (plan : Plan) (spares :
   missed Row number full = record { shows = record { may = may; keeps = keeps; are = are; stands = (bare, full) }; like = like_self k }
 
   -- a free number was taken
-  pub taken_pid : (pid : ℕ) → IsMissing plan spares Pid → FitsTakenPid limits k pid → Finds (Take Pid pid) (answer.Whether true)
+  pub taken_pid : (pid : ℕ) → IsNeededNext plan spares Pid → FitsTakenPid limits k pid → Finds (Take Pid pid) (answer.Whether true)
   taken_pid pid missing fits = record {
     shows = shows_first actor limits now plan (with_number Pid pid spares) (still_may actor k now plan like may) (keeps_none plan missing.0) (pid_taken k.own spares are pid fits.some missing.1) unset;
     like = like;
@@ -163,7 +163,7 @@ module _ (actor : ℕ) (limits : Limits) (k : Knowledge) (plan : Plan) (spares :
       like = record { inside = refl; read = refl; command = refl; linked_now = refl }
 
   -- whatever the answer, the taking goes on as it says
-  pub finds : (taking : Taking) (told : Answer Record) → IsMissing plan spares (kind_of taking) → AreFull k.asked (kind_of taking) (word_read taking) → Fits limits k (wanted_number taking) told → Finds taking told
+  pub finds : (taking : Taking) (told : Answer Record) → IsNeededNext plan spares (kind_of taking) → AreFull k.asked (kind_of taking) (word_read taking) → Fits limits k (wanted_number taking) told → Finds taking told
   finds (Bits kind word) (answer.Number zero) missing full fits = empty_word kind word missing full
   finds (Bits Pid word) (answer.Number (suc bits)) missing full fits = some_word Pid word bits (in_word limits.pids word bits fits).0 full
   finds (Bits Row word) (answer.Number (suc bits)) missing full fits = some_word Row word bits (in_word limits.rows word bits fits).0 full

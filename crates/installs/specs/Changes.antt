@@ -46,9 +46,9 @@ rows_needed (Root left root) = 1
 rows_needed (Unlink pid head unterm removal) = 1
 
 -- A number of the kind is needed next: first a PID, then rows.
-abbrev pub IsMissing : Plan → Spares → Kind → Type 0
-IsMissing plan spares Pid = (needs_pid plan ≡ true) × (spares.pid ≡ None)
-IsMissing plan spares Row = (length spares.rows < rows_needed plan) × (needs_pid plan ≡ true → is_some spares.pid ≡ true)
+abbrev pub IsNeededNext : Plan → Spares → Kind → Type 0
+IsNeededNext plan spares Pid = (needs_pid plan ≡ true) × (spares.pid ≡ None)
+IsNeededNext plan spares Row = (length spares.rows < rows_needed plan) × (needs_pid plan ≡ true → is_some spares.pid ≡ true)
 
 -- Nothing is needed still.
 pub record AreEnough (plan : Plan) (spares : Spares) : Type 0 where
@@ -165,7 +165,7 @@ IsSpellablePlan (Unlink pid head unterm removal) = IsSpellable (kind.Unterm unte
 -- Such a plan has such a state: only a new page has a base, only what comes over a page's newest row is placed for it, and only
 -- what takes a page's term out clears that page.
 abbrev pub IsSoundState : Limits → Plan → Spares → State → Type 0
-IsSoundState limits plan spares (Taking taking) = IsSoundTaking limits taking × IsMissing plan spares (kind_of taking)
+IsSoundState limits plan spares (Taking taking) = IsSoundTaking limits taking × IsNeededNext plan spares (kind_of taking)
 IsSoundState limits plan spares Base = AreEnough plan spares × (needs_pid plan ≡ true)
 IsSoundState limits plan spares ToReady = AreEnough plan spares × (needs_pid plan ≡ true)
 IsSoundState limits plan spares Place = AreEnough plan spares × (0 < slot_of plan)
@@ -268,7 +268,7 @@ linked_after plan end linked = linked
 
 -- Each word was read as 0 of the kind of which a number is needed next.
 abbrev pub LacksNumber : Limits → Plan → Spares → Knowledge → Type 0
-LacksNumber limits plan spares k = (IsMissing plan spares Pid × AllFull limits k.asked Pid) ⊎ (IsMissing plan spares Row × AllFull limits k.asked Row)
+LacksNumber limits plan spares k = (IsNeededNext plan spares Pid × AllFull limits k.asked Pid) ⊎ (IsNeededNext plan spares Row × AllFull limits k.asked Row)
 
 -- the state from which a change wins
 abbrev pub last_state : Plan → State

@@ -28,14 +28,14 @@ pub record HaveRoom (limits : Limits) (spares : Spares) : Type 0 where
   pub few : length spares.rows ≤ 2
 
 -- The row is none of these.
-abbrev pub IsNew : ℕ → List ℕ → Type 0
-IsNew row [] = Unit {0}
-IsNew row (spare ∷ spares) = ((spare == row) ≡ false) × IsNew row spares
+abbrev pub IsNoneOf : ℕ → List ℕ → Type 0
+IsNoneOf row [] = Unit {0}
+IsNoneOf row (spare ∷ spares) = ((spare == row) ≡ false) × IsNoneOf row spares
 
 -- Each is the actor's own, and none is there twice; row 0 is none.
 abbrev pub AreSpare : (ℕ → OwnRow) → List ℕ → Type 0
 AreSpare own [] = Unit {0}
-AreSpare own (spare ∷ spares) = (IsOwn (own spare) × (0 < spare)) × IsNew spare spares × AreSpare own spares
+AreSpare own (spare ∷ spares) = (IsOwn (own spare) × (0 < spare)) × IsNoneOf spare spares × AreSpare own spares
 
 -- The actor took the page and has not linked it; whether its slot is set or not.
 abbrev pub IsUnlinked : OwnPage → Type 0

@@ -8,7 +8,7 @@ use Rattle.deltas.specs.declared.record.Record.TheVariants.{Base}
 use Rattle.deltas.specs.Records.{next_row}
 use Rattle.deltas.specs.Spellable.{IsSpellable}
 use Rattle.chain_search.specs.Chains.{IsChainFrom}
-use Rattle.chain_search.specs.Deltas.{IsSmall}
+use Rattle.chain_search.specs.Deltas.{IsSmallDelta}
 use Rattle.chain_search.specs.Fitted.{IsFitted}
 use Rattle.chain_search.proofs.DeltaLaws.{small}
 use Rattle.chain_search.proofs.FittedLaws.{first_spellable}
@@ -36,10 +36,10 @@ spellable_past (one ∷ []) newest under h = first_spellable newest under h.1
 spellable_past (one ∷ two ∷ front) newest under h = spellable_past (two ∷ front) newest under h.1
 
 -- a delta that is read of a fitted chain needs little room
-pub small_read : (rows : ℕ → Option Record) (row at next : ℕ) (front chain : List Record) (older : Record) → HasRead rows row front at → rows at ≡ Some older → next_row older ≡ Some next → IsChainFrom rows row chain → IsFitted chain → IsSmall older
+pub small_read : (rows : ℕ → Option Record) (row at next : ℕ) (front chain : List Record) (older : Record) → HasRead rows row front at → rows at ≡ Some older → next_row older ≡ Some next → IsChainFrom rows row chain → IsFitted chain → IsSmallDelta older
 small_read rows row at next front chain older read stands leads is fitted = let (rest, whole, more) = read chain is in go rest whole more
   where
-    go : (rest : List Record) → chain ≡ front ++ rest → IsChainFrom rows at rest → IsSmall older
+    go : (rest : List Record) → chain ≡ front ++ rest → IsChainFrom rows at rest → IsSmallDelta older
     go [] whole more = absurd more
     go (newest ∷ under) whole more =
         let same : newest ≡ older = cc (more.0, stands) in

@@ -13,7 +13,7 @@ use Rattle.deltas.specs.declared.record.Record.TheVariants as kind
 use Rattle.chain_search.specs.Discipline.{MayReply}
 use Rattle.chain_search.specs.Fitting.{Fits}
 use Rattle.chain_search.specs.Knowledge.{Knowledge, learn}
-use Rattle.chain_search.specs.Recalled.{IsSpent, Recalled, recall}
+use Rattle.chain_search.specs.Recalled.{IsStepSpent, Recalled, recall}
 use Rattle.installs.specs.Bounded as bound
 use Rattle.installs.specs.Changes as change
 use Rattle.installs.specs.Spares.{HaveRoom, Spares}
@@ -26,7 +26,7 @@ use Rattle.op_machine.specs.Brings.{Brings, IsReadPlan, IsUpdateOf, IsUsefulOver
 use Rattle.op_machine.specs.Hands.{AreRowsOf, IsTakenBy}
 use Rattle.op_machine.specs.Outcomes.{FacesChanged}
 use Rattle.op_machine.specs.Shows.{IsInChange}
-use Rattle.op_machine.specs.Tasks.{IsDone, IsUnreadPid, Seeks, Task}
+use Rattle.op_machine.specs.Tasks.{IsBetweenChanges, IsUnreadPid, Seeks, Task}
 use Rattle.op_machine.specs.declared.state.Outcome.TheVariants as outcome
 use Rattle.op_machine.specs.declared.state.Then.{Then}
 use Rattle.op_machine.specs.declared.state.Then.TheVariants.{Round, Limbo, Errand, Reply}
@@ -140,7 +140,7 @@ module _ (task : Task) (had has : Spares) (k : Knowledge) (r : Recalled) (old ne
     recalls = recalls;
   }
 
-  pub change_left : bound.SpendsTo one_round r old had told new has None → IsSpent r (change.wanted old had) told (bound.steps_left one_round old had + 1) (bound.steps_left one_round new has + 1)
+  pub change_left : bound.SpendsTo one_round r old had told new has None → IsStepSpent r (change.wanted old had) told (bound.steps_left one_round old had + 1) (bound.steps_left one_round new has + 1)
   change_left spends = elim spends.1 [
     | inl less ↦ inl (omega (arith, less))
     | inr paid ↦ let more = paid.1 in inr (paid.0, omega (arith, more))
@@ -156,7 +156,7 @@ module _ (task : Task) (had has : Spares) (k : Knowledge) (r : Recalled) (old ne
       asked = record { going = over.like.command ∙ h.asked.going; unlinked = over.like.linked_now ∙ none };
     }
 
-    done : IsDone task has now
+    done : IsBetweenChanges task has now
     done = record {
       inside = over.like.inside ∙ h.shows.may.inside;
       spare = record { room = rw (← h.limits) room; rest = over.rest };
@@ -210,7 +210,7 @@ module _ (task : Task) (had has : Spares) (k : Knowledge) (r : Recalled) (old ne
   cleared_left (Limbo unlinked) is clears = omega arith
   cleared_left (Errand key) is clears = let b = subst (λ t. Brings k task.command old.plan t) is h.brings in let e = sym clears ∙ ap change.clears b.2 in cc
 
-  pub ended_left : (end : End) → bound.SpendsTo one_round r old had told new has (Some end) → IsSpent r (change.wanted old had) told (bound.steps_left one_round old had + 1) (left_for (outcome.Changed end then))
+  pub ended_left : (end : End) → bound.SpendsTo one_round r old had told new has (Some end) → IsStepSpent r (change.wanted old had) told (bound.steps_left one_round old had + 1) (left_for (outcome.Changed end then))
   ended_left Won spends = elim spends [
     | inl paid ↦ inr (paid, won_left then (bound.steps_left one_round old had + 1))
     | inr more ↦ inl (let after = cleared_left then refl more.0 in let left = more.1 in omega (arith, after, left))

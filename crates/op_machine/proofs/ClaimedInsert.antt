@@ -6,9 +6,9 @@ use Rattle.std.proofs.Common.{◌≡◌, ◌<◌, ◌≤◌, ℕ, suc, List, [],
 use Rattle.bw_model.specs.declared.command.Command.{Command}
 use Rattle.bw_model.specs.declared.command.Command.TheVariants.{Insert}
 use Rattle.bw_model.specs.declared.command.Reply.TheVariants as reply
-use Rattle.bw_model.specs.Log.{Update, set, value_in}
+use Rattle.bw_model.specs.Log.{Update, set, logged_value}
 use Rattle.bw_model.specs.Replies.{reply_of, update_of}
-use Rattle.bw_model.proofs.LogLaws.{value_in-push}
+use Rattle.bw_model.proofs.LogLaws.{logged_value-push}
 use Rattle.bw_model.specs.declared.step.Step.TheVariants.{Leave}
 use Rattle.bw_model.specs.declared.step.Answer.TheVariants.{Done}
 use Rattle.deltas.specs.Memory.{Memory}
@@ -52,8 +52,8 @@ absent : (old : Option (List ℕ)) → reply_of insert old ≡ Some reply.Insert
 absent None e = refl
 absent (Some value) e = cc
 
-absent_at : (memory : Memory) (log : List Update) → RepliesAt memory log insert reply.Inserted → value_in log (codes "a") ≡ None
-absent_at memory log (inl is) = absent (value_in log (codes "a")) is
+absent_at : (memory : Memory) (log : List Update) → RepliesAt memory log insert reply.Inserted → logged_value log (codes "a") ≡ None
+absent_at memory log (inl is) = absent (logged_value log (codes "a")) is
 absent_at memory log (inr shows) = let e = shows.is in cc
 
 -- each step is one of the insert
@@ -68,24 +68,24 @@ empty n h = UpTo-at (λ k. HasMapOf (memory_at small claimed_insert k) []) 7
     one : (k : ℕ) → IsChainOf (memory_at small claimed_insert k) 1 (opening_leaf ∷ []) → HasMapOf (memory_at small claimed_insert k) []
     one k is = one_leaf (memory_at small claimed_insert k) [] (opening_leaf ∷ []) is refl refl refl (λ key. refl)
 
-no_map : (n : ℕ) → n ≤ 7 → (log : List Update) → value_in log (codes "a") ≡ Some (codes "1") → HasMapOf (memory_at small claimed_insert n) log → ⊥
+no_map : (n : ℕ) → n ≤ 7 → (log : List Update) → logged_value log (codes "a") ≡ Some (codes "1") → HasMapOf (memory_at small claimed_insert n) log → ⊥
 no_map n h log has map_of =
     let spelled : Spells (memory_at small claimed_insert n) (codes "a") (codes "1") = (map_of.same (codes "a") (codes "1")).1 has in
-    let odd : value_in [] (codes "a") ≡ Some (codes "1") = ((empty n h).same (codes "a") (codes "1")).0 spelled in cc
+    let odd : logged_value [] (codes "a") ≡ Some (codes "1") = ((empty n h).same (codes "a") (codes "1")).0 spelled in cc
 
 no_points : (points : List Bool) → HasPoints claimed_insert points → IsAnswered small claimed_insert points → IsQuiet small claimed_insert points → ⊥
 no_points points has answered quiet =
     let true_reply : IsTrueReply small claimed_insert points the_insert reply.Inserted = answered.each the_insert 6 reply.Inserted refl finishes in
     at true_reply.0 true_reply.1 true_reply.2 (absent_at (memory_at small claimed_insert true_reply.0) (log_at claimed_insert points true_reply.0) true_reply.3)
   where
-    at : (n : ℕ) → IsOwnStep claimed_insert the_insert n → slice_get points n ≡ Some true → value_in (log_at claimed_insert points n) (codes "a") ≡ None → ⊥
+    at : (n : ℕ) → IsOwnStep claimed_insert the_insert n → slice_get points n ≡ Some true → logged_value (log_at claimed_insert points n) (codes "a") ≡ None → ⊥
     at n (step, answer, (answered_by, own)) marked none =
         let below : n < 7 = slice_get_below claimed_insert n (Step 0 step answer answered_by) own.entry in
         let by : updates_at (take n claimed_insert) (Step 0 step answer answered_by) (log_at claimed_insert points n) ≡ updates_by 0 (Some insert) (log_at claimed_insert points n) = updates n (Step 0 step answer answered_by) own.entry own.begun (log_at claimed_insert points n) in
         let sets : updates_by 0 (Some insert) (log_at claimed_insert points n) ≡ set 0 (codes "a") (codes "1") ∷ [] = ap (λ old. option_to_list (update_of 0 insert old)) none in
         let grown : log_at claimed_insert points (suc n) ≡ log_at claimed_insert points n ++ set 0 (codes "a") (codes "1") ∷ [] =
         log_at-step claimed_insert points n (Step 0 step answer answered_by) true has.beside own.entry marked ∙ ap (λ more. log_at claimed_insert points n ++ more) (by ∙ sets) in
-        let there : value_in (log_at claimed_insert points (suc n)) (codes "a") ≡ Some (codes "1") = rw grown (value_in-push (log_at claimed_insert points n) (set 0 (codes "a") (codes "1")) (codes "a")) in
+        let there : logged_value (log_at claimed_insert points (suc n)) (codes "a") ≡ Some (codes "1") = rw grown (logged_value-push (log_at claimed_insert points n) (set 0 (codes "a") (codes "1")) (codes "a")) in
         no_map (suc n) (omega arith) (log_at claimed_insert points (suc n)) there (quiet.at_each (suc n) (omega arith))
 
 pub not_linearized : ¬ IsLinearized small (map turn_of claimed_insert) claimed_insert

@@ -20,7 +20,7 @@ use Rattle.chain_search.specs.Trace.{turn_of}
 use Rattle.chain_search.specs.Trace.{memory_at, TakesStep, IsStep}
 use Rattle.chain_search.proofs.RunLaws.{IsRun-from_steps}
 use Rattle.op_machine.specs.Operations.{Operation, IsOperation, IsOwnStep, Finishes}
-use Rattle.bw_model.specs.Log.{Update, value_in}
+use Rattle.bw_model.specs.Log.{Update, logged_value}
 use Rattle.bw_model.specs.Replies.{reply_of}
 use Rattle.op_machine.specs.Points.{log_at, HasPoints, IsPoint, has_point}
 use Rattle.op_machine.specs.Answered.{IsAnswered}
@@ -32,8 +32,8 @@ use Rattle.chain_search.proofs.ChainLaws.{IsChainOf-unique}
 use Rattle.chain_search.proofs.Pushes.{slice_get_below}
 use Rattle.op_machine.specs.Direct.{IsDirect, is_step_of}
 use Rattle.op_machine.specs.Faithful.{IsFaithful, KnowsRow, touches_pages}
-use Rattle.op_machine.specs.Index.{IsExactIndex, IsOfLevel, IsRootLevel}
-use Rattle.op_machine.specs.Phases.{Phase, Moves, KeepsPhases, takes, splits, becomes_root, terms, under_root, holds, removes, merges, unterms, reuses}
+use Rattle.op_machine.specs.Index.{IsExactIndex, IsPageOfLevel, IsRootLevel}
+use Rattle.op_machine.specs.Phases.{Phase, MovesPhase, KeepsPhases, takes, splits, becomes_root, terms, under_root, holds, removes, merges, unterms, reuses}
 use Rattle.op_machine.specs.Reuse.{IsFreedByRule}
 use Rattle.op_machine.specs.Examples.{small, opening_leaf, lookup}
 use Rattle.op_machine.specs.Linearized.{IsLinearized, IsOrderly}
@@ -119,7 +119,7 @@ has_points = record {
 is_answered : IsAnswered small lookup points
 is_answered = record { each = λ operation n answered is ends. rw (only operation is, finished operation n answered ends) (4, own_point, refl, inl right) }
   where
-    right : reply_of the_operation.command (value_in [] (codes "a")) ≡ Some reply.None
+    right : reply_of the_operation.command (logged_value [] (codes "a")) ≡ Some reply.None
     right = refl
 
 -- the steps of the run neither take nor free nor exchange anything
@@ -163,7 +163,7 @@ keeps_phases = record {
     odd : false ≡ true → ⊥
     odd e = cc
 
-    none_moves : {memory : Memory} {pid : ℕ} {from to : Phase} (entry : Entry) → ((actor : ℕ) (step : StepOf Record) (answer : Answer Record) → IsStep entry actor step answer → only_looks step ≡ true) → Moves memory entry pid from to → ⊥
+    none_moves : {memory : Memory} {pid : ℕ} {from to : Phase} (entry : Entry) → ((actor : ℕ) (step : StepOf Record) (answer : Answer Record) → IsStep entry actor step answer → only_looks step ≡ true) → MovesPhase memory entry pid from to → ⊥
     none_moves entry l (takes a is) = odd (l _ _ _ is)
     none_moves entry l (splits a b h e) = odd (l _ _ _ h.3.0)
     none_moves entry l (becomes_root h) = odd (l _ _ _ h.2.0)
@@ -237,7 +237,7 @@ is_exact_index = record {
   each = λ n level top h root below. absurd (too_low n top h root below);
 }
   where
-    leafy : (k : ℕ) → IsChainOf (memory_at small lookup k) 1 (opening_leaf ∷ []) → IsOfLevel (memory_at small lookup k) 0 1
+    leafy : (k : ℕ) → IsChainOf (memory_at small lookup k) 1 (opening_leaf ∷ []) → IsPageOfLevel (memory_at small lookup k) 0 1
     leafy k is = (opening_leaf ∷ [], is, refl)
 
     leaf : (k : ℕ) → (memory_at small lookup k).slots 0 ≡ 1 → IsChainOf (memory_at small lookup k) 1 (opening_leaf ∷ []) → (top : ℕ) → IsRootLevel (memory_at small lookup k) top → top ≡ 0

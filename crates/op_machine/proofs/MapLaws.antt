@@ -4,7 +4,7 @@ use Rattle.std.specs.Prelude.{IsTrue, slice_index_or, ◌↔◌}
 use Rattle.std.specs.List.{Contains, AllByRecursion}
 use Rattle.std.specs.Option.{option_map}
 use Rattle.bw_model.specs.Bytes.{is_below}
-use Rattle.bw_model.specs.Log.{Update, value_in}
+use Rattle.bw_model.specs.Log.{Update, logged_value}
 use Rattle.base_page.specs.declared.item.Content.TheVariants.{Value}
 use Rattle.deltas.specs.declared.record.Record.{Record}
 use Rattle.deltas.specs.Memory.{Memory}
@@ -49,11 +49,11 @@ module _ (memory : Memory) (chain : List Record) (is : IsChainOf memory 1 chain)
       covered_by l h = rw (l, h, none_below_empty) refl
 
 pub one_leaf : (memory : Memory) (log : List Update) (chain : List Record) → IsChainOf memory 1 chain → low_in chain ≡ [] → high_in chain ≡ None → right_in chain ≡ None
-    → ((key : List ℕ) → content_in chain key ≡ option_map Value (value_in log key)) → HasMapOf memory log
+    → ((key : List ℕ) → content_in chain key ≡ option_map Value (logged_value log key)) → HasMapOf memory log
 one_leaf memory log chain is low high right says = record {
   whole = (only_leaf memory chain is right ∷ [], are_leaves memory chain is right, (low, rw high refl));
   same = λ key value. (
-    (λ spells. value_same (value_in log key) value (sym (says key) ∙ (one_leaf_spells memory chain is right low high key value).0 spells)),
+    (λ spells. value_same (logged_value log key) value (sym (says key) ∙ (one_leaf_spells memory chain is right low high key value).0 spells)),
     (λ h. (one_leaf_spells memory chain is right low high key value).1 (says key ∙ ap (option_map Value) h)),
   );
 }

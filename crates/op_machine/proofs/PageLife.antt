@@ -26,7 +26,7 @@ use Rattle.base_page.specs.declared.item.Content.{Content as ContentOf}
 use Rattle.chain_search.specs.SideChain.{IsWhole}
 use Rattle.chain_search.specs.Chains.{content_in, level_in}
 use Rattle.op_machine.specs.Phases.{MakesRoot, MovesAt, free, owned, fresh, indexed, held, removed, merged, cleared, takes, splits, becomes_root, under_root, holds, removes, merges, unterms}
-use Rattle.op_machine.specs.Index.{IsLevel, IsRootLevel, IsOfLevel, HasTerm}
+use Rattle.op_machine.specs.Index.{IsLevel, IsRootLevel, IsPageOfLevel, HasTerm}
 use Rattle.op_machine.proofs.MapLaws.{no_values}
 use Rattle.chain_search.proofs.ChainLaws.{unplaced, IsChainOf-unique}
 
@@ -105,11 +105,11 @@ pub not_yet : (earlier : ℕ) → earlier < 17 → ¬ IsRootLevel (memory_at sma
 not_yet earlier h = UpTo-at (λ k. ¬ IsRootLevel (memory_at small page_life k) 1) 16
     (leaf_root 0 (record { page = lit< tt; linked = lit< tt; records = (refl, refl) }), (leaf_root 1 (record { page = lit< tt; linked = lit< tt; records = (refl, refl) }), (leaf_root 2 (record { page = lit< tt; linked = lit< tt; records = (refl, refl) }), (leaf_root 3 (record { page = lit< tt; linked = lit< tt; records = (refl, refl) }), (leaf_root 4 (record { page = lit< tt; linked = lit< tt; records = (refl, refl) }), (leaf_root 5 (record { page = lit< tt; linked = lit< tt; records = (refl, refl) }), (leaf_root 6 (record { page = lit< tt; linked = lit< tt; records = (refl, refl) }), (leaf_root 7 (record { page = lit< tt; linked = lit< tt; records = (refl, refl) }), (leaf_root 8 (record { page = lit< tt; linked = lit< tt; records = (refl, refl) }), (leaf_root 9 (record { page = lit< tt; linked = lit< tt; records = (refl, refl) }), (leaf_root 10 (record { page = lit< tt; linked = lit< tt; records = (refl, refl) }), (leaf_root 11 (record { page = lit< tt; linked = lit< tt; records = (refl, refl) }), (leaf_root 12 (record { page = lit< tt; linked = lit< tt; records = (refl, refl) }), (leaf_root 13 (record { page = lit< tt; linked = lit< tt; records = (refl, refl) }), (split_root 14 (record { page = lit< tt; linked = lit< tt; records = (refl, (refl, refl)) }), (split_root 15 (record { page = lit< tt; linked = lit< tt; records = (refl, (refl, refl)) }), split_root 16 (record { page = lit< tt; linked = lit< tt; records = (refl, (refl, refl)) }))))))))))))))))) earlier (omega arith)
   where
-    leaf_root : (k : ℕ) → IsChainOf (memory_at small page_life k) 1 (opening_leaf ∷ []) → IsOfLevel (memory_at small page_life k) 1 1 → ⊥
+    leaf_root : (k : ℕ) → IsChainOf (memory_at small page_life k) 1 (opening_leaf ∷ []) → IsPageOfLevel (memory_at small page_life k) 1 1 → ⊥
     leaf_root k is (chain, other, level) = let same : chain ≡ opening_leaf ∷ [] = IsChainOf-unique (memory_at small page_life k) 1 chain (opening_leaf ∷ []) other is in
         let odd : ◌≡◌ {A = ℕ} 0 1 = subst (λ c. level_in c ≡ 1) same level in cc
 
-    split_root : (k : ℕ) → IsChainOf (memory_at small page_life k) 1 (split ∷ opening_leaf ∷ []) → IsOfLevel (memory_at small page_life k) 1 1 → ⊥
+    split_root : (k : ℕ) → IsChainOf (memory_at small page_life k) 1 (split ∷ opening_leaf ∷ []) → IsPageOfLevel (memory_at small page_life k) 1 1 → ⊥
     split_root k is (chain, other, level) = let same : chain ≡ split ∷ opening_leaf ∷ [] = IsChainOf-unique (memory_at small page_life k) 1 chain (split ∷ opening_leaf ∷ []) other is in
         let odd : ◌≡◌ {A = ℕ} 0 1 = subst (λ c. level_in c ≡ 1) same level in cc
 

@@ -7,7 +7,7 @@ use Rattle.chain_search.specs.Trace.{memory_of, Happens}
 use Rattle.deltas.specs.Memory.{Memory}
 use Rattle.chain_search.proofs.TraceLaws.{Happens-below, Happens-kept, Happens-push_cases, Happens-last}
 use Rattle.op_machine.specs.Links.{Wins}
-use Rattle.op_machine.specs.Phases.{Phase, Moves, Rests, IsInPhase, KeepsPhases, cleared}
+use Rattle.op_machine.specs.Phases.{Phase, MovesPhase, Rests, IsInPhase, KeepsPhases, cleared}
 
 module _ (limits : Limits) (entries : List Entry) (last : Entry) where
   pub Rests-kept : (m n pid : ℕ) → n ≤ length entries → Rests limits entries m n pid → Rests limits (entries ++ last ∷ []) m n pid
@@ -20,21 +20,21 @@ module _ (limits : Limits) (entries : List Entry) (last : Entry) where
   IsInPhase-kept n pid phase le (inl (m, from, lt, moves, rests)) = inl (m, from, lt, Happens-kept (last ∷ []) moves, Rests-kept (suc m) n pid le rests)
   IsInPhase-kept n pid phase le (inr (rests, is)) = inr (Rests-kept 0 n pid le rests, is)
 
-  pub IsInPhase-moved : (pid : ℕ) (from to : Phase) → Moves (memory_of limits entries) last pid from to → IsInPhase limits (entries ++ last ∷ []) (suc (length entries)) pid to
-  IsInPhase-moved pid from to moves = inl (length entries, from, omega arith, Happens-last limits entries last (λ memory entry. Moves memory entry pid from to) moves, λ k a b low high. absurd (omega arith))
+  pub IsInPhase-moved : (pid : ℕ) (from to : Phase) → MovesPhase (memory_of limits entries) last pid from to → IsInPhase limits (entries ++ last ∷ []) (suc (length entries)) pid to
+  IsInPhase-moved pid from to moves = inl (length entries, from, omega arith, Happens-last limits entries last (λ memory entry. MovesPhase memory entry pid from to) moves, λ k a b low high. absurd (omega arith))
 
-  rests_longer : (m pid : ℕ) → Rests limits entries m (length entries) pid → ((from to : Phase) → ¬ Moves (memory_of limits entries) last pid from to) → Rests limits (entries ++ last ∷ []) m (suc (length entries)) pid
+  rests_longer : (m pid : ℕ) → Rests limits entries m (length entries) pid → ((from to : Phase) → ¬ MovesPhase (memory_of limits entries) last pid from to) → Rests limits (entries ++ last ∷ []) m (suc (length entries)) pid
   rests_longer m pid rests still k from to low high moves = elim (Happens-push_cases moves) [
     | inl before ↦ rests k from to low (Happens-below before) before
     | inr at ↦ still from to at.1
   ]
 
-  pub IsInPhase-rested : (pid : ℕ) (phase : Phase) → ((from to : Phase) → ¬ Moves (memory_of limits entries) last pid from to) → IsInPhase limits entries (length entries) pid phase → IsInPhase limits (entries ++ last ∷ []) (suc (length entries)) pid phase
+  pub IsInPhase-rested : (pid : ℕ) (phase : Phase) → ((from to : Phase) → ¬ MovesPhase (memory_of limits entries) last pid from to) → IsInPhase limits entries (length entries) pid phase → IsInPhase limits (entries ++ last ∷ []) (suc (length entries)) pid phase
   IsInPhase-rested pid phase still (inl (m, from, lt, moves, rests)) = inl (m, from, omega arith, Happens-kept (last ∷ []) moves, rests_longer (suc m) pid rests still)
   IsInPhase-rested pid phase still (inr (rests, is)) = inr (rests_longer 0 pid rests still, is)
 
   pub KeepsPhases-push : KeepsPhases limits entries
-      → ((pid : ℕ) (from to : Phase) → Moves (memory_of limits entries) last pid from to → IsInPhase limits entries (length entries) pid from)
+      → ((pid : ℕ) (from to : Phase) → MovesPhase (memory_of limits entries) last pid from to → IsInPhase limits entries (length entries) pid from)
       → ((actor pid old : ℕ) → Wins (memory_of limits entries) last actor pid old 0 link.Clear → IsInPhase limits entries (length entries) pid cleared)
       → KeepsPhases limits (entries ++ last ∷ [])
   KeepsPhases-push keeps order empties = record {

@@ -4,7 +4,7 @@ use Rattle.bw_model.specs.declared.step.Answer.{Answer}
 use Rattle.deltas.specs.declared.record.Record.{Record}
 use Rattle.chain_search.specs.Fitting.{Fits}
 use Rattle.chain_search.specs.Knowledge.{Knowledge, learn}
-use Rattle.chain_search.specs.Recalled.{IsSpent, Recalled, recall}
+use Rattle.chain_search.specs.Recalled.{IsStepSpent, Recalled, recall}
 use Rattle.descent.specs.ReadRounds as read
 use Rattle.descent.specs.WriteRounds as write
 use Rattle.descent.specs.declared.read_round.Goal.{Goal}
@@ -48,18 +48,18 @@ module _ (task : Task) (spares : Spares) (k : Knowledge) (r : Recalled) (round n
   }
 
   -- where a page wasn't there
-  missed : (goal : Goal) → round.goal ≡ goal → read.Misses left_round one_round r round told goal → IsSpent r (read.wanted round) told (left_at r spares (at.Read round)) one_round
+  missed : (goal : Goal) → round.goal ≡ goal → read.Misses left_round one_round r round told goal → IsStepSpent r (read.wanted round) told (left_at r spares (at.Read round)) one_round
   missed read_to.Seek is paid = inr (paid, omega arith)
   missed (read_to.Left removed) is paid = inr (paid, omega arith)
   missed read_to.Beyond is kept = inl (omega (arith, kept))
 
-  pub read_went : read.Spends left_round one_round r round told new None → IsSpent r (read.wanted round) told (left_at r spares (at.Read round)) (left_at (recall r (read.wanted round) told) spares (at.Read new))
+  pub read_went : read.Spends left_round one_round r round told new None → IsStepSpent r (read.wanted round) told (left_at r spares (at.Read round)) (left_at (recall r (read.wanted round) told) spares (at.Read new))
   read_went spends = elim spends [
     | inl less ↦ inl (omega (arith, less))
     | inr paid ↦ let more = paid.1 in inr (paid.0, omega (arith, more))
   ]
 
-  pub read_left : (end : ReadEnd) → read.Spends left_round one_round r round told new (Some end) → IsSpent r (read.wanted round) told (left_at r spares (at.Read round)) (left_for (outcome.Read end))
+  pub read_left : (end : ReadEnd) → read.Spends left_round one_round r round told new (Some end) → IsStepSpent r (read.wanted round) told (left_at r spares (at.Read round)) (left_for (outcome.Read end))
   read_left read_end.Again misses = missed round.goal refl misses
   read_left (read_end.Removed page) reserved = inl (omega (arith, reserved))
   read_left (read_end.Leaf leaf) some = inl (omega (arith, some))
@@ -142,19 +142,19 @@ module _ (task : Task) (spares : Spares) (k : Knowledge) (r : Recalled) (round n
   }
 
   -- where a page wasn't there
-  write_missed : (goal : write_goal.Goal) → write.Misses left_round one_round r round told goal → IsSpent r (write.wanted round) told (left_at r spares (at.Write round)) one_round
+  write_missed : (goal : write_goal.Goal) → write.Misses left_round one_round r round told goal → IsStepSpent r (write.wanted round) told (left_at r spares (at.Write round)) one_round
   write_missed Seek paid = inr (paid, omega arith)
   write_missed (write_to.Left pid) paid = inr (paid, omega arith)
   write_missed (write_to.Merge left) paid = inr (paid, omega arith)
   write_missed (write_to.Unterm parent left) kept = inl (omega (arith, kept))
 
-  pub write_went : write.Spends left_round one_round r round told new None → IsSpent r (write.wanted round) told (left_at r spares (at.Write round)) (left_at (recall r (write.wanted round) told) spares (at.Write new))
+  pub write_went : write.Spends left_round one_round r round told new None → IsStepSpent r (write.wanted round) told (left_at r spares (at.Write round)) (left_at (recall r (write.wanted round) told) spares (at.Write new))
   write_went spends = elim spends [
     | inl less ↦ inl (omega (arith, less))
     | inr paid ↦ let more = paid.1 in inr (paid.0, omega (arith, more))
   ]
 
-  pub write_left : (end : WriteEnd) → write.Spends left_round one_round r round told new (Some end) → IsSpent r (write.wanted round) told (left_at r spares (at.Write round)) (left_for (outcome.Written end))
+  pub write_left : (end : WriteEnd) → write.Spends left_round one_round r round told new (Some end) → IsStepSpent r (write.wanted round) told (left_at r spares (at.Write round)) (left_for (outcome.Written end))
   write_left write_end.Again misses = write_missed round.goal misses
   write_left write_end.Done kept = inl (omega (arith, kept))
   write_left (write_end.Removed page) reserved = inl (omega (arith, reserved))

@@ -13,7 +13,7 @@ use Rattle.bw_model.specs.declared.step.Answer.TheVariants.{Number, Done}
 use Rattle.deltas.specs.declared.record.Record.{Record}
 use Rattle.chain_search.specs.declared.trace.Entry.TheVariants.{Step}
 use Rattle.chain_search.specs.Chains.{IsChainFrom, IsOnChain, chain_rows}
-use Rattle.chain_search.specs.Steps.{is_among}
+use Rattle.bw_model.specs.Words.{is_among}
 use Rattle.chain_search.specs.Run.{IsRun, MayPlace}
 use Rattle.chain_search.specs.Trace.{memory_at, memory_of, TakesStep}
 use Rattle.chain_search.proofs.ChainLaws.{IsChainFrom-unique, unplaced}

@@ -8,7 +8,7 @@ use Rattle.bw_model.specs.declared.command.Reply.TheVariants as reply
 use Rattle.bw_model.specs.declared.limits.Limits.{Limits}
 use Rattle.bw_model.specs.declared.step.Step.TheVariants.{PidBits, RowBits, Slot}
 use Rattle.bw_model.specs.declared.step.Answer.TheVariants.{Number}
-use Rattle.bw_model.specs.Log.{Update, value_in}
+use Rattle.bw_model.specs.Log.{Update, logged_value}
 use Rattle.bw_model.specs.Pairs.{IsPairsOf}
 use Rattle.bw_model.specs.Replies.{command_key, is_writer, reply_of}
 use Rattle.base_page.specs.declared.page.Page.{Page as BasePage}
@@ -48,7 +48,7 @@ pub record ShowsPage (memory : Memory) (log : List Update) (command : Command) (
 
 -- What a command replies at its point, where the memory and the log are these: by its key's value, or with a cursor page.
 abbrev pub RepliesAt : Memory → List Update → Command → Reply → Type 0
-RepliesAt memory log command answer = (reply_of command (value_in log (command_key command)) ≡ Some answer) ⊎ ShowsPage memory log command answer
+RepliesAt memory log command answer = (reply_of command (logged_value log (command_key command)) ≡ Some answer) ⊎ ShowsPage memory log command answer
 
 -- Nothing is due at the leaf that has the key: it is a base alone, with fewer than 16 items. A base alone isn't removed.
 pub record IsTidy (memory : Memory) (key : List ℕ) : Type 0 where

@@ -3,7 +3,7 @@ use Rattle.std.specs.Prelude.{◌<◌, ◌+◌, ◌*◌, ℕ, List, length, Opti
 use Rattle.bw_model.specs.declared.step.Answer.{Answer}
 use Rattle.bw_model.specs.declared.step.Step.{Step as StepOf}
 use Rattle.deltas.specs.declared.record.Record.{Record}
-use Rattle.chain_search.specs.Recalled.{Recalled, IsSpent}
+use Rattle.chain_search.specs.Recalled.{Recalled, IsStepSpent}
 use Rattle.descent.specs.ReadRounds as read
 use Rattle.descent.specs.WriteRounds as write
 use Rattle.descent.specs.Walks.{few_reads}
@@ -71,7 +71,7 @@ left_for (Changed Full then) = 1
 -- One step fewer is left, or a cause paid for more; before the first step there is none.
 abbrev pub IsSpentLast : Recalled → Option (StepOf Record) → Answer Record → ℕ → ℕ → Type 0
 IsSpentLast r None told left rest = rest < left
-IsSpentLast r (Some asked) told left rest = IsSpent r asked told left rest
+IsSpentLast r (Some asked) told left rest = IsStepSpent r asked told left rest
 
 -- what an answer leaves
 abbrev pub LeavesFor : Recalled → Option (StepOf Record) → Answer Record → ℕ → State → Spares → Progress → Type 0

@@ -35,8 +35,8 @@ module _ (limits : Limits) (entries : List Entry) (operation : Operation) where
   abbrev pub TakesNone : ℕ → ℕ → (StepOf Record → Type 0) → Type 0
   TakesNone m n Kind = (between : ℕ) (step : StepOf Record) (answer : Answer Record) → m < between → between < n → TakesOwnStep entries operation between step answer → ¬ Kind step
 
-  abbrev pub Reads : StepOf Record → StepOf Record → Type 0
-  Reads wanted step = step ≡ wanted
+  abbrev pub IsTheStep : StepOf Record → StepOf Record → Type 0
+  IsTheStep wanted step = step ≡ wanted
 
   -- Its exchange won, with this link.
   abbrev pub Links : ℕ → Link → Type 0
@@ -47,20 +47,20 @@ module _ (limits : Limits) (entries : List Entry) (operation : Operation) where
   Loses n = (slot old new m : ℕ) × TakesOwnStep entries operation n (Exchange slot old new) (Whether false) × (m < n) × TakesOwnStep entries operation m (Slot slot) (Number old) × TakesNone m n (IsExchangeOf slot)
 
   -- It did not get what it had read as free.
-  abbrev pub Misses : ℕ → Type 0
-  Misses n = (item bits m : ℕ) × (m < n) × (bit_at bits (item % 64) ≡ 1) × TakesNone m n IsTake
+  abbrev pub MissesNumber : ℕ → Type 0
+  MissesNumber n = (item bits m : ℕ) × (m < n) × (bit_at bits (item % 64) ≡ 1) × TakesNone m n IsTake
       × ((TakesOwnStep entries operation n (TakePid item) (Whether false) × TakesOwnStep entries operation m (PidBits (item / 64)) (Number bits))
       ⊎ (TakesOwnStep entries operation n (TakeRow item) (Whether false) × TakesOwnStep entries operation m (RowBits (item / 64)) (Number bits)))
 
   -- Since it last read slot 0, at m, it meets a removed page, or an emptied slot, for the first time.
   abbrev pub Meets : ℕ → Type 0
-  Meets n = (m root : ℕ) × (m < n) × TakesOwnStep entries operation m (Slot 0) (Number root) × TakesNone m n (Reads (Slot 0))
-      × (((row : ℕ) × (remove : Remove) × TakesOwnStep entries operation n (Row row) (Content (delta.Remove remove)) × TakesNone m n (Reads (Row row)))
-      ⊎ ((pid row k : ℕ) × (content : Record) × TakesOwnStep entries operation n (Slot pid) (Number 0) × TakesNone m n (Reads (Slot pid))
+  Meets n = (m root : ℕ) × (m < n) × TakesOwnStep entries operation m (Slot 0) (Number root) × TakesNone m n (IsTheStep (Slot 0))
+      × (((row : ℕ) × (remove : Remove) × TakesOwnStep entries operation n (Row row) (Content (delta.Remove remove)) × TakesNone m n (IsTheStep (Row row)))
+      ⊎ ((pid row k : ℕ) × (content : Record) × TakesOwnStep entries operation n (Slot pid) (Number 0) × TakesNone m n (IsTheStep (Slot pid))
       × (m < k) × (k < n) × TakesOwnStep entries operation k (Row row) (Content content) × NamesPage content pid))
 
   abbrev pub IsCause : ℕ → Type 0
-  IsCause n = ((kind : Link) × Links n kind × (kind ≢ link.Ready) × (kind ≢ link.Undo)) ⊎ Loses n ⊎ Misses n ⊎ Meets n
+  IsCause n = ((kind : Link) × Links n kind × (kind ≢ link.Ready) × (kind ≢ link.Undo)) ⊎ Loses n ⊎ MissesNumber n ⊎ Meets n
 
 abbrev pub is_step_of : ℕ → Entry → Bool
 is_step_of actor (Begin other command) = false

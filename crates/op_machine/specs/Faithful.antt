@@ -8,7 +8,7 @@ use Rattle.bw_model.specs.declared.step.Answer.TheVariants.{Whether}
 use Rattle.deltas.specs.declared.record.Record.{Record}
 use Rattle.chain_search.specs.declared.trace.Entry.{Entry}
 use Rattle.chain_search.specs.Learnt.{ShowsRow}
-use Rattle.chain_search.specs.Steps.{is_among}
+use Rattle.bw_model.specs.Words.{is_among}
 use Rattle.chain_search.specs.Trace.{TakesStep, memory_at}
 
 -- The step may change what stands in the row; a take that got nothing doesn't.

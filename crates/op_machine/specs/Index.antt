@@ -12,12 +12,12 @@ use Rattle.chain_search.specs.Trace.{memory_at}
 use Rattle.op_machine.specs.Phases.{IsInPhase, indexed, held, removed, merged}
 
 -- The page of the PID is of the level.
-abbrev pub IsOfLevel : Memory → ℕ → ℕ → Type 0
-IsOfLevel memory level pid = (chain : List Record) × IsChainOf memory pid chain × (level_in chain ≡ level)
+abbrev pub IsPageOfLevel : Memory → ℕ → ℕ → Type 0
+IsPageOfLevel memory level pid = (chain : List Record) × IsChainOf memory pid chain × (level_in chain ≡ level)
 
 -- The root is of the level.
 abbrev pub IsRootLevel : Memory → ℕ → Type 0
-IsRootLevel memory level = IsOfLevel memory level (memory.slots 0)
+IsRootLevel memory level = IsPageOfLevel memory level (memory.slots 0)
 
 module _ (limits : Limits) (entries : List Entry) where
   -- The PID is that of the first page of the level that slot 0 held, before step n.

@@ -27,7 +27,7 @@ use Rattle.bw_model.specs.Replies.{command_key, is_writer}
 use Rattle.op_machine.specs.Errands.{due_of, way_key}
 use Rattle.op_machine.specs.Hands.{Unlinks}
 use Rattle.op_machine.specs.Shows.{FitsLast, IsRoundOf, Stands, learn_last, recall_last, wanted_at}
-use Rattle.op_machine.specs.Tasks.{IsDone, IsAtRest, Seeks, Task, Waits}
+use Rattle.op_machine.specs.Tasks.{IsBetweenChanges, IsAtRest, Seeks, Task, Waits}
 use Rattle.op_machine.specs.declared.state.Outcome.{Outcome}
 use Rattle.op_machine.specs.declared.state.Outcome.TheVariants.{Begun, Epoch, Entered, Read, Written, Changed}
 use Rattle.op_machine.specs.declared.state.Progress.{Progress}
@@ -90,7 +90,7 @@ pub record IsAtLeafBelow (task : Task) (spares : Spares) (k : Knowledge) (r : Re
 -- A change has ended: an update was linked, and justifies the reply; or no update was linked, and, where it is full, nothing
 -- is free.
 abbrev pub FacesChanged : Task → Spares → Knowledge → End → Then → Type 0
-FacesChanged task spares k Won (Reply answered) = IsDone task spares k × MayReply task.limits task.actor k answered
+FacesChanged task spares k Won (Reply answered) = IsBetweenChanges task spares k × MayReply task.limits task.actor k answered
 FacesChanged task spares k Won Round = Seeks task spares k × (is_writer task.command ≡ true)
 FacesChanged task spares k Won (Limbo unlinked) = Seeks task spares k × (is_writer task.command ≡ true)
 FacesChanged task spares k Won (Errand key) = Seeks task spares k × (is_writer task.command ≡ true)

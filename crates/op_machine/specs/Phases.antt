@@ -17,7 +17,7 @@ use Rattle.deltas.specs.declared.record.Merge.{Merge}
 use Rattle.deltas.specs.declared.record.Unterm.{Unterm}
 use Rattle.chain_search.specs.declared.trace.Entry.{Entry}
 use Rattle.chain_search.specs.Chains.{IsChainOf, content_in, low_in, right_in}
-use Rattle.chain_search.specs.Steps.{is_among}
+use Rattle.bw_model.specs.Words.{is_among}
 use Rattle.deltas.specs.Memory.{Memory}
 use Rattle.chain_search.specs.Trace.{IsStep, Happens}
 use Rattle.op_machine.specs.Links.{Wins, Installs}
@@ -37,17 +37,17 @@ abbrev pub MakesRoot : Memory → Entry → ℕ → Type 0
 MakesRoot memory entry pid = (actor old : ℕ) × Wins memory entry actor 0 old pid link.Root
 
 -- The entry takes the PID from the first phase to the second; the memory is that before it.
-pub data Moves (memory : Memory) (entry : Entry) (pid : ℕ) : Phase → Phase → Type 0 where
-  takes : (actor : ℕ) → IsStep entry actor (TakePid pid) (Whether true) → Moves memory entry pid free owned
-  splits : (slot : ℕ) (split : Split) → Installs memory entry slot (delta.Split split) → split.page ≡ pid → Moves memory entry pid owned fresh
-  becomes_root : MakesRoot memory entry pid → Moves memory entry pid owned indexed
-  terms : (slot : ℕ) (term : Term) → Installs memory entry slot (delta.Term term) → term.child ≡ pid → Moves memory entry pid fresh indexed
-  under_root : (root : ℕ) (chain : List Record) (key : List ℕ) (held : Bool) → MakesRoot memory entry root → IsChainOf memory root chain → IsTrue (is_below (low_in chain) key) → content_in chain key ≡ Some (Child pid held) → Moves memory entry pid fresh indexed
-  holds : (slot : ℕ) (hold : Hold) → Installs memory entry slot (delta.Hold hold) → hold.child ≡ pid → Moves memory entry pid indexed held
-  removes : (remove : Remove) → Installs memory entry pid (delta.Remove remove) → Moves memory entry pid held removed
-  merges : (slot : ℕ) (merge : Merge) (chain : List Record) → Installs memory entry slot (delta.Merge merge) → IsChainOf memory slot chain → right_in chain ≡ Some pid → Moves memory entry pid removed merged
-  unterms : (slot : ℕ) (unterm : Unterm) → Installs memory entry slot (delta.Unterm unterm) → unterm.child ≡ pid → Moves memory entry pid merged cleared
-  reuses : (actor word bits : ℕ) (answer : Answer Record) → IsStep entry actor (ReusePids word bits) answer → is_among word bits pid ≡ true → Moves memory entry pid cleared free
+pub data MovesPhase (memory : Memory) (entry : Entry) (pid : ℕ) : Phase → Phase → Type 0 where
+  takes : (actor : ℕ) → IsStep entry actor (TakePid pid) (Whether true) → MovesPhase memory entry pid free owned
+  splits : (slot : ℕ) (split : Split) → Installs memory entry slot (delta.Split split) → split.page ≡ pid → MovesPhase memory entry pid owned fresh
+  becomes_root : MakesRoot memory entry pid → MovesPhase memory entry pid owned indexed
+  terms : (slot : ℕ) (term : Term) → Installs memory entry slot (delta.Term term) → term.child ≡ pid → MovesPhase memory entry pid fresh indexed
+  under_root : (root : ℕ) (chain : List Record) (key : List ℕ) (held : Bool) → MakesRoot memory entry root → IsChainOf memory root chain → IsTrue (is_below (low_in chain) key) → content_in chain key ≡ Some (Child pid held) → MovesPhase memory entry pid fresh indexed
+  holds : (slot : ℕ) (hold : Hold) → Installs memory entry slot (delta.Hold hold) → hold.child ≡ pid → MovesPhase memory entry pid indexed held
+  removes : (remove : Remove) → Installs memory entry pid (delta.Remove remove) → MovesPhase memory entry pid held removed
+  merges : (slot : ℕ) (merge : Merge) (chain : List Record) → Installs memory entry slot (delta.Merge merge) → IsChainOf memory slot chain → right_in chain ≡ Some pid → MovesPhase memory entry pid removed merged
+  unterms : (slot : ℕ) (unterm : Unterm) → Installs memory entry slot (delta.Unterm unterm) → unterm.child ≡ pid → MovesPhase memory entry pid merged cleared
+  reuses : (actor word bits : ℕ) (answer : Answer Record) → IsStep entry actor (ReusePids word bits) answer → is_among word bits pid ≡ true → MovesPhase memory entry pid cleared free
 
 -- Before any move PID 1 is indexed and each other one is free.
 abbrev pub first_phase : ℕ → Phase
@@ -55,7 +55,7 @@ first_phase pid = if pid == 1 then indexed else free
 
 module _ (limits : Limits) (entries : List Entry) where
   abbrev pub MovesAt : ℕ → ℕ → Phase → Phase → Type 0
-  MovesAt n pid from to = Happens limits entries n (λ memory entry. Moves memory entry pid from to)
+  MovesAt n pid from to = Happens limits entries n (λ memory entry. MovesPhase memory entry pid from to)
 
   -- From the step m on, and before the step n, nothing moves the PID.
   abbrev pub Rests : ℕ → ℕ → ℕ → Type 0

@@ -5,7 +5,7 @@ use Rattle.std.specs.Option.{option_to_list}
 use Rattle.bw_model.specs.declared.command.Command.{Command}
 use Rattle.bw_model.specs.declared.command.Reply.{Reply}
 use Rattle.bw_model.specs.declared.command.Reply.TheVariants as kind
-use Rattle.bw_model.specs.Log.{Update, value_in}
+use Rattle.bw_model.specs.Log.{Update, logged_value}
 use Rattle.bw_model.specs.Replies.{command_key, update_of}
 use Rattle.chain_search.specs.declared.trace.Entry.{Entry}
 use Rattle.chain_search.specs.declared.trace.Entry.TheVariants.{Begin, Step}
@@ -15,7 +15,7 @@ use Rattle.op_machine.specs.Operations.{Operation, IsOperation, IsOwnStep, Finis
 -- the update, if any, that the actor's command makes at the log
 abbrev pub updates_by : ℕ → Option Command → List Update → List Update
 updates_by actor None log = []
-updates_by actor (Some command) log = option_to_list (update_of actor command (value_in log (command_key command)))
+updates_by actor (Some command) log = option_to_list (update_of actor command (logged_value log (command_key command)))
 
 -- the same of the command of the operation that an entry is a step of, after the entries before it
 abbrev pub updates_at : List Entry → Entry → List Update → List Update

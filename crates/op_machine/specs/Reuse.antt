@@ -9,7 +9,7 @@ use Rattle.bw_model.specs.declared.step.Answer.TheVariants.{Number, Whether}
 use Rattle.deltas.specs.declared.record.Record.{Record}
 use Rattle.chain_search.specs.declared.trace.Entry.{Entry}
 use Rattle.chain_search.specs.Chains.{IsChainOf, IsOnChain, chain_rows}
-use Rattle.chain_search.specs.Steps.{is_among}
+use Rattle.bw_model.specs.Words.{is_among}
 use Rattle.chain_search.specs.Trace.{TakesStep, memory_at}
 
 -- The step takes the PID, or frees it; a take that got nothing doesn't.

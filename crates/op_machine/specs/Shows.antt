@@ -22,7 +22,7 @@ use Rattle.installs.specs.declared.plan.Plan.{Plan}
 use Rattle.bw_model.specs.Replies.{is_writer}
 use Rattle.op_machine.specs.Brings.{Brings, IsReadPlan, IsUsefulPlan}
 use Rattle.op_machine.specs.Errands.{due_of, way_key}
-use Rattle.op_machine.specs.Tasks.{IsAsked, IsDone, IsUnreadPid, Seeks, Task, Waits}
+use Rattle.op_machine.specs.Tasks.{IsAsked, IsBetweenChanges, IsUnreadPid, Seeks, Task, Waits}
 use Rattle.op_machine.specs.declared.state.State.{State}
 use Rattle.op_machine.specs.declared.state.State.TheVariants.{Begun, Epoch, Enter, Read, Write, Change, Leave, Over}
 use Rattle.op_machine.specs.declared.state.Then.{Then}
@@ -81,7 +81,7 @@ Stands task spares k r (Enter epoch) = Waits task spares k × (0 < epoch) × (k.
 Stands task spares k r (Read round) = IsInReadRound task spares k r round
 Stands task spares k r (Write round) = IsInWriteRound task spares k r round
 Stands task spares k r (Change now then) = IsInChange task spares k r now then
-Stands task spares k r (Leave reply) = IsDone task spares k × MayReply task.limits task.actor k reply
+Stands task spares k r (Leave reply) = IsBetweenChanges task spares k × MayReply task.limits task.actor k reply
 Stands task spares k r Over = ⊥
 
 -- the step that a state has asked for

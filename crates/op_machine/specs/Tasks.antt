@@ -51,7 +51,7 @@ pub record Seeks (task : Task) (spares : Spares) (k : Knowledge) : Type 0 where
   pub asked : IsAsked task k
 
 -- inside, with a command, and no change under way
-pub record IsDone (task : Task) (spares : Spares) (k : Knowledge) : Type 0 where
+pub record IsBetweenChanges (task : Task) (spares : Spares) (k : Knowledge) : Type 0 where
   pub inside : k.inside ≡ true
   pub spare : HasSpares task.limits spares k
   pub going : k.asked.command ≡ Some task.command

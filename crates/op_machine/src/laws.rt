@@ -6,7 +6,7 @@ ghost use Rattle.bw_model.specs.declared.step.Step.{Step};
 ghost use Rattle.bw_model.specs.declared.step.Step.TheVariants.{Enter, Leave};
 ghost use Rattle.bw_model.specs.declared.step.Answer.{Answer};
 ghost use Rattle.bw_model.specs.declared.step.Link.TheVariants.{Clear};
-ghost use Rattle.bw_model.specs.Log.{Update, value_in};
+ghost use Rattle.bw_model.specs.Log.{Update, logged_value};
 ghost use Rattle.base_page.specs.declared.item.Content.TheVariants.{Value};
 ghost use Rattle.deltas.specs.declared.record.Record.{Record};
 ghost use Rattle.deltas.specs.Memory.{Memory};
@@ -17,7 +17,7 @@ ghost use Rattle.op_machine.specs.Points.{updates_at, log_of, log_at};
 ghost use Rattle.op_machine.specs.Links.{Wins};
 ghost use Rattle.op_machine.specs.Quiet.{HasMapOf};
 ghost use Rattle.op_machine.specs.Faithful.{Disturbs, KnowsRow};
-ghost use Rattle.op_machine.specs.Phases.{Phase, Moves, IsInPhase, KeepsPhases, cleared};
+ghost use Rattle.op_machine.specs.Phases.{Phase, MovesPhase, IsInPhase, KeepsPhases, cleared};
 
 /// An entry adds to the log what it updates, if it is marked.
 pub fn log_grows()
@@ -42,7 +42,7 @@ pub fn one_leaf_has_the_map()
         → low_in chain ≡ []
         → high_in chain ≡ None
         → right_in chain ≡ None
-        → ((key : List ℕ) → content_in chain key ≡ option_map Value (value_in log key))
+        → ((key : List ℕ) → content_in chain key ≡ option_map Value (logged_value log key))
         → HasMapOf memory log }
 {}
 
@@ -59,7 +59,7 @@ pub fn knowledge_stays()
 pub fn phases_grow()
     ensures { (limits : Limits) (entries : List Entry) (last : Entry)
         → KeepsPhases limits entries
-        → ((pid : ℕ) (from to : Phase) → Moves (memory_of limits entries) last pid from to → IsInPhase limits entries (length entries) pid from)
+        → ((pid : ℕ) (from to : Phase) → MovesPhase (memory_of limits entries) last pid from to → IsInPhase limits entries (length entries) pid from)
         → ((actor pid old : ℕ) → Wins (memory_of limits entries) last actor pid old 0 Clear → IsInPhase limits entries (length entries) pid cleared)
         → KeepsPhases limits (entries ++ last ∷ []) }
 {}

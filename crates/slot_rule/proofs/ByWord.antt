@@ -12,9 +12,9 @@ use Rattle.tree_words.specs.Words.{words_in, SpellsWhere}
 use Rattle.slot_rule.specs.declared.view.Reach.{Reach}
 use Rattle.slot_rule.specs.declared.view.Reach.TheVariants.{Idle, Reading, Writing}
 use Rattle.slot_rule.specs.declared.view.Part.{Part}
-use Rattle.slot_rule.specs.Running.{LeavesRow, MayRead, MayPlace, ReachFits}
+use Rattle.slot_rule.specs.Running.{LeavesRow, KnowsReadable, KnowsPlaceable, ReachFits}
 use Rattle.slot_rule.specs.Steps.{in_row, into_row}
-use Rattle.slot_rule.specs.Views.{Mine, IsAt}
+use Rattle.slot_rule.specs.Views.{Mine, SitsAt}
 use Rattle.slot_rule.proofs.Turns.{same_actor, same_limits}
 
 abbrev reach_in : List Part → Reach
@@ -48,7 +48,7 @@ pub left_by_writer : (other row : ℕ) (written : List ℕ) (x : ℕ) → Leaves
 left_by_writer other row [] x leaves = leaves
 left_by_writer other row (word ∷ words) x leaves = leaves
 
-same_done : (limits limits' : Limits) (actor other : ℕ) (reach reach' : Reach) (me : Mine) → IsAt limits actor reach me → IsAt limits' other reach' me → done_in reach ≡ done_in reach'
+same_done : (limits limits' : Limits) (actor other : ℕ) (reach reach' : Reach) (me : Mine) → SitsAt limits actor reach me → SitsAt limits' other reach' me → done_in reach ≡ done_in reach'
 same_done limits limits' actor other reach reach' me is is' = ap (λ (z : Mine). done_in (reach_in z.0)) (sym is ∙ is')
 
 -- one more word of a list whose beginning is known
@@ -60,7 +60,7 @@ pub whole : (front all : List ℕ) → front ≡ take (length front) all → len
 whole front all e is = e ∙ ap (λ (k : ℕ). take k all) is ∙ take-length all
 
 module _ (limits : Limits) where
-  pub read_fits : (words : List ℕ) (run : List Entry) (actor row : ℕ) (read : List ℕ) → MayRead (knows run actor) row → read ≡ take (length read) (words_in ((memory_of limits run).rows row)) → ReachFits limits words run actor (in_row row read)
+  pub read_fits : (words : List ℕ) (run : List Entry) (actor row : ℕ) (read : List ℕ) → KnowsReadable (knows run actor) row → read ≡ take (length read) (words_in ((memory_of limits run).rows row)) → ReachFits limits words run actor (in_row row read)
   read_fits words run actor row [] may e = tt
   read_fits words run actor row (x ∷ xs) may e = (may, e)
 
@@ -68,7 +68,7 @@ module _ (limits : Limits) where
   fits_read words run actor row [] fits = refl
   fits_read words run actor row (x ∷ xs) fits = fits.1
 
-  pub write_fits : (words : List ℕ) (run : List Entry) (actor row : ℕ) (written : List ℕ) → MayPlace (knows run actor) row → row < limits.rows → length written < 256
+  pub write_fits : (words : List ℕ) (run : List Entry) (actor row : ℕ) (written : List ℕ) → KnowsPlaceable (knows run actor) row → row < limits.rows → length written < 256
       → ((j : ℕ) → j < length written → get_or words (row_at row (j + 1)) 0 ≡ get_or written j 0) → ReachFits limits words run actor (into_row row written)
   write_fits words run actor row [] may within short stand = tt
   write_fits words run actor row (x ∷ xs) may within short stand = (may, within, short, stand)
@@ -78,8 +78,8 @@ module _ (limits : Limits) where
   fits_write words run actor row (x ∷ xs) fits j below = fits.3 j below
 
   -- What a play says of the one actor it says of each that the seat may be taken for.
-  pub at_each : (P : Limits → ℕ → ℕ → List ℕ → Type 0) (actor row : ℕ) (done : List ℕ) (reach : ℕ → List ℕ → Reach) → ((other : ℕ) (words : List ℕ) → done_in (reach other words) ≡ words) → (me : Mine) → IsAt limits actor (reach row done) me
-      → P limits actor row done → (d : ℕ) → (limits' : Limits) (actor' row' : ℕ) (done' : List ℕ) → IsAt limits' actor' (reach row' done') me → row_at row (length done + d) ≡ row_at row' (length done' + d) → P limits' actor' row' done'
+  pub at_each : (P : Limits → ℕ → ℕ → List ℕ → Type 0) (actor row : ℕ) (done : List ℕ) (reach : ℕ → List ℕ → Reach) → ((other : ℕ) (words : List ℕ) → done_in (reach other words) ≡ words) → (me : Mine) → SitsAt limits actor (reach row done) me
+      → P limits actor row done → (d : ℕ) → (limits' : Limits) (actor' row' : ℕ) (done' : List ℕ) → SitsAt limits' actor' (reach row' done') me → row_at row (length done + d) ≡ row_at row' (length done' + d) → P limits' actor' row' done'
   at_each P actor row done reach holds me is p d limits' actor' row' done' is' word =
       let same : done ≡ done' = sym (holds row done) ∙ same_done limits limits' actor actor' (reach row done) (reach row' done') me is is' ∙ holds row' done' in
       let lengths : length done ≡ length done' = ap length same in

@@ -19,7 +19,7 @@ use Rattle.deltas.specs.Spellable.{IsSpellablePage}
 use Rattle.chain_search.specs.declared.trace.Entry.{Entry}
 use Rattle.tree_words.specs.Words.{AreWordsOf}
 use Rattle.slot_rule.specs.declared.view.Part.{Part}
-use Rattle.slot_rule.specs.Running.{Each, HasSpelling, IsKept, IsSettled, times, PartFits, Running}
+use Rattle.slot_rule.specs.Running.{Each, HasSpelling, IsSpelledRow, IsSettled, times, PartFits, Running}
 use Rattle.slot_rule.specs.Views.{dealt, dealt_from}
 use Rattle.slot_rule.proofs.Parts.{mark, extends_self, spells_views}
 
@@ -59,10 +59,10 @@ module _ (limits : Limits) where
   dealt_fits words first zero below = tt
   dealt_fits words first (suc n) below = (record { extends = extends_self first []; reach = tt; there = omega arith; own_limits = refl }, dealt_fits words (suc first) n (omega arith))
 
-  opening_kept : (row : ℕ) (content : Record) → (memory_opening limits).rows row ≡ Some content → IsKept limits row content
+  opening_kept : (row : ℕ) (content : Record) → (memory_opening limits).rows row ≡ Some content → IsSpelledRow limits row content
   opening_kept row content e = go (eqb row 1) refl e
     where
-      go : (b : Bool) → eqb row 1 ≡ b → (if b then Some (Base empty_leaf) else None) ≡ Some content → IsKept limits row content
+      go : (b : Bool) → eqb row 1 ≡ b → (if b then Some (Base empty_leaf) else None) ≡ Some content → IsSpelledRow limits row content
       go true is e = let one : row ≡ 1 = eqb-true row 1 is in record { there = omega (arith, limits.allowed.some_rows); spelling = subst HasSpelling (same_Some (Base empty_leaf) content e) empty_is_spelt }
       go false is e = cc
 

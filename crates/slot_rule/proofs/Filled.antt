@@ -23,9 +23,9 @@ use Rattle.tree_words.specs.Layout.{row_at, width}
 use Rattle.tree_words.specs.Words.{words_in}
 use Rattle.slot_rule.specs.declared.view.Reach.TheVariants.{Idle}
 use Rattle.slot_rule.specs.declared.view.Part.{Part}
-use Rattle.slot_rule.specs.Running.{IsSettled, MayRead, MayPlace, KeepsRowsApart, HasSpelling, ReachFits, PartFits}
-use Rattle.slot_rule.specs.Steps.{MayTake, Took, Fills, Places, into_row, tail_from}
-use Rattle.slot_rule.specs.Views.{part, alone, Mine, seen_of, IsAt}
+use Rattle.slot_rule.specs.Running.{IsSettled, KnowsReadable, KnowsPlaceable, KeepsRowsApart, HasSpelling, ReachFits, PartFits}
+use Rattle.slot_rule.specs.Steps.{IsLawfulStep, Took, Fills, Places, into_row, tail_from}
+use Rattle.slot_rule.specs.Views.{part, alone, Mine, seen_of, SitsAt}
 use Rattle.slot_rule.proofs.Parts.{replaced_same, replaced_other, settled_back, knows_extends}
 use Rattle.slot_rule.proofs.Roster.{set_at}
 use Rattle.slot_rule.proofs.Turns.{TableState, Rule, turn, event_telling, same_actor, same_limits}
@@ -33,17 +33,17 @@ use Rattle.slot_rule.proofs.ByWord.{done_into_row, leaves_into_row, left_by_writ
 
 module _ (limits : Limits) (law : Limits → List Entry → Type 0) (apart : KeepsRowsApart limits (law limits)) where
   -- The row into which one seat writes is no other seat's.
-  no_other : (actor other row row' : ℕ) (run : List Entry) → law limits run → MayPlace (knows run actor) row → other ≢ actor → MayPlace (knows run other) row' → row' ≢ row
-  no_other actor other row row' run legal may ne may' e = ne (apart.one_owner other actor row run legal (subst (λ (z : ℕ). MayPlace (knows run other) z) e may') may)
+  no_other : (actor other row row' : ℕ) (run : List Entry) → law limits run → KnowsPlaceable (knows run actor) row → other ≢ actor → KnowsPlaceable (knows run other) row' → row' ≢ row
+  no_other actor other row row' run legal may ne may' e = ne (apart.one_owner other actor row run legal (subst (λ (z : ℕ). KnowsPlaceable (knows run other) z) e may') may)
 
-  module _ (slots id actor : ℕ) (me : Mine) (row : ℕ) (written : List ℕ) (within : row < limits.rows) (is : IsAt limits actor (into_row row written) me) (owned : MayPlace (knows (seen_of me) actor) row) where
+  module _ (slots id actor : ℕ) (me : Mine) (row : ℕ) (written : List ℕ) (within : row < limits.rows) (is : SitsAt limits actor (into_row row written) me) (owned : KnowsPlaceable (knows (seen_of me) actor) row) where
     -- what the seat knows now
     module _ (s : TableState) (h : Rule limits law s) (there : get_elem? s.views id ≡ some (alone limits actor (seen_of me) (into_row row written))) where
       fit : PartFits limits s.words h.run (part limits actor (seen_of me) (into_row row written))
       fit = (h.each id (alone limits actor (seen_of me) (into_row row written)) there).0
 
-      may_now : MayPlace (knows h.run actor) row
-      may_now = subst (λ k. MayPlace k row) (sym (knows_extends actor (seen_of me) h.run fit.extends)) owned
+      may_now : KnowsPlaceable (knows h.run actor) row
+      may_now = subst (λ k. KnowsPlaceable k row) (sym (knows_extends actor (seen_of me) h.run fit.extends)) owned
 
       -- a row of which the seat has written no word
       other_row : (i k x other j : ℕ) (view : List Part) → i ≡ row_at row k → k < 256 → other < limits.rows → j < 256 → row ≢ other → IsSettled (set s.views id view) other
@@ -52,7 +52,7 @@ module _ (limits : Limits) (law : Limits → List Entry → Type 0) (apart : Kee
           ∙ h.spells.rows other j below short (settled_back s.views id limits actor (seen_of me) (into_row row written) view other there (leaves_into_row other row written ne) st)
 
       -- a row into which another seat writes
-      others_row : (k x other row' j : ℕ) → k < 256 → other ≢ actor → MayPlace (knows h.run other) row' → j < 255 → get_or (set s.words (row_at row k) x) (row_at row' (j + 1)) 0 ≡ get_or s.words (row_at row' (j + 1)) 0
+      others_row : (k x other row' j : ℕ) → k < 256 → other ≢ actor → KnowsPlaceable (knows h.run other) row' → j < 255 → get_or (set s.words (row_at row k) x) (row_at row' (j + 1)) 0 ≡ get_or s.words (row_at row' (j + 1)) 0
       others_row k x other row' j small ne may short =
           let no : row' ≢ row = no_other actor other row row' h.run h.legal may_now ne may in get_or-set_other s.words (row_at row k) (row_at row' (j + 1)) x 0 (λ e. no (omega arith))
 
@@ -88,7 +88,7 @@ module _ (limits : Limits) (law : Limits → List Entry → Type 0) (apart : Kee
               (spells_row limits s.words (memory_of limits h.run) (memory_of limits h.run) (IsSettled s.views) (IsSettled (set s.views id view)) h.spells row (length written + 1) x (omega arith) refl
               (λ other j below small st. other_row s h there at (length written + 1) x other j view refl (omega arith) below small (left_by_writer other row written x (st id view stands).0) st)),
           λ limits' actor' row' written' is' word.
-              (at_each limits (λ l b q us. IsAt l b (into_row q (us ++ x ∷ [])) (view, me.1)) actor row written into_row done_into_row me is (ap (λ (c : List (ℕ × Unit {0})). (view, c)) (ap (λ (z : Mine). z.1) is)) 1 limits' actor' row' written' is' word, refl),
+              (at_each limits (λ l b q us. SitsAt l b (into_row q (us ++ x ∷ [])) (view, me.1)) actor row written into_row done_into_row me is (ap (λ (c : List (ℕ × Unit {0})). (view, c)) (ap (λ (z : Mine). z.1) is)) 1 limits' actor' row' written' is' word, refl),
         )
 
     -- Once the header is written, the row has the record's words.
@@ -98,7 +98,7 @@ module _ (limits : Limits) (law : Limits → List Entry → Type 0) (apart : Kee
     placed_word words run header content (suc j) fits wide small last spelt = get_or-set_other words (row_at row 0) (row_at row (suc j)) header 0 (omega arith)
         ∙ ap (λ (k : ℕ). get_or words (row_at row k) 0) (omega arith) ∙ fits_write limits words run actor row written fits j (omega arith) ∙ ap (λ (u : List ℕ). get_or u (suc j) 0) (sym spelt)
 
-    pub places : (header : ℕ) (content : Record) → length written ≡ 255 → HasSpelling content → words_of content ≡ header ∷ written → MayTake law limits actor (seen_of me) None (Place row content) None
+    pub places : (header : ℕ) (content : Record) → length written ≡ 255 → HasSpelling content → words_of content ≡ header ∷ written → IsLawfulStep law limits actor (seen_of me) None (Place row content) None
         → Allows (Rule limits law) slots id me (row_at row 0) (λ _. header) (λ _. Places law (Place row content) me header)
     places header content last spellable spelt may = event_telling limits law slots id actor me (into_row row written) (row_at row 0) (λ _. header) None (Place row content) None (λ _. Places law (Place row content) me header) is may
         (λ s h there.
@@ -118,28 +118,28 @@ module _ (limits : Limits) (law : Limits → List Entry → Type 0) (apart : Kee
                 (λ same. let new : Some content ≡ Some stays = sym (ap rows same ∙ replaced_same row (Some content) memory.rows) ∙ e in
                 record { there = subst (λ z. z < limits.rows) (sym same) within; spelling = subst HasSpelling (same_Some content stays new) spellable })
                 (λ ne. h.kept other stays (sym (replaced_other row (Some content) memory.rows other ne) ∙ e));
-            reads = λ other row' ne known. replaced_other row (Some content) memory.rows row' (λ e. absurd (apart.unread actor other row h.run h.legal now (subst (λ (z : ℕ). MayRead (knows h.run other) z) e known)));
+            reads = λ other row' ne known. replaced_other row (Some content) memory.rows row' (λ e. absurd (apart.unread actor other row h.run h.legal now (subst (λ (z : ℕ). KnowsReadable (knows h.run other) z) e known)));
             writes = λ other row' ne may' _ j small. others_row s h there 0 header other row' j (omega arith) ne may' small;
           },
           λ me' is_after took limits' actor' row' written' is'.
-              subst (λ (z : Limits × ℕ). IsAt z.0 z.1 Idle me' × Took law z.0 z.1 (seen_of me) None (Place row content) Done None (seen_of me'))
+              subst (λ (z : Limits × ℕ). SitsAt z.0 z.1 Idle me' × Took law z.0 z.1 (seen_of me) None (Place row content) Done None (seen_of me'))
               (λ k. (same_limits limits limits' actor actor' (into_row row written) (into_row row' written') me is is' k, same_actor limits limits' actor actor' (into_row row written) (into_row row' written') me is is' k)) (is_after, took),
         ))
 
 -- the same as the functions ask for them
 module _ (law : Limits → List Entry → Type 0) (key limits : Limits) (own : key ≡ limits) (apart : KeepsRowsApart limits (law limits)) (slots id actor : ℕ) (me : Mine) (row : ℕ) (written : List ℕ) (word : ℕ) (seen : List Entry) (is_seen : seen_of me ≡ seen)
-    (within : row < limits.rows) (is : IsAt limits actor (into_row row written) me) (owned : MayPlace (knows seen actor) row) where
-  owned_of : MayPlace (knows (seen_of me) actor) row
-  owned_of = subst (λ (z : List Entry). MayPlace (knows z actor) row) (sym is_seen) owned
+    (within : row < limits.rows) (is : SitsAt limits actor (into_row row written) me) (owned : KnowsPlaceable (knows seen actor) row) where
+  owned_of : KnowsPlaceable (knows (seen_of me) actor) row
+  owned_of = subst (λ (z : List Entry). KnowsPlaceable (knows z actor) row) (sym is_seen) owned
 
   pub fills_at : (x : ℕ) → word ≡ row_at row (length written + 1) → length written < 255 → Allows (Rule key law) slots id me word (λ _. x) (λ _. Fills (step slots word x 0 none) me x)
   fills_at x at short = subst (λ (z : Limits × ℕ). Allows (Rule z.0 law) slots id me z.1 (λ _. x) (λ _. Fills (step slots z.1 x 0 none) me x)) (λ k. (sym own k, sym at k))
       (fills limits law apart slots id actor me row written within is owned_of x short)
 
   pub places_at : (header : ℕ) (content : Record) (told : StepOf Record) → word ≡ row_at row 0 → Place row content ≡ told → length written ≡ 255 → HasSpelling content → words_of content ≡ header ∷ written
-      → MayTake law limits actor seen None (Place row content) None → Allows (Rule key law) slots id me word (λ _. header) (λ _. Places law told me header)
+      → IsLawfulStep law limits actor seen None (Place row content) None → Allows (Rule key law) slots id me word (λ _. header) (λ _. Places law told me header)
   places_at header content told at is_told last spellable spelt may = subst (λ (z : Limits × ℕ × StepOf Record). Allows (Rule z.0 law) slots id me z.1 (λ _. header) (λ _. Places law z.2 me header)) (λ k. (sym own k, sym at k, is_told k))
-      (places limits law apart slots id actor me row written within is owned_of header content last spellable spelt (subst (λ (z : List Entry). MayTake law limits actor z None (Place row content) None) (sym is_seen) may))
+      (places limits law apart slots id actor me row written within is owned_of header content last spellable spelt (subst (λ (z : List Entry). IsLawfulStep law limits actor z None (Place row content) None) (sym is_seen) may))
 
 -- a list that isn't empty is its head and what stands behind it
 pub head_tail : (xs : List ℕ) → 0 < length xs → xs ≡ get_or xs 0 0 ∷ tail_from xs

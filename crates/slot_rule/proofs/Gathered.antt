@@ -19,9 +19,9 @@ use Rattle.tree_words.specs.Words.{words_in, SpellsWhere}
 use Rattle.slot_rule.specs.declared.view.Reach.{Reach}
 use Rattle.slot_rule.specs.declared.view.Reach.TheVariants.{Idle, Reading, Writing}
 use Rattle.slot_rule.specs.declared.view.Part.{Part}
-use Rattle.slot_rule.specs.Running.{Each, LeavesRow, IsSettled, MayRead, MayPlace, KeepsRowsApart, HasSpelling, ReachFits, PartFits}
-use Rattle.slot_rule.specs.Steps.{MayTake, ReadsRow, Gathers, Finishes, in_row}
-use Rattle.slot_rule.specs.Views.{part, alone, Mine, seen_of, IsAt}
+use Rattle.slot_rule.specs.Running.{Each, LeavesRow, IsSettled, KnowsReadable, KnowsPlaceable, KeepsRowsApart, HasSpelling, ReachFits, PartFits}
+use Rattle.slot_rule.specs.Steps.{IsLawfulStep, ReadsRow, Gathers, GathersLast, in_row}
+use Rattle.slot_rule.specs.Views.{part, alone, Mine, seen_of, SitsAt}
 use Rattle.slot_rule.proofs.Parts.{settled_back, knows_extends, spells_views}
 use Rattle.slot_rule.proofs.Turns.{TableState, Rule, Spares, turn, event_telling}
 use Rattle.slot_rule.proofs.ByWord.{done_in_row, leaves_in_row, one_more, whole, read_fits, fits_read, at_each}
@@ -32,28 +32,28 @@ AreRows = (content : Record) (words : List ℕ) → IsSpelling content words →
 
 module _ (limits : Limits) (law : Limits → List Entry → Type 0) (apart : KeepsRowsApart limits (law limits)) (long : AreRows) where
   -- no other seat writes into a row that the actor may read
-  leaves_by : (words : List ℕ) (run : List Entry) (actor row : ℕ) (other : Part) → law limits run → MayRead (knows run actor) row → PartFits limits words run other → LeavesRow row other.reach
+  leaves_by : (words : List ℕ) (run : List Entry) (actor row : ℕ) (other : Part) → law limits run → KnowsReadable (knows run actor) row → PartFits limits words run other → LeavesRow row other.reach
   leaves_by words run actor row other legal may fits = go other.reach fits.reach
     where
       go : (reach : Reach) → ReachFits limits words run other.actor reach → LeavesRow row reach
       go Idle fits = tt
       go (Reading at read) fits = tt
-      go (Writing at written) fits = λ e. absurd (apart.unread other.actor actor row run legal (subst (λ (z : ℕ). MayPlace (knows run other.actor) z) e fits.0) may)
+      go (Writing at written) fits = λ e. absurd (apart.unread other.actor actor row run legal (subst (λ (z : ℕ). KnowsPlaceable (knows run other.actor) z) e fits.0) may)
 
-  each_leaves : (words : List ℕ) (run : List Entry) (actor row : ℕ) (view : List Part) → law limits run → MayRead (knows run actor) row → Each (PartFits limits words run) view → Each (λ p. LeavesRow row p.reach) view
+  each_leaves : (words : List ℕ) (run : List Entry) (actor row : ℕ) (view : List Part) → law limits run → KnowsReadable (knows run actor) row → Each (PartFits limits words run) view → Each (λ p. LeavesRow row p.reach) view
   each_leaves words run actor row [] legal may fits = tt
   each_leaves words run actor row (other ∷ view) legal may fits = (leaves_by words run actor row other legal may fits.0, each_leaves words run actor row view legal may fits.1)
 
   -- into a row that an actor may read no seat writes
-  settled : (s : TableState) (h : Rule limits law s) (actor row : ℕ) → MayRead (knows h.run actor) row → IsSettled s.views row
+  settled : (s : TableState) (h : Rule limits law s) (actor row : ℕ) → KnowsReadable (knows h.run actor) row → IsSettled s.views row
   settled s h actor row may id view there = each_leaves s.words h.run actor row view h.legal may (h.each id view there)
 
   -- the word j of the record of a row that the actor may read
-  word_is : (s : TableState) (h : Rule limits law s) (actor row j : ℕ) → MayRead (knows h.run actor) row → row < limits.rows → j < 256 → get_or s.words (row_at row j) 0 ≡ get_or (words_in ((memory_of limits h.run).rows row)) j 0
+  word_is : (s : TableState) (h : Rule limits law s) (actor row j : ℕ) → KnowsReadable (knows h.run actor) row → row < limits.rows → j < 256 → get_or s.words (row_at row j) 0 ≡ get_or (words_in ((memory_of limits h.run).rows row)) j 0
   word_is s h actor row j may within small = h.spells.rows row j within small (settled s h actor row may)
 
   -- the record of a row that the actor may read
-  row_is : (s : TableState) (h : Rule limits law s) (actor row : ℕ) → MayRead (knows h.run actor) row → (content : Record) × ((memory_of limits h.run).rows row ≡ Some content) × HasSpelling content
+  row_is : (s : TableState) (h : Rule limits law s) (actor row : ℕ) → KnowsReadable (knows h.run actor) row → (content : Record) × ((memory_of limits h.run).rows row ≡ Some content) × HasSpelling content
   row_is s h actor row may = let p = apart.placed actor row h.run h.legal may in (p.0, p.1, (h.kept row p.0 p.1).spelling)
 
   spares_quiet : (actor i : ℕ) (words : List ℕ) (run : List Entry) → Spares limits law actor words (set words i (get_or words i 0)) run run
@@ -64,7 +64,7 @@ module _ (limits : Limits) (law : Limits → List Entry → Type 0) (apart : Kee
     writes = λ other row ne may within j small. ap (λ (u : List ℕ). get_or u (row_at row (j + 1)) 0) (set-get_or words i 0);
   }
 
-  module _ (slots id actor : ℕ) (me : Mine) (row : ℕ) (read : List ℕ) (within : row < limits.rows) (is : IsAt limits actor (in_row row read) me) (known : MayRead (knows (seen_of me) actor) row) where
+  module _ (slots id actor : ℕ) (me : Mine) (row : ℕ) (read : List ℕ) (within : row < limits.rows) (is : SitsAt limits actor (in_row row read) me) (known : KnowsReadable (knows (seen_of me) actor) row) where
     abbrev at : ℕ
     at = row_at row (length read)
 
@@ -73,8 +73,8 @@ module _ (limits : Limits) (law : Limits → List Entry → Type 0) (apart : Kee
       fit : PartFits limits s.words h.run (part limits actor (seen_of me) (in_row row read))
       fit = (h.each id (alone limits actor (seen_of me) (in_row row read)) there).0
 
-      may_now : MayRead (knows h.run actor) row
-      may_now = subst (λ k. MayRead k row) (sym (knows_extends actor (seen_of me) h.run fit.extends)) known
+      may_now : KnowsReadable (knows h.run actor) row
+      may_now = subst (λ k. KnowsReadable k row) (sym (knows_extends actor (seen_of me) h.run fit.extends)) known
 
       -- the words are the same, and fewer rows may be settled
       spells_still : (view : List Part) → SpellsWhere limits (set s.words at (get_or s.words at 0)) (memory_of limits h.run) (IsSettled (set s.views id view))
@@ -98,11 +98,11 @@ module _ (limits : Limits) (law : Limits → List Entry → Type 0) (apart : Kee
           turn limits law s h id actor (seen_of me) (in_row row read) there me.1 at n h.run (seen_of me) (in_row row (read ++ n ∷ [])) h.legal (spares_quiet actor at s.words h.run) now_fits.extends h.kept
               (read_fits limits (set s.words at n) h.run actor row (read ++ n ∷ []) now next) (spells_still s h there view),
           λ limits' actor' row' read' is' word.
-              (at_each limits (λ l b q us. IsAt l b (in_row q (us ++ n ∷ [])) (view, me.1)) actor row read in_row done_in_row me is (ap (λ (c : List (ℕ × Unit {0})). (view, c)) (ap (λ (z : Mine). z.1) is)) 0 limits' actor' row' read' is' (omega arith), refl),
+              (at_each limits (λ l b q us. SitsAt l b (in_row q (us ++ n ∷ [])) (view, me.1)) actor row read in_row done_in_row me is (ap (λ (c : List (ℕ × Unit {0})). (view, c)) (ap (λ (z : Mine). z.1) is)) 0 limits' actor' row' read' is' (omega arith), refl),
         )
 
-    pub finishes : length read ≡ 255 → MayTake law limits actor (seen_of me) None (Row row) None → Allows (Rule limits law) slots id me at (λ n. n) (Finishes law (step slots at 0 0 none) me)
-    finishes last may = event_telling limits law slots id actor me (in_row row read) at (λ n. n) None (Row row) None (Finishes law (step slots at 0 0 none) me) is may
+    pub finishes : length read ≡ 255 → IsLawfulStep law limits actor (seen_of me) None (Row row) None → Allows (Rule limits law) slots id me at (λ n. n) (GathersLast law (step slots at 0 0 none) me)
+    finishes last may = event_telling limits law slots id actor me (in_row row read) at (λ n. n) None (Row row) None (GathersLast law (step slots at 0 0 none) me) is may
         (λ s h there.
         let n : ℕ = get_or s.words at 0 in
         let now = may_now s h there in
@@ -122,20 +122,20 @@ module _ (limits : Limits) (law : Limits → List Entry → Type 0) (apart : Kee
             writes = λ other row' _ _ _ j small. ap (λ (u : List ℕ). get_or u (row_at row' (j + 1)) 0) (set-get_or s.words at 0);
           },
           λ me' is_after took limits' actor' row' read' is' word _.
-              at_each limits (λ l b q us. IsAt l b Idle me' × ReadsRow law l b (seen_of me) q (us ++ n ∷ []) (seen_of me')) actor row read in_row done_in_row me is
+              at_each limits (λ l b q us. SitsAt l b Idle me' × ReadsRow law l b (seen_of me) q (us ++ n ∷ []) (seen_of me')) actor row read in_row done_in_row me is
               (is_after, (x.0, record { spellable = x.2.spellable; short = x.2.short; are = complete }, took)) 0 limits' actor' row' read' is' (omega arith),
         ))
 
 -- the same as the function asks for them
 module _ (law : Limits → List Entry → Type 0) (key limits : Limits) (own : key ≡ limits) (apart : KeepsRowsApart limits (law limits)) (long : AreRows) (slots id actor : ℕ) (me : Mine) (row : ℕ) (read : List ℕ) (word : ℕ) (seen : List Entry) (is_seen : seen_of me ≡ seen)
-    (within : row < limits.rows) (is : IsAt limits actor (in_row row read) me) (known : MayRead (knows seen actor) row) (at : word ≡ row_at row (length read)) where
-  known_of : MayRead (knows (seen_of me) actor) row
-  known_of = subst (λ (z : List Entry). MayRead (knows z actor) row) (sym is_seen) known
+    (within : row < limits.rows) (is : SitsAt limits actor (in_row row read) me) (known : KnowsReadable (knows seen actor) row) (at : word ≡ row_at row (length read)) where
+  known_of : KnowsReadable (knows (seen_of me) actor) row
+  known_of = subst (λ (z : List Entry). KnowsReadable (knows z actor) row) (sym is_seen) known
 
   pub gathers_at : length read < 256 → Allows (Rule key law) slots id me word (λ n. n) (Gathers (step slots word 0 0 none) me)
   gathers_at short = subst (λ (z : Limits × ℕ). Allows (Rule z.0 law) slots id me z.1 (λ n. n) (Gathers (step slots z.1 0 0 none) me)) (λ k. (sym own k, sym at k))
       (gathers limits law apart long slots id actor me row read within is known_of short)
 
-  pub finishes_at : length read ≡ 255 → MayTake law limits actor seen None (Row row) None → Allows (Rule key law) slots id me word (λ n. n) (Finishes law (step slots word 0 0 none) me)
-  finishes_at last may = subst (λ (z : Limits × ℕ). Allows (Rule z.0 law) slots id me z.1 (λ n. n) (Finishes law (step slots z.1 0 0 none) me)) (λ k. (sym own k, sym at k))
-      (finishes limits law apart long slots id actor me row read within is known_of last (subst (λ (z : List Entry). MayTake law limits actor z None (Row row) None) (sym is_seen) may))
+  pub finishes_at : length read ≡ 255 → IsLawfulStep law limits actor seen None (Row row) None → Allows (Rule key law) slots id me word (λ n. n) (GathersLast law (step slots word 0 0 none) me)
+  finishes_at last may = subst (λ (z : Limits × ℕ). Allows (Rule z.0 law) slots id me z.1 (λ n. n) (GathersLast law (step slots z.1 0 0 none) me)) (λ k. (sym own k, sym at k))
+      (finishes limits law apart long slots id actor me row read within is known_of last (subst (λ (z : List Entry). IsLawfulStep law limits actor z None (Row row) None) (sym is_seen) may))

@@ -21,9 +21,9 @@ use Rattle.tree_words.specs.Words.{words_in, SpellsWhere}
 use Rattle.slot_rule.specs.declared.view.Reach.{Reach}
 use Rattle.slot_rule.specs.declared.view.Reach.TheVariants.{Idle, Reading, Writing}
 use Rattle.slot_rule.specs.declared.view.Part.{Part}
-use Rattle.slot_rule.specs.Running.{Each, MayRead, MayPlace, IsSettled, IsKept, ReachFits, PartFits, Running}
-use Rattle.slot_rule.specs.Views.{Mine, part, alone, seen_of, IsAt}
-use Rattle.slot_rule.specs.Steps.{with_step, MayTake, Took, Event}
+use Rattle.slot_rule.specs.Running.{Each, KnowsReadable, KnowsPlaceable, IsSettled, IsSpelledRow, ReachFits, PartFits, Running}
+use Rattle.slot_rule.specs.Views.{Mine, part, alone, seen_of, SitsAt}
+use Rattle.slot_rule.specs.Steps.{with_step, IsLawfulStep, Took, Event}
 use Rattle.slot_rule.proofs.Parts.{each_zip, extends_self, extends_on, knows_on, events, others_events, with_events, memory_stepped, times_alone, everywhere_set, elsewhere}
 
 abbrev pub TableState : Type 0
@@ -38,10 +38,10 @@ limits_in [] default = default
 limits_in (part ∷ parts) default = part.limits
 
 -- a seat of one actor is that of no other, and of one tree
-pub same_actor : (limits limits' : Limits) (actor other : ℕ) (reach reach' : Reach) (me : Mine) → IsAt limits actor reach me → IsAt limits' other reach' me → actor ≡ other
+pub same_actor : (limits limits' : Limits) (actor other : ℕ) (reach reach' : Reach) (me : Mine) → SitsAt limits actor reach me → SitsAt limits' other reach' me → actor ≡ other
 same_actor limits limits' actor other reach reach' me is is' = ap (λ (z : Mine). actor_in z.0 actor) (sym is ∙ is')
 
-pub same_limits : (limits limits' : Limits) (actor other : ℕ) (reach reach' : Reach) (me : Mine) → IsAt limits actor reach me → IsAt limits' other reach' me → limits ≡ limits'
+pub same_limits : (limits limits' : Limits) (actor other : ℕ) (reach reach' : Reach) (me : Mine) → SitsAt limits actor reach me → SitsAt limits' other reach' me → limits ≡ limits'
 same_limits limits limits' actor other reach reach' me is is' = ap (λ (z : Mine). limits_in z.0 limits) (sym is ∙ is')
 
 module _ (limits : Limits) (law : Limits → List Entry → Type 0) where
@@ -52,15 +52,15 @@ module _ (limits : Limits) (law : Limits → List Entry → Type 0) where
   pub record Spares (actor : ℕ) (words words' : List ℕ) (run run' : List Entry) : Type 0 where
     pub extends : (other : ℕ) (seen : List Entry) → other ≢ actor → Extends other seen run → Extends other seen run'
     pub same : (other : ℕ) → other ≢ actor → knows run' other ≡ knows run other
-    pub reads : (other row : ℕ) → other ≢ actor → MayRead (knows run other) row → (memory_of limits run').rows row ≡ (memory_of limits run).rows row
-    pub writes : (other row : ℕ) → other ≢ actor → MayPlace (knows run other) row → row < limits.rows → (j : ℕ) → j < 255 → get_or words' (row_at row (j + 1)) 0 ≡ get_or words (row_at row (j + 1)) 0
+    pub reads : (other row : ℕ) → other ≢ actor → KnowsReadable (knows run other) row → (memory_of limits run').rows row ≡ (memory_of limits run).rows row
+    pub writes : (other row : ℕ) → other ≢ actor → KnowsPlaceable (knows run other) row → row < limits.rows → (j : ℕ) → j < 255 → get_or words' (row_at row (j + 1)) 0 ≡ get_or words (row_at row (j + 1)) 0
 
   reach_spared : (actor other : ℕ) (words words' : List ℕ) (run run' : List Entry) (reach : Reach) → other ≢ actor → Spares actor words words' run run' → ReachFits limits words run other reach → ReachFits limits words' run' other reach
   reach_spared actor other words words' run run' Idle ne spares fits = tt
   reach_spared actor other words words' run run' (Reading row read) ne spares fits =
-      (subst (λ k. MayRead k row) (sym (spares.same other ne)) fits.0, fits.1 ∙ ap (λ x. take (length read) (words_in x)) (sym (spares.reads other row ne fits.0)))
+      (subst (λ k. KnowsReadable k row) (sym (spares.same other ne)) fits.0, fits.1 ∙ ap (λ x. take (length read) (words_in x)) (sym (spares.reads other row ne fits.0)))
   reach_spared actor other words words' run run' (Writing row written) ne spares fits = let short = fits.2 in
-      (subst (λ k. MayPlace k row) (sym (spares.same other ne)) fits.0, fits.1, fits.2, λ j below. spares.writes other row ne fits.0 fits.1 j (omega arith) ∙ fits.3 j below)
+      (subst (λ k. KnowsPlaceable k row) (sym (spares.same other ne)) fits.0, fits.1, fits.2, λ j below. spares.writes other row ne fits.0 fits.1 j (omega arith) ∙ fits.3 j below)
 
   part_spared : (actor : ℕ) (words words' : List ℕ) (run run' : List Entry) → Spares actor words words' run run' → (p : Part) → p.actor ≢ actor → PartFits limits words run p → PartFits limits words' run' p
   part_spared actor words words' run run' spares p ne fits = record {
@@ -73,7 +73,7 @@ module _ (limits : Limits) (law : Limits → List Entry → Type 0) where
   -- one turn: the word i becomes x, and the one seat has a new view
   pub turn : (s : TableState) (h : Rule s) (id actor : ℕ) (seen : List Entry) (reach : Reach) → get_elem? s.views id ≡ some (alone limits actor seen reach)
       → (carried : List (ℕ × Unit {0})) (i x : ℕ) (run' seen' : List Entry) (reach' : Reach) → law limits run' → Spares actor s.words (set s.words i x) h.run run' → Extends actor seen' run'
-      → ((row : ℕ) (content : Record) → (memory_of limits run').rows row ≡ Some content → IsKept limits row content)
+      → ((row : ℕ) (content : Record) → (memory_of limits run').rows row ≡ Some content → IsSpelledRow limits row content)
       → ReachFits limits (set s.words i x) run' actor reach' → SpellsWhere limits (set s.words i x) (memory_of limits run') (IsSettled (set s.views id (alone limits actor seen' reach')))
       → Rule (stepped s i x id carried (alone limits actor seen' reach') keeps)
   turn s h id actor seen reach at carried i x run' seen' reach' legal spares extends kept fits spells = let one = times_alone limits actor seen reach in let mine = h.each id (alone limits actor seen reach) at in record {
@@ -95,16 +95,16 @@ module _ (limits : Limits) (law : Limits → List Entry → Type 0) where
     pub answered : IsAnswer (memory_of limits h.run) step answer
     pub spells : (view : List Part) → view ≡ alone limits actor (with_step h.run actor begun step answer reply) Idle
         → SpellsWhere limits (set s.words i x) (memory_after actor step (memory_of limits h.run)) (IsSettled (set s.views id view))
-    pub kept : (row : ℕ) (content : Record) → (memory_after actor step (memory_of limits h.run)).rows row ≡ Some content → IsKept limits row content
-    pub reads : (other row : ℕ) → other ≢ actor → MayRead (knows h.run other) row → (memory_after actor step (memory_of limits h.run)).rows row ≡ (memory_of limits h.run).rows row
-    pub writes : (other row : ℕ) → other ≢ actor → MayPlace (knows h.run other) row → row < limits.rows → (j : ℕ) → j < 255 → get_or (set s.words i x) (row_at row (j + 1)) 0 ≡ get_or s.words (row_at row (j + 1)) 0
+    pub kept : (row : ℕ) (content : Record) → (memory_after actor step (memory_of limits h.run)).rows row ≡ Some content → IsSpelledRow limits row content
+    pub reads : (other row : ℕ) → other ≢ actor → KnowsReadable (knows h.run other) row → (memory_after actor step (memory_of limits h.run)).rows row ≡ (memory_of limits h.run).rows row
+    pub writes : (other row : ℕ) → other ≢ actor → KnowsPlaceable (knows h.run other) row → row < limits.rows → (j : ℕ) → j < 255 → get_or (set s.words i x) (row_at row (j + 1)) 0 ≡ get_or s.words (row_at row (j + 1)) 0
 
   -- a step, and all that it can tell
   pub event_telling : (slots id actor : ℕ) (me : Mine) (reach : Reach) (i : ℕ) (f : ℕ → ℕ) (begun : Option Command) (step : StepOf Record) (reply : Option Reply) (then : ℕ → Mine → Type 0)
-      → IsAt limits actor reach me → MayTake law limits actor (seen_of me) begun step reply
+      → SitsAt limits actor reach me → IsLawfulStep law limits actor (seen_of me) begun step reply
       → ((s : TableState) (h : Rule s) → get_elem? s.views id ≡ some (alone limits actor (seen_of me) reach)
       → (answer : Answer Record) × Ready s h id actor i (f (get_or s.words i 0)) begun step answer reply
-      × ((me' : Mine) → IsAt limits actor Idle me' → Took law limits actor (seen_of me) begun step answer reply (seen_of me') → then (get_or s.words i 0) me'))
+      × ((me' : Mine) → SitsAt limits actor Idle me' → Took law limits actor (seen_of me) begun step answer reply (seen_of me') → then (get_or s.words i 0) me'))
       → Allows Rule slots id me i f then
   event_telling slots id actor me reach i f begun step reply then is may ready s h _ at _ =
       let at' : get_elem? s.views id ≡ some (alone limits actor (seen_of me) reach) = at ∙ ap (λ (z : Mine). some z.0) is in
@@ -127,7 +127,7 @@ module _ (limits : Limits) (law : Limits → List Entry → Type 0) where
         keeps,
         tt,
         turn s h id actor (seen_of me) reach at' me.1 i (f (get_or s.words i 0)) later later Idle legal spares (extends_self actor later)
-            (subst (λ m. (row : ℕ) (content : Record) → m.rows row ≡ Some content → IsKept limits row content) (sym after) r.kept) tt
+            (subst (λ m. (row : ℕ) (content : Record) → m.rows row ≡ Some content → IsSpelledRow limits row content) (sym after) r.kept) tt
             (subst (λ m. SpellsWhere limits (set s.words i (f (get_or s.words i 0))) m (IsSettled (set s.views id (alone limits actor later Idle)))) (sym after) (r.spells _ refl)),
         t.2 (alone limits actor later Idle, me.1) (ap (λ (c : List (ℕ × Unit {0})). (alone limits actor later Idle, c)) (ap (λ (z : Mine). z.1) is))
             record { run = h.run; legal = h.legal; extends = fit.extends; answered = r.answered; grown = refl; kept = legal },
@@ -135,7 +135,7 @@ module _ (limits : Limits) (law : Limits → List Entry → Type 0) where
 
   -- where the answer is known from the number found
   pub event : (slots id actor : ℕ) (me : Mine) (i : ℕ) (f : ℕ → ℕ) (begun : Option Command) (step : StepOf Record) (reply : Option Reply) (got : ℕ → Answer Record)
-      → IsAt limits actor Idle me → MayTake law limits actor (seen_of me) begun step reply
+      → SitsAt limits actor Idle me → IsLawfulStep law limits actor (seen_of me) begun step reply
       → ((s : TableState) (h : Rule s) → get_elem? s.views id ≡ some (alone limits actor (seen_of me) Idle) → Ready s h id actor i (f (get_or s.words i 0)) begun step (got (get_or s.words i 0)) reply)
       → Allows Rule slots id me i f (λ found me'. Event law begun step reply Idle me (got found) me')
   event slots id actor me i f begun step reply got is may ready = event_telling slots id actor me Idle i f begun step reply (λ found me'. Event law begun step reply Idle me (got found) me') is may
@@ -143,6 +143,6 @@ module _ (limits : Limits) (law : Limits → List Entry → Type 0) where
         got (get_or s.words i 0),
         ready s h at,
         λ me' is' took limits' other other_is.
-            subst (λ (z : Limits × ℕ). IsAt z.0 z.1 Idle me' × Took law z.0 z.1 (seen_of me) begun step (got (get_or s.words i 0)) reply (seen_of me'))
+            subst (λ (z : Limits × ℕ). SitsAt z.0 z.1 Idle me' × Took law z.0 z.1 (seen_of me) begun step (got (get_or s.words i 0)) reply (seen_of me'))
             (λ k. (same_limits limits limits' actor other Idle Idle me is other_is k, same_actor limits limits' actor other Idle Idle me is other_is k)) (is', took),
       ))

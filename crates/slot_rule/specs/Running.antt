@@ -24,18 +24,18 @@ Each P [] = ⊤
 Each P (x ∷ xs) = P x × Each P xs
 
 -- By what it knows, an actor may read the row; it may place a record there.
-abbrev pub MayRead : Knowledge → ℕ → Type 0
-MayRead k row = IsTrue k.inside × IsTrue (k.read.learnt row)
+abbrev pub KnowsReadable : Knowledge → ℕ → Type 0
+KnowsReadable k row = IsTrue k.inside × IsTrue (k.read.learnt row)
 
-abbrev pub MayPlace : Knowledge → ℕ → Type 0
-MayPlace k row = IsTrue k.inside × IsOwn (k.own.rows row) × IsUnset k row
+abbrev pub KnowsPlaceable : Knowledge → ℕ → Type 0
+KnowsPlaceable k row = IsTrue k.inside × IsOwn (k.own.rows row) × IsUnset k row
 
 -- What the rule asks of the runs that there may be: into a row in which one actor may place a record, no other one may, and nobody
 -- may read it; a row that may be read has a record.
 pub record KeepsRowsApart (limits : Limits) (law : List Entry → Type 0) : Type 0 where
-  pub one_owner : (actor other row : ℕ) (run : List Entry) → law run → MayPlace (knows run actor) row → MayPlace (knows run other) row → actor ≡ other
-  pub unread : (actor other row : ℕ) (run : List Entry) → law run → MayPlace (knows run actor) row → MayRead (knows run other) row → ⊥
-  pub placed : (actor row : ℕ) (run : List Entry) → law run → MayRead (knows run actor) row → (content : Record) × ((memory_of limits run).rows row ≡ Some content)
+  pub one_owner : (actor other row : ℕ) (run : List Entry) → law run → KnowsPlaceable (knows run actor) row → KnowsPlaceable (knows run other) row → actor ≡ other
+  pub unread : (actor other row : ℕ) (run : List Entry) → law run → KnowsPlaceable (knows run actor) row → KnowsReadable (knows run other) row → ⊥
+  pub placed : (actor row : ℕ) (run : List Entry) → law run → KnowsReadable (knows run actor) row → (content : Record) × ((memory_of limits run).rows row ≡ Some content)
 
 -- The seat is not in the midst of placing a record into the row.
 abbrev pub LeavesRow : ℕ → Reach → Type 0
@@ -60,8 +60,8 @@ everywhere actor (view ∷ views) = times actor view + everywhere actor views
 -- may place a record.
 abbrev pub ReachFits : Limits → List ℕ → List Entry → ℕ → Reach → Type 0
 ReachFits limits words run actor Idle = ⊤
-ReachFits limits words run actor (Reading row read) = MayRead (knows run actor) row × (read ≡ take (length read) (words_in ((memory_of limits run).rows row)))
-ReachFits limits words run actor (Writing row written) = MayPlace (knows run actor) row × (row < limits.rows) × (length written < 256)
+ReachFits limits words run actor (Reading row read) = KnowsReadable (knows run actor) row × (read ≡ take (length read) (words_in ((memory_of limits run).rows row)))
+ReachFits limits words run actor (Writing row written) = KnowsPlaceable (knows run actor) row × (row < limits.rows) × (length written < 256)
     × ((j : ℕ) → j < length written → slice_index words (row_at row (j + 1)) ≡ slice_index written j)
 
 -- A row of words can spell the record.
@@ -69,7 +69,7 @@ abbrev pub HasSpelling : Record → Type 0
 HasSpelling content = IsSpelling content (words_of content)
 
 -- There is the row, and a row of words can spell the record that stands there.
-pub record IsKept (limits : Limits) (row : ℕ) (content : Record) : Type 0 where
+pub record IsSpelledRow (limits : Limits) (row : ℕ) (content : Record) : Type 0 where
   pub there : row < limits.rows
   pub spelling : HasSpelling content
 
@@ -87,6 +87,6 @@ pub record Running (limits : Limits) (law : List Entry → Type 0) (s : State (U
   pub legal : law run
   pub wide : length s.words ≡ width limits
   pub spells : SpellsWhere limits s.words (memory_of limits run) (IsSettled s.views)
-  pub kept : (row : ℕ) (content : Record) → (memory_of limits run).rows row ≡ Some content → IsKept limits row content
+  pub kept : (row : ℕ) (content : Record) → (memory_of limits run).rows row ≡ Some content → IsSpelledRow limits row content
   pub once : (actor : ℕ) → everywhere actor s.views ≤ 1
   pub each : (id : ℕ) (view : List Part) → get_elem? s.views id ≡ some view → Each (PartFits limits s.words run) view

@@ -19,7 +19,7 @@ use Rattle.tree_words.specs.Changes.{told}
 use Rattle.tree_words.specs.Layout.{row_at}
 use Rattle.slot_rule.specs.declared.view.Reach.{Reach}
 use Rattle.slot_rule.specs.declared.view.Reach.TheVariants.{Idle, Reading, Writing}
-use Rattle.slot_rule.specs.Views.{IsAt, Mine, seen_of}
+use Rattle.slot_rule.specs.Views.{SitsAt, Mine, seen_of}
 
 -- the begin that stands before a step with which an operation begins
 abbrev pub opened : ℕ → Option Command → List Entry
@@ -31,8 +31,8 @@ abbrev pub with_step : List Entry → ℕ → Option Command → StepOf Record �
 with_step run actor begun step answer reply = (run ++ opened actor begun) ++ Step actor step answer reply ∷ []
 
 -- The actor may take the step, whatever the others have done since: the run keeps the law.
-abbrev pub MayTake : (Limits → List Entry → Type 0) → Limits → ℕ → List Entry → Option Command → StepOf Record → Option Reply → Type 0
-MayTake law limits actor seen begun step reply = (run : List Entry) (answer : Answer Record) → law limits run → Extends actor seen run → IsAnswer (memory_of limits run) step answer
+abbrev pub IsLawfulStep : (Limits → List Entry → Type 0) → Limits → ℕ → List Entry → Option Command → StepOf Record → Option Reply → Type 0
+IsLawfulStep law limits actor seen begun step reply = (run : List Entry) (answer : Answer Record) → law limits run → Extends actor seen run → IsAnswer (memory_of limits run) step answer
     → law limits (with_step run actor begun step answer reply)
 
 -- The actor took the step after the longest run, which goes on from what it had seen by steps of others alone; the answer is what
@@ -52,8 +52,8 @@ ReadsRow law limits actor seen row words later = (content : Record) × IsSpellin
 
 -- What a step tells its seat, which stood there before.
 abbrev pub Event : (Limits → List Entry → Type 0) → Option Command → StepOf Record → Option Reply → Reach → Mine → Answer Record → Mine → Type 0
-Event law begun step reply reach me answer me' = (limits : Limits) (actor : ℕ) → IsAt limits actor reach me
-    → IsAt limits actor Idle me' × Took law limits actor (seen_of me) begun step answer reply (seen_of me')
+Event law begun step reply reach me answer me' = (limits : Limits) (actor : ℕ) → SitsAt limits actor reach me
+    → SitsAt limits actor Idle me' × Took law limits actor (seen_of me) begun step answer reply (seen_of me')
 
 abbrev pub Acts : (Limits → List Entry → Type 0) → Option Command → StepOf Record → Option Reply → Mine → ℕ → Mine → Type 0
 Acts law begun step reply me found me' = Event law begun step reply Idle me (told step found) me'
@@ -74,18 +74,18 @@ tail_from (word ∷ words) = words
 
 -- One more word of a row is read, and the last one, which is the step.
 abbrev pub Gathers : Made (Unit {0}) → Mine → ℕ → Mine → Type 0
-Gathers made me found me' = (limits : Limits) (actor row : ℕ) (read : List ℕ) → IsAt limits actor (in_row row read) me → made.word ≡ row_at row (length read)
-    → IsAt limits actor (in_row row (read ++ found ∷ [])) me' × (seen_of me' ≡ seen_of me)
+Gathers made me found me' = (limits : Limits) (actor row : ℕ) (read : List ℕ) → SitsAt limits actor (in_row row read) me → made.word ≡ row_at row (length read)
+    → SitsAt limits actor (in_row row (read ++ found ∷ [])) me' × (seen_of me' ≡ seen_of me)
 
-abbrev pub Finishes : (Limits → List Entry → Type 0) → Made (Unit {0}) → Mine → ℕ → Mine → Type 0
-Finishes law made me found me' = (limits : Limits) (actor row : ℕ) (read : List ℕ) → IsAt limits actor (in_row row read) me → made.word ≡ row_at row (length read) → length read ≡ 255
-    → IsAt limits actor Idle me' × ReadsRow law limits actor (seen_of me) row (read ++ found ∷ []) (seen_of me')
+abbrev pub GathersLast : (Limits → List Entry → Type 0) → Made (Unit {0}) → Mine → ℕ → Mine → Type 0
+GathersLast law made me found me' = (limits : Limits) (actor row : ℕ) (read : List ℕ) → SitsAt limits actor (in_row row read) me → made.word ≡ row_at row (length read) → length read ≡ 255
+    → SitsAt limits actor Idle me' × ReadsRow law limits actor (seen_of me) row (read ++ found ∷ []) (seen_of me')
 
 -- One more word of a row is written behind the header, and the header, which is the step: it is told with the record.
 abbrev pub Fills : Made (Unit {0}) → Mine → ℕ → Mine → Type 0
-Fills made me found me' = (limits : Limits) (actor row : ℕ) (written : List ℕ) → IsAt limits actor (into_row row written) me → made.word ≡ row_at row (length written + 1)
-    → IsAt limits actor (into_row row (written ++ found ∷ [])) me' × (seen_of me' ≡ seen_of me)
+Fills made me found me' = (limits : Limits) (actor row : ℕ) (written : List ℕ) → SitsAt limits actor (into_row row written) me → made.word ≡ row_at row (length written + 1)
+    → SitsAt limits actor (into_row row (written ++ found ∷ [])) me' × (seen_of me' ≡ seen_of me)
 
 abbrev pub Places : (Limits → List Entry → Type 0) → StepOf Record → Mine → ℕ → Mine → Type 0
-Places law step me found me' = (limits : Limits) (actor row : ℕ) (written : List ℕ) → IsAt limits actor (into_row row written) me
-    → IsAt limits actor Idle me' × Took law limits actor (seen_of me) None step Done None (seen_of me')
+Places law step me found me' = (limits : Limits) (actor row : ℕ) (written : List ℕ) → SitsAt limits actor (into_row row written) me
+    → SitsAt limits actor Idle me' × Took law limits actor (seen_of me) None step Done None (seen_of me')

@@ -31,8 +31,8 @@ abbrev pub seen_of : Mine → List Entry
 seen_of me = seen_in me.0
 
 -- a seat of this one actor, which stands there
-abbrev pub IsAt : Limits → ℕ → Reach → Mine → Type 0
-IsAt limits actor reach me = me ≡ (alone limits actor (seen_of me) reach, [])
+abbrev pub SitsAt : Limits → ℕ → Reach → Mine → Type 0
+SitsAt limits actor reach me = me ≡ (alone limits actor (seen_of me) reach, [])
 
 -- The seat is one of the table, which has the words of a tree of these limits.
 pub record IsOf (limits key : Limits) (table seat : TableId) : Type 0 where

@@ -58,9 +58,9 @@ pub(crate) struct Finishing<P> {
 }
 
 impl<P: Law> Play<(), View> for Finishing<P> {
-    ghost use Rattle.slot_rule.specs.Steps.{Finishes};
+    ghost use Rattle.slot_rule.specs.Steps.{GathersLast};
 
-    ghost then = { Finishes P.law };
+    ghost then = { GathersLast P.law };
 }
 
 /// One more word of a row is written, behind the header.

@@ -6,9 +6,9 @@ ghost use Rattle.chain_search.specs.Knowledge.{knows};
 ghost use Rattle.deltas.specs.declared.record.Record.{Record};
 ghost use Rattle.record_slots.specs.Spells.{IsSpelling};
 ghost use Rattle.slot_rule.specs.declared.view.Reach.TheVariants.{Idle};
-ghost use Rattle.slot_rule.specs.Running.{KeepsRowsApart, MayPlace, MayRead};
-ghost use Rattle.slot_rule.specs.Steps.{MayTake, Took, ReadsRow, into_row, tail_from};
-ghost use Rattle.slot_rule.specs.Views.{IsAt, IsOf, seen_of};
+ghost use Rattle.slot_rule.specs.Running.{KeepsRowsApart, KnowsPlaceable, KnowsReadable};
+ghost use Rattle.slot_rule.specs.Steps.{IsLawfulStep, Took, ReadsRow, into_row, tail_from};
+ghost use Rattle.slot_rule.specs.Views.{SitsAt, IsOf, seen_of};
 
 use crate::plays::{Filling, Finishing, Gathering, Placing, Telling};
 use crate::rule::{Law, TableSeat, Words};
@@ -29,11 +29,11 @@ pub fn read_row<P: Law>(
     requires law { KeepsRowsApart limits.now (P.law limits.now) }
     requires table { IsOf limits.now words.now.key words.now.table_id seat.old.table_id }
     requires range { row < limits.now.rows }
-    requires seat { IsAt limits.now actor Idle seat.old.me }
-    requires known { MayRead (knows (seen_of seat.old.me) actor) row }
-    requires may { MayTake P.law limits.now actor (seen_of seat.old.me) None (Row row) None }
+    requires seat { SitsAt limits.now actor Idle seat.old.me }
+    requires known { KnowsReadable (knows (seen_of seat.old.me) actor) row }
+    requires may { IsLawfulStep P.law limits.now actor (seen_of seat.old.me) None (Row row) None }
     ensures same { seat.new.table_id ≡ seat.old.table_id }
-    ensures seat { IsAt limits.now actor Idle seat.new.me }
+    ensures seat { SitsAt limits.now actor Idle seat.new.me }
     ensures took { ReadsRow P.law limits.now actor (seen_of seat.old.me) row result (seen_of seat.new.me) }
 {
     rows_have_256_words();
@@ -62,11 +62,11 @@ pub fn place_row<P: Law>(
     requires table { IsOf limits.now words.now.key words.now.table_id seat.old.table_id }
     requires range { row < limits.now.rows }
     requires spelt { IsSpelling content.now spelt.now }
-    requires seat { IsAt limits.now actor Idle seat.old.me }
-    requires owned { MayPlace (knows (seen_of seat.old.me) actor) row }
-    requires may { MayTake P.law limits.now actor (seen_of seat.old.me) None (Place row content.now) None }
+    requires seat { SitsAt limits.now actor Idle seat.old.me }
+    requires owned { KnowsPlaceable (knows (seen_of seat.old.me) actor) row }
+    requires may { IsLawfulStep P.law limits.now actor (seen_of seat.old.me) None (Place row content.now) None }
     ensures same { seat.new.table_id ≡ seat.old.table_id }
-    ensures seat { IsAt limits.now actor Idle seat.new.me }
+    ensures seat { SitsAt limits.now actor Idle seat.new.me }
     ensures took { Took P.law limits.now actor (seen_of seat.old.me) None (Place row content.now) Done None (seen_of seat.new.me) }
 {
     let base = row_place(row);
@@ -93,11 +93,11 @@ fn place_header<P: Law, C: Telling>(
     requires table { IsOf limits.now words.now.key words.now.table_id seat.old.table_id }
     requires range { row < limits.now.rows }
     requires spelt { IsSpelling content.now spelt.now }
-    requires seat { IsAt limits.now actor (into_row row (tail_from spelt.now)) seat.old.me }
-    requires owned { MayPlace (knows (seen_of seat.old.me) actor) row }
-    requires may { MayTake P.law limits.now actor (seen_of seat.old.me) None (Place row content.now) None }
+    requires seat { SitsAt limits.now actor (into_row row (tail_from spelt.now)) seat.old.me }
+    requires owned { KnowsPlaceable (knows (seen_of seat.old.me) actor) row }
+    requires may { IsLawfulStep P.law limits.now actor (seen_of seat.old.me) None (Place row content.now) None }
     ensures same { seat.new.table_id ≡ seat.old.table_id }
-    ensures seat { IsAt limits.now actor Idle seat.new.me }
+    ensures seat { SitsAt limits.now actor Idle seat.new.me }
     ensures took { Took P.law limits.now actor (seen_of seat.old.me) None (Place row content.now) Done None (seen_of seat.new.me) }
 {
     let _ = content;

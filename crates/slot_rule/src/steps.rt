@@ -1,8 +1,8 @@
 //! The steps that are one atomic operation on a word.
 ghost use Rattle.std.specs.Prelude.{◌≡◌, ◌<◌, option_copied};
 ghost use Rattle.slot_rule.specs.declared.view.Reach.TheVariants.{Idle};
-ghost use Rattle.slot_rule.specs.Steps.{MayTake, Took};
-ghost use Rattle.slot_rule.specs.Views.{IsAt, IsOf, seen_of};
+ghost use Rattle.slot_rule.specs.Steps.{IsLawfulStep, Took};
+ghost use Rattle.slot_rule.specs.Views.{SitsAt, IsOf, seen_of};
 ghost use Rattle.tree_words.specs.Changes.{HasWord};
 
 use crate::plays::{Acting, Telling};
@@ -28,10 +28,10 @@ pub fn act<P: Law>(
     requires table { IsOf limits.now words.now.key words.now.table_id seat.old.table_id }
     requires range { HasWord step.now }
     requires actor { actor < 16 }
-    requires seat { IsAt limits.now actor Idle seat.old.me }
-    requires may { MayTake P.law limits.now actor (seen_of seat.old.me) (option_copied begun) step.now (option_copied reply) }
+    requires seat { SitsAt limits.now actor Idle seat.old.me }
+    requires may { IsLawfulStep P.law limits.now actor (seen_of seat.old.me) (option_copied begun) step.now (option_copied reply) }
     ensures same { seat.new.table_id ≡ seat.old.table_id }
-    ensures seat { IsAt limits.now actor Idle seat.new.me }
+    ensures seat { SitsAt limits.now actor Idle seat.new.me }
     ensures took { Took P.law limits.now actor (seen_of seat.old.me) (option_copied begun.entry) step.now result (option_copied reply.entry) (seen_of seat.new.me) }
 {
     act_told::<P, Brand>(words, seat, limits, actor, step, begun, reply)
@@ -53,10 +53,10 @@ fn act_told<P: Law, C: Telling>(
     requires table { IsOf limits.now words.now.key words.now.table_id seat.old.table_id }
     requires range { HasWord step.now }
     requires actor { actor < 16 }
-    requires seat { IsAt limits.now actor Idle seat.old.me }
-    requires may { MayTake P.law limits.now actor (seen_of seat.old.me) C.begun step.now C.reply }
+    requires seat { SitsAt limits.now actor Idle seat.old.me }
+    requires may { IsLawfulStep P.law limits.now actor (seen_of seat.old.me) C.begun step.now C.reply }
     ensures same { seat.new.table_id ≡ seat.old.table_id }
-    ensures seat { IsAt limits.now actor Idle seat.new.me }
+    ensures seat { SitsAt limits.now actor Idle seat.new.me }
     ensures took { Took P.law limits.now actor (seen_of seat.old.me) C.begun step.now result C.reply (seen_of seat.new.me) }
 {
     let _ = begun;

@@ -23,7 +23,7 @@ use Rattle.chain_search.proofs.ChainLaws.{IsChainOf-unique}
 use Rattle.chain_search.proofs.FittedLaws.{ruled}
 use Rattle.smo.specs.declared.split.SplitPlan.{SplitPlan}
 use Rattle.smo.specs.declared.version.Version.{Version}
-use Rattle.smo.specs.Linking.{HasLeaves, HasVersion, IsSpareRow, KeepsMap, linked, rooted}
+use Rattle.smo.specs.Linking.{HasLeaves, HasVersion, IsSpareRow, KeepsMap, linked, with_root}
 use Rattle.smo.specs.Splits.{IsSplitPlan, split_to}
 use Rattle.smo.specs.Terms.{IsTermPlan}
 use Rattle.smo.specs.Holds.{IsHoldPlan}
@@ -66,8 +66,8 @@ ready_keeps memory page row content h empty spare = beside_keeps memory (linked 
     (λ chain is level. let some = is.linked in omega (arith, empty, some))
 
 -- another root
-pub rooted_keeps : (memory : Memory) (page : ℕ) → HasLeaves memory → KeepsMap memory (rooted page memory)
-rooted_keeps memory page h = beside_keeps memory (rooted page memory) 0 h
+pub with_root_keeps : (memory : Memory) (page : ℕ) → HasLeaves memory → KeepsMap memory (with_root page memory)
+with_root_keeps memory page h = beside_keeps memory (with_root page memory) 0 h
     (λ pid chain other is.
     let slot : replaced_at 0 page memory.slots pid ≡ memory.slots pid = replaced_other 0 page memory.slots pid other in
     record { page = is.page; linked = rw slot is.linked; records = rw slot is.records })
@@ -110,10 +110,10 @@ remove_keeps memory parent page remove row is h holds spare = page_keeps memory 
 
 -- a new root: its page is made ready, and slot 0 set to it
 pub root_keeps : (memory : Memory) (root : Page) (new row : ℕ) → HasLeaves memory → memory.slots new ≡ 0 → IsSpareRow memory row
-    → KeepsMap memory (linked new row (kind.Base root) memory) × KeepsMap (linked new row (kind.Base root) memory) (rooted new (linked new row (kind.Base root) memory))
+    → KeepsMap memory (linked new row (kind.Base root) memory) × KeepsMap (linked new row (kind.Base root) memory) (with_root new (linked new row (kind.Base root) memory))
 root_keeps memory root new row h empty spare =
     let first = ready_keeps memory new row (kind.Base root) h empty spare in
-    (first, rooted_keeps (linked new row (kind.Base root) memory) new first.leaves)
+    (first, with_root_keeps (linked new row (kind.Base root) memory) new first.leaves)
 
 -- keys
 

@@ -13,8 +13,8 @@ abbrev pub linked : ℕ → ℕ → Record → Memory → Memory
 linked page row content memory = record memory { slots = replaced_at page row memory.slots; rows = replaced_at row (Some content) memory.rows }
 
 -- the memory with another root
-abbrev pub rooted : ℕ → Memory → Memory
-rooted page memory = record memory { slots = replaced_at 0 page memory.slots }
+abbrev pub with_root : ℕ → Memory → Memory
+with_root page memory = record memory { slots = replaced_at 0 page memory.slots }
 
 -- The chain has the key in its range, and decides this content for it.
 abbrev pub Decides : List Record → List ℕ → Option Content → Type 0

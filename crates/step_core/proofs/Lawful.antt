@@ -10,7 +10,7 @@ use Rattle.chain_search.specs.declared.trace.Entry.{Entry}
 use Rattle.chain_search.specs.Discipline.{May}
 use Rattle.chain_search.specs.Knowledge.{knows}
 use Rattle.chain_search.specs.Recalled.{Recalled}
-use Rattle.chain_search.specs.Tables.{IsWithin as IsWithinTable, Table, memory_in}
+use Rattle.chain_search.specs.Tables.{IsWithinTable, Table, memory_in}
 use Rattle.chain_search.specs.Trace.{memory_of}
 use Rattle.chain_search.specs.Within.{IsWithin}
 use Rattle.op_machine.specs.Hands.{Hand}

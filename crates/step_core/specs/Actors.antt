@@ -11,7 +11,7 @@ use Rattle.chain_search.specs.Fitting.{Fits}
 use Rattle.chain_search.specs.Knowledge.{Knowledge}
 use Rattle.chain_search.specs.Recalled.{Recalled}
 use Rattle.chain_search.specs.Steps.{IsAnswer}
-use Rattle.chain_search.specs.Tables.{IsWithin as IsWithinTable, Table}
+use Rattle.chain_search.specs.Tables.{IsWithinTable, Table}
 use Rattle.step_core.specs.Turns.{EndsPage}
 
 -- Whatever the memory answers to the step fits what the actor knows.

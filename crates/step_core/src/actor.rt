@@ -5,7 +5,7 @@ ghost use Rattle.bw_model.specs.declared.limits.Limits.{Limits};
 ghost use Rattle.chain_search.specs.Knowledge.{Knowledge};
 ghost use Rattle.chain_search.specs.Recalled.{Recalled};
 ghost use Rattle.chain_search.specs.Steps.{IsAnswer, memory_after};
-ghost use Rattle.chain_search.specs.Tables.{IsWithin as IsWithinTable, memory_in};
+ghost use Rattle.chain_search.specs.Tables.{IsWithinTable, memory_in};
 ghost use Rattle.step_core.specs.Actors.{IsReady, IsWithinAt, NeedsRoom};
 ghost use Rattle.step_core.specs.Turns.{EndsPage, KeepsMore, link_told, step_event};
 

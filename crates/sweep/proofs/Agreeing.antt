@@ -14,16 +14,16 @@ use Rattle.epochs.specs.declared.entry.Stage.{Stage}
 use Rattle.epochs.specs.declared.entry.Stage.TheVariants.{Unstamped, Stamped, Passed}
 use Rattle.epochs.specs.Limbo.{compared_with, stamped_by}
 use Rattle.epochs.specs.Reclamation.{has_passed, may_be_freed}
-use Rattle.sweep.specs.Kept.{Agrees, HavePassed, WasRead}
+use Rattle.sweep.specs.Kept.{Agrees, HavePassed, IsReadStamp}
 use Rattle.sweep.specs.Sweeps.{HaveTold, Told, other_at}
 use Rattle.sweep.proofs.Stages.{after, one_of, or_true}
 
-read_before : (last : Option ℕ) (t epoch : ℕ) → IfSome last (λ before. before ≤ t) → WasRead last epoch → epoch ≤ t
+read_before : (last : Option ℕ) (t epoch : ℕ) → IfSome last (λ before. before ≤ t) → IsReadStamp last epoch → epoch ≤ t
 read_before None t epoch later was = absurd was
 read_before (Some before) t epoch later was = omega (arith, later, was)
 
 -- the epoch was read, and is the stamp of what has none
-pub stamped_agrees : (limits : Limits) (actor t : ℕ) (last : Option ℕ) (stage : Option Stage) (limbo : known.Limbo) → IfSome last (λ before. before ≤ t) → Agrees limits actor last stage limbo → Agrees limits actor (Some t) (after (stamped_by t) stage) (stamped t limbo)
+pub stamped_agrees : (limits : Limits) (actor t : ℕ) (last : Option ℕ) (stage : Option Stage) (limbo : known.LimboMark) → IfSome last (λ before. before ≤ t) → Agrees limits actor last stage limbo → Agrees limits actor (Some t) (after (stamped_by t) stage) (stamped t limbo)
 stamped_agrees limits actor t last None known.Absent later h = tt
 stamped_agrees limits actor t last None known.Unstamped later h = absurd h
 stamped_agrees limits actor t last None (known.Stamped epoch passed) later h = absurd h
@@ -38,7 +38,7 @@ stamped_agrees limits actor t last (Some (Passed stamp)) known.Unstamped later h
 stamped_agrees limits actor t last (Some (Passed stamp)) (known.Stamped epoch passed) later h = (read_before last t epoch later h.0, h.1, h.2)
 
 -- the epoch was read outside of a sweep
-pub read_agrees : (limits : Limits) (actor t : ℕ) (last : Option ℕ) (stage : Option Stage) (limbo : known.Limbo) → IfSome last (λ before. before ≤ t) → Agrees limits actor last stage limbo → Agrees limits actor (Some t) stage (stamped t limbo)
+pub read_agrees : (limits : Limits) (actor t : ℕ) (last : Option ℕ) (stage : Option Stage) (limbo : known.LimboMark) → IfSome last (λ before. before ≤ t) → Agrees limits actor last stage limbo → Agrees limits actor (Some t) stage (stamped t limbo)
 read_agrees limits actor t last None known.Absent later h = tt
 read_agrees limits actor t last None known.Unstamped later h = absurd h
 read_agrees limits actor t last None (known.Stamped epoch passed) later h = absurd h
@@ -53,7 +53,7 @@ read_agrees limits actor t last (Some (Passed stamp)) known.Unstamped later h = 
 read_agrees limits actor t last (Some (Passed stamp)) (known.Stamped epoch passed) later h = (read_before last t epoch later h.0, h.1, h.2)
 
 -- nobody is known to have announced anything, and all is stamped
-pub stamped_told : (actor t : ℕ) (stage : Option Stage) (limbo : known.Limbo) → Told actor [] (after (stamped_by t) stage) limbo
+pub stamped_told : (actor t : ℕ) (stage : Option Stage) (limbo : known.LimboMark) → Told actor [] (after (stamped_by t) stage) limbo
 stamped_told actor t None limbo = tt
 stamped_told actor t (Some Unstamped) known.Absent = tt
 stamped_told actor t (Some Unstamped) known.Unstamped = tt
@@ -88,7 +88,7 @@ passes_below epoch stamp n low h = elim (one_of (n == 0) (ltb stamp n) h) [
   | inr above ↦ or_true (n == 0) (ltb epoch n) (lt-ltb epoch n (let far = ltb-true stamp n above in omega (arith, low, far)))
 ]
 
-pub announced_agrees : (limits : Limits) (actor other n : ℕ) (last : Option ℕ) (stage : Option Stage) (limbo : known.Limbo) → Agrees limits actor last stage limbo → Agrees limits actor last stage (passed_by other n limbo)
+pub announced_agrees : (limits : Limits) (actor other n : ℕ) (last : Option ℕ) (stage : Option Stage) (limbo : known.LimboMark) → Agrees limits actor last stage limbo → Agrees limits actor last stage (passed_by other n limbo)
 announced_agrees limits actor other n last None known.Absent h = tt
 announced_agrees limits actor other n last None known.Unstamped h = absurd h
 announced_agrees limits actor other n last None (known.Stamped epoch passed) h = absurd h
@@ -111,7 +111,7 @@ more_told actor n announces stamp epoch passed low h place lt has = elim (cases_
       rw last (now_passed (other_at actor (length announces)) n epoch passed (passes_below epoch stamp n low heard))
 ]
 
-pub announced_told : (limits : Limits) (actor n : ℕ) (announces : List ℕ) (last : Option ℕ) (stage : Option Stage) (limbo : known.Limbo) → Agrees limits actor last stage limbo → Told actor announces stage limbo → Told actor (announces ++ n ∷ []) stage (passed_by (other_at actor (length announces)) n limbo)
+pub announced_told : (limits : Limits) (actor n : ℕ) (announces : List ℕ) (last : Option ℕ) (stage : Option Stage) (limbo : known.LimboMark) → Agrees limits actor last stage limbo → Told actor announces stage limbo → Told actor (announces ++ n ∷ []) stage (passed_by (other_at actor (length announces)) n limbo)
 announced_told limits actor n announces last None limbo h told = tt
 announced_told limits actor n announces last (Some Unstamped) limbo h told = absurd told
 announced_told limits actor n announces last (Some (Stamped stamp)) known.Absent h told = tt
@@ -146,14 +146,14 @@ all_passed limits actor stamp announces passed inside all free told other below 
     let lt : at.0 < length announces = (let small = at.1 in omega (arith, small, all)) in
     rw at.2 at (told at.0 lt (AllPass-from_list_all (has_passed stamp) announces free at.0 0 lt))
 
-freed_agrees : (limits : Limits) (actor : ℕ) (last : Option ℕ) (announces : List ℕ) (stamp epoch : ℕ) (passed : ℕ → Bool) → actor < limits.actors → limits.actors ≤ suc (length announces) → WasRead last epoch → epoch ≤ stamp → HaveTold actor announces stamp passed
+freed_agrees : (limits : Limits) (actor : ℕ) (last : Option ℕ) (announces : List ℕ) (stamp epoch : ℕ) (passed : ℕ → Bool) → actor < limits.actors → limits.actors ≤ suc (length announces) → IsReadStamp last epoch → epoch ≤ stamp → HaveTold actor announces stamp passed
     → Agrees limits actor last (Some (if may_be_freed stamp announces then Passed stamp else Stamped stamp)) (known.Stamped epoch passed)
 freed_agrees limits actor last announces stamp epoch passed inside all was low told = elim (may_be_freed stamp announces) as (λ b. may_be_freed stamp announces ≡ b → Agrees limits actor last (Some (if b then Passed stamp else Stamped stamp)) (known.Stamped epoch passed)) [
   | true ↦ λ e. (was, low, all_passed limits actor stamp announces passed inside all e told)
   | false ↦ λ e. (was, low)
 ] refl
 
-pub compared_agrees : (limits : Limits) (actor : ℕ) (last : Option ℕ) (announces : List ℕ) (stage : Option Stage) (limbo : known.Limbo) → actor < limits.actors → limits.actors ≤ suc (length announces) → Agrees limits actor last stage limbo → Told actor announces stage limbo → Agrees limits actor last (after (compared_with announces) stage) limbo
+pub compared_agrees : (limits : Limits) (actor : ℕ) (last : Option ℕ) (announces : List ℕ) (stage : Option Stage) (limbo : known.LimboMark) → actor < limits.actors → limits.actors ≤ suc (length announces) → Agrees limits actor last stage limbo → Told actor announces stage limbo → Agrees limits actor last (after (compared_with announces) stage) limbo
 compared_agrees limits actor last announces None limbo inside all h told = h
 compared_agrees limits actor last announces (Some Unstamped) limbo inside all h told = h
 compared_agrees limits actor last announces (Some (Stamped stamp)) known.Absent inside all h told = absurd h
@@ -164,7 +164,7 @@ compared_agrees limits actor last announces (Some (Passed stamp)) known.Unstampe
 compared_agrees limits actor last announces (Some (Passed stamp)) (known.Stamped epoch passed) inside all h told = freed_agrees limits actor last announces stamp epoch passed inside all h.0 h.1 told
 
 -- what may be freed each other actor has passed
-pub may_free : (limits : Limits) (actor stamp : ℕ) (last : Option ℕ) (limbo : known.Limbo) → Agrees limits actor last (Some (Passed stamp)) limbo → IsPassed limits actor limbo
+pub may_free : (limits : Limits) (actor stamp : ℕ) (last : Option ℕ) (limbo : known.LimboMark) → Agrees limits actor last (Some (Passed stamp)) limbo → IsPassed limits actor limbo
 may_free limits actor stamp last known.Absent h = absurd h
 may_free limits actor stamp last known.Unstamped h = absurd h
 may_free limits actor stamp last (known.Stamped epoch passed) h = record { epoch = epoch; passed = passed; stamped = refl; all = h.2 }

@@ -12,7 +12,7 @@ use Rattle.chain_search.specs.Discipline.{IsPassed}
 use Rattle.chain_search.specs.Fitting.{Fits}
 use Rattle.chain_search.specs.Knowledge as known
 use Rattle.chain_search.specs.Knowledge.{Knowledge, Limbos, freed, learn}
-use Rattle.chain_search.specs.Steps.{is_among}
+use Rattle.bw_model.specs.Words.{is_among}
 use Rattle.epochs.specs.declared.entry.Entry.{Entry}
 use Rattle.epochs.specs.declared.entry.Stage.{Stage}
 use Rattle.epochs.specs.declared.entry.Stage.TheVariants.{Unstamped, Stamped, Passed}
@@ -33,7 +33,7 @@ ShowsNext limits actor None limbo k = AreKept limits actor limbo k.limbo
 ShowsNext limits actor (Some next) limbo k = ShowsState limits actor next limbo k
 
 -- ---- one list
-module _ (limits : Limits) (actor : ℕ) (last : Option ℕ) (list : LimboList) (knows : ℕ → known.Limbo) (agree : (n : ℕ) → Agrees limits actor last (stage_of list n) (knows n)) where
+module _ (limits : Limits) (actor : ℕ) (last : Option ℕ) (list : LimboList) (knows : ℕ → known.LimboMark) (agree : (n : ℕ) → Agrees limits actor last (stage_of list n) (knows n)) where
   -- what one reuse frees may be freed
   pub hands_passed : (word bits : ℕ) (now : LimboList) → HandsOn list word bits now → (n : ℕ) → is_among word bits n ≡ true → IsPassed limits actor (knows n)
   hands_passed word bits now hands n among =
@@ -193,7 +193,7 @@ has_stamp (e ∷ es) stamped n is =
       | false ↦ has_stamp es both.1 n
     ] is
 
-told_first : (actor : ℕ) (stage : Option Stage) (limbo : known.Limbo) → (stage ≡ Some Unstamped → ⊥) → Told actor [] stage limbo
+told_first : (actor : ℕ) (stage : Option Stage) (limbo : known.LimboMark) → (stage ≡ Some Unstamped → ⊥) → Told actor [] stage limbo
 told_first actor None limbo stamped = tt
 told_first actor (Some Unstamped) limbo stamped = absurd (stamped refl)
 told_first actor (Some (Stamped stamp)) known.Absent stamped = tt

@@ -163,7 +163,7 @@ or_none None = refl
 or_none (Some stage) = refl
 
 module _ (limits : Limits) (actor : ℕ) (last : Option ℕ) where
-  taken_agrees : (list : LimboList) (rows : List ℕ) (limbo : known.Limbo) (row : ℕ) (out : Bool) → is_one rows row ≡ out → (IsTrue out → limbo ≡ known.Absent) → Agrees limits actor last (stage_of list row) limbo
+  taken_agrees : (list : LimboList) (rows : List ℕ) (limbo : known.LimboMark) (row : ℕ) (out : Bool) → is_one rows row ≡ out → (IsTrue out → limbo ≡ known.Absent) → Agrees limits actor last (stage_of list row) limbo
       → Agrees limits actor last (stage_of (with_rows rows list) row) (if out then known.Unstamped else limbo)
   taken_agrees list rows limbo row true on absent h =
       let none : stage_in list.entries row ≡ None = absent_stage limits actor last (stage_in list.entries row) (rw (absent refl) at h) in
@@ -171,14 +171,14 @@ module _ (limits : Limits) (actor : ℕ) (last : Option ℕ) where
   taken_agrees list rows limbo row false on absent h =
       rw (stage_append list.entries (map fresh rows) row, one_fresh rows row, on, or_none (stage_in list.entries row)) h
 
-  added_agrees : (list : LimboList) (pid : ℕ) (knows : ℕ → known.Limbo) → knows pid ≡ known.Absent → ((n : ℕ) → Agrees limits actor last (stage_of list n) (knows n)) → (n : ℕ) → Agrees limits actor last (stage_of (added pid list) n) (replaced_at pid known.Unstamped knows n)
+  added_agrees : (list : LimboList) (pid : ℕ) (knows : ℕ → known.LimboMark) → knows pid ≡ known.Absent → ((n : ℕ) → Agrees limits actor last (stage_of list n) (knows n)) → (n : ℕ) → Agrees limits actor last (stage_of (added pid list) n) (replaced_at pid known.Unstamped knows n)
   added_agrees list pid knows absent h n = rw (eqb_turned n pid) (taken_agrees list (pid ∷ []) (knows n) n (eqb pid n) (one_of_one (eqb pid n)) (λ same. ap knows (sym (eqb-true pid n same)) ∙ absent) (h n))
     where
       one_of_one : (b : Bool) → (b || false) ≡ b
       one_of_one true = refl
       one_of_one false = refl
 
-  new_one : (list : LimboList) (limit n : ℕ) → list.limit ≡ limit → 0 < n → n < limit → (limbo : known.Limbo) → limbo ≡ known.Absent → Agrees limits actor last (stage_of list n) limbo → IsNew list n
+  new_one : (list : LimboList) (limit n : ℕ) → list.limit ≡ limit → 0 < n → n < limit → (limbo : known.LimboMark) → limbo ≡ known.Absent → Agrees limits actor last (stage_of list n) limbo → IsNew list n
   new_one list limit n is some below limbo absent h = record {
     some = some;
     below = rw is below;

@@ -8,9 +8,9 @@ use Rattle.epochs.specs.declared.entry.Stage.TheVariants.{Unstamped, Stamped, Pa
 use Rattle.epochs.specs.Limbo.{Limbo, stage_of}
 
 -- The stamp is not above the epoch that was read last.
-abbrev pub WasRead : Option ℕ → ℕ → Type 0
-WasRead None stamp = ⊥
-WasRead (Some last) stamp = stamp ≤ last
+abbrev pub IsReadStamp : Option ℕ → ℕ → Type 0
+IsReadStamp None stamp = ⊥
+IsReadStamp (Some last) stamp = stamp ≤ last
 
 -- Each other actor is known to have passed.
 abbrev pub HavePassed : Limits → ℕ → (ℕ → Bool) → Type 0
@@ -20,19 +20,19 @@ HavePassed limits actor passed = (other : ℕ) → other < limits.actors → oth
 -- where it is known to be out of the tree. What has no stamp in the list may have one by what is known, as each epoch that is read
 -- stamps what is known; a stamp in the list is not below the known one. What may be freed by the list each other actor is
 -- known to have passed.
-abbrev pub Agrees : Limits → ℕ → Option ℕ → Option Stage → known.Limbo → Type 0
+abbrev pub Agrees : Limits → ℕ → Option ℕ → Option Stage → known.LimboMark → Type 0
 Agrees limits actor last None known.Absent = ⊤
 Agrees limits actor last None known.Unstamped = ⊥
 Agrees limits actor last None (known.Stamped epoch passed) = ⊥
 Agrees limits actor last (Some Unstamped) known.Absent = ⊥
 Agrees limits actor last (Some Unstamped) known.Unstamped = ⊤
-Agrees limits actor last (Some Unstamped) (known.Stamped epoch passed) = WasRead last epoch
+Agrees limits actor last (Some Unstamped) (known.Stamped epoch passed) = IsReadStamp last epoch
 Agrees limits actor last (Some (Stamped stamp)) known.Absent = ⊥
 Agrees limits actor last (Some (Stamped stamp)) known.Unstamped = ⊥
-Agrees limits actor last (Some (Stamped stamp)) (known.Stamped epoch passed) = WasRead last epoch × (epoch ≤ stamp)
+Agrees limits actor last (Some (Stamped stamp)) (known.Stamped epoch passed) = IsReadStamp last epoch × (epoch ≤ stamp)
 Agrees limits actor last (Some (Passed stamp)) known.Absent = ⊥
 Agrees limits actor last (Some (Passed stamp)) known.Unstamped = ⊥
-Agrees limits actor last (Some (Passed stamp)) (known.Stamped epoch passed) = WasRead last epoch × (epoch ≤ stamp) × HavePassed limits actor passed
+Agrees limits actor last (Some (Passed stamp)) (known.Stamped epoch passed) = IsReadStamp last epoch × (epoch ≤ stamp) × HavePassed limits actor passed
 
 -- The lists are for the numbers that there are.
 pub record IsLimboOf (limits : Limits) (limbo : Limbo) : Type 0 where

@@ -84,7 +84,7 @@ abbrev pub HaveTold : ℕ → List ℕ → ℕ → (ℕ → Bool) → Type 0
 HaveTold actor announces stamp passed = (place : ℕ) → place < length announces → IsTrue (has_passed stamp (get_or announces place 0)) → IsTrue (passed (other_at actor place))
 
 -- the same of a number: in the list it has a stamp
-abbrev pub Told : ℕ → List ℕ → Option Stage → known.Limbo → Type 0
+abbrev pub Told : ℕ → List ℕ → Option Stage → known.LimboMark → Type 0
 Told actor announces None limbo = ⊤
 Told actor announces (Some Unstamped) limbo = ⊥
 Told actor announces (Some (Stamped stamp)) known.Absent = ⊤

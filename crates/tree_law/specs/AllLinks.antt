@@ -13,7 +13,8 @@ use Rattle.deltas.specs.declared.record.Record.TheVariants as delta
 use Rattle.chain_search.specs.Discipline.{base_from}
 use Rattle.chain_search.specs.declared.trace.Entry.{Entry}
 use Rattle.chain_search.specs.declared.trace.Entry.TheVariants.{Begin, Step}
-use Rattle.tree_law.specs.Example.{a, opening_leaf, root_a, hold_a, remove_a}
+use Rattle.op_machine.specs.Examples.{opening_leaf}
+use Rattle.tree_law.specs.Example.{a, root_a, hold_a, remove_a}
 
 abbrev pub insert_a : Command
 insert_a = Insert a (codes "1")

@@ -19,11 +19,11 @@ use Rattle.chain_search.specs.declared.trace.Entry.TheVariants.{Begin, Step}
 use Rattle.chain_search.specs.Discipline.{IsAllowed}
 use Rattle.chain_search.specs.Disciplined.{IsDisciplined}
 use Rattle.chain_search.specs.Knowledge.{Ready, knows}
-use Rattle.chain_search.specs.Recalled.{Recalled, Walk, AnyNames, IsSpent, IsUnread, is_removal, recalls}
+use Rattle.chain_search.specs.Recalled.{Recalled, Walk, AnyNames, IsStepSpent, IsUnread, is_removal, recalls}
 use Rattle.chain_search.specs.Steps.{IsAnswer}
 use Rattle.chain_search.specs.Trace.{memory_of}
 use Rattle.chain_search.specs.Useful.{IsUseful}
-use Rattle.op_machine.specs.Direct.{IsCause, IsDirect, IsExchangeOf, IsTake, Links, Reads, TakesNone, is_step_of}
+use Rattle.op_machine.specs.Direct.{IsCause, IsDirect, IsExchangeOf, IsTake, Links, IsTheStep, TakesNone, is_step_of}
 use Rattle.op_machine.specs.Updates.{IsUpdateLink}
 use Rattle.op_machine.specs.Operations.{Operation, IsOperation, TakesOwnStep}
 use Rattle.op_machine.specs.Updates.{IsUpdateLink}
@@ -50,8 +50,8 @@ module _ (limits : Limits) (entries : List Entry) (operation : Operation) where
     pub at : ℕ
     pub root : ℕ
     pub begins : TakesOwnStep entries operation at (Slot 0) (Number root)
-    pub last : TakesNone limits entries operation at (length entries) (Reads limits entries operation (Slot 0))
-    pub slots : (page : ℕ) → IsUnread page walk.visited → TakesNone limits entries operation at (length entries) (Reads limits entries operation (Slot page))
+    pub last : TakesNone limits entries operation at (length entries) (IsTheStep limits entries operation (Slot 0))
+    pub slots : (page : ℕ) → IsUnread page walk.visited → TakesNone limits entries operation at (length entries) (IsTheStep limits entries operation (Slot page))
     pub rows : (n row : ℕ) (answer : Answer Record) → at < n → TakesOwnStep entries operation n (Row row) answer → (content : Record) × (seen row ≡ Some content) × (is_removal content ≡ true → walk.removed ≡ true)
     pub named : (page : ℕ) → AnyNames walk.records page → (n row : ℕ) × (content : Record) × (at < n) × TakesOwnStep entries operation n (Row row) (Content content) × NamesPage content page
 
@@ -89,14 +89,14 @@ BeginsDirectly = (limits : Limits) (entries : List Entry) (actor left : ℕ) (co
 abbrev pub StepsDirectly : Type 0
 StepsDirectly = (limits : Limits) (entries : List Entry) (actor left rest : ℕ) (step : StepOf Record) (answer : Answer Record) (reply : Option Reply) → IsState limits entries
     → IsAllowed limits actor (knows entries actor) step reply → IsUseful (knows entries actor) step → IsAnswer (memory_of limits entries) step answer → IsDirectState limits entries → Accounts limits entries actor left
-    → IsSpent (recalls entries actor) step answer left rest → StaysDirect limits entries (Step actor step answer reply) actor rest
+    → IsStepSpent (recalls entries actor) step answer left rest → StaysDirect limits entries (Step actor step answer reply) actor rest
 
 -- Along these entries each operation says how many steps it has left: 2^18 at most when it begins; and with each step, which is
 -- of use, it has spent one, or was paid.
 abbrev pub SpendsFrom : (ℕ → ℕ) → List Entry → List Entry → Type 0
 SpendsFrom left before [] = ⊤
 SpendsFrom left before (Begin actor command ∷ entries) = (rest : ℕ) × (rest ≤ 2 ^ 18) × SpendsFrom (replaced_at actor rest left) (before ++ Begin actor command ∷ []) entries
-SpendsFrom left before (Step actor step answer reply ∷ entries) = (rest : ℕ) × IsUseful (knows before actor) step × IsSpent (recalls before actor) step answer (left actor) rest × SpendsFrom (replaced_at actor rest left) (before ++ Step actor step answer reply ∷ []) entries
+SpendsFrom left before (Step actor step answer reply ∷ entries) = (rest : ℕ) × IsUseful (knows before actor) step × IsStepSpent (recalls before actor) step answer (left actor) rest × SpendsFrom (replaced_at actor rest left) (before ++ Step actor step answer reply ∷ []) entries
 
 -- Then a trace in which each actor obeys its discipline is direct.
 abbrev pub DirectRuns : Type 0

@@ -6,11 +6,11 @@ use Rattle.bw_model.specs.declared.step.Step.{Step as StepOf}
 use Rattle.bw_model.specs.declared.step.Step.TheVariants.{Epoch, Announce}
 use Rattle.deltas.specs.declared.record.Record.{Record}
 use Rattle.chain_search.specs.declared.trace.Entry.{Entry}
-use Rattle.chain_search.specs.Knowledge.{Limbo, Absent, Unstamped, Stamped}
+use Rattle.chain_search.specs.Knowledge.{LimboMark, Absent, Unstamped, Stamped}
 use Rattle.chain_search.specs.Trace.{TakesStep}
 
 -- The actor's exchange took it out, and no step has handed it on since.
-pub record IsTakenOut (entries : List Entry) (Unlinks : ℕ → Type 0) (Hands : StepOf Record → Answer Record → Type 0) : Type 0 where
+pub record WasTakenOut (entries : List Entry) (Unlinks : ℕ → Type 0) (Hands : StepOf Record → Answer Record → Type 0) : Type 0 where
   pub at : ℕ
   pub below : at < length entries
   pub unlinked : Unlinks at
@@ -25,14 +25,14 @@ pub record IsPassedAt (entries : List Entry) (actor stamped epoch other : ℕ) :
   pub gone : (value ≡ 0) ⊎ (epoch < value)
 
 pub record IsStamped (entries : List Entry) (actor : ℕ) (Unlinks : ℕ → Type 0) (Hands : StepOf Record → Answer Record → Type 0) (epoch : ℕ) (passed : ℕ → Bool) : Type 0 where
-  pub out : IsTakenOut entries Unlinks Hands
+  pub out : WasTakenOut entries Unlinks Hands
   pub at : ℕ
   pub after : out.at < at
   pub below : at < length entries
   pub took : TakesStep entries at actor Epoch (Number epoch)
   pub by : (other : ℕ) → passed other ≡ true → IsPassedAt entries actor at epoch other
 
-abbrev pub IsInLimbo : List Entry → ℕ → (ℕ → Type 0) → (StepOf Record → Answer Record → Type 0) → Limbo → Type 0
+abbrev pub IsInLimbo : List Entry → ℕ → (ℕ → Type 0) → (StepOf Record → Answer Record → Type 0) → LimboMark → Type 0
 IsInLimbo entries actor Unlinks Hands Absent = ⊤
-IsInLimbo entries actor Unlinks Hands Unstamped = IsTakenOut entries Unlinks Hands
+IsInLimbo entries actor Unlinks Hands Unstamped = WasTakenOut entries Unlinks Hands
 IsInLimbo entries actor Unlinks Hands (Stamped epoch passed) = IsStamped entries actor Unlinks Hands epoch passed

@@ -6,7 +6,7 @@ use Rattle.bw_model.specs.declared.step.Step.{Step as StepOf}
 use Rattle.bw_model.specs.declared.step.Step.TheVariants.{Exchange, Leave, ReusePids, ReuseRows}
 use Rattle.bw_model.specs.declared.step.Answer.{Answer}
 use Rattle.bw_model.specs.declared.step.Answer.TheVariants.{Whether}
-use Rattle.bw_model.specs.Log.{Update, value_in}
+use Rattle.bw_model.specs.Log.{Update, logged_value}
 use Rattle.bw_model.specs.Replies.{command_key, update_of}
 use Rattle.base_page.specs.Pages.{Page}
 use Rattle.deltas.specs.declared.record.Record.{Record}
@@ -39,7 +39,7 @@ pointed log (Some u) old = Some log
 
 -- the update that the actor's command makes by the log, where it has made none yet
 abbrev pub IsDue : ℕ → Knowledge → List Update → Update → Type 0
-IsDue a k log u = (command : Command) × (k.asked.command ≡ Some command) × (k.asked.linked ≡ None) × (update_of a command (value_in log (command_key command)) ≡ Some u)
+IsDue a k log u = (command : Command) × (k.asked.command ≡ Some command) × (k.asked.linked ≡ None) × (update_of a command (logged_value log (command_key command)) ≡ Some u)
 
 -- a row stays whose it is, or the actor takes it where it is free, or links it where it is its own
 abbrev pub IsMoved : ℕ → Bool → Owner → Owner → Type 0

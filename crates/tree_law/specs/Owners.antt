@@ -1,7 +1,7 @@
 -- Who has which row and page, and what follows for what actors know.
 use Rattle.std.specs.Prelude.{◌≡◌, ◌≤◌, ℕ, suc, ◌⊎◌, List, [], ◌∷◌, Option, Some, None, IfSome, MatchOption, Bool, true, false, ⊤, IsSome}
 use Rattle.std.specs.Option.{option_map}
-use Rattle.bw_model.specs.Log.{Update, value_in}
+use Rattle.bw_model.specs.Log.{Update, logged_value}
 use Rattle.base_page.specs.declared.item.Content.{Content}
 use Rattle.base_page.specs.declared.item.Content.TheVariants.{Value, Child}
 use Rattle.deltas.specs.declared.record.Record.{Record}
@@ -83,7 +83,7 @@ Among l (x ∷ xs) = (l ≡ x) ⊎ Among l xs
 
 -- what the leaves are to decide
 abbrev pub leaf_map : List Update → Key → Option Content
-leaf_map log key = option_map Value (value_in log key)
+leaf_map log key = option_map Value (logged_value log key)
 
 -- the chain from the row; on a leaf that is not removed it decides each key of its range as the log does
 pub record SpellsLog (o : Owners) (m : Shared) (x : ℕ) (l : List Update) : Type 0 where

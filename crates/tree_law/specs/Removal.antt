@@ -7,7 +7,8 @@ use Rattle.bw_model.specs.declared.step.Step.TheVariants.{Slot, Row, Epoch, Plac
 use Rattle.bw_model.specs.declared.step.Answer.TheVariants.{Number, Content, Whether, Done}
 use Rattle.chain_search.specs.declared.trace.Entry.{Entry}
 use Rattle.chain_search.specs.declared.trace.Entry.TheVariants.{Begin, Step}
-use Rattle.tree_law.specs.Example.{get_a, opening_leaf, root_a, hold_a, remove_a}
+use Rattle.op_machine.specs.Examples.{opening_leaf}
+use Rattle.tree_law.specs.Example.{get_a, root_a, hold_a, remove_a}
 use Rattle.tree_law.specs.TwoSplits.{b, two_splits, upper_b, first_split, upper_c, second_split}
 
 abbrev pub get_b : Command

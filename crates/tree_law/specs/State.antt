@@ -64,13 +64,13 @@ abbrev pub Justifies : Limits → List Entry → List Bool → Operation → Rep
 Justifies limits entries points operation reply = (m : ℕ) × IsOwnStep entries operation m × IsPoint points m × RepliesAt (memory_at limits entries m) (log_at entries points m) operation.command reply
 
 -- what an operation without a point has found: nothing due, or, where its actor may link records, nothing free
-abbrev pub Finds : Limits → List Entry → Operation → Reply → Type 0
-Finds limits entries operation reply = ((reply ≡ Tidied) × FindsTidy limits entries operation) ⊎ ((reply ≡ Full) × IsTrue (is_writer operation.command) × FindsNothingFree limits entries operation)
+abbrev pub HasFound : Limits → List Entry → Operation → Reply → Type 0
+HasFound limits entries operation reply = ((reply ≡ Tidied) × FindsTidy limits entries operation) ⊎ ((reply ≡ Full) × IsTrue (is_writer operation.command) × FindsNothingFree limits entries operation)
 
 -- the operation has no point, and replies what it has found
 pub record IsPointless (limits : Limits) (entries : List Entry) (points : List Bool) (operation : Operation) (reply : Reply) : Type 0 where
   pub unmarked : (m : ℕ) → IsOwnStep entries operation m → IsPoint points m → ⊥
-  pub finds : Finds limits entries operation reply
+  pub finds : HasFound limits entries operation reply
 
 abbrev pub IsAnsweredBy : Limits → List Entry → List Bool → Operation → Reply → Type 0
 IsAnsweredBy limits entries points operation reply = Justifies limits entries points operation reply ⊎ IsPointless limits entries points operation reply

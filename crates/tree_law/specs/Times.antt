@@ -12,8 +12,8 @@ use Rattle.deltas.specs.Memory.{Memory, replaced_at}
 use Rattle.deltas.specs.Records.{next_row}
 use Rattle.chain_search.specs.Chains.{IsChainFrom, content_in, level_in, right_in, is_removed}
 use Rattle.chain_search.specs.Discipline.{IsOwn, IsOwnBase}
-use Rattle.chain_search.specs.Knowledge.{Ready, Gone, Limbo, Absent, Unstamped, Stamped, Knowledge}
-use Rattle.chain_search.specs.Steps.{is_among}
+use Rattle.chain_search.specs.Knowledge.{Ready, Gone, LimboMark, Absent, Unstamped, Stamped, Knowledge}
+use Rattle.bw_model.specs.Words.{is_among}
 use Rattle.tree_law.specs.Keys.{Key, Covers}
 use Rattle.tree_law.specs.Owners.{Owner, Spare, Linked, Owners, Reached}
 use Rattle.tree_law.specs.Phase.{PageOwner, Cleared, child_of}
@@ -77,7 +77,7 @@ pub record IsAnnounced (t : Times) (epoch announced now entered : ℕ) : Type 0 
   pub pages : (p : ℕ) (w : Outing) → t.page_out p ≡ Some w → entered ≤ w.at → announced ≤ w.epoch
 
 -- what an actor has in its limbo it took out of the tree; an actor that passed the stamp is outside, or entered later
-abbrev pub LimboFits : ℕ → (ℕ → Bool) → (ℕ → ℕ) → Option Outing → Limbo → Type 0
+abbrev pub LimboFits : ℕ → (ℕ → Bool) → (ℕ → ℕ) → Option Outing → LimboMark → Type 0
 LimboFits a inside entered out Absent = ⊤
 LimboFits a inside entered out Unstamped = (w : Outing) × (out ≡ Some w) × (w.who ≡ a)
 LimboFits a inside entered out (Stamped epoch passed) = (w : Outing) × (out ≡ Some w) × (w.who ≡ a) × (w.epoch ≤ epoch) × ((b : ℕ) → passed b ≡ true → inside b ≡ true → w.at < entered b)

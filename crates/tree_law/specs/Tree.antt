@@ -77,7 +77,7 @@ pub record Off (o : Owners) (m : Shared) (q l : ℕ) (s : Key) : Type 0 where
   pub level : level_in chain ≡ l
   pub low : low_in chain ≡ s
 
-pub record Tree (o : Owners) (m : Shared) (log : List Update) : Type 0 where
+pub record HasLevels (o : Owners) (m : Shared) (log : List Update) : Type 0 where
   pub top : ℕ
   pub first : ℕ → ℕ
   pub leaf : first 0 ≡ 1
@@ -86,15 +86,15 @@ pub record Tree (o : Owners) (m : Shared) (log : List Update) : Type 0 where
   pub exact : Exact o.page o.index top m.root
   pub off : (q l : ℕ) (s : Key) → IsOff (o.page q) l s → IsOut (o.page q) (m.slots q) ⊎ Off o m q l s
 
-pub record Frees (o : Owners) (m : Shared) : Type 0 where
+pub record FreeAreUnowned (o : Owners) (m : Shared) : Type 0 where
   pub row : (r : ℕ) → m.free r ≡ true → o.row r ≡ Free
   pub page : (p : ℕ) → m.free_pages p ≡ true → (o.page p ≡ Nobody) × (m.slots p ≡ None)
 
 -- For each actor the log at the point of its present operation, if it has one, and the logs at all its own steps.
 pub record IsTree (m : Shared) (log : List Update) (o : Owners) (knows : ℕ → Knowledge) (point : ℕ → Option (List Update)) (logs : ℕ → List (List Update)) : Type 0 where
-  pub frees : Frees o m
+  pub frees : FreeAreUnowned o m
   pub closed : IsClosed o m
-  pub tree : Tree o m log
+  pub tree : HasLevels o m log
   pub owns : (a : ℕ) → Owns a o m (knows a).own.rows
   pub owns_pages : (a : ℕ) → OwnsPages a o m (knows a).own.pages
   pub sound : (a : ℕ) → Knows o m (knows a).read.seen (knows a).read.learnt (knows a).read.roots (knows a).read.heads (knows a).read.before (knows a).asked.linked (point a) (logs a)

@@ -3,7 +3,7 @@ ghost use Rattle.std.specs.Prelude.{◌++◌};
 ghost use Rattle.chain_search.specs.Disciplined.{IsDisciplined};
 ghost use Rattle.tree_law.specs.AllLinks.{all_links};
 ghost use Rattle.tree_law.specs.CursorPages.{last_page, upkeep};
-ghost use Rattle.tree_law.specs.Example.{small};
+ghost use Rattle.op_machine.specs.Examples.{small};
 ghost use Rattle.tree_law.specs.HelpedSplit.{helped_split};
 ghost use Rattle.tree_law.specs.NoRoom.{no_room};
 ghost use Rattle.tree_law.specs.Removal.{removal};

@@ -12,7 +12,7 @@ use Rattle.deltas.specs.declared.record.Record.{Record}
 use Rattle.deltas.specs.Memory.{Memory, replaced_at}
 use Rattle.chain_search.specs.Steps.{IsWordOf, memory_after}
 use Rattle.tree_words.specs.Layout.{pid_bits_at, row_bits_at, epoch_at, announced_at, width}
-use Rattle.tree_words.specs.Changes.{HasWord, SetsBits, left_in, SpellsParts, ChangesOneWord, StepsChangeOneWord, WordsStandFirst}
+use Rattle.tree_words.specs.Changes.{HasWord, SetsBits, word_after, SpellsParts, ChangesOneWord, StepsChangeOneWord, WordsStandFirst}
 use Rattle.tree_words.proofs.FreeBits.{replaced_same, replaced_other, word_kept, bits_set, word_apart, taken, found_free}
 
 module _ (limits : Limits) (words : List ℕ) (m : Memory) (long : length words ≡ width limits) (sp : SpellsParts limits words m) where
@@ -115,13 +115,13 @@ module _ (limits : Limits) (words : List ℕ) (m : Memory) (long : length words 
     }
     changes (TakePid pid) within bits = record {
       answers = ap Whether (found_free m.free_pids pid (get_or words (pid_bits_at (pid / 64)) 0) (sp.pid_bits (pid / 64) (omega arith)));
-      spells = pid_bits_set (pid / 64) (left_in (TakePid pid) (get_or words (pid_bits_at (pid / 64)) 0)) (replaced_at pid false m.free_pids) (omega arith)
+      spells = pid_bits_set (pid / 64) (word_after (TakePid pid) (get_or words (pid_bits_at (pid / 64)) 0)) (replaced_at pid false m.free_pids) (omega arith)
           (taken m.free_pids pid (get_or words (pid_bits_at (pid / 64)) 0) (sp.pid_bits (pid / 64) (omega arith))) (λ v x ne other. word_kept m.free_pids v x other pid ne);
       records = refl;
     }
     changes (TakeRow row) within bits = record {
       answers = ap Whether (found_free m.free_rows row (get_or words (row_bits_at (row / 64)) 0) (sp.row_bits (row / 64) (omega arith)));
-      spells = row_bits_set (row / 64) (left_in (TakeRow row) (get_or words (row_bits_at (row / 64)) 0)) (replaced_at row false m.free_rows) (omega arith)
+      spells = row_bits_set (row / 64) (word_after (TakeRow row) (get_or words (row_bits_at (row / 64)) 0)) (replaced_at row false m.free_rows) (omega arith)
           (taken m.free_rows row (get_or words (row_bits_at (row / 64)) 0) (sp.row_bits (row / 64) (omega arith))) (λ v x ne other. word_kept m.free_rows v x other row ne);
       records = refl;
     }

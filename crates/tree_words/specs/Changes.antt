@@ -37,22 +37,22 @@ SetsBits (ReuseRows word bits) = bits < 2 ^ 64
 SetsBits _ = ⊤
 
 -- The place of the word of an actor's step. A record has no one word, but a row of them, from here on.
-abbrev pub word_of : ℕ → Step Record → ℕ
-word_of actor (Slot pid) = slot_at pid
-word_of actor (Row row) = row_at row 0
-word_of actor Epoch = epoch_at
-word_of actor (Announce other) = announced_at other
-word_of actor (PidBits word) = pid_bits_at word
-word_of actor (RowBits word) = row_bits_at word
-word_of actor (Place row content) = row_at row 0
-word_of actor (Exchange slot old new) = slot_at slot
-word_of actor (TakePid pid) = pid_bits_at (pid / 64)
-word_of actor (TakeRow row) = row_bits_at (row / 64)
-word_of actor (Enter epoch) = announced_at actor
-word_of actor Leave = announced_at actor
-word_of actor (Retire epoch) = epoch_at
-word_of actor (ReusePids word bits) = pid_bits_at word
-word_of actor (ReuseRows word bits) = row_bits_at word
+abbrev pub changed_word : ℕ → Step Record → ℕ
+changed_word actor (Slot pid) = slot_at pid
+changed_word actor (Row row) = row_at row 0
+changed_word actor Epoch = epoch_at
+changed_word actor (Announce other) = announced_at other
+changed_word actor (PidBits word) = pid_bits_at word
+changed_word actor (RowBits word) = row_bits_at word
+changed_word actor (Place row content) = row_at row 0
+changed_word actor (Exchange slot old new) = slot_at slot
+changed_word actor (TakePid pid) = pid_bits_at (pid / 64)
+changed_word actor (TakeRow row) = row_bits_at (row / 64)
+changed_word actor (Enter epoch) = announced_at actor
+changed_word actor Leave = announced_at actor
+changed_word actor (Retire epoch) = epoch_at
+changed_word actor (ReusePids word bits) = pid_bits_at word
+changed_word actor (ReuseRows word bits) = row_bits_at word
 
 -- the number that such a step found in its word, as its answer
 abbrev pub told : Step Record → ℕ → Answer Record
@@ -68,20 +68,20 @@ told (ReuseRows word bits) found = Done
 told _ found = Number found
 
 -- what the step leaves there
-abbrev pub left_in : Step Record → ℕ → ℕ
-left_in (Exchange slot old new) found = if found == old then new else found
-left_in (TakePid pid) found = bit_and found (bit_not w64 (2 ^ (pid % 64)))
-left_in (TakeRow row) found = bit_and found (bit_not w64 (2 ^ (row % 64)))
-left_in (Enter epoch) found = epoch
-left_in Leave found = 0
-left_in (Retire epoch) found = if found == epoch then epoch + 1 else found
-left_in (ReusePids word bits) found = bit_or found bits
-left_in (ReuseRows word bits) found = bit_or found bits
-left_in _ found = found
+abbrev pub word_after : Step Record → ℕ → ℕ
+word_after (Exchange slot old new) found = if found == old then new else found
+word_after (TakePid pid) found = bit_and found (bit_not w64 (2 ^ (pid % 64)))
+word_after (TakeRow row) found = bit_and found (bit_not w64 (2 ^ (row % 64)))
+word_after (Enter epoch) found = epoch
+word_after Leave found = 0
+word_after (Retire epoch) found = if found == epoch then epoch + 1 else found
+word_after (ReusePids word bits) found = bit_or found bits
+word_after (ReuseRows word bits) found = bit_or found bits
+word_after _ found = found
 
 -- the words once the step has changed its word
 abbrev pub words_after : ℕ → Step Record → List ℕ → List ℕ
-words_after actor step words = slice_set words (word_of actor step) (left_in step (slice_index words (word_of actor step)))
+words_after actor step words = slice_set words (changed_word actor step) (word_after step (slice_index words (changed_word actor step)))
 
 -- The words are those of the memory, but for the rows.
 abbrev pub SpellsParts : Limits → List ℕ → Memory → Type 0
@@ -89,7 +89,7 @@ SpellsParts limits words memory = SpellsWhere limits words memory (λ row. ⊥)
 
 -- Its word has the memory's answer, and once it is changed, the words are those of the memory after the step. No record is placed.
 pub record ChangesOneWord (limits : Limits) (words : List ℕ) (memory : Memory) (actor : ℕ) (step : Step Record) : Type 0 where
-  pub answers : IsAnswer memory step (told step (slice_index words (word_of actor step)))
+  pub answers : IsAnswer memory step (told step (slice_index words (changed_word actor step)))
   pub spells : SpellsParts limits (words_after actor step words) (memory_after actor step memory)
   pub records : (memory_after actor step memory).rows ≡ memory.rows
 
@@ -100,4 +100,4 @@ StepsChangeOneWord = (limits : Limits) (words : List ℕ) (memory : Memory) (act
 
 -- The words of all of them stand before the rows.
 abbrev pub WordsStandFirst : Type 0
-WordsStandFirst = (actor : ℕ) (step : Step Record) → actor < 16 → HasWord step → word_of actor step < row_at 0 0
+WordsStandFirst = (actor : ℕ) (step : Step Record) → actor < 16 → HasWord step → changed_word actor step < row_at 0 0

@@ -2,61 +2,61 @@
 ghost use Rattle.std.specs.Prelude.{◌≡◌, true, false};
 ghost use Rattle.bw_model.specs.declared.step.Answer.TheVariants.{Number, Whether, Done};
 ghost use Rattle.bw_model.specs.declared.step.Step.TheVariants.{Slot, Announce, PidBits, RowBits, Exchange, TakePid, TakeRow, Enter, Leave, Retire, ReusePids, ReuseRows};
-ghost use Rattle.tree_words.specs.Changes.{word_of, told, left_in};
+ghost use Rattle.tree_words.specs.Changes.{changed_word, told, word_after};
 
 /// The words of steps of actor 3, as the table is laid out.
 pub fn steps_have_words()
-    ensures slot { word_of 3 (Slot 5) ≡ 5 }
-    ensures exchange { word_of 3 (Exchange 4095 7 9) ≡ 4095 }
-    ensures pid_bits { word_of 3 (PidBits 2) ≡ 4098 }
-    ensures pid { word_of 3 (TakePid 130) ≡ 4098 }
-    ensures last_pid { word_of 3 (TakePid 4095) ≡ 4159 }
-    ensures row_bits { word_of 3 (RowBits 1) ≡ 4161 }
-    ensures row { word_of 3 (TakeRow 127) ≡ 4161 }
-    ensures last_row { word_of 3 (TakeRow 16383) ≡ 4415 }
-    ensures epoch { word_of 3 (Retire 7) ≡ 4416 }
-    ensures other { word_of 3 (Announce 0) ≡ 4424 }
-    ensures own { word_of 3 Leave ≡ 4448 }
+    ensures slot { changed_word 3 (Slot 5) ≡ 5 }
+    ensures exchange { changed_word 3 (Exchange 4095 7 9) ≡ 4095 }
+    ensures pid_bits { changed_word 3 (PidBits 2) ≡ 4098 }
+    ensures pid { changed_word 3 (TakePid 130) ≡ 4098 }
+    ensures last_pid { changed_word 3 (TakePid 4095) ≡ 4159 }
+    ensures row_bits { changed_word 3 (RowBits 1) ≡ 4161 }
+    ensures row { changed_word 3 (TakeRow 127) ≡ 4161 }
+    ensures last_row { changed_word 3 (TakeRow 16383) ≡ 4415 }
+    ensures epoch { changed_word 3 (Retire 7) ≡ 4416 }
+    ensures other { changed_word 3 (Announce 0) ≡ 4424 }
+    ensures own { changed_word 3 Leave ≡ 4448 }
 {}
 
 /// A number that is read is told and stays.
 pub fn reads_leave_words()
     ensures told { told (Slot 5) 7 ≡ Number 7 }
-    ensures left { left_in (Slot 5) 7 ≡ 7 }
+    ensures left { word_after (Slot 5) 7 ≡ 7 }
     ensures bits { told (RowBits 1) 12 ≡ Number 12 }
-    ensures left_bits { left_in (RowBits 1) 12 ≡ 12 }
+    ensures left_bits { word_after (RowBits 1) 12 ≡ 12 }
 {}
 
 /// An exchange wins where it finds the number that it expects, and else leaves what it found; so does a retiring.
 pub fn exchanges_win_or_lose()
     ensures won { told (Exchange 5 7 9) 7 ≡ Whether true }
-    ensures written { left_in (Exchange 5 7 9) 7 ≡ 9 }
+    ensures written { word_after (Exchange 5 7 9) 7 ≡ 9 }
     ensures lost { told (Exchange 5 7 9) 8 ≡ Whether false }
-    ensures kept { left_in (Exchange 5 7 9) 8 ≡ 8 }
+    ensures kept { word_after (Exchange 5 7 9) 8 ≡ 8 }
     ensures late { told (Exchange 5 7 9) 9 ≡ Whether false }
     ensures retired { told (Retire 7) 7 ≡ Whether true }
-    ensures next { left_in (Retire 7) 7 ≡ 8 }
+    ensures next { word_after (Retire 7) 7 ≡ 8 }
     ensures passed { told (Retire 7) 8 ≡ Whether false }
-    ensures stays { left_in (Retire 7) 8 ≡ 8 }
+    ensures stays { word_after (Retire 7) 8 ≡ 8 }
 {}
 
 /// In word 1 of free PIDs, where PIDs 66 and 67 are free: 66 is taken, is found taken, and is given back.
 pub fn free_bits_come_and_go()
     ensures free { told (TakePid 66) 12 ≡ Whether true }
-    ensures taken { left_in (TakePid 66) 12 ≡ 8 }
+    ensures taken { word_after (TakePid 66) 12 ≡ 8 }
     ensures gone { told (TakePid 66) 8 ≡ Whether false }
-    ensures again { left_in (TakePid 66) 8 ≡ 8 }
-    ensures reused { left_in (ReusePids 1 4) 8 ≡ 12 }
-    ensures twice { left_in (ReuseRows 1 12) 12 ≡ 12 }
+    ensures again { word_after (TakePid 66) 8 ≡ 8 }
+    ensures reused { word_after (ReusePids 1 4) 8 ≡ 12 }
+    ensures twice { word_after (ReuseRows 1 12) 12 ≡ 12 }
     ensures told { told (ReusePids 1 4) 8 ≡ Done }
     ensures last { told (TakeRow 127) 9223372036854775808 ≡ Whether true }
-    ensures others { left_in (TakeRow 127) 18446744073709551615 ≡ 9223372036854775807 }
+    ensures others { word_after (TakeRow 127) 18446744073709551615 ≡ 9223372036854775807 }
 {}
 
 /// An actor announces its epoch, and 0 when it leaves.
 pub fn epochs_are_announced()
-    ensures inside { left_in (Enter 7) 0 ≡ 7 }
+    ensures inside { word_after (Enter 7) 0 ≡ 7 }
     ensures entered { told (Enter 7) 0 ≡ Done }
-    ensures outside { left_in Leave 7 ≡ 0 }
+    ensures outside { word_after Leave 7 ≡ 0 }
     ensures left { told Leave 7 ≡ Done }
 {}

@@ -18,7 +18,7 @@ ghost use Rattle.smo.specs.Holds.{IsHoldPlan};
 ghost use Rattle.smo.specs.Removals.{IsRemovePlan};
 ghost use Rattle.smo.specs.Merges.{IsMergePlan};
 ghost use Rattle.smo.specs.Unterms.{IsUntermPlan};
-ghost use Rattle.smo.specs.Linking.{HasLeaves, HasVersion, IsSpareRow, KeepsMap, linked, rooted};
+ghost use Rattle.smo.specs.Linking.{HasLeaves, HasVersion, IsSpareRow, KeepsMap, linked, with_root};
 
 /// In every memory that has the pages as they were read, and whose leaves are whole: each link of a plan, in spare rows, keeps the
 /// leaves whole and the map. A split's new page, and a root, come into a slot that is empty, before the link itself.
@@ -40,7 +40,7 @@ pub fn links_keep_the_map()
         → memory.slots new ≡ 0
         → IsSpareRow memory row
         → KeepsMap memory (linked new row (kind.Base root) memory)
-        × KeepsMap (linked new row (kind.Base root) memory) (rooted new (linked new row (kind.Base root) memory)) }
+        × KeepsMap (linked new row (kind.Base root) memory) (with_root new (linked new row (kind.Base root) memory)) }
     ensures term { (memory : Memory) (parent page : Version) (term : Term) (row : ℕ)
         → IsTermPlan parent page term
         → HasLeaves memory

@@ -3,7 +3,7 @@ use Rattle.std.proofs.Common.{◌≡◌, ◌⊎◌, inl, inr, ℕ, List, Option,
 use Rattle.std.specs.Prelude.{IsFalse}
 use Rattle.bw_model.specs.declared.command.Command.{Command}
 use Rattle.bw_model.specs.declared.command.Reply.{Reply}
-use Rattle.bw_model.specs.Log.{Update, value_in}
+use Rattle.bw_model.specs.Log.{Update, logged_value}
 use Rattle.bw_model.specs.Replies.{command_key, reply_of, update_of}
 use Rattle.chain_search.specs.Chains.{content_in, is_removed}
 use Rattle.tree_law.specs.Keys.{Key, Covers}
@@ -30,8 +30,8 @@ module _ {m : Shared} {log : List Update} {o : Owners} {knows : ℕ → Knowledg
         own;
   }
     where
-      value : found h.chain (command_key command) ≡ value_in l (command_key command)
-      value = ap value_of decides ∙ value_of_map (value_in l (command_key command))
+      value : found h.chain (command_key command) ≡ logged_value l (command_key command)
+      value = ap value_of decides ∙ value_of_map (logged_value l (command_key command))
 
   pub answers : (command : Command) (reply : Reply) → MayAnswer a (knows a) command reply → IsRepliedAt a command reply (point a) (logs a)
   answers command reply h = ⊎_elim by_link (λ (u : Unlinked). by_stand u.0 u.2 u.1) h.basis

@@ -21,7 +21,7 @@ use Rattle.chain_search.specs.Steps.{IsWordOf, IsAnswer}
 use Rattle.chain_search.specs.Trace.{memory_of}
 use Rattle.chain_search.specs.Discipline.{MayExchange, May}
 use Rattle.chain_search.specs.Fitting.{FitsRow, FitsTaken, FitsTakenPid, AreOutOfLimbo, FitsExchange, Fits}
-use Rattle.chain_search.specs.Knowledge.{OwnRow, Foreign, Taken, Written, OwnPage, Other, Empty, Ready, Gone, Limbo, Absent, Unstamped, Stamped, Knowledge, knows}
+use Rattle.chain_search.specs.Knowledge.{OwnRow, Foreign, Taken, Written, OwnPage, Other, Empty, Ready, Gone, LimboMark, Absent, Unstamped, Stamped, Knowledge, knows}
 use Rattle.chain_search.proofs.FittedLaws.{first_spellable}
 use Rattle.tree_law.specs.Owners.{Free, Linked, Reached, HeadFits, OwnFits, PageFits, SeenFits, IsOut}
 use Rattle.op_machine.specs.Phases as phase
@@ -110,7 +110,7 @@ module _ (limits : Limits) (entries : List Entry) (state : IsState limits entrie
       set_bit false n e f = absurd (omega arith)
 
   -- what is not out is in no limbo
-  not_in_limbo : (out : Option Outing) → out ≡ None → (l : Limbo) → LimboFits a (λ c. (knows entries c).inside) state.times.entered out l → l ≡ Absent
+  not_in_limbo : (out : Option Outing) → out ≡ None → (l : LimboMark) → LimboFits a (λ c. (knows entries c).inside) state.times.entered out l → l ≡ Absent
   not_in_limbo out e Absent h = refl
   not_in_limbo out e Unstamped h = absurd (let i = sym e ∙ h.1 in cc)
   not_in_limbo out e (Stamped epoch passed) h = absurd (let i = sym e ∙ h.1 in cc)

@@ -16,7 +16,7 @@ use Rattle.deltas.specs.declared.record.Record.{Record}
 use Rattle.chain_search.specs.Discipline.{May}
 use Rattle.chain_search.specs.Fitting.{Fits}
 use Rattle.chain_search.specs.Knowledge.{Ready, Knowledge, begun, finished, knows, learn}
-use Rattle.chain_search.specs.Recalled.{IsSpent, Recalled, blank, recall, recalls}
+use Rattle.chain_search.specs.Recalled.{IsStepSpent, Recalled, blank, recall, recalls}
 use Rattle.chain_search.specs.Steps.{IsAnswer}
 use Rattle.chain_search.specs.Trace.{memory_of}
 use Rattle.chain_search.specs.Useful.{IsUseful}
@@ -204,7 +204,7 @@ module _ (limits : Limits) (entries : List Entry) (a : ℕ) (s : StepOf Record) 
       let fit : Fits limits (knows entries a) (Row row) (Content content) = subst (λ y. Fits limits (knows entries a) (Row row) y) j (subst (λ t. Fits limits (knows entries a) t x) i (fits limits entries state a s x may is_answer)) in
       fit.same before e
 
-  module _ (left rest : ℕ) (accounts : Accounts limits entries a left) (spent : IsSpent (recalls entries a) s x left rest) where
+  module _ (left rest : ℕ) (accounts : Accounts limits entries a left) (spent : IsStepSpent (recalls entries a) s x left rest) where
     afford : (op : Operation) → IsLast entries op → op.actor ≡ a → Affords limits grown op rest
     afford op latest same = elim spent [
       | inl less ↦ affords_less limits entries next op left rest latest.begun (accounts op latest same) less

@@ -12,7 +12,7 @@ use Rattle.deltas.specs.Memory.{Memory}
 use Rattle.chain_search.specs.Trace.{memory_at, memory_of}
 use Rattle.chain_search.specs.declared.trace.Entry.{Entry}
 use Rattle.chain_search.specs.declared.trace.Entry.TheVariants.{Step}
-use Rattle.op_machine.specs.Direct.{IsCause, Links, Loses, Meets, Misses, TakesNone}
+use Rattle.op_machine.specs.Direct.{IsCause, Links, Loses, Meets, MissesNumber, TakesNone}
 use Rattle.op_machine.specs.Links.{link_of}
 use Rattle.op_machine.specs.Operations.{Operation, TakesOwnStep}
 use Rattle.tree_law.specs.State.{IsUnended}
@@ -42,7 +42,7 @@ module _ (limits : Limits) (entries : List Entry) (last : Entry) (op : Operation
       let under : n < length entries = below n _ _ took in
       (slot, old, new, m, kept n _ _ took, lt, kept m _ _ read, none_kept m n _ (omega arith) none)
 
-  misses_kept : (n : ℕ) → Misses limits entries op n → Misses limits longer op n
+  misses_kept : (n : ℕ) → MissesNumber limits entries op n → MissesNumber limits longer op n
   misses_kept n (item, bits, m, lt, free, none, inl took) =
       let under : n < length entries = below n _ _ took.0 in
       (item, bits, m, lt, free, none_kept m n _ (omega arith) none, inl (kept n _ _ took.0, kept m _ _ took.1))

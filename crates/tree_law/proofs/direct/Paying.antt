@@ -14,7 +14,7 @@ use Rattle.chain_search.specs.Knowledge.{Ready, knows}
 use Rattle.chain_search.specs.Recalled.{AnyNames, IsPaid, IsUnread, Recalled, is_removal}
 use Rattle.chain_search.specs.declared.trace.Entry.{Entry}
 use Rattle.chain_search.specs.declared.trace.Entry.TheVariants.{Step}
-use Rattle.op_machine.specs.Direct.{IsCause, IsExchangeOf, IsTake, Reads, TakesNone}
+use Rattle.op_machine.specs.Direct.{IsCause, IsExchangeOf, IsTake, IsTheStep, TakesNone}
 use Rattle.op_machine.specs.Links.{link_of}
 use Rattle.op_machine.specs.Operations.{Operation, TakesOwnStep}
 use Rattle.tree_law.specs.Direct.{IsLast, Recollects, Walks}
@@ -38,11 +38,11 @@ module _ (limits : Limits) (entries : List Entry) (last : Entry) (op : Operation
     w.root,
     takes_below entries last op w.at _ _ w.begins,
     takes_kept entries last op w.at _ _ w.begins,
-    none w.at (Reads limits entries op (Slot 0)) w.last,
-    inl (row, remove, takes_last entries last op _ _ reply latest is, none w.at (Reads limits entries op (Row row)) first),
+    none w.at (IsTheStep limits entries op (Slot 0)) w.last,
+    inl (row, remove, takes_last entries last op _ _ reply latest is, none w.at (IsTheStep limits entries op (Row row)) first),
   )))
     where
-      first : TakesNone limits entries op w.at (length entries) (Reads limits entries op (Row row))
+      first : TakesNone limits entries op w.at (length entries) (IsTheStep limits entries op (Row row))
       first between step answer low high own kind =
           let was = w.rows between row answer low (subst (λ t. TakesOwnStep entries op between t answer) kind own) in
           let removes : is_removal was.0 ≡ true = subst (λ content. is_removal content ≡ true) (same was.0 was.1) refl in
@@ -57,14 +57,14 @@ module _ (limits : Limits) (entries : List Entry) (last : Entry) (op : Operation
         w.root,
         takes_below entries last op w.at _ _ w.begins,
         takes_kept entries last op w.at _ _ w.begins,
-        none w.at (Reads limits entries op (Slot 0)) w.last,
+        none w.at (IsTheStep limits entries op (Slot 0)) w.last,
         inr (
           page,
           f.1,
           f.0,
           f.2,
           takes_last entries last op _ _ reply latest is,
-          none w.at (Reads limits entries op (Slot page)) (w.slots page unread),
+          none w.at (IsTheStep limits entries op (Slot page)) (w.slots page unread),
           f.3,
           takes_below entries last op f.0 _ _ f.4,
           takes_kept entries last op f.0 _ _ f.4,

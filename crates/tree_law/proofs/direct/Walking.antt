@@ -13,7 +13,7 @@ use Rattle.chain_search.specs.declared.trace.Entry.TheVariants.{Step}
 use Rattle.chain_search.specs.Knowledge.{Knowledge, learn}
 use Rattle.chain_search.specs.Recalled.{Recalled, Walk, is_removal, note, recall, visit}
 use Rattle.chain_search.specs.Steps.{IsAnswer}
-use Rattle.op_machine.specs.Direct.{Reads, TakesNone}
+use Rattle.op_machine.specs.Direct.{IsTheStep, TakesNone}
 use Rattle.op_machine.specs.Operations.{Operation, TakesOwnStep}
 use Rattle.tree_law.specs.Direct.{IsLast, Walks}
 use Rattle.tree_law.proofs.links.Exchanged.{exchanged_alike}
@@ -91,8 +91,8 @@ module _ (limits : Limits) (entries : List Entry) (last : Entry) (op : Operation
     at = h.at;
     root = h.root;
     begins = takes_kept entries last op h.at _ _ h.begins;
-    last = none_longer h.at (Reads limits entries op (Slot 0)) (λ step answer reply is kind. (reads step answer reply is).0 0 kind) h.last;
-    slots = λ page new. none_longer h.at (Reads limits entries op (Slot page)) (λ step answer reply is kind. (reads step answer reply is).0 page kind) (h.slots page new);
+    last = none_longer h.at (IsTheStep limits entries op (Slot 0)) (λ step answer reply is kind. (reads step answer reply is).0 0 kind) h.last;
+    slots = λ page new. none_longer h.at (IsTheStep limits entries op (Slot page)) (λ step answer reply is kind. (reads step answer reply is).0 page kind) (h.slots page new);
     rows = λ n row answer low own. elim (takes_cases entries last op n (Row row) answer own) [
       | inl before ↦ h.rows n row answer low before
       | inr now ↦ absurd ((reads (Row row) answer now.1.0 now.1.1).1 row refl)
@@ -125,8 +125,8 @@ module _ (limits : Limits) (entries : List Entry) (last : Entry) (op : Operation
       at = h.at;
       root = h.root;
       begins = takes_kept entries last op h.at _ _ h.begins;
-      last = none_longer h.at (Reads limits entries op (Slot 0)) (λ step answer other own kind. let e : Slot 0 ≡ Slot (suc p) = sym kind ∙ (is_step step answer other own).0 ∙ i in cc) h.last;
-      slots = λ page new. none_longer h.at (Reads limits entries op (Slot page)) (λ step answer other own kind. new.0 (let e : Slot page ≡ Slot (suc p) = sym kind ∙ (is_step step answer other own).0 ∙ i in cc)) (h.slots page new.1);
+      last = none_longer h.at (IsTheStep limits entries op (Slot 0)) (λ step answer other own kind. let e : Slot 0 ≡ Slot (suc p) = sym kind ∙ (is_step step answer other own).0 ∙ i in cc) h.last;
+      slots = λ page new. none_longer h.at (IsTheStep limits entries op (Slot page)) (λ step answer other own kind. new.0 (let e : Slot page ≡ Slot (suc p) = sym kind ∙ (is_step step answer other own).0 ∙ i in cc)) (h.slots page new.1);
       rows = λ m row answer low own. elim (takes_cases entries last op m (Row row) answer own) [
         | inl before ↦ h.rows m row answer low before
         | inr now ↦ absurd (let e : Row row ≡ Slot (suc p) = (is_step (Row row) answer now.1.0 now.1.1).0 ∙ i in cc)
@@ -143,8 +143,8 @@ module _ (limits : Limits) (entries : List Entry) (last : Entry) (op : Operation
           at = h.at;
           root = h.root;
           begins = takes_kept entries last op h.at _ _ h.begins;
-          last = none_longer h.at (Reads limits entries op (Slot 0)) (λ step answer other own kind. let e : Slot 0 ≡ Row q = sym kind ∙ (is_step step answer other own).0 ∙ i in cc) h.last;
-          slots = λ page new. none_longer h.at (Reads limits entries op (Slot page)) (λ step answer other own kind. let e : Slot page ≡ Row q = sym kind ∙ (is_step step answer other own).0 ∙ i in cc) (h.slots page new);
+          last = none_longer h.at (IsTheStep limits entries op (Slot 0)) (λ step answer other own kind. let e : Slot 0 ≡ Row q = sym kind ∙ (is_step step answer other own).0 ∙ i in cc) h.last;
+          slots = λ page new. none_longer h.at (IsTheStep limits entries op (Slot page)) (λ step answer other own kind. let e : Slot page ≡ Row q = sym kind ∙ (is_step step answer other own).0 ∙ i in cc) (h.slots page new);
           rows = λ m row answer after own. by_test row q (λ t. (content : Record) × (cond t (Some w) (seen row) ≡ Some content) × (is_removal content ≡ true → (is_removal w || walk.removed) ≡ true))
               (λ same. (w, refl, or_left (is_removal w) walk.removed))
               (λ ne. elim (takes_cases entries last op m (Row row) answer own) [

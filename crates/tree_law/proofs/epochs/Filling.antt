@@ -10,7 +10,7 @@ use Rattle.deltas.specs.declared.record.Split.{Split as SplitOf}
 use Rattle.deltas.specs.declared.record.Unterm.{Unterm as UntermOf}
 use Rattle.deltas.specs.Memory.{Memory}
 use Rattle.chain_search.specs.Discipline.{IsOwn, IsOwnBase, IsUnset}
-use Rattle.chain_search.specs.Knowledge.{OwnRow, Foreign, Written, Other, Empty, Ready, Gone, Limbo, Knowledge, linked_over, split_off, finished, handed_over, handed_page, rebuilt, set_page}
+use Rattle.chain_search.specs.Knowledge.{OwnRow, Foreign, Written, Other, Empty, Ready, Gone, LimboMark, Knowledge, linked_over, split_off, finished, handed_over, handed_page, rebuilt, set_page}
 use Rattle.tree_law.specs.Owners.{Linked, Owners}
 use Rattle.tree_law.specs.Put.{put}
 use Rattle.tree_law.specs.Shared.{shared}
@@ -50,7 +50,7 @@ module _ {limits : Limits} {m : Memory} {log : List Update} {o : Owners} {knows 
         own_rows = λ r i. in_own g T a p x y a r (own r i);
         gone_pages = gone;
         limbo_rows = limbo n;
-        limbo_pids = λ q. subst (λ (l : ℕ → Limbo). LimboFits a (λ c. (put knows a k' c).inside) t.entered (t.page_out q) (l q)) (sym e7) (limbo_pid T (linked g T a) a (m1 g T a p x y) o' k' (t1 g T a p x y) n a q);
+        limbo_pids = λ q. subst (λ (l : ℕ → LimboMark). LimboFits a (λ c. (put knows a k' c).inside) t.entered (t.page_out q) (l q)) (sym e7) (limbo_pid T (linked g T a) a (m1 g T a p x y) o' k' (t1 g T a p x y) n a q);
         ready = ready;
         apart = apart;
       })
@@ -59,7 +59,7 @@ module _ {limits : Limits} {m : Memory} {log : List Update} {o : Owners} {knows 
   own_less f q r = by_test r q (λ z. IsOwn (cond z Foreign (f r)) → IsOwn (f r)) (λ e i. absurd i) (λ ne i. i)
 
   same_limbo : (k' : Knowledge) → k'.limbo.rows ≡ (knows a).limbo.rows → (n : Turn T (linked g T a) a (m1 g T a p x y) o' k' (t1 g T a p x y)) (r : ℕ) → LimboFits a (λ c. (put knows a k' c).inside) t.entered ((t1 g T a p x y).row_out r) (k'.limbo.rows r)
-  same_limbo k' e n r = subst (λ (l : ℕ → Limbo). LimboFits a (λ c. (put knows a k' c).inside) t.entered ((t1 g T a p x y).row_out r) (l r)) (sym e) (limbo_row T (linked g T a) a (m1 g T a p x y) o' k' (t1 g T a p x y) n a r)
+  same_limbo k' e n r = subst (λ (l : ℕ → LimboMark). LimboFits a (λ c. (put knows a k' c).inside) t.entered ((t1 g T a p x y).row_out r) (l r)) (sym e) (limbo_row T (linked g T a) a (m1 g T a p x y) o' k' (t1 g T a p x y) n a r)
 
   -- a row is linked over another
   module _ (unset : IsUnset (knows a) (suc y)) (learnt_old : (knows a).read.learnt x ≡ true) (old_in : (o.row x ≡ Linked) × (t.home x ≡ suc p) × (t.row_out x ≡ None)) (r : Option Reply) where

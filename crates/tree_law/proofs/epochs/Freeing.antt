@@ -14,8 +14,9 @@ use Rattle.deltas.specs.Memory.{Memory}
 use Rattle.deltas.specs.Records.{next_row}
 use Rattle.chain_search.specs.Chains.{content_in, level_in, right_in, is_removed}
 use Rattle.chain_search.specs.Discipline.{IsOwn, IsOwnBase, IsPassed}
-use Rattle.chain_search.specs.Knowledge.{Ready, Gone, Limbo, Absent, Unstamped, Stamped, Knowledge, learn, finished}
-use Rattle.chain_search.specs.Steps.{is_among, memory_after}
+use Rattle.chain_search.specs.Knowledge.{Ready, Gone, LimboMark, Absent, Unstamped, Stamped, Knowledge, learn, finished}
+use Rattle.bw_model.specs.Words.{is_among}
+use Rattle.chain_search.specs.Steps.{memory_after}
 use Rattle.tree_law.specs.Keys.{Key, Covers}
 use Rattle.tree_law.specs.Next.{After}
 use Rattle.tree_law.specs.Owners.{IsChain, Owner, Free, Spare, Linked, Owners, Reached, IsCleared}
@@ -124,9 +125,9 @@ module _ {limits : Limits} {m : Memory} {log : List Update} {o : Owners} {knows 
     pub who : outing.who ≡ a
     pub old : (b : ℕ) → (knows b).inside ≡ true → outing.at < t.entered b
 
-  freed_of : (out : Option Outing) (l : Limbo) → LimboFits a (λ c. (knows c).inside) t.entered out l → IsPassed limits a l → Freed out
+  freed_of : (out : Option Outing) (l : LimboMark) → LimboFits a (λ c. (knows c).inside) t.entered out l → IsPassed limits a l → Freed out
   freed_of out l h p =
-      let f = subst (λ (v : Limbo). LimboFits a (λ c. (knows c).inside) t.entered out v) p.stamped h in
+      let f = subst (λ (v : LimboMark). LimboFits a (λ c. (knows c).inside) t.entered out v) p.stamped h in
       record { outing = f.0; is = f.1; who = f.2; old = λ b i. f.4 b (p.all b (T.within b i) (other_inside b i)) i }
 
   -- an actor that is inside can hold nothing that may be freed
@@ -147,22 +148,22 @@ module _ {limits : Limits} {m : Memory} {log : List Update} {o : Owners} {knows 
 
       -- of rows or pages: what the limbos show of those that are out
       module _ (outs : ℕ → Option Outing) (past : (n : ℕ) (w : Outing) → outs n ≡ Some w → w.at < now) where
-        abbrev Fitted : ℕ → ℕ → Limbo → Type 0
+        abbrev Fitted : ℕ → ℕ → LimboMark → Type 0
         Fitted b n l = LimboFits b (λ c. (knows c).inside) t.entered (outs n) l
 
-        abbrev FitsNow : ℕ → Option Outing → Limbo → Type 0
+        abbrev FitsNow : ℕ → Option Outing → LimboMark → Type 0
         FitsNow b out l = LimboFits b (λ c. (put knows a k c).inside) t.entered out l
 
         abbrev left : ℕ → Option Outing
         left n = cond (is_among word bits n) None (outs n)
 
-        limbo_still : (b n : ℕ) (l : Limbo) → Fitted b n l → FitsNow b (outs n) l
+        limbo_still : (b n : ℕ) (l : LimboMark) → Fitted b n l → FitsNow b (outs n) l
         limbo_still b n l h = limbo_later b now (λ c. (knows c).inside) (λ c. (put knows a k c).inside) t.entered t.entered (outs n) (outs n) l (λ w i. (i, past n w i)) (λ c u lt f i. f (same_inside c i)) h
 
-        limbo_kept : (b n : ℕ) (l : Limbo) → is_among word bits n ≡ false → Fitted b n l → FitsNow b (left n) l
+        limbo_kept : (b n : ℕ) (l : LimboMark) → is_among word bits n ≡ false → Fitted b n l → FitsNow b (left n) l
         limbo_kept b n l e h = limbo_later b now (λ c. (knows c).inside) (λ c. (put knows a k c).inside) t.entered t.entered (outs n) (left n) l (λ w i. (rw e i, past n w i)) (λ c u lt f i. f (same_inside c i)) h
 
-        own_limbo : (n : ℕ) (l : Limbo) (z : Bool) → is_among word bits n ≡ z → Fitted a n l → FitsNow a (left n) (cond z Absent l)
+        own_limbo : (n : ℕ) (l : LimboMark) (z : Bool) → is_among word bits n ≡ z → Fitted a n l → FitsNow a (left n) (cond z Absent l)
         own_limbo n l true e h = tt
         own_limbo n l false e h = limbo_kept a n l e h
 
@@ -175,7 +176,7 @@ module _ {limits : Limits} {m : Memory} {log : List Update} {o : Owners} {knows 
               go false i = i
 
           -- what another actor has in its limbo is not freed
-          others_limbo : (b n : ℕ) → b ≢ a → (l : Limbo) → Fitted b n l → FitsNow b (left n) l
+          others_limbo : (b n : ℕ) → b ≢ a → (l : LimboMark) → Fitted b n l → FitsNow b (left n) l
           others_limbo b n ne Absent h = tt
           others_limbo b n ne Unstamped h = limbo_kept b n Unstamped (apart b n ne h.0 h.1 h.2) h
           others_limbo b n ne (Stamped e p) h = limbo_kept b n (Stamped e p) (apart b n ne h.0 h.1 h.2) h

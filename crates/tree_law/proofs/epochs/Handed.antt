@@ -20,8 +20,9 @@ use Rattle.chain_search.specs.declared.trace.Entry.{Entry}
 use Rattle.chain_search.specs.declared.trace.Entry.TheVariants.{Step}
 use Rattle.chain_search.specs.Chains.{IsChainFrom, IsChainOf, IsOnChain, chain_rows, level_in, low_in}
 use Rattle.chain_search.specs.Discipline.{IsOwn, IsOwnBase, IsPassed, MayExchange, May, MayFree, IsAllowed}
-use Rattle.chain_search.specs.Knowledge.{OwnRow, Foreign, Taken, Written, OwnPage, Other, Gone, Limbo, Absent, Unstamped, Stamped, Knowledge, learn, finished, knows, passed_by, stamped}
-use Rattle.chain_search.specs.Steps.{is_among, IsAnswer, memory_after}
+use Rattle.chain_search.specs.Knowledge.{OwnRow, Foreign, Taken, Written, OwnPage, Other, Gone, LimboMark, Absent, Unstamped, Stamped, Knowledge, learn, finished, knows, passed_by, stamped}
+use Rattle.bw_model.specs.Words.{is_among}
+use Rattle.chain_search.specs.Steps.{IsAnswer, memory_after}
 use Rattle.chain_search.specs.Trace.{memory_of, memory_at, TakesStep, IsStep}
 use Rattle.chain_search.proofs.Pushes.{slice_get-push, slice_get_below, take-push_whole}
 use Rattle.chain_search.proofs.TraceLaws.{memory_of-push, TakesStep-push_cases}
@@ -56,12 +57,12 @@ own_base Taken h = tt
 own_base (Written w) h = tt
 
 -- what is in a limbo is there still when it was stamped, and when an actor was passed
-unstamped : (e : ℕ) (l : Limbo) → stamped e l ≡ Absent → l ≡ Absent
+unstamped : (e : ℕ) (l : LimboMark) → stamped e l ≡ Absent → l ≡ Absent
 unstamped e Absent h = refl
 unstamped e Unstamped h = absurd (cc)
 unstamped e (Stamped epoch passed) h = absurd (cc)
 
-unpassed : (c value : ℕ) (l : Limbo) → passed_by c value l ≡ Absent → l ≡ Absent
+unpassed : (c value : ℕ) (l : LimboMark) → passed_by c value l ≡ Absent → l ≡ Absent
 unpassed c value Absent h = refl
 unpassed c value Unstamped h = absurd (cc)
 unpassed c value (Stamped epoch passed) h = absurd (cc)
@@ -118,14 +119,14 @@ module _ (limits : Limits) (entries : List Entry) (a : ℕ) (step : StepOf Recor
   k = knows entries a
 
   -- what is in a limbo is out, by its actor
-  limbo_out : (b : ℕ) (out : Option Outing) (l : Limbo) → LimboFits b (λ c. (knows entries c).inside) state.times.entered out l → (l ≡ Absent → ⊥) → (w : Outing) × (out ≡ Some w) × (w.who ≡ b)
+  limbo_out : (b : ℕ) (out : Option Outing) (l : LimboMark) → LimboFits b (λ c. (knows entries c).inside) state.times.entered out l → (l ≡ Absent → ⊥) → (w : Outing) × (out ≡ Some w) × (w.who ≡ b)
   limbo_out b out Absent h f = absurd (f refl)
   limbo_out b out Unstamped h f = h
   limbo_out b out (Stamped e p) h f = (h.0, h.1, h.2)
 
-  freed_who : (b : ℕ) (out : Option Outing) (w : Outing) → out ≡ Some w → w.who ≡ b → (l : Limbo) → LimboFits a (λ c. (knows entries c).inside) state.times.entered out l → IsPassed limits a l → b ≡ a
+  freed_who : (b : ℕ) (out : Option Outing) (w : Outing) → out ≡ Some w → w.who ≡ b → (l : LimboMark) → LimboFits a (λ c. (knows entries c).inside) state.times.entered out l → IsPassed limits a l → b ≡ a
   freed_who b out w e who l h p =
-      let f = subst (λ (v : Limbo). LimboFits a (λ c. (knows entries c).inside) state.times.entered out v) p.stamped h in
+      let f = subst (λ (v : LimboMark). LimboFits a (λ c. (knows entries c).inside) state.times.entered out v) p.stamped h in
       sym who ∙ ap (λ v. v.who) (same_Some w f.0 (sym e ∙ f.1)) ∙ f.2
 
   whether_true : (z : Bool) (y : Answer Record) → y ≡ Whether z → y ≡ Whether true → z ≡ true
@@ -162,7 +163,7 @@ module _ (limits : Limits) (entries : List Entry) (a : ℕ) (step : StepOf Recor
   is_last other s x h = let e = h.1 in ((cc), (cc))
 
   -- no step hands on what is in a limbo, where nothing is left there of what the step's actor reuses
-  calm : (H : StepOf Record → Answer Record → Type 0) (Reused : Type 0) (l : Limbo) → ((l ≡ Absent → ⊥) → H step answer → Reused) → (Reused → l ≡ Absent)
+  calm : (H : StepOf Record → Answer Record → Type 0) (Reused : Type 0) (l : LimboMark) → ((l ≡ Absent → ⊥) → H step answer → Reused) → (Reused → l ≡ Absent)
       → (l ≡ Absent → ⊥) → (other : ℕ) (s : StepOf Record) (x : Answer Record) → IsStep last other s x → H s x → ⊥
   calm H Reused l hands own some other s x at handed =
       let e = is_last other s x at in
@@ -192,10 +193,10 @@ module _ (limits : Limits) (entries : List Entry) (a : ℕ) (step : StepOf Recor
   now_below = let e = pushed_length entries last in omega arith
 
   -- of a row or a page: what its limbo shows afterwards
-  module _ (U U' : ℕ → Type 0) (H : StepOf Record → Answer Record → Type 0) (longer : (n : ℕ) → n < length entries → U n → U' n) (old new : Limbo) (Out Freed : Type 0)
+  module _ (U U' : ℕ → Type 0) (H : StepOf Record → Answer Record → Type 0) (longer : (n : ℕ) → n < length entries → U n → U' n) (old new : LimboMark) (Out Freed : Type 0)
       (calm : (new ≡ Absent → old ≡ Absent) → (old ≡ Absent → ⊥) → (other : ℕ) (s : StepOf Record) (x : Answer Record) → IsStep last other s x → H s x → ⊥)
       (unlinks : new ≡ Unstamped → Out → U' (length entries)) (was : IsInLimbo entries a U H old) where
-    abbrev Shows : Limbo → Type 0
+    abbrev Shows : LimboMark → Type 0
     Shows l = IsInLimbo (entries ++ last ∷ []) a U' H l
 
     in_limbo : LimboCase step answer old new Out Freed → Shows new
@@ -261,7 +262,7 @@ module _ (limits : Limits) (entries : List Entry) (a : ℕ) (step : StepOf Recor
         ]
 
         out : (w : Outing) × (t'.row_out q ≡ Some w) × (w.who ≡ a)
-        out = subst (λ (l : Limbo). LimboFits a (λ c. (put (knows entries) a (finished (learn k step answer) r) c).inside) t'.entered (t'.row_out q) l) new
+        out = subst (λ (l : LimboMark). LimboFits a (λ c. (put (knows entries) a (finished (learn k step answer) r) c).inside) t'.entered (t'.row_out q) l) new
             (subst (λ (kk : Knowledge). LimboFits a (λ c. (put (knows entries) a (finished (learn k step answer) r) c).inside) t'.entered (t'.row_out q) (kk.limbo.rows q)) (put_same (knows entries) a (finished (learn k step answer) r)) (T'.limbo_rows a q))
 
         after : memory_at limits (entries ++ last ∷ []) (suc (length entries)) ≡ memory_after a step m

@@ -11,12 +11,12 @@ use Rattle.deltas.specs.declared.record.Record.{Record}
 use Rattle.deltas.specs.declared.record.Record.TheVariants.{Base, Put, Delete, Split, Term, Hold, Remove, Merge, Unterm}
 use Rattle.deltas.specs.Records.{next_row}
 use Rattle.chain_search.specs.Chains.{IsChainFrom, chain_rows}
-use Rattle.chain_search.specs.Knowledge.{OwnRow, Foreign, Taken, Written, OwnPage, Other, Empty, Ready, Gone, Limbo, Limbos, Absent, Unstamped, Knowledge, stamped, passed_by, taken_out, is_on_walk, next_seen, split_off, linked_over, filled, emptied, rooted, learn}
-use Rattle.chain_search.specs.Steps.{is_among}
+use Rattle.chain_search.specs.Knowledge.{OwnRow, Foreign, Taken, Written, OwnPage, Other, Empty, Ready, Gone, LimboMark, Limbos, Absent, Unstamped, Knowledge, stamped, passed_by, taken_out, is_on_walk, next_seen, split_off, linked_over, filled, emptied, rooted, learn}
+use Rattle.bw_model.specs.Words.{is_among}
 use Rattle.tree_law.proofs.shape.Puts.{by_test}
 
 -- What becomes of an item of a limbo; Out: why it is there now.
-pub data LimboCase (s : StepOf Record) (x : Answer Record) (old new : Limbo) (Out Freed : Type 0) : Type 0 where
+pub data LimboCase (s : StepOf Record) (x : Answer Record) (old new : LimboMark) (Out Freed : Type 0) : Type 0 where
   as_it_was : new ≡ old → LimboCase s x old new Out Freed
   is_stamped : (epoch : ℕ) → s ≡ Epoch → x ≡ Number epoch → new ≡ stamped epoch old → LimboCase s x old new Out Freed
   is_passed : (c value : ℕ) → s ≡ Announce c → x ≡ Number value → new ≡ passed_by c value old → LimboCase s x old new Out Freed
@@ -48,7 +48,7 @@ abbrev pub FreesPids : StepOf Record → Type 0
 FreesPids s = (word bits : ℕ) × (s ≡ ReusePids word bits)
 
 -- of pages, or else of rows: those in the limbo, why one is there now, and what frees some
-abbrev pub items : Bool → Limbos → ℕ → Limbo
+abbrev pub items : Bool → Limbos → ℕ → LimboMark
 items true limbo = limbo.pids
 items false limbo = limbo.rows
 
@@ -118,7 +118,7 @@ module _ (k : Knowledge) where
   unfolding Fill
   linked_case p old y row other Foreign = as_it_was refl
   linked_case p old y row other Taken = as_it_was refl
-  linked_case p old y row other (Written (Split w)) = as_it_was (ap (λ (f : ℕ → Limbo). f row) (split_rows (k.own.pages w.page) w.page (suc y) k))
+  linked_case p old y row other (Written (Split w)) = as_it_was (ap (λ (f : ℕ → LimboMark). f row) (split_rows (k.own.pages w.page) w.page (suc y) k))
   linked_case p old y row other (Written (Base w)) = walked k (Exchange (suc p) old (suc y)) (Whether true) row old (λ e. record { page = p; old = old; new = suc y; step = refl; won = refl; walk = e; whose = inr (other, (y, refl)) })
   linked_case p old y row other (Written (Put w)) = as_it_was refl
   linked_case p old y row other (Written (Delete w)) = as_it_was refl
@@ -148,7 +148,7 @@ module _ (k : Knowledge) where
   emptied_pids p old q Gone e = by_test q (suc p) (λ z. LimboCase (Exchange (suc p) old 0) (Whether true) (k.limbo.pids q) (cond z Unstamped (k.limbo.pids q)) (PageOut k (Exchange (suc p) old 0) (Whether true) q) (FreesPids (Exchange (suc p) old 0)))
       (λ i. is_out refl (record { at = p; old = old; is = i; step = refl; won = refl; gone = e })) (λ ne. as_it_was refl)
 
-  word_case : (s : StepOf Record) (x : Answer Record) (z : Bool) (l : Limbo) (Out Freed : Type 0) → Freed → LimboCase s x l (cond z Absent l) Out Freed
+  word_case : (s : StepOf Record) (x : Answer Record) (z : Bool) (l : LimboMark) (Out Freed : Type 0) → Freed → LimboCase s x l (cond z Absent l) Out Freed
   word_case s x true l Out Freed f = is_freed refl f
   word_case s x false l Out Freed f = as_it_was refl
 
@@ -159,11 +159,11 @@ module _ (k : Knowledge) where
   limbo_case false Epoch (Number n) item = is_stamped n refl refl refl
   limbo_case true (Announce c) (Number n) item = is_passed c n refl refl refl
   limbo_case false (Announce c) (Number n) item = is_passed c n refl refl refl
-  limbo_case true (Exchange zero old new) (Whether true) item = as_it_was (ap (λ (f : ℕ → Limbo). f item) (rooted_pids (k.own.pages new) new k))
-  limbo_case false (Exchange zero old new) (Whether true) item = as_it_was (ap (λ (f : ℕ → Limbo). f item) (rooted_rows (k.own.pages new) new k))
+  limbo_case true (Exchange zero old new) (Whether true) item = as_it_was (ap (λ (f : ℕ → LimboMark). f item) (rooted_pids (k.own.pages new) new k))
+  limbo_case false (Exchange zero old new) (Whether true) item = as_it_was (ap (λ (f : ℕ → LimboMark). f item) (rooted_rows (k.own.pages new) new k))
   limbo_case true (Exchange (suc p) old zero) (Whether true) item = emptied_pids p old item (k.own.pages (suc p)) refl
   limbo_case false (Exchange (suc p) old zero) (Whether true) item = emptied_rows p old item (k.own.pages (suc p)) refl
-  limbo_case true (Exchange (suc p) old (suc y)) (Whether true) item = as_it_was (ap (λ (f : ℕ → Limbo). f item) (filled_pids (k.own.pages (suc p)) (suc p) old (suc y) k))
+  limbo_case true (Exchange (suc p) old (suc y)) (Whether true) item = as_it_was (ap (λ (f : ℕ → LimboMark). f item) (filled_pids (k.own.pages (suc p)) (suc p) old (suc y) k))
   limbo_case false (Exchange (suc p) old (suc y)) (Whether true) item = filled_case p old y item (k.own.pages (suc p)) refl
   limbo_case true (ReusePids word bits) x item = word_case (ReusePids word bits) x (is_among word bits item) (k.limbo.pids item) _ _ (word, bits, refl)
   limbo_case false (ReusePids word bits) x item = as_it_was refl

@@ -14,12 +14,12 @@ use Rattle.chain_search.specs.declared.trace.Entry.{Entry}
 use Rattle.chain_search.specs.declared.trace.Entry.TheVariants.{Step}
 use Rattle.chain_search.specs.Chains.{IsChainOf, IsOnChain}
 use Rattle.chain_search.specs.Discipline.{IsPassed}
-use Rattle.chain_search.specs.Knowledge.{Limbo, Absent, Unstamped, Stamped, stamped, passed_by}
+use Rattle.chain_search.specs.Knowledge.{LimboMark, Absent, Unstamped, Stamped, stamped, passed_by}
 use Rattle.chain_search.specs.Trace.{IsStep}
 use Rattle.chain_search.proofs.Pushes.{slice_get-push, slice_get_below}
 use Rattle.chain_search.proofs.TraceLaws.{memory_at-push, TakesStep-kept, TakesStep-push_cases}
 use Rattle.op_machine.specs.Reuse.{UnlinksPid, UnlinksRow, IsFreed}
-use Rattle.tree_law.specs.Limbos.{IsTakenOut, IsPassedAt, IsStamped, IsInLimbo}
+use Rattle.tree_law.specs.Limbos.{WasTakenOut, IsPassedAt, IsStamped, IsInLimbo}
 use Rattle.tree_law.proofs.trace.Owned.{pushed_length}
 use Rattle.tree_law.proofs.shape.Puts.{by_test}
 
@@ -34,7 +34,7 @@ module _ (entries : List Entry) (last : Entry) where
   now_below = let e = longer in omega arith
 
   module _ (U U' : ℕ → Type 0) (H : StepOf Record → Answer Record → Type 0) (mono : (n : ℕ) → n < length entries → U n → U' n) where
-    pub out_push : ((other : ℕ) (s : StepOf Record) (x : Answer Record) → IsStep last other s x → H s x → ⊥) → IsTakenOut entries U H → IsTakenOut (entries ++ last ∷ []) U' H
+    pub out_push : ((other : ℕ) (s : StepOf Record) (x : Answer Record) → IsStep last other s x → H s x → ⊥) → WasTakenOut entries U H → WasTakenOut (entries ++ last ∷ []) U' H
     out_push calm h = record {
       at = h.at;
       below = in_longer h.at h.below;
@@ -49,13 +49,13 @@ module _ (entries : List Entry) (last : Entry) where
     unfolding out_push
     stamped_push a epoch passed calm h = record { out = out_push calm h.out; at = h.at; after = h.after; below = in_longer h.at h.below; took = TakesStep-kept entries last h.at a Epoch (Number epoch) h.took; by = λ c e. passed_push a h.at epoch c (h.by c e) }
 
-    pub limbo_push : (a : ℕ) (l : Limbo) → ((l ≡ Absent → ⊥) → (other : ℕ) (s : StepOf Record) (x : Answer Record) → IsStep last other s x → H s x → ⊥) → IsInLimbo entries a U H l → IsInLimbo (entries ++ last ∷ []) a U' H l
+    pub limbo_push : (a : ℕ) (l : LimboMark) → ((l ≡ Absent → ⊥) → (other : ℕ) (s : StepOf Record) (x : Answer Record) → IsStep last other s x → H s x → ⊥) → IsInLimbo entries a U H l → IsInLimbo (entries ++ last ∷ []) a U' H l
     limbo_push a Absent calm h = tt
     limbo_push a Unstamped calm h = out_push (calm (λ e. cc)) h
     limbo_push a (Stamped epoch passed) calm h = stamped_push a epoch passed (calm (λ e. cc)) h
 
     -- the actor reads the epoch
-    pub stamped_now : (a epoch : ℕ) (r : Option Reply) → last ≡ Step a Epoch (Number epoch) r → (l : Limbo) → ((l ≡ Absent → ⊥) → (other : ℕ) (s : StepOf Record) (x : Answer Record) → IsStep last other s x → H s x → ⊥) → IsInLimbo entries a U H l → IsInLimbo (entries ++ last ∷ []) a U' H (stamped epoch l)
+    pub stamped_now : (a epoch : ℕ) (r : Option Reply) → last ≡ Step a Epoch (Number epoch) r → (l : LimboMark) → ((l ≡ Absent → ⊥) → (other : ℕ) (s : StepOf Record) (x : Answer Record) → IsStep last other s x → H s x → ⊥) → IsInLimbo entries a U H l → IsInLimbo (entries ++ last ∷ []) a U' H (stamped epoch l)
     unfolding out_push
     stamped_now a epoch r is Absent calm h = tt
     stamped_now a epoch r is Unstamped calm h = record {
@@ -69,7 +69,7 @@ module _ (entries : List Entry) (last : Entry) where
     stamped_now a epoch r is (Stamped e passed) calm h = stamped_push a e passed (calm (λ e. cc)) h
 
     -- the actor reads an announced epoch
-    pub passed_now : (a c value : ℕ) (r : Option Reply) → last ≡ Step a (Announce c) (Number value) r → (l : Limbo) → ((l ≡ Absent → ⊥) → (other : ℕ) (s : StepOf Record) (x : Answer Record) → IsStep last other s x → H s x → ⊥) → IsInLimbo entries a U H l → IsInLimbo (entries ++ last ∷ []) a U' H (passed_by c value l)
+    pub passed_now : (a c value : ℕ) (r : Option Reply) → last ≡ Step a (Announce c) (Number value) r → (l : LimboMark) → ((l ≡ Absent → ⊥) → (other : ℕ) (s : StepOf Record) (x : Answer Record) → IsStep last other s x → H s x → ⊥) → IsInLimbo entries a U H l → IsInLimbo (entries ++ last ∷ []) a U' H (passed_by c value l)
     unfolding out_push stamped_push
     passed_now a c value r is Absent calm h = tt
     passed_now a c value r is Unstamped calm h = out_push (calm (λ e. cc)) h
@@ -110,7 +110,7 @@ module _ (entries : List Entry) (last : Entry) where
     }
 
     -- what is freed now
-    pub freed_now : (limits : Limits) (a : ℕ) (l : Limbo) → IsPassed limits a l → IsInLimbo entries a U H l → IsFreed limits (entries ++ last ∷ []) a (length entries) U' H
+    pub freed_now : (limits : Limits) (a : ℕ) (l : LimboMark) → IsPassed limits a l → IsInLimbo entries a U H l → IsFreed limits (entries ++ last ∷ []) a (length entries) U' H
     freed_now limits a l p h =
         let s : IsStamped entries a U H p.epoch p.passed = subst (IsInLimbo entries a U H) p.stamped h in
         record {

@@ -11,7 +11,8 @@ use Rattle.deltas.specs.Memory.{Memory}
 use Rattle.chain_search.specs.declared.trace.Entry.{Entry}
 use Rattle.chain_search.specs.Discipline.{IsOwn, IsOwnBase, IsPassed}
 use Rattle.chain_search.specs.Knowledge.{OwnRow, Foreign, Taken, Written, Ready, Knowledge, learn, finished}
-use Rattle.chain_search.specs.Steps.{is_among, IsAnswer, memory_after}
+use Rattle.bw_model.specs.Words.{is_among}
+use Rattle.chain_search.specs.Steps.{IsAnswer, memory_after}
 use Rattle.op_machine.specs.Phases as phase
 use Rattle.tree_law.specs.Owners.{Owner, Free, Spare, Linked, Owners, OwnFits}
 use Rattle.tree_law.specs.Put.{put}

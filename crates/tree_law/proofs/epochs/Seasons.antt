@@ -12,7 +12,7 @@ use Rattle.bw_model.specs.Log.{Update}
 use Rattle.deltas.specs.declared.record.Record.{Record}
 use Rattle.deltas.specs.Memory.{Memory}
 use Rattle.chain_search.specs.Discipline.{IsOwn, IsOwnBase, IsUnset}
-use Rattle.chain_search.specs.Knowledge.{OwnRow, Foreign, Taken, Written, Empty, Ready, Gone, Limbo, Absent, Unstamped, Stamped, Knowledge, learn, finished, stamped, passed_by, forgotten}
+use Rattle.chain_search.specs.Knowledge.{OwnRow, Foreign, Taken, Written, Empty, Ready, Gone, LimboMark, Absent, Unstamped, Stamped, Knowledge, learn, finished, stamped, passed_by, forgotten}
 use Rattle.chain_search.specs.Steps.{memory_after}
 use Rattle.tree_law.specs.Owners.{Free, Spare, Linked, Owners, OwnFits}
 use Rattle.tree_law.specs.Put.{put}
@@ -31,13 +31,13 @@ below_or a b = go (ltb b a) refl
     go false e = inl (ltb-false b a e)
 
 -- what has no stamp gets the epoch that is read
-stamped_fits : (a epoch : ℕ) (inside : ℕ → Bool) (entered : ℕ → ℕ) (out : Option Outing) (l : Limbo) → ((w : Outing) → out ≡ Some w → w.epoch ≤ epoch) → LimboFits a inside entered out l → LimboFits a inside entered out (stamped epoch l)
+stamped_fits : (a epoch : ℕ) (inside : ℕ → Bool) (entered : ℕ → ℕ) (out : Option Outing) (l : LimboMark) → ((w : Outing) → out ≡ Some w → w.epoch ≤ epoch) → LimboFits a inside entered out l → LimboFits a inside entered out (stamped epoch l)
 stamped_fits a epoch inside entered out Absent old h = tt
 stamped_fits a epoch inside entered out Unstamped old h = (h.0, h.1, h.2, old h.0 h.1, λ b e. absurd (cc))
 stamped_fits a epoch inside entered out (Stamped e p) old h = h
 
 -- an actor whose announced epoch was read as 0, or as a later one, cannot hold it
-passed_fits : (a b announced : ℕ) (inside : ℕ → Bool) (entered : ℕ → ℕ) (out : Option Outing) (l : Limbo) → ((w : Outing) → out ≡ Some w → inside b ≡ true → (0 < announced) × (entered b ≤ w.at → announced ≤ w.epoch)) → LimboFits a inside entered out l → LimboFits a inside entered out (passed_by b announced l)
+passed_fits : (a b announced : ℕ) (inside : ℕ → Bool) (entered : ℕ → ℕ) (out : Option Outing) (l : LimboMark) → ((w : Outing) → out ≡ Some w → inside b ≡ true → (0 < announced) × (entered b ≤ w.at → announced ≤ w.epoch)) → LimboFits a inside entered out l → LimboFits a inside entered out (passed_by b announced l)
 passed_fits a b announced inside entered out Absent f h = tt
 passed_fits a b announced inside entered out Unstamped f h = h
 passed_fits a b announced inside entered out (Stamped e p) f h = (h.0, h.1, h.2, h.3, pass (eqb announced 0) (ltb e announced) refl refl)

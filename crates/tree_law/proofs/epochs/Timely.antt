@@ -8,7 +8,7 @@ use Rattle.deltas.specs.Memory.{Memory}
 use Rattle.deltas.specs.Records.{next_row}
 use Rattle.chain_search.specs.Chains.{level_in, low_in}
 use Rattle.chain_search.specs.Discipline.{IsOwn, IsOwnBase}
-use Rattle.chain_search.specs.Knowledge.{OwnRow, OwnPage, Ready, Gone, Limbo, Knowledge, learnt_next}
+use Rattle.chain_search.specs.Knowledge.{OwnRow, OwnPage, Ready, Gone, LimboMark, Knowledge, learnt_next}
 use Rattle.tree_law.specs.Keys.{Key}
 use Rattle.tree_law.specs.Owners.{Spare, Linked, Owners, Reached, SpellsLog}
 use Rattle.tree_law.specs.Phase.{Stage, Indexed, Placed, Cleared, child_of}
@@ -85,8 +85,8 @@ module _ {limits : Limits} {m : Memory} {log : List Update} {o : Owners} {knows 
         (λ e i. let j = T.epochs a e (ap (λ (v : Option ℕ). v) (sym f0) ∙ i) in let l = c.epoch in omega arith)
         (λ r i. T.own_rows a r (subst (λ (f : ℕ → OwnRow). IsOwn (f r)) f1 i))
         (λ p i. T.gone_pages a p (ap (λ (f : ℕ → OwnPage). f p) (sym f2) ∙ i))
-        (λ n r. subst (λ (f : ℕ → Limbo). LimboFits a (λ b. (put knows a k' b).inside) t.entered (t.row_out r) (f r)) (sym f3) (limbo_row T linked a m' o' k' t n a r))
-        (λ n p. subst (λ (f : ℕ → Limbo). LimboFits a (λ b. (put knows a k' b).inside) t.entered (t.page_out p) (f p)) (sym f4) (limbo_pid T linked a m' o' k' t n a p))
+        (λ n r. subst (λ (f : ℕ → LimboMark). LimboFits a (λ b. (put knows a k' b).inside) t.entered (t.row_out r) (f r)) (sym f3) (limbo_row T linked a m' o' k' t n a r))
+        (λ n p. subst (λ (f : ℕ → LimboMark). LimboFits a (λ b. (put knows a k' b).inside) t.entered (t.page_out p) (f p)) (sym f4) (limbo_pid T linked a m' o' k' t n a p))
         (λ p r i. subst (λ (f : ℕ → OwnRow). IsOwnBase (f r)) (sym f1) (T.ready a p r (ap (λ (f : ℕ → OwnPage). f p) (sym f2) ∙ i)))
         (λ p q r i j. T.apart a p q r (ap (λ (f : ℕ → OwnPage). f p) (sym f2) ∙ i) (ap (λ (f : ℕ → OwnPage). f q) (sym f2) ∙ j))
 
@@ -103,8 +103,8 @@ module _ {limits : Limits} {m : Memory} {log : List Update} {o : Owners} {knows 
           epochs = λ e i. let j = T.epochs a e (ap (λ (v : Option ℕ). v) (sym f0) ∙ i) in let l = c.epoch in omega arith;
           own_rows = λ r i. T.own_rows a r (subst (λ (f : ℕ → OwnRow). IsOwn (f r)) f1 i);
           gone_pages = λ p i. T.gone_pages a p (ap (λ (f : ℕ → OwnPage). f p) (sym f2) ∙ i);
-          limbo_rows = λ r. subst (λ (f : ℕ → Limbo). LimboFits a (λ b. (put knows a k' b).inside) t.entered (t.row_out r) (f r)) (sym f3) (limbo_row T linked a m' o' k' t n a r);
-          limbo_pids = λ p. subst (λ (f : ℕ → Limbo). LimboFits a (λ b. (put knows a k' b).inside) t.entered (t.page_out p) (f p)) (sym f4) (limbo_pid T linked a m' o' k' t n a p);
+          limbo_rows = λ r. subst (λ (f : ℕ → LimboMark). LimboFits a (λ b. (put knows a k' b).inside) t.entered (t.row_out r) (f r)) (sym f3) (limbo_row T linked a m' o' k' t n a r);
+          limbo_pids = λ p. subst (λ (f : ℕ → LimboMark). LimboFits a (λ b. (put knows a k' b).inside) t.entered (t.page_out p) (f p)) (sym f4) (limbo_pid T linked a m' o' k' t n a p);
           ready = λ p r i. subst (λ (f : ℕ → OwnRow). IsOwnBase (f r)) (sym f1) (T.ready a p r (ap (λ (f : ℕ → OwnPage). f p) (sym f2) ∙ i));
           apart = λ p q r i j. T.apart a p q r (ap (λ (f : ℕ → OwnPage). f p) (sym f2) ∙ i) (ap (λ (f : ℕ → OwnPage). f q) (sym f2) ∙ j);
         })

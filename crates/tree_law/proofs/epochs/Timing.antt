@@ -7,7 +7,7 @@ use Rattle.deltas.specs.Memory.{Memory}
 use Rattle.deltas.specs.Records.{next_row}
 use Rattle.chain_search.specs.Chains.{IsChainFrom}
 use Rattle.chain_search.specs.Discipline.{IsOwn, IsOwnBase}
-use Rattle.chain_search.specs.Knowledge.{Ready, Gone, Limbo, Absent, Unstamped, Stamped, Knowledge}
+use Rattle.chain_search.specs.Knowledge.{Ready, Gone, LimboMark, Absent, Unstamped, Stamped, Knowledge}
 use Rattle.tree_law.specs.Keys.{Key}
 use Rattle.tree_law.specs.Owners.{Spare, Linked, Owners, Reached}
 use Rattle.tree_law.specs.Phase.{Cleared}
@@ -58,7 +58,7 @@ holds_later rows rows' ro ro' po po' e inside seen learnt roots heads before lin
   linked_learnt = h.linked_learnt;
 }
 
-pub limbo_later : (b now : ℕ) (inside inside' : ℕ → Bool) (entered entered' : ℕ → ℕ) (out out' : Option Outing) (l : Limbo) → ((w : Outing) → out ≡ Some w → (out' ≡ Some w) × (w.at < now)) → ((c u : ℕ) → u < now → (inside c ≡ true → u < entered c) → inside' c ≡ true → u < entered' c)
+pub limbo_later : (b now : ℕ) (inside inside' : ℕ → Bool) (entered entered' : ℕ → ℕ) (out out' : Option Outing) (l : LimboMark) → ((w : Outing) → out ≡ Some w → (out' ≡ Some w) × (w.at < now)) → ((c u : ℕ) → u < now → (inside c ≡ true → u < entered c) → inside' c ≡ true → u < entered' c)
     → LimboFits b inside entered out l → LimboFits b inside' entered' out' l
 limbo_later b now inside inside' entered entered' out out' Absent f g h = tt
 limbo_later b now inside inside' entered entered' out out' Unstamped f g h = (h.0, (f h.0 h.1).0, h.2)

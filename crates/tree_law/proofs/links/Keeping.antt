@@ -19,7 +19,7 @@ use Rattle.tree_law.specs.Phase.{Stage, Fresh, Indexed, Held, Removed, Merged, P
 use Rattle.tree_law.specs.Put.{put}
 use Rattle.tree_law.specs.Shared.{Shared}
 use Rattle.tree_law.specs.Owners.{IsChain, Owner, Owners, Reached, ChainNames, IsClosed, Owns, OwnsPages, SpellsLog, leaf_map, HeadFits, LinkFits, InOrder, OrderFits, Knows, IsOut}
-use Rattle.tree_law.specs.Tree.{SidePage, InPlace, spec, IsOff, Off, Tree, Frees, IsTree}
+use Rattle.tree_law.specs.Tree.{SidePage, InPlace, spec, IsOff, Off, HasLevels, FreeAreUnowned, IsTree}
 use Rattle.tree_law.proofs.shape.KeyOrder.{covers_from}
 use Rattle.tree_law.proofs.shape.Puts.{by_test}
 use Rattle.tree_law.proofs.shape.Chains.{chain_unique}
@@ -48,7 +48,7 @@ marked_rank Merged q i e = subst (λ (c : Content). rank_of c ≤ 4) (same_Some 
 module _ {m : Shared} {log : List Update} {o : Owners} {knows : ℕ → Knowledge} {point : ℕ → Option (List Update)} {logs : ℕ → List (List Update)} (g : IsTree m log o knows point logs) (a : ℕ) where
   -- what a step of the actor leaves
   pub put_good : (m' : Shared) (log' : List Update) (o' : Owners) (k : Knowledge) (p : Option (List Update)) (s : List (List Update))
-      → Change a o o' m m' → Frees o' m' → IsClosed o' m' → Tree o' m' log'
+      → Change a o o' m m' → FreeAreUnowned o' m' → IsClosed o' m' → HasLevels o' m' log'
       → Owns a o' m' k.own.rows → OwnsPages a o' m' k.own.pages → Knows o' m' k.read.seen k.read.learnt k.read.roots k.read.heads k.read.before k.asked.linked p s
       → IsTree m' log' o' (put knows a k) (put point a p) (put logs a s)
   put_good m' log' o' k p s change frees closed tree own pages kn =
@@ -208,5 +208,5 @@ module _ {m : Shared} {log : List Update} {o : Owners} {knows : ℕ → Knowledg
   off_still o' m' kept q l k s (inr w) = inr (record { row = w.row; chain = w.chain; head = s ∙ w.head; linked = (kept.row w.row w.linked).0; is_chain = chain_kept o o' m m' g.closed kept w.chain (Some w.row) w.linked w.is_chain; flagged = w.flagged; level = w.level; low = w.low })
 
   -- at a step that touches no slot and no page
-  pub tree_at : (row : ℕ → Owner) (m' : Shared) → Kept o (record o { row = row }) m m' → m'.slots ≡ m.slots → m'.root ≡ m.root → Tree (record o { row = row }) m' log
+  pub tree_at : (row : ℕ → Owner) (m' : Shared) → Kept o (record o { row = row }) m m' → m'.slots ≡ m.slots → m'.root ≡ m.root → HasLevels (record o { row = row }) m' log
   tree_at row m' kept s e = tree_kept o (record o { row = row }) m m' log g.closed kept (λ q l k st i on. (ap (λ f. f q) s, (st, i, on, refl))) e refl (λ p l k st i on. (st, i, on)) g.tree (rw e g.tree.exact) (λ q l k i. off_still (record o { row = row }) m' kept q l k (ap (λ f. f q) s) (g.tree.off q l k i))

@@ -23,7 +23,7 @@ use Rattle.std.proofs.lemmas.List.Sums.{fold-append}
 use Rattle.bw_model.specs.declared.command.Command.{Command}
 use Rattle.bw_model.specs.declared.command.Command.TheVariants.{Get, Insert, Upsert, Delete, Page, Tidy}
 use Rattle.bw_model.specs.Bytes.{key_cmp}
-use Rattle.bw_model.specs.Log.{set, unset, updated_key, updated_value, value_in}
+use Rattle.bw_model.specs.Log.{set, unset, updated_key, updated_value, logged_value}
 use Rattle.bw_model.specs.Replies.{command_key, update_of}
 use Rattle.chain_search.specs.Discipline.{MayUpdate, MayConsolidate, MayRemove, record_of, value_of, base_from, HasRead}
 use Rattle.tree_law.proofs.shape.KeyOrder.{by_key, covers_from, covers_to}
@@ -49,12 +49,12 @@ pub value_of_map : (v : Option Key) → value_of (option_map Value v) ≡ v
 value_of_map None = refl
 value_of_map (Some v) = refl
 
-value_in_push : (log : List Update) (u : Update) (key : Key) → value_in (log ++ u ∷ []) key ≡ cond (is_eq (key_cmp key (updated_key u))) (updated_value u) (value_in log key)
-value_in_push log u key = fold-append _ _ log (u ∷ [])
+logged_value_push : (log : List Update) (u : Update) (key : Key) → logged_value (log ++ u ∷ []) key ≡ cond (is_eq (key_cmp key (updated_key u))) (updated_value u) (logged_value log key)
+logged_value_push log u key = fold-append _ _ log (u ∷ [])
 
 over_decides : (u : Update) (x : ℕ) (c : List Record) (l : List Update) (k : Key) → content_in c k ≡ leaf_map l k → content_in (record_of u x ∷ c) k ≡ leaf_map (l ++ u ∷ []) k
-over_decides (set b j v) x c l k e = by_key k j (λ t. cond t (Some (Value v)) (content_in c k) ≡ option_map Value (cond t (Some v) (value_in l k))) (λ i. refl) (λ i. e) ∙ sym (ap (option_map Value) (value_in_push l (set b j v) k))
-over_decides (unset b j) x c l k e = by_key k j (λ t. cond t None (content_in c k) ≡ option_map Value (cond t None (value_in l k))) (λ i. refl) (λ i. e) ∙ sym (ap (option_map Value) (value_in_push l (unset b j) k))
+over_decides (set b j v) x c l k e = by_key k j (λ t. cond t (Some (Value v)) (content_in c k) ≡ option_map Value (cond t (Some v) (logged_value l k))) (λ i. refl) (λ i. e) ∙ sym (ap (option_map Value) (logged_value_push l (set b j v) k))
+over_decides (unset b j) x c l k e = by_key k j (λ t. cond t None (content_in c k) ≡ option_map Value (cond t None (logged_value l k))) (λ i. refl) (λ i. e) ∙ sym (ap (option_map Value) (logged_value_push l (unset b j) k))
 
 -- an update's key is in its page, so the log changes there only
 log_outside : (u : Update) (log : List Update) (index : ℕ → Key → Option Content) (lv : ℕ) (c : List Record) → lv ≡ 0 → ((k : Key) → (Covers c k → ⊥) → leaf_map (log ++ u ∷ []) k ≡ leaf_map log k) → (l : ℕ) (k : Key) → (l ≡ lv → Covers c k → ⊥) → spec (log ++ u ∷ []) index l k ≡ spec log index l k
@@ -62,7 +62,7 @@ log_outside u log index lv c z f zero k n = f k (n (sym z))
 log_outside u log index lv c z f (suc l) k n = refl
 
 key_apart : (u : Update) (l : List Update) (k : Key) → k ≢ updated_key u → leaf_map (l ++ u ∷ []) k ≡ leaf_map l k
-key_apart u l k ne = ap (option_map Value) (value_in_push l u k ∙ by_key k (updated_key u) (λ t. cond t (updated_value u) (value_in l k) ≡ value_in l k) (λ e. absurd (ne e)) (λ e. refl))
+key_apart u l k ne = ap (option_map Value) (logged_value_push l u k ∙ by_key k (updated_key u) (λ t. cond t (updated_value u) (logged_value l k) ≡ logged_value l k) (λ e. absurd (ne e)) (λ e. refl))
 
 -- an update is of its command's key
 key_due : (b : ℕ) (c : Command) (old : Option Key) (u : Update) → update_of b c old ≡ Some u → updated_key u ≡ command_key c
@@ -83,7 +83,7 @@ module _ {m : Shared} {log : List Update} {o : Owners} {knows : ℕ → Knowledg
   -- the exchange that links an update
   pub updates : (p x y : ℕ) → m.slots p ≡ Some x → (basis : HasRead (knows a) p x) (content : Record) → (knows a).own.rows y ≡ Written content → (h : MayUpdate a (knows a) x basis.chain content) → (r : Option Reply)
       → IsTree (record m { slots = put m.slots p (Some y) }) (log ++ h.update ∷ []) (record o { row = put o.row y Linked }) (put knows a (finished (filled ((knows a).own.pages p) p x y (knows a)) r)) (put point a (Some log)) (put logs a (log ∷ logs a))
-      × (update_of a h.command (value_in log (command_key h.command)) ≡ Some h.update)
+      × (update_of a h.command (logged_value log (command_key h.command)) ≡ Some h.update)
   updates p x y s basis content written h r =
       let u = h.update in
       let c = basis.chain in
@@ -94,7 +94,7 @@ module _ {m : Shared} {log : List Update} {o : Owners} {knows : ℕ → Knowledg
       let fits : (o.row y ≡ Spare a) × (m.rows y ≡ Some (record_of u x)) = subst (λ (v : OwnRow). OwnFits a (o.row y) (m.rows y) v) (written ∙ ap Written h.is) (g.owns a y) in
       let over = is_over u x c in
       let inside : Covers c (command_key h.command) = covers_from c (command_key h.command) h.covers in
-      let due : update_of a h.command (value_in log (command_key h.command)) ≡ Some u = subst (λ (v : Option Key). update_of a h.command v ≡ Some u) (ap value_of (is (command_key h.command) inside) ∙ value_of_map (value_in log (command_key h.command))) h.due in
+      let due : update_of a h.command (logged_value log (command_key h.command)) ≡ Some u = subst (λ (v : Option Key). update_of a h.command v ≡ Some u) (ap value_of (is (command_key h.command) inside) ∙ value_of_map (logged_value log (command_key h.command))) h.due in
       let none : point a ≡ None = subst (λ (v : Option (Option ℕ)). LinkFits o m (point a) v) h.unlinked (mine g a).linked_fits in
       let learned : filled ((knows a).own.pages p) p x y (knows a) ≡ updated x y (knows a) = rw (not_own g a p (level_in c) (low_in c) place.stage place.placed ((knows a).own.pages p) (g.owns_pages a p), (written ∙ ap Written h.is)) (linked_update u x y (knows a)) in (
         subst (λ (k : Knowledge). IsTree (record m { slots = put m.slots p (Some y) }) (log ++ u ∷ []) (record o { row = put o.row y Linked }) (put knows a (finished k r)) (put point a (Some log)) (put logs a (log ∷ logs a))) (sym learned)
@@ -103,7 +103,7 @@ module _ {m : Shared} {log : List Update} {o : Owners} {knows : ℕ → Knowledg
             over.level over.low over.right over.high (over.flag ∙ place.flagged)
             (log ++ u ∷ [])
             (λ k v. rw h.leaf (over_decides u x c log k (is k v)))
-            (λ l k n. log_outside u log o.index (level_in c) c h.leaf (λ k n. key_apart u log k (λ i. n (subst (λ (z : Key). Covers c z) (sym (i ∙ key_due a h.command (value_in log (command_key h.command)) u due)) inside))) l k n)
+            (λ l k n. log_outside u log o.index (level_in c) c h.leaf (λ k n. key_apart u log k (λ i. n (subst (λ (z : Key). Covers c z) (sym (i ∙ key_due a h.command (logged_value log (command_key h.command)) u due)) inside))) l k n)
             (finished (updated x y (knows a)) r)
             refl (λ v. v) refl refl refl refl refl
             (Some log) (log, refl, here)),

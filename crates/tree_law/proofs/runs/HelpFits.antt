@@ -17,7 +17,8 @@ use Rattle.deltas.specs.Spellable.{HasPid, IsSpellablePage}
 use Rattle.chain_search.specs.Discipline.{FitsOn}
 use Rattle.chain_search.specs.Fitted.{IsFitted}
 use Rattle.tree_law.specs.CursorPages.{right_term}
-use Rattle.tree_law.specs.Example.{a, opening_leaf, root_a, hold_a}
+use Rattle.op_machine.specs.Examples.{opening_leaf}
+use Rattle.tree_law.specs.Example.{a, root_a, hold_a}
 use Rattle.tree_law.specs.HelpedSplit.{item_b, helped_term, other_put}
 use Rattle.tree_law.specs.TwoSplits.{b, upper_b, first_split, upper_c, second_split}
 use Rattle.tree_law.specs.Keys.{Key}

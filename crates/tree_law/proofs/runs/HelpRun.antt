@@ -6,7 +6,8 @@ use Rattle.bw_model.specs.Log.{set}
 use Rattle.chain_search.specs.Discipline.{IsMet, MayUpdate, MayPost, MayReply}
 use Rattle.chain_search.specs.Disciplined.{IsDisciplinedFrom, IsDisciplined}
 use Rattle.chain_search.specs.Knowledge.{Knowledge, knows}
-use Rattle.tree_law.specs.Example.{small, a, opening_leaf, root_a}
+use Rattle.op_machine.specs.Examples.{small, opening_leaf}
+use Rattle.tree_law.specs.Example.{a, root_a}
 use Rattle.tree_law.specs.HelpedSplit.{insert_other, helped_term, other_put, helped_split}
 use Rattle.tree_law.specs.TwoSplits.{b, insert_b, two_splits, upper_b, first_split, upper_c, second_split}
 use Rattle.tree_law.proofs.runs.HelpFits.{term_fits, put_fits}

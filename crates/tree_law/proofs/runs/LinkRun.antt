@@ -7,7 +7,8 @@ use Rattle.chain_search.specs.Discipline.{IsMet, MayAdd, MayRoot, MayReply}
 use Rattle.chain_search.specs.Disciplined.{IsDisciplinedFrom, IsDisciplined}
 use Rattle.chain_search.specs.Knowledge.{OwnPage, Other, Empty, Ready, Gone, Knowledge, knows}
 use Rattle.tree_law.specs.AllLinks.{insert_a, delete_a, item_a, put_a, upper_a, split_a, merge_a, unterm_a, lower_a, split_b, term_b, base_b, deletion_a, all_links}
-use Rattle.tree_law.specs.Example.{small, a, opening_leaf, root_a, hold_a, remove_a}
+use Rattle.op_machine.specs.Examples.{small, opening_leaf}
+use Rattle.tree_law.specs.Example.{a, root_a, hold_a, remove_a}
 use Rattle.tree_law.proofs.runs.LinkFits.{put_fits, split_fits, hold_fits, remove_fits, merge_fits, unterm_fits, second_fits, term_fits, deletion_fits, upper_fitted, root_fitted}
 use Rattle.tree_law.proofs.runs.Standing.{◌▸◌, quietly}
 use Rattle.tree_law.proofs.runs.Unset.{is_unset}

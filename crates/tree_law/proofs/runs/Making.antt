@@ -6,7 +6,7 @@ use Rattle.base_page.specs.Rules.{IsRuled}
 use Rattle.deltas.specs.declared.record.Record.{Record}
 use Rattle.deltas.specs.declared.record.Record.TheVariants.{Base}
 use Rattle.deltas.specs.Applies.{Applies}
-use Rattle.deltas.specs.Fits.{Fits}
+use Rattle.deltas.specs.Fits.{FitsOnPage}
 use Rattle.deltas.specs.Spellable.{IsSpellable}
 use Rattle.deltas.specs.Records.{names, next_row, content_said, level_after, low_after, high_after, right_after, removed_after}
 use Rattle.chain_search.specs.Fitted.{Makes, FitsOver}
@@ -27,5 +27,5 @@ over_makes {w} {under} {old} {made} makes applies = record {
 }
 
 -- so a delta that fits that page, and makes one that keeps the rules, fits the chain
-pub fits_over : {w : Record} {under : List Record} {old made : Page} → Makes under old → Fits old w → Applies old w made → IsRuled made → is_some (next_row w) ≡ true → IsSpellable w → FitsOver under w
+pub fits_over : {w : Record} {under : List Record} {old made : Page} → Makes under old → FitsOnPage old w → Applies old w made → IsRuled made → is_some (next_row w) ≡ true → IsSpellable w → FitsOver under w
 fits_over {w} {under} {old} {made} makes fits applies ruled delta spellable = record { delta = delta; spellable = spellable; page = old; makes = makes; fits = fits; made = made; makes_now = over_makes makes applies; ruled = ruled }

@@ -13,7 +13,8 @@ use Rattle.chain_search.specs.Disciplined.{IsDisciplinedFrom, IsDisciplined}
 use Rattle.chain_search.specs.HeldBack.{HoldsBack}
 use Rattle.chain_search.specs.Knowledge.{Knowledge, knows}
 use Rattle.tree_law.specs.CursorPages.{page_a, page_b, tidy_b, right_term, upkeep, last_page}
-use Rattle.tree_law.specs.Example.{small, a, opening_leaf, root_a, hold_a, remove_a}
+use Rattle.op_machine.specs.Examples.{small, opening_leaf}
+use Rattle.tree_law.specs.Example.{a, root_a, hold_a, remove_a}
 use Rattle.tree_law.specs.HelpedSplit.{other_put, helped_term, helped_split}
 use Rattle.tree_law.specs.Keys.{Key}
 use Rattle.tree_law.specs.Removal.{removal}

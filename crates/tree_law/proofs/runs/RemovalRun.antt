@@ -8,7 +8,8 @@ use Rattle.base_page.specs.Rules.{IsRuled}
 use Rattle.chain_search.specs.Discipline.{FitsOn, IsMet, MayAdd, MayReply}
 use Rattle.chain_search.specs.Disciplined.{IsDisciplinedFrom, IsDisciplined}
 use Rattle.chain_search.specs.Knowledge.{Knowledge, knows}
-use Rattle.tree_law.specs.Example.{small, a, get_a, opening_leaf, root_a, hold_a, remove_a}
+use Rattle.op_machine.specs.Examples.{small, opening_leaf}
+use Rattle.tree_law.specs.Example.{a, get_a, root_a, hold_a, remove_a}
 use Rattle.tree_law.specs.Removal.{get_b, removal}
 use Rattle.tree_law.specs.TwoSplits.{b, two_splits, upper_b, first_split, upper_c, second_split}
 use Rattle.tree_law.proofs.runs.HelpFits.{leaf_splits}

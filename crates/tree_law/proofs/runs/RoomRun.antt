@@ -19,7 +19,7 @@ use Rattle.chain_search.specs.Trace.{memory_of, command_of}
 use Rattle.chain_search.proofs.TraceLaws.{memory_of-push, command_of-push}
 use Rattle.op_machine.proofs.Listed.{all_below-at}
 use Rattle.tree_law.specs.AllLinks.{insert_a}
-use Rattle.tree_law.specs.Example.{small}
+use Rattle.op_machine.specs.Examples.{small}
 use Rattle.tree_law.specs.NoRoom.{takes, enters, gives_up, no_room}
 use Rattle.tree_law.proofs.shape.Puts.{put_other}
 use Rattle.tree_law.proofs.runs.Standing.{◌▸◌, quietly, joined}

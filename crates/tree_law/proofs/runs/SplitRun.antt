@@ -3,7 +3,8 @@ use Rattle.std.proofs.Common.{ℕ, List, [], ◌∷◌, take, drop, refl, inl, i
 use Rattle.chain_search.specs.Discipline.{IsMet, MayAdd, MayRoot}
 use Rattle.chain_search.specs.Disciplined.{IsDisciplinedFrom}
 use Rattle.chain_search.specs.Knowledge.{OwnPage, Other, Empty, Ready, Knowledge, knows}
-use Rattle.tree_law.specs.Example.{small, a, opening_leaf, root_a}
+use Rattle.op_machine.specs.Examples.{small, opening_leaf}
+use Rattle.tree_law.specs.Example.{a, root_a}
 use Rattle.tree_law.specs.TwoSplits.{b, upper_b, first_split, second_split, two_splits}
 use Rattle.tree_law.proofs.runs.HelpFits.{first_fits, second_fits, first_ruled, second_ruled}
 use Rattle.tree_law.proofs.runs.LinkFits.{root_fitted}

@@ -8,7 +8,7 @@ use Rattle.chain_search.specs.declared.trace.Entry.{Entry}
 use Rattle.chain_search.specs.Discipline.{IsAllowed, May, MayFree}
 use Rattle.chain_search.specs.Disciplined.{IsDisciplinedFrom}
 use Rattle.chain_search.specs.Knowledge.{Knowledge}
-use Rattle.tree_law.specs.Example.{small}
+use Rattle.op_machine.specs.Examples.{small}
 
 -- a step without a reply
 pub quietly : {actor : ℕ} {k : Knowledge} {step : StepOf Record} → May actor k step → MayFree small actor k step → IsAllowed small actor k step None

@@ -6,12 +6,12 @@ use Rattle.std.proofs.lemmas.Bool.{eqb-true}
 use Rattle.deltas.specs.Memory.{replaced_at}
 use Rattle.chain_search.specs.Discipline.{IsPassed, MayFree}
 use Rattle.chain_search.specs.Disciplined.{IsDisciplinedFrom, IsDisciplined}
-use Rattle.chain_search.specs.Knowledge.{Empty, Limbo, Stamped, Knowledge, knows}
-use Rattle.chain_search.specs.Steps.{is_among}
+use Rattle.chain_search.specs.Knowledge.{Empty, LimboMark, Stamped, Knowledge, knows}
+use Rattle.bw_model.specs.Words.{is_among}
 use Rattle.bw_model.specs.declared.step.Step.TheVariants.{ReusePids, ReuseRows}
 use Rattle.op_machine.proofs.Listed.{all_below-at, and_left, and_right}
 use Rattle.tree_law.specs.AllLinks.{all_links}
-use Rattle.tree_law.specs.Example.{small}
+use Rattle.op_machine.specs.Examples.{small}
 use Rattle.tree_law.specs.Sweep.{sweep}
 use Rattle.tree_law.proofs.runs.LinkRun.{became, all_links_disciplined}
 use Rattle.tree_law.proofs.runs.Standing.{◌▸◌, quietly, joined}
@@ -39,7 +39,7 @@ among bits i j k n each e =
     subst (λ m. (m ≡ i) ⊎ (m ≡ j) ⊎ (m ≡ k)) same (one_of (n % 64) i j k (implied (bit_at bits (n % 64) == 1) ((n % 64 == i) || ((n % 64 == j) || (n % 64 == k))) (each (n % 64) within) (and_right (n / 64 == 0) (bit_at bits (n % 64) == 1) e)))
 
 -- what is stamped, and passed by the only other actor, may be freed
-passed_at : (limbo : ℕ → Limbo) (n k : ℕ) (passed : ℕ → Bool) → n ≡ k → limbo k ≡ Stamped 1 passed → passed 1 ≡ true → IsPassed small 0 (limbo n)
+passed_at : (limbo : ℕ → LimboMark) (n k : ℕ) (passed : ℕ → Bool) → n ≡ k → limbo k ≡ Stamped 1 passed → passed 1 ≡ true → IsPassed small 0 (limbo n)
 passed_at limbo n k passed e is past = record { epoch = 1; passed = passed; stamped = ap limbo e ∙ is; all = λ other lt ne. let one : other ≡ 1 = omega arith in subst (λ j. passed j ≡ true) (sym one) past }
 
 -- what the actor knows before entry n of the sweep

@@ -8,7 +8,8 @@ use Rattle.bw_model.specs.Log.{Update}
 use Rattle.deltas.specs.declared.record.Record.{Record}
 use Rattle.deltas.specs.declared.record.Record.TheVariants.{Base, Put, Delete, Split, Term, Hold, Remove, Merge, Unterm}
 use Rattle.deltas.specs.Memory.{Memory}
-use Rattle.chain_search.specs.Steps.{is_among, IsAnswer}
+use Rattle.bw_model.specs.Words.{is_among}
+use Rattle.chain_search.specs.Steps.{IsAnswer}
 use Rattle.tree_law.specs.Indexed.{IsFirst}
 use Rattle.tree_law.specs.Keys.{Key}
 use Rattle.chain_search.specs.Knowledge.{Knowledge}

@@ -4,7 +4,7 @@ use Rattle.std.specs.Prelude.{MatchOption, IsTrue}
 use Rattle.std.specs.List.{Contains}
 use Rattle.std.proofs.lemmas.Option.{same_Some}
 use Rattle.bw_model.specs.Bytes.{is_under}
-use Rattle.bw_model.specs.Log.{Update, value_in}
+use Rattle.bw_model.specs.Log.{Update, logged_value}
 use Rattle.base_page.specs.declared.item.Content.{Content}
 use Rattle.deltas.specs.declared.record.Record.{Record}
 use Rattle.deltas.specs.Memory.{Memory}
@@ -91,15 +91,15 @@ module _ (memory : Memory) {log : List Update} {o : Owners} {knows : ℕ → Kno
   pub is_leaves : IsLeaves memory (map live leaves.side)
   is_leaves = side_from memory o 0 (leaf_map log) leaves.side (Some 1) (Some []) leaves.whole
 
-  spelled : (key value : Key) → Spells memory key value → value_in log key ≡ Some value
+  spelled : (key value : Key) → Spells memory key value → logged_value log key ≡ Some value
   spelled key value (pages, page, side, contains, inside, content) =
       let same : pages ≡ map live leaves.side = IsSideChainFrom-unique memory 1 pages (map live leaves.side) side is_leaves in
       let f = among memory o 0 (leaf_map log) leaves.side (Some 1) (Some []) leaves.whole page (subst (λ (ps : List LivePage). Contains ps page) same contains) in
       let chain : f.0.chain ≡ page.chain = ap (λ (q : LivePage). q.chain) f.1 in
       let is : content_in f.0.chain key ≡ leaf_map log key = f.2.is_page.same key (covers_from f.0.chain key (subst (λ (c : List Record). IsTrue (covers c key)) (sym chain) inside)) in
-      sym (value_of_map (value_in log key)) ∙ ap value_of (sym is ∙ ap (λ c. content_in c key) chain ∙ content)
+      sym (value_of_map (logged_value log key)) ∙ ap value_of (sym is ∙ ap (λ c. content_in c key) chain ∙ content)
 
-  spells : (key value : Key) → value_in log key ≡ Some value → Spells memory key value
+  spells : (key value : Key) → logged_value log key ≡ Some value → Spells memory key value
   spells key value e =
       let f = covering memory o 0 (leaf_map log) leaves.side (Some 1) (Some []) leaves.whole key (empty_lowest key) in
       (map live leaves.side, live f.0, is_leaves, f.1, covers_to f.0.chain key f.3, f.2.is_page.same key f.3 ∙ rw e refl)

@@ -10,7 +10,7 @@ use Rattle.tree_law.specs.Keys.{Key, IsBelow, IsUpTo, IsUnder, IsWithinEnd, Cove
 use Rattle.tree_law.specs.Phase.{Stage, Placed, rank, stage_removed}
 use Rattle.tree_law.specs.Shared.{Shared}
 use Rattle.tree_law.specs.Owners.{IsChain, Owners, IsClosed, IsOut}
-use Rattle.tree_law.specs.Tree.{SidePage, InPlace, IsPart, HasSidePage, spec, Level, Exact, IsOff, Off, Tree}
+use Rattle.tree_law.specs.Tree.{SidePage, InPlace, IsPart, HasSidePage, spec, Level, Exact, IsOff, Off, HasLevels}
 use Rattle.tree_law.proofs.shape.KeyOrder.{not_below, below_not, below_upto, upto_same, upto_refl, upto_both, upto_trans}
 use Rattle.tree_law.proofs.shape.Puts.{by_test}
 use Rattle.tree_law.proofs.shape.Chains.{chain_unique}
@@ -240,7 +240,7 @@ placed_level st st' l l' s s' e = cc
 
 -- the tree stays where its slots do
 pub tree_kept : (o o' : Owners) (m m' : Shared) (log : List Update) → IsClosed o m → Kept o o' m m' → ((p l : ℕ) (s : Key) (st : Stage) → o.page p ≡ Placed st l s → rank st ≤ 3 → Rest o o' m m' p l s st) → m'.root ≡ m.root → o'.index ≡ o.index
-    → ((p l : ℕ) (s : Key) (st : Stage) → o'.page p ≡ Placed st l s → rank st ≤ 3 → (st' : Stage) × (o.page p ≡ Placed st' l s) × (rank st' ≤ 3)) → (t : Tree o m log) → Exact o'.page o'.index t.top m'.root → ((q l : ℕ) (s : Key) → IsOff (o'.page q) l s → IsOut (o'.page q) (m'.slots q) ⊎ Off o' m' q l s) → Tree o' m' log
+    → ((p l : ℕ) (s : Key) (st : Stage) → o'.page p ≡ Placed st l s → rank st ≤ 3 → (st' : Stage) × (o.page p ≡ Placed st' l s) × (rank st' ≤ 3)) → (t : HasLevels o m log) → Exact o'.page o'.index t.top m'.root → ((q l : ℕ) (s : Key) → IsOff (o'.page q) l s → IsOut (o'.page q) (m'.slots q) ⊎ Off o' m' q l s) → HasLevels o' m' log
 tree_kept o o' m m' log closed kept rests root index old t exact off =
     record {
       top = t.top;
@@ -253,12 +253,12 @@ tree_kept o o' m m' log closed kept rests root index old t exact off =
     }
 
 -- pages in the place of one
-pub tree_relinked : (o o' : Owners) (m m' : Shared) (log log' : List Update) → IsClosed o m → Kept o o' m m' → (t : Tree o m log) → (p lv : ℕ) (s : Key) (st : Stage) → o.page p ≡ Placed st lv s → rank st ≤ 3 → (x : ℕ) → m.slots p ≡ Some x → (c : List Record) → IsChain m.rows c (Some x)
+pub tree_relinked : (o o' : Owners) (m m' : Shared) (log log' : List Update) → IsClosed o m → Kept o o' m m' → (t : HasLevels o m log) → (p lv : ℕ) (s : Key) (st : Stage) → o.page p ≡ Placed st lv s → rank st ≤ 3 → (x : ℕ) → m.slots p ≡ Some x → (c : List Record) → IsChain m.rows c (Some x)
     → ((q l : ℕ) (s : Key) (st : Stage) → q ≢ p → o.page q ≡ Placed st l s → rank st ≤ 3 → Rest o o' m m' q l s st) → m'.root ≡ m.root
     → ((l : ℕ) (k : Key) → (l ≡ lv → Covers c k → ⊥) → spec log' o'.index l k ≡ spec log o.index l k)
     → (news : List SidePage) → IsPart o' m' lv (spec log' o'.index lv) news (Some p) (Some (low_in c)) (right_in c) (high_in c) → HasSidePage p news
     → ((q l : ℕ) (s : Key) (st : Stage) → o'.page q ≡ Placed st l s → rank st ≤ 3 → ((st' : Stage) × (o.page q ≡ Placed st' l s) × (rank st' ≤ 3)) ⊎ ((l ≡ lv) × HasSidePage q news))
-    → Exact o'.page o'.index t.top m'.root → ((q l : ℕ) (s : Key) → IsOff (o'.page q) l s → IsOut (o'.page q) (m'.slots q) ⊎ Off o' m' q l s) → Tree o' m' log'
+    → Exact o'.page o'.index t.top m'.root → ((q l : ℕ) (s : Key) → IsOff (o'.page q) l s → IsOut (o'.page q) (m'.slots q) ⊎ Off o' m' q l s) → HasLevels o' m' log'
 tree_relinked o o' m m' log log' closed kept t p lv s st e on x i c h rests root outside news new has listed exact off =
     record {
       top = t.top;
@@ -414,12 +414,12 @@ level_merged o o' m m' lv mp mp' first closed kept t p sp q sq st st2 ep on eq l
         more z ne gs' f (inl e) = inl e
         more z ne gs' f (inr e) = inr (f z ne e)
 
-pub tree_merged : (o o' : Owners) (m m' : Shared) (log : List Update) → IsClosed o m → Kept o o' m m' → (t : Tree o m log) → (p lv : ℕ) (sp : Key) (q : ℕ) (sq : Key) (st st2 : Stage) → o.page p ≡ Placed st lv sp → rank st ≤ 3 → o.page q ≡ Placed st2 lv sq → IsBelow sp sq
+pub tree_merged : (o o' : Owners) (m m' : Shared) (log : List Update) → IsClosed o m → Kept o o' m m' → (t : HasLevels o m log) → (p lv : ℕ) (sp : Key) (q : ℕ) (sq : Key) (st st2 : Stage) → o.page p ≡ Placed st lv sp → rank st ≤ 3 → o.page q ≡ Placed st2 lv sq → IsBelow sp sq
     → ((r l : ℕ) (s : Key) (st : Stage) → r ≢ p → r ≢ q → o.page r ≡ Placed st l s → rank st ≤ 3 → Rest o o' m m' r l s st) → m'.root ≡ m.root → o'.index ≡ o.index
     → (new : SidePage) → new.page ≡ p → ((g k : SidePage) → InPlace o m lv (spec log o.index lv) g → g.page ≡ p → InPlace o m lv (spec log o.index lv) k → right_in g.chain ≡ Some k.page → (k.page ≡ q) × IsPart o' m' lv (spec log o'.index lv) (new ∷ []) (Some p) (Some sp) (right_in k.chain) (high_in k.chain))
     → ((g : SidePage) → InPlace o m lv (spec log o.index lv) g → g.page ≡ p → right_in g.chain ≡ Some q)
     → ((r l : ℕ) (s : Key) (st : Stage) → o'.page r ≡ Placed st l s → rank st ≤ 3 → (r ≢ q) × ((st' : Stage) × (o.page r ≡ Placed st' l s) × (rank st' ≤ 3)))
-    → Exact o'.page o'.index t.top m'.root → ((q l : ℕ) (s : Key) → IsOff (o'.page q) l s → IsOut (o'.page q) (m'.slots q) ⊎ Off o' m' q l s) → Tree o' m' log
+    → Exact o'.page o'.index t.top m'.root → ((q l : ℕ) (s : Key) → IsOff (o'.page q) l s → IsOut (o'.page q) (m'.slots q) ⊎ Off o' m' q l s) → HasLevels o' m' log
 tree_merged o o' m m' log closed kept t p lv sp q sq st st2 ep on eq lt rests root index new is pair right old exact off =
     record {
       top = t.top;

@@ -16,14 +16,14 @@ use Rattle.chain_search.specs.Steps.{IsAnswer}
 use Rattle.chain_search.specs.Trace.{memory_of}
 use Rattle.chain_search.proofs.TraceLaws.{Happens-below, Happens-kept, Happens-push_cases, Happens-last}
 use Rattle.op_machine.specs.Links.{Wins}
-use Rattle.op_machine.specs.Phases.{Phase, free, cleared, Moves, takes, splits, becomes_root, terms, under_root, holds, removes, merges, unterms, reuses, IsInPhase, KeepsPhases}
+use Rattle.op_machine.specs.Phases.{Phase, free, cleared, MovesPhase, takes, splits, becomes_root, terms, under_root, holds, removes, merges, unterms, reuses, IsInPhase, KeepsPhases}
 use Rattle.op_machine.proofs.PhaseLaws.{IsInPhase-moved, IsInPhase-rested, KeepsPhases-push}
 use Rattle.tree_law.specs.State.{phase_of}
 use Rattle.tree_law.specs.Phase.{PageOwner}
 use Rattle.tree_law.proofs.trace.Owned.{pushed_length}
 
 -- a begin moves nothing
-begin_still : {m : Memory} {a : ℕ} {c : Command} {pid : ℕ} {from to : Phase} → Moves m (Begin a c) pid from to → ⊥
+begin_still : {m : Memory} {a : ℕ} {c : Command} {pid : ℕ} {from to : Phase} → MovesPhase m (Begin a c) pid from to → ⊥
 begin_still (takes b step) = let e = step.1 in cc
 begin_still (splits slot split (b, old, new, won, stands) at) = let e = won.0.1 in cc
 begin_still (becomes_root (b, old, won)) = let e = won.0.1 in cc
@@ -36,7 +36,7 @@ begin_still (unterms slot unterm (b, old, new, won, stands) at) = let e = won.0.
 begin_still (reuses b word bits answer step among) = let e = step.1 in cc
 
 -- a move leaves its phase
-moves_on : {m : Memory} {entry : Entry} {pid : ℕ} {from to : Phase} → Moves m entry pid from to → from ≡ to → ⊥
+moves_on : {m : Memory} {entry : Entry} {pid : ℕ} {from to : Phase} → MovesPhase m entry pid from to → from ≡ to → ⊥
 moves_on (takes b step) e = cc
 moves_on (splits slot split installs at) e = cc
 moves_on (becomes_root makes) e = cc
@@ -49,7 +49,7 @@ moves_on (unterms slot unterm installs at) e = cc
 moves_on (reuses b word bits answer step among) e = cc
 
 -- what leaves the free ones is taken from them
-taken_from : {m : Memory} {a : ℕ} {s : StepOf Record} {x : Answer Record} {r : Option Reply} {pid : ℕ} {from to : Phase} → Moves m (Step a s x r) pid from to → from ≡ free → IsAnswer m s x → m.free_pids pid ≡ true
+taken_from : {m : Memory} {a : ℕ} {s : StepOf Record} {x : Answer Record} {r : Option Reply} {pid : ℕ} {from to : Phase} → MovesPhase m (Step a s x r) pid from to → from ≡ free → IsAnswer m s x → m.free_pids pid ≡ true
 taken_from {m} {a} {s} {x} {r} {pid} (takes b step) e is =
     let f = step.1 in
     let i : s ≡ TakePid pid = cc in
@@ -68,7 +68,7 @@ taken_from (reuses b word bits answer step among) e is = absurd (cc)
 
 -- a PID that is not free is one of the stated number
 pub pid_below_after : {m : Memory} {a : ℕ} {s : StepOf Record} {x : Answer Record} {r : Option Reply} (limits : Limits) (f f' : ℕ → PageOwner) → IsAnswer m s x
-    → ((pid : ℕ) → Moves m (Step a s x r) pid (phase_of (f pid)) (phase_of (f' pid)) ⊎ (phase_of (f' pid) ≡ phase_of (f pid)))
+    → ((pid : ℕ) → MovesPhase m (Step a s x r) pid (phase_of (f pid)) (phase_of (f' pid)) ⊎ (phase_of (f' pid) ≡ phase_of (f pid)))
     → ((pid : ℕ) → m.free_pids pid ≡ true → (0 < pid) × (pid < limits.pids)) → ((pid : ℕ) → (phase_of (f pid) ≡ free) ⊎ ((0 < pid) × (pid < limits.pids)))
     → (pid : ℕ) → (phase_of (f' pid) ≡ free) ⊎ ((0 < pid) × (pid < limits.pids))
 pid_below_after limits f f' is cases below old pid = elim (old pid) [
@@ -84,8 +84,8 @@ module _ (limits : Limits) (entries : List Entry) where
   begins_phases a c keeps = KeepsPhases-push limits entries (Begin a c) keeps (λ pid from to moves. absurd (begin_still moves)) (λ b pid old won. absurd (let e = won.0.1 in cc))
 
   module _ (last : Entry) (f f' : ℕ → PageOwner) (before : (pid : ℕ) → IsInPhase limits entries (length entries) pid (phase_of (f pid)))
-      (between : (pid : ℕ) (from to : Phase) → Moves (memory_of limits entries) last pid from to → (phase_of (f pid) ≡ from) × (phase_of (f' pid) ≡ to)) where
-    pub steps_in_phase : ((pid : ℕ) → Moves (memory_of limits entries) last pid (phase_of (f pid)) (phase_of (f' pid)) ⊎ (phase_of (f' pid) ≡ phase_of (f pid)))
+      (between : (pid : ℕ) (from to : Phase) → MovesPhase (memory_of limits entries) last pid from to → (phase_of (f pid) ≡ from) × (phase_of (f' pid) ≡ to)) where
+    pub steps_in_phase : ((pid : ℕ) → MovesPhase (memory_of limits entries) last pid (phase_of (f pid)) (phase_of (f' pid)) ⊎ (phase_of (f' pid) ≡ phase_of (f pid)))
         → (pid : ℕ) → IsInPhase limits (entries ++ last ∷ []) (length (entries ++ last ∷ [])) pid (phase_of (f' pid))
     steps_in_phase cases pid = rw pushed_length (elim (cases pid) [
       | inl moves ↦ IsInPhase-moved limits entries last pid (phase_of (f pid)) (phase_of (f' pid)) moves
@@ -94,23 +94,23 @@ module _ (limits : Limits) (entries : List Entry) where
     ])
 
     -- a phase in which a PID is is the one that its owner says
-    pub only_after : ((pid : ℕ) → Moves (memory_of limits entries) last pid (phase_of (f pid)) (phase_of (f' pid)) ⊎ (phase_of (f' pid) ≡ phase_of (f pid)))
+    pub only_after : ((pid : ℕ) → MovesPhase (memory_of limits entries) last pid (phase_of (f pid)) (phase_of (f' pid)) ⊎ (phase_of (f' pid) ≡ phase_of (f pid)))
         → ((pid : ℕ) (phase : Phase) → IsInPhase limits entries (length entries) pid phase → phase ≡ phase_of (f pid))
         → (pid : ℕ) (phase : Phase) → IsInPhase limits (entries ++ last ∷ []) (suc (length entries)) pid phase → phase ≡ phase_of (f' pid)
     only_after cases only pid phase (inl (n, from, lt, moves, rests)) = elim (Happens-push_cases moves) [
       | inr at ↦ sym (between pid from phase at.1).1
       | inl before ↦
           let below : n < length entries = Happens-below before in
-          rested pid phase (cases pid) (λ one two mv. rests (length entries) one two (omega arith) (omega arith) (Happens-last limits entries last (λ memory entry. Moves memory entry pid one two) mv))
+          rested pid phase (cases pid) (λ one two mv. rests (length entries) one two (omega arith) (omega arith) (Happens-last limits entries last (λ memory entry. MovesPhase memory entry pid one two) mv))
           (only pid phase (inl (n, from, below, before, λ k one two low high mv. rests k one two low (omega arith) (Happens-kept (last ∷ []) mv))))
     ]
       where
-        rested : (pid : ℕ) (phase : Phase) → Moves (memory_of limits entries) last pid (phase_of (f pid)) (phase_of (f' pid)) ⊎ (phase_of (f' pid) ≡ phase_of (f pid))
-            → ((one two : Phase) → Moves (memory_of limits entries) last pid one two → ⊥) → phase ≡ phase_of (f pid) → phase ≡ phase_of (f' pid)
+        rested : (pid : ℕ) (phase : Phase) → MovesPhase (memory_of limits entries) last pid (phase_of (f pid)) (phase_of (f' pid)) ⊎ (phase_of (f' pid) ≡ phase_of (f pid))
+            → ((one two : Phase) → MovesPhase (memory_of limits entries) last pid one two → ⊥) → phase ≡ phase_of (f pid) → phase ≡ phase_of (f' pid)
         rested pid phase (inl mv) never e = absurd (never (phase_of (f pid)) (phase_of (f' pid)) mv)
         rested pid phase (inr same) never e = e ∙ sym same
     only_after cases only pid phase (inr (rests, is)) = elim (cases pid) [
-      | inl mv ↦ absurd (rests (length entries) (phase_of (f pid)) (phase_of (f' pid)) (omega arith) (omega arith) (Happens-last limits entries last (λ memory entry. Moves memory entry pid (phase_of (f pid)) (phase_of (f' pid))) mv))
+      | inl mv ↦ absurd (rests (length entries) (phase_of (f pid)) (phase_of (f' pid)) (omega arith) (omega arith) (Happens-last limits entries last (λ memory entry. MovesPhase memory entry pid (phase_of (f pid)) (phase_of (f' pid))) mv))
       | inr same ↦ only pid phase (inr ((λ k one two low high mv. rests k one two low (omega arith) (Happens-kept (last ∷ []) mv)), is)) ∙ sym same
     ]
 

@@ -19,7 +19,7 @@ use Rattle.op_machine.specs.Operations.{Operation, IsOperation, IsOwnStep, Finis
 use Rattle.op_machine.specs.Points.{IsPoint, log_of, log_at}
 use Rattle.op_machine.specs.Quiet.{IsQuiet, HasMapOf}
 use Rattle.op_machine.proofs.LogLaws.{log_at-push}
-use Rattle.tree_law.specs.State.{IsUnended, operation_of, Tells, Justifies, Finds, IsAnsweredBy, IsMarked}
+use Rattle.tree_law.specs.State.{IsUnended, operation_of, Tells, Justifies, HasFound, IsAnsweredBy, IsMarked}
 use Rattle.tree_law.proofs.trace.Searches.{held_back_kept, nothing_free_kept}
 use Rattle.tree_law.proofs.trace.Owned.{pushed_length, point_below, point_last, own_step_kept, own_cases, step_cases, step_below, own_new, unended_kept, operation_old}
 
@@ -46,7 +46,7 @@ module _ (entries : List Entry) (points : List Bool) (last : Entry) (mark : Bool
   justifies_kept limits op reply h = (h.0, own_step_kept entries last op h.0 h.1, slice_get_kept points (mark ∷ []) h.0 true h.2, rw (memory_same limits op h.0 h.1, log_same op h.0 h.1) h.3)
 
   -- what an operation has found without a point it has found for good
-  finds_kept : (limits : Limits) (op : Operation) (reply : Reply) → Finds limits entries op reply → Finds limits entries' op reply
+  finds_kept : (limits : Limits) (op : Operation) (reply : Reply) → HasFound limits entries op reply → HasFound limits entries' op reply
   finds_kept limits op reply (inl h) = inl (
     h.0,
     record {

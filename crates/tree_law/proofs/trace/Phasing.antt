@@ -24,10 +24,11 @@ use Rattle.deltas.specs.Memory.{Memory}
 use Rattle.chain_search.specs.declared.trace.Entry.{Entry}
 use Rattle.chain_search.specs.declared.trace.Entry.TheVariants.{Step}
 use Rattle.chain_search.specs.Chains.{IsChainFrom, IsChainOf, right_in, content_in, low_in}
-use Rattle.chain_search.specs.Steps.{is_among, IsAnswer}
+use Rattle.bw_model.specs.Words.{is_among}
+use Rattle.chain_search.specs.Steps.{IsAnswer}
 use Rattle.chain_search.proofs.ChainLaws.{IsChainFrom-unique}
 use Rattle.op_machine.specs.Links.{link_without, link_of, Wins, Installs}
-use Rattle.op_machine.specs.Phases.{Phase, free, owned, fresh, indexed, held, removed, merged, cleared, MakesRoot, Moves, takes, splits, becomes_root, terms, under_root, holds, removes, merges, unterms, reuses}
+use Rattle.op_machine.specs.Phases.{Phase, free, owned, fresh, indexed, held, removed, merged, cleared, MakesRoot, MovesPhase, takes, splits, becomes_root, terms, under_root, holds, removes, merges, unterms, reuses}
 use Rattle.chain_search.specs.Discipline.{root_over, May}
 use Rattle.tree_law.specs.Keys.{IsBelow}
 use Rattle.chain_search.specs.Knowledge.{Knowledge}
@@ -149,7 +150,7 @@ module _ (m : Memory) {log : List Update} {o : Owners} {knows : ℕ → Knowledg
       (ap phase_of (g.frees.page pid was).0, put_phase o.page f' pid (Keeps a) h)
 
   -- each move goes from the phase that the owner says
-  pub moves_between : (pid : ℕ) (from to : Phase) → Moves m last pid from to → (phase_of (o.page pid) ≡ from) × (phase_of (f' pid) ≡ to)
+  pub moves_between : (pid : ℕ) (from to : Phase) → MovesPhase m last pid from to → (phase_of (o.page pid) ≡ from) × (phase_of (f' pid) ≡ to)
   moves_between pid from to (takes b step) = let e = step.1 in taken pid (cc) (cc)
   moves_between pid from to (splits slot split installs at) =
       let h = (installed slot (Split split) installs).2 in
@@ -221,16 +222,16 @@ module _ (m : Memory) {log : List Update} {o : Owners} {knows : ℕ → Knowledg
   installs_now p old new w i j stands = (a, suc old, suc new, ((r, λ d. Step a (i d) (j d) r), link_front m p old new ∙ ap (option_map record_link) stands), stands)
 
   -- a page whose phase is changed at one place
-  moved_at : (q pid : ℕ) (from to : PageOwner) → o.page q ≡ from → f' ≡ put o.page q to → Moves m last q (phase_of from) (phase_of to) → Moves m last pid (phase_of (o.page pid)) (phase_of (f' pid)) ⊎ (phase_of (f' pid) ≡ phase_of (o.page pid))
-  moved_at q pid from to was now moves = by_test pid q (λ t. Moves m last pid (phase_of (o.page pid)) (phase_of (f' pid)) ⊎ (phase_of (f' pid) ≡ phase_of (o.page pid)))
-      (λ i. inl (subst (λ n. Moves m last n (phase_of (o.page n)) (phase_of (f' n))) (sym i)
-      (subst (λ k. Moves m last q k (phase_of (f' q))) (sym (ap phase_of was)) (subst (λ k. Moves m last q (phase_of from) k) (sym (put_phase o.page f' q to now)) moves))))
+  moved_at : (q pid : ℕ) (from to : PageOwner) → o.page q ≡ from → f' ≡ put o.page q to → MovesPhase m last q (phase_of from) (phase_of to) → MovesPhase m last pid (phase_of (o.page pid)) (phase_of (f' pid)) ⊎ (phase_of (f' pid) ≡ phase_of (o.page pid))
+  moved_at q pid from to was now moves = by_test pid q (λ t. MovesPhase m last pid (phase_of (o.page pid)) (phase_of (f' pid)) ⊎ (phase_of (f' pid) ≡ phase_of (o.page pid)))
+      (λ i. inl (subst (λ n. MovesPhase m last n (phase_of (o.page n)) (phase_of (f' n))) (sym i)
+      (subst (λ k. MovesPhase m last q k (phase_of (f' q))) (sym (ap phase_of was)) (subst (λ k. MovesPhase m last q (phase_of from) k) (sym (put_phase o.page f' q to now)) moves))))
       (λ ne. inr (ap (λ (k : ℕ → PageOwner). phase_of (k pid)) now ∙ ap phase_of (put_other o.page q to pid ne)))
 
-  same_phase : (pid : ℕ) → f' ≡ o.page → Moves m last pid (phase_of (o.page pid)) (phase_of (f' pid)) ⊎ (phase_of (f' pid) ≡ phase_of (o.page pid))
+  same_phase : (pid : ℕ) → f' ≡ o.page → MovesPhase m last pid (phase_of (o.page pid)) (phase_of (f' pid)) ⊎ (phase_of (f' pid) ≡ phase_of (o.page pid))
   same_phase pid e = inr (ap (λ (k : ℕ → PageOwner). phase_of (k pid)) e)
 
-  by_link : (p old new : ℕ) (w : Record) → s ≡ Exchange (suc p) (suc old) (suc new) → x ≡ Whether true → m.rows (suc new) ≡ Some w → LinkMoves (shared m) a w (suc p) o.page f' → (pid : ℕ) → Moves m last pid (phase_of (o.page pid)) (phase_of (f' pid)) ⊎ (phase_of (f' pid) ≡ phase_of (o.page pid))
+  by_link : (p old new : ℕ) (w : Record) → s ≡ Exchange (suc p) (suc old) (suc new) → x ≡ Whether true → m.rows (suc new) ≡ Some w → LinkMoves (shared m) a w (suc p) o.page f' → (pid : ℕ) → MovesPhase m last pid (phase_of (o.page pid)) (phase_of (f' pid)) ⊎ (phase_of (f' pid) ≡ phase_of (o.page pid))
   by_link p old new (Base page) i j stands h pid = same_phase pid h
   by_link p old new (Put put') i j stands h pid = same_phase pid h
   by_link p old new (Delete delete) i j stands h pid = same_phase pid h
@@ -244,14 +245,14 @@ module _ (m : Memory) {log : List Update} {o : Owners} {knows : ℕ → Knowledg
       moved_at h.0 pid (Placed Removed h.1 merge.low) (Placed Merged h.1 merge.low) h.2 h.3 (merges (suc p) merge side.1 (installs_now p old new (Merge merge) i j stands) (record { page = at.0; linked = subst (λ n. 0 < n) (sym at.1) at.2; records = subst (λ n. IsChainFrom m.rows n side.1) (sym at.1) side.3 }) side.4)
   by_link p old new (Unterm unterm) i j stands h pid = moved_at unterm.child pid (Placed Merged h.0 unterm.separator) (Cleared a h.0 unterm.separator) h.1 h.2 (unterms (suc p) unterm (installs_now p old new (Unterm unterm) i j stands) refl)
 
-  by_root : (old y : ℕ) → s ≡ Exchange 0 old y → x ≡ Whether true → Phased a (shared m) (Exchange 0 old y) (Whether true) o.page f' → (pid : ℕ) → Moves m last pid (phase_of (o.page pid)) (phase_of (f' pid)) ⊎ (phase_of (f' pid) ≡ phase_of (o.page pid))
-  by_root old y i j h pid = by_test pid y (λ t. Moves m last pid (phase_of (o.page pid)) (phase_of (f' pid)) ⊎ (phase_of (f' pid) ≡ phase_of (o.page pid)))
-      (λ e. inl (subst (λ n. Moves m last n (phase_of (o.page n)) (phase_of (f' n))) (sym e)
-      (subst (λ k. Moves m last y k (phase_of (f' y))) (sym (ap phase_of h.5)) (subst (λ k. Moves m last y owned k) (sym (put_phase (put o.page h.0 (Placed Indexed h.1 h.2)) f' y (Placed Indexed (suc h.1) []) h.6)) (becomes_root makes)))))
-      (λ ne. by_test pid h.0 (λ t. Moves m last pid (phase_of (o.page pid)) (phase_of (f' pid)) ⊎ (phase_of (f' pid) ≡ phase_of (o.page pid)))
-      (λ e. inl (subst (λ n. Moves m last pid (phase_of n) (phase_of (f' pid))) (sym (ap o.page e ∙ h.4))
-      (subst (λ k. Moves m last pid fresh k) (sym (rest ne ∙ ap (λ n. phase_of (put o.page h.0 (Placed Indexed h.1 h.2) n)) e ∙ ap phase_of (put_same o.page h.0 (Placed Indexed h.1 h.2))))
-      (subst (λ n. Moves m last n fresh indexed) (sym e) under))))
+  by_root : (old y : ℕ) → s ≡ Exchange 0 old y → x ≡ Whether true → Phased a (shared m) (Exchange 0 old y) (Whether true) o.page f' → (pid : ℕ) → MovesPhase m last pid (phase_of (o.page pid)) (phase_of (f' pid)) ⊎ (phase_of (f' pid) ≡ phase_of (o.page pid))
+  by_root old y i j h pid = by_test pid y (λ t. MovesPhase m last pid (phase_of (o.page pid)) (phase_of (f' pid)) ⊎ (phase_of (f' pid) ≡ phase_of (o.page pid)))
+      (λ e. inl (subst (λ n. MovesPhase m last n (phase_of (o.page n)) (phase_of (f' n))) (sym e)
+      (subst (λ k. MovesPhase m last y k (phase_of (f' y))) (sym (ap phase_of h.5)) (subst (λ k. MovesPhase m last y owned k) (sym (put_phase (put o.page h.0 (Placed Indexed h.1 h.2)) f' y (Placed Indexed (suc h.1) []) h.6)) (becomes_root makes)))))
+      (λ ne. by_test pid h.0 (λ t. MovesPhase m last pid (phase_of (o.page pid)) (phase_of (f' pid)) ⊎ (phase_of (f' pid) ≡ phase_of (o.page pid)))
+      (λ e. inl (subst (λ n. MovesPhase m last pid (phase_of n) (phase_of (f' pid))) (sym (ap o.page e ∙ h.4))
+      (subst (λ k. MovesPhase m last pid fresh k) (sym (rest ne ∙ ap (λ n. phase_of (put o.page h.0 (Placed Indexed h.1 h.2) n)) e ∙ ap phase_of (put_same o.page h.0 (Placed Indexed h.1 h.2))))
+      (subst (λ n. MovesPhase m last n fresh indexed) (sym e) under))))
       (λ other. inr (rest ne ∙ ap phase_of (put_other o.page h.0 (Placed Indexed h.1 h.2) pid other))))
     where
       makes : MakesRoot m last y
@@ -260,7 +261,7 @@ module _ (m : Memory) {log : List Update} {o : Owners} {knows : ℕ → Knowledg
       rest : pid ≢ y → phase_of (f' pid) ≡ phase_of (put o.page h.0 (Placed Indexed h.1 h.2) pid)
       rest ne = ap (λ (k : ℕ → PageOwner). phase_of (k pid)) h.6 ∙ ap phase_of (put_other (put o.page h.0 (Placed Indexed h.1 h.2)) y (Placed Indexed (suc h.1) []) pid ne)
 
-      under : Moves m last h.0 fresh indexed
+      under : MovesPhase m last h.0 fresh indexed
       under =
           let base = h.7 in
           let at = slot_some m.slots y base.0 base.2 in
@@ -268,10 +269,10 @@ module _ (m : Memory) {log : List Update} {o : Owners} {knows : ℕ → Knowledg
           under_root y (root_over base.1 old h.2 h.0 ∷ []) h.2 false makes own h.8 (at_second h.2 old h.0 h.8)
 
   -- each PID is moved from phase to phase, or stays in its own
-  pub moves_or_rests : (pid : ℕ) → Moves m last pid (phase_of (o.page pid)) (phase_of (f' pid)) ⊎ (phase_of (f' pid) ≡ phase_of (o.page pid))
+  pub moves_or_rests : (pid : ℕ) → MovesPhase m last pid (phase_of (o.page pid)) (phase_of (f' pid)) ⊎ (phase_of (f' pid) ≡ phase_of (o.page pid))
   moves_or_rests pid = go s x refl refl may is ph
     where
-      go : (t : StepOf Record) (y : Answer Record) → s ≡ t → x ≡ y → May a (knows a) t → IsAnswer m t y → Phased a (shared m) t y o.page f' → Moves m last pid (phase_of (o.page pid)) (phase_of (f' pid)) ⊎ (phase_of (f' pid) ≡ phase_of (o.page pid))
+      go : (t : StepOf Record) (y : Answer Record) → s ≡ t → x ≡ y → May a (knows a) t → IsAnswer m t y → Phased a (shared m) t y o.page f' → MovesPhase m last pid (phase_of (o.page pid)) (phase_of (f' pid)) ⊎ (phase_of (f' pid) ≡ phase_of (o.page pid))
       go (TakePid q) (Whether true) i j h e ph' =
           let was : m.free_pids q ≡ true = cc in
           moved_at q pid Nobody (Keeps a) (g.frees.page q was).0 ph' (takes a (r, λ d. Step a (i d) (j d) r))
@@ -292,7 +293,7 @@ module _ (m : Memory) {log : List Update} {o : Owners} {knows : ℕ → Knowledg
       go (TakePid q) Start i j h e ph' = absurd (let f = e in cc)
       go (ReusePids word bits) y i j h e ph' = by_word (is_among word bits pid) refl
         where
-          by_word : (z : Bool) → is_among word bits pid ≡ z → Moves m last pid (phase_of (o.page pid)) (phase_of (f' pid)) ⊎ (phase_of (f' pid) ≡ phase_of (o.page pid))
-          by_word true k = let v = (ph' pid).0 k in inl (subst (λ z. Moves m last pid z (phase_of (f' pid))) (sym (ap phase_of v.3)) (subst (λ z. Moves m last pid cleared z) (sym (ap phase_of v.4)) (reuses a word bits y (r, λ d. Step a (i d) (j d) r) k)))
+          by_word : (z : Bool) → is_among word bits pid ≡ z → MovesPhase m last pid (phase_of (o.page pid)) (phase_of (f' pid)) ⊎ (phase_of (f' pid) ≡ phase_of (o.page pid))
+          by_word true k = let v = (ph' pid).0 k in inl (subst (λ z. MovesPhase m last pid z (phase_of (f' pid))) (sym (ap phase_of v.3)) (subst (λ z. MovesPhase m last pid cleared z) (sym (ap phase_of v.4)) (reuses a word bits y (r, λ d. Step a (i d) (j d) r) k)))
           by_word false k = inr (ap phase_of ((ph' pid).1 k))
       go t y i j h e ph' = same_phase pid ph'

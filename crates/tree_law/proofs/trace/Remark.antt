@@ -5,7 +5,7 @@ use Rattle.std.proofs.lemmas.Bool.{cases_lt}
 use Rattle.bw_model.specs.declared.command.Command.{Command}
 use Rattle.bw_model.specs.declared.command.Reply.{Reply}
 use Rattle.bw_model.specs.declared.limits.Limits.{Limits}
-use Rattle.bw_model.specs.Log.{Update, value_in}
+use Rattle.bw_model.specs.Log.{Update, logged_value}
 use Rattle.bw_model.specs.Replies.{command_key, update_of}
 use Rattle.chain_search.specs.declared.trace.Entry.{Entry}
 use Rattle.chain_search.specs.declared.trace.Entry.TheVariants.{Begin, Step}
@@ -80,7 +80,7 @@ own_same entries p q m is is' own own' =
     same_operation p q starts actors (let e : slice_get entries p.start ≡ Some (Begin q.actor q.command) = rw starts is' in cc (is, e))
 
 module _ (limits : Limits) (entries : List Entry) (points : List Bool) (a : ℕ) (asked : Command) (logs : List (List Update)) (marked : IsMarked limits entries points) (t : Tells entries points a asked None logs)
-    (place : ℕ) (mine : IsOwnStep entries (operation_of t.start a asked) place) (asks : command_of (take place entries) a ≡ Some asked) (none : update_of a asked (value_in (log_at entries points place) (command_key asked)) ≡ None) where
+    (place : ℕ) (mine : IsOwnStep entries (operation_of t.start a asked) place) (asks : command_of (take place entries) a ≡ Some asked) (none : update_of a asked (logged_value (log_at entries points place) (command_key asked)) ≡ None) where
   abbrev pub remarked : List Bool
   remarked = set points place true
 

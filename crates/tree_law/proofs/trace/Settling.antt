@@ -5,7 +5,7 @@ use Rattle.std.proofs.lemmas.Option.{same_Some}
 use Rattle.bw_model.specs.declared.command.Command.{Command}
 use Rattle.bw_model.specs.declared.command.Reply.{Reply}
 use Rattle.bw_model.specs.declared.limits.Limits.{Limits}
-use Rattle.bw_model.specs.Log.{Update, value_in}
+use Rattle.bw_model.specs.Log.{Update, logged_value}
 use Rattle.bw_model.specs.Replies.{command_key, reply_of, update_of}
 use Rattle.deltas.specs.declared.record.Record.{Record}
 use Rattle.chain_search.specs.declared.trace.Entry.{Entry}
@@ -22,7 +22,7 @@ use Rattle.chain_search.specs.Knowledge.{knows}
 use Rattle.tree_law.specs.Owners.{LinkFits}
 use Rattle.tree_law.specs.Replies.{IsRepliedAt}
 use Rattle.tree_law.specs.Shared.{shared}
-use Rattle.tree_law.specs.State.{operation_of, Tells, Finds, IsAnsweredBy, IsMarked, IsState}
+use Rattle.tree_law.specs.State.{operation_of, Tells, HasFound, IsAnsweredBy, IsMarked, IsState}
 use Rattle.tree_law.specs.Stood.{WasLeafWith, WereRead, HaveStood}
 use Rattle.tree_law.proofs.answering.Answering.{answers}
 use Rattle.tree_law.proofs.shape.Frames.{chain_stands}
@@ -75,7 +75,7 @@ module _ (limits : Limits) (entries : List Entry) (a : ℕ) (asked : Command) (s
 
   -- where a mark is set late, at an own step at which the command makes no update and has this reply
   marked_late : (reply : Reply) → state.point a ≡ None → (m : ℕ) (own : IsOwnStep entries mine m) → command_of (take m entries) a ≡ Some asked
-      → update_of a asked (value_in (log_at entries state.points m) (command_key asked)) ≡ None → RepliesAt (memory_at limits entries m) (log_at entries state.points m) asked reply → Settled limits entries (log_of entries state.points) state.point state.logs a asked (Some reply)
+      → update_of a asked (logged_value (log_at entries state.points m) (command_key asked)) ≡ None → RepliesAt (memory_at limits entries m) (log_at entries state.points m) asked reply → Settled limits entries (log_of entries state.points) state.point state.logs a asked (Some reply)
   marked_late reply none m own asked_then changeless replies = record {
     points = remarked limits entries state.points a asked (state.logs a) state.marked t m own asked_then changeless;
     log_is = log_of_same limits entries state.points a asked (state.logs a) state.marked t m own asked_then changeless;
@@ -96,12 +96,12 @@ module _ (limits : Limits) (entries : List Entry) (a : ℕ) (asked : Command) (s
   by_value reply may = elim at.own [
     | inl linked ↦
         let p = point_told (Some at.at) linked in
-        as_they_are (Some reply) (λ y e. inl (p.0, p.1, p.2, inl (subst (λ l. reply_of asked (value_in l (command_key asked)) ≡ Some y) (sym p.3) (at.same ∙ e))))
+        as_they_are (Some reply) (λ y e. inl (p.0, p.1, p.2, inl (subst (λ l. reply_of asked (logged_value l (command_key asked)) ≡ Some y) (sym p.3) (at.same ∙ e))))
     | inr u ↦
         let h = begun.logs_at at.at u.2 in
         marked_late reply u.0 h.0 h.1 h.3
-        (subst (λ l. update_of a asked (value_in l (command_key asked)) ≡ None) (sym h.2) u.1)
-        (inl (subst (λ l. reply_of asked (value_in l (command_key asked)) ≡ Some reply) (sym h.2) at.same))
+        (subst (λ l. update_of a asked (logged_value l (command_key asked)) ≡ None) (sym h.2) u.1)
+        (inl (subst (λ l. reply_of asked (logged_value l (command_key asked)) ≡ Some reply) (sym h.2) at.same))
   ]
     where
       at : IsRepliedAt a asked reply (state.point a) (state.logs a)
@@ -112,7 +112,7 @@ module _ (limits : Limits) (entries : List Entry) (a : ℕ) (asked : Command) (s
 
   -- a cursor page has its point where its leaf stood
   by_page : (reply : Reply) → MayShowPage (knows entries a) asked reply → Settled limits entries (log_of entries state.points) state.point state.logs a asked (Some reply)
-  by_page reply may = marked_late reply (no_point may.unlinked) was.1.step was.1.own was.1.asked (ap (λ c. update_of a c (value_in (log_at entries state.points was.1.step) (command_key c))) may.asks)
+  by_page reply may = marked_late reply (no_point may.unlinked) was.1.step was.1.own was.1.asked (ap (λ c. update_of a c (logged_value (log_at entries state.points was.1.step) (command_key c))) may.asks)
       (inr (record {
         from = may.from;
         asks = may.asks;
@@ -129,8 +129,8 @@ module _ (limits : Limits) (entries : List Entry) (a : ℕ) (asked : Command) (s
       below = slice_get_below entries was.1.step _ was.1.own.2.1.entry
 
   -- what an operation without a point may reply
-  pointlessly : (reply : Reply) → (knows entries a).asked.linked ≡ None → Finds limits entries mine reply → Settled limits entries (log_of entries state.points) state.point state.logs a asked (Some reply)
-  pointlessly reply unlinked finds = as_they_are (Some reply) (λ y e. let same : reply ≡ y = cc in inr (record { unmarked = point_told None (no_point unlinked); finds = subst (Finds limits entries mine) same finds }))
+  pointlessly : (reply : Reply) → (knows entries a).asked.linked ≡ None → HasFound limits entries mine reply → Settled limits entries (log_of entries state.points) state.point state.logs a asked (Some reply)
+  pointlessly reply unlinked finds = as_they_are (Some reply) (λ y e. let same : reply ≡ y = cc in inr (record { unmarked = point_told None (no_point unlinked); finds = subst (HasFound limits entries mine) same finds }))
 
   by_tidying : (reply : Reply) → MayCallTidy (knows entries a) asked reply → Settled limits entries (log_of entries state.points) state.point state.logs a asked (Some reply)
   by_tidying reply may = pointlessly reply may.unlinked (inl (

@@ -26,7 +26,7 @@ use Rattle.chain_search.proofs.RunLaws.{IsRun-push}
 use Rattle.op_machine.specs.Answered.{IsTrueReply, RepliesAt}
 use Rattle.op_machine.specs.Updates.{LinksUpdate}
 use Rattle.op_machine.specs.Operations.{Operation, IsOperation, IsOwnStep, Finishes}
-use Rattle.op_machine.specs.Phases.{Phase, Moves, IsInPhase}
+use Rattle.op_machine.specs.Phases.{Phase, MovesPhase, IsInPhase}
 use Rattle.op_machine.specs.Points.{IsPoint, log_of, log_at, updates_by, has_point}
 use Rattle.op_machine.proofs.Listed.{same_operation}
 use Rattle.op_machine.proofs.LogLaws.{log_of-push}
@@ -35,7 +35,7 @@ use Rattle.chain_search.specs.Knowledge.{Knowledge, learn, finished, knows}
 use Rattle.tree_law.specs.Next.{IsReuse, IsDue, grown, pointed as pointed', After}
 use Rattle.tree_law.specs.Put.{put}
 use Rattle.tree_law.specs.Shared.{slot_in, shared}
-use Rattle.tree_law.specs.State.{phase_of, IsInTree, IsReadyPage, IsUnended, operation_of, Tells, IsSearch, Finds, IsAnsweredBy, IsState}
+use Rattle.tree_law.specs.State.{phase_of, IsInTree, IsReadyPage, IsUnended, operation_of, Tells, IsSearch, HasFound, IsAnsweredBy, IsState}
 use Rattle.tree_law.specs.Stood.{HaveStood}
 use Rattle.tree_law.specs.TraceLaws.{StatesAreIndexed, StatesAreLinearized, StatesFreeByRule, StatesKeepPhases, Steps}
 use Rattle.tree_law.specs.Times.{Times, Timed, times_after}
@@ -212,10 +212,10 @@ module _ (limits : Limits) (entries : List Entry) (a : ℕ) (step : StepOf Recor
       (λ start c begun unended asks no_reply. stood_own limits entries last (memory_of limits entries) state.good a start c step answer r (ap (memory_of limits) (take_whole entries (length entries) refl)) begun unended asks refl allowed.may is n.same (state.stood (operation_of start a c) begun unended asks))
       (λ op ne begun unended asks. stood_kept limits entries last state.good (memory_after a step (memory_of limits entries)).rows n.same op op.actor (state.stood op begun unended asks)) op)
 
-  between : (pid : ℕ) (from to : Phase) → Moves (memory_of limits entries) last pid from to → (phase_of (state.owners.page pid) ≡ from) × (phase_of (n.owners.page pid) ≡ to)
+  between : (pid : ℕ) (from to : Phase) → MovesPhase (memory_of limits entries) last pid from to → (phase_of (state.owners.page pid) ≡ from) × (phase_of (n.owners.page pid) ≡ to)
   between = moves_between (memory_of limits entries) state.good state.named.held a step answer r allowed.may is n.owners.page n.phased
 
-  lives : (pid : ℕ) → Moves (memory_of limits entries) last pid (phase_of (state.owners.page pid)) (phase_of (n.owners.page pid)) ⊎ (phase_of (n.owners.page pid) ≡ phase_of (state.owners.page pid))
+  lives : (pid : ℕ) → MovesPhase (memory_of limits entries) last pid (phase_of (state.owners.page pid)) (phase_of (n.owners.page pid)) ⊎ (phase_of (n.owners.page pid) ≡ phase_of (state.owners.page pid))
   lives = moves_or_rests (memory_of limits entries) state.good state.named.held a step answer r allowed.may is n.owners.page n.phased
 
   in_phase_after : (pid : ℕ) → IsInPhase limits (entries ++ last ∷ []) (length (entries ++ last ∷ [])) pid (phase_of (n.owners.page pid))
@@ -381,7 +381,7 @@ never_tidied memory log c (inl e) = no_tidied c _ e
 never_tidied memory log c (inr shown) = let e = shown.is in cc
 
 -- an operation without a point has replied one of the two
-without_point : (limits : Limits) (entries : List Entry) (op : Operation) (answer : Reply) → Finds limits entries op answer → has_point answer ≡ false
+without_point : (limits : Limits) (entries : List Entry) (op : Operation) (answer : Reply) → HasFound limits entries op answer → has_point answer ≡ false
 without_point limits entries op answer (inl h) = ap has_point h.0
 without_point limits entries op answer (inr h) = ap has_point h.0
 

@@ -1,11 +1,11 @@
 use Rattle.std.proofs.Common.{◌≡◌, ℕ, List, take, None, if◌then◌else◌, option_copied}
 use Rattle.std.specs.BTreeMap.{IsOrdered, get}
 use Rattle.bw_model.specs.Bytes.{key_cmp, is_in_range}
-use Rattle.bw_model.specs.Log.{value_in}
+use Rattle.bw_model.specs.Log.{logged_value}
 use Rattle.op_machine.proofs.listing.logged_pairs.Given as goal
 
 abbrev pub invariant-loop-update : goal.invariant-loop-update
 invariant-loop-update l = record {
   ordered : IsOrdered key_cmp l.values;
-  says : (key : List ℕ) → get key_cmp l.values key ≡ (if is_in_range l.low (option_copied l.high) key then value_in (take l.update-index l.log) key else None);
+  says : (key : List ℕ) → get key_cmp l.values key ≡ (if is_in_range l.low (option_copied l.high) key then logged_value (take l.update-index l.log) key else None);
 }

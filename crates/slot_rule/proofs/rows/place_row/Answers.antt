@@ -2,7 +2,7 @@ use Rattle.std.proofs.Common.{◌≡◌, ℕ, ◌+◌, List, [], ◌∷◌, ◌+
 use Rattle.std.proofs.lemmas.List.{length-take-le}
 use Rattle.std.proofs.Math.Seq.{take-suc}
 use Rattle.slot_rule.specs.Steps.{into_row, tail_from}
-use Rattle.slot_rule.specs.Views.{seen_of, IsAt}
+use Rattle.slot_rule.specs.Views.{seen_of, SitsAt}
 use Rattle.slot_rule.proofs.Filled.{fills_at, next_in_tail, tail_length}
 use Rattle.slot_rule.proofs.rows.place_row.Goals as goal
 
@@ -33,5 +33,5 @@ loop-i-preserved g c =
       within = omega arith;
       table = c.store.ensures.0 ∙ v.table;
       seen = told.1 ∙ v.seen;
-      at = subst (λ (words : List ℕ). IsAt c.args.limits.now c.args.actor (into_row c.args.row words) c.store.new.seat.me) (sym more) told.0;
+      at = subst (λ (words : List ℕ). SitsAt c.args.limits.now c.args.actor (into_row c.args.row words) c.store.new.seat.me) (sym more) told.0;
     }

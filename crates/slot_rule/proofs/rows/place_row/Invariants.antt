@@ -1,7 +1,7 @@
 use Rattle.std.proofs.Common.{◌≡◌, ◌≤◌, ◌-◌, take}
 use Rattle.std.specs.Prelude.{None}
 use Rattle.slot_rule.specs.Steps.{into_row, tail_from}
-use Rattle.slot_rule.specs.Views.{seen_of, IsAt}
+use Rattle.slot_rule.specs.Views.{seen_of, SitsAt}
 use Rattle.bw_model.specs.declared.step.Step.TheVariants.{Place}
 use Rattle.slot_rule.proofs.rows.place_row.Given as goal
 
@@ -10,7 +10,7 @@ invariant-loop-i g l = record {
   within : l.i ≤ 255;
   table : l.seat.table_id ≡ l.initial.seat.table_id;
   seen : seen_of l.seat.me ≡ seen_of l.initial.seat.me;
-  at : IsAt l.limits l.actor (into_row l.row (take l.i (tail_from l.spelt))) l.seat.me;
+  at : SitsAt l.limits l.actor (into_row l.row (take l.i (tail_from l.spelt))) l.seat.me;
 }
 
 abbrev pub decreases-loop-i : goal.decreases-loop-i

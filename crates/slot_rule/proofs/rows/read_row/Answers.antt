@@ -7,7 +7,7 @@ use Rattle.bw_model.specs.declared.step.Step.TheVariants.{Row}
 use Rattle.chain_search.specs.declared.trace.Entry.{Entry}
 use Rattle.record_slots.specs.Spells.{IsSpelling}
 use Rattle.slot_rule.specs.Steps.{in_row, Took}
-use Rattle.slot_rule.specs.Views.{seen_of, IsAt}
+use Rattle.slot_rule.specs.Views.{seen_of, SitsAt}
 use Rattle.slot_rule.proofs.Gathered.{gathers_at, finishes_at}
 use Rattle.slot_rule.proofs.rows.read_row.Goals as goal
 
@@ -35,7 +35,7 @@ loop-i-preserved g c =
       long = length-set c.loop-i.found c.loop-i.i c.load.result ∙ v.long;
       table = c.load.ensures.0 ∙ v.table;
       seen = told.1 ∙ v.seen;
-      at = subst (λ (words : List ℕ). IsAt c.args.limits.now c.args.actor (in_row c.args.row words) c.load.new.seat.me) (sym more) told.0;
+      at = subst (λ (words : List ℕ). SitsAt c.args.limits.now c.args.actor (in_row c.args.row words) c.load.new.seat.me) (sym more) told.0;
     }
 
 pub load-requires-2 : goal.load-requires-2

@@ -1,6 +1,6 @@
 use Rattle.std.proofs.Common.{◌≡◌, ◌≤◌, ◌-◌, length, take}
 use Rattle.slot_rule.specs.Steps.{in_row}
-use Rattle.slot_rule.specs.Views.{seen_of, IsAt}
+use Rattle.slot_rule.specs.Views.{seen_of, SitsAt}
 use Rattle.slot_rule.proofs.rows.read_row.Given as goal
 
 abbrev pub invariant-loop-i : goal.invariant-loop-i
@@ -9,7 +9,7 @@ invariant-loop-i g l = record {
   long : length l.found ≡ 256;
   table : l.seat.table_id ≡ l.initial.seat.table_id;
   seen : seen_of l.seat.me ≡ seen_of l.initial.seat.me;
-  at : IsAt l.limits l.actor (in_row l.row (take l.i l.found)) l.seat.me;
+  at : SitsAt l.limits l.actor (in_row l.row (take l.i l.found)) l.seat.me;
 }
 
 abbrev pub decreases-loop-i : goal.decreases-loop-i

@@ -2,7 +2,7 @@ use Rattle.std.proofs.Common.{Some, None, sym, ap, ◌∙◌, subst}
 use Rattle.std.specs.Prelude.{Option}
 use Rattle.bw_model.specs.declared.command.Reply.{Reply}
 use Rattle.bw_model.specs.declared.step.Step.TheVariants.{Leave}
-use Rattle.slot_rule.specs.Steps.{MayTake, Took}
+use Rattle.slot_rule.specs.Steps.{IsLawfulStep, Took}
 use Rattle.slot_rule.specs.Views.{seen_of}
 use Rattle.bw_tree.specs.Runs.{IsLawfulRun}
 use Rattle.bw_tree.proofs.Advancing.{busy_of, advances_of, may_go, told_on, seated_on, advances_on, leave_told, leave_may, leave_seated, leave_advances}
@@ -14,7 +14,7 @@ take-reply-requires g c =
 
 pub act-requires-clause-may : goal.act-requires-clause-may
 act-requires-clause-may g c =
-    subst (λ (o : Option Reply). MayTake IsLawfulRun c.self.inside.limits c.self.inside.number (seen_of c.self.inside.place.me) None Leave o) (sym c.as_ref.ensures.value)
+    subst (λ (o : Option Reply). IsLawfulStep IsLawfulRun c.self.inside.limits c.self.inside.number (seen_of c.self.inside.place.me) None Leave o) (sym c.as_ref.ensures.value)
     (leave_may c.laws_of_runs.ensures _ _ _ _ c.self.invariant.seated (busy_of _ _ c.self.view_is c.requires.busy) c.if-is_leaving.ensures c.take-reply.result c.take-reply.new.self c.take-reply.ensures.goes)
 
 pub invariant_of-self : goal.invariant_of-self

@@ -1,7 +1,7 @@
 use Rattle.std.proofs.Common.{Some, None, sym, ◌∙◌, subst}
 use Rattle.std.specs.Prelude.{Option}
 use Rattle.bw_model.specs.declared.command.Command.{Command}
-use Rattle.slot_rule.specs.Steps.{MayTake, Took}
+use Rattle.slot_rule.specs.Steps.{IsLawfulStep, Took}
 use Rattle.slot_rule.specs.Views.{seen_of}
 use Rattle.bw_tree.specs.Runs.{IsLawfulRun}
 use Rattle.bw_tree.proofs.Begun.{idle_of, may_begin, first_word, told_first, seated_first}
@@ -13,7 +13,7 @@ act-answer-requires-clause-range g c =
 
 pub act-answer-requires-clause-may : goal.act-answer-requires-clause-may
 act-answer-requires-clause-may g c =
-    subst (λ (o : Option Command). MayTake IsLawfulRun c.self.inside.limits c.self.inside.number (seen_of c.self.inside.place.me) o c.in-Some.first.now None) (sym (c.command.ensures ∙ c.begin.ensures.command))
+    subst (λ (o : Option Command). IsLawfulStep IsLawfulRun c.self.inside.limits c.self.inside.number (seen_of c.self.inside.place.me) o c.in-Some.first.now None) (sym (c.command.ensures ∙ c.begin.ensures.command))
     (may_begin c.laws_of_runs.ensures _ _ _ _ _ _ c.self.invariant.there c.self.invariant.seated (idle_of _ _ c.self.view_is c.requires.idle) c.begin.ensures.shows c.begin.ensures.command c.begin.ensures.bounded c.in-Some.first.now (sym c.in-Some.ensures))
 
 pub take-requires : goal.take-requires

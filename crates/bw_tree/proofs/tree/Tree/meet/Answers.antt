@@ -3,7 +3,7 @@ use Rattle.bw_model.specs.declared.limits.Limits.{Limits}
 use Rattle.chain_search.specs.declared.trace.Entry.{Entry}
 use Rattle.chain_search.specs.Disciplined.{Extends}
 use Rattle.slot_rule.specs.declared.view.Reach.TheVariants.{Idle}
-use Rattle.slot_rule.specs.Views.{IsAt, Mine, seen_of}
+use Rattle.slot_rule.specs.Views.{SitsAt, Mine, seen_of}
 use Rattle.bw_tree.specs.Runs.{StartsWith}
 use Rattle.bw_tree.specs.Seats.{IsSeat, Seat}
 use Rattle.bw_tree.specs.Trees.{Tree}
@@ -16,9 +16,9 @@ look-requires-clause-some g c =
     let same : c.one.inside.limits ≡ c.self.inside.limits = ap (λ (s : Seat). s.limits) c.one.view_is ∙ c.requires.own.limits ∙ tree in
     let same_other : c.other.inside.limits ≡ c.self.inside.limits = ap (λ (s : Seat). s.limits) c.other.view_is ∙ c.requires.own_other.limits ∙ tree in
     let moved : c.other.inside.place.me ≡ c.replace-others.result.me = sym (ap (λ place. place.me) c.replace-others.ensures.value) in
-    let at_other : IsAt c.self.inside.limits c.other.inside.number Idle c.replace-others.result.me = subst (IsAt c.self.inside.limits c.other.inside.number Idle) moved (subst (λ (l : Limits). IsAt l c.other.inside.number Idle c.other.inside.place.me) same_other c.other.invariant.place) in
+    let at_other : SitsAt c.self.inside.limits c.other.inside.number Idle c.replace-others.result.me = subst (SitsAt c.self.inside.limits c.other.inside.number Idle) moved (subst (λ (l : Limits). SitsAt l c.other.inside.number Idle c.other.inside.place.me) same_other c.other.invariant.place) in
     has_part c.self.inside.limits c.one.inside.number c.other.inside.number c.one.inside.place.me c.replace-others.result.me c.join.new.seat.me
-    (subst (λ (l : Limits). IsAt l c.one.inside.number Idle c.one.inside.place.me) same c.one.invariant.place) at_other c.join.ensures.both
+    (subst (λ (l : Limits). SitsAt l c.one.inside.number Idle c.one.inside.place.me) same c.one.invariant.place) at_other c.join.ensures.both
 
 pub invariant_of-one : goal.invariant_of-one
 invariant_of-one g c =
@@ -26,7 +26,7 @@ invariant_of-one g c =
     let same : c.one.inside.limits ≡ c.self.inside.limits = ap (λ (s : Seat). s.limits) c.one.view_is ∙ c.requires.own.limits ∙ tree in
     let same_other : c.other.inside.limits ≡ c.self.inside.limits = ap (λ (s : Seat). s.limits) c.other.view_is ∙ c.requires.own_other.limits ∙ tree in
     let moved : c.other.inside.place.me ≡ c.replace-others.result.me = sym (ap (λ place. place.me) c.replace-others.ensures.value) in
-    let at_other : IsAt c.self.inside.limits c.other.inside.number Idle c.replace-others.result.me = subst (IsAt c.self.inside.limits c.other.inside.number Idle) moved (subst (λ (l : Limits). IsAt l c.other.inside.number Idle c.other.inside.place.me) same_other c.other.invariant.place) in
+    let at_other : SitsAt c.self.inside.limits c.other.inside.number Idle c.replace-others.result.me = subst (SitsAt c.self.inside.limits c.other.inside.number Idle) moved (subst (λ (l : Limits). SitsAt l c.other.inside.number Idle c.other.inside.place.me) same_other c.other.invariant.place) in
     let seat : IsSeat c.self.inside.limits c.one.inside.number c.one.inside.place.me c.one.inside.actor = subst (λ (l : Limits). IsSeat l c.one.inside.number c.one.inside.place.me c.one.inside.actor) same c.one.invariant in
     subst (λ (l : Limits). IsSeat l c.one.inside.number c.part.new.seat.me c.one.inside.actor) (sym same)
     (left_seat c.self.inside.limits c.one.inside.number c.other.inside.number c.one.inside.place.me c.replace-others.result.me c.join.new.seat.me seat.place at_other c.join.ensures.both
@@ -42,7 +42,7 @@ invariant_of-other g c =
     subst (λ (m : Mine). IsSeat c.self.inside.limits c.other.inside.number m c.other.inside.actor) moved (subst (λ (l : Limits). IsSeat l c.other.inside.number c.other.inside.place.me c.other.inside.actor) same_other c.other.invariant) in
     subst (λ (l : Limits). IsSeat l c.other.inside.number c.part.result.me c.other.inside.actor) (sym same_other)
     (right_seat c.self.inside.limits c.one.inside.number c.other.inside.number c.one.inside.place.me c.replace-others.result.me c.join.new.seat.me
-    (subst (λ (l : Limits). IsAt l c.one.inside.number Idle c.one.inside.place.me) same c.one.invariant.place) seat.place c.join.ensures.both
+    (subst (λ (l : Limits). SitsAt l c.one.inside.number Idle c.one.inside.place.me) same c.one.invariant.place) seat.place c.join.ensures.both
     c.look.new.seat.me c.part.new.seat.me c.part.result.me c.look.ensures.saw c.part.ensures.first c.part.ensures.others c.own_lasts.ensures c.other.inside.actor seat)
 
 pub returns-clause-met : goal.returns-clause-met
@@ -51,8 +51,8 @@ returns-clause-met g c =
     let same : c.one.inside.limits ≡ c.self.inside.limits = ap (λ (s : Seat). s.limits) c.one.view_is ∙ c.requires.own.limits ∙ tree in
     let same_other : c.other.inside.limits ≡ c.self.inside.limits = ap (λ (s : Seat). s.limits) c.other.view_is ∙ c.requires.own_other.limits ∙ tree in
     let moved : c.other.inside.place.me ≡ c.replace-others.result.me = sym (ap (λ place. place.me) c.replace-others.ensures.value) in
-    let at : IsAt c.self.inside.limits c.one.inside.number Idle c.one.inside.place.me = subst (λ (l : Limits). IsAt l c.one.inside.number Idle c.one.inside.place.me) same c.one.invariant.place in
-    let at_other : IsAt c.self.inside.limits c.other.inside.number Idle c.replace-others.result.me = subst (IsAt c.self.inside.limits c.other.inside.number Idle) moved (subst (λ (l : Limits). IsAt l c.other.inside.number Idle c.other.inside.place.me) same_other c.other.invariant.place) in
+    let at : SitsAt c.self.inside.limits c.one.inside.number Idle c.one.inside.place.me = subst (λ (l : Limits). SitsAt l c.one.inside.number Idle c.one.inside.place.me) same c.one.invariant.place in
+    let at_other : SitsAt c.self.inside.limits c.other.inside.number Idle c.replace-others.result.me = subst (SitsAt c.self.inside.limits c.other.inside.number Idle) moved (subst (λ (l : Limits). SitsAt l c.other.inside.number Idle c.other.inside.place.me) same_other c.other.invariant.place) in
     let ours : Extends c.one.inside.number (seen_of c.one.inside.place.me) (seen_of c.part.new.seat.me) =
     left_extends c.self.inside.limits c.one.inside.number c.other.inside.number c.one.inside.place.me c.replace-others.result.me c.join.new.seat.me at at_other c.join.ensures.both
     c.look.new.seat.me c.part.new.seat.me c.part.result.me c.look.ensures.saw c.part.ensures.first c.part.ensures.others in
