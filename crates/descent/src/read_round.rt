@@ -166,6 +166,7 @@ impl ReadRound {
     }
 
     /// Ends at the leaf where the way ends; to the left of a removed page, passes that page.
+    #[inline(never)]
     fn end(&mut self, version: Version) -> Option<ReadEnd>
         requires can { CanTreat self.old version }
         requires alive { is_removed version.chain ≡ false }
@@ -180,6 +181,7 @@ impl ReadRound {
     }
 
     /// Ends beside the removed page, or goes on to the right of it; where it was merged, goes on for the key.
+    #[inline(never)]
     fn pass(&mut self, removed: Version, version: Version) -> Option<ReadEnd>
         requires can { CanTreat (toward (Goal.Left removed) self.old) version }
         requires alive { is_removed version.chain ≡ false }

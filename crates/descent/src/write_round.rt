@@ -220,6 +220,7 @@ impl WriteRound {
     }
 
     /// Ends where a change is due that finishes the split of the left page; else treats the page as any other.
+    #[inline(never)]
     fn finish(&mut self, left: Version, version: Version) -> Option<WriteEnd>
         requires can { CanTreat self.old version }
         requires seeks { SeeksLeaf self.old.goal }
@@ -261,6 +262,7 @@ impl WriteRound {
     }
 
     /// Ends where the page is to be consolidated or split, or is the leaf; else goes down.
+    #[inline(never)]
     fn settle(&mut self, version: Version) -> Option<WriteEnd>
         requires can { CanTreat self.old version }
         requires seeks { SeeksLeaf self.old.goal }
@@ -305,6 +307,7 @@ impl WriteRound {
     }
 
     /// Reads the removed page again where it is the leaf's right, or the parent has its term; else nothing is due.
+    #[inline(never)]
     fn end_left(&mut self, pid: u16, leaf: Version) -> Option<WriteEnd>
         requires some { 0 < pid }
         requires below { pid < self.old.limits.pids }
@@ -361,6 +364,7 @@ impl WriteRound {
 }
 
 /// Ends where the removed page may come into its left page.
+#[inline(never)]
 fn merge(left: Version, removed: Version) -> WriteEnd
     ensures { Merges left removed result }
 {
@@ -375,6 +379,7 @@ fn merge(left: Version, removed: Version) -> WriteEnd
 }
 
 /// Ends where the parent may lose the removed page's term.
+#[inline(never)]
 fn unterm(parent: Version, left: Version, removed: Version) -> WriteEnd
     requires alive { is_removed parent.chain ≡ false }
     ensures { Cuts parent left removed result }

@@ -115,6 +115,7 @@ impl Task {
     }
 
     /// A new round: for the newest errand, or for the command's key.
+    #[inline(never)]
     fn round(&self) -> State
         ensures stands { (spares : Spares) (k : Knowledge) (r : Recalled) → Seeks self.now spares k → Stands self.now spares k r result }
         ensures few { (spares : Spares) (r : Recalled) → left_at r spares result ≤ one_round }
@@ -155,6 +156,7 @@ impl Task {
 
     /// A reader answers at the leaf of its key, or from what it read of a removed one, whose left page it has read since; where its
     /// round was cut off, a new one begins, which goes to the left of a removed page.
+    #[inline(never)]
     fn end_read(&self, end: ReadEnd) -> State
         ensures stands { (spares : Spares) (k : Knowledge) (r : Recalled) → FacesRead self.now spares k r end → Stands self.now spares k r result }
         ensures few { (spares : Spares) (r : Recalled) → left_at r spares result ≤ left_for (Outcome.Read end) }
@@ -197,6 +199,7 @@ impl Task {
     }
 
     /// A writer makes the change that is due where its round ended, or goes on at the leaf.
+    #[inline(never)]
     fn end_write(&mut self, spares: &Spares, end: WriteEnd) -> State
         requires faced { (k : Knowledge) × (r : Recalled) × FacesWritten self.old spares.now k r end }
         ensures stands { (k : Knowledge) (r : Recalled) → FacesWritten self.old spares.now k r end → Stands self.new spares.now k r result }
@@ -456,6 +459,7 @@ impl Task {
     }
 
     /// An update that won has its reply; any other change is followed by a new round, and one for which nothing was free by none.
+    #[inline(never)]
     fn end_change(&mut self, end: End, then: Then) -> State
         ensures stands { (spares : Spares) (k : Knowledge) (r : Recalled) → FacesChanged self.old spares k end then → Stands self.new spares k r result }
         ensures few { (spares : Spares) (r : Recalled) → with_errands self.new.errands (left_at r spares result) ≤ with_errands self.old.errands (left_for (Outcome.Changed end then)) }
