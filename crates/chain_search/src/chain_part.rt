@@ -51,10 +51,10 @@ impl ChainPart {
     }
 
     /// Puts the delta that was read next under the others.
-    pub fn push(&mut self, older: Record)
+    pub fn push(&mut self, older: &Record)
         requires few { length self.old < MAX_RECORDS }
-        requires small { IsSmallDelta older }
-        ensures { self.new ≡ self.old ++ older ∷ [] }
+        requires small { IsSmallDelta older.now }
+        ensures { self.new ≡ self.old ++ older.now ∷ [] }
     {
         self.deltas.push(Delta::of(older));
     }

@@ -66,28 +66,31 @@ impl Default for Delta {
 }
 
 impl Delta {
-    /// The record in little room.
-    pub(crate) fn of(delta: Record) -> Delta
-        requires { IsSmallDelta delta }
-        ensures { result ≡ delta }
+    /// The record again, in little room.
+    pub(crate) fn of(delta: &Record) -> Delta
+        requires { IsSmallDelta delta.now }
+        ensures { result ≡ delta.now }
     {
         let kept = match delta {
             Record::Base(_) => unreachable!(),
-            Record::Put(put) => Kept::Put(put),
-            Record::Delete(delete) => Kept::Delete(delete),
-            Record::Split(split) => Kept::Split(split),
-            Record::Term(term) => Kept::Term(term),
-            Record::Hold(hold) => Kept::Hold(hold),
-            Record::Remove(remove) => Kept::Remove(remove),
+            Record::Put(put) => Kept::Put(put.copied()),
+            Record::Delete(delete) => Kept::Delete(delete.copied()),
+            Record::Split(split) => Kept::Split(split.copied()),
+            Record::Term(term) => Kept::Term(term.copied()),
+            Record::Hold(hold) => Kept::Hold(hold.copied()),
+            Record::Remove(remove) => Kept::Remove(*remove),
             Record::Merge(merge) => Kept::Merge(KeptMerge {
                 level: merge.level,
                 next: merge.next,
-                items: FewItems::of(&merge.items),
-                low: merge.low,
-                high: merge.high,
+                low: merge.low.copied(),
+                high: match &merge.high {
+                    None => None,
+                    Some(high) => Some(high.copied()),
+                },
                 right: merge.right,
+                items: FewItems::of(&merge.items),
             }),
-            Record::Unterm(unterm) => Kept::Unterm(unterm),
+            Record::Unterm(unterm) => Kept::Unterm(unterm.copied()),
         };
         Delta { kept }
     }
@@ -97,37 +100,12 @@ impl Delta {
         ensures { result ≡ self.now }
     {
         match &self.kept {
-            Kept::Put(put) => Record::Put(Put {
-                next: put.next,
-                key: put.key.copied(),
-                value: put.value.copied(),
-            }),
-            Kept::Delete(delete) => Record::Delete(Delete {
-                next: delete.next,
-                key: delete.key.copied(),
-            }),
-            Kept::Split(split) => Record::Split(Split {
-                level: split.level,
-                next: split.next,
-                separator: split.separator.copied(),
-                page: split.page,
-            }),
-            Kept::Term(term) => Record::Term(Term {
-                level: term.level,
-                next: term.next,
-                separator: term.separator.copied(),
-                child: term.child,
-            }),
-            Kept::Hold(hold) => Record::Hold(Hold {
-                level: hold.level,
-                next: hold.next,
-                separator: hold.separator.copied(),
-                child: hold.child,
-            }),
-            Kept::Remove(remove) => Record::Remove(Remove {
-                level: remove.level,
-                next: remove.next,
-            }),
+            Kept::Put(put) => Record::Put(put.copied()),
+            Kept::Delete(delete) => Record::Delete(delete.copied()),
+            Kept::Split(split) => Record::Split(split.copied()),
+            Kept::Term(term) => Record::Term(term.copied()),
+            Kept::Hold(hold) => Record::Hold(hold.copied()),
+            Kept::Remove(remove) => Record::Remove(*remove),
             Kept::Merge(merge) => Record::Merge(Merge {
                 level: merge.level,
                 next: merge.next,
@@ -139,12 +117,7 @@ impl Delta {
                 right: merge.right,
                 items: merge.items.items(),
             }),
-            Kept::Unterm(unterm) => Record::Unterm(Unterm {
-                level: unterm.level,
-                next: unterm.next,
-                separator: unterm.separator.copied(),
-                child: unterm.child,
-            }),
+            Kept::Unterm(unterm) => Record::Unterm(unterm.copied()),
         }
     }
 

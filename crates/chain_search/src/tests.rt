@@ -57,17 +57,17 @@ fn leaf_chain() -> Chain
 {
     let separator = key(b"k09");
     let mut part = ChainPart::new();
-    part.push(Record::Remove(Remove { level: 0, next: 15 }));
-    part.push(Record::Delete(Delete {
+    part.push(&Record::Remove(Remove { level: 0, next: 15 }));
+    part.push(&Record::Delete(Delete {
         next: 14,
         key: key(b"k08"),
     }));
-    part.push(Record::Put(Put {
+    part.push(&Record::Put(Put {
         next: 13,
         key: key(b"k07"),
         value: value(b"v07"),
     }));
-    part.push(Record::Merge(Merge {
+    part.push(&Record::Merge(Merge {
         level: 0,
         next: 12,
         low: separator.copied(),
@@ -75,7 +75,7 @@ fn leaf_chain() -> Chain
         right: None,
         items: item(separator.copied(), Content::Value(value(b"w09"))),
     }));
-    part.push(Record::Split(Split {
+    part.push(&Record::Split(Split {
         level: 0,
         next: 11,
         separator,
@@ -129,10 +129,10 @@ fn index_chain() -> Chain
     ensures { result ≡ index_chain }
 {
     let mut part = ChainPart::new();
-    part.push(term(7, key(b"k09"), 3));
-    part.push(unterm(6, key(b"k09"), 2));
-    part.push(hold(5, key(b"k09"), 2));
-    part.push(term(4, key(b"k09"), 2));
+    part.push(&term(7, key(b"k09"), 3));
+    part.push(&unterm(6, key(b"k09"), 2));
+    part.push(&hold(5, key(b"k09"), 2));
+    part.push(&term(4, key(b"k09"), 2));
     part.over(index())
 }
 
@@ -151,11 +151,11 @@ fn split_index() -> Chain
     ensures { result ≡ split_index }
 {
     let mut part = ChainPart::new();
-    part.push(index_split());
-    part.push(term(7, key(b"k09"), 3));
-    part.push(unterm(6, key(b"k09"), 2));
-    part.push(hold(5, key(b"k09"), 2));
-    part.push(term(4, key(b"k09"), 2));
+    part.push(&index_split());
+    part.push(&term(7, key(b"k09"), 3));
+    part.push(&unterm(6, key(b"k09"), 2));
+    part.push(&hold(5, key(b"k09"), 2));
+    part.push(&term(4, key(b"k09"), 2));
     part.over(index())
 }
 
@@ -163,8 +163,8 @@ fn long_index() -> Chain
     ensures { result ≡ long_index }
 {
     let mut part = ChainPart::new();
-    part.push(hold(10, key(b"k09"), 5));
-    part.push(Record::Merge(Merge {
+    part.push(&hold(10, key(b"k09"), 5));
+    part.push(&Record::Merge(Merge {
         level: 1,
         next: 9,
         low: key(b"k09"),
@@ -172,11 +172,11 @@ fn long_index() -> Chain
         right: None,
         items: item(key(b"k09"), child(5)),
     }));
-    part.push(index_split());
-    part.push(term(7, key(b"k09"), 3));
-    part.push(unterm(6, key(b"k09"), 2));
-    part.push(hold(5, key(b"k09"), 2));
-    part.push(term(4, key(b"k09"), 2));
+    part.push(&index_split());
+    part.push(&term(7, key(b"k09"), 3));
+    part.push(&unterm(6, key(b"k09"), 2));
+    part.push(&hold(5, key(b"k09"), 2));
+    part.push(&term(4, key(b"k09"), 2));
     part.over(index())
 }
 

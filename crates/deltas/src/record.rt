@@ -50,7 +50,7 @@ pub struct Hold {
 }
 
 /// The page is removed.
-#[derive(Debug, Drop)]
+#[derive(Clone, Copy, Debug)]
 pub struct Remove {
     pub level: u8,
     pub next: u16,
@@ -152,44 +152,81 @@ impl Record {
     {
         match self {
             Record::Base(page) => Record::Base(page.copied()),
-            Record::Put(put) => Record::Put(Put {
-                next: put.next,
-                key: put.key.copied(),
-                value: put.value.copied(),
-            }),
-            Record::Delete(delete) => Record::Delete(Delete {
-                next: delete.next,
-                key: delete.key.copied(),
-            }),
-            Record::Split(split) => Record::Split(Split {
-                level: split.level,
-                next: split.next,
-                separator: split.separator.copied(),
-                page: split.page,
-            }),
-            Record::Term(term) => Record::Term(Term {
-                level: term.level,
-                next: term.next,
-                separator: term.separator.copied(),
-                child: term.child,
-            }),
-            Record::Hold(hold) => Record::Hold(Hold {
-                level: hold.level,
-                next: hold.next,
-                separator: hold.separator.copied(),
-                child: hold.child,
-            }),
-            Record::Remove(remove) => Record::Remove(Remove {
-                level: remove.level,
-                next: remove.next,
-            }),
+            Record::Put(put) => Record::Put(put.copied()),
+            Record::Delete(delete) => Record::Delete(delete.copied()),
+            Record::Split(split) => Record::Split(split.copied()),
+            Record::Term(term) => Record::Term(term.copied()),
+            Record::Hold(hold) => Record::Hold(hold.copied()),
+            Record::Remove(remove) => Record::Remove(*remove),
             Record::Merge(merge) => Record::Merge(merge.copied()),
-            Record::Unterm(unterm) => Record::Unterm(Unterm {
-                level: unterm.level,
-                next: unterm.next,
-                separator: unterm.separator.copied(),
-                child: unterm.child,
-            }),
+            Record::Unterm(unterm) => Record::Unterm(unterm.copied()),
+        }
+    }
+}
+
+impl Put {
+    /// The same record again, without memory.
+    pub fn copied(&self) -> Put
+        ensures { result ≡ self.now }
+    {
+        Put {
+            next: self.next,
+            key: self.key.copied(),
+            value: self.value.copied(),
+        }
+    }
+}
+
+impl Delete {
+    /// The same record again, without memory.
+    pub fn copied(&self) -> Delete
+        ensures { result ≡ self.now }
+    {
+        Delete {
+            next: self.next,
+            key: self.key.copied(),
+        }
+    }
+}
+
+impl Split {
+    /// The same record again, without memory.
+    pub fn copied(&self) -> Split
+        ensures { result ≡ self.now }
+    {
+        Split {
+            level: self.level,
+            next: self.next,
+            separator: self.separator.copied(),
+            page: self.page,
+        }
+    }
+}
+
+impl Term {
+    /// The same record again, without memory.
+    pub fn copied(&self) -> Term
+        ensures { result ≡ self.now }
+    {
+        Term {
+            level: self.level,
+            next: self.next,
+            separator: self.separator.copied(),
+            child: self.child,
+        }
+    }
+}
+
+impl Hold {
+    /// The same record again, without memory.
+    pub fn copied(&self) -> Hold
+        ensures { result ≡ self.now }
+    {
+        Hold {
+            level: self.level,
+            next: self.next,
+            separator: self.separator.copied(),
+            child: self.child,
         }
     }
 }
@@ -209,6 +246,20 @@ impl Merge {
             },
             right: self.right,
             items: self.items.copied(),
+        }
+    }
+}
+
+impl Unterm {
+    /// The same record again, without memory.
+    pub fn copied(&self) -> Unterm
+        ensures { result ≡ self.now }
+    {
+        Unterm {
+            level: self.level,
+            next: self.next,
+            separator: self.separator.copied(),
+            child: self.child,
         }
     }
 }

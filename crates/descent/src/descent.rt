@@ -62,19 +62,16 @@ impl Descent {
     }
 
     /// Takes an answer after which the descent reads on.
-    pub(crate) fn read_on(&mut self, answer: Answer<Record>)
-        requires told { IsTold self.old answer }
-        requires on { reads_on answer ≡ true }
-        ensures responds { Responds self.old answer self.new None }
+    pub(crate) fn read_on(&mut self, answer: &Answer<Record>)
+        requires told { IsTold self.old answer.now }
+        requires on { reads_on answer.now ≡ true }
+        ensures responds { Responds self.old answer.now self.new None }
         ensures limits { self.new.limits ≡ self.old.limits }
     {
-        match &mut self.state {
-            State::Root => {
-                let pid = answer.into_number() as u16;
-                self.go_to(pid);
-            }
-            State::Page { visit } => visit.read_on(answer),
-            State::Over => unreachable!(),
+        match (&mut self.state, answer) {
+            (State::Root, Answer::Number(pid)) => self.go_to(*pid as u16),
+            (State::Page { visit }, _) => visit.read_on(answer),
+            _ => unreachable!(),
         }
     }
 

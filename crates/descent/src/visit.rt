@@ -76,16 +76,17 @@ impl Visit {
     }
 
     /// Takes an answer after which the visit reads on.
-    pub fn read_on(&mut self, answer: Answer<Record>)
-        requires told { IsTold self.old answer }
-        requires on { reads_on answer ≡ true }
-        ensures responds { Responds self.old answer self.new None }
-        ensures follows { (k : Knowledge) → Shows self.old k → Fits self.old.limits k (wanted self.old) answer → Follows k self.old answer self.new None }
+    pub fn read_on(&mut self, answer: &Answer<Record>)
+        requires told { IsTold self.old answer.now }
+        requires on { reads_on answer.now ≡ true }
+        ensures responds { Responds self.old answer.now self.new None }
+        ensures follows { (k : Knowledge) → Shows self.old k → Fits self.old.limits k (wanted self.old) answer.now → Follows k self.old answer.now self.new None }
         ensures same { IsSame self.old self.new }
     {
-        match self.state {
-            State::Slot => self.begin(answer.into_number() as u16),
-            State::Row { head, row } => self.push(head, row, answer.into_content()),
+        match (self.state, answer) {
+            (State::Slot, Answer::Number(row)) => self.begin(*row as u16),
+            (State::Row { head, row }, Answer::Content(delta)) => self.push(head, row, delta),
+            _ => unreachable!(),
         }
     }
 
@@ -114,11 +115,11 @@ impl Visit {
     }
 
     /// Keeps a delta, and goes on to the record under it.
-    fn push(&mut self, head: u16, row: u16, delta: Record)
-        requires told { IsTold (at self.old (State.Row head row)) (Answer.Content delta) }
+    fn push(&mut self, head: u16, row: u16, delta: &Record)
+        requires told { IsTold (at self.old (State.Row head row)) (Answer.Content delta.now) }
         requires sound { IsSoundState self.old.limits self.old.pid (State.Row head row) }
-        requires on { is_some (next_row delta) ≡ true }
-        ensures responds { Responds (at self.old (State.Row head row)) (Answer.Content delta) self.new None }
+        requires on { is_some (next_row delta.now) ≡ true }
+        ensures responds { Responds (at self.old (State.Row head row)) (Answer.Content delta.now) self.new None }
         ensures same { IsSame self.old self.new }
     {
         let _ = row;

@@ -147,12 +147,12 @@ impl WriteRound {
     }
 
     /// Takes an answer after which the round reads on.
-    pub fn read_on(&mut self, answer: Answer<Record>)
-        requires told { IsTold self.old answer }
-        requires on { reads_on answer ≡ true }
-        ensures responds { Responds self.old answer self.new None }
-        ensures follows { (k : Knowledge) (r : Recalled) → Shows self.old k r → Fits self.old.limits k (wanted self.old) answer → Follows k r self.old answer self.new None }
-        ensures spends { (reserve kept : ℕ) (k : Knowledge) (r : Recalled) → Shows self.old k r → Fits self.old.limits k (wanted self.old) answer → Spends reserve kept r self.old answer self.new None }
+    pub fn read_on(&mut self, answer: &Answer<Record>)
+        requires told { IsTold self.old answer.now }
+        requires on { reads_on answer.now ≡ true }
+        ensures responds { Responds self.old answer.now self.new None }
+        ensures follows { (k : Knowledge) (r : Recalled) → Shows self.old k r → Fits self.old.limits k (wanted self.old) answer.now → Follows k r self.old answer.now self.new None }
+        ensures spends { (reserve kept : ℕ) (k : Knowledge) (r : Recalled) → Shows self.old k r → Fits self.old.limits k (wanted self.old) answer.now → Spends reserve kept r self.old answer.now self.new None }
         ensures same { IsSame self.old self.new }
     {
         self.descent.read_on(answer);
@@ -167,7 +167,7 @@ impl WriteRound {
         ensures same { IsSame self.old self.new }
     {
         if reads_on(&answer) {
-            self.read_on(answer);
+            self.read_on(&answer);
             return None;
         }
         let sight = self.descent.end(answer);

@@ -1,6 +1,5 @@
 //! What a change is to link.
 ghost use Rattle.std.specs.Prelude.{◌≡◌};
-ghost use Rattle.deltas.specs.declared.record.Record.TheVariants as newest;
 ghost use Rattle.installs.specs.Changes.{cleared_page, cleared_row, clears, head_of, needs_pid, new_base, new_record, rows_needed, slot_of};
 
 use base_page::Page;
@@ -65,7 +64,7 @@ impl Plan {
             Plan::Install { content, .. } => content.copied(),
             Plan::Split { plan, .. } => Record::Base(plan.upper.copied()),
             Plan::Root { root, .. } => Record::Base(root.copied()),
-            Plan::Unlink { unterm, .. } => copied(unterm),
+            Plan::Unlink { unterm, .. } => Record::Unterm(unterm.copied()),
         }
     }
 
@@ -77,7 +76,7 @@ impl Plan {
             Plan::Install { content, .. } => content.copied(),
             Plan::Split { plan, .. } => Record::Split(plan.split(right)),
             Plan::Root { root, .. } => Record::Base(root.copied()),
-            Plan::Unlink { unterm, .. } => copied(unterm),
+            Plan::Unlink { unterm, .. } => Record::Unterm(unterm.copied()),
         }
     }
 
@@ -131,16 +130,4 @@ impl Plan {
             Plan::Install { .. } | Plan::Split { .. } | Plan::Root { .. } => 0,
         }
     }
-}
-
-/// The same unterm, as a record.
-fn copied(unterm: &Unterm) -> Record
-    ensures { result ≡ newest.Unterm unterm.now }
-{
-    Record::Unterm(Unterm {
-        level: unterm.level,
-        next: unterm.next,
-        separator: unterm.separator.copied(),
-        child: unterm.child,
-    })
 }

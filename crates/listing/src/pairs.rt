@@ -51,7 +51,7 @@ fn chain_of<M: Rows>(rows: &M, pid: u16) -> Chain
             (_, Record::Base(page)) => return part.over(page),
             (Some(below), delta) => {
                 row = below;
-                part.push(delta);
+                part.push(&delta);
             }
             (None, _) => unreachable!(),
         }

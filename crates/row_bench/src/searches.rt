@@ -66,7 +66,7 @@ fn chain_over(base: Page) -> Chain
     updates_fit();
     let mut part = ChainPart::new();
     for place in 0..8u8 {
-        part.push(Record::Delete(Delete {
+        part.push(&Record::Delete(Delete {
             next: 1 + u16::from(place),
             key: key(place),
         }));

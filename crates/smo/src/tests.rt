@@ -55,7 +55,7 @@ pub(crate) fn version(pid: u16, deltas: usize, page: Page) -> Version
     page.keeps_rules();
     let mut part = ChainPart::new();
     for _ in 0..deltas {
-        part.push(Record::Delete(Delete {
+        part.push(&Record::Delete(Delete {
             next: 3,
             key: page.low().copied(),
         }));
@@ -108,7 +108,7 @@ fn termed() -> Chain
     ensures { result ≡ termed_page }
 {
     let mut part = ChainPart::new();
-    part.push(Record::Term(Term {
+    part.push(&Record::Term(Term {
         level: 1,
         next: 4,
         separator: key(b"k09"),
@@ -122,13 +122,13 @@ fn held() -> Chain
     ensures { result ≡ held_page }
 {
     let mut part = ChainPart::new();
-    part.push(Record::Hold(Hold {
+    part.push(&Record::Hold(Hold {
         level: 1,
         next: 5,
         separator: key(b"k09"),
         child: 2,
     }));
-    part.push(Record::Term(Term {
+    part.push(&Record::Term(Term {
         level: 1,
         next: 4,
         separator: key(b"k09"),

@@ -59,7 +59,7 @@ pub(crate) fn first(deltas: usize, page: Page) -> Version
     page.keeps_rules();
     let mut part = ChainPart::new();
     for _ in 0..deltas {
-        part.push(Record::Delete(Delete {
+        part.push(&Record::Delete(Delete {
             next: 3,
             key: page.low().copied(),
         }));
@@ -77,9 +77,9 @@ fn grown(page: &Version, newest: Record) -> Version
     page.chain.keeps_rules();
     let (under, base) = page.chain.records();
     let mut part = ChainPart::new();
-    part.push(newest);
+    part.push(&newest);
     for delta in under.as_slice() {
-        part.push(delta.copied());
+        part.push(delta);
     }
     let chain = part.over(base);
     let (pid, head) = (page.pid, 7);

@@ -21,9 +21,9 @@ pub(crate) fn grown(page: &Version, newest: Record) -> Version
     page.chain.keeps_rules();
     let (under, base) = page.chain.records();
     let mut part = ChainPart::new();
-    part.push(newest);
+    part.push(&newest);
     for delta in under.as_slice() {
-        part.push(delta.copied());
+        part.push(delta);
     }
     Version {
         pid: page.pid,

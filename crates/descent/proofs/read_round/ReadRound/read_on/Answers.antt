@@ -10,10 +10,10 @@ returns c =
     let limits : c.read_on.new.self.limits ≡ old.limits = rw (← c.self.view_is) c.read_on.ensures.limits in
     let new : ReadRound = record { limits = c.read_on.new.self.limits; key = c.self.inside.key; goal = c.self.inside.goal; state = c.read_on.new.self.state } in
     let same : new ≡ at old new.state = ap (λ (round : ReadRound). record round { limits = c.read_on.new.self.limits; state = c.read_on.new.self.state }) c.self.view_is ∙ ap (λ (l : Limits). record old { limits = l; state = c.read_on.new.self.state }) limits in
-    let responds : Responds old c.args.answer new None = inl (record { on = rw (← c.self.view_is) c.read_on.ensures.responds; same = same; none = refl }) in
+    let responds : Responds old c.args.answer.now new None = inl (record { on = rw (← c.self.view_is) c.read_on.ensures.responds; same = same; none = refl }) in
     record {
       responds = responds;
-      follows = follows_from old new c.args.answer None responds;
-      spends = spends_from old new c.args.answer None responds;
+      follows = follows_from old new c.args.answer.now None responds;
+      spends = spends_from old new c.args.answer.now None responds;
       same = rw same (record { limits = refl; key = refl });
     }

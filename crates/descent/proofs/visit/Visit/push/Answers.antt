@@ -8,9 +8,9 @@ use Rattle.descent.proofs.visit.Visit.push.Goals as goal
 pub push-requires : goal.push-requires
 push-requires c =
     let was : Visit = record { limits = c.self.inside.limits; pid = c.self.inside.pid; part = c.self.inside.part; state = c.self.inside.state } in
-    let told : IsTold (at was (Row c.args.head c.args.row)) (Content c.args.delta) = rw (← c.self.view_is) at c.requires.told in
+    let told : IsTold (at was (Row c.args.head c.args.row)) (Content c.args.delta.now) = rw (← c.self.view_is) at c.requires.told in
     let reads = told.shows.stands in
     record {
       few = told.fits.short c.self.inside.pid c.args.head c.self.inside.part reads.held reads.seen;
-      small = is_small was c.args.head c.args.row c.args.delta c.in-Some.row (sym c.next.ensures ∙ c.in-Some.is) told;
+      small = is_small was c.args.head c.args.row c.args.delta.now c.in-Some.row (sym c.next.ensures ∙ c.in-Some.is) told;
     }
