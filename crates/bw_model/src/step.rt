@@ -85,20 +85,20 @@ pub enum Link {
 
 impl<R: Drop> Answer<R> {
     /// The number that was read.
-    pub fn into_number(self) -> u64
-        requires { IsNumber self }
-        ensures { self ≡ Answer.Number result }
+    pub fn number(&self) -> u64
+        requires { IsNumber self.now }
+        ensures { self.now ≡ Answer.Number result }
     {
         match self {
-            Answer::Number(number) => number,
+            Answer::Number(number) => *number,
             _ => unreachable!(),
         }
     }
 
     /// The record that was read.
-    pub fn into_content(self) -> R
-        requires { IsContent self }
-        ensures { self ≡ Answer.Content result }
+    pub fn content(&self) -> &R
+        requires { IsContent self.now }
+        ensures { self.now ≡ Answer.Content result.now }
     {
         match self {
             Answer::Content(content) => content,
@@ -107,12 +107,12 @@ impl<R: Drop> Answer<R> {
     }
 
     /// Whether the step went.
-    pub fn into_whether(self) -> bool
-        requires { IsWhether self }
-        ensures { self ≡ Answer.Whether result }
+    pub fn whether(&self) -> bool
+        requires { IsWhether self.now }
+        ensures { self.now ≡ Answer.Whether result }
     {
         match self {
-            Answer::Whether(whether) => whether,
+            Answer::Whether(whether) => *whether,
             _ => unreachable!(),
         }
     }

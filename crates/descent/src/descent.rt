@@ -68,18 +68,18 @@ impl Descent {
         ensures responds { Responds self.old answer.now self.new None }
         ensures limits { self.new.limits ≡ self.old.limits }
     {
-        match (&mut self.state, answer) {
-            (State::Root, Answer::Number(pid)) => self.go_to(*pid as u16),
-            (State::Page { visit }, _) => visit.read_on(answer),
-            _ => unreachable!(),
+        match &mut self.state {
+            State::Root => self.go_to(answer.number() as u16),
+            State::Page { visit } => visit.read_on(answer),
+            State::Over => unreachable!(),
         }
     }
 
     /// Takes an answer that ends the visit of a page, and tells what was found.
-    pub(crate) fn end(&mut self, answer: Answer<Record>) -> Sight
-        requires told { IsTold self.old answer }
-        requires ends { reads_on answer ≡ false }
-        ensures responds { Responds self.old answer self.new (Some result) }
+    pub(crate) fn end(&mut self, answer: &Answer<Record>) -> Sight
+        requires told { IsTold self.old answer.now }
+        requires ends { reads_on answer.now ≡ false }
+        ensures responds { Responds self.old answer.now self.new (Some result) }
         ensures limits { self.new.limits ≡ self.old.limits }
     {
         match &mut self.state {

@@ -83,24 +83,23 @@ impl Visit {
         ensures follows { (k : Knowledge) → Shows self.old k → Fits self.old.limits k (wanted self.old) answer.now → Follows k self.old answer.now self.new None }
         ensures same { IsSame self.old self.new }
     {
-        match (self.state, answer) {
-            (State::Slot, Answer::Number(row)) => self.begin(*row as u16),
-            (State::Row { head, row }, Answer::Content(delta)) => self.push(head, row, delta),
-            _ => unreachable!(),
+        match self.state {
+            State::Slot => self.begin(answer.number() as u16),
+            State::Row { head, row } => self.push(head, row, answer.content()),
         }
     }
 
     /// Takes an answer that ends the visit, and tells what was found.
-    pub fn end(&mut self, answer: Answer<Record>) -> Sight
-        requires told { IsTold self.old answer }
-        requires ends { reads_on answer ≡ false }
-        ensures responds { Responds self.old answer self.new (Some result) }
-        ensures follows { (k : Knowledge) → Shows self.old k → Fits self.old.limits k (wanted self.old) answer → Follows k self.old answer self.new (Some result) }
+    pub fn end(&mut self, answer: &Answer<Record>) -> Sight
+        requires told { IsTold self.old answer.now }
+        requires ends { reads_on answer.now ≡ false }
+        ensures responds { Responds self.old answer.now self.new (Some result) }
+        ensures follows { (k : Knowledge) → Shows self.old k → Fits self.old.limits k (wanted self.old) answer.now → Follows k self.old answer.now self.new (Some result) }
         ensures same { IsSame self.old self.new }
     {
         match self.state {
             State::Slot => Sight::Empty,
-            State::Row { head, row } => Sight::Whole(self.whole(head, row, answer.into_content())),
+            State::Row { head, row } => Sight::Whole(self.whole(head, row, answer.content())),
         }
     }
 
@@ -131,11 +130,11 @@ impl Visit {
     }
 
     /// The page that is whole with its base.
-    fn whole(&mut self, head: u16, row: u16, base: Record) -> Version
-        requires told { IsTold (at self.old (State.Row head row)) (Answer.Content base) }
+    fn whole(&mut self, head: u16, row: u16, base: &Record) -> Version
+        requires told { IsTold (at self.old (State.Row head row)) (Answer.Content base.now) }
         requires sound { IsSoundState self.old.limits self.old.pid (State.Row head row) }
-        requires last { next_row base ≡ None }
-        ensures completes { Completes (at self.old (State.Row head row)) (Answer.Content base) result }
+        requires last { next_row base.now ≡ None }
+        ensures completes { Completes (at self.old (State.Row head row)) (Answer.Content base.now) result }
         ensures same { IsSame self.old self.new }
     {
         let _ = row;
@@ -146,7 +145,7 @@ impl Visit {
         Version {
             pid: self.pid,
             head,
-            chain: part.over(base),
+            chain: part.over(base.copied()),
         }
     }
 }

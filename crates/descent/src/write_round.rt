@@ -159,15 +159,15 @@ impl WriteRound {
     }
 
     /// Takes the answer to the step wanted last, and tells how the round ends, once it does.
-    pub fn next(&mut self, answer: Answer<Record>) -> Option<WriteEnd>
-        requires told { IsTold self.old answer }
-        ensures responds { Responds self.old answer self.new result }
-        ensures follows { (k : Knowledge) (r : Recalled) → Shows self.old k r → Fits self.old.limits k (wanted self.old) answer → Follows k r self.old answer self.new result }
-        ensures spends { (reserve kept : ℕ) (k : Knowledge) (r : Recalled) → Shows self.old k r → Fits self.old.limits k (wanted self.old) answer → Spends reserve kept r self.old answer self.new result }
+    pub fn next(&mut self, answer: &Answer<Record>) -> Option<WriteEnd>
+        requires told { IsTold self.old answer.now }
+        ensures responds { Responds self.old answer.now self.new result }
+        ensures follows { (k : Knowledge) (r : Recalled) → Shows self.old k r → Fits self.old.limits k (wanted self.old) answer.now → Follows k r self.old answer.now self.new result }
+        ensures spends { (reserve kept : ℕ) (k : Knowledge) (r : Recalled) → Shows self.old k r → Fits self.old.limits k (wanted self.old) answer.now → Spends reserve kept r self.old answer.now self.new result }
         ensures same { IsSame self.old self.new }
     {
-        if reads_on(&answer) {
-            self.read_on(&answer);
+        if reads_on(answer) {
+            self.read_on(answer);
             return None;
         }
         let sight = self.descent.end(answer);

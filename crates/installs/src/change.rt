@@ -114,29 +114,29 @@ impl Change {
     }
 
     /// Takes the answer to the step wanted last, and tells whether the change has ended.
-    pub fn next(&mut self, spares: &mut Spares, answer: Answer<Record>) -> Option<End>
+    pub fn next(&mut self, spares: &mut Spares, answer: &Answer<Record>) -> Option<End>
         requires sound { IsSoundChange self.old spares.old }
-        requires told { IsTold self.old spares.old answer }
-        ensures follows { (actor : ℕ) (k : Knowledge) → Shows actor self.old spares.old k → Fits self.old.limits k (wanted self.old spares.old) answer → Follows actor k (learn k (wanted self.old spares.old) answer) self.old answer self.new spares.new result }
-        ensures limbo { (actor : ℕ) (k : Knowledge) → Shows actor self.old spares.old k → Fits self.old.limits k (wanted self.old spares.old) answer → (learn k (wanted self.old spares.old) answer).limbo ≡ limbo_after self.old.plan result k }
-        ensures fresh { (actor : ℕ) (k : Knowledge) → Shows actor self.old spares.old k → Fits self.old.limits k (wanted self.old spares.old) answer → TakesFresh self.old.limits k self.old.plan result }
+        requires told { IsTold self.old spares.old answer.now }
+        ensures follows { (actor : ℕ) (k : Knowledge) → Shows actor self.old spares.old k → Fits self.old.limits k (wanted self.old spares.old) answer.now → Follows actor k (learn k (wanted self.old spares.old) answer.now) self.old answer.now self.new spares.new result }
+        ensures limbo { (actor : ℕ) (k : Knowledge) → Shows actor self.old spares.old k → Fits self.old.limits k (wanted self.old spares.old) answer.now → (learn k (wanted self.old spares.old) answer.now).limbo ≡ limbo_after self.old.plan result k }
+        ensures fresh { (actor : ℕ) (k : Knowledge) → Shows actor self.old spares.old k → Fits self.old.limits k (wanted self.old spares.old) answer.now → TakesFresh self.old.limits k self.old.plan result }
         ensures sound { IfNone result (IsSoundChange self.new spares.new) }
         ensures room { HaveRoom self.old.limits spares.new }
         ensures same { IsSame self.old self.new }
-        ensures pid { IsPidFrom spares.old.pid (pid_taken (wanted self.old spares.old) answer) spares.new.pid }
-        ensures spends { Spends self.old spares.old answer self.new spares.new result }
-        ensures lowest { (kind : Kind) (word bits : ℕ) → self.old.state ≡ State.Taking (Taking.Bits kind word) → answer ≡ Answer.Number bits → 0 < bits → self.new.state ≡ State.Taking (Taking.Take kind (64 * word + trailing_zeros w64 bits)) }
-        ensures again { (kind : Kind) (number : ℕ) → self.old.state ≡ State.Taking (Taking.Take kind number) → answer ≡ Answer.Whether false → self.new.state ≡ State.Taking (Taking.Bits kind (number / 64)) }
+        ensures pid { IsPidFrom spares.old.pid (pid_taken (wanted self.old spares.old) answer.now) spares.new.pid }
+        ensures spends { Spends self.old spares.old answer.now self.new spares.new result }
+        ensures lowest { (kind : Kind) (word bits : ℕ) → self.old.state ≡ State.Taking (Taking.Bits kind word) → answer.now ≡ Answer.Number bits → 0 < bits → self.new.state ≡ State.Taking (Taking.Take kind (64 * word + trailing_zeros w64 bits)) }
+        ensures again { (kind : Kind) (number : ℕ) → self.old.state ≡ State.Taking (Taking.Take kind number) → answer.now ≡ Answer.Whether false → self.new.state ≡ State.Taking (Taking.Bits kind (number / 64)) }
     {
         let _ = &self.limits;
         self.move_on(spares, answer)
     }
 
     /// Goes to the state that follows.
-    fn move_on(&mut self, spares: &mut Spares, answer: Answer<Record>) -> Option<End>
+    fn move_on(&mut self, spares: &mut Spares, answer: &Answer<Record>) -> Option<End>
         requires sound { IsSoundChange self.old spares.old }
-        requires told { IsTold self.old spares.old answer }
-        ensures moved { moved self.old.limits self.old.plan spares.old self.old.state answer ≡ record { state = self.new.state; spares = spares.new; end = result } }
+        requires told { IsTold self.old spares.old answer.now }
+        ensures moved { moved self.old.limits self.old.plan spares.old self.old.state answer.now ≡ record { state = self.new.state; spares = spares.new; end = result } }
         ensures same { IsSame self.old self.new }
     {
         match self.state {
@@ -147,18 +147,18 @@ impl Change {
                 self.go(state)
             }
             State::Place => self.go(State::Link),
-            State::Link => self.decide(spares, answer.into_whether()),
+            State::Link => self.decide(spares, answer.whether()),
             State::Undo => Some(End::Lost),
             State::Clear => Some(End::Won),
         }
     }
 
     /// Goes on with a taking; what was taken is a spare.
-    fn take(&mut self, spares: &mut Spares, taking: Taking, answer: Answer<Record>) -> Option<End>
+    fn take(&mut self, spares: &mut Spares, taking: Taking, answer: &Answer<Record>) -> Option<End>
         requires state { self.old.state ≡ State.Taking taking }
         requires sound { IsSoundChange self.old spares.old }
-        requires told { IsTold self.old spares.old answer }
-        ensures moved { moved_by self.old.plan spares.old self.old.state (found_after self.old.limits taking answer) ≡ record { state = self.new.state; spares = spares.new; end = result } }
+        requires told { IsTold self.old spares.old answer.now }
+        ensures moved { moved_by self.old.plan spares.old self.old.state (found_after self.old.limits taking answer.now) ≡ record { state = self.new.state; spares = spares.new; end = result } }
         ensures same { IsSame self.old self.new }
     {
         match taking.next(&self.limits, answer) {

@@ -61,16 +61,16 @@ impl Taking {
     }
 
     /// Takes the answer to the step wanted last.
-    pub(crate) fn next(self, limits: &Limits, answer: Answer<Record>) -> Found
-        requires told { FitsTaking limits.now self answer }
+    pub(crate) fn next(self, limits: &Limits, answer: &Answer<Record>) -> Found
+        requires told { FitsTaking limits.now self answer.now }
         requires sound { IsSoundTaking limits.now self }
-        ensures found { result ≡ found_after limits.now self answer }
+        ensures found { result ≡ found_after limits.now self answer.now }
         ensures sound { IsSoundFound limits.now result }
     {
         match self {
-            Taking::Bits { kind, word } => choose(limits, kind, word, answer.into_number()),
+            Taking::Bits { kind, word } => choose(limits, kind, word, answer.number()),
             Taking::Take { kind, number } => {
-                if answer.into_whether() {
+                if answer.whether() {
                     return Found::Taken { kind, number };
                 }
                 Found::Not(Taking::Bits {

@@ -86,7 +86,7 @@ fn drive(
         let step = change.step(spares);
         let _ = log.try_push(shown(&step));
         let answer = told(&mut world, limits, &step);
-        if let Some(end) = change.next(spares, answer) {
+        if let Some(end) = change.next(spares, &answer) {
             return (log, Some(end));
         }
     }

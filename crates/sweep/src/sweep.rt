@@ -91,12 +91,12 @@ impl Sweep {
     }
 
     /// Takes the answer to the step wanted last, and tells whether the sweep goes on.
-    pub fn next<A: Allocator>(&mut self, limbo: &mut Limbo<A>, answer: Answer<Record>) -> bool
+    pub fn next<A: Allocator>(&mut self, limbo: &mut Limbo<A>, answer: &Answer<Record>) -> bool
         requires sound { IsSoundSweep self.old limbo.old }
-        requires told { IsTold self.old answer }
-        ensures moves { Moves self.old.limits self.old.state limbo.old answer (state_if result self.new.state) limbo.new }
+        requires told { IsTold self.old answer.now }
+        ensures moves { Moves self.old.limits self.old.state limbo.old answer.now (state_if result self.new.state) limbo.new }
         ensures same { IsSame self.old self.new }
-        ensures follows { (k : Knowledge) → Shows self.old limbo.old k → Fits self.old.limits k (wanted self.old) answer → Follows k (learn k (wanted self.old) answer) self.new limbo.new result }
+        ensures follows { (k : Knowledge) → Shows self.old limbo.old k → Fits self.old.limits k (wanted self.old) answer.now → Follows k (learn k (wanted self.old) answer.now) self.new limbo.new result }
         ensures sound { IsTrue result → IsSoundSweep self.new limbo.new }
         ensures lists { IsLimboOf self.old.limits limbo.new }
         ensures spends { Spends result self.old.state self.new.state }
@@ -116,17 +116,17 @@ impl Sweep {
     fn move_on<A: Allocator>(
         &mut self,
         limbo: &mut Limbo<A>,
-        answer: Answer<Record>,
+        answer: &Answer<Record>,
     ) -> Option<State>
-        requires told { IsTold self.old answer }
-        ensures moves { Moves self.old.limits self.old.state limbo.old answer result limbo.new }
+        requires told { IsTold self.old answer.now }
+        ensures moves { Moves self.old.limits self.old.state limbo.old answer.now result limbo.new }
         ensures same { IsSame self.old self.new }
     {
         match mem::replace(&mut self.state, State::Epoch) {
-            State::Epoch => stamp(&self.limits, limbo, answer.into_number()),
+            State::Epoch => stamp(&self.limits, limbo, answer.number()),
             State::Retire { .. } => compare(&self.limits, limbo, Announces::new()),
             State::Announce { announces } => {
-                compare(&self.limits, limbo, announces.with(answer.into_number()))
+                compare(&self.limits, limbo, announces.with(answer.number()))
             }
             State::Reuse { .. } => free(limbo),
         }

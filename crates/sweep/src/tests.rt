@@ -67,7 +67,7 @@ fn drive(
     for _ in 0..24 {
         let step = sweep.step();
         let _ = log.try_push(shown(&step));
-        if !sweep.next(limbo, told(epoch, announced, &step)) {
+        if !sweep.next(limbo, &told(epoch, announced, &step)) {
             return log;
         }
     }

@@ -9,5 +9,5 @@ pub returns-in-Row-clause-follows : goal.returns-in-Row-clause-follows
 returns-in-Row-clause-follows c k =
     let e : c.args.self.now.state ≡ Row c.in-Row.head c.in-Row.row = rw (← c.self.view_is) c.in-Row.is in
     let sight = Some (Whole c.whole.result) in
-    let responds = responds_at c.args.self.now (Row c.in-Row.head c.in-Row.row) c.args.answer (Content c.into_content.result) c.whole.new.self sight e c.into_content.ensures c.whole.ensures.completes in
-    follows_from k c.args.self.now c.args.answer c.whole.new.self sight responds
+    let responds = responds_at c.args.self.now (Row c.in-Row.head c.in-Row.row) c.args.answer.now (Content c.content.result.now) c.whole.new.self sight e c.content.ensures c.whole.ensures.completes in
+    follows_from k c.args.self.now c.args.answer.now c.whole.new.self sight responds

@@ -6,7 +6,7 @@ use Rattle.descent.proofs.write_round.WriteRound.next.Goals as goal
 
 pub see-requires : goal.see-requires
 see-requires c =
-    let there = can_see c.args.self.now c.end-sight.new.self.state c.args.answer c.end-sight.result (rw (← c.self.view_is) c.end-sight.ensures.responds) c.requires.told in
+    let there = can_see c.args.self.now c.end-sight.new.self.state c.args.answer.now c.end-sight.result (rw (← c.self.view_is) c.end-sight.ensures.responds) c.requires.told in
     let here : WriteRound → Type 0 = λ round. CanSee (record round { limits = c.end-sight.new.self.limits; state = c.end-sight.new.self.state }) c.end-sight.result in
     let can : here c.args.self.now = subst (λ (l : Limits). CanSee (record c.args.self.now { limits = l; state = c.end-sight.new.self.state }) c.end-sight.result) (rw (← c.self.view_is) (sym c.end-sight.ensures.limits)) there in
     record { can = subst here (sym c.self.view_is) can }
@@ -18,11 +18,11 @@ returns c =
     let there : WriteRound → Type 0 = λ round. Sees (record round { limits = c.end-sight.new.self.limits; state = c.end-sight.new.self.state }) c.end-sight.result c.see.new.self c.see.result in
     let sees : Sees (at old c.end-sight.new.self.state) c.end-sight.result c.see.new.self c.see.result =
     subst (λ (l : Limits). Sees (record old { limits = l; state = c.end-sight.new.self.state }) c.end-sight.result c.see.new.self c.see.result) limits (subst there c.self.view_is c.see.ensures.sees) in
-    let responds : Responds old c.args.answer c.see.new.self c.see.result =
+    let responds : Responds old c.args.answer.now c.see.new.self c.see.result =
     inr (record { sight = c.end-sight.result; finds = rw (← c.self.view_is) c.end-sight.ensures.responds; sees = sees_as old c.see.new.self old.state c.end-sight.new.self.state c.end-sight.result c.see.result sees }) in
     record {
       responds = responds;
-      follows = follows_from old c.see.new.self c.args.answer c.see.result responds;
-      spends = spends_from old c.see.new.self c.args.answer c.see.result responds;
+      follows = follows_from old c.see.new.self c.args.answer.now c.see.result responds;
+      spends = spends_from old c.see.new.self c.args.answer.now c.see.result responds;
       same = record { limits = c.see.ensures.same.limits ∙ limits; key = rw (← c.self.view_is) c.see.ensures.same.key; due = rw (← c.self.view_is) c.see.ensures.same.due; seeks = rw (← c.self.view_is) c.see.ensures.same.seeks };
     }
