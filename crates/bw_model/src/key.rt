@@ -1,24 +1,15 @@
 //! Keys: short lists of bytes, in lexicographic order.
 ghost use Rattle.std.specs.Prelude.{◌≡◌, ◌≤◌, ◌↔◌, List, ℕ, [], length, IsOk, IfOk};
-ghost use Rattle.bw_model.specs.declared.key.TheConstants.{MAX_LENGTH};
+ghost use Rattle.bw_model.specs.declared.short_bytes.TheConstants.{MAX_LENGTH};
 
-use arrayvec::ArrayVec;
+use crate::short_bytes::{ShortBytes, TooLong};
 use std::alloc::AllocError;
 use std::marker::Model;
-use thiserror::Error;
-
-/// A slice has more than 32 bytes.
-#[derive(Clone, Copy, Debug, PartialEq, Eq, Error)]
-#[error("more than {MAX_LENGTH} bytes")]
-pub struct TooLong;
-
-/// How many bytes a key or a value has at most.
-pub const MAX_LENGTH: usize = 32;
 
 /// A key: at most 32 bytes, ordered as a list of unsigned bytes.
 #[derive(Debug, PartialEq, Eq, PartialOrd, Ord, Drop)]
 pub struct Key {
-    bytes: ArrayVec<u8, MAX_LENGTH>,
+    bytes: ShortBytes,
 }
 
 impl Model for Key {
@@ -27,11 +18,11 @@ impl Model for Key {
 
     ghost Value = { List ℕ };
 
-    ghost view = { λ k. k.bytes.items };
+    ghost view = { λ k. k.bytes };
 
-    ghost invariant = { λ k. IsShort k.bytes.items };
+    ghost invariant = { λ k. IsShort k.bytes };
 
-    ghost inverse = { λ bytes. record { bytes = record { items = bytes } } };
+    ghost inverse = { λ bytes. record { bytes = bytes } };
 }
 
 impl Key {
@@ -40,10 +31,9 @@ impl Key {
         ensures fits { IsOk result ↔ (length bytes.now ≤ MAX_LENGTH) }
         ensures key { IfOk result (λ key. key ≡ bytes.now) }
     {
-        match ArrayVec::try_from(bytes) {
-            Ok(bytes) => Ok(Key { bytes }),
-            Err(_) => Err(TooLong),
-        }
+        Ok(Key {
+            bytes: ShortBytes::from_slice(bytes)?,
+        })
     }
 
     /// The bytes.
@@ -58,9 +48,9 @@ impl Key {
     pub fn copied(&self) -> Key
         ensures { result ≡ self.now }
     {
-        let mut bytes = ArrayVec::new();
-        bytes.try_extend_from_slice(self.bytes.as_slice()).unwrap();
-        Key { bytes }
+        Key {
+            bytes: self.bytes.copied(),
+        }
     }
 }
 
@@ -70,7 +60,7 @@ impl Default for Key {
     /// The empty key, which is the lowest one.
     fn default() -> Self {
         Key {
-            bytes: ArrayVec::new(),
+            bytes: ShortBytes::default(),
         }
     }
 }

@@ -8,6 +8,7 @@ mod key;
 mod limits;
 mod pairs;
 mod schedule;
+mod short_bytes;
 mod step;
 mod update;
 mod value;
@@ -17,10 +18,11 @@ pub use examples::{
     commands_are_answered, keys_are_ordered, logs_are_read, pairs_are_listed, schedules_are_drawn,
     upkeep_changes_nothing,
 };
-pub use key::{Key, MAX_LENGTH, TooLong};
+pub use key::Key;
 pub use limits::{BadLimits, Limits, OpenError};
 pub use pairs::{MAX_PAIRS, Pairs};
 pub use schedule::Schedule;
+pub use short_bytes::{MAX_LENGTH, TooLong};
 pub use step::{Answer, Link, Step};
 pub use update::{Update, logged_value};
 pub use value::Value;

@@ -1,16 +1,15 @@
 //! Values: short lists of bytes.
 ghost use Rattle.std.specs.Prelude.{◌≡◌, ◌≤◌, ◌↔◌, List, ℕ, [], length, IsOk, IfOk};
-ghost use Rattle.bw_model.specs.declared.key.TheConstants.{MAX_LENGTH};
+ghost use Rattle.bw_model.specs.declared.short_bytes.TheConstants.{MAX_LENGTH};
 
-use crate::{MAX_LENGTH, TooLong};
-use arrayvec::ArrayVec;
+use crate::short_bytes::{ShortBytes, TooLong};
 use std::alloc::AllocError;
 use std::marker::Model;
 
 /// A value: at most 32 bytes.
 #[derive(Debug, PartialEq, Eq, PartialOrd, Ord, Drop)]
 pub struct Value {
-    bytes: ArrayVec<u8, MAX_LENGTH>,
+    bytes: ShortBytes,
 }
 
 impl Model for Value {
@@ -19,11 +18,11 @@ impl Model for Value {
 
     ghost Value = { List ℕ };
 
-    ghost view = { λ v. v.bytes.items };
+    ghost view = { λ v. v.bytes };
 
-    ghost invariant = { λ v. IsShort v.bytes.items };
+    ghost invariant = { λ v. IsShort v.bytes };
 
-    ghost inverse = { λ bytes. record { bytes = record { items = bytes } } };
+    ghost inverse = { λ bytes. record { bytes = bytes } };
 }
 
 impl Value {
@@ -32,10 +31,9 @@ impl Value {
         ensures fits { IsOk result ↔ (length bytes.now ≤ MAX_LENGTH) }
         ensures value { IfOk result (λ value. value ≡ bytes.now) }
     {
-        match ArrayVec::try_from(bytes) {
-            Ok(bytes) => Ok(Value { bytes }),
-            Err(_) => Err(TooLong),
-        }
+        Ok(Value {
+            bytes: ShortBytes::from_slice(bytes)?,
+        })
     }
 
     /// The bytes.
@@ -50,9 +48,9 @@ impl Value {
     pub fn copied(&self) -> Value
         ensures { result ≡ self.now }
     {
-        let mut bytes = ArrayVec::new();
-        bytes.try_extend_from_slice(self.bytes.as_slice()).unwrap();
-        Value { bytes }
+        Value {
+            bytes: self.bytes.copied(),
+        }
     }
 }
 
@@ -62,7 +60,7 @@ impl Default for Value {
     /// The empty value.
     fn default() -> Self {
         Value {
-            bytes: ArrayVec::new(),
+            bytes: ShortBytes::default(),
         }
     }
 }
