@@ -16,6 +16,7 @@ use Rattle.op_machine.specs.declared.op.Want.{Want}
 use Rattle.op_machine.specs.declared.op.Want.TheVariants.{Step, Done}
 use Rattle.op_machine.specs.declared.state.Outcome.{Outcome}
 use Rattle.op_machine.specs.declared.state.State.{State}
+use Rattle.op_machine.specs.declared.state.State.TheVariants.{Leave}
 use Rattle.sweep.specs.Kept.{AreKept}
 
 abbrev pub Works : Op → Spares → Knowledge → Recalled → Type 0
@@ -61,8 +62,11 @@ abbrev pub ObeysOn : Op → Spares → Answer Record → Op → Spares → Want 
 ObeysOn old had told new has want = (k : Knowledge) (r : Recalled) → Works old had k r → FitsLast old.task.limits k (asked_of old had) told → AnswersOn k r old had told new has want
 
 -- with fewer steps left, or a cause paid for more,
+abbrev pub IsSpentOn : Recalled → Op → Spares → Answer Record → Op → Spares → Type 0
+IsSpentOn r old had told new has = IsSpentLast r (asked_of old had) told (with_errands old.task.errands (left_at r had old.state)) (with_errands new.task.errands (left_at (recall_last r (asked_of old had) told) has new.state))
+
 abbrev pub SpendsOnTo : Recalled → Op → Spares → Answer Record → Op → Spares → Want → Type 0
-SpendsOnTo r old had told new has (Step asked) = IsSpentLast r (asked_of old had) told (with_errands old.task.errands (left_at r had old.state)) (with_errands new.task.errands (left_at (recall_last r (asked_of old had) told) has new.state))
+SpendsOnTo r old had told new has (Step asked) = IsSpentOn r old had told new has
 SpendsOnTo r old had told new has (Done reply) = ⊤
 
 abbrev pub SpendsOn : Op → Spares → Answer Record → Op → Spares → Want → Type 0
@@ -80,8 +84,21 @@ pub record GoesAhead (old : Op) (had : Spares) (told : Answer Record) (new : Op)
   pub same : IsSameTask old.task new.task
   pub sweep : new.sweep ≡ old.sweep
 
--- It goes from what it has come to into the state that follows, whose step it wants.
-pub record Follows (old : Op) (spares : Spares) (outcome : Outcome) (new : Op) : Type 0 where
+-- It has taken the answer and asks for a step: it shows what is known then, with fewer steps left, at the same task.
+pub record Advances (old : Op) (had : Spares) (told : Answer Record) (new : Op) (has : Spares) : Type 0 where
+  pub works : (k : Knowledge) (r : Recalled) → Works old had k r → FitsLast old.task.limits k (asked_of old had) told → Works new has (learn_last k (asked_of old had) told) (recall_last r (asked_of old had) told)
+  pub spends : (k : Knowledge) (r : Recalled) → Works old had k r → FitsLast old.task.limits k (asked_of old had) told → IsSpentOn r old had told new has
+  pub asks : IsSome (asked_of new has)
+  pub same : IsSameTask old.task new.task
+  pub sweep : new.sweep ≡ old.sweep
+
+-- It has left, with the reply that it was to leave with.
+abbrev pub Leaves : State → Want → Type 0
+Leaves state (Step asked) = ⊥
+Leaves state (Done reply) = state ≡ Leave reply
+
+-- It goes from what it has come to into the state that follows, which asks for a step.
+pub record FollowsOutcome (old : Op) (spares : Spares) (outcome : Outcome) (new : Op) : Type 0 where
   pub stands : (k : Knowledge) (r : Recalled) → Faces old.task spares k r outcome → Works new spares k r
   pub few : (k : Knowledge) (r : Recalled) → Faces old.task spares k r outcome → with_errands new.task.errands (left_at r spares new.state) ≤ with_errands old.task.errands (left_for outcome)
   pub asks : IsSome (asked_of new spares)
