@@ -12,17 +12,17 @@ use Rattle.op_machine.specs.Ops.{Op}
 use Rattle.op_machine.specs.Outcomes.{Comes, Faces, IsFaced, IsToldAt}
 use Rattle.op_machine.specs.Shows.{FitsLast, MayStep, Stands, learn_last, recall_last}
 use Rattle.op_machine.specs.Tasks.{Task}
-use Rattle.op_machine.specs.Works.{Advances, FollowsOutcome, GoesAhead, IsToldChange, IsToldOn, IsToldWith, Works, asked_of}
+use Rattle.op_machine.specs.Works.{Advances, FollowsOutcome, GoesAhead, IsToldChange, IsToldOn, IsToldWith, Makes, Works, asked_of}
 use Rattle.op_machine.specs.declared.op.Want.TheVariants as Want
 use Rattle.op_machine.specs.declared.state.Outcome.{Outcome}
 use Rattle.op_machine.specs.declared.state.State.{State}
 
 -- what is told of an operation is told of its state
-pub told_at : (op : Op) (spares : Spares) (told : Answer Record) → IsToldOn op spares told → IsToldAt op.state spares told
+abbrev pub told_at : (op : Op) (spares : Spares) (told : Answer Record) → IsToldOn op spares told → IsToldAt op.state spares told
 told_at op spares told is = record { task = op.task; k = is.k; r = is.r; stands = is.works; fits = is.fits }
 
 pub told_change : (op : Op) (hand : Hand) (told : Answer Record) → IsToldWith op hand told → IsToldChange op.state hand told
-told_change op hand told is = record { task = op.task; k = is.told_on.k; r = is.told_on.r; stands = is.told_on.works; fits = is.told_on.fits; kept = is.kept }
+told_change op hand told is = record { told_at = told_at op hand.spares told is.told_on; kept = is.kept }
 
 -- the steps of errands come on top
 spent_with : (r : Recalled) (last : Option (Step Record)) (told : Answer Record) (left rest : ℕ) (errands now : List (List ℕ)) (more : ℕ) → IsSpentLast r last told left rest → with_errands now more ≤ with_errands errands rest → IsSpentLast r last told (with_errands errands left) (with_errands now more)
@@ -34,8 +34,7 @@ spent_with r (Some asked) told left rest errands now more spent few = elim spent
 
 -- The state has made this of the answer.
 module _ (old : Op) (had has : Spares) (told : Answer Record) (is : IsToldOn old had told) (state : State) (outcome : Option Outcome)
-    (comes : (task : Task) (k : Knowledge) (r : Recalled) → Stands task had k r old.state → FitsLast task.limits k (asked_of old had) told → Comes task k r (asked_of old had) told state has outcome)
-    (leaves : (task : Task) (k : Knowledge) (r : Recalled) → Stands task had k r old.state → FitsLast task.limits k (asked_of old had) told → LeavesFor r (asked_of old had) told (left_at r had old.state) state has outcome) where
+    (makes : Makes old.state had told state has outcome) where
   abbrev went : Op
   went = record old { state = state }
 
@@ -49,19 +48,19 @@ module _ (old : Op) (had has : Spares) (told : Answer Record) (is : IsToldOn old
   pub goes_on : outcome ≡ None → Advances old had told went has
   goes_on on = record {
     works = λ k r works fits. (here k r works fits).0;
-    spends = λ k r works fits. spent_with r last told _ _ errands errands _ (subst (λ o. LeavesFor r last told (left_at r had old.state) state has o) on (leaves old.task k r works fits)) (omega arith);
+    spends = λ k r works fits. spent_with r last told _ _ errands errands _ (subst (λ o. LeavesFor r last told (left_at r had old.state) state has o) on (makes.leaves old.task k r works fits)) (omega arith);
     asks = (here is.k is.r is.works is.fits).1;
     same = record { limits = refl; actor = refl; command = refl };
     sweep = refl;
   }
     where
       here : (k : Knowledge) (r : Recalled) → Works old had k r → FitsLast old.task.limits k last told → Comes old.task k r last told state has None
-      here k r works fits = subst (λ o. Comes old.task k r last told state has o) on (comes old.task k r works fits)
+      here k r works fits = subst (λ o. Comes old.task k r last told state has o) on (makes.comes old.task k r works fits)
 
   -- or has come to something
   module _ (to : Outcome) (come : outcome ≡ Some to) where
     faces : (k : Knowledge) (r : Recalled) → Works old had k r → FitsLast old.task.limits k last told → Faces old.task has (learn_last k last told) (recall_last r last told) to
-    faces k r works fits = subst (λ o. Comes old.task k r last told state has o) come (comes old.task k r works fits)
+    faces k r works fits = subst (λ o. Comes old.task k r last told state has o) come (makes.comes old.task k r works fits)
 
     pub faced : IsFaced old.task has to
     faced = record { k = learn_last is.k last told; r = recall_last is.r last told; faces = faces is.k is.r is.works is.fits }
@@ -69,7 +68,7 @@ module _ (old : Op) (had has : Spares) (told : Answer Record) (is : IsToldOn old
     pub follows : (new : Op) → FollowsOutcome went has to new → Advances old had told new has
     follows new after = record {
       works = λ k r works fits. after.stands _ _ (faces k r works fits);
-      spends = λ k r works fits. spent_with r last told _ _ errands new.task.errands _ (subst (λ o. LeavesFor r last told (left_at r had old.state) state has o) come (leaves old.task k r works fits)) (after.few _ _ (faces k r works fits));
+      spends = λ k r works fits. spent_with r last told _ _ errands new.task.errands _ (subst (λ o. LeavesFor r last told (left_at r had old.state) state has o) come (makes.leaves old.task k r works fits)) (after.few _ _ (faces k r works fits));
       asks = after.asks;
       same = after.same;
       sweep = after.sweep;

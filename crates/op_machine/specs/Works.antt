@@ -6,10 +6,10 @@ use Rattle.deltas.specs.declared.record.Record.{Record}
 use Rattle.chain_search.specs.Knowledge.{Knowledge}
 use Rattle.chain_search.specs.Recalled.{Recalled}
 use Rattle.installs.specs.Spares.{Spares}
-use Rattle.op_machine.specs.Bounded.{IsSpentLast, left_at, left_for, with_errands}
+use Rattle.op_machine.specs.Bounded.{IsSpentLast, LeavesFor, left_at, left_for, with_errands}
 use Rattle.op_machine.specs.Hands.{Hand}
 use Rattle.op_machine.specs.Ops.{Op}
-use Rattle.op_machine.specs.Outcomes.{Faces, HasLeft}
+use Rattle.op_machine.specs.Outcomes.{Comes, Faces, HasLeft, IsToldAt}
 use Rattle.op_machine.specs.Shows.{FitsLast, MayStep, Stands, learn_last, recall_last, wanted_at}
 use Rattle.op_machine.specs.Tasks.{IsSameTask, Task}
 use Rattle.op_machine.specs.declared.op.Want.{Want}
@@ -38,14 +38,15 @@ pub record IsToldWith (op : Op) (hand : Hand) (told : Answer Record) : Type 0 wh
   pub told_on : IsToldOn op hand.spares told
   pub kept : AreKept op.task.limits op.task.actor hand.limbo told_on.k.limbo
 
--- The same of a change that is under way.
+-- The same of a state.
 pub record IsToldChange (state : State) (hand : Hand) (told : Answer Record) : Type 0 where
-  pub task : Task
-  pub k : Knowledge
-  pub r : Recalled
-  pub stands : Stands task hand.spares k r state
-  pub fits : FitsLast task.limits k (wanted_at hand.spares state) told
-  pub kept : AreKept task.limits task.actor hand.limbo k.limbo
+  pub told_at : IsToldAt state hand.spares told
+  pub kept : AreKept told_at.task.limits told_at.task.actor hand.limbo told_at.k.limbo
+
+-- The answer makes this of a state, whatever is known that the state shows: it goes on, or the operation has come to this.
+pub record Makes (old : State) (had : Spares) (told : Answer Record) (new : State) (has : Spares) (outcome : Option Outcome) : Type 0 where
+  pub comes : (task : Task) (k : Knowledge) (r : Recalled) → Stands task had k r old → FitsLast task.limits k (wanted_at had old) told → Comes task k r (wanted_at had old) told new has outcome
+  pub leaves : (task : Task) (k : Knowledge) (r : Recalled) → Stands task had k r old → FitsLast task.limits k (wanted_at had old) told → LeavesFor r (wanted_at had old) told (left_at r had old) new has outcome
 
 -- The step is wanted, the actor may take it, and the operation shows what is known.
 pub record GoesOn (k : Knowledge) (r : Recalled) (op : Op) (spares : Spares) (asked : StepOf Record) : Type 0 where
@@ -92,10 +93,10 @@ pub record Advances (old : Op) (had : Spares) (told : Answer Record) (new : Op) 
   pub same : IsSameTask old.task new.task
   pub sweep : new.sweep ≡ old.sweep
 
--- It has left, with the reply that it was to leave with.
-abbrev pub Leaves : State → Want → Type 0
-Leaves state (Step asked) = ⊥
-Leaves state (Done reply) = state ≡ Leave reply
+-- It is done with the reply with which it was to leave.
+abbrev pub IsDone : State → Want → Type 0
+IsDone state (Step asked) = ⊥
+IsDone state (Done reply) = state ≡ Leave reply
 
 -- It goes from what it has come to into the state that follows, which asks for a step.
 pub record FollowsOutcome (old : Op) (spares : Spares) (outcome : Outcome) (new : Op) : Type 0 where

@@ -3,10 +3,9 @@ ghost use Rattle.std.specs.Prelude.{◌≡◌, ◌<◌, ◌≤◌, ◌^◌, ℕ,
 ghost use Rattle.chain_search.specs.Fitting.{Fits};
 ghost use Rattle.chain_search.specs.Knowledge.{Knowledge, begun, learn};
 ghost use Rattle.chain_search.specs.Recalled.{Recalled, blank};
-ghost use Rattle.op_machine.specs.Bounded.{LeavesFor, left_at};
 ghost use Rattle.op_machine.specs.Hands.{Hand as HandSeen};
 ghost use Rattle.op_machine.specs.Ops.{IsAtRestWith, IsTold, Obeys, Shows};
-ghost use Rattle.op_machine.specs.Outcomes.{Comes, IsFaced, changed, has_machine, is_changing, is_leaving, is_reading, is_writing, reads_on_at};
+ghost use Rattle.op_machine.specs.Outcomes.{IsFaced, changed, has_machine, is_changing, is_leaving, is_reading, is_writing, reads_on_at};
 ghost use Rattle.op_machine.specs.Shows.{FitsLast, Stands, learn_last, wanted_at};
 ghost use Rattle.op_machine.specs.Spending.{Spends, steps_left};
 ghost use Rattle.op_machine.specs.Sweeping.{FollowsSweep, HasFewer, IsSameWork, IsToldSweep, MovesSweep, ObeysSweep};
@@ -14,7 +13,7 @@ ghost use Rattle.op_machine.specs.Tasks.{IsSameTask, Task};
 ghost use Rattle.sweep.specs.Bounded.{steps_left as steps_of};
 ghost use Rattle.sweep.specs.Sweeps.{IsSoundSweep, IsTold as IsToldAlone, Shows as ShowsSweep, wanted};
 ghost use Rattle.sweep.specs.Kept.{AreKept};
-ghost use Rattle.op_machine.specs.Works.{Advances, FollowsOutcome, GoesAhead, IsToldChange, IsToldOn, IsToldWith, KeepsLimbo, Leaves};
+ghost use Rattle.op_machine.specs.Works.{Advances, FollowsOutcome, GoesAhead, IsDone, IsToldChange, IsToldOn, IsToldWith, KeepsLimbo, Makes};
 
 use crate::hand::Hand;
 use crate::state::{Outcome, State, Then};
@@ -142,7 +141,7 @@ impl Op {
     #[inline(never)]
     fn leave(&self) -> Want
         requires leaving { is_leaving self.now.state ≡ true }
-        ensures { Leaves self.now.state result }
+        ensures { IsDone self.now.state result }
     {
         Want::Done(self.state.reply())
     }
@@ -295,8 +294,7 @@ fn ended<A: Allocator>(
 ) -> Option<(End, Then)>
     requires told { IsToldChange state.old hand.old answer }
     requires changing { is_changing state.old ≡ true }
-    ensures comes { (task : Task) (k : Knowledge) (r : Recalled) → Stands task hand.old.spares k r state.old → FitsLast task.limits k (wanted_at hand.old.spares state.old) answer → Comes task k r (wanted_at hand.old.spares state.old) answer state.new hand.new.spares (changed result) }
-    ensures leaves { (task : Task) (k : Knowledge) (r : Recalled) → Stands task hand.old.spares k r state.old → FitsLast task.limits k (wanted_at hand.old.spares state.old) answer → LeavesFor r (wanted_at hand.old.spares state.old) answer (left_at r hand.old.spares state.old) state.new hand.new.spares (changed result) }
+    ensures makes { Makes state.old hand.old.spares answer state.new hand.new.spares (changed result) }
     ensures keeps { (task : Task) (k : Knowledge) (r : Recalled) → Stands task hand.old.spares k r state.old → FitsLast task.limits k (wanted_at hand.old.spares state.old) answer → AreKept task.limits task.actor hand.old.limbo k.limbo → AreKept task.limits task.actor hand.new.limbo (learn_last k (wanted_at hand.old.spares state.old) answer).limbo }
 {
     match state.change_next(&mut hand.spares, answer) {

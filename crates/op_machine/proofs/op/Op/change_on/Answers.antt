@@ -13,19 +13,17 @@ ended-requires-clause-told g c = told_change _ _ _ (rw (← c.self.view_is) at c
 pub end_change-requires : goal.end_change-requires
 end_change-requires g c =
     let told = rw (← c.self.view_is) at c.requires.told in
-    let comes = rw (← c.hand.view_is) at c.ended.ensures.comes in
-    let leaves = rw (← c.hand.view_is) at c.ended.ensures.leaves in
-    record { faced = faced _ _ _ _ told.told_on _ _ comes leaves (Changed c.in-Some.end c.in-Some.then) (ap changed c.in-Some.is) }
+    let makes = rw (← c.hand.view_is) at c.ended.ensures.makes in
+    record { faced = faced _ _ _ _ told.told_on _ _ makes (Changed c.in-Some.end c.in-Some.then) (ap changed c.in-Some.is) }
 
 pub returns-clause-advances : goal.returns-clause-advances
 returns-clause-advances g c =
     let told = rw (← c.self.view_is) at c.requires.told in
-    let comes = rw (← c.hand.view_is) at c.ended.ensures.comes in
-    let leaves = rw (← c.hand.view_is) at c.ended.ensures.leaves in
+    let makes = rw (← c.hand.view_is) at c.ended.ensures.makes in
     let P : Op → Type 0 = λ o. Advances (record { task = c.self.inside.task; sweep = c.self.inside.sweep; state = c.self.inside.state }) c.args.hand.now.spares c.args.answer o c.hand.inside.spares in
     let advances : P c.match-ended.self = elim c.match-ended.branch [
-      | in-Some w ↦ subst P (sym w.self-is) (follows _ _ _ _ told.told_on _ _ comes leaves (Changed w.in-Some.end w.in-Some.then) (ap changed w.in-Some.is) _ w.end_change.ensures)
-      | in_default w ↦ subst P (sym w.self-is) (goes_on _ _ _ _ told.told_on _ _ comes leaves (ap changed w.in_default.is))
+      | in-Some w ↦ subst P (sym w.self-is) (follows _ _ _ _ told.told_on _ _ makes (Changed w.in-Some.end w.in-Some.then) (ap changed w.in-Some.is) _ w.end_change.ensures)
+      | in_default w ↦ subst P (sym w.self-is) (goes_on _ _ _ _ told.told_on _ _ makes (ap changed w.in_default.is))
     ] in
     rw (← c.self.view_is, ← c.hand.view_is) advances
 

@@ -9,4 +9,4 @@ read_on-requires-clause-told c = told_at _ _ _ (rw (← c.self.view_is) at c.req
 pub returns : goal.returns
 returns c =
     let told = rw (← c.self.view_is) at c.requires.told in
-    rw (← c.self.view_is) (goes_on _ _ _ _ told _ _ c.read_on.ensures.comes c.read_on.ensures.leaves refl)
+    rw (← c.self.view_is) (goes_on _ _ _ _ told _ _ c.read_on.ensures refl)

@@ -10,14 +10,14 @@ read_next-requires-clause-told c = told_at _ _ _ (rw (← c.self.view_is) at c.r
 pub end_read-requires : goal.end_read-requires
 end_read-requires c =
     let told = rw (← c.self.view_is) at c.requires.told in
-    record { faced = faced _ _ _ _ told _ _ c.read_next.ensures.comes c.read_next.ensures.leaves (Read c.in-Some.end) (ap read_out c.in-Some.is) }
+    record { faced = faced _ _ _ _ told _ _ c.read_next.ensures (Read c.in-Some.end) (ap read_out c.in-Some.is) }
 
 pub returns-in-Some : goal.returns-in-Some
 returns-in-Some c =
     let told = rw (← c.self.view_is) at c.requires.told in
-    rw (← c.self.view_is) (follows _ _ _ _ told _ _ c.read_next.ensures.comes c.read_next.ensures.leaves (Read c.in-Some.end) (ap read_out c.in-Some.is) _ c.end_read.ensures)
+    rw (← c.self.view_is) (follows _ _ _ _ told _ _ c.read_next.ensures (Read c.in-Some.end) (ap read_out c.in-Some.is) _ c.end_read.ensures)
 
 pub returns-in_default : goal.returns-in_default
 returns-in_default c =
     let told = rw (← c.self.view_is) at c.requires.told in
-    rw (← c.self.view_is) (goes_on _ _ _ _ told _ _ c.read_next.ensures.comes c.read_next.ensures.leaves (ap read_out c.in_default.is))
+    rw (← c.self.view_is) (goes_on _ _ _ _ told _ _ c.read_next.ensures (ap read_out c.in_default.is))

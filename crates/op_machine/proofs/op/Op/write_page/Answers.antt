@@ -10,14 +10,14 @@ write_next-requires-clause-told c = told_at _ _ _ (rw (← c.self.view_is) at c.
 pub end_write-requires : goal.end_write-requires
 end_write-requires c =
     let told = rw (← c.self.view_is) at c.requires.told in
-    record { faced = faced _ _ _ _ told _ _ c.write_next.ensures.comes c.write_next.ensures.leaves (Written c.in-Some.end) (ap written_out c.in-Some.is) }
+    record { faced = faced _ _ _ _ told _ _ c.write_next.ensures (Written c.in-Some.end) (ap written_out c.in-Some.is) }
 
 pub returns-in-Some : goal.returns-in-Some
 returns-in-Some c =
     let told = rw (← c.self.view_is) at c.requires.told in
-    rw (← c.self.view_is) (follows _ _ _ _ told _ _ c.write_next.ensures.comes c.write_next.ensures.leaves (Written c.in-Some.end) (ap written_out c.in-Some.is) _ c.end_write.ensures)
+    rw (← c.self.view_is) (follows _ _ _ _ told _ _ c.write_next.ensures (Written c.in-Some.end) (ap written_out c.in-Some.is) _ c.end_write.ensures)
 
 pub returns-in_default : goal.returns-in_default
 returns-in_default c =
     let told = rw (← c.self.view_is) at c.requires.told in
-    rw (← c.self.view_is) (goes_on _ _ _ _ told _ _ c.write_next.ensures.comes c.write_next.ensures.leaves (ap written_out c.in_default.is))
+    rw (← c.self.view_is) (goes_on _ _ _ _ told _ _ c.write_next.ensures (ap written_out c.in_default.is))
