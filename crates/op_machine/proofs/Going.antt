@@ -1,6 +1,5 @@
 -- How an operation goes on, from what its state makes of an answer and what its task makes of that.
 use Rattle.std.proofs.Common.{◌≡◌, ◌≤◌, inl, inr, ℕ, List, Option, Some, None, arith, refl, subst}
-use Rattle.std.specs.Prelude.{IsSome}
 use Rattle.bw_model.specs.declared.step.Answer.{Answer}
 use Rattle.bw_model.specs.declared.step.Step.{Step}
 use Rattle.deltas.specs.declared.record.Record.{Record}
@@ -8,73 +7,80 @@ use Rattle.chain_search.specs.Knowledge.{Knowledge}
 use Rattle.chain_search.specs.Recalled.{Recalled}
 use Rattle.installs.specs.Spares.{Spares}
 use Rattle.op_machine.specs.Bounded.{IsSpentLast, LeavesFor, left_at, with_errands}
+use Rattle.op_machine.specs.Hands.{Hand}
 use Rattle.op_machine.specs.Ops.{Op}
-use Rattle.op_machine.specs.Outcomes.{Comes, Faces}
+use Rattle.op_machine.specs.Outcomes.{Comes, Faces, IsFaced, IsToldAt}
 use Rattle.op_machine.specs.Shows.{FitsLast, MayStep, Stands, learn_last, recall_last}
-use Rattle.op_machine.specs.Tasks.{IsSameTask, Task}
-use Rattle.op_machine.specs.Works.{Follows, GoesAhead, Works, asked_of}
+use Rattle.op_machine.specs.Tasks.{Task}
+use Rattle.op_machine.specs.Works.{Advances, FollowsOutcome, GoesAhead, IsToldChange, IsToldOn, IsToldWith, Makes, Works, asked_of}
 use Rattle.op_machine.specs.declared.op.Want.TheVariants as Want
 use Rattle.op_machine.specs.declared.state.Outcome.{Outcome}
-use Rattle.op_machine.specs.declared.state.Progress.{Progress}
-use Rattle.op_machine.specs.declared.state.Progress.TheVariants.{On, To}
 use Rattle.op_machine.specs.declared.state.State.{State}
 
+-- what is told of an operation is told of its state
+abbrev pub told_at : (op : Op) (spares : Spares) (told : Answer Record) → IsToldOn op spares told → IsToldAt op.state spares told
+told_at op spares told is = record { task = op.task; k = is.k; r = is.r; stands = is.works; fits = is.fits }
+
+pub told_change : (op : Op) (hand : Hand) (told : Answer Record) → IsToldWith op hand told → IsToldChange op.state hand told
+told_change op hand told is = record { told_at = told_at op hand.spares told is.told_on; kept = is.kept }
+
 -- the steps of errands come on top
-pub spent_with : (r : Recalled) (last : Option (Step Record)) (told : Answer Record) (left rest : ℕ) (errands now : List (List ℕ)) (more : ℕ) → IsSpentLast r last told left rest → with_errands now more ≤ with_errands errands rest → IsSpentLast r last told (with_errands errands left) (with_errands now more)
+spent_with : (r : Recalled) (last : Option (Step Record)) (told : Answer Record) (left rest : ℕ) (errands now : List (List ℕ)) (more : ℕ) → IsSpentLast r last told left rest → with_errands now more ≤ with_errands errands rest → IsSpentLast r last told (with_errands errands left) (with_errands now more)
 spent_with r None told left rest errands now more spent few = omega (arith, spent, few)
 spent_with r (Some asked) told left rest errands now more spent few = elim spent [
   | inl less ↦ inl (omega (arith, less, few))
   | inr paid ↦ let enough = paid.1 in inr (paid.0, omega (arith, enough, few))
 ]
 
--- The state has made this of the answer, and the operation has then gone on or followed what it has come to.
-module _ (old : Op) (spares : Spares) (told : Answer Record) (state : State) (progress : Progress)
-    (comes : (k : Knowledge) (r : Recalled) → Works old spares k r → FitsLast old.task.limits k (asked_of old spares) told → Comes old.task k r (asked_of old spares) told state spares progress)
-    (leaves : (k : Knowledge) (r : Recalled) → Works old spares k r → FitsLast old.task.limits k (asked_of old spares) told → LeavesFor r (asked_of old spares) told (left_at r spares old.state) state spares progress) where
+-- The state has made this of the answer.
+module _ (old : Op) (had has : Spares) (told : Answer Record) (is : IsToldOn old had told) (state : State) (outcome : Option Outcome)
+    (makes : Makes old.state had told state has outcome) where
   abbrev went : Op
   went = record old { state = state }
 
-  pub data Gone (new : Op) : Type 0 where
-    on : progress ≡ On → new ≡ went → Gone new
-    to : (outcome : Outcome) → progress ≡ To outcome → Follows went spares outcome new → Gone new
+  abbrev last : Option (Step Record)
+  last = asked_of old had
 
-  module _ (k : Knowledge) (r : Recalled) (works : Works old spares k r) (fits : FitsLast old.task.limits k (asked_of old spares) told) where
-    abbrev last : Option (Step Record)
-    last = asked_of old spares
+  abbrev errands : List (List ℕ)
+  errands = old.task.errands
 
-    pub faces : (outcome : Outcome) → progress ≡ To outcome → Faces old.task spares (learn_last k last told) (recall_last r last told) outcome
-    faces outcome is = subst (λ p. Comes old.task k r last told state spares p) is (comes k r works fits)
-
-    pub stands : (new : Op) → Gone new → Works new spares (learn_last k last told) (recall_last r last told)
-    stands new (on is same) = let here = subst (λ p. Comes old.task k r last told state spares p) is (comes k r works fits) in rw same here.0
-    stands new (to outcome is follows) = follows.stands _ _ (faces outcome is)
-
-    pub asks : (new : Op) → Gone new → IsSome (asked_of new spares)
-    asks new (on is same) = let here = subst (λ p. Comes old.task k r last told state spares p) is (comes k r works fits) in rw same here.1
-    asks new (to outcome is follows) = follows.asks
-
-    pub spent : (new : Op) → Gone new → IsSpentLast r last told (with_errands old.task.errands (left_at r spares old.state)) (with_errands new.task.errands (left_at (recall_last r last told) spares new.state))
-    spent new (on is same) =
-        let left = subst (λ p. LeavesFor r last told (left_at r spares old.state) state spares p) is (leaves k r works fits) in
-        let errands = old.task.errands in
-        rw same (spent_with r last told _ _ errands errands _ left (omega arith))
-    spent new (to outcome is follows) =
-        let left = subst (λ p. LeavesFor r last told (left_at r spares old.state) state spares p) is (leaves k r works fits) in
-        spent_with r last told _ _ old.task.errands new.task.errands _ left (follows.few _ _ (faces outcome is))
-
-  same_task : (new : Op) → Gone new → IsSameTask old.task new.task
-  same_task new (on is same) = rw same (record { limits = refl; actor = refl; command = refl })
-  same_task new (to outcome is follows) = follows.same
-
-  same_sweep : (new : Op) → Gone new → new.sweep ≡ old.sweep
-  same_sweep new (on is same) = rw same refl
-  same_sweep new (to outcome is follows) = follows.sweep
-
-  pub ahead : (new : Op) → Gone new → (asked : Step Record) → asked_of new spares ≡ Some asked → ((task : Task) (k : Knowledge) (r : Recalled) → Stands task spares k r new.state → MayStep task k asked)
-      → GoesAhead old spares told new spares (Want.Step asked)
-  ahead new gone asked wanted may = record {
-    obeys = λ k r works fits. let now = stands k r works fits new gone in record { wanted = wanted; may = may new.task _ _ now; works = now };
-    spends = λ k r works fits. spent k r works fits new gone;
-    same = same_task new gone;
-    sweep = same_sweep new gone;
+  -- it goes on,
+  pub goes_on : outcome ≡ None → Advances old had told went has
+  goes_on on = record {
+    works = λ k r works fits. (here k r works fits).0;
+    spends = λ k r works fits. spent_with r last told _ _ errands errands _ (subst (λ o. LeavesFor r last told (left_at r had old.state) state has o) on (makes.leaves old.task k r works fits)) (omega arith);
+    asks = (here is.k is.r is.works is.fits).1;
+    same = record { limits = refl; actor = refl; command = refl };
+    sweep = refl;
   }
+    where
+      here : (k : Knowledge) (r : Recalled) → Works old had k r → FitsLast old.task.limits k last told → Comes old.task k r last told state has None
+      here k r works fits = subst (λ o. Comes old.task k r last told state has o) on (makes.comes old.task k r works fits)
+
+  -- or has come to something
+  module _ (to : Outcome) (come : outcome ≡ Some to) where
+    faces : (k : Knowledge) (r : Recalled) → Works old had k r → FitsLast old.task.limits k last told → Faces old.task has (learn_last k last told) (recall_last r last told) to
+    faces k r works fits = subst (λ o. Comes old.task k r last told state has o) come (makes.comes old.task k r works fits)
+
+    pub faced : IsFaced old.task has to
+    faced = record { k = learn_last is.k last told; r = recall_last is.r last told; faces = faces is.k is.r is.works is.fits }
+
+    pub follows : (new : Op) → FollowsOutcome went has to new → Advances old had told new has
+    follows new after = record {
+      works = λ k r works fits. after.stands _ _ (faces k r works fits);
+      spends = λ k r works fits. spent_with r last told _ _ errands new.task.errands _ (subst (λ o. LeavesFor r last told (left_at r had old.state) state has o) come (makes.leaves old.task k r works fits)) (after.few _ _ (faces k r works fits));
+      asks = after.asks;
+      same = after.same;
+      sweep = after.sweep;
+    }
+
+-- An operation that has advanced wants the step that it asks for.
+pub wants : (old : Op) (had : Spares) (told : Answer Record) (new : Op) (has : Spares) → Advances old had told new has
+    → (asked : Step Record) → asked_of new has ≡ Some asked → ((task : Task) (k : Knowledge) (r : Recalled) → Stands task has k r new.state → MayStep task k asked)
+    → GoesAhead old had told new has (Want.Step asked)
+wants old had told new has after asked wanted may = record {
+  obeys = λ k r works fits. let now = after.works k r works fits in record { wanted = wanted; may = may new.task _ _ now; works = now };
+  spends = after.spends;
+  same = after.same;
+  sweep = after.sweep;
+}

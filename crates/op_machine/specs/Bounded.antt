@@ -1,5 +1,5 @@
 -- How many steps an operation takes at most, but for those that a cause pays for.
-use Rattle.std.specs.Prelude.{◌<◌, ◌+◌, ◌*◌, ℕ, List, length, Option, None, Some, ⊤}
+use Rattle.std.specs.Prelude.{◌<◌, ◌+◌, ◌*◌, ℕ, List, length, Option, None, Some}
 use Rattle.bw_model.specs.declared.step.Answer.{Answer}
 use Rattle.bw_model.specs.declared.step.Step.{Step as StepOf}
 use Rattle.deltas.specs.declared.record.Record.{Record}
@@ -15,8 +15,6 @@ use Rattle.installs.specs.declared.change.End.TheVariants.{Won, Lost, Full}
 use Rattle.op_machine.specs.Shows.{recall_last}
 use Rattle.op_machine.specs.declared.state.Outcome.{Outcome}
 use Rattle.op_machine.specs.declared.state.Outcome.TheVariants.{Begun, Epoch, Entered, Read, Written, Changed}
-use Rattle.op_machine.specs.declared.state.Progress.{Progress}
-use Rattle.op_machine.specs.declared.state.Progress.TheVariants.{On, To, Left}
 use Rattle.op_machine.specs.declared.state.State.{State}
 use Rattle.op_machine.specs.declared.state.State.TheVariants as at
 use Rattle.op_machine.specs.declared.state.Then.TheVariants.{Round, Limbo, Errand, Reply}
@@ -74,7 +72,6 @@ IsSpentLast r None told left rest = rest < left
 IsSpentLast r (Some asked) told left rest = IsStepSpent r asked told left rest
 
 -- what an answer leaves
-abbrev pub LeavesFor : Recalled → Option (StepOf Record) → Answer Record → ℕ → State → Spares → Progress → Type 0
-LeavesFor r last told left new has On = IsSpentLast r last told left (left_at (recall_last r last told) has new)
-LeavesFor r last told left new has (To outcome) = IsSpentLast r last told left (left_for outcome)
-LeavesFor r last told left new has (Left reply) = ⊤
+abbrev pub LeavesFor : Recalled → Option (StepOf Record) → Answer Record → ℕ → State → Spares → Option Outcome → Type 0
+LeavesFor r last told left new has None = IsSpentLast r last told left (left_at (recall_last r last told) has new)
+LeavesFor r last told left new has (Some outcome) = IsSpentLast r last told left (left_for outcome)

@@ -1,5 +1,5 @@
 -- What an operation faces where it goes from one state to another.
-use Rattle.std.specs.Prelude.{◌≡◌, ◌<◌, ◌≤◌, ℕ, List, [], length, Bool, Option, None, Some, IfSome, IsSome, IsTrue, ◌||◌, ⊤, true, false}
+use Rattle.std.specs.Prelude.{◌≡◌, ◌<◌, ◌≤◌, ◌||◌, ℕ, List, [], length, Bool, Option, None, Some, IfSome, IsSome, IsTrue, ⊤, true, false}
 use Rattle.bw_model.specs.declared.command.Reply.{Reply as ReplyOf}
 use Rattle.bw_model.specs.declared.step.Step.{Step as StepOf}
 use Rattle.bw_model.specs.declared.step.Step.TheVariants as step
@@ -30,11 +30,9 @@ use Rattle.op_machine.specs.Shows.{FitsLast, IsRoundOf, Stands, learn_last, reca
 use Rattle.op_machine.specs.Tasks.{IsBetweenChanges, IsAtRest, Seeks, Task, Waits}
 use Rattle.op_machine.specs.declared.state.Outcome.{Outcome}
 use Rattle.op_machine.specs.declared.state.Outcome.TheVariants.{Begun, Epoch, Entered, Read, Written, Changed}
-use Rattle.op_machine.specs.declared.state.Progress.{Progress}
-use Rattle.op_machine.specs.declared.state.Progress.TheVariants.{On, To, Left}
 use Rattle.op_machine.specs.declared.state.State.{State}
 use Rattle.op_machine.specs.declared.state.State.TheVariants as at
-use Rattle.op_machine.specs.declared.state.State.TheVariants.{Change}
+use Rattle.op_machine.specs.declared.state.State.TheVariants.{Change, Leave}
 use Rattle.op_machine.specs.declared.state.Then.{Then}
 use Rattle.op_machine.specs.declared.state.Then.TheVariants.{Round, Limbo, Errand, Reply}
 
@@ -142,6 +140,11 @@ is_writing state = false
 abbrev pub has_machine : State → Bool
 has_machine state = is_reading state || is_writing state || is_changing state
 
+-- whether the last step was asked for
+abbrev pub is_leaving : State → Bool
+is_leaving (Leave reply) = true
+is_leaving state = false
+
 -- whether a round reads on after the answer
 abbrev pub reads_on_at : State → Answer Record → Bool
 reads_on_at (at.Read round) told = reads_on told
@@ -153,19 +156,18 @@ abbrev pub UnlinksAfter : Limits → Knowledge → Option (End × Then) → Limb
 UnlinksAfter limits k None after = after ≡ k.limbo
 UnlinksAfter limits k (Some ended) after = Unlinks limits k ended.0 ended.1 after
 
--- what the end of a round, once it has come, makes of its state
-abbrev pub read_out : Option ReadEnd → Progress
-read_out None = On
-read_out (Some end) = To (Read end)
+-- what the operation has come to at the end of a round, and of a change, once it has come
+abbrev pub read_out : Option ReadEnd → Option Outcome
+read_out None = None
+read_out (Some end) = Some (Read end)
 
-abbrev pub written_out : Option WriteEnd → Progress
-written_out None = On
-written_out (Some end) = To (Written end)
+abbrev pub written_out : Option WriteEnd → Option Outcome
+written_out None = None
+written_out (Some end) = Some (Written end)
 
--- what the end of a change, once it has come, makes of its state
-abbrev pub changed : Option (End × Then) → Progress
-changed None = On
-changed (Some ended) = To (Changed ended.0 ended.1)
+abbrev pub changed : Option (End × Then) → Option Outcome
+changed None = None
+changed (Some ended) = Some (Changed ended.0 ended.1)
 
 -- The last step was Leave, its actor may reply so with it, and rests after it.
 pub record HasLeft (task : Task) (k : Knowledge) (last : Option (StepOf Record)) (told : Answer Record) (spares : Spares) (reply : ReplyOf) : Type 0 where
@@ -173,8 +175,7 @@ pub record HasLeft (task : Task) (k : Knowledge) (last : Option (StepOf Record))
   pub may : MayReply task.limits task.actor k reply
   pub rests : IsAtRest task.limits spares (finished (learn k step.Leave told) (Some reply))
 
--- what comes of an answer: the same state goes on, or the operation faces what comes next, or it has left
-abbrev pub Comes : Task → Knowledge → Recalled → Option (StepOf Record) → Answer Record → State → Spares → Progress → Type 0
-Comes task k r last told new has On = Stands task has (learn_last k last told) (recall_last r last told) new × IsSome (wanted_at has new)
-Comes task k r last told new has (To outcome) = Faces task has (learn_last k last told) (recall_last r last told) outcome
-Comes task k r last told new has (Left reply) = HasLeft task k last told has reply
+-- what comes of an answer: the same state goes on, or the operation faces what comes next
+abbrev pub Comes : Task → Knowledge → Recalled → Option (StepOf Record) → Answer Record → State → Spares → Option Outcome → Type 0
+Comes task k r last told new has None = Stands task has (learn_last k last told) (recall_last r last told) new × IsSome (wanted_at has new)
+Comes task k r last told new has (Some outcome) = Faces task has (learn_last k last told) (recall_last r last told) outcome

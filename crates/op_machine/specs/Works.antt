@@ -6,16 +6,17 @@ use Rattle.deltas.specs.declared.record.Record.{Record}
 use Rattle.chain_search.specs.Knowledge.{Knowledge}
 use Rattle.chain_search.specs.Recalled.{Recalled}
 use Rattle.installs.specs.Spares.{Spares}
-use Rattle.op_machine.specs.Bounded.{IsSpentLast, left_at, left_for, with_errands}
+use Rattle.op_machine.specs.Bounded.{IsSpentLast, LeavesFor, left_at, left_for, with_errands}
 use Rattle.op_machine.specs.Hands.{Hand}
 use Rattle.op_machine.specs.Ops.{Op}
-use Rattle.op_machine.specs.Outcomes.{Faces, HasLeft}
+use Rattle.op_machine.specs.Outcomes.{Comes, Faces, HasLeft, IsToldAt}
 use Rattle.op_machine.specs.Shows.{FitsLast, MayStep, Stands, learn_last, recall_last, wanted_at}
 use Rattle.op_machine.specs.Tasks.{IsSameTask, Task}
 use Rattle.op_machine.specs.declared.op.Want.{Want}
 use Rattle.op_machine.specs.declared.op.Want.TheVariants.{Step, Done}
 use Rattle.op_machine.specs.declared.state.Outcome.{Outcome}
 use Rattle.op_machine.specs.declared.state.State.{State}
+use Rattle.op_machine.specs.declared.state.State.TheVariants.{Leave}
 use Rattle.sweep.specs.Kept.{AreKept}
 
 abbrev pub Works : Op → Spares → Knowledge → Recalled → Type 0
@@ -37,14 +38,15 @@ pub record IsToldWith (op : Op) (hand : Hand) (told : Answer Record) : Type 0 wh
   pub told_on : IsToldOn op hand.spares told
   pub kept : AreKept op.task.limits op.task.actor hand.limbo told_on.k.limbo
 
--- The same of a change that is under way.
+-- The same of a state.
 pub record IsToldChange (state : State) (hand : Hand) (told : Answer Record) : Type 0 where
-  pub task : Task
-  pub k : Knowledge
-  pub r : Recalled
-  pub stands : Stands task hand.spares k r state
-  pub fits : FitsLast task.limits k (wanted_at hand.spares state) told
-  pub kept : AreKept task.limits task.actor hand.limbo k.limbo
+  pub told_at : IsToldAt state hand.spares told
+  pub kept : AreKept told_at.task.limits told_at.task.actor hand.limbo told_at.k.limbo
+
+-- The answer makes this of a state, whatever is known that the state shows: it goes on, or the operation has come to this.
+pub record Makes (old : State) (had : Spares) (told : Answer Record) (new : State) (has : Spares) (outcome : Option Outcome) : Type 0 where
+  pub comes : (task : Task) (k : Knowledge) (r : Recalled) → Stands task had k r old → FitsLast task.limits k (wanted_at had old) told → Comes task k r (wanted_at had old) told new has outcome
+  pub leaves : (task : Task) (k : Knowledge) (r : Recalled) → Stands task had k r old → FitsLast task.limits k (wanted_at had old) told → LeavesFor r (wanted_at had old) told (left_at r had old) new has outcome
 
 -- The step is wanted, the actor may take it, and the operation shows what is known.
 pub record GoesOn (k : Knowledge) (r : Recalled) (op : Op) (spares : Spares) (asked : StepOf Record) : Type 0 where
@@ -61,8 +63,11 @@ abbrev pub ObeysOn : Op → Spares → Answer Record → Op → Spares → Want 
 ObeysOn old had told new has want = (k : Knowledge) (r : Recalled) → Works old had k r → FitsLast old.task.limits k (asked_of old had) told → AnswersOn k r old had told new has want
 
 -- with fewer steps left, or a cause paid for more,
+abbrev pub IsSpentOn : Recalled → Op → Spares → Answer Record → Op → Spares → Type 0
+IsSpentOn r old had told new has = IsSpentLast r (asked_of old had) told (with_errands old.task.errands (left_at r had old.state)) (with_errands new.task.errands (left_at (recall_last r (asked_of old had) told) has new.state))
+
 abbrev pub SpendsOnTo : Recalled → Op → Spares → Answer Record → Op → Spares → Want → Type 0
-SpendsOnTo r old had told new has (Step asked) = IsSpentLast r (asked_of old had) told (with_errands old.task.errands (left_at r had old.state)) (with_errands new.task.errands (left_at (recall_last r (asked_of old had) told) has new.state))
+SpendsOnTo r old had told new has (Step asked) = IsSpentOn r old had told new has
 SpendsOnTo r old had told new has (Done reply) = ⊤
 
 abbrev pub SpendsOn : Op → Spares → Answer Record → Op → Spares → Want → Type 0
@@ -80,8 +85,21 @@ pub record GoesAhead (old : Op) (had : Spares) (told : Answer Record) (new : Op)
   pub same : IsSameTask old.task new.task
   pub sweep : new.sweep ≡ old.sweep
 
--- It goes from what it has come to into the state that follows, whose step it wants.
-pub record Follows (old : Op) (spares : Spares) (outcome : Outcome) (new : Op) : Type 0 where
+-- It has taken the answer and asks for a step: it shows what is known then, with fewer steps left, at the same task.
+pub record Advances (old : Op) (had : Spares) (told : Answer Record) (new : Op) (has : Spares) : Type 0 where
+  pub works : (k : Knowledge) (r : Recalled) → Works old had k r → FitsLast old.task.limits k (asked_of old had) told → Works new has (learn_last k (asked_of old had) told) (recall_last r (asked_of old had) told)
+  pub spends : (k : Knowledge) (r : Recalled) → Works old had k r → FitsLast old.task.limits k (asked_of old had) told → IsSpentOn r old had told new has
+  pub asks : IsSome (asked_of new has)
+  pub same : IsSameTask old.task new.task
+  pub sweep : new.sweep ≡ old.sweep
+
+-- It is done with the reply with which it was to leave.
+abbrev pub IsDone : State → Want → Type 0
+IsDone state (Step asked) = ⊥
+IsDone state (Done reply) = state ≡ Leave reply
+
+-- It goes from what it has come to into the state that follows, which asks for a step.
+pub record FollowsOutcome (old : Op) (spares : Spares) (outcome : Outcome) (new : Op) : Type 0 where
   pub stands : (k : Knowledge) (r : Recalled) → Faces old.task spares k r outcome → Works new spares k r
   pub few : (k : Knowledge) (r : Recalled) → Faces old.task spares k r outcome → with_errands new.task.errands (left_at r spares new.state) ≤ with_errands old.task.errands (left_for outcome)
   pub asks : IsSome (asked_of new spares)

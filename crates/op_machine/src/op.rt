@@ -3,10 +3,9 @@ ghost use Rattle.std.specs.Prelude.{◌≡◌, ◌<◌, ◌≤◌, ◌^◌, ℕ,
 ghost use Rattle.chain_search.specs.Fitting.{Fits};
 ghost use Rattle.chain_search.specs.Knowledge.{Knowledge, begun, learn};
 ghost use Rattle.chain_search.specs.Recalled.{Recalled, blank};
-ghost use Rattle.op_machine.specs.Bounded.{LeavesFor, left_at};
 ghost use Rattle.op_machine.specs.Hands.{Hand as HandSeen};
 ghost use Rattle.op_machine.specs.Ops.{IsAtRestWith, IsTold, Obeys, Shows};
-ghost use Rattle.op_machine.specs.Outcomes.{Comes, IsFaced, changed, has_machine, is_changing, is_reading, is_writing, reads_on_at};
+ghost use Rattle.op_machine.specs.Outcomes.{IsFaced, changed, has_machine, is_changing, is_leaving, is_reading, is_writing, reads_on_at};
 ghost use Rattle.op_machine.specs.Shows.{FitsLast, Stands, learn_last, wanted_at};
 ghost use Rattle.op_machine.specs.Spending.{Spends, steps_left};
 ghost use Rattle.op_machine.specs.Sweeping.{FollowsSweep, HasFewer, IsSameWork, IsToldSweep, MovesSweep, ObeysSweep};
@@ -14,10 +13,10 @@ ghost use Rattle.op_machine.specs.Tasks.{IsSameTask, Task};
 ghost use Rattle.sweep.specs.Bounded.{steps_left as steps_of};
 ghost use Rattle.sweep.specs.Sweeps.{IsSoundSweep, IsTold as IsToldAlone, Shows as ShowsSweep, wanted};
 ghost use Rattle.sweep.specs.Kept.{AreKept};
-ghost use Rattle.op_machine.specs.Works.{Follows, GoesAhead, IsToldChange, IsToldOn, IsToldWith, KeepsLimbo, ObeysOn, SpendsOn};
+ghost use Rattle.op_machine.specs.Works.{Advances, FollowsOutcome, GoesAhead, IsDone, IsToldChange, IsToldOn, IsToldWith, KeepsLimbo, Makes};
 
 use crate::hand::Hand;
-use crate::state::{Outcome, Progress, State, Then};
+use crate::state::{Outcome, State, Then};
 use crate::task::Task;
 use bw_model::{Answer, Command, Limits, Reply, Step};
 use deltas::Record;
@@ -84,17 +83,13 @@ impl Op {
         ensures spends { Spends self.old hand.old answer self.new hand.new result }
         ensures same { IsSameTask self.old.task self.new.task }
     {
-        limbos_are_kept();
-        if self.state.is_changing() {
-            return self.change_on(hand, answer);
-        }
         if self.state.has_begun() {
-            return self.go_on(&hand.spares, answer);
+            return self.go_on(hand, answer);
         }
         if let Some(step) = self.sweep_on(&mut hand.limbo, answer) {
             return Want::Step(step);
         }
-        self.go_on(&hand.spares, Answer::Start)
+        self.go_on(hand, Answer::Start)
     }
 
     /// Before anything else a writer frees what it may of its limbo: the step that its sweep wants, if it isn't over.
@@ -129,27 +124,60 @@ impl Op {
         };
     }
 
-    /// Takes the answer where a change is under way. What the change has taken out of the tree comes into limbo.
-    fn change_on<A: Allocator>(&mut self, hand: &mut Hand<A>, answer: Answer<Record>) -> Want
+    /// Takes the answer once the sweep is over, and wants the next step of the work, if it isn't done.
+    fn go_on<A: Allocator>(&mut self, hand: &mut Hand<A>, answer: Answer<Record>) -> Want
+        requires told { IsToldWith self.old hand.old answer }
+        ensures ahead { GoesAhead self.old hand.old.spares answer self.new hand.new.spares result }
+        ensures keeps { KeepsLimbo self.old hand.old answer hand.new }
+    {
+        if self.state.is_leaving() {
+            return self.leave();
+        }
+        self.advance(hand, answer);
+        Want::Step(self.state.step(&hand.spares))
+    }
+
+    /// It has left, with its reply. Only this has room for one.
+    #[inline(never)]
+    fn leave(&self) -> Want
+        requires leaving { is_leaving self.now.state ≡ true }
+        ensures { IsDone self.now.state result }
+    {
+        Want::Done(self.state.reply())
+    }
+
+    /// Takes the answer, and comes to where the operation asks for its next step.
+    fn advance<A: Allocator>(&mut self, hand: &mut Hand<A>, answer: Answer<Record>)
+        requires told { IsToldWith self.old hand.old answer }
+        requires stays { is_leaving self.old.state ≡ false }
+        ensures advances { Advances self.old hand.old.spares answer self.new hand.new.spares }
+        ensures keeps { KeepsLimbo self.old hand.old answer hand.new }
+    {
+        limbos_are_kept();
+        if self.state.is_changing() {
+            return self.change_on(hand, answer);
+        }
+        self.move_on(&hand.spares, answer)
+    }
+
+    /// The same where a change is under way. What the change has taken out of the tree comes into limbo.
+    fn change_on<A: Allocator>(&mut self, hand: &mut Hand<A>, answer: Answer<Record>)
         requires told { IsToldWith self.old hand.old answer }
         requires changing { is_changing self.old.state ≡ true }
-        ensures obeys { ObeysOn self.old hand.old.spares answer self.new hand.new.spares result }
-        ensures spends { SpendsOn self.old hand.old.spares answer self.new hand.new.spares result }
+        ensures advances { Advances self.old hand.old.spares answer self.new hand.new.spares }
         ensures keeps { KeepsLimbo self.old hand.old answer hand.new }
-        ensures same { IsSameTask self.old.task self.new.task }
-        ensures sweep { self.new.sweep ≡ self.old.sweep }
     {
         if let Some((end, then)) = ended(&mut self.state, hand, answer) {
             self.end_change(&hand.spares, end, then);
         }
-        Want::Step(self.state.step(&hand.spares))
     }
 
-    /// The same where no change is under way.
-    fn go_on(&mut self, spares: &Spares, answer: Answer<Record>) -> Want
+    /// The same where none is.
+    fn move_on(&mut self, spares: &Spares, answer: Answer<Record>)
         requires told { IsToldOn self.old spares.now answer }
         requires still { is_changing self.old.state ≡ false }
-        ensures { GoesAhead self.old spares.now answer self.new spares.now result }
+        requires stays { is_leaving self.old.state ≡ false }
+        ensures { Advances self.old spares.now answer self.new spares.now }
     {
         if self.state.reads_on(&answer) {
             return self.read_on(spares, answer);
@@ -164,60 +192,54 @@ impl Op {
     }
 
     /// A round reads on. These steps are many, so that this needs no room for whole pages, and what does isn't inlined.
-    fn read_on(&mut self, spares: &Spares, answer: Answer<Record>) -> Want
+    fn read_on(&mut self, spares: &Spares, answer: Answer<Record>)
         requires told { IsToldOn self.old spares.now answer }
         requires on { reads_on_at self.old.state answer ≡ true }
-        ensures { GoesAhead self.old spares.now answer self.new spares.now result }
+        ensures { Advances self.old spares.now answer self.new spares.now }
     {
         self.state.read_on(spares, answer);
-        Want::Step(self.state.step(spares))
     }
 
     /// A reader's round has read a page, or found none.
     #[inline(never)]
-    fn read_page(&mut self, spares: &Spares, answer: Answer<Record>) -> Want
+    fn read_page(&mut self, spares: &Spares, answer: Answer<Record>)
         requires told { IsToldOn self.old spares.now answer }
         requires reading { is_reading self.old.state ≡ true }
-        ensures { GoesAhead self.old spares.now answer self.new spares.now result }
+        ensures { Advances self.old spares.now answer self.new spares.now }
     {
         if let Some(end) = self.state.read_next(spares, answer) {
             self.end_read(spares, end);
         }
-        Want::Step(self.state.step(spares))
     }
 
     /// A writer's round has read a page, or found none.
     #[inline(never)]
-    fn write_page(&mut self, spares: &Spares, answer: Answer<Record>) -> Want
+    fn write_page(&mut self, spares: &Spares, answer: Answer<Record>)
         requires told { IsToldOn self.old spares.now answer }
         requires writing { is_writing self.old.state ≡ true }
-        ensures { GoesAhead self.old spares.now answer self.new spares.now result }
+        ensures { Advances self.old spares.now answer self.new spares.now }
     {
         if let Some(end) = self.state.write_next(spares, answer) {
             self.end_write(spares, end);
         }
-        Want::Step(self.state.step(spares))
     }
 
-    /// From a state without a machine the operation goes to another one, or it has left.
+    /// From a state without a machine the operation goes to another one.
     #[inline(never)]
-    fn turn(&mut self, spares: &Spares, answer: Answer<Record>) -> Want
+    fn turn(&mut self, spares: &Spares, answer: Answer<Record>)
         requires told { IsToldOn self.old spares.now answer }
         requires alone { has_machine self.old.state ≡ false }
-        ensures { GoesAhead self.old spares.now answer self.new spares.now result }
+        requires stays { is_leaving self.old.state ≡ false }
+        ensures { Advances self.old spares.now answer self.new spares.now }
     {
-        match self.state.next(spares, answer) {
-            Progress::On => {}
-            Progress::To(outcome) => self.follow(spares, outcome),
-            Progress::Left(reply) => return Want::Done(reply),
-        }
-        Want::Step(self.state.step(spares))
+        let outcome = self.state.next(spares, answer);
+        self.follow(spares, outcome);
     }
 
     #[inline(never)]
     fn end_read(&mut self, spares: &Spares, end: ReadEnd)
         requires faced { IsFaced self.old.task spares.now (Outcome.Read end) }
-        ensures { Follows self.old spares.now (Outcome.Read end) self.new }
+        ensures { FollowsOutcome self.old spares.now (Outcome.Read end) self.new }
     {
         self.follow(spares, Outcome::Read(end));
     }
@@ -225,7 +247,7 @@ impl Op {
     #[inline(never)]
     fn end_write(&mut self, spares: &Spares, end: WriteEnd)
         requires faced { IsFaced self.old.task spares.now (Outcome.Written end) }
-        ensures { Follows self.old spares.now (Outcome.Written end) self.new }
+        ensures { FollowsOutcome self.old spares.now (Outcome.Written end) self.new }
     {
         self.follow(spares, Outcome::Written(end));
     }
@@ -233,7 +255,7 @@ impl Op {
     #[inline(never)]
     fn end_change(&mut self, spares: &Spares, end: End, then: Then)
         requires faced { IsFaced self.old.task spares.now (Outcome.Changed end then) }
-        ensures { Follows self.old spares.now (Outcome.Changed end then) self.new }
+        ensures { FollowsOutcome self.old spares.now (Outcome.Changed end then) self.new }
     {
         self.follow(spares, Outcome::Changed { end, then });
     }
@@ -241,7 +263,7 @@ impl Op {
     /// Goes to the state that follows what the operation has come to.
     fn follow(&mut self, spares: &Spares, outcome: Outcome)
         requires faced { IsFaced self.old.task spares.now outcome }
-        ensures { Follows self.old spares.now outcome self.new }
+        ensures { FollowsOutcome self.old spares.now outcome self.new }
     {
         self.state = self.task.go_on(spares, outcome);
     }
@@ -272,8 +294,7 @@ fn ended<A: Allocator>(
 ) -> Option<(End, Then)>
     requires told { IsToldChange state.old hand.old answer }
     requires changing { is_changing state.old ≡ true }
-    ensures comes { (task : Task) (k : Knowledge) (r : Recalled) → Stands task hand.old.spares k r state.old → FitsLast task.limits k (wanted_at hand.old.spares state.old) answer → Comes task k r (wanted_at hand.old.spares state.old) answer state.new hand.new.spares (changed result) }
-    ensures leaves { (task : Task) (k : Knowledge) (r : Recalled) → Stands task hand.old.spares k r state.old → FitsLast task.limits k (wanted_at hand.old.spares state.old) answer → LeavesFor r (wanted_at hand.old.spares state.old) answer (left_at r hand.old.spares state.old) state.new hand.new.spares (changed result) }
+    ensures makes { Makes state.old hand.old.spares answer state.new hand.new.spares (changed result) }
     ensures keeps { (task : Task) (k : Knowledge) (r : Recalled) → Stands task hand.old.spares k r state.old → FitsLast task.limits k (wanted_at hand.old.spares state.old) answer → AreKept task.limits task.actor hand.old.limbo k.limbo → AreKept task.limits task.actor hand.new.limbo (learn_last k (wanted_at hand.old.spares state.old) answer).limbo }
 {
     match state.change_next(&mut hand.spares, answer) {

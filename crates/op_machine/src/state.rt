@@ -1,11 +1,11 @@
 //! Where an operation stands: a machine for each thing that takes more than one step.
-ghost use Rattle.std.specs.Prelude.{◌≡◌, Some, IsSome, true, false};
+ghost use Rattle.std.specs.Prelude.{◌≡◌, None, Some, IsSome, true, false};
 ghost use Rattle.chain_search.specs.Knowledge.{Knowledge};
 ghost use Rattle.chain_search.specs.Recalled.{Recalled};
-ghost use Rattle.op_machine.specs.Bounded.{LeavesFor, left_at};
-ghost use Rattle.op_machine.specs.Outcomes.{Comes, IsToldAt, UnlinksAfter, changed, has_begun, has_machine, is_changing, is_reading, is_writing, read_out, reads_on_at, written_out};
+ghost use Rattle.op_machine.specs.Outcomes.{IsToldAt, UnlinksAfter, changed, has_begun, has_machine, is_changing, is_leaving, is_reading, is_writing, read_out, reads_on_at, written_out};
 ghost use Rattle.op_machine.specs.Shows.{FitsLast, MayStep, Stands, learn_last, wanted_at};
 ghost use Rattle.op_machine.specs.Tasks.{Task};
+ghost use Rattle.op_machine.specs.Works.{Makes};
 
 use crate::unlinked::Unlinked;
 use bw_model::{Answer, Key, Reply, Step};
@@ -56,17 +56,6 @@ pub(crate) enum Outcome {
     Changed { end: End, then: Then },
 }
 
-/// What an answer makes of a state.
-#[derive(Debug, Drop)]
-pub(crate) enum Progress {
-    /// It goes on.
-    On,
-    /// Another state is to follow what the operation has come to.
-    To(Outcome),
-    /// The operation has left, with this reply.
-    Left(Reply),
-}
-
 impl Then {
     fn copied(&self) -> Then
         ensures { result ≡ self.now }
@@ -110,8 +99,7 @@ impl State {
     pub(crate) fn read_on(&mut self, spares: &Spares, answer: Answer<Record>)
         requires told { IsToldAt self.old spares.now answer }
         requires on { reads_on_at self.old answer ≡ true }
-        ensures comes { (task : Task) (k : Knowledge) (r : Recalled) → Stands task spares.now k r self.old → FitsLast task.limits k (wanted_at spares.now self.old) answer → Comes task k r (wanted_at spares.now self.old) answer self.new spares.now Progress.On }
-        ensures leaves { (task : Task) (k : Knowledge) (r : Recalled) → Stands task spares.now k r self.old → FitsLast task.limits k (wanted_at spares.now self.old) answer → LeavesFor r (wanted_at spares.now self.old) answer (left_at r spares.now self.old) self.new spares.now Progress.On }
+        ensures { Makes self.old spares.now answer self.new spares.now None }
     {
         match self {
             State::Read { round } => round.read_on(answer),
@@ -124,8 +112,7 @@ impl State {
     pub(crate) fn read_next(&mut self, spares: &Spares, answer: Answer<Record>) -> Option<ReadEnd>
         requires told { IsToldAt self.old spares.now answer }
         requires reading { is_reading self.old ≡ true }
-        ensures comes { (task : Task) (k : Knowledge) (r : Recalled) → Stands task spares.now k r self.old → FitsLast task.limits k (wanted_at spares.now self.old) answer → Comes task k r (wanted_at spares.now self.old) answer self.new spares.now (read_out result) }
-        ensures leaves { (task : Task) (k : Knowledge) (r : Recalled) → Stands task spares.now k r self.old → FitsLast task.limits k (wanted_at spares.now self.old) answer → LeavesFor r (wanted_at spares.now self.old) answer (left_at r spares.now self.old) self.new spares.now (read_out result) }
+        ensures { Makes self.old spares.now answer self.new spares.now (read_out result) }
     {
         match self {
             State::Read { round } => round.next(answer),
@@ -137,8 +124,7 @@ impl State {
     pub(crate) fn write_next(&mut self, spares: &Spares, answer: Answer<Record>) -> Option<WriteEnd>
         requires told { IsToldAt self.old spares.now answer }
         requires writing { is_writing self.old ≡ true }
-        ensures comes { (task : Task) (k : Knowledge) (r : Recalled) → Stands task spares.now k r self.old → FitsLast task.limits k (wanted_at spares.now self.old) answer → Comes task k r (wanted_at spares.now self.old) answer self.new spares.now (written_out result) }
-        ensures leaves { (task : Task) (k : Knowledge) (r : Recalled) → Stands task spares.now k r self.old → FitsLast task.limits k (wanted_at spares.now self.old) answer → LeavesFor r (wanted_at spares.now self.old) answer (left_at r spares.now self.old) self.new spares.now (written_out result) }
+        ensures { Makes self.old spares.now answer self.new spares.now (written_out result) }
     {
         match self {
             State::Write { round } => round.next(answer),
@@ -146,18 +132,28 @@ impl State {
         }
     }
 
-    /// Takes the answer to the step wanted last, where no machine is under way.
-    pub(crate) fn next(&self, spares: &Spares, answer: Answer<Record>) -> Progress
+    /// Takes the answer to the step wanted last, where no machine is under way: what the operation has come to.
+    pub(crate) fn next(&self, spares: &Spares, answer: Answer<Record>) -> Outcome
         requires told { IsToldAt self.now spares.now answer }
         requires alone { has_machine self.now ≡ false }
-        ensures comes { (task : Task) (k : Knowledge) (r : Recalled) → Stands task spares.now k r self.now → FitsLast task.limits k (wanted_at spares.now self.now) answer → Comes task k r (wanted_at spares.now self.now) answer self.now spares.now result }
-        ensures leaves { (task : Task) (k : Knowledge) (r : Recalled) → Stands task spares.now k r self.now → FitsLast task.limits k (wanted_at spares.now self.now) answer → LeavesFor r (wanted_at spares.now self.now) answer (left_at r spares.now self.now) self.now spares.now result }
+        requires stays { is_leaving self.now ≡ false }
+        ensures { Makes self.now spares.now answer self.now spares.now (Some result) }
     {
         match self {
-            State::Begun => Progress::To(Outcome::Begun),
-            State::Epoch => Progress::To(Outcome::Epoch(answer.into_number())),
-            State::Enter { .. } => Progress::To(Outcome::Entered),
-            State::Leave { reply } => Progress::Left(copied(reply)),
+            State::Begun => Outcome::Begun,
+            State::Epoch => Outcome::Epoch(answer.into_number()),
+            State::Enter { .. } => Outcome::Entered,
+            _ => unreachable!(),
+        }
+    }
+
+    /// The reply with which it leaves.
+    pub(crate) fn reply(&self) -> Reply
+        requires leaving { is_leaving self.now ≡ true }
+        ensures { self.now ≡ State.Leave result }
+    {
+        match self {
+            State::Leave { reply } => copied(reply),
             _ => unreachable!(),
         }
     }
@@ -167,6 +163,13 @@ impl State {
         ensures { result ≡ has_begun self.now }
     {
         !matches!(self, State::Begun)
+    }
+
+    /// Whether the last step was asked for.
+    pub(crate) fn is_leaving(&self) -> bool
+        ensures { result ≡ is_leaving self.now }
+    {
+        matches!(self, State::Leave { .. })
     }
 
     /// Whether a reader's round is under way.
@@ -199,8 +202,7 @@ impl State {
     ) -> Option<(End, Then)>
         requires told { IsToldAt self.old spares.old answer }
         requires changing { is_changing self.old ≡ true }
-        ensures comes { (task : Task) (k : Knowledge) (r : Recalled) → Stands task spares.old k r self.old → FitsLast task.limits k (wanted_at spares.old self.old) answer → Comes task k r (wanted_at spares.old self.old) answer self.new spares.new (changed result) }
-        ensures leaves { (task : Task) (k : Knowledge) (r : Recalled) → Stands task spares.old k r self.old → FitsLast task.limits k (wanted_at spares.old self.old) answer → LeavesFor r (wanted_at spares.old self.old) answer (left_at r spares.old self.old) self.new spares.new (changed result) }
+        ensures makes { Makes self.old spares.old answer self.new spares.new (changed result) }
         ensures unlinks { (task : Task) (k : Knowledge) (r : Recalled) → Stands task spares.old k r self.old → FitsLast task.limits k (wanted_at spares.old self.old) answer → UnlinksAfter task.limits k result (learn_last k (wanted_at spares.old self.old) answer).limbo }
     {
         match self {

@@ -5,13 +5,11 @@ use Rattle.sweep.specs.Kept.{AreKept}
 use Rattle.op_machine.proofs.op.ended.Goals as goal
 
 pub change_next-requires-clause-told : goal.change_next-requires-clause-told
-change_next-requires-clause-told g c =
-    let told = c.requires.told in
-    record { task = told.task; k = told.k; r = told.r; stands = rw (← c.hand.view_is) at told.stands; fits = rw (← c.hand.view_is) at told.fits }
+change_next-requires-clause-told g c = rw (← c.hand.view_is) at c.requires.told.told_at
 
 pub unlink-requires : goal.unlink-requires
 unlink-requires g c =
-    let told = c.requires.told in
+    let told = c.requires.told.told_at in
     let stands = rw (← c.hand.view_is) at told.stands in
     let fits = rw (← c.hand.view_is) at told.fits in
     record {
@@ -20,16 +18,13 @@ unlink-requires g c =
         told.task.actor,
         told.k,
         (learn_last told.k (wanted_at c.hand.inside.spares c.args.state.now) c.args.answer).limbo,
-        rw (← c.hand.view_is) at told.kept,
+        rw (← c.hand.view_is) at c.requires.told.kept,
         rw c.in-Some.is at (c.change_next.ensures.unlinks told.task told.k told.r stands fits),
       );
     }
 
-pub returns-in-None-clause-comes : goal.returns-in-None-clause-comes
-returns-in-None-clause-comes g c task k r h f =
-    let stands = rw (← c.hand.view_is) at h in
-    let fits = rw (← c.hand.view_is) at f in
-    rw (← c.hand.view_is) (rw c.in-None.is at (c.change_next.ensures.comes task k r stands fits))
+pub returns-in-None-clause-makes : goal.returns-in-None-clause-makes
+returns-in-None-clause-makes g c = rw (← c.hand.view_is) (rw c.in-None.is at c.change_next.ensures.makes)
 
 pub returns-in-None-clause-keeps : goal.returns-in-None-clause-keeps
 returns-in-None-clause-keeps g c task k r h f kept =
@@ -38,11 +33,8 @@ returns-in-None-clause-keeps g c task k r h f kept =
     let here = rw (← c.hand.view_is) at kept in
     rw (← c.hand.view_is) (subst (λ (now : Limbos). AreKept task.limits task.actor c.hand.inside.limbo now) (sym (rw c.in-None.is at (c.change_next.ensures.unlinks task k r stands fits))) here)
 
-pub returns-in-Some-clause-comes : goal.returns-in-Some-clause-comes
-returns-in-Some-clause-comes g c task k r h f =
-    let stands = rw (← c.hand.view_is) at h in
-    let fits = rw (← c.hand.view_is) at f in
-    rw (c.unlink.ensures.spares, ← c.hand.view_is) (rw c.in-Some.is at (c.change_next.ensures.comes task k r stands fits))
+pub returns-in-Some-clause-makes : goal.returns-in-Some-clause-makes
+returns-in-Some-clause-makes g c = rw (c.unlink.ensures.spares, ← c.hand.view_is) (rw c.in-Some.is at c.change_next.ensures.makes)
 
 pub returns-in-Some-clause-keeps : goal.returns-in-Some-clause-keeps
 returns-in-Some-clause-keeps g c task k r h f kept =

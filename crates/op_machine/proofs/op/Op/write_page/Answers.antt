@@ -1,65 +1,23 @@
-use Rattle.std.proofs.Common.{ap, subst, sym}
-use Rattle.std.specs.Prelude.{IsSome}
-use Rattle.op_machine.specs.Ops.{Op}
+use Rattle.std.proofs.Common.{ap}
 use Rattle.op_machine.specs.Outcomes.{written_out}
-use Rattle.op_machine.specs.Shows.{Stands, learn_last, recall_last, wanted_at}
-use Rattle.op_machine.specs.Works.{Follows}
 use Rattle.op_machine.specs.declared.state.Outcome.TheVariants.{Written}
-use Rattle.op_machine.proofs.Going.{Gone, ahead, asks, on, stands, to}
+use Rattle.op_machine.proofs.Going.{faced, follows, goes_on, told_at}
 use Rattle.op_machine.proofs.op.Op.write_page.Goals as goal
-use Rattle.op_machine.proofs.op.Op.write_page.Goals.{in-Some, in_default}
 
 pub write_next-requires-clause-told : goal.write_next-requires-clause-told
-write_next-requires-clause-told c =
-    let told = c.requires.told in
-    record { task = c.self.inside.task; k = told.k; r = told.r; stands = rw (← c.self.view_is) at told.works; fits = rw (← c.self.view_is) at told.fits }
+write_next-requires-clause-told c = told_at _ _ _ (rw (← c.self.view_is) at c.requires.told)
 
 pub end_write-requires : goal.end_write-requires
 end_write-requires c =
-    let told = c.requires.told in
-    let last = wanted_at c.args.spares.now c.self.inside.state in
-    let comes = c.write_next.ensures.comes c.self.inside.task told.k told.r (rw (← c.self.view_is) at told.works) (rw (← c.self.view_is) at told.fits) in
-    record { faced = record { k = learn_last told.k last c.args.answer; r = recall_last told.r last c.args.answer; faces = rw c.in-Some.is at comes } }
+    let told = rw (← c.self.view_is) at c.requires.told in
+    record { faced = faced _ _ _ _ told _ _ c.write_next.ensures (Written c.in-Some.end) (ap written_out c.in-Some.is) }
 
-pub step-requires-clause-stands : goal.step-requires-clause-stands
-step-requires-clause-stands c =
-    let told = c.requires.told in
-    let last = wanted_at c.args.spares.now c.self.inside.state in
-    let known = learn_last told.k last c.args.answer in
-    let recalled = recall_last told.r last c.args.answer in
-    let was : Op = record { task = c.self.inside.task; sweep = c.self.inside.sweep; state = c.self.inside.state } in
-    let comes = c.write_next.ensures.comes c.self.inside.task in
-    let leaves = c.write_next.ensures.leaves c.self.inside.task in
-    let went : Op = record was { state = c.write_next.new.self } in
-    let gone : Gone was c.args.spares.now c.args.answer c.write_next.new.self (written_out c.write_next.result) comes leaves c.match-write_next.self = elim c.match-write_next.branch [
-      | in-Some w ↦ to (Written w.in-Some.end) (ap written_out w.in-Some.is) (subst (λ (o : Op). Follows went c.args.spares.now (Written w.in-Some.end) o) (sym w.self-is) w.end_write.ensures)
-      | in_default w ↦ on (ap written_out w.in_default.is) w.self-is
-    ] in
-    let works = stands was c.args.spares.now c.args.answer c.write_next.new.self (written_out c.write_next.result) comes leaves told.k told.r (rw (← c.self.view_is) at told.works) (rw (← c.self.view_is) at told.fits) c.match-write_next.self gone in
-    (c.self-2.inside.task, known, recalled, subst (λ (o : Op). Stands o.task c.args.spares.now known recalled o.state) (sym c.self-2.view_is) works)
+pub returns-in-Some : goal.returns-in-Some
+returns-in-Some c =
+    let told = rw (← c.self.view_is) at c.requires.told in
+    rw (← c.self.view_is) (follows _ _ _ _ told _ _ c.write_next.ensures (Written c.in-Some.end) (ap written_out c.in-Some.is) _ c.end_write.ensures)
 
-pub step-requires-clause-asks : goal.step-requires-clause-asks
-step-requires-clause-asks c =
-    let told = c.requires.told in
-    let was : Op = record { task = c.self.inside.task; sweep = c.self.inside.sweep; state = c.self.inside.state } in
-    let comes = c.write_next.ensures.comes c.self.inside.task in
-    let leaves = c.write_next.ensures.leaves c.self.inside.task in
-    let went : Op = record was { state = c.write_next.new.self } in
-    let gone : Gone was c.args.spares.now c.args.answer c.write_next.new.self (written_out c.write_next.result) comes leaves c.match-write_next.self = elim c.match-write_next.branch [
-      | in-Some w ↦ to (Written w.in-Some.end) (ap written_out w.in-Some.is) (subst (λ (o : Op). Follows went c.args.spares.now (Written w.in-Some.end) o) (sym w.self-is) w.end_write.ensures)
-      | in_default w ↦ on (ap written_out w.in_default.is) w.self-is
-    ] in
-    let asked = asks was c.args.spares.now c.args.answer c.write_next.new.self (written_out c.write_next.result) comes leaves told.k told.r (rw (← c.self.view_is) at told.works) (rw (← c.self.view_is) at told.fits) c.match-write_next.self gone in
-    subst (λ (o : Op). IsSome (wanted_at c.args.spares.now o.state)) (sym c.self-2.view_is) asked
-
-pub returns : goal.returns
-returns c =
-    let was : Op = record { task = c.self.inside.task; sweep = c.self.inside.sweep; state = c.self.inside.state } in
-    let comes = c.write_next.ensures.comes c.self.inside.task in
-    let leaves = c.write_next.ensures.leaves c.self.inside.task in
-    let went : Op = record was { state = c.write_next.new.self } in
-    let gone : Gone was c.args.spares.now c.args.answer c.write_next.new.self (written_out c.write_next.result) comes leaves c.match-write_next.self = elim c.match-write_next.branch [
-      | in-Some w ↦ to (Written w.in-Some.end) (ap written_out w.in-Some.is) (subst (λ (o : Op). Follows went c.args.spares.now (Written w.in-Some.end) o) (sym w.self-is) w.end_write.ensures)
-      | in_default w ↦ on (ap written_out w.in_default.is) w.self-is
-    ] in
-    rw (← c.self.view_is) (ahead was c.args.spares.now c.args.answer c.write_next.new.self (written_out c.write_next.result) comes leaves c.match-write_next.self gone c.step.result (rw (← c.self-2.view_is) c.step.ensures.wanted) (rw (← c.self-2.view_is) c.step.ensures.may))
+pub returns-in_default : goal.returns-in_default
+returns-in_default c =
+    let told = rw (← c.self.view_is) at c.requires.told in
+    rw (← c.self.view_is) (goes_on _ _ _ _ told _ _ c.write_next.ensures (ap written_out c.in_default.is))

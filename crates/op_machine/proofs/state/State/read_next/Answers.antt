@@ -2,16 +2,16 @@ use Rattle.op_machine.specs.Bounded.{left_round, one_round}
 use Rattle.op_machine.proofs.Rounds.{read_comes, read_leaves}
 use Rattle.op_machine.proofs.state.State.read_next.Goals as goal
 
-pub returns-clause-comes : goal.returns-clause-comes
-returns-clause-comes c task k r h f =
-    let shows = rw c.in-Read.is at h in
-    let fits = rw c.in-Read.is at f in
-    let follows = c.next.ensures.follows k r shows.shows (rw shows.limits fits) in
-    rw c.in-Read.is (read_comes task c.args.spares.now k r c.in-Read.round c.next.new.self c.args.answer shows fits c.next.ensures.same c.next.result follows)
-
-pub returns-clause-leaves : goal.returns-clause-leaves
-returns-clause-leaves c task k r h f =
-    let shows = rw c.in-Read.is at h in
-    let fits = rw c.in-Read.is at f in
-    let spends = c.next.ensures.spends left_round one_round k r shows.shows (rw shows.limits fits) in
-    rw c.in-Read.is (read_leaves task c.args.spares.now k r c.in-Read.round c.next.new.self c.args.answer shows fits c.next.result spends)
+pub returns : goal.returns
+returns c = record {
+  comes = λ task k r h f.
+      let shows = rw c.in-Read.is at h in
+      let fits = rw c.in-Read.is at f in
+      let follows = c.next.ensures.follows k r shows.shows (rw shows.limits fits) in
+      rw c.in-Read.is (read_comes task c.args.spares.now k r c.in-Read.round c.next.new.self c.args.answer shows fits c.next.ensures.same c.next.result follows);
+  leaves = λ task k r h f.
+      let shows = rw c.in-Read.is at h in
+      let fits = rw c.in-Read.is at f in
+      let spends = c.next.ensures.spends left_round one_round k r shows.shows (rw shows.limits fits) in
+      rw c.in-Read.is (read_leaves task c.args.spares.now k r c.in-Read.round c.next.new.self c.args.answer shows fits c.next.result spends);
+}
