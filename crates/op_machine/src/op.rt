@@ -77,10 +77,10 @@ impl Op {
     }
 
     /// Takes the answer to the step wanted last, or `Start`, and wants the next step.
-    pub fn next<A: Allocator>(&mut self, hand: &mut Hand<A>, answer: Answer<Record>) -> Want
-        requires told { IsTold self.old hand.old answer }
-        ensures obeys { Obeys self.old hand.old answer self.new hand.new result }
-        ensures spends { Spends self.old hand.old answer self.new hand.new result }
+    pub fn next<A: Allocator>(&mut self, hand: &mut Hand<A>, answer: &Answer<Record>) -> Want
+        requires told { IsTold self.old hand.old answer.now }
+        ensures obeys { Obeys self.old hand.old answer.now self.new hand.new result }
+        ensures spends { Spends self.old hand.old answer.now self.new hand.new result }
         ensures same { IsSameTask self.old.task self.new.task }
     {
         if self.state.has_begun() {
@@ -89,7 +89,7 @@ impl Op {
         if let Some(step) = self.sweep_on(&mut hand.limbo, answer) {
             return Want::Step(step);
         }
-        self.go_on(hand, Answer::Start)
+        self.go_on(hand, &Answer::Start)
     }
 
     /// Before anything else a writer frees what it may of its limbo: the step that its sweep wants, if it isn't over.
@@ -97,11 +97,11 @@ impl Op {
     fn sweep_on<A: Allocator>(
         &mut self,
         limbo: &mut Limbo<A>,
-        answer: Answer<Record>,
+        answer: &Answer<Record>,
     ) -> Option<Step<Record>>
-        requires told { IsToldSweep self.old limbo.old answer }
+        requires told { IsToldSweep self.old limbo.old answer.now }
         requires first { self.old.state ≡ State.Begun }
-        ensures obeys { ObeysSweep self.old limbo.old answer self.new limbo.new result }
+        ensures obeys { ObeysSweep self.old limbo.old answer.now self.new limbo.new result }
         ensures few { HasFewer self.old self.new }
         ensures same { IsSameWork self.old self.new }
     {
@@ -111,10 +111,10 @@ impl Op {
     }
 
     /// Begins the sweep of a writer, or goes on with it.
-    fn move_sweep<A: Allocator>(&mut self, limbo: &mut Limbo<A>, answer: Answer<Record>)
-        requires told { IsToldSweep self.old limbo.old answer }
+    fn move_sweep<A: Allocator>(&mut self, limbo: &mut Limbo<A>, answer: &Answer<Record>)
+        requires told { IsToldSweep self.old limbo.old answer.now }
         requires first { self.old.state ≡ State.Begun }
-        ensures shows { MovesSweep self.old limbo.old answer self.new limbo.new }
+        ensures shows { MovesSweep self.old limbo.old answer.now self.new limbo.new }
         ensures few { HasFewer self.old self.new }
         ensures same { IsSameWork self.old self.new }
     {
@@ -125,10 +125,10 @@ impl Op {
     }
 
     /// Takes the answer once the sweep is over, and wants the next step of the work, if it isn't done.
-    fn go_on<A: Allocator>(&mut self, hand: &mut Hand<A>, answer: Answer<Record>) -> Want
-        requires told { IsToldWith self.old hand.old answer }
-        ensures ahead { GoesAhead self.old hand.old.spares answer self.new hand.new.spares result }
-        ensures keeps { KeepsLimbo self.old hand.old answer hand.new }
+    fn go_on<A: Allocator>(&mut self, hand: &mut Hand<A>, answer: &Answer<Record>) -> Want
+        requires told { IsToldWith self.old hand.old answer.now }
+        ensures ahead { GoesAhead self.old hand.old.spares answer.now self.new hand.new.spares result }
+        ensures keeps { KeepsLimbo self.old hand.old answer.now hand.new }
     {
         if self.state.is_leaving() {
             return self.leave();
@@ -147,11 +147,11 @@ impl Op {
     }
 
     /// Takes the answer, and comes to where the operation asks for its next step.
-    fn advance<A: Allocator>(&mut self, hand: &mut Hand<A>, answer: Answer<Record>)
-        requires told { IsToldWith self.old hand.old answer }
+    fn advance<A: Allocator>(&mut self, hand: &mut Hand<A>, answer: &Answer<Record>)
+        requires told { IsToldWith self.old hand.old answer.now }
         requires stays { is_leaving self.old.state ≡ false }
-        ensures advances { Advances self.old hand.old.spares answer self.new hand.new.spares }
-        ensures keeps { KeepsLimbo self.old hand.old answer hand.new }
+        ensures advances { Advances self.old hand.old.spares answer.now self.new hand.new.spares }
+        ensures keeps { KeepsLimbo self.old hand.old answer.now hand.new }
     {
         limbos_are_kept();
         if self.state.is_changing() {
@@ -161,11 +161,11 @@ impl Op {
     }
 
     /// The same where a change is under way. What the change has taken out of the tree comes into limbo.
-    fn change_on<A: Allocator>(&mut self, hand: &mut Hand<A>, answer: Answer<Record>)
-        requires told { IsToldWith self.old hand.old answer }
+    fn change_on<A: Allocator>(&mut self, hand: &mut Hand<A>, answer: &Answer<Record>)
+        requires told { IsToldWith self.old hand.old answer.now }
         requires changing { is_changing self.old.state ≡ true }
-        ensures advances { Advances self.old hand.old.spares answer self.new hand.new.spares }
-        ensures keeps { KeepsLimbo self.old hand.old answer hand.new }
+        ensures advances { Advances self.old hand.old.spares answer.now self.new hand.new.spares }
+        ensures keeps { KeepsLimbo self.old hand.old answer.now hand.new }
     {
         if let Some((end, then)) = ended(&mut self.state, hand, answer) {
             self.end_change(&hand.spares, end, then);
@@ -173,13 +173,13 @@ impl Op {
     }
 
     /// The same where none is.
-    fn move_on(&mut self, spares: &Spares, answer: Answer<Record>)
-        requires told { IsToldOn self.old spares.now answer }
+    fn move_on(&mut self, spares: &Spares, answer: &Answer<Record>)
+        requires told { IsToldOn self.old spares.now answer.now }
         requires still { is_changing self.old.state ≡ false }
         requires stays { is_leaving self.old.state ≡ false }
-        ensures { Advances self.old spares.now answer self.new spares.now }
+        ensures { Advances self.old spares.now answer.now self.new spares.now }
     {
-        if self.state.reads_on(&answer) {
+        if self.state.reads_on(answer) {
             return self.read_on(spares, answer);
         }
         if self.state.is_reading() {
@@ -192,20 +192,20 @@ impl Op {
     }
 
     /// A round reads on. These steps are many, so that this needs no room for whole pages, and what does isn't inlined.
-    fn read_on(&mut self, spares: &Spares, answer: Answer<Record>)
-        requires told { IsToldOn self.old spares.now answer }
-        requires on { reads_on_at self.old.state answer ≡ true }
-        ensures { Advances self.old spares.now answer self.new spares.now }
+    fn read_on(&mut self, spares: &Spares, answer: &Answer<Record>)
+        requires told { IsToldOn self.old spares.now answer.now }
+        requires on { reads_on_at self.old.state answer.now ≡ true }
+        ensures { Advances self.old spares.now answer.now self.new spares.now }
     {
         self.state.read_on(spares, answer);
     }
 
     /// A reader's round has read a page, or found none.
     #[inline(never)]
-    fn read_page(&mut self, spares: &Spares, answer: Answer<Record>)
-        requires told { IsToldOn self.old spares.now answer }
+    fn read_page(&mut self, spares: &Spares, answer: &Answer<Record>)
+        requires told { IsToldOn self.old spares.now answer.now }
         requires reading { is_reading self.old.state ≡ true }
-        ensures { Advances self.old spares.now answer self.new spares.now }
+        ensures { Advances self.old spares.now answer.now self.new spares.now }
     {
         if let Some(end) = self.state.read_next(spares, answer) {
             self.end_read(spares, end);
@@ -214,10 +214,10 @@ impl Op {
 
     /// A writer's round has read a page, or found none.
     #[inline(never)]
-    fn write_page(&mut self, spares: &Spares, answer: Answer<Record>)
-        requires told { IsToldOn self.old spares.now answer }
+    fn write_page(&mut self, spares: &Spares, answer: &Answer<Record>)
+        requires told { IsToldOn self.old spares.now answer.now }
         requires writing { is_writing self.old.state ≡ true }
-        ensures { Advances self.old spares.now answer self.new spares.now }
+        ensures { Advances self.old spares.now answer.now self.new spares.now }
     {
         if let Some(end) = self.state.write_next(spares, answer) {
             self.end_write(spares, end);
@@ -226,11 +226,11 @@ impl Op {
 
     /// From a state without a machine the operation goes to another one.
     #[inline(never)]
-    fn turn(&mut self, spares: &Spares, answer: Answer<Record>)
-        requires told { IsToldOn self.old spares.now answer }
+    fn turn(&mut self, spares: &Spares, answer: &Answer<Record>)
+        requires told { IsToldOn self.old spares.now answer.now }
         requires alone { has_machine self.old.state ≡ false }
         requires stays { is_leaving self.old.state ≡ false }
-        ensures { Advances self.old spares.now answer self.new spares.now }
+        ensures { Advances self.old spares.now answer.now self.new spares.now }
     {
         let outcome = self.state.next(spares, answer);
         self.follow(spares, outcome);
@@ -270,10 +270,10 @@ impl Op {
 }
 
 /// The sweep after an answer, if it goes on.
-fn swept<A: Allocator>(sweep: Sweep, limbo: &mut Limbo<A>, answer: Answer<Record>) -> Option<Sweep>
+fn swept<A: Allocator>(sweep: Sweep, limbo: &mut Limbo<A>, answer: &Answer<Record>) -> Option<Sweep>
     requires sound { IsSoundSweep sweep limbo.old }
-    requires told { IsToldAlone sweep answer }
-    ensures follows { (k : Knowledge) → ShowsSweep sweep limbo.old k → Fits sweep.limits k (wanted sweep) answer → FollowsSweep k (learn k (wanted sweep) answer) sweep result limbo.new }
+    requires told { IsToldAlone sweep answer.now }
+    ensures follows { (k : Knowledge) → ShowsSweep sweep limbo.old k → Fits sweep.limits k (wanted sweep) answer.now → FollowsSweep k (learn k (wanted sweep) answer.now) sweep result limbo.new }
     ensures sound { IfSome result (λ next. IsSoundSweep next limbo.new) }
     ensures few { IfSome result (λ next. steps_of next.state < steps_of sweep.state) }
     ensures same { IfSome result (λ next. (next.limits ≡ sweep.limits) × (next.actor ≡ sweep.actor)) }
@@ -290,12 +290,12 @@ fn swept<A: Allocator>(sweep: Sweep, limbo: &mut Limbo<A>, answer: Answer<Record
 fn ended<A: Allocator>(
     state: &mut State,
     hand: &mut Hand<A>,
-    answer: Answer<Record>,
+    answer: &Answer<Record>,
 ) -> Option<(End, Then)>
-    requires told { IsToldChange state.old hand.old answer }
+    requires told { IsToldChange state.old hand.old answer.now }
     requires changing { is_changing state.old ≡ true }
-    ensures makes { Makes state.old hand.old.spares answer state.new hand.new.spares (changed result) }
-    ensures keeps { (task : Task) (k : Knowledge) (r : Recalled) → Stands task hand.old.spares k r state.old → FitsLast task.limits k (wanted_at hand.old.spares state.old) answer → AreKept task.limits task.actor hand.old.limbo k.limbo → AreKept task.limits task.actor hand.new.limbo (learn_last k (wanted_at hand.old.spares state.old) answer).limbo }
+    ensures makes { Makes state.old hand.old.spares answer.now state.new hand.new.spares (changed result) }
+    ensures keeps { (task : Task) (k : Knowledge) (r : Recalled) → Stands task hand.old.spares k r state.old → FitsLast task.limits k (wanted_at hand.old.spares state.old) answer.now → AreKept task.limits task.actor hand.old.limbo k.limbo → AreKept task.limits task.actor hand.new.limbo (learn_last k (wanted_at hand.old.spares state.old) answer.now).limbo }
 {
     match state.change_next(&mut hand.spares, answer) {
         None => None,

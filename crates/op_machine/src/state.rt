@@ -96,10 +96,10 @@ impl State {
     }
 
     /// Takes such an answer.
-    pub(crate) fn read_on(&mut self, spares: &Spares, answer: Answer<Record>)
-        requires told { IsToldAt self.old spares.now answer }
-        requires on { reads_on_at self.old answer ≡ true }
-        ensures { Makes self.old spares.now answer self.new spares.now None }
+    pub(crate) fn read_on(&mut self, spares: &Spares, answer: &Answer<Record>)
+        requires told { IsToldAt self.old spares.now answer.now }
+        requires on { reads_on_at self.old answer.now ≡ true }
+        ensures { Makes self.old spares.now answer.now self.new spares.now None }
     {
         match self {
             State::Read { round } => round.read_on(answer),
@@ -109,10 +109,10 @@ impl State {
     }
 
     /// Takes the answer to the step that a reader's round wanted last, and tells how the round ends, once it does.
-    pub(crate) fn read_next(&mut self, spares: &Spares, answer: Answer<Record>) -> Option<ReadEnd>
-        requires told { IsToldAt self.old spares.now answer }
+    pub(crate) fn read_next(&mut self, spares: &Spares, answer: &Answer<Record>) -> Option<ReadEnd>
+        requires told { IsToldAt self.old spares.now answer.now }
         requires reading { is_reading self.old ≡ true }
-        ensures { Makes self.old spares.now answer self.new spares.now (read_out result) }
+        ensures { Makes self.old spares.now answer.now self.new spares.now (read_out result) }
     {
         match self {
             State::Read { round } => round.next(answer),
@@ -121,10 +121,10 @@ impl State {
     }
 
     /// The same of a writer's round.
-    pub(crate) fn write_next(&mut self, spares: &Spares, answer: Answer<Record>) -> Option<WriteEnd>
-        requires told { IsToldAt self.old spares.now answer }
+    pub(crate) fn write_next(&mut self, spares: &Spares, answer: &Answer<Record>) -> Option<WriteEnd>
+        requires told { IsToldAt self.old spares.now answer.now }
         requires writing { is_writing self.old ≡ true }
-        ensures { Makes self.old spares.now answer self.new spares.now (written_out result) }
+        ensures { Makes self.old spares.now answer.now self.new spares.now (written_out result) }
     {
         match self {
             State::Write { round } => round.next(answer),
@@ -133,15 +133,15 @@ impl State {
     }
 
     /// Takes the answer to the step wanted last, where no machine is under way: what the operation has come to.
-    pub(crate) fn next(&self, spares: &Spares, answer: Answer<Record>) -> Outcome
-        requires told { IsToldAt self.now spares.now answer }
+    pub(crate) fn next(&self, spares: &Spares, answer: &Answer<Record>) -> Outcome
+        requires told { IsToldAt self.now spares.now answer.now }
         requires alone { has_machine self.now ≡ false }
         requires stays { is_leaving self.now ≡ false }
-        ensures { Makes self.now spares.now answer self.now spares.now (Some result) }
+        ensures { Makes self.now spares.now answer.now self.now spares.now (Some result) }
     {
         match self {
             State::Begun => Outcome::Begun,
-            State::Epoch => Outcome::Epoch(answer.into_number()),
+            State::Epoch => Outcome::Epoch(answer.number()),
             State::Enter { .. } => Outcome::Entered,
             _ => unreachable!(),
         }
@@ -198,12 +198,12 @@ impl State {
     pub(crate) fn change_next(
         &mut self,
         spares: &mut Spares,
-        answer: Answer<Record>,
+        answer: &Answer<Record>,
     ) -> Option<(End, Then)>
-        requires told { IsToldAt self.old spares.old answer }
+        requires told { IsToldAt self.old spares.old answer.now }
         requires changing { is_changing self.old ≡ true }
-        ensures makes { Makes self.old spares.old answer self.new spares.new (changed result) }
-        ensures unlinks { (task : Task) (k : Knowledge) (r : Recalled) → Stands task spares.old k r self.old → FitsLast task.limits k (wanted_at spares.old self.old) answer → UnlinksAfter task.limits k result (learn_last k (wanted_at spares.old self.old) answer).limbo }
+        ensures makes { Makes self.old spares.old answer.now self.new spares.new (changed result) }
+        ensures unlinks { (task : Task) (k : Knowledge) (r : Recalled) → Stands task spares.old k r self.old → FitsLast task.limits k (wanted_at spares.old self.old) answer.now → UnlinksAfter task.limits k result (learn_last k (wanted_at spares.old self.old) answer.now).limbo }
     {
         match self {
             State::Change { change, then } => match change.next(spares, answer) {

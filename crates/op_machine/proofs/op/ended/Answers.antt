@@ -17,7 +17,7 @@ unlink-requires g c =
         told.task.limits,
         told.task.actor,
         told.k,
-        (learn_last told.k (wanted_at c.hand.inside.spares c.args.state.now) c.args.answer).limbo,
+        (learn_last told.k (wanted_at c.hand.inside.spares c.args.state.now) c.args.answer.now).limbo,
         rw (← c.hand.view_is) at c.requires.told.kept,
         rw c.in-Some.is at (c.change_next.ensures.unlinks told.task told.k told.r stands fits),
       );

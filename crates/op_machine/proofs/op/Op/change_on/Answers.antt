@@ -20,7 +20,7 @@ pub returns-clause-advances : goal.returns-clause-advances
 returns-clause-advances g c =
     let told = rw (← c.self.view_is) at c.requires.told in
     let makes = rw (← c.hand.view_is) at c.ended.ensures.makes in
-    let P : Op → Type 0 = λ o. Advances (record { task = c.self.inside.task; sweep = c.self.inside.sweep; state = c.self.inside.state }) c.args.hand.now.spares c.args.answer o c.hand.inside.spares in
+    let P : Op → Type 0 = λ o. Advances (record { task = c.self.inside.task; sweep = c.self.inside.sweep; state = c.self.inside.state }) c.args.hand.now.spares c.args.answer.now o c.hand.inside.spares in
     let advances : P c.match-ended.self = elim c.match-ended.branch [
       | in-Some w ↦ subst P (sym w.self-is) (follows _ _ _ _ told.told_on _ _ makes (Changed w.in-Some.end w.in-Some.then) (ap changed w.in-Some.is) _ w.end_change.ensures)
       | in_default w ↦ subst P (sym w.self-is) (goes_on _ _ _ _ told.told_on _ _ makes (ap changed w.in_default.is))

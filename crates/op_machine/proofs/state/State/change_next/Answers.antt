@@ -11,17 +11,17 @@ returns-in-None-clause-makes c = record {
       let fits = rw c.in-Change.is at f in
       let next = c.next in
       let goes = rw c.in-None.is at (next.ensures.follows task.actor k shows.shows (rw shows.limits fits)) in
-      let apart = taken_apart task c.args.spares.now next.new.spares k r c.in-Change.change next.new.self c.in-Change.then c.args.answer shows fits next.ensures.pid in
+      let apart = taken_apart task c.args.spares.now next.new.spares k r c.in-Change.change next.new.self c.in-Change.then c.args.answer.now shows fits next.ensures.pid in
       let spends = rw c.in-None.is at (next.ensures.spends one_round r shows.recalls apart) in
       let sound = rw c.in-None.is at next.ensures.sound in
-      rw c.in-Change.is (change_on task c.args.spares.now next.new.spares k r c.in-Change.change next.new.self c.in-Change.then c.args.answer shows fits next.ensures.pid next.ensures.same sound goes spends.0, refl);
+      rw c.in-Change.is (change_on task c.args.spares.now next.new.spares k r c.in-Change.change next.new.self c.in-Change.then c.args.answer.now shows fits next.ensures.pid next.ensures.same sound goes spends.0, refl);
   leaves = λ task k r h f.
       let shows = rw c.in-Change.is at h in
       let fits = rw c.in-Change.is at f in
       let next = c.next in
-      let apart = taken_apart task c.args.spares.now next.new.spares k r c.in-Change.change next.new.self c.in-Change.then c.args.answer shows fits next.ensures.pid in
+      let apart = taken_apart task c.args.spares.now next.new.spares k r c.in-Change.change next.new.self c.in-Change.then c.args.answer.now shows fits next.ensures.pid in
       let spends = rw c.in-None.is at (next.ensures.spends one_round r shows.recalls apart) in
-      rw c.in-Change.is (change_left task c.args.spares.now next.new.spares k r c.in-Change.change next.new.self c.in-Change.then c.args.answer shows fits next.ensures.pid spends);
+      rw c.in-Change.is (change_left task c.args.spares.now next.new.spares k r c.in-Change.change next.new.self c.in-Change.then c.args.answer.now shows fits next.ensures.pid spends);
 }
 
 pub returns-in-Some-clause-makes : goal.returns-in-Some-clause-makes
@@ -31,14 +31,14 @@ returns-in-Some-clause-makes c = record {
       let fits = rw c.in-Change.is at f in
       let next = c.next in
       let over = rw c.in-Some.is at (next.ensures.follows task.actor k shows.shows (rw shows.limits fits)) in
-      rw (c.in-Change.is, c.copied.ensures) (change_ended task c.args.spares.now next.new.spares k r c.in-Change.change next.new.self c.in-Change.then c.args.answer shows fits next.ensures.pid c.in-Some.end next.ensures.room over);
+      rw (c.in-Change.is, c.copied.ensures) (change_ended task c.args.spares.now next.new.spares k r c.in-Change.change next.new.self c.in-Change.then c.args.answer.now shows fits next.ensures.pid c.in-Some.end next.ensures.room over);
   leaves = λ task k r h f.
       let shows = rw c.in-Change.is at h in
       let fits = rw c.in-Change.is at f in
       let next = c.next in
-      let apart = taken_apart task c.args.spares.now next.new.spares k r c.in-Change.change next.new.self c.in-Change.then c.args.answer shows fits next.ensures.pid in
+      let apart = taken_apart task c.args.spares.now next.new.spares k r c.in-Change.change next.new.self c.in-Change.then c.args.answer.now shows fits next.ensures.pid in
       let spends = rw c.in-Some.is at (next.ensures.spends one_round r shows.recalls apart) in
-      rw (c.in-Change.is, c.copied.ensures) (ended_left task c.args.spares.now next.new.spares k r c.in-Change.change next.new.self c.in-Change.then c.args.answer shows fits next.ensures.pid c.in-Some.end spends);
+      rw (c.in-Change.is, c.copied.ensures) (ended_left task c.args.spares.now next.new.spares k r c.in-Change.change next.new.self c.in-Change.then c.args.answer.now shows fits next.ensures.pid c.in-Some.end spends);
 }
 
 pub returns-in-None-clause-unlinks : goal.returns-in-None-clause-unlinks

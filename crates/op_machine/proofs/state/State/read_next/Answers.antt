@@ -8,10 +8,10 @@ returns c = record {
       let shows = rw c.in-Read.is at h in
       let fits = rw c.in-Read.is at f in
       let follows = c.next.ensures.follows k r shows.shows (rw shows.limits fits) in
-      rw c.in-Read.is (read_comes task c.args.spares.now k r c.in-Read.round c.next.new.self c.args.answer shows fits c.next.ensures.same c.next.result follows);
+      rw c.in-Read.is (read_comes task c.args.spares.now k r c.in-Read.round c.next.new.self c.args.answer.now shows fits c.next.ensures.same c.next.result follows);
   leaves = λ task k r h f.
       let shows = rw c.in-Read.is at h in
       let fits = rw c.in-Read.is at f in
       let spends = c.next.ensures.spends left_round one_round k r shows.shows (rw shows.limits fits) in
-      rw c.in-Read.is (read_leaves task c.args.spares.now k r c.in-Read.round c.next.new.self c.args.answer shows fits c.next.result spends);
+      rw c.in-Read.is (read_leaves task c.args.spares.now k r c.in-Read.round c.next.new.self c.args.answer.now shows fits c.next.result spends);
 }
