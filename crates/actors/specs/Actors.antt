@@ -77,6 +77,10 @@ pub record IsGoing (limits : Limits) (actor : ℕ) (k : Knowledge) (r : Recalled
   pub shows : IsRunning limits actor k r at.hand running
   pub fits : Fits limits k running.wanted answer
 
+-- Something is known that the operation shows, and that the answer to the step that it wants fits.
+abbrev pub IsWorkTold : Hand → Running → Answer Record → Type 0
+IsWorkTold hand running answer = (limits : Limits) × (actor : ℕ) × (k : Knowledge) × (r : Recalled) × IsRunning limits actor k r hand running × Fits limits k running.wanted answer
+
 -- Something is known that it shows, and that the answer fits.
 pub record IsTold (at : Actor) (answer : Answer Record) : Type 0 where
   pub limits : Limits

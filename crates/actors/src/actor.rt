@@ -1,6 +1,6 @@
 //! One actor.
 ghost use Rattle.std.specs.Prelude.{◌≡◌, ◌≢◌, ◌<◌, ◌^◌, ℕ, IfErr, IfOk, MatchBool, None, Some, is_some, option_copied};
-ghost use Rattle.actors.specs.Actors.{GoesOn, IsActor, IsGoing, IsRunning, IsTold, at_work, command_left, idle_actor, left_with, running_command, wanted_by};
+ghost use Rattle.actors.specs.Actors.{GoesOn, IsActor, IsGoing, IsRunning, IsTold, IsWorkTold, at_work, command_left, idle_actor, left_with, running_command, wanted_by};
 ghost use Rattle.actors.specs.Spending.{steps_due};
 ghost use Rattle.bw_model.specs.declared.limits.Limits.{Limits as LimitsSeen};
 ghost use Rattle.chain_search.specs.Fitting.{Fits};
@@ -98,16 +98,31 @@ impl<A: Allocator> Actor<A> {
         ensures bounded { steps_due blank self.new.hand self.new.running < 2 ^ 18 }
     {
         let mut op = Op::begin(command, number, limits);
-        match op.next(&mut self.hand, Answer::Start) {
+        match op.next(&mut self.hand, &Answer::Start) {
             Want::Step(wanted) => self.running = Some(Running { op, wanted }),
             Want::Done(_) => unreachable!(),
         }
     }
 
+    /// Takes the answer to the step that its operation wants, which isn't the leave, so that the operation goes on. Most steps are
+    /// such ones, and need no room for a reply.
+    pub fn go_on(&mut self, answer: &Answer<Record>)
+        requires told { IsTold self.old answer.now }
+        requires stays { wanted_by self.old.running ≢ Some Step.Leave }
+        ensures goes { (limits : LimitsSeen) (number : ℕ) (k : Knowledge) (r : Recalled) (going : IsGoing limits number k r self.old answer.now) → GoesOn limits number k r self.old going.running.wanted answer.now None self.new }
+        ensures command { running_command self.new ≡ running_command self.old }
+    {
+        match &mut self.running {
+            Some(running) => running.go_on(&mut self.hand, answer),
+            None => unreachable!(),
+        }
+    }
+
     /// Takes the answer to the step that its operation wants, and answers the reply, if the operation is done.
-    pub fn take(&mut self, answer: Answer<Record>) -> Option<Reply>
-        requires told { IsTold self.old answer }
-        ensures goes { (limits : LimitsSeen) (number : ℕ) (k : Knowledge) (r : Recalled) (going : IsGoing limits number k r self.old answer) → GoesOn limits number k r self.old going.running.wanted answer result self.new }
+    #[inline(never)]
+    pub fn take(&mut self, answer: &Answer<Record>) -> Option<Reply>
+        requires told { IsTold self.old answer.now }
+        ensures goes { (limits : LimitsSeen) (number : ℕ) (k : Knowledge) (r : Recalled) (going : IsGoing limits number k r self.old answer.now) → GoesOn limits number k r self.old going.running.wanted answer.now result self.new }
         ensures command { running_command self.new ≡ command_left result (running_command self.old) }
     {
         let reply = match &mut self.running {
@@ -115,25 +130,30 @@ impl<A: Allocator> Actor<A> {
             None => unreachable!(),
         };
         if reply.is_some() {
-            self.rest();
+            self.running = None;
         }
         reply
-    }
-
-    /// Has no operation any more. Not inlined: its caller, which runs at each step, needs no room for an operation then.
-    #[inline(never)]
-    fn rest(&mut self)
-        ensures { self.new ≡ record self.old { running = None } }
-    {
-        self.running = None;
     }
 }
 
 impl Running {
+    /// Takes the answer to the step that is wanted, which isn't the leave.
+    fn go_on<A: Allocator>(&mut self, hand: &mut Hand<A>, answer: &Answer<Record>)
+        requires told { IsWorkTold hand.old self.old answer.now }
+        requires stays { self.old.wanted ≢ Step.Leave }
+        ensures goes { (limits : LimitsSeen) (number : ℕ) (k : Knowledge) (r : Recalled) → IsRunning limits number k r hand.old self.old → Fits limits k self.old.wanted answer.now → GoesOn limits number k r (at_work hand.old self.old) self.old.wanted answer.now None (at_work hand.new self.new) }
+        ensures command { self.new.op.task.command ≡ self.old.op.task.command }
+    {
+        match self.op.next(hand, answer) {
+            Want::Step(wanted) => self.wanted = wanted,
+            Want::Done(_) => unreachable!(),
+        }
+    }
+
     /// Takes the answer to the step that is wanted, and answers the reply, if the operation is done.
-    fn take<A: Allocator>(&mut self, hand: &mut Hand<A>, answer: Answer<Record>) -> Option<Reply>
-        requires told { (limits : LimitsSeen) × (number : ℕ) × (k : Knowledge) × (r : Recalled) × IsRunning limits number k r hand.old self.old × Fits limits k self.old.wanted answer }
-        ensures goes { (limits : LimitsSeen) (number : ℕ) (k : Knowledge) (r : Recalled) → IsRunning limits number k r hand.old self.old → Fits limits k self.old.wanted answer → GoesOn limits number k r (at_work hand.old self.old) self.old.wanted answer result (left_with hand.new self.new result) }
+    fn take<A: Allocator>(&mut self, hand: &mut Hand<A>, answer: &Answer<Record>) -> Option<Reply>
+        requires told { IsWorkTold hand.old self.old answer.now }
+        ensures goes { (limits : LimitsSeen) (number : ℕ) (k : Knowledge) (r : Recalled) → IsRunning limits number k r hand.old self.old → Fits limits k self.old.wanted answer.now → GoesOn limits number k r (at_work hand.old self.old) self.old.wanted answer.now result (left_with hand.new self.new result) }
         ensures command { self.new.op.task.command ≡ self.old.op.task.command }
     {
         match self.op.next(hand, answer) {

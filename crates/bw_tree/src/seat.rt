@@ -71,7 +71,7 @@ impl<A: Allocator> BwSeat<A> {
             self.actor.command(),
             None,
         );
-        self.actor.take(answer);
+        self.actor.take(&answer);
     }
 
     /// Goes on with its operation for so many steps, or to its end.
@@ -99,7 +99,7 @@ impl<A: Allocator> BwSeat<A> {
         laws_of_runs();
         if self.actor.is_leaving() {
             // A leave answers nothing, so the reply is asked for before the store that ends the operation.
-            let reply = self.actor.take(Answer::Done);
+            let reply = self.actor.take(&Answer::Done);
             act(
                 words,
                 &mut self.place,
@@ -115,6 +115,7 @@ impl<A: Allocator> BwSeat<A> {
             unreachable!()
         };
         let answer = take(words, &mut self.place, &self.limits, self.number, wanted);
-        self.actor.take(answer)
+        self.actor.go_on(&answer);
+        None
     }
 }

@@ -127,7 +127,7 @@ pub(crate) fn take_step<A: Allocator>(
         room,
     } = ready;
     memory.take(number, again);
-    let replied = actor.take(answer_of(&answer));
+    let replied = actor.take(&answer_of(&answer));
     match replied {
         None => Stepped {
             step,
