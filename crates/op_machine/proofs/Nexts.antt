@@ -57,70 +57,60 @@ asks_begun spares (Change now then) asked e = refl
 asks_begun spares (Leave reply) asked e = refl
 asks_begun spares Over asked e = cc
 
-module _ (old : Op) (had : Hand) (k : Knowledge) (r : Recalled) (shows : Shows old had k r) where
-  swept_first : (o : Option Sweep) → HoldsLimbo old.task old.state had.limbo k o → has_begun old.state ≡ true → o ≡ None
-  swept_first None holds begun = refl
-  swept_first (Some sweep) holds begun = let e = sym (ap has_begun holds.first) ∙ begun in cc
+-- An operation that has begun has no sweep, asks for what its work asks for, and goes ahead as its work does.
+module _ (old : Op) (had : Hand) (told : Answer Record) (begun : has_begun old.state ≡ true) where
+  swept_first : (k : Knowledge) (o : Option Sweep) → HoldsLimbo old.task old.state had.limbo k o → o ≡ None
+  swept_first k None holds = refl
+  swept_first k (Some sweep) holds = let e = sym (ap has_begun holds.first) ∙ begun in cc
 
-  -- after its first step an operation has no sweep
-  unswept : has_begun old.state ≡ true → old.sweep ≡ None
-  unswept begun = swept_first old.sweep shows.limbo begun
+  left_is : (op : Op) (hand : Hand) (r : Recalled) → op.sweep ≡ None → has_begun op.state ≡ true → steps_left r op hand ≡ with_errands op.task.errands (left_at r hand.spares op.state)
+  left_is op hand r none on = let zero : sweep_left op.sweep op.state ≡ 0 = rw none (nothing_left op.state on) in omega (arith, zero)
 
-  kept_begun : has_begun old.state ≡ true → AreKept old.task.limits old.task.actor had.limbo k.limbo
-  kept_begun begun = rw (unswept begun) at shows.limbo
+  module _ (k : Knowledge) (r : Recalled) (shows : Shows old had k r) where
+    unswept : old.sweep ≡ None
+    unswept = swept_first k old.sweep shows.limbo
 
--- where the sweep is over, the operation asks for what its work asks for
-asked_is : (old : Op) (had : Hand) → old.sweep ≡ None → wanted_of old had ≡ asked_of old had.spares
-asked_is old had none = ap (λ (o : Option Sweep). asked_by o (asked_of old had.spares)) none
+    asks : wanted_of old had ≡ asked_of old had.spares
+    asks = ap (λ (o : Option Sweep). asked_by o (asked_of old had.spares)) unswept
 
-fits_on : (k : Knowledge) (old : Op) (had : Hand) (told : Answer Record) → old.sweep ≡ None → FitsLast old.task.limits k (wanted_of old had) told → FitsLast old.task.limits k (asked_of old had.spares) told
-fits_on k old had told none fits = subst (λ w. FitsLast old.task.limits k w told) (asked_is old had none) fits
+    fits_on : FitsLast old.task.limits k (wanted_of old had) told → FitsLast old.task.limits k (asked_of old had.spares) told
+    fits_on fits = subst (λ w. FitsLast old.task.limits k w told) asks fits
 
--- what the work is after an answer the operation is, where its sweep is over
-module _ (k : Knowledge) (r : Recalled) (old new : Op) (had has : Hand) (told : Answer Record) (none : old.sweep ≡ None) (same : new.sweep ≡ old.sweep) (task : IsSameTask old.task new.task) where
-  wanted_is : wanted_of old had ≡ asked_of old had.spares
-  wanted_is = asked_is old had none
+    kept_begun : AreKept old.task.limits old.task.actor had.limbo k.limbo
+    kept_begun = rw unswept at shows.limbo
 
-  holds_on : (now : Knowledge) → AreKept old.task.limits old.task.actor has.limbo now.limbo → HoldsLimbo new.task new.state has.limbo now new.sweep
-  holds_on now kept = rw (same, none, task.limits, task.actor) kept
+    module _ (new : Op) (has : Hand) (same : new.sweep ≡ old.sweep) (task : IsSameTask old.task new.task) where
+      answers_on : (want : Want) → AnswersOn k r old had.spares told new has.spares want → AreKept old.task.limits old.task.actor has.limbo (learn_last k (asked_of old had.spares) told).limbo → Answers k r old had told new has want
+      answers_on (Step asked) goes kept = subst (λ w. Goes (learn_last k w told) (recall_last r w told) new has asked) (sym asks) (record {
+        wanted = ap (λ (o : Option Sweep). asked_by o (asked_of new has.spares)) (same ∙ unswept) ∙ goes.wanted;
+        may = goes.may;
+        shows = record { stands = goes.works; limbo = rw (same, unswept, task.limits, task.actor) kept };
+      })
+      answers_on (Done reply) left kept = subst (λ w. IsOver old.task k w told has reply) (sym asks) (record { left = left; limbo = kept })
 
-  answers_on : (want : Want) → AnswersOn k r old had.spares told new has.spares want → AreKept old.task.limits old.task.actor has.limbo (learn_last k (asked_of old had.spares) told).limbo → Answers k r old had told new has want
-  answers_on (Step asked) goes kept = subst (λ w. Goes (learn_last k w told) (recall_last r w told) new has asked) (sym wanted_is) (record {
-    wanted = ap (λ (o : Option Sweep). asked_by o (asked_of new has.spares)) (same ∙ none) ∙ goes.wanted;
-    may = goes.may;
-    shows = record { stands = goes.works; limbo = holds_on (learn_last k (asked_of old had.spares) told) kept };
-  })
-  answers_on (Done reply) left kept = subst (λ w. IsOver old.task k w told has reply) (sym wanted_is) (record { left = left; limbo = kept })
+      spends_on : (want : Want) → AnswersOn k r old had.spares told new has.spares want → SpendsOnTo r old had.spares told new has.spares want → SpendsTo r old had told new has want
+      spends_on (Step asked) goes spends =
+          let then = asks_begun has.spares new.state asked goes.wanted in
+          subst (λ w. IsSpentLast r w told (steps_left r old had) (steps_left (recall_last r w told) new has)) (sym asks)
+          (rw (left_is old had r unswept begun, left_is new has (recall_last r (asked_of old had.spares) told) (same ∙ unswept) then) spends)
+      spends_on (Done reply) left spends = tt
 
-  left_is : (op : Op) (hand : Hand) (q : Recalled) → op.sweep ≡ None → has_begun op.state ≡ true → steps_left q op hand ≡ with_errands op.task.errands (left_at q hand.spares op.state)
-  left_is op hand q gone begun = let zero : sweep_left op.sweep op.state ≡ 0 = rw gone (nothing_left op.state begun) in omega (arith, zero)
+  pub told_begun : IsTold old had told → IsToldWith old had told
+  told_begun is = record {
+    told_on = record { k = is.k; r = is.r; works = is.shows.stands; fits = fits_on is.k is.r is.shows is.fits };
+    kept = kept_begun is.k is.r is.shows;
+  }
 
-  spends_on : (want : Want) → has_begun old.state ≡ true → AnswersOn k r old had.spares told new has.spares want → SpendsOnTo r old had.spares told new has.spares want → SpendsTo r old had told new has want
-  spends_on (Step asked) begun goes spends =
-      let then = asks_begun has.spares new.state asked goes.wanted in
-      subst (λ w. IsSpentLast r w told (steps_left r old had) (steps_left (recall_last r w told) new has)) (sym wanted_is)
-      (rw (left_is old had r none begun, left_is new has (recall_last r (asked_of old had.spares) told) (same ∙ none) then) spends)
-  spends_on (Done reply) begun left spends = tt
+  module _ (new : Op) (has : Hand) (want : Want) (ahead : GoesAhead old had.spares told new has.spares want) where
+    pub obeys_begun : KeepsLimbo old had told has → Obeys old had told new has want
+    obeys_begun keeps k r h f =
+        let fits = fits_on k r h f in
+        answers_on k r h new has ahead.sweep ahead.same want (ahead.obeys k r h.stands fits) (keeps k r h.stands fits (kept_begun k r h))
 
--- An operation that has begun goes ahead as its work does.
-pub told_begun : (op : Op) (hand : Hand) (told : Answer Record) → has_begun op.state ≡ true → IsTold op hand told → IsToldWith op hand told
-told_begun op hand told begun is = record {
-  told_on = record { k = is.k; r = is.r; works = is.shows.stands; fits = fits_on is.k op hand told (unswept op hand is.k is.r is.shows begun) is.fits };
-  kept = kept_begun op hand is.k is.r is.shows begun;
-}
-
-module _ (old new : Op) (had has : Hand) (told : Answer Record) (want : Want) (begun : has_begun old.state ≡ true) (ahead : GoesAhead old had.spares told new has.spares want) where
-  pub obeys_begun : KeepsLimbo old had told has → Obeys old had told new has want
-  obeys_begun keeps k r h f =
-      let none = unswept old had k r h begun in
-      let fits = fits_on k old had told none f in
-      answers_on k r old new had has told none ahead.sweep ahead.same want (ahead.obeys k r h.stands fits) (keeps k r h.stands fits (kept_begun old had k r h begun))
-
-  pub spends_begun : Spends old had told new has want
-  spends_begun k r h f =
-      let none = unswept old had k r h begun in
-      let fits = fits_on k old had told none f in
-      spends_on k r old new had has told none ahead.sweep ahead.same want begun (ahead.obeys k r h.stands fits) (ahead.spends k r h.stands fits)
+    pub spends_begun : Spends old had told new has want
+    spends_begun k r h f =
+        let fits = fits_on k r h f in
+        spends_on k r h new has ahead.sweep ahead.same want (ahead.obeys k r h.stands fits) (ahead.spends k r h.stands fits)
 
 -- before the first step of the work the sweep alone asks
 module _ (old mid : Op) (spares : Spares) (limbo now : Limbo) (told : Answer Record) (first : old.state ≡ Begun) (same : IsSameWork old mid) where
@@ -169,57 +159,55 @@ module _ (old mid : Op) (spares : Spares) (limbo now : Limbo) (told : Answer Rec
     asks_none : asked_of mid spares ≡ None
     asks_none = ap (wanted_at spares) (same.state ∙ first)
 
-    starts : (k : Knowledge) → FitsLast mid.task.limits k (asked_of mid spares) Start
-    starts k = rw asks_none refl
+    module _ (k : Knowledge) (r : Recalled) (h : Shows old had k r) (f : FitsLast old.task.limits k (wanted_of old had) told) where
+      abbrev then : Knowledge
+      then = learn_last k (swept_by old) told
+
+      abbrev recalled : Recalled
+      recalled = recall_last r (swept_by old) told
+
+      rests : (mid.sweep ≡ None) × Shows mid between then recalled
+      rests = over k r spares h (fits_swept k f)
+
+      starts : FitsLast mid.task.limits then (asked_of mid spares) Start
+      starts = rw asks_none refl
+
+      kept_after : AreKept mid.task.limits mid.task.actor now then.limbo
+      kept_after = rw rests.0 at rests.1.limbo
+
+      module _ (new : Op) (has : Hand) (sweep : new.sweep ≡ mid.sweep) (task : IsSameTask mid.task new.task) where
+        answers : (want : Want) → AnswersOn then recalled mid spares Start new has.spares want → AreKept mid.task.limits mid.task.actor has.limbo (learn_last then (asked_of mid spares) Start).limbo → Answers k r old had told new has want
+        answers (Step asked) on held =
+            let goes : GoesOn then recalled new has.spares asked = rw asks_none at on in
+            let kept : AreKept mid.task.limits mid.task.actor has.limbo then.limbo = rw asks_none at held in
+            goes_swept k r new has asked (record {
+              wanted = ap (λ (o : Option Sweep). asked_by o (asked_of new has.spares)) (sweep ∙ rests.0) ∙ goes.wanted;
+              may = goes.may;
+              shows = record { stands = goes.works; limbo = rw (sweep, rests.0, task.limits, task.actor) kept };
+            })
+        answers (Done reply) on held = let last = sym asks_none ∙ on.is_last in cc
+
+        spends : (want : Want) → AnswersOn then recalled mid spares Start new has.spares want → SpendsOnTo recalled mid spares Start new has.spares want → SpendsTo r old had told new has want
+        spends (Step asked) on spent =
+            let goes : GoesOn then recalled new has.spares asked = rw asks_none at on in
+            let less : with_errands new.task.errands (left_at recalled has.spares new.state) < with_errands mid.task.errands (left_at recalled spares mid.state) = rw asks_none at spent in
+            fewer r (wanted_of old had) (steps_left r old had) (steps_left (recall_last r (wanted_of old had) told) new has)
+            (rw (sweep_asks, left_first r, sweep, rests.0, nothing_left new.state (asks_begun has.spares new.state asked goes.wanted)) (let n = rw (same.state ∙ first, same.task) at less in omega (arith, n)))
+        spends (Done reply) on spent = tt
 
     pub told_after : IsTold old had told → IsToldWith mid between Start
-    told_after is =
-        let rests = over is.k is.r spares is.shows (fits_swept is.k is.fits) in
-        let then = learn_last is.k (swept_by old) told in
-        record {
-          told_on = record { k = then; r = recall_last is.r (swept_by old) told; works = rests.1.stands; fits = starts then };
-          kept = rw rests.0 at rests.1.limbo;
-        }
+    told_after is = record {
+      told_on = record { k = then is.k is.r is.shows is.fits; r = recalled is.k is.r is.shows is.fits; works = (rests is.k is.r is.shows is.fits).1.stands; fits = starts is.k is.r is.shows is.fits };
+      kept = kept_after is.k is.r is.shows is.fits;
+    }
 
     module _ (new : Op) (has : Hand) (want : Want) (ahead : GoesAhead mid spares Start new has.spares want) where
-      answers : (k : Knowledge) (r : Recalled) → Shows old had k r → FitsLast old.task.limits k (wanted_of old had) told → AnswersOn (learn_last k (swept_by old) told) (recall_last r (swept_by old) told) mid spares Start new has.spares want
-      answers k r h f = ahead.obeys _ _ (over k r spares h (fits_swept k f)).1.stands (starts (learn_last k (swept_by old) told))
-
       pub obeys_after : KeepsLimbo mid between Start has → Obeys old had told new has want
-      obeys_after keeps k r h f = by want (answers k r h f)
-        where
-          then : Knowledge
-          then = learn_last k (swept_by old) told
-
-          recalled : Recalled
-          recalled = recall_last r (swept_by old) told
-
-          by : (w : Want) → AnswersOn then recalled mid spares Start new has.spares w → Answers k r old had told new has w
-          by (Step asked) on =
-              let rests = over k r spares h (fits_swept k f) in
-              let goes : GoesOn then recalled new has.spares asked = rw asks_none at on in
-              let kept : AreKept mid.task.limits mid.task.actor has.limbo then.limbo = rw asks_none at (keeps then recalled rests.1.stands (starts then) (rw rests.0 at rests.1.limbo)) in
-              goes_swept k r new has asked (record {
-                wanted = ap (λ (o : Option Sweep). asked_by o (asked_of new has.spares)) (ahead.sweep ∙ rests.0) ∙ goes.wanted;
-                may = goes.may;
-                shows = record { stands = goes.works; limbo = rw (ahead.sweep, rests.0, ahead.same.limits, ahead.same.actor) kept };
-              })
-          by (Done reply) on = let last = sym asks_none ∙ on.is_last in cc
+      obeys_after keeps k r h f =
+          let works = (rests k r h f).1.stands in
+          answers k r h f new has ahead.sweep ahead.same want (ahead.obeys _ _ works (starts k r h f)) (keeps _ _ works (starts k r h f) (kept_after k r h f))
 
       pub spends_after : Spends old had told new has want
-      spends_after k r h f = by want (answers k r h f) (ahead.spends _ _ (over k r spares h (fits_swept k f)).1.stands (starts (learn_last k (swept_by old) told)))
-        where
-          then : Knowledge
-          then = learn_last k (swept_by old) told
-
-          recalled : Recalled
-          recalled = recall_last r (swept_by old) told
-
-          by : (w : Want) → AnswersOn then recalled mid spares Start new has.spares w → SpendsOnTo recalled mid spares Start new has.spares w → SpendsTo r old had told new has w
-          by (Step asked) on spends =
-              let rests = over k r spares h (fits_swept k f) in
-              let goes : GoesOn then recalled new has.spares asked = rw asks_none at on in
-              let less : with_errands new.task.errands (left_at recalled has.spares new.state) < with_errands mid.task.errands (left_at recalled spares mid.state) = rw asks_none at spends in
-              fewer r (wanted_of old had) (steps_left r old had) (steps_left (recall_last r (wanted_of old had) told) new has)
-              (rw (sweep_asks, left_first r, ahead.sweep, rests.0, nothing_left new.state (asks_begun has.spares new.state asked goes.wanted)) (let n = rw (same.state ∙ first, same.task) at less in omega (arith, n)))
-          by (Done reply) on spends = tt
+      spends_after k r h f =
+          let works = (rests k r h f).1.stands in
+          spends k r h f new has ahead.sweep ahead.same want (ahead.obeys _ _ works (starts k r h f)) (ahead.spends _ _ works (starts k r h f))

@@ -6,10 +6,10 @@ pub go_on-requires : goal.go_on-requires
 go_on-requires g c = record { told = told_begun _ _ _ (rw (← c.self.view_is) (sym c.has_begun.ensures ∙ c.if-has_begun.true)) c.requires.told }
 
 pub returns-then-has_begun-clause-obeys : goal.returns-then-has_begun-clause-obeys
-returns-then-has_begun-clause-obeys g c = obeys_begun _ _ _ _ _ _ (rw (← c.self.view_is) (sym c.has_begun.ensures ∙ c.if-has_begun.true)) c.go_on.ensures.ahead c.go_on.ensures.keeps
+returns-then-has_begun-clause-obeys g c = obeys_begun _ _ _ (rw (← c.self.view_is) (sym c.has_begun.ensures ∙ c.if-has_begun.true)) _ _ _ c.go_on.ensures.ahead c.go_on.ensures.keeps
 
 pub returns-then-has_begun-clause-spends : goal.returns-then-has_begun-clause-spends
-returns-then-has_begun-clause-spends g c = spends_begun _ _ _ c.go_on.new.hand _ _ (rw (← c.self.view_is) (sym c.has_begun.ensures ∙ c.if-has_begun.true)) c.go_on.ensures.ahead
+returns-then-has_begun-clause-spends g c = spends_begun _ _ _ (rw (← c.self.view_is) (sym c.has_begun.ensures ∙ c.if-has_begun.true)) _ c.go_on.new.hand _ c.go_on.ensures.ahead
 
 pub returns-in-Some-clause-obeys : goal.returns-in-Some-clause-obeys
 returns-in-Some-clause-obeys g c =
