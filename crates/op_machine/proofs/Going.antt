@@ -12,7 +12,7 @@ use Rattle.op_machine.specs.Ops.{Op}
 use Rattle.op_machine.specs.Outcomes.{Comes, Faces, IsFaced, IsToldAt}
 use Rattle.op_machine.specs.Shows.{FitsLast, MayStep, Stands, learn_last, recall_last}
 use Rattle.op_machine.specs.Tasks.{Task}
-use Rattle.op_machine.specs.Works.{Advances, FollowsOutcome, GoesAhead, IsToldChange, IsToldOn, IsToldWith, Makes, Works, asked_of}
+use Rattle.op_machine.specs.Works.{AsksOn, FollowsOutcome, GoesAhead, IsToldChange, IsToldOn, IsToldWith, Makes, Works, asked_of}
 use Rattle.op_machine.specs.declared.op.Want.TheVariants as Want
 use Rattle.op_machine.specs.declared.state.Outcome.{Outcome}
 use Rattle.op_machine.specs.declared.state.State.{State}
@@ -45,7 +45,7 @@ module _ (old : Op) (had has : Spares) (told : Answer Record) (is : IsToldOn old
   errands = old.task.errands
 
   -- it goes on,
-  pub goes_on : outcome ≡ None → Advances old had told went has
+  pub goes_on : outcome ≡ None → AsksOn old had told went has
   goes_on on = record {
     works = λ k r works fits. (here k r works fits).0;
     spends = λ k r works fits. spent_with r last told _ _ errands errands _ (subst (λ o. LeavesFor r last told (left_at r had old.state) state has o) on (makes.leaves old.task k r works fits)) (omega arith);
@@ -65,7 +65,7 @@ module _ (old : Op) (had has : Spares) (told : Answer Record) (is : IsToldOn old
     pub faced : IsFaced old.task has to
     faced = record { k = learn_last is.k last told; r = recall_last is.r last told; faces = faces is.k is.r is.works is.fits }
 
-    pub follows : (new : Op) → FollowsOutcome went has to new → Advances old had told new has
+    pub follows : (new : Op) → FollowsOutcome went has to new → AsksOn old had told new has
     follows new after = record {
       works = λ k r works fits. after.stands _ _ (faces k r works fits);
       spends = λ k r works fits. spent_with r last told _ _ errands new.task.errands _ (subst (λ o. LeavesFor r last told (left_at r had old.state) state has o) come (makes.leaves old.task k r works fits)) (after.few _ _ (faces k r works fits));
@@ -75,7 +75,7 @@ module _ (old : Op) (had has : Spares) (told : Answer Record) (is : IsToldOn old
     }
 
 -- An operation that has advanced wants the step that it asks for.
-pub wants : (old : Op) (had : Spares) (told : Answer Record) (new : Op) (has : Spares) → Advances old had told new has
+pub wants : (old : Op) (had : Spares) (told : Answer Record) (new : Op) (has : Spares) → AsksOn old had told new has
     → (asked : Step Record) → asked_of new has ≡ Some asked → ((task : Task) (k : Knowledge) (r : Recalled) → Stands task has k r new.state → MayStep task k asked)
     → GoesAhead old had told new has (Want.Step asked)
 wants old had told new has after asked wanted may = record {

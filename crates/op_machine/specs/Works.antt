@@ -86,7 +86,7 @@ pub record GoesAhead (old : Op) (had : Spares) (told : Answer Record) (new : Op)
   pub sweep : new.sweep ≡ old.sweep
 
 -- It has taken the answer and asks for a step: it shows what is known then, with fewer steps left, at the same task.
-pub record Advances (old : Op) (had : Spares) (told : Answer Record) (new : Op) (has : Spares) : Type 0 where
+pub record AsksOn (old : Op) (had : Spares) (told : Answer Record) (new : Op) (has : Spares) : Type 0 where
   pub works : (k : Knowledge) (r : Recalled) → Works old had k r → FitsLast old.task.limits k (asked_of old had) told → Works new has (learn_last k (asked_of old had) told) (recall_last r (asked_of old had) told)
   pub spends : (k : Knowledge) (r : Recalled) → Works old had k r → FitsLast old.task.limits k (asked_of old had) told → IsSpentOn r old had told new has
   pub asks : IsSome (asked_of new has)
@@ -94,9 +94,9 @@ pub record Advances (old : Op) (had : Spares) (told : Answer Record) (new : Op) 
   pub sweep : new.sweep ≡ old.sweep
 
 -- It is done with the reply with which it was to leave.
-abbrev pub IsDone : State → Want → Type 0
-IsDone state (Step asked) = ⊥
-IsDone state (Done reply) = state ≡ Leave reply
+abbrev pub LeavesWith : State → Want → Type 0
+LeavesWith state (Step asked) = ⊥
+LeavesWith state (Done reply) = state ≡ Leave reply
 
 -- It goes from what it has come to into the state that follows, which asks for a step.
 pub record FollowsOutcome (old : Op) (spares : Spares) (outcome : Outcome) (new : Op) : Type 0 where

@@ -13,7 +13,7 @@ ghost use Rattle.op_machine.specs.Tasks.{IsSameTask, Task};
 ghost use Rattle.sweep.specs.Bounded.{steps_left as steps_of};
 ghost use Rattle.sweep.specs.Sweeps.{IsSoundSweep, IsTold as IsToldAlone, Shows as ShowsSweep, wanted};
 ghost use Rattle.sweep.specs.Kept.{AreKept};
-ghost use Rattle.op_machine.specs.Works.{Advances, FollowsOutcome, GoesAhead, IsDone, IsToldChange, IsToldOn, IsToldWith, KeepsLimbo, Makes};
+ghost use Rattle.op_machine.specs.Works.{AsksOn, FollowsOutcome, GoesAhead, IsToldChange, IsToldOn, IsToldWith, KeepsLimbo, LeavesWith, Makes};
 
 use crate::hand::Hand;
 use crate::state::{Outcome, State, Then};
@@ -141,7 +141,7 @@ impl Op {
     #[inline(never)]
     fn leave(&self) -> Want
         requires leaving { is_leaving self.now.state ≡ true }
-        ensures { IsDone self.now.state result }
+        ensures { LeavesWith self.now.state result }
     {
         Want::Done(self.state.reply())
     }
@@ -150,7 +150,7 @@ impl Op {
     fn advance<A: Allocator>(&mut self, hand: &mut Hand<A>, answer: &Answer<Record>)
         requires told { IsToldWith self.old hand.old answer.now }
         requires stays { is_leaving self.old.state ≡ false }
-        ensures advances { Advances self.old hand.old.spares answer.now self.new hand.new.spares }
+        ensures asks { AsksOn self.old hand.old.spares answer.now self.new hand.new.spares }
         ensures keeps { KeepsLimbo self.old hand.old answer.now hand.new }
     {
         limbos_are_kept();
@@ -164,7 +164,7 @@ impl Op {
     fn change_on<A: Allocator>(&mut self, hand: &mut Hand<A>, answer: &Answer<Record>)
         requires told { IsToldWith self.old hand.old answer.now }
         requires changing { is_changing self.old.state ≡ true }
-        ensures advances { Advances self.old hand.old.spares answer.now self.new hand.new.spares }
+        ensures asks { AsksOn self.old hand.old.spares answer.now self.new hand.new.spares }
         ensures keeps { KeepsLimbo self.old hand.old answer.now hand.new }
     {
         if let Some((end, then)) = ended(&mut self.state, hand, answer) {
@@ -177,7 +177,7 @@ impl Op {
         requires told { IsToldOn self.old spares.now answer.now }
         requires still { is_changing self.old.state ≡ false }
         requires stays { is_leaving self.old.state ≡ false }
-        ensures { Advances self.old spares.now answer.now self.new spares.now }
+        ensures { AsksOn self.old spares.now answer.now self.new spares.now }
     {
         if self.state.reads_on(answer) {
             return self.read_on(spares, answer);
@@ -195,7 +195,7 @@ impl Op {
     fn read_on(&mut self, spares: &Spares, answer: &Answer<Record>)
         requires told { IsToldOn self.old spares.now answer.now }
         requires on { reads_on_at self.old.state answer.now ≡ true }
-        ensures { Advances self.old spares.now answer.now self.new spares.now }
+        ensures { AsksOn self.old spares.now answer.now self.new spares.now }
     {
         self.state.read_on(spares, answer);
     }
@@ -205,7 +205,7 @@ impl Op {
     fn read_page(&mut self, spares: &Spares, answer: &Answer<Record>)
         requires told { IsToldOn self.old spares.now answer.now }
         requires reading { is_reading self.old.state ≡ true }
-        ensures { Advances self.old spares.now answer.now self.new spares.now }
+        ensures { AsksOn self.old spares.now answer.now self.new spares.now }
     {
         if let Some(end) = self.state.read_next(spares, answer) {
             self.end_read(spares, end);
@@ -217,7 +217,7 @@ impl Op {
     fn write_page(&mut self, spares: &Spares, answer: &Answer<Record>)
         requires told { IsToldOn self.old spares.now answer.now }
         requires writing { is_writing self.old.state ≡ true }
-        ensures { Advances self.old spares.now answer.now self.new spares.now }
+        ensures { AsksOn self.old spares.now answer.now self.new spares.now }
     {
         if let Some(end) = self.state.write_next(spares, answer) {
             self.end_write(spares, end);
@@ -230,7 +230,7 @@ impl Op {
         requires told { IsToldOn self.old spares.now answer.now }
         requires alone { has_machine self.old.state ≡ false }
         requires stays { is_leaving self.old.state ≡ false }
-        ensures { Advances self.old spares.now answer.now self.new spares.now }
+        ensures { AsksOn self.old spares.now answer.now self.new spares.now }
     {
         let outcome = self.state.next(spares, answer);
         self.follow(spares, outcome);

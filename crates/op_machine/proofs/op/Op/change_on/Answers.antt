@@ -1,7 +1,7 @@
 use Rattle.std.proofs.Common.{ap, subst, sym}
 use Rattle.op_machine.specs.Ops.{Op}
 use Rattle.op_machine.specs.Outcomes.{changed}
-use Rattle.op_machine.specs.Works.{Advances}
+use Rattle.op_machine.specs.Works.{AsksOn}
 use Rattle.op_machine.specs.declared.state.Outcome.TheVariants.{Changed}
 use Rattle.op_machine.proofs.Going.{faced, follows, goes_on, told_change}
 use Rattle.op_machine.proofs.op.Op.change_on.Goals as goal
@@ -16,11 +16,11 @@ end_change-requires g c =
     let makes = rw (← c.hand.view_is) at c.ended.ensures.makes in
     record { faced = faced _ _ _ _ told.told_on _ _ makes (Changed c.in-Some.end c.in-Some.then) (ap changed c.in-Some.is) }
 
-pub returns-clause-advances : goal.returns-clause-advances
-returns-clause-advances g c =
+pub returns-clause-asks : goal.returns-clause-asks
+returns-clause-asks g c =
     let told = rw (← c.self.view_is) at c.requires.told in
     let makes = rw (← c.hand.view_is) at c.ended.ensures.makes in
-    let P : Op → Type 0 = λ o. Advances (record { task = c.self.inside.task; sweep = c.self.inside.sweep; state = c.self.inside.state }) c.args.hand.now.spares c.args.answer.now o c.hand.inside.spares in
+    let P : Op → Type 0 = λ o. AsksOn (record { task = c.self.inside.task; sweep = c.self.inside.sweep; state = c.self.inside.state }) c.args.hand.now.spares c.args.answer.now o c.hand.inside.spares in
     let advances : P c.match-ended.self = elim c.match-ended.branch [
       | in-Some w ↦ subst P (sym w.self-is) (follows _ _ _ _ told.told_on _ _ makes (Changed w.in-Some.end w.in-Some.then) (ap changed w.in-Some.is) _ w.end_change.ensures)
       | in_default w ↦ subst P (sym w.self-is) (goes_on _ _ _ _ told.told_on _ _ makes (ap changed w.in_default.is))

@@ -7,8 +7,8 @@ pub step-requires-clause-stands : goal.step-requires-clause-stands
 step-requires-clause-stands g c =
     let told = c.requires.told.told_on in
     let last = asked_of c.args.self.now c.args.hand.now.spares in
-    let works = c.advance.ensures.advances.works told.k told.r told.works told.fits in
+    let works = c.advance.ensures.asks.works told.k told.r told.works told.fits in
     (c.self-2.inside.task, learn_last told.k last c.args.answer.now, recall_last told.r last c.args.answer.now, rw (← c.self-2.view_is, ← c.hand.view_is) at works)
 
 pub returns-clause-ahead : goal.returns-clause-ahead
-returns-clause-ahead g c = rw (← c.self-2.view_is, ← c.hand.view_is) (wants _ _ _ _ _ (rw (← c.self-2.view_is, ← c.hand.view_is) at c.advance.ensures.advances) c.step.result c.step.ensures.wanted c.step.ensures.may)
+returns-clause-ahead g c = rw (← c.self-2.view_is, ← c.hand.view_is) (wants _ _ _ _ _ (rw (← c.self-2.view_is, ← c.hand.view_is) at c.advance.ensures.asks) c.step.result c.step.ensures.wanted c.step.ensures.may)
