@@ -137,7 +137,7 @@ impl Op {
         Want::Step(self.state.step(&hand.spares))
     }
 
-    /// It has left, with its reply. Only this has room for one.
+    /// It has left, with its reply, for which no other step needs room.
     #[inline(never)]
     fn leave(&self) -> Want
         requires leaving { is_leaving self.now.state ≡ true }
@@ -172,7 +172,7 @@ impl Op {
         }
     }
 
-    /// The same where none is.
+    /// The same where no change is under way.
     fn move_on(&mut self, spares: &Spares, answer: &Answer<Record>)
         requires told { IsToldOn self.old spares.now answer.now }
         requires still { is_changing self.old.state ≡ false }

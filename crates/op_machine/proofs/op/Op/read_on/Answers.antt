@@ -1,5 +1,4 @@
 use Rattle.std.proofs.Common.{refl}
-use Rattle.op_machine.specs.Ops.{Op}
 use Rattle.op_machine.proofs.Going.{goes_on, told_at}
 use Rattle.op_machine.proofs.op.Op.read_on.Goals as goal
 
