@@ -112,10 +112,10 @@ impl<A: Allocator> Actor<A> {
         ensures goes { (limits : LimitsSeen) (number : ℕ) (k : Knowledge) (r : Recalled) (going : IsGoing limits number k r self.old answer.now) → GoesOn limits number k r self.old going.running.wanted answer.now None self.new }
         ensures command { running_command self.new ≡ running_command self.old }
     {
-        match &mut self.running {
-            Some(running) => running.go_on(&mut self.hand, answer),
-            None => unreachable!(),
-        }
+        let Some(running) = &mut self.running else {
+            unreachable!()
+        };
+        running.go_on(&mut self.hand, answer);
     }
 
     /// Takes the answer to the step that its operation wants, and answers the reply, if the operation is done.
@@ -144,10 +144,10 @@ impl Running {
         ensures goes { (limits : LimitsSeen) (number : ℕ) (k : Knowledge) (r : Recalled) → IsRunning limits number k r hand.old self.old → Fits limits k self.old.wanted answer.now → GoesOn limits number k r (at_work hand.old self.old) self.old.wanted answer.now None (at_work hand.new self.new) }
         ensures command { self.new.op.task.command ≡ self.old.op.task.command }
     {
-        match self.op.next(hand, answer) {
-            Want::Step(wanted) => self.wanted = wanted,
-            Want::Done(_) => unreachable!(),
-        }
+        let Want::Step(wanted) = self.op.next(hand, answer) else {
+            unreachable!()
+        };
+        self.wanted = wanted;
     }
 
     /// Takes the answer to the step that is wanted, and answers the reply, if the operation is done.
