@@ -1,3 +1,4 @@
+pub mod GoingLeft
 pub mod HelpFits
 pub mod HelpRun
 pub mod LinkFits
@@ -9,4 +10,5 @@ pub mod RoomRun
 pub mod SplitRun
 pub mod Standing
 pub mod SweepRun
+pub mod Taking
 pub mod Unset

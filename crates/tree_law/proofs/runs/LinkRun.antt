@@ -1,16 +1,17 @@
 -- Each step of the run that makes all links is allowed.
-use Rattle.std.proofs.Common.{ℕ, List, [], ◌∷◌, take, drop, false, refl, inl, inr, lit<}
+use Rattle.std.proofs.Common.{ℕ, List, [], ◌∷◌, take, drop, false, refl, inl, inr, lit<, arith}
 use Rattle.std.specs.Prelude.{codes}
 use Rattle.bw_model.specs.declared.command.Reply.TheVariants as reply
 use Rattle.bw_model.specs.Log.{set, unset}
 use Rattle.chain_search.specs.Discipline.{IsMet, MayAdd, MayRoot, MayReply}
 use Rattle.chain_search.specs.Disciplined.{IsDisciplinedFrom, IsDisciplined}
 use Rattle.chain_search.specs.Knowledge.{OwnPage, Other, Empty, Ready, Gone, Knowledge, knows}
-use Rattle.tree_law.specs.AllLinks.{insert_a, delete_a, item_a, put_a, upper_a, split_a, merge_a, unterm_a, lower_a, split_b, term_b, base_b, deletion_a, all_links}
-use Rattle.op_machine.specs.Examples.{small, opening_leaf}
-use Rattle.tree_law.specs.Example.{a, root_a, hold_a, remove_a}
+use Rattle.tree_law.specs.AllLinks.{insert_a, delete_a, item_a, upper_a, split_a, merge_a, unterm_a, lower_a, split_b, term_b, base_b, deletion_a, placed, all_links}
+use Rattle.op_machine.specs.Examples.{small, opening_leaf, put_a}
+use Rattle.tree_law.specs.Example.{a, root_a, hold_a, remove_a, enters, takes, places}
 use Rattle.tree_law.proofs.runs.LinkFits.{put_fits, split_fits, hold_fits, remove_fits, merge_fits, unterm_fits, second_fits, term_fits, deletion_fits, upper_fitted, root_fitted}
-use Rattle.tree_law.proofs.runs.Standing.{◌▸◌, quietly}
+use Rattle.tree_law.proofs.runs.Standing.{◌▸◌, quietly, joined}
+use Rattle.tree_law.proofs.runs.Taking.{enters_first, free_at_first, takes_after, are_taken, places_after}
 use Rattle.tree_law.proofs.runs.Unset.{is_unset}
 
 -- what the actor knows before entry n
@@ -267,49 +268,12 @@ updates =
     ▸ (refl, quietly (refl, splits) tt, refl)
     ▸ grows
 
--- and the rest of it
-places : IsDisciplinedFrom small (take 21 all_links) (drop 21 all_links)
-places =
-    (refl, quietly (refl, tt, is_unset [] refl) tt, refl)
-    ▸ (refl, quietly (refl, tt, is_unset [] refl) tt, refl)
-    ▸ (refl, quietly (refl, tt, is_unset [] refl) tt, refl)
-    ▸ (refl, quietly (refl, tt, is_unset [] refl) tt, refl)
-    ▸ (refl, quietly (refl, tt, is_unset [] refl) tt, refl)
-    ▸ (refl, quietly (refl, tt, is_unset [] refl) tt, refl)
-    ▸ (refl, quietly (refl, tt, is_unset [] refl) tt, refl)
-    ▸ (refl, quietly (refl, tt, is_unset [] refl) tt, refl)
-    ▸ updates
+-- the actor takes rows, and places what it will link
+takes_rows : IsDisciplinedFrom small (take 3 all_links) (takes 13 2)
+takes_rows = takes_after 13 2 (take 3 all_links) refl (λ row low high. free_at_first row low (omega arith))
 
--- it takes more, and places what it will link
-takes : IsDisciplinedFrom small (take 11 all_links) (drop 11 all_links)
-takes =
-    (refl, quietly tt tt, refl)
-    ▸ (refl, quietly tt tt, refl)
-    ▸ (refl, quietly tt tt, refl)
-    ▸ (refl, quietly tt tt, refl)
-    ▸ (refl, quietly tt tt, refl)
-    ▸ (refl, quietly (refl, tt, is_unset [] refl) tt, refl)
-    ▸ (refl, quietly (refl, tt, is_unset [] refl) tt, refl)
-    ▸ (refl, quietly (refl, tt, is_unset [] refl) tt, refl)
-    ▸ (refl, quietly (refl, tt, is_unset [] refl) tt, refl)
-    ▸ (refl, quietly (refl, tt, is_unset [] refl) tt, refl)
-    ▸ places
-
--- the actor enters, and takes rows
-begins : IsDisciplinedFrom small (take 0 all_links) (drop 0 all_links)
-begins =
-    (lit< tt, refl)
-    ▸ (refl, quietly tt tt, refl)
-    ▸ (refl, quietly (refl, lit< tt, refl) tt, refl)
-    ▸ (refl, quietly tt tt, refl)
-    ▸ (refl, quietly tt tt, refl)
-    ▸ (refl, quietly tt tt, refl)
-    ▸ (refl, quietly tt tt, refl)
-    ▸ (refl, quietly tt tt, refl)
-    ▸ (refl, quietly tt tt, refl)
-    ▸ (refl, quietly tt tt, refl)
-    ▸ (refl, quietly tt tt, refl)
-    ▸ takes
+writes : IsDisciplinedFrom small (take 16 all_links) (places 2 placed)
+writes = places_after 2 placed (take 16 all_links) refl refl (λ row low high. are_taken 13 2 (knows (take 3 all_links)) row (inr (low, high))) (λ row. is_unset [] refl)
 
 pub all_links_disciplined : IsDisciplined small all_links
-all_links_disciplined = begins
+all_links_disciplined = joined small [] (enters 0 insert_a) (drop 3 all_links) (enters_first insert_a) (joined small (take 3 all_links) (takes 13 2) (drop 16 all_links) takes_rows (joined small (take 16 all_links) (places 2 placed) (drop 29 all_links) writes updates))

@@ -1,14 +1,15 @@
 -- Each step of the beginning with two splits is allowed.
-use Rattle.std.proofs.Common.{ℕ, List, [], ◌∷◌, take, drop, refl, inl, inr, lit<}
+use Rattle.std.proofs.Common.{ℕ, List, [], ◌∷◌, take, drop, refl, inl, inr, arith}
 use Rattle.chain_search.specs.Discipline.{IsMet, MayAdd, MayRoot}
 use Rattle.chain_search.specs.Disciplined.{IsDisciplinedFrom}
 use Rattle.chain_search.specs.Knowledge.{OwnPage, Other, Empty, Ready, Knowledge, knows}
 use Rattle.op_machine.specs.Examples.{small, opening_leaf}
-use Rattle.tree_law.specs.Example.{a, root_a}
-use Rattle.tree_law.specs.TwoSplits.{b, upper_b, first_split, second_split, two_splits}
+use Rattle.tree_law.specs.Example.{a, root_a, enters, takes, places}
+use Rattle.tree_law.specs.TwoSplits.{b, insert_b, upper_b, first_split, second_split, split_up, two_splits}
 use Rattle.tree_law.proofs.runs.HelpFits.{first_fits, second_fits, first_ruled, second_ruled}
 use Rattle.tree_law.proofs.runs.LinkFits.{root_fitted}
-use Rattle.tree_law.proofs.runs.Standing.{◌▸◌, quietly}
+use Rattle.tree_law.proofs.runs.Standing.{◌▸◌, quietly, joined}
+use Rattle.tree_law.proofs.runs.Taking.{enters_first, free_at_first, takes_after, are_taken, places_after}
 use Rattle.tree_law.proofs.runs.Unset.{is_unset}
 
 -- what the actor knows before entry n
@@ -86,28 +87,20 @@ grows =
     ▸ (refl, quietly (refl, roots) tt, refl)
     ▸ divides
 
--- and writes them
-places : IsDisciplinedFrom small (take 11 two_splits) (drop 11 two_splits)
-places =
-    (refl, quietly (refl, tt, is_unset [] refl) tt, refl)
-    ▸ (refl, quietly (refl, tt, is_unset [] refl) tt, refl)
-    ▸ (refl, quietly (refl, tt, is_unset [] refl) tt, refl)
-    ▸ (refl, quietly (refl, tt, is_unset [] refl) tt, refl)
-    ▸ (refl, quietly (refl, tt, is_unset [] refl) tt, refl)
-    ▸ grows
-
--- the actor enters, reads the leaf, and takes its rows
-pub splits_twice : IsDisciplinedFrom small [] two_splits
-splits_twice =
-    (lit< tt, refl)
-    ▸ (refl, quietly tt tt, refl)
-    ▸ (refl, quietly (refl, lit< tt, refl) tt, refl)
-    ▸ (refl, quietly refl tt, refl)
+-- the actor enters, and reads the leaf
+begins : IsDisciplinedFrom small [] (take 6 two_splits)
+begins = joined small [] (enters 0 insert_b) (take 3 (drop 3 two_splits)) (enters_first insert_b) (
+    (refl, quietly refl tt, refl)
     ▸ (refl, quietly (refl, inl refl) tt, refl)
     ▸ (refl, quietly (refl, refl) tt, (opening_leaf, refl, refl))
-    ▸ (refl, quietly tt tt, refl)
-    ▸ (refl, quietly tt tt, refl)
-    ▸ (refl, quietly tt tt, refl)
-    ▸ (refl, quietly tt tt, refl)
-    ▸ (refl, quietly tt tt, refl)
-    ▸ places
+    ▸ tt)
+
+-- it takes rows, and writes the leaves, the root and the splits
+takes_rows : IsDisciplinedFrom small (take 6 two_splits) (takes 5 2)
+takes_rows = takes_after 5 2 (take 6 two_splits) refl (λ row low high. free_at_first row low (omega arith))
+
+writes : IsDisciplinedFrom small (take 11 two_splits) (places 2 split_up)
+writes = places_after 2 split_up (take 11 two_splits) refl refl (λ row low high. are_taken 5 2 (knows (take 6 two_splits)) row (inr (low, high))) (λ row. is_unset [] refl)
+
+pub splits_twice : IsDisciplinedFrom small [] two_splits
+splits_twice = joined small [] (take 6 two_splits) (drop 6 two_splits) begins (joined small (take 6 two_splits) (takes 5 2) (drop 11 two_splits) takes_rows (joined small (take 11 two_splits) (places 2 split_up) (drop 16 two_splits) writes grows))
