@@ -3,6 +3,7 @@ pub mod HelpFits
 pub mod HelpRun
 pub mod LinkFits
 pub mod LinkRun
+pub mod Linking
 pub mod Making
 pub mod PagesRun
 pub mod RemovalRun

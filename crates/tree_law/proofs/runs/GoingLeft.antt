@@ -14,6 +14,7 @@ use Rattle.op_machine.specs.Examples.{small, opening_leaf}
 use Rattle.tree_law.specs.Example.{a, root_a, hold_a, remove_a}
 use Rattle.tree_law.specs.Removal.{removes, goes_left}
 use Rattle.tree_law.specs.TwoSplits.{two_splits, upper_b, first_split, second_split}
+use Rattle.tree_law.proofs.runs.Linking.{whole}
 use Rattle.tree_law.proofs.runs.Standing.{◌▸◌, joined, quietly, StandFrom, stand_after}
 
 -- the removed leaf's chain
@@ -34,13 +35,13 @@ module _ (ks : ℕ → Knowledge) where
 
   -- each page was named as a child,
   held_child : IsMet (before 5) 2
-  held_child = record { other = 3; row = 7; basis = record { head = refl; chain = hold_a ∷ root_a ∷ []; read = (refl, (refl, refl)); alive = refl }; named = inr (inl (0, a, true, refl, refl, refl)) }
+  held_child = record { other = 3; row = 7; basis = whole (hold_a ∷ root_a ∷ []) (refl, (refl, refl)) refl refl; named = inr (inl (0, a, true, refl, refl, refl)) }
 
   left_child : IsMet (before 9) 1
-  left_child = record { other = 3; row = 7; basis = record { head = refl; chain = hold_a ∷ root_a ∷ []; read = (refl, (refl, refl)); alive = refl }; named = inr (inl (0, [], false, refl, refl, refl)) }
+  left_child = record { other = 3; row = 7; basis = whole (hold_a ∷ root_a ∷ []) (refl, (refl, refl)) refl refl; named = inr (inl (0, [], false, refl, refl, refl)) }
 
   abbrev left_read : HasRead beyond 1 4
-  left_read = record { head = refl; chain = first_split ∷ opening_leaf ∷ []; read = (refl, (refl, refl)); alive = refl }
+  left_read = whole (first_split ∷ opening_leaf ∷ []) (refl, (refl, refl)) refl refl
 
   -- or as the right of the removed leaf, which was read before its left
   pub right_beyond : IsMet beyond 4

@@ -23,6 +23,7 @@ use Rattle.tree_law.proofs.runs.GoingLeft.{removed, right_beyond, beside, going_
 use Rattle.tree_law.proofs.runs.HelpFits.{grown, right_fits, term_applies}
 use Rattle.tree_law.proofs.runs.HelpRun.{help_disciplined}
 use Rattle.tree_law.proofs.runs.LinkFits.{leaf, hold_makes}
+use Rattle.tree_law.proofs.runs.Linking.{whole, adds}
 use Rattle.tree_law.proofs.runs.Making.{over_makes}
 use Rattle.tree_law.proofs.runs.RemovalRun.{removal_disciplined}
 use Rattle.tree_law.proofs.runs.Standing.{◌▸◌, joined, quietly}
@@ -67,7 +68,7 @@ one_pair = record { ascending = (tt, tt); exact = λ key value. (λ c. there key
 
 -- the last leaf was named as a child
 last_child : IsMet (before_last 6) 4
-last_child = record { other = 3; row = 8; basis = record { head = refl; chain = helped_term ∷ root_a ∷ []; read = (refl, (refl, refl)); alive = refl }; named = inr (inl (0, b, false, refl, refl, refl)) }
+last_child = record { other = 3; row = 8; basis = whole (helped_term ∷ root_a ∷ []) (refl, (refl, refl)) refl refl; named = inr (inl (0, b, false, refl, refl, refl)) }
 
 -- the removed leaf is shown, as its left was read after it
 shows_removed : MayReply small 1 (before 13) (reply.Page [] (Some b))
@@ -92,17 +93,12 @@ shows_removed = record {
 
 -- the term that it posts for that leaf
 posts : MayAdd 1 (before 31) 3 7 9
-posts = record {
-  basis = record { head = refl; chain = hold_a ∷ root_a ∷ []; read = (refl, (refl, refl)); alive = refl };
-  content = right_term;
-  placed = refl;
-  fits = right_fits;
-  due = record { child = 4; row = 6; below = record { head = refl; chain = upper_c ∷ []; read = (refl, refl); alive = refl }; level = refl; covers = refl; absent = refl; order = refl; is = refl };
-  unset = is_unset [] refl;
-}
+posts = adds (whole (hold_a ∷ root_a ∷ []) (refl, (refl, refl)) refl refl) right_term refl right_fits
+    (record { child = 4; row = 6; below = whole (upper_c ∷ []) (refl, refl) refl refl; level = refl; covers = refl; absent = refl; order = refl; is = refl })
+    (is_unset [] refl)
 
 right_child : IsMet (before 34) 4
-right_child = record { other = 3; row = 9; basis = record { head = refl; chain = right_term ∷ hold_a ∷ root_a ∷ []; read = (refl, (refl, (refl, refl))); alive = refl }; named = inr (inl (0, b, false, refl, refl, refl)) }
+right_child = record { other = 3; row = 9; basis = whole (right_term ∷ hold_a ∷ root_a ∷ []) (refl, (refl, (refl, refl))) refl refl; named = inr (inl (0, b, false, refl, refl, refl)) }
 
 -- the root holds that leaf back, as the term beside the leaf's own is held
 held_back : HoldsBack (right_term ∷ hold_a ∷ root_a ∷ []) 4 b
@@ -119,13 +115,13 @@ nothing_due = record {
     is = refl;
     page = 4;
     head = 6;
-    basis = record { head = refl; chain = upper_c ∷ []; read = (refl, refl); alive = refl };
+    basis = whole (upper_c ∷ []) (refl, refl) refl refl;
     base = leaf b None None;
     alone = refl;
     leaf = refl;
     covers = refl;
     few = lit< tt;
-    back = λ other few. inr (record { parent = 3; row = 9; above = record { head = refl; chain = right_term ∷ hold_a ∷ root_a ∷ []; read = (refl, (refl, (refl, refl))); alive = refl }; order = refl; holds = held_back });
+    back = λ other few. inr (record { parent = 3; row = 9; above = whole (right_term ∷ hold_a ∷ root_a ∷ []) (refl, (refl, (refl, refl))) refl refl; order = refl; holds = held_back });
     unlinked = refl;
   })));
 }

@@ -15,6 +15,7 @@ use Rattle.tree_law.specs.TwoSplits.{b, two_splits, upper_b, first_split, upper_
 use Rattle.tree_law.proofs.runs.GoingLeft.{removed, right_beyond, beside, going_left}
 use Rattle.tree_law.proofs.runs.HelpFits.{leaf_splits}
 use Rattle.tree_law.proofs.runs.LinkFits.{leaf, leaf_page, hold_fits}
+use Rattle.tree_law.proofs.runs.Linking.{whole, adds}
 use Rattle.tree_law.proofs.runs.Making.{base_makes, over_makes, fits_over}
 use Rattle.tree_law.proofs.runs.SplitRun.{became, splits_twice}
 use Rattle.tree_law.proofs.runs.Standing.{◌▸◌, joined, quietly}
@@ -43,29 +44,19 @@ removal_fits = (fits_over (over_makes (base_makes (leaf a None None) (leaf_page 
 
 -- the upper leaf was named as a right
 right_of_first : IsMet (before 39 0) 2
-right_of_first = record { other = 1; row = 4; basis = record { head = refl; chain = first_split ∷ opening_leaf ∷ []; read = (refl, (refl, refl)); alive = refl }; named = inl refl }
+right_of_first = record { other = 1; row = 4; basis = whole (first_split ∷ opening_leaf ∷ []) (refl, (refl, refl)) refl refl; named = inl refl }
 
 -- the hold
 holds : MayAdd 0 (before 36 0) 3 5 7
-holds = record {
-  basis = record { head = refl; chain = root_a ∷ []; read = (refl, refl); alive = refl };
-  content = hold_a;
-  placed = refl;
-  fits = hold_fits;
-  due = record { level = 0; is_level = refl; key = a; covers = refl; child = 2; present = refl; is = refl };
-  unset = is_unset became refl;
-}
+holds = adds (whole (root_a ∷ []) (refl, refl) refl refl) hold_a refl hold_fits
+    (record { level = 0; is_level = refl; key = a; covers = refl; child = 2; present = refl; is = refl })
+    (is_unset became refl)
 
 -- the removal
 removes : MayAdd 0 (before 41 0) 2 3 8
-removes = record {
-  basis = record { head = refl; chain = second_split ∷ upper_b ∷ []; read = (refl, (refl, refl)); alive = refl };
-  content = remove_a;
-  placed = refl;
-  fits = removal_fits;
-  due = record { parent = 3; row = 7; above = record { head = refl; chain = hold_a ∷ root_a ∷ []; read = (refl, (refl, refl)); alive = refl }; level = refl; covers = refl; held = refl; is = refl };
-  unset = is_unset became refl;
-}
+removes = adds (whole (second_split ∷ upper_b ∷ []) (refl, (refl, refl)) refl refl) remove_a refl removal_fits
+    (record { parent = 3; row = 7; above = whole (hold_a ∷ root_a ∷ []) (refl, (refl, refl)) refl refl; level = refl; covers = refl; held = refl; is = refl })
+    (is_unset became refl)
 
 -- the removed leaf replies, as its left was read after it
 none_there : MayReply small 1 (before 56 1) reply.None

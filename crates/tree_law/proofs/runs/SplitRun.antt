@@ -7,7 +7,7 @@ use Rattle.op_machine.specs.Examples.{small, opening_leaf}
 use Rattle.tree_law.specs.Example.{a, root_a, enters, takes, places}
 use Rattle.tree_law.specs.TwoSplits.{b, insert_b, upper_b, first_split, second_split, split_up, two_splits}
 use Rattle.tree_law.proofs.runs.HelpFits.{first_fits, second_fits, first_ruled, second_ruled}
-use Rattle.tree_law.proofs.runs.LinkFits.{root_fitted}
+use Rattle.tree_law.proofs.runs.Linking.{whole, adds, puts_root}
 use Rattle.tree_law.proofs.runs.Standing.{◌▸◌, quietly, joined}
 use Rattle.tree_law.proofs.runs.Taking.{enters_first, free_at_first, takes_after, are_taken, places_after}
 use Rattle.tree_law.proofs.runs.Unset.{is_unset}
@@ -21,45 +21,23 @@ abbrev pub became : List (ℕ × OwnPage)
 became = (4, Other) ∷ (4, Ready 6) ∷ (4, Empty) ∷ (3, Other) ∷ (3, Ready 5) ∷ (3, Empty) ∷ (2, Other) ∷ (2, Ready 2) ∷ (2, Empty) ∷ []
 
 right_of_first : IsMet (before 27) 2
-right_of_first = record { other = 1; row = 4; basis = record { head = refl; chain = first_split ∷ opening_leaf ∷ []; read = (refl, (refl, refl)); alive = refl }; named = inl refl }
+right_of_first = record { other = 1; row = 4; basis = whole (first_split ∷ opening_leaf ∷ []) (refl, (refl, refl)) refl refl; named = inl refl }
 
 -- the first split
 splits : MayAdd 0 (before 18) 1 1 4
-splits = record {
-  basis = record { head = refl; chain = opening_leaf ∷ []; read = (refl, refl); alive = refl };
-  content = first_split;
-  placed = refl;
-  fits = first_fits;
-  due = record { separator = a; above = refl; below = refl; right = 2; row = 2; ready = refl; items = []; alike = λ key c n. refl; base = refl; ruled = first_ruled; is = refl };
-  unset = is_unset (drop 7 became) refl;
-}
+splits = adds (whole (opening_leaf ∷ []) (refl, refl) refl refl) first_split refl first_fits
+    (record { separator = a; above = refl; below = refl; right = 2; row = 2; ready = refl; items = []; alike = λ key c n. refl; base = refl; ruled = first_ruled; is = refl })
+    (is_unset (drop 7 became) refl)
 
 -- the root
 roots : MayRoot (before 23) 1 3
-roots = record {
-  row = 4;
-  basis = record { head = refl; chain = first_split ∷ opening_leaf ∷ []; read = (refl, (refl, refl)); alive = refl };
-  right = 2;
-  is_right = refl;
-  separator = a;
-  is_high = refl;
-  some = refl;
-  base_row = 5;
-  ready = refl;
-  base = refl;
-  ruled = root_fitted;
-}
+roots = puts_root (whole (first_split ∷ opening_leaf ∷ []) (refl, (refl, refl)) refl refl) refl refl refl refl refl
 
 -- the second split
 splits_upper : MayAdd 0 (before 31) 2 2 3
-splits_upper = record {
-  basis = record { head = refl; chain = upper_b ∷ []; read = (refl, refl); alive = refl };
-  content = second_split;
-  placed = refl;
-  fits = second_fits;
-  due = record { separator = b; above = refl; below = refl; right = 4; row = 6; ready = refl; items = []; alike = λ key c n. refl; base = refl; ruled = second_ruled; is = refl };
-  unset = is_unset (drop 1 became) refl;
-}
+splits_upper = adds (whole (upper_b ∷ []) (refl, refl) refl refl) second_split refl second_fits
+    (record { separator = b; above = refl; below = refl; right = 4; row = 6; ready = refl; items = []; alike = λ key c n. refl; base = refl; ruled = second_ruled; is = refl })
+    (is_unset (drop 1 became) refl)
 
 -- it splits the upper leaf
 divides : IsDisciplinedFrom small (take 24 two_splits) (drop 24 two_splits)
