@@ -7,7 +7,7 @@ use Rattle.bw_model.specs.Bytes.{IsShort}
 use Rattle.base_page.specs.declared.item.Content.TheVariants.{Value, Child}
 use Rattle.base_page.specs.declared.item.Item.{Item}
 use Rattle.base_page.specs.Pages.{IsOfLevel}
-use Rattle.deltas.specs.Spellable.{IsPid, HasPid, IsSpellable}
+use Rattle.deltas.specs.Spellable.{IsPid, HasPid, IsSpellable, IsSpellableLink}
 use Rattle.deltas.specs.declared.record.Record.{Record}
 use Rattle.deltas.specs.declared.record.Record.TheVariants.{Base, Put, Delete, Split, Term, Hold, Remove, Merge, Unterm}
 use Rattle.record_slots.specs.declared.row.Row.{Row}
@@ -53,17 +53,20 @@ no_items level = All-nil (IsItem level)
 empty_short : IsShort []
 empty_short = record { short = omega arith; bytes_fit = tt }
 
+link_fits : (kind level next page : ℕ) (separator : List ℕ) → kind < 256 → IsSpellableLink level next separator page → IsShort separator → IsRowOfParts (record { kind = kind; level = level; count = 0; next = next; page = page; first = separator; second = Some [] })
+link_fits kind level next page separator small h s = record { kind = small; level = h.top; few = omega arith; next = h.over.1; page = h.names.1; first = s; second = empty_short }
+
 -- a record that a row can spell has parts in their ranges
 pub parts_fit : (content : Record) → IsSpellable content → HasShortTexts content → IsRowOfParts (row_of content)
 parts_fit (Base page) h s = record { kind = omega arith; level = h.ruled.top; few = h.ruled.is_page.ordered.few; next = omega arith; page = right_below page.right h.right; first = s.0; second = s.1 }
 parts_fit (Put put) h s = record { kind = omega arith; level = omega arith; few = omega arith; next = h.1; page = omega arith; first = empty_short; second = empty_short }
 parts_fit (Delete delete) h s = record { kind = omega arith; level = omega arith; few = omega arith; next = h.1; page = omega arith; first = s; second = empty_short }
-parts_fit (Split split) h s = record { kind = omega arith; level = h.top; few = omega arith; next = h.over.1; page = h.names.1; first = s; second = empty_short }
-parts_fit (Term term) h s = record { kind = omega arith; level = h.1.top; few = omega arith; next = h.1.over.1; page = h.1.names.1; first = s; second = empty_short }
-parts_fit (Hold hold) h s = record { kind = omega arith; level = h.1.top; few = omega arith; next = h.1.over.1; page = h.1.names.1; first = s; second = empty_short }
+parts_fit (Split split) h s = link_fits 4 split.level split.next split.page split.separator (omega arith) h s
+parts_fit (Term term) h s = link_fits 5 term.level term.next term.child term.separator (omega arith) h.1 s
+parts_fit (Hold hold) h s = link_fits 6 hold.level hold.next hold.child hold.separator (omega arith) h.1 s
 parts_fit (Remove remove) h s = record { kind = omega arith; level = h.0; few = omega arith; next = h.1.1; page = omega arith; first = empty_short; second = empty_short }
 parts_fit (Merge merge) h s = record { kind = omega arith; level = h.3.ruled.top; few = h.3.ruled.is_page.ordered.few; next = h.0.1; page = right_below merge.right h.3.right; first = s.0; second = s.1 }
-parts_fit (Unterm unterm) h s = record { kind = omega arith; level = h.1.top; few = omega arith; next = h.1.over.1; page = h.1.names.1; first = s; second = empty_short }
+parts_fit (Unterm unterm) h s = link_fits 9 unterm.level unterm.next unterm.child unterm.separator (omega arith) h.1 s
 
 -- its items are of its level
 pub items_fit : (content : Record) → IsSpellable content → HasShortTexts content → All (IsItem (row_of content).level) (items_of content)

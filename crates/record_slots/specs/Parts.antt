@@ -1,5 +1,5 @@
 -- The parts of a row, whatever its kind.
-use Rattle.std.specs.Prelude.{◌≡◌, ◌≢◌, ◌==◌, ◌<◌, ◌≤◌, ◌+◌, ◌*◌, ℕ, Bool, true, ◌&&◌, List, [], ◌∷◌, length, Option, Some, IfSome, unwrap_or, get_or, take, drop, replicate, ◌-◌}
+use Rattle.std.specs.Prelude.{◌≡◌, ◌≢◌, ◌==◌, ◌<◌, ◌≤◌, ◌+◌, ◌*◌, ℕ, Bool, true, ◌&&◌, ◌⊎◌, List, [], ◌∷◌, length, Option, Some, IfSome, unwrap_or, get_or, take, drop, replicate, ◌-◌}
 use Rattle.std.specs.List.{All}
 use Rattle.bw_model.specs.Bytes.{IsShort}
 use Rattle.base_page.specs.declared.item.Content.{Content}
@@ -108,6 +108,10 @@ pub record IsRecordOf (row : Row) (words : List ℕ) (content : Record) : Type 0
 pub record IsBare (row : Row) : Type 0 where
   pub second : row.second ≡ Some []
   pub items : row.count ≡ 0
+
+-- the kinds of records that name a separator and a page
+abbrev pub IsLinkKind : ℕ → Type 0
+IsLinkKind kind = (kind ≡ 4) ⊎ (kind ≡ 5) ⊎ (kind ≡ 6) ⊎ (kind ≡ 9)
 
 -- a row under it, a page, a key that isn't empty, and nothing else
 pub record IsLinkOf (row : Row) : Type 0 where

@@ -1,6 +1,6 @@
 //! Records from the parts of a row.
 ghost use Rattle.std.specs.Prelude.{◌≡◌, ◌<◌, ◌*◌, ◌↔◌, [], IsTrue, Some, length};
-ghost use Rattle.record_slots.specs.Parts.{IsBare, IsLinkOf, IsRecordOf, IsRightIn, IsRowOfParts};
+ghost use Rattle.record_slots.specs.Parts.{IsBare, IsLinkKind, IsLinkOf, IsRecordOf, IsRightIn, IsRowOfParts};
 ghost use Rattle.record_slots.specs.Spells.{FindsOne};
 
 use crate::BadRow;
@@ -23,12 +23,9 @@ pub(crate) fn record_in(row: Row, words: &[u64]) -> Result<Record, BadRow>
         1 => base_in(row, words),
         2 => put_in(row, words),
         3 => delete_in(row, words),
-        4 => split_in(row, words),
-        5 => term_in(row, words),
-        6 => hold_in(row, words),
+        4 | 5 | 6 | 9 => link_in(row, words),
         7 => remove_in(row, words),
         8 => merge_in(row, words),
-        9 => unterm_in(row, words),
         _ => Err(BadRow),
     }
 }
@@ -91,55 +88,42 @@ fn delete_in(row: Row, words: &[u64]) -> Result<Record, BadRow>
     }))
 }
 
-fn split_in(row: Row, words: &[u64]) -> Result<Record, BadRow>
+/// A record that names a separator and a page. A split alone may stand on a leaf.
+fn link_in(row: Row, words: &[u64]) -> Result<Record, BadRow>
     requires parts { IsRowOfParts row }
     requires words { length words.now ≡ 10 * row.count }
-    requires kind { row.kind ≡ 4 }
+    requires kind { IsLinkKind row.kind }
     ensures { FindsOne (IsRecordOf row words.now) result }
 {
-    if !is_link(&row) {
+    if !is_link(&row) || row.kind != 4 && row.level == 0 {
         return Err(BadRow);
     }
-    Ok(Record::Split(Split {
-        level: row.level,
-        next: row.next,
-        separator: row.first,
-        page: row.page,
-    }))
-}
-
-fn term_in(row: Row, words: &[u64]) -> Result<Record, BadRow>
-    requires parts { IsRowOfParts row }
-    requires words { length words.now ≡ 10 * row.count }
-    requires kind { row.kind ≡ 5 }
-    ensures { FindsOne (IsRecordOf row words.now) result }
-{
-    if row.level == 0 || !is_link(&row) {
-        return Err(BadRow);
-    }
-    Ok(Record::Term(Term {
-        level: row.level,
-        next: row.next,
-        separator: row.first,
-        child: row.page,
-    }))
-}
-
-fn hold_in(row: Row, words: &[u64]) -> Result<Record, BadRow>
-    requires parts { IsRowOfParts row }
-    requires words { length words.now ≡ 10 * row.count }
-    requires kind { row.kind ≡ 6 }
-    ensures { FindsOne (IsRecordOf row words.now) result }
-{
-    if row.level == 0 || !is_link(&row) {
-        return Err(BadRow);
-    }
-    Ok(Record::Hold(Hold {
-        level: row.level,
-        next: row.next,
-        separator: row.first,
-        child: row.page,
-    }))
+    Ok(match row.kind {
+        4 => Record::Split(Split {
+            level: row.level,
+            next: row.next,
+            separator: row.first,
+            page: row.page,
+        }),
+        5 => Record::Term(Term {
+            level: row.level,
+            next: row.next,
+            separator: row.first,
+            child: row.page,
+        }),
+        6 => Record::Hold(Hold {
+            level: row.level,
+            next: row.next,
+            separator: row.first,
+            child: row.page,
+        }),
+        _ => Record::Unterm(Unterm {
+            level: row.level,
+            next: row.next,
+            separator: row.first,
+            child: row.page,
+        }),
+    })
 }
 
 fn remove_in(row: Row, words: &[u64]) -> Result<Record, BadRow>
@@ -185,23 +169,6 @@ fn merge_in(row: Row, words: &[u64]) -> Result<Record, BadRow>
         high: row.second,
         right,
         items,
-    }))
-}
-
-fn unterm_in(row: Row, words: &[u64]) -> Result<Record, BadRow>
-    requires parts { IsRowOfParts row }
-    requires words { length words.now ≡ 10 * row.count }
-    requires kind { row.kind ≡ 9 }
-    ensures { FindsOne (IsRecordOf row words.now) result }
-{
-    if row.level == 0 || !is_link(&row) {
-        return Err(BadRow);
-    }
-    Ok(Record::Unterm(Unterm {
-        level: row.level,
-        next: row.next,
-        separator: row.first,
-        child: row.page,
     }))
 }
 

@@ -1,5 +1,5 @@
 //! Keys and values read from words.
-ghost use Rattle.std.specs.Prelude.{◌≡◌, ◌==◌, ◌%◌, ◌^◌, ◌-◌, [], length};
+ghost use Rattle.std.specs.Prelude.{◌≡◌, ◌≤◌, ◌==◌, ◌%◌, ◌^◌, ◌-◌, ℕ, List, [], IsTrue, IsFalse, length, take};
 ghost use Rattle.record_slots.specs.Spells.{FindsOne};
 ghost use Rattle.record_slots.specs.Texts.{IsText, IsField, IsBound, bytes_of, ends_there};
 
@@ -17,7 +17,7 @@ pub(crate) fn key_in(count: u64, words: &[u64]) -> Result<Key, BadRow>
     ensures { FindsOne (IsText count words.now) result }
 {
     let mut bytes = ArrayVec::new();
-    if count > 32 || !read_bytes(count, words, &mut bytes) {
+    if !read_text(count, words, &mut bytes) {
         return Err(BadRow);
     }
     let text = &bytes.as_slice()[..count as usize];
@@ -31,7 +31,7 @@ pub(crate) fn value_in(count: u64, words: &[u64]) -> Result<Value, BadRow>
     ensures { FindsOne (IsText count words.now) result }
 {
     let mut bytes = ArrayVec::new();
-    if count > 32 || !read_bytes(count, words, &mut bytes) {
+    if !read_text(count, words, &mut bytes) {
         return Err(BadRow);
     }
     let text = &bytes.as_slice()[..count as usize];
@@ -59,6 +59,18 @@ pub(crate) fn bound_in(words: &[u64]) -> Result<Option<Key>, BadRow>
     } else {
         Err(BadRow)
     }
+}
+
+/// Adds the bytes of four words, and answers whether the first ones are a text of that length, with nothing behind it.
+#[inline(always)]
+fn read_text(count: u64, words: &[u64], bytes: &mut ArrayVec<u8, MAX_LENGTH>) -> bool
+    requires words { length words.now ≡ 4 }
+    requires none { bytes.old.items ≡ [] }
+    ensures many { IsTrue result → count ≤ length bytes.new.items }
+    ensures text { IsTrue result → IsText count words.now (take count bytes.new.items) }
+    ensures none { IsFalse result → (text : List ℕ) → IsText count words.now text → ⊥ }
+{
+    count <= 32 && read_bytes(count, words, bytes)
 }
 
 /// Adds the bytes of four words, and answers whether there is nothing behind the first ones.

@@ -1,5 +1,6 @@
 pub mod Stages
 pub mod Agreeing
 pub mod Moving
+pub mod SmallLimbo
 pub mod Sound
 pub mod Unlinking

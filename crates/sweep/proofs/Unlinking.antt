@@ -85,7 +85,7 @@ nothing_walked : (n : ℕ) (seen : ℕ → Option Record) (row : ℕ) → is_on_
 nothing_walked zero seen row = refl
 nothing_walked (suc n) seen row = refl
 
-eqb_turned : (a b : ℕ) → eqb a b ≡ eqb b a
+pub eqb_turned : (a b : ℕ) → eqb a b ≡ eqb b a
 eqb_turned a b = elim (cases_eq a b) [
   | inl same ↦ rw (eq-eqb a b same, eq-eqb b a (sym same)) refl
   | inr other ↦ rw (ne_eqb a b other, ne_eqb b a (λ e. other (sym e))) refl

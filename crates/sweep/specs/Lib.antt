@@ -2,4 +2,5 @@ pub mod Kept
 pub mod Sweeps
 pub mod Moves
 pub mod Bounded
+pub mod Examples
 pub mod Taken

@@ -1,7 +1,9 @@
+pub mod GoingLeft
 pub mod HelpFits
 pub mod HelpRun
 pub mod LinkFits
 pub mod LinkRun
+pub mod Linking
 pub mod Making
 pub mod PagesRun
 pub mod RemovalRun
@@ -9,4 +11,5 @@ pub mod RoomRun
 pub mod SplitRun
 pub mod Standing
 pub mod SweepRun
+pub mod Taking
 pub mod Unset

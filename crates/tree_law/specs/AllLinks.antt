@@ -1,9 +1,9 @@
 -- A run of one actor that makes each link.
-use Rattle.std.specs.Prelude.{codes, List, [], ◌∷◌, true, None, Some}
+use Rattle.std.specs.Prelude.{codes, List, [], ◌∷◌, ◌++◌, true, None, Some}
 use Rattle.bw_model.specs.declared.command.Command.{Command}
 use Rattle.bw_model.specs.declared.command.Command.TheVariants.{Insert, Delete}
 use Rattle.bw_model.specs.declared.command.Reply.TheVariants as reply
-use Rattle.bw_model.specs.declared.step.Step.TheVariants.{Slot, Row, Epoch, Place, Exchange, TakePid, TakeRow, Enter, Leave}
+use Rattle.bw_model.specs.declared.step.Step.TheVariants.{Slot, Row, Place, Exchange, TakePid, TakeRow, Enter, Leave}
 use Rattle.bw_model.specs.declared.step.Answer.TheVariants.{Number, Content, Whether, Done}
 use Rattle.base_page.specs.declared.item.Content.TheVariants.{Value}
 use Rattle.base_page.specs.declared.item.Item.{Item}
@@ -13,8 +13,8 @@ use Rattle.deltas.specs.declared.record.Record.TheVariants as delta
 use Rattle.chain_search.specs.Discipline.{base_from}
 use Rattle.chain_search.specs.declared.trace.Entry.{Entry}
 use Rattle.chain_search.specs.declared.trace.Entry.TheVariants.{Begin, Step}
-use Rattle.op_machine.specs.Examples.{opening_leaf}
-use Rattle.tree_law.specs.Example.{a, root_a, hold_a, remove_a}
+use Rattle.op_machine.specs.Examples.{opening_leaf, put_a}
+use Rattle.tree_law.specs.Example.{a, root_a, hold_a, remove_a, enters, takes, places, roots}
 
 abbrev pub insert_a : Command
 insert_a = Insert a (codes "1")
@@ -24,9 +24,6 @@ delete_a = Delete a
 
 abbrev pub item_a : Item
 item_a = record { key = a; content = Value (codes "1") }
-
-abbrev pub put_a : Record
-put_a = delta.Put (record { next = 1; key = a; value = codes "1" })
 
 abbrev pub upper_a : Record
 upper_a = base_from (put_a ∷ opening_leaf ∷ []) a (item_a ∷ [])
@@ -58,39 +55,30 @@ spare_base = delta.Base empty_leaf
 abbrev pub deletion_a : Record
 deletion_a = delta.Delete (record { next = 13; key = a })
 
+-- what is placed in rows 2 to 14
+abbrev pub placed : List Record
+placed = put_a
+    ∷ upper_a
+    ∷ split_a
+    ∷ root_a
+    ∷ hold_a
+    ∷ remove_a
+    ∷ merge_a
+    ∷ unterm_a
+    ∷ lower_a
+    ∷ split_b
+    ∷ term_b
+    ∷ base_b
+    ∷ spare_base
+    ∷ []
+
 -- An insert, a split, a new root, a hold, a removal, a merge, an unterm and a clear, a second split with its term, a
 -- consolidation, and a page that is made ready and taken back, in one operation; then one that deletes the key again.
 abbrev pub all_links : List Entry
-all_links = Begin 0 insert_a
-    ∷ Step 0 Epoch (Number 1) None
-    ∷ Step 0 (Enter 1) Done None
-    ∷ Step 0 (TakeRow 2) (Whether true) None
-    ∷ Step 0 (TakeRow 3) (Whether true) None
-    ∷ Step 0 (TakeRow 4) (Whether true) None
-    ∷ Step 0 (TakeRow 5) (Whether true) None
-    ∷ Step 0 (TakeRow 6) (Whether true) None
-    ∷ Step 0 (TakeRow 7) (Whether true) None
-    ∷ Step 0 (TakeRow 8) (Whether true) None
-    ∷ Step 0 (TakeRow 9) (Whether true) None
-    ∷ Step 0 (TakeRow 10) (Whether true) None
-    ∷ Step 0 (TakeRow 11) (Whether true) None
-    ∷ Step 0 (TakeRow 12) (Whether true) None
-    ∷ Step 0 (TakeRow 13) (Whether true) None
-    ∷ Step 0 (TakeRow 14) (Whether true) None
-    ∷ Step 0 (Place 2 put_a) Done None
-    ∷ Step 0 (Place 3 upper_a) Done None
-    ∷ Step 0 (Place 4 split_a) Done None
-    ∷ Step 0 (Place 5 root_a) Done None
-    ∷ Step 0 (Place 6 hold_a) Done None
-    ∷ Step 0 (Place 7 remove_a) Done None
-    ∷ Step 0 (Place 8 merge_a) Done None
-    ∷ Step 0 (Place 9 unterm_a) Done None
-    ∷ Step 0 (Place 10 lower_a) Done None
-    ∷ Step 0 (Place 11 split_b) Done None
-    ∷ Step 0 (Place 12 term_b) Done None
-    ∷ Step 0 (Place 13 base_b) Done None
-    ∷ Step 0 (Place 14 spare_base) Done None
-    ∷ Step 0 (Slot 0) (Number 1) None
+all_links = enters 0 insert_a
+    ++ takes 13 2
+    ++ places 2 placed
+    ++ Step 0 (Slot 0) (Number 1) None
     ∷ Step 0 (Slot 1) (Number 1) None
     ∷ Step 0 (Row 1) (Content opening_leaf) None
     ∷ Step 0 (Exchange 1 1 2) (Whether true) None
@@ -101,13 +89,8 @@ all_links = Begin 0 insert_a
     ∷ Step 0 (Exchange 1 2 4) (Whether true) None
     ∷ Step 0 (Slot 1) (Number 4) None
     ∷ Step 0 (Row 4) (Content split_a) None
-    ∷ Step 0 (TakePid 3) (Whether true) None
-    ∷ Step 0 (Exchange 3 0 5) (Whether true) None
-    ∷ Step 0 (Exchange 0 1 3) (Whether true) None
-    ∷ Step 0 (Slot 0) (Number 3) None
-    ∷ Step 0 (Slot 3) (Number 5) None
-    ∷ Step 0 (Row 5) (Content root_a) None
-    ∷ Step 0 (Exchange 3 5 6) (Whether true) None
+    ∷ roots
+    ++ Step 0 (Exchange 3 5 6) (Whether true) None
     ∷ Step 0 (Slot 3) (Number 6) None
     ∷ Step 0 (Row 6) (Content hold_a) None
     ∷ Step 0 (Slot 2) (Number 3) None

@@ -1,5 +1,5 @@
 -- What follows two of the runs: an actor asks for cursor pages, and for upkeep.
-use Rattle.std.specs.Prelude.{codes, List, [], ◌∷◌, true, None, Some}
+use Rattle.std.specs.Prelude.{codes, List, [], ◌∷◌, ◌++◌, true, None, Some}
 use Rattle.bw_model.specs.declared.command.Command.{Command}
 use Rattle.bw_model.specs.declared.command.Command.TheVariants.{Page, Tidy}
 use Rattle.bw_model.specs.declared.command.Reply.TheVariants as reply
@@ -9,10 +9,10 @@ use Rattle.deltas.specs.declared.record.Record.{Record}
 use Rattle.deltas.specs.declared.record.Record.TheVariants as delta
 use Rattle.chain_search.specs.declared.trace.Entry.{Entry}
 use Rattle.chain_search.specs.declared.trace.Entry.TheVariants.{Begin, Step}
-use Rattle.op_machine.specs.Examples.{opening_leaf}
-use Rattle.tree_law.specs.Example.{a, root_a, hold_a, remove_a}
+use Rattle.tree_law.specs.Example.{a, root_a}
 use Rattle.tree_law.specs.HelpedSplit.{other_put, helped_term}
-use Rattle.tree_law.specs.TwoSplits.{b, upper_b, first_split, upper_c, second_split}
+use Rattle.tree_law.specs.Removal.{goes_left}
+use Rattle.tree_law.specs.TwoSplits.{b, upper_c}
 
 abbrev pub page_a : Command
 page_a = Page a
@@ -32,33 +32,11 @@ right_term = delta.Term (record { level = 1; next = 7; separator = b; child = 4 
 -- while the term beside its own is held.
 abbrev pub upkeep : List Entry
 upkeep = Begin 1 page_a
-    ∷ Step 1 (Enter 1) Done None
-    ∷ Step 1 (Slot 0) (Number 3) None
-    ∷ Step 1 (Slot 3) (Number 7) None
-    ∷ Step 1 (Row 7) (Content hold_a) None
-    ∷ Step 1 (Row 5) (Content root_a) None
-    ∷ Step 1 (Slot 2) (Number 8) None
-    ∷ Step 1 (Row 8) (Content remove_a) None
-    ∷ Step 1 (Row 3) (Content second_split) None
-    ∷ Step 1 (Row 2) (Content upper_b) None
-    ∷ Step 1 (Slot 1) (Number 4) None
-    ∷ Step 1 (Row 4) (Content first_split) None
-    ∷ Step 1 (Row 1) (Content opening_leaf) None
-    ∷ Step 1 Leave Done (Some (reply.Page [] (Some b)))
+    ∷ goes_left
+    ++ Step 1 Leave Done (Some (reply.Page [] (Some b)))
     ∷ Begin 1 tidy_b
-    ∷ Step 1 (Enter 1) Done None
-    ∷ Step 1 (Slot 0) (Number 3) None
-    ∷ Step 1 (Slot 3) (Number 7) None
-    ∷ Step 1 (Row 7) (Content hold_a) None
-    ∷ Step 1 (Row 5) (Content root_a) None
-    ∷ Step 1 (Slot 2) (Number 8) None
-    ∷ Step 1 (Row 8) (Content remove_a) None
-    ∷ Step 1 (Row 3) (Content second_split) None
-    ∷ Step 1 (Row 2) (Content upper_b) None
-    ∷ Step 1 (Slot 1) (Number 4) None
-    ∷ Step 1 (Row 4) (Content first_split) None
-    ∷ Step 1 (Row 1) (Content opening_leaf) None
-    ∷ Step 1 (Slot 4) (Number 6) None
+    ∷ goes_left
+    ++ Step 1 (Slot 4) (Number 6) None
     ∷ Step 1 (Row 6) (Content upper_c) None
     ∷ Step 1 (TakeRow 9) (Whether true) None
     ∷ Step 1 (Place 9 right_term) Done None

@@ -3,15 +3,15 @@ use Rattle.std.specs.Prelude.{codes, List, [], ◌∷◌, ◌++◌, true, false,
 use Rattle.bw_model.specs.declared.command.Command.{Command}
 use Rattle.bw_model.specs.declared.command.Command.TheVariants.{Insert}
 use Rattle.bw_model.specs.declared.command.Reply.TheVariants as reply
-use Rattle.bw_model.specs.declared.step.Step.TheVariants.{Slot, Row, Epoch, Place, Exchange, TakeRow, Enter, Leave}
+use Rattle.bw_model.specs.declared.step.Step.TheVariants.{Slot, Row, Place, Exchange, TakeRow, Leave}
 use Rattle.bw_model.specs.declared.step.Answer.TheVariants.{Number, Content, Whether, Done}
 use Rattle.base_page.specs.declared.item.Content.TheVariants.{Value}
 use Rattle.base_page.specs.declared.item.Item.{Item}
 use Rattle.deltas.specs.declared.record.Record.{Record}
 use Rattle.deltas.specs.declared.record.Record.TheVariants as delta
 use Rattle.chain_search.specs.declared.trace.Entry.{Entry}
-use Rattle.chain_search.specs.declared.trace.Entry.TheVariants.{Begin, Step}
-use Rattle.tree_law.specs.Example.{root_a}
+use Rattle.chain_search.specs.declared.trace.Entry.TheVariants.{Step}
+use Rattle.tree_law.specs.Example.{root_a, enters}
 use Rattle.tree_law.specs.TwoSplits.{b, two_splits, upper_b, upper_c, second_split}
 
 abbrev pub insert_other : Command
@@ -32,10 +32,8 @@ helped_term = delta.Term (record { level = 1; next = 5; separator = b; child = 4
 -- it finds the key there.
 abbrev pub helped_split : List Entry
 helped_split = two_splits
-    ++ Begin 1 insert_other
-    ∷ Step 1 Epoch (Number 1) None
-    ∷ Step 1 (Enter 1) Done None
-    ∷ Step 0 (TakeRow 7) (Whether true) None
+    ++ enters 1 insert_other
+    ++ Step 0 (TakeRow 7) (Whether true) None
     ∷ Step 0 (Place 7 helped_term) Done None
     ∷ Step 1 (Slot 0) (Number 3) None
     ∷ Step 1 (Slot 3) (Number 5) None

@@ -1,16 +1,16 @@
 -- The beginning of two runs: an actor makes three leaves and a root.
-use Rattle.std.specs.Prelude.{codes, List, [], ◌∷◌, true, None}
+use Rattle.std.specs.Prelude.{codes, List, [], ◌∷◌, ◌++◌, true, None}
 use Rattle.bw_model.specs.declared.command.Command.{Command}
 use Rattle.bw_model.specs.declared.command.Command.TheVariants.{Insert}
-use Rattle.bw_model.specs.declared.step.Step.TheVariants.{Slot, Row, Epoch, Place, Exchange, TakePid, TakeRow, Enter}
-use Rattle.bw_model.specs.declared.step.Answer.TheVariants.{Number, Content, Whether, Done}
+use Rattle.bw_model.specs.declared.step.Step.TheVariants.{Slot, Row, Exchange, TakePid}
+use Rattle.bw_model.specs.declared.step.Answer.TheVariants.{Number, Content, Whether}
 use Rattle.deltas.specs.declared.record.Record.{Record}
 use Rattle.deltas.specs.declared.record.Record.TheVariants as delta
 use Rattle.chain_search.specs.Discipline.{base_from}
 use Rattle.chain_search.specs.declared.trace.Entry.{Entry}
-use Rattle.chain_search.specs.declared.trace.Entry.TheVariants.{Begin, Step}
+use Rattle.chain_search.specs.declared.trace.Entry.TheVariants.{Step}
 use Rattle.op_machine.specs.Examples.{opening_leaf}
-use Rattle.tree_law.specs.Example.{a, root_a}
+use Rattle.tree_law.specs.Example.{a, root_a, enters, takes, places, roots}
 use Rattle.tree_law.specs.Keys.{Key}
 
 abbrev pub b : Key
@@ -33,36 +33,25 @@ upper_c = base_from (upper_b ∷ []) b []
 abbrev pub second_split : Record
 second_split = delta.Split (record { level = 0; next = 2; separator = b; page = 4 })
 
+-- what is placed in rows 2 to 6
+abbrev pub split_up : List Record
+split_up = upper_b ∷ second_split ∷ first_split ∷ root_a ∷ upper_c ∷ []
+
 -- Actor 0 splits the leaf, makes a root above it, and splits the upper leaf, whose right has no term yet.
 abbrev pub two_splits : List Entry
-two_splits = Begin 0 insert_b
-    ∷ Step 0 Epoch (Number 1) None
-    ∷ Step 0 (Enter 1) Done None
-    ∷ Step 0 (Slot 0) (Number 1) None
+two_splits = enters 0 insert_b
+    ++ Step 0 (Slot 0) (Number 1) None
     ∷ Step 0 (Slot 1) (Number 1) None
     ∷ Step 0 (Row 1) (Content opening_leaf) None
-    ∷ Step 0 (TakeRow 2) (Whether true) None
-    ∷ Step 0 (TakeRow 3) (Whether true) None
-    ∷ Step 0 (TakeRow 4) (Whether true) None
-    ∷ Step 0 (TakeRow 5) (Whether true) None
-    ∷ Step 0 (TakeRow 6) (Whether true) None
-    ∷ Step 0 (Place 2 upper_b) Done None
-    ∷ Step 0 (Place 3 second_split) Done None
-    ∷ Step 0 (Place 4 first_split) Done None
-    ∷ Step 0 (Place 5 root_a) Done None
-    ∷ Step 0 (Place 6 upper_c) Done None
-    ∷ Step 0 (TakePid 2) (Whether true) None
+    ∷ takes 5 2
+    ++ places 2 split_up
+    ++ Step 0 (TakePid 2) (Whether true) None
     ∷ Step 0 (Exchange 2 0 2) (Whether true) None
     ∷ Step 0 (Exchange 1 1 4) (Whether true) None
     ∷ Step 0 (Slot 1) (Number 4) None
     ∷ Step 0 (Row 4) (Content first_split) None
-    ∷ Step 0 (TakePid 3) (Whether true) None
-    ∷ Step 0 (Exchange 3 0 5) (Whether true) None
-    ∷ Step 0 (Exchange 0 1 3) (Whether true) None
-    ∷ Step 0 (Slot 0) (Number 3) None
-    ∷ Step 0 (Slot 3) (Number 5) None
-    ∷ Step 0 (Row 5) (Content root_a) None
-    ∷ Step 0 (Slot 2) (Number 2) None
+    ∷ roots
+    ++ Step 0 (Slot 2) (Number 2) None
     ∷ Step 0 (Row 2) (Content upper_b) None
     ∷ Step 0 (TakePid 4) (Whether true) None
     ∷ Step 0 (Exchange 4 0 6) (Whether true) None

@@ -11,6 +11,7 @@ use Rattle.tree_law.specs.Example.{a, root_a}
 use Rattle.tree_law.specs.HelpedSplit.{insert_other, helped_term, other_put, helped_split}
 use Rattle.tree_law.specs.TwoSplits.{b, insert_b, two_splits, upper_b, first_split, upper_c, second_split}
 use Rattle.tree_law.proofs.runs.HelpFits.{term_fits, put_fits}
+use Rattle.tree_law.proofs.runs.Linking.{whole, adds}
 use Rattle.tree_law.proofs.runs.SplitRun.{became, splits_twice}
 use Rattle.tree_law.proofs.runs.Standing.{◌▸◌, joined, quietly}
 use Rattle.tree_law.proofs.runs.Unset.{is_unset}
@@ -21,20 +22,20 @@ before n actor = knows (take n helped_split) actor
 
 -- each page was named, as a right or as a child
 right_of_first : IsMet (before 52 0) 2
-right_of_first = record { other = 1; row = 4; basis = record { head = refl; chain = first_split ∷ opening_leaf ∷ []; read = (refl, (refl, refl)); alive = refl }; named = inl refl }
+right_of_first = record { other = 1; row = 4; basis = whole (first_split ∷ opening_leaf ∷ []) (refl, (refl, refl)) refl refl; named = inl refl }
 
 right_known : IsMet (before 54 0) 4
-right_known = record { other = 2; row = 3; basis = record { head = refl; chain = second_split ∷ upper_b ∷ []; read = (refl, (refl, refl)); alive = refl }; named = inl refl }
+right_known = record { other = 2; row = 3; basis = whole (second_split ∷ upper_b ∷ []) (refl, (refl, refl)) refl refl; named = inl refl }
 
 child_of_root : IsMet (before 40 1) 2
-child_of_root = record { other = 3; row = 5; basis = record { head = refl; chain = root_a ∷ []; read = (refl, refl); alive = refl }; named = inr (inl (0, a, false, refl, refl, refl)) }
+child_of_root = record { other = 3; row = 5; basis = whole (root_a ∷ []) (refl, refl) refl refl; named = inr (inl (0, a, false, refl, refl, refl)) }
 
 right_seen : IsMet (before 43 1) 4
-right_seen = record { other = 2; row = 3; basis = record { head = refl; chain = second_split ∷ upper_b ∷ []; read = (refl, (refl, refl)); alive = refl }; named = inl refl }
+right_seen = record { other = 2; row = 3; basis = whole (second_split ∷ upper_b ∷ []) (refl, (refl, refl)) refl refl; named = inl refl }
 
 -- the term that the second actor posts
 helps : MayPost (before 47 1) 3 5 (root_a ∷ []) helped_term
-helps = record { child = 4; row = 6; below = record { head = refl; chain = upper_c ∷ []; read = (refl, refl); alive = refl }; level = refl; covers = refl; absent = refl; order = refl; is = refl }
+helps = record { child = 4; row = 6; below = whole (upper_c ∷ []) (refl, refl) refl refl; level = refl; covers = refl; absent = refl; order = refl; is = refl }
 
 updates : MayUpdate 1 (before 50 1) 6 (upper_c ∷ []) other_put
 updates = record { leaf = refl; command = insert_other; going = refl; unlinked = refl; covers = refl; update = set 1 b (codes "2"); due = refl; is = refl }
@@ -44,7 +45,7 @@ inserted = record { command = insert_other; going = refl; justified = inl (recor
 
 -- the first actor's own try
 late : MayPost (before 57 0) 3 5 (root_a ∷ []) helped_term
-late = record { child = 4; row = 9; below = record { head = refl; chain = other_put ∷ upper_c ∷ []; read = (refl, (refl, refl)); alive = refl }; level = refl; covers = refl; absent = refl; order = refl; is = refl }
+late = record { child = 4; row = 9; below = whole (other_put ∷ upper_c ∷ []) (refl, (refl, refl)) refl refl; level = refl; covers = refl; absent = refl; order = refl; is = refl }
 
 exists : MayReply small 0 (before 58 0) (reply.Exists (codes "2"))
 exists = record { command = insert_b; going = refl; justified = inl (record { row = 9; chain = other_put ∷ upper_c ∷ []; read = (refl, (refl, refl)); leaf = refl; covers = refl; is = refl; basis = inr (refl, inl ((4, refl), refl), refl) }) }
@@ -57,7 +58,7 @@ comes_late =
     ▸ (refl, quietly (refl, inr right_known) tt, refl)
     ▸ (refl, quietly (refl, refl) tt, (other_put, refl, refl))
     ▸ (refl, quietly (refl, refl) tt, (upper_c, refl, refl))
-    ▸ (refl, quietly (refl, record { basis = record { head = refl; chain = root_a ∷ []; read = (refl, refl); alive = refl }; content = helped_term; placed = refl; fits = term_fits; due = late; unset = is_unset became refl }) tt, refl)
+    ▸ (refl, quietly (refl, adds (whole (root_a ∷ []) (refl, refl) refl refl) helped_term refl term_fits late (is_unset became refl)) tt, refl)
     ▸ (refl, record { may = refl; frees = tt; replied = (refl, exists) }, refl)
     ▸ tt
 
@@ -66,10 +67,10 @@ finishes : IsDisciplinedFrom small (take 45 helped_split) (drop 45 helped_split)
 finishes =
     (refl, quietly tt tt, refl)
     ▸ (refl, quietly (refl, tt, is_unset [] refl) tt, refl)
-    ▸ (refl, quietly (refl, record { basis = record { head = refl; chain = root_a ∷ []; read = (refl, refl); alive = refl }; content = helped_term; placed = refl; fits = term_fits; due = helps; unset = is_unset [] refl }) tt, refl)
+    ▸ (refl, quietly (refl, adds (whole (root_a ∷ []) (refl, refl) refl refl) helped_term refl term_fits helps (is_unset [] refl)) tt, refl)
     ▸ (refl, quietly tt tt, refl)
     ▸ (refl, quietly (refl, tt, is_unset [] refl) tt, refl)
-    ▸ (refl, quietly (refl, record { basis = record { head = refl; chain = upper_c ∷ []; read = (refl, refl); alive = refl }; content = other_put; placed = refl; fits = put_fits; due = updates; unset = is_unset [] refl }) tt, refl)
+    ▸ (refl, quietly (refl, adds (whole (upper_c ∷ []) (refl, refl) refl refl) other_put refl put_fits updates (is_unset [] refl)) tt, refl)
     ▸ (refl, record { may = refl; frees = tt; replied = (refl, inserted) }, refl)
     ▸ comes_late
 

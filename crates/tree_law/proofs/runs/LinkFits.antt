@@ -15,8 +15,8 @@ use Rattle.deltas.specs.Applies.{Applies}
 use Rattle.deltas.specs.Spellable.{HasPid, IsPid, IsRow, IsSpellableLink, IsSpellablePage}
 use Rattle.chain_search.specs.Discipline.{FitsOn}
 use Rattle.chain_search.specs.Fitted.{Makes, IsFitted}
-use Rattle.tree_law.specs.AllLinks.{item_a, put_a, upper_a, split_a, merge_a, unterm_a, split_b, term_b, base_b, deletion_a}
-use Rattle.op_machine.specs.Examples.{opening_leaf}
+use Rattle.tree_law.specs.AllLinks.{item_a, upper_a, split_a, merge_a, unterm_a, split_b, term_b, base_b, deletion_a}
+use Rattle.op_machine.specs.Examples.{opening_leaf, put_a}
 use Rattle.tree_law.specs.Example.{a, root_a, hold_a, remove_a}
 use Rattle.tree_law.specs.Keys.{Key, IsBelow}
 use Rattle.tree_law.proofs.shape.KeyOrder.{by_key, by_below, by_range, not_self}

@@ -13,15 +13,17 @@ use Rattle.chain_search.specs.Disciplined.{IsDisciplinedFrom, IsDisciplined}
 use Rattle.chain_search.specs.HeldBack.{HoldsBack}
 use Rattle.chain_search.specs.Knowledge.{Knowledge, knows}
 use Rattle.tree_law.specs.CursorPages.{page_a, page_b, tidy_b, right_term, upkeep, last_page}
-use Rattle.op_machine.specs.Examples.{small, opening_leaf}
-use Rattle.tree_law.specs.Example.{a, root_a, hold_a, remove_a}
+use Rattle.op_machine.specs.Examples.{small}
+use Rattle.tree_law.specs.Example.{a, root_a, hold_a}
 use Rattle.tree_law.specs.HelpedSplit.{other_put, helped_term, helped_split}
 use Rattle.tree_law.specs.Keys.{Key}
 use Rattle.tree_law.specs.Removal.{removal}
-use Rattle.tree_law.specs.TwoSplits.{b, upper_b, first_split, upper_c, second_split}
+use Rattle.tree_law.specs.TwoSplits.{b, upper_c}
+use Rattle.tree_law.proofs.runs.GoingLeft.{removed, right_beyond, beside, going_left}
 use Rattle.tree_law.proofs.runs.HelpFits.{grown, right_fits, term_applies}
 use Rattle.tree_law.proofs.runs.HelpRun.{help_disciplined}
 use Rattle.tree_law.proofs.runs.LinkFits.{leaf, hold_makes}
+use Rattle.tree_law.proofs.runs.Linking.{whole, adds}
 use Rattle.tree_law.proofs.runs.Making.{over_makes}
 use Rattle.tree_law.proofs.runs.RemovalRun.{removal_disciplined}
 use Rattle.tree_law.proofs.runs.Standing.{◌▸◌, joined, quietly}
@@ -35,11 +37,7 @@ before n = knows (removal ++ take n upkeep) 1
 abbrev before_last : ℕ → Knowledge
 before_last n = knows (helped_split ++ take n last_page) 1
 
--- the removed leaf's chain
-abbrev removed : List Record
-removed = remove_a ∷ second_split ∷ upper_b ∷ []
-
--- it has no values
+-- the removed leaf has no values
 empty : (key value : Key) → found removed key ≡ Some value → ⊥
 empty key value e = go (not (is_below key b)) e
   where
@@ -68,30 +66,9 @@ one_pair = record { ascending = (tt, tt); exact = λ key value. (λ c. there key
         (λ same e. let is : codes "2" ≡ value = cc in (0, lit< tt, λ i. (sym same i, is i)))
         (λ ne e. absurd (cc))
 
--- each page was named: as a child,
-held_child : IsMet (before 6) 2
-held_child = record { other = 3; row = 7; basis = record { head = refl; chain = hold_a ∷ root_a ∷ []; read = (refl, (refl, refl)); alive = refl }; named = inr (inl (0, a, true, refl, refl, refl)) }
-
-left_child : IsMet (before 10) 1
-left_child = record { other = 3; row = 7; basis = record { head = refl; chain = hold_a ∷ root_a ∷ []; read = (refl, (refl, refl)); alive = refl }; named = inr (inl (0, [], false, refl, refl, refl)) }
-
-held_child_again : IsMet (before 20) 2
-held_child_again = record { other = 3; row = 7; basis = record { head = refl; chain = hold_a ∷ root_a ∷ []; read = (refl, (refl, refl)); alive = refl }; named = inr (inl (0, a, true, refl, refl, refl)) }
-
-left_child_again : IsMet (before 24) 1
-left_child_again = record { other = 3; row = 7; basis = record { head = refl; chain = hold_a ∷ root_a ∷ []; read = (refl, (refl, refl)); alive = refl }; named = inr (inl (0, [], false, refl, refl, refl)) }
-
+-- the last leaf was named as a child
 last_child : IsMet (before_last 6) 4
-last_child = record { other = 3; row = 8; basis = record { head = refl; chain = helped_term ∷ root_a ∷ []; read = (refl, (refl, refl)); alive = refl }; named = inr (inl (0, b, false, refl, refl, refl)) }
-
--- or as the right of the removed leaf, which was read before its left
-right_beyond : IsMet (before 27) 4
-right_beyond = record {
-  other = 1;
-  row = 4;
-  basis = record { head = refl; chain = first_split ∷ opening_leaf ∷ []; read = (refl, (refl, refl)); alive = refl };
-  named = inr (inr (record { removed = 2; row = 8; chain = removed; right = refl; order = refl; read = (refl, (refl, (refl, refl))); gone = refl; next = refl }));
-}
+last_child = record { other = 3; row = 8; basis = whole (helped_term ∷ root_a ∷ []) (refl, (refl, refl)) refl refl; named = inr (inl (0, b, false, refl, refl, refl)) }
 
 -- the removed leaf is shown, as its left was read after it
 shows_removed : MayReply small 1 (before 13) (reply.Page [] (Some b))
@@ -110,23 +87,18 @@ shows_removed = record {
     exact = no_pairs;
     is = refl;
     unlinked = refl;
-    basis = inr (record { left = 1; head = 4; basis = record { head = refl; chain = first_split ∷ opening_leaf ∷ []; read = (refl, (refl, refl)); alive = refl }; other = 2; right = refl; order = refl }, refl);
+    basis = inr (beside (knows (removal ++ take 1 upkeep)), refl);
   }));
 }
 
 -- the term that it posts for that leaf
 posts : MayAdd 1 (before 31) 3 7 9
-posts = record {
-  basis = record { head = refl; chain = hold_a ∷ root_a ∷ []; read = (refl, (refl, refl)); alive = refl };
-  content = right_term;
-  placed = refl;
-  fits = right_fits;
-  due = record { child = 4; row = 6; below = record { head = refl; chain = upper_c ∷ []; read = (refl, refl); alive = refl }; level = refl; covers = refl; absent = refl; order = refl; is = refl };
-  unset = is_unset [] refl;
-}
+posts = adds (whole (hold_a ∷ root_a ∷ []) (refl, (refl, refl)) refl refl) right_term refl right_fits
+    (record { child = 4; row = 6; below = whole (upper_c ∷ []) (refl, refl) refl refl; level = refl; covers = refl; absent = refl; order = refl; is = refl })
+    (is_unset [] refl)
 
 right_child : IsMet (before 34) 4
-right_child = record { other = 3; row = 9; basis = record { head = refl; chain = right_term ∷ hold_a ∷ root_a ∷ []; read = (refl, (refl, (refl, refl))); alive = refl }; named = inr (inl (0, b, false, refl, refl, refl)) }
+right_child = record { other = 3; row = 9; basis = whole (right_term ∷ hold_a ∷ root_a ∷ []) (refl, (refl, (refl, refl))) refl refl; named = inr (inl (0, b, false, refl, refl, refl)) }
 
 -- the root holds that leaf back, as the term beside the leaf's own is held
 held_back : HoldsBack (right_term ∷ hold_a ∷ root_a ∷ []) 4 b
@@ -143,13 +115,13 @@ nothing_due = record {
     is = refl;
     page = 4;
     head = 6;
-    basis = record { head = refl; chain = upper_c ∷ []; read = (refl, refl); alive = refl };
+    basis = whole (upper_c ∷ []) (refl, refl) refl refl;
     base = leaf b None None;
     alone = refl;
     leaf = refl;
     covers = refl;
     few = lit< tt;
-    back = λ other few. inr (record { parent = 3; row = 9; above = record { head = refl; chain = right_term ∷ hold_a ∷ root_a ∷ []; read = (refl, (refl, (refl, refl))); alive = refl }; order = refl; holds = held_back });
+    back = λ other few. inr (record { parent = 3; row = 9; above = whole (right_term ∷ hold_a ∷ root_a ∷ []) (refl, (refl, (refl, refl))) refl refl; order = refl; holds = held_back });
     unlinked = refl;
   })));
 }
@@ -174,61 +146,30 @@ tidies =
     ▸ (refl, record { may = refl; frees = tt; replied = (refl, nothing_due) }, refl)
     ▸ tt
 
--- to the leaf on the removed leaf's left, and to that on its right
-goes_on : IsDisciplinedFrom small (removal ++ take 24 upkeep) (drop 24 upkeep)
+-- it comes there again, and goes on to the leaf on the removed leaf's right
+goes_on : IsDisciplinedFrom small (removal ++ take 27 upkeep) (drop 27 upkeep)
 goes_on =
-    (refl, quietly (refl, inr left_child_again) tt, refl)
-    ▸ (refl, quietly (refl, refl) tt, (first_split, refl, refl))
-    ▸ (refl, quietly (refl, refl) tt, (opening_leaf, refl, refl))
-    ▸ (refl, quietly (refl, inr right_beyond) tt, refl)
+    (refl, quietly (refl, inr (right_beyond (knows (removal ++ take 15 upkeep)))) tt, refl)
     ▸ (refl, quietly (refl, refl) tt, (upper_c, refl, refl))
     ▸ tidies
 
--- it begins again, and goes down to the removed leaf
-descends_again : IsDisciplinedFrom small (removal ++ take 14 upkeep) (drop 14 upkeep)
-descends_again =
-    (lit< tt, refl)
-    ▸ (refl, quietly (refl, lit< tt, refl) tt, refl)
-    ▸ (refl, quietly refl tt, refl)
-    ▸ (refl, quietly (refl, inl refl) tt, refl)
-    ▸ (refl, quietly (refl, refl) tt, (hold_a, refl, refl))
-    ▸ (refl, quietly (refl, refl) tt, (root_a, refl, refl))
-    ▸ (refl, quietly (refl, inr held_child_again) tt, refl)
-    ▸ (refl, quietly (refl, refl) tt, (remove_a, refl, refl))
-    ▸ (refl, quietly (refl, refl) tt, (second_split, refl, refl))
-    ▸ (refl, quietly (refl, refl) tt, (upper_b, refl, refl))
-    ▸ goes_on
+-- it shows the removed leaf, and begins again
+shows : IsDisciplinedFrom small (removal ++ take 13 upkeep) (drop 13 upkeep)
+shows =
+    (refl, record { may = refl; frees = tt; replied = (refl, shows_removed) }, refl)
+    ▸ (lit< tt, refl)
+    ▸ going_left (removal ++ take 15 upkeep) (drop 27 upkeep) refl refl refl refl goes_on
 
--- it reads the leaf on the left, and shows the removed one
-goes_left : IsDisciplinedFrom small (removal ++ take 10 upkeep) (drop 10 upkeep)
-goes_left =
-    (refl, quietly (refl, inr left_child) tt, refl)
-    ▸ (refl, quietly (refl, refl) tt, (first_split, refl, refl))
-    ▸ (refl, quietly (refl, refl) tt, (opening_leaf, refl, refl))
-    ▸ (refl, record { may = refl; frees = tt; replied = (refl, shows_removed) }, refl)
-    ▸ descends_again
-
--- it goes down to the removed leaf
-descends : IsDisciplinedFrom small removal upkeep
-descends =
-    (lit< tt, refl)
-    ▸ (refl, quietly (refl, lit< tt, refl) tt, refl)
-    ▸ (refl, quietly refl tt, refl)
-    ▸ (refl, quietly (refl, inl refl) tt, refl)
-    ▸ (refl, quietly (refl, refl) tt, (hold_a, refl, refl))
-    ▸ (refl, quietly (refl, refl) tt, (root_a, refl, refl))
-    ▸ (refl, quietly (refl, inr held_child) tt, refl)
-    ▸ (refl, quietly (refl, refl) tt, (remove_a, refl, refl))
-    ▸ (refl, quietly (refl, refl) tt, (second_split, refl, refl))
-    ▸ (refl, quietly (refl, refl) tt, (upper_b, refl, refl))
-    ▸ goes_left
+-- it comes to the leaf on the removed one's left
+comes : IsDisciplinedFrom small removal upkeep
+comes = (lit< tt, refl) ▸ going_left (removal ++ take 1 upkeep) (drop 13 upkeep) refl refl refl refl shows
 
 pub upkeep_disciplined : IsDisciplined small (removal ++ upkeep)
-upkeep_disciplined = joined small [] removal upkeep removal_disciplined descends
+upkeep_disciplined = joined small [] removal upkeep removal_disciplined comes
 
 -- from the root to the last leaf
-shows : IsDisciplinedFrom small helped_split last_page
-shows =
+descends : IsDisciplinedFrom small helped_split last_page
+descends =
     (lit< tt, refl)
     ▸ (refl, quietly (refl, lit< tt, refl) tt, refl)
     ▸ (refl, quietly refl tt, refl)
@@ -242,4 +183,4 @@ shows =
     ▸ tt
 
 pub last_page_disciplined : IsDisciplined small (helped_split ++ last_page)
-last_page_disciplined = joined small [] helped_split last_page help_disciplined shows
+last_page_disciplined = joined small [] helped_split last_page help_disciplined descends

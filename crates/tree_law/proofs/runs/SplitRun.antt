@@ -1,14 +1,15 @@
 -- Each step of the beginning with two splits is allowed.
-use Rattle.std.proofs.Common.{ℕ, List, [], ◌∷◌, take, drop, refl, inl, inr, lit<}
+use Rattle.std.proofs.Common.{ℕ, List, [], ◌∷◌, take, drop, refl, inl, inr, arith}
 use Rattle.chain_search.specs.Discipline.{IsMet, MayAdd, MayRoot}
 use Rattle.chain_search.specs.Disciplined.{IsDisciplinedFrom}
 use Rattle.chain_search.specs.Knowledge.{OwnPage, Other, Empty, Ready, Knowledge, knows}
 use Rattle.op_machine.specs.Examples.{small, opening_leaf}
-use Rattle.tree_law.specs.Example.{a, root_a}
-use Rattle.tree_law.specs.TwoSplits.{b, upper_b, first_split, second_split, two_splits}
+use Rattle.tree_law.specs.Example.{a, root_a, enters, takes, places}
+use Rattle.tree_law.specs.TwoSplits.{b, insert_b, upper_b, first_split, second_split, split_up, two_splits}
 use Rattle.tree_law.proofs.runs.HelpFits.{first_fits, second_fits, first_ruled, second_ruled}
-use Rattle.tree_law.proofs.runs.LinkFits.{root_fitted}
-use Rattle.tree_law.proofs.runs.Standing.{◌▸◌, quietly}
+use Rattle.tree_law.proofs.runs.Linking.{whole, adds, puts_root}
+use Rattle.tree_law.proofs.runs.Standing.{◌▸◌, quietly, joined}
+use Rattle.tree_law.proofs.runs.Taking.{enters_first, free_at_first, takes_after, are_taken, places_after}
 use Rattle.tree_law.proofs.runs.Unset.{is_unset}
 
 -- what the actor knows before entry n
@@ -20,45 +21,23 @@ abbrev pub became : List (ℕ × OwnPage)
 became = (4, Other) ∷ (4, Ready 6) ∷ (4, Empty) ∷ (3, Other) ∷ (3, Ready 5) ∷ (3, Empty) ∷ (2, Other) ∷ (2, Ready 2) ∷ (2, Empty) ∷ []
 
 right_of_first : IsMet (before 27) 2
-right_of_first = record { other = 1; row = 4; basis = record { head = refl; chain = first_split ∷ opening_leaf ∷ []; read = (refl, (refl, refl)); alive = refl }; named = inl refl }
+right_of_first = record { other = 1; row = 4; basis = whole (first_split ∷ opening_leaf ∷ []) (refl, (refl, refl)) refl refl; named = inl refl }
 
 -- the first split
 splits : MayAdd 0 (before 18) 1 1 4
-splits = record {
-  basis = record { head = refl; chain = opening_leaf ∷ []; read = (refl, refl); alive = refl };
-  content = first_split;
-  placed = refl;
-  fits = first_fits;
-  due = record { separator = a; above = refl; below = refl; right = 2; row = 2; ready = refl; items = []; alike = λ key c n. refl; base = refl; ruled = first_ruled; is = refl };
-  unset = is_unset (drop 7 became) refl;
-}
+splits = adds (whole (opening_leaf ∷ []) (refl, refl) refl refl) first_split refl first_fits
+    (record { separator = a; above = refl; below = refl; right = 2; row = 2; ready = refl; items = []; alike = λ key c n. refl; base = refl; ruled = first_ruled; is = refl })
+    (is_unset (drop 7 became) refl)
 
 -- the root
 roots : MayRoot (before 23) 1 3
-roots = record {
-  row = 4;
-  basis = record { head = refl; chain = first_split ∷ opening_leaf ∷ []; read = (refl, (refl, refl)); alive = refl };
-  right = 2;
-  is_right = refl;
-  separator = a;
-  is_high = refl;
-  some = refl;
-  base_row = 5;
-  ready = refl;
-  base = refl;
-  ruled = root_fitted;
-}
+roots = puts_root (whole (first_split ∷ opening_leaf ∷ []) (refl, (refl, refl)) refl refl) refl refl refl refl refl
 
 -- the second split
 splits_upper : MayAdd 0 (before 31) 2 2 3
-splits_upper = record {
-  basis = record { head = refl; chain = upper_b ∷ []; read = (refl, refl); alive = refl };
-  content = second_split;
-  placed = refl;
-  fits = second_fits;
-  due = record { separator = b; above = refl; below = refl; right = 4; row = 6; ready = refl; items = []; alike = λ key c n. refl; base = refl; ruled = second_ruled; is = refl };
-  unset = is_unset (drop 1 became) refl;
-}
+splits_upper = adds (whole (upper_b ∷ []) (refl, refl) refl refl) second_split refl second_fits
+    (record { separator = b; above = refl; below = refl; right = 4; row = 6; ready = refl; items = []; alike = λ key c n. refl; base = refl; ruled = second_ruled; is = refl })
+    (is_unset (drop 1 became) refl)
 
 -- it splits the upper leaf
 divides : IsDisciplinedFrom small (take 24 two_splits) (drop 24 two_splits)
@@ -86,28 +65,20 @@ grows =
     ▸ (refl, quietly (refl, roots) tt, refl)
     ▸ divides
 
--- and writes them
-places : IsDisciplinedFrom small (take 11 two_splits) (drop 11 two_splits)
-places =
-    (refl, quietly (refl, tt, is_unset [] refl) tt, refl)
-    ▸ (refl, quietly (refl, tt, is_unset [] refl) tt, refl)
-    ▸ (refl, quietly (refl, tt, is_unset [] refl) tt, refl)
-    ▸ (refl, quietly (refl, tt, is_unset [] refl) tt, refl)
-    ▸ (refl, quietly (refl, tt, is_unset [] refl) tt, refl)
-    ▸ grows
-
--- the actor enters, reads the leaf, and takes its rows
-pub splits_twice : IsDisciplinedFrom small [] two_splits
-splits_twice =
-    (lit< tt, refl)
-    ▸ (refl, quietly tt tt, refl)
-    ▸ (refl, quietly (refl, lit< tt, refl) tt, refl)
-    ▸ (refl, quietly refl tt, refl)
+-- the actor enters, and reads the leaf
+begins : IsDisciplinedFrom small [] (take 6 two_splits)
+begins = joined small [] (enters 0 insert_b) (take 3 (drop 3 two_splits)) (enters_first insert_b) (
+    (refl, quietly refl tt, refl)
     ▸ (refl, quietly (refl, inl refl) tt, refl)
     ▸ (refl, quietly (refl, refl) tt, (opening_leaf, refl, refl))
-    ▸ (refl, quietly tt tt, refl)
-    ▸ (refl, quietly tt tt, refl)
-    ▸ (refl, quietly tt tt, refl)
-    ▸ (refl, quietly tt tt, refl)
-    ▸ (refl, quietly tt tt, refl)
-    ▸ places
+    ▸ tt)
+
+-- it takes rows, and writes the leaves, the root and the splits
+takes_rows : IsDisciplinedFrom small (take 6 two_splits) (takes 5 2)
+takes_rows = takes_after 5 2 (take 6 two_splits) refl (λ row low high. free_at_first row low (omega arith))
+
+writes : IsDisciplinedFrom small (take 11 two_splits) (places 2 split_up)
+writes = places_after 2 split_up (take 11 two_splits) refl refl (λ row low high. are_taken 5 2 (knows (take 6 two_splits)) row (inr (low, high))) (λ row. is_unset [] refl)
+
+pub splits_twice : IsDisciplinedFrom small [] two_splits
+splits_twice = joined small [] (take 6 two_splits) (drop 6 two_splits) begins (joined small (take 6 two_splits) (takes 5 2) (drop 11 two_splits) takes_rows (joined small (take 11 two_splits) (places 2 split_up) (drop 16 two_splits) writes grows))

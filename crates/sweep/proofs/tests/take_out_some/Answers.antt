@@ -2,7 +2,7 @@ use Rattle.std.proofs.Common.{◌<◌, ◌≤◌, ◌≢◌, ℕ, [], ◌∷◌,
 use Rattle.std.specs.List.{All}
 use Rattle.std.proofs.lemmas.List.Elements.{All-cons}
 use Rattle.std.proofs.lemmas.List.Kept.{AllPairs-cons}
-use Rattle.epochs.specs.Limbo.{IsNew, LimboList}
+use Rattle.epochs.specs.Limbo.{IsNew}
 use Rattle.sweep.proofs.tests.take_out_some.Goals as goal
 
 -- a number is new to an empty list
