@@ -144,10 +144,10 @@ impl Running {
         ensures goes { (limits : LimitsSeen) (number : ℕ) (k : Knowledge) (r : Recalled) → IsRunning limits number k r hand.old self.old → Fits limits k self.old.wanted answer.now → GoesOn limits number k r (at_work hand.old self.old) self.old.wanted answer.now None (at_work hand.new self.new) }
         ensures command { self.new.op.task.command ≡ self.old.op.task.command }
     {
-        let Want::Step(wanted) = self.op.next(hand, answer) else {
-            unreachable!()
+        self.wanted = match self.op.next(hand, answer) {
+            Want::Step(wanted) => wanted,
+            Want::Done(_) => unreachable!(),
         };
-        self.wanted = wanted;
     }
 
     /// Takes the answer to the step that is wanted, and answers the reply, if the operation is done.

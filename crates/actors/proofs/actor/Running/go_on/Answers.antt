@@ -13,4 +13,4 @@ returns-clause-goes g c = λ limits number k r running fits.
 pub unreachable-requires : goal.unreachable-requires
 unreachable-requires g c =
     let (limits, number, k, r, running, fits) = c.requires.told in
-    absurd (c.requires.stays (is_done limits number k r c.args.hand.now c.next.new.hand c.args.self.now c.next.new.self c.args.answer.now running fits c.in-Done.reply c.in-Done.ensures.obeys).allowed.replied.0)
+    absurd (c.requires.stays (is_done limits number k r c.args.hand.now c.next.new.hand c.args.self.now c.next.new.self c.args.answer.now running fits c.in-Done.field-0 c.in-Done.ensures.obeys).allowed.replied.0)
