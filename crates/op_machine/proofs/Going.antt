@@ -12,7 +12,7 @@ use Rattle.op_machine.specs.Ops.{Op}
 use Rattle.op_machine.specs.Outcomes.{Comes, Faces, IsFaced, IsToldAt}
 use Rattle.op_machine.specs.Shows.{FitsLast, MayStep, Stands, learn_last, recall_last}
 use Rattle.op_machine.specs.Tasks.{Task}
-use Rattle.op_machine.specs.Works.{AsksOn, FollowsOutcome, GoesAhead, IsToldChange, IsToldOn, IsToldWith, Makes, Works, asked_of}
+use Rattle.op_machine.specs.Works.{AsksOn, FollowsOutcome, GoesAhead, IsToldChange, IsToldOn, IsToldWith, TurnsInto, Works, asked_of}
 use Rattle.op_machine.specs.declared.op.Want.TheVariants as Want
 use Rattle.op_machine.specs.declared.state.Outcome.{Outcome}
 use Rattle.op_machine.specs.declared.state.State.{State}
@@ -34,7 +34,7 @@ spent_with r (Some asked) told left rest errands now more spent few = elim spent
 
 -- The state has made this of the answer.
 module _ (old : Op) (had has : Spares) (told : Answer Record) (is : IsToldOn old had told) (state : State) (outcome : Option Outcome)
-    (makes : Makes old.state had told state has outcome) where
+    (makes : TurnsInto old.state had told state has outcome) where
   abbrev went : Op
   went = record old { state = state }
 

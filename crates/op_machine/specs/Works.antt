@@ -43,8 +43,8 @@ pub record IsToldChange (state : State) (hand : Hand) (told : Answer Record) : T
   pub told_at : IsToldAt state hand.spares told
   pub kept : AreKept told_at.task.limits told_at.task.actor hand.limbo told_at.k.limbo
 
--- The answer makes this of a state, whatever is known that the state shows: it goes on, or the operation has come to this.
-pub record Makes (old : State) (had : Spares) (told : Answer Record) (new : State) (has : Spares) (outcome : Option Outcome) : Type 0 where
+-- The answer turns a state into this one, whatever is known that the state shows: it goes on, or the operation has come to this.
+pub record TurnsInto (old : State) (had : Spares) (told : Answer Record) (new : State) (has : Spares) (outcome : Option Outcome) : Type 0 where
   pub comes : (task : Task) (k : Knowledge) (r : Recalled) → Stands task had k r old → FitsLast task.limits k (wanted_at had old) told → Comes task k r (wanted_at had old) told new has outcome
   pub leaves : (task : Task) (k : Knowledge) (r : Recalled) → Stands task had k r old → FitsLast task.limits k (wanted_at had old) told → LeavesFor r (wanted_at had old) told (left_at r had old) new has outcome
 

@@ -13,7 +13,7 @@ ghost use Rattle.op_machine.specs.Tasks.{IsSameTask, Task};
 ghost use Rattle.sweep.specs.Bounded.{steps_left as steps_of};
 ghost use Rattle.sweep.specs.Sweeps.{IsSoundSweep, IsTold as IsToldAlone, Shows as ShowsSweep, wanted};
 ghost use Rattle.sweep.specs.Kept.{AreKept};
-ghost use Rattle.op_machine.specs.Works.{AsksOn, FollowsOutcome, GoesAhead, IsToldChange, IsToldOn, IsToldWith, KeepsLimbo, LeavesWith, Makes};
+ghost use Rattle.op_machine.specs.Works.{AsksOn, FollowsOutcome, GoesAhead, IsToldChange, IsToldOn, IsToldWith, KeepsLimbo, LeavesWith, TurnsInto};
 
 use crate::hand::Hand;
 use crate::state::{Outcome, State, Then};
@@ -294,7 +294,7 @@ fn ended<A: Allocator>(
 ) -> Option<(End, Then)>
     requires told { IsToldChange state.old hand.old answer.now }
     requires changing { is_changing state.old ≡ true }
-    ensures makes { Makes state.old hand.old.spares answer.now state.new hand.new.spares (changed result) }
+    ensures makes { TurnsInto state.old hand.old.spares answer.now state.new hand.new.spares (changed result) }
     ensures keeps { (task : Task) (k : Knowledge) (r : Recalled) → Stands task hand.old.spares k r state.old → FitsLast task.limits k (wanted_at hand.old.spares state.old) answer.now → AreKept task.limits task.actor hand.old.limbo k.limbo → AreKept task.limits task.actor hand.new.limbo (learn_last k (wanted_at hand.old.spares state.old) answer.now).limbo }
 {
     match state.change_next(&mut hand.spares, answer) {

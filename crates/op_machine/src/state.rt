@@ -5,7 +5,7 @@ ghost use Rattle.chain_search.specs.Recalled.{Recalled};
 ghost use Rattle.op_machine.specs.Outcomes.{IsToldAt, UnlinksAfter, changed, has_begun, has_machine, is_changing, is_leaving, is_reading, is_writing, read_out, reads_on_at, written_out};
 ghost use Rattle.op_machine.specs.Shows.{FitsLast, MayStep, Stands, learn_last, wanted_at};
 ghost use Rattle.op_machine.specs.Tasks.{Task};
-ghost use Rattle.op_machine.specs.Works.{Makes};
+ghost use Rattle.op_machine.specs.Works.{TurnsInto};
 
 use crate::unlinked::Unlinked;
 use bw_model::{Answer, Key, Reply, Step};
@@ -99,7 +99,7 @@ impl State {
     pub(crate) fn read_on(&mut self, spares: &Spares, answer: &Answer<Record>)
         requires told { IsToldAt self.old spares.now answer.now }
         requires on { reads_on_at self.old answer.now ≡ true }
-        ensures { Makes self.old spares.now answer.now self.new spares.now None }
+        ensures { TurnsInto self.old spares.now answer.now self.new spares.now None }
     {
         match self {
             State::Read { round } => round.read_on(answer),
@@ -112,7 +112,7 @@ impl State {
     pub(crate) fn read_next(&mut self, spares: &Spares, answer: &Answer<Record>) -> Option<ReadEnd>
         requires told { IsToldAt self.old spares.now answer.now }
         requires reading { is_reading self.old ≡ true }
-        ensures { Makes self.old spares.now answer.now self.new spares.now (read_out result) }
+        ensures { TurnsInto self.old spares.now answer.now self.new spares.now (read_out result) }
     {
         match self {
             State::Read { round } => round.next(answer),
@@ -124,7 +124,7 @@ impl State {
     pub(crate) fn write_next(&mut self, spares: &Spares, answer: &Answer<Record>) -> Option<WriteEnd>
         requires told { IsToldAt self.old spares.now answer.now }
         requires writing { is_writing self.old ≡ true }
-        ensures { Makes self.old spares.now answer.now self.new spares.now (written_out result) }
+        ensures { TurnsInto self.old spares.now answer.now self.new spares.now (written_out result) }
     {
         match self {
             State::Write { round } => round.next(answer),
@@ -137,7 +137,7 @@ impl State {
         requires told { IsToldAt self.now spares.now answer.now }
         requires alone { has_machine self.now ≡ false }
         requires stays { is_leaving self.now ≡ false }
-        ensures { Makes self.now spares.now answer.now self.now spares.now (Some result) }
+        ensures { TurnsInto self.now spares.now answer.now self.now spares.now (Some result) }
     {
         match self {
             State::Begun => Outcome::Begun,
@@ -202,7 +202,7 @@ impl State {
     ) -> Option<(End, Then)>
         requires told { IsToldAt self.old spares.old answer.now }
         requires changing { is_changing self.old ≡ true }
-        ensures makes { Makes self.old spares.old answer.now self.new spares.new (changed result) }
+        ensures makes { TurnsInto self.old spares.old answer.now self.new spares.new (changed result) }
         ensures unlinks { (task : Task) (k : Knowledge) (r : Recalled) → Stands task spares.old k r self.old → FitsLast task.limits k (wanted_at spares.old self.old) answer.now → UnlinksAfter task.limits k result (learn_last k (wanted_at spares.old self.old) answer.now).limbo }
     {
         match self {

@@ -11,7 +11,7 @@ use Rattle.chain_search.specs.declared.trace.Entry.{Entry}
 use Rattle.chain_search.specs.declared.trace.Entry.TheVariants.{Begin, Step}
 use Rattle.tree_law.specs.Example.{a, root_a}
 use Rattle.tree_law.specs.HelpedSplit.{other_put, helped_term}
-use Rattle.tree_law.specs.Removal.{goes_left}
+use Rattle.tree_law.specs.Removal.{walks_left}
 use Rattle.tree_law.specs.TwoSplits.{b, upper_c}
 
 abbrev pub page_a : Command
@@ -32,10 +32,10 @@ right_term = delta.Term (record { level = 1; next = 7; separator = b; child = 4 
 -- while the term beside its own is held.
 abbrev pub upkeep : List Entry
 upkeep = Begin 1 page_a
-    ∷ goes_left
+    ∷ walks_left
     ++ Step 1 Leave Done (Some (reply.Page [] (Some b)))
     ∷ Begin 1 tidy_b
-    ∷ goes_left
+    ∷ walks_left
     ++ Step 1 (Slot 4) (Number 6) None
     ∷ Step 1 (Row 6) (Content upper_c) None
     ∷ Step 1 (TakeRow 9) (Whether true) None

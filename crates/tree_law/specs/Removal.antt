@@ -27,8 +27,8 @@ removes = takes 2 7
     ∷ []
 
 -- the second one enters, comes to the removed leaf, and reads the leaf to its left, which still has it as its right
-abbrev pub goes_left : List Entry
-goes_left = Step 1 (Enter 1) Done None
+abbrev pub walks_left : List Entry
+walks_left = Step 1 (Enter 1) Done None
     ∷ Step 1 (Slot 0) (Number 3) None
     ∷ Step 1 (Slot 3) (Number 7) None
     ∷ Step 1 (Row 7) (Content hold_a) None
@@ -49,10 +49,10 @@ removal = two_splits
     ++ removes
     ++ Begin 1 get_a
     ∷ Step 1 Epoch (Number 1) None
-    ∷ goes_left
+    ∷ walks_left
     ++ Step 1 Leave Done (Some reply.None)
     ∷ Begin 1 get_b
-    ∷ goes_left
+    ∷ walks_left
     ++ Step 1 (Slot 4) (Number 6) None
     ∷ Step 1 (Row 6) (Content upper_c) None
     ∷ Step 1 Leave Done (Some reply.None)

@@ -12,7 +12,7 @@ use Rattle.chain_search.specs.Knowledge.{Knowledge, knows, knows_after}
 use Rattle.chain_search.specs.Trace.{command_of, memory_of}
 use Rattle.op_machine.specs.Examples.{small, opening_leaf}
 use Rattle.tree_law.specs.Example.{a, root_a, hold_a, remove_a}
-use Rattle.tree_law.specs.Removal.{removes, goes_left}
+use Rattle.tree_law.specs.Removal.{removes, walks_left}
 use Rattle.tree_law.specs.TwoSplits.{two_splits, upper_b, first_split, second_split}
 use Rattle.tree_law.proofs.runs.Linking.{whole}
 use Rattle.tree_law.proofs.runs.Standing.{◌▸◌, joined, quietly, StandFrom, stand_after}
@@ -28,10 +28,10 @@ at_removal announced = record (memory_of small (two_splits ++ removes)) { announ
 module _ (ks : ℕ → Knowledge) where
   -- what the actor knows before entry n of its way, and when it has gone it
   abbrev before : ℕ → Knowledge
-  before n = fold knows_after ks (take n goes_left) 1
+  before n = fold knows_after ks (take n walks_left) 1
 
   abbrev beyond : Knowledge
-  beyond = fold knows_after ks goes_left 1
+  beyond = fold knows_after ks walks_left 1
 
   -- each page was named as a child,
   held_child : IsMet (before 5) 2
@@ -50,7 +50,7 @@ module _ (ks : ℕ → Knowledge) where
   pub beside : IsBeside beyond 8
   beside = record { left = 1; head = 4; basis = left_read; other = 2; right = refl; order = refl }
 
-  stands : (commands : ℕ → Option Command) (announced : ℕ → ℕ) → IsSome (commands 1) → IsFalse (ks 1).inside → (ks 1).limbo.epoch ≡ Some 1 → StandFrom commands ks (at_removal announced) goes_left
+  stands : (commands : ℕ → Option Command) (announced : ℕ → ℕ) → IsSome (commands 1) → IsFalse (ks 1).inside → (ks 1).limbo.epoch ≡ Some 1 → StandFrom commands ks (at_removal announced) walks_left
   stands commands announced going outside epoch =
       (going, quietly (outside, lit< tt, epoch) tt, refl)
       ▸ (going, quietly refl tt, refl)
@@ -67,5 +67,5 @@ module _ (ks : ℕ → Knowledge) where
       ▸ tt
 
 -- after the removal the actor goes that way, and on
-pub going_left : (before after : List Entry) → memory_of small before ≡ at_removal (memory_of small before).announced → IsSome (command_of before 1) → IsFalse (knows before 1).inside → (knows before 1).limbo.epoch ≡ Some 1 → IsDisciplinedFrom small (before ++ goes_left) after → IsDisciplinedFrom small before (goes_left ++ after)
-going_left before after same going outside epoch = joined small before goes_left after (stand_after before goes_left (subst (λ memory. StandFrom (command_of before) (knows before) memory goes_left) (sym same) (stands (knows before) (command_of before) (memory_of small before).announced going outside epoch)))
+pub going_left : (before after : List Entry) → memory_of small before ≡ at_removal (memory_of small before).announced → IsSome (command_of before 1) → IsFalse (knows before 1).inside → (knows before 1).limbo.epoch ≡ Some 1 → IsDisciplinedFrom small (before ++ walks_left) after → IsDisciplinedFrom small before (walks_left ++ after)
+going_left before after same going outside epoch = joined small before walks_left after (stand_after before walks_left (subst (λ memory. StandFrom (command_of before) (knows before) memory walks_left) (sym same) (stands (knows before) (command_of before) (memory_of small before).announced going outside epoch)))

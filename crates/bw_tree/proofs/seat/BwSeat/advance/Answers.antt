@@ -38,9 +38,12 @@ pub take-answer-requires-clause-may : goal.take-answer-requires-clause-may
 take-answer-requires-clause-may g c =
     may_go c.laws_of_runs.ensures _ _ _ _ c.self.invariant.seated (busy_of _ _ c.self.view_is c.requires.busy) c.in-Some.wanted.now (sym c.in-Some.ensures)
 
-pub take-requires : goal.take-requires
-take-requires g c =
-    record { told = told_on c.laws_of_runs.ensures _ _ _ _ c.self.invariant.seated (busy_of _ _ c.self.view_is c.requires.busy) c.in-Some.wanted.now (sym c.in-Some.ensures) c.take-answer.result (seen_of c.take-answer.new.place.me) c.take-answer.ensures.took }
+pub go_on-requires : goal.go_on-requires
+go_on-requires g c =
+    record {
+      told = told_on c.laws_of_runs.ensures _ _ _ _ c.self.invariant.seated (busy_of _ _ c.self.view_is c.requires.busy) c.in-Some.wanted.now (sym c.in-Some.ensures) c.take-answer.result (seen_of c.take-answer.new.place.me) c.take-answer.ensures.took;
+      stays = c.if-is_leaving.ensures;
+    }
 
 pub invariant_of-self-2 : goal.invariant_of-self-2
 invariant_of-self-2 g c =
@@ -48,11 +51,11 @@ invariant_of-self-2 g c =
       there = c.self.invariant.there;
       place = c.take-answer.ensures.seat;
       seated = seated_on c.laws_of_runs.ensures _ _ _ _ c.self.invariant.seated (busy_of _ _ c.self.view_is c.requires.busy) c.in-Some.wanted.now (sym c.in-Some.ensures) c.take-answer.result (seen_of c.take-answer.new.place.me) c.take-answer.ensures.took
-          c.take.result c.take.new.self (λ is. c.if-is_leaving.ensures (sym c.in-Some.ensures ∙ ap Some is)) c.take.ensures.goes c.take.ensures.command;
+          None c.go_on.new.self (λ is. c.if-is_leaving.ensures (sym c.in-Some.ensures ∙ ap Some is)) c.go_on.ensures.goes c.go_on.ensures.command;
     }
 
 pub returns-clause-advances : goal.returns-clause-advances
 returns-clause-advances g c =
     advances_of _ _ _ _ c.self.view_is
     (advances_on c.laws_of_runs.ensures _ _ _ _ c.self.invariant.seated (busy_of _ _ c.self.view_is c.requires.busy) c.in-Some.wanted.now (sym c.in-Some.ensures) c.take-answer.result (seen_of c.take-answer.new.place.me) c.take-answer.ensures.took
-    c.take.result c.take.new.self (λ is. c.if-is_leaving.ensures (sym c.in-Some.ensures ∙ ap Some is)) c.take.ensures.goes c.self.inside.place.table_id c.take-answer.new.place.table_id)
+    None c.go_on.new.self (λ is. c.if-is_leaving.ensures (sym c.in-Some.ensures ∙ ap Some is)) c.go_on.ensures.goes c.self.inside.place.table_id c.take-answer.new.place.table_id)
