@@ -121,7 +121,11 @@ impl State {
     }
 
     /// The same of a writer's round.
-    pub(crate) fn write_next(&mut self, spares: &Spares, answer: &Answer<Record>) -> Option<WriteEnd>
+    pub(crate) fn write_next(
+        &mut self,
+        spares: &Spares,
+        answer: &Answer<Record>,
+    ) -> Option<WriteEnd>
         requires told { IsToldAt self.old spares.now answer.now }
         requires writing { is_writing self.old ≡ true }
         ensures { TurnsInto self.old spares.now answer.now self.new spares.now (written_out result) }
