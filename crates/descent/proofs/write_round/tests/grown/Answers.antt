@@ -11,4 +11,4 @@ push-requires-in-loop-delta-clause-small c =
     let under = c.as_slice-delta-items.result.now in
     let base = c.records-under.result.1 in
     let fitted : IsFitted (over under base) = subst IsFitted (sym (ap (λ (deltas : List Record). over deltas base) c.as_slice-delta-items.ensures.value ∙ c.records-under.ensures)) c.keeps_rules.ensures.fitted in
-    subst IsSmallDelta (sym (c.copied.ensures ∙ c.delta-item.is)) (small_at under base c.loop-delta.delta-index c.delta-item.result fitted c.loop-delta-test.true)
+    subst IsSmallDelta (sym c.delta-item.is) (small_at under base c.loop-delta.delta-index c.delta-item.result fitted c.loop-delta-test.true)
