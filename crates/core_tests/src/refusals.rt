@@ -15,6 +15,9 @@ const STEP: usize = 16;
 /// Before which of the turns below memory is wanted: where the trace has to grow, and for each record that is placed, at 8 and 20.
 const WANTS: [u64; 5] = [0, 4, 8, 16, 20];
 
+/// Before which of them heaps of all sizes lack memory: the record at 20 has room where the trace was before it grew at 16.
+const LACKS: [u64; 4] = [0, 4, 8, 16];
+
 fn insert(key: Key, value: Value) -> Turn {
     Turn::Begin(0, Command::Insert(key, value))
 }
@@ -65,12 +68,12 @@ fn run_error(
 fn run_wants_memory(rt: HostRuntime) -> Result<(), Fail> {
     let limits = Limits::new(1, 64, 64, 1)?;
     let turns = updates(rt.alloc())?;
-    let mut wants = WANTS.as_slice().iter();
+    let mut lacks = LACKS.as_slice().iter();
     let mut last = None;
     for step in 1..10_000usize {
         let error = run_error(rt.alloc(), limits, turns.as_slice(), STEP * step)?;
         if error != last {
-            assert_eq!(rt; error, wants.next().map(|turn| RunError::Memory(*turn)));
+            assert_eq!(rt; error, lacks.next().map(|turn| RunError::Memory(*turn)));
         }
         last = error;
     }
