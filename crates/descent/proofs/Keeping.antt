@@ -19,8 +19,7 @@ use Rattle.descent.specs.declared.visit.State.{State}
 use Rattle.descent.specs.declared.visit.State.TheVariants.{Slot, Row}
 use Rattle.descent.specs.Visits.{Starts, Completes, Continues, Visit, at, wanted}
 use Rattle.descent.specs.Walks.{HasArrived, IsAmong}
-use Rattle.descent.specs.declared.write_round.Goal.{Goal}
-use Rattle.descent.specs.declared.write_round.Goal.TheVariants.{Seek, Left, Merge, Unterm}
+use Rattle.descent.specs.Courses.{Goal, Seek, Left, Merge, Unterm}
 use Rattle.descent.specs.WriteRounds.{IsLosingTerm, IsMissing, Keeps, is_beyond, way_of, IsBased, IsLed, IsLeftOf, IsKept, IsVisiting, SeeksLeaf}
 use Rattle.descent.proofs.Holding.{before_slot, in_hand_row, in_hand_slot, slot_before}
 use Rattle.descent.proofs.Seeking.{arrived, seeks_row, seeks_slot}

@@ -26,8 +26,7 @@ use Rattle.smo.specs.Splits.{CanSplit}
 use Rattle.smo.specs.Unterms.{IsUntermPlan}
 use Rattle.smo.specs.declared.version.Version.{Version}
 use Rattle.smo.proofs.Places.{made}
-use Rattle.descent.specs.declared.write_round.Goal.{Goal}
-use Rattle.descent.specs.declared.write_round.Goal.TheVariants.{Seek, Left, Merge, Unterm}
+use Rattle.descent.specs.Courses.{Goal, Seek, Left, Merge, Unterm}
 use Rattle.descent.specs.declared.write_round.WriteEnd.{WriteEnd}
 use Rattle.descent.specs.declared.write_round.WriteEnd.TheVariants as end
 use Rattle.descent.specs.declared.descent.State.{State}

@@ -25,6 +25,7 @@ use Rattle.smo.specs.Unterms.{CanUnterm, IsUntermPlan}
 use Rattle.smo.specs.declared.split.SplitPlan.{SplitPlan}
 use Rattle.smo.specs.declared.version.Version.{Version}
 use Rattle.descent.specs.Versions.{IsAlive, IsGone, IsInHand}
+use Rattle.descent.specs.Courses.{Course, Goal, Seek, Left, Merge, Unterm}
 use Rattle.descent.specs.Descents.{Descent, Finds, Responds as Moves, left_from, wanted_at}
 use Rattle.descent.specs.Visits as page
 use Rattle.descent.specs.Walks.{IsAhead, IsAmong, IsReached, IsSeeking}
@@ -34,8 +35,6 @@ use Rattle.descent.specs.declared.visit.Sight.TheVariants as page_is
 use Rattle.descent.specs.declared.visit.State as at_page
 use Rattle.descent.specs.declared.descent.State.{State}
 use Rattle.descent.specs.declared.descent.State.TheVariants.{Root, Page, Over}
-use Rattle.descent.specs.declared.write_round.Goal.{Goal}
-use Rattle.descent.specs.declared.write_round.Goal.TheVariants.{Seek, Left, Merge, Unterm}
 use Rattle.descent.specs.declared.write_round.WriteEnd.{WriteEnd}
 use Rattle.descent.specs.declared.write_round.WriteEnd.TheVariants as end
 
@@ -68,6 +67,10 @@ going_to pid round = at round (Page (page.to_page round.limits pid))
 -- the round, with another goal
 abbrev pub toward : Goal → WriteRound → WriteRound
 toward goal round = record round { goal = goal }
+
+-- the round on another course
+abbrev pub on_course : Course → WriteRound → WriteRound
+on_course course round = record round { goal = course.goal; parent = course.parent; left = course.left }
 
 -- the round where a page to the left of the next one is kept, or none
 abbrev pub beside : Option Version → WriteRound → WriteRound

@@ -8,7 +8,7 @@ ghost use Rattle.chain_search.specs.Recalled.{Recalled};
 ghost use Rattle.descent.specs.ReadRounds as reader;
 ghost use Rattle.descent.specs.WriteRounds as writer;
 ghost use Rattle.descent.specs.Walks.{few_reads};
-ghost use Rattle.descent.specs.declared.write_round.Goal.TheVariants.{Seek};
+ghost use Rattle.descent.specs.Courses.{Seek};
 ghost use Rattle.deltas.specs.declared.record.Hold.{Hold};
 ghost use Rattle.deltas.specs.declared.record.Merge.{Merge};
 ghost use Rattle.deltas.specs.declared.record.Record.{Record};

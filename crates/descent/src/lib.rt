@@ -1,6 +1,7 @@
 //! From the root to a page: one round as a machine that wants reads of slots and of rows.
 #![tactic(auto)]
 
+mod course;
 mod descent;
 mod laws;
 mod read_round;

@@ -7,14 +7,17 @@ ghost use Rattle.chain_search.specs.Discipline.{May};
 ghost use Rattle.chain_search.specs.Fitting.{Fits};
 ghost use Rattle.chain_search.specs.Knowledge.{Knowledge};
 ghost use Rattle.chain_search.specs.Recalled.{Recalled};
+ghost use Rattle.descent.specs.Courses as Goal;
+ghost use Rattle.descent.specs.Courses.{course_of};
 ghost use Rattle.descent.specs.Visits.{ReadsWithin, reads_on};
 ghost use Rattle.descent.specs.declared.descent.State.TheVariants.{Root};
-ghost use Rattle.descent.specs.WriteRounds.{CanSee, CanTreat, Follows, HasCome, IsFine, IsSplitFinished, IsHere, IsLeftLeaf, IsLong, IsSame, IsSameWay, IsTold, Responds, Sees, Shows, Spends, Treats, Cuts, Merges, SeeksLeaf, beside, goes_left, going_back, toward, wanted, way_of};
+ghost use Rattle.descent.specs.WriteRounds.{CanSee, CanTreat, Follows, HasCome, IsFine, IsSplitFinished, IsHere, IsLeftLeaf, IsLong, IsSame, IsSameWay, IsTold, Responds, Sees, Shows, Spends, Treats, Cuts, Merges, SeeksLeaf, beside, goes_left, going_to, on_course, toward, wanted, way_of};
 ghost use Rattle.descent.specs.Ways.{StaysLeft};
 
 #[cfg(test)]
 pub(crate) mod tests;
 
+use crate::course::{Aim, Course};
 use crate::descent::Descent;
 use crate::way::{child_on_way, right_on_way};
 use crate::{Sight, reads_on};
@@ -26,7 +29,6 @@ use smo::{
     MANY_DELTAS, SplitPlan, Version, plan_merge, plan_root, plan_split, plan_term, plan_unterm,
 };
 use std::marker::Model;
-use std::mem;
 
 /// How a writer's round ends.
 #[derive(Debug, Drop)]
@@ -74,27 +76,12 @@ pub enum WriteEnd {
     Done,
 }
 
-/// Where a writer's round goes.
-#[derive(Debug, Drop)]
-pub(crate) enum Goal {
-    /// To the leaf of the key.
-    Seek,
-    /// To the leaf to the left of this removed page, which begins at the key.
-    Left(u16),
-    /// To the removed page, which is to come into this leaf.
-    Merge(Version),
-    /// To the removed page, whose term the parent is to lose, as the leaf shows that would have it to its right.
-    Unterm { parent: Version, left: Version },
-}
-
 /// One round of a writer from the root.
 #[derive(Debug, Drop)]
 pub struct WriteRound {
     key: Key,
     due: usize,
-    goal: Goal,
-    parent: Option<Version>,
-    left: Option<Version>,
+    course: Course,
     descent: Descent,
 }
 
@@ -103,7 +90,7 @@ impl Model for WriteRound {
 
     ghost Value = { WriteRound };
 
-    ghost view = { λ r. record { limits = r.descent.limits; key = r.key; due = r.due; goal = r.goal; parent = r.parent; left = r.left; state = r.descent.state } };
+    ghost view = { λ r. record { limits = r.descent.limits; key = r.key; due = r.due; goal = r.course.goal; parent = r.course.parent; left = r.course.left; state = r.descent.state } };
 }
 
 impl WriteRound {
@@ -115,9 +102,7 @@ impl WriteRound {
         WriteRound {
             key,
             due,
-            goal: Goal::Seek,
-            parent: None,
-            left: None,
+            course: Course::down(None),
             descent: Descent::new(limits),
         }
     }
@@ -129,9 +114,7 @@ impl WriteRound {
         WriteRound {
             key,
             due: MANY_DELTAS,
-            goal: Goal::Left(removed),
-            parent: None,
-            left: None,
+            course: Course::down(Some(removed)),
             descent: Descent::new(limits),
         }
     }
@@ -192,14 +175,24 @@ impl WriteRound {
         ensures treats { Treats self.old version self.new result }
         ensures same { IsSame self.old self.new }
     {
-        match mem::replace(&mut self.goal, Goal::Seek) {
-            Goal::Seek => self.meet(version),
-            Goal::Left(pid) => {
-                self.goal = Goal::Left(pid);
-                self.meet(version)
-            }
-            Goal::Merge(left) => Some(merge(left, version)),
-            Goal::Unterm { parent, left } => Some(unterm(parent, left, version)),
+        if self.course.seeks_leaf() {
+            return self.meet(version);
+        }
+        self.end_again(version)
+    }
+
+    /// Ends at the removed page, which was read again.
+    #[inline(never)]
+    fn end_again(&mut self, removed: Version) -> Option<WriteEnd>
+        requires can { CanTreat self.old removed }
+        requires again { ¬ SeeksLeaf self.old.goal }
+        ensures treats { Treats self.old removed self.new result }
+        ensures same { IsSame self.old self.new }
+    {
+        match self.course.take_aim() {
+            Aim::Down { .. } => unreachable!(),
+            Aim::Merge(left) => Some(merge(left, removed)),
+            Aim::Unterm { parent, left } => Some(unterm(parent, left, removed)),
         }
     }
 
@@ -213,7 +206,7 @@ impl WriteRound {
         if version.chain.is_removed() {
             return Some(WriteEnd::Removed(version));
         }
-        match mem::take(&mut self.left) {
+        match self.course.take_left() {
             None => self.decide(version),
             Some(left) => self.finish(left, version),
         }
@@ -228,7 +221,7 @@ impl WriteRound {
         ensures treats { Treats (beside (Some left) self.old) version self.new result }
         ensures same { IsSame self.old self.new }
     {
-        match mem::take(&mut self.parent) {
+        match self.course.take_parent() {
             None => match plan_root(&left, &version) {
                 Some(root) => Some(WriteEnd::Root { left, root }),
                 None => self.decide(version),
@@ -236,7 +229,7 @@ impl WriteRound {
             Some(parent) => match plan_term(&parent, &version) {
                 Some(term) => Some(WriteEnd::Term { parent, term }),
                 None => {
-                    self.parent = Some(parent);
+                    self.course.keep_parent(parent);
                     self.decide(version)
                 }
             },
@@ -254,7 +247,7 @@ impl WriteRound {
         match right_on_way(&version.chain, &self.key, self.is_left()) {
             None => self.settle(version),
             Some(right) => {
-                self.left = Some(version);
+                self.course.keep_left(version);
                 self.descent.go_to(right);
                 None
             }
@@ -282,8 +275,7 @@ impl WriteRound {
             return self.end(version);
         }
         let child = child_on_way(&version.chain, &self.key, self.is_left());
-        self.parent = Some(version);
-        self.left = None;
+        self.course.go_below(version);
         self.descent.go_to(child);
         None
     }
@@ -297,10 +289,10 @@ impl WriteRound {
         ensures treats { (left : Option Version) → IsSplitFinished self.old.parent left leaf → Treats (beside left self.old) leaf self.new result }
         ensures same { IsSame self.old self.new }
     {
-        match mem::replace(&mut self.goal, Goal::Seek) {
-            Goal::Left(pid) => self.end_left(pid, leaf),
-            _ => {
-                let parent = mem::take(&mut self.parent);
+        match self.course.removed() {
+            Some(pid) => self.end_left(pid, leaf),
+            None => {
+                let parent = self.course.take_parent();
                 Some(WriteEnd::Leaf { parent, leaf })
             }
         }
@@ -316,31 +308,29 @@ impl WriteRound {
         ensures same { IsSameWay self.old self.new }
     {
         if leaf.chain.right() == Some(pid) {
-            self.go_back(Goal::Merge(leaf), pid);
+            self.go_back(Aim::Merge(leaf), pid);
             return None;
         }
-        match mem::take(&mut self.parent) {
+        match self.course.take_parent() {
             None => Some(WriteEnd::Done),
             Some(parent) => {
                 if !has_term(&parent.chain, &self.key, pid) {
                     return Some(WriteEnd::Done);
                 }
                 let left = leaf;
-                self.go_back(Goal::Unterm { parent, left }, pid);
+                self.go_back(Aim::Unterm { parent, left }, pid);
                 None
             }
         }
     }
 
     /// Goes to read the removed page again.
-    fn go_back(&mut self, goal: Goal, pid: u16)
+    fn go_back(&mut self, aim: Aim, pid: u16)
         requires some { 0 < pid }
         requires below { pid < self.old.limits.pids }
-        ensures { self.new ≡ going_back goal pid self.old }
+        ensures { self.new ≡ going_to pid (on_course (course_of aim) self.old) }
     {
-        self.goal = goal;
-        self.parent = None;
-        self.left = None;
+        self.course = Course { aim };
         self.descent.go_to(pid);
     }
 
@@ -348,10 +338,7 @@ impl WriteRound {
     fn is_left(&self) -> bool
         ensures { result ≡ goes_left self.now.goal }
     {
-        match &self.goal {
-            Goal::Left(_) => true,
-            Goal::Seek | Goal::Merge(_) | Goal::Unterm { .. } => false,
-        }
+        self.course.removed().is_some()
     }
 
     /// Whether a page has many deltas, or a leaf those that are due.

@@ -32,6 +32,7 @@ impl SplitPlan {
 
 /// The page that is to stand to the right of a page that is split, and the split; none exactly where the page is removed, has many
 /// deltas, or hasn't many items.
+#[inline(never)]
 pub fn plan_split(page: &Version) -> Option<SplitPlan>
     ensures { MatchOption result (¬ CanSplit page.now) (IsSplitPlan page.now) }
 {

@@ -5,7 +5,8 @@ ghost use Rattle.chain_search.specs.Examples.{index};
 ghost use Rattle.chain_search.specs.Fitted.{FitsOver};
 ghost use Rattle.descent.specs.WriteRounds.{CanMeet, way_of};
 
-use super::{Goal, WriteEnd, WriteRound};
+use super::{WriteEnd, WriteRound};
+use crate::course::Aim;
 use base_page::{Content, Items, Page};
 use bw_model::{Key, Limits, Value};
 use chain_search::ChainPart;
@@ -118,9 +119,12 @@ pub(crate) fn parent() -> Version {
 fn stands(round: &WriteRound) -> bool
     ensures { result ≡ true → IfSome round.now.parent (λ parent. is_removed parent.chain ≡ false) }
 {
-    match &round.parent {
-        None => true,
-        Some(parent) => !parent.chain.is_removed(),
+    match &round.course.aim {
+        Aim::Down {
+            parent: Some(parent),
+            ..
+        } => !parent.chain.is_removed(),
+        _ => true,
     }
 }
 
@@ -140,10 +144,13 @@ fn meets(round: &WriteRound) -> bool
     requires limits { round.now.limits.pids ≡ 4096 }
     ensures { result ≡ true → CanMeet round.now.limits round.now.goal }
 {
-    match &round.goal {
-        Goal::Seek | Goal::Merge(_) => true,
-        Goal::Left(pid) => 0 < *pid && *pid < 4096,
-        Goal::Unterm { parent, .. } => !parent.chain.is_removed(),
+    match &round.course.aim {
+        Aim::Down { removed: None, .. } | Aim::Merge(_) => true,
+        Aim::Down {
+            removed: Some(pid),
+            ..
+        } => 0 < *pid && *pid < 4096,
+        Aim::Unterm { parent, .. } => !parent.chain.is_removed(),
     }
 }
 

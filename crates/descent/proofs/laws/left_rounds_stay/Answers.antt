@@ -2,7 +2,7 @@ use Rattle.std.proofs.Common.{◌≡◌, inl, inr, None, sym, ap, ◌∙◌}
 use Rattle.smo.specs.declared.version.Version.{Version}
 use Rattle.descent.specs.declared.visit.Sight.{Sight}
 use Rattle.descent.specs.declared.visit.Sight.TheVariants.{Empty, Whole}
-use Rattle.descent.specs.declared.write_round.Goal.TheVariants.{Seek, Merge, Unterm}
+use Rattle.descent.specs.Courses.{Seek, Merge, Unterm}
 use Rattle.descent.specs.WriteRounds.{Sees, Treats, WriteRound}
 use Rattle.descent.proofs.laws.left_rounds_stay.Goals as goal
 
