@@ -1,5 +1,5 @@
 -- One step of an operation, from what `next` promises.
-use Rattle.std.proofs.Common.{◌≡◌, ◌<◌, ◌^◌, ℕ, Option, Some, None, is_some, true, false, sym, ◌∙◌, subst, refl, arith}
+use Rattle.std.proofs.Common.{◌≡◌, ◌≢◌, ◌<◌, ◌^◌, ℕ, Option, Some, None, is_some, true, false, sym, ◌∙◌, subst, refl, arith}
 use Rattle.std.proofs.lemmas.Option.{same_Some}
 use Rattle.bw_model.specs.declared.command.Reply.{Reply}
 use Rattle.bw_model.specs.declared.limits.Limits.{Limits}
@@ -14,14 +14,18 @@ use Rattle.chain_search.specs.Recalled.{Recalled, blank}
 use Rattle.op_machine.specs.Hands.{Hand}
 use Rattle.op_machine.specs.Bounded.{IsSpentLast}
 use Rattle.op_machine.specs.Spending.{Spends, steps_left}
-use Rattle.op_machine.specs.Ops.{Goes, IsAtRestWith, IsOver, IsTold, Obeys, Op, Shows, wanted_of}
-use Rattle.op_machine.specs.Outcomes.{HasLeft}
-use Rattle.op_machine.specs.Shows.{FitsLast, learn_last, recall_last}
-use Rattle.op_machine.specs.Tasks.{IsSameTask}
+use Rattle.op_machine.specs.Ops.{Goes, HoldsLimbo, IsAtRestWith, IsOver, IsTold, Obeys, Op, Shows, asked_by, wanted_of}
+use Rattle.op_machine.specs.Outcomes.{HasLeft, is_leaving}
+use Rattle.op_machine.specs.Shows.{FitsLast, learn_last, recall_last, wanted_at}
+use Rattle.op_machine.specs.Tasks.{IsSameTask, Task}
 use Rattle.op_machine.specs.declared.op.Want.TheVariants.{Step, Done}
-use Rattle.op_machine.specs.declared.state.State.TheVariants.{Begun}
+use Rattle.op_machine.specs.declared.state.State.{State}
+use Rattle.op_machine.specs.declared.state.State.TheVariants.{Begun, Epoch, Enter, Read, Write, Change, Leave, Over}
 use Rattle.actors.specs.declared.actor.Running.{Running}
+use Rattle.epochs.specs.Limbo.{Limbo}
+use Rattle.installs.specs.Spares.{Spares}
 use Rattle.sweep.specs.Kept.{AreKept}
+use Rattle.sweep.specs.Sweeps.{Sweep}
 use Rattle.actors.specs.Actors.{Actor, GoesOn, IsActorWith, IsGoing, IsRunning, at_work, command_at, command_left, left_with}
 use Rattle.actors.proofs.Spending.{spends_last, spent_last}
 
@@ -55,14 +59,20 @@ module _ (k : Knowledge) (had : Hand) (old : Op) (unswept : old.sweep ≡ None) 
     goes = subst (λ w. Goes (learn_last k w answer.Start) (recall_last blank w answer.Start) new has asked) none (o k blank shows fits_start);
   }
 
-  -- it is not done
-  pub begun_on : (new : Op) (has : Hand) (reply : Reply) → Obeys old had answer.Start new has (Done reply) → ⊥
-  begun_on new has reply o =
-      let over : IsOver old.task k (wanted_of old had) answer.Start has reply = o k blank shows fits_start in
-      let last : wanted_of old had ≡ Some step.Leave = over.left.is_last in cc
-
   pub begun_few : (new : Op) (has : Hand) (asked : StepOf Record) → Spends old had answer.Start new has (Step asked) → ((r : Recalled) (hand : Hand) → steps_left r old hand < 2 ^ 18) → steps_left blank new has < 2 ^ 18
   begun_few new has asked spends few = less (steps_left blank new has) (steps_left blank old had) (2 ^ 18) (subst (λ w. IsSpentLast blank w answer.Start (steps_left blank old had) (steps_left (recall_last blank w answer.Start) new has)) none (spends k blank shows fits_start)) (few blank had)
+
+-- an operation that wants another step than the leave isn't at its leave
+stays_in : (task : Task) (spares : Spares) (limbo : Limbo) (k : Knowledge) (sweep : Option Sweep) (state : State) → HoldsLimbo task state limbo k sweep → asked_by sweep (wanted_at spares state) ≢ Some step.Leave → is_leaving state ≡ false
+stays_in task spares limbo k None (Leave reply) holds stays = absurd (stays refl)
+stays_in task spares limbo k (Some sweep) (Leave reply) holds stays = let first = holds.first in cc
+stays_in task spares limbo k sweep Begun holds stays = refl
+stays_in task spares limbo k sweep Epoch holds stays = refl
+stays_in task spares limbo k sweep (Enter epoch) holds stays = refl
+stays_in task spares limbo k sweep (Read round) holds stays = refl
+stays_in task spares limbo k sweep (Write round) holds stays = refl
+stays_in task spares limbo k sweep (Change now then) holds stays = refl
+stays_in task spares limbo k sweep Over holds stays = refl
 
 -- a step with its answer
 module _ (limits : Limits) (actor : ℕ) (k : Knowledge) (r : Recalled) (had has : Hand) (old : Running) (new : Op) (a : Answer Record) (running : IsRunning limits actor k r had old) (fits : Fits limits k old.wanted a) where
@@ -71,6 +81,9 @@ module _ (limits : Limits) (actor : ℕ) (k : Knowledge) (r : Recalled) (had has
 
   pub told_with : IsTold old.op had a
   told_with = record { k = k; r = r; shows = running.goes.shows; fits = fits_last }
+
+  pub stays_at : old.wanted ≢ step.Leave → is_leaving old.op.state ≡ false
+  stays_at stays = stays_in old.op.task had.spares had.limbo k old.op.sweep old.op.state running.goes.shows.limbo (λ e. stays (same_Some old.wanted step.Leave (sym running.goes.wanted ∙ e)))
 
   pub goes_on : (asked : StepOf Record) → Obeys old.op had a new has (Step asked) → Spends old.op had a new has (Step asked) → IsSameTask old.op.task new.task
       → GoesOn limits actor k r (at_work had old) old.wanted a None (at_work has (record { op = new; wanted = asked }))

@@ -98,10 +98,9 @@ impl<A: Allocator> Actor<A> {
         ensures bounded { steps_due blank self.new.hand self.new.running < 2 ^ 18 }
     {
         let mut op = Op::begin(command, number, limits);
-        match op.next(&mut self.hand, &Answer::Start) {
-            Want::Step(wanted) => self.running = Some(Running { op, wanted }),
-            Want::Done(_) => unreachable!(),
-        }
+        let mut wanted = Step::Leave;
+        op.go_on(&mut self.hand, &Answer::Start, &mut wanted);
+        self.running = Some(Running { op, wanted });
     }
 
     /// Takes the answer to the step that its operation wants, which isn't the leave, so that the operation goes on. Most steps are
@@ -144,10 +143,7 @@ impl Running {
         ensures goes { (limits : LimitsSeen) (number : ℕ) (k : Knowledge) (r : Recalled) → IsRunning limits number k r hand.old self.old → Fits limits k self.old.wanted answer.now → GoesOn limits number k r (at_work hand.old self.old) self.old.wanted answer.now None (at_work hand.new self.new) }
         ensures command { self.new.op.task.command ≡ self.old.op.task.command }
     {
-        self.wanted = match self.op.next(hand, answer) {
-            Want::Step(wanted) => wanted,
-            Want::Done(_) => unreachable!(),
-        };
+        self.op.go_on(hand, answer, &mut self.wanted);
     }
 
     /// Takes the answer to the step that is wanted, and answers the reply, if the operation is done.

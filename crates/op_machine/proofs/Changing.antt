@@ -24,10 +24,10 @@ use Rattle.installs.specs.declared.plan.Plan.TheVariants.{Install, Split, Root, 
 use Rattle.op_machine.specs.Bounded.{left_for, one_round}
 use Rattle.op_machine.specs.Brings.{Brings, IsReadPlan, IsUpdateOf, IsUsefulOver, IsUsefulPlan}
 use Rattle.op_machine.specs.Hands.{AreRowsOf, IsTakenBy}
+use Rattle.op_machine.specs.Outcomes as outcome
 use Rattle.op_machine.specs.Outcomes.{FacesChanged}
 use Rattle.op_machine.specs.Shows.{IsInChange}
 use Rattle.op_machine.specs.Tasks.{IsBetweenChanges, IsUnreadPid, Seeks, Task}
-use Rattle.op_machine.specs.declared.state.Outcome.TheVariants as outcome
 use Rattle.op_machine.specs.declared.state.Then.{Then}
 use Rattle.op_machine.specs.declared.state.Then.TheVariants.{Round, Limbo, Errand, Reply}
 use Rattle.op_machine.specs.declared.unlinked.Unlinked.{Unlinked}

@@ -9,13 +9,13 @@ use Rattle.installs.specs.Spares.{Spares}
 use Rattle.op_machine.specs.Bounded.{IsSpentLast, LeavesFor, left_at, with_errands}
 use Rattle.op_machine.specs.Hands.{Hand}
 use Rattle.op_machine.specs.Ops.{Op}
-use Rattle.op_machine.specs.Outcomes.{Comes, Faces, IsFaced, IsToldAt}
+use Rattle.op_machine.specs.Outcomes.{Comes, Entered, Faces, IsFaced, IsToldAt, Outcome}
 use Rattle.op_machine.specs.Shows.{FitsLast, MayStep, Stands, learn_last, recall_last}
 use Rattle.op_machine.specs.Tasks.{Task}
 use Rattle.op_machine.specs.Works.{AsksOn, FollowsOutcome, GoesAhead, IsToldChange, IsToldOn, IsToldWith, TurnsInto, Works, asked_of}
 use Rattle.op_machine.specs.declared.op.Want.TheVariants as Want
-use Rattle.op_machine.specs.declared.state.Outcome.{Outcome}
 use Rattle.op_machine.specs.declared.state.State.{State}
+use Rattle.op_machine.specs.declared.state.State.TheVariants as at
 
 -- what is told of an operation is told of its state
 abbrev pub told_at : (op : Op) (spares : Spares) (told : Answer Record) → IsToldOn op spares told → IsToldAt op.state spares told
@@ -31,6 +31,18 @@ spent_with r (Some asked) told left rest errands now more spent few = elim spent
   | inl less ↦ inl (omega (arith, less, few))
   | inr paid ↦ let enough = paid.1 in inr (paid.0, omega (arith, enough, few))
 ]
+
+-- the answer to the entry
+pub has_entered : (epoch : ℕ) (spares : Spares) (told : Answer Record) → TurnsInto (at.Enter epoch) spares told (at.Enter epoch) spares (Some Entered)
+has_entered epoch spares told = record {
+  comes = λ task k r h fits. let waits = h.0 in record {
+    inside = refl;
+    spare = record { room = waits.rests.spare.room; rest = waits.rests.spare.rest };
+    unread = waits.unread;
+    asked = record { going = waits.asked.going; unlinked = waits.asked.unlinked };
+  };
+  leaves = λ task k r h fits. inl (omega arith);
+}
 
 -- The state has made this of the answer.
 module _ (old : Op) (had has : Spares) (told : Answer Record) (is : IsToldOn old had told) (state : State) (outcome : Option Outcome)

@@ -11,19 +11,18 @@ use Rattle.descent.specs.declared.read_round.Goal.{Goal}
 use Rattle.descent.specs.declared.read_round.Goal.TheVariants as read_to
 use Rattle.descent.specs.declared.visit.Sight.{Sight}
 use Rattle.descent.specs.declared.visit.Sight.TheVariants.{Empty, Whole}
-use Rattle.descent.specs.declared.write_round.Goal as write_goal
-use Rattle.descent.specs.declared.write_round.Goal.TheVariants as write_to
-use Rattle.descent.specs.declared.write_round.Goal.TheVariants.{Seek}
+use Rattle.descent.specs.Courses as write_to
+use Rattle.descent.specs.Courses.{Seek}
 use Rattle.descent.specs.declared.read_round.ReadEnd.{ReadEnd}
 use Rattle.descent.specs.declared.read_round.ReadEnd.TheVariants as read_end
 use Rattle.descent.specs.declared.write_round.WriteEnd.{WriteEnd}
 use Rattle.descent.specs.declared.write_round.WriteEnd.TheVariants as write_end
 use Rattle.installs.specs.Spares.{Spares}
 use Rattle.op_machine.specs.Bounded.{LeavesFor, left_at, left_for, left_round, one_round}
+use Rattle.op_machine.specs.Outcomes as outcome
 use Rattle.op_machine.specs.Outcomes.{Comes, FacesRead, FacesWritten, HasSought, read_out, written_out}
 use Rattle.op_machine.specs.Shows.{IsInReadRound, IsInWriteRound}
 use Rattle.op_machine.specs.Tasks.{Task}
-use Rattle.op_machine.specs.declared.state.Outcome.TheVariants as outcome
 use Rattle.op_machine.specs.declared.state.State.TheVariants as at
 use Rattle.op_machine.proofs.Reading.{reader_reads, seeks_still, writer_reads}
 
@@ -142,7 +141,7 @@ module _ (task : Task) (spares : Spares) (k : Knowledge) (r : Recalled) (round n
   }
 
   -- where a page wasn't there
-  write_missed : (goal : write_goal.Goal) → write.Misses left_round one_round r round told goal → IsStepSpent r (write.wanted round) told (left_at r spares (at.Write round)) one_round
+  write_missed : (goal : write_to.Goal) → write.Misses left_round one_round r round told goal → IsStepSpent r (write.wanted round) told (left_at r spares (at.Write round)) one_round
   write_missed Seek paid = inr (paid, omega arith)
   write_missed (write_to.Left pid) paid = inr (paid, omega arith)
   write_missed (write_to.Merge left) paid = inr (paid, omega arith)

@@ -12,9 +12,8 @@ use Rattle.descent.specs.declared.write_round.WriteEnd.TheVariants as write_end
 use Rattle.installs.specs.Bounded as change
 use Rattle.installs.specs.Spares.{Spares}
 use Rattle.installs.specs.declared.change.End.TheVariants.{Won, Lost, Full}
+use Rattle.op_machine.specs.Outcomes.{Outcome, Begun, Epoch, Entered, Read, Written, Changed}
 use Rattle.op_machine.specs.Shows.{recall_last}
-use Rattle.op_machine.specs.declared.state.Outcome.{Outcome}
-use Rattle.op_machine.specs.declared.state.Outcome.TheVariants.{Begun, Epoch, Entered, Read, Written, Changed}
 use Rattle.op_machine.specs.declared.state.State.{State}
 use Rattle.op_machine.specs.declared.state.State.TheVariants as at
 use Rattle.op_machine.specs.declared.state.Then.TheVariants.{Round, Limbo, Errand, Reply}

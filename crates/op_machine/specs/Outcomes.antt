@@ -15,7 +15,7 @@ use Rattle.descent.specs.Versions.{IsAlive}
 use Rattle.descent.specs.Visits.{reads_on}
 use Rattle.descent.specs.WriteRounds as write
 use Rattle.descent.specs.declared.read_round.ReadEnd.{ReadEnd}
-use Rattle.descent.specs.declared.write_round.Goal.TheVariants.{Seek}
+use Rattle.descent.specs.Courses.{Seek}
 use Rattle.descent.specs.declared.write_round.WriteEnd.{WriteEnd}
 use Rattle.descent.specs.declared.write_round.WriteEnd.TheVariants as write_end
 use Rattle.installs.specs.declared.change.End.{End}
@@ -28,13 +28,21 @@ use Rattle.op_machine.specs.Errands.{due_of, way_key}
 use Rattle.op_machine.specs.Hands.{Unlinks}
 use Rattle.op_machine.specs.Shows.{FitsLast, IsRoundOf, Stands, learn_last, recall_last, wanted_at}
 use Rattle.op_machine.specs.Tasks.{IsBetweenChanges, IsAtRest, Seeks, Task, Waits}
-use Rattle.op_machine.specs.declared.state.Outcome.{Outcome}
-use Rattle.op_machine.specs.declared.state.Outcome.TheVariants.{Begun, Epoch, Entered, Read, Written, Changed}
 use Rattle.op_machine.specs.declared.state.State.{State}
 use Rattle.op_machine.specs.declared.state.State.TheVariants as at
 use Rattle.op_machine.specs.declared.state.State.TheVariants.{Change, Leave}
 use Rattle.op_machine.specs.declared.state.Then.{Then}
 use Rattle.op_machine.specs.declared.state.Then.TheVariants.{Round, Limbo, Errand, Reply}
+
+-- what an operation has come to, where it goes from one state to another: it begins, has read the epoch, has entered, or
+-- a round or a change has ended
+pub data Outcome : Type 0 where
+  Begun : Outcome
+  Epoch : (epoch : ℕ) → Outcome
+  Entered : Outcome
+  Read : (end : ReadEnd) → Outcome
+  Written : (end : WriteEnd) → Outcome
+  Changed : (end : End) (then : Then) → Outcome
 
 -- A reader's round has ended.
 pub record FacesRead (task : Task) (spares : Spares) (k : Knowledge) (r : Recalled) (end : ReadEnd) : Type 0 where

@@ -13,7 +13,7 @@ use Rattle.chain_search.specs.Recalled.{Recalled, WasHead, recall}
 use Rattle.chain_search.specs.Useful.{IsUseful}
 use Rattle.descent.specs.ReadRounds as read
 use Rattle.descent.specs.WriteRounds as write
-use Rattle.descent.specs.declared.write_round.Goal.TheVariants.{Seek}
+use Rattle.descent.specs.Courses.{Seek}
 use Rattle.installs.specs.Changes as change
 use Rattle.installs.specs.Bounded as bound
 use Rattle.installs.specs.Spares.{Spares}

@@ -9,12 +9,11 @@ use Rattle.installs.specs.Spares.{Spares}
 use Rattle.op_machine.specs.Bounded.{IsSpentLast, LeavesFor, left_at, left_for, with_errands}
 use Rattle.op_machine.specs.Hands.{Hand}
 use Rattle.op_machine.specs.Ops.{Op}
-use Rattle.op_machine.specs.Outcomes.{Comes, Faces, HasLeft, IsToldAt}
+use Rattle.op_machine.specs.Outcomes.{Comes, Faces, HasLeft, IsToldAt, Outcome}
 use Rattle.op_machine.specs.Shows.{FitsLast, MayStep, Stands, learn_last, recall_last, wanted_at}
 use Rattle.op_machine.specs.Tasks.{IsSameTask, Task}
 use Rattle.op_machine.specs.declared.op.Want.{Want}
 use Rattle.op_machine.specs.declared.op.Want.TheVariants.{Step, Done}
-use Rattle.op_machine.specs.declared.state.Outcome.{Outcome}
 use Rattle.op_machine.specs.declared.state.State.{State}
 use Rattle.op_machine.specs.declared.state.State.TheVariants.{Leave}
 use Rattle.sweep.specs.Kept.{AreKept}

@@ -5,6 +5,7 @@ ghost use Rattle.chain_search.specs.Knowledge.{Knowledge, begun, learn};
 ghost use Rattle.chain_search.specs.Recalled.{Recalled, blank};
 ghost use Rattle.op_machine.specs.Hands.{Hand as HandSeen};
 ghost use Rattle.op_machine.specs.Ops.{IsAtRestWith, IsTold, Obeys, Shows};
+ghost use Rattle.op_machine.specs.Outcomes as Outcome;
 ghost use Rattle.op_machine.specs.Outcomes.{IsFaced, changed, has_machine, is_changing, is_leaving, is_reading, is_writing, reads_on_at};
 ghost use Rattle.op_machine.specs.Shows.{FitsLast, Stands, learn_last, wanted_at};
 ghost use Rattle.op_machine.specs.Spending.{Spends, steps_left};
@@ -16,7 +17,7 @@ ghost use Rattle.sweep.specs.Kept.{AreKept};
 ghost use Rattle.op_machine.specs.Works.{AsksOn, FollowsOutcome, GoesAhead, IsToldChange, IsToldOn, IsToldWith, KeepsLimbo, LeavesWith, TurnsInto};
 
 use crate::hand::Hand;
-use crate::state::{Outcome, State, Then};
+use crate::state::{State, Then};
 use crate::task::Task;
 use bw_model::{Answer, Command, Limits, Reply, Step};
 use deltas::Record;
@@ -76,20 +77,60 @@ impl Op {
         self.task.command()
     }
 
-    /// Takes the answer to the step wanted last, or `Start`, and wants the next step.
+    /// Takes the answer to the step wanted last, or `Start`, and wants the next step, if it isn't done.
     pub fn next<A: Allocator>(&mut self, hand: &mut Hand<A>, answer: &Answer<Record>) -> Want
         requires told { IsTold self.old hand.old answer.now }
         ensures obeys { Obeys self.old hand.old answer.now self.new hand.new result }
         ensures spends { Spends self.old hand.old answer.now self.new hand.new result }
         ensures same { IsSameTask self.old.task self.new.task }
     {
+        if self.state.is_leaving() {
+            return self.leave();
+        }
+        let mut wanted = Step::Leave;
+        self.go_on(hand, answer, &mut wanted);
+        Want::Step(wanted)
+    }
+
+    /// Takes the answer to the step wanted last, which isn't the leave, or `Start`, and puts the next step in its place. Most steps
+    /// are such ones, and no step is moved from hand to hand.
+    pub fn go_on<A: Allocator>(
+        &mut self,
+        hand: &mut Hand<A>,
+        answer: &Answer<Record>,
+        wanted: &mut Step<Record>,
+    )
+        requires told { IsTold self.old hand.old answer.now }
+        requires stays { is_leaving self.old.state ≡ false }
+        ensures obeys { Obeys self.old hand.old answer.now self.new hand.new (Want.Step wanted.new) }
+        ensures spends { Spends self.old hand.old answer.now self.new hand.new (Want.Step wanted.new) }
+        ensures same { IsSameTask self.old.task self.new.task }
+    {
         if self.state.has_begun() {
-            return self.go_on(hand, answer);
+            return self.work_on(hand, answer, wanted);
         }
+        self.sweep_first(hand, answer, wanted)
+    }
+
+    /// The same before the first step of its work, which comes after a writer's sweep.
+    #[inline(never)]
+    fn sweep_first<A: Allocator>(
+        &mut self,
+        hand: &mut Hand<A>,
+        answer: &Answer<Record>,
+        wanted: &mut Step<Record>,
+    )
+        requires told { IsTold self.old hand.old answer.now }
+        requires first { self.old.state ≡ State.Begun }
+        ensures obeys { Obeys self.old hand.old answer.now self.new hand.new (Want.Step wanted.new) }
+        ensures spends { Spends self.old hand.old answer.now self.new hand.new (Want.Step wanted.new) }
+        ensures same { IsSameTask self.old.task self.new.task }
+    {
         if let Some(step) = self.sweep_on(&mut hand.limbo, answer) {
-            return Want::Step(step);
+            *wanted = step;
+            return;
         }
-        self.go_on(hand, &Answer::Start)
+        self.work_on(hand, &Answer::Start, wanted)
     }
 
     /// Before anything else a writer frees what it may of its limbo: the step that its sweep wants, if it isn't over.
@@ -124,17 +165,20 @@ impl Op {
         };
     }
 
-    /// Takes the answer once the sweep is over, and wants the next step of the work, if it isn't done.
-    fn go_on<A: Allocator>(&mut self, hand: &mut Hand<A>, answer: &Answer<Record>) -> Want
+    /// Takes the answer once the sweep is over, and puts the next step of the work in the place of the last.
+    fn work_on<A: Allocator>(
+        &mut self,
+        hand: &mut Hand<A>,
+        answer: &Answer<Record>,
+        wanted: &mut Step<Record>,
+    )
         requires told { IsToldWith self.old hand.old answer.now }
-        ensures ahead { GoesAhead self.old hand.old.spares answer.now self.new hand.new.spares result }
+        requires stays { is_leaving self.old.state ≡ false }
+        ensures ahead { GoesAhead self.old hand.old.spares answer.now self.new hand.new.spares (Want.Step wanted.new) }
         ensures keeps { KeepsLimbo self.old hand.old answer.now hand.new }
     {
-        if self.state.is_leaving() {
-            return self.leave();
-        }
         self.advance(hand, answer);
-        Want::Step(self.state.step(&hand.spares))
+        self.state.step(&hand.spares, wanted);
     }
 
     /// It has left, with its reply, for which no other step needs room.
@@ -232,8 +276,24 @@ impl Op {
         requires stays { is_leaving self.old.state ≡ false }
         ensures { AsksOn self.old spares.now answer.now self.new spares.now }
     {
-        let outcome = self.state.next(spares, answer);
-        self.follow(spares, outcome);
+        match &self.state {
+            State::Begun => self.state = State::Epoch,
+            State::Epoch => {
+                self.state = State::Enter {
+                    epoch: answer.number(),
+                }
+            }
+            State::Enter { .. } => self.begin_round(),
+            _ => unreachable!(),
+        }
+    }
+
+    /// It has entered, and its first round begins.
+    #[inline(never)]
+    fn begin_round(&mut self)
+        ensures { (spares : Spares) → FollowsOutcome self.old spares Outcome.Entered self.new }
+    {
+        self.task.round(&mut self.state);
     }
 
     #[inline(never)]
@@ -241,7 +301,7 @@ impl Op {
         requires faced { IsFaced self.old.task spares.now (Outcome.Read end) }
         ensures { FollowsOutcome self.old spares.now (Outcome.Read end) self.new }
     {
-        self.follow(spares, Outcome::Read(end));
+        self.task.end_read(end, &mut self.state);
     }
 
     #[inline(never)]
@@ -249,7 +309,7 @@ impl Op {
         requires faced { IsFaced self.old.task spares.now (Outcome.Written end) }
         ensures { FollowsOutcome self.old spares.now (Outcome.Written end) self.new }
     {
-        self.follow(spares, Outcome::Written(end));
+        self.task.end_write(spares, end, &mut self.state);
     }
 
     #[inline(never)]
@@ -257,15 +317,7 @@ impl Op {
         requires faced { IsFaced self.old.task spares.now (Outcome.Changed end then) }
         ensures { FollowsOutcome self.old spares.now (Outcome.Changed end then) self.new }
     {
-        self.follow(spares, Outcome::Changed { end, then });
-    }
-
-    /// Goes to the state that follows what the operation has come to.
-    fn follow(&mut self, spares: &Spares, outcome: Outcome)
-        requires faced { IsFaced self.old.task spares.now outcome }
-        ensures { FollowsOutcome self.old spares.now outcome self.new }
-    {
-        self.state = self.task.go_on(spares, outcome);
+        self.task.end_change(end, then, &mut self.state);
     }
 }
 

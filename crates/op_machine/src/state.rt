@@ -2,7 +2,7 @@
 ghost use Rattle.std.specs.Prelude.{◌≡◌, None, Some, IsSome, true, false};
 ghost use Rattle.chain_search.specs.Knowledge.{Knowledge};
 ghost use Rattle.chain_search.specs.Recalled.{Recalled};
-ghost use Rattle.op_machine.specs.Outcomes.{IsToldAt, UnlinksAfter, changed, has_begun, has_machine, is_changing, is_leaving, is_reading, is_writing, read_out, reads_on_at, written_out};
+ghost use Rattle.op_machine.specs.Outcomes.{IsToldAt, UnlinksAfter, changed, has_begun, is_changing, is_leaving, is_reading, is_writing, read_out, reads_on_at, written_out};
 ghost use Rattle.op_machine.specs.Shows.{FitsLast, MayStep, Stands, learn_last, wanted_at};
 ghost use Rattle.op_machine.specs.Tasks.{Task};
 ghost use Rattle.op_machine.specs.Works.{TurnsInto};
@@ -39,23 +39,6 @@ pub(crate) enum State {
     Over,
 }
 
-/// What the operation has come to, where it goes from one state to another.
-#[derive(Debug, Drop)]
-pub(crate) enum Outcome {
-    /// It begins.
-    Begun,
-    /// This is the epoch.
-    Epoch(u64),
-    /// It has entered.
-    Entered,
-    /// A reader's round has ended.
-    Read(ReadEnd),
-    /// A writer's round has ended.
-    Written(WriteEnd),
-    /// A change has ended.
-    Changed { end: End, then: Then },
-}
-
 impl Then {
     fn copied(&self) -> Then
         ensures { result ≡ self.now }
@@ -70,21 +53,21 @@ impl Then {
 }
 
 impl State {
-    /// The step that it wants.
-    pub(crate) fn step(&self, spares: &Spares) -> Step<Record>
+    /// Puts the step that it wants in the place of the last one.
+    pub(crate) fn step(&self, spares: &Spares, wanted: &mut Step<Record>)
         requires stands { (task : Task) × (k : Knowledge) × (r : Recalled) × Stands task spares.now k r self.now }
         requires asks { IsSome (wanted_at spares.now self.now) }
-        ensures wanted { wanted_at spares.now self.now ≡ Some result }
-        ensures may { (task : Task) (k : Knowledge) (r : Recalled) → Stands task spares.now k r self.now → MayStep task k result }
+        ensures wanted { wanted_at spares.now self.now ≡ Some wanted.new }
+        ensures may { (task : Task) (k : Knowledge) (r : Recalled) → Stands task spares.now k r self.now → MayStep task k wanted.new }
     {
         match self {
             State::Begun | State::Over => unreachable!(),
-            State::Epoch => Step::Epoch,
-            State::Enter { epoch } => Step::Enter(*epoch),
-            State::Read { round } => round.step(),
-            State::Write { round } => round.step(),
-            State::Change { change, .. } => change.step(spares),
-            State::Leave { .. } => Step::Leave,
+            State::Epoch => *wanted = Step::Epoch,
+            State::Enter { epoch } => *wanted = Step::Enter(*epoch),
+            State::Read { round } => *wanted = round.step(),
+            State::Write { round } => *wanted = round.step(),
+            State::Change { change, .. } => *wanted = change.step(spares),
+            State::Leave { .. } => *wanted = Step::Leave,
         }
     }
 
@@ -132,21 +115,6 @@ impl State {
     {
         match self {
             State::Write { round } => round.next(answer),
-            _ => unreachable!(),
-        }
-    }
-
-    /// Takes the answer to the step wanted last, where no machine is under way: what the operation has come to.
-    pub(crate) fn next(&self, spares: &Spares, answer: &Answer<Record>) -> Outcome
-        requires told { IsToldAt self.now spares.now answer.now }
-        requires alone { has_machine self.now ≡ false }
-        requires stays { is_leaving self.now ≡ false }
-        ensures { TurnsInto self.now spares.now answer.now self.now spares.now (Some result) }
-    {
-        match self {
-            State::Begun => Outcome::Begun,
-            State::Epoch => Outcome::Epoch(answer.number()),
-            State::Enter { .. } => Outcome::Entered,
             _ => unreachable!(),
         }
     }

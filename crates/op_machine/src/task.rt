@@ -14,7 +14,8 @@ ghost use Rattle.installs.specs.Spares.{HaveRoom, Spares};
 ghost use Rattle.op_machine.specs.Bounded.{few_changes, left_at, left_for, one_round, with_errands};
 ghost use Rattle.op_machine.specs.Brings.{errands_after, update_over};
 ghost use Rattle.op_machine.specs.Errands.{due_of, way_key};
-ghost use Rattle.op_machine.specs.Outcomes.{Faces, FacesChanged, FacesRead, FacesWritten, IsAtLeaf, IsAtLeafBelow, IsFaced, StandsForReader};
+ghost use Rattle.op_machine.specs.Outcomes as Outcome;
+ghost use Rattle.op_machine.specs.Outcomes.{FacesChanged, FacesRead, FacesWritten, IsAtLeaf, IsAtLeafBelow, StandsForReader};
 ghost use Rattle.op_machine.specs.Shows.{MayBegin, Stands, wanted_at};
 ghost use Rattle.op_machine.specs.Tasks.{IsSameTask, Seeks};
 ghost use Rattle.op_machine.specs.Upkeep.{IsIdleFor, IsUpkeepFor};
@@ -24,7 +25,7 @@ ghost use Rattle.sweep.specs.Moves.{IsEmpty};
 ghost use Rattle.sweep.specs.Sweeps.{IsSoundSweep, Rests, Shows as ShowsSweep};
 
 use crate::errands::Errands;
-use crate::state::{Outcome, State, Then};
+use crate::state::{State, Then};
 use crate::unlinked::Unlinked;
 use crate::upkeep::upkeep;
 use base_page::Page;
@@ -96,41 +97,24 @@ impl Task {
         Sweep::begin(&self.limits, self.actor, limbo)
     }
 
-    /// The state that follows what the operation has come to.
-    pub(crate) fn go_on(&mut self, spares: &Spares, outcome: Outcome) -> State
-        requires faced { IsFaced self.old spares.now outcome }
-        ensures stands { (k : Knowledge) (r : Recalled) → Faces self.old spares.now k r outcome → Stands self.new spares.now k r result }
-        ensures few { (k : Knowledge) (r : Recalled) → Faces self.old spares.now k r outcome → with_errands self.new.errands (left_at r spares.now result) ≤ with_errands self.old.errands (left_for outcome) }
-        ensures asks { IsSome (wanted_at spares.now result) }
-        ensures same { IsSameTask self.old self.new }
-    {
-        match outcome {
-            Outcome::Begun => State::Epoch,
-            Outcome::Epoch(epoch) => State::Enter { epoch },
-            Outcome::Entered => self.round(),
-            Outcome::Read(end) => self.end_read(end),
-            Outcome::Written(end) => self.end_write(spares, end),
-            Outcome::Changed { end, then } => self.end_change(end, then),
-        }
-    }
-
-    /// A new round: for the newest errand, or for the command's key.
-    #[inline(never)]
-    fn round(&self) -> State
-        ensures stands { (spares : Spares) (k : Knowledge) (r : Recalled) → Seeks self.now spares k → Stands self.now spares k r result }
-        ensures few { (spares : Spares) (r : Recalled) → left_at r spares result ≤ one_round }
-        ensures asks { (spares : Spares) → IsSome (wanted_at spares result) }
+    /// A new round: for the newest errand, or for the command's key. The state that follows is written where it is kept, here and
+    /// below: it has 31 KB, and each function on the way that returned it would have room for one more.
+    pub(crate) fn round(&self, state: &mut State)
+        ensures stands { (spares : Spares) (k : Knowledge) (r : Recalled) → Seeks self.now spares k → Stands self.now spares k r state.new }
+        ensures few { (spares : Spares) (r : Recalled) → left_at r spares state.new ≤ one_round }
+        ensures asks { (spares : Spares) → IsSome (wanted_at spares state.new) }
     {
         if self.command.is_writer() {
             let key = self.way_key().copied();
-            return State::Write {
+            *state = State::Write {
                 round: WriteRound::new(&self.limits, key, self.due()),
             };
+            return;
         }
         let key = self.command.key().copied();
-        State::Read {
+        *state = State::Read {
             round: ReadRound::new(&self.limits, key),
-        }
+        };
     }
 
     /// The newest errand's key, or the command's.
@@ -156,121 +140,125 @@ impl Task {
 
     /// A reader answers at the leaf of its key, or from what it read of a removed one, whose left page it has read since; where its
     /// round was cut off, a new one begins, which goes to the left of a removed page.
-    #[inline(never)]
-    fn end_read(&self, end: ReadEnd) -> State
-        ensures stands { (spares : Spares) (k : Knowledge) (r : Recalled) → FacesRead self.now spares k r end → Stands self.now spares k r result }
-        ensures few { (spares : Spares) (r : Recalled) → left_at r spares result ≤ left_for (Outcome.Read end) }
-        ensures asks { (spares : Spares) → IsSome (wanted_at spares result) }
+    pub(crate) fn end_read(&self, end: ReadEnd, state: &mut State)
+        ensures stands { (spares : Spares) (k : Knowledge) (r : Recalled) → FacesRead self.now spares k r end → Stands self.now spares k r state.new }
+        ensures few { (spares : Spares) (r : Recalled) → left_at r spares state.new ≤ left_for (Outcome.Read end) }
+        ensures asks { (spares : Spares) → IsSome (wanted_at spares state.new) }
     {
         leaves_stand();
         match end {
-            ReadEnd::Again => self.round(),
-            ReadEnd::Removed(page) => self.left_round(page),
-            ReadEnd::Leaf(leaf) => self.answer(&leaf.chain),
-            ReadEnd::Beside { removed, .. } => self.answer(&removed.chain),
+            ReadEnd::Again => self.round(state),
+            ReadEnd::Removed(page) => self.left_round(page, state),
+            ReadEnd::Leaf(leaf) => self.answer(&leaf.chain, state),
+            ReadEnd::Beside { removed, .. } => self.answer(&removed.chain, state),
         }
     }
 
     /// A reader's round that goes to the left of a removed page first.
-    fn left_round(&self, removed: Version) -> State
-        ensures stands { (spares : Spares) (k : Knowledge) (r : Recalled) → Seeks self.now spares k → is_writer self.now.command ≡ false → IsGoneAt self.now.limits k (command_key self.now.command) removed → Stands self.now spares k r result }
-        ensures few { (spares : Spares) (r : Recalled) → left_at r spares result ≤ left_for (Outcome.Read (ReadEnd.Removed removed)) }
-        ensures asks { (spares : Spares) → IsSome (wanted_at spares result) }
+    fn left_round(&self, removed: Version, state: &mut State)
+        ensures stands { (spares : Spares) (k : Knowledge) (r : Recalled) → Seeks self.now spares k → is_writer self.now.command ≡ false → IsGoneAt self.now.limits k (command_key self.now.command) removed → Stands self.now spares k r state.new }
+        ensures few { (spares : Spares) (r : Recalled) → left_at r spares state.new ≤ left_for (Outcome.Read (ReadEnd.Removed removed)) }
+        ensures asks { (spares : Spares) → IsSome (wanted_at spares state.new) }
     {
         let key = self.command.key().copied();
-        State::Read {
+        *state = State::Read {
             round: ReadRound::left(&self.limits, key, removed),
-        }
+        };
     }
 
     /// A reader's reply over the chain of a leaf that stood.
-    fn answer(&self, leaf: &Chain) -> State
-        ensures stands { (spares : Spares) (k : Knowledge) (r : Recalled) (head : ℕ) → StandsForReader self.now spares k head leaf.now → Stands self.now spares k r result }
-        ensures few { (spares : Spares) (r : Recalled) → left_at r spares result ≤ 1 }
-        ensures asks { (spares : Spares) → IsSome (wanted_at spares result) }
+    fn answer(&self, leaf: &Chain, state: &mut State)
+        ensures stands { (spares : Spares) (k : Knowledge) (r : Recalled) (head : ℕ) → StandsForReader self.now spares k head leaf.now → Stands self.now spares k r state.new }
+        ensures few { (spares : Spares) (r : Recalled) → left_at r spares state.new ≤ 1 }
+        ensures asks { (spares : Spares) → IsSome (wanted_at spares state.new) }
     {
         let key = self.command.key();
-        State::Leave {
+        *state = State::Leave {
             reply: match self.command.reply(leaf.find(key)) {
                 Some(reply) => reply,
                 None => cursor_page(leaf, key),
             },
-        }
+        };
     }
 
     /// A writer makes the change that is due where its round ended, or goes on at the leaf.
-    #[inline(never)]
-    fn end_write(&mut self, spares: &Spares, end: WriteEnd) -> State
+    pub(crate) fn end_write(&mut self, spares: &Spares, end: WriteEnd, state: &mut State)
         requires faced { (k : Knowledge) × (r : Recalled) × FacesWritten self.old spares.now k r end }
-        ensures stands { (k : Knowledge) (r : Recalled) → FacesWritten self.old spares.now k r end → Stands self.new spares.now k r result }
-        ensures few { (k : Knowledge) (r : Recalled) → FacesWritten self.old spares.now k r end → with_errands self.new.errands (left_at r spares.now result) ≤ with_errands self.old.errands (left_for (Outcome.Written end)) }
-        ensures asks { IsSome (wanted_at spares.now result) }
+        ensures stands { (k : Knowledge) (r : Recalled) → FacesWritten self.old spares.now k r end → Stands self.new spares.now k r state.new }
+        ensures few { (k : Knowledge) (r : Recalled) → FacesWritten self.old spares.now k r end → with_errands self.new.errands (left_at r spares.now state.new) ≤ with_errands self.old.errands (left_for (Outcome.Written end)) }
+        ensures asks { IsSome (wanted_at spares.now state.new) }
         ensures same { IsSameTask self.old self.new }
     {
         match end {
-            WriteEnd::Again | WriteEnd::Done => self.round(),
-            WriteEnd::Removed(page) => self.round_to_the_left(page),
-            WriteEnd::Consolidate(page) => self.consolidate(spares, page),
-            WriteEnd::Split { page, plan } => self.split(spares, page, plan),
-            WriteEnd::Term { parent, term } => self.post(spares, parent, term),
-            WriteEnd::Root { left, root } => self.raise(spares, left, root),
-            WriteEnd::Leaf { parent, leaf } => self.end_at_leaf(spares, parent, leaf),
+            WriteEnd::Again | WriteEnd::Done => self.round(state),
+            WriteEnd::Removed(page) => self.round_to_the_left(page, state),
+            WriteEnd::Consolidate(page) => self.consolidate(spares, page, state),
+            WriteEnd::Split { page, plan } => self.split(spares, page, plan, state),
+            WriteEnd::Term { parent, term } => self.post(spares, parent, term, state),
+            WriteEnd::Root { left, root } => self.raise(spares, left, root, state),
+            WriteEnd::Leaf { parent, leaf } => self.end_at_leaf(spares, parent, leaf, state),
             WriteEnd::Merge {
                 left,
                 removed,
                 merge,
-            } => self.merge(spares, left, removed, merge),
+            } => self.merge(spares, left, removed, merge, state),
             WriteEnd::Unterm {
                 parent,
                 left,
                 removed,
                 unterm,
-            } => self.unlink(spares, parent, left, removed, unterm),
+            } => self.unlink(spares, parent, left, removed, unterm, state),
         }
     }
 
     /// A writer's round that goes to the left of a removed page.
-    fn round_to_the_left(&self, removed: Version) -> State
-        ensures stands { (spares : Spares) (k : Knowledge) (r : Recalled) → Seeks self.now spares k → is_writer self.now.command ≡ true → IsGone self.now.limits k removed → Stands self.now spares k r result }
-        ensures few { (spares : Spares) (r : Recalled) → left_at r spares result ≤ left_for (Outcome.Written (WriteEnd.Removed removed)) }
-        ensures asks { (spares : Spares) → IsSome (wanted_at spares result) }
+    fn round_to_the_left(&self, removed: Version, state: &mut State)
+        ensures stands { (spares : Spares) (k : Knowledge) (r : Recalled) → Seeks self.now spares k → is_writer self.now.command ≡ true → IsGone self.now.limits k removed → Stands self.now spares k r state.new }
+        ensures few { (spares : Spares) (r : Recalled) → left_at r spares state.new ≤ left_for (Outcome.Written (WriteEnd.Removed removed)) }
+        ensures asks { (spares : Spares) → IsSome (wanted_at spares state.new) }
     {
         let key = removed.chain.low().copied();
-        State::Write {
+        *state = State::Write {
             round: WriteRound::left(&self.limits, key, removed.pid),
-        }
+        };
     }
 
     /// At the leaf of an errand the errand is done; at that of its key the leaf is tended.
-    fn end_at_leaf(&mut self, spares: &Spares, parent: Option<Version>, leaf: Version) -> State
+    fn end_at_leaf(
+        &mut self,
+        spares: &Spares,
+        parent: Option<Version>,
+        leaf: Version,
+        state: &mut State,
+    )
         requires faced { (k : Knowledge) × (r : Recalled) × IsAtLeafBelow self.old spares.now k r parent leaf }
-        ensures stands { (k : Knowledge) (r : Recalled) → IsAtLeafBelow self.old spares.now k r parent leaf → Stands self.new spares.now k r result }
-        ensures few { (r : Recalled) → with_errands self.new.errands (left_at r spares.now result) ≤ with_errands self.old.errands (few_changes + 1) }
-        ensures asks { IsSome (wanted_at spares.now result) }
+        ensures stands { (k : Knowledge) (r : Recalled) → IsAtLeafBelow self.old spares.now k r parent leaf → Stands self.new spares.now k r state.new }
+        ensures few { (r : Recalled) → with_errands self.new.errands (left_at r spares.now state.new) ≤ with_errands self.old.errands (few_changes + 1) }
+        ensures asks { IsSome (wanted_at spares.now state.new) }
         ensures same { IsSameTask self.old self.new }
         ensures errands { self.new.errands ≡ take (length self.old.errands - 1) self.old.errands }
     {
         match self.errands.newest() {
-            None => self.tend(spares, parent, leaf),
+            None => self.tend(spares, parent, leaf, state),
             Some(_) => {
                 self.errands.finish();
-                self.round()
+                self.round(state);
             }
         }
     }
 
     /// At the leaf of its key a deletion or a tidying removes a small leaf first; then the command is executed.
-    fn tend(&self, spares: &Spares, parent: Option<Version>, leaf: Version) -> State
+    fn tend(&self, spares: &Spares, parent: Option<Version>, leaf: Version, state: &mut State)
         requires faced { (k : Knowledge) × (r : Recalled) × IsAtLeafBelow self.now spares.now k r parent leaf }
         requires last { self.now.errands ≡ [] }
-        ensures stands { (k : Knowledge) (r : Recalled) → IsAtLeafBelow self.now spares.now k r parent leaf → Stands self.now spares.now k r result }
-        ensures few { (r : Recalled) → left_at r spares.now result ≤ few_changes + 1 }
-        ensures asks { IsSome (wanted_at spares.now result) }
+        ensures stands { (k : Knowledge) (r : Recalled) → IsAtLeafBelow self.now spares.now k r parent leaf → Stands self.now spares.now k r state.new }
+        ensures few { (r : Recalled) → left_at r spares.now state.new ≤ few_changes + 1 }
+        ensures asks { IsSome (wanted_at spares.now state.new) }
     {
         plans_may_be_linked();
         match self.upkeep(&parent, &leaf) {
-            Some(plan) => self.change(spares, plan, Then::Round),
-            None => self.execute(spares, leaf),
+            Some(plan) => self.change(spares, plan, Then::Round, state),
+            None => self.execute(spares, leaf, state),
         }
     }
 
@@ -287,12 +275,12 @@ impl Task {
 
     /// At the leaf of its key the command answers, where nothing is to be changed, a tidying so that nothing is left to do; else
     /// its update is linked.
-    fn execute(&self, spares: &Spares, leaf: Version) -> State
+    fn execute(&self, spares: &Spares, leaf: Version, state: &mut State)
         requires faced { (k : Knowledge) × (r : Recalled) × IsAtLeaf self.now spares.now k r leaf }
         requires last { self.now.errands ≡ [] }
-        ensures stands { (parent : Option Version) (k : Knowledge) (r : Recalled) → IsAtLeafBelow self.now spares.now k r parent leaf → IsIdleFor self.now.command parent leaf → Stands self.now spares.now k r result }
-        ensures few { (r : Recalled) → left_at r spares.now result ≤ few_changes + 1 }
-        ensures asks { IsSome (wanted_at spares.now result) }
+        ensures stands { (parent : Option Version) (k : Knowledge) (r : Recalled) → IsAtLeafBelow self.now spares.now k r parent leaf → IsIdleFor self.now.command parent leaf → Stands self.now spares.now k r state.new }
+        ensures few { (r : Recalled) → left_at r spares.now state.new ≤ few_changes + 1 }
+        ensures asks { IsSome (wanted_at spares.now state.new) }
     {
         updates_fit();
         chains_make_pages();
@@ -300,12 +288,14 @@ impl Task {
         leaf.chain.keeps_rules();
         let old = leaf.chain.find(self.command.key());
         let Some(reply) = self.command.reply(old) else {
-            return State::Leave {
+            *state = State::Leave {
                 reply: Reply::Tidied,
             };
+            return;
         };
         if !self.command.changes(old) {
-            return State::Leave { reply };
+            *state = State::Leave { reply };
+            return;
         }
         let content = self.update_over(leaf.head);
         let plan = Plan::Install {
@@ -313,7 +303,7 @@ impl Task {
             head: leaf.head,
             content,
         };
-        self.change(spares, plan, Then::Reply(reply))
+        self.change(spares, plan, Then::Reply(reply), state)
     }
 
     /// The record that a command which changes the map places over the row `next`.
@@ -336,11 +326,11 @@ impl Task {
     }
 
     /// A base is linked in the place of a page's chain.
-    fn consolidate(&self, spares: &Spares, page: Version) -> State
+    fn consolidate(&self, spares: &Spares, page: Version, state: &mut State)
         requires faced { (k : Knowledge) × (r : Recalled) × FacesWritten self.now spares.now k r (WriteEnd.Consolidate page) }
-        ensures stands { (k : Knowledge) (r : Recalled) → FacesWritten self.now spares.now k r (WriteEnd.Consolidate page) → Stands self.now spares.now k r result }
-        ensures few { (r : Recalled) → left_at r spares.now result ≤ few_changes + 1 }
-        ensures asks { IsSome (wanted_at spares.now result) }
+        ensures stands { (k : Knowledge) (r : Recalled) → FacesWritten self.now spares.now k r (WriteEnd.Consolidate page) → Stands self.now spares.now k r state.new }
+        ensures few { (r : Recalled) → left_at r spares.now state.new ≤ few_changes + 1 }
+        ensures asks { IsSome (wanted_at spares.now state.new) }
     {
         plans_may_be_linked();
         chain_is_one();
@@ -351,15 +341,15 @@ impl Task {
             content: Record::Base(base),
         };
         let unlinked = Unlinked::chain(page.head, &page.chain);
-        self.change(spares, plan, Then::Limbo(unlinked))
+        self.change(spares, plan, Then::Limbo(unlinked), state)
     }
 
     /// A page is split; its new page is an errand then.
-    fn split(&self, spares: &Spares, page: Version, plan: SplitPlan) -> State
+    fn split(&self, spares: &Spares, page: Version, plan: SplitPlan, state: &mut State)
         requires faced { (k : Knowledge) × (r : Recalled) × FacesWritten self.now spares.now k r (WriteEnd.Split page plan) }
-        ensures stands { (k : Knowledge) (r : Recalled) → FacesWritten self.now spares.now k r (WriteEnd.Split page plan) → Stands self.now spares.now k r result }
-        ensures few { (r : Recalled) → left_at r spares.now result ≤ few_changes + 1 }
-        ensures asks { IsSome (wanted_at spares.now result) }
+        ensures stands { (k : Knowledge) (r : Recalled) → FacesWritten self.now spares.now k r (WriteEnd.Split page plan) → Stands self.now spares.now k r state.new }
+        ensures few { (r : Recalled) → left_at r spares.now state.new ≤ few_changes + 1 }
+        ensures asks { IsSome (wanted_at spares.now state.new) }
     {
         plans_may_be_linked();
         let separator = plan.upper.low().copied();
@@ -367,15 +357,15 @@ impl Task {
             pid: page.pid,
             plan,
         };
-        self.change(spares, plan, Then::Errand(separator))
+        self.change(spares, plan, Then::Errand(separator), state)
     }
 
     /// A page's term is linked on its parent.
-    fn post(&self, spares: &Spares, parent: Version, term: Term) -> State
+    fn post(&self, spares: &Spares, parent: Version, term: Term, state: &mut State)
         requires faced { (k : Knowledge) × (r : Recalled) × FacesWritten self.now spares.now k r (WriteEnd.Term parent term) }
-        ensures stands { (k : Knowledge) (r : Recalled) → FacesWritten self.now spares.now k r (WriteEnd.Term parent term) → Stands self.now spares.now k r result }
-        ensures few { (r : Recalled) → left_at r spares.now result ≤ few_changes + 1 }
-        ensures asks { IsSome (wanted_at spares.now result) }
+        ensures stands { (k : Knowledge) (r : Recalled) → FacesWritten self.now spares.now k r (WriteEnd.Term parent term) → Stands self.now spares.now k r state.new }
+        ensures few { (r : Recalled) → left_at r spares.now state.new ≤ few_changes + 1 }
+        ensures asks { IsSome (wanted_at spares.now state.new) }
     {
         plans_may_be_linked();
         let plan = Plan::Install {
@@ -383,15 +373,22 @@ impl Task {
             head: parent.head,
             content: Record::Term(term),
         };
-        self.change(spares, plan, Then::Round)
+        self.change(spares, plan, Then::Round, state)
     }
 
     /// What a removed page has comes into the leaf to its left.
-    fn merge(&self, spares: &Spares, left: Version, removed: Version, merge: Merge) -> State
+    fn merge(
+        &self,
+        spares: &Spares,
+        left: Version,
+        removed: Version,
+        merge: Merge,
+        state: &mut State,
+    )
         requires faced { (k : Knowledge) × (r : Recalled) × FacesWritten self.now spares.now k r (WriteEnd.Merge left removed merge) }
-        ensures stands { (k : Knowledge) (r : Recalled) → FacesWritten self.now spares.now k r (WriteEnd.Merge left removed merge) → Stands self.now spares.now k r result }
-        ensures few { (r : Recalled) → left_at r spares.now result ≤ few_changes + 1 }
-        ensures asks { IsSome (wanted_at spares.now result) }
+        ensures stands { (k : Knowledge) (r : Recalled) → FacesWritten self.now spares.now k r (WriteEnd.Merge left removed merge) → Stands self.now spares.now k r state.new }
+        ensures few { (r : Recalled) → left_at r spares.now state.new ≤ few_changes + 1 }
+        ensures asks { IsSome (wanted_at spares.now state.new) }
     {
         plans_may_be_linked();
         let _ = &removed;
@@ -400,7 +397,7 @@ impl Task {
             head: left.head,
             content: Record::Merge(merge),
         };
-        self.change(spares, plan, Then::Round)
+        self.change(spares, plan, Then::Round, state)
     }
 
     /// A parent loses the term of a page that was merged, and the page is cleared.
@@ -411,11 +408,12 @@ impl Task {
         left: Version,
         removed: Version,
         unterm: Unterm,
-    ) -> State
+        state: &mut State,
+    )
         requires faced { (k : Knowledge) × (r : Recalled) × FacesWritten self.now spares.now k r (WriteEnd.Unterm parent left removed unterm) }
-        ensures stands { (k : Knowledge) (r : Recalled) → FacesWritten self.now spares.now k r (WriteEnd.Unterm parent left removed unterm) → Stands self.now spares.now k r result }
-        ensures few { (r : Recalled) → left_at r spares.now result ≤ few_changes + 1 }
-        ensures asks { IsSome (wanted_at spares.now result) }
+        ensures stands { (k : Knowledge) (r : Recalled) → FacesWritten self.now spares.now k r (WriteEnd.Unterm parent left removed unterm) → Stands self.now spares.now k r state.new }
+        ensures few { (r : Recalled) → left_at r spares.now state.new ≤ few_changes + 1 }
+        ensures asks { IsSome (wanted_at spares.now state.new) }
     {
         plans_may_be_linked();
         let _ = &left;
@@ -427,54 +425,53 @@ impl Task {
             removal: removed.head,
         };
         let unlinked = Unlinked::page(&removed);
-        self.change(spares, plan, Then::Limbo(unlinked))
+        self.change(spares, plan, Then::Limbo(unlinked), state)
     }
 
     /// A root is linked over a page and its right.
-    fn raise(&self, spares: &Spares, left: Version, root: Page) -> State
+    fn raise(&self, spares: &Spares, left: Version, root: Page, state: &mut State)
         requires faced { (k : Knowledge) × (r : Recalled) × FacesWritten self.now spares.now k r (WriteEnd.Root left root) }
-        ensures stands { (k : Knowledge) (r : Recalled) → FacesWritten self.now spares.now k r (WriteEnd.Root left root) → Stands self.now spares.now k r result }
-        ensures few { (r : Recalled) → left_at r spares.now result ≤ few_changes + 1 }
-        ensures asks { IsSome (wanted_at spares.now result) }
+        ensures stands { (k : Knowledge) (r : Recalled) → FacesWritten self.now spares.now k r (WriteEnd.Root left root) → Stands self.now spares.now k r state.new }
+        ensures few { (r : Recalled) → left_at r spares.now state.new ≤ few_changes + 1 }
+        ensures asks { IsSome (wanted_at spares.now state.new) }
     {
         plans_may_be_linked();
         let plan = Plan::Root {
             left: left.pid,
             root,
         };
-        self.change(spares, plan, Then::Round)
+        self.change(spares, plan, Then::Round, state)
     }
 
     /// A change begins.
-    fn change(&self, spares: &Spares, plan: Plan, then: Then) -> State
+    fn change(&self, spares: &Spares, plan: Plan, then: Then, state: &mut State)
         requires target { IsTarget self.now.limits plan }
         requires spells { IsSpellablePlan plan }
         requires room { HaveRoom self.now.limits spares.now }
-        ensures stands { (k : Knowledge) (r : Recalled) → MayBegin self.now spares.now k r plan then → Stands self.now spares.now k r result }
-        ensures few { (r : Recalled) → left_at r spares.now result ≤ few_changes + 1 }
-        ensures asks { IsSome (wanted_at spares.now result) }
+        ensures stands { (k : Knowledge) (r : Recalled) → MayBegin self.now spares.now k r plan then → Stands self.now spares.now k r state.new }
+        ensures few { (r : Recalled) → left_at r spares.now state.new ≤ few_changes + 1 }
+        ensures asks { IsSome (wanted_at spares.now state.new) }
     {
         let change = Change::new(&self.limits, spares, plan);
-        State::Change { change, then }
+        *state = State::Change { change, then };
     }
 
     /// An update that won has its reply; any other change is followed by a new round, and one for which nothing was free by none.
-    #[inline(never)]
-    fn end_change(&mut self, end: End, then: Then) -> State
-        ensures stands { (spares : Spares) (k : Knowledge) (r : Recalled) → FacesChanged self.old spares k end then → Stands self.new spares k r result }
-        ensures few { (spares : Spares) (r : Recalled) → with_errands self.new.errands (left_at r spares result) ≤ with_errands self.old.errands (left_for (Outcome.Changed end then)) }
-        ensures asks { (spares : Spares) → IsSome (wanted_at spares result) }
+    pub(crate) fn end_change(&mut self, end: End, then: Then, state: &mut State)
+        ensures stands { (spares : Spares) (k : Knowledge) (r : Recalled) → FacesChanged self.old spares k end then → Stands self.new spares k r state.new }
+        ensures few { (spares : Spares) (r : Recalled) → with_errands self.new.errands (left_at r spares state.new) ≤ with_errands self.old.errands (left_for (Outcome.Changed end then)) }
+        ensures asks { (spares : Spares) → IsSome (wanted_at spares state.new) }
         ensures same { IsSameTask self.old self.new }
         ensures errands { self.new.errands ≡ errands_after end then self.old.errands }
     {
         match (end, then) {
-            (End::Won, Then::Reply(reply)) => State::Leave { reply },
+            (End::Won, Then::Reply(reply)) => *state = State::Leave { reply },
             (End::Won, Then::Errand(separator)) => {
                 self.errands.add(separator);
-                self.round()
+                self.round(state)
             }
-            (End::Won, Then::Round | Then::Limbo(_)) | (End::Lost, _) => self.round(),
-            (End::Full, _) => State::Leave { reply: Reply::Full },
+            (End::Won, Then::Round | Then::Limbo(_)) | (End::Lost, _) => self.round(state),
+            (End::Full, _) => *state = State::Leave { reply: Reply::Full },
         }
     }
 }

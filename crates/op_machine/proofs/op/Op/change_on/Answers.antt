@@ -1,8 +1,7 @@
 use Rattle.std.proofs.Common.{ap, subst, sym}
 use Rattle.op_machine.specs.Ops.{Op}
-use Rattle.op_machine.specs.Outcomes.{changed}
+use Rattle.op_machine.specs.Outcomes.{Changed, changed}
 use Rattle.op_machine.specs.Works.{AsksOn}
-use Rattle.op_machine.specs.declared.state.Outcome.TheVariants.{Changed}
 use Rattle.op_machine.proofs.Going.{faced, follows, goes_on, told_change}
 use Rattle.op_machine.proofs.op.Op.change_on.Goals as goal
 use Rattle.op_machine.proofs.op.Op.change_on.Goals.{in-Some, in_default}

@@ -1,14 +1,12 @@
-use Rattle.op_machine.specs.Shows.{learn_last, recall_last}
-use Rattle.op_machine.specs.Works.{asked_of}
-use Rattle.op_machine.proofs.Going.{wants}
+use Rattle.std.proofs.Common.{sym, ◌∙◌}
+use Rattle.op_machine.proofs.Nexts.{obeys_begun, spends_begun, told_begun}
 use Rattle.op_machine.proofs.op.Op.go_on.Goals as goal
 
-pub step-requires-clause-stands : goal.step-requires-clause-stands
-step-requires-clause-stands g c =
-    let told = c.requires.told.told_on in
-    let last = asked_of c.args.self.now c.args.hand.now.spares in
-    let works = c.advance.ensures.asks.works told.k told.r told.works told.fits in
-    (c.self-2.inside.task, learn_last told.k last c.args.answer.now, recall_last told.r last c.args.answer.now, rw (← c.self-2.view_is, ← c.hand.view_is) at works)
+pub work_on-requires-clause-told : goal.work_on-requires-clause-told
+work_on-requires-clause-told g c = told_begun _ _ _ (rw (← c.self.view_is) (sym c.has_begun.ensures ∙ c.if-has_begun.true)) c.requires.told
 
-pub returns-clause-ahead : goal.returns-clause-ahead
-returns-clause-ahead g c = rw (← c.self-2.view_is, ← c.hand.view_is) (wants _ _ _ _ _ (rw (← c.self-2.view_is, ← c.hand.view_is) at c.advance.ensures.asks) c.step.result c.step.ensures.wanted c.step.ensures.may)
+pub returns-then-has_begun-clause-obeys : goal.returns-then-has_begun-clause-obeys
+returns-then-has_begun-clause-obeys g c = obeys_begun _ _ _ (rw (← c.self.view_is) (sym c.has_begun.ensures ∙ c.if-has_begun.true)) _ _ _ c.work_on.ensures.ahead c.work_on.ensures.keeps
+
+pub returns-then-has_begun-clause-spends : goal.returns-then-has_begun-clause-spends
+returns-then-has_begun-clause-spends g c = spends_begun _ _ _ (rw (← c.self.view_is) (sym c.has_begun.ensures ∙ c.if-has_begun.true)) _ c.work_on.new.hand _ c.work_on.ensures.ahead

@@ -1,6 +1,5 @@
 use Rattle.std.proofs.Common.{ap}
-use Rattle.op_machine.specs.Outcomes.{read_out}
-use Rattle.op_machine.specs.declared.state.Outcome.TheVariants.{Read}
+use Rattle.op_machine.specs.Outcomes.{Read, read_out}
 use Rattle.op_machine.proofs.Going.{faced, follows, goes_on, told_at}
 use Rattle.op_machine.proofs.op.Op.read_page.Goals as goal
 

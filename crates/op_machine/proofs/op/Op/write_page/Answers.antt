@@ -1,6 +1,5 @@
 use Rattle.std.proofs.Common.{ap}
-use Rattle.op_machine.specs.Outcomes.{written_out}
-use Rattle.op_machine.specs.declared.state.Outcome.TheVariants.{Written}
+use Rattle.op_machine.specs.Outcomes.{Written, written_out}
 use Rattle.op_machine.proofs.Going.{faced, follows, goes_on, told_at}
 use Rattle.op_machine.proofs.op.Op.write_page.Goals as goal
 
