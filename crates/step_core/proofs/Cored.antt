@@ -2,13 +2,14 @@
 use Rattle.std.proofs.Common.{◌≡◌, ◌≢◌, ◌<◌, inl, inr, ℕ, List, [], ◌∷◌, ◌++◌, length, Some, None, Option, Bool, true, false, set, get_or, ltb, refl, sym, ap, subst, ◌∙◌}
 use Rattle.std.specs.Prelude.{slice_get, is_some, if◌then◌else◌}
 use Rattle.std.specs.Option.{option_map}
-use Rattle.std.proofs.lemmas.Option.{slice_get-map}
+use Rattle.std.proofs.lemmas.Option.{same_Some, slice_get-map}
 use Rattle.std.proofs.lemmas.Bool.{lt-ltb, ltb-true}
 use Rattle.bw_model.specs.declared.command.Command.{Command}
 use Rattle.bw_model.specs.declared.command.Reply.{Reply}
 use Rattle.bw_model.specs.declared.limits.Limits.{Limits}
 use Rattle.bw_model.specs.declared.step.Answer.{Answer}
 use Rattle.bw_model.specs.declared.step.Step.{Step as StepOf}
+use Rattle.bw_model.specs.declared.step.Step.TheVariants.{Leave}
 use Rattle.deltas.specs.declared.record.Record.{Record}
 use Rattle.chain_search.specs.declared.trace.Entry.{Entry}
 use Rattle.chain_search.specs.declared.trace.Entry.TheVariants.{Begin, Step}
@@ -29,7 +30,7 @@ use Rattle.actors.specs.Spending.{steps_due}
 use Rattle.step_core.specs.Actors.{IsReady, IsServedAt, IsWithinAt, wanted_in}
 use Rattle.step_core.proofs.Lawful.{Asks, asks, is_placed, served_at, within_at}
 use Rattle.step_core.specs.Cores.{IsCore, Pays}
-use Rattle.step_core.specs.Turns.{Core, Demand, KeepsMore, WantsMemory, busy_of, refused_by, refusal_of}
+use Rattle.step_core.specs.Turns.{Core, Demand, KeepsMore, LeavesAt, WantsMemory, busy_of, refused_by, refusal_of}
 use Rattle.step_core.proofs.Replaced.{get_below, get_is, replaced_other, replaced_same, set_cases, set_length}
 
 -- a begin that isn't refused
@@ -121,16 +122,34 @@ module _ (limits : Limits) where
         within_at limits entries core.state i apart table core.same_limits core.has goes.0 (recalls entries i) old.hand old.running shows,
       )
 
+  -- the step that the actor of a turn wants
+  core_wanted : (table : Table) (actors : List Actor) (entries : List Entry) (i j : ℕ) (old : Actor) (room : ℕ) → IsCore limits table actors entries
+      → (v : Core) → record { limits = limits; entries = entries; demand = record { room = room; wanted = wanted_in actors } } ≡ v → refusal_of v (turn.Step i) ≡ None → j ≡ i → old ≡ get_or actors j old
+      → (slice_get actors i ≡ Some old) × (slice_get v.demand.wanted i ≡ Some (wanted_by old.running))
+  core_wanted table actors entries i j old room core v is refusal same at =
+      let goes : (i < limits.actors) × (is_some (command_of entries i) ≡ true) = step_goes (record { limits = limits; entries = entries; demand = record { room = room; wanted = wanted_in actors } }) i (subst (λ u. refusal_of u (turn.Step i) ≡ None) (sym is) refusal) in
+      let lt : i < length actors = rw core.count goes.0 in
+      let found : slice_get actors i ≡ Some old = get_is actors i old lt (subst (λ k. old ≡ get_or actors k old) same at) in
+      let wanted : slice_get (wanted_in actors) i ≡ Some (wanted_by old.running) = slice_get-map (λ (at : Actor). wanted_by at.running) actors i ∙ ap (option_map (λ (at : Actor). wanted_by at.running)) found in
+      (found, subst (λ (u : Core). slice_get u.demand.wanted i ≡ Some (wanted_by old.running)) is wanted)
+
+  pub core_leaves : (table : Table) (actors : List Actor) (entries : List Entry) (i j : ℕ) (old : Actor) (room : ℕ) → IsCore limits table actors entries
+      → (v : Core) → record { limits = limits; entries = entries; demand = record { room = room; wanted = wanted_in actors } } ≡ v → refusal_of v (turn.Step i) ≡ None → j ≡ i → old ≡ get_or actors j old
+      → wanted_by old.running ≡ Some Leave → LeavesAt v i
+  core_leaves table actors entries i j old room core v is refusal same at leaves = (core_wanted table actors entries i j old room core v is refusal same at).1 ∙ ap Some leaves
+
+  pub core_leaving : (table : Table) (actors : List Actor) (entries : List Entry) (i j : ℕ) (old : Actor) (room : ℕ) → IsCore limits table actors entries
+      → (v : Core) → record { limits = limits; entries = entries; demand = record { room = room; wanted = wanted_in actors } } ≡ v → refusal_of v (turn.Step i) ≡ None → j ≡ i → old ≡ get_or actors j old
+      → LeavesAt v i → wanted_by old.running ≡ Some Leave
+  core_leaving table actors entries i j old room core v is refusal same at leaves = same_Some (wanted_by old.running) (Some Leave) (sym (core_wanted table actors entries i j old room core v is refusal same at).1 ∙ leaves)
+
   -- a step of which more is kept than an entry has room for may want memory
   pub core_wants : (table : Table) (actors : List Actor) (entries : List Entry) (i j : ℕ) (old : Actor) (room : ℕ) → IsCore limits table actors entries
       → (v : Core) → record { limits = limits; entries = entries; demand = record { room = room; wanted = wanted_in actors } } ≡ v → refusal_of v (turn.Step i) ≡ None → j ≡ i → old ≡ get_or actors j old
       → KeepsMore (running_command old) (wanted_by old.running) → WantsMemory v (turn.Step i)
   core_wants table actors entries i j old room core v is refusal same at keeps =
-      let goes : (i < limits.actors) × (is_some (command_of entries i) ≡ true) = step_goes (record { limits = limits; entries = entries; demand = record { room = room; wanted = wanted_in actors } }) i (subst (λ u. refusal_of u (turn.Step i) ≡ None) (sym is) refusal) in
-      let lt : i < length actors = rw core.count goes.0 in
-      let found : slice_get actors i ≡ Some old = get_is actors i old lt (subst (λ k. old ≡ get_or actors k old) same at) in
-      let wanted : slice_get (wanted_in actors) i ≡ Some (wanted_by old.running) = slice_get-map (λ (at : Actor). wanted_by at.running) actors i ∙ ap (option_map (λ (at : Actor). wanted_by at.running)) found in
-      subst (λ u. WantsMemory u (turn.Step i)) is (inr (wanted_by old.running, wanted, subst (λ c. KeepsMore c (wanted_by old.running)) (core.each_running i old found) keeps))
+      let (found, wanted) = core_wanted table actors entries i j old room core v is refusal same at in
+      inr (wanted_by old.running, wanted, subst (λ c. KeepsMore c (wanted_by old.running)) (core.each_running i old found ∙ ap (λ (u : Core). command_of u.entries i) is) keeps)
 
   pub core_begun : Begins IsState → (table : Table) (actors : List Actor) (entries entries' : List Entry) (i j : ℕ) (new : Actor) (command : Command) → IsCore limits table actors entries
       → (demand : Demand) (v : Core) → record { limits = limits; entries = entries; demand = demand } ≡ v → refusal_of v (turn.Begin i command) ≡ None → j ≡ i

@@ -71,6 +71,15 @@ abbrev pub WantsMemory : Core → Turn → Type 0
 WantsMemory core (Begin actor command) = core.demand.room ≤ length core.entries
 WantsMemory core (Step actor) = (core.demand.room ≤ length core.entries) ⊎ ((wanted : Option (StepOf Record)) × (slice_get core.demand.wanted actor ≡ Some wanted) × KeepsMore (command_of core.entries actor) wanted)
 
+-- the step that the actor's operation wants is the leave
+abbrev pub LeavesAt : Core → ℕ → Type 0
+LeavesAt core actor = slice_get core.demand.wanted actor ≡ Some (Some Leave)
+
+-- the turn begins an operation, or ends it
+abbrev pub IsLast : Core → Turn → Type 0
+IsLast core (Begin actor command) = Unit {0}
+IsLast core (Step actor) = LeavesAt core actor
+
 -- what an exchange that won did, by the memory before it
 abbrev pub link_told : Memory → StepOf Record → Answer Record → Option Link
 link_told memory (Exchange slot old new) (Whether true) = link_of memory slot old new

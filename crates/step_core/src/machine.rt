@@ -1,16 +1,16 @@
 //! The core: all actors over one memory, one turn at a time.
-ghost use Rattle.std.specs.Prelude.{◌≡◌, ◌<◌, ◌≤◌, ◌&&◌, [], length, map, nat_lt, is_some, IfOk, IfErr, OnErr, Some, None};
+ghost use Rattle.std.specs.Prelude.{◌≡◌, ◌<◌, ◌≤◌, ◌&&◌, [], length, map, nat_lt, is_some, IfOk, IfErr, IfSome, OnErr, Some, None};
 ghost use Rattle.chain_search.specs.Trace.{command_of, turn_of};
 ghost use Rattle.listing.specs.Listed.{IsListing};
 ghost use Rattle.op_machine.specs.Linearized.{IsLinearized, IsOrderly};
-ghost use Rattle.step_core.specs.Turns.{AddsTurn, AddsTurns, StopsAt, WantsMemory, busy_of, refusal_of};
+ghost use Rattle.step_core.specs.Turns.{AddsTurn, AddsTurns, IsLast, LeavesAt, StopsAt, WantsMemory, busy_of, refusal_of};
 
-use crate::actor::{Stepped, prepare, take_step};
+use crate::actor::{Stepped, event_of, go_on, leave, prepare, room};
 use crate::event::{Event, RunError, Trace};
 use crate::law::{begins_keep_laws, states_are_lawful, steps_keep_laws};
 use crate::log::Log;
 use actors::{Actor, idle_actors_rest};
-use bw_model::{Command, Key, Limits, OpenError, Value};
+use bw_model::{Answer, Command, Key, Limits, Link, OpenError, Step, Value};
 use chain_search::{SharedEntry, Table, Turn};
 use listing::{add_pairs, pages_are_listed};
 use std::alloc::{AllocError, Allocator, Global};
@@ -87,9 +87,16 @@ impl<A: Allocator + Copy> Core<A> {
         ensures linearized { IsLinearized self.new.limits (map turn_of self.new.entries) self.new.entries }
         ensures orderly { IsOrderly self.new.limits self.new.entries }
     {
-        let answer = self.take_turn(turn);
+        if let Some(refusal) = self.refusal(&turn) {
+            self.linearized();
+            return Err(refusal);
+        }
+        let Some(actor) = self.goes_on(&turn) else {
+            return self.begin_or_leave(turn);
+        };
+        let told = self.go_on(actor);
         self.linearized();
-        answer
+        Ok(Event::Stepped(told?))
     }
 
     /// Takes the turns one after another, up to one that is refused, whose refusal it answers.
@@ -106,23 +113,27 @@ impl<A: Allocator + Copy> Core<A> {
         Ok(())
     }
 
-    /// Takes one turn, if it is not refused.
-    fn take_turn(&mut self, turn: Turn) -> Result<Event, RunError>
-        ensures refused { (refusal : _) → refusal_of self.old turn ≡ Some refusal → result ≡ Err refusal }
-        ensures memory { refusal_of self.old turn ≡ None → IfErr result (λ error. (error ≡ RunError.Memory (length self.old.entries)) × WantsMemory self.old turn) }
+    /// Takes a turn that begins an operation or ends it, which most turns don't.
+    #[inline(never)]
+    fn begin_or_leave(&mut self, turn: Turn) -> Result<Event, RunError>
+        requires goes { refusal_of self.old turn ≡ None }
+        requires ends { IsLast self.old turn }
         ensures ok { IfOk result (λ event. AddsTurn self.old turn event self.new) }
+        ensures memory { IfErr result (λ error. (error ≡ RunError.Memory (length self.old.entries)) × WantsMemory self.old turn) }
         ensures err { OnErr result (self.new ≡ self.old) }
+        ensures linearized { IsLinearized self.new.limits (map turn_of self.new.entries) self.new.entries }
+        ensures orderly { IsOrderly self.new.limits self.new.entries }
     {
-        if let Some(refusal) = self.refusal(&turn) {
-            return Err(refusal);
-        }
-        match turn {
+        let answer = match turn {
             Turn::Begin(actor, command) => self.begin(actor, command),
-            Turn::Step(actor) => self.step(actor),
-        }
+            Turn::Step(actor) => self.leave(actor),
+        };
+        self.linearized();
+        answer
     }
 
     /// Begins an operation; refused only where the trace has no room left and gets none.
+    #[inline(never)]
     fn begin(&mut self, actor: u8, command: Command) -> Result<Event, RunError>
         requires goes { refusal_of self.old (Turn.Begin actor command) ≡ None }
         ensures ok { IfOk result (λ event. AddsTurn self.old (Turn.Begin actor command) event self.new) }
@@ -142,10 +153,12 @@ impl<A: Allocator + Copy> Core<A> {
         Ok(Event::Began)
     }
 
-    /// Takes the step that an operation wants; refused only where the trace has no room left and gets none, or the step moves a record.
-    fn step(&mut self, actor: u8) -> Result<Event, RunError>
+    /// Takes the step that an operation wants, which isn't its last one, and answers its link, if it is an exchange that won;
+    /// refused only where the trace has no room left and gets none, or the step moves a record.
+    fn go_on(&mut self, actor: u8) -> Result<Option<Link>, RunError>
         requires goes { refusal_of self.old (Turn.Step actor) ≡ None }
-        ensures ok { IfOk result (λ event. AddsTurn self.old (Turn.Step actor) event self.new) }
+        requires stays { LeavesAt self.old actor → ⊥ }
+        ensures ok { IfOk result (λ link. AddsTurn self.old (Turn.Step actor) (Event.Stepped link) self.new) }
         ensures memory { IfErr result (λ error. (error ≡ RunError.Memory (length self.old.entries)) × WantsMemory self.old (Turn.Step actor)) }
         ensures err { OnErr result (self.new ≡ self.old) }
     {
@@ -160,15 +173,37 @@ impl<A: Allocator + Copy> Core<A> {
             return Err(RunError::Memory(number));
         }
         let place = &mut self.actors[usize::from(actor)];
-        let stepped = take_step(place, actor, &mut self.memory, ready);
-        let event = stepped.event(&self.memory);
-        let Stepped {
-            step,
-            answer,
-            reply,
-        } = stepped;
+        let stepped = go_on(place, actor, &mut self.memory, ready);
+        let link = stepped.link(&self.memory);
+        let Stepped { step, answer } = stepped;
         self.trace
-            .push(SharedEntry::step(actor, step, answer, reply));
+            .push(SharedEntry::step(actor, step, answer, None));
+        Ok(link)
+    }
+
+    /// Takes the leave that an operation wants; refused only where the trace has no room left and gets none, or it ends a page.
+    fn leave(&mut self, actor: u8) -> Result<Event, RunError>
+        requires goes { refusal_of self.old (Turn.Step actor) ≡ None }
+        requires leaves { LeavesAt self.old actor }
+        ensures ok { IfOk result (λ event. AddsTurn self.old (Turn.Step actor) event self.new) }
+        ensures memory { IfErr result (λ error. (error ≡ RunError.Memory (length self.old.entries)) × WantsMemory self.old (Turn.Step actor)) }
+        ensures err { OnErr result (self.new ≡ self.old) }
+    {
+        steps_keep_laws();
+        entries_grow();
+        let number = self.turns();
+        let place = &self.actors[usize::from(actor)];
+        let Ok(room) = room(self.alloc, place) else {
+            return Err(RunError::Memory(number));
+        };
+        if self.trace.reserve().is_err() {
+            return Err(RunError::Memory(number));
+        }
+        let place = &mut self.actors[usize::from(actor)];
+        let reply = leave(place, actor, &mut self.memory, room);
+        let event = event_of(&reply);
+        self.trace
+            .push(SharedEntry::step(actor, Step::Leave, Answer::Done, reply));
         Ok(event)
     }
 }
@@ -215,6 +250,22 @@ impl<A: Allocator> Core<A> {
         match self.actors.get(usize::from(actor)) {
             None => None,
             Some(actor) => Some(actor.is_running()),
+        }
+    }
+
+    /// The actor of a step after which its operation goes on; none for a turn that begins an operation or ends it.
+    fn goes_on(&self, turn: &Turn) -> Option<u8>
+        requires goes { refusal_of self.now turn.now ≡ None }
+        ensures some { IfSome result (λ actor. (turn.now ≡ Turn.Step actor) × (LeavesAt self.now actor → ⊥)) }
+        ensures none { result ≡ None → IsLast self.now turn.now }
+    {
+        let Turn::Step(actor) = turn else {
+            return None;
+        };
+        if self.actors[usize::from(*actor)].is_leaving() {
+            None
+        } else {
+            Some(*actor)
         }
     }
 

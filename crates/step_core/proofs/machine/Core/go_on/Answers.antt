@@ -1,50 +1,47 @@
-use Rattle.std.proofs.Common.{◌≡◌, ap, inl, refl, sym, subst, ◌∙◌, arith}
-use Rattle.std.specs.Prelude.{IsSome, Some}
-use Rattle.actors.specs.Actors.{Actor, wanted_by}
-use Rattle.step_core.specs.Actors.{NeedsRoom}
-use Rattle.step_core.proofs.Replaced.{get_same}
+use Rattle.std.proofs.Common.{None, ap, inl, refl, ◌∙◌, arith}
 use Rattle.chain_search.specs.Steps.{memory_after}
 use Rattle.chain_search.specs.Knowledge.{knows}
 use Rattle.chain_search.specs.Recalled.{recalls}
 use Rattle.chain_search.specs.declared.trace.Entry.TheVariants.{Step}
-use Rattle.step_core.proofs.Cored.{core_affords, core_asks, core_stepped, core_took, core_wants, step_goes}
+use Rattle.step_core.proofs.Cored.{core_affords, core_asks, core_leaves, core_stepped, core_took, core_wants, step_goes}
 use Rattle.step_core.proofs.Lawful.{heads}
 use Rattle.step_core.proofs.Linked.{event_is, told_to}
 use Rattle.step_core.proofs.Reserving.{granted, refused}
-use Rattle.step_core.proofs.machine.Core.step.Goals as goal
+use Rattle.step_core.proofs.machine.Core.go_on.Goals as goal
+use Rattle.step_core.specs.declared.event.Event.TheVariants.{Stepped}
 use Rattle.step_core.specs.declared.event.RunError.TheVariants.{Memory}
 
 pub invariant_of-self-2 : goal.invariant_of-self-2
 invariant_of-self-2 g c =
     let asks = core_asks _ c.steps_keep_laws.ensures.apart c.steps_keep_laws.ensures.fit _ _ _ _ _ _ c.self.invariant _ _ c.self.view_is c.requires.goes c.from-2.ensures c.index_mut-place.ensures.value in
-    let goes = c.take_step-stepped.ensures.goes _ _ _ asks.2 in
-    let took = core_took _ c.steps_keep_laws.ensures.apart _ _ _ _ c.take_step-stepped.result.step c.take_step-stepped.result.answer c.self.invariant c.take_step-stepped.ensures.answer goes.allowed.may in
+    let goes = c.go_on-stepped.ensures.goes _ _ _ asks.2 in
+    let took = core_took _ c.steps_keep_laws.ensures.apart _ _ _ _ c.go_on-stepped.result.step c.go_on-stepped.result.answer c.self.invariant c.go_on-stepped.ensures.answer goes.allowed.may in
     let affords = core_affords _ _ _ _ _ _ _ c.self.invariant c.from-2.ensures asks.1 c.index_mut-place.ensures.value in
     let stays = c.steps_keep_laws.ensures.direct _ _ _ _ _ _ _ _ c.self.invariant.state goes.allowed goes.useful took.1 c.self.invariant.direct affords goes.spends in
-    core_stepped _ c.steps_keep_laws.ensures.state _ _ _ _ _ _ _ _ _ c.take_step-stepped.result.step c.take_step-stepped.result.answer c.take_step-stepped.result.reply c.self.invariant c.from-2.ensures asks.1
-    c.index_mut-place.ensures.value asks.3 goes.allowed goes.shows c.take_step-stepped.ensures.command (c.entries_grow.ensures _ c.self.inside.trace.entries (Step c.args.actor c.take_step-stepped.result.step c.take_step-stepped.result.answer c.take_step-stepped.result.reply)) stays c.take_step-stepped.ensures.limits took.1 c.take_step-stepped.ensures.memory (rw (c.step.ensures, c.reserve.ensures.entries) at c.push.ensures)
+    core_stepped _ c.steps_keep_laws.ensures.state _ _ _ _ _ _ _ _ _ c.go_on-stepped.result.step c.go_on-stepped.result.answer None c.self.invariant c.from-2.ensures asks.1
+    c.index_mut-place.ensures.value asks.3 goes.allowed goes.shows c.go_on-stepped.ensures.command (c.entries_grow.ensures _ c.self.inside.trace.entries (Step c.args.actor c.go_on-stepped.result.step c.go_on-stepped.result.answer None)) stays c.go_on-stepped.ensures.limits took.1 c.go_on-stepped.ensures.memory (rw (c.step.ensures, c.reserve.ensures.entries) at c.push.ensures)
 
 pub returns-clause-ok : goal.returns-clause-ok
 returns-clause-ok g c =
     let asks = core_asks _ c.steps_keep_laws.ensures.apart c.steps_keep_laws.ensures.fit _ _ _ _ _ _ c.self.invariant _ _ c.self.view_is c.requires.goes c.from-2.ensures c.index_mut-place.ensures.value in
-    let goes = c.take_step-stepped.ensures.goes _ _ _ asks.2 in
-    let took = core_took _ c.steps_keep_laws.ensures.apart _ _ _ _ c.take_step-stepped.result.step c.take_step-stepped.result.answer c.self.invariant c.take_step-stepped.ensures.answer goes.allowed.may in
+    let goes = c.go_on-stepped.ensures.goes _ _ _ asks.2 in
+    let took = core_took _ c.steps_keep_laws.ensures.apart _ _ _ _ c.go_on-stepped.result.step c.go_on-stepped.result.answer c.self.invariant c.go_on-stepped.ensures.answer goes.allowed.may in
     record {
-      added = Step c.args.actor c.take_step-stepped.result.step c.take_step-stepped.result.answer c.take_step-stepped.result.reply;
+      added = Step c.args.actor c.go_on-stepped.result.step c.go_on-stepped.result.answer None;
       entries = rw (← c.self.view_is) (rw (c.step.ensures, c.reserve.ensures.entries) at c.push.ensures);
       of_turn = refl;
       told = rw (← c.self.view_is) took.1;
-      event_of = told_to _ _ (Step c.args.actor c.take_step-stepped.result.step c.take_step-stepped.result.answer c.take_step-stepped.result.reply) c.event-event.result c.self.view_is (event_is _ _ c.args.actor _ _ _ _ (c.take_step-stepped.ensures.memory ∙ ap (memory_after c.args.actor c.take_step-stepped.result.step) c.self.invariant.has) (heads _ _ c.self.invariant.state c.steps_keep_laws.ensures.heads) took.0 took.1 c.event-event.ensures);
+      event_of = told_to _ _ (Step c.args.actor c.go_on-stepped.result.step c.go_on-stepped.result.answer None) (Stepped c.link-link.result) c.self.view_is (event_is _ _ c.args.actor _ _ None _ (c.go_on-stepped.ensures.memory ∙ ap (memory_after c.args.actor c.go_on-stepped.result.step) c.self.invariant.has) (heads _ _ c.self.invariant.state c.steps_keep_laws.ensures.heads) took.0 took.1 (ap Stepped c.link-link.ensures));
       same_limits = rw (← c.self.view_is) refl;
     }
 
-pub take_step-stepped-requires-clause-knows : goal.take_step-stepped-requires-clause-knows
-take_step-stepped-requires-clause-knows g c =
+pub go_on-stepped-requires-clause-knows : goal.go_on-stepped-requires-clause-knows
+go_on-stepped-requires-clause-knows g c =
     let asks = core_asks _ c.steps_keep_laws.ensures.apart c.steps_keep_laws.ensures.fit _ _ _ _ _ _ c.self.invariant _ _ c.self.view_is c.requires.goes c.from-2.ensures c.index_mut-place.ensures.value in
     (c.self.inside.limits, knows c.self.inside.trace.entries c.args.actor, recalls c.self.inside.trace.entries c.args.actor, asks.2)
 
-pub take_step-stepped-requires-clause-within : goal.take_step-stepped-requires-clause-within
-take_step-stepped-requires-clause-within g c =
+pub go_on-stepped-requires-clause-within : goal.go_on-stepped-requires-clause-within
+go_on-stepped-requires-clause-within g c =
     (core_asks _ c.steps_keep_laws.ensures.apart c.steps_keep_laws.ensures.fit _ _ _ _ _ _ c.self.invariant _ _ c.self.view_is c.requires.goes c.from-2.ensures c.index_mut-place.ensures.value).4
 
 pub prepare-requires-clause-running : goal.prepare-requires-clause-running
@@ -73,18 +70,10 @@ index-place-requires g c =
     let there = (rw (← c.self.view_is) at (step_goes c.args.self.now c.args.actor c.requires.goes)).0 in
     omega (arith, c.from.ensures, there, c.self.invariant.count, c.self.inside.actors.ok.0)
 
-pub take_step-stepped-requires-clause-running : goal.take_step-stepped-requires-clause-running
-take_step-stepped-requires-clause-running g c =
+pub go_on-stepped-requires-clause-running : goal.go_on-stepped-requires-clause-running
+go_on-stepped-requires-clause-running g c =
     (core_asks _ c.steps_keep_laws.ensures.apart c.steps_keep_laws.ensures.fit _ _ _ _ _ _ c.self.invariant _ _ c.self.view_is c.requires.goes c.from-2.ensures c.index_mut-place.ensures.value).3
 
-pub take_step-stepped-requires-clause-wanted : goal.take_step-stepped-requires-clause-wanted
-take_step-stepped-requires-clause-wanted g c =
-    let there = (rw (← c.self.view_is) at (step_goes c.args.self.now c.args.actor c.requires.goes)).0 in
-    let same = get_same c.self.inside.actors.items c.from.result c.from-2.result c.index-place.result.now c.index_mut-place.result.now (c.from.ensures ∙ sym c.from-2.ensures) (omega (arith, there, c.from.ensures, c.self.invariant.count)) c.index-place.ensures c.index_mut-place.ensures.value in
-    subst (λ (at : Actor). wanted_by at.running ≡ Some c.in-Ok.ready.step) same c.in-Ok.ensures.wanted
-
-pub take_step-stepped-requires-clause-room : goal.take_step-stepped-requires-clause-room
-take_step-stepped-requires-clause-room g c =
-    let there = (rw (← c.self.view_is) at (step_goes c.args.self.now c.args.actor c.requires.goes)).0 in
-    let same = get_same c.self.inside.actors.items c.from.result c.from-2.result c.index-place.result.now c.index_mut-place.result.now (c.from.ensures ∙ sym c.from-2.ensures) (omega (arith, there, c.from.ensures, c.self.invariant.count)) c.index-place.ensures c.index_mut-place.ensures.value in
-    subst (λ (at : Actor). NeedsRoom at → IsSome c.in-Ok.ready.room) same c.in-Ok.ensures.room
+pub go_on-stepped-requires-clause-stays : goal.go_on-stepped-requires-clause-stays
+go_on-stepped-requires-clause-stays g c = λ leaves.
+    c.requires.stays (core_leaves _ _ _ _ _ _ c.index_mut-place.result.now _ c.self.invariant _ c.self.view_is c.requires.goes c.from-2.ensures c.index_mut-place.ensures.value leaves)

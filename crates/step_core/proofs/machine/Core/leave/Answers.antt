@@ -1,0 +1,85 @@
+use Rattle.std.proofs.Common.{ap, inl, refl, sym, subst, ◌∙◌, arith}
+use Rattle.std.specs.Prelude.{IsSome}
+use Rattle.bw_model.specs.declared.step.Answer.TheVariants.{Done}
+use Rattle.bw_model.specs.declared.step.Step.TheVariants.{Leave}
+use Rattle.actors.specs.Actors.{Actor}
+use Rattle.step_core.specs.Actors.{NeedsRoom}
+use Rattle.step_core.proofs.Replaced.{get_same}
+use Rattle.chain_search.specs.Steps.{memory_after}
+use Rattle.chain_search.specs.Knowledge.{knows}
+use Rattle.chain_search.specs.Recalled.{recalls}
+use Rattle.chain_search.specs.declared.trace.Entry.TheVariants.{Step}
+use Rattle.step_core.proofs.Cored.{core_affords, core_asks, core_leaving, core_stepped, core_took, core_wants, step_goes}
+use Rattle.step_core.proofs.Lawful.{heads}
+use Rattle.step_core.proofs.Linked.{event_is, told_to}
+use Rattle.step_core.proofs.Reserving.{granted, refused}
+use Rattle.step_core.proofs.machine.Core.leave.Goals as goal
+use Rattle.step_core.specs.declared.event.RunError.TheVariants.{Memory}
+
+pub invariant_of-self-2 : goal.invariant_of-self-2
+invariant_of-self-2 g c =
+    let asks = core_asks _ c.steps_keep_laws.ensures.apart c.steps_keep_laws.ensures.fit _ _ _ _ _ _ c.self.invariant _ _ c.self.view_is c.requires.goes c.from-2.ensures c.index_mut-place.ensures.value in
+    let goes = c.leave-reply.ensures.goes _ _ _ asks.2 in
+    let took = core_took _ c.steps_keep_laws.ensures.apart _ _ _ _ Leave Done c.self.invariant refl goes.allowed.may in
+    let affords = core_affords _ _ _ _ _ _ _ c.self.invariant c.from-2.ensures asks.1 c.index_mut-place.ensures.value in
+    let stays = c.steps_keep_laws.ensures.direct _ _ _ _ _ _ _ _ c.self.invariant.state goes.allowed goes.useful took.1 c.self.invariant.direct affords goes.spends in
+    core_stepped _ c.steps_keep_laws.ensures.state _ _ _ _ _ _ _ _ _ Leave Done c.leave-reply.result c.self.invariant c.from-2.ensures asks.1
+    c.index_mut-place.ensures.value asks.3 goes.allowed goes.shows c.leave-reply.ensures.command (c.entries_grow.ensures _ c.self.inside.trace.entries (Step c.args.actor Leave Done c.leave-reply.result)) stays c.leave-reply.ensures.limits took.1 c.leave-reply.ensures.memory (rw (c.step.ensures, c.reserve.ensures.entries) at c.push.ensures)
+
+pub returns-clause-ok : goal.returns-clause-ok
+returns-clause-ok g c =
+    let asks = core_asks _ c.steps_keep_laws.ensures.apart c.steps_keep_laws.ensures.fit _ _ _ _ _ _ c.self.invariant _ _ c.self.view_is c.requires.goes c.from-2.ensures c.index_mut-place.ensures.value in
+    let goes = c.leave-reply.ensures.goes _ _ _ asks.2 in
+    let took = core_took _ c.steps_keep_laws.ensures.apart _ _ _ _ Leave Done c.self.invariant refl goes.allowed.may in
+    record {
+      added = Step c.args.actor Leave Done c.leave-reply.result;
+      entries = rw (← c.self.view_is) (rw (c.step.ensures, c.reserve.ensures.entries) at c.push.ensures);
+      of_turn = refl;
+      told = refl;
+      event_of = told_to _ _ (Step c.args.actor Leave Done c.leave-reply.result) c.event_of-event.result c.self.view_is (event_is _ _ c.args.actor Leave Done c.leave-reply.result c.event_of-event.result (c.leave-reply.ensures.memory ∙ ap (memory_after c.args.actor Leave) c.self.invariant.has) (heads _ _ c.self.invariant.state c.steps_keep_laws.ensures.heads) took.0 took.1 c.event_of-event.ensures);
+      same_limits = rw (← c.self.view_is) refl;
+    }
+
+pub leave-reply-requires-clause-knows : goal.leave-reply-requires-clause-knows
+leave-reply-requires-clause-knows g c =
+    let asks = core_asks _ c.steps_keep_laws.ensures.apart c.steps_keep_laws.ensures.fit _ _ _ _ _ _ c.self.invariant _ _ c.self.view_is c.requires.goes c.from-2.ensures c.index_mut-place.ensures.value in
+    (c.self.inside.limits, knows c.self.inside.trace.entries c.args.actor, recalls c.self.inside.trace.entries c.args.actor, asks.2)
+
+pub leave-reply-requires-clause-within : goal.leave-reply-requires-clause-within
+leave-reply-requires-clause-within g c =
+    (core_asks _ c.steps_keep_laws.ensures.apart c.steps_keep_laws.ensures.fit _ _ _ _ _ _ c.self.invariant _ _ c.self.view_is c.requires.goes c.from-2.ensures c.index_mut-place.ensures.value).4
+
+pub returns-in_default-clause-memory : goal.returns-in_default-clause-memory
+returns-in_default-clause-memory g c =
+    (ap Memory c.turns-number.ensures, core_wants _ _ _ _ _ _ _ _ c.self.invariant _ c.self.view_is c.requires.goes c.from.ensures c.index-place.ensures c.in_default.ensures.err)
+
+pub returns-then-is_err-clause-memory : goal.returns-then-is_err-clause-memory
+returns-then-is_err-clause-memory g c = (ap Memory c.turns-number.ensures, inl (rw (← c.self.view_is) (refused c.reserve.result _ c.is_err.result c.is_err.ensures.value c.if-is_err.true c.reserve.ensures.full)))
+
+pub returns-then-is_err-clause-err : goal.returns-then-is_err-clause-err
+returns-then-is_err-clause-err g c = rw (refused c.reserve.result _ c.is_err.result c.is_err.ensures.value c.if-is_err.true c.reserve.ensures.err) c.self.view_is
+
+pub push-requires : goal.push-requires
+push-requires g c = granted c.reserve.result _ c.is_err.result c.is_err.ensures.value c.if-is_err.false c.reserve.ensures.ok
+
+pub index-place-requires : goal.index-place-requires
+index-place-requires g c =
+    let there = (rw (← c.self.view_is) at (step_goes c.args.self.now c.args.actor c.requires.goes)).0 in
+    omega (arith, c.from.ensures, there, c.self.invariant.count, c.self.inside.actors.ok.0)
+
+pub leave-reply-requires-clause-running : goal.leave-reply-requires-clause-running
+leave-reply-requires-clause-running g c =
+    (core_asks _ c.steps_keep_laws.ensures.apart c.steps_keep_laws.ensures.fit _ _ _ _ _ _ c.self.invariant _ _ c.self.view_is c.requires.goes c.from-2.ensures c.index_mut-place.ensures.value).3
+
+pub leave-reply-requires-clause-room : goal.leave-reply-requires-clause-room
+leave-reply-requires-clause-room g c =
+    let there = (rw (← c.self.view_is) at (step_goes c.args.self.now c.args.actor c.requires.goes)).0 in
+    let same = get_same c.self.inside.actors.items c.from.result c.from-2.result c.index-place.result.now c.index_mut-place.result.now (c.from.ensures ∙ sym c.from-2.ensures) (omega (arith, there, c.from.ensures, c.self.invariant.count)) c.index-place.ensures c.index_mut-place.ensures.value in
+    subst (λ (at : Actor). NeedsRoom at → IsSome c.in-Ok.room) same c.in-Ok.ensures.some
+
+pub room-requires : goal.room-requires
+room-requires g c = record { leaves = core_leaving _ _ _ _ _ _ c.index-place.result.now _ c.self.invariant _ c.self.view_is c.requires.goes c.from.ensures c.index-place.ensures c.requires.leaves }
+
+pub leave-reply-requires-clause-leaves : goal.leave-reply-requires-clause-leaves
+leave-reply-requires-clause-leaves g c =
+    core_leaving _ _ _ _ _ _ c.index_mut-place.result.now _ c.self.invariant _ c.self.view_is c.requires.goes c.from-2.ensures c.index_mut-place.ensures.value c.requires.leaves
