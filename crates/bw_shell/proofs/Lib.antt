@@ -4,3 +4,4 @@ pub mod Feeding
 pub mod Weaving
 pub mod Refusals
 pub mod Draws
+pub mod Taken

@@ -5,6 +5,7 @@ use Rattle.bw_model.specs.Schedules.{drawn, schedule_of}
 use Rattle.chain_search.specs.declared.trace.Turn.TheVariants.{Begin as BeginTurn, Step}
 use Rattle.listing.specs.Listed.{IsListing}
 use Rattle.step_core.specs.declared.event.Event.{Event}
+use Rattle.step_core.specs.declared.event.RunError.{RunError}
 use Rattle.step_core.specs.declared.event.Event.TheVariants as event
 use Rattle.shell_lines.specs.Request.{Says, IsShortRequest}
 use Rattle.shell_lines.specs.declared.request.Language.{Language}
@@ -14,6 +15,7 @@ use Rattle.bw_shell.specs.declared.turns.Progress.{Progress}
 use Rattle.bw_shell.specs.declared.turns.Progress.TheVariants.{GoesOn, Linked, Done}
 use Rattle.bw_shell.specs.declared.refusal.Refusal.{Refusal}
 use Rattle.bw_shell.specs.declared.refusal.Refusal.TheVariants.{TooLong, Memory, Malformed}
+use Rattle.bw_shell.specs.Refusal.{refusal_by}
 use Rattle.bw_shell.specs.Text.{turned_text, finished_text, listing_text, refused_text}
 use Rattle.bw_shell.specs.Turns.{Trace, is_busy, IsOneMap, TakesTurn, Refuses}
 
@@ -23,6 +25,18 @@ abbrev pub ComesTo : Option Link → Event → Progress → Type 0
 ComesTo until told GoesOn = (made : Option Link) × (told ≡ event.Stepped made) × ((link : Link) → until ≡ Some link → made ≡ Some link → ⊥)
 ComesTo until told Linked = (link : Link) × (until ≡ Some link) × (told ≡ event.Stepped (Some link))
 ComesTo until told (Done reply) = told ≡ event.Done reply
+
+-- the operation goes on behind a turn that told this, and turns are not to stop at it
+abbrev pub IsGoing : Option Link → Result Event RunError → Type 0
+IsGoing until (Ok told) = ComesTo until told GoesOn
+IsGoing until (Err error) = ⊥
+
+-- what a turn that told this comes to, or the refusal
+abbrev pub ToldAs : Option Link → Result Event RunError → Result Progress Refusal → Type 0
+ToldAs until (Ok told) (Ok progress) = ComesTo until told progress
+ToldAs until (Ok told) (Err refusal) = ⊥
+ToldAs until (Err error) (Ok progress) = ⊥
+ToldAs until (Err error) (Err refusal) = refusal ≡ refusal_by error
 
 -- the actor took a turn that comes to this
 abbrev pub TakesOne : Option Link → Trace → ℕ → Progress → Trace → Type 0

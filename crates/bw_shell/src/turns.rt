@@ -1,16 +1,16 @@
 //! Turns of the core.
 
-ghost use Rattle.std.specs.Prelude.{◌≡◌, IfErr, IfOk, OnOk};
+ghost use Rattle.std.specs.Prelude.{◌≡◌, IfErr, IfOk, MatchBool, Ok, OnOk};
 ghost use Rattle.bw_model.specs.Schedules.{schedule_of};
 ghost use Rattle.listing.specs.Listed.{IsListing};
 ghost use Rattle.bw_shell.specs.Turns.{seen, IsOneMap, TakesTurn, Refuses};
-ghost use Rattle.bw_shell.specs.Transcript.{ComesTo, StepTold, TurnsTold};
+ghost use Rattle.bw_shell.specs.Transcript.{ComesTo, IsGoing, StepTold, ToldAs, TurnsTold};
 
 use crate::refusal::Refusal;
 use bw_model::{Command, Key, Link, Reply, Schedule, Value};
 use chain_search::Turn;
 use std::alloc::Global;
-use step_core::{Core, Event};
+use step_core::{Core, Event, RunError};
 
 /// What turns of an actor come to.
 #[derive(Drop)]
@@ -56,17 +56,48 @@ fn progress_of(event: Event, until: Option<Link>) -> Progress
     }
 }
 
+// What a turn that told this comes to.
+fn told_of(told: Result<Event, RunError>, until: Option<Link>) -> Result<Progress, Refusal>
+    requires { told ≡ Ok Event.Began → ⊥ }
+    ensures { ToldAs until told result }
+{
+    match told {
+        Ok(event) => Ok(progress_of(event, until)),
+        Err(error) => Err(Refusal::of_turn(error)),
+    }
+}
+
+// Whether the operation goes on behind a turn that told this, at which turns are not to stop.
+fn goes_on(told: &Result<Event, RunError>, until: Option<Link>) -> bool
+    ensures { MatchBool result (IsGoing until told.now) (IsGoing until told.now → ⊥) }
+{
+    match told {
+        Ok(Event::Stepped(made)) => !(made.is_some() && *made == until),
+        Ok(Event::Done(_)) => false,
+        Ok(Event::Began) => false,
+        Err(_) => false,
+    }
+}
+
+// The number of the actor that is to take a step.
+fn actor_of(core: &Core, actor: u64) -> Result<u8, Refusal>
+    ensures ok { IfOk result (λ number. number ≡ actor) }
+    ensures refused { IfErr result (λ refusal. Refuses (seen core.now) (Turn.Step actor) refusal) }
+{
+    let _ = core;
+    match u8::try_from(actor) {
+        Ok(number) => Ok(number),
+        Err(_) => Err(Refusal::NoActor),
+    }
+}
+
 /// One step of an actor. It stops at an exchange that won with the link, if one is given.
 pub fn step(core: &mut Core, actor: u64, until: Option<Link>) -> Result<Progress, Refusal>
     ensures { StepTold until (seen core.old) actor result (seen core.new) }
 {
-    let Ok(actor) = u8::try_from(actor) else {
-        return Err(Refusal::NoActor);
-    };
-    match core.turn(Turn::Step(actor)) {
-        Ok(event) => Ok(progress_of(event, until)),
-        Err(error) => Err(Refusal::of_turn(error)),
-    }
+    let number = actor_of(core, actor)?;
+    let told = core.turn(Turn::Step(number));
+    told_of(told, until)
 }
 
 /// Up to so many steps of an actor, fewer if it is done, or an exchange won with the link, if one is given.
@@ -79,10 +110,10 @@ pub fn steps(
     ensures { TurnsTold until (seen core.old) actor limit result (seen core.new) }
 {
     for _turn in 0..limit {
-        match step(core, actor, until)? {
-            Progress::GoesOn => {}
-            Progress::Linked => return Ok(Progress::Linked),
-            Progress::Done(reply) => return Ok(Progress::Done(reply)),
+        let number = actor_of(core, actor)?;
+        let told = core.turn(Turn::Step(number));
+        if !goes_on(&told, until) {
+            return told_of(told, until);
         }
     }
     Ok(Progress::GoesOn)
