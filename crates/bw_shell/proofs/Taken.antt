@@ -12,7 +12,7 @@ use Rattle.bw_shell.specs.declared.turns.Progress.{Progress}
 use Rattle.bw_shell.specs.declared.turns.Progress.TheVariants.{GoesOn, Linked, Done}
 use Rattle.bw_shell.specs.declared.refusal.Refusal.{Refusal}
 use Rattle.bw_shell.specs.Refusal.{refusal_by}
-use Rattle.bw_shell.specs.Transcript.{IsGoing, StepTold, StepsOn, ToldAs, TurnsTold}
+use Rattle.bw_shell.specs.Transcript.{IsUnderWay, StepTold, StepsOn, ToldAs, TurnsTold}
 use Rattle.bw_shell.specs.Turns.{Refuses, TakesTurn, Trace, seen}
 use Rattle.bw_shell.proofs.Refusals.{refusal_is, refused_turn}
 
@@ -40,7 +40,7 @@ turn_told old new actor (Err error) refused memory ok err = (refused_turn old (S
 
 -- turns that went on, and one that stops them
 pub steps_told : (until : Option Link) (before : Trace) (actor n limit : ℕ) (mid : Trace) (told : Result Event RunError) (after : Trace) (result : Result Progress Refusal) → StepsOn until before actor n mid → n < limit
-    → TurnTold mid actor told after → (IsGoing until told → ⊥) → ToldAs until told result → TurnsTold until before actor limit result after
+    → TurnTold mid actor told after → (IsUnderWay until told → ⊥) → ToldAs until told result → TurnsTold until before actor limit result after
 steps_told until before actor n limit mid (Ok event) after (Ok GoesOn) on lt took stops comes = absurd (stops comes)
 steps_told until before actor n limit mid (Ok event) after (Ok Linked) on lt took stops comes = (n, lt, mid, on, (event, took, comes))
 steps_told until before actor n limit mid (Ok event) after (Ok (Done reply)) on lt took stops comes = (n, lt, mid, on, (event, took, comes))
@@ -50,6 +50,6 @@ steps_told until before actor n limit mid (Err error) after (Err refusal) on lt 
     (n, lt, subst (StepsOn until before actor n) (sym took.1) on, subst (λ (t : Trace). Refuses t (Step actor) refusal) (sym took.1) (subst (Refuses mid (Step actor)) (sym comes) took.0))
 
 -- a turn that goes on
-pub goes_told : (until : Option Link) (before : Trace) (actor : ℕ) (told : Result Event RunError) (after : Trace) → TurnTold before actor told after → IsGoing until told → StepTold until before actor (Ok GoesOn) after
+pub goes_told : (until : Option Link) (before : Trace) (actor : ℕ) (told : Result Event RunError) (after : Trace) → TurnTold before actor told after → IsUnderWay until told → StepTold until before actor (Ok GoesOn) after
 goes_told until before actor (Ok event) after took going = (event, took, going)
 goes_told until before actor (Err error) after took going = absurd going

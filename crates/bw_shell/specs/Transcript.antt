@@ -27,9 +27,9 @@ ComesTo until told Linked = (link : Link) × (until ≡ Some link) × (told ≡ 
 ComesTo until told (Done reply) = told ≡ event.Done reply
 
 -- the operation goes on behind a turn that told this, and turns are not to stop at it
-abbrev pub IsGoing : Option Link → Result Event RunError → Type 0
-IsGoing until (Ok told) = ComesTo until told GoesOn
-IsGoing until (Err error) = ⊥
+abbrev pub IsUnderWay : Option Link → Result Event RunError → Type 0
+IsUnderWay until (Ok told) = ComesTo until told GoesOn
+IsUnderWay until (Err error) = ⊥
 
 -- what a turn that told this comes to, or the refusal
 abbrev pub ToldAs : Option Link → Result Event RunError → Result Progress Refusal → Type 0

@@ -4,7 +4,7 @@ ghost use Rattle.std.specs.Prelude.{◌≡◌, IfErr, IfOk, MatchBool, Ok, OnOk}
 ghost use Rattle.bw_model.specs.Schedules.{schedule_of};
 ghost use Rattle.listing.specs.Listed.{IsListing};
 ghost use Rattle.bw_shell.specs.Turns.{seen, IsOneMap, TakesTurn, Refuses};
-ghost use Rattle.bw_shell.specs.Transcript.{ComesTo, IsGoing, StepTold, ToldAs, TurnsTold};
+ghost use Rattle.bw_shell.specs.Transcript.{ComesTo, IsUnderWay, StepTold, ToldAs, TurnsTold};
 
 use crate::refusal::Refusal;
 use bw_model::{Command, Key, Link, Reply, Schedule, Value};
@@ -69,7 +69,7 @@ fn told_of(told: Result<Event, RunError>, until: Option<Link>) -> Result<Progres
 
 // Whether the operation goes on behind a turn that told this, at which turns are not to stop.
 fn goes_on(told: &Result<Event, RunError>, until: Option<Link>) -> bool
-    ensures { MatchBool result (IsGoing until told.now) (IsGoing until told.now → ⊥) }
+    ensures { MatchBool result (IsUnderWay until told.now) (IsUnderWay until told.now → ⊥) }
 {
     match told {
         Ok(Event::Stepped(made)) => !(made.is_some() && *made == until),

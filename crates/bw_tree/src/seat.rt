@@ -51,6 +51,7 @@ impl<A: Allocator> BwSeat<A> {
     }
 
     /// Begins an operation, with its first step.
+    #[inline(never)]
     pub(crate) fn begin(&mut self, words: &TreeWords, command: Command)
         requires own { IsOf self.old.limits words.now.key words.now.table_id self.old.table }
         requires idle { unfinished_command self.old ≡ None }

@@ -76,9 +76,9 @@ abbrev pub LeavesAt : Core → ℕ → Type 0
 LeavesAt core actor = slice_get core.demand.wanted actor ≡ Some (Some Leave)
 
 -- the turn begins an operation, or ends it
-abbrev pub IsLast : Core → Turn → Type 0
-IsLast core (Begin actor command) = Unit {0}
-IsLast core (Step actor) = LeavesAt core actor
+abbrev pub BeginsOrLeaves : Core → Turn → Type 0
+BeginsOrLeaves core (Begin actor command) = Unit {0}
+BeginsOrLeaves core (Step actor) = LeavesAt core actor
 
 -- what an exchange that won did, by the memory before it
 abbrev pub link_told : Memory → StepOf Record → Answer Record → Option Link

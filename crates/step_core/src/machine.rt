@@ -3,7 +3,7 @@ ghost use Rattle.std.specs.Prelude.{◌≡◌, ◌<◌, ◌≤◌, ◌&&◌, [],
 ghost use Rattle.chain_search.specs.Trace.{command_of, turn_of};
 ghost use Rattle.listing.specs.Listed.{IsListing};
 ghost use Rattle.op_machine.specs.Linearized.{IsLinearized, IsOrderly};
-ghost use Rattle.step_core.specs.Turns.{AddsTurn, AddsTurns, IsLast, LeavesAt, StopsAt, WantsMemory, busy_of, refusal_of};
+ghost use Rattle.step_core.specs.Turns.{AddsTurn, AddsTurns, BeginsOrLeaves, LeavesAt, StopsAt, WantsMemory, busy_of, refusal_of};
 
 use crate::actor::{Stepped, event_of, go_on, leave, prepare, room};
 use crate::event::{Event, RunError, Trace};
@@ -117,7 +117,7 @@ impl<A: Allocator + Copy> Core<A> {
     #[inline(never)]
     fn begin_or_leave(&mut self, turn: Turn) -> Result<Event, RunError>
         requires goes { refusal_of self.old turn ≡ None }
-        requires ends { IsLast self.old turn }
+        requires ends { BeginsOrLeaves self.old turn }
         ensures ok { IfOk result (λ event. AddsTurn self.old turn event self.new) }
         ensures memory { IfErr result (λ error. (error ≡ RunError.Memory (length self.old.entries)) × WantsMemory self.old turn) }
         ensures err { OnErr result (self.new ≡ self.old) }
@@ -257,7 +257,7 @@ impl<A: Allocator> Core<A> {
     fn goes_on(&self, turn: &Turn) -> Option<u8>
         requires goes { refusal_of self.now turn.now ≡ None }
         ensures some { IfSome result (λ actor. (turn.now ≡ Turn.Step actor) × (LeavesAt self.now actor → ⊥)) }
-        ensures none { result ≡ None → IsLast self.now turn.now }
+        ensures none { result ≡ None → BeginsOrLeaves self.now turn.now }
     {
         let Turn::Step(actor) = turn else {
             return None;

@@ -2,13 +2,13 @@ use Rattle.std.proofs.Common.{◌≡◌, None, sym, subst}
 use Rattle.chain_search.specs.declared.trace.Turn.{Turn}
 use Rattle.chain_search.specs.declared.trace.Turn.TheVariants.{Step}
 use Rattle.step_core.proofs.Cored.{core_leaves, core_leaving}
-use Rattle.step_core.specs.Turns.{IsLast, refusal_of}
+use Rattle.step_core.specs.Turns.{BeginsOrLeaves, refusal_of}
 use Rattle.step_core.proofs.machine.Core.goes_on.Goals as goal
 
 pub returns-then-is_leaving-clause-none : goal.returns-then-is_leaving-clause-none
 returns-then-is_leaving-clause-none g c = λ none.
     let goes : refusal_of c.args.self.now (Step c.in-Step.actor) ≡ None = subst (λ (t : Turn). refusal_of c.args.self.now t ≡ None) c.in-Step.is c.requires.goes in
-    subst (λ (t : Turn). IsLast c.args.self.now t) (sym c.in-Step.is) (core_leaves _ _ _ _ _ _ c.index.result.now _ c.self.invariant _ c.self.view_is goes c.from.ensures c.index.ensures c.if-is_leaving.ensures)
+    subst (λ (t : Turn). BeginsOrLeaves c.args.self.now t) (sym c.in-Step.is) (core_leaves _ _ _ _ _ _ c.index.result.now _ c.self.invariant _ c.self.view_is goes c.from.ensures c.index.ensures c.if-is_leaving.ensures)
 
 pub returns-else-is_leaving-clause-some : goal.returns-else-is_leaving-clause-some
 returns-else-is_leaving-clause-some g c =
