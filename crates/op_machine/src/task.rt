@@ -97,8 +97,8 @@ impl Task {
         Sweep::begin(&self.limits, self.actor, limbo)
     }
 
-    /// A new round: for the newest errand, or for the command's key. The state that follows is written where it is kept, here and
-    /// below: it has 31 KB, and each function on the way that returned it would have room for one more.
+    /// A new round: for the newest errand, or for the command's key. Here and below, the state that follows is written where it is
+    /// kept: it is large, and each function on the way that returned it would have room for one more.
     pub(crate) fn round(&self, state: &mut State)
         ensures stands { (spares : Spares) (k : Knowledge) (r : Recalled) → Seeks self.now spares k → Stands self.now spares k r state.new }
         ensures few { (spares : Spares) (r : Recalled) → left_at r spares state.new ≤ one_round }
