@@ -140,3 +140,30 @@ fn refuses_turns(rt: HostRuntime) -> Result<(), Fail> {
     );
     Ok(())
 }
+
+/// The two inserts with another turn in a place, as `run` refuses them, where a core refuses them the same, and has taken the turns before.
+fn refused_at(alloc: Global, at: u8, turn: Turn) -> Option<RunError> {
+    let limits = Limits::new(1, 64, 64, 1).ok()?;
+    let mut turns = inserts(alloc).ok()?;
+    *turns.get_mut(usize::from(at))? = turn;
+    let mut core = Core::open(alloc, limits).ok()?;
+    let refused = core.take_turns(turns.as_slice()).err()?;
+    if core.turns() == u64::from(at) && refusal(alloc, limits, turns.as_slice()) == Some(refused) {
+        Some(refused)
+    } else {
+        None
+    }
+}
+
+#[test]
+fn refuses_by_the_turns_before(rt: HostRuntime) -> Result<(), Fail> {
+    let alloc = rt.alloc();
+    let again = insert(b"b", b"4");
+    let refused = [
+        refused_at(alloc, 10, Turn::Begin(0, again)) == Some(RunError::Unfinished(10)),
+        refused_at(alloc, 11, Turn::Step(0)) == Some(RunError::NoOperation(11)),
+        refused_at(alloc, 12, Turn::Begin(0, again)) == Some(RunError::Unfinished(12)),
+    ];
+    assert_eq!(rt; refused, [true; 3]);
+    Ok(())
+}
