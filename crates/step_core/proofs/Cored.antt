@@ -23,7 +23,7 @@ use Rattle.chain_search.specs.Knowledge.{Knowledge, begun, finished, knows, know
 use Rattle.tree_law.specs.Direct.{IsDirectState, StaysDirect}
 use Rattle.tree_law.specs.Own.{RowsAreApart}
 use Rattle.tree_law.specs.State.{IsState}
-use Rattle.tree_law.specs.TraceLaws.{AnswersFit, Begins, Grows, Steps}
+use Rattle.tree_law.specs.TraceLaws.{AnswersFit, BeginsKeep, Grows, Steps}
 use Rattle.chain_search.specs.Recalled.{Recalled, blank, recall, recalls, recalls_after}
 use Rattle.actors.specs.Actors.{Actor, IsActor, command_left, idle_actor, knows_then, running_command, wanted_by}
 use Rattle.actors.specs.Spending.{steps_due}
@@ -151,7 +151,7 @@ module _ (limits : Limits) where
       let (found, wanted) = core_wanted table actors entries i j old room core v is refusal same at in
       inr (wanted_by old.running, wanted, subst (λ c. KeepsMore c (wanted_by old.running)) (core.each_running i old found ∙ ap (λ (u : Core). command_of u.entries i) is) keeps)
 
-  pub core_begun : Begins IsState → (table : Table) (actors : List Actor) (entries entries' : List Entry) (i j : ℕ) (new : Actor) (command : Command) → IsCore limits table actors entries
+  pub core_begun : BeginsKeep IsState → (table : Table) (actors : List Actor) (entries entries' : List Entry) (i j : ℕ) (new : Actor) (command : Command) → IsCore limits table actors entries
       → (demand : Demand) (v : Core) → record { limits = limits; entries = entries; demand = demand } ≡ v → refusal_of v (turn.Begin i command) ≡ None → j ≡ i
       → IsActor limits i (begun (knows entries i) command) blank new → running_command new ≡ Some command → Grows limits entries (Begin i command) → StaysDirect limits entries (Begin i command) i (steps_due blank new.hand new.running)
       → entries' ≡ entries ++ Begin i command ∷ [] → IsCore limits table (set actors j new) entries'

@@ -1,48 +1,15 @@
 -- A run that ends early.
-use Rattle.std.proofs.Common.{◌≡◌, ◌<◌, ◌≤◌, ◌+◌, ℕ, zero, suc, List, [], ◌∷◌, ◌++◌, length, take, map, append_assoc, Option, Some, None, refl, subst, sym, ap, ◌∙◌, inr, arith}
-use Rattle.std.specs.Prelude.{slice_get, unwrap_or}
+use Rattle.std.proofs.Common.{◌≡◌, ◌+◌, ℕ, zero, suc, List, [], ◌∷◌, ◌++◌, take, map, append_assoc, Some, refl, subst, sym, ap, ◌∙◌, inr, arith}
+use Rattle.std.specs.Prelude.{slice_get}
 use Rattle.std.proofs.lemmas.List.{append-nil, map-append}
 use Rattle.bw_model.specs.declared.limits.Limits.{Limits}
 use Rattle.chain_search.specs.declared.trace.Turn.{Turn}
 use Rattle.chain_search.specs.Trace.{turn_of}
 use Rattle.op_machine.specs.Linearized.{IsLinearized, IsOrderly}
 use Rattle.step_core.specs.declared.event.RunError.{RunError}
-use Rattle.step_core.specs.declared.event.RunError.TheVariants.{Memory}
 use Rattle.step_core.specs.declared.event.Event.{Event}
-use Rattle.step_core.specs.Turns.{AddsTurn, AddsTurns, Core, refusal_of, Stops, StopsAt}
-use Rattle.step_core.proofs.Replaced.{get_below}
+use Rattle.step_core.specs.Turns.{AddsTurn, AddsTurns, Core, Stops, StopsAt}
 
-mapped_length : {X Y : Type 0} (f : X → Y) (xs : List X) → length (map f xs) ≡ length xs
-mapped_length f [] = refl
-mapped_length f (x ∷ xs) = ap suc (mapped_length f xs)
-
-taken_length : {X : Type 0} (xs : List X) (n : ℕ) → n ≤ length xs → length (take n xs) ≡ n
-taken_length xs zero h = refl
-taken_length [] (suc n) h = absurd (omega arith)
-taken_length (x ∷ xs) (suc n) h = ap suc (taken_length xs n (omega arith))
-
-pub stops : (limits : Limits) (turns : List Turn) (v : Core) (i : ℕ) (next : Turn) (e : RunError) → map turn_of v.entries ≡ take i turns → v.limits ≡ limits → i < length turns → slice_get turns i ≡ Some next
-    → ((f : RunError) → refusal_of v next ≡ Some f → e ≡ f) → (refusal_of v next ≡ None → e ≡ Memory (length v.entries)) → IsLinearized v.limits (map turn_of v.entries) v.entries → Stops limits turns e
-stops limits turns v i next e taken same lt at refused memory linear = record {
-  entries = v.entries;
-  taken = rw long taken;
-  why = inr (next, refusal_of v next, rw long at, lin, (λ demand. rw (sym same) refl), go (refusal_of v next) refl);
-}
-  where
-    long : length v.entries ≡ i
-    long = sym (mapped_length turn_of v.entries) ∙ ap length taken ∙ taken_length turns i (omega arith)
-
-    all : map turn_of v.entries ≡ take (length v.entries) turns
-    all = rw long taken
-
-    lin : IsLinearized limits (take (length v.entries) turns) v.entries
-    lin = subst (λ ts. IsLinearized limits ts v.entries) all (subst (λ l. IsLinearized l (map turn_of v.entries) v.entries) same linear)
-
-    go : (o : Option RunError) → refusal_of v next ≡ o → e ≡ unwrap_or o (Memory (length v.entries))
-    go None h = memory h
-    go (Some f) h = refused f h
-
--- ---- many turns
 pub adds_push : (old mid new : Core) (turns : List Turn) (turn : Turn) (event : Event) → AddsTurns old turns mid → AddsTurn mid turn event new → AddsTurns old (turns ++ turn ∷ []) new
 adds_push old mid new [] turn event same adds = (new, event, subst (λ m. AddsTurn m turn event new) same adds, refl)
 adds_push old mid new (first ∷ turns) turn event (next, did, adds, rest) last = (next, did, adds, adds_push next mid new turns turn event rest last)
@@ -64,15 +31,25 @@ adds_entries old new (turn ∷ turns) (next, event, adds, rest) =
     let one : map turn_of next.entries ≡ map turn_of old.entries ++ turn ∷ [] = ap (map turn_of) adds.entries ∙ map-append turn_of old.entries (adds.added ∷ []) ∙ ap (λ t. map turn_of old.entries ++ t ∷ []) adds.of_turn in
     (later.0 ∙ ap (λ ts. ts ++ turns) one ∙ append_assoc (map turn_of old.entries) (turn ∷ []) turns, later.1 ∙ adds.same_limits)
 
+-- its entries stay in order under the limits that it was opened with
+pub orderly : (limits : Limits) (new : Core) → new.limits ≡ limits → IsOrderly new.limits new.entries → IsOrderly limits new.entries
+orderly limits new same is = subst (λ l. IsOrderly l new.entries) same is
+
 -- a run that opens a core and takes the turns
-pub stops_at : (limits : Limits) (turns : List Turn) (old new : Core) (e : RunError) → old.entries ≡ [] → old.limits ≡ limits → StopsAt old turns e new → IsLinearized new.limits (map turn_of new.entries) new.entries → Stops limits turns e
-stops_at limits turns old new e none same at linear =
-    let adds = adds_entries old new (take at.count turns) at.added in
-    stops limits turns new at.count at.next e (adds.0 ∙ ap (λ es. map turn_of es ++ take at.count turns) none) (adds.1 ∙ same) (get_below turns at.count at.next at.is_next) at.is_next at.refused (λ h. (at.memory h).0) linear
+pub stops : (limits : Limits) (turns : List Turn) (opened left : Core) (e : RunError) → opened.entries ≡ [] → opened.limits ≡ limits → StopsAt opened turns e left → IsLinearized left.limits (map turn_of left.entries) left.entries → IsOrderly left.limits left.entries → Stops limits turns e
+stops limits turns opened left e empty same at linear in_order =
+    let adds = adds_entries opened left (take at.count turns) at.added in
+    let now : left.limits ≡ limits = adds.1 ∙ same in
+    inr (record {
+      opened = opened;
+      empty = empty;
+      opened_at = same;
+      left = left;
+      stops = at;
+      linearized = subst (λ l. IsLinearized l (map turn_of left.entries) left.entries) now linear;
+      orderly = orderly limits left now in_order;
+    })
 
 -- a run that took all of them
 pub whole : (limits : Limits) (turns : List Turn) (new : Core) → map turn_of new.entries ≡ turns → new.limits ≡ limits → IsLinearized new.limits (map turn_of new.entries) new.entries → IsLinearized limits turns new.entries
 whole limits turns new all same linear = subst (λ ts. IsLinearized limits ts new.entries) all (subst (λ l. IsLinearized l (map turn_of new.entries) new.entries) same linear)
-
-pub orderly : (limits : Limits) (new : Core) → new.limits ≡ limits → IsOrderly new.limits new.entries → IsOrderly limits new.entries
-orderly limits new same is = subst (λ l. IsOrderly l new.entries) same is

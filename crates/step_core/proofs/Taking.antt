@@ -20,7 +20,7 @@ use Rattle.chain_search.specs.Recalled.{Recalled}
 use Rattle.chain_search.specs.Steps.{IsAnswer}
 use Rattle.installs.specs.Spares.{Spares}
 use Rattle.op_machine.specs.Hands.{Hand}
-use Rattle.op_machine.specs.Shows.{Stands}
+use Rattle.op_machine.specs.Shows.{ShowsState}
 use Rattle.op_machine.specs.Tasks.{Task}
 use Rattle.op_machine.specs.declared.state.State.{State}
 use Rattle.op_machine.specs.declared.state.State.TheVariants.{Begun, Epoch, Enter, Read, Write, Change, Leave, Over}
@@ -49,7 +49,7 @@ asks_page limits actor k reply may shows = elim may.justified [
 ]
 
 -- an operation shows what its actor was asked
-asked_is : (task : Task) (spares : Spares) (k : Knowledge) (r : Recalled) (state : State) → Stands task spares k r state → k.asked.command ≡ Some task.command
+asked_is : (task : Task) (spares : Spares) (k : Knowledge) (r : Recalled) (state : State) → ShowsState task spares k r state → k.asked.command ≡ Some task.command
 asked_is task spares k r Begun h = h.asked.going
 asked_is task spares k r Epoch h = h.asked.going
 asked_is task spares k r (Enter epoch) h = h.0.asked.going

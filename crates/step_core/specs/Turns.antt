@@ -1,5 +1,5 @@
 -- A core as its callers see it, what it refuses, and what a turn adds.
-use Rattle.std.specs.Prelude.{◌≡◌, ℕ, List, [], ◌∷◌, ◌++◌, length, Option, Some, None, Bool, true, false, is_some, nat_lt, if◌then◌else◌, slice_get, take, map, unwrap_or, ◌⊎◌, ◌≤◌}
+use Rattle.std.specs.Prelude.{◌≡◌, ℕ, List, [], ◌∷◌, ◌++◌, length, Option, Some, None, Bool, true, false, is_some, nat_lt, if◌then◌else◌, slice_get, take, map, ◌⊎◌, ◌≤◌}
 use Rattle.bw_model.specs.declared.command.Command.{Command}
 use Rattle.bw_model.specs.declared.command.Command.TheVariants.{Page}
 use Rattle.bw_model.specs.declared.command.Reply.{Reply}
@@ -17,7 +17,7 @@ use Rattle.chain_search.specs.declared.trace.Turn.TheVariants.{Begin, Step}
 use Rattle.chain_search.specs.Steps.{IsAnswer, MovesRecord}
 use Rattle.chain_search.specs.Trace.{command_of, memory_of, turn_of}
 use Rattle.deltas.specs.Memory.{Memory}
-use Rattle.op_machine.specs.Linearized.{IsLinearized}
+use Rattle.op_machine.specs.Linearized.{IsLinearized, IsOrderly}
 use Rattle.op_machine.specs.Links.{link_of}
 use Rattle.step_core.specs.declared.event.RunError.{RunError}
 use Rattle.step_core.specs.declared.event.RunError.TheVariants.{NoActor, Unfinished, NoOperation, Memory as OutOfMemory}
@@ -130,14 +130,16 @@ pub record StopsAt (old : Core) (turns : List Turn) (error : RunError) (new : Co
   pub refused : (refusal : RunError) → refusal_of new next ≡ Some refusal → error ≡ refusal
   pub memory : refusal_of new next ≡ None → (error ≡ OutOfMemory (length new.entries)) × WantsMemory new next
 
--- what the trace says of a turn, whatever the core wants memory for
-abbrev pub IsRefusal : Limits → List Entry → Turn → Option RunError → Type 0
-IsRefusal limits entries turn refusal = (demand : Demand) → refusal_of (record { limits = limits; entries = entries; demand = demand }) turn ≡ refusal
+-- A core was opened, took turns, and refused the next one; what it took is linearized.
+pub record StopsOnTheWay (limits : Limits) (turns : List Turn) (error : RunError) : Type 0 where
+  pub opened : Core
+  pub empty : opened.entries ≡ []
+  pub opened_at : opened.limits ≡ limits
+  pub left : Core
+  pub stops : StopsAt opened turns error left
+  pub linearized : IsLinearized limits (map turn_of left.entries) left.entries
+  pub orderly : IsOrderly limits left.entries
 
--- A run of the turns ends early. No core was opened, for want of memory; or some turns were taken, and the next one was refused,
--- for want of memory only where nothing else refuses it.
-pub record Stops (limits : Limits) (turns : List Turn) (error : RunError) : Type 0 where
-  pub entries : List Entry
-  pub taken : map turn_of entries ≡ take (length entries) turns
-  pub why : ((entries ≡ []) × (error ≡ OutOfMemory 0))
-      ⊎ ((next : Turn) × (refusal : Option RunError) × (slice_get turns (length entries) ≡ Some next) × IsLinearized limits (take (length entries) turns) entries × IsRefusal limits entries next refusal × (error ≡ unwrap_or refusal (OutOfMemory (length entries))))
+-- A run of the turns ends early: no core was opened, for want of memory, or one stopped on the way.
+abbrev pub Stops : Limits → List Turn → RunError → Type 0
+Stops limits turns error = (error ≡ OutOfMemory 0) ⊎ StopsOnTheWay limits turns error

@@ -1,17 +1,8 @@
 //! The law over runs, beside the code that comes under it, and what the core's turns rest on: laws of the crates below.
-ghost use Rattle.std.specs.Prelude.{List, map};
-ghost use Rattle.bw_model.specs.declared.limits.Limits.{Limits};
-ghost use Rattle.chain_search.specs.Disciplined.{IsDisciplined};
-ghost use Rattle.chain_search.specs.Trace.{turn_of};
-ghost use Rattle.chain_search.specs.declared.trace.Entry.{Entry};
-ghost use Rattle.op_machine.specs.Index.{IsExactIndex};
-ghost use Rattle.op_machine.specs.Linearized.{IsLinearized};
-ghost use Rattle.op_machine.specs.Phases.{KeepsPhases};
-ghost use Rattle.op_machine.specs.Reuse.{IsFreedByRule};
 ghost use Rattle.tree_law.specs.Direct.{BeginsDirectly, StepsDirectly};
 ghost use Rattle.tree_law.specs.Own.{RowsAreApart};
 ghost use Rattle.tree_law.specs.State.{IsState};
-ghost use Rattle.tree_law.specs.TraceLaws.{AnswersFit, Begins, HeadsStand, StatesFreeByRule, StatesAreIndexed, StatesAreLinearized, StatesKeepPhases, Steps};
+ghost use Rattle.tree_law.specs.TraceLaws.{AnswersFit, BeginsKeep, HeadsStand, RunsAreIndexed, RunsAreLinearized, RunsFreeByRule, RunsKeepPhases, StatesFreeByRule, StatesAreIndexed, StatesAreLinearized, StatesKeepPhases, Steps};
 
 use tree_law::{answers, begins, begins_directly, rows_are_apart, steps, steps_directly};
 
@@ -19,10 +10,10 @@ use tree_law::{answers, begins, begins_directly, rows_are_apart, steps, steps_di
 /// operations took effect one at a time, on one ordered map; pages kept their phases, the index is exact at each moment, and
 /// freeing was by the rule of epochs. It does nothing.
 pub fn disciplined_runs()
-    ensures linearized { (limits : Limits) (entries : List Entry) → IsDisciplined limits entries → IsLinearized limits (map turn_of entries) entries }
-    ensures phases { (limits : Limits) (entries : List Entry) → IsDisciplined limits entries → KeepsPhases limits entries }
-    ensures index { (limits : Limits) (entries : List Entry) → IsDisciplined limits entries → IsExactIndex limits entries }
-    ensures freed { (limits : Limits) (entries : List Entry) → IsDisciplined limits entries → IsFreedByRule limits entries }
+    ensures linearized { RunsAreLinearized }
+    ensures phases { RunsKeepPhases }
+    ensures index { RunsAreIndexed }
+    ensures freed { RunsFreeByRule }
 {
     tree_law::disciplined_runs();
     tree_law::keeps_phases();
@@ -32,7 +23,7 @@ pub fn disciplined_runs()
 
 /// A begin keeps the law of states and that of few steps.
 pub(crate) fn begins_keep_laws()
-    ensures state { Begins IsState }
+    ensures state { BeginsKeep IsState }
     ensures direct { BeginsDirectly }
 {
     begins();

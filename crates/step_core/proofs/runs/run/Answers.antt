@@ -1,6 +1,6 @@
 use Rattle.std.proofs.Common.{◌++◌, ◌∙◌, ap, map}
 use Rattle.chain_search.specs.Trace.{turn_of}
-use Rattle.step_core.proofs.Stopping.{adds_entries, orderly, stops_at, whole}
+use Rattle.step_core.proofs.Stopping.{adds_entries, orderly, stops, whole}
 use Rattle.step_core.proofs.runs.run.Goals as goal
 
 pub returns-in-Ok-taken-clause-turns : goal.returns-in-Ok-taken-clause-turns
@@ -20,4 +20,4 @@ returns-in-Ok-taken-clause-orderly g c =
 
 pub returns-in-Err-taken-clause-err : goal.returns-in-Err-taken-clause-err
 returns-in-Err-taken-clause-err g c =
-    stops_at _ _ c.in-Ok.core c.take_turns-taken.new.self c.in-Err-taken.error c.in-Ok.ensures.entries c.in-Ok.ensures.limits c.in-Err-taken.ensures.err c.linearized.ensures.linearized
+    stops _ _ c.in-Ok.core c.take_turns-taken.new.self c.in-Err-taken.error c.in-Ok.ensures.entries c.in-Ok.ensures.limits c.in-Err-taken.ensures.err c.linearized.ensures.linearized c.linearized.ensures.orderly
