@@ -26,7 +26,7 @@ use Rattle.chain_search.specs.Trace.{command_of, commands_after, memory_of}
 use Rattle.chain_search.specs.Useful.{IsUseful}
 use Rattle.op_machine.specs.Bounded.{left_at}
 use Rattle.op_machine.specs.Hands.{Hand}
-use Rattle.op_machine.specs.Shows.{Stands}
+use Rattle.op_machine.specs.Shows.{ShowsState}
 use Rattle.op_machine.specs.Spending.{sweep_left}
 use Rattle.op_machine.specs.Tasks.{Task}
 use Rattle.op_machine.specs.declared.state.State.{State}
@@ -45,7 +45,7 @@ pub without_begin : (run : List Entry) (a : ℕ) (step : StepOf Record) (told : 
 without_begin run a step told reply = ap (λ (before : List Entry). before ++ Step a step told reply ∷ []) (sym (append-nil run))
 
 -- An operation that has not ended has a step left.
-state_left : (task : Task) (hand : Hand) (k : Knowledge) (r : Recalled) (s : State) → Stands task hand.spares k r s → 0 < left_at r hand.spares s
+state_left : (task : Task) (hand : Hand) (k : Knowledge) (r : Recalled) (s : State) → ShowsState task hand.spares k r s → 0 < left_at r hand.spares s
 state_left task hand k r state.Begun h = omega arith
 state_left task hand k r state.Epoch h = omega arith
 state_left task hand k r (state.Enter epoch) h = omega arith

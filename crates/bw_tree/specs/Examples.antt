@@ -1,4 +1,4 @@
--- A small run of two actors, and what a seat shows that has seen it.
+-- Entries of two actors, of which calls are told. They are no run: nobody enters, reads or links anything.
 use Rattle.std.specs.Prelude.{codes, List, [], ◌∷◌, None, Some}
 use Rattle.bw_model.specs.declared.command.Command.TheVariants.{Get, Upsert, Delete}
 use Rattle.bw_model.specs.declared.command.Reply.TheVariants as reply

@@ -2,7 +2,7 @@
 use Rattle.tree_law.specs.Direct.{BeginsDirectly, StepsDirectly}
 use Rattle.tree_law.specs.Own.{OwnLasts}
 use Rattle.tree_law.specs.State.{IsState}
-use Rattle.tree_law.specs.TraceLaws.{AnswersFit, Begins, EntriesGrow, Steps}
+use Rattle.tree_law.specs.TraceLaws.{AnswersFit, BeginsKeep, EntriesGrow, Steps}
 
 -- What an entry changes, and what is an actor's own and outlasts the entries of others; what a step may count on; and that begins and
 -- steps keep a run lawful.
@@ -10,7 +10,7 @@ pub record HaveLaws : Type 0 where
   pub grow : EntriesGrow
   pub own : OwnLasts
   pub fit : AnswersFit
-  pub begins : Begins IsState
+  pub begins : BeginsKeep IsState
   pub begins_directly : BeginsDirectly
   pub steps : Steps
   pub steps_directly : StepsDirectly

@@ -16,6 +16,6 @@ mod taking;
 mod tree;
 
 pub use called::{Called, CloseError, CloseRefusal};
-pub use examples::{last_call_is_answered, runs_tell_calls};
+pub use examples::{entries_tell_calls, last_call_is_answered};
 pub use seat::BwSeat;
 pub use tree::Tree;

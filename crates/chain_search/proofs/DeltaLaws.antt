@@ -11,7 +11,7 @@ use Rattle.deltas.specs.Spellable.{IsSpellable}
 use Rattle.chain_search.specs.declared.delta.Kept.{Kept}
 use Rattle.chain_search.specs.declared.delta.Kept.TheVariants as kept
 use Rattle.chain_search.specs.declared.delta.KeptMerge.{KeptMerge}
-use Rattle.chain_search.specs.Deltas.{IsSmallDelta, record_of}
+use Rattle.chain_search.specs.Deltas.{IsSmallDelta, kept_record}
 use Rattle.chain_search.specs.Fitted.{IsFitted}
 use Rattle.chain_search.proofs.FittedLaws.{fits_at, over}
 
@@ -34,7 +34,7 @@ small_at deltas base place d h within =
     small (get_or deltas place d) fits.delta fits.spellable
 
 -- what was kept neither as a split nor as a merge is none
-pub no_split : (k : Kept) → ((split : Split) → k ≡ kept.Split split → ⊥) → (split : Split) → record_of k ≡ kind.Split split → ⊥
+pub no_split : (k : Kept) → ((split : Split) → k ≡ kept.Split split → ⊥) → (split : Split) → kept_record k ≡ kind.Split split → ⊥
 no_split (kept.Put put) h split e = cc
 no_split (kept.Delete delete) h split e = cc
 no_split (kept.Split other) h split e = h other refl
@@ -44,7 +44,7 @@ no_split (kept.Remove remove) h split e = cc
 no_split (kept.Merge merge) h split e = cc
 no_split (kept.Unterm unterm) h split e = cc
 
-pub no_merge : (k : Kept) → ((merge : KeptMerge) → k ≡ kept.Merge merge → ⊥) → (merge : Merge) → record_of k ≡ kind.Merge merge → ⊥
+pub no_merge : (k : Kept) → ((merge : KeptMerge) → k ≡ kept.Merge merge → ⊥) → (merge : Merge) → kept_record k ≡ kind.Merge merge → ⊥
 no_merge (kept.Put put) h merge e = cc
 no_merge (kept.Delete delete) h merge e = cc
 no_merge (kept.Split split) h merge e = cc

@@ -13,12 +13,12 @@ IsSmallDelta (kind.Merge merge) = (length merge.items ≤ 4) × AreItems merge.i
 IsSmallDelta delta = ⊤
 
 -- the record that was kept
-abbrev pub record_of : Kept → Record
-record_of (Put put) = kind.Put put
-record_of (Delete delete) = kind.Delete delete
-record_of (Split split) = kind.Split split
-record_of (Term term) = kind.Term term
-record_of (Hold hold) = kind.Hold hold
-record_of (Remove remove) = kind.Remove remove
-record_of (Merge merge) = kind.Merge (record { level = merge.level; next = merge.next; low = merge.low; high = merge.high; right = merge.right; items = merge.items })
-record_of (Unterm unterm) = kind.Unterm unterm
+abbrev pub kept_record : Kept → Record
+kept_record (Put put) = kind.Put put
+kept_record (Delete delete) = kind.Delete delete
+kept_record (Split split) = kind.Split split
+kept_record (Term term) = kind.Term term
+kept_record (Hold hold) = kind.Hold hold
+kept_record (Remove remove) = kind.Remove remove
+kept_record (Merge merge) = kind.Merge (record { level = merge.level; next = merge.next; low = merge.low; high = merge.high; right = merge.right; items = merge.items })
+kept_record (Unterm unterm) = kind.Unterm unterm

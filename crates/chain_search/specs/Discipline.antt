@@ -31,9 +31,9 @@ IsOwn Taken = ⊤
 IsOwn (Written content) = ⊤
 
 -- the record that makes this update over the chain of this row
-abbrev pub record_of : Update → ℕ → Record
-record_of (set actor key value) next = Put (record { next = next; key = key; value = value })
-record_of (unset actor key) next = Delete (record { next = next; key = key })
+abbrev pub update_record : Update → ℕ → Record
+update_record (set actor key value) next = Put (record { next = next; key = key; value = value })
+update_record (unset actor key) next = Delete (record { next = next; key = key })
 
 abbrev pub value_of : Option Content → Option (List ℕ)
 value_of (Some (Value value)) = Some value
@@ -104,7 +104,7 @@ pub record MayUpdate (actor : ℕ) (k : Knowledge) (old : ℕ) (chain : List Rec
   pub covers : IsTrue (covers chain (command_key command))
   pub update : Update
   pub due : update_of actor command (found chain (command_key command)) ≡ Some update
-  pub is : content ≡ record_of update old
+  pub is : content ≡ update_record update old
 
 -- A Base: consolidation puts a base in the chain's place that spells what the chain spells.
 pub record MayConsolidate (chain : List Record) (content : Record) : Type 0 where

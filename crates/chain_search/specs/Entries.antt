@@ -27,7 +27,16 @@ unboxed Full = reply.Full
 -- the reply is a cursor page
 abbrev pub ShowsPairs : Reply → Type 0
 ShowsPairs (reply.Page items next) = ⊤
-ShowsPairs answer = ⊥
+ShowsPairs (reply.Value value) = ⊥
+ShowsPairs reply.None = ⊥
+ShowsPairs reply.Inserted = ⊥
+ShowsPairs (reply.Exists value) = ⊥
+ShowsPairs reply.Set = ⊥
+ShowsPairs (reply.Replaced value) = ⊥
+ShowsPairs (reply.Deleted value) = ⊥
+ShowsPairs reply.Absent = ⊥
+ShowsPairs reply.Tidied = ⊥
+ShowsPairs reply.Full = ⊥
 
 -- the entry of what happened
 abbrev pub entry_of : Happening Record Reply → Entry

@@ -46,9 +46,9 @@ impl Model for Delta {
 
     ghost Value = { Record };
 
-    ghost use Rattle.chain_search.specs.Deltas.{record_of};
+    ghost use Rattle.chain_search.specs.Deltas.{kept_record};
 
-    ghost view = { λ d. record_of d.kept };
+    ghost view = { λ d. kept_record d.kept };
 }
 
 impl Default for Delta {

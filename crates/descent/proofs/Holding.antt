@@ -69,7 +69,7 @@ next_slot limits k page n level low h =
 pub past_slot : (k : Knowledge) (page n level : ℕ) (low : List ℕ) (others : List ℕ) → IsUnread page others → AllByRecursion (IsPast k level low) others → AllByRecursion (IsPast (learn_slot page n k) level low) others
 past_slot k page n level low [] new h = tt
 past_slot k page n level low (other ∷ others) new h = (
-  record { head = h.0.head; chain = h.0.chain; held = slot_head k page n other h.0.head (λ e. new.0 (sym e)) h.0.held; read = slot_chain k page n h.0.head h.0.chain h.0.read; past = h.0.past },
+  record { head = h.0.head; chain = h.0.chain; in_slot = slot_head k page n other h.0.head (λ e. new.0 (sym e)) h.0.in_slot; read = slot_chain k page n h.0.head h.0.chain h.0.read; past = h.0.past },
   past_slot k page n level low others new.1 h.1,
 )
 
@@ -109,6 +109,6 @@ module _ (k : Knowledge) (row : ℕ) (w : Record) (same : (before : Record) → 
   pub past_row : (level : ℕ) (low : List ℕ) (others : List ℕ) → AllByRecursion (IsPast k level low) others → AllByRecursion (IsPast now level low) others
   past_row level low [] h = tt
   past_row level low (other ∷ others) h = (
-    record { head = h.0.head; chain = h.0.chain; held = h.0.held; read = chain_more k.read.seen row w same h.0.chain h.0.head h.0.read; past = h.0.past },
+    record { head = h.0.head; chain = h.0.chain; in_slot = h.0.in_slot; read = chain_more k.read.seen row w same h.0.chain h.0.head h.0.read; past = h.0.past },
     past_row level low others h.1,
   )

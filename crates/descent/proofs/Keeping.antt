@@ -39,7 +39,7 @@ some_among other [] among e = among
 some_among other (first ∷ others) among e = cc
 
 -- the parent, once the page was read whole
-pub record IsOver (limits : Limits) (now : Knowledge) (version : Version) (earlier : List ℕ) (parent : Version) : Type 0 where
+pub record LiesAbove (limits : Limits) (now : Knowledge) (version : Version) (earlier : List ℕ) (parent : Version) : Type 0 where
   pub kept : IsKept limits now parent earlier
   pub up : level_in parent.chain ≡ suc (level_in version.chain)
   pub after : IsAfter now parent version
@@ -58,7 +58,7 @@ pub record HasReached (limits : Limits) (key : List ℕ) (goal : Goal) (parent l
   pub earlier : List ℕ
   pub arrives : HasArrived limits k now r version level low earlier
   pub passing : IsTrue (way_of goal key low)
-  pub above : IfSome parent (IsOver limits now version earlier)
+  pub above : IfSome parent (LiesAbove limits now version earlier)
   pub aside : IfSome left (IsLeftOf limits now low earlier)
   pub based : IsBased r parent left version.pid low
   pub led : SeeksLeaf goal → IsLed (way_of goal key) parent left version.pid level low

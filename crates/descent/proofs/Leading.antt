@@ -18,7 +18,7 @@ use Rattle.smo.specs.declared.version.Version.{Version}
 use Rattle.descent.specs.Walks.{HasArrived}
 use Rattle.descent.specs.Ways.{LeadsRight, passes, reaches}
 use Rattle.descent.specs.WriteRounds.{HasGreatest, HasRoomAt, IsSplitFinished, IsLed, IsLeftOf, IsNextToFirst, IsTermed}
-use Rattle.descent.proofs.Keeping.{IsOver, some_among}
+use Rattle.descent.proofs.Keeping.{LiesAbove, some_among}
 use Rattle.descent.proofs.PageLaws.{covered, spans}
 use Rattle.descent.proofs.Seeking.{hand}
 use Rattle.descent.proofs.Walking.{trans}
@@ -62,7 +62,7 @@ module _ (limits : Limits) (below : Bool) (key : List ℕ) (k now : Knowledge) (
   abbrev chain : List Record
   chain = version.chain
 
-  posts : (parent : Version) → IsOver limits now version earlier parent → HasRoomAt parent low → CanPost parent version
+  posts : (parent : Version) → LiesAbove limits now version earlier parent → HasRoomAt parent low → CanPost parent version
   posts parent over h = record { alive = alive; level = over.up; covered = rw arrives.is_low h.covered; absent = ap (content_in parent.chain) arrives.is_low ∙ h.absent; short = h.short; roomy = h.roomy }
 
   roots : (left : Version) → IsNextToFirst left version.pid low → CanRoot left version
@@ -72,7 +72,7 @@ module _ (limits : Limits) (below : Bool) (key : List ℕ) (k now : Knowledge) (
   at_level left beside = elim arrives.is_level [ inl none ↦ absurd (some_among left.pid earlier beside.kept.among none) | inr is ↦ is ]
 
   -- with a parent the page is the one to which it leads, and without one it is the first of the leaves
-  pub termed : (parent left : Option Version) → IfSome parent (IsOver limits now version earlier) → IfSome left (IsLeftOf limits now low earlier) → IsLed way parent left version.pid level low → IsSplitFinished parent left version → level_in chain ≡ 0 → IsTermed version parent
+  pub termed : (parent left : Option Version) → IfSome parent (LiesAbove limits now version earlier) → IfSome left (IsLeftOf limits now low earlier) → IsLed way parent left version.pid level low → IsSplitFinished parent left version → level_in chain ≡ 0 → IsTermed version parent
   termed (Some parent) None over beside led finished leaf = (led.short, (led.held, ap (content_in parent.chain) arrives.is_low ∙ led.greatest.has))
   termed (Some parent) (Some left) over beside led finished leaf = absurd (finished (posts parent over led))
   termed None None over beside led finished leaf = arrives.is_low ∙ led
@@ -90,7 +90,7 @@ module _ (limits : Limits) (below : Bool) (key : List ℕ) (k now : Knowledge) (
     beside_first first zero is = inr (record { leaf = is; lowest = arrives.is_low ∙ first; right = leads.is_right; high = leads.is_high })
     beside_first first (suc n) is = inl (omega arith)
 
-    pub led_aside : (parent left : Option Version) → IfSome parent (IsOver limits now version earlier) → IfSome left (IsLeftOf limits now low earlier) → IsLed way parent left version.pid level low → IsSplitFinished parent left version → IsLed way parent (Some version) pid (level_in chain) leads.low
+    pub led_aside : (parent left : Option Version) → IfSome parent (LiesAbove limits now version earlier) → IfSome left (IsLeftOf limits now low earlier) → IsLed way parent left version.pid level low → IsSplitFinished parent left version → IsLed way parent (Some version) pid (level_in chain) leads.low
     led_aside (Some parent) None over beside led finished = room_at below key parent version.pid low leads.low over.kept.in_hand.sound.is_chain.fitted led span leads.on_way
     led_aside (Some parent) (Some left) over beside led finished = absurd (finished (posts parent over led))
     led_aside None None over beside led finished = beside_first led (level_in chain) refl

@@ -259,7 +259,7 @@ module _ (limits : Limits) (key : List ℕ) (removed : Version) (k now : Knowled
         new_others [] is past = tt
         new_others (other ∷ others) is past = (
           (λ e.
-              let so = (h.arrives.arrives.whole.beyond alive pid known_before).3 other past.0.head past.0.chain past.0.held past.0.read (sym e) in
+              let so = (h.arrives.arrives.whole.beyond alive pid known_before).3 other past.0.head past.0.chain past.0.in_slot past.0.read (sym e) in
               let before : IsPastAt (level_in here) (low_in here) (level_in past.0.chain) (low_in past.0.chain) = rw (is, h.arrives.is_low) past.0.past in
               never_there (level_in removed.chain) (level_in past.0.chain) low (low_in past.0.chain) (past_on (level_in here) (level_in removed.chain) (level_in past.0.chain) (low_in here) low (low_in past.0.chain) descends_right before) so.0 (low_there past.0.chain so)),
           new_others others is past.1,

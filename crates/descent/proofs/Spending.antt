@@ -62,7 +62,7 @@ module _ (reserve : ℕ) (limits : Limits) (way : List ℕ → Bool) (beyond : B
   spent_row : (head row : ℕ) (content : Record) (under : ℕ) → FitsRow limits k row content → Seeks (Row head row)
       → IsSpentWith (1 + reserve) r (step.Row row) (answer.Content content) (left_in reserve r (at visit (Row head row))) (left_in reserve (recall r (step.Row row) (answer.Content content)) (record visit { part = visit.part ++ content ∷ []; state = Row head under }))
   spent_row head row content under fits h =
-      let few : length visit.part < 13 = fits.short visit.pid head visit.part h.on_way.shows.stands.held h.on_way.shows.stands.seen in
+      let few : length visit.part < 13 = fits.short visit.pid head visit.part h.on_way.shows.stands.in_slot h.on_way.shows.stands.seen in
       let one : length (visit.part ++ content ∷ []) ≡ length visit.part + 1 = length-append visit.part (content ∷ []) in
       let delta = removed_push k.read.seen visit.part head row content h.on_way.shows.stands.seen in
       let most = at_most (is_removed (visit.part ++ content ∷ [])) in
@@ -123,7 +123,7 @@ module _ (reserve : ℕ) (limits : Limits) (way : List ℕ → Bool) (beyond : B
       seeks = seeks_at (Row version.head b.row) b.asked
 
       few : length visit.part < 13
-      few = fits_row.short visit.pid version.head visit.part seeks.on_way.shows.stands.held seeks.on_way.shows.stands.seen
+      few = fits_row.short visit.pid version.head visit.part seeks.on_way.shows.stands.in_slot seeks.on_way.shows.stands.seen
 
       -- what was left is more than what is left for the other pages
       pub more_left : 14 * (4095 - length r.walk.visited) + (if is_removed visit.part then reserve else 0) < left_in reserve r visit

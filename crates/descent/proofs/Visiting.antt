@@ -48,7 +48,7 @@ replaced_same f i x = let e : (i == i) ≡ true = eq-eqb i i refl in rw e refl
 read_head : (k : Knowledge) (pid row : ℕ) → 0 < pid → 0 < row → Reads (learn_slot pid row k) pid row [] row
 read_head k zero row some linked = absurd (omega (arith, some))
 read_head k (suc pid) zero some linked = absurd (omega (arith, linked))
-read_head k (suc pid) (suc row) some linked = record { linked = linked; held = replaced_same k.read.heads (suc pid) (Some (suc row)); seen = refl; named = replaced_same k.read.learnt (suc row) true }
+read_head k (suc pid) (suc row) some linked = record { linked = linked; in_slot = replaced_same k.read.heads (suc pid) (Some (suc row)); seen = refl; named = replaced_same k.read.learnt (suc row) true }
 
 inside_slot : (k : Knowledge) (pid n : ℕ) → (learn_slot pid n k).inside ≡ k.inside
 inside_slot k zero n = refl
@@ -74,16 +74,16 @@ module _ (limits : Limits) (k : Knowledge) (pid head row : ℕ) (part : List Rec
   read_on : (next : ℕ) → next_row w ≡ Some next → Reads k pid head part row → FitsRow limits k row w → Reads now pid head (part ++ w ∷ []) next
   read_on next i r f = record {
     linked = r.linked;
-    held = r.held;
+    in_slot = r.in_slot;
     seen = front_next (replaced_at row (Some w) k.read.seen) w part head row next (seen_more r f) (replaced_same k.read.seen row (Some w)) i;
     named = rw i (replaced_same k.read.learnt next true);
   }
 
   read_whole : next_row w ≡ None → Reads k pid head part row → FitsRow limits k row w → (now.read.heads pid ≡ Some head) × IsChainFrom now.read.seen head (part ++ w ∷ []) × IsReadWhole limits k pid (part ++ w ∷ [])
   read_whole i r f = (
-    r.held,
+    r.in_slot,
     front_end (replaced_at row (Some w) k.read.seen) w part head row (seen_more r f) (replaced_same k.read.seen row (Some w)) i,
-    f.whole pid head part r.held r.seen i,
+    f.whole pid head part r.in_slot r.seen i,
   )
 
 pub goes_on : (k : Knowledge) (visit : Visit) (head row : ℕ) (w : Record) (next : ℕ) → next_row w ≡ Some next → Shows (at visit (Row head row)) k → FitsRow visit.limits k row w

@@ -197,14 +197,14 @@ module _ (limits : Limits) (k now : Knowledge) (r : Recalled) (version : Version
   past_among : (others : List ℕ) → level_in here ≡ was_level → AllByRecursion (IsPast k was_level was_low) others → AllByRecursion (IsPast now level low) others
   past_among [] is past = tt
   past_among (other ∷ others) is past =
-      let more = h.more other past.0.head past.0.chain past.0.held past.0.read in
+      let more = h.more other past.0.head past.0.chain past.0.in_slot past.0.read in
       let before : IsPastAt (level_in here) (low_in here) (level_in past.0.chain) (low_in past.0.chain) = rw (is, h.is_low) past.0.past in (
-        record { head = past.0.head; chain = past.0.chain; held = more.0; read = more.1; past = past_on (level_in here) level (level_in past.0.chain) (low_in here) low (low_in past.0.chain) on before },
+        record { head = past.0.head; chain = past.0.chain; in_slot = more.0; read = more.1; past = past_on (level_in here) level (level_in past.0.chain) (low_in here) low (low_in past.0.chain) on before },
         past_among others is past.1,
       )
 
   itself_past : IsPast now level low version.pid
-  itself_past = record { head = version.head; chain = here; held = h.arrives.in_hand.seen.head; read = h.arrives.in_hand.seen.read; past = on }
+  itself_past = record { head = version.head; chain = here; in_slot = h.arrives.in_hand.seen.head; read = h.arrives.in_hand.seen.read; past = on }
 
   pub all_past : AllByRecursion (IsPast now level low) (version.pid ∷ earlier)
   all_past = (itself_past, elim h.is_level [ inl first ↦ rw first tt | inr is ↦ past_among earlier is h.past ])
@@ -230,7 +230,7 @@ module _ (limits : Limits) (k now : Knowledge) (r : Recalled) (version : Version
   -- nor one that was read before it
   apart_past : (other : ℕ) → IsPast k was_level was_low other → (level_in chain ≡ was_level) → page ≢ other
   apart_past other past is e =
-      let so = told_of chain other past.chain level low (h.arrives.whole.names alive other past.head past.chain past.held past.read) (subst (λ (p : ℕ). NamesAt chain p level low) e names) in
+      let so = told_of chain other past.chain level low (h.arrives.whole.names alive other past.head past.chain past.in_slot past.read) (subst (λ (p : ℕ). NamesAt chain p level low) e names) in
       let before : IsPastAt (level_in chain) (low_in chain) (level_in past.chain) (low_in past.chain) = rw (is, h.is_low) past.past in
       never_there level (level_in past.chain) low (low_in past.chain) (past_on (level_in chain) level (level_in past.chain) (low_in chain) low (low_in past.chain) on before) so.0 so.1
 

@@ -39,7 +39,7 @@ use Rattle.descent.specs.Visits as page
 use Rattle.descent.specs.Walks.{IsSeeking, left_in}
 use Rattle.descent.specs.Ways.{LeadsDown, LeadsRight, NamesAt, StaysLeft, precedes, reaches}
 use Rattle.descent.specs.WriteRounds.{Begins, CanMeet, Cuts, Merges, EndsCut, EndsMerged, IsLosingTerm, IsHere, IsLeftLeaf, IsMergeEnd, IsMissing, IsUntermEnd, Keeps, Misses, SeeksLeaf, is_beyond, kept_for, way_of, CanSee, EndsFine, EndsUnposted, EndsUnrooted, Ends, Follows, GoesFrom, GoesOnWay, IsBased, IsFine, IsSplitFinished, IsLeftOf, IsKept, IsLeafEnd, IsLong, IsRootEnd, IsTermEnd, IsTold, IsVisiting, Responds, Sees, Shows, Spends, Treats, WriteRound, at, wanted, descent_of, going_to, goes_left}
-use Rattle.descent.proofs.Keeping.{HasReached, IsOver, Passed, differs, reached_next, visits_next}
+use Rattle.descent.proofs.Keeping.{HasReached, LiesAbove, Passed, differs, reached_next, visits_next}
 use Rattle.descent.proofs.Leading.{led_aside, termed}
 use Rattle.descent.proofs.PageLaws.{above_empty, covered, spans}
 use Rattle.descent.proofs.Seeking.{hand, is_gone, living, reached, seeks_on, seeks_root}
@@ -176,7 +176,7 @@ module _ (old : WriteRound) (k now : Knowledge) (r : Recalled) (version : Versio
           keeps = kept_here alive;
         }
 
-    module _ (parent : Version) (over : IsOver old.limits now version h.earlier parent) (term : content_in parent.chain old.key ≡ Some (Child pid true)) where
+    module _ (parent : Version) (over : LiesAbove old.limits now version h.earlier parent) (term : content_in parent.chain old.key ≡ Some (Child pid true)) where
       inside_parent : IsTrue (covers parent.chain old.key)
       inside_parent = covered parent.chain old.key (Child pid true) over.kept.in_hand.sound.is_chain.fitted term
 
@@ -233,7 +233,7 @@ module _ (old : WriteRound) (k now : Knowledge) (r : Recalled) (version : Versio
 
   term_end : (parent : Version) (term : Term) → EndsUnposted old version parent term → IsTermEnd old now r parent term
   term_end parent term t =
-      let over : IsOver old.limits now version h.earlier parent = subst (λ (o : Option Version). IfSome o (IsOver old.limits now version h.earlier)) t.above h.above in
+      let over : LiesAbove old.limits now version h.earlier parent = subst (λ (o : Option Version). IfSome o (LiesAbove old.limits now version h.earlier)) t.above h.above in
       record { page = alive_of parent over.kept; child = version; below = alive_here t.plan.can.alive; after = over.after; plan = t.plan }
 
   root_of : (left : Version) → IsBased r None (Some left) version.pid h.low → low_in left.chain ≡ [] → WasHead r 0 left.pid
@@ -289,7 +289,7 @@ module _ (old : WriteRound) (k now : Knowledge) (r : Recalled) (version : Versio
     | inr (inl down) ↦ subst (λ (x : WriteRound). Shows x now r) (sym down.goes) (below down.child down.here down.fine down.index down.leads)
     | inr (inr (inl merge)) ↦ subst (λ (x : WriteRound). Shows x now r) (sym merge.goes) (back_to_merge merge.pid merge.left.goal merge.left.here.alive merge.beside)
     | inr (inr (inr cut)) ↦
-        let over : IsOver old.limits now version h.earlier cut.parent = subst (λ (o : Option Version). IfSome o (IsOver old.limits now version h.earlier)) cut.above h.above in
+        let over : LiesAbove old.limits now version h.earlier cut.parent = subst (λ (o : Option Version). IfSome o (LiesAbove old.limits now version h.earlier)) cut.above h.above in
         subst (λ (x : WriteRound). Shows x now r) (sym cut.goes) (back_to_unterm cut.pid cut.left.goal cut.left.here.alive cut.parent over cut.term)
   ]
   treated new (Some end.Again) t = absurd t

@@ -41,13 +41,13 @@ abbrev pub going_to : ℕ → Descent → Descent
 going_to pid descent = at descent (Page (page.to_page descent.limits pid))
 
 -- by the state of a descent
-abbrev pub Stands : Knowledge → State → Type 0
-Stands k Root = k.inside ≡ true
-Stands k (Page visit) = page.Shows visit k
-Stands k Over = ⊥
+abbrev pub ShowsState : Knowledge → State → Type 0
+ShowsState k Root = k.inside ≡ true
+ShowsState k (Page visit) = page.Shows visit k
+ShowsState k Over = ⊥
 
 abbrev pub Shows : Descent → Knowledge → Type 0
-Shows descent k = Stands k descent.state
+Shows descent k = ShowsState k descent.state
 
 -- Something is known that the descent shows.
 pub record HasCome (descent : Descent) : Type 0 where

@@ -93,13 +93,13 @@ pub record IsVisiting (limits : Limits) (key : List ℕ) (goal : Goal) (k : Know
   pub keeps : Keeps limits key k visit goal
 
 -- by the state of a round
-abbrev pub Stands : Limits → List ℕ → Goal → Knowledge → Recalled → State → Type 0
-Stands limits key goal k r Root = Begins limits key k goal
-Stands limits key goal k r (Page visit) = IsVisiting limits key goal k r visit
-Stands limits key goal k r Over = ⊥
+abbrev pub ShowsState : Limits → List ℕ → Goal → Knowledge → Recalled → State → Type 0
+ShowsState limits key goal k r Root = Begins limits key k goal
+ShowsState limits key goal k r (Page visit) = IsVisiting limits key goal k r visit
+ShowsState limits key goal k r Over = ⊥
 
 abbrev pub Shows : ReadRound → Knowledge → Recalled → Type 0
-Shows round k r = Stands round.limits round.key round.goal k r round.state
+Shows round k r = ShowsState round.limits round.key round.goal k r round.state
 
 -- Something is known that the round shows.
 pub record HasCome (round : ReadRound) : Type 0 where

@@ -58,14 +58,14 @@ MayVisit k pid = IsTrue (k.read.roots pid) ⊎ IsMet k pid
 -- The page's slot was read, and the records from its row on as far as the next row to read.
 pub record Reads (k : Knowledge) (pid head : ℕ) (part : List Record) (row : ℕ) : Type 0 where
   pub linked : 0 < head
-  pub held : k.read.heads pid ≡ Some head
+  pub in_slot : k.read.heads pid ≡ Some head
   pub seen : IsFront k.read.seen head part row
   pub named : k.read.learnt row ≡ true
 
 -- by the state of a visit
-abbrev pub Stands : Knowledge → ℕ → List Record → State → Type 0
-Stands k pid part Slot = MayVisit k pid
-Stands k pid part (Row head row) = Reads k pid head part row
+abbrev pub ShowsState : Knowledge → ℕ → List Record → State → Type 0
+ShowsState k pid part Slot = MayVisit k pid
+ShowsState k pid part (Row head row) = Reads k pid head part row
 
 -- the row that the slot had is one that there is
 abbrev pub IsHeadBelow : Limits → State → Type 0
@@ -77,7 +77,7 @@ pub record Shows (visit : Visit) (k : Knowledge) : Type 0 where
   pub page : 0 < visit.pid
   pub below : visit.pid < visit.limits.pids
   pub head : IsHeadBelow visit.limits visit.state
-  pub stands : Stands k visit.pid visit.part visit.state
+  pub stands : ShowsState k visit.pid visit.part visit.state
 
 -- Something is known that the visit shows, and the answer fits it.
 pub record IsTold (visit : Visit) (told : Answer Record) : Type 0 where

@@ -23,7 +23,7 @@ IsPastAt level low other_level other_low = (level < other_level) ⊎ ((other_lev
 pub record IsPast (k : Knowledge) (level : ℕ) (low : List ℕ) (page : ℕ) : Type 0 where
   pub head : ℕ
   pub chain : List Record
-  pub held : k.read.heads page ≡ Some head
+  pub in_slot : k.read.heads page ≡ Some head
   pub read : IsChainFrom k.read.seen head chain
   pub past : IsPastAt level low (level_in chain) (low_in chain)
 

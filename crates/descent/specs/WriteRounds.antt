@@ -196,13 +196,13 @@ pub record IsVisiting (limits : Limits) (key : List ℕ) (goal : Goal) (parent l
   pub keeps : Keeps limits key k visit.pid earlier goal
 
 -- by the state of a round
-abbrev pub Stands : WriteRound → Knowledge → Recalled → State → Type 0
-Stands round k r Root = (k.inside ≡ true) × (round.parent ≡ None) × (round.left ≡ None) × Begins round.limits round.key k round.goal
-Stands round k r (Page visit) = IsVisiting round.limits round.key round.goal round.parent round.left k r visit
-Stands round k r Over = ⊥
+abbrev pub ShowsState : WriteRound → Knowledge → Recalled → State → Type 0
+ShowsState round k r Root = (k.inside ≡ true) × (round.parent ≡ None) × (round.left ≡ None) × Begins round.limits round.key k round.goal
+ShowsState round k r (Page visit) = IsVisiting round.limits round.key round.goal round.parent round.left k r visit
+ShowsState round k r Over = ⊥
 
 abbrev pub Shows : WriteRound → Knowledge → Recalled → Type 0
-Shows round k r = Stands round k r round.state
+Shows round k r = ShowsState round k r round.state
 
 -- Something is known that the round shows.
 pub record HasCome (round : WriteRound) : Type 0 where

@@ -10,7 +10,7 @@ use Rattle.deltas.specs.declared.record.Remove.{Remove}
 use Rattle.deltas.specs.declared.record.Term.{Term}
 use Rattle.deltas.specs.declared.record.Unterm.{Unterm}
 use Rattle.chain_search.specs.Chains.{is_removed}
-use Rattle.chain_search.specs.Discipline.{FitsOn, IsUnset, MayAdd, MayConsolidate, MayExchange, MayHold, MayLink, MayMerge, MayPost, MayRemove, MaySplit, MayUnterm, MayUpdate, record_of}
+use Rattle.chain_search.specs.Discipline.{FitsOn, IsUnset, MayAdd, MayConsolidate, MayExchange, MayHold, MayLink, MayMerge, MayPost, MayRemove, MaySplit, MayUnterm, MayUpdate, update_record}
 use Rattle.chain_search.specs.Fitting.{ReadsRemoved}
 use Rattle.chain_search.specs.Knowledge.{Knowledge, Ready, Written}
 use Rattle.smo.specs.declared.split.SplitPlan.{SplitPlan}
@@ -62,7 +62,7 @@ module _ (actor : ℕ) (k : Knowledge) where
       is = may.is;
     }
 
-    update_link : (now : Knowledge) (content : Record) (update : Update) → content ≡ record_of update page.head → MayUpdate actor now page.head page.chain content → MayLink actor now page.pid page.head page.chain content
+    update_link : (now : Knowledge) (content : Record) (update : Update) → content ≡ update_record update page.head → MayUpdate actor now page.head page.chain content → MayLink actor now page.pid page.head page.chain content
     update_link now content (set of key value) is may = rw is (rw is at may)
     update_link now content (unset of key) is may = rw is (rw is at may)
 

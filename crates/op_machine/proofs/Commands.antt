@@ -19,7 +19,7 @@ use Rattle.deltas.specs.declared.record.Delete.{Delete as DeleteOf}
 use Rattle.deltas.specs.declared.record.Record.TheVariants as kind
 use Rattle.deltas.specs.declared.record.Put.{Put}
 use Rattle.chain_search.specs.Chains.{covers, is_removed, level_in}
-use Rattle.chain_search.specs.Discipline.{FitsOn, record_of, value_of}
+use Rattle.chain_search.specs.Discipline.{FitsOn, update_record, value_of}
 use Rattle.chain_search.specs.Fitted.{FitsOver, Makes}
 use Rattle.chain_search.specs.Knowledge.{Knowledge}
 use Rattle.installs.specs.Changes.{KeepsSparePage, linked_by}
@@ -27,13 +27,13 @@ use Rattle.bw_model.specs.Replies.{is_writer}
 use Rattle.op_machine.specs.Brings.{IsUsefulOver, update_over}
 
 -- the record that a command places makes its update
-pub change_is : (actor : ℕ) (c : Command) (old : Option (List ℕ)) (u : Update) (x : ℕ) → update_of actor c old ≡ Some u → update_over c x ≡ record_of u x
+pub change_is : (actor : ℕ) (c : Command) (old : Option (List ℕ)) (u : Update) (x : ℕ) → update_of actor c old ≡ Some u → update_over c x ≡ update_record u x
 change_is actor (Get key) old u x h = cc
-change_is actor (Insert key value) None u x h = ap (λ (w : Update). record_of w x) (same_Some _ _ h)
+change_is actor (Insert key value) None u x h = ap (λ (w : Update). update_record w x) (same_Some _ _ h)
 change_is actor (Insert key value) (Some before) u x h = cc
-change_is actor (Upsert key value) old u x h = ap (λ (w : Update). record_of w x) (same_Some _ _ h)
+change_is actor (Upsert key value) old u x h = ap (λ (w : Update). update_record w x) (same_Some _ _ h)
 change_is actor (Delete key) None u x h = cc
-change_is actor (Delete key) (Some before) u x h = ap (λ (w : Update). record_of w x) (same_Some _ _ h)
+change_is actor (Delete key) (Some before) u x h = ap (λ (w : Update). update_record w x) (same_Some _ _ h)
 change_is actor (PageFrom key) old u x h = cc
 change_is actor (Tidy key) old u x h = cc
 

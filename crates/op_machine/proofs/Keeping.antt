@@ -12,7 +12,7 @@ use Rattle.chain_search.specs.Recalled.{Recalled}
 use Rattle.epochs.specs.Limbo.{Limbo}
 use Rattle.installs.specs.Spares.{Spares}
 use Rattle.op_machine.specs.Outcomes.{is_changing}
-use Rattle.op_machine.specs.Shows.{FitsLast, Stands, learn_last, wanted_at}
+use Rattle.op_machine.specs.Shows.{FitsLast, ShowsState, learn_last, wanted_at}
 use Rattle.op_machine.specs.Tasks.{Task}
 use Rattle.op_machine.specs.declared.state.State.{State}
 use Rattle.op_machine.specs.declared.state.State.TheVariants.{Begun, Epoch, Enter, Read, Write, Change, Leave, Over}
@@ -52,7 +52,7 @@ module _ (task : Task) (spares : Spares) (k : Knowledge) (r : Recalled) (limbo :
   epoch (Whether whether) fits = absurd fits
   epoch Done fits = absurd fits
 
-  pub work_keeps : (state : State) → Stands task spares k r state → is_changing state ≡ false → FitsLast task.limits k (wanted_at spares state) told → AreKept task.limits task.actor limbo (learn_last k (wanted_at spares state) told).limbo
+  pub work_keeps : (state : State) → ShowsState task spares k r state → is_changing state ≡ false → FitsLast task.limits k (wanted_at spares state) told → AreKept task.limits task.actor limbo (learn_last k (wanted_at spares state) told).limbo
   work_keeps Begun stands at_rest fits = kept
   work_keeps Epoch stands at_rest fits = epoch told fits
   work_keeps (Enter epoch) stands at_rest fits = kept

@@ -3,12 +3,6 @@ pub mod Listed
 pub mod LogLaws
 pub mod MapLaws
 pub mod PhaseLaws
-pub mod Lookup
-pub mod InsertAndLookup
-pub mod PageLife
-pub mod RowReuse
-pub mod Refused
-pub mod ClaimedInsert
 pub mod PairLaws
 pub mod Reading
 pub mod Rounds
@@ -25,3 +19,4 @@ pub mod Keeping
 pub mod TakingOut
 pub mod SweepMoves
 pub mod Nexts
+pub mod runs

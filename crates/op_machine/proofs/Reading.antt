@@ -34,7 +34,7 @@ of_visit pid (at_visit.Row head row) = inr (row, refl)
 pub reader_reads : (round : read.ReadRound) (k : Knowledge) (r : Recalled) → read.Shows round k r → IsReading (read.wanted round)
 reader_reads round k r shows = go round.state shows
   where
-    go : (state : State) → read.Stands round.limits round.key round.goal k r state → IsReading (wanted_at state)
+    go : (state : State) → read.ShowsState round.limits round.key round.goal k r state → IsReading (wanted_at state)
     go Root h = inl (0, refl)
     go (Page visit) h = of_visit visit.pid visit.state
     go Over h = absurd h
@@ -42,7 +42,7 @@ reader_reads round k r shows = go round.state shows
 pub writer_reads : (round : write.WriteRound) (k : Knowledge) (r : Recalled) → write.Shows round k r → IsReading (write.wanted round)
 writer_reads round k r shows = go round.state shows
   where
-    go : (state : State) → write.Stands round k r state → IsReading (wanted_at state)
+    go : (state : State) → write.ShowsState round k r state → IsReading (wanted_at state)
     go Root h = inl (0, refl)
     go (Page visit) h = of_visit visit.pid visit.state
     go Over h = absurd h

@@ -14,12 +14,12 @@ use Rattle.epochs.specs.Limbo.{Limbo}
 use Rattle.installs.specs.Spares.{Spares}
 use Rattle.op_machine.specs.Hands.{Hand}
 use Rattle.op_machine.specs.Ops.{Goes, HoldsLimbo, IsSweeping, Op, Shows, asked_by}
-use Rattle.op_machine.specs.Shows.{FitsLast, Stands, learn_last, recall_last}
+use Rattle.op_machine.specs.Shows.{FitsLast, ShowsState, learn_last, recall_last}
 use Rattle.op_machine.specs.Sweeping.{FollowsSweep, with_limbo}
 use Rattle.op_machine.specs.Tasks.{Task, Waits}
 use Rattle.op_machine.specs.declared.state.State.{State}
 use Rattle.op_machine.specs.declared.state.State.TheVariants.{Begun}
-use Rattle.sweep.specs.Sweeps.{IsSoundSweep, Rests, Sweep, wanted}
+use Rattle.sweep.specs.Sweeps.{IsSoundSweep, IsKeptOutside, Sweep, wanted}
 use Rattle.sweep.specs.Sweeps.{Shows as ShowsSweep}
 
 module _ (task : Task) (spares : Spares) where
@@ -37,17 +37,17 @@ module _ (task : Task) (spares : Spares) where
   abbrev IsSweepOf : Limbo → Sweep → Type 0
   IsSweepOf limbo next = IsSoundSweep next limbo × (next.limits ≡ task.limits) × (next.actor ≡ task.actor)
 
-  holds : (limbo : Limbo) (k : Knowledge) (next : Option Sweep) → MatchOption next (Rests task.limits task.actor limbo k) (λ sweep. ShowsSweep sweep limbo k) → IfSome next (IsSweepOf limbo) → HoldsLimbo task Begun limbo k next
+  holds : (limbo : Limbo) (k : Knowledge) (next : Option Sweep) → MatchOption next (IsKeptOutside task.limits task.actor limbo k) (λ sweep. ShowsSweep sweep limbo k) → IfSome next (IsSweepOf limbo) → HoldsLimbo task Begun limbo k next
   holds limbo k None rests of = rests.kept
   holds limbo k (Some sweep) shows of = record { first = refl; limits = of.1; actor = of.2; sound = of.0; shows = shows }
 
   -- an operation begins with this sweep, or without one
-  pub begins : (limbo : Limbo) (k : Knowledge) (r : Recalled) (state : State) (next : Option Sweep) → state ≡ Begun → Stands task spares k r state → MatchOption next (Rests task.limits task.actor limbo k) (λ sweep. ShowsSweep sweep limbo k) → IfSome next (IsSweepOf limbo)
+  pub begins : (limbo : Limbo) (k : Knowledge) (r : Recalled) (state : State) (next : Option Sweep) → state ≡ Begun → ShowsState task spares k r state → MatchOption next (IsKeptOutside task.limits task.actor limbo k) (λ sweep. ShowsSweep sweep limbo k) → IfSome next (IsSweepOf limbo)
       → Shows (record { task = task; sweep = next; state = state }) (with_limbo spares limbo) k r
   begins limbo k r state next first stands shows of = record { stands = stands; limbo = rw first (holds limbo k next shows of) }
 
   pub begins_from : (had limbo : Limbo) (k : Knowledge) (r : Recalled) (state : State) (old next : Option Sweep) (told : Answer Record) → old ≡ None → state ≡ Begun → Shows (record { task = task; sweep = old; state = state }) (with_limbo spares had) k r
-      → ((k : Knowledge) → Rests task.limits task.actor had k → MatchOption next (Rests task.limits task.actor limbo k) (λ sweep. ShowsSweep sweep limbo k)) → IfSome next (λ sweep. IsSoundSweep sweep limbo) → IfSome next (λ sweep. (sweep.limits ≡ task.limits) × (sweep.actor ≡ task.actor))
+      → ((k : Knowledge) → IsKeptOutside task.limits task.actor had k → MatchOption next (IsKeptOutside task.limits task.actor limbo k) (λ sweep. ShowsSweep sweep limbo k)) → IfSome next (λ sweep. IsSoundSweep sweep limbo) → IfSome next (λ sweep. (sweep.limits ≡ task.limits) × (sweep.actor ≡ task.actor))
       → Shows (record { task = task; sweep = next; state = state }) (with_limbo spares limbo) (learn_last k (asked_by old None) told) (recall_last r (asked_by old None) told)
   begins_from had limbo k r state old next told none first shows starts sound same =
       let h = rw none at shows in
@@ -64,10 +64,10 @@ module _ (task : Task) (spares : Spares) where
     abbrev now : Knowledge
     now = learn k (wanted sweep) told
 
-    same_rests : Rests sweep.limits sweep.actor limbo now → Rests task.limits task.actor limbo now
+    same_rests : IsKeptOutside sweep.limits sweep.actor limbo now → IsKeptOutside task.limits task.actor limbo now
     same_rests h = rw (← shows.limbo.limits, ← shows.limbo.actor) h
 
-    follows : (o : Option Sweep) → MatchOption o (Rests sweep.limits sweep.actor limbo now) (λ next. ShowsSweep next limbo now) → MatchOption o (Rests task.limits task.actor limbo now) (λ next. ShowsSweep next limbo now)
+    follows : (o : Option Sweep) → MatchOption o (IsKeptOutside sweep.limits sweep.actor limbo now) (λ next. ShowsSweep next limbo now) → MatchOption o (IsKeptOutside task.limits task.actor limbo now) (λ next. ShowsSweep next limbo now)
     follows None h = same_rests h
     follows (Some other) h = h
 

@@ -40,7 +40,7 @@ tidies (Tidy key) old writes none = (key, refl)
 -- a chain without deltas is a base alone
 alone : (chain : List Record) → IsFitted chain → length chain ≤ 1 → (base : Page) × (chain ≡ Base base ∷ []) × IsSpellablePage base
 alone [] fitted few = absurd fitted
-alone (newest ∷ []) fitted few = (fitted.0, ap (λ (record_of : Record). record_of ∷ []) fitted.1, fitted.2)
+alone (newest ∷ []) fitted few = (fitted.0, ap (λ (update_record : Record). update_record ∷ []) fitted.1, fitted.2)
 alone (newest ∷ older ∷ under) fitted few = absurd (omega arith)
 
 pub may_call : (task : Task) (spares : Spares) (k : Knowledge) (r : Recalled) (parent : Option Version) (leaf : Version) (old : Option (List ℕ)) → IsAtLeafBelow task spares k r parent leaf → IsIdleFor task.command parent leaf → task.errands ≡ [] → reply_of task.command old ≡ None

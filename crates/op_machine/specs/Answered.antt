@@ -87,11 +87,23 @@ module _ (limits : Limits) (entries : List Entry) where
     pub tidy : IsTidy (memory_at limits entries step) key
     pub back : tidy.leaf.pid ≢ 1 → length tidy.base.items ≤ 4 → WasHeldBack operation step tidy.leaf
 
+  -- By the log up to a point of its own the map replied it.
+  abbrev pub RepliesAtPoint : List Bool → Operation → Reply → Type 0
+  RepliesAtPoint points operation answer = (n : ℕ) × IsOwnStep entries operation n × IsPoint points n × RepliesAt (memory_at limits entries n) (log_at entries points n) operation.command answer
+
   -- What the reply says of the operation.
   abbrev pub IsTrueReply : List Bool → Operation → Reply → Type 0
   IsTrueReply points operation reply.Full = IsTrue (is_writer operation.command) × FindsNothingFree operation
   IsTrueReply points operation reply.Tidied = FindsTidy operation
-  IsTrueReply points operation answer = (n : ℕ) × IsOwnStep entries operation n × IsPoint points n × RepliesAt (memory_at limits entries n) (log_at entries points n) operation.command answer
+  IsTrueReply points operation (reply.Value value) = RepliesAtPoint points operation (reply.Value value)
+  IsTrueReply points operation reply.None = RepliesAtPoint points operation reply.None
+  IsTrueReply points operation reply.Inserted = RepliesAtPoint points operation reply.Inserted
+  IsTrueReply points operation (reply.Exists value) = RepliesAtPoint points operation (reply.Exists value)
+  IsTrueReply points operation reply.Set = RepliesAtPoint points operation reply.Set
+  IsTrueReply points operation (reply.Replaced value) = RepliesAtPoint points operation (reply.Replaced value)
+  IsTrueReply points operation (reply.Deleted value) = RepliesAtPoint points operation (reply.Deleted value)
+  IsTrueReply points operation reply.Absent = RepliesAtPoint points operation reply.Absent
+  IsTrueReply points operation (reply.Page items next) = RepliesAtPoint points operation (reply.Page items next)
 
   pub record IsAnswered (points : List Bool) : Type 0 where
     pub each : (operation : Operation) (n : ℕ) (answer : Reply) → IsOperation entries operation → Finishes entries operation n answer → IsTrueReply points operation answer

@@ -1,7 +1,7 @@
 -- For which key an operation's rounds look, and what is due there.
 use Rattle.std.specs.Prelude.{◌∷◌, [], ◌++◌, ◌-◌, ℕ, List, length, nat_lt, if◌then◌else◌, slice_get, unwrap_or}
 use Rattle.bw_model.specs.declared.command.Command.{Command}
-use Rattle.bw_model.specs.declared.command.Command.TheVariants.{Tidy}
+use Rattle.bw_model.specs.declared.command.Command.TheVariants.{Delete, Get, Insert, Page, Tidy, Upsert}
 use Rattle.bw_model.specs.Replies.{command_key}
 
 -- at most 16 errands are kept
@@ -15,4 +15,9 @@ way_key errands command = unwrap_or (slice_get errands (length errands - 1)) (co
 -- At how many deltas a round consolidates the leaf that it looks for: at the leaf of its own key a tidying does at one.
 abbrev pub due_of : List (List ℕ) → Command → ℕ
 due_of [] (Tidy key) = 1
-due_of errands command = 8
+due_of [] (Get key) = 8
+due_of [] (Insert key value) = 8
+due_of [] (Upsert key value) = 8
+due_of [] (Delete key) = 8
+due_of [] (Page key) = 8
+due_of (key ∷ errands) command = 8

@@ -10,7 +10,7 @@ use Rattle.chain_search.specs.Recalled.{Recalled}
 use Rattle.epochs.specs.Limbo.{Limbo}
 use Rattle.op_machine.specs.Hands.{Hand}
 use Rattle.op_machine.specs.Outcomes.{HasLeft}
-use Rattle.op_machine.specs.Shows.{FitsLast, MayStep, Stands, learn_last, recall_last, wanted_at}
+use Rattle.op_machine.specs.Shows.{FitsLast, MayStep, ShowsState, learn_last, recall_last, wanted_at}
 use Rattle.op_machine.specs.Tasks.{IsAtRest, Task}
 use Rattle.op_machine.specs.declared.op.Want.{Want}
 use Rattle.op_machine.specs.declared.op.Want.TheVariants.{Step, Done}
@@ -49,7 +49,7 @@ HoldsLimbo task state limbo k (Some sweep) = IsSweeping task state limbo k sweep
 
 -- What an operation and its actor's hand hold is what is known.
 pub record Shows (op : Op) (hand : Hand) (k : Knowledge) (r : Recalled) : Type 0 where
-  pub stands : Stands op.task hand.spares k r op.state
+  pub stands : ShowsState op.task hand.spares k r op.state
   pub limbo : HoldsLimbo op.task op.state hand.limbo k op.sweep
 
 -- between operations

@@ -26,7 +26,7 @@ use Rattle.smo.specs.declared.version.Version.{Version}
 use Rattle.bw_model.specs.Replies.{command_key, is_writer}
 use Rattle.op_machine.specs.Errands.{due_of, way_key}
 use Rattle.op_machine.specs.Hands.{Unlinks}
-use Rattle.op_machine.specs.Shows.{FitsLast, IsRoundOf, Stands, learn_last, recall_last, wanted_at}
+use Rattle.op_machine.specs.Shows.{FitsLast, IsRoundOf, ShowsState, learn_last, recall_last, wanted_at}
 use Rattle.op_machine.specs.Tasks.{IsBetweenChanges, IsAtRest, Seeks, Task, Waits}
 use Rattle.op_machine.specs.declared.state.State.{State}
 use Rattle.op_machine.specs.declared.state.State.TheVariants as at
@@ -116,7 +116,7 @@ pub record IsToldAt (state : State) (spares : Spares) (told : Answer Record) : T
   pub task : Task
   pub k : Knowledge
   pub r : Recalled
-  pub stands : Stands task spares k r state
+  pub stands : ShowsState task spares k r state
   pub fits : FitsLast task.limits k (wanted_at spares state) told
 
 -- Something is known that the outcome faces.
@@ -185,5 +185,5 @@ pub record HasLeft (task : Task) (k : Knowledge) (last : Option (StepOf Record))
 
 -- what comes of an answer: the same state goes on, or the operation faces what comes next
 abbrev pub Comes : Task → Knowledge → Recalled → Option (StepOf Record) → Answer Record → State → Spares → Option Outcome → Type 0
-Comes task k r last told new has None = Stands task has (learn_last k last told) (recall_last r last told) new × IsSome (wanted_at has new)
+Comes task k r last told new has None = ShowsState task has (learn_last k last told) (recall_last r last told) new × IsSome (wanted_at has new)
 Comes task k r last told new has (Some outcome) = Faces task has (learn_last k last told) (recall_last r last told) outcome

@@ -74,15 +74,15 @@ pub record MayBegin (task : Task) (spares : Spares) (k : Knowledge) (r : Recalle
   pub recalled : WasHead r (change.slot_of plan) (change.head_of plan)
 
 -- by the state of an operation
-abbrev pub Stands : Task → Spares → Knowledge → Recalled → State → Type 0
-Stands task spares k r Begun = Waits task spares k
-Stands task spares k r Epoch = Waits task spares k
-Stands task spares k r (Enter epoch) = Waits task spares k × (0 < epoch) × (k.limbo.epoch ≡ Some epoch)
-Stands task spares k r (Read round) = IsInReadRound task spares k r round
-Stands task spares k r (Write round) = IsInWriteRound task spares k r round
-Stands task spares k r (Change now then) = IsInChange task spares k r now then
-Stands task spares k r (Leave reply) = IsBetweenChanges task spares k × MayReply task.limits task.actor k reply
-Stands task spares k r Over = ⊥
+abbrev pub ShowsState : Task → Spares → Knowledge → Recalled → State → Type 0
+ShowsState task spares k r Begun = Waits task spares k
+ShowsState task spares k r Epoch = Waits task spares k
+ShowsState task spares k r (Enter epoch) = Waits task spares k × (0 < epoch) × (k.limbo.epoch ≡ Some epoch)
+ShowsState task spares k r (Read round) = IsInReadRound task spares k r round
+ShowsState task spares k r (Write round) = IsInWriteRound task spares k r round
+ShowsState task spares k r (Change now then) = IsInChange task spares k r now then
+ShowsState task spares k r (Leave reply) = IsBetweenChanges task spares k × MayReply task.limits task.actor k reply
+ShowsState task spares k r Over = ⊥
 
 -- the step that a state has asked for
 abbrev pub wanted_at : Spares → State → Option (StepOf Record)

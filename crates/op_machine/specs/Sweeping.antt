@@ -12,7 +12,7 @@ use Rattle.op_machine.specs.Ops.{Goes, IsTold, Op, Shows, asked_by}
 use Rattle.op_machine.specs.Shows.{FitsLast, learn_last, recall_last}
 use Rattle.op_machine.specs.Spending.{sweep_left}
 use Rattle.sweep.specs.Bounded.{steps_left}
-use Rattle.sweep.specs.Sweeps.{Rests, Sweep}
+use Rattle.sweep.specs.Sweeps.{IsKeptOutside, Sweep}
 use Rattle.sweep.specs.Sweeps.{Shows as ShowsSweep}
 
 abbrev pub with_limbo : Spares → Limbo → Hand
@@ -41,7 +41,7 @@ ObeysSweep old had told new has want = (k : Knowledge) (r : Recalled) (spares : 
 -- A sweep that goes on is shown, and one that has ended leaves its actor at rest; nothing is learnt but of the limbo.
 pub record FollowsSweep (k now : Knowledge) (old : Sweep) (next : Option Sweep) (limbo : Limbo) : Type 0 where
   pub only : now ≡ record k { limbo = now.limbo }
-  pub then : MatchOption next (Rests old.limits old.actor limbo now) (λ sweep. ShowsSweep sweep limbo now)
+  pub then : MatchOption next (IsKeptOutside old.limits old.actor limbo now) (λ sweep. ShowsSweep sweep limbo now)
 
 -- A sweep that goes on has fewer steps left.
 abbrev pub HasFewer : Op → Op → Type 0

@@ -1,7 +1,7 @@
 -- What a deletion or a tidying does at a small leaf: it holds the leaf's term, and then removes the leaf.
 use Rattle.std.specs.Prelude.{◌≡◌, ◌≢◌, ◌≤◌, ◌⊎◌, Bool, Option, None, Some, true, false, length}
 use Rattle.bw_model.specs.declared.command.Command.{Command}
-use Rattle.bw_model.specs.declared.command.Command.TheVariants.{Delete, Tidy}
+use Rattle.bw_model.specs.declared.command.Command.TheVariants.{Delete, Get, Insert, Page, Tidy, Upsert}
 use Rattle.deltas.specs.declared.record.Hold.{Hold}
 use Rattle.deltas.specs.declared.record.Record.TheVariants as kind
 use Rattle.deltas.specs.declared.record.Remove.{Remove}
@@ -16,7 +16,10 @@ use Rattle.smo.specs.declared.version.Version.{Version}
 abbrev pub tidies : Command → Bool
 tidies (Delete key) = true
 tidies (Tidy key) = true
-tidies command = false
+tidies (Get key) = false
+tidies (Insert key value) = false
+tidies (Upsert key value) = false
+tidies (Page key) = false
 
 -- A leaf may be removed that isn't page 1 and has at most 4 items.
 pub record IsSmall (leaf : Version) : Type 0 where

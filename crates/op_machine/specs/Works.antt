@@ -10,7 +10,7 @@ use Rattle.op_machine.specs.Bounded.{IsSpentLast, LeavesFor, left_at, left_for, 
 use Rattle.op_machine.specs.Hands.{Hand}
 use Rattle.op_machine.specs.Ops.{Op}
 use Rattle.op_machine.specs.Outcomes.{Comes, Faces, HasLeft, IsToldAt, Outcome}
-use Rattle.op_machine.specs.Shows.{FitsLast, MayStep, Stands, learn_last, recall_last, wanted_at}
+use Rattle.op_machine.specs.Shows.{FitsLast, MayStep, ShowsState, learn_last, recall_last, wanted_at}
 use Rattle.op_machine.specs.Tasks.{IsSameTask, Task}
 use Rattle.op_machine.specs.declared.op.Want.{Want}
 use Rattle.op_machine.specs.declared.op.Want.TheVariants.{Step, Done}
@@ -19,7 +19,7 @@ use Rattle.op_machine.specs.declared.state.State.TheVariants.{Leave}
 use Rattle.sweep.specs.Kept.{AreKept}
 
 abbrev pub Works : Op → Spares → Knowledge → Recalled → Type 0
-Works op spares k r = Stands op.task spares k r op.state
+Works op spares k r = ShowsState op.task spares k r op.state
 
 -- the step that it has asked for
 abbrev pub asked_of : Op → Spares → Option (StepOf Record)
@@ -44,8 +44,8 @@ pub record IsToldChange (state : State) (hand : Hand) (told : Answer Record) : T
 
 -- The answer turns a state into this one, whatever is known that the state shows: it goes on, or the operation has come to this.
 pub record TurnsInto (old : State) (had : Spares) (told : Answer Record) (new : State) (has : Spares) (outcome : Option Outcome) : Type 0 where
-  pub comes : (task : Task) (k : Knowledge) (r : Recalled) → Stands task had k r old → FitsLast task.limits k (wanted_at had old) told → Comes task k r (wanted_at had old) told new has outcome
-  pub leaves : (task : Task) (k : Knowledge) (r : Recalled) → Stands task had k r old → FitsLast task.limits k (wanted_at had old) told → LeavesFor r (wanted_at had old) told (left_at r had old) new has outcome
+  pub comes : (task : Task) (k : Knowledge) (r : Recalled) → ShowsState task had k r old → FitsLast task.limits k (wanted_at had old) told → Comes task k r (wanted_at had old) told new has outcome
+  pub leaves : (task : Task) (k : Knowledge) (r : Recalled) → ShowsState task had k r old → FitsLast task.limits k (wanted_at had old) told → LeavesFor r (wanted_at had old) told (left_at r had old) new has outcome
 
 -- The step is wanted, the actor may take it, and the operation shows what is known.
 pub record GoesOn (k : Knowledge) (r : Recalled) (op : Op) (spares : Spares) (asked : StepOf Record) : Type 0 where

@@ -7,7 +7,7 @@ ghost use Rattle.op_machine.specs.Hands.{Hand as HandSeen};
 ghost use Rattle.op_machine.specs.Ops.{IsAtRestWith, IsTold, Obeys, Shows};
 ghost use Rattle.op_machine.specs.Outcomes as Outcome;
 ghost use Rattle.op_machine.specs.Outcomes.{IsFaced, changed, has_machine, is_changing, is_leaving, is_reading, is_writing, reads_on_at};
-ghost use Rattle.op_machine.specs.Shows.{FitsLast, Stands, learn_last, wanted_at};
+ghost use Rattle.op_machine.specs.Shows.{FitsLast, ShowsState, learn_last, wanted_at};
 ghost use Rattle.op_machine.specs.Spending.{Spends, steps_left};
 ghost use Rattle.op_machine.specs.Sweeping.{FollowsSweep, HasFewer, IsSameWork, IsToldSweep, MovesSweep, ObeysSweep};
 ghost use Rattle.op_machine.specs.Tasks.{IsSameTask, Task};
@@ -347,7 +347,7 @@ fn ended<A: Allocator>(
     requires told { IsToldChange state.old hand.old answer.now }
     requires changing { is_changing state.old ≡ true }
     ensures makes { TurnsInto state.old hand.old.spares answer.now state.new hand.new.spares (changed result) }
-    ensures keeps { (task : Task) (k : Knowledge) (r : Recalled) → Stands task hand.old.spares k r state.old → FitsLast task.limits k (wanted_at hand.old.spares state.old) answer.now → AreKept task.limits task.actor hand.old.limbo k.limbo → AreKept task.limits task.actor hand.new.limbo (learn_last k (wanted_at hand.old.spares state.old) answer.now).limbo }
+    ensures keeps { (task : Task) (k : Knowledge) (r : Recalled) → ShowsState task hand.old.spares k r state.old → FitsLast task.limits k (wanted_at hand.old.spares state.old) answer.now → AreKept task.limits task.actor hand.old.limbo k.limbo → AreKept task.limits task.actor hand.new.limbo (learn_last k (wanted_at hand.old.spares state.old) answer.now).limbo }
 {
     match state.change_next(&mut hand.spares, answer) {
         None => None,

@@ -3,7 +3,7 @@ ghost use Rattle.std.specs.Prelude.{◌≡◌, None, Some, IsSome, true, false};
 ghost use Rattle.chain_search.specs.Knowledge.{Knowledge};
 ghost use Rattle.chain_search.specs.Recalled.{Recalled};
 ghost use Rattle.op_machine.specs.Outcomes.{IsToldAt, UnlinksAfter, changed, has_begun, is_changing, is_leaving, is_reading, is_writing, read_out, reads_on_at, written_out};
-ghost use Rattle.op_machine.specs.Shows.{FitsLast, MayStep, Stands, learn_last, wanted_at};
+ghost use Rattle.op_machine.specs.Shows.{FitsLast, MayStep, ShowsState, learn_last, wanted_at};
 ghost use Rattle.op_machine.specs.Tasks.{Task};
 ghost use Rattle.op_machine.specs.Works.{TurnsInto};
 
@@ -55,10 +55,10 @@ impl Then {
 impl State {
     /// Puts the step that it wants in the place of the last one.
     pub(crate) fn step(&self, spares: &Spares, wanted: &mut Step<Record>)
-        requires stands { (task : Task) × (k : Knowledge) × (r : Recalled) × Stands task spares.now k r self.now }
+        requires stands { (task : Task) × (k : Knowledge) × (r : Recalled) × ShowsState task spares.now k r self.now }
         requires asks { IsSome (wanted_at spares.now self.now) }
         ensures wanted { wanted_at spares.now self.now ≡ Some wanted.new }
-        ensures may { (task : Task) (k : Knowledge) (r : Recalled) → Stands task spares.now k r self.now → MayStep task k wanted.new }
+        ensures may { (task : Task) (k : Knowledge) (r : Recalled) → ShowsState task spares.now k r self.now → MayStep task k wanted.new }
     {
         match self {
             State::Begun | State::Over => unreachable!(),
@@ -175,7 +175,7 @@ impl State {
         requires told { IsToldAt self.old spares.old answer.now }
         requires changing { is_changing self.old ≡ true }
         ensures makes { TurnsInto self.old spares.old answer.now self.new spares.new (changed result) }
-        ensures unlinks { (task : Task) (k : Knowledge) (r : Recalled) → Stands task spares.old k r self.old → FitsLast task.limits k (wanted_at spares.old self.old) answer.now → UnlinksAfter task.limits k result (learn_last k (wanted_at spares.old self.old) answer.now).limbo }
+        ensures unlinks { (task : Task) (k : Knowledge) (r : Recalled) → ShowsState task spares.old k r self.old → FitsLast task.limits k (wanted_at spares.old self.old) answer.now → UnlinksAfter task.limits k result (learn_last k (wanted_at spares.old self.old) answer.now).limbo }
     {
         match self {
             State::Change { change, then } => match change.next(spares, answer) {

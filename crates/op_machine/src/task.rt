@@ -16,13 +16,13 @@ ghost use Rattle.op_machine.specs.Brings.{errands_after, update_over};
 ghost use Rattle.op_machine.specs.Errands.{due_of, way_key};
 ghost use Rattle.op_machine.specs.Outcomes as Outcome;
 ghost use Rattle.op_machine.specs.Outcomes.{FacesChanged, FacesRead, FacesWritten, IsAtLeaf, IsAtLeafBelow, StandsForReader};
-ghost use Rattle.op_machine.specs.Shows.{MayBegin, Stands, wanted_at};
+ghost use Rattle.op_machine.specs.Shows.{MayBegin, ShowsState, wanted_at};
 ghost use Rattle.op_machine.specs.Tasks.{IsSameTask, Seeks};
 ghost use Rattle.op_machine.specs.Upkeep.{IsIdleFor, IsUpkeepFor};
 ghost use Rattle.sweep.specs.Bounded.{steps_left as steps_of};
 ghost use Rattle.sweep.specs.Kept.{IsLimboOf};
 ghost use Rattle.sweep.specs.Moves.{IsEmpty};
-ghost use Rattle.sweep.specs.Sweeps.{IsSoundSweep, Rests, Shows as ShowsSweep};
+ghost use Rattle.sweep.specs.Sweeps.{IsSoundSweep, IsKeptOutside, Shows as ShowsSweep};
 
 use crate::errands::Errands;
 use crate::state::{State, Then};
@@ -84,7 +84,7 @@ impl Task {
     /// The sweep with which a writer begins, if there is anything in limbo.
     pub(crate) fn sweep<A: Allocator>(&self, limbo: &mut Limbo<A>) -> Option<Sweep>
         requires lists { IsLimboOf self.now.limits limbo.old }
-        ensures shows { (k : Knowledge) → Rests self.now.limits self.now.actor limbo.old k → MatchOption result (Rests self.now.limits self.now.actor limbo.new k) (λ sweep. ShowsSweep sweep limbo.new k) }
+        ensures shows { (k : Knowledge) → IsKeptOutside self.now.limits self.now.actor limbo.old k → MatchOption result (IsKeptOutside self.now.limits self.now.actor limbo.new k) (λ sweep. ShowsSweep sweep limbo.new k) }
         ensures sound { IfSome result (λ sweep. IsSoundSweep sweep limbo.new) }
         ensures same { IfSome result (λ sweep. (sweep.limits ≡ self.now.limits) × (sweep.actor ≡ self.now.actor)) }
         ensures few { IfSome result (λ sweep. steps_of sweep.state < 338) }
@@ -100,7 +100,7 @@ impl Task {
     /// A new round: for the newest errand, or for the command's key. Here and below, the state that follows is written where it is
     /// kept: it is large, and each function on the way that returned it would have room for one more.
     pub(crate) fn round(&self, state: &mut State)
-        ensures stands { (spares : Spares) (k : Knowledge) (r : Recalled) → Seeks self.now spares k → Stands self.now spares k r state.new }
+        ensures stands { (spares : Spares) (k : Knowledge) (r : Recalled) → Seeks self.now spares k → ShowsState self.now spares k r state.new }
         ensures few { (spares : Spares) (r : Recalled) → left_at r spares state.new ≤ one_round }
         ensures asks { (spares : Spares) → IsSome (wanted_at spares state.new) }
     {
@@ -141,7 +141,7 @@ impl Task {
     /// A reader answers at the leaf of its key, or from what it read of a removed one, whose left page it has read since; where its
     /// round was cut off, a new one begins, which goes to the left of a removed page.
     pub(crate) fn end_read(&self, end: ReadEnd, state: &mut State)
-        ensures stands { (spares : Spares) (k : Knowledge) (r : Recalled) → FacesRead self.now spares k r end → Stands self.now spares k r state.new }
+        ensures stands { (spares : Spares) (k : Knowledge) (r : Recalled) → FacesRead self.now spares k r end → ShowsState self.now spares k r state.new }
         ensures few { (spares : Spares) (r : Recalled) → left_at r spares state.new ≤ left_for (Outcome.Read end) }
         ensures asks { (spares : Spares) → IsSome (wanted_at spares state.new) }
     {
@@ -156,7 +156,7 @@ impl Task {
 
     /// A reader's round that goes to the left of a removed page first.
     fn left_round(&self, removed: Version, state: &mut State)
-        ensures stands { (spares : Spares) (k : Knowledge) (r : Recalled) → Seeks self.now spares k → is_writer self.now.command ≡ false → IsGoneAt self.now.limits k (command_key self.now.command) removed → Stands self.now spares k r state.new }
+        ensures stands { (spares : Spares) (k : Knowledge) (r : Recalled) → Seeks self.now spares k → is_writer self.now.command ≡ false → IsGoneAt self.now.limits k (command_key self.now.command) removed → ShowsState self.now spares k r state.new }
         ensures few { (spares : Spares) (r : Recalled) → left_at r spares state.new ≤ left_for (Outcome.Read (ReadEnd.Removed removed)) }
         ensures asks { (spares : Spares) → IsSome (wanted_at spares state.new) }
     {
@@ -168,7 +168,7 @@ impl Task {
 
     /// A reader's reply over the chain of a leaf that stood.
     fn answer(&self, leaf: &Chain, state: &mut State)
-        ensures stands { (spares : Spares) (k : Knowledge) (r : Recalled) (head : ℕ) → StandsForReader self.now spares k head leaf.now → Stands self.now spares k r state.new }
+        ensures stands { (spares : Spares) (k : Knowledge) (r : Recalled) (head : ℕ) → StandsForReader self.now spares k head leaf.now → ShowsState self.now spares k r state.new }
         ensures few { (spares : Spares) (r : Recalled) → left_at r spares state.new ≤ 1 }
         ensures asks { (spares : Spares) → IsSome (wanted_at spares state.new) }
     {
@@ -184,7 +184,7 @@ impl Task {
     /// A writer makes the change that is due where its round ended, or goes on at the leaf.
     pub(crate) fn end_write(&mut self, spares: &Spares, end: WriteEnd, state: &mut State)
         requires faced { (k : Knowledge) × (r : Recalled) × FacesWritten self.old spares.now k r end }
-        ensures stands { (k : Knowledge) (r : Recalled) → FacesWritten self.old spares.now k r end → Stands self.new spares.now k r state.new }
+        ensures stands { (k : Knowledge) (r : Recalled) → FacesWritten self.old spares.now k r end → ShowsState self.new spares.now k r state.new }
         ensures few { (k : Knowledge) (r : Recalled) → FacesWritten self.old spares.now k r end → with_errands self.new.errands (left_at r spares.now state.new) ≤ with_errands self.old.errands (left_for (Outcome.Written end)) }
         ensures asks { IsSome (wanted_at spares.now state.new) }
         ensures same { IsSameTask self.old self.new }
@@ -213,7 +213,7 @@ impl Task {
 
     /// A writer's round that goes to the left of a removed page.
     fn round_to_the_left(&self, removed: Version, state: &mut State)
-        ensures stands { (spares : Spares) (k : Knowledge) (r : Recalled) → Seeks self.now spares k → is_writer self.now.command ≡ true → IsGone self.now.limits k removed → Stands self.now spares k r state.new }
+        ensures stands { (spares : Spares) (k : Knowledge) (r : Recalled) → Seeks self.now spares k → is_writer self.now.command ≡ true → IsGone self.now.limits k removed → ShowsState self.now spares k r state.new }
         ensures few { (spares : Spares) (r : Recalled) → left_at r spares state.new ≤ left_for (Outcome.Written (WriteEnd.Removed removed)) }
         ensures asks { (spares : Spares) → IsSome (wanted_at spares state.new) }
     {
@@ -232,7 +232,7 @@ impl Task {
         state: &mut State,
     )
         requires faced { (k : Knowledge) × (r : Recalled) × IsAtLeafBelow self.old spares.now k r parent leaf }
-        ensures stands { (k : Knowledge) (r : Recalled) → IsAtLeafBelow self.old spares.now k r parent leaf → Stands self.new spares.now k r state.new }
+        ensures stands { (k : Knowledge) (r : Recalled) → IsAtLeafBelow self.old spares.now k r parent leaf → ShowsState self.new spares.now k r state.new }
         ensures few { (r : Recalled) → with_errands self.new.errands (left_at r spares.now state.new) ≤ with_errands self.old.errands (few_changes + 1) }
         ensures asks { IsSome (wanted_at spares.now state.new) }
         ensures same { IsSameTask self.old self.new }
@@ -251,7 +251,7 @@ impl Task {
     fn tend(&self, spares: &Spares, parent: Option<Version>, leaf: Version, state: &mut State)
         requires faced { (k : Knowledge) × (r : Recalled) × IsAtLeafBelow self.now spares.now k r parent leaf }
         requires last { self.now.errands ≡ [] }
-        ensures stands { (k : Knowledge) (r : Recalled) → IsAtLeafBelow self.now spares.now k r parent leaf → Stands self.now spares.now k r state.new }
+        ensures stands { (k : Knowledge) (r : Recalled) → IsAtLeafBelow self.now spares.now k r parent leaf → ShowsState self.now spares.now k r state.new }
         ensures few { (r : Recalled) → left_at r spares.now state.new ≤ few_changes + 1 }
         ensures asks { IsSome (wanted_at spares.now state.new) }
     {
@@ -278,7 +278,7 @@ impl Task {
     fn execute(&self, spares: &Spares, leaf: Version, state: &mut State)
         requires faced { (k : Knowledge) × (r : Recalled) × IsAtLeaf self.now spares.now k r leaf }
         requires last { self.now.errands ≡ [] }
-        ensures stands { (parent : Option Version) (k : Knowledge) (r : Recalled) → IsAtLeafBelow self.now spares.now k r parent leaf → IsIdleFor self.now.command parent leaf → Stands self.now spares.now k r state.new }
+        ensures stands { (parent : Option Version) (k : Knowledge) (r : Recalled) → IsAtLeafBelow self.now spares.now k r parent leaf → IsIdleFor self.now.command parent leaf → ShowsState self.now spares.now k r state.new }
         ensures few { (r : Recalled) → left_at r spares.now state.new ≤ few_changes + 1 }
         ensures asks { IsSome (wanted_at spares.now state.new) }
     {
@@ -328,7 +328,7 @@ impl Task {
     /// A base is linked in the place of a page's chain.
     fn consolidate(&self, spares: &Spares, page: Version, state: &mut State)
         requires faced { (k : Knowledge) × (r : Recalled) × FacesWritten self.now spares.now k r (WriteEnd.Consolidate page) }
-        ensures stands { (k : Knowledge) (r : Recalled) → FacesWritten self.now spares.now k r (WriteEnd.Consolidate page) → Stands self.now spares.now k r state.new }
+        ensures stands { (k : Knowledge) (r : Recalled) → FacesWritten self.now spares.now k r (WriteEnd.Consolidate page) → ShowsState self.now spares.now k r state.new }
         ensures few { (r : Recalled) → left_at r spares.now state.new ≤ few_changes + 1 }
         ensures asks { IsSome (wanted_at spares.now state.new) }
     {
@@ -347,7 +347,7 @@ impl Task {
     /// A page is split; its new page is an errand then.
     fn split(&self, spares: &Spares, page: Version, plan: SplitPlan, state: &mut State)
         requires faced { (k : Knowledge) × (r : Recalled) × FacesWritten self.now spares.now k r (WriteEnd.Split page plan) }
-        ensures stands { (k : Knowledge) (r : Recalled) → FacesWritten self.now spares.now k r (WriteEnd.Split page plan) → Stands self.now spares.now k r state.new }
+        ensures stands { (k : Knowledge) (r : Recalled) → FacesWritten self.now spares.now k r (WriteEnd.Split page plan) → ShowsState self.now spares.now k r state.new }
         ensures few { (r : Recalled) → left_at r spares.now state.new ≤ few_changes + 1 }
         ensures asks { IsSome (wanted_at spares.now state.new) }
     {
@@ -363,7 +363,7 @@ impl Task {
     /// A page's term is linked on its parent.
     fn post(&self, spares: &Spares, parent: Version, term: Term, state: &mut State)
         requires faced { (k : Knowledge) × (r : Recalled) × FacesWritten self.now spares.now k r (WriteEnd.Term parent term) }
-        ensures stands { (k : Knowledge) (r : Recalled) → FacesWritten self.now spares.now k r (WriteEnd.Term parent term) → Stands self.now spares.now k r state.new }
+        ensures stands { (k : Knowledge) (r : Recalled) → FacesWritten self.now spares.now k r (WriteEnd.Term parent term) → ShowsState self.now spares.now k r state.new }
         ensures few { (r : Recalled) → left_at r spares.now state.new ≤ few_changes + 1 }
         ensures asks { IsSome (wanted_at spares.now state.new) }
     {
@@ -386,7 +386,7 @@ impl Task {
         state: &mut State,
     )
         requires faced { (k : Knowledge) × (r : Recalled) × FacesWritten self.now spares.now k r (WriteEnd.Merge left removed merge) }
-        ensures stands { (k : Knowledge) (r : Recalled) → FacesWritten self.now spares.now k r (WriteEnd.Merge left removed merge) → Stands self.now spares.now k r state.new }
+        ensures stands { (k : Knowledge) (r : Recalled) → FacesWritten self.now spares.now k r (WriteEnd.Merge left removed merge) → ShowsState self.now spares.now k r state.new }
         ensures few { (r : Recalled) → left_at r spares.now state.new ≤ few_changes + 1 }
         ensures asks { IsSome (wanted_at spares.now state.new) }
     {
@@ -411,7 +411,7 @@ impl Task {
         state: &mut State,
     )
         requires faced { (k : Knowledge) × (r : Recalled) × FacesWritten self.now spares.now k r (WriteEnd.Unterm parent left removed unterm) }
-        ensures stands { (k : Knowledge) (r : Recalled) → FacesWritten self.now spares.now k r (WriteEnd.Unterm parent left removed unterm) → Stands self.now spares.now k r state.new }
+        ensures stands { (k : Knowledge) (r : Recalled) → FacesWritten self.now spares.now k r (WriteEnd.Unterm parent left removed unterm) → ShowsState self.now spares.now k r state.new }
         ensures few { (r : Recalled) → left_at r spares.now state.new ≤ few_changes + 1 }
         ensures asks { IsSome (wanted_at spares.now state.new) }
     {
@@ -431,7 +431,7 @@ impl Task {
     /// A root is linked over a page and its right.
     fn raise(&self, spares: &Spares, left: Version, root: Page, state: &mut State)
         requires faced { (k : Knowledge) × (r : Recalled) × FacesWritten self.now spares.now k r (WriteEnd.Root left root) }
-        ensures stands { (k : Knowledge) (r : Recalled) → FacesWritten self.now spares.now k r (WriteEnd.Root left root) → Stands self.now spares.now k r state.new }
+        ensures stands { (k : Knowledge) (r : Recalled) → FacesWritten self.now spares.now k r (WriteEnd.Root left root) → ShowsState self.now spares.now k r state.new }
         ensures few { (r : Recalled) → left_at r spares.now state.new ≤ few_changes + 1 }
         ensures asks { IsSome (wanted_at spares.now state.new) }
     {
@@ -448,7 +448,7 @@ impl Task {
         requires target { IsTarget self.now.limits plan }
         requires spells { IsSpellablePlan plan }
         requires room { HaveRoom self.now.limits spares.now }
-        ensures stands { (k : Knowledge) (r : Recalled) → MayBegin self.now spares.now k r plan then → Stands self.now spares.now k r state.new }
+        ensures stands { (k : Knowledge) (r : Recalled) → MayBegin self.now spares.now k r plan then → ShowsState self.now spares.now k r state.new }
         ensures few { (r : Recalled) → left_at r spares.now state.new ≤ few_changes + 1 }
         ensures asks { IsSome (wanted_at spares.now state.new) }
     {
@@ -458,7 +458,7 @@ impl Task {
 
     /// An update that won has its reply; any other change is followed by a new round, and one for which nothing was free by none.
     pub(crate) fn end_change(&mut self, end: End, then: Then, state: &mut State)
-        ensures stands { (spares : Spares) (k : Knowledge) (r : Recalled) → FacesChanged self.old spares k end then → Stands self.new spares k r state.new }
+        ensures stands { (spares : Spares) (k : Knowledge) (r : Recalled) → FacesChanged self.old spares k end then → ShowsState self.new spares k r state.new }
         ensures few { (spares : Spares) (r : Recalled) → with_errands self.new.errands (left_at r spares state.new) ≤ with_errands self.old.errands (left_for (Outcome.Changed end then)) }
         ensures asks { (spares : Spares) → IsSome (wanted_at spares state.new) }
         ensures same { IsSameTask self.old self.new }

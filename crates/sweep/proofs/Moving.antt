@@ -22,7 +22,7 @@ use Rattle.epochs.specs.Words.{HandsOn, may_go, without}
 use Rattle.sweep.specs.declared.sweep.State.{State}
 use Rattle.sweep.specs.declared.sweep.State.TheVariants as state
 use Rattle.sweep.specs.Kept.{Agrees, AreKept, IsLimboOf}
-use Rattle.sweep.specs.Moves.{Begins, Compares, Frees, Moves, Stamps, has_unstamped, state_if}
+use Rattle.sweep.specs.Moves.{BeginsSweep, Compares, Frees, Moves, Stamps, has_unstamped, state_if}
 use Rattle.sweep.specs.Sweeps.{AreTold, Follows, IsSame, Shows, ShowsState, ShowsThen, Sweep, Told, other_at, wanted, wanted_at}
 use Rattle.sweep.proofs.Agreeing.{announced_agrees, announced_told, compared_agrees, may_free, stamped_agrees, stamped_told}
 use Rattle.sweep.proofs.Stages.{both_of, kept_stage, neither, no_item, no_stage, passed_stage, restaged_stage}
@@ -203,7 +203,7 @@ told_first actor (Some (Passed stamp)) known.Absent stamped = tt
 told_first actor (Some (Passed stamp)) known.Unstamped stamped = tt
 told_first actor (Some (Passed stamp)) (known.Stamped epoch passed) stamped = λ place lt. absurd (omega (arith, lt))
 
-pub begins_show : (limits : Limits) (actor : ℕ) (limbo after : Limbo) (first : Option State) → actor < limits.actors → Begins limits limbo first after → (k : Knowledge) → AreKept limits actor limbo k.limbo → ShowsNext limits actor first after k
+pub begins_show : (limits : Limits) (actor : ℕ) (limbo after : Limbo) (first : Option State) → actor < limits.actors → BeginsSweep limits limbo first after → (k : Knowledge) → AreKept limits actor limbo k.limbo → ShowsNext limits actor first after k
 begins_show limits actor limbo after first inside begins k kept = elim (no_item limbo) [
   | inl empty ↦ let is = begins.empty empty in rw (is.0, is.1) kept
   | inr some ↦ elim (cases_Bool (has_unstamped limbo)) [

@@ -20,7 +20,7 @@ use Rattle.sweep.specs.declared.sweep.State.{State}
 use Rattle.sweep.specs.declared.sweep.State.TheVariants as state
 use Rattle.sweep.specs.Bounded.{reuses_left, steps_left}
 use Rattle.sweep.specs.Kept.{IsLimboOf}
-use Rattle.sweep.specs.Moves.{Begins, Compares, Frees, IsEmpty, Moves, Stamps, has_unstamped}
+use Rattle.sweep.specs.Moves.{BeginsSweep, Compares, Frees, IsEmpty, Moves, Stamps, has_unstamped}
 use Rattle.sweep.specs.Sweeps.{ComesFirst, HasPlace, IsInOrder, IsSame, IsSoundState, IsSoundSweep, Sweep}
 use Rattle.sweep.proofs.Stages.{both_of, left_later, neither, no_item}
 
@@ -204,7 +204,7 @@ none_left (e ∷ es) stamped none = at_first e.stage refl
     at_first (Passed stamp) is = absurd (let h : true ≡ false = sym (may (ap (λ s. is_passed (compared_with [] s)) is)) ∙ none e.number in cc)
 
 -- a sweep that doesn't begin has nothing to sweep
-pub begins_not : (limits : Limits) (limbo after : Limbo) → Begins limits limbo None after → IsEmpty limbo
+pub begins_not : (limits : Limits) (limbo after : Limbo) → BeginsSweep limits limbo None after → IsEmpty limbo
 begins_not limits limbo after begins = elim (no_item limbo) [
   | inl empty ↦ empty
   | inr some ↦ elim (cases_Bool (has_unstamped limbo)) [
@@ -220,7 +220,7 @@ begins_not limits limbo after begins = elim (no_item limbo) [
 ]
 
 -- one that begins is sound
-pub begins_sound : (limits : Limits) (actor : ℕ) (limbo after : Limbo) (first : State) → IsLimboList limbo.rows → IsLimboList limbo.pids → IsLimboOf limits limbo → Begins limits limbo (Some first) after
+pub begins_sound : (limits : Limits) (actor : ℕ) (limbo after : Limbo) (first : State) → IsLimboList limbo.rows → IsLimboList limbo.pids → IsLimboOf limits limbo → BeginsSweep limits limbo (Some first) after
     → IsSoundState limits first × IsSoundSweep (record { limits = limits; actor = actor; state = first }) after
 begins_sound limits actor limbo after first rows pids lists begins = elim (no_item limbo) [
   | inl empty ↦ absurd (cc ((begins.empty empty).0))

@@ -44,7 +44,7 @@ Moves limits (Reuse reuse) limbo told next after = Frees limbo next after
 Moves limits state limbo told next after = ⊥
 
 -- at the begin: where something has no stamp, the epoch is read first
-pub record Begins (limits : Limits) (limbo : Limbo) (first : Option State) (after : Limbo) : Type 0 where
+pub record BeginsSweep (limits : Limits) (limbo : Limbo) (first : Option State) (after : Limbo) : Type 0 where
   pub empty : IsEmpty limbo → (first ≡ None) × (after ≡ limbo)
   pub epoch : IsTrue (has_unstamped limbo) → (first ≡ Some Epoch) × (after ≡ limbo)
   pub stamped : (IsEmpty limbo → ⊥) → IsFalse (has_unstamped limbo) → Compares limits [] limbo first after

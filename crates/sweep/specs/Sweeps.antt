@@ -113,7 +113,7 @@ pub record Shows (sweep : Sweep) (limbo : Limbo) (k : Knowledge) : Type 0 where
   pub stands : ShowsState sweep.limits sweep.actor sweep.state limbo k
 
 -- The actor is outside, and its limbo is kept as it is.
-pub record Rests (limits : Limits) (actor : ℕ) (limbo : Limbo) (k : Knowledge) : Type 0 where
+pub record IsKeptOutside (limits : Limits) (actor : ℕ) (limbo : Limbo) (k : Knowledge) : Type 0 where
   pub outside : IsFalse k.inside
   pub kept : AreKept limits actor limbo k.limbo
 
@@ -125,7 +125,7 @@ pub record IsTold (sweep : Sweep) (told : Answer Record) : Type 0 where
 -- A sweep that goes on is shown, and one that has ended leaves its actor at rest.
 abbrev pub ShowsThen : Bool → Sweep → Limbo → Knowledge → Type 0
 ShowsThen true sweep limbo k = Shows sweep limbo k
-ShowsThen false sweep limbo k = Rests sweep.limits sweep.actor limbo k
+ShowsThen false sweep limbo k = IsKeptOutside sweep.limits sweep.actor limbo k
 
 -- What follows from an answer. Nothing is learnt but of the limbo.
 pub record Follows (k now : Knowledge) (sweep : Sweep) (limbo : Limbo) (goes : Bool) : Type 0 where

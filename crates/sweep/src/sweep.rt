@@ -8,8 +8,8 @@ ghost use Rattle.epochs.specs.Limbo.{Limbo as LimboSeen};
 ghost use Rattle.chain_search.specs.Within.{IsWithin};
 ghost use Rattle.sweep.specs.Bounded.{Spends, steps_left};
 ghost use Rattle.sweep.specs.Kept.{AreKept, IsLimboOf};
-ghost use Rattle.sweep.specs.Moves.{Begins, Compares, Frees, IsEmpty, Moves, Stamps, state_if};
-ghost use Rattle.sweep.specs.Sweeps.{Follows, IsOfSweep, IsSame, IsSoundSweep, IsTold, Rests, Shows, other_at, wanted};
+ghost use Rattle.sweep.specs.Moves.{BeginsSweep, Compares, Frees, IsEmpty, Moves, Stamps, state_if};
+ghost use Rattle.sweep.specs.Sweeps.{Follows, IsOfSweep, IsSame, IsSoundSweep, IsTold, IsKeptOutside, Shows, other_at, wanted};
 
 use crate::announces::Announces;
 use bw_model::{Answer, Limits, Step};
@@ -53,12 +53,12 @@ impl Sweep {
     pub fn begin<A: Allocator>(limits: &Limits, actor: u8, limbo: &mut Limbo<A>) -> Option<Sweep>
         requires actor { actor < limits.now.actors }
         requires lists { IsLimboOf limits.now limbo.old }
-        ensures begins { MatchOption result (Begins limits.now limbo.old None limbo.new) (λ sweep. Begins limits.now limbo.old (Some sweep.state) limbo.new) }
+        ensures begins { MatchOption result (BeginsSweep limits.now limbo.old None limbo.new) (λ sweep. BeginsSweep limits.now limbo.old (Some sweep.state) limbo.new) }
         ensures none { IsNone result ↔ IsEmpty limbo.old }
         ensures limits { IfSome result (λ sweep. (sweep.limits ≡ limits.now) × (sweep.actor ≡ actor)) }
         ensures sound { IfSome result (λ sweep. IsSoundSweep sweep limbo.new) }
         ensures lists { IsLimboOf limits.now limbo.new }
-        ensures shows { (k : Knowledge) → Rests limits.now actor limbo.old k → MatchOption result (Rests limits.now actor limbo.new k) (λ sweep. Shows sweep limbo.new k) }
+        ensures shows { (k : Knowledge) → IsKeptOutside limits.now actor limbo.old k → MatchOption result (IsKeptOutside limits.now actor limbo.new k) (λ sweep. Shows sweep limbo.new k) }
         ensures few { IfSome result (λ sweep. steps_left sweep.state ≤ 337) }
     {
         limbo.has_each_once();
@@ -144,7 +144,7 @@ impl Sweep {
 
 /// Where a sweep begins.
 fn first<A: Allocator>(limits: &Limits, limbo: &mut Limbo<A>) -> Option<State>
-    ensures { Begins limits.now limbo.old result limbo.new }
+    ensures { BeginsSweep limits.now limbo.old result limbo.new }
 {
     if limbo.is_empty() {
         return None;

@@ -66,7 +66,7 @@ pub record Next (a : ℕ) (m m' : Shared) (log : List Update) (o : Owners) (know
   pub homed : (row : ℕ) → owners.row row ≡ Linked → (o.row row ≡ Linked) ⊎ IsHomed m s x row
   -- a linked row stays linked, with its record
   pub kept : (row : ℕ) → o.row row ≡ Linked → (owners.row row ≡ Linked) × (m'.rows row ≡ m.rows row)
-  pub good : IsTree m' (grown log update) owners (put knows a (finished (learn (knows a) s x) r)) (put point a (pointed log update (point a))) (put logs a (log ∷ logs a))
+  pub is_tree : IsTree m' (grown log update) owners (put knows a (finished (learn (knows a) s x) r)) (put point a (pointed log update (point a))) (put logs a (log ∷ logs a))
 
 -- The same of every step, a reuse among them, which lets linked rows go.
 pub record After (a : ℕ) (m m' : Shared) (log : List Update) (o : Owners) (knows : ℕ → Knowledge) (point : ℕ → Option (List Update)) (logs : ℕ → List (List Update)) (s : StepOf Record) (x : Answer Record) (r : Option Reply) : Type 0 where
@@ -78,4 +78,4 @@ pub record After (a : ℕ) (m m' : Shared) (log : List Update) (o : Owners) (kno
   pub added : (row : ℕ) → owners.row row ≡ Linked → (o.row row ≡ Linked) ⊎ IsAdded o m'.rows row
   -- a linked row has its record still
   pub same : (row : ℕ) → o.row row ≡ Linked → m'.rows row ≡ m.rows row
-  pub good : IsTree m' (grown log update) owners (put knows a (finished (learn (knows a) s x) r)) (put point a (pointed log update (point a))) (put logs a (log ∷ logs a))
+  pub is_tree : IsTree m' (grown log update) owners (put knows a (finished (learn (knows a) s x) r)) (put point a (pointed log update (point a))) (put logs a (log ∷ logs a))

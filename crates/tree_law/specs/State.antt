@@ -123,14 +123,14 @@ pub record IsNamed (limits : Limits) (entries : List Entry) (owners : Owners) (m
   pub row_below : (row : ℕ) → (owners.row row ≡ Free) ⊎ (row < limits.rows)
   pub free_pid_below : (pid : ℕ) → memory.free_pids pid ≡ true → (0 < pid) × (pid < limits.pids)
   pub pid_below : (pid : ℕ) → (phase_of (owners.page pid) ≡ phase.free) ⊎ ((0 < pid) × (pid < limits.pids))
-  pub held : (page row : ℕ) → slot_in memory.slots page ≡ Some row → IsInTree (owners.page page) ⊎ IsReadyPage owners memory knows page row
+  pub in_slots : (page row : ℕ) → slot_in memory.slots page ≡ Some row → IsInTree (owners.page page) ⊎ IsReadyPage owners memory knows page row
 
 pub record IsState (limits : Limits) (entries : List Entry) : Type 0 where
   pub points : List Bool
   pub owners : Owners
   pub point : ℕ → Option (List Update)
   pub logs : ℕ → List (List Update)
-  pub good : IsTree (shared (memory_of limits entries)) (log_of entries points) owners (knows entries) point logs
+  pub is_tree : IsTree (shared (memory_of limits entries)) (log_of entries points) owners (knows entries) point logs
   pub fitted : AreFitted owners (memory_of limits entries).rows
   pub named : IsNamed limits entries owners (memory_of limits entries) (knows entries)
   pub tells : (actor : ℕ) (asked : Command) → command_of entries actor ≡ Some asked → Tells entries points actor asked (point actor) (logs actor)

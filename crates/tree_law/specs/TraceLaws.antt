@@ -45,8 +45,8 @@ abbrev pub Opens : (Limits → List Entry → Type 0) → Type 0
 Opens IsSuch = (limits : Limits) → IsSuch limits []
 
 -- a begin keeps one, where the actor is there and has no operation
-abbrev pub Begins : (Limits → List Entry → Type 0) → Type 0
-Begins IsSuch = (limits : Limits) (entries : List Entry) (actor : ℕ) (command : Command) → IsSuch limits entries → actor < limits.actors → command_of entries actor ≡ None → IsSuch limits (entries ++ Begin actor command ∷ [])
+abbrev pub BeginsKeep : (Limits → List Entry → Type 0) → Type 0
+BeginsKeep IsSuch = (limits : Limits) (entries : List Entry) (actor : ℕ) (command : Command) → IsSuch limits entries → actor < limits.actors → command_of entries actor ≡ None → IsSuch limits (entries ++ Begin actor command ∷ [])
 
 -- an allowed step keeps one of the tree, with the memory's answer
 abbrev pub Steps : Type 0
@@ -57,6 +57,20 @@ Steps = (limits : Limits) (entries : List Entry) (actor : ℕ) (step : StepOf Re
 abbrev pub DisciplinedRuns : Type 0
 DisciplinedRuns = (limits : Limits) (entries : List Entry) → IsDisciplined limits entries → IsState limits entries
 
+-- what is so of each such trace
+abbrev pub RunsAreLinearized : Type 0
+RunsAreLinearized = (limits : Limits) (entries : List Entry) → IsDisciplined limits entries → IsLinearized limits (map turn_of entries) entries
+
+abbrev pub RunsKeepPhases : Type 0
+RunsKeepPhases = (limits : Limits) (entries : List Entry) → IsDisciplined limits entries → KeepsPhases limits entries
+
+abbrev pub RunsAreIndexed : Type 0
+RunsAreIndexed = (limits : Limits) (entries : List Entry) → IsDisciplined limits entries → IsExactIndex limits entries
+
+abbrev pub RunsFreeByRule : Type 0
+RunsFreeByRule = (limits : Limits) (entries : List Entry) → IsDisciplined limits entries → IsFreedByRule limits entries
+
+-- what is so of each state
 abbrev pub StatesAreLinearized : Type 0
 StatesAreLinearized = (limits : Limits) (entries : List Entry) → IsState limits entries → IsLinearized limits (map turn_of entries) entries
 

@@ -7,7 +7,7 @@ pub fn key_order()
 {}
 
 /// The opening memory meets the invariant.
-pub fn opening_is_good()
+pub fn opening_is_tree()
     ensures { OpenLaw }
 {}
 

@@ -1,12 +1,6 @@
 //! The law over runs: each of its parts is the contract of a function that does nothing.
-ghost use Rattle.std.specs.Prelude.{List, map};
-ghost use Rattle.bw_model.specs.declared.limits.Limits.{Limits};
-ghost use Rattle.chain_search.specs.Disciplined.{IsDisciplined};
-ghost use Rattle.chain_search.specs.Trace.{turn_of};
-ghost use Rattle.chain_search.specs.declared.trace.Entry.{Entry};
-ghost use Rattle.op_machine.specs.Linearized.{IsLinearized};
 ghost use Rattle.tree_law.specs.State.{IsState};
-ghost use Rattle.tree_law.specs.TraceLaws.{AnswersFit, Begins, DisciplinedRuns, EntriesGrow, HeadsStand, LeavesHaveMap, LeavesStand, StatesFreeByRule, StatesAreIndexed, StatesAreLinearized, KnowledgeIsOwn, Opens, RowsStand, StatesKeepPhases, Steps};
+ghost use Rattle.tree_law.specs.TraceLaws.{AnswersFit, BeginsKeep, DisciplinedRuns, EntriesGrow, HeadsStand, LeavesHaveMap, LeavesStand, RunsAreLinearized, StatesFreeByRule, StatesAreIndexed, StatesAreLinearized, KnowledgeIsOwn, Opens, RowsStand, StatesKeepPhases, Steps};
 
 /// What one more entry makes of a trace.
 pub fn entries_grow()
@@ -20,7 +14,7 @@ pub fn opens()
 
 /// A begin keeps it, where the actor is there and has no operation.
 pub fn begins()
-    ensures { Begins IsState }
+    ensures { BeginsKeep IsState }
 {}
 
 /// A step keeps it, where the actor's knowledge allows it and the memory gives its answer.
@@ -51,7 +45,7 @@ pub fn frees_by_rule()
 /// A trace in which each actor obeys its discipline is a state, and so linearized.
 pub fn disciplined_runs()
     ensures states { DisciplinedRuns }
-    ensures linearized { (limits : Limits) (entries : List Entry) → IsDisciplined limits entries → IsLinearized limits (map turn_of entries) entries }
+    ensures linearized { RunsAreLinearized }
 {}
 
 /// In a state, a row that an actor may read has a record, and so has one that stands in a page's slot; and what the memory

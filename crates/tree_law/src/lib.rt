@@ -14,7 +14,7 @@ pub use examples::{
     pages_are_disciplined, removal_is_disciplined, sweep_is_disciplined,
 };
 pub use invariant::{
-    key_order, levels_are_indexed, one_begin_keeps, one_step_keeps, opening_is_good,
+    key_order, levels_are_indexed, one_begin_keeps, one_step_keeps, opening_is_tree,
     reply_is_by_a_log,
 };
 pub use law::{

@@ -64,7 +64,7 @@ module _ (limits : Limits) (entries : List Entry) (state : IsState limits entrie
   k = knows entries a
 
   stands : (r : ℕ) (w : Record) → k.read.seen r ≡ Some w → m.rows r ≡ Some w
-  stands r w e = (subst (λ (o : Option Record). SeenFits (state.owners.row r) (m.rows r) o) e ((state.good.sound a).seen_fits r)).1
+  stands r w e = (subst (λ (o : Option Record). SeenFits (state.owners.row r) (m.rows r) o) e ((state.is_tree.sound a).seen_fits r)).1
 
   -- a linked row is a row
   linked_some : (r : ℕ) → state.owners.row r ≡ Linked → (0 < r) × (r < limits.rows)
@@ -86,17 +86,17 @@ module _ (limits : Limits) (entries : List Entry) (state : IsState limits entrie
   -- a record in a linked row is one that a row can spell
   is_spellable : (q : ℕ) (w : Record) → state.owners.row q ≡ Linked → m.rows q ≡ Some w → IsSpellable w
   is_spellable q w linked e =
-      let l = state.good.closed q linked in
+      let l = state.is_tree.closed q linked in
       let fitted = (state.fitted q linked (l.content ∷ l.rest) (l.stands, l.is_rest)).fitted in
       subst IsSpellable (same_Some l.content w (sym l.stands ∙ e)) (first_spellable l.content l.rest fitted)
 
   fits_row : (q : ℕ) (w : Record) → k.read.learnt q ≡ true → m.rows q ≡ Some w → FitsRow limits k q w
   fits_row q w learnt e = record {
     same = λ before seen. same_Some w before (sym e ∙ stands q before seen);
-    spellable = is_spellable q w ((state.good.sound a).learnt_fits q learnt) e;
-    next = next_some w (next_linked state.owners (shared m) state.good.closed q w ((state.good.sound a).learnt_fits q learnt) e);
-    short = λ page head front at part. short_front state.good state.fitted a q w e page head front at part;
-    whole = λ page head front at part last. whole_chain state.good state.fitted a q w e page head front at part limits placed_below last;
+    spellable = is_spellable q w ((state.is_tree.sound a).learnt_fits q learnt) e;
+    next = next_some w (next_linked state.owners (shared m) state.is_tree.closed q w ((state.is_tree.sound a).learnt_fits q learnt) e);
+    short = λ page head front at part. short_front state.is_tree state.fitted a q w e page head front at part;
+    whole = λ page head front at part last. whole_chain state.is_tree state.fitted a q w e page head front at part limits placed_below last;
   }
 
   fits_word : (free : ℕ → Bool) (limit word bits : ℕ) → ((n : ℕ) → free n ≡ true → (0 < n) × (n < limit)) → IsWordOf free word bits → FitsWord limit word bits
@@ -119,14 +119,14 @@ module _ (limits : Limits) (entries : List Entry) (state : IsState limits entrie
   fits_taken q e = record {
     some = (free_some q e).0;
     below = (free_some q e).1;
-    foreign = is_foreign (k.own.rows q) (state.good.owns a q);
+    foreign = is_foreign (k.own.rows q) (state.is_tree.owns a q);
     unlearnt = is_unlearnt (k.read.learnt q) refl;
-    unseen = is_unseen (k.read.seen q) ((state.good.sound a).seen_fits q);
+    unseen = is_unseen (k.read.seen q) ((state.is_tree.sound a).seen_fits q);
     freed = not_in_limbo (state.times.row_out q) (not_out (state.times.row_out q) refl) (k.limbo.rows q) (state.timed.limbo_rows a q);
   }
     where
       was : state.owners.row q ≡ Free
-      was = state.good.frees.row q e
+      was = state.is_tree.frees.row q e
 
       not_out : (out : Option Outing) → state.times.row_out q ≡ out → out ≡ None
       not_out None i = refl
@@ -138,7 +138,7 @@ module _ (limits : Limits) (entries : List Entry) (state : IsState limits entrie
       is_foreign (Written w) h = let f = was in let g = h.0 in absurd (cc)
 
       is_unlearnt : (t : Bool) → k.read.learnt q ≡ t → k.read.learnt q ≡ false
-      is_unlearnt true i = let f = was in let g : state.owners.row q ≡ Linked = (state.good.sound a).learnt_fits q i in absurd (cc)
+      is_unlearnt true i = let f = was in let g : state.owners.row q ≡ Linked = (state.is_tree.sound a).learnt_fits q i in absurd (cc)
       is_unlearnt false i = i
 
       is_unseen : (o : Option Record) → SeenFits (state.owners.row q) (m.rows q) o → o ≡ None
@@ -146,10 +146,10 @@ module _ (limits : Limits) (entries : List Entry) (state : IsState limits entrie
       is_unseen (Some w) h = let f = was in let g = h.0 in absurd (cc)
 
   fits_taken_pid : (q : ℕ) → m.free_pids q ≡ true → FitsTakenPid limits k q
-  fits_taken_pid q e = record { some = (state.named.free_pid_below q e).0; below = (state.named.free_pid_below q e).1; other = is_other (k.own.pages q) (state.good.owns_pages a q); unread = is_unread (k.read.heads q) ((state.good.sound a).heads_fit q); freed = not_in_limbo (state.times.page_out q) (not_out (state.times.page_out q) refl) (k.limbo.pids q) (state.timed.limbo_pids a q) }
+  fits_taken_pid q e = record { some = (state.named.free_pid_below q e).0; below = (state.named.free_pid_below q e).1; other = is_other (k.own.pages q) (state.is_tree.owns_pages a q); unread = is_unread (k.read.heads q) ((state.is_tree.sound a).heads_fit q); freed = not_in_limbo (state.times.page_out q) (not_out (state.times.page_out q) refl) (k.limbo.pids q) (state.timed.limbo_pids a q) }
     where
       was : state.owners.page q ≡ Nobody
-      was = (state.good.frees.page q e).0
+      was = (state.is_tree.frees.page q e).0
 
       not_out : (out : Option Outing) → state.times.page_out q ≡ out → out ≡ None
       not_out None i = refl
@@ -169,8 +169,8 @@ module _ (limits : Limits) (entries : List Entry) (state : IsState limits entrie
   root_linked : (p : ℕ) → k.read.roots p ≡ true → 0 < m.slots p
   root_linked p root =
       let first = state.rooted a p root in
-      let index = is_indexed m state.good in
-      let le = below_top m state.good p first.0 [] first.1.0 first.1.1 in
+      let index = is_indexed m state.is_tree in
+      let le = below_top m state.is_tree p first.0 [] first.1.0 first.1.1 in
       let same : p ≡ index.first first.0 = index.only p first.0 first.1.0 le first.1.1 first.1.2 in
       let here = (index.begins first.0 le).1.linked in
       rw same here
@@ -180,23 +180,23 @@ module _ (limits : Limits) (entries : List Entry) (state : IsState limits entrie
   stays p head h = ⊎_elim
       (λ (u : slot_in m.slots (suc p) ≡ Some head). inl (slot_some m.slots (suc p) head u).1)
       (λ (u : IsOut (state.owners.page (suc p)) (slot_in m.slots (suc p))). inr (slot_none m.slots (suc p) (omega arith) u.0))
-      (frozen_as state.good a (suc p) head h.head h.chain h.read h.gone)
+      (frozen_as state.is_tree a (suc p) head h.head h.chain h.read h.gone)
 
   -- a page in the tree is none that an actor took and has not set
   unowned : (p l : ℕ) (s : Key) → Reached 0 l s (state.owners.page (suc p)) → k.own.pages (suc p) ≡ Empty → ⊥
-  unowned p l s here e = subst (Reached 0 l s) (subst (λ (v : OwnPage). PageFits a (state.owners.page (suc p)) (slot_in m.slots (suc p)) v) e (state.good.owns_pages a (suc p))).0 here
+  unowned p l s here e = subst (Reached 0 l s) (subst (λ (v : OwnPage). PageFits a (state.owners.page (suc p)) (slot_in m.slots (suc p)) v) e (state.is_tree.owns_pages a (suc p))).0 here
 
   fits_slot : (p : ℕ) → May a k (Slot p) → Fits limits k (Slot p) (Number (m.slots p))
   fits_slot zero may = elim (state.named.pid_below (m.slots 0)) [
-    | inl f ↦ absurd (let e = ap phase_of state.good.tree.exact.is_root in cc)
+    | inl f ↦ absurd (let e = ap phase_of state.is_tree.tree.exact.is_root in cc)
     | inr below ↦ (
       below.0,
       below.1,
       λ head chain e h.
-          (reached_one 0 0 state.good.tree.top (level_in chain) [] (low_in chain) (state.owners.page (m.slots 0)) (placed_reached state.good.tree.top [] Indexed (state.owners.page (m.slots 0)) state.good.tree.exact.is_root) (read_reached state.good state.fitted a (m.slots 0) head chain e h)).1,
+          (reached_one 0 0 state.is_tree.tree.top (level_in chain) [] (low_in chain) (state.owners.page (m.slots 0)) (placed_reached state.is_tree.tree.top [] Indexed (state.owners.page (m.slots 0)) state.is_tree.tree.exact.is_root) (read_reached state.is_tree state.fitted a (m.slots 0) head chain e h)).1,
     )
   ]
-  fits_slot (suc p) may = let here = met_placed state.good a (suc p) may.1 in elim (slot_of state.good a (suc p) here.0 here.1 here.2) [
+  fits_slot (suc p) may = let here = met_placed state.is_tree a (suc p) may.1 in elim (slot_of state.is_tree a (suc p) here.0 here.1 here.2) [
     | inl none ↦ let z : m.slots (suc p) ≡ 0 = slot_none m.slots (suc p) (omega arith) none in let some : 64 ≤ limits.rows = limits.allowed.some_rows in (omega arith, λ root. root_linked (suc p) root, λ head h. inr z, unowned p here.0 here.1 here.2)
     | inr found ↦ let at : m.slots (suc p) ≡ found.0 = (slot_some m.slots (suc p) found.0 found.1).1 in let some = linked_some found.0 found.2.linked in (subst (λ n. n < limits.rows) (sym at) some.1, λ root. subst (λ n. 0 < n) (sym at) some.0, λ head h. stays p head h, unowned p here.0 here.1 here.2)
   ]
@@ -213,14 +213,14 @@ module _ (limits : Limits) (entries : List Entry) (state : IsState limits entrie
   walk_out_of_limbo : (p x l : ℕ) (s : Key) → Reached 0 l s (state.owners.page p) → slot_in m.slots p ≡ Some x → AreOutOfLimbo limits k x
   walk_out_of_limbo p x l s reached held = λ row walk.
       let first = state.timed.slots p x l s reached held in
-      let on = on_walk state.good state.timed a p 13 (Some x) row (slot_linked state.good state.timed a p x l s reached held, first.0, first.1) walk in
+      let on = on_walk state.is_tree state.timed a p 13 (Some x) row (slot_linked state.is_tree state.timed a p x l s reached held, first.0, first.1) walk in
       let some = linked_some row on.0 in
       (some.0, some.1, not_in_limbo (state.times.row_out row) on.2 (k.limbo.rows row) (state.timed.limbo_rows a row))
 
   -- a page whose term the actor took out is in no limbo, nor is its chain
   gone_out_of_limbo : (p x : ℕ) → k.own.pages p ≡ Gone → slot_in m.slots p ≡ Some x → (k.limbo.pids p ≡ Absent) × AreOutOfLimbo limits k x
   gone_out_of_limbo p x gone held =
-      let was = subst (λ (v : OwnPage). PageFits a (state.owners.page p) (slot_in m.slots p) v) gone (state.good.owns_pages a p) in
+      let was = subst (λ (v : OwnPage). PageFits a (state.owners.page p) (slot_in m.slots p) v) gone (state.is_tree.owns_pages a p) in
       let reached = subst (λ (v : PageOwner). Reached 0 was.0 was.1 v) (sym was.2) (refl, refl) in (
         not_in_limbo (state.times.page_out p) (state.timed.gone_pages a p gone) (k.limbo.pids p) (state.timed.limbo_pids a p),
         walk_out_of_limbo p x was.0 was.1 reached held,
@@ -230,19 +230,19 @@ module _ (limits : Limits) (entries : List Entry) (state : IsState limits entrie
   fits_exchange zero x y t may e = tt
   fits_exchange (suc p) zero zero t may e = absurd may
   fits_exchange (suc p) zero (suc y) t may e =
-      let own = subst (λ (v : OwnPage). PageFits a (state.owners.page (suc p)) (slot_in m.slots (suc p)) v) may.0 (state.good.owns_pages a (suc p)) in
+      let own = subst (λ (v : OwnPage). PageFits a (state.owners.page (suc p)) (slot_in m.slots (suc p)) v) may.0 (state.is_tree.owns_pages a (suc p)) in
       let none : m.slots (suc p) ≡ 0 = slot_none m.slots (suc p) (omega arith) own.1 in
       sym e ∙ rw none refl
   fits_exchange (suc p) (suc x) zero t may e = (
     λ ready.
-        let own = subst (λ (v : OwnPage). PageFits a (state.owners.page (suc p)) (slot_in m.slots (suc p)) v) ready (state.good.owns_pages a (suc p)) in
+        let own = subst (λ (v : OwnPage). PageFits a (state.owners.page (suc p)) (slot_in m.slots (suc p)) v) ready (state.is_tree.owns_pages a (suc p)) in
         wins (slot_some m.slots (suc p) (suc x) own.1).1,
     λ gone h.
-        let own = subst (λ (v : OwnPage). PageFits a (state.owners.page (suc p)) (slot_in m.slots (suc p)) v) gone (state.good.owns_pages a (suc p)) in
+        let own = subst (λ (v : OwnPage). PageFits a (state.owners.page (suc p)) (slot_in m.slots (suc p)) v) gone (state.is_tree.owns_pages a (suc p)) in
         ⊎_elim
         (λ (u : slot_in m.slots (suc p) ≡ Some (suc x)). wins (slot_some m.slots (suc p) (suc x) u).1)
         (λ (u : IsOut (state.owners.page (suc p)) (slot_in m.slots (suc p))). absurd (let f = u.0 in let g = own.3 in cc))
-        (frozen_as state.good a (suc p) (suc x) h.head h.chain h.read h.gone),
+        (frozen_as state.is_tree a (suc p) (suc x) h.head h.chain h.read h.gone),
     λ won gone. gone_out_of_limbo (suc p) (suc x) gone (ap row_in (eqb-true (m.slots (suc p)) (suc x) (e ∙ won))),
   )
     where
@@ -251,9 +251,9 @@ module _ (limits : Limits) (entries : List Entry) (state : IsState limits entrie
   fits_exchange (suc p) (suc x) (suc y) t may e = λ won.
       let at : m.slots (suc p) ≡ suc x = eqb-true (m.slots (suc p)) (suc x) (e ∙ won) in
       let read = may.basis in
-      let place = place_of state.good a (suc p) (suc x) read.chain (found state.good a (suc p) (suc x) read) read.alive (ap row_in at) in
+      let place = place_of state.is_tree a (suc p) (suc x) read.chain (found state.is_tree a (suc p) (suc x) read) read.alive (ap row_in at) in
       let reached = placed_reached (level_in read.chain) (low_in read.chain) place.stage (state.owners.page (suc p)) place.placed in (
-        not_own state.good a (suc p) (level_in read.chain) (low_in read.chain) place.stage place.placed (k.own.pages (suc p)) (state.good.owns_pages a (suc p)),
+        not_own state.is_tree a (suc p) (level_in read.chain) (low_in read.chain) place.stage place.placed (k.own.pages (suc p)) (state.is_tree.owns_pages a (suc p)),
         walk_out_of_limbo (suc p) (suc x) (level_in read.chain) (low_in read.chain) reached (ap row_in at),
       )
 
@@ -283,4 +283,4 @@ module _ (limits : Limits) (entries : List Entry) (state : IsState limits entrie
 
   -- a row that the actor may read has a record
   pub row_stands : (q : ℕ) → May a k (Row q) → (content : Record) × (m.rows q ≡ Some content)
-  row_stands q may = let l = state.good.closed q ((state.good.sound a).learnt_fits q may.1) in (l.content, l.stands)
+  row_stands q may = let l = state.is_tree.closed q ((state.is_tree.sound a).learnt_fits q may.1) in (l.content, l.stands)

@@ -26,13 +26,13 @@ module _ (limits : Limits) (entries : List Entry) (state : IsState limits entrie
   m = memory_of limits entries
 
   linked_stands : state.owners.row (m.slots page) ≡ Linked → (content : Record) × (m.rows (m.slots page) ≡ Some content)
-  linked_stands linked = let l = state.good.closed (m.slots page) linked in (l.content, l.stands)
+  linked_stands linked = let l = state.is_tree.closed (m.slots page) linked in (l.content, l.stands)
 
   pub head_stands : 0 < m.slots page → (content : Record) × (m.rows (m.slots page) ≡ Some content)
   head_stands some =
       let held : slot_in m.slots page ≡ Some (m.slots page) = slot_held m.slots page above some in
-      elim (state.named.held page (m.slots page) held) [
-        | inl in_tree ↦ let here = placed_at (state.owners.page page) in_tree in elim (slot_of state.good 0 page here.0 here.1 here.2) [
+      elim (state.named.in_slots page (m.slots page) held) [
+        | inl in_tree ↦ let here = placed_at (state.owners.page page) in_tree in elim (slot_of state.is_tree 0 page here.0 here.1 here.2) [
           | inl none ↦ absurd (cc)
           | inr at ↦ linked_stands (let same : at.0 ≡ m.slots page = same_Some at.0 (m.slots page) (sym at.1 ∙ held) in subst (λ row. state.owners.row row ≡ Linked) same at.2.linked)
         ]

@@ -129,13 +129,13 @@ module _ (limits : Limits) (entries : List Entry) (a : ℕ) (s : StepOf Record) 
   of_actor op same = ap (λ b. Step b s x reply) (sym same)
 
   -- what is known of the entry
-  abbrev Stands : Entry → Type 0
-  Stands (Begin b c) = Unit {0}
-  Stands (Step b t y r) = May b (knows entries b) t × IsUseful (knows entries b) t × IsAnswer (memory_of limits entries) t y
+  abbrev IsKnown : Entry → Type 0
+  IsKnown (Begin b c) = Unit {0}
+  IsKnown (Step b t y r) = May b (knows entries b) t × IsUseful (knows entries b) t × IsAnswer (memory_of limits entries) t y
 
   changes : (b slot old new : ℕ) (r : Option Reply) → next ≡ Step b (Exchange slot old new) (Whether true) r → IsChange limits entries b slot old new × IsUseful (knows entries b) (Exchange slot old new)
   changes b slot old new r is =
-      let h : May b (knows entries b) (Exchange slot old new) × IsUseful (knows entries b) (Exchange slot old new) × IsAnswer (memory_of limits entries) (Exchange slot old new) (Whether true) = subst Stands is (may, useful, is_answer) in
+      let h : May b (knows entries b) (Exchange slot old new) × IsUseful (knows entries b) (Exchange slot old new) × IsAnswer (memory_of limits entries) (Exchange slot old new) (Whether true) = subst IsKnown is (may, useful, is_answer) in
       (change limits entries b state slot old new h.0.1 (same_number _ _ h.2), h.1)
 
   recollects_stepped : (op : Operation) → IsLast grown op → Recollects limits grown op (recalls grown op.actor)

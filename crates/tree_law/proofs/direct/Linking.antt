@@ -173,14 +173,14 @@ module _ (limits : Limits) (entries : List Entry) (a : ℕ) where
     emptying : (p x : ℕ) → m.slots (suc p) ≡ suc x → (k.own.pages (suc p) ≡ Ready (suc x)) ⊎ (k.own.pages (suc p) ≡ Gone)
         → (w : Record) × (m.rows (suc x) ≡ Some w) × (((base : ℕ) → k.own.pages (suc p) ≡ Ready base → ⊥) → link_without w ≡ link.Clear)
     emptying p x at (inl ready) =
-        let own = subst (λ (v : OwnPage). PageFits a (state.owners.page (suc p)) (slot_in m.slots (suc p)) v) ready (state.good.owns_pages a (suc p)) in
-        elim (state.named.held (suc p) (suc x) (ap row_in at)) [
+        let own = subst (λ (v : OwnPage). PageFits a (state.owners.page (suc p)) (slot_in m.slots (suc p)) v) ready (state.is_tree.owns_pages a (suc p)) in
+        elim (state.named.in_slots (suc p) (suc x) (ap row_in at)) [
           | inl tree ↦ absurd (subst IsInTree own.0 tree)
           | inr held ↦ (Base held.base, held.stands, λ never. absurd (never (suc x) ready))
         ]
     emptying p x at (inr gone) =
-        let own = subst (λ (v : OwnPage). PageFits a (state.owners.page (suc p)) (slot_in m.slots (suc p)) v) gone (state.good.owns_pages a (suc p)) in
-        elim (state.good.tree.off (suc p) own.0 own.1 (inr (a, own.2))) [
+        let own = subst (λ (v : OwnPage). PageFits a (state.owners.page (suc p)) (slot_in m.slots (suc p)) v) gone (state.is_tree.owns_pages a (suc p)) in
+        elim (state.is_tree.tree.off (suc p) own.0 own.1 (inr (a, own.2))) [
           | inl out ↦ absurd (let e : Some (suc x) ≡ None = sym (ap row_in at) ∙ out.0 in cc)
           | inr off ↦
               let same : off.row ≡ suc x = same_Some off.row (suc x) (sym off.head ∙ ap row_in at) in
@@ -191,7 +191,7 @@ module _ (limits : Limits) (entries : List Entry) (a : ℕ) where
     -- an update is linked where none was linked before, and is known then
     updates : (slot old new : ℕ) (kind : Link) → MayExchange a k slot old new → m.slots slot ≡ old → link_of m slot old new ≡ Some kind → IsUpdateLink kind → (k.asked.linked ≡ None) × IsSome (learn k (Exchange slot old new) (Whether true)).asked.linked
     unfolding IsLinked
-    updates slot old new kind may at is update = learns_update m state.good a slot old new kind may at is update
+    updates slot old new kind may at is update = learns_update m state.is_tree a slot old new kind may at is update
 
     -- by what kind it is
     change_as : (slot old new : ℕ) (kind : Link) → MayExchange a k slot old new → m.slots slot ≡ old → link_of m slot old new ≡ Some kind
@@ -208,19 +208,19 @@ module _ (limits : Limits) (entries : List Entry) (a : ℕ) where
     }
 
     pub change : (slot old new : ℕ) → MayExchange a k slot old new → m.slots slot ≡ old → IsChange slot old new
-    change zero x y may at = change_as zero x y link.Root may at refl (λ some never. (λ e. cc, λ e. cc)) (λ good e. absurd (cc))
+    change zero x y may at = change_as zero x y link.Root may at refl (λ some never. (λ e. cc, λ e. cc)) (λ is_tree e. absurd (cc))
     change (suc p) zero zero may at = absurd may
-    change (suc p) zero (suc y) may at = change_as (suc p) zero (suc y) link.Ready may at (link_ready m p (suc y)) (λ some never. absurd (omega arith)) (λ good e. absurd (cc))
+    change (suc p) zero (suc y) may at = change_as (suc p) zero (suc y) link.Ready may at (link_ready m p (suc y)) (λ some never. absurd (omega arith)) (λ is_tree e. absurd (cc))
     change (suc p) (suc x) zero may at =
         let h = emptying p x at may in
         change_as (suc p) (suc x) zero (link_without h.0) may at (link_empty m p x ∙ ap (option_map link_without) h.1)
         (λ some never. let clear = h.2 never in (λ e. absurd (let f : link.Clear ≡ link.Ready = sym clear ∙ e in cc), λ e. absurd (let f : link.Clear ≡ link.Undo = sym clear ∙ e in cc)))
-        (λ good e. absurd (not_base h.0 e))
+        (λ is_tree e. absurd (not_base h.0 e))
     change (suc p) (suc x) (suc y) may at =
-        change_as (suc p) (suc x) (suc y) (record_link may.content) may at (link_front m p x y ∙ ap (option_map record_link) (placed_row state.good a (suc y) may.content may.placed))
+        change_as (suc p) (suc x) (suc y) (record_link may.content) may at (link_front m p x y ∙ ap (option_map record_link) (placed_row state.is_tree a (suc y) may.content may.placed))
         (λ some never. kind_of_record may.content)
-        (λ good e chain is_chain.
+        (λ is_tree e chain is_chain.
         let base = base_is may.content e in
-        let stands : IsChainFrom m.rows (suc x) may.basis.chain = (found state.good a (suc p) (suc x) may.basis).stands in
+        let stands : IsChainFrom m.rows (suc x) may.basis.chain = (found state.is_tree a (suc p) (suc x) may.basis).stands in
         let same : may.basis.chain ≡ chain = IsChainFrom-unique m.rows (suc x) may.basis.chain chain stands (subst (λ r. IsChainFrom m.rows r chain) at is_chain.records) in
-        subst (λ c. 1 < length c) same (good may.basis base.0 (may.placed ∙ ap Written base.1)))
+        subst (λ c. 1 < length c) same (is_tree may.basis base.0 (may.placed ∙ ap Written base.1)))

@@ -93,12 +93,12 @@ keeps_nothing r l s a w e h = subst (Reached r l s) e h
 -- the slot of a page that the actor has made ready it may not read
 pub never_read : (limits : Limits) (entries : List Entry) → IsState limits entries → (a page base : ℕ) → May a (knows entries a) (Slot page) → (knows entries a).own.pages page ≡ Ready base → ⊥
 never_read limits entries state a zero base may e =
-    let own = subst (λ (v : OwnPage). PageFits a (state.owners.page 0) (slot_in (memory_of limits entries).slots 0) v) e (state.good.owns_pages a 0) in
+    let own = subst (λ (v : OwnPage). PageFits a (state.owners.page 0) (slot_in (memory_of limits entries).slots 0) v) e (state.is_tree.owns_pages a 0) in
     elim (state.named.pid_below 0) [
       | inl free ↦ let f : phase.owned ≡ phase.free = sym (ap phase_of own.0) ∙ free in cc
       | inr below ↦ let f : 0 < 0 = below.0 in omega arith
     ]
 never_read limits entries state a (suc p) base may e =
-    let own = subst (λ (v : OwnPage). PageFits a (state.owners.page (suc p)) (slot_in (memory_of limits entries).slots (suc p)) v) e (state.good.owns_pages a (suc p)) in
-    let here = met_placed state.good a (suc p) may.1 in
+    let own = subst (λ (v : OwnPage). PageFits a (state.owners.page (suc p)) (slot_in (memory_of limits entries).slots (suc p)) v) e (state.is_tree.owns_pages a (suc p)) in
+    let here = met_placed state.is_tree a (suc p) may.1 in
     keeps_nothing 0 here.0 here.1 a (state.owners.page (suc p)) own.0 here.2

@@ -251,8 +251,8 @@ module _ {limits : Limits} {m : Memory} {log : List Update} {o : Owners} {knows 
           free_after true v out e = refl
           free_after false v out e = rw e refl
 
-      pub rows_good : IsTree (shared m1) log o1 (put knows a k1) (put point a (point a)) (put logs a (log ∷ logs a))
-      rows_good =
+      pub rows_tree : IsTree (shared m1) log o1 (put knows a k1) (put point a (point a)) (put logs a (log ∷ logs a))
+      rows_tree =
           let n = lets_rows g row1 m1.free_rows known loose in
           quiet n a k1 (point a) (log ∷ logs a) (n.owns a) (n.owns_pages a) (mine n a)
 
@@ -266,7 +266,7 @@ module _ {limits : Limits} {m : Memory} {log : List Update} {o : Owners} {knows 
         phased = refl;
         added = λ row l. inl (row_linked first.at (is_among word bits row) (o.row row) (t.row_out row) l).1;
         same = λ row l. refl;
-        good = rows_good;
+        is_tree = rows_tree;
       }
 
       rows_past : (r : ℕ) (w : Outing) → t.row_out r ≡ Some w → w.at < now
@@ -371,8 +371,8 @@ module _ {limits : Limits} {m : Memory} {log : List Update} {o : Owners} {knows 
           let below : h.left ≡ d = chain_unique m.rows h.left d (Some y) h.is_left id in
           page_held b q (head_inside b f x ((T.holds b).before_since p f x j)) (h.since (ap is_removed above ∙ rc) (ap is_removed below ∙ nd) (ap right_in below ∙ e) q (ap right_in above ∙ n))
 
-      pub pages_good : IsTree (shared m2) log o2 (put knows a k2) (put point a (point a)) (put logs a (log ∷ logs a))
-      pages_good =
+      pub pages_tree : IsTree (shared m2) log o2 (put knows a k2) (put point a (point a)) (put logs a (log ∷ logs a))
+      pages_tree =
           let n = frees_pages g page2 m2.free_pids gone
           (λ b p e. page_held b p ((T.holds b).roots_inside p e) ((T.holds b).roots_since p e))
           (λ b p x e. let h = (T.holds b).heads_since p x e in page_held b p (head_inside b p x h) h.page)
@@ -394,7 +394,7 @@ module _ {limits : Limits} {m : Memory} {log : List Update} {o : Owners} {knows 
         phased = λ q. (λ e. let f = freed_page q e in let v = (T.pages q f.outing f.is).0 in (f.outing.who, v.0, v.1, v.2, rw e refl), λ e. rw e refl);
         added = λ row l. inl l;
         same = λ row l. refl;
-        good = pages_good;
+        is_tree = pages_tree;
       }
 
       pages_past : (p : ℕ) (w : Outing) → t.page_out p ≡ Some w → w.at < now

@@ -141,7 +141,7 @@ module _ (limits : Limits) (entries : List Entry) (a : ℕ) (step : StepOf Recor
 
       go : (s : StepOf Record) (y : Answer Record) → step ≡ s → IsAnswer m s y → MayFree limits a k s → HandsRow q s y → (b ≡ a) × ((word bits : ℕ) × (step ≡ ReuseRows word bits) × (is_among word bits q ≡ true))
       go (TakeRow taken) y i j f hands =
-          let free : state.owners.row q ≡ Free = subst (λ n. state.owners.row n ≡ Free) hands.1 (state.good.frees.row taken (whether_true (m.free_rows taken) y j hands.0)) in
+          let free : state.owners.row q ≡ Free = subst (λ n. state.owners.row n ≡ Free) hands.1 (state.is_tree.frees.row taken (whether_true (m.free_rows taken) y j hands.0)) in
           absurd (⊎_elim (λ (l : state.owners.row q ≡ Linked). (let z = free in cc)) (λ (l : state.owners.row q ≡ Spare out.0.who). (let z = free in cc)) (state.timed.rows q out.0 out.1).0)
       go (ReuseRows word bits) y i j f hands = (freed_who b (state.times.row_out q) out.0 out.1 out.2 (k.limbo.rows q) (state.timed.limbo_rows a q) (f q hands), (word, bits, i, hands))
       go s y i j f hands = absurd hands
@@ -154,7 +154,7 @@ module _ (limits : Limits) (entries : List Entry) (a : ℕ) (step : StepOf Recor
 
       go : (s : StepOf Record) (y : Answer Record) → step ≡ s → IsAnswer m s y → MayFree limits a k s → HandsPid q s y → (b ≡ a) × ((word bits : ℕ) × (step ≡ ReusePids word bits) × (is_among word bits q ≡ true))
       go (TakePid taken) y i j f hands =
-          let free : state.owners.page q ≡ Nobody = subst (λ n. state.owners.page n ≡ Nobody) hands.1 (state.good.frees.page taken (whether_true (m.free_pids taken) y j hands.0)).0 in
+          let free : state.owners.page q ≡ Nobody = subst (λ n. state.owners.page n ≡ Nobody) hands.1 (state.is_tree.frees.page taken (whether_true (m.free_pids taken) y j hands.0)).0 in
           absurd (let v = (state.timed.pages q out.0 out.1).0.2 in let z = sym free ∙ v in cc)
       go (ReusePids word bits) y i j f hands = (freed_who b (state.times.page_out q) out.0 out.1 out.2 (k.limbo.pids q) (state.timed.limbo_pids a q) (f q hands), (word, bits, i, hands))
       go s y i j f hands = absurd hands
@@ -230,18 +230,18 @@ module _ (limits : Limits) (entries : List Entry) (a : ℕ) (step : StepOf Recor
         at = eqb-true (m.slots (suc h.page)) h.old (whether_true (eqb (m.slots (suc h.page)) h.old) answer (subst (λ s. IsAnswer m s answer) h.step is) h.won)
 
         stand : (r : ℕ) (w : Record) → k.read.seen r ≡ Some w → m.rows r ≡ Some w
-        stand r w e = (subst (λ (v : Option Record). SeenFits (state.owners.row r) (m.rows r) v) e ((state.good.sound a).seen_fits r)).1
+        stand r w e = (subst (λ (v : Option Record). SeenFits (state.owners.row r) (m.rows r) v) e ((state.is_tree.sound a).seen_fits r)).1
 
         reached : (l : ℕ) × (s : Key) × Reached 0 l s (state.owners.page (suc h.page))
         reached = ⊎_elim
-            (λ (u : (k.own.pages (suc h.page) ≡ Gone) × (h.new ≡ 0)). let w = subst (λ (v : OwnPage). PageFits a (state.owners.page (suc h.page)) (slot_in m.slots (suc h.page)) v) u.0 (state.good.owns_pages a (suc h.page)) in (w.0, w.1, subst (λ (v : PageOwner). Reached 0 w.0 w.1 v) (sym w.2) (refl, refl)))
+            (λ (u : (k.own.pages (suc h.page) ≡ Gone) × (h.new ≡ 0)). let w = subst (λ (v : OwnPage). PageFits a (state.owners.page (suc h.page)) (slot_in m.slots (suc h.page)) v) u.0 (state.is_tree.owns_pages a (suc h.page)) in (w.0, w.1, subst (λ (v : PageOwner). Reached 0 w.0 w.1 v) (sym w.2) (refl, refl)))
             (λ (u : (k.own.pages (suc h.page) ≡ Other) × ((y : ℕ) × (h.new ≡ suc y))). by_link h.old u.1.0 u.0 (subst (λ n. MayExchange a k (suc h.page) h.old n) u.1.1 may)) h.whose
           where
             by_link : (x y : ℕ) → k.own.pages (suc h.page) ≡ Other → MayExchange a k (suc h.page) x (suc y) → (l : ℕ) × (s : Key) × Reached 0 l s (state.owners.page (suc h.page))
             by_link zero y other v = absurd (let e = v.0 in cc)
             by_link (suc x) y other v =
                 let read = v.basis in
-                let f = subst (λ (z : Option ℕ). HeadFits state.owners (shared m) (state.logs a) (suc h.page) z) read.head ((state.good.sound a).heads_fit (suc h.page)) in
+                let f = subst (λ (z : Option ℕ). HeadFits state.owners (shared m) (state.logs a) (suc h.page) z) read.head ((state.is_tree.sound a).heads_fit (suc h.page)) in
                 (level_in f.2.chain, low_in f.2.chain, f.3)
 
         some_old : 0 < h.old
@@ -256,7 +256,7 @@ module _ (limits : Limits) (entries : List Entry) (a : ℕ) (step : StepOf Recor
             by_some (suc x) y other v = omega arith
 
         found : (c : List Record) × IsChainOf m (suc h.page) c
-        found = elim (slot_of state.good a (suc h.page) reached.0 reached.1 reached.2) [
+        found = elim (slot_of state.is_tree a (suc h.page) reached.0 reached.1 reached.2) [
           | inl none ↦ absurd (let z : m.slots (suc h.page) ≡ 0 = slot_none m.slots (suc h.page) (omega arith) none in let s = some_old in let e = at in omega arith)
           | inr v ↦ (let z = slot_some m.slots (suc h.page) v.0 v.1 in (v.2.chain, record { page = omega arith; linked = subst (λ n. 0 < n) (sym z.1) z.2; records = subst (λ n. IsChainFrom m.rows n v.2.chain) (sym z.1) v.2.is_chain }))
         ]

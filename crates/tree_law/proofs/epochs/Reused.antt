@@ -69,7 +69,7 @@ module _ (limits : Limits) (entries : List Entry) (o : Owners) (m : Memory) (kno
           owned = inr (stays g T a outside word bits may r x q (in_tree g T a outside word bits may r x q (T.own_rows h.actor q own.0)) ∙ own.1);
           base = h.base;
           stands = h.stands;
-        })) (old.held p q e)
+        })) (old.in_slots p q e)
 
   module _ (may : (q : ℕ) → is_among word bits q ≡ true → IsPassed limits a ((knows a).limbo.pids q)) (is : IsAnswer m (ReusePids word bits) x) where
     abbrev pub pages_owners : Owners
@@ -98,4 +98,4 @@ module _ (limits : Limits) (entries : List Entry) (o : Owners) (m : Memory) (kno
           base = h.base;
           stands = h.stands;
         }))
-        (old.held p q e)
+        (old.in_slots p q e)

@@ -14,7 +14,7 @@ use Rattle.deltas.specs.declared.record.Split.{Split as SplitOf}
 use Rattle.deltas.specs.Memory.{Memory, replaced_at}
 use Rattle.deltas.specs.Records.{next_row}
 use Rattle.chain_search.specs.Chains.{low_in, level_in}
-use Rattle.chain_search.specs.Discipline.{record_of, base_from, HasRead, IsOwn, IsOwnBase, MayAdd, MayLink, MayRoot, MayExchange, May}
+use Rattle.chain_search.specs.Discipline.{update_record, base_from, HasRead, IsOwn, IsOwnBase, MayAdd, MayLink, MayRoot, MayExchange, May}
 use Rattle.chain_search.specs.Knowledge.{OwnRow, Foreign, Taken, Written, OwnPage, Other, Ready, Knowledge, learn, filled, emptied, rooted, finished}
 use Rattle.chain_search.specs.Steps.{IsAnswer, memory_after}
 use Rattle.tree_law.specs.Keys.{Key}
@@ -46,11 +46,11 @@ record IsLink (k : Knowledge) (page old new : ℕ) : Type 0 where
 no_split : (w : Record) (s : SplitOf) → (w ≡ Split s → ⊥) → {X : Type 0} → w ≡ Split s → X
 no_split w s f {X} e = absurd (f e)
 
-update_over : (u : Update) (x n : ℕ) → next_row (record_of u x) ≡ Some n → n ≡ x
+update_over : (u : Update) (x n : ℕ) → next_row (update_record u x) ≡ Some n → n ≡ x
 update_over (set b k v) x n e = sym (same_Some x n e)
 update_over (unset b k) x n e = sym (same_Some x n e)
 
-update_split : (u : Update) (x : ℕ) (s : SplitOf) → record_of u x ≡ Split s → ⊥
+update_split : (u : Update) (x : ℕ) (s : SplitOf) → update_record u x ≡ Split s → ⊥
 update_split (set b k v) x s e = cc
 update_split (unset b k) x s e = cc
 

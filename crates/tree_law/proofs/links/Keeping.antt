@@ -47,11 +47,11 @@ marked_rank Merged q i e = subst (λ (c : Content). rank_of c ≤ 4) (same_Some 
 
 module _ {m : Shared} {log : List Update} {o : Owners} {knows : ℕ → Knowledge} {point : ℕ → Option (List Update)} {logs : ℕ → List (List Update)} (g : IsTree m log o knows point logs) (a : ℕ) where
   -- what a step of the actor leaves
-  pub put_good : (m' : Shared) (log' : List Update) (o' : Owners) (k : Knowledge) (p : Option (List Update)) (s : List (List Update))
+  pub put_tree : (m' : Shared) (log' : List Update) (o' : Owners) (k : Knowledge) (p : Option (List Update)) (s : List (List Update))
       → Change a o o' m m' → FreeAreUnowned o' m' → IsClosed o' m' → HasLevels o' m' log'
       → Owns a o' m' k.own.rows → OwnsPages a o' m' k.own.pages → Knows o' m' k.read.seen k.read.learnt k.read.roots k.read.heads k.read.before k.asked.linked p s
       → IsTree m' log' o' (put knows a k) (put point a p) (put logs a s)
-  put_good m' log' o' k p s change frees closed tree own pages kn =
+  put_tree m' log' o' k p s change frees closed tree own pages kn =
       record {
         frees = frees;
         closed = closed;
@@ -70,7 +70,7 @@ module _ {m : Shared} {log : List Update} {o : Owners} {knows : ℕ → Knowledg
   -- a step that leaves memory and log
   pub quiet : (k : Knowledge) (p : Option (List Update)) (s : List (List Update)) → Owns a o m k.own.rows → OwnsPages a o m k.own.pages → Knows o m k.read.seen k.read.learnt k.read.roots k.read.heads k.read.before k.asked.linked p s
       → IsTree m log o (put knows a k) (put point a p) (put logs a s)
-  quiet k p s own pages kn = put_good m log o k p s (change_none a o m) g.frees g.closed g.tree own pages kn
+  quiet k p s own pages kn = put_tree m log o k p s (change_none a o m) g.frees g.closed g.tree own pages kn
 
   pub mine : Knows o m (knows a).read.seen (knows a).read.learnt (knows a).read.roots (knows a).read.heads (knows a).read.before (knows a).asked.linked (point a) (log ∷ logs a)
   mine = knows_more o m (knows a).read.seen (knows a).read.learnt (knows a).read.roots (knows a).read.heads (knows a).read.before (knows a).asked.linked (point a) (logs a) log (g.sound a)

@@ -23,7 +23,7 @@ use Rattle.tree_law.proofs.shape.Kept.{Kept, chain_kept}
 use Rattle.tree_law.proofs.shape.Sides.{in_level_as, one_chain, right_page, tree_kept, tree_merged}
 use Rattle.tree_law.proofs.shape.Terms.{exact_going}
 use Rattle.tree_law.proofs.shape.Frames.{RowChange, row_own, row_same, PageChange, page_same, page_stage, page_link, page_gone, Change, kept_change, closed_kept, chain_stands}
-use Rattle.tree_law.proofs.links.Keeping.{put_good, mine, mine_at, off_still}
+use Rattle.tree_law.proofs.links.Keeping.{put_tree, mine, mine_at, off_still}
 use Rattle.tree_law.proofs.links.Relinking.{placed_level, not_off, Found, not_own, found, found_as, place_of}
 use Rattle.tree_law.proofs.links.Updating.{below_top}
 
@@ -31,7 +31,7 @@ module _ {m : Shared} {log : List Update} {o : Owners} {knows : ℕ → Knowledg
   pub clears : (p x : ℕ) → m.slots p ≡ Some x → (knows a).own.pages p ≡ Gone → (r : Option Reply) → IsTree (record m { slots = put m.slots p None }) log o (put knows a (finished (emptied ((knows a).own.pages p) p x (knows a)) r)) (put point a (point a)) (put logs a (log ∷ logs a))
   clears p x s own r =
       subst (λ (k : Knowledge). IsTree m' log o (put knows a (finished k r)) (put point a (point a)) (put logs a (log ∷ logs a))) (sym learned)
-      (put_good g a m' log o (finished k r) (point a) (log ∷ logs a)
+      (put_tree g a m' log o (finished k r) (point a) (log ∷ logs a)
       change
       (record { row = g.frees.row; page = λ j h. let f = g.frees.page j h in (f.0, put_other m.slots p None j (λ e. absurd (let i = sym f.0 ∙ ap o.page e ∙ was.2 in cc)) ∙ f.1) })
       (closed_kept o o m m' kept g.closed (λ j l. inl l))
@@ -70,7 +70,7 @@ module _ {m : Shared} {log : List Update} {o : Owners} {knows : ℕ → Knowledg
   pub merges : (p x y : ℕ) → m.slots p ≡ Some x → (basis : HasRead (knows a) p x) (content : Record) → (knows a).own.rows y ≡ Written content → (h : MayMerge (knows a) x basis.chain content) → (r : Option Reply) → IsTree (record m { slots = put m.slots p (Some y) }) log (record { row = put o.row y Linked; page = put o.page h.other (Placed Merged (level_in basis.chain) (low_in h.merged)); index = o.index }) (put knows a (finished (filled ((knows a).own.pages p) p x y (knows a)) r)) (put point a (point a)) (put logs a (log ∷ logs a)) × (o.page h.other ≡ Placed Removed (level_in basis.chain) (low_in h.merged))
   merges p x y s basis content written h r = (
     subst (λ (k : Knowledge). IsTree m' log o' (put knows a (finished k r)) (put point a (point a)) (put logs a (log ∷ logs a))) (sym learned)
-        (put_good g a m' log o' (finished (handed_over y (knows a)) r) (point a) (log ∷ logs a)
+        (put_tree g a m' log o' (finished (handed_over y (knows a)) r) (point a) (log ∷ logs a)
         change
         (record {
           row = λ j f. put_other o.row y Linked j (λ i. absurd (let r = g.frees.row j f in let z = ap o.row i ∙ fits.0 in cc)) ∙ g.frees.row j f;

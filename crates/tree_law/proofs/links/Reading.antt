@@ -1,4 +1,4 @@
--- The reads keep the invariant. At the read of a slot it is known for good what stood in the slots that were read before.
+-- The reads keep the invariant. At the read of a slot it is known for is_tree what stood in the slots that were read before.
 use Rattle.std.proofs.Common.{◌≡◌, inl, ℕ, ◌≤◌, List, [], ◌∷◌, Option, Some, None, true, cond, refl, sym, ap, ◌∙◌, subst, ⊎_elim, arith}
 use Rattle.std.specs.Prelude.{IfSome}
 use Rattle.std.proofs.lemmas.Option.{same_Some}

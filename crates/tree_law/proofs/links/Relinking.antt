@@ -19,7 +19,7 @@ use Rattle.tree_law.proofs.shape.Chains.{chain_unique}
 use Rattle.tree_law.proofs.shape.Kept.{Kept, link_kept}
 use Rattle.tree_law.proofs.shape.Sides.{tree_relinked}
 use Rattle.tree_law.proofs.shape.Frames.{RowChange, row_own, row_same, PageChange, page_same, page_stage, page_link, page_clear, Change, kept_change, closed_kept, read_linked, chain_stands}
-use Rattle.tree_law.proofs.links.Keeping.{put_good, mine, mine_at, alive_place, off_still}
+use Rattle.tree_law.proofs.links.Keeping.{put_tree, mine, mine_at, alive_place, off_still}
 
 pub placed_level : (st st' : Stage) (l l' : ℕ) (s s' : Key) → Placed st l s ≡ Placed st' l' s' → (l ≡ l') × (s ≡ s')
 placed_level st st' l l' s s' e = ((let f : l ≡ l' = cc in f), (let f : s ≡ s' = cc in f))
@@ -114,7 +114,7 @@ module _ {m : Shared} {log : List Update} {o : Owners} {knows : ℕ → Knowledg
       → (ps : Option (List Update)) → LinkFits o m ps k.asked.linked
       → IsTree (record m { slots = put m.slots p (Some y) }) log' (record { row = put o.row y Linked; page = page'; index = index' }) (put knows a k) (put point a ps) (put logs a (log ∷ logs a))
   relink_one p x y c f place alive s was stage' le on page' index' here moves exact w wy next rest is_rest level low right high flagged log' same apart k e0 pages e2 e3 e4 e5 e6 ps link =
-      put_good g a m' log' o' k ps (log ∷ logs a)
+      put_tree g a m' log' o' k ps (log ∷ logs a)
       change
       (record {
         row = λ j f. put_other o.row y Linked j (λ i. absurd (let r = g.frees.row j f in let q = ap o.row i ∙ was in cc)) ∙ g.frees.row j f;

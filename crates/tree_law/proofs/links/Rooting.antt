@@ -21,7 +21,7 @@ use Rattle.tree_law.proofs.shape.Kept.{Kept, reached_placed}
 use Rattle.tree_law.proofs.shape.Sides.{level_kept}
 use Rattle.tree_law.proofs.shape.Terms.{exact_root}
 use Rattle.tree_law.proofs.shape.Frames.{RowChange, row_own, row_same, PageChange, page_own, page_same, page_stage, Change, kept_change, closed_kept}
-use Rattle.tree_law.proofs.links.Keeping.{read_names, put_good, mine_at, off_still}
+use Rattle.tree_law.proofs.links.Keeping.{read_names, put_tree, mine_at, off_still}
 use Rattle.tree_law.proofs.links.Relinking.{placed_level, not_off, Found, Moves, stay, go, moved_own, found}
 use Rattle.tree_law.proofs.links.Splitting.{keeps_not}
 
@@ -30,7 +30,7 @@ module _ {m : Shared} {log : List Update} {o : Owners} {knows : ℕ → Knowledg
       → IsTree (record m { root = y }) log (record { row = put o.row h.base_row Linked; page = put (put o.page h.right (Placed Indexed g.tree.top h.separator)) y (Placed Indexed (suc g.tree.top) []); index = put o.index g.tree.top (put_key (put_key (λ k. None) h.separator (Some (Child h.right false))) [] (Some (Child m.root false))) }) (put knows a (finished (rooted ((knows a).own.pages y) y (knows a)) r)) (put point a (point a)) (put logs a (log ∷ logs a)) × ((o.page x ≡ Placed Indexed g.tree.top []) × (o.page h.right ≡ Placed Fresh g.tree.top h.separator) × (o.page y ≡ Keeps a))
   roots x y s h r = (
     subst (λ (k : Knowledge). IsTree m' log o' (put knows a (finished k r)) (put point a (point a)) (put logs a (log ∷ logs a))) (sym learned)
-        (put_good g a m' log o' (finished (handed_page y Other h.base_row (knows a)) r) (point a) (log ∷ logs a)
+        (put_tree g a m' log o' (finished (handed_page y Other h.base_row (knows a)) r) (point a) (log ∷ logs a)
         change
         (record {
           row = λ j n. put_other o.row h.base_row Linked j (λ i. absurd (let v = g.frees.row j n in let w = ap o.row i ∙ fits.0 in cc)) ∙ g.frees.row j n;

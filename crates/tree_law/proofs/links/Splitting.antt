@@ -21,7 +21,7 @@ use Rattle.tree_law.proofs.shape.Kept.{Kept}
 use Rattle.tree_law.proofs.shape.Sides.{tree_relinked}
 use Rattle.tree_law.proofs.shape.Terms.{exact_fresh}
 use Rattle.tree_law.proofs.shape.Frames.{RowChange, row_own, row_same, PageChange, page_own, page_same, page_link, Change, kept_change, closed_kept}
-use Rattle.tree_law.proofs.links.Keeping.{put_good, mine_at, off_still}
+use Rattle.tree_law.proofs.links.Keeping.{put_tree, mine_at, off_still}
 use Rattle.tree_law.proofs.links.Relinking.{placed_level, not_off, Found, not_own, found, place_of}
 
 -- what a split leaves below its separator
@@ -36,7 +36,7 @@ module _ {m : Shared} {log : List Update} {o : Owners} {knows : ℕ → Knowledg
   pub splits : (p x y : ℕ) → m.slots p ≡ Some x → (basis : HasRead (knows a) p x) (content : Record) → (knows a).own.rows y ≡ Written content → (h : MaySplit (knows a) x basis.chain content) → (r : Option Reply) → IsTree (record m { slots = put m.slots p (Some y) }) log (record { row = put (put o.row h.row Linked) y Linked; page = put o.page h.right (Placed Fresh (level_in basis.chain) h.separator); index = o.index }) (put knows a (finished (filled ((knows a).own.pages p) p x y (knows a)) r)) (put point a (point a)) (put logs a (log ∷ logs a)) × ((st : Stage) × (o.page p ≡ Placed st (level_in basis.chain) (low_in basis.chain)) × (o.page h.right ≡ Keeps a))
   splits p x y s basis content written h r = (
     subst (λ (k : Knowledge). IsTree m' log o' (put knows a (finished k r)) (put point a (point a)) (put logs a (log ∷ logs a))) (sym learned)
-        (put_good g a m' log o' (finished (handed_page h.right Other y (handed_over h.row (knows a))) r) (point a) (log ∷ logs a)
+        (put_tree g a m' log o' (finished (handed_page h.right Other y (handed_over h.row (knows a))) r) (point a) (log ∷ logs a)
         change
         (record {
           row = λ j f. by_test j y (λ t. cond t Linked (put o.row h.row Linked j) ≡ Free) (λ i. absurd (let v = g.frees.row j f in let w = ap o.row i ∙ upper.0 in cc))

@@ -20,7 +20,7 @@ use Rattle.chain_search.specs.Fitted.{IsFitted}
 use Rattle.chain_search.specs.Steps.{IsAnswer, memory_after}
 use Rattle.tree_law.specs.Keys.{Key, put_key}
 use Rattle.chain_search.specs.Knowledge.{OwnRow, Written, OwnPage, Empty, Ready, Gone, Knowledge, learn_head, filled, emptied, learn, finished}
-use Rattle.chain_search.specs.Discipline.{record_of, base_from, root_over, IsMet, HasRead, FitsOn, MayUpdate, MayConsolidate, MaySplit, MayPost, MayHold, MayRemove, MayMerge, MayUnterm, MayRoot, MayLink, MayExchange, May}
+use Rattle.chain_search.specs.Discipline.{update_record, base_from, root_over, IsMet, HasRead, FitsOn, MayUpdate, MayConsolidate, MaySplit, MayPost, MayHold, MayRemove, MayMerge, MayUnterm, MayRoot, MayLink, MayExchange, May}
 use Rattle.tree_law.specs.Phase.{Fresh, Indexed, Held, Removed, Merged, PageOwner, Keeps, Placed, Cleared}
 use Rattle.tree_law.specs.Phases.{LinkMoves, Phased}
 use Rattle.tree_law.specs.Put.{put}
@@ -63,11 +63,11 @@ cleared_again free n h = λ d j. at j d
     at : (j : ℕ) → replaced_at n false free j ≡ free j
     at j = by_test j n (λ t. cond t false (free j) ≡ free j) (λ e. sym (ap free e ∙ h)) (λ ne. refl)
 
-record_next : (u : Update) (x : ℕ) → next_row (record_of u x) ≡ Some x
+record_next : (u : Update) (x : ℕ) → next_row (update_record u x) ≡ Some x
 record_next (set b k v) x = refl
 record_next (unset b k) x = refl
 
-links_same : (m : Shared) (a : ℕ) (u : Update) (x p : ℕ) (f : ℕ → PageOwner) → LinkMoves m a (record_of u x) p f f
+links_same : (m : Shared) (a : ℕ) (u : Update) (x p : ℕ) (f : ℕ → PageOwner) → LinkMoves m a (update_record u x) p f f
 links_same m a (set b k v) x p f = refl
 links_same m a (unset b k) x p f = refl
 
@@ -88,7 +88,7 @@ module _ (memory : Memory) {log : List Update} {o : Owners} {knows : ℕ → Kno
   -- a step after which each row and page is whose it was
   rests : {m' : Shared} {s : StepOf Record} {x : Answer Record} {r : Option Reply} → Phased a (shared memory) s x o.page o.page → ((row : ℕ) → o.row row ≡ Linked → m'.rows row ≡ memory.rows row)
       → IsTree m' log o (put knows a (finished (learn (knows a) s x) r)) (put point a (point a)) (put logs a (log ∷ logs a)) → Next a (shared memory) m' log o knows point logs s x r
-  rests phased rows good = record { update = None; due = tt; last = λ i. refl; owners = o; phased = phased; moved = same_moved; added = same_added; homed = λ row l. inl l; kept = λ row l. (l, rows row l); good = good }
+  rests phased rows is_tree = record { update = None; due = tt; last = λ i. refl; owners = o; phased = phased; moved = same_moved; added = same_added; homed = λ row l. inl l; kept = λ row l. (l, rows row l); is_tree = is_tree }
 
   spare_of : {w : Record} (y : ℕ) → (knows a).own.rows y ≡ Written w → o.row y ≡ Spare a
   spare_of {w} y e = (subst (λ (v : OwnRow). OwnFits a (o.row y) (memory.rows y) v) e (g.owns a y)).0
@@ -149,12 +149,12 @@ module _ (memory : Memory) {log : List Update} {o : Owners} {knows : ℕ → Kno
     added = λ row. by_test row q (λ t. cond t (Spare a) (o.row row) ≡ Linked → (o.row row ≡ Linked) ⊎ IsAdded o memory.rows row) (λ i l. absurd (cc)) (λ ne l. inl l);
     homed = λ row. by_test row q (λ t. cond t (Spare a) (o.row row) ≡ Linked → (o.row row ≡ Linked) ⊎ IsHomed (shared memory) (TakeRow q) (Whether true) row) (λ i l. absurd (cc)) (λ ne l. inl l);
     kept = λ row l. (put_other o.row q (Spare a) row (λ i. absurd (let f = g.frees.row q e in let l' = sym (ap o.row i) ∙ l in cc)) ∙ l, refl);
-    good = takes_row g a q e r;
+    is_tree = takes_row g a q e r;
   }
   takes q r false e = rests refl (λ row l. refl) (subst (λ (f : ℕ → Bool). IsTree (record (shared memory) { free = f }) log o (put knows a (finished (knows a) r)) (put point a (point a)) (put logs a (log ∷ logs a))) (sym (cleared_again memory.free_rows q e)) (idles g a (finished (knows a) r) refl refl refl refl refl refl refl refl))
 
   takes_pid : (q : ℕ) (r : Option Reply) (t : Bool) → memory.free_pids q ≡ t → After (memory_after a (TakePid q) memory) (TakePid q) (Whether t) r
-  takes_pid q r true e = record { update = None; due = tt; last = λ i. refl; owners = record o { page = put o.page q (Keeps a) }; phased = refl; moved = same_moved; added = same_added; homed = λ row l. inl l; kept = same_rows; good = takes_page g a q e r }
+  takes_pid q r true e = record { update = None; due = tt; last = λ i. refl; owners = record o { page = put o.page q (Keeps a) }; phased = refl; moved = same_moved; added = same_added; homed = λ row l. inl l; kept = same_rows; is_tree = takes_page g a q e r }
   takes_pid q r false e = rests refl (λ row l. refl) (subst (λ (f : ℕ → Bool). IsTree (record (shared memory) { free_pages = f }) log o (put knows a (finished (knows a) r)) (put point a (point a)) (put logs a (log ∷ logs a))) (sym (cleared_again memory.free_pids q e)) (idles g a (finished (knows a) r) refl refl refl refl refl refl refl refl))
 
   -- an exchange that lost teaches nothing
@@ -169,7 +169,7 @@ module _ (memory : Memory) {log : List Update} {o : Owners} {knows : ℕ → Kno
     -- the row is linked, some pages go on, and no update is made
     one : (w : Record) → (knows a).own.rows (suc y) ≡ Written w → IfSome (next_row w) (λ n. n ≡ suc x) → IsAdded o memory.rows (suc y) → (page : ℕ → PageOwner) (index : ℕ → Key → Option ContentOf) → LinkMoves (shared memory) a w (suc p) o.page page
         → IsTree (record (shared memory) { slots = put (slot_in memory.slots) (suc p) (Some (suc y)) }) log (record { row = put o.row (suc y) Linked; page = page; index = index }) (put knows a (finished (filled ((knows a).own.pages (suc p)) (suc p) (suc x) (suc y) (knows a)) r)) (put point a (point a)) (put logs a (log ∷ logs a)) → Linking
-    one w placed next added page index moves good = record {
+    one w placed next added page index moves is_tree = record {
       update = None;
       due = tt;
       last = λ i. absurd (cc);
@@ -179,7 +179,7 @@ module _ (memory : Memory) {log : List Update} {o : Owners} {knows : ℕ → Kno
       added = linked_added (suc y) added;
       homed = linked_homed p (suc x) y w placed next;
       kept = linked_rows (suc y);
-      good = good;
+      is_tree = is_tree;
     }
 
     -- the same of a delta over the old row
@@ -193,12 +193,12 @@ module _ (memory : Memory) {log : List Update} {o : Owners} {knows : ℕ → Kno
       due = (h.command, h.going, h.unlinked, n.1);
       last = λ i. absurd (cc);
       owners = record o { row = put o.row (suc y) Linked };
-      phased = (record_of h.update (suc x), placed_row g a (suc y) (record_of h.update (suc x)) (written ∙ ap Written h.is), links_same (shared memory) a h.update (suc x) (suc p) o.page);
+      phased = (update_record h.update (suc x), placed_row g a (suc y) (update_record h.update (suc x)) (written ∙ ap Written h.is), links_same (shared memory) a h.update (suc x) (suc p) o.page);
       moved = linked_moved (suc y) (spare_of (suc y) (written ∙ ap Written h.is));
-      added = linked_added (suc y) (adds (suc p) (suc x) (suc y) (record_of h.update (suc x)) (written ∙ ap Written h.is) (record_next h.update (suc x)) basis (subst (FitsOn basis.chain) h.is fits));
-      homed = linked_homed p (suc x) y (record_of h.update (suc x)) (written ∙ ap Written h.is) (rw (record_next h.update (suc x)) refl);
+      added = linked_added (suc y) (adds (suc p) (suc x) (suc y) (update_record h.update (suc x)) (written ∙ ap Written h.is) (record_next h.update (suc x)) basis (subst (FitsOn basis.chain) h.is fits));
+      homed = linked_homed p (suc x) y (update_record h.update (suc x)) (written ∙ ap Written h.is) (rw (record_next h.update (suc x)) refl);
       kept = linked_rows (suc y);
-      good = n.0;
+      is_tree = n.0;
     }
 
     by_base : MayConsolidate basis.chain content → Linking
@@ -225,7 +225,7 @@ module _ (memory : Memory) {log : List Update} {o : Owners} {knows : ℕ → Kno
           (λ e i. inr (subst (IsAdded o memory.rows) (sym e) (adds (suc p) (suc x) (suc y) (Split (record { level = level_in basis.chain; next = suc x; separator = h.separator; page = h.right })) (written ∙ ap Written h.is) refl basis (subst (FitsOn basis.chain) h.is fits))))
           (λ ne. linked_added h.row (based h.row h.base h.ruled) row);
       kept = λ row l. (by_test row (suc y) (λ t. cond t Linked (put o.row h.row Linked row) ≡ Linked) (λ e. refl) (λ ne. (linked_rows h.row row l).0), refl);
-      good = n.0;
+      is_tree = n.0;
     }
 
     by_post : MayPost (knows a) (suc p) (suc x) basis.chain content → Linking
@@ -288,7 +288,7 @@ module _ (memory : Memory) {log : List Update} {o : Owners} {knows : ℕ → Kno
         (λ e i. inr (_, ready_slot y h.base_row h.ready ∙ ap Some (sym e), ap memory.rows e ∙ placed_row g a h.base_row (root_over (suc (level_in h.basis.chain)) x h.separator h.right) h.base))
         (λ ne i. inl i);
     kept = linked_rows h.base_row;
-    good = n.0;
+    is_tree = n.0;
   }
 
   exchange : (p x y : ℕ) (r : Option Reply) → MayExchange a (knows a) p x y → After (memory_after a (Exchange p x y) memory) (Exchange p x y) (Whether (eqb (memory.slots p) x)) r

@@ -18,12 +18,12 @@ use Rattle.tree_law.proofs.shape.Kept.{Kept}
 use Rattle.tree_law.proofs.shape.Sides.{tree_kept}
 use Rattle.tree_law.proofs.shape.Terms.{exact_same}
 use Rattle.tree_law.proofs.shape.Frames.{RowChange, row_free, row_own, row_same, PageChange, page_free, page_own, page_same, Change, kept_change, closed_kept}
-use Rattle.tree_law.proofs.links.Keeping.{put_good, mine_at, tree_at, off_still}
+use Rattle.tree_law.proofs.links.Keeping.{put_tree, mine_at, tree_at, off_still}
 
 module _ {m : Shared} {log : List Update} {o : Owners} {knows : ℕ → Knowledge} {point : ℕ → Option (List Update)} {logs : ℕ → List (List Update)} (g : IsTree m log o knows point logs) (a : ℕ) where
   pub takes_row : (q : ℕ) → m.free q ≡ true → (r : Option Reply) → IsTree (record m { free = put m.free q false }) log (record o { row = put o.row q (Spare a) }) (put knows a (finished (learn (knows a) (TakeRow q) (Whether true)) r)) (put point a (point a)) (put logs a (log ∷ logs a))
   takes_row q f r =
-      put_good g a m' log o' (finished (learn (knows a) (TakeRow q) (Whether true)) r) (point a) (log ∷ logs a)
+      put_tree g a m' log o' (finished (learn (knows a) (TakeRow q) (Whether true)) r) (point a) (log ∷ logs a)
       change
       (record {
         row = λ j. by_test j q (λ t. cond t false (m.free j) ≡ true → cond t (Spare a) (o.row j) ≡ Free) (λ i h. absurd (cc)) (λ ne h. g.frees.row j h);
@@ -49,7 +49,7 @@ module _ {m : Shared} {log : List Update} {o : Owners} {knows : ℕ → Knowledg
 
   pub takes_page : (q : ℕ) → m.free_pages q ≡ true → (r : Option Reply) → IsTree (record m { free_pages = put m.free_pages q false }) log (record o { page = put o.page q (Keeps a) }) (put knows a (finished (learn (knows a) (TakePid q) (Whether true)) r)) (put point a (point a)) (put logs a (log ∷ logs a))
   takes_page q f r =
-      put_good g a m' log o' (finished (learn (knows a) (TakePid q) (Whether true)) r) (point a) (log ∷ logs a)
+      put_tree g a m' log o' (finished (learn (knows a) (TakePid q) (Whether true)) r) (point a) (log ∷ logs a)
       change
       (record {
         row = g.frees.row;
@@ -94,7 +94,7 @@ module _ {m : Shared} {log : List Update} {o : Owners} {knows : ℕ → Knowledg
 
   pub places : (q : ℕ) (w : Record) → IsOwn ((knows a).own.rows q) → (r : Option Reply) → IsTree (record m { rows = put m.rows q (Some w) }) log o (put knows a (finished (learn (knows a) (Place q w) Done) r)) (put point a (point a)) (put logs a (log ∷ logs a))
   places q w i r =
-      put_good g a m' log o (finished (learn (knows a) (Place q w) Done) r) (point a) (log ∷ logs a)
+      put_tree g a m' log o (finished (learn (knows a) (Place q w) Done) r) (point a) (log ∷ logs a)
       change
       (record { row = g.frees.row; page = g.frees.page })
       (closed_kept o o m m' kept g.closed (λ j l. inl l))
@@ -119,7 +119,7 @@ module _ {m : Shared} {log : List Update} {o : Owners} {knows : ℕ → Knowledg
   pub own_slot : (p : ℕ) (x : Option ℕ) (v : OwnPage) → o.page p ≡ Keeps a → PageFits a (o.page p) x v → (k : Knowledge) → k.own.rows ≡ (knows a).own.rows → k.own.pages ≡ put (knows a).own.pages p v → k.read.seen ≡ (knows a).read.seen → k.read.learnt ≡ (knows a).read.learnt → k.read.roots ≡ (knows a).read.roots → k.read.heads ≡ (knows a).read.heads → k.read.before ≡ (knows a).read.before → k.asked.linked ≡ (knows a).asked.linked
       → IsTree (record m { slots = put m.slots p x }) log o (put knows a k) (put point a (point a)) (put logs a (log ∷ logs a))
   own_slot p x v was fits k e0 e1 e2 e3 e4 e5 e7 e6 =
-      put_good g a m' log o k (point a) (log ∷ logs a)
+      put_tree g a m' log o k (point a) (log ∷ logs a)
       change
       (record { row = g.frees.row; page = λ j h. let f = g.frees.page j h in (f.0, put_other m.slots p x j (λ e. absurd (let i = ap o.page e ∙ was in let h = f.0 in cc)) ∙ f.1) })
       (closed_kept o o m m' kept g.closed (λ j l. inl l))

@@ -191,7 +191,7 @@ module _ (m : Memory) {log : List Update} {o : Owners} {knows : ℕ → Knowledg
   module _ (s : StepOf Record) (x : Answer Record) (r : Option Reply) (may : May a (knows a) s) (is : IsAnswer m s x) (n : After a (shared m) (shared (memory_after a s m)) log o knows point logs s x r) where
     after : LinkFits n.owners (shared (memory_after a s m)) (pointed log n.update (point a)) (learn (knows a) s x).asked.linked
     after = subst (λ (z : Option (List Update) × Option (Option ℕ)). LinkFits n.owners (shared (memory_after a s m)) z.0 z.1)
-        (λ i. (put_same point a (pointed log n.update (point a)) i, ap (λ (k : Knowledge). k.asked.linked) (put_same knows a (finished (learn (knows a) s x) r)) i)) (n.good.sound a).linked_fits
+        (λ i. (put_same point a (pointed log n.update (point a)) i, ap (λ (k : Knowledge). k.asked.linked) (put_same knows a (finished (learn (knows a) s x) r)) i)) (n.is_tree.sound a).linked_fits
 
     -- an update is linked by the step
     is_linked : IsSome n.update → ((knows a).asked.linked ≡ None) × IsLinked (learn (knows a) s x)

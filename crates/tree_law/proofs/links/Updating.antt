@@ -25,7 +25,7 @@ use Rattle.bw_model.specs.declared.command.Command.TheVariants.{Get, Insert, Ups
 use Rattle.bw_model.specs.Bytes.{key_cmp}
 use Rattle.bw_model.specs.Log.{set, unset, updated_key, updated_value, logged_value}
 use Rattle.bw_model.specs.Replies.{command_key, update_of}
-use Rattle.chain_search.specs.Discipline.{MayUpdate, MayConsolidate, MayRemove, record_of, value_of, base_from, HasRead}
+use Rattle.chain_search.specs.Discipline.{MayUpdate, MayConsolidate, MayRemove, update_record, value_of, base_from, HasRead}
 use Rattle.tree_law.proofs.shape.KeyOrder.{by_key, covers_from, covers_to}
 use Rattle.tree_law.proofs.shape.Puts.{by_test, put_same, put_other}
 use Rattle.tree_law.proofs.shape.Terms.{exact_going}
@@ -33,7 +33,7 @@ use Rattle.tree_law.proofs.links.Keeping.{spec_leaf, mine, read_names}
 use Rattle.tree_law.proofs.links.Relinking.{stay, not_own, found, place_of, relink_one, alive_stage}
 
 -- the record of an update over a chain
-record IsOver (w : Record) (x : ℕ) (c : List Record) : Type 0 where
+record LiesOver (w : Record) (x : ℕ) (c : List Record) : Type 0 where
   next : next_row w ≡ Some x
   level : level_in (w ∷ c) ≡ level_in c
   flag : is_removed (w ∷ c) ≡ is_removed c
@@ -41,7 +41,7 @@ record IsOver (w : Record) (x : ℕ) (c : List Record) : Type 0 where
   right : right_in (w ∷ c) ≡ right_in c
   high : high_in (w ∷ c) ≡ high_in c
 
-is_over : (u : Update) (x : ℕ) (c : List Record) → IsOver (record_of u x) x c
+is_over : (u : Update) (x : ℕ) (c : List Record) → LiesOver (update_record u x) x c
 is_over (set b k v) x c = record { next = refl; level = refl; flag = refl; low = refl; right = refl; high = refl }
 is_over (unset b k) x c = record { next = refl; level = refl; flag = refl; low = refl; right = refl; high = refl }
 
@@ -52,7 +52,7 @@ value_of_map (Some v) = refl
 logged_value_push : (log : List Update) (u : Update) (key : Key) → logged_value (log ++ u ∷ []) key ≡ cond (is_eq (key_cmp key (updated_key u))) (updated_value u) (logged_value log key)
 logged_value_push log u key = fold-append _ _ log (u ∷ [])
 
-over_decides : (u : Update) (x : ℕ) (c : List Record) (l : List Update) (k : Key) → content_in c k ≡ leaf_map l k → content_in (record_of u x ∷ c) k ≡ leaf_map (l ++ u ∷ []) k
+over_decides : (u : Update) (x : ℕ) (c : List Record) (l : List Update) (k : Key) → content_in c k ≡ leaf_map l k → content_in (update_record u x ∷ c) k ≡ leaf_map (l ++ u ∷ []) k
 over_decides (set b j v) x c l k e = by_key k j (λ t. cond t (Some (Value v)) (content_in c k) ≡ option_map Value (cond t (Some v) (logged_value l k))) (λ i. refl) (λ i. e) ∙ sym (ap (option_map Value) (logged_value_push l (set b j v) k))
 over_decides (unset b j) x c l k e = by_key k j (λ t. cond t None (content_in c k) ≡ option_map Value (cond t None (logged_value l k))) (λ i. refl) (λ i. e) ∙ sym (ap (option_map Value) (logged_value_push l (unset b j) k))
 
@@ -75,7 +75,7 @@ key_due b (Upsert k v) old u e = ap updated_key (sym (same_Some (set b k v) u e)
 key_due b (Delete k) None u e = absurd (cc)
 key_due b (Delete k) (Some x) u e = ap updated_key (sym (same_Some (unset b k) u e))
 
-linked_update : (u : Update) (x y : ℕ) (k : Knowledge) → linked_over (Written (record_of u x)) x y k ≡ updated x y k
+linked_update : (u : Update) (x y : ℕ) (k : Knowledge) → linked_over (Written (update_record u x)) x y k ≡ updated x y k
 linked_update (set b j v) x y k = refl
 linked_update (unset b j) x y k = refl
 
@@ -91,14 +91,14 @@ module _ {m : Shared} {log : List Update} {o : Owners} {knows : ℕ → Knowledg
       let place = place_of g a p x c f basis.alive s in
       let is : (k : Key) → Covers c k → content_in c k ≡ leaf_map log k = λ k v. place.is_page.same k v ∙ spec_leaf log o.index (level_in c) h.leaf k in
       let here : SpellsLog o m x log = record { linked = f.linked; chain = c; is_chain = f.stands; same = λ z n. is } in
-      let fits : (o.row y ≡ Spare a) × (m.rows y ≡ Some (record_of u x)) = subst (λ (v : OwnRow). OwnFits a (o.row y) (m.rows y) v) (written ∙ ap Written h.is) (g.owns a y) in
+      let fits : (o.row y ≡ Spare a) × (m.rows y ≡ Some (update_record u x)) = subst (λ (v : OwnRow). OwnFits a (o.row y) (m.rows y) v) (written ∙ ap Written h.is) (g.owns a y) in
       let over = is_over u x c in
       let inside : Covers c (command_key h.command) = covers_from c (command_key h.command) h.covers in
       let due : update_of a h.command (logged_value log (command_key h.command)) ≡ Some u = subst (λ (v : Option Key). update_of a h.command v ≡ Some u) (ap value_of (is (command_key h.command) inside) ∙ value_of_map (logged_value log (command_key h.command))) h.due in
       let none : point a ≡ None = subst (λ (v : Option (Option ℕ)). LinkFits o m (point a) v) h.unlinked (mine g a).linked_fits in
       let learned : filled ((knows a).own.pages p) p x y (knows a) ≡ updated x y (knows a) = rw (not_own g a p (level_in c) (low_in c) place.stage place.placed ((knows a).own.pages p) (g.owns_pages a p), (written ∙ ap Written h.is)) (linked_update u x y (knows a)) in (
         subst (λ (k : Knowledge). IsTree (record m { slots = put m.slots p (Some y) }) (log ++ u ∷ []) (record o { row = put o.row y Linked }) (put knows a (finished k r)) (put point a (Some log)) (put logs a (log ∷ logs a))) (sym learned)
-            (relink_one g a p x y c f place basis.alive s fits.0 place.stage (omega arith) place.on o.page o.index place.placed (λ q ne. stay refl) g.tree.exact (record_of u x) fits.1
+            (relink_one g a p x y c f place basis.alive s fits.0 place.stage (omega arith) place.on o.page o.index place.placed (λ q ne. stay refl) g.tree.exact (update_record u x) fits.1
             (rw over.next f.linked) c (rw over.next f.stands)
             over.level over.low over.right over.high (over.flag ∙ place.flagged)
             (log ++ u ∷ [])

@@ -96,11 +96,11 @@ module _ (limits : Limits) (entries : List Entry) (state : IsState limits entrie
   Here g = InPlace state.owners (shared m) 0 (leaf_map log) g
 
   abbrev side : List SidePage
-  side = (leaves m state.good).side
+  side = (leaves m state.is_tree).side
 
   -- what is so of each page in its place is so of each leaf
   each_leaf : (P : SidePage → Type 0) → ((g : SidePage) → Here g → P g) → AllPages P side
-  each_leaf P f = all_in state.owners (shared m) 0 (leaf_map log) (λ g. ⊤) P (λ g here t. f g here) side (Some 1) (Some []) None None (leaves m state.good).whole (all_pages (λ g. ⊤) (λ g. tt) side)
+  each_leaf P f = all_in state.owners (shared m) 0 (leaf_map log) (λ g. ⊤) P (λ g here t. f g here) side (Some 1) (Some []) None None (leaves m state.is_tree).whole (all_pages (λ g. ⊤) (λ g. tt) side)
 
   in_range : (g : SidePage) → Here g → (0 < g.page) × (g.page < limits.pids)
   in_range g here = ⊎_elim
@@ -121,14 +121,14 @@ module _ (limits : Limits) (entries : List Entry) (state : IsState limits entrie
       let some : 64 ≤ limits.pids = limits.allowed.some_pids in
       let above : AllByRecursion (λ n. 0 ≢ n) (pids side) = of_pids (λ n. 0 ≢ n) side (each_leaf (λ g. 0 ≢ g.page) (λ g here e. let above = (in_range g here).0 in omega arith)) in
       let below : AllByRecursion (λ n. n < limits.pids) (pids side) = of_pids (λ n. n < limits.pids) side (each_leaf (λ g. g.page < limits.pids) (λ g here. (in_range g here).1)) in
-      let apart : AreApart (pids side) = apart_in state.owners (shared m) 0 (leaf_map log) side (Some 1) (Some []) None None (leaves m state.good).whole in
+      let apart : AreApart (pids side) = apart_in state.owners (shared m) 0 (leaf_map log) side (Some 1) (Some []) None None (leaves m state.is_tree).whole in
       subst (λ n. n < limits.pids) (length-map side (λ g. g.page)) (fewer limits.pids (pids side) (omega arith) apart above below)
 
   pub leaf_pages : HasLeafPages limits m
   leaf_pages = record {
     pages = map live side;
-    leaves = is_leaves m state.good;
-    whole = whole_from m state.owners 0 (leaf_map log) side (Some 1) (Some []) (leaves m state.good).whole;
+    leaves = is_leaves m state.is_tree;
+    whole = whole_from m state.owners 0 (leaf_map log) side (Some 1) (Some []) (leaves m state.is_tree).whole;
     few = subst (λ n. n < limits.pids) (sym (length-map side live)) few;
     each = of_live (IsLeafPage limits m) side (each_leaf (λ g. IsLeafPage limits m (live g)) leaf_page);
   }

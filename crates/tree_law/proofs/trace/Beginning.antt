@@ -31,10 +31,10 @@ use Rattle.op_machine.specs.Reuse.{HandsPid, HandsRow, UnlinksPid, UnlinksRow}
 use Rattle.tree_law.specs.Limbos.{IsInLimbo}
 use Rattle.tree_law.specs.Times.{Times, Timed}
 use Rattle.tree_law.proofs.epochs.Limbos.{limbo_push, freed_push, pid_longer, row_longer}
-use Rattle.tree_law.specs.TraceLaws.{Begins, Opens}
+use Rattle.tree_law.specs.TraceLaws.{BeginsKeep, Opens}
 use Rattle.tree_law.specs.Tree.{IsTree}
 use Rattle.tree_law.proofs.epochs.Timely.{calm_same, read_timed}
-use Rattle.tree_law.proofs.links.Keeping.{begins as good_begins}
+use Rattle.tree_law.proofs.links.Keeping.{begins as tree_begins}
 use Rattle.op_machine.specs.Phases.{free, indexed}
 use Rattle.tree_law.proofs.shape.Exactness.{is_indexed, below_top, root_indexed}
 use Rattle.tree_law.proofs.shape.Fitness.{opening_fitted}
@@ -44,7 +44,7 @@ use Rattle.tree_law.proofs.trace.Lives.{begins_in_phase, begins_phases, begins_o
 use Rattle.tree_law.proofs.trace.Updates.{updates_push}
 use Rattle.tree_law.proofs.trace.Marks.{marked_push, tells_other, quiet_push}
 use Rattle.tree_law.proofs.trace.Names.{faithful_push, named_begins}
-use Rattle.tree_law.proofs.trace.Opening.{opening_slots, opening_owners, opening_good}
+use Rattle.tree_law.proofs.trace.Opening.{opening_slots, opening_owners, opening_tree}
 use Rattle.tree_law.proofs.trace.Owned.{pushed_length}
 use Rattle.tree_law.proofs.shape.Puts.{by_test, put_same, put_other}
 use Rattle.tree_law.specs.Indexed.{IsFirst}
@@ -90,7 +90,7 @@ opens limits = record {
   owners = opening_owners limits;
   point = λ a. None;
   logs = λ a. [];
-  good = opening_good limits;
+  is_tree = opening_tree limits;
   fitted = opening_fitted limits;
   named = record {
     shown = λ a r h. absurd (not_shown a r h.0 h.1);
@@ -105,7 +105,7 @@ opens limits = record {
     row_below = λ q. by_test q 1 (λ t. (cond t Linked Free ≡ Free) ⊎ (q < limits.rows)) (λ i. inr (let some : 64 ≤ limits.rows = limits.allowed.some_rows in omega arith)) (λ ne. inl refl);
     free_pid_below = λ p e. free_pid p (and_left (leb 2 p) (ltb p limits.pids) e) (and_right (leb 2 p) (ltb p limits.pids) e);
     pid_below = λ p. by_test p 1 (λ t. (phase_of (cond t (Placed Indexed 0 []) Nobody) ≡ free) ⊎ ((0 < p) × (p < limits.pids))) (λ i. inr (let some : 64 ≤ limits.pids = limits.allowed.some_pids in (omega arith, omega arith))) (λ ne. inl refl);
-    held = held;
+    in_slots = held;
   };
   tells = λ a asked e. absurd (cc);
   searches = λ op is u e. absurd (cc);
@@ -126,7 +126,7 @@ opens limits = record {
   freed = record { pids = λ n a word bits pid x h among. absurd (let e = h.1 in cc); rows = λ n a word bits row x h among. absurd (let e = h.1 in cc) };
   times = opening_times;
   timed = opening_timed limits;
-  indexed = indexed_first limits (opening_good limits) (λ l q h. by_test q 1 (λ t. cond t (Placed Indexed 0 []) Nobody ≡ Placed h.0 l [] → l ≡ 0) (λ i e. let f : 0 ≡ l = cc in sym f) (λ ne e. absurd (cc)) h.1);
+  indexed = indexed_first limits (opening_tree limits) (λ l q h. by_test q 1 (λ t. cond t (Placed Indexed 0 []) Nobody ≡ Placed h.0 l [] → l ≡ 0) (λ i e. let f : 0 ≡ l = cc in sym f) (λ ne e. absurd (cc)) h.1);
   rooted = λ b p e. absurd (cc);
 }
   where
@@ -143,7 +143,7 @@ opens limits = record {
         (λ i f. inl tt) (λ ne f. absurd (cc)) (subst (λ (f : ℕ → Option ℕ). f p ≡ Some r) (opening_slots limits) e)
 
     at_zero : (n : ℕ) → n ≤ 0 → HasMapOf (memory_at limits [] n) (log_at [] [] n)
-    at_zero zero h = map_of (opening_good limits)
+    at_zero zero h = map_of (opening_tree limits)
     at_zero (suc n) h = absurd (omega arith)
 
 -- what is told of an actor that begins
@@ -159,13 +159,13 @@ tells_new entries points a c = record {
     past : (n : ℕ) → length entries < n → n < length (entries ++ Begin a c ∷ []) → ⊥
     past n low high = let long : length (entries ++ Begin a c ∷ []) ≡ suc (length entries) = pushed_length entries (Begin a c) in omega arith
 
-pub begins : Begins IsState
+pub begins : BeginsKeep IsState
 begins limits entries a c state below idle = record {
   points = state.points ++ false ∷ [];
   owners = state.owners;
   point = put state.point a None;
   logs = put state.logs a [];
-  good = good_after;
+  is_tree = tree_after;
   fitted = rw (memory_of-push limits entries (Begin a c)) state.fitted;
   named = rw (memory_of-push limits entries (Begin a c), knows-push entries (Begin a c)) (named_begins limits entries state.owners (memory_of limits entries) (knows entries) a c state.named (command_of-push entries (Begin a c)));
   tells = λ b asked e. by_test b a (λ t. cond t (Some c) (command_of entries b) ≡ Some asked → Tells (entries ++ Begin a c ∷ []) (state.points ++ false ∷ []) b asked (cond t None (state.point b)) (cond t [] (state.logs b)))
@@ -178,7 +178,7 @@ begins limits entries a c state below idle = record {
   run = IsRun-push limits entries (Begin a c) state.run (below, idle);
   updates = updates_push limits entries state.points (Begin a c) false state.marked.beside state.updates (λ h. absurd (let e = h.0 in cc), λ h. absurd (let e = h.5.0.1 in cc));
   quiet = quiet_push entries state.points (Begin a c) false state.marked.beside limits state.quiet
-      (rw (memory_of-push limits entries (Begin a c), log_of-push entries state.points (Begin a c) false state.marked.beside) (map_of state.good));
+      (rw (memory_of-push limits entries (Begin a c), log_of-push entries state.points (Begin a c) false state.marked.beside) (map_of state.is_tree));
   in_phase = λ pid. begins_in_phase limits entries a c pid (phase_of (state.owners.page pid)) (state.in_phase pid);
   only_phase = begins_only limits entries a c state.owners.page state.in_phase state.only_phase;
   phases = begins_phases limits entries a c state.phases;
@@ -195,13 +195,13 @@ begins limits entries a c state below idle = record {
     ];
   };
   times = state.times;
-  timed = rw (memory_of-push limits entries (Begin a c), knows-push entries (Begin a c), pushed_length entries (Begin a c)) (begin_timed state.good state.timed a c);
+  timed = rw (memory_of-push limits entries (Begin a c), knows-push entries (Begin a c), pushed_length entries (Begin a c)) (begin_timed state.is_tree state.timed a c);
   faithful = faithful_push limits entries (Begin a c) state.faithful (λ b row x h. let e = h.1 in absurd (cc)) (λ b s x h z. let e = h.1 in absurd (cc));
   rooted = λ b p e. by_test b a (λ t. (cond t (begun (knows entries a) c) (knows entries b)).read.roots p ≡ true → (level : ℕ) × IsFirst state.owners level p)
       (λ i f. state.rooted a p f) (λ ne f. state.rooted b p f)
       (subst (λ (ks : ℕ → Knowledge). (ks b).read.roots p ≡ true) (knows-push entries (Begin a c)) e);
-  indexed = indexed_push limits entries (Begin a c) state.good good_after (λ l q h. h)
-      (let le = below_top (memory_of limits entries) state.good ((memory_of limits (entries ++ Begin a c ∷ [])).slots 0) ((is_indexed (memory_of limits (entries ++ Begin a c ∷ [])) good_after).top) [] Indexed (root_indexed (memory_of limits (entries ++ Begin a c ∷ [])) good_after) in omega arith)
+  indexed = indexed_push limits entries (Begin a c) state.is_tree tree_after (λ l q h. h)
+      (let le = below_top (memory_of limits entries) state.is_tree ((memory_of limits (entries ++ Begin a c ∷ [])).slots 0) ((is_indexed (memory_of limits (entries ++ Begin a c ∷ [])) tree_after).top) [] Indexed (root_indexed (memory_of limits (entries ++ Begin a c ∷ [])) tree_after) in omega arith)
       (λ pid. begins_in_phase limits entries a c pid (phase_of (state.owners.page pid)) (state.in_phase pid)) (begins_only limits entries a c state.owners.page state.in_phase state.only_phase) state.indexed;
 }
   where
@@ -212,10 +212,10 @@ begins limits entries a c state below idle = record {
     pids_longer b q = limbo_push entries (Begin a c) (UnlinksPid limits entries b q) (UnlinksPid limits (entries ++ Begin a c ∷ []) b q) (HandsPid q) (pid_longer entries (Begin a c) limits b q) b ((knows entries b).limbo.pids q) (λ f other s x h. absurd (let e = h.1 in cc)) (state.limbo_pids b q)
 
     now : IsTree (shared (memory_of limits entries)) (log_of entries state.points) state.owners (put (knows entries) a (begun (knows entries a) c)) (put state.point a None) (put state.logs a [])
-    now = good_begins state.good a c
+    now = tree_begins state.is_tree a c
 
-    good_after : IsTree (shared (memory_of limits (entries ++ Begin a c ∷ []))) (log_of (entries ++ Begin a c ∷ []) (state.points ++ false ∷ [])) state.owners (knows (entries ++ Begin a c ∷ [])) (put state.point a None) (put state.logs a [])
-    good_after = rw (memory_of-push limits entries (Begin a c), log_of-push entries state.points (Begin a c) false state.marked.beside, knows-push entries (Begin a c)) now
+    tree_after : IsTree (shared (memory_of limits (entries ++ Begin a c ∷ []))) (log_of (entries ++ Begin a c ∷ []) (state.points ++ false ∷ [])) state.owners (knows (entries ++ Begin a c ∷ [])) (put state.point a None) (put state.logs a [])
+    tree_after = rw (memory_of-push limits entries (Begin a c), log_of-push entries state.points (Begin a c) false state.marked.beside, knows-push entries (Begin a c)) now
 
     -- what is so of each unfinished operation: the one that begins, and those of others
     unfinished_begin : (P : Operation → Knowledge → Type 0) → P (operation_of (length entries) a c) (begun (knows entries a) c)
@@ -242,4 +242,4 @@ begins limits entries a c state below idle = record {
         → HaveStood limits (entries ++ Begin a c ∷ []) op (memory_of limits (entries ++ Begin a c ∷ [])).rows (knows (entries ++ Begin a c ∷ []) op.actor).read
     stood_begin = unfinished_begin (λ op k. HaveStood limits (entries ++ Begin a c ∷ []) op (memory_of limits (entries ++ Begin a c ∷ [])).rows k.read)
         (record { reads = λ page row chain read. absurd (cc); heads = λ page row chain read. absurd (cc); beside = λ page head other row basis chain read. absurd (cc) })
-        (λ op is unended asks. stood_kept limits entries (Begin a c) state.good (memory_of limits (entries ++ Begin a c ∷ [])).rows (λ row l. ap (λ (m : Memory). m.rows row) (memory_of-push limits entries (Begin a c))) op op.actor (state.stood op is unended asks))
+        (λ op is unended asks. stood_kept limits entries (Begin a c) state.is_tree (memory_of limits (entries ++ Begin a c ∷ [])).rows (λ row l. ap (λ (m : Memory). m.rows row) (memory_of-push limits entries (Begin a c))) op op.actor (state.stood op is unended asks))

@@ -45,7 +45,7 @@ module _ (entries : List Entry) (points : List Bool) (last : Entry) (mark : Bool
   justifies_kept : (limits : Limits) (op : Operation) (reply : Reply) → Justifies limits entries points op reply → Justifies limits entries' points' op reply
   justifies_kept limits op reply h = (h.0, own_step_kept entries last op h.0 h.1, slice_get_kept points (mark ∷ []) h.0 true h.2, rw (memory_same limits op h.0 h.1, log_same op h.0 h.1) h.3)
 
-  -- what an operation has found without a point it has found for good
+  -- what an operation has found without a point it has found for is_tree
   finds_kept : (limits : Limits) (op : Operation) (reply : Reply) → HasFound limits entries op reply → HasFound limits entries' op reply
   finds_kept limits op reply (inl h) = inl (
     h.0,

@@ -83,7 +83,7 @@ named_begins limits entries o m knows a c old asks = record {
   row_below = old.row_below;
   free_pid_below = old.free_pid_below;
   pid_below = old.pid_below;
-  held = λ p r e. held_begins (old.held p r e);
+  in_slots = λ p r e. held_begins (old.in_slots p r e);
   commands = λ b. rw asks (by_test b a (λ t. (cond t (begun (knows a) c) (knows b)).asked.command ≡ cond t (Some c) (command_of entries b)) (λ i. refl) (λ ne. old.commands b));
 }
   where
@@ -404,7 +404,7 @@ module _ (limits : Limits) (entries : List Entry) (o : Owners) (m : Memory) (kno
     row_below = numbers.row_below;
     free_pid_below = numbers.free_pid_below;
     pid_below = pid_below;
-    held = held;
+    in_slots = held;
     commands = λ b. rw asks (by_test b a (λ t. (cond t (finished (learn (knows a) s x) r) (knows b)).asked.command ≡ commands_after (command_of entries) last b)
         (λ i. subst (λ n. going_on r (learn (knows a) s x).asked.command ≡ commands_after (command_of entries) last n) (sym i) (ap (going_on r) (learn_command (knows a) s x ∙ old.commands a) ∙ going_command r))
         (λ ne. old.commands b ∙ sym (other_command r b ne)));
@@ -472,7 +472,7 @@ module _ (limits : Limits) (entries : List Entry) (o : Owners) (m : Memory) (kno
               let at : m.slots p ≡ x = (slot_some m.slots p x e).1 in
               let chain' : IsChainFrom m.rows x c = subst (λ n. IsChainFrom m.rows n c) at chain.records in
               let among' : Contains (chain_rows x c) row = subst (λ n. Contains (chain_rows n c) row) at among in
-              elim (old.held p x e) [
+              elim (old.in_slots p x e) [
                 | inl in_tree ↦ apart x c chain' among' (tree_slot p in_tree x e)
                 | inr ready ↦ elim ready.owned [
                   | inl l ↦ apart x c chain' among' l

@@ -84,9 +84,9 @@ opening_slots limits = λ d p. at p d
 abbrev pub opening_owners : Limits → Owners
 opening_owners limits = o (opening limits).free_rows (opening limits).free_pids refl refl
 
-pub opening_good : (limits : Limits) → IsTree (shared (opening limits)) [] (opening_owners limits) (λ a. nothing) (λ a. None) (λ a. [])
-opening_good limits = subst (λ (f : ℕ → Option ℕ). IsTree (record (shared (opening limits)) { slots = f }) [] (opening_owners limits) (λ a. nothing) (λ a. None) (λ a. [])) (sym (opening_slots limits))
+pub opening_tree : (limits : Limits) → IsTree (shared (opening limits)) [] (opening_owners limits) (λ a. nothing) (λ a. None) (λ a. [])
+opening_tree limits = subst (λ (f : ℕ → Option ℕ). IsTree (record (shared (opening limits)) { slots = f }) [] (opening_owners limits) (λ a. nothing) (λ a. None) (λ a. [])) (sym (opening_slots limits))
     (starts (opening limits).free_rows (opening limits).free_pids refl refl)
 
 pub opens : (limits : Limits) → (o : Owners) × IsTree (shared (opening limits)) [] o (λ a. nothing) (λ a. None) (λ a. [])
-opens limits = (opening_owners limits, opening_good limits)
+opens limits = (opening_owners limits, opening_tree limits)

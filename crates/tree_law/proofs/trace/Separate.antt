@@ -17,10 +17,10 @@ own_spare a o w (Written x) h own = h.0
 
 module _ (limits : Limits) (entries : List Entry) (state : IsState limits entries) where
   spare : (a row : ℕ) → IsOwn ((knows entries a).own.rows row) → state.owners.row row ≡ Spare a
-  spare a row own = own_spare a (state.owners.row row) ((memory_of limits entries).rows row) ((knows entries a).own.rows row) (state.good.owns a row) own
+  spare a row own = own_spare a (state.owners.row row) ((memory_of limits entries).rows row) ((knows entries a).own.rows row) (state.is_tree.owns a row) own
 
   linked : (a row : ℕ) → (knows entries a).read.learnt row ≡ true → state.owners.row row ≡ Linked
-  linked a row learnt = (state.good.sound a).learnt_fits row learnt
+  linked a row learnt = (state.is_tree.sound a).learnt_fits row learnt
 
   pub separate : AreSeparate limits entries
   separate = record {
@@ -28,6 +28,6 @@ module _ (limits : Limits) (entries : List Entry) (state : IsState limits entrie
     unlearnt = λ a b row own learnt. let e = spare a row own in let f = linked b row learnt in absurd (cc);
     own_below = λ a row own. elim (state.named.row_below row) [ inl free ↦ let e = spare a row own in absurd (cc) | inr below ↦ below ];
     learnt_below = λ a row learnt. elim (state.named.row_below row) [ inl free ↦ let e = linked a row learnt in absurd (cc) | inr below ↦ below ];
-    written = λ a row content is. (subst (λ (v : OwnRow). OwnFits a (state.owners.row row) ((memory_of limits entries).rows row) v) is (state.good.owns a row)).1;
-    placed = λ a row learnt. let l = state.good.closed row (linked a row learnt) in (l.content, l.stands);
+    written = λ a row content is. (subst (λ (v : OwnRow). OwnFits a (state.owners.row row) ((memory_of limits entries).rows row) v) is (state.is_tree.owns a row)).1;
+    placed = λ a row learnt. let l = state.is_tree.closed row (linked a row learnt) in (l.content, l.stands);
   }

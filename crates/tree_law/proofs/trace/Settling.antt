@@ -67,7 +67,7 @@ module _ (limits : Limits) (entries : List Entry) (a : ℕ) (asked : Command) (s
   }
 
   pub no_point : (knows entries a).asked.linked ≡ None → state.point a ≡ None
-  no_point e = subst (λ (v : Option (Option ℕ)). LinkFits state.owners (shared (memory_of limits entries)) (state.point a) v) e (state.good.sound a).linked_fits
+  no_point e = subst (λ (v : Option (Option ℕ)). LinkFits state.owners (shared (memory_of limits entries)) (state.point a) v) e (state.is_tree.sound a).linked_fits
 
   -- what is told of the actor's point, if it has one
   point_told : (o : Option (List Update)) → state.point a ≡ o → MatchOption o ((m : ℕ) → IsOwnStep entries mine m → IsPoint state.points m → ⊥) (λ l. (m : ℕ) × IsOwnStep entries mine m × IsPoint state.points m × (log_at entries state.points m ≡ l))
@@ -105,7 +105,7 @@ module _ (limits : Limits) (entries : List Entry) (a : ℕ) (asked : Command) (s
   ]
     where
       at : IsRepliedAt a asked reply (state.point a) (state.logs a)
-      at = answers state.good a asked reply may
+      at = answers state.is_tree a asked reply may
 
   stood : HaveStood limits entries mine (memory_of limits entries).rows (knows entries a).read
   stood = state.stood mine begun.begins begun.unended asks
@@ -123,7 +123,7 @@ module _ (limits : Limits) (entries : List Entry) (a : ℕ) (asked : Command) (s
       }))
     where
       was : (page : ℕ) × WasLeafWith limits entries mine (record { pid = page; chain = may.chain })
-      was = was_standing state.good a limits entries mine stood may.row may.chain may.read may.leaf may.basis
+      was = was_standing state.is_tree a limits entries mine stood may.row may.chain may.read may.leaf may.basis
 
       below : was.1.step < length entries
       below = slice_get_below entries was.1.step _ was.1.own.2.1.entry
@@ -152,7 +152,7 @@ module _ (limits : Limits) (entries : List Entry) (a : ℕ) (asked : Command) (s
   ))
     where
       stands : (row : ℕ) (chain : List Record) → IsChainFrom (knows entries a).read.seen row chain → IsChainFrom (memory_of limits entries).rows row chain
-      stands row chain = chain_stands state.owners (shared (memory_of limits entries)) (knows entries a).read.seen (state.good.sound a).seen_fits chain (Some row)
+      stands row chain = chain_stands state.owners (shared (memory_of limits entries)) (knows entries a).read.seen (state.is_tree.sound a).seen_fits chain (Some row)
 
       was : (leaf : WasLeafWith limits entries mine (record { pid = may.page; chain = may.basis.chain })) × WereRead limits entries mine (memory_of limits entries).rows ((knows entries a).read.before may.page) leaf.step
       was = stood.heads may.page may.head may.basis.chain may.basis.head (stands may.head may.basis.chain may.basis.read) (ap level_in may.alone ∙ may.leaf) may.basis.alive

@@ -76,7 +76,7 @@ is_update (Some u) = true
 module _ (limits : Limits) (entries : List Entry) (a : ℕ) (step : StepOf Record) (answer : Answer Record) (r : Option Reply) (asked : Command) (state : IsState limits entries) (asks : command_of entries a ≡ Some asked)
     (allowed : IsAllowed limits a (knows entries a) step r) (is : IsAnswer (memory_of limits entries) step answer)
     (n : After a (shared (memory_of limits entries)) (shared (memory_after a step (memory_of limits entries))) (log_of entries state.points) state.owners (knows entries) state.point state.logs step answer r)
-    (numbers : Numbers limits entries state.owners (memory_of limits entries) (knows entries) (log_of entries state.points) state.point state.logs state.good state.named a step answer r allowed.may is n.owners)
+    (numbers : Numbers limits entries state.owners (memory_of limits entries) (knows entries) (log_of entries state.points) state.point state.logs state.is_tree state.named a step answer r allowed.may is n.owners)
     (held' : (p q : ℕ) → slot_in (memory_after a step (memory_of limits entries)).slots p ≡ Some q → IsInTree (n.owners.page p) ⊎ IsReadyPage n.owners (memory_after a step (memory_of limits entries)) (put (knows entries) a (finished (learn (knows entries a) step answer) r)) p q)
     (times' : Times) (timed' : Timed limits (memory_after a step (memory_of limits entries)) n.owners (put (knows entries) a (finished (learn (knows entries a) step answer) r)) (suc (length entries)) times')
     (z : Settled limits entries (log_of entries state.points) state.point state.logs a asked r) where
@@ -131,8 +131,8 @@ module _ (limits : Limits) (entries : List Entry) (a : ℕ) (step : StepOf Recor
   -- the step makes an update exactly where it links a put or a delete
   updated_now : UpdatesNow limits entries z.points last mark z.marked.beside ↔ LinksUpdate (memory_of limits entries) last
   updated_now = (
-    λ h. let l = update_links (memory_of limits entries) state.good a step answer r allowed.may is n (some_update n.update h.0) in (a, l.slot, l.old, l.new, l.kind, ((r, λ d. Step a (l.step d) (l.won d) r), l.link), l.update),
-    λ h. makes_one n.update (link_updates (memory_of limits entries) state.good a step answer r allowed.may is n (let e = h.5.0.1 in record { slot = h.1; old = h.2; new = h.3; kind = h.4; step = cc; won = cc; link = h.5.1; update = h.6 })) (log_of entries z.points) (log_of (entries ++ last ∷ []) (z.points ++ mark ∷ [])) logged',
+    λ h. let l = update_links (memory_of limits entries) state.is_tree a step answer r allowed.may is n (some_update n.update h.0) in (a, l.slot, l.old, l.new, l.kind, ((r, λ d. Step a (l.step d) (l.won d) r), l.link), l.update),
+    λ h. makes_one n.update (link_updates (memory_of limits entries) state.is_tree a step answer r allowed.may is n (let e = h.5.0.1 in record { slot = h.1; old = h.2; new = h.3; kind = h.4; step = cc; won = cc; link = h.5.1; update = h.6 })) (log_of entries z.points) (log_of (entries ++ last ∷ []) (z.points ++ mark ∷ [])) logged',
   )
     where
       some_update : (u : Option Update) → is_update u ≡ true → IsSome u
@@ -150,9 +150,9 @@ module _ (limits : Limits) (entries : List Entry) (a : ℕ) (step : StepOf Recor
   point_after None = refl
   point_after (Some u) = refl
 
-  good_after : IsTree (shared (memory_of limits (entries ++ last ∷ []))) (log_of (entries ++ last ∷ []) (z.points ++ mark ∷ [])) n.owners
+  tree_after : IsTree (shared (memory_of limits (entries ++ last ∷ []))) (log_of (entries ++ last ∷ []) (z.points ++ mark ∷ [])) n.owners
       (knows (entries ++ last ∷ [])) (put state.point a (cond mark (Some (log_of entries state.points)) (state.point a))) (put state.logs a (log_of entries state.points ∷ state.logs a))
-  good_after = rw (memory_of-push limits entries last, log_of-push entries z.points last mark z.marked.beside, z.log_is, knows-push entries last, logged, sym (point_after n.update)) n.good
+  tree_after = rw (memory_of-push limits entries last, log_of-push entries z.points last mark z.marked.beside, z.log_is, knows-push entries last, logged, sym (point_after n.update)) n.is_tree
 
   other_command : (o : Option Reply) (b : ℕ) → b ≢ a → commands_after (command_of entries) (Step a step answer o) b ≡ command_of entries b
   other_command None b ne = refl
@@ -209,14 +209,14 @@ module _ (limits : Limits) (entries : List Entry) (a : ℕ) (step : StepOf Recor
       → HaveStood limits (entries ++ last ∷ []) op (memory_of limits (entries ++ last ∷ [])).rows (knows (entries ++ last ∷ []) op.actor).read
   stood_after op = subst (λ (m : Memory). IsOperation (entries ++ last ∷ []) op → IsUnended (entries ++ last ∷ []) op.start op.actor → command_of (entries ++ last ∷ []) op.actor ≡ Some op.command → HaveStood limits (entries ++ last ∷ []) op m.rows (knows (entries ++ last ∷ []) op.actor).read) (sym (memory_of-push limits entries last))
       (unfinished_after (λ op k. HaveStood limits (entries ++ last ∷ []) op (memory_after a step (memory_of limits entries)).rows k.read)
-      (λ start c begun unended asks no_reply. stood_own limits entries last (memory_of limits entries) state.good a start c step answer r (ap (memory_of limits) (take_whole entries (length entries) refl)) begun unended asks refl allowed.may is n.same (state.stood (operation_of start a c) begun unended asks))
-      (λ op ne begun unended asks. stood_kept limits entries last state.good (memory_after a step (memory_of limits entries)).rows n.same op op.actor (state.stood op begun unended asks)) op)
+      (λ start c begun unended asks no_reply. stood_own limits entries last (memory_of limits entries) state.is_tree a start c step answer r (ap (memory_of limits) (take_whole entries (length entries) refl)) begun unended asks refl allowed.may is n.same (state.stood (operation_of start a c) begun unended asks))
+      (λ op ne begun unended asks. stood_kept limits entries last state.is_tree (memory_after a step (memory_of limits entries)).rows n.same op op.actor (state.stood op begun unended asks)) op)
 
   between : (pid : ℕ) (from to : Phase) → MovesPhase (memory_of limits entries) last pid from to → (phase_of (state.owners.page pid) ≡ from) × (phase_of (n.owners.page pid) ≡ to)
-  between = moves_between (memory_of limits entries) state.good state.named.held a step answer r allowed.may is n.owners.page n.phased
+  between = moves_between (memory_of limits entries) state.is_tree state.named.in_slots a step answer r allowed.may is n.owners.page n.phased
 
   lives : (pid : ℕ) → MovesPhase (memory_of limits entries) last pid (phase_of (state.owners.page pid)) (phase_of (n.owners.page pid)) ⊎ (phase_of (n.owners.page pid) ≡ phase_of (state.owners.page pid))
-  lives = moves_or_rests (memory_of limits entries) state.good state.named.held a step answer r allowed.may is n.owners.page n.phased
+  lives = moves_or_rests (memory_of limits entries) state.is_tree state.named.in_slots a step answer r allowed.may is n.owners.page n.phased
 
   in_phase_after : (pid : ℕ) → IsInPhase limits (entries ++ last ∷ []) (length (entries ++ last ∷ [])) pid (phase_of (n.owners.page pid))
   in_phase_after = steps_in_phase limits entries last state.owners.page n.owners.page state.in_phase between lives
@@ -231,14 +231,14 @@ module _ (limits : Limits) (entries : List Entry) (a : ℕ) (step : StepOf Recor
       (subst (λ (ks : ℕ → Knowledge). (ks b).read.roots p ≡ true) (knows-push entries last) e)
     where
       stays : (level : ℕ) × IsFirst state.owners level p → (level : ℕ) × IsFirst n.owners level p
-      stays h = (h.0, first_stays (memory_of limits entries) (memory_of limits (entries ++ last ∷ [])) state.good good_after a step answer is n.phased h.0 p h.1)
+      stays h = (h.0, first_stays (memory_of limits entries) (memory_of limits (entries ++ last ∷ [])) state.is_tree tree_after a step answer is n.phased h.0 p h.1)
 
       at_root : (q : ℕ) → step ≡ Slot 0 → answer ≡ Number q → (level : ℕ) × IsFirst state.owners level q
       at_root q asked told =
           let here : IsAnswer (memory_of limits entries) (Slot 0) (Number q) = subst (λ (s : StepOf Record). IsAnswer (memory_of limits entries) s (Number q)) asked (subst (IsAnswer (memory_of limits entries) step) told is) in
           let same : q ≡ (memory_of limits entries).slots 0 = (let e = here in cc) in
-          let top = is_indexed (memory_of limits entries) state.good in
-          (top.top, (Indexed, rw same (root_indexed (memory_of limits entries) state.good), omega arith))
+          let top = is_indexed (memory_of limits entries) state.is_tree in
+          (top.top, (Indexed, rw same (root_indexed (memory_of limits entries) state.is_tree), omega arith))
 
   state_after : IsState limits (entries ++ last ∷ [])
   state_after = record {
@@ -246,10 +246,10 @@ module _ (limits : Limits) (entries : List Entry) (a : ℕ) (step : StepOf Recor
     owners = n.owners;
     point = put state.point a (cond mark (Some (log_of entries state.points)) (state.point a));
     logs = put state.logs a (log_of entries state.points ∷ state.logs a);
-    good = good_after;
-    fitted = rw (memory_of-push limits entries last) (fitted_after state.owners (shared (memory_of limits entries)) state.good.closed state.fitted n.owners (memory_after a step (memory_of limits entries)).rows n.same n.added);
+    is_tree = tree_after;
+    fitted = rw (memory_of-push limits entries last) (fitted_after state.owners (shared (memory_of limits entries)) state.is_tree.closed state.fitted n.owners (memory_after a step (memory_of limits entries)).rows n.same n.added);
     named = rw (memory_of-push limits entries last, knows-push entries last)
-        (named_steps limits entries state.owners (memory_of limits entries) (knows entries) (log_of entries state.points) state.point state.logs state.good state.named a step answer r allowed.may is n.owners numbers (state.timed.holds a).learnt_inside (state.timed.epochs a)
+        (named_steps limits entries state.owners (memory_of limits entries) (knows entries) (log_of entries state.points) state.point state.logs state.is_tree state.named a step answer r allowed.may is n.owners numbers (state.timed.holds a).learnt_inside (state.timed.epochs a)
         (pid_below_after limits state.owners.page n.owners.page is lives state.named.free_pid_below state.named.pid_below)
         held' (command_of-push entries last));
     searches = searches_after;
@@ -268,25 +268,25 @@ module _ (limits : Limits) (entries : List Entry) (a : ℕ) (step : StepOf Recor
         (λ e op begun own m reply ends.
         let same : op ≡ operation_of z.mine.start a asked = own_same (entries ++ last ∷ []) op (operation_of z.mine.start a asked) (length entries) (slice_get_kept entries (last ∷ []) op.start _ begun) (slice_get_kept entries (last ∷ []) z.mine.start _ z.mine.begins) own (own_new entries last z.mine.start a asked step answer r z.mine.begins z.mine.unended refl) in
         (state.searches (operation_of z.mine.start a asked) z.mine.begins z.mine.unended asks).unfinished m reply (subst (λ o. Finishes entries o m reply) same ends));
-    run = IsRun-push limits entries last state.run (subst IsSome (sym asks) refl, may_take limits entries state.owners (memory_of limits entries) (knows entries) (log_of entries state.points) state.point state.logs state.good state.named a step answer r allowed.may is refl step allowed.may, is);
+    run = IsRun-push limits entries last state.run (subst IsSome (sym asks) refl, may_take limits entries state.owners (memory_of limits entries) (knows entries) (log_of entries state.points) state.point state.logs state.is_tree state.named a step answer r allowed.may is refl step allowed.may, is);
     updates = updates_push limits entries z.points last mark z.marked.beside z.updates updated_now;
-    quiet = quiet_push entries z.points last mark z.marked.beside limits z.quiet (map_of good_after);
+    quiet = quiet_push entries z.points last mark z.marked.beside limits z.quiet (map_of tree_after);
     in_phase = in_phase_after;
     only_phase = only_phase_after;
     phases = steps_phases limits entries last state.owners.page n.owners.page state.in_phase between state.phases
-        (clears_cleared (memory_of limits entries) state.good state.named.held a step answer r allowed.may is n.owners.page n.phased);
-    limbo_rows = rw (knows-push entries last) (rows_in_limbo limits entries a step answer r state allowed is n.good timed' held');
-    limbo_pids = rw (knows-push entries last) (pids_in_limbo limits entries a step answer r state allowed is n.good timed' held');
+        (clears_cleared (memory_of limits entries) state.is_tree state.named.in_slots a step answer r allowed.may is n.owners.page n.phased);
+    limbo_rows = rw (knows-push entries last) (rows_in_limbo limits entries a step answer r state allowed is n.is_tree timed' held');
+    limbo_pids = rw (knows-push entries last) (pids_in_limbo limits entries a step answer r state allowed is n.is_tree timed' held');
     freed = freed_after limits entries a step answer r state allowed is;
     times = times';
     timed = rw (memory_of-push limits entries last, knows-push entries last, pushed_length entries last) timed';
     faithful = faithful_push limits entries last state.faithful
-        (reads_known limits entries state.owners (memory_of limits entries) (knows entries) (log_of entries state.points) state.point state.logs state.good state.named a step answer r allowed.may is)
-        (touches_outside limits entries state.owners (memory_of limits entries) (knows entries) (log_of entries state.points) state.point state.logs state.good state.named a step answer r allowed.may is);
+        (reads_known limits entries state.owners (memory_of limits entries) (knows entries) (log_of entries state.points) state.point state.logs state.is_tree state.named a step answer r allowed.may is)
+        (touches_outside limits entries state.owners (memory_of limits entries) (knows entries) (log_of entries state.points) state.point state.logs state.is_tree state.named a step answer r allowed.may is);
     rooted = rooted_after;
-    indexed = indexed_push limits entries last state.good good_after
-        (first_stays (memory_of limits entries) (memory_of limits (entries ++ last ∷ [])) state.good good_after a step answer is n.phased)
-        (grows (memory_of limits entries) (memory_of limits (entries ++ last ∷ [])) state.good good_after a step answer is n.phased)
+    indexed = indexed_push limits entries last state.is_tree tree_after
+        (first_stays (memory_of limits entries) (memory_of limits (entries ++ last ∷ [])) state.is_tree tree_after a step answer is n.phased)
+        (grows (memory_of limits entries) (memory_of limits (entries ++ last ∷ [])) state.is_tree tree_after a step answer is n.phased)
         in_phase_after only_phase_after state.indexed;
   }
 
@@ -310,28 +310,28 @@ steps limits entries a step answer r state busy allowed is = go (command_of entr
 
         calmly : (step : StepOf Record) → (IsReuse step → ⊥) → (r : Option Reply) (answer : Answer Record) (allowed : IsAllowed limits a (knows entries a) step r) (is : IsAnswer m step answer) → Settled limits entries (log_of entries state.points) state.point state.logs a asked r → IsState limits (entries ++ Step a step answer r ∷ [])
         calmly step calm r answer allowed is z =
-            let n = one_step m state.good a step calm r allowed.may answer is in
+            let n = one_step m state.is_tree a step calm r allowed.may answer is in
             state_after limits entries a step answer r asked state e allowed is (after_of n)
-            (calm_numbers limits entries state.owners m (knows entries) (log_of entries state.points) state.point state.logs state.good state.named a step answer r allowed.may is calm n.owners n.moved)
-            (held_after m state.good state.named.held a n.owners (λ q l. (n.kept q l).0) n.moved step calm answer r allowed.may is n.phased)
+            (calm_numbers limits entries state.owners m (knows entries) (log_of entries state.points) state.point state.logs state.is_tree state.named a step answer r allowed.may is calm n.owners n.moved)
+            (held_after m state.is_tree state.named.in_slots a n.owners (λ q l. (n.kept q l).0) n.moved step calm answer r allowed.may is n.phased)
             (times_after a m state.owners (length entries) step answer state.times)
-            (timed_step state.good state.timed a step calm answer r allowed.may is actor n)
+            (timed_step state.is_tree state.timed a step calm answer r allowed.may is actor n)
             z
 
         by_kind : (step : StepOf Record) (r : Option Reply) (answer : Answer Record) (allowed : IsAllowed limits a (knows entries a) step r) (is : IsAnswer m step answer) → Settled limits entries (log_of entries state.points) state.point state.logs a asked r → IsState limits (entries ++ Step a step answer r ∷ [])
         by_kind (ReuseRows word bits) r answer allowed is z = state_after limits entries a (ReuseRows word bits) answer r asked state e allowed is
-            (rows_after state.good state.timed a allowed.may word bits allowed.frees r answer)
-            (rows_numbers limits entries state.owners m (knows entries) (log_of entries state.points) state.point state.logs state.good state.timed state.named a allowed.may word bits answer r allowed.frees is)
-            (rows_held limits entries state.owners m (knows entries) (log_of entries state.points) state.point state.logs state.good state.timed state.named a allowed.may word bits answer r allowed.frees is)
-            (t1 state.good state.timed a allowed.may word bits allowed.frees r answer)
-            (rows_timed state.good state.timed a allowed.may word bits allowed.frees r answer)
+            (rows_after state.is_tree state.timed a allowed.may word bits allowed.frees r answer)
+            (rows_numbers limits entries state.owners m (knows entries) (log_of entries state.points) state.point state.logs state.is_tree state.timed state.named a allowed.may word bits answer r allowed.frees is)
+            (rows_held limits entries state.owners m (knows entries) (log_of entries state.points) state.point state.logs state.is_tree state.timed state.named a allowed.may word bits answer r allowed.frees is)
+            (t1 state.is_tree state.timed a allowed.may word bits allowed.frees r answer)
+            (rows_timed state.is_tree state.timed a allowed.may word bits allowed.frees r answer)
             z
         by_kind (ReusePids word bits) r answer allowed is z = state_after limits entries a (ReusePids word bits) answer r asked state e allowed is
-            (pages_after state.good state.timed a allowed.may word bits allowed.frees r answer)
-            (pages_numbers limits entries state.owners m (knows entries) (log_of entries state.points) state.point state.logs state.good state.timed state.named a allowed.may word bits answer r allowed.frees is)
-            (pages_held limits entries state.owners m (knows entries) (log_of entries state.points) state.point state.logs state.good state.timed state.named a allowed.may word bits answer r allowed.frees is)
-            (t2 state.good state.timed a allowed.may word bits allowed.frees r answer)
-            (pages_timed state.good state.timed a allowed.may word bits allowed.frees r answer)
+            (pages_after state.is_tree state.timed a allowed.may word bits allowed.frees r answer)
+            (pages_numbers limits entries state.owners m (knows entries) (log_of entries state.points) state.point state.logs state.is_tree state.timed state.named a allowed.may word bits answer r allowed.frees is)
+            (pages_held limits entries state.owners m (knows entries) (log_of entries state.points) state.point state.logs state.is_tree state.timed state.named a allowed.may word bits answer r allowed.frees is)
+            (t2 state.is_tree state.timed a allowed.may word bits allowed.frees r answer)
+            (pages_timed state.is_tree state.timed a allowed.may word bits allowed.frees r answer)
             z
         by_kind (Slot p) r answer allowed is z = calmly (Slot p) (λ h. h) r answer allowed is z
         by_kind (Row q) r answer allowed is z = calmly (Row q) (λ h. h) r answer allowed is z

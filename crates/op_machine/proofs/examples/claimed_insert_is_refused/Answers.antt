@@ -1,4 +1,4 @@
-use Rattle.op_machine.proofs.ClaimedInsert.{is_run, not_linearized}
+use Rattle.op_machine.proofs.runs.ClaimedInsert.{is_run, not_linearized}
 use Rattle.op_machine.proofs.examples.claimed_insert_is_refused.Goals as goal
 
 pub returns-clause-run : goal.returns-clause-run

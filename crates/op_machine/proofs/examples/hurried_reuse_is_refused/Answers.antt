@@ -1,4 +1,4 @@
-use Rattle.op_machine.proofs.RowReuse.{unruly}
+use Rattle.op_machine.proofs.runs.RowReuse.{unruly}
 use Rattle.op_machine.proofs.examples.hurried_reuse_is_refused.Goals as goal
 
 pub returns : goal.returns

@@ -1,4 +1,4 @@
-use Rattle.op_machine.proofs.Lookup.{is_linearized, is_orderly}
+use Rattle.op_machine.proofs.runs.Lookup.{is_linearized, is_orderly}
 use Rattle.op_machine.proofs.examples.lookup_is_linearized.Goals as goal
 
 pub returns-clause-linearized : goal.returns-clause-linearized

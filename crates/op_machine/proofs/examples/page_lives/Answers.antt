@@ -1,5 +1,5 @@
 use Rattle.std.proofs.Common.{refl}
-use Rattle.op_machine.proofs.PageLife.{is_run, is_quiet, taken_2, split_off, rooted, indexed_2, held_2, removed_2, merged_2, cleared_2, index_level, index_whole, has_held_term}
+use Rattle.op_machine.proofs.runs.PageLife.{is_run, is_quiet, taken_2, split_off, rooted, indexed_2, held_2, removed_2, merged_2, cleared_2, index_level, index_whole, has_held_term}
 use Rattle.op_machine.proofs.examples.page_lives.Goals as goal
 
 pub returns-clause-run : goal.returns-clause-run

@@ -1,4 +1,4 @@
-use Rattle.op_machine.proofs.RowReuse.{is_run, is_freed_by_rule}
+use Rattle.op_machine.proofs.runs.RowReuse.{is_run, is_freed_by_rule}
 use Rattle.op_machine.proofs.examples.row_is_freed.Goals as goal
 
 pub returns-clause-run : goal.returns-clause-run

@@ -1,4 +1,4 @@
-use Rattle.op_machine.proofs.Refused.{not_faithful}
+use Rattle.op_machine.proofs.runs.Refused.{not_faithful}
 use Rattle.op_machine.proofs.examples.unnamed_read_is_refused.Goals as goal
 
 pub returns : goal.returns

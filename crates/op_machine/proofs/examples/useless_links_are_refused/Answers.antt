@@ -1,4 +1,4 @@
-use Rattle.op_machine.proofs.Refused.{not_direct, not_useful}
+use Rattle.op_machine.proofs.runs.Refused.{not_direct, not_useful}
 use Rattle.op_machine.proofs.examples.useless_links_are_refused.Goals as goal
 
 pub returns-clause-twice : goal.returns-clause-twice

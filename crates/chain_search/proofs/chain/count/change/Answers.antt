@@ -9,7 +9,7 @@ use Rattle.deltas.specs.declared.record.Split.{Split}
 use Rattle.chain_search.specs.declared.delta.Kept.{Kept}
 use Rattle.chain_search.specs.declared.delta.Kept.TheVariants as kept
 use Rattle.chain_search.specs.Chains.{IsItemsOf}
-use Rattle.chain_search.specs.Deltas.{record_of}
+use Rattle.chain_search.specs.Deltas.{kept_record}
 use Rattle.chain_search.specs.Fitted.{IsFitted}
 use Rattle.chain_search.specs.Walks.{bound_under, count_under}
 use Rattle.chain_search.proofs.CountLaws.{changed_by_merge, changed_by_split, unchanged}
@@ -34,20 +34,20 @@ returns-in-Unterm-clause-change c = rw (← c.delta.view_is, c.in-Unterm.is) (λ
 pub returns-in-Merge-clause-change : goal.returns-in-Merge-clause-change
 returns-in-Merge-clause-change c = λ items rest has under_has.
     let older = c.args.older.now in
-    let is : c.args.delta.now ≡ record_of (kept.Merge c.in-Merge.merge) = sym c.delta.view_is ∙ ap record_of c.in-Merge.is in
-    let fits = first_fits (record_of (kept.Merge c.in-Merge.merge)) older c.args.base.now (subst (λ (delta : Record). IsFitted (delta ∷ older ++ Base c.args.base.now ∷ [])) is c.requires) in
+    let is : c.args.delta.now ≡ kept_record (kept.Merge c.in-Merge.merge) = sym c.delta.view_is ∙ ap kept_record c.in-Merge.is in
+    let fits = first_fits (kept_record (kept.Merge c.in-Merge.merge)) older c.args.base.now (subst (λ (delta : Record). IsFitted (delta ∷ older ++ Base c.args.base.now ∷ [])) is c.requires) in
     let has_merged = subst (λ (delta : Record). IsItemsOf (delta ∷ older ++ Base c.args.base.now ∷ []) items) is has in
     let merged = changed_by_merge (option_copied c.args.bound) _ (older ++ Base c.args.base.now ∷ []) items rest fits.0 fits.1 has_merged under_has in
     rw is (ap (λ n. n + 0) merged ∙ rw c.few_under.ensures.count (omega arith))
 
 -- neither a split nor a removal brings an item, or takes away one below the bound under it
-neither : (k : Kept) (delta : Record) (bound : Option (List ℕ)) (under : List Record) (items rest : List Item) → record_of k ≡ delta → ((split : Split) × (k ≡ kept.Split split)) ⊎ ((remove : Remove) × (k ≡ kept.Remove remove))
+neither : (k : Kept) (delta : Record) (bound : Option (List ℕ)) (under : List Record) (items rest : List Item) → kept_record k ≡ delta → ((split : Split) × (k ≡ kept.Split split)) ⊎ ((remove : Remove) × (k ≡ kept.Remove remove))
     → IsItemsOf (delta ∷ under) items → IsItemsOf under rest → count_under bound items + 0 ≡ count_under (bound_under delta bound) rest + 0
 neither k delta bound under items rest view (inl (split, is)) has under_has =
-    let delta_is : delta ≡ kind.Split split = sym view ∙ ap record_of is in
+    let delta_is : delta ≡ kind.Split split = sym view ∙ ap kept_record is in
     rw delta_is (ap (λ n. n + 0) (changed_by_split bound split under items rest (subst (λ (d : Record). IsItemsOf (d ∷ under) items) delta_is has) under_has))
 neither k delta bound under items rest view (inr (remove, is)) has under_has =
-    let delta_is : delta ≡ kind.Remove remove = sym view ∙ ap record_of is in
+    let delta_is : delta ≡ kind.Remove remove = sym view ∙ ap kept_record is in
     rw delta_is (ap (λ n. n + 0) (unchanged bound (kind.Remove remove ∷ under) under items rest (λ q. refl) (subst (λ (d : Record). IsItemsOf (d ∷ under) items) delta_is has) under_has))
 
 pub returns-in-Split-clause-change : goal.returns-in-Split-clause-change

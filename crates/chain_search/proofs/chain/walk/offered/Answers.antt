@@ -4,7 +4,7 @@ use Rattle.deltas.specs.declared.record.Record.{Record}
 use Rattle.deltas.specs.declared.record.Record.TheVariants as kind
 use Rattle.deltas.specs.Spellable.{IsSpellable}
 use Rattle.chain_search.specs.Chains.{content_in}
-use Rattle.chain_search.specs.Deltas.{record_of}
+use Rattle.chain_search.specs.Deltas.{kept_record}
 use Rattle.chain_search.specs.Walks.{is_open}
 use Rattle.chain_search.proofs.WalkLaws.{in_range, offers_items, offers_key}
 use Rattle.chain_search.proofs.chain.walk.offered.Goals as goal
@@ -20,7 +20,7 @@ returns-in-Hold c = rw (c.if_open-in-Hold.ensures, ← c.delta.view_is, c.in-Hol
 
 pub returns-in-Merge : goal.returns-in-Merge
 returns-in-Merge c =
-    let is = sym c.delta.view_is ∙ ap record_of c.in-Merge.is in
+    let is = sym c.delta.view_is ∙ ap kept_record c.in-Merge.is in
     let stands = subst IsSpellable is c.requires in
     offers_items c.args.delta.now c.in-Merge.merge.items (is_open c.args.newer.now c.args.bound.now) _
     (λ q. ap (λ (delta : Record). content_in (delta ∷ []) q) is ∙ in_range _ stands.3.ruled.is_page q)

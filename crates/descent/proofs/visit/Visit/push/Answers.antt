@@ -11,6 +11,6 @@ push-requires c =
     let told : IsTold (at was (Row c.args.head c.args.row)) (Content c.args.delta.now) = rw (← c.self.view_is) at c.requires.told in
     let reads = told.shows.stands in
     record {
-      few = told.fits.short c.self.inside.pid c.args.head c.self.inside.part reads.held reads.seen;
+      few = told.fits.short c.self.inside.pid c.args.head c.self.inside.part reads.in_slot reads.seen;
       small = is_small was c.args.head c.args.row c.args.delta.now c.in-Some.row (sym c.next.ensures ∙ c.in-Some.is) told;
     }

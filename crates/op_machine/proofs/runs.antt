@@ -1,0 +1,6 @@
+pub mod Lookup
+pub mod InsertAndLookup
+pub mod PageLife
+pub mod RowReuse
+pub mod Refused
+pub mod ClaimedInsert
