@@ -158,11 +158,10 @@ fn refused_at(alloc: Global, at: u8, turn: Turn) -> Option<RunError> {
 #[test]
 fn refuses_by_the_turns_before(rt: HostRuntime) -> Result<(), Fail> {
     let alloc = rt.alloc();
-    let again = insert(b"b", b"4");
     let refused = [
-        refused_at(alloc, 10, Turn::Begin(0, again)) == Some(RunError::Unfinished(10)),
+        refused_at(alloc, 10, Turn::Begin(0, insert(b"b", b"4"))) == Some(RunError::Unfinished(10)),
         refused_at(alloc, 11, Turn::Step(0)) == Some(RunError::NoOperation(11)),
-        refused_at(alloc, 12, Turn::Begin(0, again)) == Some(RunError::Unfinished(12)),
+        refused_at(alloc, 12, Turn::Begin(0, insert(b"b", b"4"))) == Some(RunError::Unfinished(12)),
     ];
     assert_eq!(rt; refused, [true; 3]);
     Ok(())
