@@ -20,7 +20,7 @@ use Rattle.op_machine.specs.Shows.{FitsLast, learn_last, recall_last, wanted_at}
 use Rattle.op_machine.specs.Tasks.{IsSameTask, Task}
 use Rattle.op_machine.specs.declared.op.Want.TheVariants.{Step, Done}
 use Rattle.op_machine.specs.declared.state.State.{State}
-use Rattle.op_machine.specs.declared.state.State.TheVariants.{Begun, Epoch, Enter, Read, Write, Change, Leave, Over}
+use Rattle.op_machine.specs.declared.state.State.TheVariants.{Begun, Epoch, Enter, Read, Write, Change, Leave}
 use Rattle.actors.specs.declared.actor.Running.{Running}
 use Rattle.epochs.specs.Limbo.{Limbo}
 use Rattle.installs.specs.Spares.{Spares}
@@ -72,7 +72,6 @@ stays_in task spares limbo k sweep (Enter epoch) holds stays = refl
 stays_in task spares limbo k sweep (Read round) holds stays = refl
 stays_in task spares limbo k sweep (Write round) holds stays = refl
 stays_in task spares limbo k sweep (Change now then) holds stays = refl
-stays_in task spares limbo k sweep Over holds stays = refl
 
 -- a step with its answer
 module _ (limits : Limits) (actor : ℕ) (k : Knowledge) (r : Recalled) (had has : Hand) (old : Running) (new : Op) (a : Answer Record) (running : IsRunning limits actor k r had old) (fits : Fits limits k old.wanted a) where

@@ -14,7 +14,7 @@ use Rattle.op_machine.specs.Ops.{asked_by, wanted_of}
 use Rattle.op_machine.specs.Shows.{recall_last, wanted_at}
 use Rattle.op_machine.specs.Spending.{sweep_left}
 use Rattle.op_machine.specs.declared.state.State.{State}
-use Rattle.op_machine.specs.declared.state.State.TheVariants.{Begun, Epoch, Enter, Read, Write, Change, Leave, Over}
+use Rattle.op_machine.specs.declared.state.State.TheVariants.{Begun, Epoch, Enter, Read, Write, Change, Leave}
 use Rattle.sweep.specs.Sweeps.{Sweep, step_of, wanted_at as wanted_at_sweep}
 use Rattle.sweep.specs.declared.sweep.State as sweeping
 use Rattle.sweep.specs.declared.sweep.State.TheVariants as at_sweep
@@ -34,7 +34,6 @@ leaves r spares (Change now then) e = omega arith
 leaves r spares Begun e = cc
 leaves r spares Epoch e = cc
 leaves r spares (Enter epoch) e = cc
-leaves r spares Over e = cc
 
 -- and so has a sweep, which asks for none
 stays : (r : Recalled) (spares : Spares) (sweep : Option Sweep) (state : State) → asked_by sweep (wanted_at spares state) ≡ Some step.Leave → 0 < sweep_left sweep state + left_at r spares state

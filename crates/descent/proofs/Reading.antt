@@ -14,7 +14,7 @@ use Rattle.descent.specs.declared.read_round.Goal.TheVariants.{Seek, Left, Beyon
 use Rattle.descent.specs.declared.read_round.ReadEnd.{ReadEnd}
 use Rattle.descent.specs.declared.read_round.ReadEnd.TheVariants.{Again, Removed, Leaf, Beside}
 use Rattle.descent.specs.declared.descent.State.{State}
-use Rattle.descent.specs.declared.descent.State.TheVariants.{Root, Page, Over}
+use Rattle.descent.specs.declared.descent.State.TheVariants.{Root, Page}
 use Rattle.descent.specs.declared.visit.Sight.{Sight}
 use Rattle.descent.specs.declared.visit.Sight.TheVariants.{Empty, Whole}
 use Rattle.descent.specs.ReadRounds.{Begins, CanPass, CanSee, Ends, Follows, GoesFrom, GoesOnWay, IsLeftLeaf, IsTold, IsVisiting, Misses, ReadRound, Responds, Sees, SeeksKey, Shows, Spends, Treats, at, descent_of, going_to, is_beyond, kept_for, wanted, way_of}
@@ -161,7 +161,6 @@ way_shows round k r h = by_state round.state refl
     by_state : (state : State) → round.state ≡ state → WayShows (descent_of round) k
     by_state Root e = rw e (inside_at round.goal (rw e at h))
     by_state (Page visit) e = let here : IsVisiting round.limits round.key round.goal k r visit = rw e at h in rw e here.seeks.on_way.shows
-    by_state Over e = absurd (rw e at h)
 
 -- the page that was found is one that the round has reached
 pub can_see : (old : ReadRound) (other : State) (told : Answer Record) (sight : Sight) → Finds (descent_of old) told sight → IsTold old told → CanSee (at old other) sight

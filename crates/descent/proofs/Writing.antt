@@ -30,7 +30,7 @@ use Rattle.descent.specs.Courses.{Goal, Seek, Left, Merge, Unterm}
 use Rattle.descent.specs.declared.write_round.WriteEnd.{WriteEnd}
 use Rattle.descent.specs.declared.write_round.WriteEnd.TheVariants as end
 use Rattle.descent.specs.declared.descent.State.{State}
-use Rattle.descent.specs.declared.descent.State.TheVariants.{Root, Page, Over}
+use Rattle.descent.specs.declared.descent.State.TheVariants.{Root, Page}
 use Rattle.descent.specs.declared.visit.Sight.{Sight}
 use Rattle.descent.specs.declared.visit.Sight.TheVariants.{Empty, Whole}
 use Rattle.descent.specs.Versions.{IsAlive}
@@ -456,7 +456,6 @@ way_shows round k r h = by_state round.state refl
     by_state : (state : State) → round.state ≡ state → WayShows (descent_of round) k
     by_state Root e = rw e ((rw e at h).0)
     by_state (Page visit) e = let here : IsVisiting round.limits round.key round.goal round.parent round.left k r visit = rw e at h in rw e here.seeks.on_way.shows
-    by_state Over e = absurd (rw e at h)
 
 -- the page that was found is one that the round has reached
 pub can_see : (old : WriteRound) (other : State) (told : Answer Record) (sight : Sight) → Finds (descent_of old) told sight → IsTold old told → CanSee (at old other) sight

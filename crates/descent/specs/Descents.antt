@@ -12,7 +12,7 @@ use Rattle.chain_search.specs.Recalled.{Recalled}
 use Rattle.descent.specs.Visits as page
 use Rattle.descent.specs.Walks.{few_reads, left_in}
 use Rattle.descent.specs.declared.descent.State.{State}
-use Rattle.descent.specs.declared.descent.State.TheVariants.{Root, Page, Over}
+use Rattle.descent.specs.declared.descent.State.TheVariants.{Root, Page}
 use Rattle.descent.specs.declared.visit.Sight.{Sight}
 
 pub record Descent : Type 0 where
@@ -22,13 +22,11 @@ pub record Descent : Type 0 where
 abbrev pub IsSoundState : Limits → State → Type 0
 IsSoundState limits Root = ⊤
 IsSoundState limits (Page visit) = visit.limits ≡ limits
-IsSoundState limits Over = ⊤
 
 -- the step that a state has asked for
 abbrev pub wanted_at : State → StepOf Record
 wanted_at Root = step.Slot 0
 wanted_at (Page visit) = page.wanted visit
-wanted_at Over = step.Leave
 
 abbrev pub wanted : Descent → StepOf Record
 wanted descent = wanted_at descent.state
@@ -44,7 +42,6 @@ going_to pid descent = at descent (Page (page.to_page descent.limits pid))
 abbrev pub ShowsState : Knowledge → State → Type 0
 ShowsState k Root = k.inside ≡ true
 ShowsState k (Page visit) = page.Shows visit k
-ShowsState k Over = ⊥
 
 abbrev pub Shows : Descent → Knowledge → Type 0
 Shows descent k = ShowsState k descent.state
@@ -91,4 +88,3 @@ Responds old told new (Some sight) = Finds old told sight
 abbrev pub left_from : ℕ → Recalled → State → ℕ
 left_from reserve r Root = few_reads
 left_from reserve r (Page visit) = left_in reserve r visit
-left_from reserve r Over = 0

@@ -18,7 +18,7 @@ use Rattle.descent.specs.Ways.{EndsHere, LeadsOn, LeadsRight, StaysLeft, precede
 use Rattle.descent.specs.declared.visit.Sight as page_sight
 use Rattle.descent.specs.declared.visit.Sight.TheVariants as page_is
 use Rattle.descent.specs.declared.descent.State.{State}
-use Rattle.descent.specs.declared.descent.State.TheVariants.{Root, Page, Over}
+use Rattle.descent.specs.declared.descent.State.TheVariants.{Root, Page}
 use Rattle.descent.specs.declared.read_round.Goal.{Goal}
 use Rattle.descent.specs.declared.read_round.Goal.TheVariants.{Seek, Left, Beyond}
 use Rattle.descent.specs.declared.read_round.ReadEnd.{ReadEnd}
@@ -96,7 +96,6 @@ pub record IsVisiting (limits : Limits) (key : List ℕ) (goal : Goal) (k : Know
 abbrev pub ShowsState : Limits → List ℕ → Goal → Knowledge → Recalled → State → Type 0
 ShowsState limits key goal k r Root = Begins limits key k goal
 ShowsState limits key goal k r (Page visit) = IsVisiting limits key goal k r visit
-ShowsState limits key goal k r Over = ⊥
 
 abbrev pub Shows : ReadRound → Knowledge → Recalled → Type 0
 Shows round k r = ShowsState round.limits round.key round.goal k r round.state

@@ -34,7 +34,7 @@ use Rattle.descent.specs.declared.visit.Sight as page_sight
 use Rattle.descent.specs.declared.visit.Sight.TheVariants as page_is
 use Rattle.descent.specs.declared.visit.State as at_page
 use Rattle.descent.specs.declared.descent.State.{State}
-use Rattle.descent.specs.declared.descent.State.TheVariants.{Root, Page, Over}
+use Rattle.descent.specs.declared.descent.State.TheVariants.{Root, Page}
 use Rattle.descent.specs.declared.write_round.WriteEnd.{WriteEnd}
 use Rattle.descent.specs.declared.write_round.WriteEnd.TheVariants as end
 
@@ -199,7 +199,6 @@ pub record IsVisiting (limits : Limits) (key : List ℕ) (goal : Goal) (parent l
 abbrev pub ShowsState : WriteRound → Knowledge → Recalled → State → Type 0
 ShowsState round k r Root = (k.inside ≡ true) × (round.parent ≡ None) × (round.left ≡ None) × Begins round.limits round.key k round.goal
 ShowsState round k r (Page visit) = IsVisiting round.limits round.key round.goal round.parent round.left k r visit
-ShowsState round k r Over = ⊥
 
 abbrev pub Shows : WriteRound → Knowledge → Recalled → Type 0
 Shows round k r = ShowsState round k r round.state

@@ -15,7 +15,6 @@ use std::marker::Model;
 pub(crate) enum State {
     Root,
     Page { visit: Visit },
-    Over,
 }
 
 /// A way from the root, page by page: slot 0 is read first, then the page that it names, and then each page to which its round
@@ -57,7 +56,6 @@ impl Descent {
         match &self.state {
             State::Root => Step::Slot(0),
             State::Page { visit } => visit.step(),
-            State::Over => unreachable!(),
         }
     }
 
@@ -71,7 +69,6 @@ impl Descent {
         match &mut self.state {
             State::Root => self.go_to(answer.number() as u16),
             State::Page { visit } => visit.read_on(answer),
-            State::Over => unreachable!(),
         }
     }
 
@@ -84,7 +81,7 @@ impl Descent {
     {
         match &mut self.state {
             State::Page { visit } => visit.end(answer),
-            State::Root | State::Over => unreachable!(),
+            State::Root => unreachable!(),
         }
     }
 

@@ -14,7 +14,7 @@ use deltas::Record;
 use std::alloc::{AllocError, Allocator};
 
 /// Adds the pairs of the leaves, from left to right, each leaf's in the order of their keys. Refused only where there is no room for
-/// 24 pairs of each page and a growth was refused.
+/// 24 pairs of each page.
 pub fn add_pairs<M: Rows, B: Allocator>(
     pairs: &mut Vec<(Key, Value), B>,
     limits: &Limits,

@@ -15,7 +15,7 @@ use Rattle.op_machine.specs.Outcomes.{is_changing}
 use Rattle.op_machine.specs.Shows.{FitsLast, ShowsState, learn_last, wanted_at}
 use Rattle.op_machine.specs.Tasks.{Task}
 use Rattle.op_machine.specs.declared.state.State.{State}
-use Rattle.op_machine.specs.declared.state.State.TheVariants.{Begun, Epoch, Enter, Read, Write, Change, Leave, Over}
+use Rattle.op_machine.specs.declared.state.State.TheVariants.{Begun, Epoch, Enter, Read, Write, Change, Leave}
 use Rattle.op_machine.proofs.Reading.{IsReading, reader_reads, writer_reads}
 use Rattle.sweep.specs.Kept.{AreKept}
 
@@ -60,4 +60,3 @@ module _ (task : Task) (spares : Spares) (k : Knowledge) (r : Recalled) (limbo :
   work_keeps (Write round) stands at_rest fits = still _ (read_limbo k _ told (writer_reads round k r stands.shows))
   work_keeps (Leave reply) stands at_rest fits = kept
   work_keeps (Change now then) stands at_rest fits = cc
-  work_keeps Over stands at_rest fits = absurd stands

@@ -20,7 +20,7 @@ use Rattle.op_machine.specs.Works.{AnswersOn, GoesAhead, GoesOn, IsToldWith, Kee
 use Rattle.op_machine.specs.declared.op.Want.{Want}
 use Rattle.op_machine.specs.declared.op.Want.TheVariants.{Step, Done}
 use Rattle.op_machine.specs.declared.state.State.{State}
-use Rattle.op_machine.specs.declared.state.State.TheVariants.{Begun, Epoch, Enter, Read, Write, Change, Leave, Over}
+use Rattle.op_machine.specs.declared.state.State.TheVariants.{Begun, Epoch, Enter, Read, Write, Change, Leave}
 use Rattle.sweep.specs.Bounded as sweep
 use Rattle.sweep.specs.Kept.{AreKept}
 use Rattle.sweep.specs.Sweeps.{Sweep}
@@ -34,7 +34,6 @@ not_begun (Read round) e = cc
 not_begun (Write round) e = cc
 not_begun (Change now then) e = cc
 not_begun (Leave reply) e = cc
-not_begun Over e = cc
 
 -- nothing of the sweep is left then
 nothing_left : (state : State) → has_begun state ≡ true → sweep_left None state ≡ 0
@@ -45,7 +44,6 @@ nothing_left (Read round) e = refl
 nothing_left (Write round) e = refl
 nothing_left (Change now then) e = refl
 nothing_left (Leave reply) e = refl
-nothing_left Over e = refl
 
 asks_begun : (spares : Spares) (state : State) (asked : StepOf Record) → wanted_at spares state ≡ Some asked → has_begun state ≡ true
 asks_begun spares Begun asked e = cc
@@ -55,7 +53,6 @@ asks_begun spares (Read round) asked e = refl
 asks_begun spares (Write round) asked e = refl
 asks_begun spares (Change now then) asked e = refl
 asks_begun spares (Leave reply) asked e = refl
-asks_begun spares Over asked e = cc
 
 -- An operation that has begun has no sweep, asks for what its work asks for, and goes ahead as its work does.
 module _ (old : Op) (had : Hand) (told : Answer Record) (begun : has_begun old.state ≡ true) where

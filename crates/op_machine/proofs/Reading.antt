@@ -19,7 +19,7 @@ use Rattle.descent.specs.Visits as page
 use Rattle.descent.specs.declared.visit.State as at_page
 use Rattle.descent.specs.declared.visit.State.TheVariants as at_visit
 use Rattle.descent.specs.declared.descent.State.{State}
-use Rattle.descent.specs.declared.descent.State.TheVariants.{Root, Page, Over}
+use Rattle.descent.specs.declared.descent.State.TheVariants.{Root, Page}
 use Rattle.installs.specs.Spares.{IsUnlinked, Spares}
 use Rattle.op_machine.specs.Tasks.{Seeks, Task}
 
@@ -37,7 +37,6 @@ reader_reads round k r shows = go round.state shows
     go : (state : State) → read.ShowsState round.limits round.key round.goal k r state → IsReading (wanted_at state)
     go Root h = inl (0, refl)
     go (Page visit) h = of_visit visit.pid visit.state
-    go Over h = absurd h
 
 pub writer_reads : (round : write.WriteRound) (k : Knowledge) (r : Recalled) → write.Shows round k r → IsReading (write.wanted round)
 writer_reads round k r shows = go round.state shows
@@ -45,7 +44,6 @@ writer_reads round k r shows = go round.state shows
     go : (state : State) → write.ShowsState round k r state → IsReading (wanted_at state)
     go Root h = inl (0, refl)
     go (Page visit) h = of_visit visit.pid visit.state
-    go Over h = absurd h
 
 -- an own page that no row was set in
 unset_empty : (v : OwnPage) → IsUnlinked v → ((row : ℕ) → v ≡ Ready row → ⊥) → v ≡ Empty

@@ -39,7 +39,6 @@ left_at r spares (at.Read round) = read.reads_left left_round one_round r round 
 left_at r spares (at.Write round) = write.reads_left left_round one_round r round + few_changes + 1
 left_at r spares (at.Change now then) = change.steps_left one_round now spares + 1
 left_at r spares (at.Leave reply) = 1
-left_at r spares at.Over = 0
 
 -- each errand takes a round
 abbrev pub with_errands : List (List ℕ) → ℕ → ℕ

@@ -15,8 +15,8 @@ use Rattle.op_machine.specs.Direct.{IsDirect}
 use Rattle.op_machine.specs.Reuse.{IsFreedByRule}
 
 -- The entries are a run of the turns, with linearization points: each finished operation replies what one ordered map replies
--- at its point, that map is updated where a put or a delete is linked and by no other step, and each record that is read is
--- the one whose row's name was learnt.
+-- at its point, or Tidied or Full, which have none and tell what it found; that map is updated where a put or a delete is linked and by
+-- no other step; and each record that is read is the one whose row's name was learnt.
 pub record IsLinearized (limits : Limits) (turns : List Turn) (entries : List Entry) : Type 0 where
   pub run : IsRunOf limits turns entries
   pub points : List Bool

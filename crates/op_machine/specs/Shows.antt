@@ -24,7 +24,7 @@ use Rattle.op_machine.specs.Brings.{Brings, IsReadPlan, IsUsefulPlan}
 use Rattle.op_machine.specs.Errands.{due_of, way_key}
 use Rattle.op_machine.specs.Tasks.{IsAsked, IsBetweenChanges, IsUnreadPid, Seeks, Task, Waits}
 use Rattle.op_machine.specs.declared.state.State.{State}
-use Rattle.op_machine.specs.declared.state.State.TheVariants.{Begun, Epoch, Enter, Read, Write, Change, Leave, Over}
+use Rattle.op_machine.specs.declared.state.State.TheVariants.{Begun, Epoch, Enter, Read, Write, Change, Leave}
 use Rattle.op_machine.specs.declared.state.Then.{Then}
 
 -- A reader's round is under way, for the command's key.
@@ -82,7 +82,6 @@ ShowsState task spares k r (Read round) = IsInReadRound task spares k r round
 ShowsState task spares k r (Write round) = IsInWriteRound task spares k r round
 ShowsState task spares k r (Change now then) = IsInChange task spares k r now then
 ShowsState task spares k r (Leave reply) = IsBetweenChanges task spares k × MayReply task.limits task.actor k reply
-ShowsState task spares k r Over = ⊥
 
 -- the step that a state has asked for
 abbrev pub wanted_at : Spares → State → Option (StepOf Record)
@@ -93,7 +92,6 @@ wanted_at spares (Read round) = Some (read.wanted round)
 wanted_at spares (Write round) = Some (write.wanted round)
 wanted_at spares (Change now then) = Some (change.wanted now spares)
 wanted_at spares (Leave reply) = Some step.Leave
-wanted_at spares Over = None
 
 -- the answer fits the step wanted last; before the first step there is none
 abbrev pub FitsLast : Limits → Knowledge → Option (StepOf Record) → Answer Record → Type 0

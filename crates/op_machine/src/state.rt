@@ -36,7 +36,6 @@ pub(crate) enum State {
     Write { round: WriteRound },
     Change { change: Change, then: Then },
     Leave { reply: Reply },
-    Over,
 }
 
 impl Then {
@@ -61,7 +60,7 @@ impl State {
         ensures may { (task : Task) (k : Knowledge) (r : Recalled) → ShowsState task spares.now k r self.now → MayStep task k wanted.new }
     {
         match self {
-            State::Begun | State::Over => unreachable!(),
+            State::Begun => unreachable!(),
             State::Epoch => *wanted = Step::Epoch,
             State::Enter { epoch } => *wanted = Step::Enter(*epoch),
             State::Read { round } => *wanted = round.step(),

@@ -61,7 +61,7 @@ impl Model for Task {
 }
 
 impl Task {
-    /// Nothing visited yet.
+    /// A task without errands.
     pub(crate) fn new(command: Command, actor: u8, limits: &Limits) -> Task
         requires { actor < limits.now.actors }
         ensures { result ≡ record { limits = limits.now; actor = actor; command = command; errands = [] } }

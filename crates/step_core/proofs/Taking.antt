@@ -23,7 +23,7 @@ use Rattle.op_machine.specs.Hands.{Hand}
 use Rattle.op_machine.specs.Shows.{ShowsState}
 use Rattle.op_machine.specs.Tasks.{Task}
 use Rattle.op_machine.specs.declared.state.State.{State}
-use Rattle.op_machine.specs.declared.state.State.TheVariants.{Begun, Epoch, Enter, Read, Write, Change, Leave, Over}
+use Rattle.op_machine.specs.declared.state.State.TheVariants.{Begun, Epoch, Enter, Read, Write, Change, Leave}
 use Rattle.step_core.specs.Actors.{IsPageEnd, IsReady, NeedsRoom}
 
 -- no reply by a key's value is a cursor page
@@ -57,7 +57,6 @@ asked_is task spares k r (Read round) h = h.seeks.asked.going
 asked_is task spares k r (Write round) h = h.seeks.asked.going
 asked_is task spares k r (Change now then) h = h.asked.going
 asked_is task spares k r (Leave reply) h = h.0.going
-asked_is task spares k r Over h = absurd h
 
 -- an actor with an operation shows that command, and wants a step
 command_shown : (limits : Limits) (number : ℕ) (k : Knowledge) (r : Recalled) (hand : Hand) (running : Option Running) → is_some (command_at running) ≡ true → IsActorWith limits number k r hand running → k.asked.command ≡ command_at running
