@@ -31,7 +31,7 @@ use Rattle.step_core.specs.Actors.{IsReady, IsServedAt, IsWithinAt, wanted_in}
 use Rattle.step_core.proofs.Lawful.{Asks, asks, is_placed, served_at, within_at}
 use Rattle.step_core.specs.Cores.{IsCore, Pays}
 use Rattle.step_core.specs.Turns.{Core, Demand, KeepsMore, LeavesAt, WantsMemory, busy_of, refused_by, refusal_of}
-use Rattle.step_core.proofs.Replaced.{get_below, get_is, replaced_other, replaced_same, set_cases, set_length}
+use Rattle.step_core.proofs.Replaced.{get_below, get_is, replaced_other, replaced_same, set_cases, set_length, set_other}
 
 -- a begin that isn't refused
 pub begin_goes : (core : Core) (i : ℕ) (command : Command) → refusal_of core (turn.Begin i command) ≡ None → (i < core.limits.actors) × (command_of core.entries i ≡ None)
@@ -123,7 +123,7 @@ module _ (limits : Limits) where
       )
 
   -- the step that the actor of a turn wants
-  core_wanted : (table : Table) (actors : List Actor) (entries : List Entry) (i j : ℕ) (old : Actor) (room : ℕ) → IsCore limits table actors entries
+  pub core_wanted : (table : Table) (actors : List Actor) (entries : List Entry) (i j : ℕ) (old : Actor) (room : ℕ) → IsCore limits table actors entries
       → (v : Core) → record { limits = limits; entries = entries; demand = record { room = room; wanted = wanted_in actors } } ≡ v → refusal_of v (turn.Step i) ≡ None → j ≡ i → old ≡ get_or actors j old
       → (slice_get actors i ≡ Some old) × (slice_get v.demand.wanted i ≡ Some (wanted_by old.running))
   core_wanted table actors entries i j old room core v is refusal same at =
@@ -132,6 +132,15 @@ module _ (limits : Limits) where
       let found : slice_get actors i ≡ Some old = get_is actors i old lt (subst (λ k. old ≡ get_or actors k old) same at) in
       let wanted : slice_get (wanted_in actors) i ≡ Some (wanted_by old.running) = slice_get-map (λ (at : Actor). wanted_by at.running) actors i ∙ ap (option_map (λ (at : Actor). wanted_by at.running)) found in
       (found, subst (λ (u : Core). slice_get u.demand.wanted i ≡ Some (wanted_by old.running)) is wanted)
+
+  -- no other actor wants another step, where one actor is replaced
+  pub core_others : (actors : List Actor) (entries : List Entry) (i j : ℕ) (new : Actor) (room : ℕ) (v : Core) → record { limits = limits; entries = entries; demand = record { room = room; wanted = wanted_in actors } } ≡ v
+      → j ≡ i → (other : ℕ) → other ≢ i → slice_get (wanted_in (set actors j new)) other ≡ slice_get v.demand.wanted other
+  core_others actors entries i j new room v is same other apart =
+      slice_get-map (λ (at : Actor). wanted_by at.running) (set actors j new) other
+      ∙ ap (option_map (λ (at : Actor). wanted_by at.running)) (set_other actors j new other (λ h. apart (h ∙ same)))
+      ∙ sym (slice_get-map (λ (at : Actor). wanted_by at.running) actors other)
+      ∙ ap (λ (u : Core). slice_get u.demand.wanted other) is
 
   pub core_leaves : (table : Table) (actors : List Actor) (entries : List Entry) (i j : ℕ) (old : Actor) (room : ℕ) → IsCore limits table actors entries
       → (v : Core) → record { limits = limits; entries = entries; demand = record { room = room; wanted = wanted_in actors } } ≡ v → refusal_of v (turn.Step i) ≡ None → j ≡ i → old ≡ get_or actors j old

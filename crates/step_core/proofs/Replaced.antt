@@ -26,6 +26,13 @@ set_cases (z ∷ xs) zero x (suc a) y e = inr ((λ same. absurd (omega arith)), 
 set_cases (z ∷ xs) (suc i) x zero y e = inr ((λ same. absurd (omega arith)), e)
 set_cases (z ∷ xs) (suc i) x (suc a) y e = elim (set_cases xs i x a y e) [ inl h ↦ inl (ap suc h.0, h.1) | inr h ↦ inr ((λ same. h.0 (omega arith)), h.1) ]
 
+pub set_other : {X : Type 0} (xs : List X) (i : ℕ) (x : X) (a : ℕ) → a ≢ i → slice_get (set xs i x) a ≡ slice_get xs a
+set_other [] i x a other = refl
+set_other (z ∷ xs) zero x zero other = absurd (other refl)
+set_other (z ∷ xs) zero x (suc a) other = refl
+set_other (z ∷ xs) (suc i) x zero other = refl
+set_other (z ∷ xs) (suc i) x (suc a) other = set_other xs i x a (λ same. other (ap suc same))
+
 pub set_length : {X : Type 0} (xs : List X) (i : ℕ) (x : X) → length (set xs i x) ≡ length xs
 set_length [] i x = refl
 set_length (z ∷ xs) zero x = refl

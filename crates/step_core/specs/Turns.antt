@@ -1,5 +1,5 @@
 -- A core as its callers see it, what it refuses, and what a turn adds.
-use Rattle.std.specs.Prelude.{◌≡◌, ℕ, List, [], ◌∷◌, ◌++◌, length, Option, Some, None, Bool, true, false, is_some, nat_lt, if◌then◌else◌, slice_get, take, map, ◌⊎◌, ◌≤◌}
+use Rattle.std.specs.Prelude.{◌≡◌, ◌≢◌, ℕ, List, [], ◌∷◌, ◌++◌, length, Option, Some, None, Bool, true, false, is_some, nat_lt, if◌then◌else◌, slice_get, take, map, ◌⊎◌, ◌≤◌}
 use Rattle.bw_model.specs.declared.command.Command.{Command}
 use Rattle.bw_model.specs.declared.command.Command.TheVariants.{Page}
 use Rattle.bw_model.specs.declared.command.Reply.{Reply}
@@ -106,11 +106,23 @@ abbrev pub IsToldBy : Memory → Entry → Type 0
 IsToldBy memory (entry.Begin actor command) = Unit {0}
 IsToldBy memory (entry.Step actor step answer reply) = IsAnswer memory step answer
 
+-- The step is the one that its actor's operation wanted.
+abbrev pub IsWanted : Core → Entry → Type 0
+IsWanted core (entry.Begin actor command) = Unit {0}
+IsWanted core (entry.Step actor step answer reply) = slice_get core.demand.wanted actor ≡ Some (Some step)
+
+-- What any other actor's operation wants stays as it is.
+abbrev pub KeepsOthers : ℕ → Core → Core → Type 0
+KeepsOthers actor old new = (other : ℕ) → other ≢ actor → slice_get new.demand.wanted other ≡ slice_get old.demand.wanted other
+
 -- There is one entry more, which belongs to the turn.
 pub record AddsTurn (old : Core) (turn : Turn) (event : Event) (new : Core) : Type 0 where
   pub added : Entry
   pub entries : new.entries ≡ old.entries ++ added ∷ []
   pub of_turn : turn_of added ≡ turn
+  pub wanted : IsWanted old added
+  pub others : KeepsOthers (actor_of turn) old new
+  pub room : old.demand.room ≤ new.demand.room
   pub told : IsToldBy (memory_of old.limits old.entries) added
   pub event_of : IsEventOf (memory_of old.limits old.entries) added event
   pub same_limits : new.limits ≡ old.limits

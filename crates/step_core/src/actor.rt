@@ -76,6 +76,7 @@ pub(crate) fn go_on<A: Allocator>(
     requires again { ready.again ≡ ready.step }
     ensures goes { (limits : Limits) (k : Knowledge) (r : Recalled) → IsReady limits number k r (memory_in memory.old) actor.old → GoesOn limits number k r actor.old result.step result.answer None actor.new }
     ensures limits { memory.new.limits ≡ memory.old.limits }
+    ensures wanted { wanted_by actor.old.running ≡ Some result.step }
     ensures answer { IsAnswer (memory_in memory.old) result.step result.answer }
     ensures memory { memory_in memory.new ≡ memory_after number result.step (memory_in memory.old) }
     ensures command { running_command actor.new ≡ running_command actor.old }

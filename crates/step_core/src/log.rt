@@ -40,6 +40,7 @@ impl<A: Allocator> Log<A> {
     /// Makes room for one entry more; refused only where there is none and memory gives none.
     pub(crate) fn reserve(&mut self) -> Result<(), AllocError>
         ensures entries { self.new.entries ≡ self.old.entries }
+        ensures room { self.old.room ≤ self.new.room }
         ensures ok { OnOk result (length self.new.entries < self.new.room) }
         ensures full { OnErr result (self.old.room ≤ length self.old.entries) }
         ensures err { OnErr result (self.new ≡ self.old) }
@@ -50,7 +51,8 @@ impl<A: Allocator> Log<A> {
     /// Adds an entry, for which there is room.
     pub(crate) fn push(&mut self, entry: SharedEntry<A>)
         requires { length self.old.entries < self.old.room }
-        ensures { self.new.entries ≡ self.old.entries ++ entry ∷ [] }
+        ensures entries { self.new.entries ≡ self.old.entries ++ entry ∷ [] }
+        ensures room { self.old.room ≤ self.new.room }
     {
         self.entries.push(entry).unwrap();
     }

@@ -103,6 +103,18 @@ impl<A: Allocator + Copy> Core<A> {
     pub fn take_turns(&mut self, turns: &[Turn]) -> Result<(), RunError>
         ensures ok { IfOk result (λ _. AddsTurns self.old turns.now self.new) }
         ensures err { IfErr result (λ error. StopsAt self.old turns.now error self.new) }
+        ensures linearized { IsLinearized self.new.limits (map turn_of self.new.entries) self.new.entries }
+        ensures orderly { IsOrderly self.new.limits self.new.entries }
+    {
+        let taken = self.take_each(turns);
+        self.linearized();
+        taken
+    }
+
+    /// Takes the turns up to one that is refused.
+    fn take_each(&mut self, turns: &[Turn]) -> Result<(), RunError>
+        ensures ok { IfOk result (λ _. AddsTurns self.old turns.now self.new) }
+        ensures err { IfErr result (λ error. StopsAt self.old turns.now error self.new) }
     {
         for turn in turns {
             match self.turn(turn.clone().unwrap()) {

@@ -27,7 +27,6 @@ pub fn run<A: Allocator + Copy>(
         Err(_) => return Err(RunError::Memory(0)),
     };
     let taken = core.take_turns(turns);
-    core.linearized();
     match taken {
         Ok(()) => Ok(core.into_trace()),
         Err(error) => Err(error),

@@ -1,8 +1,8 @@
-use Rattle.std.proofs.Common.{ap, arith}
+use Rattle.std.proofs.Common.{ap, arith, refl}
 use Rattle.chain_search.specs.Knowledge.{knows}
 use Rattle.chain_search.specs.Recalled.{recalls}
 use Rattle.chain_search.specs.declared.trace.Entry.TheVariants.{Begin}
-use Rattle.step_core.proofs.Cored.{core_begins, core_begun}
+use Rattle.step_core.proofs.Cored.{core_begins, core_begun, core_others}
 use Rattle.step_core.specs.declared.event.RunError.TheVariants.{Memory}
 use Rattle.step_core.proofs.Reserving.{granted, refused}
 use Rattle.step_core.proofs.machine.Core.begin.Goals as goal
@@ -11,7 +11,20 @@ pub invariant_of-self-2 : goal.invariant_of-self-2
 invariant_of-self-2 g c =
     let begins = core_begins _ _ _ _ _ _ _ c.args.command c.self.invariant _ _ c.self.view_is c.requires.goes c.from.ensures c.index_mut-place.ensures.value in
     core_begun _ c.begins_keep_laws.ensures.state _ _ _ _ _ _ _ c.args.command c.self.invariant _ _ c.self.view_is c.requires.goes c.from.ensures (c.begin.ensures.shows _ _ begins.1) c.begin.ensures.command (c.entries_grow.ensures _ c.self.inside.trace.entries (Begin c.args.actor c.args.command))
-    (c.begins_keep_laws.ensures.direct _ _ _ _ _ c.self.invariant.direct (let few = c.begin.ensures.bounded in omega arith)) (rw (c.begin-entry.ensures, c.reserve.ensures.entries) at c.push.ensures)
+    (c.begins_keep_laws.ensures.direct _ _ _ _ _ c.self.invariant.direct (let few = c.begin.ensures.bounded in omega arith)) (rw (c.begin-entry.ensures, c.reserve.ensures.entries) at c.push.ensures.entries)
+
+pub returns-clause-ok : goal.returns-clause-ok
+returns-clause-ok g c = record {
+  added = Begin c.args.actor c.args.command;
+  entries = rw (← c.self.view_is) (rw (c.begin-entry.ensures, c.reserve.ensures.entries) at c.push.ensures.entries);
+  of_turn = refl;
+  wanted = tt;
+  others = core_others _ _ _ _ _ _ _ _ c.self.view_is c.from.ensures;
+  room = rw (← c.self.view_is) (let grown = c.reserve.ensures.room in let kept = c.push.ensures.room in omega (arith, grown, kept));
+  told = tt;
+  event_of = refl;
+  same_limits = rw (← c.self.view_is) refl;
+}
 
 pub begin-requires-clause-shows : goal.begin-requires-clause-shows
 begin-requires-clause-shows g c =

@@ -1,9 +1,9 @@
-use Rattle.std.proofs.Common.{None, ap, inl, refl, ◌∙◌, arith}
+use Rattle.std.proofs.Common.{None, Some, ap, inl, refl, ◌∙◌, arith}
 use Rattle.chain_search.specs.Steps.{memory_after}
 use Rattle.chain_search.specs.Knowledge.{knows}
 use Rattle.chain_search.specs.Recalled.{recalls}
 use Rattle.chain_search.specs.declared.trace.Entry.TheVariants.{Step}
-use Rattle.step_core.proofs.Cored.{core_affords, core_asks, core_leaves, core_stepped, core_took, core_wants, step_goes}
+use Rattle.step_core.proofs.Cored.{core_affords, core_asks, core_leaves, core_others, core_stepped, core_took, core_wanted, core_wants, step_goes}
 use Rattle.step_core.proofs.Lawful.{heads}
 use Rattle.step_core.proofs.Linked.{event_is, told_to}
 use Rattle.step_core.proofs.Reserving.{granted, refused}
@@ -19,7 +19,7 @@ invariant_of-self-2 g c =
     let affords = core_affords _ _ _ _ _ _ _ c.self.invariant c.from-2.ensures asks.1 c.index_mut-place.ensures.value in
     let stays = c.steps_keep_laws.ensures.direct _ _ _ _ _ _ _ _ c.self.invariant.state goes.allowed goes.useful took.1 c.self.invariant.direct affords goes.spends in
     core_stepped _ c.steps_keep_laws.ensures.state _ _ _ _ _ _ _ _ _ c.go_on-stepped.result.step c.go_on-stepped.result.answer None c.self.invariant c.from-2.ensures asks.1
-    c.index_mut-place.ensures.value asks.3 goes.allowed goes.shows c.go_on-stepped.ensures.command (c.entries_grow.ensures _ c.self.inside.trace.entries (Step c.args.actor c.go_on-stepped.result.step c.go_on-stepped.result.answer None)) stays c.go_on-stepped.ensures.limits took.1 c.go_on-stepped.ensures.memory (rw (c.step.ensures, c.reserve.ensures.entries) at c.push.ensures)
+    c.index_mut-place.ensures.value asks.3 goes.allowed goes.shows c.go_on-stepped.ensures.command (c.entries_grow.ensures _ c.self.inside.trace.entries (Step c.args.actor c.go_on-stepped.result.step c.go_on-stepped.result.answer None)) stays c.go_on-stepped.ensures.limits took.1 c.go_on-stepped.ensures.memory (rw (c.step.ensures, c.reserve.ensures.entries) at c.push.ensures.entries)
 
 pub returns-clause-ok : goal.returns-clause-ok
 returns-clause-ok g c =
@@ -28,8 +28,11 @@ returns-clause-ok g c =
     let took = core_took _ c.steps_keep_laws.ensures.apart _ _ _ _ c.go_on-stepped.result.step c.go_on-stepped.result.answer c.self.invariant c.go_on-stepped.ensures.answer goes.allowed.may in
     record {
       added = Step c.args.actor c.go_on-stepped.result.step c.go_on-stepped.result.answer None;
-      entries = rw (← c.self.view_is) (rw (c.step.ensures, c.reserve.ensures.entries) at c.push.ensures);
+      entries = rw (← c.self.view_is) (rw (c.step.ensures, c.reserve.ensures.entries) at c.push.ensures.entries);
       of_turn = refl;
+      wanted = (core_wanted _ _ _ _ _ _ _ _ c.self.invariant _ c.self.view_is c.requires.goes c.from-2.ensures c.index_mut-place.ensures.value).1 ∙ ap Some c.go_on-stepped.ensures.wanted;
+      others = core_others _ _ _ _ _ _ _ _ c.self.view_is c.from-2.ensures;
+      room = rw (← c.self.view_is) (let grown = c.reserve.ensures.room in let kept = c.push.ensures.room in omega (arith, grown, kept));
       told = rw (← c.self.view_is) took.1;
       event_of = told_to _ _ (Step c.args.actor c.go_on-stepped.result.step c.go_on-stepped.result.answer None) (Stepped c.link-link.result) c.self.view_is (event_is _ _ c.args.actor _ _ None _ (c.go_on-stepped.ensures.memory ∙ ap (memory_after c.args.actor c.go_on-stepped.result.step) c.self.invariant.has) (heads _ _ c.self.invariant.state c.steps_keep_laws.ensures.heads) took.0 took.1 (ap Stepped c.link-link.ensures));
       same_limits = rw (← c.self.view_is) refl;

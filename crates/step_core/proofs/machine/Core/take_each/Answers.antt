@@ -2,7 +2,7 @@ use Rattle.std.proofs.Common.{◌≡◌, ◌<◌, length, Some, rules}
 use Rattle.std.specs.Prelude.{slice_get}
 use Rattle.step_core.proofs.Replaced.{get_is}
 use Rattle.step_core.proofs.Stopping.{adds_push, take_more}
-use Rattle.step_core.proofs.machine.Core.take_turns.Goals as goal
+use Rattle.step_core.proofs.machine.Core.take_each.Goals as goal
 
 pub returns-in-Err-clause-err : goal.returns-in-Err-clause-err
 returns-in-Err-clause-err g c =
