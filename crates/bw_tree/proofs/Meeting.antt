@@ -1,5 +1,5 @@
 -- Two seats that meet.
-use Rattle.std.proofs.Common.{◌≡◌, ◌<◌, ℕ, List, [], ◌∷◌, ◌++◌, map, refl, sym, ap, ◌∙◌, subst}
+use Rattle.std.proofs.Common.{◌≡◌, ℕ, List, [], ◌∷◌, ◌++◌, map, refl, sym, ap, ◌∙◌, subst}
 use Rattle.actors.specs.Actors.{Actor, IsActor}
 use Rattle.actors.specs.Spending.{steps_due}
 use Rattle.bw_model.specs.declared.limits.Limits.{Limits}
@@ -54,10 +54,10 @@ module _ (limits : Limits) (a b : ℕ) (one other joined : Mine) (at : SitsAt li
     right_is : right ≡ (alone limits b saw.run Idle, [])
     right_is = others ∙ ap (λ (m : Mine). (other_parts m.0, [])) looked_is
 
-    pub left_saw : seen_of left ≡ saw.run
+    left_saw : seen_of left ≡ saw.run
     left_saw = ap seen_of left_is
 
-    pub right_saw : seen_of right ≡ saw.run
+    right_saw : seen_of right ≡ saw.run
     right_saw = ap seen_of right_is
 
     left_at : SitsAt limits a Idle left
@@ -81,8 +81,5 @@ module _ (limits : Limits) (a b : ℕ) (one other joined : Mine) (at : SitsAt li
     pub right_seat : OwnLasts → (actor : Actor) → IsSeat limits b other actor → IsSeat limits b right actor
     right_seat own actor seat = seat_extends own limits b other right saw.run actor seat saw.legal both_extend.1.0 right_at right_saw
 
-    pub left_from : Extends a (seen_of one) (seen_of right)
-    left_from = subst (Extends a (seen_of one)) (sym right_saw) both_extend.0
-
-    pub right_from : Extends b (seen_of other) (seen_of left)
-    right_from = subst (Extends b (seen_of other)) (sym left_saw) both_extend.1.0
+    pub saw_one : seen_of right ≡ seen_of left
+    saw_one = right_saw ∙ sym left_saw

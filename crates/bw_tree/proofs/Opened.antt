@@ -1,5 +1,5 @@
 -- Seats of a tree that opens.
-use Rattle.std.proofs.Common.{◌≡◌, ◌≢◌, ◌<◌, ◌+◌, ℕ, zero, suc, List, [], ◌∷◌, ◌++◌, length, Some, refl, sym, ap, ◌∙◌, subst, arith}
+use Rattle.std.proofs.Common.{◌≡◌, ◌<◌, ◌+◌, ℕ, zero, suc, List, [], ◌∷◌, ◌++◌, length, Some, refl, sym, ap, ◌∙◌, subst, arith}
 use Rattle.std.specs.Prelude.{slice_get}
 use mathlib.Core.Logic.{dite}
 use native.Mathlib.Decide.{ℕ_discrete}
@@ -12,7 +12,7 @@ use Rattle.chain_search.specs.Knowledge.{nothing}
 use Rattle.chain_search.specs.Recalled.{Recalled, blank}
 use Rattle.slot_rule.specs.declared.view.Reach.TheVariants.{Idle}
 use Rattle.slot_rule.specs.Running.{Running}
-use Rattle.slot_rule.specs.Views.{SitsAt, Mine, alone, dealt, dealt_from, first_part, other_parts, seen_of}
+use Rattle.slot_rule.specs.Views.{Mine, alone, dealt, dealt_from, first_part, other_parts, seen_of}
 use Rattle.tree_words.specs.Opening.{opening_words}
 use Rattle.bw_tree.specs.Runs.{IsLawfulRun}
 use Rattle.bw_tree.specs.Seats.{IsSeat, Seat}

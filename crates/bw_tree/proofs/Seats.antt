@@ -53,7 +53,6 @@ state_left task hand k r (state.Read round) h = omega arith
 state_left task hand k r (state.Write round) h = omega arith
 state_left task hand k r (state.Change now then) h = omega arith
 state_left task hand k r (state.Leave reply) h = omega arith
-state_left task hand k r state.Over h = absurd h
 
 some_more : (m n o : ℕ) → 0 < n → 0 < (m + n) + o
 some_more m n o some = omega arith

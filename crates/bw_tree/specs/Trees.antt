@@ -1,5 +1,5 @@
 -- Trees and their seats: what opening gives, what a meeting does, and what closing lists.
-use Rattle.std.specs.Prelude.{◌≡◌, ◌<◌, ◌≤◌, ◌*◌, ◌^◌, ℕ, List, [], length, None, Some, slice_get}
+use Rattle.std.specs.Prelude.{◌≡◌, ◌<◌, ◌≤◌, ◌^◌, ℕ, List, [], length, None, Some, slice_get}
 use Rattle.atomic_table.specs.Seated.{TableId}
 use Rattle.bw_model.specs.declared.limits.Limits.{Limits}
 use Rattle.bw_model.specs.declared.limits.OpenError.{OpenError}
@@ -12,7 +12,7 @@ use Rattle.slot_rule.specs.declared.view.Reach.TheVariants.{Idle}
 use Rattle.slot_rule.specs.Running.{Each}
 use Rattle.slot_rule.specs.Views.{part}
 use Rattle.tree_words.specs.Layout.{width}
-use Rattle.bw_tree.specs.Runs.{IsOneHistory, StartsWith}
+use Rattle.bw_tree.specs.Runs.{IsOneHistory}
 use Rattle.bw_tree.specs.Seats.{IsSame, Seat, unfinished_command}
 
 -- a tree: its limits, and which table it has
@@ -71,14 +71,13 @@ pub record HasPartsOf (limits : Limits) (seats : List Seat) (parts : List Part) 
   pub idle : Each (λ at. (at.reach ≡ Idle) × (at.limits ≡ limits)) parts
   pub each : (n : ℕ) (seat : Seat) → slice_get seats n ≡ Some seat → (m : ℕ) × (slice_get parts m ≡ Some (part limits seat.actor seat.seen Idle))
 
--- Two seats have met: what each has seen goes on from what it had seen by steps of others alone, and from what the other had seen.
+-- Two seats have met: both have seen one run, which goes on from what each of them had seen by steps of others alone.
 pub record HaveMet (old new other later : Seat) : Type 0 where
   pub same : IsSame old new
   pub same_other : IsSame other later
   pub extends : Extends old.actor old.seen new.seen
   pub extends_other : Extends other.actor other.seen later.seen
-  pub from_other : StartsWith new.seen other.seen
-  pub from_one : StartsWith later.seen old.seen
+  pub one : later.seen ≡ new.seen
 
 -- The pairs are those of one run, which goes on from what each of the seats has seen by steps of others alone.
 pub record AreClosed (limits : Limits) (seats : List Seat) (pairs : List (List ℕ × List ℕ)) : Type 0 where

@@ -34,8 +34,8 @@ impl<A: Allocator> Model for Tree<A> {
 }
 
 impl<A: Allocator> Tree<A> {
-    /// Runs a command on an idle seat, for at most `budget` steps. It takes no lock and no memory, and waits for nobody. `Spent`
-    /// comes after exactly `budget` steps; the operation stays in the seat, to be resumed.
+    /// Runs a command on an idle seat, for at most `budget` steps, which is 1 at least. It takes no lock and no memory, and waits
+    /// for nobody. `Spent` comes after exactly `budget` steps; the operation stays in the seat, to be resumed.
     pub fn call(&self, seat: &mut BwSeat<A>, command: Command, budget: u32) -> Called
         requires own { IsSeatOf self.now seat.old }
         requires idle { unfinished_command seat.old ≡ None }
@@ -50,7 +50,7 @@ impl<A: Allocator> Tree<A> {
         called
     }
 
-    /// Goes on with the operation of a seat, for at most `budget` steps. `Spent` comes after exactly `budget` steps.
+    /// Goes on with the operation of a seat, for at most `budget` steps, which is 1 at least. `Spent` comes after exactly `budget` steps.
     pub fn resume(&self, seat: &mut BwSeat<A>, budget: u32) -> Called
         requires own { IsSeatOf self.now seat.old }
         requires busy { IsSome (unfinished_command seat.old) }
@@ -64,7 +64,7 @@ impl<A: Allocator> Tree<A> {
         called
     }
 
-    /// Two seats meet: afterwards each has seen all that the other had seen. No step is taken.
+    /// Two seats meet: afterwards both have seen one run, with all that either had seen. No step is taken.
     pub fn meet(&self, one: &mut BwSeat<A>, other: &mut BwSeat<A>)
         requires own { IsSeatOf self.now one.old }
         requires own_other { IsSeatOf self.now other.old }

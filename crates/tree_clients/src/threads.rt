@@ -13,8 +13,9 @@ pub trait Work: Drop + Send {
         ensures own { IsSeatOf tree.now seat.new };
 }
 
-/// Does all works at once, each in a thread of its own and with a seat of its own, and answers them in their order; none where there
-/// are more works than seats, or no memory for their lists. The seats are the list's last ones, and come back to its end.
+/// Does all works at once, each in a thread of its own and with a seat of its own, and answers them in their order. The seats are the
+/// list's last ones, and come back to its end. None where there are more works than seats, or no memory for their lists; then the
+/// seats that were taken are dropped.
 pub fn work_in_threads<R: Threads + Sync, W: Work>(
     rt: &R,
     tree: &Tree,

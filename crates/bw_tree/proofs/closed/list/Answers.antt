@@ -1,4 +1,3 @@
-use Rattle.std.proofs.Common.{◌≡◌, ap, sym}
 use Rattle.chain_search.specs.Trace.{memory_of}
 use Rattle.bw_tree.proofs.closed.list.Goals as goal
 

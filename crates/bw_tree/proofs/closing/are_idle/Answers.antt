@@ -1,8 +1,8 @@
-use Rattle.std.proofs.Common.{◌≡◌, ◌<◌, ℕ, Some, None, arith, sym, ap, subst, ◌∙◌}
+use Rattle.std.proofs.Common.{◌≡◌, Some, None, arith, sym, ap, subst, ◌∙◌}
 use Rattle.std.specs.Prelude.{slice_get}
 use mathlib.Core.Logic.{dite}
 use native.Mathlib.Decide.{ℕ_discrete}
-use Rattle.bw_tree.specs.Seats.{Seat, unfinished_command}
+use Rattle.bw_tree.specs.Seats.{unfinished_command}
 use Rattle.bw_tree.proofs.Resting.{at_index, get_below, get_one, has_none, has_one}
 use Rattle.bw_tree.proofs.closing.are_idle.Goals as goal
 

@@ -1,4 +1,4 @@
-use Rattle.std.proofs.Common.{[], ◌∷◌, arith}
+use Rattle.std.proofs.Common.{[], ◌∷◌, ◌∙◌, ap, arith, length}
 use Rattle.std.proofs.lemmas.List.{length-append}
 use Rattle.std.proofs.lemmas.List.Elements.{All-push}
 use Rattle.bw_tree.specs.Trees.{IsSeatOf}
@@ -8,7 +8,7 @@ pub loop-work-preserved : goal.loop-work-preserved
 loop-work-preserved g c =
     let all = All-push (λ job. IsSeatOf c.args.tree.now job.0) c.loop-work.jobs.items (c.in_ok-seat.seat, c.in-Some.work) c.loop-work.invariant.jobs c.in_ok-seat.ensures.taken in
     let pushed = c.in-Ok.ensures.len in
-    let taken = c.in_ok-seat.ensures.count in
+    let taken = ap length c.in_ok-seat.ensures.last ∙ length-append c.take_seat.new.seats.items (c.in_ok-seat.seat ∷ []) in
     let yielded = length-append c.loop-work.yielded (c.in-Some.work ∷ []) in
     let seats = c.loop-work.invariant.seats in
     let works = c.loop-work.invariant.works in

@@ -1,5 +1,4 @@
-use Rattle.std.proofs.Common.{◌≡◌, ◌<◌, length, arith, sym}
-use Rattle.tree_words.specs.Layout.{row_at}
+use Rattle.std.proofs.Common.{arith}
 use Rattle.bw_tree.proofs.Kept.{row_is, row_spells, row_there}
 use Rattle.bw_tree.proofs.closed.ClosedRowsRows.record.Goals as goal
 

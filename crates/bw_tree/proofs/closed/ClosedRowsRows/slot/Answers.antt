@@ -1,4 +1,4 @@
-use Rattle.std.proofs.Common.{◌≡◌, ◌<◌, ℕ, subst, ap, sym, arith, ◌∙◌}
+use Rattle.std.proofs.Common.{◌≡◌, ◌<◌, ℕ, subst, arith}
 use lib.ListN.{get_elem?}
 use mathlib.Core.Option.{some}
 use Rattle.tree_words.specs.Layout.{slot_at}

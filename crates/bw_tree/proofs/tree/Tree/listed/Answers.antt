@@ -1,4 +1,4 @@
-use Rattle.std.proofs.Common.{◌≡◌, ◌≤◌, length, sym, ap, subst}
+use Rattle.std.proofs.Common.{◌≤◌, length, sym, subst}
 use Rattle.bw_tree.specs.Trees.{AreClosed, Tree}
 use Rattle.bw_tree.proofs.Leaving.{closes, keeps}
 use Rattle.bw_tree.proofs.tree.Tree.listed.Goals as goal

@@ -4,10 +4,9 @@ use Rattle.chain_search.specs.declared.trace.Entry.{Entry}
 use Rattle.chain_search.specs.Disciplined.{Extends}
 use Rattle.slot_rule.specs.declared.view.Reach.TheVariants.{Idle}
 use Rattle.slot_rule.specs.Views.{SitsAt, Mine, seen_of}
-use Rattle.bw_tree.specs.Runs.{StartsWith}
 use Rattle.bw_tree.specs.Seats.{IsSeat, Seat}
 use Rattle.bw_tree.specs.Trees.{Tree}
-use Rattle.bw_tree.proofs.Meeting.{has_part, left_extends, left_from, left_seat, right_extends, right_from, right_seat}
+use Rattle.bw_tree.proofs.Meeting.{has_part, left_extends, left_seat, right_extends, right_seat, saw_one}
 use Rattle.bw_tree.proofs.tree.Tree.meet.Goals as goal
 
 pub look-requires-clause-some : goal.look-requires-clause-some
@@ -59,12 +58,6 @@ returns-clause-met g c =
     let theirs : Extends c.other.inside.number (seen_of c.replace-others.result.me) (seen_of c.part.result.me) =
     right_extends c.self.inside.limits c.one.inside.number c.other.inside.number c.one.inside.place.me c.replace-others.result.me c.join.new.seat.me at at_other c.join.ensures.both
     c.look.new.seat.me c.part.new.seat.me c.part.result.me c.look.ensures.saw c.part.ensures.first c.part.ensures.others in
-    let ours_there : Extends c.one.inside.number (seen_of c.one.inside.place.me) (seen_of c.part.result.me) =
-    left_from c.self.inside.limits c.one.inside.number c.other.inside.number c.one.inside.place.me c.replace-others.result.me c.join.new.seat.me at at_other c.join.ensures.both
-    c.look.new.seat.me c.part.new.seat.me c.part.result.me c.look.ensures.saw c.part.ensures.first c.part.ensures.others in
-    let theirs_here : Extends c.other.inside.number (seen_of c.replace-others.result.me) (seen_of c.part.new.seat.me) =
-    right_from c.self.inside.limits c.one.inside.number c.other.inside.number c.one.inside.place.me c.replace-others.result.me c.join.new.seat.me at at_other c.join.ensures.both
-    c.look.new.seat.me c.part.new.seat.me c.part.result.me c.look.ensures.saw c.part.ensures.first c.part.ensures.others in
     let back : seen_of c.replace-others.result.me ≡ seen_of c.other.inside.place.me = ap seen_of (sym moved) in
     let table = c.part.ensures.same ∙ c.look.ensures.same ∙ c.join.ensures.same ∙ ap (λ (s : Seat). s.table) c.one.view_is in
     let table_other = c.part.ensures.table ∙ c.look.ensures.same ∙ c.join.ensures.same ∙ ap (λ (s : Seat). s.table) c.one.view_is ∙ c.requires.own.table ∙ sym c.requires.own_other.table in
@@ -73,6 +66,6 @@ returns-clause-met g c =
       same_other = record { table = table_other; limits = ap (λ (s : Seat). s.limits) c.other.view_is; actor = ap (λ (s : Seat). s.actor) c.other.view_is };
       extends = subst (λ (s : Seat). Extends s.actor s.seen (seen_of c.part.new.seat.me)) c.one.view_is ours;
       extends_other = subst (λ (s : Seat). Extends s.actor s.seen (seen_of c.part.result.me)) c.other.view_is (subst (λ (z : List Entry). Extends c.other.inside.number z (seen_of c.part.result.me)) back theirs);
-      from_other = subst (λ (s : Seat). StartsWith (seen_of c.part.new.seat.me) s.seen) c.other.view_is (subst (λ (z : List Entry). StartsWith (seen_of c.part.new.seat.me) z) back (theirs_here.0, theirs_here.1));
-      from_one = subst (λ (s : Seat). StartsWith (seen_of c.part.result.me) s.seen) c.one.view_is (ours_there.0, ours_there.1);
+      one = saw_one c.self.inside.limits c.one.inside.number c.other.inside.number c.one.inside.place.me c.replace-others.result.me c.join.new.seat.me at at_other c.join.ensures.both
+          c.look.new.seat.me c.part.new.seat.me c.part.result.me c.look.ensures.saw c.part.ensures.first c.part.ensures.others;
     }

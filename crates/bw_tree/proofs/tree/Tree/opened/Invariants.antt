@@ -1,4 +1,4 @@
-use Rattle.std.proofs.Common.{◌≡◌, ◌<◌, ◌+◌, ℕ, List, [], length, Some}
+use Rattle.std.proofs.Common.{◌≡◌, ◌<◌, ◌+◌, ℕ, [], length, Some}
 use Rattle.std.specs.Prelude.{slice_get}
 use Rattle.slot_rule.specs.Views.{dealt_from}
 use Rattle.bw_tree.specs.Trees.{fresh_seat}
