@@ -7,8 +7,8 @@ ghost use Rattle.bw_shell.specs.Weave.{RequestRuns, DrawRuns, LineRuns};
 
 use crate::refusal::Refusal;
 use crate::streams::Output;
-use crate::texts::{show_listing, show_number, show_refused, show_reply};
-use crate::turns::{Progress, begin, pairs_of, schedule_over, step, steps};
+use crate::texts::{show_finished, show_listing, show_refused, show_turned};
+use crate::turns::{begin, pairs_of, schedule_over, step, steps};
 use bw_model::{Command, Link};
 use shell_lines::{Language, LineError, Request, parse};
 use std::alloc::Global;
@@ -39,11 +39,8 @@ fn run_turn<O: Output>(core: &mut Core, number: u64, actor: u64, count: u64, out
     ensures { RequestRuns number (seen core.old) (Request.Turn actor count) (seen core.new) (O.state out.old) (O.state out.new) result }
 {
     match steps(core, actor, None, count) {
-        Ok(Progress::GoesOn) => false,
-        Ok(Progress::Linked) => false,
-        Ok(Progress::Done(reply)) => {
-            show_number(out, actor);
-            show_reply(out, &reply);
+        Ok(progress) => {
+            show_turned(out, actor, &progress);
             false
         }
         Err(refusal) => {
@@ -53,7 +50,7 @@ fn run_turn<O: Output>(core: &mut Core, number: u64, actor: u64, count: u64, out
     }
 }
 
-// TakesTurn turns until an exchange won with the link, if one is given, or the operation is done.
+// Takes turns until an exchange won with the link, if one is given, or the operation is done.
 fn run_until<O: Output>(
     core: &mut Core,
     number: u64,
@@ -64,15 +61,8 @@ fn run_until<O: Output>(
     ensures { RequestRuns number (seen core.old) (until_done actor link) (seen core.new) (O.state out.old) (O.state out.new) result }
 {
     match steps(core, actor, link, MANY) {
-        Ok(Progress::GoesOn) => {
-            show_number(out, actor);
-            out.show(b" unfinished\n");
-            false
-        }
-        Ok(Progress::Linked) => false,
-        Ok(Progress::Done(reply)) => {
-            show_number(out, actor);
-            show_reply(out, &reply);
+        Ok(progress) => {
+            show_finished(out, actor, &progress);
             false
         }
         Err(refusal) => {
@@ -91,11 +81,8 @@ fn run_drawn<O: Output>(core: &mut Core, number: u64, actor: u8, out: &mut O) ->
     }
     let actor = u64::from(actor);
     match step(core, actor, None) {
-        Ok(Progress::GoesOn) => false,
-        Ok(Progress::Linked) => false,
-        Ok(Progress::Done(reply)) => {
-            show_number(out, actor);
-            show_reply(out, &reply);
+        Ok(progress) => {
+            show_turned(out, actor, &progress);
             false
         }
         Err(refusal) => {

@@ -5,10 +5,11 @@ ghost use Rattle.std.specs.List.{flat_map};
 ghost use Rattle.hex.specs.Hex.{encode_lower};
 ghost use Rattle.shell_lines.specs.Token.{printed};
 ghost use Rattle.bw_shell.specs.Output.{Prints};
-ghost use Rattle.bw_shell.specs.Text.{item_text, next_text, reply_text, pair_text, listing_text, refused_text, lone_refusal_text};
+ghost use Rattle.bw_shell.specs.Text.{item_text, next_text, reply_text, turned_text, finished_text, pair_text, listing_text, refused_text, lone_refusal_text};
 
 use crate::refusal::Refusal;
 use crate::streams::Output;
+use crate::turns::Progress;
 use bw_model::{Key, Reply, Value};
 use itoa::Buffer;
 use shell_lines::is_word;
@@ -120,6 +121,39 @@ pub fn show_reply<O: Output>(out: &mut O, reply: &Reply)
         Reply::Page { items, next } => show_page(out, items.as_slice(), next.as_ref()),
         Reply::Tidied => out.show(b" tidied\n"),
         Reply::Full => out.show(b" full\n"),
+    }
+}
+
+// The reply of an actor whose operation is done.
+fn show_done<O: Output>(out: &mut O, actor: u64, reply: &Reply)
+    ensures { Prints (O.state out.old) (O.state out.new) (decimal actor ++ reply_text reply.now) }
+{
+    show_number(out, actor);
+    show_reply(out, reply);
+}
+
+/// What an actor's turns have come to: its reply, if it is done.
+pub fn show_turned<O: Output>(out: &mut O, actor: u64, progress: &Progress)
+    ensures { Prints (O.state out.old) (O.state out.new) (turned_text actor progress.now) }
+{
+    match progress {
+        Progress::GoesOn => {}
+        Progress::Linked => {}
+        Progress::Done(reply) => show_done(out, actor, reply),
+    }
+}
+
+/// What turns up to an actor's end have come to: its reply, or that it goes on.
+pub fn show_finished<O: Output>(out: &mut O, actor: u64, progress: &Progress)
+    ensures { Prints (O.state out.old) (O.state out.new) (finished_text actor progress.now) }
+{
+    match progress {
+        Progress::GoesOn => {
+            show_number(out, actor);
+            out.show(b" unfinished\n");
+        }
+        Progress::Linked => {}
+        Progress::Done(reply) => show_done(out, actor, reply),
     }
 }
 

@@ -1,0 +1,8 @@
+use Rattle.bw_shell.proofs.Showing.{no_text}
+use Rattle.bw_shell.proofs.texts.show_turned.Goals as goal
+
+pub returns-in-GoesOn : goal.returns-in-GoesOn
+returns-in-GoesOn g c = rw c.in-GoesOn.is (no_text _)
+
+pub returns-in-Linked : goal.returns-in-Linked
+returns-in-Linked g c = rw c.in-Linked.is (no_text _)
