@@ -71,7 +71,7 @@ taken_still k now (Split pid split) unlinked same h = absurd h
 taken_still k now (Root left root) unlinked same h = absurd h
 
 brings_still : (k now : Knowledge) (command : Command) (plan : Plan) (then : Then) → now.read ≡ k.read → Brings k command plan then → Brings now command plan then
-brings_still k now command plan (Reply answered) same b = record { pid = b.pid; head = b.head; content = b.content; is = b.is; updates = b.updates; chain = b.chain; read = rw same b.read; leaf = b.leaf; alive = b.alive; covers = b.covers; replies = b.replies }
+brings_still k now command plan (Reply answered) same b = record { pid = b.pid; head = b.head; content = b.content; is = b.is; updates = b.updates; chain = b.chain; read = rw same b.read; leaf = b.leaf; short = b.short; few = b.few; alive = b.alive; covers = b.covers; replies = b.replies }
 brings_still k now command plan Round same b = b
 brings_still k now command plan (Limbo unlinked) same b = taken_still k now plan unlinked same b
 brings_still k now command plan (Errand key) same b = b

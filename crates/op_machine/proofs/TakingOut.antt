@@ -37,7 +37,7 @@ takes_nothing (Install pid head content) k h = over content h
     over (kind.Hold hold) h = refl
     over (kind.Remove remove) h = refl
     over (kind.Merge merge) h = refl
-    over (kind.Unterm unterm) h = refl
+    over (kind.Unterm unterm) h = absurd h
 takes_nothing (Split pid split) k h = refl
 takes_nothing (Root left root) k h = refl
 takes_nothing (Unlink pid head unterm removal) k h = absurd h
@@ -52,7 +52,7 @@ update_takes_nothing (kind.Term term) pid head e = tt
 update_takes_nothing (kind.Hold hold) pid head e = tt
 update_takes_nothing (kind.Remove remove) pid head e = tt
 update_takes_nothing (kind.Merge merge) pid head e = tt
-update_takes_nothing (kind.Unterm unterm) pid head e = tt
+update_takes_nothing (kind.Unterm unterm) pid head e = cc
 
 module _ (limits : Limits) (k : Knowledge) (unlinked : Unlinked) where
   takes : (plan : Plan) → IsTakenBy k plan unlinked → TakesFresh limits k plan (Some Won) → GoesToLimbo limits k unlinked (limbo_after plan (Some Won) k)

@@ -31,7 +31,7 @@ module _ (task : Task) (spares : Spares) (k : Knowledge) (r : Recalled)
       writer = at.writer;
       may = record { inside = at.seeks.inside; links = removes task.actor k parent leaf removal.remove u.page.in_hand.seen u.page.alive u.page.in_hand.sound.is_chain u.up at.page.in_hand.seen removal.due };
       keeps = tt;
-      brings = (tt, tt, refl);
+      brings = (tt, tt, refl, h.0);
       useful = tt;
       split = tt;
       recalled = at.page.recalled;
@@ -41,7 +41,7 @@ module _ (task : Task) (spares : Spares) (k : Knowledge) (r : Recalled)
       writer = at.writer;
       may = record { inside = at.seeks.inside; links = holds task.actor k parent leaf holding.hold u.page.in_hand.seen u.page.alive u.page.in_hand.sound.is_chain holding.due };
       keeps = tt;
-      brings = (tt, tt, refl);
+      brings = (tt, tt, refl, h.0);
       useful = tt;
       split = tt;
       recalled = u.page.recalled;

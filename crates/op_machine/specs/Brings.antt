@@ -1,5 +1,5 @@
 -- What a change of an operation is for.
-use Rattle.std.specs.Prelude.{◌≡◌, ◌<◌, ℕ, List, Option, Some, None, false, IsTrue, length, ⊤}
+use Rattle.std.specs.Prelude.{◌≡◌, ◌<◌, ℕ, List, Option, Some, None, false, IsTrue, length, ⊤, ◌≤◌}
 use Rattle.bw_model.specs.declared.command.Command.{Command}
 use Rattle.bw_model.specs.declared.command.Command.TheVariants.{Get, Insert, Upsert, Delete, Page, Tidy}
 use Rattle.bw_model.specs.declared.command.Reply.{Reply as ReplyOf}
@@ -16,12 +16,14 @@ use Rattle.installs.specs.declared.plan.Plan.{Plan}
 use Rattle.installs.specs.declared.plan.Plan.TheVariants.{Install, Split, Root, Unlink}
 use Rattle.installs.specs.Changes.{linked_after, linked_by}
 use Rattle.smo.specs.declared.split.SplitPlan.{SplitPlan}
+use Rattle.smo.specs.Sizes.{HasFewItems}
 use Rattle.op_machine.specs.Errands.{with_errand}
 use Rattle.op_machine.specs.Hands.{IsTakenBy, TakesNothing}
+use Rattle.op_machine.specs.Upkeep.{IsTidying}
 use Rattle.op_machine.specs.declared.state.Then.{Then}
 use Rattle.op_machine.specs.declared.state.Then.TheVariants.{Round, Limbo, Errand, Reply}
 
--- The plan links the command's update over a leaf as it was read, and this is the reply over that leaf.
+-- The plan links the command's update over a leaf as it was read, where neither a consolidation nor a split is due, and this is the reply over that leaf.
 pub record IsUpdateOf (k : Knowledge) (command : Command) (plan : Plan) (answered : ReplyOf) : Type 0 where
   pub pid : ℕ
   pub head : ℕ
@@ -31,6 +33,8 @@ pub record IsUpdateOf (k : Knowledge) (command : Command) (plan : Plan) (answere
   pub chain : List Record
   pub read : IsChainFrom k.read.seen head chain
   pub leaf : level_in chain ≡ 0
+  pub short : length chain ≤ 8
+  pub few : HasFewItems chain
   pub alive : is_removed chain ≡ false
   pub covers : IsTrue (covers chain (command_key command))
   pub replies : reply_of command (found chain (command_key command)) ≡ Some answered
@@ -46,7 +50,7 @@ IsNoSplit (Unlink pid head unterm removal) = ⊤
 -- takes out, another change nothing.
 abbrev pub Brings : Knowledge → Command → Plan → Then → Type 0
 Brings k command plan (Reply answered) = IsUpdateOf k command plan answered
-Brings k command plan Round = IsNoSplit plan × TakesNothing plan × (linked_after plan Won None ≡ None)
+Brings k command plan Round = IsNoSplit plan × TakesNothing plan × (linked_after plan Won None ≡ None) × IsTidying command plan
 Brings k command plan (Limbo unlinked) = IsTakenBy k plan unlinked
 Brings k command plan (Errand key) = (pid : ℕ) × (split : SplitPlan) × (plan ≡ Split pid split) × (split.upper.low ≡ key)
 

@@ -3,7 +3,7 @@ use Rattle.std.specs.Prelude.{◌≡◌, ◌<◌, ◌≤◌, ℕ, List, [], leng
 use Rattle.bw_model.specs.declared.limits.Limits.{Limits}
 use Rattle.deltas.specs.Memory.{replaced_at}
 use Rattle.deltas.specs.declared.record.Record.{Record}
-use Rattle.deltas.specs.declared.record.Record.TheVariants.{Base}
+use Rattle.deltas.specs.declared.record.Record.TheVariants.{Base, Unterm}
 use Rattle.chain_search.specs.Chains.{IsChainFrom, chain_rows}
 use Rattle.chain_search.specs.Fitting.{AreOutOfLimbo}
 use Rattle.chain_search.specs.Knowledge.{Absent, Unstamped, Knowledge, Limbos, taken_out}
@@ -42,9 +42,10 @@ IsTakenBy k (Install pid head (Base page)) unlinked = AreRowsOf k head unlinked.
 IsTakenBy k (Unlink pid head unterm removal) unlinked = AreRowsOf k removal unlinked.rows.items × (unlinked.pid ≡ Some unterm.child)
 IsTakenBy k plan unlinked = ⊥
 
--- any other plan takes nothing out
+-- any other plan takes nothing out; a page's term is taken out by an Unlink alone, which clears the page
 abbrev pub TakesNothing : Plan → Type 0
 TakesNothing (Install pid head (Base page)) = ⊥
+TakesNothing (Install pid head (Unterm unterm)) = ⊥
 TakesNothing (Unlink pid head unterm removal) = ⊥
 TakesNothing plan = ⊤
 

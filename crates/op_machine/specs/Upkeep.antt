@@ -1,5 +1,5 @@
 -- What a deletion or a tidying does at a small leaf: it holds the leaf's term, and then removes the leaf.
-use Rattle.std.specs.Prelude.{◌≡◌, ◌≢◌, ◌≤◌, ◌⊎◌, Bool, Option, None, Some, true, false, length}
+use Rattle.std.specs.Prelude.{◌≡◌, ◌≢◌, ◌≤◌, ◌⊎◌, Bool, Option, None, Some, true, false, length, ⊤}
 use Rattle.bw_model.specs.declared.command.Command.{Command}
 use Rattle.bw_model.specs.declared.command.Command.TheVariants.{Delete, Get, Insert, Page, Tidy, Upsert}
 use Rattle.deltas.specs.declared.record.Hold.{Hold}
@@ -52,6 +52,12 @@ IsIdle parent leaf = IsSmall leaf → (¬ CanRemove parent leaf) × (¬ CanHold 
 abbrev pub IsIdleFor : Command → Option Version → Version → Type 0
 IsIdleFor command None leaf = Unit {0}
 IsIdleFor command (Some parent) leaf = tidies command ≡ true → IsIdle parent leaf
+
+-- A hold or a removal is for a command that tidies.
+abbrev pub IsTidying : Command → Plan → Type 0
+IsTidying command (Install pid head (kind.Hold hold)) = tidies command ≡ true
+IsTidying command (Install pid head (kind.Remove remove)) = tidies command ≡ true
+IsTidying command plan = ⊤
 
 abbrev pub IsUpkeepFor : Command → Option Version → Version → Plan → Type 0
 IsUpkeepFor command None leaf plan = ⊥

@@ -9,7 +9,7 @@ returns-clause-stands c k r h =
       writer = h.writer;
       may = record { inside = h.seeks.inside; links = c.plans_may_be_linked.ensures.merge c.args.self.now.actor k c.args.left c.args.removed c.args.merge ends.page.in_hand.seen ends.plan ends.gone.in_hand.seen };
       keeps = tt;
-      brings = (tt, tt, refl);
+      brings = (tt, tt, refl, tt);
       useful = tt;
       split = tt;
       recalled = ends.page.recalled;

@@ -15,7 +15,7 @@ returns-clause-stands c k r h =
       writer = h.writer;
       may = record { inside = h.seeks.inside; links = c.plans_may_be_linked.ensures.term c.args.self.now.actor k c.args.parent ends.child c.args.term ends.page.in_hand.seen ends.page.alive ends.plan ends.below.in_hand.seen ends.after };
       keeps = tt;
-      brings = (tt, tt, refl);
+      brings = (tt, tt, refl, tt);
       useful = tt;
       split = tt;
       recalled = ends.page.recalled;

@@ -15,7 +15,7 @@ returns-clause-stands c k r h =
       writer = h.writer;
       may = record { inside = h.seeks.inside; links = c.plans_may_be_linked.ensures.root c.args.self.now.actor k c.args.left ends.right c.args.root ends.page.in_hand.seen ends.page.in_hand.sound.is_chain ends.plan };
       keeps = tt;
-      brings = (tt, tt, refl);
+      brings = (tt, tt, refl, tt);
       useful = tt;
       split = tt;
       recalled = ends.rooted;
