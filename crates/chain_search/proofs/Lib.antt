@@ -13,3 +13,4 @@ pub mod WalkLaws
 pub mod CountLaws
 pub mod ChildWalks
 pub mod DeltaLaws
+pub mod UnheldLaws

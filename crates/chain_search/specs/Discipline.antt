@@ -22,6 +22,7 @@ use Rattle.deltas.specs.Records.{next_row}
 use Rattle.chain_search.specs.Chains.{IsChainFrom, content_in, level_in, low_in, high_in, right_in, is_removed, covers}
 use Rattle.chain_search.specs.Fitted.{FitsOver, IsFitted}
 use Rattle.chain_search.specs.HeldBack.{HoldsBack}
+use Rattle.chain_search.specs.Unheld.{IsUnheld}
 use Rattle.chain_search.specs.Knowledge.{OwnRow, Foreign, Taken, Written, Empty, Ready, Gone, LimboMark, Stamped, Knowledge}
 use Rattle.bw_model.specs.Words.{is_among}
 
@@ -50,7 +51,12 @@ pub record HasRead (k : Knowledge) (page row : ℕ) : Type 0 where
   pub read : IsChainFrom k.read.seen row chain
   pub alive : IsFalse (is_removed chain)
 
--- The page is the right of a removed page that stood right of the one whose chain this is: the removed one had been read before.
+-- The chain names the page as a child, at a key of its range.
+abbrev pub NamesChild : List Record → ℕ → Type 0
+NamesChild chain page = (level : ℕ) × (key : List ℕ) × (held : Bool) × (level_in chain ≡ suc level) × IsTrue (covers chain key) × (content_in chain key ≡ Some (Child page held))
+
+-- The page is the right, or a child, of a removed page that stood right of the one whose chain this is: the removed one had been
+-- read before.
 pub record IsBeyond (k : Knowledge) (left : ℕ) (beside : List Record) (page : ℕ) : Type 0 where
   pub removed : ℕ
   pub row : ℕ
@@ -59,16 +65,16 @@ pub record IsBeyond (k : Knowledge) (left : ℕ) (beside : List Record) (page : 
   pub order : k.read.before left removed ≡ Some row
   pub read : IsChainFrom k.read.seen row chain
   pub gone : IsTrue (is_removed chain)
-  pub next : right_in chain ≡ Some page
+  pub named : (right_in chain ≡ Some page) ⊎ NamesChild chain page
 
 -- The whole chain of another page, as its slot was last read, names the page: as its right, or as a child, or its right does,
--- which had been read removed before. What is under a head, and what else a removed page names, may be the name of a page that
--- was used again.
+-- which had been read removed before. What is under a head, and what a removed page names that did not stand so, may be the name
+-- of a page that was used again.
 pub record IsMet (k : Knowledge) (page : ℕ) : Type 0 where
   pub other : ℕ
   pub row : ℕ
   pub basis : HasRead k other row
-  pub named : (right_in basis.chain ≡ Some page) ⊎ ((level : ℕ) × (key : List ℕ) × (held : Bool) × (level_in basis.chain ≡ suc level) × IsTrue (covers basis.chain key) × (content_in basis.chain key ≡ Some (Child page held))) ⊎ IsBeyond k other basis.chain page
+  pub named : (right_in basis.chain ≡ Some page) ⊎ NamesChild basis.chain page ⊎ IsBeyond k other basis.chain page
 
 -- the items decide each key of the chain's range as the chain does
 abbrev pub AreAlike : List Item → List Record → Type 0
@@ -148,7 +154,7 @@ pub record MayHold (old : ℕ) (chain : List Record) (content : Record) : Type 0
   pub present : content_in chain key ≡ Some (Child child false)
   pub is : content ≡ Hold (record { level = level_in chain; next = old; separator = key; child = child })
 
--- A Remove: of a page whose term was read held.
+-- A Remove: of a page whose term was read held, and of which no term is held itself.
 pub record MayRemove (k : Knowledge) (page old : ℕ) (chain : List Record) (content : Record) : Type 0 where
   pub parent : ℕ
   pub row : ℕ
@@ -156,6 +162,7 @@ pub record MayRemove (k : Knowledge) (page old : ℕ) (chain : List Record) (con
   pub level : level_in above.chain ≡ suc (level_in chain)
   pub covers : IsTrue (covers above.chain (low_in chain))
   pub held : content_in above.chain (low_in chain) ≡ Some (Child page true)
+  pub unheld : IsUnheld chain
   pub is : content ≡ Remove (record { level = level_in chain; next = old })
 
 -- A Merge: a page's right, which was read removed, comes into it.

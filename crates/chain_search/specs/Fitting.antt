@@ -25,24 +25,21 @@ pub record SaysOf (naming : List Record) (page : ℕ) (chain : List Record) : Ty
   pub right : right_in naming ≡ Some page → (level_in chain ≡ level_in naming) × (high_in naming ≡ Some (low_in chain))
   pub child : (level : ℕ) (key : List ℕ) (held : Bool) → level_in naming ≡ suc level → IsTrue (covers naming key) → content_in naming key ≡ Some (Child page held) → (level_in chain ≡ level) × (low_in chain ≡ key)
 
--- What a chain says of its right is so of the page's chain.
-abbrev pub SaysRight : List Record → List Record → Type 0
-SaysRight naming chain = (level_in chain ≡ level_in naming) × (high_in naming ≡ Some (low_in chain))
-
 -- What was read whole of a page is a page's chain, which is as was said of the page, by slot 0 or by the chain of a page that
--- is not removed, as its slot was last read, or by its right that had been read removed; unless it is removed itself, what it says of pages that were read, and of its own, is so,
--- and the pages that it names are below the limit.
+-- is not removed, as its slot was last read, or by its right that had been read removed; unless it is removed itself, what it says
+-- of pages that were read, and of its own, is so, and the pages that it names are below the limit; and so it is with what its right
+-- says that had been read removed.
 pub record IsReadWhole (limits : Limits) (k : Knowledge) (page : ℕ) (chain : List Record) : Type 0 where
   pub is_chain : IsPageChain chain
   pub root : IsTrue (k.read.roots page) → low_in chain ≡ []
   pub named : (other row : ℕ) (basis : HasRead k other row) → SaysOf basis.chain page chain
-  pub beside : (other row : ℕ) (basis : HasRead k other row) (b : IsBeyond k other basis.chain page) → SaysRight b.chain chain
+  pub beside : (other row : ℕ) (basis : HasRead k other row) (b : IsBeyond k other basis.chain page) → SaysOf b.chain page chain
   pub own : IsFalse (is_removed chain) → SaysOf chain page chain
   pub names : IsFalse (is_removed chain) → (other row : ℕ) (read : List Record) → k.read.heads other ≡ Some row → IsChainFrom k.read.seen row read → SaysOf chain other read
   pub right : IsFalse (is_removed chain) → (other : ℕ) → right_in chain ≡ Some other → (0 < other) × (other < limits.pids)
   pub child : IsFalse (is_removed chain) → (level other : ℕ) (key : List ℕ) (held : Bool) → level_in chain ≡ suc level → IsTrue (covers chain key) → content_in chain key ≡ Some (Child other held) → (0 < other) × (other < limits.pids)
-  pub beyond : IsFalse (is_removed chain) → (next : ℕ) (b : IsBeyond k page chain next) → (0 < next) × (next < limits.pids) × (page ≡ next → SaysRight b.chain chain)
-      × ((other row : ℕ) (read : List Record) → k.read.heads other ≡ Some row → IsChainFrom k.read.seen row read → other ≡ next → SaysRight b.chain read)
+  pub beyond : IsFalse (is_removed chain) → (next : ℕ) (b : IsBeyond k page chain next) → (0 < next) × (next < limits.pids) × SaysOf b.chain page chain
+      × ((other row : ℕ) (read : List Record) → k.read.heads other ≡ Some row → IsChainFrom k.read.seen row read → SaysOf b.chain other read)
 
 -- the page's slot was last read as this row, from which a removed chain was read
 pub record ReadsRemoved (k : Knowledge) (page row : ℕ) : Type 0 where

@@ -61,9 +61,8 @@ next_slot limits k page n level low h =
       in_hand = in_hand_slot limits k page n h.left h.apart h.in_hand;
       alive = h.alive;
       apart = h.apart;
-      beyond = record { removed = b.removed; row = b.row; chain = b.chain; right = b.right; order = slot_before k page n h.left.pid b.removed b.row h.apart b.order; read = slot_chain k page n b.row b.chain b.read; gone = b.gone; next = b.next };
-      is_level = h.is_level;
-      high = h.high;
+      beyond = record { removed = b.removed; row = b.row; chain = b.chain; right = b.right; order = slot_before k page n h.left.pid b.removed b.row h.apart b.order; read = slot_chain k page n b.row b.chain b.read; gone = b.gone; named = b.named };
+      names = h.names;
     }
 
 pub past_slot : (k : Knowledge) (page n level : ℕ) (low : List ℕ) (others : List ℕ) → IsUnread page others → AllByRecursion (IsPast k level low) others → AllByRecursion (IsPast (learn_slot page n k) level low) others
@@ -101,9 +100,8 @@ module _ (k : Knowledge) (row : ℕ) (w : Record) (same : (before : Record) → 
         in_hand = in_hand_row limits h.left h.in_hand;
         alive = h.alive;
         apart = h.apart;
-        beyond = record { removed = b.removed; row = b.row; chain = b.chain; right = b.right; order = b.order; read = chain_more k.read.seen row w same b.chain b.row b.read; gone = b.gone; next = b.next };
-        is_level = h.is_level;
-        high = h.high;
+        beyond = record { removed = b.removed; row = b.row; chain = b.chain; right = b.right; order = b.order; read = chain_more k.read.seen row w same b.chain b.row b.read; gone = b.gone; named = b.named };
+        names = h.names;
       }
 
   pub past_row : (level : ℕ) (low : List ℕ) (others : List ℕ) → AllByRecursion (IsPast k level low) others → AllByRecursion (IsPast now level low) others

@@ -63,7 +63,7 @@ module _ (limits : Limits) (below : Bool) (key : List ℕ) (k now : Knowledge) (
   chain = version.chain
 
   posts : (parent : Version) → LiesAbove limits now version earlier parent → HasRoomAt parent low → CanPost parent version
-  posts parent over h = record { alive = alive; level = over.up; covered = rw arrives.is_low h.covered; absent = ap (content_in parent.chain) arrives.is_low ∙ h.absent; short = h.short; roomy = h.roomy }
+  posts parent over h = record { above = over.kept.alive; alive = alive; level = over.up; covered = rw arrives.is_low h.covered; absent = ap (content_in parent.chain) arrives.is_low ∙ h.absent; short = h.short; roomy = h.roomy }
 
   roots : (left : Version) → IsNextToFirst left version.pid low → CanRoot left version
   roots left h = record { lowest = h.lowest; next_to = record { right = h.right; high = h.high ∙ ap Some (sym arrives.is_low) }; alive = alive; top = rw h.leaf (omega arith) }

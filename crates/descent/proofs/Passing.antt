@@ -1,5 +1,5 @@
 -- A reader's way to a key, also by the left of a removed page.
-use Rattle.std.proofs.Common.{◌≡◌, ◌≢◌, ◌<◌, ◌++◌, ◌-◌, ◌⊎◌, inl, inr, ℕ, List, [], ◌∷◌, Bool, true, false, Some, refl, sym, ◌∙◌, subst}
+use Rattle.std.proofs.Common.{◌≡◌, ◌≢◌, ◌<◌, ◌++◌, ◌-◌, ◌⊎◌, inl, inr, ℕ, List, [], ◌∷◌, Bool, true, false, Some, refl, sym, ◌∙◌, subst, arith}
 use Rattle.std.specs.Prelude.{IsTrue, ⊤}
 use Rattle.std.specs.List.{AllByRecursion}
 use Rattle.std.proofs.lemmas.Option.{same_Some}
@@ -11,8 +11,8 @@ use Rattle.bw_model.specs.Bytes.{is_below}
 use Rattle.base_page.proofs.KeyLaws.{not_true}
 use Rattle.deltas.specs.declared.record.Record.{Record}
 use Rattle.chain_search.specs.Chains.{high_in, is_removed, level_in, low_in, right_in}
-use Rattle.chain_search.specs.Discipline.{IsBeyond}
-use Rattle.chain_search.specs.Fitting.{Fits, FitsRow, SaysRight}
+use Rattle.chain_search.specs.Discipline.{IsBeyond, NamesChild}
+use Rattle.chain_search.specs.Fitting.{Fits, FitsRow}
 use Rattle.chain_search.specs.Knowledge.{Knowledge, learn}
 use Rattle.chain_search.specs.Recalled.{IsUnread, Recalled, recall}
 use Rattle.smo.specs.Readings.{IsAfter}
@@ -229,39 +229,37 @@ module _ (limits : Limits) (key : List ℕ) (removed : Version) (k now : Knowled
     says : (level_in removed.chain ≡ level_in here) × (high_in here ≡ Some (low_in removed.chain))
     says = (h.arrives.arrives.whole.names alive removed.pid removed.head removed.chain by.was.seen.head by.was.seen.read).right beside
 
-    -- the round goes on at the right of the removed page
-    module _ (pid : ℕ) (next : right_in removed.chain ≡ Some pid) where
+    -- the round goes on at a page that the removed page names: its right, or a child
+    module _ (pid : ℕ) (named : (right_in removed.chain ≡ Some pid) ⊎ NamesChild removed.chain pid) where
       abbrev known_before : IsBeyond k version.pid here pid
-      known_before = record { removed = removed.pid; row = removed.head; chain = removed.chain; right = beside; order = by.before; read = by.was.seen.read; gone = by.gone.page.gone; next = next }
+      known_before = record { removed = removed.pid; row = removed.head; chain = removed.chain; right = beside; order = by.before; read = by.was.seen.read; gone = by.gone.page.gone; named = named }
 
       abbrev known_now : IsBeyond now version.pid here pid
-      known_now = record { removed = removed.pid; row = removed.head; chain = removed.chain; right = beside; order = by.after; read = by.gone.page.in_hand.seen.read; gone = by.gone.page.gone; next = next }
+      known_now = record { removed = removed.pid; row = removed.head; chain = removed.chain; right = beside; order = by.after; read = by.gone.page.in_hand.seen.read; gone = by.gone.page.gone; named = named }
 
       pub within : (0 < pid) × (pid < limits.pids)
       within = let reach = h.arrives.arrives.whole.beyond alive pid known_before in let both : (0 < pid) × (pid < h.arrives.visit.limits.pids) = (reach.0, reach.1) in rw h.arrives.same at both
 
-      module _ (low : List ℕ) (high : high_in removed.chain ≡ Some low) where
-        up : IsTrue (is_below (low_in removed.chain) low)
-        up = spans removed.chain low by.gone.page.in_hand.sound.is_chain.fitted high
-
-        descends_right : IsPastAt (level_in removed.chain) low (level_in here) (low_in here)
-        descends_right = inr (sym says.0, trans (low_in here) (low_in removed.chain) low left up)
-
-        low_there : (other : List Record) → SaysRight removed.chain other → low_in other ≡ low
-        low_there other so = sym (same_Some _ _ (sym high ∙ so.1))
+      module _ (level : ℕ) (low : List ℕ) (names : NamesAt removed.chain pid level low) where
+        descends_on : IsPastAt level low (level_in here) (low_in here)
+        descends_on = elim names [
+          | inl right ↦ inr (sym says.0 ∙ right.1, trans (low_in here) (low_in removed.chain) low left (spans removed.chain low by.gone.page.in_hand.sound.is_chain.fitted right.2))
+          | inr child ↦ inl (let e = says.0 in let d = child.1 in omega (arith, e, d))
+        ]
 
         apart_here : pid ≢ version.pid
         apart_here e =
-            let same = low_there here ((h.arrives.arrives.whole.beyond alive pid known_before).2 (sym e)) in
-            not_itself (low_in removed.chain) (trans (low_in removed.chain) low (low_in removed.chain) up (rw same at left))
+            let so = told_of removed.chain version.pid here level low (h.arrives.arrives.whole.beyond alive pid known_before).2 (subst (λ (p : ℕ). NamesAt removed.chain p level low) e names) in
+            never_there level (level_in here) low (low_in here) descends_on so.0 so.1
 
         new_others : (others : List ℕ) → level_in here ≡ h.level → AllByRecursion (IsPast k h.level h.low) others → IsUnread pid others
         new_others [] is past = tt
         new_others (other ∷ others) is past = (
           (λ e.
-              let so = (h.arrives.arrives.whole.beyond alive pid known_before).3 other past.0.head past.0.chain past.0.in_slot past.0.read (sym e) in
+              let says = (h.arrives.arrives.whole.beyond alive pid known_before).3 other past.0.head past.0.chain past.0.in_slot past.0.read in
+              let so = told_of removed.chain other past.0.chain level low says (subst (λ (p : ℕ). NamesAt removed.chain p level low) e names) in
               let before : IsPastAt (level_in here) (low_in here) (level_in past.0.chain) (low_in past.0.chain) = rw (is, h.arrives.is_low) past.0.past in
-              never_there (level_in removed.chain) (level_in past.0.chain) low (low_in past.0.chain) (past_on (level_in here) (level_in removed.chain) (level_in past.0.chain) (low_in here) low (low_in past.0.chain) descends_right before) so.0 (low_there past.0.chain so)),
+              never_there level (level_in past.0.chain) low (low_in past.0.chain) (past_on (level_in here) level (level_in past.0.chain) (low_in here) low (low_in past.0.chain) descends_on before) so.0 so.1),
           new_others others is past.1,
         )
 
@@ -272,7 +270,7 @@ module _ (limits : Limits) (key : List ℕ) (removed : Version) (k now : Knowled
         past_removed passing =
             let in_hand = hand limits k now r version h.level h.low h.earlier h.arrives in
             record {
-              level = level_in removed.chain;
+              level = level;
               low = low;
               earlier = version.pid ∷ h.earlier;
               seeks = record {
@@ -288,9 +286,9 @@ module _ (limits : Limits) (key : List ℕ) (removed : Version) (k now : Knowled
                   bare = refl;
                   visited = h.arrives.visited;
                   recalled = h.arrives.recalled;
-                  expected = inr (inr (record { left = version; in_hand = in_hand; alive = alive; apart = λ e. apart_here (sym e); beyond = known_now; is_level = refl; high = high }));
+                  expected = inr (inr (record { left = version; in_hand = in_hand; alive = alive; apart = λ e. apart_here (sym e); beyond = known_now; names = names }));
                   distinct = (within.0, within.1, new_right, h.arrives.distinct);
-                  past = all_past limits k now r version h.level h.low h.earlier h.arrives (level_in removed.chain) low descends_right;
+                  past = all_past limits k now r version h.level h.low h.earlier h.arrives level low descends_on;
                   rooted = h.arrives.rooted;
                   removed = h.arrives.removed ∙ alive;
                   kept = λ other none. absurd none;

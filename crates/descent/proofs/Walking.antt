@@ -164,8 +164,9 @@ module _ (limits : Limits) (k : Knowledge) (r : Recalled) (visit : Visit) (level
         | inr (inr next) ↦
             let basis : HasRead k next.left.pid next.left.head = record { head = next.in_hand.seen.head; chain = next.left.chain; read = next.in_hand.seen.read; alive = next.alive } in
             let b = next.beyond in
-            let so = whole.beside next.left.pid next.left.head basis (record { removed = b.removed; row = b.row; chain = b.chain; right = b.right; order = b.order; read = b.read; gone = b.gone; next = b.next ∙ ap Some (sym pid) }) in
-            (same_Some _ _ (sym so.1 ∙ next.high), inr (so.0 ∙ next.is_level))
+            let says = whole.beside next.left.pid next.left.head basis (record { removed = b.removed; row = b.row; chain = b.chain; right = b.right; order = b.order; read = b.read; gone = b.gone; named = rw pid b.named }) in
+            let so = told_of b.chain version.pid version.chain level low says (rw pid next.names) in
+            (so.1, inr so.0)
       ]
 
       pub on_base : next_row content ≡ None → IsOnWay limits k r (at visit (Row version.head row)) level low earlier → HasArrived limits k now walked version level low earlier

@@ -35,15 +35,15 @@ pub record IsNamedAt (limits : Limits) (k : Knowledge) (page level : ℕ) (low :
   pub apart : naming.pid ≢ page
   pub names : NamesAt naming.chain page level low
 
--- A page in hand, which isn't removed, had a removed page to its right, which was read before it, and has the page to its own right.
+-- A page in hand, which isn't removed, had a removed page to its right, which was read before it, and names the page on the level
+-- and at the low key.
 pub record IsNextAt (limits : Limits) (k : Knowledge) (page level : ℕ) (low : List ℕ) : Type 0 where
   pub left : Version
   pub in_hand : IsInHand limits k left
   pub alive : is_removed left.chain ≡ false
   pub apart : left.pid ≢ page
   pub beyond : IsBeyond k left.pid left.chain page
-  pub is_level : level_in beyond.chain ≡ level
-  pub high : high_in beyond.chain ≡ Some low
+  pub names : NamesAt beyond.chain page level low
 
 -- What is known of a page that is to be read: it is the root, and the first page; or a page in hand names it, or the removed page
 -- that stood to the right of one does.

@@ -2,11 +2,16 @@
 use Rattle.std.proofs.Common.{◌≡◌, ◌<◌, ◌≤◌, ℕ, suc, List, [], ◌∷◌, ◌++◌, length, inl, inr, arith}
 use Rattle.bw_model.specs.declared.limits.Limits.{Limits}
 use Rattle.bw_model.specs.declared.step.Link.TheVariants as link
+use Rattle.deltas.specs.declared.record.Record.{Record}
+use Rattle.deltas.specs.declared.record.Record.TheVariants as delta
+use Rattle.deltas.specs.declared.record.Remove.{Remove}
 use Rattle.chain_search.specs.declared.trace.Entry.{Entry}
+use Rattle.chain_search.specs.Chains.{IsChainOf}
 use Rattle.chain_search.specs.Trace.{memory_of, Happens}
+use Rattle.chain_search.specs.Unheld.{IsUnheld}
 use Rattle.deltas.specs.Memory.{Memory}
 use Rattle.chain_search.proofs.TraceLaws.{Happens-below, Happens-kept, Happens-push_cases, Happens-last}
-use Rattle.op_machine.specs.Links.{Wins}
+use Rattle.op_machine.specs.Links.{Installs, Wins}
 use Rattle.op_machine.specs.Phases.{Phase, MovesPhase, Rests, IsInPhase, KeepsPhases, cleared}
 
 module _ (limits : Limits) (entries : List Entry) (last : Entry) where
@@ -36,8 +41,9 @@ module _ (limits : Limits) (entries : List Entry) (last : Entry) where
   pub KeepsPhases-push : KeepsPhases limits entries
       → ((pid : ℕ) (from to : Phase) → MovesPhase (memory_of limits entries) last pid from to → IsInPhase limits entries (length entries) pid from)
       → ((actor pid old : ℕ) → Wins (memory_of limits entries) last actor pid old 0 link.Clear → IsInPhase limits entries (length entries) pid cleared)
+      → ((pid : ℕ) (remove : Remove) (chain : List Record) → Installs (memory_of limits entries) last pid (delta.Remove remove) → IsChainOf (memory_of limits entries) pid chain → IsUnheld chain)
       → KeepsPhases limits (entries ++ last ∷ [])
-  KeepsPhases-push keeps order empties = record {
+  KeepsPhases-push keeps order empties removes = record {
     in_order = λ n pid from to moves. elim (Happens-push_cases moves) [
       | inl before ↦ IsInPhase-kept n pid from (within before) (keeps.in_order n pid from to before)
       | inr at ↦ rw (at.0) (IsInPhase-kept (length entries) pid from (omega arith) (order pid from to at.1))
@@ -45,6 +51,10 @@ module _ (limits : Limits) (entries : List Entry) (last : Entry) where
     emptied = λ n actor pid old clears. elim (Happens-push_cases clears) [
       | inl before ↦ IsInPhase-kept n pid cleared (within before) (keeps.emptied n actor pid old before)
       | inr at ↦ rw (at.0) (IsInPhase-kept (length entries) pid cleared (omega arith) (empties actor pid old at.1))
+    ];
+    unheld = λ n pid remove chain removed. elim (Happens-push_cases removed) [
+      | inl before ↦ keeps.unheld n pid remove chain before
+      | inr at ↦ removes pid remove chain at.1.0 at.1.1
     ];
   }
     where

@@ -20,6 +20,7 @@ use Rattle.chain_search.specs.Chains.{IsChainOf, content_in, low_in, right_in}
 use Rattle.bw_model.specs.Words.{is_among}
 use Rattle.deltas.specs.Memory.{Memory}
 use Rattle.chain_search.specs.Trace.{IsStep, Happens}
+use Rattle.chain_search.specs.Unheld.{IsUnheld}
 use Rattle.op_machine.specs.Links.{Wins, Installs}
 
 pub data Phase : Type 0 where
@@ -65,7 +66,9 @@ module _ (limits : Limits) (entries : List Entry) where
   abbrev pub IsInPhase : ℕ → ℕ → Phase → Type 0
   IsInPhase n pid phase = ((m : ℕ) × (from : Phase) × (m < n) × MovesAt m pid from phase × Rests (suc m) n pid) ⊎ (Rests 0 n pid × (phase ≡ first_phase pid))
 
-  -- Each move starts in the phase in which the PID is, and the slot of a removed page is emptied only when it is cleared.
+  -- Each move starts in the phase in which the PID is, and the slot of a removed page is emptied only when it is cleared. A page is
+  -- removed only while no term of it is held.
   pub record KeepsPhases : Type 0 where
     pub in_order : (n pid : ℕ) (from to : Phase) → MovesAt n pid from to → IsInPhase n pid from
     pub emptied : (n actor pid old : ℕ) → Happens limits entries n (λ memory entry. Wins memory entry actor pid old 0 link.Clear) → IsInPhase n pid cleared
+    pub unheld : (n pid : ℕ) (remove : Remove) (chain : List Record) → Happens limits entries n (λ memory entry. Installs memory entry pid (delta.Remove remove) × IsChainOf memory pid chain) → IsUnheld chain

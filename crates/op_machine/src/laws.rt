@@ -9,12 +9,15 @@ ghost use Rattle.bw_model.specs.declared.step.Link.TheVariants.{Clear};
 ghost use Rattle.bw_model.specs.Log.{Update, logged_value};
 ghost use Rattle.base_page.specs.declared.item.Content.TheVariants.{Value};
 ghost use Rattle.deltas.specs.declared.record.Record.{Record};
+ghost use Rattle.deltas.specs.declared.record.Record.TheVariants.{Remove};
+ghost use Rattle.deltas.specs.declared.record.Remove.{Remove as Removal};
 ghost use Rattle.deltas.specs.Memory.{Memory};
 ghost use Rattle.chain_search.specs.declared.trace.Entry.{Entry};
 ghost use Rattle.chain_search.specs.Chains.{IsChainOf, content_in, low_in, high_in, right_in};
 ghost use Rattle.chain_search.specs.Trace.{memory_of, IsStep};
+ghost use Rattle.chain_search.specs.Unheld.{IsUnheld};
 ghost use Rattle.op_machine.specs.Points.{updates_at, log_of, log_at};
-ghost use Rattle.op_machine.specs.Links.{Wins};
+ghost use Rattle.op_machine.specs.Links.{Installs, Wins};
 ghost use Rattle.op_machine.specs.Quiet.{HasMapOf};
 ghost use Rattle.op_machine.specs.Faithful.{Disturbs, KnowsRow};
 ghost use Rattle.op_machine.specs.Phases.{Phase, MovesPhase, IsInPhase, KeepsPhases, cleared};
@@ -55,11 +58,12 @@ pub fn knowledge_stays()
         → KnowsRow (entries ++ last ∷ []) (suc (length entries)) actor row }
 {}
 
-/// The phases are kept by an entry that moves each PID from the phase in which it is.
+/// The phases are kept by an entry that moves each PID from the phase in which it is, and removes no page with a held term.
 pub fn phases_grow()
     ensures { (limits : Limits) (entries : List Entry) (last : Entry)
         → KeepsPhases limits entries
         → ((pid : ℕ) (from to : Phase) → MovesPhase (memory_of limits entries) last pid from to → IsInPhase limits entries (length entries) pid from)
         → ((actor pid old : ℕ) → Wins (memory_of limits entries) last actor pid old 0 Clear → IsInPhase limits entries (length entries) pid cleared)
+        → ((pid : ℕ) (remove : Removal) (chain : List Record) → Installs (memory_of limits entries) last pid (Remove remove) → IsChainOf (memory_of limits entries) pid chain → IsUnheld chain)
         → KeepsPhases limits (entries ++ last ∷ []) }
 {}

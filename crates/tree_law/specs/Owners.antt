@@ -126,8 +126,8 @@ pub record InOrder (o : Owners) (m : Shared) (logs : List (List Update)) (p y f 
       → IsBelow (low_in d) s → IsWithinEnd s (high_in d) → (high_in d ≡ Some s → right_in d ≡ Some q → ⊥) → Reached 4 (level_in d) s (o.page q)
   -- a removed leaf that then was right of the page spelled the log
   pub spelled : (c d : List Record) → IsChain m.rows c (Some x) → IsChain m.rows d (Some y) → is_removed c ≡ true → is_removed d ≡ false → level_in c ≡ 0 → right_in d ≡ Some f → (l : List Update) × Among l logs × ((k : Key) → Covers c k → content_in c k ≡ leaf_map l k)
-  -- the right of a removed page that then was right of the page is in the tree, where that one ends
-  pub beyond : (c d : List Record) (q : ℕ) → IsChain m.rows c (Some x) → IsChain m.rows d (Some y) → is_removed c ≡ true → is_removed d ≡ false → right_in d ≡ Some f → right_in c ≡ Some q → (s : Key) × (high_in c ≡ Some s) × Reached 0 (level_in c) s (o.page q)
+  -- what a removed page names that then was right of the page is in the tree, where it says
+  pub beyond : (c d : List Record) → IsChain m.rows c (Some x) → IsChain m.rows d (Some y) → is_removed c ≡ true → is_removed d ≡ false → right_in d ≡ Some f → ChainNames o c
 
 abbrev pub OrderFits : Owners → Shared → List (List Update) → ℕ → ℕ → Option ℕ → Option ℕ → Type 0
 OrderFits o m logs p f None x = ⊤

@@ -54,7 +54,7 @@ pub record HeldBeside (rows : ℕ → Option Record) (page_out : ℕ → Option 
   pub is_chain : IsChainFrom rows x chain
   pub left : List Record
   pub is_left : IsChainFrom rows y left
-  pub since : is_removed chain ≡ true → is_removed left ≡ false → right_in left ≡ Some f → (q : ℕ) → right_in chain ≡ Some q → IsSince entered (page_out q)
+  pub since : is_removed chain ≡ true → is_removed left ≡ false → right_in left ≡ Some f → NamesSince page_out entered chain
 
 -- what an actor knows, it knows from this stay, and it was in the tree when the stay began
 pub record Holds (rows : ℕ → Option Record) (row_out page_out : ℕ → Option Outing) (entered : ℕ) (inside : Bool) (seen : ℕ → Option Record) (learnt roots : ℕ → Bool) (heads : ℕ → Option ℕ) (before : ℕ → ℕ → Option ℕ) (linked : Option (Option ℕ)) : Type 0 where

@@ -158,6 +158,7 @@ unfolding only_looks
 keeps_phases = record {
   in_order = λ n pid from to moves. absurd (none_moves moves.entry (looks n moves.entry moves.at) moves.holds);
   emptied = λ n actor pid old wins. absurd (odd (looks n wins.entry wins.at _ _ _ wins.holds.0));
+  unheld = λ n pid remove chain removes. absurd (odd (looks n removes.entry removes.at _ _ _ removes.holds.0.3.0));
 }
   where
     odd : false ≡ true → ⊥

@@ -1,13 +1,14 @@
 -- What an actor may count on of a chain while it reads it, and once it has read it whole.
-use Rattle.std.proofs.Common.{◌≡◌, ◌<◌, ◌+◌, ℕ, false, List, [], ◌∷◌, ◌++◌, length, Option, Some, None, refl, sym, ap, ◌∙◌, subst, arith}
+use Rattle.std.proofs.Common.{◌≡◌, ◌⊎◌, inl, inr, ◌<◌, ◌+◌, ℕ, false, List, [], ◌∷◌, ◌++◌, length, Option, Some, None, refl, sym, ap, ◌∙◌, subst, arith}
 use Rattle.std.proofs.lemmas.List.{length-append}
 use Rattle.bw_model.specs.declared.limits.Limits.{Limits}
 use Rattle.bw_model.specs.Log.{Update}
 use Rattle.base_page.specs.declared.item.Content.TheVariants.{Child}
 use Rattle.deltas.specs.declared.record.Record.{Record}
 use Rattle.deltas.specs.Records.{next_row}
-use Rattle.chain_search.specs.Chains.{IsChainFrom, IsFront, level_in, low_in, high_in, is_removed}
-use Rattle.chain_search.specs.Fitting.{SaysOf, SaysRight, IsReadWhole}
+use Rattle.chain_search.specs.Chains.{IsChainFrom, IsFront, level_in, low_in, high_in, right_in, is_removed}
+use Rattle.chain_search.specs.Discipline.{NamesChild}
+use Rattle.chain_search.specs.Fitting.{SaysOf, IsReadWhole}
 use Rattle.chain_search.specs.Knowledge.{Knowledge}
 use Rattle.chain_search.proofs.ChainLaws.{IsChainFrom-unique}
 use Rattle.tree_law.specs.Fitness.{AreFitted}
@@ -18,7 +19,7 @@ use Rattle.tree_law.specs.Shared.{Shared}
 use Rattle.tree_law.specs.Tree.{IsTree}
 use Rattle.tree_law.proofs.shape.Chains.{front_of}
 use Rattle.tree_law.proofs.shape.Frames.{chain_stands}
-use Rattle.tree_law.proofs.links.Keeping.{read_names, beyond_reached}
+use Rattle.tree_law.proofs.links.Keeping.{read_names, beyond_names}
 use Rattle.tree_law.proofs.shape.KeyOrder.{covers_from}
 
 -- a page is in the tree at one level and one low key
@@ -59,10 +60,6 @@ module _ {m : Shared} {log : List Update} {o : Owners} {knows : ℕ → Knowledg
     child = λ level key held on inside is. reached_one (rank_of (Child page held)) 0 level (level_in c) key (low_in c) (o.page page) (n.items level key (Child page held) on (covers_from naming key inside) is) r;
   }
 
-  -- what is said of a right is so of the page there
-  says_right : (page : ℕ) (c : List Record) → Reached 0 (level_in c) (low_in c) (o.page page) → (naming : List Record) → (s : Key) × (high_in naming ≡ Some s) × Reached 0 (level_in naming) s (o.page page) → SaysRight naming c
-  says_right page c r naming i = let same = reached_one 0 0 (level_in naming) (level_in c) i.0 (low_in c) (o.page page) i.2 r in (same.0, i.1 ∙ ap Some (sym same.1))
-
   -- a page that was read is where its chain is
   pub read_reached : (page head : ℕ) (c : List Record) → (knows a).read.heads page ≡ Some head → IsChainFrom (knows a).read.seen head c → Reached 0 (level_in c) (low_in c) (o.page page)
   read_reached page head c e h =
@@ -76,20 +73,30 @@ module _ {m : Shared} {log : List Update} {o : Owners} {knows : ℕ → Knowledg
     is_chain = fitted head w.linked w.chain w.stands;
     root = λ e. let i = (g.sound a).roots_fit page e in (reached_one 0 0 i.0 (level_in w.chain) [] (low_in w.chain) (o.page page) i.1 w.reached).1;
     named = λ other row h. says_of h.chain (read_names g a other row h) page w.chain w.reached;
-    beside = λ other row h b. let n = chain_stands o m (knows a).read.seen (g.sound a).seen_fits h.chain (Some row) h.read in says_right page w.chain w.reached b.chain (beyond_reached g a other row h.head h.chain n h.alive page b);
+    beside = λ other row h b. let n = chain_stands o m (knows a).read.seen (g.sound a).seen_fits h.chain (Some row) h.read in says_of b.chain (beyond_names g a other row h.head h.chain n h.alive page b) page w.chain w.reached;
     own = λ alive. says_of w.chain (w.names alive) page w.chain w.reached;
     names = λ alive other row read e h. says_of w.chain (w.names alive) other read (read_reached other row read e h);
     beyond = λ alive next b.
-        let r = beyond_reached g a page head at w.chain w.stands alive next b in
-        let some = below 0 next (level_in b.chain) r.0 r.2 in (
+        let n = beyond_names g a page head at w.chain w.stands alive next b in
+        let some = named_below n next b.named in (
           some.0,
           some.1,
-          λ e. says_right next w.chain (subst (λ (p : ℕ). Reached 0 (level_in w.chain) (low_in w.chain) (o.page p)) e w.reached) b.chain r,
-          λ other row read e h same. says_right next read (subst (λ (p : ℕ). Reached 0 (level_in read) (low_in read) (o.page p)) same (read_reached other row read e h)) b.chain r,
+          says_of b.chain n page w.chain w.reached,
+          λ other row read e h. says_of b.chain n other read (read_reached other row read e h),
         );
-    right = λ alive other e. let i = (w.names alive).right other e in below 0 other (level_in w.chain) i.0 i.2;
-    child = λ alive level other key held on inside is. below (rank_of (Child other held)) other level key ((w.names alive).items level key (Child other held) on (covers_from w.chain key inside) is);
+    right = λ alive other e. right_below (w.names alive) other e;
+    child = λ alive level other key held on inside is. child_below (w.names alive) other (level, key, held, on, inside, is);
   }
+    where
+      right_below : {c : List Record} → ChainNames o c → (other : ℕ) → right_in c ≡ Some other → (0 < other) × (other < limits.pids)
+      right_below {c} n other e = let i = n.right other e in below 0 other (level_in c) i.0 i.2
+
+      child_below : {c : List Record} → ChainNames o c → (other : ℕ) → NamesChild c other → (0 < other) × (other < limits.pids)
+      child_below {c} n other u = below (rank_of (Child other u.2)) other u.0 u.1 (n.items u.0 u.1 (Child other u.2) u.3 (covers_from c u.1 u.4) u.5)
+
+      named_below : {c : List Record} → ChainNames o c → (other : ℕ) → (right_in c ≡ Some other) ⊎ NamesChild c other → (0 < other) × (other < limits.pids)
+      named_below n other (inl e) = right_below n other e
+      named_below n other (inr u) = child_below n other u
 
   module _ (q : ℕ) (w : Record) (stands : m.rows q ≡ Some w) (page head : ℕ) (front : List Record) (at : (knows a).read.heads page ≡ Some head) (part : IsFront (knows a).read.seen head front q) where
     whole : HeadChain page head

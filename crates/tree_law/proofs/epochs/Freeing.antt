@@ -28,7 +28,7 @@ use Rattle.tree_law.specs.Times.{Outing, Times, IsSince, NamesSince, HeldHead, H
 use Rattle.tree_law.proofs.shape.Chains.{chain_unique}
 use Rattle.tree_law.proofs.links.Keeping.{quiet, mine}
 use Rattle.tree_law.proofs.shape.Puts.{by_test}
-use Rattle.tree_law.proofs.epochs.Reusing.{Learnt, AreLoose, lets_rows, frees_pages}
+use Rattle.tree_law.proofs.epochs.Reusing.{Learnt, AreLoose, AreSame, lets_rows, frees_pages}
 use Rattle.tree_law.proofs.epochs.Timing.{holds_later, limbo_later}
 
 -- when the first of these actors that are inside has entered
@@ -364,12 +364,17 @@ module _ {limits : Limits} {m : Memory} {log : List Update} {o : Owners} {knows 
           nobody true i = refl
           nobody false i = i
 
-      beyond_held : (b p f y x q : ℕ) (c d : List Record) → (knows b).read.heads p ≡ Some y → (knows b).read.before p f ≡ Some x → IsChain m.rows c (Some x) → IsChain m.rows d (Some y) → is_removed c ≡ true → is_removed d ≡ false → right_in d ≡ Some f → right_in c ≡ Some q → page2 q ≡ o.page q
-      beyond_held b p f y x q c d i j ic id rc nd e n =
+      beyond_held : (b p f y x : ℕ) (c d : List Record) → (knows b).read.heads p ≡ Some y → (knows b).read.before p f ≡ Some x → IsChain m.rows c (Some x) → IsChain m.rows d (Some y) → is_removed c ≡ true → is_removed d ≡ false → right_in d ≡ Some f → AreSame page2 o.page c
+      beyond_held b p f y x c d i j ic id rc nd e =
           let h = (T.holds b).beside_since p f y x i j in
           let above : h.chain ≡ c = chain_unique m.rows h.chain c (Some x) h.is_chain ic in
           let below : h.left ≡ d = chain_unique m.rows h.left d (Some y) h.is_left id in
-          page_held b q (head_inside b f x ((T.holds b).before_since p f x j)) (h.since (ap is_removed above ∙ rc) (ap is_removed below ∙ nd) (ap right_in below ∙ e) q (ap right_in above ∙ n))
+          let n = subst (λ (e : List Record). NamesSince t.page_out (t.entered b) e) above (h.since (ap is_removed above ∙ rc) (ap is_removed below ∙ nd) (ap right_in below ∙ e)) in
+          let inside = head_inside b f x ((T.holds b).before_since p f x j) in
+          record {
+            right = λ q z. page_held b q inside (n.right q z);
+            items = λ l s h z u fd. page_held b (child_of h) inside (n.items l s h z u fd);
+          }
 
       pub pages_tree : IsTree (shared m2) log o2 (put knows a k2) (put point a (point a)) (put logs a (log ∷ logs a))
       pages_tree =

@@ -32,6 +32,11 @@ pub record AreLoose (o : Owners) (m : Shared) (knows : ℕ → Knowledge) (row :
   pub own : (b r : ℕ) → IsOwn ((knows b).own.rows r) → row r ≡ o.row r
   pub freed : (r : ℕ) → bits r ≡ true → row r ≡ Free
 
+-- The pages that the chain names are whose they were.
+pub record AreSame (page was : ℕ → PageOwner) (c : List Record) : Type 0 where
+  pub right : (q : ℕ) → right_in c ≡ Some q → page q ≡ was q
+  pub items : (l : ℕ) (s : Key) (i : Content) → level_in c ≡ suc l → Covers c s → content_in c s ≡ Some i → page (child_of i) ≡ was (child_of i)
+
 module _ {m : Shared} {log : List Update} {o : Owners} {knows : ℕ → Knowledge} {point : ℕ → Option (List Update)} {logs : ℕ → List (List Update)} (g : IsTree m log o knows point logs) where
   module _ (row : ℕ → Owner) (free : ℕ → Bool) (known : (b : ℕ) → Learnt (knows b)) (h : AreLoose o m knows row free) where
     abbrev pub o1 : Owners
@@ -101,7 +106,7 @@ module _ {m : Shared} {log : List Update} {o : Owners} {knows : ℕ → Knowledg
           placed = v.placed;
           uncleared = v.uncleared;
           merged = v.merged;
-          beyond = v.beyond;
+          beyond = λ c d ic id rc nd e. let n = v.beyond c d ic id rc nd e in record { right = n.right; items = n.items };
           spelled = v.spelled;
         }
 
@@ -143,7 +148,7 @@ module _ {m : Shared} {log : List Update} {o : Owners} {knows : ℕ → Knowledg
       (heads_right : (b p x q : ℕ) (c : List Record) → (knows b).read.heads p ≡ Some x → IsChain m.rows c (Some x) → is_removed c ≡ false → right_in c ≡ Some q → page q ≡ o.page q)
       (heads_items : (b p x l : ℕ) (s : Key) (i : Content) (c : List Record) → (knows b).read.heads p ≡ Some x → IsChain m.rows c (Some x) → is_removed c ≡ false → level_in c ≡ suc l → Covers c s → content_in c s ≡ Some i → page (child_of i) ≡ o.page (child_of i))
       (before_items : (b p f x l : ℕ) (s : Key) (i : Content) (c : List Record) → (knows b).read.before p f ≡ Some x → IsChain m.rows c (Some x) → is_removed c ≡ false → level_in c ≡ suc l → Covers c s → content_in c s ≡ Some i → page (child_of i) ≡ o.page (child_of i))
-      (beyond : (b p f y x q : ℕ) (c d : List Record) → (knows b).read.heads p ≡ Some y → (knows b).read.before p f ≡ Some x → IsChain m.rows c (Some x) → IsChain m.rows d (Some y) → is_removed c ≡ true → is_removed d ≡ false → right_in d ≡ Some f → right_in c ≡ Some q → page q ≡ o.page q)
+      (beyond : (b p f y x : ℕ) (c d : List Record) → (knows b).read.heads p ≡ Some y → (knows b).read.before p f ≡ Some x → IsChain m.rows c (Some x) → IsChain m.rows d (Some y) → is_removed c ≡ true → is_removed d ≡ false → right_in d ≡ Some f → AreSame page o.page c)
       (gone_own : (b p : ℕ) → (knows b).own.pages p ≡ Gone → page p ≡ o.page p)
       (frees : (q : ℕ) → free q ≡ true → (page q ≡ Nobody) × (m.slots q ≡ None)) where
     abbrev pub o2 : Owners
@@ -245,7 +250,13 @@ module _ {m : Shared} {log : List Update} {o : Owners} {knows : ℕ → Knowledg
           placed = subst (λ (w : PageOwner). Reached 0 (level_in v.chain) (low_in v.chain) w) (sym (before b p f x i)) v.placed;
           uncleared = λ c d ic id nc nd j u sx cl. v.uncleared c d ic id nc nd j u sx (cleared_was p cl);
           merged = λ c d k q ic id nc nd j u fd lo hi ne. subst (λ (w : PageOwner). Reached 4 (level_in d) k w) (sym (before_items b p f x (level_in d) k (Child q true) c i ic nc j u fd)) (v.merged c d k q ic id nc nd j u fd lo hi ne);
-          beyond = λ c d q ic id rc nd j n. let r = v.beyond c d q ic id rc nd j n in (r.0, r.1, subst (λ (w : PageOwner). Reached 0 (level_in c) r.0 w) (sym (beyond b p f y x q c d e i ic id rc nd j n)) r.2);
+          beyond = λ c d ic id rc nd j.
+              let n = v.beyond c d ic id rc nd j in
+              let same = beyond b p f y x c d e i ic id rc nd j in
+              record {
+                right = λ q z. let r = n.right q z in (r.0, r.1, subst (λ (w : PageOwner). Reached 0 (level_in c) r.0 w) (sym (same.right q z)) r.2);
+                items = λ l k h z u fd. subst (λ (w : PageOwner). Reached (rank_of h) l k w) (sym (same.items l k h z u fd)) (n.items l k h z u fd);
+              };
           spelled = v.spelled;
         }
 

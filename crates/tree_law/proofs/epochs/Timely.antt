@@ -184,9 +184,7 @@ module _ {limits : Limits} {m : Memory} {log : List Update} {o : Owners} {knows 
             is_chain = d.is_chain;
             left = spells.chain;
             is_left = spells.is_chain;
-            since = λ gone alive right n next.
-                let r = beyond_place g a p x sx spells.chain spells.is_chain there alive f z right j d.chain d.is_chain gone n next in
-                none_since (t.entered a) (t.page_out n) (placed_in n (level_in d.chain) r.0 r.1 r.3 (t.page_out n) refl);
+            since = λ gone alive right. place_since (t.entered a) (record { page = f; row = z; chain = d.chain }) (beyond_place g a p x sx spells.chain spells.is_chain there alive f z right j d.chain d.is_chain gone);
           }
 
       beside : (f z : ℕ) → (knows a).read.heads f ≡ Some z → HeldBeside m.rows t.page_out (t.entered a) f x z

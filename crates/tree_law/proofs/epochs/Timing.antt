@@ -53,7 +53,7 @@ holds_later rows rows' ro ro' po po' e inside seen learnt roots heads before lin
     is_chain = k x d.chain (h.before_since p q x j).learnt_row d.is_chain;
     left = d.left;
     is_left = k y d.left (h.heads_since p y i).learnt_row d.is_left;
-    since = λ gone alive right n next. g (h.learnt_inside x (h.before_since p q x j).learnt_row) n (d.since gone alive right n next);
+    since = λ gone alive right. names_later po po' e (g (h.learnt_inside x (h.before_since p q x j).learnt_row)) d.chain (d.since gone alive right);
   };
   linked_learnt = h.linked_learnt;
 }

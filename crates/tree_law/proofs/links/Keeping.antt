@@ -14,7 +14,7 @@ use Rattle.deltas.specs.declared.record.Record.{Record}
 use Rattle.chain_search.specs.Chains.{content_in, level_in, low_in, high_in, right_in, is_removed, covers}
 use Rattle.tree_law.specs.Keys.{Key}
 use Rattle.chain_search.specs.Knowledge.{Knowledge, begun, learn, finished, forgotten}
-use Rattle.chain_search.specs.Discipline.{HasRead, IsBeyond, IsMet}
+use Rattle.chain_search.specs.Discipline.{HasRead, IsBeyond, IsMet, NamesChild}
 use Rattle.tree_law.specs.Phase.{Stage, Fresh, Indexed, Held, Removed, Merged, PageOwner, Placed, Cleared, mark, rank, child_of, rank_of}
 use Rattle.tree_law.specs.Put.{put}
 use Rattle.tree_law.specs.Shared.{Shared}
@@ -167,10 +167,10 @@ module _ {m : Shared} {log : List Update} {o : Owners} {knows : ℕ → Knowledg
         subst (λ (w : PageOwner). Reached (rank_of i) l s w) (sym n.1) (refl, refl, marked_rank n.0 (child_of i) i n.2);
   }
 
-  -- the right of a removed page that stands right of a page
+  -- a removed page that was read and stands right of a page is on its side chain, with the chain that was read
   pub beyond_place : (p x : ℕ) → m.slots p ≡ Some x → (d : List Record) → IsChain m.rows d (Some x) → Reached 0 (level_in d) (low_in d) (o.page p) → is_removed d ≡ false → (f z : ℕ) → right_in d ≡ Some f → (knows a).read.heads f ≡ Some z → (c : List Record) → IsChain m.rows c (Some z) → is_removed c ≡ true
-      → (q : ℕ) → right_in c ≡ Some q → (s : Key) × (st : Stage) × (high_in c ≡ Some s) × (o.page q ≡ Placed st (level_in c) s)
-  beyond_place p x sx d id e nd f z i ez c ic rc q j =
+      → InPlace o m (level_in c) (spec log o.index (level_in c)) (record { page = f; row = z; chain = c })
+  beyond_place p x sx d id e nd f z i ez c ic rc =
       let h = subst (λ (v : Option ℕ). HeadFits o m (log ∷ logs a) f v) ez (mine.heads_fit f) in
       let w = alive_place p (level_in d) (low_in d) e x sx d id nd in
       let on = g.tree.levels (level_in d) (g.tree.exact.below p (level_in d) (low_in d) w.stage w.placed) in
@@ -178,14 +178,13 @@ module _ {m : Shared} {log : List Update} {o : Owners} {knows : ℕ → Knowledg
       let same : h.2.chain ≡ c = chain_unique m.rows h.2.chain c (Some z) h.2.is_chain ic in
       let slot : m.slots f ≡ Some z = ⊎_elim (λ (u : m.slots f ≡ Some z). u) (λ (u : IsOut (o.page f) (m.slots f)). absurd (let t = sym n.3.placed ∙ ap o.page n.1 ∙ u.1.3 in cc)) (h.4 (ap is_removed same ∙ rc)) in
       let r = (in_level_as o m (level_in d) (spec log o.index (level_in d)) (g.tree.first (level_in d)) on f (low_in n.0.chain) n.3.stage (ap o.page (sym n.1) ∙ n.3.placed) n.3.on z slot c ic).place in
-      let t = right_page o m (level_in d) (spec log o.index (level_in d)) (g.tree.first (level_in d)) on (record { page = f; row = z; chain = c }) r q j in
-      (low_in t.0.chain, t.3.stage, t.2, subst (λ (l : ℕ). o.page q ≡ Placed t.3.stage l (low_in t.0.chain)) (sym r.is_page.on_level) (ap o.page (sym t.1) ∙ t.3.placed))
+      subst (λ (n : ℕ). InPlace o m n (spec log o.index n) (record { page = f; row = z; chain = c })) (sym r.is_page.on_level) r
 
-  -- that page once both were read
-  pub beyond_reached : (p y : ℕ) → (knows a).read.heads p ≡ Some y → (d : List Record) → IsChain m.rows d (Some y) → is_removed d ≡ false → (q : ℕ) (b : IsBeyond (knows a) p d q) → (s : Key) × (high_in b.chain ≡ Some s) × Reached 0 (level_in b.chain) s (o.page q)
-  beyond_reached p y e d id nd q b =
+  -- what that page names, once both were read
+  pub beyond_names : (p y : ℕ) → (knows a).read.heads p ≡ Some y → (d : List Record) → IsChain m.rows d (Some y) → is_removed d ≡ false → (q : ℕ) (b : IsBeyond (knows a) p d q) → ChainNames o b.chain
+  beyond_names p y e d id nd q b =
       let i : InOrder o m (log ∷ logs a) p y b.removed b.row = subst (λ (v : Option ℕ). OrderFits o m (log ∷ logs a) p b.removed (Some y) v) b.order (subst (λ (v : Option ℕ). OrderFits o m (log ∷ logs a) p b.removed v ((knows a).read.before p b.removed)) e (mine.orders_fit p b.removed)) in
-      i.beyond b.chain d q (chain_stands o m (knows a).read.seen mine.seen_fits b.chain (Some b.row) b.read) id b.gone nd b.right b.next
+      i.beyond b.chain d (chain_stands o m (knows a).read.seen mine.seen_fits b.chain (Some b.row) b.read) id b.gone nd b.right
 
   -- a page that was met is in the tree
   pub lower : (r l : ℕ) (s : Key) (w : PageOwner) → Reached r l s w → Reached 0 l s w
@@ -195,13 +194,21 @@ module _ {m : Shared} {log : List Update} {o : Owners} {knows : ℕ → Knowledg
   met_placed p (inl e) = let i = mine.roots_fit p e in (i.0, [], i.1)
   met_placed p (inr h) = by_name h.named
     where
-      n : ChainNames o h.basis.chain
-      n = read_names h.other h.row h.basis
+      IsThere : Type 0
+      IsThere = (l : ℕ) × (s : Key) × Reached 0 l s (o.page p)
 
-      by_name : (right_in h.basis.chain ≡ Some p) ⊎ ((level : ℕ) × (key : Key) × (held : Bool) × (level_in h.basis.chain ≡ suc level) × IsTrue (covers h.basis.chain key) × (content_in h.basis.chain key ≡ Some (Child p held))) ⊎ IsBeyond (knows a) h.other h.basis.chain p → (l : ℕ) × (s : Key) × Reached 0 l s (o.page p)
-      by_name (inl u) = let r = n.right p u in (level_in h.basis.chain, r.0, r.2)
-      by_name (inr (inl u)) = (u.0, u.1, lower (rank_of (Child p u.2)) u.0 u.1 (o.page p) (n.items u.0 u.1 (Child p u.2) u.3 (covers_from h.basis.chain u.1 u.4) u.5))
-      by_name (inr (inr b)) = let r = beyond_reached h.other h.row h.basis.head h.basis.chain (chain_stands o m (knows a).read.seen mine.seen_fits h.basis.chain (Some h.row) h.basis.read) h.basis.alive p b in (level_in b.chain, r.0, r.2)
+      by_right : (c : List Record) → ChainNames o c → right_in c ≡ Some p → IsThere
+      by_right c n e = let r = n.right p e in (level_in c, r.0, r.2)
+
+      by_child : (c : List Record) → ChainNames o c → NamesChild c p → IsThere
+      by_child c n u = (u.0, u.1, lower (rank_of (Child p u.2)) u.0 u.1 (o.page p) (n.items u.0 u.1 (Child p u.2) u.3 (covers_from c u.1 u.4) u.5))
+
+      by_name : (right_in h.basis.chain ≡ Some p) ⊎ NamesChild h.basis.chain p ⊎ IsBeyond (knows a) h.other h.basis.chain p → IsThere
+      by_name (inl u) = by_right h.basis.chain (read_names h.other h.row h.basis) u
+      by_name (inr (inl u)) = by_child h.basis.chain (read_names h.other h.row h.basis) u
+      by_name (inr (inr b)) =
+          let n = beyond_names h.other h.row h.basis.head h.basis.chain (chain_stands o m (knows a).read.seen mine.seen_fits h.basis.chain (Some h.row) h.basis.read) h.basis.alive p b in
+          ⊎_elim (λ (u : right_in b.chain ≡ Some p). by_right b.chain n u) (λ (u : NamesChild b.chain p). by_child b.chain n u) b.named
 
   pub off_still : (o' : Owners) (m' : Shared) → Kept o o' m m' → (q l : ℕ) (k : Key) → m'.slots q ≡ m.slots q → IsOut (o.page q) (m.slots q) ⊎ Off o m q l k → IsOut (o'.page q) (m'.slots q) ⊎ Off o' m' q l k
   off_still o' m' kept q l k s (inl e) = inl (s ∙ e.0, cleared_forward (o.page q) (o'.page q) (kept.page q) e.1)

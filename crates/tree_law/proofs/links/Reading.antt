@@ -66,10 +66,9 @@ module _ {m : Shared} {log : List Update} {o : Owners} {knows : ℕ → Knowledg
             let slot : m.slots f ≡ Some z' = ⊎_elim (λ (u : m.slots f ≡ Some z'). u) (λ (u : IsOut (o.page f) (m.slots f)). absurd (let t = sym n.3.placed ∙ ap o.page n.1 ∙ u.1.3 in cc)) (h.4 (ap is_removed same ∙ rc)) in
             let r = (in_level_as o m (level_in d) (spec log o.index (level_in d)) (g.tree.first (level_in d)) (g.tree.levels (level_in d) (g.tree.exact.below p (level_in d) (low_in d) w.stage w.placed)) f (low_in n.0.chain) n.3.stage (ap o.page (sym n.1) ∙ n.3.placed) n.3.on z' slot c ic).place in
             (log, inl refl, λ k v. r.is_page.same k v ∙ spec_leaf log o.index (level_in d) (sym r.is_page.on_level ∙ z) k);
-        beyond = λ c d q ic id rc nd i j.
+        beyond = λ c d ic id rc nd i.
             let same : s.chain ≡ d = chain_unique m.rows s.chain d (Some x) s.is_chain id in
-            let r = beyond_place g a p x sx d id (subst (λ (d : List Record). Reached 0 (level_in d) (low_in d) (o.page p)) same e) nd f z' i at c ic rc q j in
-            (r.0, r.2, placed_reached (level_in c) r.0 r.1 (o.page q) r.3);
+            place_names g a (record { page = f; row = z'; chain = c }) (beyond_place g a p x sx d id (subst (λ (d : List Record). Reached 0 (level_in d) (low_in d) (o.page p)) same e) nd f z' i at c ic rc);
         merged = λ c d k q ic id nc nd i v fd lo hi ne.
             let same : h.2.chain ≡ c = chain_unique m.rows h.2.chain c (Some z') h.2.is_chain ic in
             let n = subst (λ (d : List Record). ChainNames o d) same (h.5 (ap is_removed same ∙ nc)) in

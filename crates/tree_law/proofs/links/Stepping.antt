@@ -235,7 +235,7 @@ module _ (memory : Memory) {log : List Update} {o : Owners} {knows : ℕ → Kno
     by_hold h = let n = holds g a (suc p) (suc x) (suc y) s basis content written h r in delta _ h.is refl (put o.page h.child (Placed Held h.level h.key)) (put o.index h.level (put_key (o.index h.level) h.key (Some (Child h.child true)))) (h.level, n.1, refl) n.0
 
     by_remove : MayRemove (knows a) (suc p) (suc x) basis.chain content → Linking
-    by_remove h = let n = removes g a (suc p) (suc x) (suc y) s basis content written h r in delta _ h.is refl (put o.page (suc p) (Placed Removed (level_in basis.chain) (low_in basis.chain))) o.index (level_in basis.chain, low_in basis.chain, n.1, refl) n.0
+    by_remove h = let n = removes g a (suc p) (suc x) (suc y) s basis content written h r in delta _ h.is refl (put o.page (suc p) (Placed Removed (level_in basis.chain) (low_in basis.chain))) o.index (level_in basis.chain, low_in basis.chain, n.1, refl, (suc x, basis.chain, s, chain_stands o (shared memory) (knows a).read.seen (g.sound a).seen_fits basis.chain (Some (suc x)) basis.read, h.unheld)) n.0
 
     by_merge : MayMerge (knows a) (suc x) basis.chain content → Linking
     by_merge h =

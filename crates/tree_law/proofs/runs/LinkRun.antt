@@ -5,6 +5,7 @@ use Rattle.bw_model.specs.declared.command.Reply.TheVariants as reply
 use Rattle.bw_model.specs.Log.{set, unset}
 use Rattle.chain_search.specs.Discipline.{IsMet, MayAdd, MayRoot, MayReply}
 use Rattle.chain_search.specs.Disciplined.{IsDisciplinedFrom, IsDisciplined}
+use Rattle.chain_search.proofs.UnheldLaws.{unheld_at}
 use Rattle.chain_search.specs.Knowledge.{OwnPage, Other, Empty, Ready, Gone, Knowledge, knows}
 use Rattle.tree_law.specs.AllLinks.{insert_a, delete_a, item_a, upper_a, split_a, merge_a, unterm_a, lower_a, split_b, term_b, base_b, deletion_a, placed, all_links}
 use Rattle.op_machine.specs.Examples.{small, opening_leaf, put_a}
@@ -61,7 +62,7 @@ holds = adds (whole (root_a ∷ []) (refl, refl) refl refl) hold_a refl hold_fit
 -- the removal, over the term that is held
 removes : MayAdd 0 (before 51 0) 2 3 7
 removes = adds (whole (upper_a ∷ []) (refl, refl) refl refl) remove_a refl remove_fits
-    (record { parent = 3; row = 6; above = whole (hold_a ∷ root_a ∷ []) (refl, (refl, refl)) refl refl; level = refl; covers = refl; held = refl; is = refl })
+    (record { parent = 3; row = 6; above = whole (hold_a ∷ root_a ∷ []) (refl, (refl, refl)) refl refl; level = refl; covers = refl; held = refl; unheld = unheld_at (item_a ∷ []) refl; is = refl })
     (is_unset (drop 8 became) refl)
 
 -- the merge of its page's right

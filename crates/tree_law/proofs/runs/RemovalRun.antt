@@ -1,8 +1,11 @@
 -- Each step of the run with a removal is allowed.
-use Rattle.std.proofs.Common.{ℕ, [], ◌∷◌, take, drop, Some, None, true, refl, inl, inr, lit<, arith}
+use Rattle.std.proofs.Common.{◌≡◌, ℕ, Bool, [], ◌∷◌, take, drop, Some, None, true, false, refl, inl, inr, lit<, arith}
 use Rattle.std.specs.List.Sorted.{IsStrictlySortedBy}
 use Rattle.bw_model.specs.declared.command.Reply.TheVariants as reply
+use Rattle.std.specs.Prelude.{if◌then◌else◌}
 use Rattle.deltas.specs.Applies.{Applies}
+use Rattle.deltas.specs.Records.{names}
+use Rattle.base_page.specs.declared.item.Content.TheVariants.{Child}
 use Rattle.base_page.specs.Pages.{Page, IsPage}
 use Rattle.base_page.specs.Rules.{IsRuled}
 use Rattle.chain_search.specs.Discipline.{FitsOn, IsMet, MayAdd, MayReply}
@@ -52,10 +55,14 @@ holds = adds (whole (root_a ∷ []) (refl, refl) refl refl) hold_a refl hold_fit
     (record { level = 0; is_level = refl; key = a; covers = refl; child = 2; present = refl; is = refl })
     (is_unset became refl)
 
+none_said : (child : ℕ) (above : Bool) → (if above then None else None) ≡ Some (Child child true) → ⊥
+none_said child true e = absurd cc
+none_said child false e = absurd cc
+
 -- the removal
 removes : MayAdd 0 (before 41 0) 2 3 8
 removes = adds (whole (second_split ∷ upper_b ∷ []) (refl, (refl, refl)) refl refl) remove_a refl removal_fits
-    (record { parent = 3; row = 7; above = whole (hold_a ∷ root_a ∷ []) (refl, (refl, refl)) refl refl; level = refl; covers = refl; held = refl; is = refl })
+    (record { parent = 3; row = 7; above = whole (hold_a ∷ root_a ∷ []) (refl, (refl, refl)) refl refl; level = refl; covers = refl; held = refl; unheld = λ key child. none_said child (names second_split key); is = refl })
     (is_unset became refl)
 
 -- the removed leaf replies, as its left was read after it

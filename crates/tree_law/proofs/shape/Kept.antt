@@ -140,7 +140,7 @@ knows_kept o o' m m' closed kept seen learnt roots heads before linked point log
           let id' = chain_back o o' m m' closed kept d y i.below id in
           still p f x y c d ic' id' nc nd e v s u h i;
       spelled = λ c d ic id. i.spelled c d (chain_back o o' m m' closed kept c x i.above ic) (chain_back o o' m m' closed kept d y i.below id);
-      beyond = λ c d q ic id rc nd e j. let r = i.beyond c d q (chain_back o o' m m' closed kept c x i.above ic) (chain_back o o' m m' closed kept d y i.below id) rc nd e j in (r.0, r.1, kept.page q 0 (level_in c) r.0 r.2);
+      beyond = λ c d ic id rc nd e. names_kept o o' kept.page c (i.beyond c d (chain_back o o' m m' closed kept c x i.above ic) (chain_back o o' m m' closed kept d y i.below id) rc nd e);
       merged = λ c d s q ic id nc nd e v t lo hi ne. kept.page q 4 (level_in d) s (i.merged c d s q (chain_back o o' m m' closed kept c x i.above ic) (chain_back o o' m m' closed kept d y i.below id) nc nd e v t lo hi ne);
     }
 

@@ -120,7 +120,7 @@ opens limits = record {
     | inl moved ↦ absurd (let lt = moved.2 in omega arith)
     | inr rested ↦ rested.1 ∙ by_test pid 1 (λ t. cond t indexed free ≡ phase_of (cond t (Placed Indexed 0 []) Nobody)) (λ i. refl) (λ ne. refl)
   ];
-  phases = record { in_order = λ n pid from to h. absurd (let e = h.at in cc); emptied = λ n actor pid old h. absurd (let e = h.at in cc) };
+  phases = record { in_order = λ n pid from to h. absurd (let e = h.at in cc); emptied = λ n actor pid old h. absurd (let e = h.at in cc); unheld = λ n pid remove chain h. absurd (let e = h.at in cc) };
   limbo_rows = λ a q. tt;
   limbo_pids = λ a q. tt;
   freed = record { pids = λ n a word bits pid x h among. absurd (let e = h.1 in cc); rows = λ n a word bits row x h among. absurd (let e = h.1 in cc) };

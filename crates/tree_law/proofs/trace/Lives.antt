@@ -9,13 +9,17 @@ use Rattle.bw_model.specs.declared.step.Answer.{Answer}
 use Rattle.bw_model.specs.declared.step.Answer.TheVariants.{Whether}
 use Rattle.bw_model.specs.declared.step.Link.TheVariants as link
 use Rattle.deltas.specs.declared.record.Record.{Record}
+use Rattle.deltas.specs.declared.record.Record.TheVariants.{Remove}
+use Rattle.deltas.specs.declared.record.Remove.{Remove as RemoveOf}
 use Rattle.deltas.specs.Memory.{Memory}
 use Rattle.chain_search.specs.declared.trace.Entry.{Entry}
 use Rattle.chain_search.specs.declared.trace.Entry.TheVariants.{Begin, Step}
+use Rattle.chain_search.specs.Chains.{IsChainOf}
 use Rattle.chain_search.specs.Steps.{IsAnswer}
 use Rattle.chain_search.specs.Trace.{memory_of}
+use Rattle.chain_search.specs.Unheld.{IsUnheld}
 use Rattle.chain_search.proofs.TraceLaws.{Happens-below, Happens-kept, Happens-push_cases, Happens-last}
-use Rattle.op_machine.specs.Links.{Wins}
+use Rattle.op_machine.specs.Links.{Installs, Wins}
 use Rattle.op_machine.specs.Phases.{Phase, free, cleared, MovesPhase, takes, splits, becomes_root, terms, under_root, holds, removes, merges, unterms, reuses, IsInPhase, KeepsPhases}
 use Rattle.op_machine.proofs.PhaseLaws.{IsInPhase-moved, IsInPhase-rested, KeepsPhases-push}
 use Rattle.tree_law.specs.State.{phase_of}
@@ -81,7 +85,7 @@ module _ (limits : Limits) (entries : List Entry) where
   begins_in_phase a c pid phase h = rw pushed_length (IsInPhase-rested limits entries (Begin a c) pid phase (λ from to moves. begin_still moves) h)
 
   pub begins_phases : (a : ℕ) (c : Command) → KeepsPhases limits entries → KeepsPhases limits (entries ++ Begin a c ∷ [])
-  begins_phases a c keeps = KeepsPhases-push limits entries (Begin a c) keeps (λ pid from to moves. absurd (begin_still moves)) (λ b pid old won. absurd (let e = won.0.1 in cc))
+  begins_phases a c keeps = KeepsPhases-push limits entries (Begin a c) keeps (λ pid from to moves. absurd (begin_still moves)) (λ b pid old won. absurd (let e = won.0.1 in cc)) (λ pid remove chain installs stands. absurd (let e = installs.3.0.1 in cc))
 
   module _ (last : Entry) (f f' : ℕ → PageOwner) (before : (pid : ℕ) → IsInPhase limits entries (length entries) pid (phase_of (f pid)))
       (between : (pid : ℕ) (from to : Phase) → MovesPhase (memory_of limits entries) last pid from to → (phase_of (f pid) ≡ from) × (phase_of (f' pid) ≡ to)) where
@@ -114,10 +118,12 @@ module _ (limits : Limits) (entries : List Entry) where
       | inr same ↦ only pid phase (inr ((λ k one two low high mv. rests k one two low (omega arith) (Happens-kept (last ∷ []) mv)), is)) ∙ sym same
     ]
 
-    pub steps_phases : KeepsPhases limits entries → ((b pid old : ℕ) → Wins (memory_of limits entries) last b pid old 0 link.Clear → phase_of (f pid) ≡ cleared) → KeepsPhases limits (entries ++ last ∷ [])
-    steps_phases keeps clears = KeepsPhases-push limits entries last keeps
+    pub steps_phases : KeepsPhases limits entries → ((b pid old : ℕ) → Wins (memory_of limits entries) last b pid old 0 link.Clear → phase_of (f pid) ≡ cleared)
+        → ((pid : ℕ) (remove : RemoveOf) (chain : List Record) → Installs (memory_of limits entries) last pid (Remove remove) → IsChainOf (memory_of limits entries) pid chain → IsUnheld chain) → KeepsPhases limits (entries ++ last ∷ [])
+    steps_phases keeps clears unheld = KeepsPhases-push limits entries last keeps
         (λ pid from to moves. subst (λ p. IsInPhase limits entries (length entries) pid p) (between pid from to moves).0 (before pid))
         (λ b pid old won. subst (λ p. IsInPhase limits entries (length entries) pid p) (clears b pid old won) (before pid))
+        unheld
 
 module _ (limits : Limits) (entries : List Entry) where
   pub begins_only : (a : ℕ) (c : Command) (f : ℕ → PageOwner) → ((pid : ℕ) → IsInPhase limits entries (length entries) pid (phase_of (f pid)))

@@ -19,6 +19,7 @@ use Rattle.base_page.specs.declared.item.Content.TheVariants.{Child}
 use Rattle.base_page.specs.Pages as pages
 use Rattle.deltas.specs.declared.record.Record.{Record}
 use Rattle.deltas.specs.declared.record.Record.TheVariants.{Base, Put, Delete, Split, Term, Hold, Remove, Merge, Unterm}
+use Rattle.deltas.specs.declared.record.Remove.{Remove as RemoveOf}
 use Rattle.deltas.specs.Links.{record_link}
 use Rattle.deltas.specs.Memory.{Memory}
 use Rattle.chain_search.specs.declared.trace.Entry.{Entry}
@@ -26,6 +27,7 @@ use Rattle.chain_search.specs.declared.trace.Entry.TheVariants.{Step}
 use Rattle.chain_search.specs.Chains.{IsChainFrom, IsChainOf, right_in, content_in, low_in}
 use Rattle.bw_model.specs.Words.{is_among}
 use Rattle.chain_search.specs.Steps.{IsAnswer}
+use Rattle.chain_search.specs.Unheld.{IsUnheld}
 use Rattle.chain_search.proofs.ChainLaws.{IsChainFrom-unique}
 use Rattle.op_machine.specs.Links.{link_without, link_of, Wins, Installs}
 use Rattle.op_machine.specs.Phases.{Phase, free, owned, fresh, indexed, held, removed, merged, cleared, MakesRoot, MovesPhase, takes, splits, becomes_root, terms, under_root, holds, removes, merges, unterms, reuses}
@@ -197,6 +199,16 @@ module _ (m : Memory) {log : List Update} {o : Owners} {knows : ℕ → Knowledg
       let h = subst (λ t. Phased a (shared m) t x o.page f') i ph in
       let v = (h pid).0 among in
       (ap phase_of v.3, ap phase_of v.4)
+
+  -- a page is removed only while no term of it is held
+  pub removes_unheld : (pid : ℕ) (remove : RemoveOf) (chain : List Record) → Installs m last pid (Remove remove) → IsChainOf m pid chain → IsUnheld chain
+  removes_unheld pid remove chain installs stood =
+      let i = installed pid (Remove remove) installs in
+      let bare = i.2.4 in
+      let stood' : IsChainOf m (suc i.0) chain = subst (λ p. IsChainOf m p chain) i.1 stood in
+      let at : m.slots (suc i.0) ≡ bare.0 = (slot_some m.slots (suc i.0) bare.0 bare.2).1 in
+      let same : bare.1 ≡ chain = IsChainFrom-unique m.rows bare.0 bare.1 chain bare.3 (subst (λ n. IsChainFrom m.rows n chain) at stood'.records) in
+      subst IsUnheld same bare.4
 
   -- the slot of a removed page is emptied only when it is cleared
   pub clears_cleared : (b pid old : ℕ) → Wins m last b pid old 0 link.Clear → phase_of (o.page pid) ≡ cleared

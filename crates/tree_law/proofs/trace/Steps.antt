@@ -60,7 +60,7 @@ use Rattle.tree_law.proofs.trace.Updates.{UpdatesNow, updates_push}
 use Rattle.tree_law.proofs.trace.Marks.{take_whole, marked_push, tells_other, tells_own, quiet_push}
 use Rattle.tree_law.proofs.trace.Names.{faithful_push, Numbers, calm_numbers, named_steps, reads_known, touches_outside, may_take}
 use Rattle.tree_law.proofs.trace.Owned.{pushed_length, same_start, own_new}
-use Rattle.tree_law.proofs.trace.Phasing.{moves_between, clears_cleared, moves_or_rests}
+use Rattle.tree_law.proofs.trace.Phasing.{moves_between, clears_cleared, moves_or_rests, removes_unheld}
 use Rattle.tree_law.proofs.shape.Puts.{by_test, put_same, put_other}
 use Rattle.tree_law.proofs.trace.Remark.{own_same, told}
 use Rattle.tree_law.proofs.trace.Searches.{search_other, search_own}
@@ -274,7 +274,8 @@ module _ (limits : Limits) (entries : List Entry) (a : ℕ) (step : StepOf Recor
     in_phase = in_phase_after;
     only_phase = only_phase_after;
     phases = steps_phases limits entries last state.owners.page n.owners.page state.in_phase between state.phases
-        (clears_cleared (memory_of limits entries) state.is_tree state.named.in_slots a step answer r allowed.may is n.owners.page n.phased);
+        (clears_cleared (memory_of limits entries) state.is_tree state.named.in_slots a step answer r allowed.may is n.owners.page n.phased)
+        (removes_unheld (memory_of limits entries) state.is_tree state.named.in_slots a step answer r allowed.may is n.owners.page n.phased);
     limbo_rows = rw (knows-push entries last) (rows_in_limbo limits entries a step answer r state allowed is n.is_tree timed' held');
     limbo_pids = rw (knows-push entries last) (pids_in_limbo limits entries a step answer r state allowed is n.is_tree timed' held');
     freed = freed_after limits entries a step answer r state allowed is;
