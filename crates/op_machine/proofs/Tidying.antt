@@ -19,6 +19,7 @@ use Rattle.installs.specs.Spares.{Spares}
 use Rattle.smo.specs.Sizes.{HasFewItems}
 use Rattle.smo.specs.declared.version.Version.{Version}
 use Rattle.smo.proofs.Places.{from_made, of_made}
+use Rattle.smo.proofs.Unheld.{leaf_unheld}
 use Rattle.op_machine.specs.Errands.{due_of}
 use Rattle.op_machine.specs.Outcomes.{IsAtLeafBelow}
 use Rattle.op_machine.specs.Tasks.{Task}
@@ -71,7 +72,7 @@ may_call task spares k r parent leaf old below idle last none =
         covers = covered;
         few = of_made (Base base.0 ∷ []) base.0 (λ items. length items < 16) makes few;
         back = λ other small.
-            kept_back task.limits k r task.command parent leaf (rw tidy.1 refl) below.above below.termed idle at.page.alive at.short
+            kept_back task.limits k r task.command parent leaf (rw tidy.1 refl) below.above below.termed idle at.page.alive (leaf_unheld leaf.chain at.page.in_hand.sound.is_chain.fitted at.level) at.short
             (record { other = other; few = rw base.1 (from_made (Base base.0 ∷ []) base.0 (λ items. length items ≤ 4) makes small) });
         unlinked = at.seeks.asked.unlinked;
       })));

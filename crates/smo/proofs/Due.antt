@@ -15,6 +15,7 @@ use Rattle.chain_search.specs.Discipline.{MayHold, MayMerge, MayPost, MayRemove,
 use Rattle.chain_search.specs.Fitted.{IsFitted, IsPageChain}
 use Rattle.chain_search.specs.Knowledge.{Knowledge, Ready, Written}
 use Rattle.chain_search.proofs.FittedLaws.{ruled}
+use Rattle.chain_search.proofs.UnheldLaws.{unheld_by_items}
 use Rattle.smo.specs.declared.split.SplitPlan.{SplitPlan}
 use Rattle.smo.specs.declared.version.Version.{Version}
 use Rattle.smo.specs.Splits.{IsSplitPlan, split_to}
@@ -103,13 +104,14 @@ hold_due parent page hold is fitted =
 
 pub remove_due : (k : Knowledge) (parent page : Version) (remove : Remove) → IsRemovePlan parent page remove → IsPageChain parent.chain → is_removed parent.chain ≡ false → level_in parent.chain ≡ suc (level_in page.chain) → HasSeen k parent
     → MayRemove k page.pid page.head page.chain (kind.Remove remove)
-remove_due k parent page remove is fitted alive level seen = record {
+remove_due k parent page remove is fitted alive level seen = let (items, are, none) = is.can.unheld in record {
   parent = parent.pid;
   row = parent.head;
   above = record { head = seen.head; chain = parent.chain; read = seen.read; alive = alive };
   level = level;
   covers = (covered parent.chain fitted.fitted (low_in page.chain) page.pid true is.can.held).0;
   held = is.can.held;
+  unheld = unheld_by_items page.chain items are none;
   is = ap kind.Remove is.is;
 }
 

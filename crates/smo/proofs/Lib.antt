@@ -12,3 +12,4 @@ pub mod Leaves
 pub mod MapKept
 pub mod TestedLeaves
 pub mod TestedIndexPages
+pub mod Unheld

@@ -105,7 +105,7 @@ planned parent page made term stands makes rules few is alive level covered abse
     let due = term_of parent page in
     let fit : FitsTerm made due = record { alive = makes.removed ∙ stands; level = makes.level; index = rw (← makes.level) index; covered = inside; absent = none; room = omega (arith, few) } in
     record {
-      can = record { alive = alive; level = level; covered = covered; absent = absent; short = short; roomy = from_made parent.chain made _ makes few };
+      can = record { above = stands; alive = alive; level = level; covered = covered; absent = absent; short = short; roomy = from_made parent.chain made _ makes few };
       is = is;
       fits = rw is (term_fits parent.chain made due makes rules (rw (← makes.level) index, links parent page made makes rules above) fit above, omega (arith, short));
     }

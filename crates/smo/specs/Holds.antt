@@ -6,7 +6,7 @@ use Rattle.base_page.specs.declared.item.Item.{Item}
 use Rattle.base_page.specs.Rules.{held_count, is_held}
 use Rattle.deltas.specs.declared.record.Hold.{Hold}
 use Rattle.deltas.specs.declared.record.Record.TheVariants as kind
-use Rattle.chain_search.specs.Chains.{content_in, level_in, low_in}
+use Rattle.chain_search.specs.Chains.{content_in, is_removed, level_in, low_in}
 use Rattle.chain_search.specs.Discipline.{FitsOn}
 use Rattle.smo.specs.declared.version.Version.{Version}
 use Rattle.smo.specs.Sizes.{HasFewDeltas, HasItems}
@@ -19,9 +19,10 @@ IsFreeBeside key items one other = HoldsAt (λ item. item.key ≡ key) items one
 abbrev pub HasFreeNeighbours : List ℕ → List Item → Type 0
 HasFreeNeighbours key items = (place : ℕ) → suc place < length items → IsFreeBeside key items place (suc place) × IsFreeBeside key items (suc place) place
 
--- The parent has the page's term, which isn't held and isn't its first; it has fewer than 4 held terms, none of them a neighbour
--- of this one, and fewer than 8 deltas.
+-- The parent isn't removed, and has the page's term, which isn't held and isn't its first; it has fewer than 4 held terms, none of
+-- them a neighbour of this one, and fewer than 8 deltas.
 pub record CanHold (parent page : Version) : Type 0 where
+  pub above : is_removed parent.chain ≡ false
   pub there : content_in parent.chain (low_in page.chain) ≡ Some (Child page.pid false)
   pub inner : low_in page.chain ≢ low_in parent.chain
   pub few : HasItems parent.chain (λ items. held_count items < 4)

@@ -1,14 +1,13 @@
 -- When a removed page may come into its left page.
 use Rattle.std.specs.Prelude.{◌≡◌, ◌≤◌, List, length, true, false}
 use Rattle.base_page.specs.declared.item.Item.{Item}
-use Rattle.base_page.specs.Rules.{held_count}
 use Rattle.deltas.specs.declared.record.Merge.{Merge}
 use Rattle.deltas.specs.declared.record.Record.TheVariants as kind
 use Rattle.chain_search.specs.Chains.{IsItemsOf, high_in, is_removed, level_in, low_in, right_in}
 use Rattle.chain_search.specs.Discipline.{FitsOn}
 use Rattle.smo.specs.declared.version.Version.{Version}
 use Rattle.smo.specs.Neighbours.{IsNextTo}
-use Rattle.smo.specs.Sizes.{HasFewDeltas, HasFewItems, HasItems}
+use Rattle.smo.specs.Sizes.{HasFewDeltas, HasFewItems, HasItems, HasNoneHeld}
 
 -- The left page isn't removed, and has fewer than 8 deltas and fewer than 16 items; the other is its right, begins at its high
 -- key, is of its level and removed, and has at most 4 items, none of them held.
@@ -18,7 +17,7 @@ pub record CanMerge (left removed : Version) : Type 0 where
   pub gone : is_removed removed.chain ≡ true
   pub level : level_in removed.chain ≡ level_in left.chain
   pub few : HasItems removed.chain (λ items. length items ≤ 4)
-  pub unheld : HasItems removed.chain (λ items. held_count items ≡ 0)
+  pub unheld : HasNoneHeld removed.chain
   pub short : HasFewDeltas left.chain
   pub roomy : HasFewItems left.chain
 

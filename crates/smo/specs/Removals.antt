@@ -6,13 +6,14 @@ use Rattle.deltas.specs.declared.record.Remove.{Remove}
 use Rattle.chain_search.specs.Chains.{content_in, is_removed, level_in, low_in}
 use Rattle.chain_search.specs.Discipline.{FitsOn}
 use Rattle.smo.specs.declared.version.Version.{Version}
-use Rattle.smo.specs.Sizes.{HasFewDeltas, HasItems}
+use Rattle.smo.specs.Sizes.{HasFewDeltas, HasItems, HasNoneHeld}
 
--- The parent has the page's term held; the page isn't removed, and has at most 4 items and fewer than 8 deltas.
+-- The parent has the page's term held; the page isn't removed, and has at most 4 items, none of them held, and fewer than 8 deltas.
 pub record CanRemove (parent page : Version) : Type 0 where
   pub held : content_in parent.chain (low_in page.chain) ≡ Some (Child page.pid true)
   pub alive : is_removed page.chain ≡ false
   pub few : HasItems page.chain (λ items. length items ≤ 4)
+  pub unheld : HasNoneHeld page.chain
   pub short : HasFewDeltas page.chain
 
 -- the removal over the page

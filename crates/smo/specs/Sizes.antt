@@ -1,6 +1,7 @@
 -- How many deltas and items a page's chain has.
-use Rattle.std.specs.Prelude.{◌≤◌, ◌<◌, List, length}
+use Rattle.std.specs.Prelude.{◌≡◌, ◌≤◌, ◌<◌, List, length}
 use Rattle.base_page.specs.declared.item.Item.{Item}
+use Rattle.base_page.specs.Rules.{held_count}
 use Rattle.deltas.specs.declared.record.Record.{Record}
 use Rattle.chain_search.specs.Chains.{IsItemsOf}
 
@@ -18,3 +19,7 @@ HasFewItems chain = HasItems chain (λ items. length items < 16)
 
 abbrev pub HasManyItems : List Record → Type 0
 HasManyItems chain = HasItems chain (λ items. 16 ≤ length items)
+
+-- no item is held
+abbrev pub HasNoneHeld : List Record → Type 0
+HasNoneHeld chain = HasItems chain (λ items. held_count items ≡ 0)

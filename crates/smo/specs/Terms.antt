@@ -7,9 +7,10 @@ use Rattle.chain_search.specs.Discipline.{FitsOn}
 use Rattle.smo.specs.declared.version.Version.{Version}
 use Rattle.smo.specs.Sizes.{HasFewDeltas, HasFewItems}
 
--- The page isn't removed; its parent is one level up, has its low key in the range and no term there, fewer than 8 deltas and
+-- Neither is removed; the parent is one level up, has the page's low key in its range and no term there, fewer than 8 deltas and
 -- fewer than 16 items.
 pub record CanPost (parent page : Version) : Type 0 where
+  pub above : is_removed parent.chain ≡ false
   pub alive : is_removed page.chain ≡ false
   pub level : level_in parent.chain ≡ suc (level_in page.chain)
   pub covered : IsTrue (covers parent.chain (low_in page.chain))

@@ -11,8 +11,9 @@ use Rattle.smo.specs.Neighbours.{IsNextTo}
 use Rattle.smo.specs.Sizes.{HasFewDeltas}
 
 -- A page that isn't removed begins below the removed page's low key and ends at or above it, or nowhere, and the removed page
--- isn't the next one. The parent has the removed page's term held, and fewer than 8 deltas.
+-- isn't the next one. The parent isn't removed, and has the removed page's term held, and fewer than 8 deltas.
 pub record CanUnterm (parent left removed : Version) : Type 0 where
+  pub standing : is_removed parent.chain ≡ false
   pub alive : is_removed left.chain ≡ false
   pub above : IsTrue (is_below (low_in left.chain) (low_in removed.chain))
   pub within : IfSome (high_in left.chain) (λ high. IsFalse (is_below high (low_in removed.chain)))

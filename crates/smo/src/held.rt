@@ -4,9 +4,11 @@ ghost use Rattle.std.specs.Bool.{Decides};
 ghost use Rattle.base_page.specs.declared.item.Content.TheVariants.{Child};
 ghost use Rattle.base_page.specs.Rules.{held_count, is_held};
 ghost use Rattle.chain_search.specs.Chains.{content_in, low_in};
+ghost use Rattle.smo.specs.Sizes.{HasNoneHeld};
 
 use crate::Version;
 use base_page::{Content, Item};
+use chain_search::Chain;
 
 /// Whether the parent has the page's term, held or not as said.
 pub(crate) fn has_term(parent: &Version, page: &Version, held: bool) -> bool
@@ -44,4 +46,16 @@ pub(crate) fn held_count(items: &[Item]) -> usize
         }
     }
     count
+}
+
+/// Whether no term of the page is held; on a leaf there is none.
+pub(crate) fn is_unheld(chain: &Chain) -> bool
+    ensures { Decides result (HasNoneHeld chain.now) }
+{
+    chain.keeps_rules();
+    if chain.level() == 0 {
+        return true;
+    }
+    let made = chain.page();
+    held_count(made.items().as_slice()) == 0
 }

@@ -1,7 +1,6 @@
 //! The hold of a page's term in its parent.
 ghost use Rattle.std.specs.Prelude.{◌≡◌, MatchOption, false};
 ghost use Rattle.std.specs.Bool.{Decides};
-ghost use Rattle.chain_search.specs.Chains.{is_removed};
 ghost use Rattle.base_page.specs.Rules.{is_held};
 ghost use Rattle.smo.specs.Holds.{CanHold, HasFreeNeighbours, IsHoldPlan};
 
@@ -12,13 +11,15 @@ use base_page::Item;
 use bw_model::Key;
 use deltas::Hold;
 
-/// The hold of the page's term in its parent; none exactly where the parent hasn't the term unheld, or has it as its first or beside
-/// a held one, or has many held terms or many deltas.
+/// The hold of the page's term in its parent; none exactly where the parent is removed, hasn't the term unheld, or has it as its first
+/// or beside a held one, or has many held terms or many deltas.
 pub fn plan_hold(parent: &Version, page: &Version) -> Option<Hold>
-    requires alive { is_removed parent.now.chain ≡ false }
     ensures { MatchOption result (¬ CanHold parent.now page.now) (IsHoldPlan parent.now page.now) }
 {
     let low = page.chain.low();
+    if parent.chain.is_removed() {
+        return None;
+    }
     if !has_term(parent, page, false) {
         return None;
     }

@@ -4,12 +4,12 @@ ghost use Rattle.chain_search.specs.Chains.{is_removed};
 ghost use Rattle.smo.specs.Removals.{CanRemove, IsRemovePlan};
 
 use crate::Version;
-use crate::held::has_term;
+use crate::held::{has_term, is_unheld};
 use crate::sizes::{FEW_ITEMS, MANY_DELTAS};
 use deltas::Remove;
 
-/// The removal of the page; none exactly where its parent hasn't its term held, it is removed, has more than a few items, or has many
-/// deltas.
+/// The removal of the page; none exactly where its parent hasn't its term held, it is removed, has more than a few items or a held
+/// one, or has many deltas.
 pub fn plan_remove(parent: &Version, page: &Version) -> Option<Remove>
     ensures { MatchOption result (¬ CanRemove parent.now page.now) (IsRemovePlan parent.now page.now) }
 {
@@ -25,6 +25,9 @@ pub fn plan_remove(parent: &Version, page: &Version) -> Option<Remove>
         return None;
     }
     if page.chain.item_count() > FEW_ITEMS {
+        return None;
+    }
+    if !is_unheld(&page.chain) {
         return None;
     }
     Some(Remove {

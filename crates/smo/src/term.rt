@@ -1,20 +1,21 @@
 //! The term of a page that its parent hasn't.
-ghost use Rattle.std.specs.Prelude.{◌≡◌, MatchOption, false};
-ghost use Rattle.chain_search.specs.Chains.{is_removed};
+ghost use Rattle.std.specs.Prelude.{MatchOption};
 ghost use Rattle.smo.specs.Terms.{CanPost, IsTermPlan};
 
 use crate::Version;
 use crate::sizes::{MANY_DELTAS, MANY_ITEMS};
 use deltas::Term;
 
-/// The term of the page in its parent; none exactly where the page is removed, the parent isn't one level up with the page's low
-/// key in its range and no term there, or has many deltas or items.
+/// The term of the page in its parent; none exactly where either is removed, the parent isn't one level up with the page's low key in
+/// its range and no term there, or has many deltas or items.
 pub fn plan_term(parent: &Version, page: &Version) -> Option<Term>
-    requires alive { is_removed parent.now.chain ≡ false }
     ensures { MatchOption result (¬ CanPost parent.now page.now) (IsTermPlan parent.now page.now) }
 {
     parent.chain.keeps_rules();
     let low = page.chain.low();
+    if parent.chain.is_removed() {
+        return None;
+    }
     if page.chain.is_removed() {
         return None;
     }

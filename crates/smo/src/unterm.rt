@@ -2,7 +2,7 @@
 ghost use Rattle.std.specs.Prelude.{◌≡◌, MatchOption, IfSome, IsFalse, false};
 ghost use Rattle.std.specs.Bool.{Decides};
 ghost use Rattle.bw_model.specs.Bytes.{is_below};
-ghost use Rattle.chain_search.specs.Chains.{high_in, is_removed};
+ghost use Rattle.chain_search.specs.Chains.{high_in};
 ghost use Rattle.smo.specs.Unterms.{CanUnterm, IsUntermPlan};
 
 use crate::Version;
@@ -14,14 +14,16 @@ use chain_search::Chain;
 use deltas::Unterm;
 
 /// The unterm of the removed page in the parent; none exactly where the left page is removed, doesn't begin below the removed page's
-/// low key and end at or above it or nowhere, or has the removed page next to it; or the parent hasn't the term held, or has many
-/// deltas; or the removed page isn't removed.
+/// low key and end at or above it or nowhere, or has the removed page next to it; or the parent is removed, hasn't the term held, or
+/// has many deltas; or the removed page isn't removed.
 pub fn plan_unterm(parent: &Version, left: &Version, removed: &Version) -> Option<Unterm>
-    requires alive { is_removed parent.now.chain ≡ false }
     ensures { MatchOption result (¬ CanUnterm parent.now left.now removed.now) (IsUntermPlan parent.now left.now removed.now) }
 {
     parent.chain.keeps_rules();
     let low = removed.chain.low();
+    if parent.chain.is_removed() {
+        return None;
+    }
     if left.chain.is_removed() || !removed.chain.is_removed() {
         return None;
     }

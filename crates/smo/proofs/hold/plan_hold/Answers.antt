@@ -34,8 +34,9 @@ returns c =
     (let yes = (decides_key c.low-low.result.now c.low.result.now c.is_eq.result (rw (← c.cmp.ensures) c.is_eq.ensures)).1 (c.low-low.ensures ∙ same ∙ sym c.low.ensures) in let no = c.if-is_eq.false in absurd cc) in
     let held : held_count made.items < 4 = (let count = c.held_count.ensures ∙ ap held_count (c.as_slice.ensures.items ∙ c.items.ensures) in let few = c.if-held_count-ge-MANY_HELD.false in omega (arith, count, few)) in
     let free : HasFreeNeighbours (low_in c.args.page.now.chain) made.items = rw (← c.low-low.ensures, ← c.items-2.ensures, ← c.as_slice-2.ensures.items) (c.has_free_neighbours.ensures.0 c.if-not-has_free_neighbours.false) in
-    planned c.args.parent.now c.args.page.now made _ c.requires.alive makes c.page-made.ensures.ruled (rw (c.level.ensures, c.copied.ensures, c.low-low.ensures) refl)
+    planned c.args.parent.now c.args.page.now made _ (sym c.is_removed.ensures ∙ c.if-is_removed.false) makes c.page-made.ensures.ruled (rw (c.level.ensures, c.copied.ensures, c.low-low.ensures) refl)
     (record {
+      above = sym c.is_removed.ensures ∙ c.if-is_removed.false;
       there = c.has_term.ensures.0 c.if-not-has_term.false;
       inner = other;
       few = from_made chain made (λ items. held_count items < 4) makes held;

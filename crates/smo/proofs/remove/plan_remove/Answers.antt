@@ -20,5 +20,6 @@ returns c =
       held = c.has_term.ensures.0 c.if-not-has_term.false;
       alive = sym c.is_removed.ensures ∙ c.if-is_removed.false;
       few = (made.items, makes.items, (let a = c.item_count.ensures made.items makes.items in let d = c.if-item_count-gt-FEW_ITEMS.false in omega (arith, a, d)));
+      unheld = c.is_unheld.ensures.0 c.if-not-is_unheld.false;
       short = (let a = c.deltas.ensures in let b = c.if-deltas-ge-MANY_DELTAS.false in omega (arith, a, b));
     })

@@ -21,10 +21,10 @@ returns c =
     let chain = c.args.parent.now.chain in
     let fitted = c.keeps_rules.ensures.fitted in
     let (made, makes) = page_of chain fitted in
-    planned c.args.parent.now c.args.page.now made _ c.requires.alive makes (ruled chain made fitted makes)
+    planned c.args.parent.now c.args.page.now made _ (sym c.is_removed.ensures ∙ c.if-is_removed.false) makes (ruled chain made fitted makes)
     (let a = c.item_count.ensures made.items makes.items in let d = c.if-item_count-ge-MANY_ITEMS.false in omega (arith, a, d))
     (rw (c.level-3.ensures, c.copied.ensures, c.low-low.ensures) refl)
-    (sym c.is_removed.ensures ∙ c.if-is_removed.false)
+    (sym c.is_removed-2.ensures ∙ c.if-is_removed-2.false)
     (let a = c.if-from.false in let b = c.from.ensures in let d = c.from-2.ensures in let e = c.level.ensures in let f = c.level-2.ensures in omega (arith, a, b, d, e, f))
     (rw (← c.low-low.ensures) (sym c.covers.ensures ∙ c.if-not-covers.false))
     (rw (← c.low-low.ensures, ← c.content.ensures) (none_from c.content.result (sym c.is_some.ensures ∙ c.if-is_some.false)))
