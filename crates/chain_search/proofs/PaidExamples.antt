@@ -7,13 +7,13 @@ use Rattle.chain_search.specs.Recalled.{IsPaid, recall}
 use Rattle.chain_search.specs.Recollections.{after_bits, after_loss, after_miss, after_removal, after_split}
 
 pub named : IsPaid after_split (Slot 2) (Number 0)
-named = (refl, (λ e. omega arith, tt), inl refl)
+named = (refl, refl, (λ e. omega arith, tt), inl refl)
 
 pub unnamed : IsPaid after_split (Slot 3) (Number 0) → ⊥
-unnamed h = elim h.2 [ inl e ↦ omega arith | inr e ↦ e ]
+unnamed h = elim h.3 [ inl e ↦ omega arith | inr e ↦ e ]
 
 pub again : IsPaid after_removal (Slot 2) (Number 0) → ⊥
-again h = h.1.0 refl
+again h = let e : true ≡ false = h.1 in cc
 
 pub exchanged : IsPaid after_split (Exchange 1 5 7) (Whether true)
 exchanged = (omega arith, refl)

@@ -1,5 +1,5 @@
 -- What an operation recalls of its own reads, and which of its steps a cause pays for.
-use Rattle.std.specs.Prelude.{◌≡◌, ◌≢◌, ◌<◌, ◌+◌, ◌/◌, ◌%◌, ◌^◌, ◌⊎◌, ◌||◌, ℕ, zero, suc, List, [], ◌∷◌, Bool, true, false, Option, None, Some, IsTrue, IsFalse, ⊤}
+use Rattle.std.specs.Prelude.{◌≡◌, ◌≢◌, ◌<◌, ◌+◌, ◌/◌, ◌%◌, ◌^◌, ◌⊎◌, ◌||◌, ◌&&◌, not, if◌then◌else◌, ℕ, zero, suc, List, [], ◌∷◌, Bool, true, false, Option, None, Some, IsTrue, IsFalse, ⊤}
 use Rattle.std.specs.Int.{bit_at}
 use Rattle.std.specs.List.{fold}
 use Rattle.bw_model.specs.declared.step.Answer.{Answer}
@@ -16,9 +16,10 @@ use Rattle.chain_search.specs.declared.trace.Entry.TheVariants.{Begin, Step}
 -- what it has read since it last read slot 0, unless it has left since then
 pub record Walk : Type 0 where
   pub rooted : Bool  -- whether it has read slot 0
-  pub visited : List ℕ  -- pages whose slots it has read, the last one first
+  pub visited : List ℕ  -- pages whose slots it has read, the last one first; once it has gone on from a removed page, those since then
   pub records : List Record  -- records that it has read, the last one first
   pub removed : Bool  -- whether one of these removes a page
+  pub passed : Bool  -- whether it has gone on from there: it has read a slot since
 
 pub record Recalled : Type 0 where
   pub heads : ℕ → Option ℕ  -- slots, as last read since its last exchange of the slot
@@ -27,7 +28,7 @@ pub record Recalled : Type 0 where
   pub walk : Walk
 
 abbrev pub no_walk : Walk
-no_walk = record { rooted = false; visited = []; records = []; removed = false }
+no_walk = record { rooted = false; visited = []; records = []; removed = false; passed = false }
 
 abbrev pub blank : Recalled
 blank = record { heads = λ slot. None; pids = λ word. None; rows = λ word. None; walk = no_walk }
@@ -36,10 +37,14 @@ abbrev pub is_removal : Record → Bool
 is_removal (Remove remove) = true
 is_removal _ = false
 
+-- the pages that count when the next slot is read: where a removal was read, it is the first one
+abbrev pub trail : Walk → List ℕ
+trail walk = if walk.removed && not walk.passed then [] else walk.visited
+
 -- a slot was read: with slot 0 a walk begins
 abbrev pub visit : ℕ → Walk → Walk
 visit zero walk = record no_walk { rooted = true }
-visit (suc page) walk = record walk { visited = suc page ∷ walk.visited }
+visit (suc page) walk = record walk { visited = suc page ∷ trail walk; passed = walk.removed }
 
 -- a record was read
 abbrev pub note : Record → Walk → Walk
@@ -84,12 +89,12 @@ AnyNames (content ∷ contents) page = NamesPage content page ⊎ AnyNames conte
 
 -- The step is a cause: an exchange over a number that was read in the slot, whether it won or not (the slot of an own page is
 -- never read, so filling it, and emptying it again, pays nothing); a take that missed a number that was free; since slot 0
--- was last read, the first removal, or the first read of a page's slot that holds 0, though a record names the page.
+-- was last read, the first removal, or, before that, the first read of a page's slot that holds 0, though a record names the page.
 abbrev pub IsPaid : Recalled → StepOf Record → Answer Record → Type 0
 IsPaid r (Exchange slot old new) (Whether won) = WasHead r slot old
 IsPaid r (TakePid pid) (Whether false) = WasFree r.pids pid
 IsPaid r (TakeRow row) (Whether false) = WasFree r.rows row
-IsPaid r (Slot (suc page)) (Number zero) = IsTrue r.walk.rooted × IsUnread (suc page) r.walk.visited × AnyNames r.walk.records (suc page)
+IsPaid r (Slot (suc page)) (Number zero) = IsTrue r.walk.rooted × IsFalse r.walk.removed × IsUnread (suc page) r.walk.visited × AnyNames r.walk.records (suc page)
 IsPaid r (Row row) (Content (Remove remove)) = IsTrue r.walk.rooted × IsFalse r.walk.removed
 IsPaid r step answer = ⊥
 

@@ -1,6 +1,6 @@
 -- A writer's pages in hand, while other pages are read.
-use Rattle.std.proofs.Common.{◌≡◌, ◌≢◌, ◌<◌, ◌++◌, ◌⊎◌, inl, inr, ℕ, zero, suc, List, [], ◌∷◌, Option, Some, None, refl, sym, ap, ◌∙◌, arith}
-use Rattle.std.specs.Prelude.{IfSome, IsTrue, ⊤}
+use Rattle.std.proofs.Common.{◌≡◌, ◌≢◌, ◌<◌, ◌++◌, ◌⊎◌, inl, inr, ℕ, zero, suc, List, [], ◌∷◌, Option, Some, None, refl, sym, ap, ◌∙◌, false, arith}
+use Rattle.std.specs.Prelude.{IfSome, IsFalse, IsTrue, ⊤}
 use Rattle.std.proofs.lemmas.Bool.Decides.{eqb_tells}
 use Rattle.std.proofs.lemmas.Option.{IfSome_then}
 use Rattle.bw_model.specs.declared.limits.Limits.{Limits}
@@ -58,6 +58,7 @@ pub record HasReached (limits : Limits) (key : List ℕ) (goal : Goal) (parent l
   pub earlier : List ℕ
   pub arrives : HasArrived limits k now r version level low earlier
   pub passing : IsTrue (way_of goal key low)
+  pub fresh : IsFalse (is_beyond goal) → r.walk.passed ≡ false
   pub above : IfSome parent (LiesAbove limits now version earlier)
   pub aside : IfSome left (IsLeftOf limits now low earlier)
   pub based : IsBased r parent left version.pid low
@@ -166,6 +167,7 @@ module _ (limits : Limits) (key : List ℕ) (goal : Goal) (parent left : Option 
           earlier = h.earlier;
           arrives = here;
           passing = h.seeks.passing;
+          fresh = h.seeks.fresh;
           above = IfSome_then parent h.above (λ other i. record {
             kept = kept_row other h.earlier i.kept;
             up = elim here.is_level [ inl none ↦ absurd (some_among other.pid h.earlier i.kept.among none) | inr is ↦ i.up ∙ ap suc (sym is) ];

@@ -1,6 +1,6 @@
 -- A reader's way to a key, also by the left of a removed page.
 use Rattle.std.proofs.Common.{◌≡◌, ◌≢◌, ◌<◌, ◌++◌, ◌-◌, ◌⊎◌, inl, inr, ℕ, List, [], ◌∷◌, Bool, true, false, Some, refl, sym, ◌∙◌, subst, arith}
-use Rattle.std.specs.Prelude.{IsTrue, ⊤}
+use Rattle.std.specs.Prelude.{IsFalse, IsTrue, ⊤}
 use Rattle.std.specs.List.{AllByRecursion}
 use Rattle.std.proofs.lemmas.Option.{same_Some}
 use Rattle.bw_model.specs.declared.limits.Limits.{Limits}
@@ -27,9 +27,9 @@ use Rattle.descent.specs.Ways.{LeadsOn, LeadsRight, NamesAt, StaysLeft, reaches,
 use Rattle.descent.specs.ReadRounds.{Begins, IsBesideLeaf, IsGoneAt, IsAliveLeaf, IsVisiting, Keeps, is_beyond, way_of}
 use Rattle.descent.proofs.Holding.{before_slot, in_hand_row, in_hand_slot}
 use Rattle.descent.proofs.PageLaws.{above_empty, spans}
-use Rattle.descent.proofs.Seeking.{arrived_next, hand, living, seeks_next, seeks_on, seeks_root}
+use Rattle.descent.proofs.Seeking.{arrived_next, fresh_next, hand, living, seeks_next, seeks_on, seeks_root}
 use Rattle.descent.proofs.Visiting.{back, there}
-use Rattle.descent.proofs.Walking.{all_past, never_there, not_itself, past_on, told_of, trans}
+use Rattle.descent.proofs.Walking.{all_past, never_there, not_itself, past_on, told_of, trail_on, trans}
 use Rattle.descent.proofs.WayLaws.{covers_here, down_names, lowest, right_names}
 
 -- a key that is above a page that begins after another is above that one
@@ -60,6 +60,7 @@ pub record HasReached (limits : Limits) (key : List ℕ) (goal : Goal) (k now : 
   pub earlier : List ℕ
   pub arrives : HasArrived limits k now r version level low earlier
   pub passing : IsTrue (way_of goal key low)
+  pub fresh : IsFalse (is_beyond goal) → r.walk.passed ≡ false
   pub passed : Passed limits key k now version goal
 
 module _ (limits : Limits) (key : List ℕ) (k : Knowledge) (r : Recalled) where
@@ -162,6 +163,7 @@ module _ (limits : Limits) (key : List ℕ) (goal : Goal) (k : Knowledge) (r : R
     earlier = h.earlier;
     arrives = arrived_next limits (way_of goal key) (is_beyond goal) k r visit h.level h.low h.earlier told h.seeks f version b;
     passing = h.seeks.passing;
+    fresh = fresh_next limits (way_of goal key) (is_beyond goal) k r visit h.level h.low h.earlier told h.seeks f version b;
     passed = passed_next version b;
   }
 
@@ -187,11 +189,11 @@ module _ (limits : Limits) (key : List ℕ) (goal : Goal) (k now : Knowledge) (r
   goes_to pid alive leads = elim leads [
     | inl right ↦ (
         let names = right_names (way_of goal key) chain pid right in
-        record { level = level_in chain; low = right.low; earlier = version.pid ∷ h.earlier; seeks = seeks_on limits k now r version h.level h.low h.earlier h.arrives (way_of goal key) (is_beyond goal) pid (level_in chain) right.low names alive right.on_way; keeps = keeps_on alive pid (level_in chain) right.low names goal right.on_way h.passed }
+        record { level = level_in chain; low = right.low; earlier = version.pid ∷ h.earlier; seeks = seeks_on limits k now r version h.level h.low h.earlier h.arrives (way_of goal key) (is_beyond goal) pid (level_in chain) right.low names alive right.on_way h.fresh; keeps = keeps_on alive pid (level_in chain) right.low names goal right.on_way h.passed }
         )
     | inr down ↦ (
         let names = down_names (way_of goal key) chain pid down.1 down.2 in
-        record { level = level_in chain - 1; low = down.2.low; earlier = version.pid ∷ h.earlier; seeks = seeks_on limits k now r version h.level h.low h.earlier h.arrives (way_of goal key) (is_beyond goal) pid (level_in chain - 1) down.2.low names alive down.2.greatest.passing; keeps = keeps_on alive pid (level_in chain - 1) down.2.low names goal down.2.greatest.passing h.passed }
+        record { level = level_in chain - 1; low = down.2.low; earlier = version.pid ∷ h.earlier; seeks = seeks_on limits k now r version h.level h.low h.earlier h.arrives (way_of goal key) (is_beyond goal) pid (level_in chain - 1) down.2.low names alive down.2.greatest.passing h.fresh; keeps = keeps_on alive pid (level_in chain - 1) down.2.low names goal down.2.greatest.passing h.passed }
         )
   ]
 
@@ -221,7 +223,7 @@ module _ (limits : Limits) (key : List ℕ) (removed : Version) (k now : Knowled
     level = level_in here;
     low = on.low;
     earlier = version.pid ∷ h.earlier;
-    seeks = seeks_on limits k now r version h.level h.low h.earlier h.arrives (reaches key) true pid (level_in here) on.low (right_names (reaches key) here pid on) alive on.on_way;
+    seeks = seeks_on limits k now r version h.level h.low h.earlier h.arrives (reaches key) true pid (level_in here) on.low (right_names (reaches key) here pid on) alive on.on_way (λ here. absurd cc);
     keeps = tt;
   }
 
@@ -284,17 +286,18 @@ module _ (limits : Limits) (key : List ℕ) (removed : Version) (k now : Knowled
                   };
                   same = refl;
                   bare = refl;
-                  visited = h.arrives.visited;
+                  visited = trail_on r.walk here h.arrives.removed alive ∙ h.arrives.visited;
                   recalled = h.arrives.recalled;
                   expected = inr (inr (record { left = version; in_hand = in_hand; alive = alive; apart = λ e. apart_here (sym e); beyond = known_now; names = names }));
                   distinct = (within.0, within.1, new_right, h.arrives.distinct);
                   past = all_past limits k now r version h.level h.low h.earlier h.arrives level low descends_on;
                   rooted = h.arrives.rooted;
-                  removed = h.arrives.removed ∙ alive;
+                  removed = tt;
                   kept = λ other none. absurd none;
                 };
                 passing = passing;
                 named = λ here. absurd cc;
+                fresh = λ here. absurd cc;
               };
               keeps = tt;
             }

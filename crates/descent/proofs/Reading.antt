@@ -1,10 +1,10 @@
 -- What an answer leaves a reader's round.
-use Rattle.std.proofs.Common.{ap, ◌∙◌, ◌≡◌, ◌<◌, ◌+◌, ◌-◌, ◌*◌, inl, inr, ℕ, List, length, Bool, true, false, Option, Some, None, refl, sym, subst, arith}
+use Rattle.std.proofs.Common.{ap, ◌∙◌, ◌≡◌, ◌<◌, ◌+◌, ◌-◌, ◌*◌, inl, inr, ℕ, List, [], length, Bool, true, false, Option, Some, None, refl, sym, subst, arith}
 use Rattle.bw_model.specs.declared.step.Answer.{Answer}
 use Rattle.bw_model.specs.declared.step.Answer.TheVariants as answer
 use Rattle.bw_model.specs.declared.step.Step.{Step}
 use Rattle.deltas.specs.declared.record.Record.{Record}
-use Rattle.chain_search.specs.Chains.{level_in, low_in}
+use Rattle.chain_search.specs.Chains.{is_removed, level_in, low_in}
 use Rattle.chain_search.specs.Fitting.{Fits}
 use Rattle.chain_search.specs.Knowledge.{Knowledge, learn}
 use Rattle.chain_search.specs.Recalled.{IsSpentWith, Recalled, recall}
@@ -16,11 +16,12 @@ use Rattle.descent.specs.declared.read_round.ReadEnd.TheVariants.{Again, Removed
 use Rattle.descent.specs.declared.descent.State.{State}
 use Rattle.descent.specs.declared.descent.State.TheVariants.{Root, Page}
 use Rattle.descent.specs.declared.visit.Sight.{Sight}
+use Rattle.descent.specs.declared.visit.State.TheVariants.{Slot}
 use Rattle.descent.specs.declared.visit.Sight.TheVariants.{Empty, Whole}
 use Rattle.descent.specs.ReadRounds.{Begins, CanPass, CanSee, Ends, Follows, GoesFrom, GoesOnWay, IsLeftLeaf, IsTold, IsVisiting, Misses, ReadRound, Responds, Sees, SeeksKey, Shows, Spends, Treats, at, descent_of, going_to, is_beyond, kept_for, wanted, way_of}
 use Rattle.descent.specs.Descents.{Descent, Finds, Shows as WayShows, Starts, Visits}
 use Rattle.descent.specs.Visits as page
-use Rattle.descent.specs.Walks.{IsSeeking, left_in}
+use Rattle.descent.specs.Walks.{IsSeeking, left_at, left_in, with_walk}
 use Rattle.descent.specs.Ways.{EndsHere, StaysLeft, precedes, reaches}
 use Rattle.descent.proofs.Passing.{HasReached, at_or_below, begins, goes_to, is_beside, is_merged, past_merged, past_removed, reached_next, visits_next, within}
 use Rattle.descent.proofs.Seeking.{is_gone, living, reached}
@@ -94,17 +95,17 @@ module _ (old new : ReadRound) (told : Answer Record) (visit : page.Visit) where
       abbrev way : List ℕ → Bool
       way = way_of old.goal old.key
 
-      less : 14 * (4095 - length (recall r (page.wanted visit) told).walk.visited) < left_in reserve r visit
+      less : is_removed version.chain ≡ false → left_at reserve (recall r (page.wanted visit) told).walk [] Slot < left_in reserve r visit
       less = left_on reserve old.limits way (is_beyond old.goal) k r visit h.level h.low h.earlier told h.seeks f version b
 
-      more : (goal : Goal) → old.goal ≡ goal → (14 * (4095 - length (recall r (page.wanted visit) told).walk.visited)) + kept_for kept goal < left_in reserve r visit + kept_for kept old.goal
-      more goal e = let l = less in rw e (omega (arith, l))
+      more : is_removed version.chain ≡ false → (goal : Goal) → old.goal ≡ goal → left_at reserve (recall r (page.wanted visit) told).walk [] Slot + kept_for kept goal < left_in reserve r visit + kept_for kept old.goal
+      more alive goal e = let l = less alive in rw e (omega (arith, l))
 
       by_result : (o : Option ReadEnd) → Treats here version new o → Spends reserve kept r here told new o
       by_result None t = elim t [
-        | inl on ↦ rw on.goes (inl (more old.goal refl))
-        | inr (inl beyond) ↦ rw beyond.goes (inl (more (Left beyond.removed) beyond.left.goal))
-        | inr (inr past) ↦ rw past.goes (inl (more (Left past.removed) past.left.goal))
+        | inl on ↦ rw on.goes (inl (more on.alive old.goal refl))
+        | inr (inl beyond) ↦ rw beyond.goes (inl (more beyond.left.alive (Left beyond.removed) beyond.left.goal))
+        | inr (inr past) ↦ rw past.goes (inl (more past.left.alive (Left past.removed) past.left.goal))
       ]
       by_result (Some Again) t = absurd t
       by_result (Some (Removed removed)) t = let some = left_removed reserve old.limits way (is_beyond old.goal) k r visit h.level h.low h.earlier told h.seeks f version b t.1 in omega (arith, some)
@@ -144,7 +145,7 @@ pub spends_from : (old new : ReadRound) (told : Answer Record) (result : Option 
 spends_from old new told result responds = elim responds [
   | inl way ↦ elim way.on [
     | inl b ↦ back old (Pays new result) Root (answer.Number b.root) told b.asked b.is (rw (way.none, started old new told result way b) (λ reserve kept k r h f. inl (omega arith)))
-    | inr b ↦ back old (Pays new result) (Page b.visit) told told b.asked refl (rw (way.none, visiting old new told result way b) (λ reserve kept k r h f. still reserve r (page.wanted b.visit) told _ _ (kept_for kept old.goal) (spent_on reserve old.limits (way_of old.goal old.key) (is_beyond old.goal) k r b.visit h.level h.low h.earlier told h.seeks f b.next b.responds)))
+    | inr b ↦ back old (Pays new result) (Page b.visit) told told b.asked refl (rw (way.none, visiting old new told result way b) (λ reserve kept k r h f. still (with_walk reserve) r (page.wanted b.visit) told _ _ (kept_for kept old.goal) (spent_on reserve old.limits (way_of old.goal old.key) (is_beyond old.goal) k r b.visit h.level h.low h.earlier told h.seeks f b.next b.responds)))
   ]
   | inr from ↦ back old (Pays new result) (Page from.finds.visit) told told from.finds.asked refl (paid old new told from.finds.visit from.finds.next from.sight result from.finds.responds (seen_at old new told result from))
 ]

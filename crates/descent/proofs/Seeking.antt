@@ -1,6 +1,6 @@
 -- What the steps of a round leave it, on the way to the key.
 use Rattle.std.proofs.Common.{◌≡◌, ◌<◌, ◌++◌, ◌==◌, ◌⊎◌, inl, inr, ℕ, zero, suc, List, [], ◌∷◌, Bool, true, false, Some, None, refl, subst, arith}
-use Rattle.std.specs.Prelude.{IsTrue}
+use Rattle.std.specs.Prelude.{IsFalse, IsTrue}
 use Rattle.std.proofs.lemmas.Bool.{eq-eqb}
 use Rattle.bw_model.specs.declared.limits.Limits.{Limits}
 use Rattle.bw_model.specs.declared.step.Step.TheVariants as step
@@ -40,11 +40,12 @@ seeks_root limits way beyond k r pid lowest fits inside = record {
     distinct = (fits.0, fits.1, tt, tt);
     past = tt;
     rooted = refl;
-    removed = refl;
+    removed = tt;
     kept = λ page none. absurd none;
   };
   passing = lowest;
   named = λ here. inl (replaced_true k.read.roots pid);
+  fresh = λ here. refl;
 }
 
 -- a visit goes on
@@ -61,9 +62,13 @@ module _ (limits : Limits) (way : List ℕ → Bool) (beyond : Bool) (k : Knowle
   named_on_slot : (n : ℕ) → 0 < visit.pid → IsNamedNow k r visit.pid → IsNamedNow (learn_slot visit.pid n k) (recall r (step.Slot visit.pid) (answer.Number n)) visit.pid
   named_on_slot n some h = rw (slot_roots visit.pid n some, recall_records visit.pid n some) h
 
+  fresh_on_slot : (pid n : ℕ) → 0 < pid → r.walk.removed ≡ false → (recall r (step.Slot pid) (answer.Number n)).walk.passed ≡ false
+  fresh_on_slot zero n some none = absurd (omega (arith, some))
+  fresh_on_slot (suc pid) n some none = none
+
   pub seeks_slot : (row : ℕ) → 0 < row → row < visit.limits.rows → IsSeeking limits way beyond k r (at visit Slot) level low earlier
       → IsSeeking limits way beyond (learn k (step.Slot visit.pid) (answer.Number row)) (recall r (step.Slot visit.pid) (answer.Number row)) (record visit { part = []; state = Row row row }) level low earlier
-  seeks_slot row linked few h = record { on_way = on_slot limits k r visit level low earlier row linked few h.on_way; passing = h.passing; named = λ here. named_on_slot row h.on_way.shows.page (h.named here) }
+  seeks_slot row linked few h = record { on_way = on_slot limits k r visit level low earlier row linked few h.on_way; passing = h.passing; named = λ here. named_on_slot row h.on_way.shows.page (h.named here); fresh = λ here. fresh_on_slot visit.pid row h.on_way.shows.page (h.fresh here) }
 
   module _ (row : ℕ) (content : Record) (fits : FitsRow limits k row content) where
     abbrev now : Knowledge
@@ -78,6 +83,7 @@ module _ (limits : Limits) (way : List ℕ → Bool) (beyond : Bool) (k : Knowle
       on_way = on_row limits k r visit level low earlier row content fits head under more h.on_way;
       passing = h.passing;
       named = λ here. elim (h.named here) [ inl root ↦ inl root | inr met ↦ inr (inr met) ];
+      fresh = h.fresh;
     }
 
     -- the page was read whole
@@ -104,6 +110,11 @@ module _ (limits : Limits) (way : List ℕ → Bool) (beyond : Bool) (k : Knowle
             (rw b.goes (seeks_row limits way beyond k r visit level low earlier b.row b.content fits b.head b.under b.more (there visit Seeks (Row b.head b.row) (answer.Content b.content) told b.asked b.is h)))
       ]
 
+  pub fresh_next : (version : Version) → Completes visit told version → IsFalse beyond → (recall r (wanted visit) told).walk.passed ≡ false
+  fresh_next version b here =
+      back visit (λ v x. (recall r (wanted v) x).walk.passed ≡ false) (Row version.head b.row) (answer.Content b.content) told b.asked b.is
+      ((there visit Seeks (Row version.head b.row) (answer.Content b.content) told b.asked b.is h).fresh here)
+
   pub arrived_next : (version : Version) → Completes visit told version → HasArrived limits k (learn k (wanted visit) told) (recall r (wanted visit) told) version level low earlier
   arrived_next version b =
       let fits = there visit FitsAt (Row version.head b.row) (answer.Content b.content) told b.asked b.is f in
@@ -129,10 +140,11 @@ module _ (limits : Limits) (k now : Knowledge) (r : Recalled) (version : Version
   reached way passing = record { reached = rw h.is_low passing; names = hand.sound.names }
 
   -- the round goes on to a page that is named
-  pub seeks_on : (way : List ℕ → Bool) (beyond : Bool) (page new_level : ℕ) (new_low : List ℕ) → NamesAt version.chain page new_level new_low → is_removed version.chain ≡ false → IsTrue (way new_low)
+  pub seeks_on : (way : List ℕ → Bool) (beyond : Bool) (page new_level : ℕ) (new_low : List ℕ) → NamesAt version.chain page new_level new_low → is_removed version.chain ≡ false → IsTrue (way new_low) → (IsFalse beyond → r.walk.passed ≡ false)
       → IsSeeking limits way beyond now r (to_page limits page) new_level new_low (version.pid ∷ earlier)
-  seeks_on way beyond page new_level new_low names alive passing = record {
+  seeks_on way beyond page new_level new_low names alive passing fresh = record {
     on_way = onward limits k now r version level low earlier h page new_level new_low names alive;
     passing = passing;
     named = λ here. inr (h.kept page (names_meets version.chain page new_level new_low names));
+    fresh = λ here. rw (fresh here, alive) at h.removed;
   }

@@ -11,34 +11,39 @@ use Rattle.deltas.specs.Records.{next_row}
 use Rattle.chain_search.specs.Chains.{is_removed}
 use Rattle.chain_search.specs.Fitting.{Fits, FitsRow}
 use Rattle.chain_search.specs.Knowledge.{Knowledge}
-use Rattle.chain_search.specs.Recalled.{AnyNames, IsPaid, IsSpentWith, IsUnread, Recalled, is_removal, recall}
+use Rattle.chain_search.specs.Recalled.{AnyNames, IsPaid, IsSpentWith, IsUnread, Recalled, Walk, is_removal, recall, trail}
 use Rattle.smo.specs.declared.version.Version.{Version}
 use Rattle.descent.specs.declared.visit.State.{State}
 use Rattle.descent.specs.declared.visit.State.TheVariants.{Slot, Row}
 use Rattle.descent.specs.Visits.{Starts, Completes, Continues, FindsEmpty, Visit, at, wanted}
-use Rattle.descent.specs.Walks.{IsSeeking, few_reads, left_at, left_in}
+use Rattle.descent.specs.Walks.{IsSeeking, few_reads, left_at, left_in, with_walk}
 use Rattle.descent.proofs.Meeting.{few_pages, removed_push}
+use Rattle.descent.proofs.Seeking.{arrived}
+use Rattle.descent.proofs.Walking.{trail_on}
 use Rattle.descent.proofs.Visiting.{back, there}
 
 module _ (reserve : ℕ) (limits : Limits) (way : List ℕ → Bool) (beyond : Bool) (k : Knowledge) (r : Recalled) (visit : Visit) (level : ℕ) (low : List ℕ) (earlier : List ℕ) where
   abbrev Seeks : State → Type 0
   Seeks state = IsSeeking limits way beyond k r (at visit state) level low earlier
 
-  recall_visited : (pid n : ℕ) → 0 < pid → (recall r (step.Slot pid) (answer.Number n)).walk.visited ≡ pid ∷ r.walk.visited
-  recall_visited zero n some = absurd (omega (arith, some))
-  recall_visited (suc pid) n some = refl
+  recall_walk : (pid n : ℕ) → 0 < pid → (recall r (step.Slot pid) (answer.Number n)).walk ≡ record r.walk { visited = pid ∷ trail r.walk; passed = r.walk.removed }
+  recall_walk zero n some = absurd (omega (arith, some))
+  recall_walk (suc pid) n some = refl
 
   spent_slot : (row : ℕ) → Seeks Slot → left_in reserve (recall r (step.Slot visit.pid) (answer.Number row)) (record visit { part = []; state = Row row row }) < left_in reserve r (at visit Slot)
   spent_slot row h =
       let few = few_pages limits (visit.pid ∷ earlier) h.on_way.distinct in
-      rw (recall_visited visit.pid row h.on_way.shows.page, h.on_way.visited) (omega (arith, few))
+      rw (recall_walk visit.pid row h.on_way.shows.page, h.on_way.visited) (omega (arith, few))
 
-  -- at most one removal is read, and it is paid
+  abbrev full : ℕ
+  full = with_walk reserve
+
+  -- at most one removal is read before the round goes on from it, and it is paid
   reserved : (content : Record) (part : List Record) → (delta : is_removed (part ++ content ∷ []) ≡ (is_removal content || is_removed part))
-      → ((if is_removed (part ++ content ∷ []) then reserve else 0) ≡ (if is_removed part then reserve else 0)) ⊎ ((is_removal content ≡ true) × (is_removed part ≡ false))
+      → ((if is_removed (part ++ content ∷ []) then full else 0) ≡ (if is_removed part then full else 0)) ⊎ ((is_removal content ≡ true) × (is_removed part ≡ false))
   reserved content part is = by_tests (is_removal content) (is_removed part) refl refl is
     where
-      by_tests : (b t : Bool) → is_removal content ≡ b → is_removed part ≡ t → is_removed (part ++ content ∷ []) ≡ (b || t) → ((if is_removed (part ++ content ∷ []) then reserve else 0) ≡ (if t then reserve else 0)) ⊎ ((b ≡ true) × (t ≡ false))
+      by_tests : (b t : Bool) → is_removal content ≡ b → is_removed part ≡ t → is_removed (part ++ content ∷ []) ≡ (b || t) → ((if is_removed (part ++ content ∷ []) then full else 0) ≡ (if t then full else 0)) ⊎ ((b ≡ true) × (t ≡ false))
       by_tests true true e f g = inl (rw g refl)
       by_tests true false e f g = inr (refl, refl)
       by_tests false true e f g = inl (rw g refl)
@@ -55,27 +60,41 @@ module _ (reserve : ℕ) (limits : Limits) (way : List ℕ → Bool) (beyond : B
   paid_removal row (kind.Merge merge) e rooted none = cc
   paid_removal row (kind.Unterm unterm) e rooted none = cc
 
-  at_most : (b : Bool) → (if b then reserve else 0) ≤ reserve
+  at_most : (b : Bool) → (if b then full else 0) ≤ full
   at_most true = omega arith
   at_most false = omega arith
 
   spent_row : (head row : ℕ) (content : Record) (under : ℕ) → FitsRow limits k row content → Seeks (Row head row)
-      → IsSpentWith (1 + reserve) r (step.Row row) (answer.Content content) (left_in reserve r (at visit (Row head row))) (left_in reserve (recall r (step.Row row) (answer.Content content)) (record visit { part = visit.part ++ content ∷ []; state = Row head under }))
-  spent_row head row content under fits h =
-      let few : length visit.part < 13 = fits.short visit.pid head visit.part h.on_way.shows.stands.in_slot h.on_way.shows.stands.seen in
-      let one : length (visit.part ++ content ∷ []) ≡ length visit.part + 1 = length-append visit.part (content ∷ []) in
-      let delta = removed_push k.read.seen visit.part head row content h.on_way.shows.stands.seen in
-      let most = at_most (is_removed (visit.part ++ content ∷ [])) in
-      elim (reserved content visit.part delta) [
-        | inl same ↦ inl (rw same (omega (arith, few, one)))
-        | inr gone ↦ inr (paid_removal row content gone.0 h.on_way.rooted (h.on_way.removed ∙ gone.1), omega (arith, few, one, most))
-      ]
+      → IsSpentWith (1 + full) r (step.Row row) (answer.Content content) (left_in reserve r (at visit (Row head row))) (left_in reserve (recall r (step.Row row) (answer.Content content)) (record visit { part = visit.part ++ content ∷ []; state = Row head under }))
+  spent_row head row content under fits h = by_passed r.walk.passed refl
+    where
+      few : length visit.part < 13
+      few = fits.short visit.pid head visit.part h.on_way.shows.stands.in_slot h.on_way.shows.stands.seen
+
+      one : length (visit.part ++ content ∷ []) ≡ length visit.part + 1
+      one = length-append visit.part (content ∷ [])
+
+      Spent : Bool → Type 0
+      Spent b = IsSpentWith (1 + full) r (step.Row row) (answer.Content content)
+          (14 * (4095 - length r.walk.visited) + (13 - length visit.part) + (if b then reserve else (if is_removed visit.part then full else 0)))
+          (14 * (4095 - length r.walk.visited) + (13 - length (visit.part ++ content ∷ [])) + (if b then reserve else (if is_removed (visit.part ++ content ∷ []) then full else 0)))
+
+      by_passed : (b : Bool) → r.walk.passed ≡ b → Spent r.walk.passed
+      by_passed true e = subst Spent (sym e) (inl (omega (arith, few, one)))
+      by_passed false e =
+          let delta = removed_push k.read.seen visit.part head row content h.on_way.shows.stands.seen in
+          let most = at_most (is_removed (visit.part ++ content ∷ [])) in
+          let tells : r.walk.removed ≡ is_removed visit.part = rw e at h.on_way.removed in
+          subst Spent (sym e) (elim (reserved content visit.part delta) [
+            | inl same ↦ inl (rw same (omega (arith, few, one)))
+            | inr gone ↦ inr (paid_removal row content gone.0 h.on_way.rooted (tells ∙ gone.1), omega (arith, few, one, most))
+          ])
 
   -- a page wasn't there
 
-  paid_empty : (pid : ℕ) → 0 < pid → r.walk.rooted ≡ true → IsUnread pid r.walk.visited → AnyNames r.walk.records pid → IsPaid r (step.Slot pid) (answer.Number 0)
-  paid_empty zero some rooted new met = absurd (omega (arith, some))
-  paid_empty (suc pid) some rooted new met = (rooted, new, met)
+  paid_empty : (pid : ℕ) → 0 < pid → r.walk.rooted ≡ true → r.walk.removed ≡ false → IsUnread pid r.walk.visited → AnyNames r.walk.records pid → IsPaid r (step.Slot pid) (answer.Number 0)
+  paid_empty zero some rooted none new met = absurd (omega (arith, some))
+  paid_empty (suc pid) some rooted none new met = (rooted, none, new, met)
 
   never_root : (pid : ℕ) → 0 < pid → IsTrue (k.read.roots pid) → Fits limits k (step.Slot pid) (answer.Number 0) → ⊥
   never_root zero some root fits = absurd (omega (arith, some))
@@ -84,7 +103,10 @@ module _ (reserve : ℕ) (limits : Limits) (way : List ℕ → Bool) (beyond : B
   empty : IsFalse beyond → Seeks Slot → Fits limits k (step.Slot visit.pid) (answer.Number 0) → IsPaid r (step.Slot visit.pid) (answer.Number 0)
   empty here h fits = elim (h.named here) [
     | inl root ↦ absurd (never_root visit.pid h.on_way.shows.page root fits)
-    | inr met ↦ paid_empty visit.pid h.on_way.shows.page h.on_way.rooted (rw h.on_way.visited h.on_way.distinct.2) met
+    | inr met ↦
+        let none = h.fresh here in
+        let visited : r.walk.visited ≡ earlier = rw none at h.on_way.visited in
+        paid_empty visit.pid h.on_way.shows.page h.on_way.rooted none (rw visited h.on_way.distinct.2) met
   ]
 
   -- the same by what a visit makes of an answer
@@ -96,9 +118,9 @@ module _ (reserve : ℕ) (limits : Limits) (way : List ℕ → Bool) (beyond : B
     abbrev FitsAt : Visit → Answer Record → Type 0
     FitsAt v x = Fits limits k (wanted v) x
 
-    pub spent_on : (new : Visit) → Starts visit told new ⊎ Continues visit told new → IsSpentWith (1 + reserve) r (wanted visit) told (left_in reserve r visit) (left_in reserve (recall r (wanted visit) told) new)
+    pub spent_on : (new : Visit) → Starts visit told new ⊎ Continues visit told new → IsSpentWith (1 + full) r (wanted visit) told (left_in reserve r visit) (left_in reserve (recall r (wanted visit) told) new)
     spent_on new moves =
-        let P : Visit → Answer Record → Type 0 = λ v x. IsSpentWith (1 + reserve) r (wanted v) x (left_in reserve r v) (left_in reserve (recall r (wanted v) x) new) in
+        let P : Visit → Answer Record → Type 0 = λ v x. IsSpentWith (1 + full) r (wanted v) x (left_in reserve r v) (left_in reserve (recall r (wanted v) x) new) in
         elim moves [
           | inl b ↦ back visit P Slot (answer.Number b.row) told b.asked b.is (rw b.goes (inl (spent_slot b.row (seeks_at Slot b.asked))))
           | inr b ↦ back visit P (Row b.head b.row) (answer.Content b.content) told b.asked b.is (rw b.goes (spent_row b.head b.row b.content b.under (there visit FitsAt (Row b.head b.row) (answer.Content b.content) told b.asked b.is f) (seeks_at (Row b.head b.row) b.asked)))
@@ -125,20 +147,43 @@ module _ (reserve : ℕ) (limits : Limits) (way : List ℕ → Bool) (beyond : B
       few : length visit.part < 13
       few = fits_row.short visit.pid version.head visit.part seeks.on_way.shows.stands.in_slot seeks.on_way.shows.stands.seen
 
+      -- what is reserved
+      abbrev kept : ℕ
+      kept = if r.walk.passed then reserve else (if is_removed visit.part then full else 0)
+
       -- what was left is more than what is left for the other pages
-      pub more_left : 14 * (4095 - length r.walk.visited) + (if is_removed visit.part then reserve else 0) < left_in reserve r visit
+      pub more_left : 14 * (4095 - length r.walk.visited) + kept < left_in reserve r visit
       more_left =
-          let here : 14 * (4095 - length r.walk.visited) + (if is_removed visit.part then reserve else 0) < left_in reserve r (at visit (Row version.head b.row)) = omega (arith, few) in
-          back visit (λ v x. 14 * (4095 - length r.walk.visited) + (if is_removed visit.part then reserve else 0) < left_in reserve r v) (Row version.head b.row) (answer.Content b.content) told b.asked b.is here
-
-      same_visited : (recall r (wanted visit) told).walk.visited ≡ r.walk.visited
-      same_visited = back visit (λ v x. (recall r (wanted v) x).walk.visited ≡ r.walk.visited) (Row version.head b.row) (answer.Content b.content) told b.asked b.is refl
-
-      pub left_on : 14 * (4095 - length (recall r (wanted visit) told).walk.visited) < left_in reserve r visit
-      left_on = rw same_visited (let more = more_left in omega (arith, more))
+          let here : 14 * (4095 - length r.walk.visited) + kept < left_in reserve r (at visit (Row version.head b.row)) = omega (arith, few) in
+          back visit (λ v x. 14 * (4095 - length r.walk.visited) + kept < left_in reserve r v) (Row version.head b.row) (answer.Content b.content) told b.asked b.is here
 
       pub left_some : 0 < left_in reserve r visit
       left_some = let more = more_left in omega (arith, more)
+
+      -- the round goes on from a page that isn't removed
+      pub left_on : is_removed version.chain ≡ false → left_at reserve (recall r (wanted visit) told).walk [] Slot < left_in reserve r visit
+      left_on alive = back visit (λ v x. left_at reserve (recall r (wanted v) x).walk [] Slot < left_in reserve r visit) (Row version.head b.row) (answer.Content b.content) told b.asked b.is (by_passed r.walk.passed refl)
+        where
+          now : Walk
+          now = (recall r (step.Row b.row) (answer.Content b.content)).walk
+
+          tells : now.removed ≡ (r.walk.passed || is_removed version.chain)
+          tells = (arrived limits way beyond k r visit level low earlier b.row b.content fits_row version b.pid b.chain b.last seeks).removed
+
+          all : trail now ≡ r.walk.visited
+          all = trail_on now version.chain tells alive
+
+          by_passed : (p : Bool) → r.walk.passed ≡ p → left_at reserve now [] Slot < left_in reserve r visit
+          by_passed true e =
+              let gone : now.removed ≡ true = rw e at tells in
+              let same : kept ≡ (if now.removed then reserve else 0) = rw (gone, e) refl in
+              let more = more_left in
+              rw all (omega (arith, more, same))
+          by_passed false e =
+              let gone : now.removed ≡ false = rw (e, alive) at tells in
+              let none : (if now.removed then reserve else 0) ≡ 0 = rw gone refl in
+              let more = more_left in
+              rw all (omega (arith, more, none))
 
       part_removed : is_removed version.chain ≡ true → is_removed visit.part ≡ true
       part_removed gone =
@@ -158,22 +203,31 @@ module _ (reserve : ℕ) (limits : Limits) (way : List ℕ → Bool) (beyond : B
           no_removal (kind.Unterm unterm) e = refl
 
       pub left_removed : is_removed version.chain ≡ true → reserve < left_in reserve r visit
-      left_removed gone =
-          let is = part_removed gone in
-          let more : 14 * (4095 - length r.walk.visited) + reserve < left_in reserve r visit = rw is at more_left in
-          omega (arith, more)
+      left_removed gone = by_passed r.walk.passed refl
+        where
+          by_passed : (p : Bool) → r.walk.passed ≡ p → reserve < left_in reserve r visit
+          by_passed true e = let same : kept ≡ reserve = rw e refl in let more = more_left in omega (arith, more, same)
+          by_passed false e = let is = part_removed gone in let same : kept ≡ full = rw (e, is) refl in let more = more_left in omega (arith, more, same)
 
 -- a round takes few reads
-pub few_left : (reserve : ℕ) (limits : Limits) (way : List ℕ → Bool) (beyond : Bool) (k : Knowledge) (r : Recalled) (visit : Visit) (level : ℕ) (low : List ℕ) (earlier : List ℕ) → IsSeeking limits way beyond k r visit level low earlier → left_in reserve r visit ≤ few_reads + reserve
+pub few_left : (reserve : ℕ) (limits : Limits) (way : List ℕ → Bool) (beyond : Bool) (k : Knowledge) (r : Recalled) (visit : Visit) (level : ℕ) (low : List ℕ) (earlier : List ℕ) → IsSeeking limits way beyond k r visit level low earlier → left_in reserve r visit ≤ few_reads + with_walk reserve
 few_left reserve limits way beyond k r visit level low earlier h = by_state visit.state refl
   where
-    bound : (b : Bool) → (if b then reserve else 0) ≤ reserve
+    bound : (b : Bool) → (if b then with_walk reserve else 0) ≤ with_walk reserve
     bound true = omega arith
     bound false = omega arith
 
-    by_state : (state : State) → visit.state ≡ state → left_at reserve r.walk.visited visit.part visit.state ≤ few_reads + reserve
-    by_state Slot e = rw e (omega arith)
+    either : (p b : Bool) → (if p then reserve else (if b then with_walk reserve else 0)) ≤ with_walk reserve
+    either true b = omega arith
+    either false b = bound b
+
+    at_slot : (b : Bool) → (if b then reserve else 0) ≤ with_walk reserve
+    at_slot true = omega arith
+    at_slot false = omega arith
+
+    by_state : (state : State) → visit.state ≡ state → left_at reserve r.walk visit.part visit.state ≤ few_reads + with_walk reserve
+    by_state Slot e = rw e (let most = at_slot r.walk.removed in omega (arith, most))
     by_state (Row head row) e =
         let is : r.walk.visited ≡ visit.pid ∷ earlier = rw e at h.on_way.visited in
-        let most = bound (is_removed visit.part) in
+        let most = either r.walk.passed (is_removed visit.part) in
         rw (e, is) (omega (arith, most))

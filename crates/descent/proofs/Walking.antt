@@ -1,6 +1,6 @@
 -- From page to page: what a step of a visit leaves, and that a page that is named by the one just read was not read before.
-use Rattle.std.proofs.Common.{◌≡◌, ◌≢◌, ◌<◌, ◌++◌, ◌||◌, ◌==◌, inl, inr, ◌⊎◌, ℕ, zero, suc, List, [], ◌∷◌, Bool, true, false, Some, None, refl, sym, ap, ◌∙◌, subst, arith}
-use Rattle.std.specs.Prelude.{IsTrue}
+use Rattle.std.proofs.Common.{◌≡◌, ◌≢◌, ◌<◌, ◌++◌, ◌||◌, ◌&&◌, not, ◌==◌, inl, inr, ◌⊎◌, ℕ, zero, suc, List, [], ◌∷◌, Bool, true, false, Some, None, refl, sym, ap, ◌∙◌, subst, arith}
+use Rattle.std.specs.Prelude.{IsTrue, if◌then◌else◌}
 use Rattle.std.specs.List.{AllByRecursion}
 use Rattle.std.specs.Ordering.{is_lt}
 use Rattle.std.proofs.lemmas.Bool.{eq-eqb}
@@ -20,7 +20,7 @@ use Rattle.chain_search.specs.Discipline.{HasRead}
 use Rattle.chain_search.specs.Fitted.{IsFitted}
 use Rattle.chain_search.specs.Fitting.{FitsRow, IsReadWhole, SaysOf}
 use Rattle.chain_search.specs.Knowledge.{Knowledge, learn, learn_slot}
-use Rattle.chain_search.specs.Recalled.{IsUnread, Recalled, is_removal, recall}
+use Rattle.chain_search.specs.Recalled.{IsUnread, Recalled, Walk, is_removal, recall, trail}
 use Rattle.smo.specs.declared.version.Version.{Version}
 use Rattle.descent.specs.declared.visit.State.TheVariants.{Slot, Row}
 use Rattle.descent.specs.Versions.{NamesPages}
@@ -71,6 +71,24 @@ told_of naming page chain level low says h = elim h [
   | inr child ↦ says.child level low child.0 child.1 child.2 child.3
 ]
 
+or_false : (b : Bool) → b ≡ (b || false)
+or_false true = refl
+or_false false = refl
+
+or_swap : (a b c : Bool) → (a || (b || c)) ≡ (b || (a || c))
+or_swap true true c = refl
+or_swap true false c = refl
+or_swap false b c = refl
+
+-- where the round has gone on from the last removal that it read, all that it has visited since counts
+settled : (removed passed : Bool) (visited : List ℕ) → removed ≡ (passed || false) → (if removed && not passed then [] else visited) ≡ visited
+settled true true visited e = refl
+settled true false visited e = cc
+settled false passed visited e = refl
+
+pub trail_on : (walk : Walk) (chain : List Record) → walk.removed ≡ (walk.passed || is_removed chain) → is_removed chain ≡ false → trail walk ≡ walk.visited
+trail_on walk chain tells alive = settled walk.removed walk.passed walk.visited (rw alive at tells)
+
 -- steps of a visit
 
 module _ (limits : Limits) (k : Knowledge) (r : Recalled) (visit : Visit) (level : ℕ) (low : List ℕ) (earlier : List ℕ) where
@@ -79,7 +97,7 @@ module _ (limits : Limits) (k : Knowledge) (r : Recalled) (visit : Visit) (level
   slot_roots (suc page) zero some = refl
   slot_roots (suc page) (suc n) some = refl
 
-  recall_slot : (page n : ℕ) → 0 < page → recall r (step.Slot page) (answer.Number n) ≡ record r { heads = replaced_at page (Some n) r.heads; walk = record r.walk { visited = page ∷ r.walk.visited } }
+  recall_slot : (page n : ℕ) → 0 < page → recall r (step.Slot page) (answer.Number n) ≡ record r { heads = replaced_at page (Some n) r.heads; walk = record r.walk { visited = page ∷ trail r.walk; passed = r.walk.removed } }
   recall_slot zero n some = absurd (omega (arith, some))
   recall_slot (suc page) n some = refl
 
@@ -120,7 +138,7 @@ module _ (limits : Limits) (k : Knowledge) (r : Recalled) (visit : Visit) (level
     distinct = h.distinct;
     past = past_slot k visit.pid row level low earlier h.distinct.2 h.past;
     rooted = h.rooted;
-    removed = h.removed ∙ ap is_removed h.bare;
+    removed = or_false r.walk.removed;
     kept = λ page none. absurd none;
   })
 
@@ -149,7 +167,7 @@ module _ (limits : Limits) (k : Knowledge) (r : Recalled) (visit : Visit) (level
       distinct = h.distinct;
       past = past_row k row content fits.same level low earlier h.past;
       rooted = h.rooted;
-      removed = ap (λ (b : Bool). is_removal content || b) h.removed ∙ sym (removed_push k.read.seen visit.part head row content h.shows.stands.seen);
+      removed = ap (λ (b : Bool). is_removal content || b) h.removed ∙ or_swap (is_removal content) r.walk.passed (is_removed visit.part) ∙ ap (λ (b : Bool). r.walk.passed || b) (sym (removed_push k.read.seen visit.part head row content h.shows.stands.seen));
       kept = kept_push visit.part r.walk.records content h.kept;
     }
 
@@ -186,7 +204,8 @@ module _ (limits : Limits) (k : Knowledge) (r : Recalled) (visit : Visit) (level
             distinct = rw pid h.distinct;
             past = h.past;
             rooted = h.rooted;
-            removed = ap (λ (b : Bool). is_removal content || b) h.removed ∙ sym (removed_push k.read.seen visit.part version.head row content h.shows.stands.seen) ∙ ap is_removed (sym made);
+            removed = ap (λ (b : Bool). is_removal content || b) h.removed ∙ or_swap (is_removal content) r.walk.passed (is_removed visit.part)
+                ∙ ap (λ (b : Bool). r.walk.passed || b) (sym (removed_push k.read.seen visit.part version.head row content h.shows.stands.seen) ∙ ap is_removed (sym made));
             kept = rw made (kept_push visit.part r.walk.records content h.kept);
           }
 
@@ -261,13 +280,13 @@ module _ (limits : Limits) (k now : Knowledge) (r : Recalled) (version : Version
     shows = record { inside = h.arrives.inside; page = is_page.0; below = is_page.1; head = tt; stands = may };
     same = refl;
     bare = refl;
-    visited = h.visited;
+    visited = trail_on r.walk chain h.removed alive ∙ h.visited;
     recalled = h.recalled;
     expected = inr (inl named);
     distinct = (is_page.0, is_page.1, is_new, h.distinct);
     past = all_past limits k now r version was_level was_low earlier h level low on;
     rooted = h.rooted;
-    removed = h.removed ∙ alive;
+    removed = tt;
     kept = λ other none. absurd none;
   }
 

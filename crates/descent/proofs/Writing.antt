@@ -32,11 +32,12 @@ use Rattle.descent.specs.declared.write_round.WriteEnd.TheVariants as end
 use Rattle.descent.specs.declared.descent.State.{State}
 use Rattle.descent.specs.declared.descent.State.TheVariants.{Root, Page}
 use Rattle.descent.specs.declared.visit.Sight.{Sight}
+use Rattle.descent.specs.declared.visit.State.TheVariants.{Slot}
 use Rattle.descent.specs.declared.visit.Sight.TheVariants.{Empty, Whole}
 use Rattle.descent.specs.Versions.{IsAlive}
 use Rattle.descent.specs.Descents.{Descent, Finds, Shows as WayShows, Starts, Visits}
 use Rattle.descent.specs.Visits as page
-use Rattle.descent.specs.Walks.{IsSeeking, left_in}
+use Rattle.descent.specs.Walks.{IsSeeking, left_at, left_in, with_walk}
 use Rattle.descent.specs.Ways.{LeadsDown, LeadsRight, NamesAt, StaysLeft, precedes, reaches}
 use Rattle.descent.specs.WriteRounds.{Begins, CanMeet, Cuts, Merges, EndsCut, EndsMerged, IsLosingTerm, IsHere, IsLeftLeaf, IsMergeEnd, IsMissing, IsUntermEnd, Keeps, Misses, SeeksLeaf, is_beyond, kept_for, way_of, CanSee, EndsFine, EndsUnposted, EndsUnrooted, Ends, Follows, GoesFrom, GoesOnWay, IsBased, IsFine, IsSplitFinished, IsLeftOf, IsKept, IsLeafEnd, IsLong, IsRootEnd, IsTermEnd, IsTold, IsVisiting, Responds, Sees, Shows, Spends, Treats, WriteRound, at, wanted, descent_of, going_to, goes_left}
 use Rattle.descent.proofs.Keeping.{HasReached, LiesAbove, Passed, differs, reached_next, visits_next}
@@ -44,7 +45,7 @@ use Rattle.descent.proofs.Leading.{led_aside, termed}
 use Rattle.descent.proofs.PageLaws.{above_empty, covered, spans}
 use Rattle.descent.proofs.Seeking.{hand, is_gone, living, reached, seeks_on, seeks_root}
 use Rattle.descent.proofs.Spending.{left_empty, left_on, left_removed, left_some, spent_empty, spent_on}
-use Rattle.descent.proofs.Walking.{all_past, not_itself, recalled_head, told_of}
+use Rattle.descent.proofs.Walking.{all_past, not_itself, recalled_head, told_of, trail_on}
 use Rattle.descent.proofs.WayLaws.{covers_here, down_names, lowest, right_names}
 
 -- what follows once a page was read whole
@@ -124,7 +125,7 @@ module _ (old : WriteRound) (k now : Knowledge) (r : Recalled) (version : Versio
         level = level_in version.chain;
         low = leads.low;
         earlier = version.pid ∷ h.earlier;
-        seeks = seeks_on old.limits k now r version h.level h.low h.earlier h.arrives way (is_beyond old.goal) pid (level_in version.chain) leads.low names alive leads.on_way;
+        seeks = seeks_on old.limits k now r version h.level h.low h.earlier h.arrives way (is_beyond old.goal) pid (level_in version.chain) leads.low names alive leads.on_way h.fresh;
         above = IfSome_then old.parent h.above (λ other i. record { kept = kept_on other i.kept; up = i.up; after = tt });
         aside = record { kept = kept_here alive; inner = inner (low_in version.chain) leads.low (spans version.chain leads.low (hand old.limits k now r version h.level h.low h.earlier h.arrives).sound.is_chain.fitted leads.is_high) };
         based = based_on old.parent old.left pid leads.low h.based h.aside;
@@ -140,7 +141,7 @@ module _ (old : WriteRound) (k now : Knowledge) (r : Recalled) (version : Versio
         level = level_in version.chain - 1;
         low = leads.low;
         earlier = version.pid ∷ h.earlier;
-        seeks = seeks_on old.limits k now r version h.level h.low h.earlier h.arrives way (is_beyond old.goal) pid (level_in version.chain - 1) leads.low names alive leads.greatest.passing;
+        seeks = seeks_on old.limits k now r version h.level h.low h.earlier h.arrives way (is_beyond old.goal) pid (level_in version.chain - 1) leads.low names alive leads.greatest.passing h.fresh;
         above = record { kept = kept_here alive; up = omega (arith, index); after = tt };
         aside = tt;
         based = tt;
@@ -168,7 +169,7 @@ module _ (old : WriteRound) (k now : Knowledge) (r : Recalled) (version : Versio
           level = level_in version.chain;
           low = old.key;
           earlier = version.pid ∷ h.earlier;
-          seeks = seeks_on old.limits k now r version h.level h.low h.earlier h.arrives (reaches old.key) false pid (level_in version.chain) old.key names alive (reaches_itself old.key);
+          seeks = seeks_on old.limits k now r version h.level h.low h.earlier h.arrives (reaches old.key) false pid (level_in version.chain) old.key names alive (reaches_itself old.key) (λ here. h.fresh (ap is_beyond goal));
           above = tt;
           aside = tt;
           based = inr above_low;
@@ -210,17 +211,18 @@ module _ (old : WriteRound) (k now : Knowledge) (r : Recalled) (version : Versio
             };
             same = refl;
             bare = refl;
-            visited = h.arrives.visited;
+            visited = trail_on r.walk chain h.arrives.removed alive ∙ h.arrives.visited;
             recalled = h.arrives.recalled;
             expected = inr (inl (record { naming = parent; in_hand = over.kept.in_hand; alive = over.kept.alive; apart = apart_parent; names = inr (true, over.up, inside_parent, term) }));
             distinct = (some, below_limit, by.1.unread, h.arrives.distinct);
             past = all_past old.limits k now r version h.level h.low h.earlier h.arrives (level_in version.chain) old.key (inr (refl, rw h.arrives.is_low left_of));
             rooted = h.arrives.rooted;
-            removed = h.arrives.removed ∙ alive;
+            removed = tt;
             kept = λ other none. absurd none;
           };
           passing = reaches_itself old.key;
           named = λ here. absurd cc;
+          fresh = λ here. absurd cc;
         };
         above = tt;
         aside = tt;
@@ -339,11 +341,11 @@ module _ (old new : WriteRound) (told : Answer Record) (visit : page.Visit) wher
       abbrev way_here : List ℕ → Bool
       way_here = way_of old.goal old.key
 
-      less : 14 * (4095 - length (recall r (page.wanted visit) told).walk.visited) < left_in reserve r visit
+      less : is_removed version.chain ≡ false → left_at reserve (recall r (page.wanted visit) told).walk [] Slot < left_in reserve r visit
       less = left_on reserve old.limits way_here (is_beyond old.goal) k r visit h.level h.low h.earlier told h.seeks f version b
 
-      more : (goal : Goal) → old.goal ≡ goal → (14 * (4095 - length (recall r (page.wanted visit) told).walk.visited)) + kept_for kept goal < left_in reserve r visit + kept_for kept old.goal
-      more goal e = let l = less in rw e (omega (arith, l))
+      more : is_removed version.chain ≡ false → (goal : Goal) → old.goal ≡ goal → left_at reserve (recall r (page.wanted visit) told).walk [] Slot + kept_for kept goal < left_in reserve r visit + kept_for kept old.goal
+      more alive goal e = let l = less alive in rw e (omega (arith, l))
 
       some_left : kept_for kept old.goal < left_in reserve r visit + kept_for kept old.goal
       some_left = let some = left_some reserve old.limits way_here (is_beyond old.goal) k r visit h.level h.low h.earlier told h.seeks f version b in omega (arith, some)
@@ -353,10 +355,10 @@ module _ (old new : WriteRound) (told : Answer Record) (visit : page.Visit) wher
 
       by_result : (o : Option WriteEnd) → Treats here version new o → Spends reserve kept r here told new o
       by_result None t = elim t [
-        | inl right ↦ rw right.goes (inl (more old.goal refl))
-        | inr (inl down) ↦ rw down.goes (inl (more old.goal refl))
-        | inr (inr (inl merge)) ↦ rw merge.goes (inl (more (Left merge.pid) merge.left.goal))
-        | inr (inr (inr cut)) ↦ rw cut.goes (inl (more (Left cut.pid) cut.left.goal))
+        | inl right ↦ rw right.goes (inl (more right.alive old.goal refl))
+        | inr (inl down) ↦ rw down.goes (inl (more down.here.alive old.goal refl))
+        | inr (inr (inl merge)) ↦ rw merge.goes (inl (more merge.left.here.alive (Left merge.pid) merge.left.goal))
+        | inr (inr (inr cut)) ↦ rw cut.goes (inl (more cut.left.here.alive (Left cut.pid) cut.left.goal))
       ]
       by_result (Some end.Again) t = absurd t
       by_result (Some end.Done) t = elim t [
@@ -444,7 +446,7 @@ pub spends_from : (old new : WriteRound) (told : Answer Record) (result : Option
 spends_from old new told result responds = elim responds [
   | inl way ↦ elim way.on [
     | inl b ↦ back old (Pays new result) Root (answer.Number b.root) told b.asked b.is (rw (way.none, started old new told result way b) (λ reserve kept k r h f. inl (omega arith)))
-    | inr b ↦ back old (Pays new result) (Page b.visit) told told b.asked refl (rw (way.none, visiting old new told result way b) (λ reserve kept k r h f. still reserve r (page.wanted b.visit) told _ _ (kept_for kept old.goal) (spent_on reserve old.limits (way_of old.goal old.key) (is_beyond old.goal) k r b.visit h.level h.low h.earlier told h.seeks f b.next b.responds)))
+    | inr b ↦ back old (Pays new result) (Page b.visit) told told b.asked refl (rw (way.none, visiting old new told result way b) (λ reserve kept k r h f. still (with_walk reserve) r (page.wanted b.visit) told _ _ (kept_for kept old.goal) (spent_on reserve old.limits (way_of old.goal old.key) (is_beyond old.goal) k r b.visit h.level h.low h.earlier told h.seeks f b.next b.responds)))
   ]
   | inr from ↦ back old (Pays new result) (Page from.finds.visit) told told from.finds.asked refl (paid old new told from.finds.visit from.finds.next from.sight result from.finds.responds (seen_at old new told result from))
 ]

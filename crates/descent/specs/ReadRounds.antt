@@ -13,7 +13,7 @@ use Rattle.smo.specs.declared.version.Version.{Version}
 use Rattle.descent.specs.Versions.{IsAlive, IsGone}
 use Rattle.descent.specs.Descents.{Descent, Finds, Responds as Moves, left_from, wanted_at}
 use Rattle.descent.specs.Visits as page
-use Rattle.descent.specs.Walks.{IsAhead, IsReached, IsSeeking}
+use Rattle.descent.specs.Walks.{IsAhead, IsReached, IsSeeking, with_walk}
 use Rattle.descent.specs.Ways.{EndsHere, LeadsOn, LeadsRight, StaysLeft, precedes, reaches}
 use Rattle.descent.specs.declared.visit.Sight as page_sight
 use Rattle.descent.specs.declared.visit.Sight.TheVariants as page_is
@@ -263,7 +263,7 @@ Misses reserve kept r old told Beyond = kept < reads_left reserve kept r old
 -- A round that goes on has fewer reads left, or a cause paid for the reserve. Where the round ends at a removed page, the reserve
 -- is left; where it was begun for a removed page, so are those that were kept.
 abbrev pub Spends : ℕ → ℕ → Recalled → ReadRound → Answer Record → ReadRound → Option ReadEnd → Type 0
-Spends reserve kept r old told new None = IsSpentWith (1 + reserve) r (wanted old) told (reads_left reserve kept r old) (reads_left reserve kept (recall r (wanted old) told) new)
+Spends reserve kept r old told new None = IsSpentWith (1 + with_walk reserve) r (wanted old) told (reads_left reserve kept r old) (reads_left reserve kept (recall r (wanted old) told) new)
 Spends reserve kept r old told new (Some Again) = Misses reserve kept r old told old.goal
 Spends reserve kept r old told new (Some (Removed removed)) = reserve + kept_for kept old.goal < reads_left reserve kept r old
 Spends reserve kept r old told new (Some (Leaf leaf)) = kept_for kept old.goal < reads_left reserve kept r old

@@ -1,5 +1,5 @@
 -- What is known on the way from page to page.
-use Rattle.std.specs.Prelude.{◌≡◌, ◌≢◌, ◌<◌, ◌+◌, ◌-◌, ◌*◌, ◌⊎◌, ℕ, List, [], ◌∷◌, length, Bool, Some, true, false, IsTrue, IsFalse, if◌then◌else◌, ⊤}
+use Rattle.std.specs.Prelude.{◌≡◌, ◌≢◌, ◌<◌, ◌+◌, ◌-◌, ◌*◌, ◌⊎◌, ◌||◌, ℕ, List, [], ◌∷◌, length, Bool, Some, true, false, IsTrue, IsFalse, if◌then◌else◌, ⊤}
 use Rattle.std.specs.List.{AllByRecursion}
 use Rattle.bw_model.specs.declared.limits.Limits.{Limits}
 use Rattle.bw_model.specs.Bytes.{is_below}
@@ -7,7 +7,7 @@ use Rattle.deltas.specs.declared.record.Record.{Record}
 use Rattle.chain_search.specs.Chains.{IsChainFrom, high_in, is_removed, level_in, low_in}
 use Rattle.chain_search.specs.Discipline.{IsBeyond}
 use Rattle.chain_search.specs.Knowledge.{Knowledge}
-use Rattle.chain_search.specs.Recalled.{AnyNames, IsUnread, Recalled}
+use Rattle.chain_search.specs.Recalled.{AnyNames, IsUnread, Recalled, Walk, trail}
 use Rattle.smo.specs.declared.version.Version.{Version}
 use Rattle.descent.specs.declared.visit.State.{State}
 use Rattle.descent.specs.declared.visit.State.TheVariants.{Slot, Row}
@@ -60,6 +60,21 @@ abbrev pub IsAhead : Knowledge → Version → ℕ → State → Type 0
 IsAhead k other page Slot = ⊤
 IsAhead k other page (Row head row) = k.read.before page other.pid ≡ Some other.head
 
+-- the pages that count, by the state of the visit
+abbrev pub counted : Walk → State → List ℕ
+counted walk Slot = trail walk
+counted walk (Row head row) = walk.visited
+
+-- Once the page's slot was read, a removal was read since slot 0 was, where the round has gone on from one, or it is among the deltas.
+abbrev pub TellsRemoved : Walk → List Record → State → Type 0
+TellsRemoved walk part Slot = ⊤
+TellsRemoved walk part (Row head row) = walk.removed ≡ (walk.passed || is_removed part)
+
+-- No removed page was met before the visited one.
+abbrev pub HasMetNone : Walk → State → Type 0
+HasMetNone walk Slot = walk.removed ≡ false
+HasMetNone walk (Row head row) = walk.passed ≡ false
+
 -- no record is read before the slot
 abbrev pub HasNoneRead : State → List Record → Type 0
 HasNoneRead Slot part = part ≡ []
@@ -74,18 +89,18 @@ AreDistinct limits (page ∷ pages) = (0 < page) × (page < limits.pids) × IsUn
 abbrev pub AreRecalled : Knowledge → Recalled → List ℕ → Type 0
 AreRecalled k r pages = AllByRecursion (λ page. r.heads page ≡ k.read.heads page) pages
 
--- A page is visited, which is expected at a place; all pages visited earlier, since slot 0 was read, are past it.
+-- A page is visited, which is expected at a place; all pages visited earlier that count are past it.
 pub record IsOnWay (limits : Limits) (k : Knowledge) (r : Recalled) (visit : Visit) (level : ℕ) (low : List ℕ) (earlier : List ℕ) : Type 0 where
   pub shows : Shows visit k
   pub same : visit.limits ≡ limits
   pub bare : HasNoneRead visit.state visit.part
-  pub visited : r.walk.visited ≡ been visit.state visit.pid earlier
+  pub visited : counted r.walk visit.state ≡ been visit.state visit.pid earlier
   pub recalled : AreRecalled k r (been visit.state visit.pid earlier)
   pub expected : IsExpected limits k visit.pid level low earlier
   pub distinct : AreDistinct limits (visit.pid ∷ earlier)
   pub past : AllByRecursion (IsPast k level low) earlier
   pub rooted : r.walk.rooted ≡ true
-  pub removed : r.walk.removed ≡ is_removed visit.part
+  pub removed : TellsRemoved r.walk visit.part visit.state
   pub kept : (page : ℕ) → AnyNames visit.part page → AnyNames r.walk.records page
 
 -- The page was read whole: it is where it was expected, and so on.
@@ -101,18 +116,20 @@ pub record HasArrived (limits : Limits) (k now : Knowledge) (r : Recalled) (vers
   pub distinct : AreDistinct limits (version.pid ∷ earlier)
   pub past : AllByRecursion (IsPast k level low) earlier
   pub rooted : r.walk.rooted ≡ true
-  pub removed : r.walk.removed ≡ is_removed version.chain
+  pub removed : r.walk.removed ≡ (r.walk.passed || is_removed version.chain)
   pub kept : (page : ℕ) → AnyNames version.chain page → AnyNames r.walk.records page
 
 -- The page is the root, or a record names it that was read since slot 0 was.
 abbrev pub IsNamedNow : Knowledge → Recalled → ℕ → Type 0
 IsNamedNow k r page = IsTrue (k.read.roots page) ⊎ AnyNames r.walk.records page
 
--- A page is visited on a way. Unless it was named before slot 0 was read, as the right of a removed page may have been, it is named now.
+-- A page is visited on a way. Unless it may have been named before slot 0 was read, as the right of a removed page, or may be visited
+-- once more, as a removed page was met, it is named now, and none was met.
 pub record IsSeeking (limits : Limits) (way : List ℕ → Bool) (beyond : Bool) (k : Knowledge) (r : Recalled) (visit : Visit) (level : ℕ) (low : List ℕ) (earlier : List ℕ) : Type 0 where
   pub on_way : IsOnWay limits k r visit level low earlier
   pub passing : IsTrue (way low)
   pub named : IsFalse beyond → IsNamedNow k r visit.pid
+  pub fresh : IsFalse beyond → HasMetNone r.walk visit.state
 
 -- The page is on the way, and the pages that it names are such as there may be.
 pub record IsReached (limits : Limits) (way : List ℕ → Bool) (version : Version) : Type 0 where
@@ -128,11 +145,15 @@ IsAmong page (other ∷ others) = (page ≡ other) ⊎ IsAmong page others
 abbrev pub few_reads : ℕ
 few_reads = 1 + 14 * 4095
 
+-- how many reads a round takes at most once it goes on from a removed page, with those that are reserved for rounds after it
+abbrev pub with_walk : ℕ → ℕ
+with_walk reserve = 14 * 4095 + reserve
+
 -- how many reads a round takes at most from a visit on, with the one that it has asked for, and with those that are reserved
 -- once a removal was read
-abbrev pub left_at : ℕ → List ℕ → List Record → State → ℕ
-left_at reserve visited part Slot = 14 * (4095 - length visited)
-left_at reserve visited part (Row head row) = 14 * (4095 - length visited) + (13 - length part) + (if is_removed part then reserve else 0)
+abbrev pub left_at : ℕ → Walk → List Record → State → ℕ
+left_at reserve walk part Slot = 14 * (4095 - length (trail walk)) + (if walk.removed then reserve else 0)
+left_at reserve walk part (Row head row) = 14 * (4095 - length walk.visited) + (13 - length part) + (if walk.passed then reserve else (if is_removed part then with_walk reserve else 0))
 
 abbrev pub left_in : ℕ → Recalled → Visit → ℕ
-left_in reserve r visit = left_at reserve r.walk.visited visit.part visit.state
+left_in reserve r visit = left_at reserve r.walk visit.part visit.state

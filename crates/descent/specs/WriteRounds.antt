@@ -28,7 +28,7 @@ use Rattle.descent.specs.Versions.{IsAlive, IsGone, IsInHand}
 use Rattle.descent.specs.Courses.{Course, Goal, Seek, Left, Merge, Unterm}
 use Rattle.descent.specs.Descents.{Descent, Finds, Responds as Moves, left_from, wanted_at}
 use Rattle.descent.specs.Visits as page
-use Rattle.descent.specs.Walks.{IsAhead, IsAmong, IsReached, IsSeeking}
+use Rattle.descent.specs.Walks.{IsAhead, IsAmong, IsReached, IsSeeking, with_walk}
 use Rattle.descent.specs.Ways.{LeadsDown, LeadsRight, StaysLeft, passes}
 use Rattle.descent.specs.declared.visit.Sight as page_sight
 use Rattle.descent.specs.declared.visit.Sight.TheVariants as page_is
@@ -531,7 +531,7 @@ Misses reserve kept r old told (Unterm parent left) = kept < reads_left reserve 
 -- A round that goes on has fewer reads left, or a cause paid for the reserve. Where the round ends at a removed page, the reserve
 -- is left; where it was begun for a removed page, so are those that were kept.
 abbrev pub Spends : ℕ → ℕ → Recalled → WriteRound → Answer Record → WriteRound → Option WriteEnd → Type 0
-Spends reserve kept r old told new None = IsSpentWith (1 + reserve) r (wanted old) told (reads_left reserve kept r old) (reads_left reserve kept (recall r (wanted old) told) new)
+Spends reserve kept r old told new None = IsSpentWith (1 + with_walk reserve) r (wanted old) told (reads_left reserve kept r old) (reads_left reserve kept (recall r (wanted old) told) new)
 Spends reserve kept r old told new (Some end.Again) = Misses reserve kept r old told old.goal
 Spends reserve kept r old told new (Some (end.Removed removed)) = reserve + kept_for kept old.goal < reads_left reserve kept r old
 Spends reserve kept r old told new (Some end.Done) = kept < reads_left reserve kept r old

@@ -7,7 +7,7 @@ ghost use Rattle.chain_search.specs.Knowledge.{Knowledge};
 ghost use Rattle.chain_search.specs.Recalled.{Recalled};
 ghost use Rattle.descent.specs.ReadRounds as reader;
 ghost use Rattle.descent.specs.WriteRounds as writer;
-ghost use Rattle.descent.specs.Walks.{few_reads};
+ghost use Rattle.descent.specs.Walks.{few_reads, with_walk};
 ghost use Rattle.descent.specs.Courses.{Seek};
 ghost use Rattle.deltas.specs.declared.record.Hold.{Hold};
 ghost use Rattle.deltas.specs.declared.record.Merge.{Merge};
@@ -25,10 +25,10 @@ use smo::plans_are_due;
 pub fn rounds_are_short()
     ensures read { (reserve kept : ℕ) (k : Knowledge) (r : Recalled) (round : reader.ReadRound)
         → reader.Shows round k r
-        → reader.reads_left reserve kept r round ≤ few_reads + reserve + reader.kept_for kept round.goal }
+        → reader.reads_left reserve kept r round ≤ few_reads + with_walk reserve + reader.kept_for kept round.goal }
     ensures write { (reserve kept : ℕ) (k : Knowledge) (r : Recalled) (round : writer.WriteRound)
         → writer.Shows round k r
-        → writer.reads_left reserve kept r round ≤ few_reads + reserve + writer.kept_for kept round.goal }
+        → writer.reads_left reserve kept r round ≤ few_reads + with_walk reserve + writer.kept_for kept round.goal }
 {}
 
 /// A round to the left of a removed page that goes on doesn't become one to the leaf of its key.

@@ -1,6 +1,6 @@
 -- What a trace of allowed steps keeps true of how many steps an operation takes: the trace is direct, and the causes of each
 -- operation pay for the steps that it has left.
-use Rattle.std.specs.Prelude.{◌≡◌, ◌≢◌, ◌<◌, ◌≤◌, ◌+◌, ◌*◌, ◌^◌, ℕ, List, [], ◌∷◌, ◌++◌, length, drop, Option, Some, IsSome, true, ⊤}
+use Rattle.std.specs.Prelude.{◌≡◌, ◌≢◌, ◌<◌, ◌≤◌, ◌+◌, ◌*◌, ◌^◌, ℕ, List, [], ◌∷◌, ◌++◌, length, drop, Option, Some, IsSome, true, false, ⊤}
 use Rattle.std.specs.List.{All, count_by}
 use Rattle.std.specs.List.Sorted.{IsStrictlyIncreasing}
 use Rattle.bw_model.specs.declared.command.Command.{Command}
@@ -45,13 +45,14 @@ module _ (limits : Limits) (entries : List Entry) (operation : Operation) where
     pub pids : (word bits : ℕ) → recalled.pids word ≡ Some bits → HasReadSince IsTake (PidBits word) bits
     pub rows : (word bits : ℕ) → recalled.rows word ≡ Some bits → HasReadSince IsTake (RowBits word) bits
 
-  -- Where it last read slot 0; what it recalls of its reads since, it has read since, and no slot or row besides.
+  -- Where it last read slot 0; what it recalls of its reads since, it has read since, and no row besides, nor, before the first
+  -- removal, a slot.
   pub record Walks (seen : ℕ → Option Record) (walk : Walk) : Type 0 where
     pub at : ℕ
     pub root : ℕ
     pub begins : TakesOwnStep entries operation at (Slot 0) (Number root)
     pub last : TakesNone limits entries operation at (length entries) (IsTheStep limits entries operation (Slot 0))
-    pub slots : (page : ℕ) → IsUnread page walk.visited → TakesNone limits entries operation at (length entries) (IsTheStep limits entries operation (Slot page))
+    pub slots : (page : ℕ) → walk.removed ≡ false → IsUnread page walk.visited → TakesNone limits entries operation at (length entries) (IsTheStep limits entries operation (Slot page))
     pub rows : (n row : ℕ) (answer : Answer Record) → at < n → TakesOwnStep entries operation n (Row row) answer → (content : Record) × (seen row ≡ Some content) × (is_removal content ≡ true → walk.removed ≡ true)
     pub named : (page : ℕ) → AnyNames walk.records page → (n row : ℕ) × (content : Record) × (at < n) × TakesOwnStep entries operation n (Row row) (Content content) × NamesPage content page
 

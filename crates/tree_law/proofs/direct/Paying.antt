@@ -50,8 +50,8 @@ module _ (limits : Limits) (entries : List Entry) (last : Entry) (op : Operation
           cc
 
   -- the slot of a page that a record names, which holds 0
-  emptied : (page : ℕ) (r : Recalled) (seen : ℕ → Option Record) → last ≡ Step op.actor (Slot page) (Number 0) reply → Walks limits entries op seen r.walk → IsUnread page r.walk.visited → AnyNames r.walk.records page → IsCause limits longer op (length entries)
-  emptied page r seen is w unread names =
+  emptied : (page : ℕ) (r : Recalled) (seen : ℕ → Option Record) → last ≡ Step op.actor (Slot page) (Number 0) reply → Walks limits entries op seen r.walk → r.walk.removed ≡ false → IsUnread page r.walk.visited → AnyNames r.walk.records page → IsCause limits longer op (length entries)
+  emptied page r seen is w fresh unread names =
       let f = w.named page names in inr (inr (inr (
         w.at,
         w.root,
@@ -64,7 +64,7 @@ module _ (limits : Limits) (entries : List Entry) (last : Entry) (op : Operation
           f.0,
           f.2,
           takes_last entries last op _ _ reply latest is,
-          none w.at (IsTheStep limits entries op (Slot page)) (w.slots page unread),
+          none w.at (IsTheStep limits entries op (Slot page)) (w.slots page fresh unread),
           f.3,
           takes_below entries last op f.0 _ _ f.4,
           takes_kept entries last op f.0 _ _ f.4,
@@ -95,6 +95,6 @@ module _ (limits : Limits) (entries : List Entry) (last : Entry) (op : Operation
       let (m, took, none') = reads.rows _ h.0 h.1 in
       let under : m < length entries = takes_below entries last op m _ _ took in
       inr (inr (inl (row, h.0, m, under, h.2, none m IsTake none', inr (takes_last entries last op _ _ reply latest is, takes_kept entries last op m _ _ took))))
-  paid (Slot (suc page)) (Number zero) r seen is change foreign same reads walks h = emptied (suc page) r seen is (walks h.0) h.1 h.2
+  paid (Slot (suc page)) (Number zero) r seen is change foreign same reads walks h = emptied (suc page) r seen is (walks h.0) h.1 h.2 h.3
   paid (Row row) (Content (Remove remove)) r seen is change foreign same reads walks h = removal row remove r seen is (λ before e. same row (Remove remove) before refl refl e) (walks h.0) h.1
   paid s x r seen is change foreign same reads walks h = absurd h

@@ -72,6 +72,10 @@ or_right : (s t : Bool) → t ≡ true → (s || t) ≡ true
 or_right true t e = refl
 or_right false t e = e
 
+or_none : (s t : Bool) → (s || t) ≡ false → t ≡ false
+or_none true t e = absurd (cc)
+or_none false t e = e
+
 module _ (limits : Limits) (entries : List Entry) (last : Entry) (op : Operation) where
   abbrev longer : List Entry
   longer = entries ++ last ∷ []
@@ -92,7 +96,7 @@ module _ (limits : Limits) (entries : List Entry) (last : Entry) (op : Operation
     root = h.root;
     begins = takes_kept entries last op h.at _ _ h.begins;
     last = none_longer h.at (IsTheStep limits entries op (Slot 0)) (λ step answer reply is kind. (reads step answer reply is).0 0 kind) h.last;
-    slots = λ page new. none_longer h.at (IsTheStep limits entries op (Slot page)) (λ step answer reply is kind. (reads step answer reply is).0 page kind) (h.slots page new);
+    slots = λ page fresh new. none_longer h.at (IsTheStep limits entries op (Slot page)) (λ step answer reply is kind. (reads step answer reply is).0 page kind) (h.slots page fresh new);
     rows = λ n row answer low own. elim (takes_cases entries last op n (Row row) answer own) [
       | inl before ↦ h.rows n row answer low before
       | inr now ↦ absurd ((reads (Row row) answer now.1.0 now.1.1).1 row refl)
@@ -114,7 +118,7 @@ module _ (limits : Limits) (entries : List Entry) (last : Entry) (op : Operation
           root = n;
           begins = takes_last entries last op (Slot 0) (Number n) reply latest (is ∙ λ d. Step op.actor (i d) (j d) reply);
           last = λ between step answer low high own kind. omega arith;
-          slots = λ page new between step answer low high own kind. omega arith;
+          slots = λ page fresh new between step answer low high own kind. omega arith;
           rows = λ m row answer low own. let high : m < length longer = takes_below longer last op m (Row row) answer own in absurd (omega arith);
           named = λ page names. absurd names;
         }
@@ -126,7 +130,7 @@ module _ (limits : Limits) (entries : List Entry) (last : Entry) (op : Operation
       root = h.root;
       begins = takes_kept entries last op h.at _ _ h.begins;
       last = none_longer h.at (IsTheStep limits entries op (Slot 0)) (λ step answer other own kind. let e : Slot 0 ≡ Slot (suc p) = sym kind ∙ (is_step step answer other own).0 ∙ i in cc) h.last;
-      slots = λ page new. none_longer h.at (IsTheStep limits entries op (Slot page)) (λ step answer other own kind. new.0 (let e : Slot page ≡ Slot (suc p) = sym kind ∙ (is_step step answer other own).0 ∙ i in cc)) (h.slots page new.1);
+      slots = λ page fresh new. none_longer h.at (IsTheStep limits entries op (Slot page)) (λ step answer other own kind. new.0 (let e : Slot page ≡ Slot (suc p) = sym kind ∙ (is_step step answer other own).0 ∙ i in cc)) (h.slots page fresh (rw fresh at new.1));
       rows = λ m row answer low own. elim (takes_cases entries last op m (Row row) answer own) [
         | inl before ↦ h.rows m row answer low before
         | inr now ↦ absurd (let e : Row row ≡ Slot (suc p) = (is_step (Row row) answer now.1.0 now.1.1).0 ∙ i in cc)
@@ -144,7 +148,7 @@ module _ (limits : Limits) (entries : List Entry) (last : Entry) (op : Operation
           root = h.root;
           begins = takes_kept entries last op h.at _ _ h.begins;
           last = none_longer h.at (IsTheStep limits entries op (Slot 0)) (λ step answer other own kind. let e : Slot 0 ≡ Row q = sym kind ∙ (is_step step answer other own).0 ∙ i in cc) h.last;
-          slots = λ page new. none_longer h.at (IsTheStep limits entries op (Slot page)) (λ step answer other own kind. let e : Slot page ≡ Row q = sym kind ∙ (is_step step answer other own).0 ∙ i in cc) (h.slots page new);
+          slots = λ page fresh new. none_longer h.at (IsTheStep limits entries op (Slot page)) (λ step answer other own kind. let e : Slot page ≡ Row q = sym kind ∙ (is_step step answer other own).0 ∙ i in cc) (h.slots page (or_none (is_removal w) walk.removed fresh) new);
           rows = λ m row answer after own. by_test row q (λ t. (content : Record) × (cond t (Some w) (seen row) ≡ Some content) × (is_removal content ≡ true → (is_removal w || walk.removed) ≡ true))
               (λ same. (w, refl, or_left (is_removal w) walk.removed))
               (λ ne. elim (takes_cases entries last op m (Row row) answer own) [
