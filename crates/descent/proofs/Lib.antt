@@ -8,6 +8,7 @@ pub mod Walking
 pub mod Seeking
 pub mod Spending
 pub mod Passing
+pub mod Detouring
 pub mod Reading
 pub mod Keeping
 pub mod Leading

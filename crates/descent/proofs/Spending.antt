@@ -136,6 +136,14 @@ module _ (reserve : ℕ) (limits : Limits) (way : List ℕ → Bool) (beyond : B
         let few = few_pages limits (visit.pid ∷ earlier) seeks.on_way.distinct in
         back visit (λ v x. 0 < left_in reserve r v) Slot (answer.Number 0) told b.asked b.is (rw seeks.on_way.visited (omega (arith, few)))
 
+    -- so it is once the round has gone on from a removed page, beside what is reserved
+    pub left_gone : FindsEmpty visit told → r.walk.removed ≡ true → reserve < left_in reserve r visit
+    left_gone b gone =
+        let seeks = seeks_at Slot b.asked in
+        let few = few_pages limits (visit.pid ∷ earlier) seeks.on_way.distinct in
+        let same : (if r.walk.removed then reserve else 0) ≡ reserve = rw gone refl in
+        back visit (λ v x. reserve < left_in reserve r v) Slot (answer.Number 0) told b.asked b.is (rw seeks.on_way.visited (omega (arith, few, same)))
+
     -- a page was read whole
     module _ (version : Version) (b : Completes visit told version) where
       fits_row : FitsRow limits k b.row b.content
@@ -159,6 +167,9 @@ module _ (reserve : ℕ) (limits : Limits) (way : List ℕ → Bool) (beyond : B
 
       pub left_some : 0 < left_in reserve r visit
       left_some = let more = more_left in omega (arith, more)
+
+      pub left_kept : r.walk.passed ≡ true → reserve < left_in reserve r visit
+      left_kept passed = let same : kept ≡ reserve = rw passed refl in let more = more_left in omega (arith, more, same)
 
       -- the round goes on from a page that isn't removed
       pub left_on : is_removed version.chain ≡ false → left_at reserve (recall r (wanted visit) told).walk [] Slot < left_in reserve r visit

@@ -4,5 +4,6 @@ pub mod Ways
 pub mod Walks
 pub mod Descents
 pub mod Courses
+pub mod Detours
 pub mod ReadRounds
 pub mod WriteRounds

@@ -70,10 +70,10 @@ abbrev pub TellsRemoved : Walk → List Record → State → Type 0
 TellsRemoved walk part Slot = ⊤
 TellsRemoved walk part (Row head row) = walk.removed ≡ (walk.passed || is_removed part)
 
--- No removed page was met before the visited one.
-abbrev pub HasMetNone : Walk → State → Type 0
-HasMetNone walk Slot = walk.removed ≡ false
-HasMetNone walk (Row head row) = walk.passed ≡ false
+-- whether a removed page was met before the visited one
+abbrev pub HasMet : Bool → Walk → State → Type 0
+HasMet met walk Slot = walk.removed ≡ met
+HasMet met walk (Row head row) = walk.passed ≡ met
 
 -- no record is read before the slot
 abbrev pub HasNoneRead : State → List Record → Type 0
@@ -129,7 +129,7 @@ pub record IsSeeking (limits : Limits) (way : List ℕ → Bool) (beyond : Bool)
   pub on_way : IsOnWay limits k r visit level low earlier
   pub passing : IsTrue (way low)
   pub named : IsFalse beyond → IsNamedNow k r visit.pid
-  pub fresh : IsFalse beyond → HasMetNone r.walk visit.state
+  pub fresh : IsFalse beyond → HasMet false r.walk visit.state
 
 -- The page is on the way, and the pages that it names are such as there may be.
 pub record IsReached (limits : Limits) (way : List ℕ → Bool) (version : Version) : Type 0 where

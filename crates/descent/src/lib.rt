@@ -3,12 +3,14 @@
 
 mod course;
 mod descent;
+mod detour;
 mod laws;
 mod read_round;
 mod visit;
 mod way;
 mod write_round;
 
+pub use detour::{Detour, DetourEnd};
 pub use laws::{leaves_stand, left_rounds_stay, removals_are_due, rounds_are_short};
 pub use read_round::{ReadEnd, ReadRound};
 pub use visit::{Sight, Visit, reads_on};

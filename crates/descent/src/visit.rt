@@ -103,6 +103,18 @@ impl Visit {
         }
     }
 
+    /// Goes on to another page.
+    #[inline(never)]
+    pub(crate) fn go_to(&mut self, pid: u16)
+        requires some { 0 < pid }
+        requires below { pid < self.old.limits.pids }
+        ensures { self.new ≡ to_page self.old.limits pid }
+    {
+        self.pid = pid;
+        self.part = ChainPart::new();
+        self.state = State::Slot;
+    }
+
     /// Goes on to the newest record of the page's chain.
     fn begin(&mut self, head: u16)
         requires some { 0 < head }
