@@ -6,10 +6,11 @@ use Rattle.bw_model.specs.declared.step.Step.TheVariants as step
 use Rattle.bw_model.specs.declared.step.Answer.{Answer}
 use Rattle.bw_model.specs.declared.step.Answer.TheVariants as answer
 use Rattle.deltas.specs.declared.record.Record.{Record}
-use Rattle.chain_search.specs.Chains.{is_removed, level_in, low_in}
+use Rattle.chain_search.specs.Chains.{is_removed, level_in, low_in, right_in}
+use Rattle.chain_search.specs.Discipline.{NamesChild}
 use Rattle.chain_search.specs.Fitting.{Fits, FitsRow}
 use Rattle.chain_search.specs.Knowledge.{Knowledge, learn, learn_slot}
-use Rattle.chain_search.specs.Recalled.{Recalled, Walk, recall}
+use Rattle.chain_search.specs.Recalled.{Recalled, recall}
 use Rattle.smo.specs.Readings.{IsAfter}
 use Rattle.smo.specs.declared.version.Version.{Version}
 use Rattle.descent.specs.declared.visit.Sight.{Sight}
@@ -18,18 +19,19 @@ use Rattle.descent.specs.declared.visit.State.{State}
 use Rattle.descent.specs.declared.visit.State.TheVariants.{Slot, Row}
 use Rattle.descent.specs.declared.detour.DetourEnd.{DetourEnd}
 use Rattle.descent.specs.declared.detour.DetourEnd.TheVariants.{Again, Beside, Past}
-use Rattle.descent.specs.Detours.{Detour, EndsAt, Ends, Follows, GoesNearer, HasRounded, IsRounding, Responds, Sees, Shows, Spends, Treats, wanted, way_round}
+use Rattle.descent.specs.Detours.{Detour, EndsAt, Ends, Follows, GoesNearer, GoesOnTo, HasRounded, IsRounding, Responds, Sees, Shows, Spends, Treats, wanted, way_round}
 use Rattle.descent.specs.Versions.{IsGone, IsInHand}
 use Rattle.descent.specs.Visits as page
 use Rattle.descent.specs.Visits.{Starts, Completes, Continues, FindsEmpty, Visit, at, to_page}
 use Rattle.descent.specs.Walks.{HasArrived, HasMet, IsSeeking}
 use Rattle.descent.specs.Ways.{LeadsRight, NamesAt}
 use Rattle.descent.proofs.Holding.{before_slot, in_hand_row, in_hand_slot}
+use Rattle.descent.proofs.Beside.{IsBesideGone, beside_on}
 use Rattle.descent.proofs.Seeking.{arrived_next, hand, seeks_next, seeks_on}
 use Rattle.descent.proofs.Spending.{left_gone, left_kept, left_on, spent_on}
 use Rattle.descent.proofs.Visiting.{back, there}
 use Rattle.descent.proofs.Walking.{not_itself, told_of}
-use Rattle.descent.proofs.WayLaws.{right_names}
+use Rattle.descent.proofs.WayLaws.{named_of, right_names}
 
 -- A page was read whole on the way, after the removed one.
 record HasCome (limits : Limits) (k now : Knowledge) (r : Recalled) (removed version : Version) : Type 0 where
@@ -229,3 +231,35 @@ treats_as old new other version None e t = record {
 treats_as old new other version (Some Again) e t = t
 treats_as old new other version (Some (Beside left)) e t = (ends_as old other version left t.0, t.1)
 treats_as old new other version (Some (Past page)) e t = (ends_as old other version page t.0, t.1)
+
+-- the round goes on from the way round
+module _ (limits : Limits) (k : Knowledge) (r : Recalled) (removed version : Version) (h : HasRounded limits k r removed version) where
+  abbrev here : List Record
+  here = version.chain
+
+  met_on : r.walk.removed ≡ true
+  met_on = h.arrives.removed ∙ ap (λ (p : Bool). p || is_removed here) h.met
+
+  -- at a page that this one names
+  pub goes_past : (towards : List ℕ → Bool) (next level : ℕ) (low : List ℕ) → NamesAt here next level low → IsTrue (towards low) → GoesOnTo limits towards k r next level low
+  goes_past towards next level low names passing = record {
+    earlier = version.pid ∷ h.earlier;
+    seeks = seeks_on limits h.was k r version h.level h.low h.earlier h.arrives towards true next level low names h.alive passing (λ here. absurd cc);
+    met = met_on;
+  }
+
+  -- at a page that the removed one names, which stood to the right of this one
+  pub goes_through : right_in here ≡ Some removed.pid → (towards : List ℕ → Bool) (next level : ℕ) (low : List ℕ) → NamesAt removed.chain next level low → IsTrue (towards low) → GoesOnTo limits towards k r next level low
+  goes_through right towards next level low names passing =
+      let by : IsBesideGone limits h.was k removed version = record { known = h.known; gone = h.gone; before = h.before; after = h.after; left = rw h.arrives.is_low h.passing; alive = h.alive; right = right } in
+      let named : (right_in removed.chain ≡ Some next) ⊎ NamesChild removed.chain next = named_of removed.chain next level low names in
+      record {
+        earlier = version.pid ∷ h.earlier;
+        seeks = record {
+          on_way = beside_on limits h.was k r removed version h.level h.low h.earlier h.arrives by next named level low names;
+          passing = passing;
+          named = λ here. absurd cc;
+          fresh = λ here. absurd cc;
+        };
+        met = met_on;
+      }

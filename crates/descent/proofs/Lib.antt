@@ -7,6 +7,7 @@ pub mod Visiting
 pub mod Walking
 pub mod Seeking
 pub mod Spending
+pub mod Beside
 pub mod Passing
 pub mod Detouring
 pub mod Reading

@@ -25,12 +25,13 @@ use Rattle.descent.specs.Visits.{Starts, Completes, Continues, Visit, at, to_pag
 use Rattle.descent.specs.Walks.{HasArrived, IsPast, IsPastAt}
 use Rattle.descent.specs.Ways.{LeadsOn, LeadsRight, NamesAt, StaysLeft, reaches, precedes}
 use Rattle.descent.specs.ReadRounds.{Begins, IsBesideLeaf, IsGoneAt, IsAliveLeaf, IsVisiting, Keeps, is_beyond, way_of}
+use Rattle.descent.proofs.Beside.{IsBesideGone, beside_on, says, within}
 use Rattle.descent.proofs.Holding.{before_slot, in_hand_row, in_hand_slot}
 use Rattle.descent.proofs.PageLaws.{above_empty, spans}
 use Rattle.descent.proofs.Seeking.{arrived_next, fresh_next, hand, living, seeks_next, seeks_on, seeks_root}
 use Rattle.descent.proofs.Visiting.{back, there}
 use Rattle.descent.proofs.Walking.{all_past, never_there, not_itself, past_on, told_of, trail_on, trans}
-use Rattle.descent.proofs.WayLaws.{covers_here, down_names, lowest, right_names}
+use Rattle.descent.proofs.WayLaws.{covers_here, down_names, lowest, named_of, right_names}
 
 -- a key that is above a page that begins after another is above that one
 reached_before : (key low high : List ℕ) → IsTrue (is_below low high) → IsTrue (reaches key high) → IsTrue (reaches key low)
@@ -228,79 +229,30 @@ module _ (limits : Limits) (key : List ℕ) (removed : Version) (k now : Knowled
   }
 
   module _ (beside : right_in here ≡ Some removed.pid) where
-    says : (level_in removed.chain ≡ level_in here) × (high_in here ≡ Some (low_in removed.chain))
-    says = (h.arrives.arrives.whole.names alive removed.pid removed.head removed.chain by.was.seen.head by.was.seen.read).right beside
+    beside_gone : IsBesideGone limits k now removed version
+    beside_gone = record { known = by.was; gone = by.gone.page; before = by.before; after = by.after; left = left; alive = alive; right = beside }
 
-    -- the round goes on at a page that the removed page names: its right, or a child
-    module _ (pid : ℕ) (named : (right_in removed.chain ≡ Some pid) ⊎ NamesChild removed.chain pid) where
-      abbrev known_before : IsBeyond k version.pid here pid
-      known_before = record { removed = removed.pid; row = removed.head; chain = removed.chain; right = beside; order = by.before; read = by.was.seen.read; gone = by.gone.page.gone; named = named }
+    says_here : (level_in removed.chain ≡ level_in here) × (high_in here ≡ Some (low_in removed.chain))
+    says_here = says limits k now r removed version h.level h.low h.earlier h.arrives beside_gone
 
-      abbrev known_now : IsBeyond now version.pid here pid
-      known_now = record { removed = removed.pid; row = removed.head; chain = removed.chain; right = beside; order = by.after; read = by.gone.page.in_hand.seen.read; gone = by.gone.page.gone; named = named }
+    -- the right of the removed page is one that there may be
+    pub right_within : (pid : ℕ) → right_in removed.chain ≡ Some pid → (0 < pid) × (pid < limits.pids)
+    right_within pid next = within limits k now r removed version h.level h.low h.earlier h.arrives beside_gone pid (inl next)
 
-      pub within : (0 < pid) × (pid < limits.pids)
-      within = let reach = h.arrives.arrives.whole.beyond alive pid known_before in let both : (0 < pid) × (pid < h.arrives.visit.limits.pids) = (reach.0, reach.1) in rw h.arrives.same at both
-
-      module _ (level : ℕ) (low : List ℕ) (names : NamesAt removed.chain pid level low) where
-        descends_on : IsPastAt level low (level_in here) (low_in here)
-        descends_on = elim names [
-          | inl right ↦ inr (sym says.0 ∙ right.1, trans (low_in here) (low_in removed.chain) low left (spans removed.chain low by.gone.page.in_hand.sound.is_chain.fitted right.2))
-          | inr child ↦ inl (let e = says.0 in let d = child.1 in omega (arith, e, d))
-        ]
-
-        apart_here : pid ≢ version.pid
-        apart_here e =
-            let so = told_of removed.chain version.pid here level low (h.arrives.arrives.whole.beyond alive pid known_before).2 (subst (λ (p : ℕ). NamesAt removed.chain p level low) e names) in
-            never_there level (level_in here) low (low_in here) descends_on so.0 so.1
-
-        new_others : (others : List ℕ) → level_in here ≡ h.level → AllByRecursion (IsPast k h.level h.low) others → IsUnread pid others
-        new_others [] is past = tt
-        new_others (other ∷ others) is past = (
-          (λ e.
-              let says = (h.arrives.arrives.whole.beyond alive pid known_before).3 other past.0.head past.0.chain past.0.in_slot past.0.read in
-              let so = told_of removed.chain other past.0.chain level low says (subst (λ (p : ℕ). NamesAt removed.chain p level low) e names) in
-              let before : IsPastAt (level_in here) (low_in here) (level_in past.0.chain) (low_in past.0.chain) = rw (is, h.arrives.is_low) past.0.past in
-              never_there level (level_in past.0.chain) low (low_in past.0.chain) (past_on (level_in here) level (level_in past.0.chain) (low_in here) low (low_in past.0.chain) descends_on before) so.0 so.1),
-          new_others others is past.1,
-        )
-
-        new_right : IsUnread pid (version.pid ∷ h.earlier)
-        new_right = (apart_here, elim h.arrives.is_level [ inl first ↦ rw first tt | inr is ↦ new_others h.earlier is h.arrives.past ])
-
-        pub past_removed : IsTrue (reaches key low) → IsVisiting limits key Beyond now r (to_page limits pid)
-        past_removed passing =
-            let in_hand = hand limits k now r version h.level h.low h.earlier h.arrives in
-            record {
-              level = level;
-              low = low;
-              earlier = version.pid ∷ h.earlier;
-              seeks = record {
-                on_way = record {
-                  shows = record {
-                    inside = h.arrives.arrives.inside;
-                    page = within.0;
-                    below = within.1;
-                    head = tt;
-                    stands = inr (record { other = version.pid; row = version.head; basis = record { head = in_hand.seen.head; chain = here; read = in_hand.seen.read; alive = alive }; named = inr (inr known_now) });
-                  };
-                  same = refl;
-                  bare = refl;
-                  visited = trail_on r.walk here h.arrives.removed alive ∙ h.arrives.visited;
-                  recalled = h.arrives.recalled;
-                  expected = inr (inr (record { left = version; in_hand = in_hand; alive = alive; apart = λ e. apart_here (sym e); beyond = known_now; names = names }));
-                  distinct = (within.0, within.1, new_right, h.arrives.distinct);
-                  past = all_past limits k now r version h.level h.low h.earlier h.arrives level low descends_on;
-                  rooted = h.arrives.rooted;
-                  removed = tt;
-                  kept = λ other none. absurd none;
-                };
-                passing = passing;
-                named = λ here. absurd cc;
-                fresh = λ here. absurd cc;
-              };
-              keeps = tt;
-            }
+    -- the round goes on at a page that the removed one names: its right, or a child
+    pub past_removed : (pid level : ℕ) (low : List ℕ) → NamesAt removed.chain pid level low → IsTrue (reaches key low) → IsVisiting limits key Beyond now r (to_page limits pid)
+    past_removed pid level low names passing = record {
+      level = level;
+      low = low;
+      earlier = version.pid ∷ h.earlier;
+      seeks = record {
+        on_way = beside_on limits k now r removed version h.level h.low h.earlier h.arrives beside_gone pid (named_of removed.chain pid level low names) level low names;
+        passing = passing;
+        named = λ here. absurd cc;
+        fresh = λ here. absurd cc;
+      };
+      keeps = tt;
+    }
 
     pub is_beside : StaysLeft (reaches key) removed.chain → level_in here ≡ 0 → IsBesideLeaf limits now r key version removed
     is_beside stays leaf = record {
@@ -308,7 +260,7 @@ module _ (limits : Limits) (key : List ℕ) (removed : Version) (k now : Knowled
       right = beside;
       after = by.after;
       page = by.gone.page;
-      level = says.0 ∙ leaf;
+      level = says_here.0 ∙ leaf;
       covered = covers_here key removed.chain by.gone.reached stays;
     }
 

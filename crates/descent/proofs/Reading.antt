@@ -23,7 +23,7 @@ use Rattle.descent.specs.Descents.{Descent, Finds, Shows as WayShows, Starts, Vi
 use Rattle.descent.specs.Visits as page
 use Rattle.descent.specs.Walks.{IsSeeking, left_at, left_in, with_walk}
 use Rattle.descent.specs.Ways.{EndsHere, StaysLeft, precedes, reaches}
-use Rattle.descent.proofs.Passing.{HasReached, at_or_below, begins, goes_to, is_beside, is_merged, past_merged, past_removed, reached_next, visits_next, within}
+use Rattle.descent.proofs.Passing.{HasReached, at_or_below, begins, goes_to, is_beside, is_merged, past_merged, past_removed, reached_next, right_within, visits_next}
 use Rattle.descent.proofs.Seeking.{is_gone, living, reached}
 use Rattle.descent.proofs.Spending.{left_empty, left_on, left_removed, left_some, spent_empty, spent_on}
 use Rattle.descent.proofs.WayLaws.{covers_here}
@@ -40,7 +40,7 @@ module _ (old : ReadRound) (k now : Knowledge) (r : Recalled) (version : Version
   treated : (new : ReadRound) (result : Option ReadEnd) → Treats old version new result → After old now r new result
   treated new None t = elim t [
     | inl on ↦ subst (λ (x : ReadRound). Shows x now r) (sym on.goes) (goes_to old.limits old.key old.goal k now r version h on.next on.alive on.leads)
-    | inr (inl beyond) ↦ subst (λ (x : ReadRound). Shows x now r) (sym beyond.goes) (past_removed old.limits old.key beyond.removed k now r version (at_goal (Left beyond.removed) beyond.left.goal) beyond.left.alive beyond.beside beyond.next (inl beyond.leads.is_right) (level_in beyond.removed.chain) beyond.leads.low (inl (beyond.leads.is_right, refl, beyond.leads.is_high)) beyond.leads.on_way)
+    | inr (inl beyond) ↦ subst (λ (x : ReadRound). Shows x now r) (sym beyond.goes) (past_removed old.limits old.key beyond.removed k now r version (at_goal (Left beyond.removed) beyond.left.goal) beyond.left.alive beyond.beside beyond.next (level_in beyond.removed.chain) beyond.leads.low (inl (beyond.leads.is_right, refl, beyond.leads.is_high)) beyond.leads.on_way)
     | inr (inr past) ↦ subst (λ (x : ReadRound). Shows x now r) (sym past.goes) (past_merged old.limits old.key past.removed k now r version (at_goal (Left past.removed) past.left.goal) past.left.alive past.next past.leads)
   ]
   treated new (Some Again) t = absurd t
@@ -179,7 +179,7 @@ can_see old other told (Whole version) b t =
   where
     passes_at : (now : Knowledge) (goal : Goal) → HasReached old.limits old.key goal t.k now (recall t.r (page.wanted b.visit) told) version → CanPass old.limits version goal
     passes_at now Seek d = tt
-    passes_at now (Left removed) d = λ alive beside next is. within old.limits old.key removed t.k now (recall t.r (page.wanted b.visit) told) version d alive beside next (inl is)
+    passes_at now (Left removed) d = λ alive beside next is. right_within old.limits old.key removed t.k now (recall t.r (page.wanted b.visit) told) version d alive beside next is
     passes_at now Beyond d = tt
 
 -- what a round does with a page doesn't depend on the state that it had

@@ -1,5 +1,5 @@
 -- Which page is on the way.
-use Rattle.std.proofs.Common.{◌≡◌, ◌<◌, ◌-◌, inl, inr, ℕ, List, [], ◌∷◌, Bool, true, false, Option, Some, None, sym, ap, ◌∙◌, refl, arith}
+use Rattle.std.proofs.Common.{◌≡◌, ◌<◌, ◌-◌, ◌⊎◌, inl, inr, ℕ, List, [], ◌∷◌, Bool, true, false, Option, Some, None, sym, ap, ◌∙◌, refl, arith}
 use Rattle.std.specs.Prelude.{is_some, not, IsTrue, MatchOption}
 use Rattle.bw_model.specs.declared.limits.Limits.{Limits}
 use Rattle.bw_model.specs.Bytes.{is_below, is_in_range}
@@ -7,6 +7,7 @@ use Rattle.base_page.specs.Places.{IsGreatestChild}
 use Rattle.base_page.proofs.KeyLaws.{not_true}
 use Rattle.deltas.specs.declared.record.Record.{Record}
 use Rattle.chain_search.specs.Chains.{content_in, covers, high_in, level_in, low_in, right_in}
+use Rattle.chain_search.specs.Discipline.{NamesChild}
 use Rattle.chain_search.specs.Fitted.{IsFitted}
 use Rattle.descent.specs.Versions.{NamesPages}
 use Rattle.descent.specs.Ways.{LeadsDown, LeadsOn, LeadsRight, NamesAt, StaysLeft, reaches}
@@ -27,6 +28,10 @@ right_names way chain page h = inl (h.is_right, refl, h.is_high)
 
 pub down_names : (way : List ℕ → Bool) (chain : List Record) (page : ℕ) → 0 < level_in chain → (h : LeadsDown way chain page) → NamesAt chain page (level_in chain - 1) h.low
 down_names way chain page index h = inr (h.held, omega (arith, index), h.covered, h.greatest.has)
+
+-- what is named at a place is the right or a child
+pub named_of : (chain : List Record) (page level : ℕ) (low : List ℕ) → NamesAt chain page level low → (right_in chain ≡ Some page) ⊎ NamesChild chain page
+named_of chain page level low h = elim h [ inl right ↦ inl right.0 | inr child ↦ inr (level, low, child.0, child.1, child.2, child.3) ]
 
 -- where the way leads, there may be a page
 

@@ -137,3 +137,9 @@ abbrev pub Spends : ℕ → Recalled → Detour → Answer Record → Detour →
 Spends reserve r old told new None = IsSpentWith (1 + with_walk reserve) r (wanted old) told (left_in reserve r old.visit) (left_in reserve (recall r (wanted old) told) new.visit)
 Spends reserve r old told new (Some Again) = reserve < left_in reserve r old.visit
 Spends reserve r old told new (Some end) = left_at reserve (recall r (wanted old) told).walk [] Slot < left_in reserve r old.visit
+
+-- A page at this place is visited next, on any way that the place is on: the round goes on from the way round.
+pub record GoesOnTo (limits : Limits) (way : List ℕ → Bool) (k : Knowledge) (r : Recalled) (next level : ℕ) (low : List ℕ) : Type 0 where
+  pub earlier : List ℕ
+  pub seeks : IsSeeking limits way true k r (page.to_page limits next) level low earlier
+  pub met : HasMet true r.walk Slot
