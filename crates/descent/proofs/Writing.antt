@@ -288,13 +288,13 @@ module _ (old : WriteRound) (k now : Knowledge) (r : Recalled) (version : Versio
   treated : (new : WriteRound) (result : Option WriteEnd) → Treats old version new result → After old now r new result
   treated new None t = elim t [
     | inl right ↦ subst (λ (x : WriteRound). Shows x now r) (sym right.goes) (aside right.right right.alive right.seeks right.finished right.leads)
-    | inr (inl down) ↦ subst (λ (x : WriteRound). Shows x now r) (sym down.goes) (below down.child down.here down.fine down.index down.leads)
+    | inr (inl down) ↦ subst (λ (x : WriteRound). Shows x now r) (sym down.goes) (below down.child down.here down.fine (let index = down.index in omega (arith, index)) down.leads)
     | inr (inr (inl merge)) ↦ subst (λ (x : WriteRound). Shows x now r) (sym merge.goes) (back_to_merge merge.pid merge.left.goal merge.left.here.alive merge.beside)
     | inr (inr (inr cut)) ↦
         let over : LiesAbove old.limits now version h.earlier cut.parent = subst (λ (o : Option Version). IfSome o (LiesAbove old.limits now version h.earlier)) cut.above h.above in
         subst (λ (x : WriteRound). Shows x now r) (sym cut.goes) (back_to_unterm cut.pid cut.left.goal cut.left.here.alive cut.parent over cut.term)
   ]
-  treated new (Some end.Again) t = absurd t
+  treated new (Some end.Again) t = tt
   treated new (Some end.Done) t = tt
   treated new (Some (end.Removed removed)) t = rw t.is (is_gone old.limits k now r version h.level h.low h.earlier h.arrives t.gone)
   treated new (Some (end.Consolidate page)) t = rw t.is (record { page = alive_here t.here.alive; long = t.long })
@@ -332,7 +332,7 @@ module _ (old new : WriteRound) (told : Answer Record) (visit : page.Visit) wher
     -- a page wasn't there
     missed : page.FindsEmpty visit told → (goal : Goal) → IsSeeking old.limits (way_of goal old.key) (is_beyond goal) k r visit h.level h.low h.earlier → Misses reserve kept r (record here { goal = goal }) told goal
     missed b Seek seeks = spent_empty reserve old.limits (reaches old.key) false k r visit h.level h.low h.earlier told seeks f refl b
-    missed b (Left removed) seeks = spent_empty reserve old.limits (precedes old.key) false k r visit h.level h.low h.earlier told seeks f refl b
+    missed b (Left removed) seeks = inl (spent_empty reserve old.limits (precedes old.key) false k r visit h.level h.low h.earlier told seeks f refl b)
     missed b (Merge left) seeks = spent_empty reserve old.limits (reaches old.key) false k r visit h.level h.low h.earlier told seeks f refl b
     missed b (Unterm parent left) seeks = let some = left_empty reserve old.limits (reaches old.key) true k r visit h.level h.low h.earlier told seeks f b in omega (arith, some)
 
@@ -360,7 +360,13 @@ module _ (old new : WriteRound) (told : Answer Record) (visit : page.Visit) wher
         | inr (inr (inl merge)) ↦ rw merge.goes (inl (more merge.left.here.alive (Left merge.pid) merge.left.goal))
         | inr (inr (inr cut)) ↦ rw cut.goes (inl (more cut.left.here.alive (Left cut.pid) cut.left.goal))
       ]
-      by_result (Some end.Again) t = absurd t
+      by_result (Some end.Again) t = missed_below old.goal t.goal
+        where
+          missed_below : (goal : Goal) → goal ≡ Left t.pid → Misses reserve kept r here told goal
+          missed_below Seek e = cc
+          missed_below (Left pid) e = inr (keeps (Left t.pid) t.goal refl)
+          missed_below (Merge left) e = cc
+          missed_below (Unterm parent left) e = cc
       by_result (Some end.Done) t = elim t [
         | inl clean ↦ keeps (Left clean.pid) clean.left.goal refl
         | inr (inl unmerged) ↦ keeps (Merge unmerged.left) unmerged.goal refl
@@ -525,7 +531,7 @@ treats_as old new state other version None t = elim t [
   | inr (inr (inl merge)) ↦ inr (inr (inl (record { pid = merge.pid; left = left_as old state other version merge.pid merge.left; beside = merge.beside; goes = merge.goes })))
   | inr (inr (inr cut)) ↦ inr (inr (inr (record { pid = cut.pid; left = left_as old state other version cut.pid cut.left; apart = cut.apart; parent = cut.parent; above = cut.above; term = cut.term; goes = cut.goes })))
 ]
-treats_as old new state other version (Some end.Again) t = t
+treats_as old new state other version (Some end.Again) t = record { pid = t.pid; goal = t.goal; below = t.below }
 treats_as old new state other version (Some end.Done) t = elim t [
   | inl clean ↦ inl (record { pid = clean.pid; left = left_as old state other version clean.pid clean.left; apart = clean.apart; lacks = clean.lacks })
   | inr (inl unmerged) ↦ inr (inl (record { left = unmerged.left; goal = unmerged.goal; none = unmerged.none }))

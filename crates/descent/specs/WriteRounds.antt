@@ -25,7 +25,7 @@ use Rattle.smo.specs.Unterms.{CanUnterm, IsUntermPlan}
 use Rattle.smo.specs.declared.split.SplitPlan.{SplitPlan}
 use Rattle.smo.specs.declared.version.Version.{Version}
 use Rattle.descent.specs.Versions.{IsAlive, IsGone, IsInHand}
-use Rattle.descent.specs.Courses.{Course, Goal, Seek, Left, Merge, Unterm}
+use Rattle.descent.specs.Courses.{Course, Goal, Seek, Left, Merge, Unterm, removed_of}
 use Rattle.descent.specs.Descents.{Descent, Finds, Responds as Moves, left_from, wanted_at}
 use Rattle.descent.specs.Visits as page
 use Rattle.descent.specs.Walks.{IsAhead, IsAmong, IsReached, IsSeeking, with_walk}
@@ -38,12 +38,14 @@ use Rattle.descent.specs.declared.descent.State.TheVariants.{Root, Page}
 use Rattle.descent.specs.declared.write_round.WriteEnd.{WriteEnd}
 use Rattle.descent.specs.declared.write_round.WriteEnd.TheVariants as end
 
--- The key whose leaf is sought, or to whose left the round goes; at how many deltas a leaf is consolidated; where the round goes;
--- the parent of the pages that are read; the page to whose right the round has gone, until that one was read; where it stands.
+-- The key whose leaf is sought, or to whose left the round goes; at how many deltas a leaf is consolidated; the level at which a round
+-- to the left ends; where the round goes; the parent of the pages that are read; the page to whose right the round has gone, until
+-- that one was read; where it stands.
 pub record WriteRound : Type 0 where
   pub limits : Limits
   pub key : List ℕ
   pub due : ℕ
+  pub floor : ℕ
   pub goal : Goal
   pub parent : Option Version
   pub left : Option Version
@@ -75,6 +77,14 @@ on_course course round = record round { goal = course.goal; parent = course.pare
 -- the round where a page to the left of the next one is kept, or none
 abbrev pub beside : Option Version → WriteRound → WriteRound
 beside left round = record round { left = left }
+
+-- the level at which a round ends: that of the leaves, or of the removed page to whose left it goes
+abbrev pub level_for : Option ℕ → ℕ → ℕ
+level_for None floor = 0
+level_for (Some pid) floor = floor
+
+abbrev pub ends_at : Goal → ℕ → ℕ
+ends_at goal floor = level_for (removed_of goal) floor
 
 -- whether a goal is the leaf to the left of the key
 abbrev pub goes_left : Goal → Bool
@@ -338,7 +348,7 @@ pub record GoesAside (old : WriteRound) (version : Version) (new : WriteRound) :
 pub record GoesBelow (old : WriteRound) (version : Version) (new : WriteRound) : Type 0 where
   pub here : IsHere old version
   pub fine : IsFine old.due version
-  pub index : 0 < level_in version.chain
+  pub index : ends_at old.goal old.floor < level_in version.chain
   pub child : ℕ
   pub leads : LeadsDown (way_of old.goal old.key) version.chain child
   pub goes : new ≡ going_to child (record old { parent = Some version; left = None })
@@ -386,12 +396,18 @@ pub record EndsRemoved (old : WriteRound) (version removed : Version) : Type 0 w
   pub seeks : SeeksLeaf old.goal
   pub gone : is_removed version.chain ≡ true
 
--- The page is the leaf where the way to the left of a removed page ends, and nothing is due there.
+-- The page is the one of the removed page's level where the way to its left ends, and nothing is due there.
 pub record IsLeftLeaf (old : WriteRound) (version : Version) (pid : ℕ) : Type 0 where
   pub goal : old.goal ≡ Left pid
   pub here : IsHere old version
   pub fine : IsFine old.due version
-  pub level : level_in version.chain ≡ 0
+  pub level : level_in version.chain ≡ old.floor
+
+-- The page is below the level of the removed page to whose left the round goes.
+pub record EndsBelow (old : WriteRound) (version : Version) : Type 0 where
+  pub pid : ℕ
+  pub goal : old.goal ≡ Left pid
+  pub below : level_in version.chain < old.floor
 
 -- the round, gone to read the removed page again
 abbrev pub going_back : Goal → ℕ → WriteRound → WriteRound
@@ -449,7 +465,7 @@ pub record EndsCut (old : WriteRound) (version parent left removed : Version) (u
 -- what a round does with a page that was read whole
 abbrev pub Treats : WriteRound → Version → WriteRound → Option WriteEnd → Type 0
 Treats old version new None = GoesAside old version new ⊎ GoesBelow old version new ⊎ GoesToMerge old version new ⊎ GoesToUnterm old version new
-Treats old version new (Some end.Again) = ⊥
+Treats old version new (Some end.Again) = EndsBelow old version
 Treats old version new (Some end.Done) = EndsClean old version ⊎ EndsUnmerged old version ⊎ EndsUncut old version
 Treats old version new (Some (end.Removed removed)) = EndsRemoved old version removed
 Treats old version new (Some (end.Consolidate page)) = EndsLong old version page
@@ -521,10 +537,11 @@ kept_for kept (Unterm parent left) = kept
 abbrev pub reads_left : ℕ → ℕ → Recalled → WriteRound → ℕ
 reads_left reserve kept r round = left_from reserve r round.state + kept_for kept round.goal
 
--- Where a page wasn't there, a cause pays, but where a removed page is read for its term, the reads that were kept are left.
+-- Where a page wasn't there, a cause pays, but where a removed page is read for its term, the reads that were kept are left; so they
+-- are where a page was below the removed one's level.
 abbrev pub Misses : ℕ → ℕ → Recalled → WriteRound → Answer Record → Goal → Type 0
 Misses reserve kept r old told Seek = IsPaid r (wanted old) told
-Misses reserve kept r old told (Left pid) = IsPaid r (wanted old) told
+Misses reserve kept r old told (Left pid) = IsPaid r (wanted old) told ⊎ (kept < reads_left reserve kept r old)
 Misses reserve kept r old told (Merge left) = IsPaid r (wanted old) told
 Misses reserve kept r old told (Unterm parent left) = kept < reads_left reserve kept r old
 

@@ -11,7 +11,7 @@ ghost use Rattle.descent.specs.Courses as Goal;
 ghost use Rattle.descent.specs.Courses.{course_of};
 ghost use Rattle.descent.specs.Visits.{ReadsWithin, reads_on};
 ghost use Rattle.descent.specs.declared.descent.State.TheVariants.{Root};
-ghost use Rattle.descent.specs.WriteRounds.{CanSee, CanTreat, Follows, HasCome, IsFine, IsSplitFinished, IsHere, IsLeftLeaf, IsLong, IsSame, IsSameWay, IsTold, Responds, Sees, Shows, Spends, Treats, Cuts, Merges, SeeksLeaf, beside, goes_left, going_to, on_course, toward, wanted, way_of};
+ghost use Rattle.descent.specs.WriteRounds.{CanSee, CanTreat, Follows, HasCome, IsFine, IsSplitFinished, IsHere, IsLeftLeaf, IsLong, IsSame, IsSameWay, IsTold, Responds, Sees, Shows, Spends, Treats, Cuts, Merges, SeeksLeaf, beside, ends_at, goes_left, going_to, on_course, toward, wanted, way_of};
 ghost use Rattle.descent.specs.Ways.{StaysLeft};
 
 #[cfg(test)]
@@ -81,6 +81,7 @@ pub enum WriteEnd {
 pub struct WriteRound {
     key: Key,
     due: usize,
+    floor: u8,
     course: Course,
     descent: Descent,
 }
@@ -90,30 +91,32 @@ impl Model for WriteRound {
 
     ghost Value = { WriteRound };
 
-    ghost view = { λ r. record { limits = r.descent.limits; key = r.key; due = r.due; goal = r.course.goal; parent = r.course.parent; left = r.course.left; state = r.descent.state } };
+    ghost view = { λ r. record { limits = r.descent.limits; key = r.key; due = r.due; floor = r.floor; goal = r.course.goal; parent = r.course.parent; left = r.course.left; state = r.descent.state } };
 }
 
 impl WriteRound {
     /// The round to the leaf of a key, before its first step. A leaf with as many deltas as are due is consolidated.
     pub fn new(limits: &Limits, key: Key, due: usize) -> WriteRound
         requires due { 0 < due }
-        ensures { result ≡ record { limits = limits.now; key = key; due = due; goal = Goal.Seek; parent = None; left = None; state = Root } }
+        ensures { result ≡ record { limits = limits.now; key = key; due = due; floor = 0; goal = Goal.Seek; parent = None; left = None; state = Root } }
     {
         WriteRound {
             key,
             due,
+            floor: 0,
             course: Course::down(None),
             descent: Descent::new(limits),
         }
     }
 
-    /// The round to the left of a removed page, which begins at the key, before its first step.
-    pub fn left(limits: &Limits, key: Key, removed: u16) -> WriteRound
-        ensures { result ≡ record { limits = limits.now; key = key; due = 8; goal = Goal.Left removed; parent = None; left = None; state = Root } }
+    /// The round to the left of a removed page of this level, which begins at the key, before its first step.
+    pub fn left(limits: &Limits, key: Key, removed: u16, level: u8) -> WriteRound
+        ensures { result ≡ record { limits = limits.now; key = key; due = 8; floor = level; goal = Goal.Left removed; parent = None; left = None; state = Root } }
     {
         WriteRound {
             key,
             due: MANY_DELTAS,
+            floor: level,
             course: Course::down(Some(removed)),
             descent: Descent::new(limits),
         }
@@ -254,7 +257,7 @@ impl WriteRound {
         }
     }
 
-    /// Ends where the page is to be consolidated or split, or is the leaf; else goes down.
+    /// Ends where the page is to be consolidated or split, or is where the round ends; else goes down.
     #[inline(never)]
     fn settle(&mut self, version: Version) -> Option<WriteEnd>
         requires can { CanTreat self.old version }
@@ -271,7 +274,11 @@ impl WriteRound {
             let page = version;
             return Some(WriteEnd::Split { page, plan });
         }
-        if version.chain.level() == 0 {
+        let floor = self.floor();
+        if version.chain.level() < floor {
+            return Some(WriteEnd::Again);
+        }
+        if version.chain.level() == floor {
             return self.end(version);
         }
         let child = child_on_way(&version.chain, &self.key, self.is_left());
@@ -285,7 +292,7 @@ impl WriteRound {
         requires can { CanTreat self.old leaf }
         requires here { (left : Option Version) → IsSplitFinished self.old.parent left leaf → IsHere (beside left self.old) leaf }
         requires fine { IsFine self.old.due leaf }
-        requires level { level_in leaf.chain ≡ 0 }
+        requires level { level_in leaf.chain ≡ ends_at self.old.goal self.old.floor }
         ensures treats { (left : Option Version) → IsSplitFinished self.old.parent left leaf → Treats (beside left self.old) leaf self.new result }
         ensures same { IsSame self.old self.new }
     {
@@ -332,6 +339,16 @@ impl WriteRound {
     {
         self.course = Course { aim };
         self.descent.go_to(pid);
+    }
+
+    /// The level at which the round ends.
+    fn floor(&self) -> u8
+        ensures { result ≡ ends_at self.now.goal self.now.floor }
+    {
+        match self.course.removed() {
+            Some(_) => self.floor,
+            None => 0,
+        }
     }
 
     /// Whether the round goes to the left of a removed page.

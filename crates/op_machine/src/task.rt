@@ -219,7 +219,7 @@ impl Task {
     {
         let key = removed.chain.low().copied();
         *state = State::Write {
-            round: WriteRound::left(&self.limits, key, removed.pid),
+            round: WriteRound::left(&self.limits, key, removed.pid, removed.chain.level()),
         };
     }
 

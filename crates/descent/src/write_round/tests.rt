@@ -258,7 +258,7 @@ fn finishes_a_split_below_a_parent(rt: HostRuntime) {
 /// What a writer does to the left of a removed page that begins at the key, at one page and then at another.
 fn to_the_left(at: Key, removed: u16, page: Version, next: Version) -> Option<[Turn; 2]> {
     let limits = Limits::new(1, 4096, 16384, 1).ok()?;
-    let mut round = WriteRound::left(&limits, at, removed);
+    let mut round = WriteRound::left(&limits, at, removed, 0);
     let turn = meet(&mut round, page);
     Some([turn, meet(&mut round, next)])
 }

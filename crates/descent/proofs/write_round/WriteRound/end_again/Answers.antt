@@ -8,7 +8,7 @@ use Rattle.descent.proofs.write_round.WriteRound.end_again.Goals.{in-Merge, in-U
 pub returns-clause-treats : goal.returns-clause-treats
 returns-clause-treats c =
     let old = c.args.self.now in
-    let new : WriteRound = record { limits = c.self.inside.descent.limits; key = c.self.inside.key; due = c.self.inside.due; goal = c.take_aim.new.self.goal; parent = c.take_aim.new.self.parent; left = c.take_aim.new.self.left; state = c.self.inside.descent.state } in
+    let new : WriteRound = record { limits = c.self.inside.descent.limits; key = c.self.inside.key; due = c.self.inside.due; floor = c.self.inside.floor; goal = c.take_aim.new.self.goal; parent = c.take_aim.new.self.parent; left = c.take_aim.new.self.left; state = c.self.inside.descent.state } in
     elim c.match-take_aim.branch [
       | in-Merge w ↦ (
           let is : old.goal ≡ Merge w.in-Merge.left = rw (← c.self.view_is) (sym (ap (λ (course : Course). course.goal) (rw w.in-Merge.is at c.take_aim.ensures.taken))) in

@@ -7,6 +7,6 @@ use Rattle.descent.proofs.write_round.WriteRound.settle.Goals as goal
 pub go_to-requires : goal.go_to-requires
 go_to-requires c =
     let old = c.args.self.now in
-    let index : 0 < level_in c.args.version.chain = (let no_leaf = c.if-level-eq0.false in let is = c.level.ensures in omega (arith, no_leaf, is)) in
+    let index : 0 < level_in c.args.version.chain = (let above = c.if-level-floor.false in let other = c.if-level-floor-2.false in let is = c.level.ensures in let same = c.level-2.ensures in omega (arith, above, other, is, same)) in
     let there = down_within old.limits (passes c.is_left.result old.key) c.args.version.chain c.child_on_way-child.result (c.requires.can.reached.names c.requires.alive) index (rw (← c.self.view_is) c.child_on_way-child.ensures) in
     record { some = there.0; below = rw (← c.self.view_is) at there.1 }
