@@ -19,7 +19,6 @@ use Rattle.chain_search.specs.Recalled.{Recalled}
 use Rattle.chain_search.proofs.FittedLaws.{ruled}
 use Rattle.descent.specs.WriteRounds.{IsTermed, IsUpper}
 use Rattle.smo.specs.Holds.{CanHold, HasFreeNeighbours}
-use Rattle.smo.specs.Sizes.{HasNoneHeld}
 use Rattle.smo.specs.declared.version.Version.{Version}
 use Rattle.smo.proofs.Places.{from_made, index_at, made}
 use Rattle.op_machine.specs.Upkeep.{IsIdle, IsIdleFor, IsSmall, tidies}
@@ -106,20 +105,20 @@ module _ (parent leaf : Version) (fitted : IsFitted parent.chain) (above : is_re
               by_count false less = inl (grind (arith, nat_tests, less))
 
   -- the leaf may not be removed either
-  pub held_back : (held : Bool) → content_in parent.chain low ≡ Some (Child leaf.pid held) → is_removed leaf.chain ≡ false → HasNoneHeld leaf.chain → length leaf.chain ≤ 8 → IsSmall leaf → IsIdle parent leaf → HoldsBack parent.chain leaf.pid low
-  held_back true there alive none few small idle = absurd ((idle small).0 (record { held = there; alive = alive; few = small.few; unheld = none; short = few }))
-  held_back false there alive none few small idle = unheld there (idle small).1
+  pub held_back : (held : Bool) → content_in parent.chain low ≡ Some (Child leaf.pid held) → is_removed leaf.chain ≡ false → length leaf.chain ≤ 8 → IsSmall leaf → IsIdle parent leaf → HoldsBack parent.chain leaf.pid low
+  held_back true there alive few small idle = absurd ((idle small).0 (record { held = there; alive = alive; few = small.few; unheld = small.unheld; short = few }))
+  held_back false there alive few small idle = unheld there (idle small).1
 
 -- by the page above, where there is one
 pub kept_back : (limits : Limits) (k : Knowledge) (r : Recalled) (command : Command) (parent : Option Version) (leaf : Version) → tidies command ≡ true → IfSome parent (IsUpper limits k r leaf) → IsTermed leaf parent → IsIdleFor command parent leaf
-    → is_removed leaf.chain ≡ false → HasNoneHeld leaf.chain → length leaf.chain ≤ 8 → IsSmall leaf → (low_in leaf.chain ≡ []) ⊎ IsHeldBack k leaf.pid (low_in leaf.chain)
-kept_back limits k r command None leaf tidy above termed idle alive none few small = inl termed
-kept_back limits k r command (Some parent) leaf tidy above termed idle alive none few small =
+    → is_removed leaf.chain ≡ false → length leaf.chain ≤ 8 → IsSmall leaf → (low_in leaf.chain ≡ []) ⊎ IsHeldBack k leaf.pid (low_in leaf.chain)
+kept_back limits k r command None leaf tidy above termed idle alive few small = inl termed
+kept_back limits k r command (Some parent) leaf tidy above termed idle alive few small =
     let hand = above.page.in_hand in
     inr (record {
       parent = parent.pid;
       row = parent.head;
       above = record { head = hand.seen.head; chain = parent.chain; read = hand.seen.read; alive = above.page.alive };
       order = above.after;
-      holds = held_back parent leaf hand.sound.is_chain.fitted above.page.alive termed.0 termed.1.0 termed.1.1 alive none few small (idle tidy);
+      holds = held_back parent leaf hand.sound.is_chain.fitted above.page.alive termed.0 termed.1.0 termed.1.1 alive few small (idle tidy);
     })

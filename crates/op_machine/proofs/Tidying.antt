@@ -72,8 +72,8 @@ may_call task spares k r parent leaf old below idle last none =
         covers = covered;
         few = of_made (Base base.0 ∷ []) base.0 (λ items. length items < 16) makes few;
         back = λ other small.
-            kept_back task.limits k r task.command parent leaf (rw tidy.1 refl) below.above below.termed idle at.page.alive (leaf_unheld leaf.chain at.page.in_hand.sound.is_chain.fitted at.level) at.short
-            (record { other = other; few = rw base.1 (from_made (Base base.0 ∷ []) base.0 (λ items. length items ≤ 4) makes small) });
+            kept_back task.limits k r task.command parent leaf (rw tidy.1 refl) below.above below.termed idle at.page.alive at.short
+            (record { other = other; few = rw base.1 (from_made (Base base.0 ∷ []) base.0 (λ items. length items ≤ 4) makes small); unheld = leaf_unheld leaf.chain at.page.in_hand.sound.is_chain.fitted at.level });
         unlinked = at.seeks.asked.unlinked;
       })));
     }

@@ -1,4 +1,4 @@
--- What a deletion or a tidying does at a small leaf: it holds the leaf's term, and then removes the leaf.
+-- What a deletion or a tidying does at a small page: it holds the page's term, and then removes the page.
 use Rattle.std.specs.Prelude.{◌≡◌, ◌≢◌, ◌≤◌, ◌⊎◌, Bool, Option, None, Some, true, false, length, ⊤}
 use Rattle.bw_model.specs.declared.command.Command.{Command}
 use Rattle.bw_model.specs.declared.command.Command.TheVariants.{Delete, Get, Insert, Page, Tidy, Upsert}
@@ -9,7 +9,7 @@ use Rattle.installs.specs.declared.plan.Plan.{Plan}
 use Rattle.installs.specs.declared.plan.Plan.TheVariants.{Install}
 use Rattle.smo.specs.Holds.{CanHold, IsHoldPlan}
 use Rattle.smo.specs.Removals.{CanRemove, IsRemovePlan}
-use Rattle.smo.specs.Sizes.{HasItems}
+use Rattle.smo.specs.Sizes.{HasItems, HasNoneHeld}
 use Rattle.smo.specs.declared.version.Version.{Version}
 
 -- the commands that make the tree smaller
@@ -21,10 +21,11 @@ tidies (Insert key value) = false
 tidies (Upsert key value) = false
 tidies (Page key) = false
 
--- A leaf may be removed that isn't page 1 and has at most 4 items.
+-- A page may be removed that isn't page 1 and has at most 4 items, none of them held.
 pub record IsSmall (leaf : Version) : Type 0 where
   pub other : leaf.pid ≢ 1
   pub few : HasItems leaf.chain (λ items. length items ≤ 4)
+  pub unheld : HasNoneHeld leaf.chain
 
 -- the removal of the leaf, whose term is held
 pub record IsRemoval (parent leaf : Version) (plan : Plan) : Type 0 where

@@ -1,14 +1,14 @@
-//! The removal of a small leaf: its term is held first.
+//! The removal of a small page: its term is held first.
 ghost use Rattle.std.specs.Prelude.{◌≡◌, MatchOption, false};
 ghost use Rattle.chain_search.specs.Chains.{is_removed};
 ghost use Rattle.op_machine.specs.Upkeep.{IsIdle, IsUpkeep};
 
 use deltas::Record;
 use installs::Plan;
-use smo::{FEW_ITEMS, Version, plan_hold, plan_remove};
+use smo::{FEW_ITEMS, Version, is_unheld, plan_hold, plan_remove};
 
-/// The removal of the leaf where its term is held, else the hold of its term; none exactly where the leaf is the first one or has more
-/// than a few items, or its term is neither held nor may be.
+/// The removal of the page where its term is held, else the hold of its term; none exactly where the page is the first leaf, or has more
+/// than a few items or a held one, or its term is neither held nor may be.
 pub(crate) fn upkeep(parent: &Version, leaf: &Version) -> Option<Plan>
     requires alive { is_removed parent.now.chain ≡ false }
     ensures { MatchOption result (IsIdle parent.now leaf.now) (IsUpkeep parent.now leaf.now) }
@@ -18,6 +18,9 @@ pub(crate) fn upkeep(parent: &Version, leaf: &Version) -> Option<Plan>
         return None;
     }
     if leaf.chain.item_count() > FEW_ITEMS {
+        return None;
+    }
+    if !is_unheld(&leaf.chain) {
         return None;
     }
     if let Some(remove) = plan_remove(parent, leaf) {

@@ -16,6 +16,7 @@ mod tests;
 mod unterm;
 mod version;
 
+pub use held::is_unheld;
 pub use hold::plan_hold;
 pub use laws::{links_keep_the_index, links_keep_the_map, plans_are_due};
 pub use merge::plan_merge;

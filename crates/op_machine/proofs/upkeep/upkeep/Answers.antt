@@ -15,6 +15,6 @@ returns c =
     let count = c.item_count.ensures page.items makes.items in
     let few = c.if-item_count-gt-FEW_ITEMS.false in
     record {
-      small = record { other = c.if-leaf-eq1.false; few = (page.items, makes.items, omega (arith, count, few)) };
+      small = record { other = c.if-leaf-eq1.false; few = (page.items, makes.items, omega (arith, count, few)); unheld = c.is_unheld.ensures.0 c.if-not-is_unheld.false };
       is = inr (record { unheld = c.in_default.ensures; hold = c.in_ok-hold.hold; is = refl; due = c.in_ok-hold.ensures });
     }
