@@ -6,7 +6,7 @@ use Rattle.bw_model.specs.Log.{Update}
 use Rattle.base_page.specs.declared.item.Content.TheVariants.{Child}
 use Rattle.deltas.specs.declared.record.Record.{Record}
 use Rattle.deltas.specs.Records.{next_row}
-use Rattle.chain_search.specs.Chains.{IsChainFrom, IsFront, level_in, low_in, high_in, right_in, is_removed}
+use Rattle.chain_search.specs.Chains.{IsChainFrom, IsFront, level_in, low_in, right_in, is_removed}
 use Rattle.chain_search.specs.Discipline.{NamesChild}
 use Rattle.chain_search.specs.Fitting.{SaysOf, IsReadWhole}
 use Rattle.chain_search.specs.Knowledge.{Knowledge}

@@ -1,6 +1,5 @@
 -- What a step leaves, and what the tree says of a slot.
-use Rattle.std.proofs.Common.{◌≡◌, ◌⊎◌, inl, inr, ℕ, suc, ◌≤◌, List, [], ◌∷◌, Option, Some, None, Bool, true, false, cond, refl, sym, ap, ◌∙◌, subst, ⊎_elim, arith}
-use Rattle.std.specs.Prelude.{IsTrue}
+use Rattle.std.proofs.Common.{◌≡◌, ◌⊎◌, inl, inr, ℕ, ◌≤◌, List, [], ◌∷◌, Option, Some, None, true, false, cond, refl, sym, ap, ◌∙◌, subst, ⊎_elim, arith}
 use Rattle.std.proofs.lemmas.Option.{same_Some}
 use Rattle.bw_model.specs.declared.command.Command.{Command}
 use Rattle.bw_model.specs.declared.command.Reply.{Reply}
@@ -11,7 +10,7 @@ use Rattle.bw_model.specs.Log.{Update}
 use Rattle.base_page.specs.declared.item.Content.{Content}
 use Rattle.base_page.specs.declared.item.Content.TheVariants.{Child}
 use Rattle.deltas.specs.declared.record.Record.{Record}
-use Rattle.chain_search.specs.Chains.{content_in, level_in, low_in, high_in, right_in, is_removed, covers}
+use Rattle.chain_search.specs.Chains.{level_in, low_in, right_in, is_removed}
 use Rattle.tree_law.specs.Keys.{Key}
 use Rattle.chain_search.specs.Knowledge.{Knowledge, begun, learn, finished, forgotten}
 use Rattle.chain_search.specs.Discipline.{HasRead, IsBeyond, IsMet, NamesChild}
