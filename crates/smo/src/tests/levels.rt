@@ -35,5 +35,5 @@ fn merges_a_page_of_its_level_that_holds_no_term(rt: HostRuntime) {
     let other = version(2, 0, leaf(key(b"k09"), 1));
     let refused = [merges(&left, &holding), merges(&left, &other)];
     assert_eq!(rt; given, Some(true));
-    assert_eq!(rt; refused, [Some(false), Some(false)]);
+    assert_eq!(rt; refused, [None, Some(false)]);
 }
