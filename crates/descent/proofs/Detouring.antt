@@ -1,25 +1,24 @@
 -- What an answer leaves the way round a removed page.
-use Rattle.std.proofs.Common.{◌≡◌, ◌≢◌, ◌<◌, ◌+◌, ◌++◌, ◌||◌, inl, inr, ◌⊎◌, ℕ, zero, suc, List, [], ◌∷◌, Bool, true, false, Option, Some, None, refl, sym, ap, ◌∙◌, subst, arith}
+use Rattle.std.proofs.Common.{◌≡◌, ◌<◌, ◌++◌, ◌||◌, inl, inr, ◌⊎◌, ℕ, zero, suc, List, [], ◌∷◌, Bool, true, false, Option, Some, None, refl, sym, ap, ◌∙◌, subst, arith}
 use Rattle.std.specs.Prelude.{IsTrue}
 use Rattle.bw_model.specs.declared.limits.Limits.{Limits}
 use Rattle.bw_model.specs.declared.step.Step.TheVariants as step
 use Rattle.bw_model.specs.declared.step.Answer.{Answer}
 use Rattle.bw_model.specs.declared.step.Answer.TheVariants as answer
 use Rattle.deltas.specs.declared.record.Record.{Record}
-use Rattle.chain_search.specs.Chains.{is_removed, level_in, low_in, right_in}
+use Rattle.chain_search.specs.Chains.{is_removed, level_in, right_in}
 use Rattle.chain_search.specs.Discipline.{NamesChild}
 use Rattle.chain_search.specs.Fitting.{Fits, FitsRow}
-use Rattle.chain_search.specs.Knowledge.{Knowledge, learn, learn_slot}
+use Rattle.chain_search.specs.Knowledge.{Knowledge, learn}
 use Rattle.chain_search.specs.Recalled.{Recalled, recall}
 use Rattle.smo.specs.Readings.{IsAfter}
 use Rattle.smo.specs.declared.version.Version.{Version}
 use Rattle.descent.specs.declared.visit.Sight.{Sight}
 use Rattle.descent.specs.declared.visit.Sight.TheVariants.{Empty, Whole}
-use Rattle.descent.specs.declared.visit.State.{State}
 use Rattle.descent.specs.declared.visit.State.TheVariants.{Slot, Row}
 use Rattle.descent.specs.declared.detour.DetourEnd.{DetourEnd}
 use Rattle.descent.specs.declared.detour.DetourEnd.TheVariants.{Again, Beside, Past}
-use Rattle.descent.specs.Detours.{Detour, EndsAt, Ends, Follows, GoesNearer, GoesOnTo, HasRounded, IsRounding, Responds, Sees, Shows, Spends, Treats, wanted, way_round}
+use Rattle.descent.specs.Detours.{Detour, EndsAt, Follows, GoesOnTo, HasRounded, IsRounding, Responds, Sees, Shows, Spends, Treats, wanted, way_round}
 use Rattle.descent.specs.Versions.{IsGone, IsInHand}
 use Rattle.descent.specs.Visits as page
 use Rattle.descent.specs.Visits.{Starts, Completes, Continues, FindsEmpty, Visit, at, to_page}
@@ -27,7 +26,7 @@ use Rattle.descent.specs.Walks.{HasArrived, HasMet, IsSeeking}
 use Rattle.descent.specs.Ways.{LeadsRight, NamesAt}
 use Rattle.descent.proofs.Holding.{before_slot, in_hand_row, in_hand_slot}
 use Rattle.descent.proofs.Beside.{IsBesideGone, beside_on}
-use Rattle.descent.proofs.Seeking.{arrived_next, hand, seeks_next, seeks_on}
+use Rattle.descent.proofs.Seeking.{arrived_next, seeks_next, seeks_on}
 use Rattle.descent.proofs.Spending.{left_gone, left_kept, left_on, spent_on}
 use Rattle.descent.proofs.Visiting.{back, there}
 use Rattle.descent.proofs.Walking.{not_itself, told_of}

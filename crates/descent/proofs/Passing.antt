@@ -1,8 +1,6 @@
 -- A reader's way to a key, also by the left of a removed page.
-use Rattle.std.proofs.Common.{◌≡◌, ◌≢◌, ◌<◌, ◌++◌, ◌-◌, ◌⊎◌, inl, inr, ℕ, List, [], ◌∷◌, Bool, true, false, Some, refl, sym, ◌∙◌, subst, arith}
+use Rattle.std.proofs.Common.{◌≡◌, ◌≢◌, ◌<◌, ◌++◌, ◌-◌, ◌⊎◌, inl, inr, ℕ, List, [], ◌∷◌, Bool, true, false, Some, refl, sym, ◌∙◌, subst}
 use Rattle.std.specs.Prelude.{IsFalse, IsTrue, ⊤}
-use Rattle.std.specs.List.{AllByRecursion}
-use Rattle.std.proofs.lemmas.Option.{same_Some}
 use Rattle.bw_model.specs.declared.limits.Limits.{Limits}
 use Rattle.bw_model.specs.declared.step.Step.TheVariants as step
 use Rattle.bw_model.specs.declared.step.Answer.{Answer}
@@ -11,10 +9,9 @@ use Rattle.bw_model.specs.Bytes.{is_below}
 use Rattle.base_page.proofs.KeyLaws.{not_true}
 use Rattle.deltas.specs.declared.record.Record.{Record}
 use Rattle.chain_search.specs.Chains.{high_in, is_removed, level_in, low_in, right_in}
-use Rattle.chain_search.specs.Discipline.{IsBeyond, NamesChild}
 use Rattle.chain_search.specs.Fitting.{Fits, FitsRow}
 use Rattle.chain_search.specs.Knowledge.{Knowledge, learn}
-use Rattle.chain_search.specs.Recalled.{IsUnread, Recalled, recall}
+use Rattle.chain_search.specs.Recalled.{Recalled, recall}
 use Rattle.smo.specs.Readings.{IsAfter}
 use Rattle.smo.specs.declared.version.Version.{Version}
 use Rattle.descent.specs.declared.read_round.Goal.{Goal}
@@ -22,15 +19,15 @@ use Rattle.descent.specs.declared.read_round.Goal.TheVariants.{Seek, Left, Beyon
 use Rattle.descent.specs.declared.visit.State.TheVariants.{Slot, Row}
 use Rattle.descent.specs.Versions.{IsInHand}
 use Rattle.descent.specs.Visits.{Starts, Completes, Continues, Visit, at, to_page, wanted}
-use Rattle.descent.specs.Walks.{HasArrived, IsPast, IsPastAt}
+use Rattle.descent.specs.Walks.{HasArrived}
 use Rattle.descent.specs.Ways.{LeadsOn, LeadsRight, NamesAt, StaysLeft, reaches, precedes}
 use Rattle.descent.specs.ReadRounds.{Begins, IsBesideLeaf, IsGoneAt, IsAliveLeaf, IsVisiting, Keeps, is_beyond, way_of}
 use Rattle.descent.proofs.Beside.{IsBesideGone, beside_on, says, within}
 use Rattle.descent.proofs.Holding.{before_slot, in_hand_row, in_hand_slot}
-use Rattle.descent.proofs.PageLaws.{above_empty, spans}
-use Rattle.descent.proofs.Seeking.{arrived_next, fresh_next, hand, living, seeks_next, seeks_on, seeks_root}
+use Rattle.descent.proofs.PageLaws.{above_empty}
+use Rattle.descent.proofs.Seeking.{arrived_next, fresh_next, living, seeks_next, seeks_on, seeks_root}
 use Rattle.descent.proofs.Visiting.{back, there}
-use Rattle.descent.proofs.Walking.{all_past, never_there, not_itself, past_on, told_of, trail_on, trans}
+use Rattle.descent.proofs.Walking.{not_itself, told_of, trans}
 use Rattle.descent.proofs.WayLaws.{covers_here, down_names, lowest, named_of, right_names}
 
 -- a key that is above a page that begins after another is above that one

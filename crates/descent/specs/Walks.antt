@@ -4,7 +4,7 @@ use Rattle.std.specs.List.{AllByRecursion}
 use Rattle.bw_model.specs.declared.limits.Limits.{Limits}
 use Rattle.bw_model.specs.Bytes.{is_below}
 use Rattle.deltas.specs.declared.record.Record.{Record}
-use Rattle.chain_search.specs.Chains.{IsChainFrom, high_in, is_removed, level_in, low_in}
+use Rattle.chain_search.specs.Chains.{IsChainFrom, is_removed, level_in, low_in}
 use Rattle.chain_search.specs.Discipline.{IsBeyond}
 use Rattle.chain_search.specs.Knowledge.{Knowledge}
 use Rattle.chain_search.specs.Recalled.{AnyNames, IsUnread, Recalled, Walk, trail}

@@ -1,4 +1,4 @@
-use Rattle.std.proofs.Common.{◌≡◌, inl, inr, refl, subst, Some, None}
+use Rattle.std.proofs.Common.{inl, inr, refl, subst, Some, None}
 use Rattle.descent.specs.Detours.{Detour, Responds, Treats}
 use Rattle.descent.specs.declared.detour.DetourEnd.TheVariants.{Again}
 use Rattle.descent.specs.declared.visit.Sight.TheVariants.{Empty, Whole}
