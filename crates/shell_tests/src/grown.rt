@@ -49,13 +49,15 @@ fn a_split_is_lost(rt: HostRuntime) -> Result<(), Fail> {
     Ok(())
 }
 
-// Each writer splits a full page: the turns end with the exchange that does it, before the delete takes effect.
+// Each writer splits a full page: the turns end with the exchange that does it, before the delete takes effect. The new page is then its
+// errand: it puts the root over the two before it goes on, though its own key is on the page below.
 #[test]
 fn a_delete_splits(rt: HostRuntime) -> Result<(), Fail> {
     let mut script = Numbered::new(rt.alloc(), false);
     script.insert(1, 16)?;
     script.add("begin 0 delete k01\nuntil 0 split\n", "")?;
     script.list_first(16)?;
+    script.add("until 0 root\nbegin 1 get k01\nfinish 1\n", "1 value v01\n")?;
     script.add(
         "finish 0\nbegin 0 get k08\nfinish 0\n",
         "0 deleted v01\n0 value v08\n",
