@@ -531,7 +531,7 @@ treats_as old new state other version None t = elim t [
   | inr (inr (inl merge)) ↦ inr (inr (inl (record { pid = merge.pid; left = left_as old state other version merge.pid merge.left; beside = merge.beside; goes = merge.goes })))
   | inr (inr (inr cut)) ↦ inr (inr (inr (record { pid = cut.pid; left = left_as old state other version cut.pid cut.left; apart = cut.apart; parent = cut.parent; above = cut.above; term = cut.term; goes = cut.goes })))
 ]
-treats_as old new state other version (Some end.Again) t = record { pid = t.pid; goal = t.goal; below = t.below }
+treats_as old new state other version (Some end.Again) t = record { pid = t.pid; goal = t.goal; here = here_as old state other version t.here; fine = t.fine; below = t.below }
 treats_as old new state other version (Some end.Done) t = elim t [
   | inl clean ↦ inl (record { pid = clean.pid; left = left_as old state other version clean.pid clean.left; apart = clean.apart; lacks = clean.lacks })
   | inr (inl unmerged) ↦ inr (inl (record { left = unmerged.left; goal = unmerged.goal; none = unmerged.none }))

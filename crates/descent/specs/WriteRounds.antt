@@ -403,10 +403,12 @@ pub record IsLeftLeaf (old : WriteRound) (version : Version) (pid : ℕ) : Type 
   pub fine : IsFine old.due version
   pub level : level_in version.chain ≡ old.floor
 
--- The page is below the level of the removed page to whose left the round goes.
+-- Nothing is due at the page, which is below the level of the removed page to whose left the round goes.
 pub record EndsBelow (old : WriteRound) (version : Version) : Type 0 where
   pub pid : ℕ
   pub goal : old.goal ≡ Left pid
+  pub here : IsHere old version
+  pub fine : IsFine old.due version
   pub below : level_in version.chain < old.floor
 
 -- the round, gone to read the removed page again
