@@ -558,15 +558,17 @@ Spends reserve kept r old told new (Some (end.Merge left removed merge)) = kept 
 Spends reserve kept r old told new (Some (end.Unterm parent left removed unterm)) = kept < reads_left reserve kept r old
 Spends reserve kept r old told new (Some other) = kept_for kept old.goal < reads_left reserve kept r old
 
--- The limits, the key and the number of deltas that are due stay.
+-- The limits, the key, the number of deltas that are due and the level at which a round to the left ends stay.
 pub record IsSameWay (old new : WriteRound) : Type 0 where
   pub limits : new.limits ≡ old.limits
   pub key : new.key ≡ old.key
   pub due : new.due ≡ old.due
+  pub floor : new.floor ≡ old.floor
 
 -- So does the goal where it is the leaf of the key.
 pub record IsSame (old new : WriteRound) : Type 0 where
   pub limits : new.limits ≡ old.limits
   pub key : new.key ≡ old.key
   pub due : new.due ≡ old.due
+  pub floor : new.floor ≡ old.floor
   pub seeks : old.goal ≡ Seek → new.goal ≡ Seek

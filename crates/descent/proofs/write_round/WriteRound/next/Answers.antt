@@ -24,5 +24,5 @@ returns c =
       responds = responds;
       follows = follows_from old c.see.new.self c.args.answer.now c.see.result responds;
       spends = spends_from old c.see.new.self c.args.answer.now c.see.result responds;
-      same = record { limits = c.see.ensures.same.limits ∙ limits; key = rw (← c.self.view_is) c.see.ensures.same.key; due = rw (← c.self.view_is) c.see.ensures.same.due; seeks = rw (← c.self.view_is) c.see.ensures.same.seeks };
+      same = record { limits = c.see.ensures.same.limits ∙ limits; key = rw (← c.self.view_is) c.see.ensures.same.key; due = rw (← c.self.view_is) c.see.ensures.same.due; floor = rw (← c.self.view_is) c.see.ensures.same.floor; seeks = rw (← c.self.view_is) c.see.ensures.same.seeks };
     }

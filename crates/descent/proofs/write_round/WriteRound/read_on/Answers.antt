@@ -15,5 +15,5 @@ returns c =
       responds = responds;
       follows = follows_from old new c.args.answer.now None responds;
       spends = spends_from old new c.args.answer.now None responds;
-      same = rw same (record { limits = refl; key = refl; due = refl; seeks = λ e. e });
+      same = rw same (record { limits = refl; key = refl; due = refl; floor = refl; seeks = λ e. e });
     }
