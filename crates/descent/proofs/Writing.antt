@@ -364,7 +364,7 @@ module _ (old new : WriteRound) (told : Answer Record) (visit : page.Visit) wher
         where
           missed_below : (goal : Goal) → goal ≡ Left t.pid → Misses reserve kept r here told goal
           missed_below Seek e = cc
-          missed_below (Left pid) e = inr (keeps (Left t.pid) t.goal refl)
+          missed_below (Left pid) e = inr ((λ empty. (let clash : answer.Content b.content ≡ answer.Number 0 = sym b.is ∙ empty in cc)), keeps (Left t.pid) t.goal refl)
           missed_below (Merge left) e = cc
           missed_below (Unterm parent left) e = cc
       by_result (Some end.Done) t = elim t [

@@ -3,6 +3,7 @@ use Rattle.std.specs.Prelude.{◌≡◌, ◌≢◌, ◌<◌, ◌≤◌, ◌+◌,
 use Rattle.bw_model.specs.declared.limits.Limits.{Limits}
 use Rattle.bw_model.specs.declared.step.Step.{Step as StepOf}
 use Rattle.bw_model.specs.declared.step.Answer.{Answer}
+use Rattle.bw_model.specs.declared.step.Answer.TheVariants.{Number}
 use Rattle.bw_model.specs.Bytes.{is_below}
 use Rattle.base_page.specs.declared.item.Content.TheVariants.{Child}
 use Rattle.base_page.specs.Pages.{Page as PageOf}
@@ -540,10 +541,10 @@ abbrev pub reads_left : ℕ → ℕ → Recalled → WriteRound → ℕ
 reads_left reserve kept r round = left_from reserve r round.state + kept_for kept round.goal
 
 -- Where a page wasn't there, a cause pays, but where a removed page is read for its term, the reads that were kept are left; so they
--- are where a page was below the removed one's level.
+-- are where a page that was there is below the removed one's level.
 abbrev pub Misses : ℕ → ℕ → Recalled → WriteRound → Answer Record → Goal → Type 0
 Misses reserve kept r old told Seek = IsPaid r (wanted old) told
-Misses reserve kept r old told (Left pid) = IsPaid r (wanted old) told ⊎ (kept < reads_left reserve kept r old)
+Misses reserve kept r old told (Left pid) = IsPaid r (wanted old) told ⊎ ((told ≢ Number 0) × (kept < reads_left reserve kept r old))
 Misses reserve kept r old told (Merge left) = IsPaid r (wanted old) told
 Misses reserve kept r old told (Unterm parent left) = kept < reads_left reserve kept r old
 

@@ -143,7 +143,7 @@ module _ (task : Task) (spares : Spares) (k : Knowledge) (r : Recalled) (round n
   -- where a page wasn't there
   write_missed : (goal : write_to.Goal) → write.Misses left_round one_round r round told goal → IsStepSpent r (write.wanted round) told (left_at r spares (at.Write round)) one_round
   write_missed Seek paid = inr (paid, omega arith)
-  write_missed (write_to.Left pid) misses = elim misses [ inl paid ↦ inr (paid, omega arith) | inr kept ↦ inl (omega (arith, kept)) ]
+  write_missed (write_to.Left pid) misses = elim misses [ inl paid ↦ inr (paid, omega arith) | inr was ↦ let kept = was.1 in inl (omega (arith, kept)) ]
   write_missed (write_to.Merge left) paid = inr (paid, omega arith)
   write_missed (write_to.Unterm parent left) kept = inl (omega (arith, kept))
 
