@@ -45,14 +45,14 @@ pub record LiesAbove (limits : Limits) (now : Knowledge) (version : Version) (ea
   pub after : IsAfter now parent version
 
 -- by the goal, once the page was read whole
-abbrev pub Passed : Limits → List ℕ → Knowledge → Knowledge → ℕ → List ℕ → Goal → Type 0
-Passed limits key k now pid earlier Seek = ⊤
-Passed limits key k now pid earlier (Left removed) = IsMissing limits k key removed (pid ∷ earlier) × IsMissing limits now key removed (pid ∷ earlier)
-Passed limits key k now pid earlier (Merge left) = IsKept limits now left earlier
-Passed limits key k now pid earlier (Unterm parent left) = IsLosingTerm limits now earlier parent left
+abbrev pub Passed : Limits → List ℕ → ℕ → Knowledge → Knowledge → ℕ → List ℕ → Goal → Type 0
+Passed limits key floor k now pid earlier Seek = ⊤
+Passed limits key floor k now pid earlier (Left removed) = IsMissing limits k key floor removed (pid ∷ earlier) × IsMissing limits now key floor removed (pid ∷ earlier)
+Passed limits key floor k now pid earlier (Merge left) = IsKept limits now left earlier
+Passed limits key floor k now pid earlier (Unterm parent left) = IsLosingTerm limits now earlier parent left
 
 -- A page was read whole, on the way of the goal.
-pub record HasReached (limits : Limits) (key : List ℕ) (goal : Goal) (parent left : Option Version) (k now : Knowledge) (r : Recalled) (version : Version) : Type 0 where
+pub record HasReached (limits : Limits) (key : List ℕ) (floor : ℕ) (goal : Goal) (parent left : Option Version) (k now : Knowledge) (r : Recalled) (version : Version) : Type 0 where
   pub level : ℕ
   pub low : List ℕ
   pub earlier : List ℕ
@@ -63,11 +63,11 @@ pub record HasReached (limits : Limits) (key : List ℕ) (goal : Goal) (parent l
   pub aside : IfSome left (IsLeftOf limits now low earlier)
   pub based : IsBased r parent left version.pid low
   pub led : SeeksLeaf goal → IsLed (way_of goal key) parent left version.pid level low
-  pub passed : Passed limits key k now version.pid earlier goal
+  pub passed : Passed limits key floor k now version.pid earlier goal
 
-module _ (limits : Limits) (key : List ℕ) (goal : Goal) (parent left : Option Version) (k : Knowledge) (r : Recalled) (visit : Visit) where
+module _ (limits : Limits) (key : List ℕ) (floor : ℕ) (goal : Goal) (parent left : Option Version) (k : Knowledge) (r : Recalled) (visit : Visit) where
   abbrev Visits : State → Type 0
-  Visits state = IsVisiting limits key goal parent left k r (at visit state)
+  Visits state = IsVisiting limits key floor goal parent left k r (at visit state)
 
   recall_root : (pid n : ℕ) → 0 < pid → (recall r (step.Slot pid) (answer.Number n)).heads 0 ≡ r.heads 0
   recall_root zero n some = absurd (omega (arith, some))
@@ -81,13 +81,14 @@ module _ (limits : Limits) (key : List ℕ) (goal : Goal) (parent left : Option 
   kept_slot : (row : ℕ) (earlier : List ℕ) → IsUnread visit.pid earlier → (other : Version) → IsKept limits k other earlier → IsKept limits (learn_slot visit.pid row k) other earlier
   kept_slot row earlier new other i = record { in_hand = in_hand_slot limits k visit.pid row other (differs visit.pid other.pid earlier new i.among) i.in_hand; alive = i.alive; among = i.among }
 
-  keeps_slot : (row : ℕ) → 0 < visit.pid → 0 < row → (earlier : List ℕ) → IsUnread visit.pid earlier → (other : Goal) → Keeps limits key k visit.pid earlier other → Keeps limits key (learn_slot visit.pid row k) visit.pid earlier other
+  keeps_slot : (row : ℕ) → 0 < visit.pid → 0 < row → (earlier : List ℕ) → IsUnread visit.pid earlier → (other : Goal) → Keeps limits key floor k visit.pid earlier other → Keeps limits key floor (learn_slot visit.pid row k) visit.pid earlier other
   keeps_slot row some linked earlier new Seek h = tt
   keeps_slot row some linked earlier new (Left pid) h = record {
     removed = h.removed;
     gone = record { in_hand = in_hand_slot limits k visit.pid row h.removed (λ e. h.unread.0 (sym h.is ∙ e)) h.gone.in_hand; gone = h.gone.gone };
     is = h.is;
     low = h.low;
+    level = h.level;
     unread = h.unread;
   }
   keeps_slot row some linked earlier new (Merge at_left) h = kept_slot row earlier new at_left h
@@ -99,7 +100,7 @@ module _ (limits : Limits) (key : List ℕ) (goal : Goal) (parent left : Option 
   }
 
   visits_slot : (row : ℕ) → 0 < row → row < visit.limits.rows → Visits Slot
-      → IsVisiting limits key goal parent left (learn k (step.Slot visit.pid) (answer.Number row)) (recall r (step.Slot visit.pid) (answer.Number row)) (record visit { part = []; state = Row row row })
+      → IsVisiting limits key floor goal parent left (learn k (step.Slot visit.pid) (answer.Number row)) (recall r (step.Slot visit.pid) (answer.Number row)) (record visit { part = []; state = Row row row })
   visits_slot row linked few h =
       let some = h.seeks.on_way.shows.page in
       let new = h.seeks.on_way.distinct.2 in
@@ -127,25 +128,25 @@ module _ (limits : Limits) (key : List ℕ) (goal : Goal) (parent left : Option 
     kept_row : (other : Version) (earlier : List ℕ) → IsKept limits k other earlier → IsKept limits now other earlier
     kept_row other earlier i = record { in_hand = in_hand_row k row content fits.same limits other i.in_hand; alive = i.alive; among = i.among }
 
-    missing_row : (pid : ℕ) (visited : List ℕ) → IsMissing limits k key pid visited → IsMissing limits now key pid visited
-    missing_row pid visited h = record { removed = h.removed; gone = record { in_hand = in_hand_row k row content fits.same limits h.removed h.gone.in_hand; gone = h.gone.gone }; is = h.is; low = h.low; unread = h.unread }
+    missing_row : (pid : ℕ) (visited : List ℕ) → IsMissing limits k key floor pid visited → IsMissing limits now key floor pid visited
+    missing_row pid visited h = record { removed = h.removed; gone = record { in_hand = in_hand_row k row content fits.same limits h.removed h.gone.in_hand; gone = h.gone.gone }; is = h.is; low = h.low; level = h.level; unread = h.unread }
 
     cut_row : (above at_left : Version) (earlier : List ℕ) → IsLosingTerm limits k earlier above at_left → IsLosingTerm limits now earlier above at_left
     cut_row above at_left earlier h = record { above = kept_row above earlier h.above; aside = kept_row at_left earlier h.aside; up = h.up; after = h.after }
 
-    keeps_row : (pid : ℕ) (earlier : List ℕ) (other : Goal) → Keeps limits key k pid earlier other → Keeps limits key now pid earlier other
+    keeps_row : (pid : ℕ) (earlier : List ℕ) (other : Goal) → Keeps limits key floor k pid earlier other → Keeps limits key floor now pid earlier other
     keeps_row pid earlier Seek h = tt
     keeps_row pid earlier (Left removed) h = missing_row removed (pid ∷ earlier) h
     keeps_row pid earlier (Merge at_left) h = kept_row at_left earlier h
     keeps_row pid earlier (Unterm above at_left) h = cut_row above at_left earlier h
 
-    passed_row : (pid : ℕ) (earlier : List ℕ) (other : Goal) → Keeps limits key k pid earlier other → Passed limits key k now pid earlier other
+    passed_row : (pid : ℕ) (earlier : List ℕ) (other : Goal) → Keeps limits key floor k pid earlier other → Passed limits key floor k now pid earlier other
     passed_row pid earlier Seek h = tt
     passed_row pid earlier (Left removed) h = (h, missing_row removed (pid ∷ earlier) h)
     passed_row pid earlier (Merge at_left) h = kept_row at_left earlier h
     passed_row pid earlier (Unterm above at_left) h = cut_row above at_left earlier h
 
-    visits_row : (head under : ℕ) → next_row content ≡ Some under → Visits (Row head row) → IsVisiting limits key goal parent left now walked (record visit { part = visit.part ++ content ∷ []; state = Row head under })
+    visits_row : (head under : ℕ) → next_row content ≡ Some under → Visits (Row head row) → IsVisiting limits key floor goal parent left now walked (record visit { part = visit.part ++ content ∷ []; state = Row head under })
     visits_row head under more h = record {
       level = h.level;
       low = h.low;
@@ -158,7 +159,7 @@ module _ (limits : Limits) (key : List ℕ) (goal : Goal) (parent left : Option 
       keeps = keeps_row visit.pid h.earlier goal h.keeps;
     }
 
-    reaches_whole : (version : Version) → version.pid ≡ visit.pid → version.chain ≡ visit.part ++ content ∷ [] → next_row content ≡ None → Visits (Row version.head row) → HasReached limits key goal parent left k now walked version
+    reaches_whole : (version : Version) → version.pid ≡ visit.pid → version.chain ≡ visit.part ++ content ∷ [] → next_row content ≡ None → Visits (Row version.head row) → HasReached limits key floor goal parent left k now walked version
     reaches_whole version pid made last h =
         let here = arrived limits (way_of goal key) (is_beyond goal) k r visit h.level h.low h.earlier row content fits version pid made last h.seeks in
         record {
@@ -180,26 +181,26 @@ module _ (limits : Limits) (key : List ℕ) (goal : Goal) (parent left : Option 
         }
 
 -- the same by what a visit makes of an answer
-module _ (limits : Limits) (key : List ℕ) (goal : Goal) (parent left : Option Version) (k : Knowledge) (r : Recalled) (visit : Visit) (told : Answer Record) (h : IsVisiting limits key goal parent left k r visit) (f : Fits limits k (wanted visit) told) where
+module _ (limits : Limits) (key : List ℕ) (floor : ℕ) (goal : Goal) (parent left : Option Version) (k : Knowledge) (r : Recalled) (visit : Visit) (told : Answer Record) (h : IsVisiting limits key floor goal parent left k r visit) (f : Fits limits k (wanted visit) told) where
   abbrev VisitsAt : Visit → Answer Record → Type 0
-  VisitsAt v x = IsVisiting limits key goal parent left k r v
+  VisitsAt v x = IsVisiting limits key floor goal parent left k r v
 
   abbrev FitsAt : Visit → Answer Record → Type 0
   FitsAt v x = Fits limits k (wanted v) x
 
-  pub visits_next : (new : Visit) → Starts visit told new ⊎ Continues visit told new → IsVisiting limits key goal parent left (learn k (wanted visit) told) (recall r (wanted visit) told) new
+  pub visits_next : (new : Visit) → Starts visit told new ⊎ Continues visit told new → IsVisiting limits key floor goal parent left (learn k (wanted visit) told) (recall r (wanted visit) told) new
   visits_next new moves =
-      let P : Visit → Answer Record → Type 0 = λ v x. IsVisiting limits key goal parent left (learn k (wanted v) x) (recall r (wanted v) x) new in
+      let P : Visit → Answer Record → Type 0 = λ v x. IsVisiting limits key floor goal parent left (learn k (wanted v) x) (recall r (wanted v) x) new in
       elim moves [
-        | inl b ↦ back visit P Slot (answer.Number b.row) told b.asked b.is (rw b.goes (visits_slot limits key goal parent left k r visit b.row b.some (rw h.seeks.on_way.same (row_below limits k visit.pid b.row h.seeks.on_way.shows.page (there visit FitsAt Slot (answer.Number b.row) told b.asked b.is f))) (there visit VisitsAt Slot (answer.Number b.row) told b.asked b.is h)))
+        | inl b ↦ back visit P Slot (answer.Number b.row) told b.asked b.is (rw b.goes (visits_slot limits key floor goal parent left k r visit b.row b.some (rw h.seeks.on_way.same (row_below limits k visit.pid b.row h.seeks.on_way.shows.page (there visit FitsAt Slot (answer.Number b.row) told b.asked b.is f))) (there visit VisitsAt Slot (answer.Number b.row) told b.asked b.is h)))
         | inr b ↦
             let fits = there visit FitsAt (Row b.head b.row) (answer.Content b.content) told b.asked b.is f in
             back visit P (Row b.head b.row) (answer.Content b.content) told b.asked b.is
-            (rw b.goes (visits_row limits key goal parent left k r visit b.row b.content fits b.head b.under b.more (there visit VisitsAt (Row b.head b.row) (answer.Content b.content) told b.asked b.is h)))
+            (rw b.goes (visits_row limits key floor goal parent left k r visit b.row b.content fits b.head b.under b.more (there visit VisitsAt (Row b.head b.row) (answer.Content b.content) told b.asked b.is h)))
       ]
 
-  pub reached_next : (version : Version) → Completes visit told version → HasReached limits key goal parent left k (learn k (wanted visit) told) (recall r (wanted visit) told) version
+  pub reached_next : (version : Version) → Completes visit told version → HasReached limits key floor goal parent left k (learn k (wanted visit) told) (recall r (wanted visit) told) version
   reached_next version b =
       let fits = there visit FitsAt (Row version.head b.row) (answer.Content b.content) told b.asked b.is f in
-      back visit (λ v x. HasReached limits key goal parent left k (learn k (wanted v) x) (recall r (wanted v) x) version) (Row version.head b.row) (answer.Content b.content) told b.asked b.is
-      (reaches_whole limits key goal parent left k r visit b.row b.content fits version b.pid b.chain b.last (there visit VisitsAt (Row version.head b.row) (answer.Content b.content) told b.asked b.is h))
+      back visit (λ v x. HasReached limits key floor goal parent left k (learn k (wanted v) x) (recall r (wanted v) x) version) (Row version.head b.row) (answer.Content b.content) told b.asked b.is
+      (reaches_whole limits key floor goal parent left k r visit b.row b.content fits version b.pid b.chain b.last (there visit VisitsAt (Row version.head b.row) (answer.Content b.content) told b.asked b.is h))

@@ -66,7 +66,7 @@ inner : (low high : List ℕ) → IsTrue (is_below low high) → IsTrue (is_belo
 inner low [] h = let no : is_below low [] ≡ false = not_true (is_below low []) (lowest low) in let clash : true ≡ false = sym h ∙ no in cc
 inner low (x ∷ xs) h = refl
 
-module _ (old : WriteRound) (k now : Knowledge) (r : Recalled) (version : Version) (h : HasReached old.limits old.key old.goal old.parent old.left k now r version) where
+module _ (old : WriteRound) (k now : Knowledge) (r : Recalled) (version : Version) (h : HasReached old.limits old.key old.floor old.goal old.parent old.left k now r version) where
   abbrev way : List ℕ → Bool
   way = way_of old.goal old.key
 
@@ -90,7 +90,7 @@ module _ (old : WriteRound) (k now : Knowledge) (r : Recalled) (version : Versio
   kept_here alive = record { in_hand = hand old.limits k now r version h.level h.low h.earlier h.arrives; alive = alive; among = inl refl }
 
   -- the removed page begins where the way ends, so that the next page isn't that one
-  keeps_on : is_removed chain ≡ false → (pid level : ℕ) (low : List ℕ) → NamesAt chain pid level low → (goal : Goal) → SeeksLeaf goal → IsTrue (way_of goal old.key low) → Passed old.limits old.key k now version.pid h.earlier goal → Keeps old.limits old.key now pid (version.pid ∷ h.earlier) goal
+  keeps_on : is_removed chain ≡ false → (pid level : ℕ) (low : List ℕ) → NamesAt chain pid level low → (goal : Goal) → SeeksLeaf goal → IsTrue (way_of goal old.key low) → Passed old.limits old.key old.floor k now version.pid h.earlier goal → Keeps old.limits old.key old.floor now pid (version.pid ∷ h.earlier) goal
   keeps_on alive pid level low names Seek seeks passing by = tt
   keeps_on alive pid level low names (Left removed) seeks passing by =
       let was = by.0 in
@@ -99,7 +99,7 @@ module _ (old : WriteRound) (k now : Knowledge) (r : Recalled) (version : Versio
       let so = told_of chain was.removed.pid was.removed.chain level low (h.arrives.arrives.whole.names alive was.removed.pid was.removed.head was.removed.chain was.gone.in_hand.seen.head was.gone.in_hand.seen.read) here in
       not_itself low (subst (λ (q : List ℕ). IsTrue (is_below low q)) (sym was.low ∙ so.1) passing)
       ) in
-      record { removed = by.1.removed; gone = by.1.gone; is = by.1.is; low = by.1.low; unread = (apart, by.1.unread) }
+      record { removed = by.1.removed; gone = by.1.gone; is = by.1.is; low = by.1.low; level = by.1.level; unread = (apart, by.1.unread) }
   keeps_on alive pid level low names (Merge left) seeks passing by = absurd seeks
   keeps_on alive pid level low names (Unterm parent left) seeks passing by = absurd seeks
 
@@ -118,7 +118,7 @@ module _ (old : WriteRound) (k now : Knowledge) (r : Recalled) (version : Versio
   based_on None None pid low based aside = elim based [ inl is ↦ inl is | inr above ↦ inr (rw h.arrives.is_low above) ]
   based_on None (Some other) pid low based aside = inr (rw h.arrives.is_low aside.inner)
 
-  aside : (pid : ℕ) → is_removed version.chain ≡ false → SeeksLeaf old.goal → IsSplitFinished old.parent old.left version → LeadsRight way version.chain pid → IsVisiting old.limits old.key old.goal old.parent (Some version) now r (page.to_page old.limits pid)
+  aside : (pid : ℕ) → is_removed version.chain ≡ false → SeeksLeaf old.goal → IsSplitFinished old.parent old.left version → LeadsRight way version.chain pid → IsVisiting old.limits old.key old.floor old.goal old.parent (Some version) now r (page.to_page old.limits pid)
   aside pid alive seeks finished leads =
       let names = right_names way version.chain pid leads in
       record {
@@ -133,7 +133,7 @@ module _ (old : WriteRound) (k now : Knowledge) (r : Recalled) (version : Versio
         keeps = keeps_on alive pid (level_in version.chain) leads.low names old.goal seeks leads.on_way h.passed;
       }
 
-  below : (pid : ℕ) → IsHere old version → IsFine old.due version → 0 < level_in version.chain → LeadsDown way version.chain pid → IsVisiting old.limits old.key old.goal (Some version) None now r (page.to_page old.limits pid)
+  below : (pid : ℕ) → IsHere old version → IsFine old.due version → 0 < level_in version.chain → LeadsDown way version.chain pid → IsVisiting old.limits old.key old.floor old.goal (Some version) None now r (page.to_page old.limits pid)
   below pid here fine index leads =
       let alive = here.alive in
       let names = down_names way version.chain pid index leads in
@@ -151,8 +151,8 @@ module _ (old : WriteRound) (k now : Knowledge) (r : Recalled) (version : Versio
 
   -- reads the removed page again
   module _ (pid : ℕ) (goal : old.goal ≡ Left pid) (alive : is_removed version.chain ≡ false) where
-    by : IsMissing old.limits k old.key pid (version.pid ∷ h.earlier) × IsMissing old.limits now old.key pid (version.pid ∷ h.earlier)
-    by = subst (λ (g : Goal). Passed old.limits old.key k now version.pid h.earlier g) goal h.passed
+    by : IsMissing old.limits k old.key old.floor pid (version.pid ∷ h.earlier) × IsMissing old.limits now old.key old.floor pid (version.pid ∷ h.earlier)
+    by = subst (λ (g : Goal). Passed old.limits old.key old.floor k now version.pid h.earlier g) goal h.passed
 
     left_of : IsTrue (is_below h.low old.key)
     left_of = subst (λ (g : Goal). IsTrue (way_of g old.key h.low)) goal h.passing
@@ -160,7 +160,7 @@ module _ (old : WriteRound) (k now : Knowledge) (r : Recalled) (version : Versio
     above_low : IsTrue (is_below [] old.key)
     above_low = inner h.low old.key left_of
 
-    back_to_merge : right_in version.chain ≡ Some pid → IsVisiting old.limits old.key (Merge version) None None now r (page.to_page old.limits pid)
+    back_to_merge : right_in version.chain ≡ Some pid → IsVisiting old.limits old.key old.floor (Merge version) None None now r (page.to_page old.limits pid)
     back_to_merge beside =
         let was = by.0 in
         let says = (h.arrives.arrives.whole.names alive was.removed.pid was.removed.head was.removed.chain was.gone.in_hand.seen.head was.gone.in_hand.seen.read).right (beside ∙ ap Some (sym was.is)) in
@@ -190,7 +190,7 @@ module _ (old : WriteRound) (k now : Knowledge) (r : Recalled) (version : Versio
       below_limit : pid < old.limits.pids
       below_limit = subst (λ (p : ℕ). p < old.limits.pids) by.1.is by.1.gone.in_hand.page
 
-      back_to_unterm : IsVisiting old.limits old.key (Unterm parent version) None None now r (page.to_page old.limits pid)
+      back_to_unterm : IsVisiting old.limits old.key old.floor (Unterm parent version) None None now r (page.to_page old.limits pid)
       back_to_unterm = record {
         level = level_in version.chain;
         low = old.key;
@@ -270,12 +270,12 @@ module _ (old : WriteRound) (k now : Knowledge) (r : Recalled) (version : Versio
 
   merge_end : (left removed : Version) (merge : MergeRecord) → EndsMerged old version left removed merge → IsMergeEnd old now r left removed merge
   merge_end left removed merge t =
-      let kept : IsKept old.limits now left h.earlier = subst (λ (g : Goal). Passed old.limits old.key k now version.pid h.earlier g) t.goal h.passed in
+      let kept : IsKept old.limits now left h.earlier = subst (λ (g : Goal). Passed old.limits old.key old.floor k now version.pid h.earlier g) t.goal h.passed in
       rw t.is (record { page = alive_of left kept; gone = is_gone old.limits k now r version h.level h.low h.earlier h.arrives t.plan.can.gone; plan = t.plan })
 
   unterm_end : (parent left removed : Version) (unterm : UntermRecord) → EndsCut old version parent left removed unterm → IsUntermEnd old now r parent left removed unterm
   unterm_end parent left removed unterm t =
-      let cut : IsLosingTerm old.limits now h.earlier parent left = subst (λ (g : Goal). Passed old.limits old.key k now version.pid h.earlier g) t.goal h.passed in
+      let cut : IsLosingTerm old.limits now h.earlier parent left = subst (λ (g : Goal). Passed old.limits old.key old.floor k now version.pid h.earlier g) t.goal h.passed in
       rw t.is (record {
         page = alive_of parent cut.above;
         aside = alive_of left cut.aside;
@@ -322,13 +322,13 @@ module _ (old new : WriteRound) (told : Answer Record) (visit : page.Visit) wher
   seen : (next : page.Visit) (sight : Sight) (result : Option WriteEnd) → page.Responds visit told next (Some sight) → Sees here sight new result → Then new result here told
   seen next Empty result b sees = rw sees (λ k r h f. tt)
   seen next (Whole version) result b sees = λ k r h f.
-      by_result k r result (treated here k (learn k (page.wanted visit) told) (recall r (page.wanted visit) told) version (reached_next old.limits old.key old.goal old.parent old.left k r visit told h f version b) new result sees)
+      by_result k r result (treated here k (learn k (page.wanted visit) told) (recall r (page.wanted visit) told) version (reached_next old.limits old.key old.floor old.goal old.parent old.left k r visit told h f version b) new result sees)
     where
       by_result : (k : Knowledge) (r : Recalled) (o : Option WriteEnd) → After here (learn k (page.wanted visit) told) (recall r (page.wanted visit) told) new o → Follows k r here told new o
       by_result k r None a = a
       by_result k r (Some end) a = a
 
-  module _ (reserve kept : ℕ) (k : Knowledge) (r : Recalled) (h : IsVisiting old.limits old.key old.goal old.parent old.left k r visit) (f : Fits old.limits k (page.wanted visit) told) where
+  module _ (reserve kept : ℕ) (k : Knowledge) (r : Recalled) (h : IsVisiting old.limits old.key old.floor old.goal old.parent old.left k r visit) (f : Fits old.limits k (page.wanted visit) told) where
     -- a page wasn't there
     missed : page.FindsEmpty visit told → (goal : Goal) → IsSeeking old.limits (way_of goal old.key) (is_beyond goal) k r visit h.level h.low h.earlier → Misses reserve kept r (record here { goal = goal }) told goal
     missed b Seek seeks = spent_empty reserve old.limits (reaches old.key) false k r visit h.level h.low h.earlier told seeks f refl b
@@ -385,32 +385,32 @@ module _ (old new : WriteRound) (told : Answer Record) (visit : page.Visit) wher
   paid next Empty result b sees = rw sees (λ reserve kept k r h f. missed reserve kept k r h f b old.goal h.seeks)
   paid next (Whole version) result b sees = λ reserve kept k r h f. by_result reserve kept k r h f version b result sees
 
-module _ (limits : Limits) (key : List ℕ) (k : Knowledge) (r : Recalled) (pid : ℕ) (fits : Fits limits k (step.Slot 0) (answer.Number pid)) where
+module _ (limits : Limits) (key : List ℕ) (floor : ℕ) (k : Knowledge) (r : Recalled) (pid : ℕ) (fits : Fits limits k (step.Slot 0) (answer.Number pid)) where
   abbrev begun : Knowledge
   begun = learn k (step.Slot 0) (answer.Number pid)
 
-  first_on_way : (goal : Goal) → Begins limits key k goal → IsTrue (way_of goal key [])
+  first_on_way : (goal : Goal) → Begins limits key floor k goal → IsTrue (way_of goal key [])
   first_on_way Seek b = lowest key
   first_on_way (Left removed) b = subst (λ (q : List ℕ). IsTrue (is_below [] q)) b.low (above_empty b.removed.chain b.gone.in_hand.sound.is_chain.fitted b.gone.gone)
   first_on_way (Merge left) b = absurd b
   first_on_way (Unterm parent left) b = absurd b
 
   -- the removed page isn't the root, which begins at the empty key
-  not_root : (removed : ℕ) → IsMissing limits k key removed [] → removed ≢ pid
+  not_root : (removed : ℕ) → IsMissing limits k key floor removed [] → removed ≢ pid
   not_root removed b e =
       let hand = b.gone.in_hand in
       let first : low_in b.removed.chain ≡ [] = fits.2 b.removed.head b.removed.chain (rw (sym (b.is ∙ e)) hand.seen.head) hand.seen.read in
       not_itself [] (rw first at (above_empty b.removed.chain hand.sound.is_chain.fitted b.gone.gone))
 
-  keeps_first : (goal : Goal) → Begins limits key k goal → Keeps limits key begun pid [] goal
+  keeps_first : (goal : Goal) → Begins limits key floor k goal → Keeps limits key floor begun pid [] goal
   keeps_first Seek b = tt
   keeps_first (Left removed) b =
       let hand = b.gone.in_hand in
-      record { removed = b.removed; gone = record { in_hand = record { page = hand.page; row = hand.row; seen = record { head = hand.seen.head; read = hand.seen.read }; sound = hand.sound }; gone = b.gone.gone }; is = b.is; low = b.low; unread = (not_root removed b, tt) }
+      record { removed = b.removed; gone = record { in_hand = record { page = hand.page; row = hand.row; seen = record { head = hand.seen.head; read = hand.seen.read }; sound = hand.sound }; gone = b.gone.gone }; is = b.is; low = b.low; level = b.level; unread = (not_root removed b, tt) }
   keeps_first (Merge left) b = absurd b
   keeps_first (Unterm parent left) b = absurd b
 
-  root : (goal : Goal) (parent left : Option Version) → parent ≡ None → left ≡ None → k.inside ≡ true → Begins limits key k goal → IsVisiting limits key goal parent left begun (recall r (step.Slot 0) (answer.Number pid)) (page.to_page limits pid)
+  root : (goal : Goal) (parent left : Option Version) → parent ≡ None → left ≡ None → k.inside ≡ true → Begins limits key floor k goal → IsVisiting limits key floor goal parent left begun (recall r (step.Slot 0) (answer.Number pid)) (page.to_page limits pid)
   root goal parent left orphan alone inside b = rw (orphan, alone) (record {
     level = 0;
     low = [];
@@ -442,8 +442,8 @@ seen_at old new told result from = subst (λ (s : State). Sees (at old s) from.s
 pub follows_from : (old new : WriteRound) (told : Answer Record) (result : Option WriteEnd) → Responds old told new result → (k : Knowledge) (r : Recalled) → Shows old k r → Fits old.limits k (wanted old) told → Follows k r old told new result
 follows_from old new told result responds = elim responds [
   | inl way ↦ elim way.on [
-    | inl b ↦ back old (Then new result) Root (answer.Number b.root) told b.asked b.is (rw (way.none, started old new told result way b) (λ k r h f. root old.limits old.key k r b.root f old.goal old.parent old.left h.1 h.2 h.0 h.3))
-    | inr b ↦ back old (Then new result) (Page b.visit) told told b.asked refl (rw (way.none, visiting old new told result way b) (λ k r h f. visits_next old.limits old.key old.goal old.parent old.left k r b.visit told h f b.next b.responds))
+    | inl b ↦ back old (Then new result) Root (answer.Number b.root) told b.asked b.is (rw (way.none, started old new told result way b) (λ k r h f. root old.limits old.key old.floor k r b.root f old.goal old.parent old.left h.1 h.2 h.0 h.3))
+    | inr b ↦ back old (Then new result) (Page b.visit) told told b.asked refl (rw (way.none, visiting old new told result way b) (λ k r h f. visits_next old.limits old.key old.floor old.goal old.parent old.left k r b.visit told h f b.next b.responds))
   ]
   | inr from ↦ back old (Then new result) (Page from.finds.visit) told told from.finds.asked refl (seen old new told from.finds.visit from.finds.next from.sight result from.finds.responds (seen_at old new told result from))
 ]
@@ -463,23 +463,23 @@ way_shows round k r h = by_state round.state refl
   where
     by_state : (state : State) → round.state ≡ state → WayShows (descent_of round) k
     by_state Root e = rw e ((rw e at h).0)
-    by_state (Page visit) e = let here : IsVisiting round.limits round.key round.goal round.parent round.left k r visit = rw e at h in rw e here.seeks.on_way.shows
+    by_state (Page visit) e = let here : IsVisiting round.limits round.key round.floor round.goal round.parent round.left k r visit = rw e at h in rw e here.seeks.on_way.shows
 
 -- the page that was found is one that the round has reached
 pub can_see : (old : WriteRound) (other : State) (told : Answer Record) (sight : Sight) → Finds (descent_of old) told sight → IsTold old told → CanSee (at old other) sight
 can_see old other told Empty b t = tt
 can_see old other told (Whole version) b t =
     let visit = b.visit in
-    let h : IsVisiting old.limits old.key old.goal old.parent old.left t.k t.r visit = subst (λ (s : State). Shows (at old s) t.k t.r) b.asked t.shows in
+    let h : IsVisiting old.limits old.key old.floor old.goal old.parent old.left t.k t.r visit = subst (λ (s : State). Shows (at old s) t.k t.r) b.asked t.shows in
     let f : Fits old.limits t.k (page.wanted visit) told = subst (λ (s : State). Fits old.limits t.k (wanted (at old s)) told) b.asked t.fits in
-    let d = reached_next old.limits old.key old.goal old.parent old.left t.k t.r visit told h f version b.responds in
+    let d = reached_next old.limits old.key old.floor old.goal old.parent old.left t.k t.r visit told h f version b.responds in
     record {
       reached = reached old.limits t.k (learn t.k (page.wanted visit) told) (recall t.r (page.wanted visit) told) version d.level d.low d.earlier d.arrives (way_of old.goal old.key) d.passing;
       above = IfSome_then old.parent d.above (λ other i. i.kept.alive);
       meets = meets_at t.k (learn t.k (page.wanted visit) told) d.earlier old.goal d.passed;
     }
   where
-    meets_at : (k now : Knowledge) (earlier : List ℕ) (goal : Goal) → Passed old.limits old.key k now version.pid earlier goal → CanMeet old.limits goal
+    meets_at : (k now : Knowledge) (earlier : List ℕ) (goal : Goal) → Passed old.limits old.key old.floor k now version.pid earlier goal → CanMeet old.limits goal
     meets_at k now earlier Seek p = tt
     meets_at k now earlier (Left pid) p = (subst (λ (q : ℕ). 0 < q) p.1.is p.1.removed.is_pid.0, subst (λ (q : ℕ). q < old.limits.pids) p.1.is p.1.gone.in_hand.page)
     meets_at k now earlier (Merge left) p = tt

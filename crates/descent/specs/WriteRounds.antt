@@ -112,12 +112,13 @@ SeeksLeaf (Left pid) = ⊤
 SeeksLeaf (Merge left) = ⊥
 SeeksLeaf (Unterm parent left) = ⊥
 
--- The removed page begins at the key, was read before slot 0 was, and is none of these.
-pub record IsMissing (limits : Limits) (k : Knowledge) (key : List ℕ) (pid : ℕ) (visited : List ℕ) : Type 0 where
+-- The removed page begins at the key, is of the level where the round ends, was read before slot 0 was, and is none of these.
+pub record IsMissing (limits : Limits) (k : Knowledge) (key : List ℕ) (floor : ℕ) (pid : ℕ) (visited : List ℕ) : Type 0 where
   pub removed : Version
   pub gone : IsGone limits k removed
   pub is : removed.pid ≡ pid
   pub low : low_in removed.chain ≡ key
+  pub level : level_in removed.chain ≡ floor
   pub unread : IsUnread pid visited
 
 -- A page is in hand that was read in this round, and isn't removed.
@@ -145,18 +146,18 @@ pub record IsLosingTerm (limits : Limits) (k : Knowledge) (earlier : List ℕ) (
   pub after : IsAfter k parent left
 
 -- by the goal of a round that has read slot 0
-abbrev pub Keeps : Limits → List ℕ → Knowledge → ℕ → List ℕ → Goal → Type 0
-Keeps limits key k pid earlier Seek = ⊤
-Keeps limits key k pid earlier (Left removed) = IsMissing limits k key removed (pid ∷ earlier)
-Keeps limits key k pid earlier (Merge left) = IsKept limits k left earlier
-Keeps limits key k pid earlier (Unterm parent left) = IsLosingTerm limits k earlier parent left
+abbrev pub Keeps : Limits → List ℕ → ℕ → Knowledge → ℕ → List ℕ → Goal → Type 0
+Keeps limits key floor k pid earlier Seek = ⊤
+Keeps limits key floor k pid earlier (Left removed) = IsMissing limits k key floor removed (pid ∷ earlier)
+Keeps limits key floor k pid earlier (Merge left) = IsKept limits k left earlier
+Keeps limits key floor k pid earlier (Unterm parent left) = IsLosingTerm limits k earlier parent left
 
 -- by the goal of a round that hasn't
-abbrev pub Begins : Limits → List ℕ → Knowledge → Goal → Type 0
-Begins limits key k Seek = ⊤
-Begins limits key k (Left pid) = IsMissing limits k key pid []
-Begins limits key k (Merge left) = ⊥
-Begins limits key k (Unterm parent left) = ⊥
+abbrev pub Begins : Limits → List ℕ → ℕ → Knowledge → Goal → Type 0
+Begins limits key floor k Seek = ⊤
+Begins limits key floor k (Left pid) = IsMissing limits k key floor pid []
+Begins limits key floor k (Merge left) = ⊥
+Begins limits key floor k (Unterm parent left) = ⊥
 
 -- Without a parent the page is the one that slot 0 had, or its left page is, or it begins above the empty key.
 abbrev pub IsBased : Recalled → Option Version → Option Version → ℕ → List ℕ → Type 0
@@ -195,7 +196,7 @@ IsLed way None None pid level low = low ≡ []
 IsLed way None (Some left) pid level low = (0 < level) ⊎ IsNextToFirst left pid low
 
 -- A page is visited on the way to the key.
-pub record IsVisiting (limits : Limits) (key : List ℕ) (goal : Goal) (parent left : Option Version) (k : Knowledge) (r : Recalled) (visit : page.Visit) : Type 0 where
+pub record IsVisiting (limits : Limits) (key : List ℕ) (floor : ℕ) (goal : Goal) (parent left : Option Version) (k : Knowledge) (r : Recalled) (visit : page.Visit) : Type 0 where
   pub level : ℕ
   pub low : List ℕ
   pub earlier : List ℕ
@@ -204,12 +205,12 @@ pub record IsVisiting (limits : Limits) (key : List ℕ) (goal : Goal) (parent l
   pub aside : IfSome left (IsLeftOf limits k low earlier)
   pub based : IsBased r parent left visit.pid low
   pub led : SeeksLeaf goal → IsLed (way_of goal key) parent left visit.pid level low
-  pub keeps : Keeps limits key k visit.pid earlier goal
+  pub keeps : Keeps limits key floor k visit.pid earlier goal
 
 -- by the state of a round
 abbrev pub ShowsState : WriteRound → Knowledge → Recalled → State → Type 0
-ShowsState round k r Root = (k.inside ≡ true) × (round.parent ≡ None) × (round.left ≡ None) × Begins round.limits round.key k round.goal
-ShowsState round k r (Page visit) = IsVisiting round.limits round.key round.goal round.parent round.left k r visit
+ShowsState round k r Root = (k.inside ≡ true) × (round.parent ≡ None) × (round.left ≡ None) × Begins round.limits round.key round.floor k round.goal
+ShowsState round k r (Page visit) = IsVisiting round.limits round.key round.floor round.goal round.parent round.left k r visit
 
 abbrev pub Shows : WriteRound → Knowledge → Recalled → Type 0
 Shows round k r = ShowsState round k r round.state
