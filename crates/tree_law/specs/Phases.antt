@@ -20,8 +20,8 @@ abbrev pub IsRightOf : Shared → ℕ → ℕ → Type 0
 IsRightOf m p q = (x : ℕ) × (chain : List Record) × (m.slots p ≡ Some x) × IsChainFrom m.rows x chain × (right_in chain ≡ Some q)
 
 -- no term of page p is held
-abbrev pub IsUnheldAt : Shared → ℕ → Type 0
-IsUnheldAt m p = (x : ℕ) × (chain : List Record) × (m.slots p ≡ Some x) × IsChainFrom m.rows x chain × IsUnheld chain
+abbrev pub StandsUnheld : Shared → ℕ → Type 0
+StandsUnheld m p = (x : ℕ) × (chain : List Record) × (m.slots p ≡ Some x) × IsChainFrom m.rows x chain × IsUnheld chain
 
 -- an exchange that links this record on page p
 abbrev pub LinkMoves : Shared → ℕ → Record → ℕ → (ℕ → PageOwner) → (ℕ → PageOwner) → Type 0
@@ -32,7 +32,7 @@ LinkMoves m a (Term term) p f f' = (l : ℕ) × (f term.child ≡ Placed Fresh l
 LinkMoves m a (Hold hold) p f f' = (l : ℕ) × (f hold.child ≡ Placed Indexed l hold.separator) × (f' ≡ put f hold.child (Placed Held l hold.separator))
 LinkMoves m a (Unterm unterm) p f f' = (l : ℕ) × (f unterm.child ≡ Placed Merged l unterm.separator) × (f' ≡ put f unterm.child (Cleared a l unterm.separator))
 LinkMoves m a (Split split) p f f' = (st : Stage) × (l : ℕ) × (low : Key) × (f p ≡ Placed st l low) × (f split.page ≡ Keeps a) × (f' ≡ put f split.page (Placed Fresh l split.separator))
-LinkMoves m a (Remove remove) p f f' = (l : ℕ) × (s : Key) × (f p ≡ Placed Held l s) × (f' ≡ put f p (Placed Removed l s)) × IsUnheldAt m p
+LinkMoves m a (Remove remove) p f f' = (l : ℕ) × (s : Key) × (f p ≡ Placed Held l s) × (f' ≡ put f p (Placed Removed l s)) × StandsUnheld m p
 LinkMoves m a (Merge merge) p f f' = (q l : ℕ) × (f q ≡ Placed Removed l merge.low) × (f' ≡ put f q (Placed Merged l merge.low)) × IsRightOf m p q
 
 -- A won exchange of slot 0 puts the new page above the old root, whose right becomes indexed with it. One of another slot
