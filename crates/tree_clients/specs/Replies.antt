@@ -1,9 +1,7 @@
 -- What a command comes to on a seat at hand.
-use Rattle.std.specs.Prelude.{◌≡◌, ℕ, [], None, IsSome, ◌⊎◌}
+use Rattle.std.specs.Prelude.{◌≡◌, ℕ, None, IsSome, ◌⊎◌}
 use Rattle.bw_model.specs.declared.command.Command.{Command}
-use Rattle.bw_model.specs.declared.command.Reply.{Reply}
-use Rattle.bw_model.specs.declared.limits.Limits.{Limits}
-use Rattle.bw_tree.specs.Calls.{IsDone, IsSpent}
+use Rattle.bw_tree.specs.Calls.{IsSpent}
 use Rattle.bw_tree.specs.Seats.{Seat, unfinished_command}
 
 -- how many steps a command is given that is to run to its end
@@ -21,11 +19,3 @@ CantGoOn seat budget = (unfinished_command seat ≡ None) ⊎ (budget ≡ 0)
 -- There is no reply: the seat has a command, and stays as it is; or all steps are spent.
 abbrev pub HasNoReply : Seat → Command → Seat → Type 0
 HasNoReply old command new = (IsSome (unfinished_command old) × (new ≡ old)) ⊎ IsSpent old command many new
-
--- A seat that had seen nothing is done with the command, and has this reply.
-pub record IsFirstReply (limits : Limits) (command : Command) (reply : Reply) : Type 0 where
-  pub old : Seat
-  pub new : Seat
-  pub opened : old.limits ≡ limits
-  pub unseen : old.seen ≡ []
-  pub done : IsDone old command many reply new

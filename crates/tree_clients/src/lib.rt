@@ -5,6 +5,6 @@ mod replies;
 mod seats;
 mod threads;
 
-pub use replies::{called, first_reply, reply, resumed};
+pub use replies::{called, reply, resumed};
 pub use seats::{give_seat, opened, take_seat};
 pub use threads::{Work, work_in_threads};
