@@ -5,8 +5,8 @@
 set -eu
 top=$(CDPATH='' cd -- "$(dirname -- "$0")/.." && pwd)
 times=${1:-300000}
-program=$top/crates/row_bench/out/row_bench
-[ -x "$program" ] || (cd "$top/crates/row_bench" && rt run -- put 1) </dev/null >/dev/null
+program=$top/crates/bench/out/bench
+[ -x "$program" ] || (cd "$top/crates/bench" && rt run -- put 1) </dev/null >/dev/null
 used=$(mktemp)
 trap 'rm -f "$used"' EXIT
 for kind in put short long find page count; do

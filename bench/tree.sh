@@ -7,8 +7,8 @@ set -eu
 top=$(CDPATH='' cd -- "$(dirname -- "$0")/.." && pwd)
 operations=${1:-10000}
 keys=20000
-program=$top/crates/tree_bench/out/tree_bench
-[ -x "$program" ] || (cd "$top/crates/tree_bench" && rt run -- load 1 1 0) </dev/null >/dev/null 2>&1
+program=$top/crates/bench/out/bench
+[ -x "$program" ] || (cd "$top/crates/bench" && rt run -- load 1 1 0) </dev/null >/dev/null 2>&1
 taken=$(mktemp)
 times=$(mktemp)
 trap 'rm -f "$taken" "$times"' EXIT

@@ -1,6 +1,6 @@
 use Rattle.std.proofs.Common.{arith}
-use Rattle.row_bench.proofs.Deletes.{deletes_fit}
-use Rattle.row_bench.proofs.searches.chain_over.Goals as goal
+use Rattle.bench.proofs.Deletes.{deletes_fit}
+use Rattle.bench.proofs.searches.chain_over.Goals as goal
 
 pub over-requires : goal.over-requires
 over-requires c = deletes_fit c.updates_fit.ensures.delete c.loop-place.part c.args.base c.loop-place.invariant.deletes

@@ -1,0 +1,65 @@
+//! Does one thing again and again, as often as the command line says.
+//!
+//! `bench WHAT TIMES`: where WHAT is `put`, `short` or `long` it reads a row of words as a record: a put, or a leaf of 24 items whose keys and
+//! values have 4 or 32 bytes. Where it is `find` or `page` it searches a key in a chain of 8 deltas over a leaf of 15 items: by the walk, or
+//! by the page that the chain makes. Where it is `count` it counts the items of that chain. It prints how often that succeeded; bench/rows.sh times it.
+//!
+//! `bench WHAT SIZE THREADS OPERATIONS`: it opens a tree and inserts SIZE keys by one seat; that is all where WHAT is `load`. Where it is
+//! `reads` or `half`, each of so many threads then does so many operations on drawn keys: lookups, or upserts and lookups by turns. Where it
+//! is `steps`, they do lookups, and count their steps. Where it is `rows`, there is no tree: an operation loads the words of SIZE drawn rows,
+//! 256 each. It prints how many operations succeeded or steps were taken by what came last, and on standard error how many nanoseconds that
+//! took. bench/tree.sh runs it.
+#![tactic(auto)]
+
+mod amounts;
+mod records;
+mod rows;
+mod searches;
+mod trees;
+mod worker;
+
+use amounts::{Done, Scale};
+use std::alloc::Global;
+use std::thread::Threads;
+use std::time::Clock;
+use std::{env, io};
+use worker::What;
+
+fn main(rt: HostRuntime) -> io::Result<()> {
+    let words = env::args(&rt)?.collect::<Vec<String>>(rt.alloc())?;
+    match words.as_slice() {
+        [_, what, times] => {
+            println!(rt; "{}", records::run(what.as_str(), number(times.as_str())))?;
+        }
+        [_, what, size, threads, operations] => {
+            let scale = Scale {
+                size: number(size.as_str()),
+                threads: number(threads.as_str()),
+                operations: number(operations.as_str()),
+            };
+            let done = work(&rt, rt.alloc(), what.as_str(), scale).unwrap_or_default();
+            println!(rt; "{}", done.count)?;
+            eprintln!(rt; "{}", done.time.as_nanos())?;
+        }
+        _ => {}
+    }
+    Ok(())
+}
+
+/// Does what the word names in threads, over a tree or over rows; none without memory, seats or a clock.
+fn work<R: Threads + Clock + Sync>(
+    rt: &R,
+    alloc: Global,
+    what: &str,
+    scale: Scale,
+) -> Option<Done> {
+    match What::named(what) {
+        Some(what) => trees::run(rt, alloc, what, scale),
+        None => rows::run(rt, alloc, scale),
+    }
+}
+
+/// The number that a word is, or 0.
+fn number(word: &str) -> u32 {
+    word.parse::<u32>().unwrap_or(0)
+}
