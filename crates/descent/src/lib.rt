@@ -11,7 +11,9 @@ mod way;
 mod write_round;
 
 pub use detour::{Detour, DetourEnd};
-pub use laws::{detours_lead_on, leaves_stand, left_rounds_stay, removals_are_due, rounds_are_short};
+pub use laws::{
+    detours_lead_on, leaves_stand, left_rounds_stay, removals_are_due, rounds_are_short,
+};
 pub use read_round::{ReadEnd, ReadRound};
 pub use visit::{Sight, Visit, reads_on};
 pub use write_round::{WriteEnd, WriteRound};
