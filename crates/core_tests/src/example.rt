@@ -1,4 +1,4 @@
-//! The example of the README: a lookup between the steps of an insert.
+//! A core, one step at a time: a lookup between the steps of an insert.
 
 use bw_model::{Command, Key, Limits, Reply, Value};
 use chain_search::Turn;
