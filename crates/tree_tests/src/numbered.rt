@@ -40,6 +40,26 @@ pub(crate) fn found(number: u32) -> Reply {
     Reply::Value(value(number))
 }
 
+/// The key and the value of a place below 99 in the row `k01`, `k02` and on: `k01` and `v01` stand at 0.
+pub(crate) fn pair(place: u32) -> (Key, Value) {
+    let number = place.wrapping_add(1);
+    let (tens, ones) = (b'0' + (number / 10 % 10) as u8, b'0' + (number % 10) as u8);
+    let key = Key::from_slice(&[b'k', tens, ones]).unwrap_or_default();
+    let value = Value::from_slice(&[b'v', tens, ones]).unwrap_or_default();
+    (key, value)
+}
+
+/// Whether the pairs are those of the row `k01`, `k02` and on, so many.
+pub(crate) fn are_from_k01(pairs: &[(Key, Value)], count: u32) -> bool {
+    let mut left = pairs.iter();
+    for place in 0..count {
+        if left.next() != Some(&pair(place)) {
+            return false;
+        }
+    }
+    left.next().is_none()
+}
+
 /// Whether the pairs are those of the keys below a number, in order, each with the value of its number.
 pub(crate) fn are_first(pairs: &[(Key, Value)], count: u32) -> bool {
     let mut left = pairs.iter();

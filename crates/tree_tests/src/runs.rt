@@ -1,7 +1,7 @@
 //! What two seats of one tree do, one after the other, and whether each reply is right.
 ghost use Rattle.bw_tree.specs.Trees.{IsSeatOf};
 
-use crate::numbered::{found, get, insert};
+use crate::numbered::{found, get, insert, pair};
 use crate::stops::Stop;
 use bw_model::{Command, Key, Reply, Value};
 use bw_tree::{BwSeat, Called, Tree};
@@ -18,6 +18,8 @@ pub(crate) enum Run {
     Stays,
     /// That lookup is done, and one more update.
     Goes,
+    /// Inserts of one seat, beside no other.
+    Alone(u32),
     /// Inserts of one seat, each looked up by it and by the other.
     Inserts(u32),
     /// Inserts of both seats, in another order than that of the keys.
@@ -36,14 +38,26 @@ pub(crate) fn is_right(tree: &Tree, one: &mut BwSeat, other: &mut BwSeat, run: R
     ensures other { IsSeatOf tree.now other.new }
 {
     match run {
-        Run::Nothing => true,
-        Run::Steps => steps(tree, one),
+        Run::Nothing | Run::Steps | Run::Alone(_) => is_right_alone(tree, one, run),
         Run::Stays => stays(tree, one, other),
         Run::Goes => goes(tree, one, other),
         Run::Inserts(count) => inserts(tree, one, other, count),
         Run::Mixed => mixes(tree, one, other),
         Run::Meets => meets(tree, one, other),
         Run::Stopped(stop, steps) => stop.is_right(tree, one, other, steps),
+    }
+}
+
+/// Does it with one seat, and answers whether all replies were right; false where it takes two.
+pub(crate) fn is_right_alone(tree: &Tree, seat: &mut BwSeat, run: Run) -> bool
+    requires own { IsSeatOf tree.now seat.old }
+    ensures own { IsSeatOf tree.now seat.new }
+{
+    match run {
+        Run::Nothing => true,
+        Run::Steps => steps(tree, seat),
+        Run::Alone(count) => inserts_alone(tree, seat, count),
+        _ => false,
     }
 }
 
@@ -70,7 +84,22 @@ fn steps(tree: &Tree, seat: &mut BwSeat) -> bool
     last == Some(Called::Done(Reply::None))
 }
 
-/// While a lookup stands after its second step, fifty-six updates use all rows, and the next one finds none.
+/// Inserts the keys `k01` and on, each within 4,096 steps, so that the page is consolidated at the ninth and split at the seventeenth.
+fn inserts_alone(tree: &Tree, seat: &mut BwSeat, count: u32) -> bool
+    requires own { IsSeatOf tree.now seat.old }
+    ensures own { IsSeatOf tree.now seat.new }
+{
+    for number in 0..count {
+        let (key, value) = pair(number);
+        let inserted = called(tree, seat, Command::Insert(key, value), 4096);
+        if inserted != Some(Called::Done(Reply::Inserted)) {
+            return false;
+        }
+    }
+    true
+}
+
+/// While a lookup stands after its second step, fifty-six updates use all rows, and the next one finds none; each within 4,096 steps.
 fn stays(tree: &Tree, writer: &mut BwSeat, reader: &mut BwSeat) -> bool
     requires one { IsSeatOf tree.now writer.old }
     requires other { IsSeatOf tree.now reader.old }
@@ -84,7 +113,8 @@ fn stays(tree: &Tree, writer: &mut BwSeat, reader: &mut BwSeat) -> bool
             56 => Reply::Full,
             _ => Reply::Replaced(value()),
         };
-        if reply(tree, writer, Command::Upsert(key(), value())) != Some(wanted) {
+        let updated = called(tree, writer, Command::Upsert(key(), value()), 4096);
+        if updated != Some(Called::Done(wanted)) {
             return false;
         }
     }
@@ -99,8 +129,9 @@ fn goes(tree: &Tree, writer: &mut BwSeat, reader: &mut BwSeat) -> bool
     ensures other { IsSeatOf tree.now reader.new }
 {
     let last = resumed(tree, reader, 4096);
-    let replaced = reply(tree, writer, Command::Upsert(key(), value()));
-    last == Some(Called::Done(Reply::Value(value()))) && replaced == Some(Reply::Replaced(value()))
+    let updated = called(tree, writer, Command::Upsert(key(), value()), 4096);
+    last == Some(Called::Done(Reply::Value(value())))
+        && updated == Some(Called::Done(Reply::Replaced(value())))
 }
 
 /// Inserts within 4,096 steps each, so that the page is consolidated at the ninth and split at the seventeenth.

@@ -2,8 +2,8 @@
 ghost use Rattle.std.specs.Prelude.{◌≡◌, true};
 ghost use Rattle.bw_tree.specs.Trees.{AreSeatsOf};
 
-use crate::numbered::are_first;
-use crate::runs::{Run, is_right};
+use crate::numbered::{are_first, are_from_k01};
+use crate::runs::{Run, is_right, is_right_alone};
 use crate::stops::Stop;
 use bw_model::{Key, Limits, Value};
 use bw_tree::{BwSeat, CloseRefusal, Tree};
@@ -12,7 +12,7 @@ use std::alloc::Global;
 use std::test::Fail;
 use tree_clients::{give_seat, opened, take_seat};
 
-/// Takes the last two seats of a list, does it, and gives them back, the first one last.
+/// Takes the last two seats of a list, or the only one, does it, and gives them back in their order.
 fn runs(tree: &Tree, seats: &mut Vec<BwSeat>, run: Run) -> bool
     requires own { AreSeatsOf tree.now seats.old.items }
     ensures own { result ≡ true → AreSeatsOf tree.now seats.new.items }
@@ -21,14 +21,14 @@ fn runs(tree: &Tree, seats: &mut Vec<BwSeat>, run: Run) -> bool
         return false;
     };
     let Some(mut one) = take_seat(tree, seats) else {
-        return false;
+        return is_right_alone(tree, &mut other, run) && give_seat(tree, seats, other).is_ok();
     };
     is_right(tree, &mut one, &mut other, run)
         && give_seat(tree, seats, one).is_ok()
         && give_seat(tree, seats, other).is_ok()
 }
 
-/// The pairs of a tree of two actors that is closed after the run; none where a reply was wrong.
+/// The pairs of a tree that is closed after the run; none where a reply was wrong.
 fn pairs_after(alloc: Global, limits: Limits, run: Run) -> Option<Vec<(Key, Value)>> {
     let Ok((tree, mut seats)) = opened(alloc, limits) else {
         return None;
@@ -102,6 +102,26 @@ fn each_call_is_done_within_its_budget(rt: HostRuntime) -> Result<(), Fail> {
             40
         )
     );
+    Ok(())
+}
+
+/// Whether a tree of one actor has so many pairs from `k01` on, once they are inserted.
+fn lists_alone(alloc: Global, count: u32) -> bool {
+    let Ok(limits) = Limits::new(1, 64, 256, 1) else {
+        return false;
+    };
+    match pairs_after(alloc, limits, Run::Alone(count)) {
+        Some(pairs) => are_from_k01(pairs.as_slice(), count),
+        None => false,
+    }
+}
+
+// The tenth insert uses rows that the ninth has freed, and the seventeenth splits the leaf.
+#[test]
+fn a_lone_seat_is_never_spent(rt: HostRuntime) -> Result<(), Fail> {
+    for count in [10, 17] {
+        assert!(rt; lists_alone(rt.alloc(), count));
+    }
     Ok(())
 }
 
