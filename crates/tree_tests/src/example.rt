@@ -1,53 +1,47 @@
-//! The example of the README: two threads over one tree.
-ghost use Rattle.bw_tree.specs.Trees.{IsSeatOf};
+//! The example of the README: two threads share a tree.
 
 use bw_model::{Command, Key, Limits, Reply, Value};
-use bw_tree::{BwSeat, Tree};
 use std::alloc::Global;
 use std::test::Fail;
-use std::thread::{Threads, join};
-use tree_clients::{opened, reply, take_seat};
+use std::thread::{Threads, join_mut};
+use tree_clients::{give_seat, opened, reply, take_seat};
 
-/// What two threads are told, of which one inserts what the other looks up.
-fn insert_and_get<R: Threads + Sync>(
-    rt: &R,
-    tree: &Tree,
-    one: &mut BwSeat,
-    other: &mut BwSeat,
-) -> (Option<Reply>, Option<Reply>)
-    requires one { IsSeatOf tree.now one.old }
-    requires other { IsSeatOf tree.now other.old }
-{
-    let (city, country) = (b"Bern", b"Switzerland");
-    let key = Key::from_slice(city).unwrap_or_default();
-    let value = Value::from_slice(country).unwrap_or_default();
-    let get = Command::Get(key.copied());
-    let insert = Command::Insert(key, value);
-    join(rt, || reply(tree, one, insert), || reply(tree, other, get))
-}
-
-/// The same on a new tree.
-fn replies<R: Threads + Sync>(
+/// One thread inserts a pair, and another one looks its key up: both replies, and the pairs of the tree at its end.
+fn share<R: Threads>(
     rt: &R,
     alloc: Global,
-    limits: Limits,
-) -> Option<(Option<Reply>, Option<Reply>)> {
-    let Ok((tree, mut seats)) = opened(alloc, limits) else {
-        return None;
-    };
+    city: &Key,
+    country: &Value,
+) -> Option<(Reply, Reply, Vec<(Key, Value)>)> {
+    // two seats, one for each thread; PIDs, rows, and the opening epoch
+    let limits = Limits::new(2, 4096, 16384, 1).ok()?;
+    let (tree, mut seats) = opened(alloc, limits).ok()?;
     let mut one = take_seat(&tree, &mut seats)?;
     let mut other = take_seat(&tree, &mut seats)?;
-    Some(insert_and_get(rt, &tree, &mut one, &mut other))
+    let (inserted, found) = join_mut(
+        rt,
+        &mut || {
+            let insert = Command::Insert(city.copied(), country.copied());
+            reply(&tree, &mut one, insert)
+        },
+        &mut || reply(&tree, &mut other, Command::Get(city.copied())),
+    );
+    give_seat(&tree, &mut seats, one).ok()?;
+    give_seat(&tree, &mut seats, other).ok()?;
+    let pairs = tree.close(alloc, seats).ok()?;
+    Some((inserted?, found?, pairs))
 }
 
 #[test]
 fn two_threads_share_a_tree(rt: HostRuntime) -> Result<(), Fail> {
-    let Some((inserted, found)) = replies(&rt, rt.alloc(), Limits::new(2, 4096, 16384, 1)?) else {
+    let city = Key::from_slice(b"Bern")?;
+    let country = Value::from_slice(b"Switzerland")?;
+    let Some((inserted, found, pairs)) = share(&rt, rt.alloc(), &city, &country) else {
         assert!(rt; false);
         return Ok(());
     };
-    assert!(rt; inserted == Some(Reply::Inserted));
-    let country = Value::from_slice(b"Switzerland")?;
-    assert!(rt; found == Some(Reply::None) || found == Some(Reply::Value(country)));
+    assert!(rt; inserted == Reply::Inserted);
+    assert!(rt; found == Reply::None || found == Reply::Value(country.copied()));
+    assert!(rt; pairs.as_slice() == [(city, country)].as_slice());
     Ok(())
 }
