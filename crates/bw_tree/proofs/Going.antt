@@ -110,6 +110,7 @@ module _ (old mid : Seat) (n : ℕ) (same : IsSame old mid) (still : IsStill old
       let one = one_more mid (Some reply) new next h in let before = still.steps in record {
         grows = starts_on old.seen mid.seen new.seen still.grows (grows_by_one mid (Some reply) new next h);
         ends = ends_so mid reply new next h;
+        some = omega arith;
         steps = omega arith;
         calls = calls_then mid (Some reply) new next h ∙ ap (λ calls. answered_last calls reply) still.calls;
         idle = h.command;

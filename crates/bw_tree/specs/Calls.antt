@@ -1,5 +1,5 @@
 -- Calls on a seat, as the run that it has seen tells of them.
-use Rattle.std.specs.Prelude.{◌≡◌, ℕ, ◌+◌, ◌≤◌, List, [], ◌∷◌, ◌++◌, Option, Some, None, IfSome, length}
+use Rattle.std.specs.Prelude.{◌≡◌, ℕ, ◌+◌, ◌<◌, ◌≤◌, List, [], ◌∷◌, ◌++◌, Option, Some, None, IfSome, length}
 use Rattle.actors.specs.Actors.{command_left}
 use Rattle.bw_model.specs.declared.command.Command.{Command}
 use Rattle.bw_model.specs.declared.command.Reply.{Reply}
@@ -69,10 +69,11 @@ abbrev pub IsCalled : Seat → Command → ℕ → Called → Seat → Type 0
 IsCalled old command budget (Done reply) new = IsDone old command budget reply new
 IsCalled old command budget Spent new = IsSpent old command budget new
 
--- An operation that went on is done, after at most so many own steps: the call that was made last has the reply.
+-- An operation that went on is done, after one own step at least, and at most so many: the call that was made last has the reply.
 pub record IsFinished (old : Seat) (budget : ℕ) (reply : Reply) (new : Seat) : Type 0 where
   pub grows : StartsWith new.seen old.seen
   pub ends : EndsWith new reply
+  pub some : own_count old < own_count new
   pub steps : own_count new ≤ own_count old + budget
   pub calls : calls_in new ≡ answered_last (calls_in old) reply
   pub idle : unfinished_command new ≡ None

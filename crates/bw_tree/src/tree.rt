@@ -50,11 +50,11 @@ impl<A: Allocator> Tree<A> {
         called
     }
 
-    /// Goes on with the operation of a seat, for at most `budget` steps, which is 1 at least. `Spent` comes after exactly `budget` steps.
+    /// Goes on with the operation of a seat, for at most `budget` steps. `Spent` comes after exactly `budget` steps, so at once where it
+    /// is 0.
     pub fn resume(&self, seat: &mut BwSeat<A>, budget: u32) -> Called
         requires own { IsSeatOf self.now seat.old }
         requires busy { IsSome (unfinished_command seat.old) }
-        requires some { 1 ≤ budget }
         ensures same { IsSame seat.old seat.new }
         ensures resumed { IsResumed seat.old budget result seat.new }
         ensures history { IsOneHistory seat.new.limits seat.new.seen }

@@ -12,10 +12,6 @@ many = 65536
 abbrev pub CantBegin : Seat → ℕ → Type 0
 CantBegin seat budget = IsSome (unfinished_command seat) ⊎ (budget ≡ 0)
 
--- It can't go on: it has no command, or there are no steps to take.
-abbrev pub CantGoOn : Seat → ℕ → Type 0
-CantGoOn seat budget = (unfinished_command seat ≡ None) ⊎ (budget ≡ 0)
-
 -- There is no reply: the seat has a command, and stays as it is; or all steps are spent.
 abbrev pub HasNoReply : Seat → Command → Seat → Type 0
 HasNoReply old command new = (IsSome (unfinished_command old) × (new ≡ old)) ⊎ IsSpent old command many new

@@ -4,7 +4,7 @@ ghost use Rattle.bw_tree.specs.Calls.{IsCalled, IsDone, IsResumed};
 ghost use Rattle.bw_tree.specs.Runs.{IsOneHistory};
 ghost use Rattle.bw_tree.specs.Seats.{IsSame, unfinished_command};
 ghost use Rattle.bw_tree.specs.Trees.{IsSeatOf};
-ghost use Rattle.tree_clients.specs.Replies.{CantBegin, CantGoOn, HasNoReply, many};
+ghost use Rattle.tree_clients.specs.Replies.{CantBegin, HasNoReply, many};
 
 use bw_model::{Command, Reply};
 use bw_tree::{BwSeat, Called, Tree};
@@ -37,9 +37,9 @@ pub fn resumed(tree: &Tree, seat: &mut BwSeat, budget: u32) -> Option<Called>
     ensures same { IsSame seat.old seat.new }
     ensures resumed { IfSome result (λ called. IsResumed seat.old budget called seat.new) }
     ensures history { IsSome result → IsOneHistory seat.new.limits seat.new.seen }
-    ensures none { result ≡ None → CantGoOn seat.old budget × (seat.new ≡ seat.old) }
+    ensures none { result ≡ None → (unfinished_command seat.old ≡ None) × (seat.new ≡ seat.old) }
 {
-    if seat.is_idle() || budget == 0 {
+    if seat.is_idle() {
         return None;
     }
     Some(tree.resume(seat, budget))
