@@ -4,8 +4,6 @@
 mod item;
 mod items;
 mod page;
-#[cfg(test)]
-mod tests;
 
 pub use item::{Content, Item};
 pub use items::{Items, MAX_ITEMS};

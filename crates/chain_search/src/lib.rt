@@ -10,8 +10,6 @@ mod laws;
 mod replies;
 mod shared;
 mod table;
-#[cfg(test)]
-mod tests;
 mod trace;
 
 pub use chain::Chain;

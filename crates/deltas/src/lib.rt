@@ -4,8 +4,6 @@
 mod applies;
 mod record;
 mod says;
-#[cfg(test)]
-mod tests;
 
 pub use applies::apply;
 pub use record::{Delete, Hold, Merge, Put, Record, Remove, Split, Term, Unterm};

@@ -11,8 +11,6 @@ mod entry;
 mod item;
 mod limbo;
 mod list;
-#[cfg(test)]
-mod tests;
 mod words;
 
 pub use entry::{Entry, Stage};

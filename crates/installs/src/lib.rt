@@ -6,8 +6,6 @@ mod laws;
 mod plan;
 mod spares;
 mod taking;
-#[cfg(test)]
-mod tests;
 
 pub use change::{Change, End};
 pub use laws::plans_may_be_linked;

@@ -7,8 +7,6 @@ mod read;
 mod records;
 mod row;
 mod rules;
-#[cfg(test)]
-mod tests;
 mod texts;
 mod write;
 

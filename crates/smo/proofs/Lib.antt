@@ -11,5 +11,4 @@ pub mod Due
 pub mod Leaves
 pub mod MapKept
 pub mod TestedLeaves
-pub mod TestedIndexPages
 pub mod Unheld

@@ -11,8 +11,6 @@ mod root;
 mod sizes;
 mod split;
 mod term;
-#[cfg(test)]
-mod tests;
 mod unterm;
 mod version;
 

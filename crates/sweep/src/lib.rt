@@ -10,8 +10,6 @@ mod examples;
 mod laws;
 mod sweep;
 mod taking_out;
-#[cfg(test)]
-mod tests;
 
 pub use examples::{other_limbos_are_refused, small_limbo_is_kept};
 pub use laws::{chains_go_to_limbo, limbos_are_kept};

@@ -1,6 +1,0 @@
-use Rattle.std.proofs.Common.{◌≡◌}
-use Rattle.installs.specs.Changes.{IsSoundChange}
-use Rattle.installs.proofs.tests.drive.Given as goal
-
-abbrev pub invariant-loop : goal.invariant-loop
-invariant-loop l = IsSoundChange l.change l.spares × (l.change.limits ≡ l.fn.limits)

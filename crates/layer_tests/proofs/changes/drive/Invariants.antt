@@ -1,0 +1,6 @@
+use Rattle.std.proofs.Common.{◌≡◌}
+use Rattle.installs.specs.Changes.{IsSoundChange}
+use Rattle.layer_tests.proofs.changes.drive.Given as goal
+
+abbrev pub invariant-loop : goal.invariant-loop
+invariant-loop l = IsSoundChange l.change l.spares × (l.change.limits ≡ l.fn.limits)

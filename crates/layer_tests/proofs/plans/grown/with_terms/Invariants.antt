@@ -1,0 +1,6 @@
+use Rattle.std.proofs.Common.{◌≡◌, false}
+use Rattle.chain_search.specs.Chains.{is_removed}
+use Rattle.layer_tests.proofs.plans.grown.with_terms.Given as goal
+
+abbrev pub invariant-loop-place : goal.invariant-loop-place
+invariant-loop-place l = is_removed l.page.chain ≡ false

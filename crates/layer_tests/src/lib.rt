@@ -1,0 +1,21 @@
+//! What the layers below the operation do by hand: tests alone, over their public calls.
+#![tactic(auto)]
+
+#[cfg(test)]
+mod chains;
+#[cfg(test)]
+mod changes;
+#[cfg(test)]
+mod limbo;
+#[cfg(test)]
+mod pages;
+#[cfg(test)]
+mod plans;
+#[cfg(test)]
+mod records;
+#[cfg(test)]
+mod rows;
+#[cfg(test)]
+mod sweeps;
+#[cfg(test)]
+mod texts;

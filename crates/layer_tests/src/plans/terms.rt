@@ -1,0 +1,53 @@
+//! What an index page may get at the edges: beside few items, under few deltas, on its level and in its range.
+ghost use Rattle.std.specs.Prelude.{◌≡◌, ◌≤◌, length, false};
+ghost use Rattle.chain_search.specs.Chains.{is_removed};
+
+use crate::plans::grown::{consolidated, with_terms};
+use crate::plans::index_pages::{read, right};
+use crate::plans::{bare, key, leaf, parent, version};
+use smo::{Version, plan_hold, plan_term};
+
+/// Whether the parent gets the term of a leaf that begins at the key.
+fn posts(parent: &Version, low: &[u8]) -> bool
+    requires low { length low.now ≤ 32 }
+    requires alive { is_removed parent.now.chain ≡ false }
+{
+    plan_term(parent, &version(2, 0, leaf(key(low), 0))).is_some()
+}
+
+/// Whether the first term that the page got beside its own one may be held.
+fn holds(parent: &Version) -> bool
+    requires alive { is_removed parent.now.chain ≡ false }
+{
+    plan_hold(parent, &version(40, 0, leaf(key(&[b'a', 0]), 0))).is_some()
+}
+
+#[test]
+fn posts_beside_fifteen_items(rt: HostRuntime) {
+    let eight = consolidated(with_terms(parent(bare()), 0, 7));
+    let fifteen = consolidated(with_terms(eight, 7, 14));
+    let given = posts(&fifteen, b"k");
+    let sixteen = consolidated(with_terms(fifteen, 14, 15));
+    assert_eq!(rt; [given, posts(&sixteen, b"k")], [true, false]);
+}
+
+#[test]
+fn posts_and_holds_under_seven_deltas(rt: HostRuntime) {
+    let seven = with_terms(parent(bare()), 0, 7);
+    let given = [posts(&seven, b"k"), holds(&seven)];
+    let eight = with_terms(seven, 7, 8);
+    let refused = [posts(&eight, b"k"), holds(&eight)];
+    assert_eq!(rt; [given, refused], [[true, true], [false, false]]);
+}
+
+#[test]
+fn posts_on_its_level_and_in_its_range(rt: HostRuntime) {
+    let (lower, upper, over) = (read(1), right(), read(2));
+    let posted = [posts(&lower, b"k08"), posts(&upper, b"k10")];
+    let refused = [
+        posts(&lower, b"k09"),
+        posts(&upper, b"k08"),
+        posts(&over, b"k08"),
+    ];
+    assert_eq!(rt; (posted, refused), ([true; 2], [false; 3]));
+}

@@ -1,9 +1,0 @@
-use Rattle.std.proofs.Common.{◌≡◌, false}
-use Rattle.chain_search.specs.Chains.{is_removed}
-use Rattle.smo.proofs.tests.holds.sixteen.Given as goal
-
-abbrev pub invariant-loop-place : goal.invariant-loop-place
-invariant-loop-place l = is_removed l.page.chain ≡ false
-
-abbrev pub invariant-loop-place-2 : goal.invariant-loop-place-2
-invariant-loop-place-2 l = is_removed l.page.chain ≡ false

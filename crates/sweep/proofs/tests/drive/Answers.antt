@@ -1,5 +1,0 @@
-use Rattle.chain_search.specs.Knowledge.{nothing}
-use Rattle.sweep.proofs.tests.drive.Goals as goal
-
-pub next-requires-clause-told : goal.next-requires-clause-told
-next-requires-clause-told c = record { k = nothing; fits = rw c.step-step.ensures.wanted at (c.told.ensures.fits c.loop.sweep.limits) }

@@ -1,6 +1,0 @@
-use Rattle.std.proofs.Common.{◌≡◌}
-use Rattle.sweep.specs.Sweeps.{IsSoundSweep}
-use Rattle.sweep.proofs.tests.drive.Given as goal
-
-abbrev pub invariant-loop : goal.invariant-loop
-invariant-loop l = IsSoundSweep l.sweep l.limbo × (l.sweep.limits ≡ l.fn.limits)
