@@ -30,8 +30,8 @@ use Rattle.step_core.specs.Actors.{IsPageEnd, IsReady, NeedsRoom}
 
 -- a reply that a test decides between two without pairs
 chosen_pairs : (b : Bool) (one two reply : Reply) → (if b then Some one else Some two) ≡ Some reply → ShowsPairs reply → (ShowsPairs one → ⊥) → (ShowsPairs two → ⊥) → ⊥
-chosen_pairs true one two reply e h no other = no (subst ShowsPairs (sym (same_Some one reply e)) h)
-chosen_pairs false one two reply e h no other = other (subst ShowsPairs (sym (same_Some two reply e)) h)
+chosen_pairs true one two reply e h first second = first (subst ShowsPairs (sym (same_Some one reply e)) h)
+chosen_pairs false one two reply e h first second = second (subst ShowsPairs (sym (same_Some two reply e)) h)
 
 -- no reply by a key's value is a cursor page
 no_pairs : (c : Command) (o : Option (List ℕ)) (reply : Reply) → reply_of c o ≡ Some reply → ShowsPairs reply → ⊥

@@ -351,8 +351,8 @@ steps limits entries a step answer r state busy allowed is = go (command_of entr
 
 -- a reply that a test decides is neither of two others
 neither : (b : Bool) (one two answer : Reply) → (if b then Some one else Some two) ≡ Some answer → (one ≡ answer → ⊥) → (two ≡ answer → ⊥) → ⊥
-neither true one two answer e no other = no (same_Some one answer e)
-neither false one two answer e no other = other (same_Some two answer e)
+neither true one two answer e first second = first (same_Some one answer e)
+neither false one two answer e first second = second (same_Some two answer e)
 
 -- a reply by a value is neither Full nor Tidied, nor is a cursor page
 no_full : (c : Command) (v : Option (List ℕ)) → reply_of c v ≡ Some reply.Full → ⊥
