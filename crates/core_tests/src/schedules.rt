@@ -381,6 +381,9 @@ fn few_pids(rt: HostRuntime) -> Result<(), Fail> {
 fn few_rows(rt: HostRuntime) -> Result<(), Fail> {
     let four = seen(rt.alloc(), (&FOUR, 100), (11, 6, 20_000), (64, 64));
     let seven = seen(rt.alloc(), (&SEVEN, 300), (14, 6, 20_000), (64, 64));
-    assert_eq!(rt; (four, seven), (Some((1, true, true)), Some((1, true, true))));
+    assert_eq!(rt;
+        (four, seven),
+        (Some((1, true, true)), Some((1, true, true)))
+    );
     Ok(())
 }

@@ -16,9 +16,7 @@ fn swap() -> Command {
 }
 
 /// The keys once the leaf is split.
-const SEVENTEEN: [u8; 17] = [
-    1, 2, 3, 4, 5, 6, 7, 8, 9, 10, 11, 12, 13, 14, 15, 16, 17,
-];
+const SEVENTEEN: [u8; 17] = [1, 2, 3, 4, 5, 6, 7, 8, 9, 10, 11, 12, 13, 14, 15, 16, 17];
 
 /// What another actor does to the leaf of k10 meanwhile.
 #[derive(Clone, Copy, Debug)]

@@ -1,6 +1,5 @@
 -- One step of an actor: what is asked of it, and which step keeps pairs.
-use Rattle.std.proofs.Common.{◌≡◌, ℕ, List, Bool, Option, Some, None, is_some, true, false, inl, inr, sym, ap, ◌∙◌, subst, refl}
-use Rattle.std.specs.Prelude.{if◌then◌else◌}
+use Rattle.std.proofs.Common.{◌≡◌, ℕ, List, Bool, Option, Some, None, cond, is_some, true, false, inl, inr, sym, ap, ◌∙◌, subst, refl}
 use Rattle.std.specs.Str.{bytes_eq}
 use Rattle.std.proofs.lemmas.Option.{same_Some}
 use Rattle.actors.specs.declared.actor.Running.{Running}
@@ -29,7 +28,7 @@ use Rattle.op_machine.specs.declared.state.State.TheVariants.{Begun, Epoch, Ente
 use Rattle.step_core.specs.Actors.{IsPageEnd, IsReady, NeedsRoom}
 
 -- a reply that a test decides between two without pairs
-chosen_pairs : (b : Bool) (one two reply : Reply) → (if b then Some one else Some two) ≡ Some reply → ShowsPairs reply → (ShowsPairs one → ⊥) → (ShowsPairs two → ⊥) → ⊥
+chosen_pairs : (b : Bool) (one two reply : Reply) → cond b (Some one) (Some two) ≡ Some reply → ShowsPairs reply → (ShowsPairs one → ⊥) → (ShowsPairs two → ⊥) → ⊥
 chosen_pairs true one two reply e h first second = first (subst ShowsPairs (sym (same_Some one reply e)) h)
 chosen_pairs false one two reply e h first second = second (subst ShowsPairs (sym (same_Some two reply e)) h)
 
