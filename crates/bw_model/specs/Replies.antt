@@ -1,7 +1,8 @@
 -- What a command replies and changes, by the value that its key has.
-use Rattle.std.specs.Prelude.{ℕ, List, Bool, true, false, Option, None, Some}
+use Rattle.std.specs.Prelude.{ℕ, List, Bool, true, false, if◌then◌else◌, Option, None, Some}
+use Rattle.std.specs.Str.{bytes_eq}
 use Rattle.bw_model.specs.declared.command.Command.{Command}
-use Rattle.bw_model.specs.declared.command.Command.TheVariants.{Get, Insert, Upsert, Delete, Page, Tidy}
+use Rattle.bw_model.specs.declared.command.Command.TheVariants.{Get, Insert, Upsert, Delete, Swap, Page, Tidy}
 use Rattle.bw_model.specs.declared.command.Reply.{Reply}
 use Rattle.bw_model.specs.declared.command.Reply.TheVariants as reply
 use Rattle.bw_model.specs.Log.{Update, set, unset}
@@ -12,6 +13,7 @@ command_key (Get key) = key
 command_key (Insert key value) = key
 command_key (Upsert key value) = key
 command_key (Delete key) = key
+command_key (Swap key expected value) = key
 command_key (Page key) = key
 command_key (Tidy key) = key
 
@@ -21,6 +23,7 @@ is_writer (Get key) = false
 is_writer (Insert key value) = true
 is_writer (Upsert key value) = true
 is_writer (Delete key) = true
+is_writer (Swap key expected value) = true
 is_writer (Page key) = false
 is_writer (Tidy key) = true
 
@@ -34,6 +37,8 @@ reply_of (Upsert key value) None = Some reply.Set
 reply_of (Upsert key value) (Some old) = Some (reply.Replaced old)
 reply_of (Delete key) None = Some reply.Absent
 reply_of (Delete key) (Some old) = Some (reply.Deleted old)
+reply_of (Swap key expected value) None = Some reply.Absent
+reply_of (Swap key expected value) (Some old) = if bytes_eq old expected then Some reply.Swapped else Some (reply.Differs old)
 reply_of (Page from) old = None
 reply_of (Tidy key) old = None
 
@@ -45,5 +50,7 @@ update_of actor (Insert key value) (Some old) = None
 update_of actor (Upsert key value) old = Some (set actor key value)
 update_of actor (Delete key) None = None
 update_of actor (Delete key) (Some old) = Some (unset actor key)
+update_of actor (Swap key expected value) None = None
+update_of actor (Swap key expected value) (Some old) = if bytes_eq old expected then Some (set actor key value) else None
 update_of actor (Page from) old = None
 update_of actor (Tidy key) old = None

@@ -15,6 +15,8 @@ pub enum Command {
     Upsert(Key, Value),
     /// Makes a key absent.
     Delete(Key),
+    /// Gives a key the second value where it has the first one.
+    Swap(Key, Value, Value),
     /// A cursor page: the pairs of the leaf that has the key, from the key on.
     Page(Key),
     /// Upkeep that is due at the leaf that has the key; no value is changed.
@@ -40,6 +42,10 @@ pub enum Reply {
     Deleted(Value),
     /// The key had no value before, and has none.
     Absent,
+    /// The key had the expected value, and has the new one.
+    Swapped,
+    /// The key has this value, which isn't the expected one, and keeps it.
+    Differs(Value),
     /// The pairs, keys ascending, and the key from which the next page goes on, or none at the end.
     Page { items: Pairs, next: Option<Key> },
     /// The upkeep was done, or none was due.
@@ -58,6 +64,7 @@ impl Command {
             Command::Insert(key, _) => key,
             Command::Upsert(key, _) => key,
             Command::Delete(key) => key,
+            Command::Swap(key, _, _) => key,
             Command::Page(key) => key,
             Command::Tidy(key) => key,
         }
@@ -72,6 +79,7 @@ impl Command {
             Command::Insert(_, _) => true,
             Command::Upsert(_, _) => true,
             Command::Delete(_) => true,
+            Command::Swap(_, _, _) => true,
             Command::Page(_) => false,
             Command::Tidy(_) => true,
         }
@@ -91,6 +99,14 @@ impl Command {
             (Command::Upsert(_, _), Some(value)) => Some(Reply::Replaced(value.copied())),
             (Command::Delete(_), None) => Some(Reply::Absent),
             (Command::Delete(_), Some(value)) => Some(Reply::Deleted(value.copied())),
+            (Command::Swap(_, _, _), None) => Some(Reply::Absent),
+            (Command::Swap(_, expected, _), Some(value)) => {
+                if value == expected {
+                    Some(Reply::Swapped)
+                } else {
+                    Some(Reply::Differs(value.copied()))
+                }
+            }
             (Command::Page(_), _) => None,
             (Command::Tidy(_), _) => None,
         }
@@ -105,6 +121,7 @@ impl Command {
             Command::Insert(_, _) => old.is_none(),
             Command::Upsert(_, _) => true,
             Command::Delete(_) => old.is_some(),
+            Command::Swap(_, expected, _) => old == Some(expected),
             Command::Page(_) => false,
             Command::Tidy(_) => false,
         }
@@ -122,6 +139,13 @@ impl Command {
                 Some(Update::set(actor, key.copied(), value.copied()))
             }
             (Command::Delete(key), Some(_)) => Some(Update::unset(actor, key.copied())),
+            (Command::Swap(key, expected, value), Some(old)) => {
+                if old == expected {
+                    Some(Update::set(actor, key.copied(), value.copied()))
+                } else {
+                    None
+                }
+            }
             _ => None,
         }
     }

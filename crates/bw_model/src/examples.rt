@@ -1,12 +1,12 @@
 //! The definitions at small values: each function does nothing, and its contract computes them.
 ghost use Rattle.std.specs.Prelude.{codes, ◌≡◌, ◌∷◌, [], true, false, None, Some};
-ghost use Rattle.bw_model.specs.declared.command.Command.TheVariants.{Get, Insert, Upsert, Delete, Page, Tidy};
+ghost use Rattle.bw_model.specs.declared.command.Command.TheVariants.{Get, Insert, Upsert, Delete, Swap, Page, Tidy};
 ghost use Rattle.bw_model.specs.declared.command.Reply.TheVariants as reply;
 ghost use Rattle.bw_model.specs.Bytes.{is_below, is_in_range};
 ghost use Rattle.bw_model.specs.Examples.{small_log};
 ghost use Rattle.bw_model.specs.Log.{set, unset, logged_value};
 ghost use Rattle.bw_model.specs.Pairs.{IsPairsOf};
-ghost use Rattle.bw_model.specs.Replies.{is_writer, reply_of, update_of};
+ghost use Rattle.bw_model.specs.Replies.{command_key, is_writer, reply_of, update_of};
 ghost use Rattle.bw_model.specs.Schedules.{drawn, schedule_of};
 
 /// A proper front of a key is below it, bytes are unsigned, and the empty key is the lowest.
@@ -72,4 +72,25 @@ pub fn commands_are_answered()
         ≡ Some (reply.Deleted (codes "1")) }
     ensures delete_unsets { update_of 3 (Delete (codes "a")) (Some (codes "1"))
         ≡ Some (unset 3 (codes "a")) }
+{}
+
+/// A swap changes a key that has the expected value alone, also where the new value is the same; another value is told.
+pub fn swaps_are_answered()
+    ensures key { command_key (Swap (codes "a") (codes "1") (codes "2")) ≡ codes "a" }
+    ensures writes { is_writer (Swap (codes "a") (codes "1") (codes "2")) ≡ true }
+    ensures absent { reply_of (Swap (codes "a") (codes "1") (codes "2")) None ≡ Some reply.Absent }
+    ensures absent_keeps { update_of 3 (Swap (codes "a") (codes "1") (codes "2")) None ≡ None }
+    ensures expected { reply_of (Swap (codes "a") (codes "1") (codes "2")) (Some (codes "1"))
+        ≡ Some reply.Swapped }
+    ensures expected_sets { update_of 3 (Swap (codes "a") (codes "1") (codes "2")) (Some (codes "1"))
+        ≡ Some (set 3 (codes "a") (codes "2")) }
+    ensures same { reply_of (Swap (codes "a") (codes "1") (codes "1")) (Some (codes "1"))
+        ≡ Some reply.Swapped }
+    ensures same_sets { update_of 3 (Swap (codes "a") (codes "1") (codes "1")) (Some (codes "1"))
+        ≡ Some (set 3 (codes "a") (codes "1")) }
+    ensures other { reply_of (Swap (codes "a") (codes "2") (codes "3")) (Some (codes "1"))
+        ≡ Some (reply.Differs (codes "1")) }
+    ensures other_keeps { update_of 3 (Swap (codes "a") (codes "2") (codes "3")) (Some (codes "1")) ≡ None }
+    ensures front { reply_of (Swap (codes "a") (codes "1") (codes "3")) (Some (codes "11"))
+        ≡ Some (reply.Differs (codes "11")) }
 {}

@@ -2,7 +2,7 @@
 use Rattle.std.specs.Prelude.{ℕ, List, [], ◌++◌, length, codes, decimal, Option, Some, None}
 use Rattle.std.specs.List.{flat_map}
 use Rattle.bw_model.specs.declared.command.Reply.{Reply}
-use Rattle.bw_model.specs.declared.command.Reply.TheVariants.{Value, None as NoValue, Inserted, Exists, Set, Replaced, Deleted, Absent, Page, Tidied, Full}
+use Rattle.bw_model.specs.declared.command.Reply.TheVariants.{Value, None as NoValue, Inserted, Exists, Set, Replaced, Deleted, Absent, Swapped, Differs, Page, Tidied, Full}
 use Rattle.bw_shell.specs.declared.turns.Progress.{Progress}
 use Rattle.bw_shell.specs.declared.turns.Progress.TheVariants.{GoesOn, Linked, Done}
 use Rattle.shell_lines.specs.Token.{printed}
@@ -28,6 +28,8 @@ reply_text Set = codes " set\n"
 reply_text (Replaced v) = codes " replaced " ++ printed v ++ codes "\n"
 reply_text (Deleted v) = codes " deleted " ++ printed v ++ codes "\n"
 reply_text Absent = codes " absent\n"
+reply_text Swapped = codes " swapped\n"
+reply_text (Differs v) = codes " differs " ++ printed v ++ codes "\n"
 reply_text (Page items next) = codes " page " ++ decimal (length items) ++ flat_map item_text items ++ next_text next
 reply_text Tidied = codes " tidied\n"
 reply_text Full = codes " full\n"

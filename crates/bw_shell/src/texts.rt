@@ -118,6 +118,8 @@ pub fn show_reply<O: Output>(out: &mut O, reply: &Reply)
         Reply::Replaced(value) => show_with(out, b" replaced ", value),
         Reply::Deleted(value) => show_with(out, b" deleted ", value),
         Reply::Absent => out.show(b" absent\n"),
+        Reply::Swapped => out.show(b" swapped\n"),
+        Reply::Differs(value) => show_with(out, b" differs ", value),
         Reply::Page { items, next } => show_page(out, items.as_slice(), next.as_ref()),
         Reply::Tidied => out.show(b" tidied\n"),
         Reply::Full => out.show(b" full\n"),

@@ -6,7 +6,7 @@ use Rattle.deltas.specs.declared.record.Record.{Record}
 use Rattle.chain_search.specs.declared.trace.Entry.{Entry}
 use Rattle.chain_search.specs.declared.trace.Entry.TheVariants as entry
 use Rattle.chain_search.specs.declared.replies.Replied.{Replied}
-use Rattle.chain_search.specs.declared.replies.Replied.TheVariants.{Value, None, Inserted, Exists, Set, Replaced, Deleted, Absent, Page, Tidied, Full}
+use Rattle.chain_search.specs.declared.replies.Replied.TheVariants.{Value, None, Inserted, Exists, Set, Replaced, Deleted, Absent, Swapped, Differs, Page, Tidied, Full}
 use Rattle.chain_search.specs.declared.shared.Happening.{Happening}
 use Rattle.chain_search.specs.declared.shared.Happening.TheVariants.{Begin, Step}
 
@@ -20,6 +20,8 @@ unboxed Set = reply.Set
 unboxed (Replaced value) = reply.Replaced value
 unboxed (Deleted value) = reply.Deleted value
 unboxed Absent = reply.Absent
+unboxed Swapped = reply.Swapped
+unboxed (Differs value) = reply.Differs value
 unboxed (Page items next) = reply.Page items next
 unboxed Tidied = reply.Tidied
 unboxed Full = reply.Full
@@ -35,6 +37,8 @@ ShowsPairs reply.Set = ⊥
 ShowsPairs (reply.Replaced value) = ⊥
 ShowsPairs (reply.Deleted value) = ⊥
 ShowsPairs reply.Absent = ⊥
+ShowsPairs reply.Swapped = ⊥
+ShowsPairs (reply.Differs value) = ⊥
 ShowsPairs reply.Tidied = ⊥
 ShowsPairs reply.Full = ⊥
 

@@ -58,6 +58,8 @@ pub(crate) enum Replied<P> {
     Replaced(Value),
     Deleted(Value),
     Absent,
+    Swapped,
+    Differs(Value),
     Page { items: P, next: Option<Key> },
     Tidied,
     Full,
@@ -93,6 +95,8 @@ impl<A: Allocator> BoxedReply<A> {
             Reply::Replaced(value) => Replied::Replaced(value),
             Reply::Deleted(value) => Replied::Deleted(value),
             Reply::Absent => Replied::Absent,
+            Reply::Swapped => Replied::Swapped,
+            Reply::Differs(value) => Replied::Differs(value),
             Reply::Page { items, next } => Replied::Page {
                 items: room.unwrap().filled(items),
                 next,
@@ -116,6 +120,8 @@ impl<A: Allocator> BoxedReply<A> {
             Replied::Replaced(value) => Reply::Replaced(value.copied()),
             Replied::Deleted(value) => Reply::Deleted(value.copied()),
             Replied::Absent => Reply::Absent,
+            Replied::Swapped => Reply::Swapped,
+            Replied::Differs(value) => Reply::Differs(value.copied()),
             Replied::Page { items, next } => Reply::Page {
                 items: items.pairs().copied(),
                 next: next.as_ref().map(Key::copied),

@@ -20,6 +20,21 @@ pub(crate) fn steps(core: &mut Core, actor: u8, times: u32, link: Option<Link>) 
     true
 }
 
+/// Whether an actor takes so many steps, unless its operation is done before.
+pub(crate) fn takes(core: &mut Core, actor: u8, steps: u32, done: &mut Option<Reply>) -> bool {
+    for _ in 0..steps {
+        if done.is_some() {
+            return true;
+        }
+        match core.turn(Turn::Step(actor)) {
+            Ok(Event::Stepped(_)) => {}
+            Ok(Event::Done(reply)) => *done = Some(reply),
+            _ => return false,
+        }
+    }
+    true
+}
+
 /// Whether a step tells the reply.
 pub(crate) fn ends(core: &mut Core, actor: u8, reply: Reply) -> bool {
     core.turn(Turn::Step(actor)) == Ok(Event::Done(reply))

@@ -38,6 +38,8 @@ mod small_leaves;
 #[cfg(test)]
 mod stops;
 #[cfg(test)]
+mod swaps;
+#[cfg(test)]
 mod sweeps;
 #[cfg(test)]
 mod tidying;

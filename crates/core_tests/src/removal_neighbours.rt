@@ -2,7 +2,7 @@
 
 ghost use Rattle.std.specs.Prelude.{◌<◌};
 
-use crate::by_hand::{begins, finish, replies};
+use crate::by_hand::{begins, replies, takes};
 use crate::pages::{grown, key, value};
 use crate::small_leaves::{deletes, lists};
 use bw_model::{Command, Reply};
@@ -20,21 +20,6 @@ fn with_small_neighbours(alloc: Global) -> Option<Core> {
 
 /// The keys that are left when k09 and k17 are deleted.
 const LEFT: [u8; 14] = [1, 2, 3, 4, 5, 6, 7, 8, 10, 11, 12, 18, 19, 20];
-
-/// Whether an actor takes so many steps, unless its operation is done before.
-fn takes(core: &mut Core, actor: u8, steps: u32, done: &mut Option<Reply>) -> bool {
-    for _ in 0..steps {
-        if done.is_some() {
-            return true;
-        }
-        match core.turn(Turn::Step(actor)) {
-            Ok(Event::Stepped(_)) => {}
-            Ok(Event::Done(reply)) => *done = Some(reply),
-            _ => return false,
-        }
-    }
-    true
-}
 
 /// Whether tidying both places leaves all pairs as they are.
 fn is_tidied(alloc: Global, core: &mut Core) -> bool {

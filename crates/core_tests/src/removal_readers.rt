@@ -60,8 +60,8 @@ fn readers_between_the_stages(rt: HostRuntime) -> Result<(), Fail> {
     Ok(())
 }
 
-/// A tree in which a delete of actor 0 has come to the stage of this number, if any.
-fn at_stage(alloc: Global, stage: usize) -> Option<Core> {
+/// A tree in which a delete of k12 by actor 0 has come to the stage of this number, if any.
+pub(crate) fn at_stage(alloc: Global, stage: usize) -> Option<Core> {
     let mut core = with_small_leaf(alloc)?;
     if !begins(&mut core, 0, Command::Delete(key(12))) {
         return None;

@@ -29,6 +29,7 @@ enum Kind {
     Insert,
     Upsert,
     Delete,
+    Swap,
     Page,
     Tidy,
 }
@@ -47,22 +48,24 @@ const FEW_DELETES: [Kind; 7] = [
     Kind::Upsert,
 ];
 
-/// All six commands, each as often as the others.
-const SIX: [Kind; 6] = [
+/// All seven commands, each as often as the others.
+const SEVEN: [Kind; 7] = [
     Kind::Get,
     Kind::Insert,
     Kind::Upsert,
     Kind::Delete,
+    Kind::Swap,
     Kind::Page,
     Kind::Tidy,
 ];
 
-/// What an actor was asked: the kind of the command, its key and its value by their numbers.
+/// What an actor was asked: the kind of the command, its key, its value and the one that it expects by their numbers.
 #[derive(Clone, Copy, Drop)]
 struct Asked {
     kind: Kind,
     key: u32,
     value: u32,
+    expected: u32,
     /// At which moment of the map it was asked.
     since: usize,
     /// A bit for each value that its key has had since, the last for none.
@@ -78,6 +81,7 @@ impl Asked {
             kind: Kind::Get,
             key: 0,
             value: 0,
+            expected: 0,
             since: 0,
             met: 0,
             changed: None,
@@ -90,6 +94,7 @@ impl Asked {
             kind: drawn_kind(rng, schedule.kinds),
             key: draw(rng, schedule.keys),
             value: draw(rng, VALUES),
+            expected: draw(rng, VALUES),
             since: 0,
             met: 0,
             changed: None,
@@ -103,6 +108,7 @@ impl Asked {
             Kind::Insert => Command::Insert(key, value(self.value)),
             Kind::Upsert => Command::Upsert(key, value(self.value)),
             Kind::Delete => Command::Delete(key),
+            Kind::Swap => Command::Swap(key, value(self.expected), value(self.value)),
             Kind::Page => Command::Page(key),
             Kind::Tidy => Command::Tidy(key),
         }
@@ -115,6 +121,7 @@ impl Asked {
             Kind::Insert => old == ABSENT,
             Kind::Upsert => true,
             Kind::Delete => old != ABSENT,
+            Kind::Swap => old == self.expected,
         }
     }
 
@@ -129,6 +136,9 @@ impl Asked {
             (Kind::Upsert, false) => Some(Reply::Replaced(value(old))),
             (Kind::Delete, true) => Some(Reply::Absent),
             (Kind::Delete, false) => Some(Reply::Deleted(value(old))),
+            (Kind::Swap, true) => Some(Reply::Absent),
+            (Kind::Swap, false) if old == self.expected => Some(Reply::Swapped),
+            (Kind::Swap, false) => Some(Reply::Differs(value(old))),
             (Kind::Page, _) => None,
             (Kind::Tidy, _) => Some(Reply::Tidied),
         }
@@ -326,9 +336,9 @@ fn seen(
 #[test]
 fn few_keys(rt: HostRuntime) -> Result<(), Fail> {
     let four = seen(rt.alloc(), (&FOUR, 8), (7, 3, 20_000), (64, 64));
-    let six = seen(rt.alloc(), (&SIX, 8), (12, 3, 20_000), (64, 64));
+    let seven = seen(rt.alloc(), (&SEVEN, 8), (12, 3, 20_000), (64, 64));
     assert_eq!(rt;
-        (four, six),
+        (four, seven),
         (Some((0, false, false)), Some((0, false, false)))
     );
     Ok(())
@@ -342,9 +352,9 @@ fn keys_for_three_levels(rt: HostRuntime) -> Result<(), Fail> {
 }
 
 #[test]
-fn six_commands_on_three_levels(rt: HostRuntime) -> Result<(), Fail> {
-    let six = seen(rt.alloc(), (&SIX, 676), (13, 5, 40_000), (256, 2048));
-    assert_eq!(rt; six, Some((2, false, false)));
+fn seven_commands_on_three_levels(rt: HostRuntime) -> Result<(), Fail> {
+    let seven = seen(rt.alloc(), (&SEVEN, 676), (13, 5, 40_000), (256, 2048));
+    assert_eq!(rt; seven, Some((2, false, false)));
     Ok(())
 }
 
@@ -370,7 +380,10 @@ fn few_pids(rt: HostRuntime) -> Result<(), Fail> {
 #[test]
 fn few_rows(rt: HostRuntime) -> Result<(), Fail> {
     let four = seen(rt.alloc(), (&FOUR, 100), (11, 6, 20_000), (64, 64));
-    let six = seen(rt.alloc(), (&SIX, 300), (14, 6, 20_000), (64, 64));
-    assert_eq!(rt; (four, six), (Some((1, true, true)), Some((1, true, true))));
+    let seven = seen(rt.alloc(), (&SEVEN, 300), (14, 6, 20_000), (64, 64));
+    assert_eq!(rt;
+        (four, seven),
+        (Some((1, true, true)), Some((1, true, true)))
+    );
     Ok(())
 }

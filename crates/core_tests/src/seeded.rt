@@ -1,4 +1,4 @@
-//! Four actors in the order of a schedule, with the six commands over 64 keys, beside an ordered map.
+//! Four actors in the order of a schedule, with the seven commands over 64 keys, beside an ordered map.
 
 use crate::accounts::is_settled;
 use crate::pages::key;
@@ -18,14 +18,15 @@ fn value_of(alloc: Global, turn: u32) -> Result<Value, AllocError> {
     Ok(Value::from_slice(text.as_bytes()).unwrap_or_default())
 }
 
-/// One of the six commands.
-fn command(key: Key, value: Value, number: u32) -> Command {
-    match number % 6 {
+/// One of the seven commands; a swap expects a value.
+fn command(key: Key, value: Value, expected: Value, number: u32) -> Command {
+    match number % 7 {
         0 => Command::Get(key),
         1 => Command::Insert(key, value),
         2 => Command::Upsert(key, value),
         3 => Command::Delete(key),
         4 => Command::Page(key),
+        5 => Command::Swap(key, expected, value),
         _ => Command::Tidy(key),
     }
 }
@@ -48,7 +49,7 @@ impl Beside {
         }
     }
 
-    /// The command of a word.
+    /// The command of a word; a swap expects the value that its key has now.
     fn begin(
         &mut self,
         alloc: Global,
@@ -60,7 +61,9 @@ impl Beside {
         if let Some(asked) = self.asked.get_mut(usize::from(actor)) {
             *asked = (number, turn);
         }
-        Ok(command(key(number), value_of(alloc, turn)?, word / 64))
+        let had = self.map.get(&number).copied().unwrap_or(0);
+        let (value, expected) = (value_of(alloc, turn)?, value_of(alloc, had)?);
+        Ok(command(key(number), value, expected, word / 64))
     }
 
     /// An exchange of the actor has won.

@@ -1,12 +1,13 @@
 -- What commands write.
-use Rattle.std.proofs.Common.{◌≡◌, ◌<◌, ◌≤◌, ℕ, true, false, List, length, Option, Some, None, is_some, refl, ap, ◌∙◌, subst, arith}
-use Rattle.std.specs.Prelude.{IsTrue}
+use Rattle.std.proofs.Common.{◌≡◌, ◌<◌, ◌≤◌, ℕ, Bool, true, false, List, length, Option, Some, None, is_some, refl, ap, ◌∙◌, subst, arith}
+use Rattle.std.specs.Prelude.{IsTrue, if◌then◌else◌}
+use Rattle.std.specs.Str.{bytes_eq}
 use Rattle.bw_model.specs.Bytes.{is_in_range}
 use Rattle.deltas.specs.declared.record.Record.{Record}
 use Rattle.std.specs.Option.{ForSome}
 use Rattle.std.proofs.lemmas.Option.{same_Some}
 use Rattle.bw_model.specs.declared.command.Command.{Command}
-use Rattle.bw_model.specs.declared.command.Command.TheVariants.{Get, Insert, Upsert, Delete, Page as PageFrom, Tidy}
+use Rattle.bw_model.specs.declared.command.Command.TheVariants.{Get, Insert, Upsert, Delete, Swap, Page as PageFrom, Tidy}
 use Rattle.bw_model.specs.Log.{Update, set, unset}
 use Rattle.bw_model.specs.Replies.{command_key, update_of}
 use Rattle.base_page.specs.declared.item.Content.{Content}
@@ -26,6 +27,19 @@ use Rattle.installs.specs.Changes.{KeepsSparePage, linked_by}
 use Rattle.bw_model.specs.Replies.{is_writer}
 use Rattle.op_machine.specs.Brings.{IsUsefulOver, update_over}
 
+-- an update that a test decides, which doesn't know whose it is
+chosen_is : (b : Bool) (update u : Update) → (if b then Some update else None) ≡ Some u → update ≡ u
+chosen_is true update u h = same_Some update u h
+chosen_is false update u h = cc
+
+chosen_due : (b : Bool) (other update : Update) → is_some (if b then Some other else None) ≡ true → (if b then Some update else None) ≡ Some update
+chosen_due true other update h = refl
+chosen_due false other update h = cc
+
+none_chosen : (b : Bool) (other update : Update) → is_some (if b then Some other else None) ≡ false → (if b then Some update else None) ≡ None
+none_chosen true other update h = cc
+none_chosen false other update h = refl
+
 -- the record that a command places makes its update
 pub change_is : (actor : ℕ) (c : Command) (old : Option (List ℕ)) (u : Update) (x : ℕ) → update_of actor c old ≡ Some u → update_over c x ≡ update_record u x
 change_is actor (Get key) old u x h = cc
@@ -34,6 +48,8 @@ change_is actor (Insert key value) (Some before) u x h = cc
 change_is actor (Upsert key value) old u x h = ap (λ (w : Update). update_record w x) (same_Some _ _ h)
 change_is actor (Delete key) None u x h = cc
 change_is actor (Delete key) (Some before) u x h = ap (λ (w : Update). update_record w x) (same_Some _ _ h)
+change_is actor (Swap key expected value) None u x h = cc
+change_is actor (Swap key expected value) (Some before) u x h = ap (λ (w : Update). update_record w x) (chosen_is (bytes_eq before expected) (set actor key value) u h)
 change_is actor (PageFrom key) old u x h = cc
 change_is actor (Tidy key) old u x h = cc
 
@@ -45,6 +61,8 @@ update_due actor other (Insert key value) (Some before) h = cc
 update_due actor other (Upsert key value) old h = (set actor key value, refl)
 update_due actor other (Delete key) None h = cc
 update_due actor other (Delete key) (Some before) h = (unset actor key, refl)
+update_due actor other (Swap key expected value) None h = cc
+update_due actor other (Swap key expected value) (Some before) h = (set actor key value, chosen_due (bytes_eq before expected) (set other key value) (set actor key value) h)
 update_due actor other (PageFrom key) old h = cc
 update_due actor other (Tidy key) old h = cc
 
@@ -55,6 +73,8 @@ none_due actor other (Insert key value) (Some before) h = refl
 none_due actor other (Upsert key value) old h = cc
 none_due actor other (Delete key) None h = refl
 none_due actor other (Delete key) (Some before) h = cc
+none_due actor other (Swap key expected value) None h = refl
+none_due actor other (Swap key expected value) (Some before) h = none_chosen (bytes_eq before expected) (set other key value) (set actor key value) h
 none_due actor other (PageFrom key) old h = refl
 none_due actor other (Tidy key) old h = refl
 
@@ -64,6 +84,7 @@ reads actor (Get key) old h = refl
 reads actor (Insert key value) old h = cc
 reads actor (Upsert key value) old h = cc
 reads actor (Delete key) old h = cc
+reads actor (Swap key expected value) old h = cc
 reads actor (PageFrom key) old h = refl
 reads actor (Tidy key) old h = cc
 
@@ -85,6 +106,7 @@ over_next (Tidy key) x rows below h = let e = h.1 in cc
 over_next (Insert key value) x rows below h = λ next e. subst (λ n. n < rows) (same_Some x next e) below
 over_next (Upsert key value) x rows below h = λ next e. subst (λ n. n < rows) (same_Some x next e) below
 over_next (Delete key) x rows below h = λ next e. subst (λ n. n < rows) (same_Some x next e) below
+over_next (Swap key expected value) x rows below h = λ next e. subst (λ n. n < rows) (same_Some x next e) below
 
 pub over_kept : (c : Command) (x : ℕ) (pid : Option ℕ) → KeepsSparePage (update_over c x) pid
 over_kept (Get key) x pid = tt
@@ -93,6 +115,7 @@ over_kept (Tidy key) x pid = tt
 over_kept (Insert key value) x pid = tt
 over_kept (Upsert key value) x pid = tt
 over_kept (Delete key) x pid = tt
+over_kept (Swap key expected value) x pid = tt
 
 pub over_useful : (k : Knowledge) (c : Command) (x : ℕ) → IsUsefulOver k x (update_over c x)
 over_useful k (Get key) x = tt
@@ -101,6 +124,7 @@ over_useful k (Tidy key) x = tt
 over_useful k (Insert key value) x = tt
 over_useful k (Upsert key value) x = tt
 over_useful k (Delete key) x = tt
+over_useful k (Swap key expected value) x = tt
 
 pub over_links : (c : Command) (x : ℕ) → Changes c → (before : Option (Option ℕ)) → linked_by (update_over c x) x before ≡ Some (Some x)
 over_links (Get key) x h before = let e = h.1 in cc
@@ -109,6 +133,7 @@ over_links (Tidy key) x h before = let e = h.1 in cc
 over_links (Insert key value) x h before = refl
 over_links (Upsert key value) x h before = refl
 over_links (Delete key) x h before = refl
+over_links (Swap key expected value) x h before = refl
 
 -- it fits a leaf with few deltas and items
 module _ (chain : List Record) (page : Page) (makes : Makes chain page) (alive : is_removed chain ≡ false) (leaf : level_in chain ≡ 0) (few : length page.items < 16) (short : length chain ≤ 8)
@@ -125,4 +150,5 @@ module _ (chain : List Record) (page : Page) (makes : Makes chain page) (alive :
   over_fits (Tidy key) x h row within = let e = h.1 in cc
   over_fits (Insert key value) x h row within = put_fits x key value row within
   over_fits (Upsert key value) x h row within = put_fits x key value row within
+  over_fits (Swap key expected value) x h row within = put_fits x key value row within
   over_fits (Delete key) x h row within = (deletes (record { next = x; key = key }) row (record { alive = makes.removed ∙ alive; leaf = makes.level ∙ leaf; covered = covered key within }), omega (arith, short))

@@ -4,7 +4,7 @@ use Rattle.std.proofs.lemmas.Option.{same_Some}
 use Rattle.std.specs.Option.{ForSome}
 use Rattle.std.specs.Prelude.{slice_get, take}
 use Rattle.bw_model.specs.declared.command.Command.{Command}
-use Rattle.bw_model.specs.declared.command.Command.TheVariants.{Get, Insert, Upsert, Delete, Page as PageFrom, Tidy}
+use Rattle.bw_model.specs.declared.command.Command.TheVariants.{Get, Insert, Upsert, Delete, Swap, Page as PageFrom, Tidy}
 use Rattle.bw_model.specs.declared.limits.Limits.{Limits}
 use Rattle.base_page.specs.Pages.{Page}
 use Rattle.deltas.specs.Memory.{Memory}
@@ -38,6 +38,7 @@ due_some [] (Get key) = omega arith
 due_some [] (Insert key value) = omega arith
 due_some [] (Upsert key value) = omega arith
 due_some [] (Delete key) = omega arith
+due_some [] (Swap key expected value) = omega arith
 due_some [] (PageFrom key) = omega arith
 
 module _ (task : Task) (spares : Spares) (k : Knowledge) (r : Recalled) where

@@ -1,9 +1,11 @@
 -- A tidying at the leaf of its key, where nothing is due.
-use Rattle.std.proofs.Common.{◌≡◌, ◌≤◌, ◌<◌, inl, inr, ℕ, List, [], ◌∷◌, length, Option, Some, None, true, refl, ap, subst, arith}
-use Rattle.std.specs.Prelude.{IsTrue}
+use Rattle.std.proofs.Common.{◌≡◌, ◌≤◌, ◌<◌, inl, inr, ℕ, List, [], ◌∷◌, length, Bool, Option, Some, None, true, false, refl, ap, subst, arith}
+use Rattle.std.specs.Prelude.{IsTrue, if◌then◌else◌}
+use Rattle.std.specs.Str.{bytes_eq}
 use Rattle.bw_model.specs.declared.command.Command.{Command}
-use Rattle.bw_model.specs.declared.command.Command.TheVariants.{Get, Insert, Upsert, Delete, Page as PageFrom, Tidy}
-use Rattle.bw_model.specs.declared.command.Reply.TheVariants.{Tidied}
+use Rattle.bw_model.specs.declared.command.Command.TheVariants.{Get, Insert, Upsert, Delete, Swap, Page as PageFrom, Tidy}
+use Rattle.bw_model.specs.declared.command.Reply.{Reply}
+use Rattle.bw_model.specs.declared.command.Reply.TheVariants.{Differs, Swapped, Tidied}
 use Rattle.bw_model.specs.Replies.{is_writer, reply_of}
 use Rattle.base_page.specs.Pages.{Page}
 use Rattle.deltas.specs.Spellable.{IsSpellablePage}
@@ -26,6 +28,11 @@ use Rattle.op_machine.specs.Tasks.{Task}
 use Rattle.op_machine.specs.Upkeep.{IsIdleFor}
 use Rattle.op_machine.proofs.HoldingBack.{kept_back}
 
+-- a test that replies either way
+replied : (b : Bool) (x y : Reply) {A : Type 0} → (if b then Some x else Some y) ≡ None → A
+replied true x y none = cc
+replied false x y none = cc
+
 -- a writer whose reply goes by no value is a tidying
 tidies : (c : Command) (old : Option (List ℕ)) → is_writer c ≡ true → reply_of c old ≡ None → (key : List ℕ) × (c ≡ Tidy key)
 tidies (Get key) old writes none = cc
@@ -35,6 +42,8 @@ tidies (Upsert key value) None writes none = cc
 tidies (Upsert key value) (Some before) writes none = cc
 tidies (Delete key) None writes none = cc
 tidies (Delete key) (Some before) writes none = cc
+tidies (Swap key expected value) None writes none = cc
+tidies (Swap key expected value) (Some before) writes none = replied (bytes_eq before expected) Swapped (Differs before) none
 tidies (PageFrom key) old writes none = cc
 tidies (Tidy key) old writes none = (key, refl)
 

@@ -103,6 +103,8 @@ module _ (limits : Limits) (entries : List Entry) where
   IsTrueReply points operation (reply.Replaced value) = RepliesAtPoint points operation (reply.Replaced value)
   IsTrueReply points operation (reply.Deleted value) = RepliesAtPoint points operation (reply.Deleted value)
   IsTrueReply points operation reply.Absent = RepliesAtPoint points operation reply.Absent
+  IsTrueReply points operation reply.Swapped = RepliesAtPoint points operation reply.Swapped
+  IsTrueReply points operation (reply.Differs value) = RepliesAtPoint points operation (reply.Differs value)
   IsTrueReply points operation (reply.Page items next) = RepliesAtPoint points operation (reply.Page items next)
 
   pub record IsAnswered (points : List Bool) : Type 0 where

@@ -1,7 +1,7 @@
 -- What a change of an operation is for.
 use Rattle.std.specs.Prelude.{◌≡◌, ◌<◌, ℕ, List, Option, Some, None, false, IsTrue, length, ⊤, ◌≤◌}
 use Rattle.bw_model.specs.declared.command.Command.{Command}
-use Rattle.bw_model.specs.declared.command.Command.TheVariants.{Get, Insert, Upsert, Delete, Page, Tidy}
+use Rattle.bw_model.specs.declared.command.Command.TheVariants.{Get, Insert, Upsert, Delete, Swap, Page, Tidy}
 use Rattle.bw_model.specs.declared.command.Reply.{Reply as ReplyOf}
 use Rattle.bw_model.specs.Replies.{command_key, reply_of}
 use Rattle.deltas.specs.declared.record.Record.{Record}
@@ -74,6 +74,7 @@ update_over (Get key) next = newest.Remove (record { level = 0; next = next })
 update_over (Insert key value) next = newest.Put (record { next = next; key = key; value = value })
 update_over (Upsert key value) next = newest.Put (record { next = next; key = key; value = value })
 update_over (Delete key) next = newest.Delete (record { next = next; key = key })
+update_over (Swap key expected value) next = newest.Put (record { next = next; key = key; value = value })
 update_over (Page from) next = newest.Remove (record { level = 0; next = next })
 update_over (Tidy key) next = newest.Remove (record { level = 0; next = next })
 

@@ -1,7 +1,7 @@
 -- For which key an operation's rounds look, and what is due there.
 use Rattle.std.specs.Prelude.{◌∷◌, [], ◌++◌, ◌-◌, ℕ, List, length, nat_lt, if◌then◌else◌, slice_get, unwrap_or}
 use Rattle.bw_model.specs.declared.command.Command.{Command}
-use Rattle.bw_model.specs.declared.command.Command.TheVariants.{Delete, Get, Insert, Page, Tidy, Upsert}
+use Rattle.bw_model.specs.declared.command.Command.TheVariants.{Delete, Get, Insert, Page, Swap, Tidy, Upsert}
 use Rattle.bw_model.specs.Replies.{command_key}
 
 -- at most 16 errands are kept
@@ -19,5 +19,6 @@ due_of [] (Get key) = 8
 due_of [] (Insert key value) = 8
 due_of [] (Upsert key value) = 8
 due_of [] (Delete key) = 8
+due_of [] (Swap key expected value) = 8
 due_of [] (Page key) = 8
 due_of (key ∷ errands) command = 8

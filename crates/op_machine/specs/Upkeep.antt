@@ -1,7 +1,7 @@
 -- What a deletion or a tidying does at a small page: it holds the page's term, and then removes the page.
 use Rattle.std.specs.Prelude.{◌≡◌, ◌≢◌, ◌≤◌, ◌⊎◌, Bool, Option, None, Some, true, false, length, ⊤}
 use Rattle.bw_model.specs.declared.command.Command.{Command}
-use Rattle.bw_model.specs.declared.command.Command.TheVariants.{Delete, Get, Insert, Page, Tidy, Upsert}
+use Rattle.bw_model.specs.declared.command.Command.TheVariants.{Delete, Get, Insert, Page, Swap, Tidy, Upsert}
 use Rattle.deltas.specs.declared.record.Hold.{Hold}
 use Rattle.deltas.specs.declared.record.Record.TheVariants as kind
 use Rattle.deltas.specs.declared.record.Remove.{Remove}
@@ -19,6 +19,7 @@ tidies (Tidy key) = true
 tidies (Get key) = false
 tidies (Insert key value) = false
 tidies (Upsert key value) = false
+tidies (Swap key expected value) = false
 tidies (Page key) = false
 
 -- A page may be removed that isn't page 1 and has at most 4 items, none of them held.

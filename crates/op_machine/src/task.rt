@@ -313,7 +313,9 @@ impl Task {
     {
         match &self.command {
             Command::Get(_) | Command::Page(_) | Command::Tidy(_) => unreachable!(),
-            Command::Insert(key, value) | Command::Upsert(key, value) => Record::Put(Put {
+            Command::Insert(key, value)
+            | Command::Upsert(key, value)
+            | Command::Swap(key, _, value) => Record::Put(Put {
                 next,
                 key: key.copied(),
                 value: value.copied(),

@@ -5,7 +5,7 @@ use Rattle.std.specs.Str.{bytes_eq}
 use Rattle.std.proofs.lemmas.Slice.Eq.{bytes_eq-Decides}
 use Rattle.std.proofs.lemmas.Bool.Decides.{nat_tests}
 use Rattle.bw_model.specs.declared.command.Command.{Command}
-use Rattle.bw_model.specs.declared.command.Command.TheVariants.{Get, Insert, Upsert, Delete, Page, Tidy}
+use Rattle.bw_model.specs.declared.command.Command.TheVariants.{Get, Insert, Upsert, Delete, Swap, Page, Tidy}
 use Rattle.bw_model.specs.declared.step.Link.{Link}
 use Rattle.bw_model.specs.declared.step.Link.TheVariants as link
 use Rattle.shell_lines.specs.declared.request.Language.{Language}
@@ -17,8 +17,8 @@ use Rattle.shell_lines.specs.declared.token.LineError.TheVariants.{Malformed, To
 use Rattle.shell_lines.specs.Token.{Means, token_value}
 use Rattle.shell_lines.specs.Number.{number_of, capped, fitting}
 use Rattle.shell_lines.specs.Fields.{fields_of}
-use Rattle.shell_lines.specs.Request.{Says, SpellsRequest, SpellsNumber, SpellsCommand, IsAskedIn, IsShortRequest, word_of}
-use Rattle.shell_lines.specs.Reading.{key_in, pair_in, IsShortPair, command_in, capped_number, begin_in, turn_by, turn_in, link_in, until_in, finish_in, mix_by, mix_in, list_in, woven_in, script_in, asked, GivesRequest}
+use Rattle.shell_lines.specs.Request.{Says, SpellsRequest, SpellsNumber, SpellsCommand, IsAskedIn, IsShortCommand, IsShortRequest, word_of}
+use Rattle.shell_lines.specs.Reading.{key_in, pair_in, swap_in, IsShortPair, command_in, capped_number, begin_in, turn_by, turn_in, link_in, until_in, finish_in, mix_by, mix_in, list_in, woven_in, script_in, asked, GivesRequest}
 use Rattle.shell_lines.proofs.Tokens.{chosen, some_is, value_means, means_value}
 
 map_some : {A B : Type 0} (f : A → B) (o : Option A) (y : B) → option_map f o ≡ Some y → (x : A) × (o ≡ Some x) × (f x ≡ y)
@@ -99,6 +99,25 @@ pair_is (k ∷ v ∷ []) pair h =
     rw (sym b.2) (k, v, refl, value_means k a.0 a.1, value_means v b.0 b.1)
 pair_is (k ∷ v ∷ x ∷ rest) pair h = cc h
 
+two_are : (k v : List ℕ) (pair : List ℕ × List ℕ) → pair_in (k ∷ v ∷ []) ≡ Some pair → Means k pair.0 × Means v pair.1
+unfolding pair_in
+two_are k v pair h =
+    let a = then_some (λ key. option_map (λ value. (key, value)) (token_value v)) (token_value k) pair h in
+    let b = map_some (λ value. (a.0, value)) (token_value v) pair a.2 in
+    rw (sym b.2) (value_means k a.0 a.1, value_means v b.0 b.1)
+
+swap_is : (args : List (List ℕ)) (c : Command) → swap_in args ≡ Some c → SpellsCommand (codes "swap" ∷ args) c
+unfolding swap_in
+swap_is [] c h = cc h
+swap_is (k ∷ []) c h = cc h
+swap_is (k ∷ e ∷ []) c h = cc h
+swap_is (k ∷ e ∷ v ∷ []) c h =
+    let a = then_some (λ (pair : List ℕ × List ℕ). option_map (Swap pair.0 pair.1) (token_value v)) (pair_in (k ∷ e ∷ [])) c h in
+    let b = map_some (Swap a.0.0 a.0.1) (token_value v) c a.2 in
+    let p = two_are k e a.0 a.1 in
+    rw (sym b.2) (k, e, v, refl, p.0, p.1, value_means v b.0 b.1)
+swap_is (k ∷ e ∷ v ∷ x ∷ rest) c h = cc h
+
 -- a verb with one token, and with two
 one_field : (verb word k : List ℕ) (args : List (List ℕ)) → verb ≡ word → args ≡ k ∷ [] → verb ∷ args ≡ word ∷ k ∷ []
 one_field verb word k args e f = rw (e, f) refl
@@ -124,11 +143,14 @@ command_is (verb ∷ args) c h =
               subst (SpellsCommand (verb ∷ args)) m.2 (k.0, k.1, two_fields verb (codes "upsert") k.0 k.1 args (is_text verb (codes "upsert") p.0) k.2, k.3, k.4)
           | inr s ↦ elim (chosen (bytes_eq verb (codes "delete")) _ _ (Some c) s.1) [
             | inl p ↦ one_token (codes "delete") Delete p.0 p.1 (λ key k. k)
-            | inr t ↦ elim (chosen (bytes_eq verb (codes "page")) _ _ (Some c) t.1) [
-              | inl p ↦ one_token (codes "page") Page p.0 p.1 (λ key k. k)
-              | inr u ↦ elim (chosen (bytes_eq verb (codes "tidy")) _ _ (Some c) u.1) [
-                | inl p ↦ one_token (codes "tidy") Tidy p.0 p.1 (λ key k. k)
-                | inr n ↦ cc n.1
+            | inr t ↦ elim (chosen (bytes_eq verb (codes "swap")) _ _ (Some c) t.1) [
+              | inl p ↦ rw (is_text verb (codes "swap") p.0) (swap_is args c p.1)
+              | inr u ↦ elim (chosen (bytes_eq verb (codes "page")) _ _ (Some c) u.1) [
+                | inl p ↦ one_token (codes "page") Page p.0 p.1 (λ key k. k)
+                | inr w ↦ elim (chosen (bytes_eq verb (codes "tidy")) _ _ (Some c) w.1) [
+                  | inl p ↦ one_token (codes "tidy") Tidy p.0 p.1 (λ key k. k)
+                  | inr n ↦ cc n.1
+                ]
               ]
             ]
           ]
@@ -144,11 +166,12 @@ command_is (verb ∷ args) c h =
         subst (SpellsCommand (verb ∷ args)) m.2 (spells m.0 (k.0, one_field verb word k.0 args (is_text verb word is) k.1, k.2))
 
 is_command : (fs : List (List ℕ)) (c : Command) → SpellsCommand fs c → command_in fs ≡ Some c
-unfolding command_in key_in pair_in
+unfolding command_in key_in pair_in swap_in
 is_command fs (Get key) h = rw (h.1, means_value h.0 key h.2) refl
 is_command fs (Insert key value) h = rw (h.2, means_value h.0 key h.3, means_value h.1 value h.4) refl
 is_command fs (Upsert key value) h = rw (h.2, means_value h.0 key h.3, means_value h.1 value h.4) refl
 is_command fs (Delete key) h = rw (h.1, means_value h.0 key h.2) refl
+is_command fs (Swap key expected value) h = rw (h.3, means_value h.0 key h.4, means_value h.1 expected h.5, means_value h.2 value h.6) refl
 is_command fs (Page key) h = rw (h.1, means_value h.0 key h.2) refl
 is_command fs (Tidy key) h = rw (h.1, means_value h.0 key h.2) refl
 
@@ -158,6 +181,12 @@ pub too_long_pair : (k v key value : List ℕ) → token_value k ≡ Some key �
 unfolding pair_in
 too_long_pair k v key value a b (inl long) = ((key, value), rw (a, b) refl, λ short. omega arith)
 too_long_pair k v key value a b (inr long) = ((key, value), rw (a, b) refl, λ short. omega arith)
+
+-- a swap whose key or expected value is too long
+pub too_long_swap : (k e v : List ℕ) (pair : List ℕ × List ℕ) (value : List ℕ) → pair_in (k ∷ e ∷ []) ≡ Some pair → token_value v ≡ Some value → (IsShortPair pair → ⊥)
+    → (command : Command) × (swap_in (k ∷ e ∷ v ∷ []) ≡ Some command) × (IsShortCommand command → ⊥)
+unfolding swap_in
+too_long_swap k e v pair value a b long = (Swap pair.0 pair.1 value, rw (a, b) refl, λ short. long (short.0, short.1))
 
 -- ---- lines
 
@@ -300,6 +329,7 @@ is_run fs (Get key) h = rw h.1 refl
 is_run fs (Insert key value) h = rw h.2 refl
 is_run fs (Upsert key value) h = rw h.2 refl
 is_run fs (Delete key) h = rw h.1 refl
+is_run fs (Swap key expected value) h = rw h.3 refl
 is_run fs (Page key) h = rw h.1 refl
 is_run fs (Tidy key) h = rw h.1 refl
 

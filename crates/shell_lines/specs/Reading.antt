@@ -3,7 +3,7 @@ use Rattle.std.specs.Prelude.{◌≡◌, ℕ, ◌≤◌, length, ◌&&◌, nat_l
 use Rattle.std.specs.Option.{option_and_then}
 use Rattle.std.specs.Str.{bytes_eq}
 use Rattle.bw_model.specs.declared.command.Command.{Command}
-use Rattle.bw_model.specs.declared.command.Command.TheVariants.{Get, Insert, Upsert, Delete, Page, Tidy}
+use Rattle.bw_model.specs.declared.command.Command.TheVariants.{Get, Insert, Upsert, Delete, Swap, Page, Tidy}
 use Rattle.bw_model.specs.declared.step.Link.{Link}
 use Rattle.bw_model.specs.declared.step.Link.TheVariants as link
 use Rattle.shell_lines.specs.declared.request.Language.{Language}
@@ -29,6 +29,14 @@ pair_in (k ∷ []) = None
 pair_in (k ∷ v ∷ []) = option_and_then (λ key. option_map (λ value. (key, value)) (token_value v)) (token_value k)
 pair_in (k ∷ v ∷ x ∷ rest) = None
 
+-- the swap that they give, if they are a key, the expected value and the new one
+unfoldable pub swap_in : List (List ℕ) → Option Command
+swap_in [] = None
+swap_in (k ∷ []) = None
+swap_in (k ∷ e ∷ []) = None
+swap_in (k ∷ e ∷ v ∷ []) = option_and_then (λ pair. option_map (Swap pair.0 pair.1) (token_value v)) (pair_in (k ∷ e ∷ []))
+swap_in (k ∷ e ∷ v ∷ x ∷ rest) = None
+
 unfoldable pub command_in : List (List ℕ) → Option Command
 command_in [] = None
 command_in (verb ∷ args) =
@@ -36,6 +44,7 @@ command_in (verb ∷ args) =
     else if bytes_eq verb (codes "insert") then option_map (λ pair. Insert pair.0 pair.1) (pair_in args)
     else if bytes_eq verb (codes "upsert") then option_map (λ pair. Upsert pair.0 pair.1) (pair_in args)
     else if bytes_eq verb (codes "delete") then option_map Delete (key_in args)
+    else if bytes_eq verb (codes "swap") then swap_in args
     else if bytes_eq verb (codes "page") then option_map Page (key_in args)
     else if bytes_eq verb (codes "tidy") then option_map Tidy (key_in args)
     else None

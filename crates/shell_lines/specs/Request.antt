@@ -1,7 +1,7 @@
 -- What a line asks for.
 use Rattle.std.specs.Prelude.{◌≡◌, ℕ, ◌≤◌, ◌<◌, ◌^◌, List, [], ◌∷◌, length, codes, Option, Some, None}
 use Rattle.bw_model.specs.declared.command.Command.{Command}
-use Rattle.bw_model.specs.declared.command.Command.TheVariants.{Get, Insert, Upsert, Delete, Page, Tidy}
+use Rattle.bw_model.specs.declared.command.Command.TheVariants.{Get, Insert, Upsert, Delete, Swap, Page, Tidy}
 use Rattle.bw_model.specs.declared.step.Link.{Link}
 use Rattle.bw_model.specs.declared.step.Link.TheVariants as link
 use Rattle.shell_lines.specs.declared.request.Language.{Language}
@@ -22,6 +22,7 @@ SpellsCommand fields (Get key) = (k : List ℕ) × (fields ≡ codes "get" ∷ k
 SpellsCommand fields (Insert key value) = (k : List ℕ) × (v : List ℕ) × (fields ≡ codes "insert" ∷ k ∷ v ∷ []) × Means k key × Means v value
 SpellsCommand fields (Upsert key value) = (k : List ℕ) × (v : List ℕ) × (fields ≡ codes "upsert" ∷ k ∷ v ∷ []) × Means k key × Means v value
 SpellsCommand fields (Delete key) = (k : List ℕ) × (fields ≡ codes "delete" ∷ k ∷ []) × Means k key
+SpellsCommand fields (Swap key expected value) = (k : List ℕ) × (e : List ℕ) × (v : List ℕ) × (fields ≡ codes "swap" ∷ k ∷ e ∷ v ∷ []) × Means k key × Means e expected × Means v value
 SpellsCommand fields (Page key) = (k : List ℕ) × (fields ≡ codes "page" ∷ k ∷ []) × Means k key
 SpellsCommand fields (Tidy key) = (k : List ℕ) × (fields ≡ codes "tidy" ∷ k ∷ []) × Means k key
 
@@ -74,6 +75,7 @@ IsShortCommand (Get key) = length key ≤ 32
 IsShortCommand (Insert key value) = (length key ≤ 32) × (length value ≤ 32)
 IsShortCommand (Upsert key value) = (length key ≤ 32) × (length value ≤ 32)
 IsShortCommand (Delete key) = length key ≤ 32
+IsShortCommand (Swap key expected value) = (length key ≤ 32) × (length expected ≤ 32) × (length value ≤ 32)
 IsShortCommand (Page key) = length key ≤ 32
 IsShortCommand (Tidy key) = length key ≤ 32
 

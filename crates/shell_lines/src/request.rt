@@ -5,7 +5,7 @@ ghost use Rattle.std.specs.Option.{option_copied};
 ghost use Rattle.shell_lines.specs.Fields.{fields_in, fields_of};
 ghost use Rattle.shell_lines.specs.Gives.{Gives};
 ghost use Rattle.shell_lines.specs.Request.{Says, IsShortRequest};
-ghost use Rattle.shell_lines.specs.Reading.{GivesCommand, GivesPair, GivesRequest, key_in, pair_in, command_in, begin_in, turn_in, link_in, until_in, finish_in, mix_in, list_in, woven_in, script_in, asked};
+ghost use Rattle.shell_lines.specs.Reading.{GivesCommand, GivesPair, GivesRequest, key_in, pair_in, swap_in, command_in, begin_in, turn_in, link_in, until_in, finish_in, mix_in, list_in, woven_in, script_in, asked};
 ghost use Rattle.shell_lines.specs.declared.request.Language.{Language as LanguageSeen};
 ghost use Rattle.shell_lines.specs.declared.request.Request.{Request as RequestSeen};
 
@@ -90,6 +90,44 @@ fn read_pair(args: Option<&[u8]>) -> Result<(Key, Value), LineError>
     pair_by(key, value)
 }
 
+// The same of a key, the expected value and the new one.
+#[tactic(auto, unfolding(crate::specs::Reading::swap_in))]
+fn swap_by(key: &[u8], expected: &[u8], new: &[u8]) -> Result<Command, LineError>
+    ensures { GivesCommand result (swap_in (key.now ∷ expected.now ∷ new.now ∷ [])) }
+{
+    match pair_by(key, expected) {
+        Err(LineError::Malformed) => Err(LineError::Malformed),
+        Err(LineError::TooLong) => match value_of(new) {
+            Err(LineError::Malformed) => Err(LineError::Malformed),
+            Err(LineError::TooLong) => Err(LineError::TooLong),
+            Ok(_) => Err(LineError::TooLong),
+        },
+        Ok((key, expected)) => match value_of(new) {
+            Ok(new) => Ok(Command::Swap(key, expected, new)),
+            Err(error) => Err(error),
+        },
+    }
+}
+
+#[tactic(auto, unfolding(crate::specs::Reading::swap_in))]
+fn read_swap(args: Option<&[u8]>) -> Result<Command, LineError>
+    ensures { GivesCommand result (swap_in (fields_in (option_copied args.entry))) }
+{
+    let Some((key, rest)) = next_field(args) else {
+        return Err(LineError::Malformed);
+    };
+    let Some((expected, rest)) = next_field(rest) else {
+        return Err(LineError::Malformed);
+    };
+    let Some((new, rest)) = next_field(rest) else {
+        return Err(LineError::Malformed);
+    };
+    if next_field(rest).is_some() {
+        return Err(LineError::Malformed);
+    }
+    swap_by(key, expected, new)
+}
+
 #[tactic(auto, unfolding(crate::specs::Reading::command_in))]
 fn read_command(fields: Option<&[u8]>) -> Result<Command, LineError>
     ensures { GivesCommand result (command_in (fields_in (option_copied fields.entry))) }
@@ -110,6 +148,9 @@ fn read_command(fields: Option<&[u8]>) -> Result<Command, LineError>
     }
     if verb == b"delete".as_slice() {
         return Ok(Command::Delete(read_key(args)?));
+    }
+    if verb == b"swap".as_slice() {
+        return read_swap(args);
     }
     if verb == b"page".as_slice() {
         return Ok(Command::Page(read_key(args)?));

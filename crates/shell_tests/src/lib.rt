@@ -26,6 +26,8 @@ mod scripts;
 #[cfg(test)]
 mod streams;
 #[cfg(test)]
+mod swaps;
+#[cfg(test)]
 mod tidying;
 #[cfg(test)]
 mod words;

@@ -1,10 +1,11 @@
 -- One step of an actor: what is asked of it, and which step keeps pairs.
-use Rattle.std.proofs.Common.{◌≡◌, ℕ, List, Option, Some, None, is_some, true, inl, inr, sym, ap, ◌∙◌, subst, refl}
+use Rattle.std.proofs.Common.{◌≡◌, ℕ, List, Bool, Option, Some, None, cond, is_some, true, false, inl, inr, sym, ap, ◌∙◌, subst, refl}
+use Rattle.std.specs.Str.{bytes_eq}
 use Rattle.std.proofs.lemmas.Option.{same_Some}
 use Rattle.actors.specs.declared.actor.Running.{Running}
 use Rattle.actors.specs.Actors.{Actor, GoesOn, IsActor, IsActorWith, IsGoing, command_at, running_command, wanted_by}
 use Rattle.bw_model.specs.declared.command.Command.{Command}
-use Rattle.bw_model.specs.declared.command.Command.TheVariants.{Get, Insert, Upsert, Delete, Page, Tidy}
+use Rattle.bw_model.specs.declared.command.Command.TheVariants.{Get, Insert, Upsert, Delete, Swap, Page, Tidy}
 use Rattle.bw_model.specs.declared.command.Reply.{Reply}
 use Rattle.bw_model.specs.declared.command.Reply.TheVariants as kind
 use Rattle.bw_model.specs.declared.limits.Limits.{Limits}
@@ -26,6 +27,11 @@ use Rattle.op_machine.specs.declared.state.State.{State}
 use Rattle.op_machine.specs.declared.state.State.TheVariants.{Begun, Epoch, Enter, Read, Write, Change, Leave}
 use Rattle.step_core.specs.Actors.{IsPageEnd, IsReady, NeedsRoom}
 
+-- a reply that a test decides between two without pairs
+chosen_pairs : (b : Bool) (one two reply : Reply) → cond b (Some one) (Some two) ≡ Some reply → ShowsPairs reply → (ShowsPairs one → ⊥) → (ShowsPairs two → ⊥) → ⊥
+chosen_pairs true one two reply e h first second = first (subst ShowsPairs (sym (same_Some one reply e)) h)
+chosen_pairs false one two reply e h first second = second (subst ShowsPairs (sym (same_Some two reply e)) h)
+
 -- no reply by a key's value is a cursor page
 no_pairs : (c : Command) (o : Option (List ℕ)) (reply : Reply) → reply_of c o ≡ Some reply → ShowsPairs reply → ⊥
 no_pairs (Get key) None reply e h = subst ShowsPairs (sym (same_Some kind.None reply e)) h
@@ -36,6 +42,8 @@ no_pairs (Upsert key value) None reply e h = subst ShowsPairs (sym (same_Some ki
 no_pairs (Upsert key value) (Some old) reply e h = subst ShowsPairs (sym (same_Some (kind.Replaced old) reply e)) h
 no_pairs (Delete key) None reply e h = subst ShowsPairs (sym (same_Some kind.Absent reply e)) h
 no_pairs (Delete key) (Some old) reply e h = subst ShowsPairs (sym (same_Some (kind.Deleted old) reply e)) h
+no_pairs (Swap key expected value) None reply e h = subst ShowsPairs (sym (same_Some kind.Absent reply e)) h
+no_pairs (Swap key expected value) (Some old) reply e h = chosen_pairs (bytes_eq old expected) kind.Swapped (kind.Differs old) reply e h (λ shows. shows) (λ shows. shows)
 no_pairs (Page from) o reply e h = cc
 no_pairs (Tidy key) o reply e h = cc
 

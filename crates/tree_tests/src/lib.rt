@@ -4,6 +4,8 @@
 #[cfg(test)]
 mod clients;
 #[cfg(test)]
+mod counter;
+#[cfg(test)]
 mod example;
 #[cfg(test)]
 mod numbered;

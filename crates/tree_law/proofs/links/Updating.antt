@@ -1,5 +1,5 @@
 -- Links that leave the index as it is: an update, a consolidation, and the removal of a page.
-use Rattle.std.proofs.Common.{◌≡◌, ◌≢◌, ℕ, zero, suc, ◌<◌, ◌≤◌, List, [], ◌∷◌, ◌++◌, Option, Some, None, true, false, cond, refl, sym, ap, ◌∙◌, subst, arith}
+use Rattle.std.proofs.Common.{◌≡◌, ◌≢◌, ℕ, zero, suc, ◌<◌, ◌≤◌, List, [], ◌∷◌, ◌++◌, Option, Some, None, Bool, true, false, cond, refl, sym, ap, ◌∙◌, subst, arith}
 use Rattle.std.proofs.lemmas.Option.{same_Some}
 use Rattle.std.proofs.lemmas.Bool.Decides.{nat_tests}
 use Rattle.bw_model.specs.declared.command.Reply.{Reply}
@@ -19,9 +19,11 @@ use Rattle.tree_law.specs.Owners.{Spare, Linked, Owners, Reached, OwnFits, leaf_
 use Rattle.tree_law.specs.Tree.{spec, IsTree}
 use Rattle.std.specs.Ordering.{is_eq}
 use Rattle.std.specs.Option.{option_map}
+use Rattle.std.specs.Prelude.{if◌then◌else◌}
+use Rattle.std.specs.Str.{bytes_eq}
 use Rattle.std.proofs.lemmas.List.Sums.{fold-append}
 use Rattle.bw_model.specs.declared.command.Command.{Command}
-use Rattle.bw_model.specs.declared.command.Command.TheVariants.{Get, Insert, Upsert, Delete, Page, Tidy}
+use Rattle.bw_model.specs.declared.command.Command.TheVariants.{Get, Insert, Upsert, Delete, Swap, Page, Tidy}
 use Rattle.bw_model.specs.Bytes.{key_cmp}
 use Rattle.bw_model.specs.Log.{set, unset, updated_key, updated_value, logged_value}
 use Rattle.bw_model.specs.Replies.{command_key, update_of}
@@ -64,6 +66,11 @@ log_outside u log index lv c z f (suc l) k n = refl
 key_apart : (u : Update) (l : List Update) (k : Key) → k ≢ updated_key u → leaf_map (l ++ u ∷ []) k ≡ leaf_map l k
 key_apart u l k ne = ap (option_map Value) (logged_value_push l u k ∙ by_key k (updated_key u) (λ t. cond t (updated_value u) (logged_value l k) ≡ logged_value l k) (λ e. absurd (ne e)) (λ e. refl))
 
+-- an update that a test decides
+chosen_key : (test : Bool) (b : ℕ) (k v : Key) (u : Update) → (if test then Some (set b k v) else None) ≡ Some u → updated_key u ≡ k
+chosen_key true b k v u e = ap updated_key (sym (same_Some (set b k v) u e))
+chosen_key false b k v u e = absurd (cc)
+
 -- an update is of its command's key
 key_due : (b : ℕ) (c : Command) (old : Option Key) (u : Update) → update_of b c old ≡ Some u → updated_key u ≡ command_key c
 key_due b (Get k) old u e = absurd (cc)
@@ -72,6 +79,8 @@ key_due b (Tidy k) old u e = absurd (cc)
 key_due b (Insert k v) None u e = ap updated_key (sym (same_Some (set b k v) u e))
 key_due b (Insert k v) (Some x) u e = absurd (cc)
 key_due b (Upsert k v) old u e = ap updated_key (sym (same_Some (set b k v) u e))
+key_due b (Swap k x v) None u e = absurd (cc)
+key_due b (Swap k x v) (Some o) u e = chosen_key (bytes_eq o x) b k v u e
 key_due b (Delete k) None u e = absurd (cc)
 key_due b (Delete k) (Some x) u e = ap updated_key (sym (same_Some (unset b k) u e))
 

@@ -1,10 +1,11 @@
 -- A step keeps a state, and a state is linearized.
 use Rattle.std.proofs.Common.{◌≡◌, ◌≢◌, ◌<◌, inl, inr, ℕ, suc, List, [], ◌∷◌, ◌++◌, length, Option, Some, None, Bool, true, false, cond, ◌⊎◌, refl, sym, ap, ◌∙◌, subst, arith}
-use Rattle.std.specs.Prelude.{IsSome, IfSome, MatchOption, slice_get, IsTrue, IsFalse, ◌↔◌}
+use Rattle.std.specs.Prelude.{IsSome, IfSome, MatchOption, slice_get, IsTrue, IsFalse, if◌then◌else◌, ◌↔◌}
 use Rattle.std.specs.Option.{option_to_list}
+use Rattle.std.specs.Str.{bytes_eq}
 use Rattle.std.proofs.lemmas.Option.{same_Some}
 use Rattle.bw_model.specs.declared.command.Command.{Command}
-use Rattle.bw_model.specs.declared.command.Command.TheVariants.{Get, Insert, Upsert, Delete, Page, Tidy}
+use Rattle.bw_model.specs.declared.command.Command.TheVariants.{Get, Insert, Upsert, Delete, Swap, Page, Tidy}
 use Rattle.bw_model.specs.declared.command.Reply.{Reply}
 use Rattle.bw_model.specs.declared.command.Reply.TheVariants as reply
 use Rattle.bw_model.specs.declared.limits.Limits.{Limits}
@@ -348,6 +349,11 @@ steps limits entries a step answer r state busy allowed is = go (command_of entr
         by_kind Leave r answer allowed is z = calmly Leave (λ h. h) r answer allowed is z
         by_kind (Retire n) r answer allowed is z = calmly (Retire n) (λ h. h) r answer allowed is z
 
+-- a reply that a test decides is neither of two others
+neither : (b : Bool) (one two answer : Reply) → (if b then Some one else Some two) ≡ Some answer → (one ≡ answer → ⊥) → (two ≡ answer → ⊥) → ⊥
+neither true one two answer e first second = first (same_Some one answer e)
+neither false one two answer e first second = second (same_Some two answer e)
+
 -- a reply by a value is neither Full nor Tidied, nor is a cursor page
 no_full : (c : Command) (v : Option (List ℕ)) → reply_of c v ≡ Some reply.Full → ⊥
 no_full (Get k) None e = cc
@@ -358,6 +364,8 @@ no_full (Upsert k w) None e = cc
 no_full (Upsert k w) (Some o) e = cc
 no_full (Delete k) None e = cc
 no_full (Delete k) (Some o) e = cc
+no_full (Swap k x w) None e = cc
+no_full (Swap k x w) (Some o) e = neither (bytes_eq o x) reply.Swapped (reply.Differs o) reply.Full e (λ same. cc) (λ same. cc)
 no_full (Page k) v e = cc
 no_full (Tidy k) v e = cc
 
@@ -370,6 +378,8 @@ no_tidied (Upsert k w) None e = cc
 no_tidied (Upsert k w) (Some o) e = cc
 no_tidied (Delete k) None e = cc
 no_tidied (Delete k) (Some o) e = cc
+no_tidied (Swap k x w) None e = cc
+no_tidied (Swap k x w) (Some o) e = neither (bytes_eq o x) reply.Swapped (reply.Differs o) reply.Tidied e (λ same. cc) (λ same. cc)
 no_tidied (Page k) v e = cc
 no_tidied (Tidy k) v e = cc
 
@@ -399,6 +409,8 @@ true_reply limits entries points op reply.Set (inl h) = h
 true_reply limits entries points op (reply.Replaced v) (inl h) = h
 true_reply limits entries points op (reply.Deleted v) (inl h) = h
 true_reply limits entries points op reply.Absent (inl h) = h
+true_reply limits entries points op reply.Swapped (inl h) = h
+true_reply limits entries points op (reply.Differs v) (inl h) = h
 true_reply limits entries points op (reply.Page items next) (inl h) = h
 true_reply limits entries points op answer (inr h) = let e = without_point limits entries op answer h.finds in absurd (cc)
 
