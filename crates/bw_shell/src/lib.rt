@@ -14,5 +14,6 @@ mod whole;
 pub use lines::lines_are_exact;
 pub use over_std::{HELD, READS, Reader, Writer};
 pub use refusal::Refusal;
-pub use streams::{Failed, Input, Output};
-pub use whole::{script, weave};
+pub use streams::{Failed, Input, Output, outputs_add_up};
+pub use texts::{show_listing, show_lone_refusal, show_number, show_refused, show_reply};
+pub use whole::{script, status, weave};

@@ -21,10 +21,16 @@ pub enum Refusal {
     NoOperation,
     #[error("a growth of memory was refused")]
     Memory,
+    #[error("no memory for the list of the pairs")]
+    NotClosed,
     #[error("the line is outside the grammar")]
     Malformed,
     #[error("no memory for the map")]
     NotOpened,
+    #[error("no memory to run the jobs")]
+    NotRun,
+    #[error("the results are not those of the jobs")]
+    WrongResults,
 }
 
 impl Refusal {
@@ -39,8 +45,11 @@ impl Refusal {
             Refusal::Unfinished => 5,
             Refusal::NoOperation => 6,
             Refusal::Memory => 7,
+            Refusal::NotClosed => 10,
             Refusal::Malformed => 11,
             Refusal::NotOpened => 12,
+            Refusal::NotRun => 14,
+            Refusal::WrongResults => 15,
         }
     }
 

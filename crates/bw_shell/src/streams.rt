@@ -1,9 +1,9 @@
 //! Readers and writers whose failures can be told afterwards.
 
-ghost use Rattle.std.specs.Prelude.{◌≡◌, ℕ, ◌+◌, List, [], Bool, true, false, Option, OnOk, MatchResult};
+ghost use Rattle.std.specs.Prelude.{◌≡◌, ℕ, ◌+◌, ◌++◌, List, [], Bool, true, false, not, Option, OnOk, MatchResult};
 ghost use Rattle.std.specs.Io.{ReadsAtMost};
 ghost use Rattle.std.specs.Io.KnownBytes.{ReadConsumes};
-ghost use Rattle.bw_shell.specs.Output.{Sink, Prints};
+ghost use Rattle.bw_shell.specs.Output.{Sink, Prints, Writes};
 
 use thiserror::Error;
 
@@ -53,3 +53,11 @@ pub trait Output {
         ensures shows { Prints (state self.old) (state self.new) [] }
         ensures ends { (state self.new).failed ≡ false → (state self.new).held ≡ [] };
 }
+
+/// Texts that are shown one behind another are one text, and a writer that ends with nothing held back has all of it.
+pub fn outputs_add_up()
+    ensures none { (a : Sink) → Prints a a [] }
+    ensures both { (a b c : Sink) (t u : List ℕ) → Prints a b t → Prints b c u → Prints a c (t ++ u) }
+    ensures whole { (a b : Sink) (t : List ℕ) → Prints a b t → a.failed ≡ false → a.held ≡ [] → (b.failed ≡ false → b.held ≡ [])
+        → Writes a.contents b.contents t (not b.failed) }
+{}

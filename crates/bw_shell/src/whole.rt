@@ -61,7 +61,8 @@ fn run<I: Input, O: Output>(
     )
 }
 
-fn status(refused: bool, read_failed: bool, write_failed: bool) -> u8
+/// The status of a run: 0 where nothing was refused and no read or write failed, else 1.
+pub fn status(refused: bool, read_failed: bool, write_failed: bool) -> u8
     ensures zero { (result ≡ 0) ↔ ((read_failed ≡ false) × (write_failed ≡ false) × (refused ≡ false)) }
     ensures one { (result ≡ 0) ⊎ (result ≡ 1) }
 {

@@ -2,3 +2,4 @@ pub mod Tokens
 pub mod Splits
 pub mod Requested
 pub mod Numbers
+pub mod RaceLines

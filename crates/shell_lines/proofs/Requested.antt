@@ -21,11 +21,11 @@ use Rattle.shell_lines.specs.Request.{Says, SpellsRequest, SpellsNumber, SpellsC
 use Rattle.shell_lines.specs.Reading.{key_in, pair_in, swap_in, IsShortPair, command_in, capped_number, begin_in, turn_by, turn_in, link_in, until_in, finish_in, mix_by, mix_in, list_in, woven_in, script_in, asked, GivesRequest}
 use Rattle.shell_lines.proofs.Tokens.{chosen, some_is, value_means, means_value}
 
-map_some : {A B : Type 0} (f : A → B) (o : Option A) (y : B) → option_map f o ≡ Some y → (x : A) × (o ≡ Some x) × (f x ≡ y)
+pub map_some : {A B : Type 0} (f : A → B) (o : Option A) (y : B) → option_map f o ≡ Some y → (x : A) × (o ≡ Some x) × (f x ≡ y)
 map_some f (Some x) y h = (x, refl, some_is (f x) y h)
 map_some f None y h = cc h
 
-then_some : {A B : Type 0} (f : A → Option B) (o : Option A) (y : B) → option_and_then f o ≡ Some y → (x : A) × (o ≡ Some x) × (f x ≡ Some y)
+pub then_some : {A B : Type 0} (f : A → Option B) (o : Option A) (y : B) → option_and_then f o ≡ Some y → (x : A) × (o ≡ Some x) × (f x ≡ Some y)
 then_some f (Some x) y h = (x, refl, h)
 then_some f None y h = cc h
 
@@ -125,7 +125,7 @@ one_field verb word k args e f = rw (e, f) refl
 two_fields : (verb word k v : List ℕ) (args : List (List ℕ)) → verb ≡ word → args ≡ k ∷ v ∷ [] → verb ∷ args ≡ word ∷ k ∷ v ∷ []
 two_fields verb word k v args e f = rw (e, f) refl
 
-command_is : (fs : List (List ℕ)) (c : Command) → command_in fs ≡ Some c → SpellsCommand fs c
+pub command_is : (fs : List (List ℕ)) (c : Command) → command_in fs ≡ Some c → SpellsCommand fs c
 unfolding command_in
 command_is [] c h = cc h
 command_is (verb ∷ args) c h =
@@ -165,7 +165,7 @@ command_is (verb ∷ args) c h =
         let k = key_is args m.0 m.1 in
         subst (SpellsCommand (verb ∷ args)) m.2 (spells m.0 (k.0, one_field verb word k.0 args (is_text verb word is) k.1, k.2))
 
-is_command : (fs : List (List ℕ)) (c : Command) → SpellsCommand fs c → command_in fs ≡ Some c
+pub is_command : (fs : List (List ℕ)) (c : Command) → SpellsCommand fs c → command_in fs ≡ Some c
 unfolding command_in key_in pair_in swap_in
 is_command fs (Get key) h = rw (h.1, means_value h.0 key h.2) refl
 is_command fs (Insert key value) h = rw (h.2, means_value h.0 key h.3, means_value h.1 value h.4) refl

@@ -4,3 +4,4 @@ pub mod Number
 pub mod Fields
 pub mod Request
 pub mod Reading
+pub mod RaceLine

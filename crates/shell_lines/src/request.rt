@@ -128,8 +128,9 @@ fn read_swap(args: Option<&[u8]>) -> Result<Command, LineError>
     swap_by(key, expected, new)
 }
 
+// The command that the fields spell.
 #[tactic(auto, unfolding(crate::specs::Reading::command_in))]
-fn read_command(fields: Option<&[u8]>) -> Result<Command, LineError>
+pub fn read_command(fields: Option<&[u8]>) -> Result<Command, LineError>
     ensures { GivesCommand result (command_in (fields_in (option_copied fields.entry))) }
 {
     let Some((verb, args)) = next_field(fields) else {

@@ -6,7 +6,7 @@ use Rattle.clap.specs.Words.{IsAmong, fault_of, kind_of, App, Row, Rule, Text, n
 use Rattle.clap.specs.Simple.{on_top}
 use Rattle.clap.specs.declared.builder.value_parser.ValueParser.TheVariants as vp
 use Rattle.shell_options.specs.declared.words.Program.{Program}
-use Rattle.shell_options.specs.declared.words.Program.TheVariants.{Script, Weave}
+use Rattle.shell_options.specs.declared.words.Program.TheVariants.{Script, Weave, Race}
 use Rattle.shell_options.specs.declared.words.Settings.{Settings}
 use Rattle.shell_options.specs.declared.words.OptionsError.{OptionsError}
 use Rattle.shell_options.specs.declared.words.OptionsError.TheVariants.{Clap, Memory}
@@ -25,8 +25,11 @@ script_app = limits_rules (new_app (codes "script"))
 abbrev pub weave_app : App
 weave_app = limits_rules (with_rule (new_app (codes "weave")) (number_rule (codes "actors")))
 
+abbrev pub race_app : App
+race_app = limits_rules (with_rule (new_app (codes "race")) (number_rule (codes "seats")))
+
 abbrev pub bwtree_app : App
-bwtree_app = with_subcommand (with_subcommand (on_top (λ s. record s { subcommand_required = true }) (new_app (codes "bwtree"))) script_app.top) weave_app.top
+bwtree_app = with_subcommand (with_subcommand (with_subcommand (on_top (λ s. record s { subcommand_required = true }) (new_app (codes "bwtree"))) script_app.top) weave_app.top) race_app.top
 
 -- what the words after the subcommand's name are, by option
 unfoldable pub rows_in : List Text → List Row
@@ -37,22 +40,35 @@ abbrev pub SpellsOr : List Row → Text → ℕ → ℕ → Type 0
 SpellsOr rows id default n =
     MatchOption (one_of id rows) (n ≡ default) (λ text. digits_value 10 (without_leading_plus text) ≡ n)
 
--- the number of actors: a script has one
+-- the number of actors: a script has one, and a race one for each seat
 abbrev pub HasActors : Program → List Row → ℕ → Type 0
 HasActors Script rows n = n ≡ 1
 HasActors Weave rows n = SpellsOr rows (codes "actors") 2 n
+HasActors Race rows n = SpellsOr rows (codes "seats") 2 n
+
+-- how many page identifiers and rows there are where the words don't say
+abbrev pub default_pids_of : Program → ℕ
+default_pids_of Script = 64
+default_pids_of Weave = 64
+default_pids_of Race = 4096
+
+abbrev pub default_rows_of : Program → ℕ
+default_rows_of Script = 256
+default_rows_of Weave = 256
+default_rows_of Race = 16384
 
 -- the numbers are those of the options
 pub record HasNumbers (rows_read : List Row) (line : Settings) : Type 0 where
   pub actors : HasActors line.program rows_read line.actors
-  pub pids : SpellsOr rows_read (codes "pids") 64 line.pids
-  pub rows : SpellsOr rows_read (codes "rows") 256 line.rows
+  pub pids : SpellsOr rows_read (codes "pids") (default_pids_of line.program) line.pids
+  pub rows : SpellsOr rows_read (codes "rows") (default_rows_of line.program) line.rows
   pub epoch : SpellsOr rows_read (codes "epoch") 1 line.epoch
 
 -- a program's name
 abbrev pub name_of : Program → Text
 name_of Script = codes "script"
 name_of Weave = codes "weave"
+name_of Race = codes "race"
 
 -- The words name the program, and its numbers are those of the options behind the name.
 pub record IsSpelled (words : List Text) (line : Settings) : Type 0 where

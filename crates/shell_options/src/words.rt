@@ -5,7 +5,7 @@ ghost use Rattle.bw_model.specs.Limits.{AreLimits};
 ghost use Rattle.std.specs.String.{string_bytes};
 ghost use Rattle.clap.specs.Words.{app_of, found_of, rows_of, rule_of};
 ghost use Rattle.clap.specs.declared.builder.command.Command.TheViews.{out-Command as fields_of};
-ghost use Rattle.shell_options.specs.Words.{number_rule, limits_rules, script_app, weave_app, bwtree_app, SpellsOr, HasNumbers, HasNoFault, IsSpelled, MayRefuse};
+ghost use Rattle.shell_options.specs.Words.{number_rule, limits_rules, script_app, weave_app, race_app, bwtree_app, SpellsOr, HasActors, HasNumbers, default_pids_of, default_rows_of, HasNoFault, IsSpelled, MayRefuse};
 
 use bw_model::{BadLimits, Limits};
 use clap::error::ErrorKind;
@@ -19,6 +19,8 @@ pub enum Program {
     Script,
     /// Runs operations of several actors, turn by turn.
     Weave,
+    /// Runs jobs on threads.
+    Race,
 }
 
 /// What the words of a command line say.
@@ -74,21 +76,18 @@ fn number<'a>(alloc: Global, name: &'a str, help: &'a str) -> Arg<'a>
 }
 
 // A program's words: a command with the options of its limits, but for the number of actors.
-fn with_limits<'a>(alloc: Global, command: Command<'a>) -> Result<Command<'a>, AllocError>
+fn with_limits<'a>(
+    alloc: Global,
+    command: Command<'a>,
+    pids_help: &'a str,
+    rows_help: &'a str,
+) -> Result<Command<'a>, AllocError>
     requires local { (fields_of command).has_globals ≡ false }
     ensures shape { IfOk result (λ c. app_of c ≡ limits_rules (app_of command.entry)) }
     ensures local { IfOk result (λ c. (fields_of c).has_globals ≡ false) }
 {
-    let pids = number(
-        alloc,
-        "pids",
-        "Page identifiers, 64 to 4096, a multiple of 64 [default: 64]",
-    );
-    let rows = number(
-        alloc,
-        "rows",
-        "Rows for records, 64 to 16384, a multiple of 64 [default: 256]",
-    );
+    let pids = number(alloc, "pids", pids_help);
+    let rows = number(alloc, "rows", rows_help);
     let epoch = number(
         alloc,
         "epoch",
@@ -100,13 +99,27 @@ fn with_limits<'a>(alloc: Global, command: Command<'a>) -> Result<Command<'a>, A
     Ok(command)
 }
 
+// The limits of a program that takes turns.
+fn with_few<'a>(alloc: Global, command: Command<'a>) -> Result<Command<'a>, AllocError>
+    requires local { (fields_of command).has_globals ≡ false }
+    ensures shape { IfOk result (λ c. app_of c ≡ limits_rules (app_of command.entry)) }
+    ensures local { IfOk result (λ c. (fields_of c).has_globals ≡ false) }
+{
+    with_limits(
+        alloc,
+        command,
+        "Page identifiers, 64 to 4096, a multiple of 64 [default: 64]",
+        "Rows for records, 64 to 16384, a multiple of 64 [default: 256]",
+    )
+}
+
 fn weave_words<'a>(alloc: Global) -> Result<Command<'a>, AllocError>
     ensures shape { IfOk result (λ c. app_of c ≡ weave_app) }
     ensures local { IfOk result (λ c. (fields_of c).has_globals ≡ false) }
 {
     let actors = number(alloc, "actors", "Actors, 1 to 16 [default: 2]");
     let weave = Command::new(alloc, "weave").arg(actors)?;
-    with_limits(alloc, weave)
+    with_few(alloc, weave)
 }
 
 fn weave_command<'a>(alloc: Global) -> Result<Command<'a>, AllocError>
@@ -126,7 +139,7 @@ fn script_words<'a>(alloc: Global) -> Result<Command<'a>, AllocError>
     ensures shape { IfOk result (λ c. app_of c ≡ script_app) }
     ensures local { IfOk result (λ c. (fields_of c).has_globals ≡ false) }
 {
-    with_limits(alloc, Command::new(alloc, "script"))
+    with_few(alloc, Command::new(alloc, "script"))
 }
 
 fn script_command<'a>(alloc: Global) -> Result<Command<'a>, AllocError>
@@ -142,14 +155,47 @@ fn script_command<'a>(alloc: Global) -> Result<Command<'a>, AllocError>
     ))
 }
 
+fn race_words<'a>(alloc: Global) -> Result<Command<'a>, AllocError>
+    ensures shape { IfOk result (λ c. app_of c ≡ race_app) }
+    ensures local { IfOk result (λ c. (fields_of c).has_globals ≡ false) }
+{
+    let seats = number(
+        alloc,
+        "seats",
+        "Seats, one thread each, 1 to 16 [default: 2]",
+    );
+    let race = Command::new(alloc, "race").arg(seats)?;
+    with_limits(
+        alloc,
+        race,
+        "Page identifiers, 64 to 4096, a multiple of 64 [default: 4096]",
+        "Rows for records, 64 to 16384, a multiple of 64 [default: 16384]",
+    )
+}
+
+fn race_command<'a>(alloc: Global) -> Result<Command<'a>, AllocError>
+    ensures shape { IfOk result (λ c. app_of c ≡ race_app) }
+    ensures local { IfOk result (λ c. (fields_of c).has_globals ≡ false) }
+{
+    let race = race_words(alloc)?;
+    let race = race.about(
+        "Runs the jobs of standard input on threads, and prints what they answer and all pairs",
+    );
+    Ok(race.after_help(
+        "Example: the lines '0 insert a 1' and '1 get b' print '0 inserted', '1 none', 'pairs 1' and 'a 1'",
+    ))
+}
+
 fn plain_command<'a>(alloc: Global) -> Result<Command<'a>, AllocError>
     ensures { IfOk result (λ c. app_of c ≡ bwtree_app) }
 {
     let script = script_command(alloc)?;
     let weave = weave_command(alloc)?;
+    let race = race_command(alloc)?;
     let command = Command::new(alloc, "bwtree").subcommand_required(true);
     let command = command.subcommand(script)?;
     let command = command.subcommand(weave)?;
+    let command = command.subcommand(race)?;
     Ok(command)
 }
 
@@ -171,23 +217,50 @@ fn chosen(matches: &ArgMatches<'_>, name: &str, default: u64) -> Option<u64>
     }
 }
 
+// The number of actors that a program has, from the words behind its name.
+fn actors(program: Program, matches: &ArgMatches<'_>) -> Option<u64>
+    ensures { IfSome result (HasActors program (rows_of (found_of matches.now))) }
+{
+    match program {
+        Program::Script => Some(1),
+        Program::Weave => chosen(matches, "actors", 2),
+        Program::Race => chosen(matches, "seats", 2),
+    }
+}
+
+// How many page identifiers a program has where its words don't say.
+fn default_pids(program: Program) -> u64
+    ensures { result ≡ default_pids_of program }
+{
+    match program {
+        Program::Script | Program::Weave => 64,
+        Program::Race => 4096,
+    }
+}
+
+// How many rows.
+fn default_rows(program: Program) -> u64
+    ensures { result ≡ default_rows_of program }
+{
+    match program {
+        Program::Script | Program::Weave => 256,
+        Program::Race => 16384,
+    }
+}
+
 // The numbers of a program, from the words behind its name.
 fn numbers(program: Program, matches: &ArgMatches<'_>) -> Result<Settings, OptionsError>
     ensures ok { IfOk result (HasNumbers (rows_of (found_of matches.now))) }
     ensures program { IfOk result (λ settings. settings.program ≡ program) }
     ensures refused { IfErr result (λ error. error ≡ OptionsError.Memory) }
 {
-    let actors = match program {
-        Program::Script => Some(1),
-        Program::Weave => chosen(matches, "actors", 2),
-    };
-    let Some(actors) = actors else {
+    let Some(actors) = actors(program, matches) else {
         return Err(OptionsError::Memory);
     };
-    let Some(pids) = chosen(matches, "pids", 64) else {
+    let Some(pids) = chosen(matches, "pids", default_pids(program)) else {
         return Err(OptionsError::Memory);
     };
-    let Some(rows) = chosen(matches, "rows", 256) else {
+    let Some(rows) = chosen(matches, "rows", default_rows(program)) else {
         return Err(OptionsError::Memory);
     };
     let Some(epoch) = chosen(matches, "epoch", 1) else {
@@ -219,8 +292,11 @@ pub fn options(alloc: Global, words: &[String]) -> Result<Settings, OptionsError
     if let Some(script) = matches.subcommand_matches("script") {
         return numbers(Program::Script, script);
     }
-    let Some(weave) = matches.subcommand_matches("weave") else {
+    if let Some(weave) = matches.subcommand_matches("weave") {
+        return numbers(Program::Weave, weave);
+    }
+    let Some(race) = matches.subcommand_matches("race") else {
         return Err(OptionsError::Memory);
     };
-    numbers(Program::Weave, weave)
+    numbers(Program::Race, race)
 }

@@ -1,0 +1,44 @@
+-- What seats have done for jobs.
+use Rattle.std.specs.Prelude.{◌≡◌, ◌++◌, ℕ, List, length, None, Some, slice_get, All, flat_map, IsPermutation}
+use Rattle.std.specs.List.Sorted.{IsNonDecreasingBy}
+use Rattle.bw_tree.specs.Calls.{calls_in}
+use Rattle.bw_tree.specs.Runs.{IsOneHistory, StartsWith}
+use Rattle.bw_tree.specs.Seats.{IsSame, Seat, unfinished_command}
+use Rattle.workers.specs.declared.job.Job.{Job}
+use Rattle.workers.specs.declared.job.JobResult.{JobResult}
+use Rattle.workers.specs.declared.job.JobsRefusal.{JobsRefusal}
+use Rattle.workers.specs.declared.job.JobsRefusal.TheVariants.{Memory, Results}
+use Rattle.workers.specs.Jobs.{AreResultsOf, calls_told}
+
+-- No seat has an operation.
+abbrev pub AreIdle : List Seat → Type 0
+AreIdle seats = (n : ℕ) (seat : Seat) → slice_get seats n ≡ Some seat → unfinished_command seat ≡ None
+
+-- The results that name a seat by its place, in some order: together with others, which name other seats, they are all.
+pub record AreNamed (place : ℕ) (results order : List JobResult) : Type 0 where
+  pub others : List JobResult
+  pub all : IsPermutation results (order ++ others)
+  pub named : All (λ result. result.seat ≡ place) order
+  pub apart : All (λ result. result.seat ≡ place → ⊥) others
+
+-- The seat is idle again. What it has seen goes on from what it had seen, and is one history. Its calls are those that it had, and
+-- after them those of exactly the results that name it, in some order of whole jobs.
+pub record HasWorked (results : List JobResult) (place : ℕ) (old new : Seat) : Type 0 where
+  pub same : IsSame old new
+  pub grows : StartsWith new.seen old.seen
+  pub history : IsOneHistory new.limits new.seen
+  pub idle : unfinished_command new ≡ None
+  pub order : List JobResult
+  pub named : AreNamed place results order
+  pub calls : calls_in new ≡ calls_in old ++ flat_map calls_told order
+
+-- All seats are there, in order, and each has worked.
+pub record HaveWorked (results : List JobResult) (old new : List Seat) : Type 0 where
+  pub count : length new ≡ length old
+  pub each : (place : ℕ) (before after : Seat) → slice_get old place ≡ Some before → slice_get new place ≡ Some after → HasWorked results place before after
+
+-- What the seats that come back from a refusal have done. Where memory was refused, nothing. Otherwise they have worked, but the
+-- results, in order of their numbers, are not those of the jobs.
+abbrev pub HaveStopped : List Job → JobsRefusal → List Seat → List Seat → Type 0
+HaveStopped jobs Memory old new = new ≡ old
+HaveStopped jobs Results old new = (results : List JobResult) × HaveWorked results old new × IsNonDecreasingBy (λ result. result.job) results × (AreResultsOf jobs results → ⊥)

@@ -1,0 +1,47 @@
+//! Jobs, their results, and why there are none.
+
+use bw_model::{Command, Reply};
+use bw_tree::BwSeat;
+use thiserror::Error;
+
+/// Commands that one worker runs, in order.
+#[derive(Debug, Drop)]
+pub struct Job {
+    /// The job's number.
+    pub number: u32,
+    /// The commands.
+    pub commands: Vec<Command>,
+}
+
+/// What became of a job.
+#[derive(Debug, Drop)]
+pub struct JobResult {
+    /// The job's number.
+    pub job: u32,
+    /// Which seat ran it: its place in the list of the seats.
+    pub seat: usize,
+    /// The job's commands.
+    pub commands: Vec<Command>,
+    /// A reply for each command.
+    pub replies: Vec<Reply>,
+}
+
+/// Why there are no results.
+#[derive(Clone, Copy, Debug, PartialEq, Eq, Error)]
+pub enum JobsRefusal {
+    /// A growth of memory was refused, before a job began.
+    #[error("no memory for the jobs")]
+    Memory,
+    /// A result is missing, doubled, or of no job: the channel didn't bring each job once.
+    #[error("a result is missing, doubled or foreign")]
+    Results,
+}
+
+/// A refusal to run jobs, which hands back the seats.
+#[derive(Drop)]
+pub struct JobsError {
+    /// Why.
+    pub refusal: JobsRefusal,
+    /// The seats, in their order. None has an operation.
+    pub seats: Vec<BwSeat>,
+}

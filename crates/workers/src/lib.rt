@@ -1,0 +1,13 @@
+//! Workers: jobs of commands on threads over one tree, a thread for each seat.
+//!
+//! Which worker runs which job is a matter of time. Each result names the seat that ran the job, and what that seat has seen tells of
+//! the same calls with the same replies (specs/Worked).
+#![tactic(auto)]
+
+mod gate;
+mod job;
+mod run;
+
+pub use gate::{Gate, Ungated};
+pub use job::{Job, JobResult, JobsError, JobsRefusal};
+pub use run::run_jobs;
