@@ -2,6 +2,7 @@
 #![tactic(auto)]
 
 use bw_shell::{Reader, Refusal, Writer, script, weave};
+use race::race;
 use shell_options::{OptionsError, Program, Settings, options};
 use std::alloc::Global;
 use std::io::ErrorKind;
@@ -65,5 +66,6 @@ fn run(rt: HostRuntime, settings: Settings) -> u8 {
     match settings.program {
         Program::Script => script(rt.alloc(), limits, &mut input, &mut output),
         Program::Weave => weave(rt.alloc(), limits, &mut input, &mut output),
+        Program::Race => race(&rt, rt.alloc(), limits, &mut input, &mut output),
     }
 }

@@ -1,0 +1,5 @@
+pub mod Printing
+pub mod Listing
+pub mod Grouping
+pub mod Looking
+pub mod Taking
