@@ -27,6 +27,10 @@ const ROWS: &[(&[u8], &[u8])] = &[
         b"0 get a\n0 insert a 1\n0 insert a 2\n0 upsert a 3\n0 upsert b =\n0 delete a\n0 delete a\n0 tidy b\n",
         b"0 none\n0 inserted\n0 exists 1\n0 replaced 1\n0 set\n0 deleted 3\n0 absent\n0 tidied\npairs 1\nb =\n",
     ),
+    (
+        b"0 swap a 1 2\n0 insert a 1\n0 swap a 2 3\n0 swap a 1 3\n0 get a\n",
+        b"0 absent\n0 inserted\n0 differs 1\n0 swapped\n0 value 3\npairs 1\na 3\n",
+    ),
     // three jobs
     (
         b"12 insert l 1\n5 insert e 1\n4000 insert z 1\n5 get e\n12 get l\n4000 get z\n",
