@@ -1,8 +1,9 @@
 //! Whether results are those of the jobs.
-ghost use Rattle.std.specs.Prelude.{MatchBool};
+ghost use Rattle.std.specs.Prelude.{◌≡◌, ◌≢◌, MatchBool};
 ghost use Rattle.workers.specs.Jobs.{AreResultsOf, IsResultOf};
 
 use crate::job::{Job, JobResult};
+use bw_model::Command;
 
 /// Whether each job has one result, in the jobs' order.
 pub(crate) fn are_results(jobs: &[Job], results: &[JobResult]) -> bool
@@ -25,5 +26,12 @@ fn is_result(job: &Job, given: &JobResult) -> bool
 {
     given.job == job.number
         && given.replies.len() == job.commands.len()
-        && given.commands == job.commands
+        && are_same(&given.commands, &job.commands)
+}
+
+/// Whether these are the same commands.
+fn are_same(one: &Vec<Command>, other: &Vec<Command>) -> bool
+    ensures { MatchBool result (one.now.items ≡ other.now.items) (one.now.items ≢ other.now.items) }
+{
+    one == other
 }

@@ -6,8 +6,8 @@ use Rattle.workers.proofs.worker.run.Given as goal
 
 abbrev pub invariant-loop : goal.invariant-loop
 invariant-loop g l = record {
-  same : IsSame l.initial.seat l.seat;
-  grows : StartsWith l.seat.seen l.initial.seat.seen;
-  calls : calls_in l.seat ≡ calls_in l.initial.seat ++ (l.fn.command, None) ∷ [];
+  same : IsSame l.fn.seat l.seat;
+  grows : StartsWith l.seat.seen l.fn.seat.seen;
+  calls : calls_in l.seat ≡ calls_in l.fn.seat ++ (l.fn.command, None) ∷ [];
   busy : unfinished_command l.seat ≡ Some l.fn.command;
 }
