@@ -43,7 +43,7 @@ impl<A: Allocator> BwSeat<A> {
     }
 
     /// What it has seen is one history.
-    pub(crate) fn saw_one_history(&self)
+    pub fn saw_one_history(&self)
         ensures { IsOneHistory self.now.limits self.now.seen }
     {
         runs_are_one_history();

@@ -1,6 +1,8 @@
 -- What seats have done for jobs.
-use Rattle.std.specs.Prelude.{◌≡◌, ◌++◌, ℕ, List, length, None, Some, slice_get, All, flat_map, IsPermutation}
+use Rattle.std.specs.Prelude.{◌≡◌, ◌++◌, ℕ, List, length, Option, None, Some, slice_get, All, flat_map, IsPermutation}
 use Rattle.std.specs.List.Sorted.{IsNonDecreasingBy}
+use Rattle.bw_model.specs.declared.command.Command.{Command}
+use Rattle.bw_model.specs.declared.command.Reply.{Reply}
 use Rattle.bw_tree.specs.Calls.{calls_in}
 use Rattle.bw_tree.specs.Runs.{IsOneHistory, StartsWith}
 use Rattle.bw_tree.specs.Seats.{IsSame, Seat, unfinished_command}
@@ -21,16 +23,20 @@ pub record AreNamed (place : ℕ) (results order : List JobResult) : Type 0 wher
   pub named : All (λ result. result.seat ≡ place) order
   pub apart : All (λ result. result.seat ≡ place → ⊥) others
 
--- The seat is idle again. What it has seen goes on from what it had seen, and is one history. Its calls are those that it had, and
--- after them those of exactly the results that name it, in some order of whole jobs.
-pub record HasWorked (results : List JobResult) (place : ℕ) (old new : Seat) : Type 0 where
+-- The seat has made these calls, one after another, and is idle again. What it has seen goes on from what it had seen.
+pub record GoesOn (old : Seat) (made : List (Command × Option Reply)) (new : Seat) : Type 0 where
   pub same : IsSame old new
   pub grows : StartsWith new.seen old.seen
-  pub history : IsOneHistory new.limits new.seen
+  pub calls : calls_in new ≡ calls_in old ++ made
   pub idle : unfinished_command new ≡ None
+
+-- The calls that the seat has made are those of exactly the results that name it, in some order of whole jobs. What it has seen is one
+-- history.
+pub record HasWorked (results : List JobResult) (place : ℕ) (old new : Seat) : Type 0 where
   pub order : List JobResult
   pub named : AreNamed place results order
-  pub calls : calls_in new ≡ calls_in old ++ flat_map calls_told order
+  pub goes : GoesOn old (flat_map calls_told order) new
+  pub history : IsOneHistory new.limits new.seen
 
 -- All seats are there, in order, and each has worked.
 pub record HaveWorked (results : List JobResult) (old new : List Seat) : Type 0 where

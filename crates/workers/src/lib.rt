@@ -4,9 +4,13 @@
 //! the same calls with the same replies (specs/Worked).
 #![tactic(auto)]
 
+mod check;
 mod gate;
 mod job;
+mod room;
 mod run;
+mod task;
+mod worker;
 
 pub use gate::{Gate, Ungated};
 pub use job::{Job, JobResult, JobsError, JobsRefusal};

@@ -1,0 +1,138 @@
+-- Workers are made of seats, and parted from them again.
+use Rattle.std.proofs.Common.{◌≡◌, ◌<◌, ◌+◌, ◌*◌, ℕ, zero, suc, List, [], ◌∷◌, ◌++◌, Option, Some, None, refl, sym, ap, subst, ◌∙◌, arith, All, drop, false, flat_map, length, map, take}
+use Rattle.std.specs.Prelude.{Bool, IsPermutation, MatchBool, slice_get, slice_index_or}
+use Rattle.std.specs.List.Sorted.{IsNonDecreasingBy}
+use Rattle.std.proofs.lemmas.List.Elements.{All-weaker, All-get_or}
+use Rattle.std.proofs.lemmas.Option.{same_Some}
+use Rattle.bw_tree.specs.Runs.{IsOneHistory}
+use Rattle.bw_tree.specs.Seats.{Seat, unfinished_command}
+use Rattle.bw_tree.specs.Trees.{AreSeatsOf, Tree}
+use Rattle.workers.specs.declared.job.JobResult.{JobResult}
+use Rattle.workers.specs.declared.worker.Worker.{Worker}
+use Rattle.workers.specs.declared.job.Job.{Job}
+use Rattle.workers.specs.declared.job.JobsRefusal.{JobsRefusal}
+use Rattle.workers.specs.declared.job.JobsRefusal.TheVariants.{Results}
+use Rattle.workers.specs.Jobs.{AreResultsOf}
+use Rattle.workers.specs.Worked.{AreIdle, AreNamed, HasWorked, HaveStopped, HaveWorked}
+use Rattle.workers.specs.Working.{HasDone}
+use Rattle.workers.proofs.Named.{ArePlaced, done_by, named, reordered}
+
+abbrev pub seat_of : Worker → Seat
+seat_of worker = worker.seat
+
+pub times_more : (n k : ℕ) → (n + 1) * k ≡ n * k + k
+times_more n k = omega arith
+
+below_of : {X : Type 0} (xs : List X) (n : ℕ) (x : X) → slice_get xs n ≡ Some x → n < length xs
+below_of [] n x e = cc
+below_of (y ∷ ys) zero x e = omega arith
+below_of (y ∷ ys) (suc n) x e = let below = below_of ys n x e in omega (arith, below)
+
+there : {X : Type 0} (xs : List X) (n : ℕ) → n < length xs → (x : X) × (slice_get xs n ≡ Some x)
+there [] n below = absurd (omega (arith, below))
+there (y ∷ ys) zero below = (y, refl)
+there (y ∷ ys) (suc n) below = there ys n (omega (arith, below))
+
+index_is : {X : Type 0} (xs : List X) (n : ℕ) (x d : X) → slice_get xs n ≡ Some x → slice_index_or xs n d ≡ x
+index_is [] n x d e = cc
+index_is (y ∷ ys) zero x d e = same_Some y x e
+index_is (y ∷ ys) (suc n) x d e = index_is ys n x d e
+
+-- what stands in a mapped list is of what stands in the list
+of_map : {X Y : Type 0} (f : X → Y) (xs : List X) (n : ℕ) (y : Y) → slice_get (map f xs) n ≡ Some y → (x : X) × (slice_get xs n ≡ Some x) × (f x ≡ y)
+of_map f [] n y e = cc
+of_map f (x ∷ xs) zero y e = (x, refl, same_Some (f x) y e)
+of_map f (x ∷ xs) (suc n) y e = of_map f xs n y e
+
+length_map : {X Y : Type 0} (f : X → Y) (xs : List X) → length (map f xs) ≡ length xs
+length_map f [] = refl
+length_map f (x ∷ xs) = ap suc (length_map f xs)
+
+-- what holds of each element of a mapped list
+all_mapped : {X Y : Type 0} (f : X → Y) (P : Y → Type 0) (xs : List X) → ((n : ℕ) (y : Y) → slice_get (map f xs) n ≡ Some y → P y) → All (λ x. P (f x)) xs
+all_mapped f P [] each n d below = absurd (omega (arith, below))
+all_mapped f P (x ∷ xs) each zero d below = each 0 (f x) refl
+all_mapped f P (x ∷ xs) each (suc n) d below = all_mapped f P xs (λ m y e. each (suc m) y e) n d (omega (arith, below))
+
+-- what holds of each seat holds of each worker's
+pub all_seats : (P : Seat → Type 0) (workers : List Worker) → ((n : ℕ) (seat : Seat) → slice_get (map seat_of workers) n ≡ Some seat → P seat) → All (λ worker. P (seat_of worker)) workers
+all_seats P workers each = all_mapped seat_of P workers each
+
+-- a list that was written over from its beginning to its end
+pub whole_again : {X : Type 0} (xs news : List X) (n : ℕ) → length news ≡ length xs → n ≡ length xs → take n (news ++ drop (length news) xs) ≡ news
+whole_again [] [] n count all = ap (λ k. take k []) all
+whole_again [] (y ∷ ys) n count all = absurd (omega (arith, count))
+whole_again (x ∷ xs) [] n count all = absurd (omega (arith, count))
+whole_again (x ∷ xs) (y ∷ ys) zero count all = absurd (omega (arith, all))
+whole_again (x ∷ xs) (y ∷ ys) (suc n) count all = ap (λ z. y ∷ z) (whole_again xs ys n (omega (arith, count)) (omega (arith, all)))
+
+-- Each worker has done what it did at its place.
+abbrev pub HaveDone : ℕ → List Worker → List Worker → Type 0
+HaveDone limit olds news = (place : ℕ) (other : Worker) → place < length olds → HasDone place limit (slice_index_or olds place other).seat (slice_index_or news place other)
+
+done_at : (limit : ℕ) (olds news : List Worker) → HaveDone limit olds news → (place : ℕ) (old new : Worker) → slice_get olds place ≡ Some old → slice_get news place ≡ Some new → HasDone place limit (seat_of old) new
+done_at limit olds news done place old new at_old at_new =
+    subst (HasDone place limit (seat_of old)) (index_is news place new new at_new)
+      (subst (λ z. HasDone place limit (seat_of z) (slice_index_or news place new)) (index_is olds place old new at_old) (done place new (below_of olds place old at_old)))
+
+placed : (limit : ℕ) (olds news : List Worker) → length news ≡ length olds → HaveDone limit olds news → ArePlaced 0 news
+placed limit olds news count done n worker at =
+    let below = below_of news n worker at in
+    let old = there olds n (omega (arith, below, count)) in
+    All-weaker (λ result. result.seat ≡ n) (λ result. result.seat ≡ 0 + n) (λ result e. omega (arith, e)) (done_by worker) (done_at limit olds news done n old.0 worker old.1 at).named
+
+none_more : (place : ℕ) → 0 + place ≡ place
+none_more place = omega arith
+
+pub have_worked : (limit : ℕ) (olds news : List Worker) → length news ≡ length olds → HaveDone limit olds news → All (λ worker. IsOneHistory worker.seat.limits worker.seat.seen) news → HaveWorked (flat_map done_by news) (map seat_of olds) (map seat_of news)
+have_worked limit olds news count done histories = record {
+  count = length_map seat_of news ∙ count ∙ sym (length_map seat_of olds);
+  each = λ place before after at_before at_after.
+    let old = of_map seat_of olds place before at_before in
+    let new = of_map seat_of news place after at_after in
+    let h = done_at limit olds news done place old.0 new.0 old.1 new.1 in
+    subst (HasWorked (flat_map done_by news) place before) new.2 (subst (λ z. HasWorked (flat_map done_by news) place z (seat_of new.0)) old.2 record {
+      order = done_by new.0;
+      named = subst (λ k. AreNamed k (flat_map done_by news) (done_by new.0)) (none_more place) (named 0 news (placed limit olds news count done) place new.0 new.1);
+      goes = h.goes;
+      history = subst (λ worker. IsOneHistory worker.seat.limits worker.seat.seen) (index_is news place new.0 new.0 new.1) (histories place new.0 (below_of news place new.0 new.1));
+    });
+}
+
+-- in whatever order the results stand
+pub worked_reordered : (xs ys : List JobResult) (olds news : List Seat) → IsPermutation xs ys → HaveWorked xs olds news → HaveWorked ys olds news
+worked_reordered xs ys olds news moved worked = record {
+  count = worked.count;
+  each = λ place before after at_before at_after.
+    let h = worked.each place before after at_before at_after in
+    record { order = h.order; named = reordered place xs ys h.order moved h.named; goes = h.goes; history = h.history };
+}
+
+-- seats that have worked are the tree's, and idle
+pub own_after : (tree : Tree) (results : List JobResult) (olds news : List Seat) → HaveWorked results olds news → AreSeatsOf tree olds → AreSeatsOf tree news
+own_after tree results olds news worked own place after at =
+    let below = below_of news place after at in
+    let old = there olds place (omega (arith, below, worked.count)) in
+    let before = own place old.0 old.1 in
+    let h = (worked.each place old.0 after old.1 at).goes in
+    record { table = h.same.table ∙ before.table; limits = h.same.limits ∙ before.limits }
+
+pub idle_after : (results : List JobResult) (olds news : List Seat) → HaveWorked results olds news → AreIdle news
+idle_after results olds news worked place after at =
+    let below = below_of news place after at in
+    let old = there olds place (omega (arith, below, worked.count)) in
+    (worked.each place old.0 after old.1 at).goes.idle
+
+pub worked_as : (results others : List JobResult) (olds before news after : List Seat) → HaveWorked results olds news → others ≡ results → before ≡ olds → after ≡ news → HaveWorked others before after
+worked_as results others olds before news after worked same_results same_olds same_news =
+    subst (λ z. HaveWorked z before after) (sym same_results)
+      (subst (λ z. HaveWorked results z after) (sym same_olds) (subst (HaveWorked results olds) (sym same_news) worked))
+
+pub stopped : (jobs : List Job) (refusal : JobsRefusal) (results : List JobResult) (olds news backs : List Seat) → refusal ≡ Results → backs ≡ news → HaveWorked results olds news → IsNonDecreasingBy (λ result. result.job) results → (AreResultsOf jobs results → ⊥)
+    → HaveStopped jobs refusal olds backs
+stopped jobs refusal results olds news backs is same worked order other =
+    subst (λ z. HaveStopped jobs z olds backs) (sym is) (results, subst (HaveWorked results olds) (sym same) worked, order, other)
+
+-- what is so where a test is false
+pub where_false : (P Q : Type 0) (test : Bool) → test ≡ false → MatchBool test P Q → Q
+where_false P Q test is h = subst (λ z. MatchBool z P Q) is h

@@ -1,0 +1,9 @@
+use Rattle.std.proofs.Common.{◌≡◌, ◌<◌, ℕ, Some}
+use Rattle.std.specs.Prelude.{slice_get}
+use Rattle.workers.specs.declared.job.Job.{Job}
+use Rattle.workers.specs.declared.job.JobResult.{JobResult}
+use Rattle.workers.specs.Jobs.{IsResultOf}
+use Rattle.workers.proofs.check.are_results.Given as goal
+
+abbrev pub invariant-loop-place : goal.invariant-loop-place
+invariant-loop-place l = (n : ℕ) (job : Job) (given : JobResult) → n < l.place → slice_get l.jobs n ≡ Some job → slice_get l.results n ≡ Some given → IsResultOf job given

@@ -1,0 +1,10 @@
+use Rattle.std.proofs.Common.{◌≤◌}
+use Rattle.std.specs.Vec.{vec_capacity}
+use Rattle.workers.specs.Working.{HasDone}
+use Rattle.workers.proofs.worker.Worker.work.Given as goal
+
+abbrev pub invariant-loop : goal.invariant-loop
+invariant-loop g l = record {
+  done : HasDone l.fn.place l.fn.limit l.initial.self.seat l.self;
+  room : l.fn.limit ≤ vec_capacity l.self.done;
+}

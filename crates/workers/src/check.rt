@@ -1,0 +1,37 @@
+//! Whether results are those of the jobs.
+ghost use Rattle.std.specs.Prelude.{◌≡◌, ◌≢◌, MatchBool};
+ghost use Rattle.workers.specs.Jobs.{AreResultsOf, IsResultOf};
+
+use crate::job::{Job, JobResult};
+use bw_model::Command;
+
+/// Whether each job has one result, in the jobs' order.
+pub(crate) fn are_results(jobs: &[Job], results: &[JobResult]) -> bool
+    ensures { MatchBool result (AreResultsOf jobs.now results.now) (AreResultsOf jobs.now results.now → ⊥) }
+{
+    if jobs.len() != results.len() {
+        return false;
+    }
+    for place in 0..jobs.len() {
+        if !is_result(&jobs[place], &results[place]) {
+            return false;
+        }
+    }
+    true
+}
+
+/// Whether the result is the job's.
+fn is_result(job: &Job, given: &JobResult) -> bool
+    ensures { MatchBool result (IsResultOf job.now given.now) (IsResultOf job.now given.now → ⊥) }
+{
+    given.job == job.number
+        && given.replies.len() == job.commands.len()
+        && are_same(&given.commands, &job.commands)
+}
+
+/// Whether these are the same commands.
+fn are_same(one: &Vec<Command>, other: &Vec<Command>) -> bool
+    ensures { MatchBool result (one.now.items ≡ other.now.items) (one.now.items ≢ other.now.items) }
+{
+    one == other
+}

@@ -1,0 +1,101 @@
+//! The room that workers are given before their threads begin, and what is taken out of it afterwards.
+ghost use Rattle.std.specs.Prelude.{◌≡◌, ◌≤◌, ◌*◌, [], All, IfOk, flat_map, length, map, vec_len};
+ghost use Rattle.std.specs.Vec.{vec_capacity};
+ghost use Rattle.workers.specs.Working.{HasRoom, IsRoom};
+
+use crate::job::JobResult;
+use crate::worker::Worker;
+use bw_tree::BwSeat;
+use std::alloc::{AllocError, Global};
+
+/// Room for workers, for the results of each, for the seats that come back, and for all results.
+#[derive(Drop)]
+pub(crate) struct Room {
+    pub(crate) lists: Vec<Vec<JobResult>>,
+    pub(crate) workers: Vec<Worker>,
+    pub(crate) seats: Vec<BwSeat>,
+    pub(crate) results: Vec<JobResult>,
+}
+
+impl Room {
+    /// Room for so many workers, each of which may run all of so many jobs.
+    pub(crate) fn of(alloc: Global, count: usize, limit: usize) -> Result<Room, AllocError>
+        ensures { IfOk result (IsRoom count limit) }
+    {
+        let Some(all) = count.checked_mul(limit) else {
+            return Err(AllocError);
+        };
+        Ok(Room {
+            lists: lists(alloc, count, limit)?,
+            workers: Vec::with_capacity(alloc, count)?,
+            seats: Vec::with_capacity(alloc, count)?,
+            results: Vec::with_capacity(alloc, all)?,
+        })
+    }
+}
+
+/// So many empty lists, each with room for so many results.
+fn lists(alloc: Global, count: usize, limit: usize) -> Result<Vec<Vec<JobResult>>, AllocError>
+    ensures count { IfOk result (λ lists. vec_len lists ≡ count) }
+    ensures each { IfOk result (λ lists. All (HasRoom limit) lists.items) }
+{
+    let mut lists = Vec::new(alloc);
+    for _ in 0..count {
+        lists.push(Vec::with_capacity(alloc, limit)?)?;
+    }
+    Ok(lists)
+}
+
+/// A worker for each seat, in the seats' order, each with a list.
+pub(crate) fn seated(
+    seats: Vec<BwSeat>,
+    lists: Vec<Vec<JobResult>>,
+    workers: Vec<Worker>,
+    limit: usize,
+) -> Vec<Worker>
+    requires lists { vec_len lists ≡ vec_len seats }
+    requires each { All (HasRoom limit) lists.items }
+    requires empty { workers.items ≡ [] }
+    requires room { vec_len seats ≤ vec_capacity workers }
+    ensures seats { map (λ worker. worker.seat) result.items ≡ seats.items }
+    ensures room { All (λ worker. HasRoom limit worker.done) result.items }
+{
+    let _ = limit;
+    let mut lists = lists;
+    let mut workers = workers;
+    for seat in seats {
+        let Some(done) = lists.pop() else {
+            unreachable!()
+        };
+        workers.push_reserved(Worker { seat, done });
+    }
+    workers
+}
+
+/// The seats of workers, and all their results.
+pub(crate) fn parted(
+    workers: Vec<Worker>,
+    seats: Vec<BwSeat>,
+    results: Vec<JobResult>,
+    limit: usize,
+) -> (Vec<JobResult>, Vec<BwSeat>)
+    requires few { All (λ worker. vec_len worker.done ≤ limit) workers.items }
+    requires seats { seats.items ≡ [] }
+    requires results { results.items ≡ [] }
+    requires seats_room { vec_len workers ≤ vec_capacity seats }
+    requires results_room { vec_len workers * limit ≤ vec_capacity results }
+    ensures results { result.0.items ≡ flat_map (λ worker. worker.done.items) workers.items }
+    ensures seats { result.1.items ≡ map (λ worker. worker.seat) workers.items }
+{
+    let _ = limit;
+    let mut seats = seats;
+    let mut results = results;
+    for worker in workers {
+        let Worker { seat, mut done } = worker;
+        seats.push_reserved(seat);
+        let Ok(()) = results.append(&mut done) else {
+            unreachable!()
+        };
+    }
+    (results, seats)
+}

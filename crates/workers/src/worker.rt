@@ -1,0 +1,131 @@
+//! A worker: a seat, and the results of the jobs that it ran.
+ghost use Rattle.std.specs.Prelude.{◌≡◌, ◌<◌, ◌≤◌, ◌∷◌, [], None, Some, length, map, vec_len, zip};
+ghost use Rattle.std.specs.Vec.{vec_capacity};
+ghost use Rattle.bw_tree.specs.Runs.{IsOneHistory};
+ghost use Rattle.bw_tree.specs.Seats.{unfinished_command};
+ghost use Rattle.bw_tree.specs.Trees.{IsSeatOf};
+ghost use Rattle.workers.specs.Worked.{GoesOn};
+ghost use Rattle.workers.specs.Working.{Adds, HasDone};
+
+use crate::gate::Gate;
+use crate::job::JobResult;
+use crate::task::Task;
+use bw_model::{Command, Reply};
+use bw_tree::{BwSeat, Called, Tree};
+use crossbeam_channel::Receiver;
+use std::sync::Wait;
+
+/// Steps between two looks whether a command is done.
+const STEPS: u32 = 1 << 16;
+
+/// A seat, and the results of the jobs that were run on it.
+#[derive(Drop)]
+pub(crate) struct Worker {
+    pub(crate) seat: BwSeat,
+    pub(crate) done: Vec<JobResult>,
+}
+
+impl Worker {
+    /// Runs jobs as they come, until no more will come, or there were as many as there are.
+    pub(crate) fn work<R: Wait, G: Gate>(
+        &mut self,
+        rt: &R,
+        tree: &Tree,
+        place: usize,
+        limit: usize,
+        tasks: &Receiver<Task>,
+        gate: &G,
+    )
+        requires own { IsSeatOf tree.now self.old.seat }
+        requires idle { unfinished_command self.old.seat ≡ None }
+        requires empty { self.old.done.items ≡ [] }
+        requires room { limit ≤ vec_capacity self.old.done }
+        ensures done { HasDone place limit self.old.seat self.new }
+        ensures history { IsOneHistory self.new.seat.limits self.new.seat.seen }
+    {
+        for _ in rt.forever() {
+            if self.done.len() >= limit {
+                break;
+            }
+            let Ok(task) = tasks.recv(rt) else {
+                break;
+            };
+            self.run(rt, tree, place, task, gate);
+        }
+        self.seat.saw_one_history();
+    }
+
+    /// Runs a job, and keeps its result.
+    fn run<R: Wait, G: Gate>(&mut self, rt: &R, tree: &Tree, place: usize, task: Task, gate: &G)
+        requires own { IsSeatOf tree.now self.old.seat }
+        requires idle { unfinished_command self.old.seat ≡ None }
+        requires room { vec_len self.old.done < vec_capacity self.old.done }
+        ensures adds { Adds place self.old self.new }
+        ensures room { vec_capacity self.new.done ≡ vec_capacity self.old.done }
+    {
+        let Task {
+            job,
+            commands,
+            mut replies,
+        } = task;
+        gate.before(job);
+        run_all(rt, tree, &mut self.seat, commands.as_slice(), &mut replies);
+        self.done.push_reserved(JobResult {
+            job,
+            seat: place,
+            commands,
+            replies,
+        });
+        gate.after(job);
+    }
+}
+
+/// Runs commands in order, each to its end.
+fn run_all<R: Wait>(
+    rt: &R,
+    tree: &Tree,
+    seat: &mut BwSeat,
+    commands: &[Command],
+    replies: &mut Vec<Reply>,
+)
+    requires own { IsSeatOf tree.now seat.old }
+    requires idle { unfinished_command seat.old ≡ None }
+    requires empty { replies.old.items ≡ [] }
+    requires room { length commands.now ≤ vec_capacity replies.old }
+    ensures goes { GoesOn seat.old (zip commands.now (map Some replies.new.items)) seat.new }
+{
+    for command in commands {
+        replies.push_reserved(run(rt, tree, seat, copied(command)));
+    }
+}
+
+/// Runs a command to its end.
+fn run<R: Wait>(rt: &R, tree: &Tree, seat: &mut BwSeat, command: Command) -> Reply
+    requires own { IsSeatOf tree.now seat.old }
+    requires idle { unfinished_command seat.old ≡ None }
+    ensures goes { GoesOn seat.old ((command, Some result) ∷ []) seat.new }
+{
+    if let Called::Done(reply) = tree.call(seat, command, STEPS) {
+        return reply;
+    }
+    for _ in rt.forever() {
+        if let Called::Done(reply) = tree.resume(seat, STEPS) {
+            return reply;
+        }
+    }
+    unreachable!()
+}
+
+/// The same command once more.
+fn copied(command: &Command) -> Command
+    ensures { result ≡ command.now }
+{
+    match command {
+        Command::Get(key) => Command::Get(key.copied()),
+        Command::Insert(key, value) => Command::Insert(key.copied(), value.copied()),
+        Command::Upsert(key, value) => Command::Upsert(key.copied(), value.copied()),
+        Command::Delete(key) => Command::Delete(key.copied()),
+        Command::Page(key) => Command::Page(key.copied()),
+        Command::Tidy(key) => Command::Tidy(key.copied()),
+    }
+}
