@@ -6,6 +6,8 @@ mod clients;
 #[cfg(test)]
 mod example;
 #[cfg(test)]
+mod jobs;
+#[cfg(test)]
 mod numbered;
 #[cfg(test)]
 mod opening;
