@@ -8,6 +8,8 @@ mod counter;
 #[cfg(test)]
 mod example;
 #[cfg(test)]
+mod jobs;
+#[cfg(test)]
 mod numbered;
 #[cfg(test)]
 mod opening;

@@ -1,6 +1,6 @@
 //! Whether results are those of the jobs.
 ghost use Rattle.std.specs.Prelude.{◌≡◌, ◌≢◌, MatchBool};
-ghost use Rattle.workers.specs.Jobs.{AreResultsOf, IsResultOf};
+ghost use Rattle.workers.specs.Jobs.{AreAscending, AreResultsOf, IsResultOf};
 
 use crate::job::{Job, JobResult};
 use bw_model::Command;
@@ -34,4 +34,16 @@ fn are_same(one: &Vec<Command>, other: &Vec<Command>) -> bool
     ensures { MatchBool result (one.now.items ≡ other.now.items) (one.now.items ≢ other.now.items) }
 {
     one == other
+}
+
+/// Whether the jobs stand in order of their numbers, no two of which are the same.
+pub fn are_ascending(jobs: &[Job]) -> bool
+    ensures { MatchBool result (AreAscending jobs.now) (AreAscending jobs.now → ⊥) }
+{
+    for place in 1..jobs.len() {
+        if jobs[place - 1].number >= jobs[place].number {
+            return false;
+        }
+    }
+    true
 }

@@ -12,6 +12,7 @@ mod run;
 mod task;
 mod worker;
 
+pub use check::are_ascending;
 pub use gate::{Gate, Ungated};
 pub use job::{Job, JobResult, JobsError, JobsRefusal};
 pub use run::run_jobs;
