@@ -1,3 +1,4 @@
+mod Ascending
 mod Going
 mod Named
 mod Parting

@@ -44,7 +44,7 @@ of_map f [] n y e = cc
 of_map f (x ∷ xs) zero y e = (x, refl, same_Some (f x) y e)
 of_map f (x ∷ xs) (suc n) y e = of_map f xs n y e
 
-length_map : {X Y : Type 0} (f : X → Y) (xs : List X) → length (map f xs) ≡ length xs
+pub length_map : {X Y : Type 0} (f : X → Y) (xs : List X) → length (map f xs) ≡ length xs
 length_map f [] = refl
 length_map f (x ∷ xs) = ap suc (length_map f xs)
 
