@@ -125,6 +125,9 @@ fn copied(command: &Command) -> Command
         Command::Insert(key, value) => Command::Insert(key.copied(), value.copied()),
         Command::Upsert(key, value) => Command::Upsert(key.copied(), value.copied()),
         Command::Delete(key) => Command::Delete(key.copied()),
+        Command::Swap(key, expected, value) => {
+            Command::Swap(key.copied(), expected.copied(), value.copied())
+        }
         Command::Page(key) => Command::Page(key.copied()),
         Command::Tidy(key) => Command::Tidy(key.copied()),
     }
