@@ -59,7 +59,9 @@ fn are_inserted(results: &[JobResult], count: u32, each: u32, seats: usize) -> b
         if result.job != number || result.seat >= seats || result.commands.len() != each as usize {
             return false;
         }
-        if result.replies.len() != each as usize || result.replies.iter().any(|reply| *reply != Reply::Inserted) {
+        if result.replies.len() != each as usize
+            || result.replies.iter().any(|reply| *reply != Reply::Inserted)
+        {
             return false;
         }
         number = number.wrapping_add(1);
@@ -81,11 +83,14 @@ fn are_run<R: Threads + Wait + Sync, G: Gate + Sync>(
     let Some((results, pairs)) = done(rt, alloc, limits, jobs, again, gate) else {
         return Ok(false);
     };
-    Ok(are_inserted(results.as_slice(), count, each, limits.actors as usize)
-        && are_first(pairs.as_slice(), count.wrapping_mul(each)))
+    Ok(
+        are_inserted(results.as_slice(), count, each, limits.actors as usize)
+            && are_first(pairs.as_slice(), count.wrapping_mul(each)),
+    )
 }
 
 /// Counts the jobs that begin and end.
+#[derive(Drop)]
 struct Counts {
     begun: AtomicU64,
     ended: AtomicU64,
@@ -104,9 +109,19 @@ impl Gate for Counts {
 // As many seats as jobs, more, and fewer; no job at all, and jobs without commands. Each job begins once and ends once.
 #[test]
 fn seats_share_jobs(rt: HostRuntime) -> Result<(), Fail> {
-    for (seats, count, each) in [(4, 4, 1000), (4, 1, 20), (1, 4, 20), (3, 50, 3), (2, 0, 1), (2, 3, 0)] {
+    for (seats, count, each) in [
+        (4, 4, 1000),
+        (4, 1, 20),
+        (1, 4, 20),
+        (3, 50, 3),
+        (2, 0, 1),
+        (2, 3, 0),
+    ] {
         let limits = Limits::new(seats, 4096, 16384, 1)?;
-        let counts = Counts { begun: AtomicU64::new(0), ended: AtomicU64::new(0) };
+        let counts = Counts {
+            begun: AtomicU64::new(0),
+            ended: AtomicU64::new(0),
+        };
         assert!(rt; are_run(&rt, rt.alloc(), limits, count, each, &counts)?);
         assert_eq!(rt; counts.begun.load(Ordering::SeqCst), u64::from(count));
         assert_eq!(rt; counts.ended.load(Ordering::SeqCst), u64::from(count));
@@ -115,6 +130,7 @@ fn seats_share_jobs(rt: HostRuntime) -> Result<(), Fail> {
 }
 
 /// Holds two jobs, 0 and 1, each until the other one began, and tells if that was too long.
+#[derive(Drop)]
 struct Meets {
     begun: [AtomicBool; 2],
     late: AtomicBool,
@@ -156,7 +172,10 @@ impl Gate for Meets {
 // Workers that ran one job after another would wait in vain.
 #[test]
 fn jobs_run_at_once(rt: HostRuntime) -> Result<(), Fail> {
-    let gate = Meets { begun: [AtomicBool::new(false), AtomicBool::new(false)], late: AtomicBool::new(false) };
+    let gate = Meets {
+        begun: [AtomicBool::new(false), AtomicBool::new(false)],
+        late: AtomicBool::new(false),
+    };
     let limits = Limits::new(2, 64, 256, 1)?;
     assert!(rt; are_run(&rt, rt.alloc(), limits, 2, 2, &gate)?);
     assert!(rt; !gate.late.load(Ordering::SeqCst));
@@ -165,15 +184,28 @@ fn jobs_run_at_once(rt: HostRuntime) -> Result<(), Fail> {
 
 /// The jobs of a race: job 0 inserts a key and looks it up, job 1 inserts another key.
 fn race(alloc: Global) -> Result<Vec<Job>, AllocError> {
-    let first = Job { number: 0, commands: vec![in alloc; Command::Insert(key(1), value(1)), Command::Get(key(1))]? };
-    let second = Job { number: 1, commands: vec![in alloc; Command::Insert(key(2), value(2))]? };
-    vec![in alloc; first, second]
+    let first = Job {
+        number: 0,
+        commands: vec![in alloc; Command::Insert(key(1), value(1)), Command::Get(key(1))]?,
+    };
+    let second = Job {
+        number: 1,
+        commands: vec![in alloc; Command::Insert(key(2), value(2))]?,
+    };
+    Ok(vec![in alloc; first, second]?)
 }
 
 #[test]
 fn results_stand_in_order(rt: HostRuntime) -> Result<(), Fail> {
     let limits = Limits::new(2, 4096, 16384, 1)?;
-    let ended = done(&rt, rt.alloc(), limits, race(rt.alloc())?, race(rt.alloc())?, &Ungated);
+    let ended = done(
+        &rt,
+        rt.alloc(),
+        limits,
+        race(rt.alloc())?,
+        race(rt.alloc())?,
+        &Ungated,
+    );
     let Some((results, pairs)) = ended else {
         assert!(rt; false);
         return Ok(());

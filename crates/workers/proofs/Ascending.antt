@@ -29,7 +29,7 @@ AscendBelow jobs place = (j : ℕ) → j + 1 < place → slice_index (map number
 pub one_more : (jobs : List Job) (k place : ℕ) (one other : Job) → k + 1 ≡ place → place < length jobs → one ≡ slice_index_or jobs k one → other ≡ slice_index_or jobs place other → number_of one < number_of other → AscendBelow jobs place → AscendBelow jobs (place + 1)
 one_more jobs k place one other next below is is_other less up j less_j = dite (ℕ_discrete j k)
     (λ same.
-      let first = ap (slice_index (map number_of jobs)) same ∙ at_map jobs k one (omega (arith, next, below)) is in
-      let second = ap (λ i. slice_index (map number_of jobs) (i + 1)) same ∙ ap (slice_index (map number_of jobs)) next ∙ at_map jobs place other below is_other in
-      omega (arith, first, second, less))
+    let first = ap (slice_index (map number_of jobs)) same ∙ at_map jobs k one (omega (arith, next, below)) is in
+    let second = ap (λ i. slice_index (map number_of jobs) (i + 1)) same ∙ ap (slice_index (map number_of jobs)) next ∙ at_map jobs place other below is_other in
+    omega (arith, first, second, less))
     (λ other_place. up j (omega (arith, less_j, next, other_place)))

@@ -49,7 +49,7 @@ ran first mid new commands i item command replies news reply before now same bel
     let more : take (i + 1) commands ≡ take i commands ++ command ∷ [] = take_more commands i item below ∙ ap (λ z. take i commands ++ z ∷ []) (sym is ∙ sym same) in
     let long : length replies ≡ length (take i commands) = omega (arith, count, length-take i commands, below) in
     let zip_is : zip (take (i + 1) commands) (map Some news) ≡ zip (take i commands) (map Some replies) ++ (command, Some reply) ∷ [] =
-      ap (λ z. zip z (map Some news)) more ∙ ap (λ z. zip (take i commands ++ command ∷ []) (map Some z)) grown ∙ zipped (take i commands) replies command reply long in
+    ap (λ z. zip z (map Some news)) more ∙ ap (λ z. zip (take i commands ++ command ∷ []) (map Some z)) grown ∙ zipped (take i commands) replies command reply long in
     subst (λ z. GoesOn first z new) (sym zip_is) (goes_on first mid new (zip (take i commands) (map Some replies)) ((command, Some reply) ∷ []) before now)
 
 -- A command was begun on the seat, and isn't done.

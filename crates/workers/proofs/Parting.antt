@@ -73,7 +73,7 @@ HaveDone limit olds news = (place : ℕ) (other : Worker) → place < length old
 done_at : (limit : ℕ) (olds news : List Worker) → HaveDone limit olds news → (place : ℕ) (old new : Worker) → slice_get olds place ≡ Some old → slice_get news place ≡ Some new → HasDone place limit (seat_of old) new
 done_at limit olds news done place old new at_old at_new =
     subst (HasDone place limit (seat_of old)) (index_is news place new new at_new)
-      (subst (λ z. HasDone place limit (seat_of z) (slice_index_or news place new)) (index_is olds place old new at_old) (done place new (below_of olds place old at_old)))
+    (subst (λ z. HasDone place limit (seat_of z) (slice_index_or news place new)) (index_is olds place old new at_old) (done place new (below_of olds place old at_old)))
 
 placed : (limit : ℕ) (olds news : List Worker) → length news ≡ length olds → HaveDone limit olds news → ArePlaced 0 news
 placed limit olds news count done n worker at =
@@ -88,15 +88,15 @@ pub have_worked : (limit : ℕ) (olds news : List Worker) → length news ≡ le
 have_worked limit olds news count done histories = record {
   count = length_map seat_of news ∙ count ∙ sym (length_map seat_of olds);
   each = λ place before after at_before at_after.
-    let old = of_map seat_of olds place before at_before in
-    let new = of_map seat_of news place after at_after in
-    let h = done_at limit olds news done place old.0 new.0 old.1 new.1 in
-    subst (HasWorked (flat_map done_by news) place before) new.2 (subst (λ z. HasWorked (flat_map done_by news) place z (seat_of new.0)) old.2 record {
-      order = done_by new.0;
-      named = subst (λ k. AreNamed k (flat_map done_by news) (done_by new.0)) (none_more place) (named 0 news (placed limit olds news count done) place new.0 new.1);
-      goes = h.goes;
-      history = subst (λ worker. IsOneHistory worker.seat.limits worker.seat.seen) (index_is news place new.0 new.0 new.1) (histories place new.0 (below_of news place new.0 new.1));
-    });
+      let old = of_map seat_of olds place before at_before in
+      let new = of_map seat_of news place after at_after in
+      let h = done_at limit olds news done place old.0 new.0 old.1 new.1 in
+      subst (HasWorked (flat_map done_by news) place before) new.2 (subst (λ z. HasWorked (flat_map done_by news) place z (seat_of new.0)) old.2 record {
+        order = done_by new.0;
+        named = subst (λ k. AreNamed k (flat_map done_by news) (done_by new.0)) (none_more place) (named 0 news (placed limit olds news count done) place new.0 new.1);
+        goes = h.goes;
+        history = subst (λ worker. IsOneHistory worker.seat.limits worker.seat.seen) (index_is news place new.0 new.0 new.1) (histories place new.0 (below_of news place new.0 new.1));
+      });
 }
 
 -- in whatever order the results stand
@@ -104,8 +104,8 @@ pub worked_reordered : (xs ys : List JobResult) (olds news : List Seat) → IsPe
 worked_reordered xs ys olds news moved worked = record {
   count = worked.count;
   each = λ place before after at_before at_after.
-    let h = worked.each place before after at_before at_after in
-    record { order = h.order; named = reordered place xs ys h.order moved h.named; goes = h.goes; history = h.history };
+      let h = worked.each place before after at_before at_after in
+      record { order = h.order; named = reordered place xs ys h.order moved h.named; goes = h.goes; history = h.history };
 }
 
 -- seats that have worked are the tree's, and idle
@@ -126,7 +126,7 @@ idle_after results olds news worked place after at =
 pub worked_as : (results others : List JobResult) (olds before news after : List Seat) → HaveWorked results olds news → others ≡ results → before ≡ olds → after ≡ news → HaveWorked others before after
 worked_as results others olds before news after worked same_results same_olds same_news =
     subst (λ z. HaveWorked z before after) (sym same_results)
-      (subst (λ z. HaveWorked results z after) (sym same_olds) (subst (HaveWorked results olds) (sym same_news) worked))
+    (subst (λ z. HaveWorked results z after) (sym same_olds) (subst (HaveWorked results olds) (sym same_news) worked))
 
 pub stopped : (jobs : List Job) (refusal : JobsRefusal) (results : List JobResult) (olds news backs : List Seat) → refusal ≡ Results → backs ≡ news → HaveWorked results olds news → IsNonDecreasingBy (λ result. result.job) results → (AreResultsOf jobs results → ⊥)
     → HaveStopped jobs refusal olds backs

@@ -15,10 +15,10 @@ pub returns-clause-refused : goal.returns-clause-refused
 returns-clause-refused g c =
     let other = where_false (AreResultsOf c.as_slice-2.result.now c.as_slice-3.result.now) (AreResultsOf c.as_slice-2.result.now c.as_slice-3.result.now → ⊥) c.are_results.result c.if-are_results.false c.are_results.ensures in
     stopped c.args.jobs.items c.refused-else-are_results.result.refusal c.sorted-results.result.items c.args.seats.items c.worked-results.result.1.items c.refused-else-are_results.result.seats.items
-      c.refused-else-are_results.ensures.refusal c.refused-else-are_results.ensures.seats
-      (worked_reordered c.worked-results.result.0.items c.sorted-results.result.items c.args.seats.items c.worked-results.result.1.items c.sorted-results.ensures.permutation c.worked-results.ensures.worked)
-      c.sorted-results.ensures.order
-      (λ is. other (subst (λ z. AreResultsOf z c.as_slice-3.result.now) (sym c.as_slice-2.ensures.value) (subst (AreResultsOf c.args.jobs.items) (sym c.as_slice-3.ensures.value) is)))
+    c.refused-else-are_results.ensures.refusal c.refused-else-are_results.ensures.seats
+    (worked_reordered c.worked-results.result.0.items c.sorted-results.result.items c.args.seats.items c.worked-results.result.1.items c.sorted-results.ensures.permutation c.worked-results.ensures.worked)
+    c.sorted-results.ensures.order
+    (λ is. other (subst (λ z. AreResultsOf z c.as_slice-3.result.now) (sym c.as_slice-2.ensures.value) (subst (AreResultsOf c.args.jobs.items) (sym c.as_slice-3.ensures.value) is)))
 
 pub returns-clause-left : goal.returns-clause-left
 returns-clause-left g c =

@@ -30,7 +30,7 @@ returns g c =
     let news = c.in_threads.new.workers in
     let worked = have_worked c.args.limit c.as_mut_slice.result.now news count c.in_threads.ensures.done c.in_threads.ensures.history in record {
       worked = worked_as (flat_map done_by news) c.parted.result.0.items (map seat_of c.as_mut_slice.result.now) c.args.seats.items (map seat_of news) c.parted.result.1.items worked
-        (c.parted.ensures.results ∙ ap (flat_map done_by) whole)
-        (sym c.seated-workers.ensures.seats ∙ ap (map seat_of) (sym c.as_mut_slice.ensures.value))
-        (c.parted.ensures.seats ∙ ap (map seat_of) whole);
+          (c.parted.ensures.results ∙ ap (flat_map done_by) whole)
+          (sym c.seated-workers.ensures.seats ∙ ap (map seat_of) (sym c.as_mut_slice.ensures.value))
+          (c.parted.ensures.seats ∙ ap (map seat_of) whole);
     }

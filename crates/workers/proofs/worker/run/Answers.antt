@@ -9,6 +9,6 @@ loop-init g c =
 pub returns-in-Done-resume : goal.returns-in-Done-resume
 returns-in-Done-resume g c = record {
   goes = ended c.args.seat.now c.loop.seat c.resume.new.seat c.args.command 65536 c.resume.result c.in-Done-resume.reply
-    (record { same = c.loop.invariant.same; grows = c.loop.invariant.grows; calls = c.loop.invariant.calls; busy = c.loop.invariant.busy })
-    c.resume.ensures.same c.resume.ensures.resumed c.in-Done-resume.is;
+      (record { same = c.loop.invariant.same; grows = c.loop.invariant.grows; calls = c.loop.invariant.calls; busy = c.loop.invariant.busy })
+      c.resume.ensures.same c.resume.ensures.resumed c.in-Done-resume.is;
 }
