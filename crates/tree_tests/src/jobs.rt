@@ -90,6 +90,7 @@ fn are_run<R: Threads + Wait + Sync, G: Gate + Sync>(
 }
 
 /// Counts the jobs that begin and end.
+#[derive(Drop)]
 struct Counts {
     begun: AtomicU64,
     ended: AtomicU64,
@@ -129,6 +130,7 @@ fn seats_share_jobs(rt: HostRuntime) -> Result<(), Fail> {
 }
 
 /// Holds two jobs, 0 and 1, each until the other one began, and tells if that was too long.
+#[derive(Drop)]
 struct Meets {
     begun: [AtomicBool; 2],
     late: AtomicBool,
@@ -190,7 +192,7 @@ fn race(alloc: Global) -> Result<Vec<Job>, AllocError> {
         number: 1,
         commands: vec![in alloc; Command::Insert(key(2), value(2))]?,
     };
-    vec![in alloc; first, second]
+    Ok(vec![in alloc; first, second]?)
 }
 
 #[test]
