@@ -7,6 +7,8 @@ use shell_options::{OptionsError, Program, Settings, options};
 use std::alloc::Global;
 use std::io::ErrorKind;
 use std::process::ExitCode;
+use std::sync::Wait;
+use std::thread::Threads;
 use std::{env, io};
 
 fn main(rt: HostRuntime) -> ExitCode {
@@ -16,7 +18,7 @@ fn main(rt: HostRuntime) -> ExitCode {
         Err(error) => return ExitCode::from(unread(&rt, error.kind())),
     };
     match options(alloc, words.as_slice()) {
-        Ok(settings) => ExitCode::from(run(rt, settings)),
+        Ok(settings) => ExitCode::from(run(&rt, &rt, settings)),
         Err(error) => ExitCode::from(refuse(&rt, error)),
     }
 }
@@ -55,17 +57,17 @@ fn refuse(rt: &HostRuntime, error: OptionsError) -> u8 {
     }
 }
 
-/// Runs a program, and answers the status.
-fn run(rt: HostRuntime, settings: Settings) -> u8 {
+/// Runs a program, and answers the status. A race's threads are those of `threads`.
+fn run<R: Threads + Wait + Sync>(rt: &HostRuntime, threads: &R, settings: Settings) -> u8 {
     let Ok(limits) = settings.limits() else {
         let _ = eprintln!(rt; "refused: {}", Refusal::BadLimits.code());
         return 2;
     };
     let mut input = Reader::new(rt.reader());
-    let mut output = Writer::new(io::writer(&rt));
+    let mut output = Writer::new(io::writer(rt));
     match settings.program {
         Program::Script => script(rt.alloc(), limits, &mut input, &mut output),
         Program::Weave => weave(rt.alloc(), limits, &mut input, &mut output),
-        Program::Race => race(&rt, rt.alloc(), limits, &mut input, &mut output),
+        Program::Race => race(threads, rt.alloc(), limits, &mut input, &mut output),
     }
 }

@@ -12,7 +12,7 @@ const INPUT: &[u8] = b"1 insert k02 =\n\n0 insert k01 v01\n0 get k01\n1 upsert k
 const OUTPUT: &[u8] =
     b"0 inserted\n0 value v01\n1 inserted\n1 replaced =\n2 tidied\npairs 2\nk01 v01\nk02 v02\n";
 
-// The fourth line is refused; its LF is the 42nd byte.
+// The fourth line is refused; its LF is the 43rd byte.
 const SPOILT: &[u8] = b"1 insert k02 =\n\n0 insert k01 v01\n0 got k01\n1 get k02\n2 get k03\n";
 
 const REFUSAL: &[u8] = b"refused line 4: 11\n";
@@ -45,7 +45,7 @@ fn prints_after<R: Threads + Wait + Sync>(
     raced.is(output, 1)
 }
 
-// No job is run, and a refused line is told where it is whole: 11 reads take all of INPUT, 6 take the refused line, and one more
+// No job is run, and a refused line is told where it is whole: 11 reads take all of INPUT, 7 take the refused line, and one more
 // meets the end.
 #[test]
 fn failed_reads(rt: HostRuntime) -> Result<(), Fail> {
@@ -53,7 +53,7 @@ fn failed_reads(rt: HostRuntime) -> Result<(), Fail> {
     let alloc = rt.alloc();
     for reads in 0..11 {
         assert!(rt; prints_after(&rt, alloc, limits, INPUT, reads, b""));
-        let told = if reads < 6 { b"".as_slice() } else { REFUSAL };
+        let told = if reads < 7 { b"".as_slice() } else { REFUSAL };
         assert!(rt; prints_after(&rt, alloc, limits, SPOILT, reads, told));
     }
     let raced = run_into(
