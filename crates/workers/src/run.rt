@@ -22,8 +22,9 @@ use std::sync::Wait;
 use std::thread::{Threads, for_each_mut};
 
 /// Runs all jobs, by as many threads as there are seats. A free thread takes the next job, and runs its commands in order, each to its
-/// end; it waits where the gate does. The results stand in order of the jobs' numbers. It is refused for want of memory, before a job
-/// has begun, and where a result is missing, doubled or foreign. The seats come back in their order, also from a refusal.
+/// end; it waits where the gate does. Where no thread can be made, its worker runs once a thread that is there is free. The results stand
+/// in order of the jobs' numbers. It is refused for want of memory, before a job has begun, and where a result is missing, doubled or
+/// foreign. The seats come back in their order, also from a refusal.
 pub fn run_jobs<R: Threads + Wait + Sync, G: Gate + Sync>(
     rt: &R,
     alloc: Global,
