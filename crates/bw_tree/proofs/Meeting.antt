@@ -1,4 +1,4 @@
--- Two seats that meet.
+-- Two seats that meet, and a seat that heeds a note.
 use Rattle.std.proofs.Common.{◌≡◌, ℕ, List, [], ◌∷◌, ◌++◌, map, refl, sym, ap, ◌∙◌, subst}
 use Rattle.actors.specs.Actors.{Actor, IsActor}
 use Rattle.actors.specs.Spending.{steps_due}
@@ -8,12 +8,13 @@ use Rattle.chain_search.specs.Disciplined.{Extends}
 use Rattle.chain_search.specs.Knowledge.{knows}
 use Rattle.chain_search.specs.Recalled.{recalls}
 use Rattle.slot_rule.specs.declared.view.Part.{Part}
-use Rattle.slot_rule.specs.declared.view.Reach.TheVariants.{Idle}
-use Rattle.slot_rule.specs.Running.{Each}
+use Rattle.slot_rule.specs.declared.view.Reach.{Reach}
+use Rattle.slot_rule.specs.declared.view.Reach.TheVariants.{Idle, Noted}
+use Rattle.slot_rule.specs.Running.{Each, GoesOn}
 use Rattle.slot_rule.specs.Views.{HasPart, SitsAt, Looked, Mine, alone, first_part, other_parts, part, refreshed, seen_of}
 use Rattle.tree_law.specs.Direct.{Accounts}
 use Rattle.tree_law.specs.Own.{OwnLasts}
-use Rattle.bw_tree.specs.Runs.{IsLawfulRun}
+use Rattle.bw_tree.specs.Runs.{IsLawfulRun, StartsWith}
 use Rattle.bw_tree.specs.Seats.{IsSeat, IsSeated}
 
 -- what an actor keeps shows the same of a run that others have gone on with
@@ -35,23 +36,23 @@ seat_extends own limits number me me' run at seat legal extends place saw = reco
   seated = subst (λ seen. IsSeated limits number seen at) (sym saw) (seated_extends own limits number (seen_of me) run at seat.seated legal extends);
 }
 
-module _ (limits : Limits) (a b : ℕ) (one other joined : Mine) (at : SitsAt limits a Idle one) (at_other : SitsAt limits b Idle other) (both : joined ≡ (one.0 ++ other.0, one.1)) where
-  both_is : joined ≡ (part limits a (seen_of one) Idle ∷ part limits b (seen_of other) Idle ∷ [], [])
+module _ (limits : Limits) (a b : ℕ) (reach : Reach) (one other joined : Mine) (at : SitsAt limits a Idle one) (at_other : SitsAt limits b reach other) (both : joined ≡ (one.0 ++ other.0, one.1)) where
+  both_is : joined ≡ (part limits a (seen_of one) Idle ∷ part limits b (seen_of other) reach ∷ [], [])
   both_is = both ∙ ap (λ (z : List Part). (z ++ other.0, one.1)) (ap (λ (m : Mine). m.0) at)
       ∙ ap (λ (z : List Part). (alone limits a (seen_of one) Idle ++ z, one.1)) (ap (λ (m : Mine). m.0) at_other)
-      ∙ ap (λ (z : List (ℕ × Unit {0})). (part limits a (seen_of one) Idle ∷ part limits b (seen_of other) Idle ∷ [], z)) (ap (λ (m : Mine). m.1) at)
+      ∙ ap (λ (z : List (ℕ × Unit {0})). (part limits a (seen_of one) Idle ∷ part limits b (seen_of other) reach ∷ [], z)) (ap (λ (m : Mine). m.1) at)
 
   pub has_part : HasPart limits joined.0
-  has_part = (part limits a (seen_of one) Idle, alone limits b (seen_of other) Idle, ap (λ (m : Mine). m.0) both_is, refl)
+  has_part = (part limits a (seen_of one) Idle, alone limits b (seen_of other) reach, ap (λ (m : Mine). m.0) both_is, refl)
 
   module _ (looked left right : Mine) (saw : Looked (IsLawfulRun limits) joined looked) (first : left ≡ (first_part looked.0, looked.1)) (others : right ≡ (other_parts looked.0, [])) where
-    looked_is : looked ≡ (part limits a saw.run Idle ∷ part limits b saw.run Idle ∷ [], [])
+    looked_is : looked ≡ (part limits a saw.run Idle ∷ part limits b saw.run reach ∷ [], [])
     looked_is = saw.saw ∙ ap (λ (m : Mine). (map (refreshed saw.run) m.0, m.1)) both_is
 
     left_is : left ≡ (alone limits a saw.run Idle, [])
     left_is = first ∙ ap (λ (m : Mine). (first_part m.0, m.1)) looked_is
 
-    right_is : right ≡ (alone limits b saw.run Idle, [])
+    right_is : right ≡ (alone limits b saw.run reach, [])
     right_is = others ∙ ap (λ (m : Mine). (other_parts m.0, [])) looked_is
 
     left_saw : seen_of left ≡ saw.run
@@ -63,23 +64,26 @@ module _ (limits : Limits) (a b : ℕ) (one other joined : Mine) (at : SitsAt li
     left_at : SitsAt limits a Idle left
     left_at = subst (λ run. left ≡ (alone limits a run Idle, [])) (sym left_saw) left_is
 
-    right_at : SitsAt limits b Idle right
-    right_at = subst (λ run. right ≡ (alone limits b run Idle, [])) (sym right_saw) right_is
+    right_at : SitsAt limits b reach right
+    right_at = subst (λ run. right ≡ (alone limits b run reach, [])) (sym right_saw) right_is
 
-    both_extend : Each (λ p. Extends p.actor p.seen saw.run) (part limits a (seen_of one) Idle ∷ part limits b (seen_of other) Idle ∷ [])
-    both_extend = subst (λ (m : Mine). Each (λ p. Extends p.actor p.seen saw.run) m.0) both_is saw.extends
+    both_extend : Each (λ p. GoesOn p.reach p.actor p.seen saw.run) (part limits a (seen_of one) Idle ∷ part limits b (seen_of other) reach ∷ [])
+    both_extend = subst (λ (m : Mine). Each (λ p. GoesOn p.reach p.actor p.seen saw.run) m.0) both_is saw.extends
 
     pub left_extends : Extends a (seen_of one) (seen_of left)
     left_extends = subst (Extends a (seen_of one)) (sym left_saw) both_extend.0
 
-    pub right_extends : Extends b (seen_of other) (seen_of right)
-    right_extends = subst (Extends b (seen_of other)) (sym right_saw) both_extend.1.0
+    pub right_extends : reach ≡ Idle → Extends b (seen_of other) (seen_of right)
+    right_extends is = subst (Extends b (seen_of other)) (sym right_saw) (subst (λ r. GoesOn r b (seen_of other) saw.run) is both_extend.1.0)
+
+    pub left_starts : reach ≡ Noted → StartsWith (seen_of left) (seen_of other)
+    left_starts is = subst (λ run. StartsWith run (seen_of other)) (sym left_saw) (subst (λ r. GoesOn r b (seen_of other) saw.run) is both_extend.1.0)
 
     pub left_seat : OwnLasts → (actor : Actor) → IsSeat limits a one actor → IsSeat limits a left actor
     left_seat own actor seat = seat_extends own limits a one left saw.run actor seat saw.legal both_extend.0 left_at left_saw
 
-    pub right_seat : OwnLasts → (actor : Actor) → IsSeat limits b other actor → IsSeat limits b right actor
-    right_seat own actor seat = seat_extends own limits b other right saw.run actor seat saw.legal both_extend.1.0 right_at right_saw
+    pub right_seat : OwnLasts → (actor : Actor) → reach ≡ Idle → IsSeat limits b other actor → IsSeat limits b right actor
+    right_seat own actor is seat = seat_extends own limits b other right saw.run actor seat saw.legal (subst (λ r. GoesOn r b (seen_of other) saw.run) is both_extend.1.0) (subst (λ r. SitsAt limits b r right) is right_at) right_saw
 
     pub saw_one : seen_of right ≡ seen_of left
     saw_one = right_saw ∙ sym left_saw

@@ -1,8 +1,9 @@
 -- The runs of a running tree.
-use Rattle.std.specs.Prelude.{◌≡◌, ◌++◌, List, map}
+use Rattle.std.specs.Prelude.{List, map}
 use Rattle.bw_model.specs.declared.limits.Limits.{Limits}
 use Rattle.chain_search.specs.declared.trace.Entry.{Entry}
 use Rattle.chain_search.specs.Trace.{turn_of}
+pub use Rattle.slot_rule.specs.Running.{StartsWith}
 use Rattle.op_machine.specs.Linearized.{IsLinearized, IsOrderly}
 use Rattle.tree_law.specs.Direct.{IsDirectState}
 use Rattle.tree_law.specs.State.{IsState}
@@ -17,7 +18,3 @@ pub record IsLawfulRun (limits : Limits) (run : List Entry) : Type 0 where
 pub record IsOneHistory (limits : Limits) (run : List Entry) : Type 0 where
   pub linearized : IsLinearized limits (map turn_of run) run
   pub orderly : IsOrderly limits run
-
--- One run begins another.
-abbrev pub StartsWith : List Entry → List Entry → Type 0
-StartsWith later seen = (rest : List Entry) × (later ≡ seen ++ rest)

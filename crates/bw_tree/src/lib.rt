@@ -10,6 +10,7 @@ mod closed;
 mod closing;
 mod examples;
 mod law;
+mod note;
 mod opening;
 mod seat;
 mod taking;
@@ -17,5 +18,6 @@ mod tree;
 
 pub use called::{Called, CloseError, CloseRefusal};
 pub use examples::{entries_tell_calls, last_call_is_answered};
+pub use note::Note;
 pub use seat::BwSeat;
 pub use tree::Tree;

@@ -10,11 +10,12 @@ use Rattle.chain_search.specs.Trace.{memory_of}
 use Rattle.tree_words.specs.Layout.{row_at, epoch_at, announced_at, pid_bits_at, row_bits_at}
 use Rattle.tree_words.specs.Words.{words_in, SpellsWhere}
 use Rattle.slot_rule.specs.declared.view.Reach.{Reach}
-use Rattle.slot_rule.specs.declared.view.Reach.TheVariants.{Idle, Reading, Writing}
+use Rattle.slot_rule.specs.declared.view.Reach.TheVariants.{Idle, Reading, Writing, Noted}
 use Rattle.slot_rule.specs.declared.view.Part.{Part}
 use Rattle.slot_rule.specs.Running.{LeavesRow, KnowsReadable, KnowsPlaceable, ReachFits}
 use Rattle.slot_rule.specs.Steps.{in_row, into_row}
 use Rattle.slot_rule.specs.Views.{Mine, SitsAt}
+use Rattle.slot_rule.proofs.Parts.{Stands}
 use Rattle.slot_rule.proofs.Turns.{same_actor, same_limits}
 
 abbrev reach_in : List Part → Reach
@@ -26,6 +27,7 @@ abbrev pub done_in : Reach → List ℕ
 done_in Idle = []
 done_in (Reading row read) = read
 done_in (Writing row written) = written
+done_in Noted = []
 
 pub done_in_row : (row : ℕ) (read : List ℕ) → done_in (in_row row read) ≡ read
 done_in_row row [] = refl
@@ -34,6 +36,14 @@ done_in_row row (word ∷ words) = refl
 pub done_into_row : (row : ℕ) (written : List ℕ) → done_in (into_row row written) ≡ written
 done_into_row row [] = refl
 done_into_row row (word ∷ words) = refl
+
+pub stands_in_row : (row : ℕ) (words : List ℕ) → Stands (in_row row words)
+stands_in_row row [] = tt
+stands_in_row row (word ∷ words) = tt
+
+pub stands_into_row : (row : ℕ) (words : List ℕ) → Stands (into_row row words)
+stands_into_row row [] = tt
+stands_into_row row (word ∷ words) = tt
 
 -- who reads leaves each row as it is, who writes each other one
 pub leaves_in_row : (other row : ℕ) (read : List ℕ) → LeavesRow other (in_row row read)

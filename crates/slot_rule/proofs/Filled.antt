@@ -16,6 +16,7 @@ use Rattle.bw_model.specs.declared.step.Step.TheVariants.{Place}
 use Rattle.deltas.specs.declared.record.Record.{Record}
 use Rattle.deltas.specs.Memory.{Memory, replaced_at}
 use Rattle.chain_search.specs.declared.trace.Entry.{Entry}
+use Rattle.chain_search.specs.Disciplined.{Extends}
 use Rattle.chain_search.specs.Knowledge.{knows}
 use Rattle.chain_search.specs.Trace.{memory_of}
 use Rattle.record_slots.specs.Spelling.{words_of}
@@ -26,10 +27,10 @@ use Rattle.slot_rule.specs.declared.view.Part.{Part}
 use Rattle.slot_rule.specs.Running.{IsSettled, KnowsReadable, KnowsPlaceable, KeepsRowsApart, HasSpelling, ReachFits, PartFits}
 use Rattle.slot_rule.specs.Steps.{IsLawfulStep, Took, Fills, Places, into_row, tail_from}
 use Rattle.slot_rule.specs.Views.{part, alone, Mine, seen_of, SitsAt}
-use Rattle.slot_rule.proofs.Parts.{replaced_same, replaced_other, settled_back, knows_extends}
+use Rattle.slot_rule.proofs.Parts.{goes_extends, replaced_same, replaced_other, settled_back, knows_extends, starts_self}
 use Rattle.slot_rule.proofs.Roster.{set_at}
 use Rattle.slot_rule.proofs.Turns.{TableState, Rule, turn, event_telling, same_actor, same_limits}
-use Rattle.slot_rule.proofs.ByWord.{done_into_row, leaves_into_row, left_by_writer, write_fits, fits_write, at_each, spells_row}
+use Rattle.slot_rule.proofs.ByWord.{done_into_row, leaves_into_row, left_by_writer, write_fits, fits_write, at_each, spells_row, stands_into_row}
 
 module _ (limits : Limits) (law : Limits → List Entry → Type 0) (apart : KeepsRowsApart limits (law limits)) where
   -- The row into which one seat writes is no other seat's.
@@ -42,8 +43,11 @@ module _ (limits : Limits) (law : Limits → List Entry → Type 0) (apart : Kee
       fit : PartFits limits s.words h.run (part limits actor (seen_of me) (into_row row written))
       fit = (h.each id (alone limits actor (seen_of me) (into_row row written)) there).0
 
+      extends_now : Extends actor (seen_of me) h.run
+      extends_now = goes_extends (into_row row written) actor (seen_of me) h.run (stands_into_row row written) fit.extends
+
       may_now : KnowsPlaceable (knows h.run actor) row
-      may_now = subst (λ k. KnowsPlaceable k row) (sym (knows_extends actor (seen_of me) h.run fit.extends)) owned
+      may_now = subst (λ k. KnowsPlaceable k row) (sym (knows_extends actor (seen_of me) h.run extends_now)) owned
 
       -- a row of which the seat has written no word
       other_row : (i k x other j : ℕ) (view : List Part) → i ≡ row_at row k → k < 256 → other < limits.rows → j < 256 → row ≢ other → IsSettled (set s.views id view) other
@@ -76,14 +80,15 @@ module _ (limits : Limits) (law : Limits → List Entry → Type 0) (apart : Kee
           view,
           keeps,
           tt,
-          turn limits law s h id actor (seen_of me) (into_row row written) there me.1 at x h.run (seen_of me) (into_row row (written ++ x ∷ [])) h.legal
+          turn limits law s h id actor (seen_of me) (into_row row written) (stands_into_row row written) there me.1 at x h.run (seen_of me) (into_row row (written ++ x ∷ [])) (stands_into_row row (written ++ x ∷ [])) h.legal
               record {
+                grows = starts_self h.run;
                 extends = λ other seen ne t. t;
                 same = λ other ne. refl;
                 reads = λ other row' ne may. refl;
                 writes = λ other row' ne may _ j small. others_row s h there (length written + 1) x other row' j (omega arith) ne may small;
               }
-              now_fits.extends h.kept
+              (extends_now s h there) h.kept
               (write_fits limits (set s.words at x) h.run actor row (written ++ x ∷ []) now within (omega arith) (stand_with s.words x (omega arith) (fits_write limits s.words h.run actor row written now_fits.reach)))
               (spells_row limits s.words (memory_of limits h.run) (memory_of limits h.run) (IsSettled s.views) (IsSettled (set s.views id view)) h.spells row (length written + 1) x (omega arith) refl
               (λ other j below small st. other_row s h there at (length written + 1) x other j view refl (omega arith) below small (left_by_writer other row written x (st id view stands).0) st)),
@@ -100,7 +105,7 @@ module _ (limits : Limits) (law : Limits → List Entry → Type 0) (apart : Kee
 
     pub places : (header : ℕ) (content : Record) → length written ≡ 255 → HasSpelling content → words_of content ≡ header ∷ written → IsLawfulStep law limits actor (seen_of me) None (Place row content) None
         → Allows (Rule limits law) slots id me (row_at row 0) (λ _. header) (λ _. Places law (Place row content) me header)
-    places header content last spellable spelt may = event_telling limits law slots id actor me (into_row row written) (row_at row 0) (λ _. header) None (Place row content) None (λ _. Places law (Place row content) me header) is may
+    places header content last spellable spelt may = event_telling limits law slots id actor me (into_row row written) (row_at row 0) (λ _. header) None (Place row content) None (λ _. Places law (Place row content) me header) (stands_into_row row written) is may
         (λ s h there.
         let at : ℕ = row_at row 0 in
         let memory : Memory = memory_of limits h.run in

@@ -10,6 +10,7 @@ use Rattle.bw_model.specs.declared.step.Answer.TheVariants.{Content}
 use Rattle.bw_model.specs.declared.step.Step.TheVariants.{Row}
 use Rattle.deltas.specs.declared.record.Record.{Record}
 use Rattle.chain_search.specs.declared.trace.Entry.{Entry}
+use Rattle.chain_search.specs.Disciplined.{Extends}
 use Rattle.chain_search.specs.Knowledge.{knows}
 use Rattle.chain_search.specs.Trace.{memory_of}
 use Rattle.record_slots.specs.Spelling.{words_of}
@@ -17,14 +18,14 @@ use Rattle.record_slots.specs.Spells.{IsSpelling}
 use Rattle.tree_words.specs.Layout.{row_at}
 use Rattle.tree_words.specs.Words.{words_in, SpellsWhere}
 use Rattle.slot_rule.specs.declared.view.Reach.{Reach}
-use Rattle.slot_rule.specs.declared.view.Reach.TheVariants.{Idle, Reading, Writing}
+use Rattle.slot_rule.specs.declared.view.Reach.TheVariants.{Idle, Reading, Writing, Noted}
 use Rattle.slot_rule.specs.declared.view.Part.{Part}
 use Rattle.slot_rule.specs.Running.{Each, LeavesRow, IsSettled, KnowsReadable, KnowsPlaceable, KeepsRowsApart, HasSpelling, ReachFits, PartFits}
 use Rattle.slot_rule.specs.Steps.{IsLawfulStep, ReadsRow, Gathers, GathersLast, in_row}
 use Rattle.slot_rule.specs.Views.{part, alone, Mine, seen_of, SitsAt}
-use Rattle.slot_rule.proofs.Parts.{settled_back, knows_extends, spells_views}
+use Rattle.slot_rule.proofs.Parts.{goes_extends, settled_back, knows_extends, spells_views, starts_self}
 use Rattle.slot_rule.proofs.Turns.{TableState, Rule, Spares, turn, event_telling}
-use Rattle.slot_rule.proofs.ByWord.{done_in_row, leaves_in_row, one_more, whole, read_fits, fits_read, at_each}
+use Rattle.slot_rule.proofs.ByWord.{done_in_row, leaves_in_row, one_more, whole, read_fits, fits_read, at_each, stands_in_row}
 
 -- A row of words has 256.
 abbrev pub AreRows : Type 0
@@ -38,6 +39,7 @@ module _ (limits : Limits) (law : Limits → List Entry → Type 0) (apart : Kee
       go : (reach : Reach) → ReachFits limits words run other.actor reach → LeavesRow row reach
       go Idle fits = tt
       go (Reading at read) fits = tt
+      go Noted fits = tt
       go (Writing at written) fits = λ e. absurd (apart.unread other.actor actor row run legal (subst (λ (z : ℕ). KnowsPlaceable (knows run other.actor) z) e fits.0) may)
 
   each_leaves : (words : List ℕ) (run : List Entry) (actor row : ℕ) (view : List Part) → law limits run → KnowsReadable (knows run actor) row → Each (PartFits limits words run) view → Each (λ p. LeavesRow row p.reach) view
@@ -58,6 +60,7 @@ module _ (limits : Limits) (law : Limits → List Entry → Type 0) (apart : Kee
 
   spares_quiet : (actor i : ℕ) (words : List ℕ) (run : List Entry) → Spares limits law actor words (set words i (get_or words i 0)) run run
   spares_quiet actor i words run = record {
+    grows = starts_self run;
     extends = λ other seen ne x. x;
     same = λ other ne. refl;
     reads = λ other row ne may. refl;
@@ -73,8 +76,11 @@ module _ (limits : Limits) (law : Limits → List Entry → Type 0) (apart : Kee
       fit : PartFits limits s.words h.run (part limits actor (seen_of me) (in_row row read))
       fit = (h.each id (alone limits actor (seen_of me) (in_row row read)) there).0
 
+      extends_now : Extends actor (seen_of me) h.run
+      extends_now = goes_extends (in_row row read) actor (seen_of me) h.run (stands_in_row row read) fit.extends
+
       may_now : KnowsReadable (knows h.run actor) row
-      may_now = subst (λ k. KnowsReadable k row) (sym (knows_extends actor (seen_of me) h.run fit.extends)) known
+      may_now = subst (λ k. KnowsReadable k row) (sym (knows_extends actor (seen_of me) h.run extends_now)) known
 
       -- the words are the same, and fewer rows may be settled
       spells_still : (view : List Part) → SpellsWhere limits (set s.words at (get_or s.words at 0)) (memory_of limits h.run) (IsSettled (set s.views id view))
@@ -95,14 +101,14 @@ module _ (limits : Limits) (law : Limits → List Entry → Type 0) (apart : Kee
           view,
           keeps,
           tt,
-          turn limits law s h id actor (seen_of me) (in_row row read) there me.1 at n h.run (seen_of me) (in_row row (read ++ n ∷ [])) h.legal (spares_quiet actor at s.words h.run) now_fits.extends h.kept
+          turn limits law s h id actor (seen_of me) (in_row row read) (stands_in_row row read) there me.1 at n h.run (seen_of me) (in_row row (read ++ n ∷ [])) (stands_in_row row (read ++ n ∷ [])) h.legal (spares_quiet actor at s.words h.run) (extends_now s h there) h.kept
               (read_fits limits (set s.words at n) h.run actor row (read ++ n ∷ []) now next) (spells_still s h there view),
           λ limits' actor' row' read' is' word.
               (at_each limits (λ l b q us. SitsAt l b (in_row q (us ++ n ∷ [])) (view, me.1)) actor row read in_row done_in_row me is (ap (λ (c : List (ℕ × Unit {0})). (view, c)) (ap (λ (z : Mine). z.1) is)) 0 limits' actor' row' read' is' (omega arith), refl),
         )
 
     pub finishes : length read ≡ 255 → IsLawfulStep law limits actor (seen_of me) None (Row row) None → Allows (Rule limits law) slots id me at (λ n. n) (GathersLast law (step slots at 0 0 none) me)
-    finishes last may = event_telling limits law slots id actor me (in_row row read) at (λ n. n) None (Row row) None (GathersLast law (step slots at 0 0 none) me) is may
+    finishes last may = event_telling limits law slots id actor me (in_row row read) at (λ n. n) None (Row row) None (GathersLast law (step slots at 0 0 none) me) (stands_in_row row read) is may
         (λ s h there.
         let n : ℕ = get_or s.words at 0 in
         let now = may_now s h there in

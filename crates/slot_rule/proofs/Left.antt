@@ -9,11 +9,12 @@ use Rattle.chain_search.specs.declared.trace.Entry.{Entry}
 use Rattle.chain_search.specs.Disciplined.{Extends}
 use Rattle.chain_search.specs.Trace.{memory_of}
 use Rattle.tree_words.specs.Words.{AreWordsOf}
-use Rattle.slot_rule.specs.declared.view.Reach.TheVariants.{Idle}
+use Rattle.slot_rule.specs.declared.view.Reach.TheVariants.{Idle, Reading, Writing, Noted}
+use Rattle.slot_rule.specs.declared.view.Reach.{Reach}
 use Rattle.slot_rule.specs.declared.view.Part.{Part}
-use Rattle.slot_rule.specs.Running.{Each, LeavesRow, IsSettled, times, PartFits, Running}
+use Rattle.slot_rule.specs.Running.{Each, GoesOn, LeavesRow, IsSettled, is_at, times, PartFits, Running}
 use Rattle.slot_rule.specs.Closing.{LeavesWords}
-use Rattle.slot_rule.proofs.Parts.{mark, each_map, elsewhere, everywhere_one, spells_views}
+use Rattle.slot_rule.proofs.Parts.{IsApart, apart_ne, mark, each_map, each_zip, elsewhere, everywhere_one, spells_views}
 use Rattle.slot_rule.proofs.Roster.{same_view}
 use Rattle.slot_rule.proofs.Turns.{TableState}
 
@@ -55,41 +56,52 @@ all_ones (suc n) f once all k below =
     (λ ne. all_ones n f once (omega arith) k (omega arith))
 
 module _ (limits : Limits) (law : List Entry → Type 0) where
-  -- Each part is one actor's.
-  all_times : (words : List ℕ) (run : List Entry) (parts : List Part) → Each (PartFits limits words run) parts → total limits.actors (λ actor. times actor parts) ≡ length parts
-  all_times words run [] fits = total_zero limits.actors
-  all_times words run (part ∷ parts) fits =
-      let rest = all_times words run parts fits.1 in
-      let here = marked_once limits.actors part.actor fits.0.there in
-      let sum = total_plus limits.actors (λ actor. mark (eqb part.actor actor)) (λ actor. times actor parts) in omega arith
+  abbrev AreIdle : List Part → Type 0
+  AreIdle parts = Each (λ part. part.reach ≡ Idle) parts
 
-  all_stand : (s : TableState) (h : Running limits law s) (id : ℕ) (parts : List Part) → get_elem? s.views id ≡ some parts → limits.actors ≤ length parts → (actor : ℕ) → actor < limits.actors → 1 ≤ times actor parts
-  all_stand s h id parts at many = all_ones limits.actors (λ actor. times actor parts)
+  -- Each part is one actor's.
+  all_times : (words : List ℕ) (run : List Entry) (parts : List Part) → Each (PartFits limits words run) parts → AreIdle parts → total limits.actors (λ actor. times actor parts) ≡ length parts
+  all_times words run [] fits idle = total_zero limits.actors
+  all_times words run (part ∷ parts) fits idle =
+      let rest = all_times words run parts fits.1 idle.1 in
+      let here : total limits.actors (λ actor. mark (is_at actor part.actor part.reach)) ≡ 1
+      = subst (λ reach. total limits.actors (λ actor. mark (is_at actor part.actor reach)) ≡ 1) (sym idle.0) (marked_once limits.actors part.actor fits.0.there) in
+      let sum = total_plus limits.actors (λ actor. mark (is_at actor part.actor part.reach)) (λ actor. times actor parts) in omega arith
+
+  all_stand : (s : TableState) (h : Running limits law s) (id : ℕ) (parts : List Part) → get_elem? s.views id ≡ some parts → limits.actors ≤ length parts → AreIdle parts → (actor : ℕ) → actor < limits.actors → 1 ≤ times actor parts
+  all_stand s h id parts at many idle = all_ones limits.actors (λ actor. times actor parts)
       (λ actor. let one = everywhere_one s.views id parts actor at in let o = h.once actor in omega arith)
-      (let sum = all_times s.words h.run parts (h.each id parts at) in omega arith)
+      (let sum = all_times s.words h.run parts (h.each id parts at) idle in omega arith)
 
   leaves_idle : (row : ℕ) (part : Part) → part.reach ≡ Idle → LeavesRow row part.reach
   leaves_idle row part e = subst (λ reach. LeavesRow row reach) (sym e) tt
 
-  -- Where all actors stand in one seat, no part is in another.
-  empty_leaves : (s : TableState) (h : Running limits law s) (id j : ℕ) (parts others : List Part) (row : ℕ) → get_elem? s.views id ≡ some parts → get_elem? s.views j ≡ some others → j ≢ id
-      → Each (PartFits limits s.words h.run) others → ((actor : ℕ) → actor < limits.actors → 1 ≤ times actor parts) → Each (λ part. LeavesRow row part.reach) others
-  empty_leaves s h id j parts [] row at there ne fits all = tt
-  empty_leaves s h id j parts (part ∷ others) row at there ne fits all =
-      absurd ((elsewhere s.views id j parts (part ∷ others) part.actor h.once at (all part.actor fits.0.there) there ne).0 refl)
+  -- a part that is no seat of its own actor's is a note
+  apart_leaves : (row actor : ℕ) (reach : Reach) → IsApart actor actor reach → LeavesRow row reach
+  apart_leaves row actor Idle apart = tt
+  apart_leaves row actor (Reading at words) apart = tt
+  apart_leaves row actor (Writing at words) apart = absurd (apart_ne actor actor apart refl)
+  apart_leaves row actor Noted apart = tt
+
+  -- Where all actors stand in another seat, these are notes.
+  notes_leave : (words : List ℕ) (run : List Entry) (row : ℕ) (others : List Part) → Each (PartFits limits words run) others → ((actor : ℕ) → actor < limits.actors → Each (λ part. IsApart actor part.actor part.reach) others)
+      → Each (λ part. LeavesRow row part.reach) others
+  notes_leave words run row [] fits apart = tt
+  notes_leave words run row (part ∷ others) fits apart = (apart_leaves row part.actor part.reach (apart part.actor fits.0.there).0, notes_leave words run row others fits.1 (λ actor below. (apart actor below).1))
 
   pub closes : LeavesWords limits law
   closes id parts words homes stand f =
       let s = f.0 in
       let h : Running limits law s = f.1.0 in
       let at : get_elem? s.views id ≡ some parts = f.1.1 in
-      let all : (actor : ℕ) → actor < limits.actors → 1 ≤ times actor parts = all_stand s h id parts at stand.all in
+      let all : (actor : ℕ) → actor < limits.actors → 1 ≤ times actor parts = all_stand s h id parts at stand.all stand.idle in
       let settled : (row : ℕ) → IsSettled s.views row = λ row j view there. dite (ℕ_discrete j id)
       (λ e. subst (λ z. Each (λ part. LeavesRow row part.reach) z) (same_view s.views id j parts view at there e) (each_map (λ part. part.reach ≡ Idle) (λ part. LeavesRow row part.reach) (leaves_idle row) parts stand.idle))
-      (λ ne. empty_leaves s h id j parts view row at there ne (h.each j view there) all) in record {
+      (λ ne. notes_leave s.words h.run row view (h.each j view there) (λ actor below. elsewhere s.views id j parts view actor h.once at (all actor below) there ne)) in record {
         run = h.run;
         legal = h.legal;
-        extends = each_map (PartFits limits s.words h.run) (λ part. Extends part.actor part.seen h.run) (λ part fit. fit.extends) parts (h.each id parts at);
+        extends = each_zip (PartFits limits s.words h.run) (λ part. part.reach ≡ Idle) (λ part. Extends part.actor part.seen h.run)
+            (λ part fit idle. subst (λ reach. GoesOn reach part.actor part.seen h.run) idle fit.extends) parts (h.each id parts at) stand.idle;
         kept = h.kept;
         are = subst (AreWordsOf limits (memory_of limits h.run)) f.2
             record { wide = h.wide; spells = spells_views limits s.words (memory_of limits h.run) (IsSettled s.views) (λ _. Unit {0}) (λ row _. settled row) h.spells };

@@ -1,7 +1,7 @@
 -- Lists of parts, and runs that go on.
 use Rattle.std.proofs.Common.{◌≡◌, ◌≢◌, ℕ, zero, suc, ◌+◌, ◌≤◌, eqb, Bool, true, false, List, [], ◌∷◌, ◌++◌, set, sym, refl, ap, ◌∙◌, subst, arith, append_assoc, append-nil, eq-eqb, ne_eqb}
 use Rattle.std.proofs.lemmas.Bool.Decides.{nat_tests}
-use Rattle.std.specs.Prelude.{if◌then◌else◌, None, Some, Option}
+use Rattle.std.specs.Prelude.{if◌then◌else◌, None, Some, Option, ⊤}
 use Rattle.std.specs.List.{fold}
 use Rattle.std.proofs.lemmas.List.Sums.{fold-append}
 use mathlib.Core.Option.{some, some-injective, some-ne-none}
@@ -24,8 +24,9 @@ use Rattle.chain_search.specs.Steps.{memory_after}
 use Rattle.chain_search.specs.Trace.{memory_of, memory_after_entry}
 use Rattle.tree_words.specs.Words.{SpellsWhere}
 use Rattle.slot_rule.specs.declared.view.Reach.{Reach}
+use Rattle.slot_rule.specs.declared.view.Reach.TheVariants.{Idle, Reading, Writing, Noted}
 use Rattle.slot_rule.specs.declared.view.Part.{Part}
-use Rattle.slot_rule.specs.Running.{Each, LeavesRow, IsSettled, times, everywhere}
+use Rattle.slot_rule.specs.Running.{Each, GoesOn, LeavesRow, IsSettled, StartsWith, is_at, times, everywhere}
 use Rattle.slot_rule.specs.Steps.{opened, with_step}
 use Rattle.slot_rule.specs.Views.{alone}
 
@@ -113,6 +114,31 @@ own_extends actor seen run x = ap (own_entries actor) x.1 ∙ own_on actor seen 
 pub knows_extends : (actor : ℕ) (seen run : List Entry) → Extends actor seen run → knows run actor ≡ knows seen actor
 knows_extends actor seen run x = knows_own run seen actor (own_extends actor seen run x)
 
+pub starts_self : (run : List Entry) → StartsWith run run
+starts_self run = ([], sym (append-nil run))
+
+pub starts_on : (seen run later : List Entry) → StartsWith run seen → StartsWith later run → StartsWith later seen
+starts_on seen run later a b = (a.0 ++ b.0, b.1 ∙ ap (λ (es : List Entry). es ++ b.0) a.1 ∙ append_assoc seen a.0 b.0)
+
+-- Steps are taken where a seat stands, and not where a note is.
+abbrev pub Stands : Reach → Type 0
+Stands Idle = ⊤
+Stands (Reading row words) = ⊤
+Stands (Writing row words) = ⊤
+Stands Noted = ⊥
+
+pub goes_extends : (reach : Reach) (actor : ℕ) (seen run : List Entry) → Stands reach → GoesOn reach actor seen run → Extends actor seen run
+goes_extends Idle actor seen run stands goes = goes
+goes_extends (Reading row words) actor seen run stands goes = goes
+goes_extends (Writing row words) actor seen run stands goes = goes
+goes_extends Noted actor seen run stands goes = absurd stands
+
+pub extends_goes : (reach : Reach) (actor : ℕ) (seen run : List Entry) → Extends actor seen run → GoesOn reach actor seen run
+extends_goes Idle actor seen run extends = extends
+extends_goes (Reading row words) actor seen run extends = extends
+extends_goes (Writing row words) actor seen run extends = extends
+extends_goes Noted actor seen run extends = (extends.0, extends.1)
+
 -- the begin, if there is one, and the step, which are of the actor alone
 abbrev pub events : ℕ → Option Command → StepOf Record → Answer Record → Option Reply → List Entry
 events actor begun step answer reply = opened actor begun ++ Step actor step answer reply ∷ []
@@ -153,16 +179,33 @@ settled_back views id limits a seen h w r at leaves settled j v here = dite (ℕ
 abbrev pub mark : Bool → ℕ
 mark b = if b then 1 else 0
 
-pub times_none : (a : ℕ) (v : List Part) → times a v ≡ 0 → Each (λ p. p.actor ≢ a) v
+-- The part is no seat of the actor's.
+abbrev pub IsApart : ℕ → ℕ → Reach → Type 0
+IsApart a actor reach = mark (is_at a actor reach) ≡ 0
+
+pub apart_ne : (a actor : ℕ) → mark (eqb actor a) ≡ 0 → actor ≢ a
+apart_ne a actor none e = let one : mark (eqb actor a) ≡ 1 = ap mark (eq-eqb actor a e) in absurd (omega arith)
+
+pub times_none : (a : ℕ) (v : List Part) → times a v ≡ 0 → Each (λ p. IsApart a p.actor p.reach) v
 times_none a [] e = tt
-times_none a (p ∷ ps) e = ((λ q. let one : mark (eqb p.actor a) ≡ 1 = ap mark (eq-eqb p.actor a q) in absurd (omega arith)), times_none a ps (omega arith))
+times_none a (p ∷ ps) e = (omega arith, times_none a ps (omega arith))
 
 pub times_append : (a : ℕ) (v w : List Part) → times a (v ++ w) ≡ times a v + times a w
 times_append a [] w = omega arith
 times_append a (p ∷ ps) w = let r = times_append a ps w in omega arith
 
-pub times_alone : (limits : Limits) (a : ℕ) (seen : List Entry) (h : Reach) → times a (alone limits a seen h) ≡ 1
-times_alone limits a seen h = let one : mark (eqb a a) ≡ 1 = ap mark (eq-eqb a a refl) in omega arith
+-- where a seat stands doesn't matter
+at_stands : (a actor : ℕ) (h : Reach) → Stands h → is_at a actor h ≡ eqb actor a
+at_stands a actor Idle stands = refl
+at_stands a actor (Reading row words) stands = refl
+at_stands a actor (Writing row words) stands = refl
+at_stands a actor Noted stands = absurd stands
+
+pub times_of_one : (limits : Limits) (a actor : ℕ) (seen : List Entry) (h : Reach) → Stands h → times a (alone limits actor seen h) ≡ mark (eqb actor a)
+times_of_one limits a actor seen h stands = let is : mark (is_at a actor h) ≡ mark (eqb actor a) = ap mark (at_stands a actor h stands) in omega arith
+
+pub times_alone : (limits : Limits) (a : ℕ) (seen : List Entry) (h : Reach) → Stands h → times a (alone limits a seen h) ≡ 1
+times_alone limits a seen h stands = times_of_one limits a a seen h stands ∙ ap mark (eq-eqb a a refl)
 
 pub everywhere_set : (views : List (List Part)) (id : ℕ) (v w : List Part) (a : ℕ) → get_elem? views id ≡ some v → everywhere a (set views id w) + times a v ≡ everywhere a views + times a w
 everywhere_set [] id v w a at = absurd (some-ne-none v (sym at))
@@ -179,7 +222,7 @@ everywhere_one (x ∷ xs) zero v a at = let is : times a x ≡ times a v = ap (t
 everywhere_one (x ∷ xs) (suc id) v a at = let r = everywhere_one xs id v a at in omega arith
 
 -- the actor of one seat stands in no other
-pub elsewhere : (views : List (List Part)) (id j : ℕ) (v w : List Part) (a : ℕ) → ((b : ℕ) → everywhere b views ≤ 1) → get_elem? views id ≡ some v → 1 ≤ times a v → get_elem? views j ≡ some w → j ≢ id → Each (λ p. p.actor ≢ a) w
+pub elsewhere : (views : List (List Part)) (id j : ℕ) (v w : List Part) (a : ℕ) → ((b : ℕ) → everywhere b views ≤ 1) → get_elem? views id ≡ some v → 1 ≤ times a v → get_elem? views j ≡ some w → j ≢ id → Each (λ p. IsApart a p.actor p.reach) w
 elsewhere views id j v w a once at has there ne = times_none a w
     (let t = everywhere_set views id v [] a at in let u = everywhere_one (set views id []) j w a (set_else views id j [] ne ∙ there) in let o = once a in omega arith)
 

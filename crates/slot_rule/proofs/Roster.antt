@@ -10,14 +10,15 @@ use Rattle.atomic_table.proofs.Lists.{at_set, set_else, at_snoc, at_longer, at_l
 use Rattle.bw_model.specs.declared.limits.Limits.{Limits}
 use Rattle.deltas.specs.Memory.{Memory}
 use Rattle.chain_search.specs.declared.trace.Entry.{Entry}
-use Rattle.chain_search.specs.Disciplined.{Extends}
 use Rattle.chain_search.specs.Trace.{memory_of}
 use Rattle.tree_words.specs.Words.{SpellsWhere}
+use Rattle.slot_rule.specs.declared.view.Reach.{Reach}
+use Rattle.slot_rule.specs.declared.view.Reach.TheVariants.{Idle, Reading, Writing, Noted}
 use Rattle.slot_rule.specs.declared.view.Part.{Part}
-use Rattle.slot_rule.specs.Running.{Each, LeavesRow, IsSettled, times, PartFits, Running}
-use Rattle.slot_rule.specs.Views.{Mine, Looked, Looks, refreshed, IsBlank, first_part, other_parts}
+use Rattle.slot_rule.specs.Running.{Each, GoesOn, LeavesRow, IsSettled, StartsWith, is_at, times, PartFits, Running}
+use Rattle.slot_rule.specs.Views.{Mine, Looked, Looks, refreshed, IsBlank, first_part, noted, other_parts}
 use Rattle.slot_rule.proofs.Turns.{TableState}
-use Rattle.slot_rule.proofs.Parts.{mark, each_map, each_append, extends_self, everywhere_set, everywhere_snoc, times_append, spells_views}
+use Rattle.slot_rule.proofs.Parts.{mark, each_map, each_append, extends_goes, extends_self, everywhere_set, everywhere_snoc, times_append, spells_views}
 
 pub set_at : {A : Type 0} (l : List A) (i : ℕ) (v w : A) → get_elem? l i ≡ some v → get_elem? (set l i w) i ≡ some w
 set_at [] i v w e = absurd (some-ne-none v (sym e))
@@ -34,7 +35,7 @@ each_right P (x ∷ xs) ys t = each_right P xs ys t.1
 
 times_refreshed : (a : ℕ) (run : List Entry) (v : List Part) → times a (map (refreshed run) v) ≡ times a v
 times_refreshed a run [] = refl
-times_refreshed a run (p ∷ ps) = ap (λ (n : ℕ). mark (eqb p.actor a) + n) (times_refreshed a run ps)
+times_refreshed a run (p ∷ ps) = ap (λ (n : ℕ). mark (is_at a p.actor p.reach) + n) (times_refreshed a run ps)
 
 leaves_refreshed : (r : ℕ) (run : List Entry) (v : List Part) → Each (λ p. LeavesRow r p.reach) (map (refreshed run) v) → Each (λ p. LeavesRow r p.reach) v
 leaves_refreshed r run [] t = tt
@@ -60,7 +61,7 @@ module _ (limits : Limits) (law : List Entry → Type 0) where
 
   fits_refreshed : (words : List ℕ) (run : List Entry) (v : List Part) → Each (Fits words run) v → Each (Fits words run) (map (refreshed run) v)
   fits_refreshed words run [] t = tt
-  fits_refreshed words run (p ∷ ps) t = (record { extends = extends_self p.actor run; reach = t.0.reach; there = t.0.there; own_limits = t.0.own_limits }, fits_refreshed words run ps t.1)
+  fits_refreshed words run (p ∷ ps) t = (record { extends = extends_goes p.reach p.actor run run (extends_self p.actor run); reach = t.0.reach; there = t.0.there; own_limits = t.0.own_limits }, fits_refreshed words run ps t.1)
 
   looked : (s : TableState) (h : R s) (id : ℕ) (v : List Part) → get_elem? s.views id ≡ some v → R record { words = s.words; homes = s.homes; views = set s.views id (map (refreshed h.run) v) }
   looked s h id v at = let w : List Part = map (refreshed h.run) v in record {
@@ -85,7 +86,7 @@ module _ (limits : Limits) (law : List Entry → Type 0) where
     keeps,
     tt,
     subst (λ (ws : List ℕ). R record { words = ws; homes = s.homes; views = set s.views id (map (refreshed h.run) me.0) }) (sym (set-get_or s.words i 0)) (looked s h id me.0 at),
-    record { run = h.run; legal = h.legal; saw = refl; extends = each_map (Fits s.words h.run) (λ p. Extends p.actor p.seen h.run) (λ p f. f.extends) me.0 (h.each id me.0 at) },
+    record { run = h.run; legal = h.legal; saw = refl; extends = each_map (Fits s.words h.run) (λ p. GoesOn p.reach p.actor p.seen h.run) (λ p f. f.extends) me.0 (h.each id me.0 at) },
   )
 
   pub joins : (id other : ℕ) (v w : List Part) → Joins R id v other w (v ++ w) []
@@ -139,6 +140,43 @@ module _ (limits : Limits) (law : List Entry → Type 0) where
             (at_set s.views id j left u t))
             (λ e. subst (λ z. Each (Fits s.words h.run) z) e (each_right (Fits s.words h.run) left right fit))
             (at_snoc first right u j is);
+      }
+
+  note_times : (a : ℕ) (v : List Part) → times a (noted v) ≡ 0
+  note_times a [] = refl
+  note_times a (p ∷ ps) = refl
+
+  note_goes : (p : Part) (reach : Reach) (run : List Entry) → GoesOn reach p.actor p.seen run → StartsWith run p.seen
+  note_goes p Idle run goes = (goes.0, goes.1)
+  note_goes p (Reading row words) run goes = (goes.0, goes.1)
+  note_goes p (Writing row words) run goes = (goes.0, goes.1)
+  note_goes p Noted run goes = goes
+
+  note_fits : (words : List ℕ) (run : List Entry) (v : List Part) → Each (Fits words run) v → Each (Fits words run) (noted v)
+  note_fits words run [] t = tt
+  note_fits words run (p ∷ ps) t = (record { extends = note_goes p p.reach run t.0.extends; reach = tt; there = t.0.there; own_limits = t.0.own_limits }, tt)
+
+  pub notes : (id : ℕ) (v : List Part) → Splits R id v v (noted v)
+  notes id v s h at =
+      let first : List (List Part) = set s.views id v in
+      let last : List (List Part) = first ++ noted v ∷ [] in
+      let here : get_elem? last id ≡ some v = at_longer first (noted v ∷ []) id v (set_at s.views id v v at) in record {
+        run = h.run;
+        legal = h.legal;
+        kept = h.kept;
+        wide = h.wide;
+        spells = with_views limits s.words s.views last (memory_of limits h.run)
+            (λ r st j u is. dite (ℕ_discrete j id)
+            (λ e. subst (λ z. Each (λ p. LeavesRow r p.reach) z) (same_view s.views id j v u at is e) (st id v here))
+            (λ ne. st j u (at_longer first (noted v ∷ []) j u (set_else s.views id j v ne ∙ is)))) h.spells;
+        once = λ a. let t = everywhere_set s.views id v v a at in let u = everywhere_snoc first (noted v) a in let o = h.once a in let none = note_times a v in omega arith;
+        each = λ j u is. ⊎_elim
+            (λ t. ⊎_elim
+            (λ y. subst (λ z. Each (Fits s.words h.run) z) y.1 (h.each id v at))
+            (λ y. h.each j u y.1)
+            (at_set s.views id j v u t))
+            (λ e. subst (λ z. Each (Fits s.words h.run) z) e (note_fits s.words h.run v (h.each id v at)))
+            (at_snoc first (noted v) u j is);
       }
 
 module _ (limits : Limits) (law : List Entry → Type 0) where

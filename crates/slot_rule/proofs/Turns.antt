@@ -19,12 +19,12 @@ use Rattle.chain_search.specs.Trace.{memory_of}
 use Rattle.tree_words.specs.Layout.{row_at}
 use Rattle.tree_words.specs.Words.{words_in, SpellsWhere}
 use Rattle.slot_rule.specs.declared.view.Reach.{Reach}
-use Rattle.slot_rule.specs.declared.view.Reach.TheVariants.{Idle, Reading, Writing}
+use Rattle.slot_rule.specs.declared.view.Reach.TheVariants.{Idle, Reading, Writing, Noted}
 use Rattle.slot_rule.specs.declared.view.Part.{Part}
-use Rattle.slot_rule.specs.Running.{Each, KnowsReadable, KnowsPlaceable, IsSettled, IsSpelledRow, ReachFits, PartFits, Running}
+use Rattle.slot_rule.specs.Running.{Each, GoesOn, StartsWith, KnowsReadable, KnowsPlaceable, IsSettled, IsSpelledRow, ReachFits, PartFits, Running}
 use Rattle.slot_rule.specs.Views.{Mine, part, alone, seen_of, SitsAt}
 use Rattle.slot_rule.specs.Steps.{with_step, IsLawfulStep, Took, Event}
-use Rattle.slot_rule.proofs.Parts.{each_zip, extends_self, extends_on, knows_on, events, others_events, with_events, memory_stepped, times_alone, everywhere_set, elsewhere}
+use Rattle.slot_rule.proofs.Parts.{IsApart, Stands, apart_ne, each_zip, extends_goes, extends_self, extends_on, goes_extends, knows_on, events, others_events, with_events, memory_stepped, starts_on, times_alone, times_of_one, everywhere_set, elsewhere}
 
 abbrev pub TableState : Type 0
 TableState = State (Unit {0}) (List Part)
@@ -50,42 +50,50 @@ module _ (limits : Limits) (law : Limits → List Entry → Type 0) where
 
   -- what a step of the actor leaves to each other actor
   pub record Spares (actor : ℕ) (words words' : List ℕ) (run run' : List Entry) : Type 0 where
+    pub grows : StartsWith run' run
     pub extends : (other : ℕ) (seen : List Entry) → other ≢ actor → Extends other seen run → Extends other seen run'
     pub same : (other : ℕ) → other ≢ actor → knows run' other ≡ knows run other
     pub reads : (other row : ℕ) → other ≢ actor → KnowsReadable (knows run other) row → (memory_of limits run').rows row ≡ (memory_of limits run).rows row
     pub writes : (other row : ℕ) → other ≢ actor → KnowsPlaceable (knows run other) row → row < limits.rows → (j : ℕ) → j < 255 → get_or words' (row_at row (j + 1)) 0 ≡ get_or words (row_at row (j + 1)) 0
 
-  reach_spared : (actor other : ℕ) (words words' : List ℕ) (run run' : List Entry) (reach : Reach) → other ≢ actor → Spares actor words words' run run' → ReachFits limits words run other reach → ReachFits limits words' run' other reach
-  reach_spared actor other words words' run run' Idle ne spares fits = tt
-  reach_spared actor other words words' run run' (Reading row read) ne spares fits =
-      (subst (λ k. KnowsReadable k row) (sym (spares.same other ne)) fits.0, fits.1 ∙ ap (λ x. take (length read) (words_in x)) (sym (spares.reads other row ne fits.0)))
-  reach_spared actor other words words' run run' (Writing row written) ne spares fits = let short = fits.2 in
-      (subst (λ k. KnowsPlaceable k row) (sym (spares.same other ne)) fits.0, fits.1, fits.2, λ j below. spares.writes other row ne fits.0 fits.1 j (omega arith) ∙ fits.3 j below)
+  spared : (actor other : ℕ) (words words' : List ℕ) (seen run run' : List Entry) (reach : Reach) → IsApart actor other reach → Spares actor words words' run run' → GoesOn reach other seen run → ReachFits limits words run other reach
+      → GoesOn reach other seen run' × ReachFits limits words' run' other reach
+  spared actor other words words' seen run run' Idle apart spares goes fits = (spares.extends other seen (apart_ne actor other apart) goes, tt)
+  spared actor other words words' seen run run' (Reading row read) apart spares goes fits = let ne = apart_ne actor other apart in (
+    spares.extends other seen ne goes,
+    (subst (λ k. KnowsReadable k row) (sym (spares.same other ne)) fits.0, fits.1 ∙ ap (λ x. take (length read) (words_in x)) (sym (spares.reads other row ne fits.0))),
+  )
+  spared actor other words words' seen run run' (Writing row written) apart spares goes fits = let ne = apart_ne actor other apart in let short = fits.2 in (
+    spares.extends other seen ne goes,
+    (subst (λ k. KnowsPlaceable k row) (sym (spares.same other ne)) fits.0, fits.1, fits.2, λ j below. spares.writes other row ne fits.0 fits.1 j (omega arith) ∙ fits.3 j below),
+  )
+  spared actor other words words' seen run run' Noted apart spares goes fits = (starts_on seen run run' goes spares.grows, tt)
 
-  part_spared : (actor : ℕ) (words words' : List ℕ) (run run' : List Entry) → Spares actor words words' run run' → (p : Part) → p.actor ≢ actor → PartFits limits words run p → PartFits limits words' run' p
-  part_spared actor words words' run run' spares p ne fits = record {
-    extends = spares.extends p.actor p.seen ne fits.extends;
-    reach = reach_spared actor p.actor words words' run run' p.reach ne spares fits.reach;
+  part_spared : (actor : ℕ) (words words' : List ℕ) (run run' : List Entry) → Spares actor words words' run run' → (p : Part) → IsApart actor p.actor p.reach → PartFits limits words run p → PartFits limits words' run' p
+  part_spared actor words words' run run' spares p apart fits = let kept = spared actor p.actor words words' p.seen run run' p.reach apart spares fits.extends fits.reach in record {
+    extends = kept.0;
+    reach = kept.1;
     there = fits.there;
     own_limits = fits.own_limits;
   }
 
   -- one turn: the word i becomes x, and the one seat has a new view
-  pub turn : (s : TableState) (h : Rule s) (id actor : ℕ) (seen : List Entry) (reach : Reach) → get_elem? s.views id ≡ some (alone limits actor seen reach)
-      → (carried : List (ℕ × Unit {0})) (i x : ℕ) (run' seen' : List Entry) (reach' : Reach) → law limits run' → Spares actor s.words (set s.words i x) h.run run' → Extends actor seen' run'
+  pub turn : (s : TableState) (h : Rule s) (id actor : ℕ) (seen : List Entry) (reach : Reach) → Stands reach → get_elem? s.views id ≡ some (alone limits actor seen reach)
+      → (carried : List (ℕ × Unit {0})) (i x : ℕ) (run' seen' : List Entry) (reach' : Reach) → Stands reach' → law limits run' → Spares actor s.words (set s.words i x) h.run run' → Extends actor seen' run'
       → ((row : ℕ) (content : Record) → (memory_of limits run').rows row ≡ Some content → IsSpelledRow limits row content)
       → ReachFits limits (set s.words i x) run' actor reach' → SpellsWhere limits (set s.words i x) (memory_of limits run') (IsSettled (set s.views id (alone limits actor seen' reach')))
       → Rule (stepped s i x id carried (alone limits actor seen' reach') keeps)
-  turn s h id actor seen reach at carried i x run' seen' reach' legal spares extends kept fits spells = let one = times_alone limits actor seen reach in let mine = h.each id (alone limits actor seen reach) at in record {
+  turn s h id actor seen reach stands at carried i x run' seen' reach' stands' legal spares extends kept fits spells = let one = times_alone limits actor seen reach stands in let mine = h.each id (alone limits actor seen reach) at in record {
     run = run';
     legal = legal;
     wide = length-set s.words i x ∙ h.wide;
     spells = spells;
     kept = kept;
-    once = λ b. let t = everywhere_set s.views id (alone limits actor seen reach) (alone limits actor seen' reach') b at in let o = h.once b in omega arith;
+    once = λ b. let t = everywhere_set s.views id (alone limits actor seen reach) (alone limits actor seen' reach') b at in let o = h.once b in
+        let before = times_of_one limits b actor seen reach stands in let after = times_of_one limits b actor seen' reach' stands' in omega arith;
     each = λ j view here. ⊎_elim
-        (λ t. subst (λ u. Each (PartFits limits (set s.words i x) run') u) t.1 (record { extends = extends; reach = fits; there = mine.0.there; own_limits = mine.0.own_limits }, tt))
-        (λ t. each_zip (λ p. p.actor ≢ actor) (PartFits limits s.words h.run) (PartFits limits (set s.words i x) run') (part_spared actor s.words (set s.words i x) h.run run' spares)
+        (λ t. subst (λ u. Each (PartFits limits (set s.words i x) run') u) t.1 (record { extends = extends_goes reach' actor seen' run' extends; reach = fits; there = mine.0.there; own_limits = mine.0.own_limits }, tt))
+        (λ t. each_zip (λ p. IsApart actor p.actor p.reach) (PartFits limits s.words h.run) (PartFits limits (set s.words i x) run') (part_spared actor s.words (set s.words i x) h.run run' spares)
         view (elsewhere s.views id j (alone limits actor seen reach) view actor h.once at (omega arith) t.1 t.0) (h.each j view t.1))
         (at_set s.views id j (alone limits actor seen' reach') view here);
   }
@@ -101,23 +109,25 @@ module _ (limits : Limits) (law : Limits → List Entry → Type 0) where
 
   -- a step, and all that it can tell
   pub event_telling : (slots id actor : ℕ) (me : Mine) (reach : Reach) (i : ℕ) (f : ℕ → ℕ) (begun : Option Command) (step : StepOf Record) (reply : Option Reply) (then : ℕ → Mine → Type 0)
-      → SitsAt limits actor reach me → IsLawfulStep law limits actor (seen_of me) begun step reply
+      → Stands reach → SitsAt limits actor reach me → IsLawfulStep law limits actor (seen_of me) begun step reply
       → ((s : TableState) (h : Rule s) → get_elem? s.views id ≡ some (alone limits actor (seen_of me) reach)
       → (answer : Answer Record) × Ready s h id actor i (f (get_or s.words i 0)) begun step answer reply
       × ((me' : Mine) → SitsAt limits actor Idle me' → Took law limits actor (seen_of me) begun step answer reply (seen_of me') → then (get_or s.words i 0) me'))
       → Allows Rule slots id me i f then
-  event_telling slots id actor me reach i f begun step reply then is may ready s h _ at _ =
+  event_telling slots id actor me reach i f begun step reply then stands is may ready s h _ at _ =
       let at' : get_elem? s.views id ≡ some (alone limits actor (seen_of me) reach) = at ∙ ap (λ (z : Mine). some z.0) is in
       let fit : PartFits limits s.words h.run (part limits actor (seen_of me) reach) = (h.each id _ at').0 in
+      let extends : Extends actor (seen_of me) h.run = goes_extends reach actor (seen_of me) h.run stands fit.extends in
       let t = ready s h at' in
       let answer : Answer Record = t.0 in
       let r = t.1 in
       let later : List Entry = with_step h.run actor begun step answer reply in
       let more : List Entry = events actor begun step answer reply in
       let grown : later ≡ h.run ++ more = with_events h.run actor begun step answer reply in
-      let legal : law limits later = may h.run answer h.legal fit.extends r.answered in
+      let legal : law limits later = may h.run answer h.legal extends r.answered in
       let after : memory_of limits later ≡ memory_after actor step (memory_of limits h.run) = memory_stepped limits h.run actor begun step answer reply in
       let spares : Spares actor s.words (set s.words i (f (get_or s.words i 0))) h.run later = record {
+        grows = (more, grown);
         extends = λ other seen ne x. subst (Extends other seen) (sym grown) (extends_on other seen h.run more (others_events actor other begun step answer reply ne) x);
         same = λ other ne. ap (λ (run : List Entry). knows run other) grown ∙ knows_on other h.run more (others_events actor other begun step answer reply ne);
         reads = λ other row ne l. ap (λ m. m.rows row) after ∙ r.reads other row ne l;
@@ -126,11 +136,11 @@ module _ (limits : Limits) (law : Limits → List Entry → Type 0) where
         alone limits actor later Idle,
         keeps,
         tt,
-        turn s h id actor (seen_of me) reach at' me.1 i (f (get_or s.words i 0)) later later Idle legal spares (extends_self actor later)
+        turn s h id actor (seen_of me) reach stands at' me.1 i (f (get_or s.words i 0)) later later Idle tt legal spares (extends_self actor later)
             (subst (λ m. (row : ℕ) (content : Record) → m.rows row ≡ Some content → IsSpelledRow limits row content) (sym after) r.kept) tt
             (subst (λ m. SpellsWhere limits (set s.words i (f (get_or s.words i 0))) m (IsSettled (set s.views id (alone limits actor later Idle)))) (sym after) (r.spells _ refl)),
         t.2 (alone limits actor later Idle, me.1) (ap (λ (c : List (ℕ × Unit {0})). (alone limits actor later Idle, c)) (ap (λ (z : Mine). z.1) is))
-            record { run = h.run; legal = h.legal; extends = fit.extends; answered = r.answered; grown = refl; kept = legal },
+            record { run = h.run; legal = h.legal; extends = extends; answered = r.answered; grown = refl; kept = legal },
       )
 
   -- where the answer is known from the number found
@@ -138,7 +148,7 @@ module _ (limits : Limits) (law : Limits → List Entry → Type 0) where
       → SitsAt limits actor Idle me → IsLawfulStep law limits actor (seen_of me) begun step reply
       → ((s : TableState) (h : Rule s) → get_elem? s.views id ≡ some (alone limits actor (seen_of me) Idle) → Ready s h id actor i (f (get_or s.words i 0)) begun step (got (get_or s.words i 0)) reply)
       → Allows Rule slots id me i f (λ found me'. Event law begun step reply Idle me (got found) me')
-  event slots id actor me i f begun step reply got is may ready = event_telling slots id actor me Idle i f begun step reply (λ found me'. Event law begun step reply Idle me (got found) me') is may
+  event slots id actor me i f begun step reply got is may ready = event_telling slots id actor me Idle i f begun step reply (λ found me'. Event law begun step reply Idle me (got found) me') tt is may
       (λ s h at. (
         got (get_or s.words i 0),
         ready s h at,

@@ -1,5 +1,5 @@
 -- The rule: what the words of a table and the views of its seats have to do with each other between any two atomic operations.
-use Rattle.std.specs.Prelude.{◌≡◌, ◌≢◌, ℕ, ◌+◌, ◌<◌, ◌≤◌, ◌==◌, if◌then◌else◌, List, [], ◌∷◌, length, slice_index, take, Some, IsTrue, ⊤}
+use Rattle.std.specs.Prelude.{◌≡◌, ◌≢◌, ℕ, ◌+◌, ◌<◌, ◌≤◌, ◌==◌, if◌then◌else◌, List, [], ◌∷◌, ◌++◌, Bool, false, length, slice_index, take, Some, IsTrue, ⊤}
 use mathlib.Core.Option.{some}
 use lib.ListN.{get_elem?}
 use Rattle.atomic_table.specs.Table.{State}
@@ -15,7 +15,7 @@ use Rattle.record_slots.specs.Spells.{IsSpelling}
 use Rattle.tree_words.specs.Layout.{row_at, width}
 use Rattle.tree_words.specs.Words.{words_in, SpellsWhere}
 use Rattle.slot_rule.specs.declared.view.Reach.{Reach}
-use Rattle.slot_rule.specs.declared.view.Reach.TheVariants.{Idle, Reading, Writing}
+use Rattle.slot_rule.specs.declared.view.Reach.TheVariants.{Idle, Reading, Writing, Noted}
 use Rattle.slot_rule.specs.declared.view.Part.{Part}
 
 -- it holds of each element
@@ -42,15 +42,23 @@ abbrev pub LeavesRow : ℕ → Reach → Type 0
 LeavesRow row Idle = ⊤
 LeavesRow row (Reading at words) = ⊤
 LeavesRow row (Writing at words) = at ≢ row
+LeavesRow row Noted = ⊤
 
 -- no seat is
 abbrev pub IsSettled : List (List Part) → ℕ → Type 0
 IsSettled views row = (id : ℕ) (view : List Part) → get_elem? views id ≡ some view → Each (λ part. LeavesRow row part.reach) view
 
--- how many parts of the view are the actor's, and how many of all views
+-- The other's part, with this reach, is a seat of the actor's, and no note.
+abbrev pub is_at : ℕ → ℕ → Reach → Bool
+is_at actor other Idle = other == actor
+is_at actor other (Reading row words) = other == actor
+is_at actor other (Writing row words) = other == actor
+is_at actor other Noted = false
+
+-- how many parts of the view are the actor's seats, and how many of all views
 abbrev pub times : ℕ → List Part → ℕ
 times actor [] = 0
-times actor (part ∷ parts) = (if part.actor == actor then 1 else 0) + times actor parts
+times actor (part ∷ parts) = (if is_at actor part.actor part.reach then 1 else 0) + times actor parts
 
 abbrev pub everywhere : ℕ → List (List Part) → ℕ
 everywhere actor [] = 0
@@ -63,6 +71,18 @@ ReachFits limits words run actor Idle = ⊤
 ReachFits limits words run actor (Reading row read) = KnowsReadable (knows run actor) row × (read ≡ take (length read) (words_in ((memory_of limits run).rows row)))
 ReachFits limits words run actor (Writing row written) = KnowsPlaceable (knows run actor) row × (row < limits.rows) × (length written < 256)
     × ((j : ℕ) → j < length written → slice_index words (row_at row (j + 1)) ≡ slice_index written j)
+ReachFits limits words run actor Noted = ⊤
+
+-- One run begins another.
+abbrev pub StartsWith : List Entry → List Entry → Type 0
+StartsWith later seen = (rest : List Entry) × (later ≡ seen ++ rest)
+
+-- The run goes on from what was seen: by steps of others alone where the part is a seat's, by any where it is a note.
+abbrev pub GoesOn : Reach → ℕ → List Entry → List Entry → Type 0
+GoesOn Idle actor seen run = Extends actor seen run
+GoesOn (Reading row words) actor seen run = Extends actor seen run
+GoesOn (Writing row words) actor seen run = Extends actor seen run
+GoesOn Noted actor seen run = StartsWith run seen
 
 -- A row of words can spell the record.
 abbrev pub HasSpelling : Record → Type 0
@@ -73,15 +93,15 @@ pub record IsSpelledRow (limits : Limits) (row : ℕ) (content : Record) : Type 
   pub there : row < limits.rows
   pub spelling : HasSpelling content
 
--- The run goes on from what was seen by steps of others alone.
+-- The run goes on from what was seen, and the words fit where the seat stands.
 pub record PartFits (limits : Limits) (words : List ℕ) (run : List Entry) (part : Part) : Type 0 where
-  pub extends : Extends part.actor part.seen run
+  pub extends : GoesOn part.reach part.actor part.seen run
   pub reach : ReachFits limits words run part.actor part.reach
   pub there : part.actor < limits.actors
   pub own_limits : part.limits ≡ limits
 
 -- There is a longest run, which has the law, and which goes on from what each seat has seen. The words are those of the memory after it,
--- but for rows into which a seat is in the midst of placing a record. No actor stands in two seats.
+-- but for rows into which a seat is in the midst of placing a record. No actor stands in two seats; of notes there may be any number.
 pub record Running (limits : Limits) (law : List Entry → Type 0) (s : State (Unit {0}) (List Part)) : Type 0 where
   pub run : List Entry
   pub legal : law run

@@ -4,12 +4,11 @@ use Rattle.atomic_table.specs.Table.{Me, Step}
 use Rattle.atomic_table.specs.Seated.{TableId}
 use Rattle.bw_model.specs.declared.limits.Limits.{Limits}
 use Rattle.chain_search.specs.declared.trace.Entry.{Entry}
-use Rattle.chain_search.specs.Disciplined.{Extends}
 use Rattle.tree_words.specs.Layout.{width}
 use Rattle.slot_rule.specs.declared.view.Reach.{Reach}
-use Rattle.slot_rule.specs.declared.view.Reach.TheVariants.{Idle}
+use Rattle.slot_rule.specs.declared.view.Reach.TheVariants.{Idle, Noted}
 use Rattle.slot_rule.specs.declared.view.Part.{Part}
-use Rattle.slot_rule.specs.Running.{Each}
+use Rattle.slot_rule.specs.Running.{Each, GoesOn}
 
 -- what a seat knows, and the slots that it holds, of which a tree's table has none
 abbrev pub Mine : Type 0
@@ -57,6 +56,11 @@ abbrev pub other_parts : List Part → List Part
 other_parts [] = []
 other_parts (part ∷ parts) = parts
 
+-- a note of what the first part has seen
+abbrev pub noted : List Part → List Part
+noted [] = []
+noted (part ∷ parts) = record part { reach = Noted } ∷ []
+
 -- a new seat, in which no actor stands
 abbrev pub IsBlank : Mine → Type 0
 IsBlank me = me ≡ ([], [])
@@ -65,12 +69,12 @@ IsBlank me = me ≡ ([], [])
 abbrev pub refreshed : List Entry → Part → Part
 refreshed run old = part old.limits old.actor run old.reach
 
--- A look: each part has now seen the longest run, which goes on from what it had seen by steps of others alone.
+-- A look: each part has now seen the longest run, which goes on from what it had seen.
 pub record Looked (law : List Entry → Type 0) (me me' : Mine) : Type 0 where
   pub run : List Entry
   pub legal : law run
   pub saw : me' ≡ (map (refreshed run) me.0, me.1)
-  pub extends : Each (λ part. Extends part.actor part.seen run) me.0
+  pub extends : Each (λ part. GoesOn part.reach part.actor part.seen run) me.0
 
 -- An operation can't say the table's limits, and takes those of the seat's first part.
 abbrev pub Looks : (Limits → List Entry → Type 0) → Step (Unit {0}) → Mine → ℕ → Mine → Type 0

@@ -114,6 +114,17 @@ impl Split<View> for Apart {
     ghost right = { other_parts };
 }
 
+/// The seat stays, and there is a note of what it has seen.
+pub(crate) struct Noting;
+
+impl Split<View> for Noting {
+    ghost use Rattle.slot_rule.specs.Views.{noted};
+
+    ghost left = { λ parts. parts };
+
+    ghost right = { noted };
+}
+
 /// The parts of two seats in one.
 pub(crate) struct Together;
 

@@ -1,8 +1,8 @@
-//! Seats that look, are cut in two, and are joined.
+//! Seats that look, are cut in two, are noted, and are joined.
 ghost use Rattle.std.specs.Prelude.{◌≡◌, ◌<◌, ◌++◌, []};
-ghost use Rattle.slot_rule.specs.Views.{HasPart, IsBlank, IsOf, Looked, first_part, other_parts};
+ghost use Rattle.slot_rule.specs.Views.{HasPart, IsBlank, IsOf, Looked, first_part, noted, other_parts};
 
-use crate::plays::{Apart, Blank, Looking, Together};
+use crate::plays::{Apart, Blank, Looking, Noting, Together};
 use crate::rule::{Law, TableSeat, Words};
 use bw_model::Limits;
 
@@ -29,7 +29,19 @@ pub fn part<P: Law>(words: &Words<P>, seat: &mut TableSeat, limits: &Limits) -> 
     words.split_seat::<Apart>(seat)
 }
 
-/// Puts the actors of another seat behind those of this one.
+/// A note of what the first actor of a seat has seen. The seat stays as it is.
+pub fn note<P: Law>(words: &Words<P>, seat: &mut TableSeat, limits: &Limits) -> TableSeat
+    requires table { IsOf limits.now words.now.key words.now.table_id seat.old.table_id }
+    ensures same { seat.new.table_id ≡ seat.old.table_id }
+    ensures stays { seat.new.me ≡ seat.old.me }
+    ensures table { result.table_id ≡ seat.old.table_id }
+    ensures noted { result.me ≡ (noted seat.old.me.0, []) }
+{
+    let _ = limits;
+    words.split_seat::<Noting>(seat)
+}
+
+/// Puts the actors of another seat, or a note, behind those of this one.
 pub fn join<P: Law>(words: &Words<P>, seat: &mut TableSeat, other: TableSeat, limits: &Limits)
     requires table { IsOf limits.now words.now.key words.now.table_id seat.old.table_id }
     requires other { other.table_id ≡ words.now.table_id }

@@ -13,6 +13,8 @@ pub enum Reach {
     Reading(u16, LinkedList<u64>),
     /// In the midst of placing a record into this row.
     Writing(u16, LinkedList<u64>),
+    /// Nowhere: this is a note of what the actor had seen, with which no step is taken.
+    Noted,
 }
 
 /// What a seat knows of one actor: the run that was seen, and where the seat stands. No value of it is ever made.
@@ -27,5 +29,5 @@ pub struct Part {
     pub reach: Reach,
 }
 
-/// A part for each actor of the seat. It has one, and others only while seats are dealt or meet.
+/// A part for each actor of the seat, and for each note. A seat has one, and others only while seats are dealt, meet or heed notes.
 pub type View = LinkedList<Part>;

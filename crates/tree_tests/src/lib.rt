@@ -10,6 +10,8 @@ mod example;
 #[cfg(test)]
 mod jobs;
 #[cfg(test)]
+mod notes;
+#[cfg(test)]
 mod numbered;
 #[cfg(test)]
 mod opening;

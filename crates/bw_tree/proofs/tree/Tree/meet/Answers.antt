@@ -1,4 +1,4 @@
-use Rattle.std.proofs.Common.{◌≡◌, List, sym, ap, subst, ◌∙◌}
+use Rattle.std.proofs.Common.{◌≡◌, List, refl, sym, ap, subst, ◌∙◌}
 use Rattle.bw_model.specs.declared.limits.Limits.{Limits}
 use Rattle.chain_search.specs.declared.trace.Entry.{Entry}
 use Rattle.chain_search.specs.Disciplined.{Extends}
@@ -16,7 +16,7 @@ look-requires-clause-some g c =
     let same_other : c.other.inside.limits ≡ c.self.inside.limits = ap (λ (s : Seat). s.limits) c.other.view_is ∙ c.requires.own_other.limits ∙ tree in
     let moved : c.other.inside.place.me ≡ c.replace-others.result.me = sym (ap (λ place. place.me) c.replace-others.ensures.value) in
     let at_other : SitsAt c.self.inside.limits c.other.inside.number Idle c.replace-others.result.me = subst (SitsAt c.self.inside.limits c.other.inside.number Idle) moved (subst (λ (l : Limits). SitsAt l c.other.inside.number Idle c.other.inside.place.me) same_other c.other.invariant.place) in
-    has_part c.self.inside.limits c.one.inside.number c.other.inside.number c.one.inside.place.me c.replace-others.result.me c.join.new.seat.me
+    has_part c.self.inside.limits c.one.inside.number c.other.inside.number Idle c.one.inside.place.me c.replace-others.result.me c.join.new.seat.me
     (subst (λ (l : Limits). SitsAt l c.one.inside.number Idle c.one.inside.place.me) same c.one.invariant.place) at_other c.join.ensures.both
 
 pub invariant_of-one : goal.invariant_of-one
@@ -28,7 +28,7 @@ invariant_of-one g c =
     let at_other : SitsAt c.self.inside.limits c.other.inside.number Idle c.replace-others.result.me = subst (SitsAt c.self.inside.limits c.other.inside.number Idle) moved (subst (λ (l : Limits). SitsAt l c.other.inside.number Idle c.other.inside.place.me) same_other c.other.invariant.place) in
     let seat : IsSeat c.self.inside.limits c.one.inside.number c.one.inside.place.me c.one.inside.actor = subst (λ (l : Limits). IsSeat l c.one.inside.number c.one.inside.place.me c.one.inside.actor) same c.one.invariant in
     subst (λ (l : Limits). IsSeat l c.one.inside.number c.part.new.seat.me c.one.inside.actor) (sym same)
-    (left_seat c.self.inside.limits c.one.inside.number c.other.inside.number c.one.inside.place.me c.replace-others.result.me c.join.new.seat.me seat.place at_other c.join.ensures.both
+    (left_seat c.self.inside.limits c.one.inside.number c.other.inside.number Idle c.one.inside.place.me c.replace-others.result.me c.join.new.seat.me seat.place at_other c.join.ensures.both
     c.look.new.seat.me c.part.new.seat.me c.part.result.me c.look.ensures.saw c.part.ensures.first c.part.ensures.others c.own_lasts.ensures c.one.inside.actor seat)
 
 pub invariant_of-other : goal.invariant_of-other
@@ -40,9 +40,9 @@ invariant_of-other g c =
     let seat : IsSeat c.self.inside.limits c.other.inside.number c.replace-others.result.me c.other.inside.actor =
     subst (λ (m : Mine). IsSeat c.self.inside.limits c.other.inside.number m c.other.inside.actor) moved (subst (λ (l : Limits). IsSeat l c.other.inside.number c.other.inside.place.me c.other.inside.actor) same_other c.other.invariant) in
     subst (λ (l : Limits). IsSeat l c.other.inside.number c.part.result.me c.other.inside.actor) (sym same_other)
-    (right_seat c.self.inside.limits c.one.inside.number c.other.inside.number c.one.inside.place.me c.replace-others.result.me c.join.new.seat.me
+    (right_seat c.self.inside.limits c.one.inside.number c.other.inside.number Idle c.one.inside.place.me c.replace-others.result.me c.join.new.seat.me
     (subst (λ (l : Limits). SitsAt l c.one.inside.number Idle c.one.inside.place.me) same c.one.invariant.place) seat.place c.join.ensures.both
-    c.look.new.seat.me c.part.new.seat.me c.part.result.me c.look.ensures.saw c.part.ensures.first c.part.ensures.others c.own_lasts.ensures c.other.inside.actor seat)
+    c.look.new.seat.me c.part.new.seat.me c.part.result.me c.look.ensures.saw c.part.ensures.first c.part.ensures.others c.own_lasts.ensures c.other.inside.actor refl seat)
 
 pub returns-clause-met : goal.returns-clause-met
 returns-clause-met g c =
@@ -53,11 +53,11 @@ returns-clause-met g c =
     let at : SitsAt c.self.inside.limits c.one.inside.number Idle c.one.inside.place.me = subst (λ (l : Limits). SitsAt l c.one.inside.number Idle c.one.inside.place.me) same c.one.invariant.place in
     let at_other : SitsAt c.self.inside.limits c.other.inside.number Idle c.replace-others.result.me = subst (SitsAt c.self.inside.limits c.other.inside.number Idle) moved (subst (λ (l : Limits). SitsAt l c.other.inside.number Idle c.other.inside.place.me) same_other c.other.invariant.place) in
     let ours : Extends c.one.inside.number (seen_of c.one.inside.place.me) (seen_of c.part.new.seat.me) =
-    left_extends c.self.inside.limits c.one.inside.number c.other.inside.number c.one.inside.place.me c.replace-others.result.me c.join.new.seat.me at at_other c.join.ensures.both
+    left_extends c.self.inside.limits c.one.inside.number c.other.inside.number Idle c.one.inside.place.me c.replace-others.result.me c.join.new.seat.me at at_other c.join.ensures.both
     c.look.new.seat.me c.part.new.seat.me c.part.result.me c.look.ensures.saw c.part.ensures.first c.part.ensures.others in
     let theirs : Extends c.other.inside.number (seen_of c.replace-others.result.me) (seen_of c.part.result.me) =
-    right_extends c.self.inside.limits c.one.inside.number c.other.inside.number c.one.inside.place.me c.replace-others.result.me c.join.new.seat.me at at_other c.join.ensures.both
-    c.look.new.seat.me c.part.new.seat.me c.part.result.me c.look.ensures.saw c.part.ensures.first c.part.ensures.others in
+    right_extends c.self.inside.limits c.one.inside.number c.other.inside.number Idle c.one.inside.place.me c.replace-others.result.me c.join.new.seat.me at at_other c.join.ensures.both
+    c.look.new.seat.me c.part.new.seat.me c.part.result.me c.look.ensures.saw c.part.ensures.first c.part.ensures.others refl in
     let back : seen_of c.replace-others.result.me ≡ seen_of c.other.inside.place.me = ap seen_of (sym moved) in
     let table = c.part.ensures.same ∙ c.look.ensures.same ∙ c.join.ensures.same ∙ ap (λ (s : Seat). s.table) c.one.view_is in
     let table_other = c.part.ensures.table ∙ c.look.ensures.same ∙ c.join.ensures.same ∙ ap (λ (s : Seat). s.table) c.one.view_is ∙ c.requires.own.table ∙ sym c.requires.own_other.table in
@@ -66,6 +66,6 @@ returns-clause-met g c =
       same_other = record { table = table_other; limits = ap (λ (s : Seat). s.limits) c.other.view_is; actor = ap (λ (s : Seat). s.actor) c.other.view_is };
       extends = subst (λ (s : Seat). Extends s.actor s.seen (seen_of c.part.new.seat.me)) c.one.view_is ours;
       extends_other = subst (λ (s : Seat). Extends s.actor s.seen (seen_of c.part.result.me)) c.other.view_is (subst (λ (z : List Entry). Extends c.other.inside.number z (seen_of c.part.result.me)) back theirs);
-      one = saw_one c.self.inside.limits c.one.inside.number c.other.inside.number c.one.inside.place.me c.replace-others.result.me c.join.new.seat.me at at_other c.join.ensures.both
+      one = saw_one c.self.inside.limits c.one.inside.number c.other.inside.number Idle c.one.inside.place.me c.replace-others.result.me c.join.new.seat.me at at_other c.join.ensures.both
           c.look.new.seat.me c.part.new.seat.me c.part.result.me c.look.ensures.saw c.part.ensures.first c.part.ensures.others;
     }

@@ -1,0 +1,125 @@
+//! Notes between threads: who heeds a note finds what was done before it was made.
+ghost use Rattle.std.specs.Prelude.{◌≡◌, Some};
+ghost use Rattle.bw_tree.specs.Notes.{IsNoteOf};
+ghost use Rattle.bw_tree.specs.Trees.{IsSeatOf, Tree as TreeSeen};
+
+use crate::numbered::{get, number_of, upsert};
+use bw_model::{Limits, Reply};
+use bw_tree::{BwSeat, Note, Tree};
+use crossbeam_channel::{Receiver, Sender, bounded};
+use std::alloc::Global;
+use std::marker::{Brand, PhantomData};
+use std::sync::Wait;
+use std::test::Fail;
+use std::thread::{Threads, join_mut};
+use tree_clients::{opened, reply, take_seat};
+
+/// How often the key is set, and a note of it sent.
+const TIMES: u32 = 300;
+
+/// The tree of which all notes in a channel are.
+trait OfTree {
+    ghost use Rattle.std.specs.Prelude.{Option};
+    ghost use Rattle.bw_tree.specs.Trees.{Tree};
+
+    ghost tree: { Option Tree };
+}
+
+impl OfTree for Brand {
+    ghost use Rattle.std.specs.Prelude.{None};
+
+    ghost tree = { None };
+}
+
+/// A number that was set, and a note that was made after it.
+#[derive(Drop)]
+struct Told<T: OfTree> {
+    number: u32,
+    note: Note,
+    of: PhantomData<T>,
+    ghost own: { (tree : TreeSeen) → T.tree ≡ Some tree → IsNoteOf tree note },
+}
+
+/// Sets the key to each number in turn, and sends the number with a note.
+fn tells<R: Wait, T: OfTree>(rt: &R, tree: &Tree, seat: &mut BwSeat, sender: &Sender<Told<T>>)
+    requires tree { T.tree ≡ Some tree.now }
+    requires own { IsSeatOf tree.now seat.old }
+    ensures own { IsSeatOf tree.now seat.new }
+{
+    for number in 1..=TIMES {
+        let _ = reply(tree, seat, upsert(0, number));
+        let note = tree.note(seat);
+        let told = Told {
+            number,
+            note,
+            of: PhantomData,
+        };
+        let _ = sender.send(rt, told);
+    }
+}
+
+/// Heeds each note, and counts how often the key then has the number that came with it, or a later one.
+fn heeds<R: Wait, T: OfTree>(
+    rt: &R,
+    tree: &Tree,
+    seat: &mut BwSeat,
+    receiver: &Receiver<Told<T>>,
+) -> u32
+    requires tree { T.tree ≡ Some tree.now }
+    requires own { IsSeatOf tree.now seat.old }
+    ensures own { IsSeatOf tree.now seat.new }
+{
+    let mut right = 0u32;
+    for _ in 0..TIMES {
+        let Ok(told) = receiver.recv(rt) else {
+            return right;
+        };
+        tree.heed(seat, told.note);
+        if let Some(Reply::Value(value)) = reply(tree, seat, get(0)) {
+            if number_of(&value).unwrap_or(0) >= told.number {
+                right = right.saturating_add(1);
+            }
+        }
+    }
+    right
+}
+
+/// One seat tells, and another one heeds, in a thread of its own.
+fn tell_and_heed<R: Threads + Wait + Sync, T: OfTree + Send>(
+    rt: &R,
+    alloc: Global,
+    tree: &Tree,
+    one: &mut BwSeat,
+    other: &mut BwSeat,
+) -> Option<u32>
+    requires tree { T.tree ≡ Some tree.now }
+    requires one { IsSeatOf tree.now one.old }
+    requires other { IsSeatOf tree.now other.old }
+{
+    let (sender, receiver) = bounded::<Told<T>, Global>(alloc, TIMES as usize).ok()?;
+    let (_, right) = join_mut(
+        rt,
+        &mut || tells::<R, T>(rt, tree, one, &sender),
+        &mut || heeds::<R, T>(rt, tree, other, &receiver),
+    );
+    Some(right)
+}
+
+/// The same on a new tree.
+fn heeded_on_a_tree<R: Threads + Wait + Sync>(
+    rt: &R,
+    alloc: Global,
+    limits: Limits,
+) -> Option<u32> {
+    let (tree, mut seats) = opened(alloc, limits).ok()?;
+    let mut one = take_seat(&tree, &mut seats)?;
+    let mut other = take_seat(&tree, &mut seats)?;
+    tell_and_heed::<R, Brand>(rt, alloc, &tree, &mut one, &mut other)
+}
+
+#[test]
+fn notes_go_along(rt: HostRuntime) -> Result<(), Fail> {
+    let limits = Limits::new(2, 64, 1024, 1)?;
+    assert_eq!(rt; heeded_on_a_tree(&rt, rt.alloc(), limits), Some(TIMES));
+    Ok(())
+}
