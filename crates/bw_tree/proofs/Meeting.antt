@@ -10,7 +10,7 @@ use Rattle.chain_search.specs.Recalled.{recalls}
 use Rattle.slot_rule.specs.declared.view.Part.{Part}
 use Rattle.slot_rule.specs.declared.view.Reach.{Reach}
 use Rattle.slot_rule.specs.declared.view.Reach.TheVariants.{Idle, Noted}
-use Rattle.slot_rule.specs.Running.{Each, GoesOn}
+use Rattle.slot_rule.specs.Running.{Each, ExtendsFor}
 use Rattle.slot_rule.specs.Views.{HasPart, SitsAt, Looked, Mine, alone, first_part, other_parts, part, refreshed, seen_of}
 use Rattle.tree_law.specs.Direct.{Accounts}
 use Rattle.tree_law.specs.Own.{OwnLasts}
@@ -67,23 +67,23 @@ module _ (limits : Limits) (a b : ℕ) (reach : Reach) (one other joined : Mine)
     right_at : SitsAt limits b reach right
     right_at = subst (λ run. right ≡ (alone limits b run reach, [])) (sym right_saw) right_is
 
-    both_extend : Each (λ p. GoesOn p.reach p.actor p.seen saw.run) (part limits a (seen_of one) Idle ∷ part limits b (seen_of other) reach ∷ [])
-    both_extend = subst (λ (m : Mine). Each (λ p. GoesOn p.reach p.actor p.seen saw.run) m.0) both_is saw.extends
+    both_extend : Each (λ p. ExtendsFor p.reach p.actor p.seen saw.run) (part limits a (seen_of one) Idle ∷ part limits b (seen_of other) reach ∷ [])
+    both_extend = subst (λ (m : Mine). Each (λ p. ExtendsFor p.reach p.actor p.seen saw.run) m.0) both_is saw.extends
 
     pub left_extends : Extends a (seen_of one) (seen_of left)
     left_extends = subst (Extends a (seen_of one)) (sym left_saw) both_extend.0
 
     pub right_extends : reach ≡ Idle → Extends b (seen_of other) (seen_of right)
-    right_extends is = subst (Extends b (seen_of other)) (sym right_saw) (subst (λ r. GoesOn r b (seen_of other) saw.run) is both_extend.1.0)
+    right_extends is = subst (Extends b (seen_of other)) (sym right_saw) (subst (λ r. ExtendsFor r b (seen_of other) saw.run) is both_extend.1.0)
 
     pub left_starts : reach ≡ Noted → StartsWith (seen_of left) (seen_of other)
-    left_starts is = subst (λ run. StartsWith run (seen_of other)) (sym left_saw) (subst (λ r. GoesOn r b (seen_of other) saw.run) is both_extend.1.0)
+    left_starts is = subst (λ run. StartsWith run (seen_of other)) (sym left_saw) (subst (λ r. ExtendsFor r b (seen_of other) saw.run) is both_extend.1.0)
 
     pub left_seat : OwnLasts → (actor : Actor) → IsSeat limits a one actor → IsSeat limits a left actor
     left_seat own actor seat = seat_extends own limits a one left saw.run actor seat saw.legal both_extend.0 left_at left_saw
 
     pub right_seat : OwnLasts → (actor : Actor) → reach ≡ Idle → IsSeat limits b other actor → IsSeat limits b right actor
-    right_seat own actor is seat = seat_extends own limits b other right saw.run actor seat saw.legal (subst (λ r. GoesOn r b (seen_of other) saw.run) is both_extend.1.0) (subst (λ r. SitsAt limits b r right) is right_at) right_saw
+    right_seat own actor is seat = seat_extends own limits b other right saw.run actor seat saw.legal (subst (λ r. ExtendsFor r b (seen_of other) saw.run) is both_extend.1.0) (subst (λ r. SitsAt limits b r right) is right_at) right_saw
 
     pub saw_one : seen_of right ≡ seen_of left
     saw_one = right_saw ∙ sym left_saw

@@ -12,7 +12,7 @@ use Rattle.tree_words.specs.Words.{AreWordsOf}
 use Rattle.slot_rule.specs.declared.view.Reach.TheVariants.{Idle, Reading, Writing, Noted}
 use Rattle.slot_rule.specs.declared.view.Reach.{Reach}
 use Rattle.slot_rule.specs.declared.view.Part.{Part}
-use Rattle.slot_rule.specs.Running.{Each, GoesOn, LeavesRow, IsSettled, is_at, times, PartFits, Running}
+use Rattle.slot_rule.specs.Running.{Each, ExtendsFor, LeavesRow, IsSettled, is_at, times, PartFits, Running}
 use Rattle.slot_rule.specs.Closing.{LeavesWords}
 use Rattle.slot_rule.proofs.Parts.{IsApart, apart_ne, mark, each_map, each_zip, elsewhere, everywhere_one, spells_views}
 use Rattle.slot_rule.proofs.Roster.{same_view}
@@ -101,7 +101,7 @@ module _ (limits : Limits) (law : List Entry → Type 0) where
         run = h.run;
         legal = h.legal;
         extends = each_zip (PartFits limits s.words h.run) (λ part. part.reach ≡ Idle) (λ part. Extends part.actor part.seen h.run)
-            (λ part fit idle. subst (λ reach. GoesOn reach part.actor part.seen h.run) idle fit.extends) parts (h.each id parts at) stand.idle;
+            (λ part fit idle. subst (λ reach. ExtendsFor reach part.actor part.seen h.run) idle fit.extends) parts (h.each id parts at) stand.idle;
         kept = h.kept;
         are = subst (AreWordsOf limits (memory_of limits h.run)) f.2
             record { wide = h.wide; spells = spells_views limits s.words (memory_of limits h.run) (IsSettled s.views) (λ _. Unit {0}) (λ row _. settled row) h.spells };

@@ -26,7 +26,7 @@ use Rattle.tree_words.specs.Words.{SpellsWhere}
 use Rattle.slot_rule.specs.declared.view.Reach.{Reach}
 use Rattle.slot_rule.specs.declared.view.Reach.TheVariants.{Idle, Reading, Writing, Noted}
 use Rattle.slot_rule.specs.declared.view.Part.{Part}
-use Rattle.slot_rule.specs.Running.{Each, GoesOn, LeavesRow, IsSettled, StartsWith, is_at, times, everywhere}
+use Rattle.slot_rule.specs.Running.{Each, ExtendsFor, LeavesRow, IsSettled, StartsWith, is_at, times, everywhere}
 use Rattle.slot_rule.specs.Steps.{opened, with_step}
 use Rattle.slot_rule.specs.Views.{alone}
 
@@ -127,13 +127,13 @@ Stands (Reading row words) = ⊤
 Stands (Writing row words) = ⊤
 Stands Noted = ⊥
 
-pub goes_extends : (reach : Reach) (actor : ℕ) (seen run : List Entry) → Stands reach → GoesOn reach actor seen run → Extends actor seen run
+pub goes_extends : (reach : Reach) (actor : ℕ) (seen run : List Entry) → Stands reach → ExtendsFor reach actor seen run → Extends actor seen run
 goes_extends Idle actor seen run stands goes = goes
 goes_extends (Reading row words) actor seen run stands goes = goes
 goes_extends (Writing row words) actor seen run stands goes = goes
 goes_extends Noted actor seen run stands goes = absurd stands
 
-pub extends_goes : (reach : Reach) (actor : ℕ) (seen run : List Entry) → Extends actor seen run → GoesOn reach actor seen run
+pub extends_goes : (reach : Reach) (actor : ℕ) (seen run : List Entry) → Extends actor seen run → ExtendsFor reach actor seen run
 extends_goes Idle actor seen run extends = extends
 extends_goes (Reading row words) actor seen run extends = extends
 extends_goes (Writing row words) actor seen run extends = extends

@@ -15,7 +15,7 @@ use Rattle.tree_words.specs.Words.{SpellsWhere}
 use Rattle.slot_rule.specs.declared.view.Reach.{Reach}
 use Rattle.slot_rule.specs.declared.view.Reach.TheVariants.{Idle, Reading, Writing, Noted}
 use Rattle.slot_rule.specs.declared.view.Part.{Part}
-use Rattle.slot_rule.specs.Running.{Each, GoesOn, LeavesRow, IsSettled, StartsWith, is_at, times, PartFits, Running}
+use Rattle.slot_rule.specs.Running.{Each, ExtendsFor, LeavesRow, IsSettled, StartsWith, is_at, times, PartFits, Running}
 use Rattle.slot_rule.specs.Views.{Mine, Looked, Looks, refreshed, IsBlank, first_part, noted, other_parts}
 use Rattle.slot_rule.proofs.Turns.{TableState}
 use Rattle.slot_rule.proofs.Parts.{mark, each_map, each_append, extends_goes, extends_self, everywhere_set, everywhere_snoc, times_append, spells_views}
@@ -86,7 +86,7 @@ module _ (limits : Limits) (law : List Entry → Type 0) where
     keeps,
     tt,
     subst (λ (ws : List ℕ). R record { words = ws; homes = s.homes; views = set s.views id (map (refreshed h.run) me.0) }) (sym (set-get_or s.words i 0)) (looked s h id me.0 at),
-    record { run = h.run; legal = h.legal; saw = refl; extends = each_map (Fits s.words h.run) (λ p. GoesOn p.reach p.actor p.seen h.run) (λ p f. f.extends) me.0 (h.each id me.0 at) },
+    record { run = h.run; legal = h.legal; saw = refl; extends = each_map (Fits s.words h.run) (λ p. ExtendsFor p.reach p.actor p.seen h.run) (λ p f. f.extends) me.0 (h.each id me.0 at) },
   )
 
   pub joins : (id other : ℕ) (v w : List Part) → Joins R id v other w (v ++ w) []
@@ -146,7 +146,7 @@ module _ (limits : Limits) (law : List Entry → Type 0) where
   note_times a [] = refl
   note_times a (p ∷ ps) = refl
 
-  note_goes : (p : Part) (reach : Reach) (run : List Entry) → GoesOn reach p.actor p.seen run → StartsWith run p.seen
+  note_goes : (p : Part) (reach : Reach) (run : List Entry) → ExtendsFor reach p.actor p.seen run → StartsWith run p.seen
   note_goes p Idle run goes = (goes.0, goes.1)
   note_goes p (Reading row words) run goes = (goes.0, goes.1)
   note_goes p (Writing row words) run goes = (goes.0, goes.1)

@@ -21,7 +21,7 @@ use Rattle.tree_words.specs.Words.{words_in, SpellsWhere}
 use Rattle.slot_rule.specs.declared.view.Reach.{Reach}
 use Rattle.slot_rule.specs.declared.view.Reach.TheVariants.{Idle, Reading, Writing, Noted}
 use Rattle.slot_rule.specs.declared.view.Part.{Part}
-use Rattle.slot_rule.specs.Running.{Each, GoesOn, StartsWith, KnowsReadable, KnowsPlaceable, IsSettled, IsSpelledRow, ReachFits, PartFits, Running}
+use Rattle.slot_rule.specs.Running.{Each, ExtendsFor, StartsWith, KnowsReadable, KnowsPlaceable, IsSettled, IsSpelledRow, ReachFits, PartFits, Running}
 use Rattle.slot_rule.specs.Views.{Mine, part, alone, seen_of, SitsAt}
 use Rattle.slot_rule.specs.Steps.{with_step, IsLawfulStep, Took, Event}
 use Rattle.slot_rule.proofs.Parts.{IsApart, Stands, apart_ne, each_zip, extends_goes, extends_self, extends_on, goes_extends, knows_on, events, others_events, with_events, memory_stepped, starts_on, times_alone, times_of_one, everywhere_set, elsewhere}
@@ -56,8 +56,8 @@ module _ (limits : Limits) (law : Limits → List Entry → Type 0) where
     pub reads : (other row : ℕ) → other ≢ actor → KnowsReadable (knows run other) row → (memory_of limits run').rows row ≡ (memory_of limits run).rows row
     pub writes : (other row : ℕ) → other ≢ actor → KnowsPlaceable (knows run other) row → row < limits.rows → (j : ℕ) → j < 255 → get_or words' (row_at row (j + 1)) 0 ≡ get_or words (row_at row (j + 1)) 0
 
-  spared : (actor other : ℕ) (words words' : List ℕ) (seen run run' : List Entry) (reach : Reach) → IsApart actor other reach → Spares actor words words' run run' → GoesOn reach other seen run → ReachFits limits words run other reach
-      → GoesOn reach other seen run' × ReachFits limits words' run' other reach
+  spared : (actor other : ℕ) (words words' : List ℕ) (seen run run' : List Entry) (reach : Reach) → IsApart actor other reach → Spares actor words words' run run' → ExtendsFor reach other seen run → ReachFits limits words run other reach
+      → ExtendsFor reach other seen run' × ReachFits limits words' run' other reach
   spared actor other words words' seen run run' Idle apart spares goes fits = (spares.extends other seen (apart_ne actor other apart) goes, tt)
   spared actor other words words' seen run run' (Reading row read) apart spares goes fits = let ne = apart_ne actor other apart in (
     spares.extends other seen ne goes,

@@ -78,11 +78,11 @@ abbrev pub StartsWith : List Entry → List Entry → Type 0
 StartsWith later seen = (rest : List Entry) × (later ≡ seen ++ rest)
 
 -- The run goes on from what was seen: by steps of others alone where the part is a seat's, by any where it is a note.
-abbrev pub GoesOn : Reach → ℕ → List Entry → List Entry → Type 0
-GoesOn Idle actor seen run = Extends actor seen run
-GoesOn (Reading row words) actor seen run = Extends actor seen run
-GoesOn (Writing row words) actor seen run = Extends actor seen run
-GoesOn Noted actor seen run = StartsWith run seen
+abbrev pub ExtendsFor : Reach → ℕ → List Entry → List Entry → Type 0
+ExtendsFor Idle actor seen run = Extends actor seen run
+ExtendsFor (Reading row words) actor seen run = Extends actor seen run
+ExtendsFor (Writing row words) actor seen run = Extends actor seen run
+ExtendsFor Noted actor seen run = StartsWith run seen
 
 -- A row of words can spell the record.
 abbrev pub HasSpelling : Record → Type 0
@@ -95,7 +95,7 @@ pub record IsSpelledRow (limits : Limits) (row : ℕ) (content : Record) : Type 
 
 -- The run goes on from what was seen, and the words fit where the seat stands.
 pub record PartFits (limits : Limits) (words : List ℕ) (run : List Entry) (part : Part) : Type 0 where
-  pub extends : GoesOn part.reach part.actor part.seen run
+  pub extends : ExtendsFor part.reach part.actor part.seen run
   pub reach : ReachFits limits words run part.actor part.reach
   pub there : part.actor < limits.actors
   pub own_limits : part.limits ≡ limits

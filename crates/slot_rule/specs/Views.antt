@@ -8,7 +8,7 @@ use Rattle.tree_words.specs.Layout.{width}
 use Rattle.slot_rule.specs.declared.view.Reach.{Reach}
 use Rattle.slot_rule.specs.declared.view.Reach.TheVariants.{Idle, Noted}
 use Rattle.slot_rule.specs.declared.view.Part.{Part}
-use Rattle.slot_rule.specs.Running.{Each, GoesOn}
+use Rattle.slot_rule.specs.Running.{Each, ExtendsFor}
 
 -- what a seat knows, and the slots that it holds, of which a tree's table has none
 abbrev pub Mine : Type 0
@@ -74,7 +74,7 @@ pub record Looked (law : List Entry → Type 0) (me me' : Mine) : Type 0 where
   pub run : List Entry
   pub legal : law run
   pub saw : me' ≡ (map (refreshed run) me.0, me.1)
-  pub extends : Each (λ part. GoesOn part.reach part.actor part.seen run) me.0
+  pub extends : Each (λ part. ExtendsFor part.reach part.actor part.seen run) me.0
 
 -- An operation can't say the table's limits, and takes those of the seat's first part.
 abbrev pub Looks : (Limits → List Entry → Type 0) → Step (Unit {0}) → Mine → ℕ → Mine → Type 0
