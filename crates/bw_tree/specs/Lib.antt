@@ -1,5 +1,6 @@
 pub mod Runs
 pub mod Laws
+pub mod Notes
 pub mod Seats
 pub mod Calls
 pub mod Trees

@@ -1,0 +1,55 @@
+use Rattle.std.proofs.Common.{◌≡◌, List, refl, sym, ap, subst, ◌∙◌}
+use Rattle.bw_model.specs.declared.limits.Limits.{Limits}
+use Rattle.chain_search.specs.declared.trace.Entry.{Entry}
+use Rattle.chain_search.specs.Disciplined.{Extends}
+use Rattle.slot_rule.specs.declared.view.Reach.TheVariants.{Idle, Noted}
+use Rattle.slot_rule.specs.Views.{SitsAt, Mine, seen_of}
+use Rattle.bw_tree.specs.Notes.{Note}
+use Rattle.bw_tree.specs.Runs.{StartsWith}
+use Rattle.bw_tree.specs.Seats.{IsSeat, Seat}
+use Rattle.bw_tree.specs.Trees.{Tree}
+use Rattle.bw_tree.proofs.Meeting.{has_part, left_extends, left_seat, left_starts}
+use Rattle.bw_tree.proofs.tree.Tree.heed.Goals as goal
+
+pub look-requires-clause-some : goal.look-requires-clause-some
+look-requires-clause-some g c =
+    let tree : c.args.self.now.limits ≡ c.self.inside.limits = sym (ap (λ (t : Tree). t.limits) c.self.view_is) in
+    let same : c.seat.inside.limits ≡ c.self.inside.limits = ap (λ (s : Seat). s.limits) c.seat.view_is ∙ c.requires.own.limits ∙ tree in
+    let same_note : c.note.inside.limits ≡ c.self.inside.limits = ap (λ (n : Note). n.limits) c.note.view_is ∙ c.requires.note.limits ∙ tree in
+    has_part c.self.inside.limits c.seat.inside.number c.note.invariant.0 Noted c.seat.inside.place.me c.note.inside.place.me c.join.new.seat.me
+    (subst (λ (l : Limits). SitsAt l c.seat.inside.number Idle c.seat.inside.place.me) same c.seat.invariant.place)
+    (subst (λ (l : Limits). SitsAt l c.note.invariant.0 Noted c.note.inside.place.me) same_note c.note.invariant.1) c.join.ensures.both
+
+pub invariant_of-seat : goal.invariant_of-seat
+invariant_of-seat g c =
+    let tree : c.args.self.now.limits ≡ c.self.inside.limits = sym (ap (λ (t : Tree). t.limits) c.self.view_is) in
+    let same : c.seat.inside.limits ≡ c.self.inside.limits = ap (λ (s : Seat). s.limits) c.seat.view_is ∙ c.requires.own.limits ∙ tree in
+    let same_note : c.note.inside.limits ≡ c.self.inside.limits = ap (λ (n : Note). n.limits) c.note.view_is ∙ c.requires.note.limits ∙ tree in
+    let seat : IsSeat c.self.inside.limits c.seat.inside.number c.seat.inside.place.me c.seat.inside.actor = subst (λ (l : Limits). IsSeat l c.seat.inside.number c.seat.inside.place.me c.seat.inside.actor) same c.seat.invariant in
+    subst (λ (l : Limits). IsSeat l c.seat.inside.number c.part.new.seat.me c.seat.inside.actor) (sym same)
+    (left_seat c.self.inside.limits c.seat.inside.number c.note.invariant.0 Noted c.seat.inside.place.me c.note.inside.place.me c.join.new.seat.me seat.place
+    (subst (λ (l : Limits). SitsAt l c.note.invariant.0 Noted c.note.inside.place.me) same_note c.note.invariant.1) c.join.ensures.both
+    c.look.new.seat.me c.part.new.seat.me c.part.result.me c.look.ensures.saw c.part.ensures.first c.part.ensures.others c.own_lasts.ensures c.seat.inside.actor seat)
+
+pub returns-clause-heeds : goal.returns-clause-heeds
+returns-clause-heeds g c =
+    let tree : c.args.self.now.limits ≡ c.self.inside.limits = sym (ap (λ (t : Tree). t.limits) c.self.view_is) in
+    let same : c.seat.inside.limits ≡ c.self.inside.limits = ap (λ (s : Seat). s.limits) c.seat.view_is ∙ c.requires.own.limits ∙ tree in
+    let same_note : c.note.inside.limits ≡ c.self.inside.limits = ap (λ (n : Note). n.limits) c.note.view_is ∙ c.requires.note.limits ∙ tree in
+    let at : SitsAt c.self.inside.limits c.seat.inside.number Idle c.seat.inside.place.me = subst (λ (l : Limits). SitsAt l c.seat.inside.number Idle c.seat.inside.place.me) same c.seat.invariant.place in
+    let at_note : SitsAt c.self.inside.limits c.note.invariant.0 Noted c.note.inside.place.me = subst (λ (l : Limits). SitsAt l c.note.invariant.0 Noted c.note.inside.place.me) same_note c.note.invariant.1 in
+    let ours : Extends c.seat.inside.number (seen_of c.seat.inside.place.me) (seen_of c.part.new.seat.me) =
+    left_extends c.self.inside.limits c.seat.inside.number c.note.invariant.0 Noted c.seat.inside.place.me c.note.inside.place.me c.join.new.seat.me at at_note c.join.ensures.both
+    c.look.new.seat.me c.part.new.seat.me c.part.result.me c.look.ensures.saw c.part.ensures.first c.part.ensures.others in
+    let begins : StartsWith (seen_of c.part.new.seat.me) (seen_of c.note.inside.place.me) =
+    left_starts c.self.inside.limits c.seat.inside.number c.note.invariant.0 Noted c.seat.inside.place.me c.note.inside.place.me c.join.new.seat.me at at_note c.join.ensures.both
+    c.look.new.seat.me c.part.new.seat.me c.part.result.me c.look.ensures.saw c.part.ensures.first c.part.ensures.others refl in
+    record {
+      same = record {
+        table = c.part.ensures.same ∙ c.look.ensures.same ∙ c.join.ensures.same ∙ ap (λ (s : Seat). s.table) c.seat.view_is;
+        limits = ap (λ (s : Seat). s.limits) c.seat.view_is;
+        actor = ap (λ (s : Seat). s.actor) c.seat.view_is;
+      };
+      extends = subst (λ (s : Seat). Extends s.actor s.seen (seen_of c.part.new.seat.me)) c.seat.view_is ours;
+      begins = subst (λ (n : Note). StartsWith (seen_of c.part.new.seat.me) n.seen) c.note.view_is begins;
+    }
