@@ -1,0 +1,5 @@
+pub mod Bisect
+pub mod ItemTexts
+pub mod KeyOrder
+pub mod ReadingLaws
+pub mod RowTexts
