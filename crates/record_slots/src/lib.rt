@@ -18,4 +18,4 @@ pub use layout::{
 pub use read::from_words;
 pub use row::BadRow;
 pub use texts::{key_in, value_in};
-pub use write::to_words;
+pub use write::{key_bytes, to_words, word_at};

@@ -155,7 +155,7 @@ fn push_bound(words: &mut ArrayVec<u64, ROW_WORDS>, bound: Option<&Key>)
 }
 
 /// The bytes of a key, which are few.
-fn key_bytes(key: &Key) -> &[u8]
+pub fn key_bytes(key: &Key) -> &[u8]
     ensures bytes { result.now ≡ key.now }
     ensures short { IsShort key.now }
 {
@@ -204,7 +204,7 @@ fn push_text(words: &mut ArrayVec<u64, ROW_WORDS>, bytes: &[u8])
 }
 
 /// The eight bytes from a place on as one word, with zeros behind the last byte.
-fn word_at(bytes: &[u8], from: usize) -> u64
+pub fn word_at(bytes: &[u8], from: usize) -> u64
     requires { from ≤ 24 }
     ensures { result ≡ packed 8 (drop from bytes.now) }
 {

@@ -1,15 +1,17 @@
 //! Where a key stands among a row's items.
 ghost use Rattle.std.specs.Prelude.{◌≡◌, ◌≤◌, ◌/◌, List, IfOk, IfErr, slice_index};
 ghost use Rattle.base_page.specs.declared.item.Item.{Item};
+ghost use Rattle.base_page.specs.declared.items.TheConstants.{MAX_ITEMS};
 ghost use Rattle.base_page.specs.Places.{IsAt, IsGap};
 ghost use Rattle.row_search.specs.Rows.{StandIn};
 
 use crate::KeyWords;
+use record_slots::{FIRST_ITEM, HELD, ITEM_WORDS, ROW_WORDS};
 use std::cmp::Ordering;
 
 /// Where the key stands among the items of a row, or where it would stand, by bisection.
-pub fn place_of(row: &[u64; 256], key: &KeyWords) -> Result<usize, usize>
-    requires few { slice_index row.now 0 / 65536 ≤ 24 }
+pub fn place_of(row: &[u64; ROW_WORDS], key: &KeyWords) -> Result<usize, usize>
+    requires few { slice_index row.now 0 / 65536 ≤ MAX_ITEMS }
     ensures found { (items : List Item) → StandIn row.now items → IfOk result (IsAt items key.now) }
     ensures absent { (items : List Item) → StandIn row.now items → IfErr result (IsGap items key.now) }
 {
@@ -17,8 +19,8 @@ pub fn place_of(row: &[u64; 256], key: &KeyWords) -> Result<usize, usize>
     let mut high = (row[0] / 65536) as usize;
     while low < high {
         let middle = (low + high) / 2;
-        let at = 13 + 10 * middle;
-        match key.compare_at(row, at + 1, row[at] % 256) {
+        let at = FIRST_ITEM + ITEM_WORDS * middle;
+        match key.compare_at(row, at + 1, row[at] % HELD) {
             Ordering::Less => low = middle + 1,
             Ordering::Equal => return Ok(middle),
             Ordering::Greater => high = middle,
