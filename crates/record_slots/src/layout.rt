@@ -19,6 +19,9 @@ pub const FIRST_ITEM: usize = 13;
 /// How many words an item takes: five for its key, and five for its content.
 pub const ITEM_WORDS: usize = 10;
 
+/// Where an item's content stands among its words.
+pub const ITEM_CONTENT: usize = 5;
+
 /// A length that stands for no bound.
 pub const NO_BOUND: u64 = 255;
 

@@ -1,5 +1,5 @@
 -- What is read of the words of a record is that record.
-use Rattle.std.proofs.Common.{◌≡◌, ◌==◌, ◌<◌, ◌≤◌, ◌+◌, ◌*◌, ◌/◌, ◌%◌, ℕ, zero, suc, Bool, true, false, List, [], ◌∷◌, length, get_or, take, drop, refl, sym, ap, ◌∙◌, arith}
+use Rattle.std.proofs.Common.{◌≡◌, ◌==◌, ◌<◌, ◌≤◌, ◌+◌, ◌*◌, ◌/◌, ◌%◌, ℕ, zero, suc, Bool, true, false, List, [], ◌∷◌, length, get_or, take, drop, refl, sym, ap, subst, ◌∙◌, arith}
 use Rattle.std.specs.Prelude.{Option, Some, None, IfSome, if◌then◌else◌, nat_lt, unwrap_or}
 use Rattle.std.specs.List.{All}
 use Rattle.std.proofs.lemmas.Bool.{eqb-true, ltb-true, ltb-false, false_from_ne_true, true_from_ne_false}
@@ -26,14 +26,14 @@ use Rattle.row_search.specs.Reading.{text_in, field_in, bound_in, right_in, item
 use Rattle.row_search.proofs.ItemTexts.{unmarked, window}
 
 -- a text that stands first in some words
-text_read : (text words : List ℕ) → IsShort text → take 4 words ≡ text_words 4 text → text_in (length text) words ≡ text
+pub text_read : (text words : List ℕ) → IsShort text → take 4 words ≡ text_words 4 text → text_in (length text) words ≡ text
 text_read text words short e = ap (λ ws. take (length text) (bytes_of ws)) e ∙ (read_back 4 text short.bytes_fit (let s = short.short in omega arith)).are
 
 first_of : (n : ℕ) (xs : List ℕ) → get_or (take (suc n) xs) 0 0 ≡ get_or xs 0 0
 first_of n [] = refl
 first_of n (x ∷ xs) = refl
 
-field_read : (text words : List ℕ) → IsShort text → field_words text ≡ take 5 words → field_in words ≡ text
+pub field_read : (text words : List ℕ) → IsShort text → field_words text ≡ take 5 words → field_in words ≡ text
 field_read text words short e =
     let count : get_or words 0 0 ≡ length text = sym (first_of 4 words) ∙ ap (λ ws. get_or ws 0 0) (sym e) in
     let four : take 4 (drop 1 words) ≡ text_words 4 text = sym (window 4 1 5 words (omega arith)) ∙ ap (λ ws. take 4 (drop 1 ws)) (sym e) in
@@ -69,11 +69,11 @@ content_read level (Child page mark) words short index held e =
     ap (λ b. if b then Value (field_in (drop 5 words)) else Child (get_or words 5 0) (nat_lt 255 (get_or words 0 0))) above
     ∙ (λ i. Child (pid i) (held i))
 
-five_of : (content : Content) → take 5 (content_words content) ≡ content_words content
+pub five_of : (content : Content) → take 5 (content_words content) ≡ content_words content
 five_of (Value value) = refl
 five_of (Child page held) = refl
 
-item_read : (level : ℕ) (item : Item) (words : List ℕ) → IsItem level item → take 10 words ≡ item_words item → item_in level words ≡ item
+pub item_read : (level : ℕ) (item : Item) (words : List ℕ) → IsItem level item → take 10 words ≡ item_words item → item_in level words ≡ item
 item_read level item words is e =
     let first : get_or words 0 0 ≡ length item.key + (if is_held item.content then 256 else 0) = sym (first_of 9 words) ∙ ap (λ ws. get_or ws 0 0) e in
     let few = is.short.0.short in
@@ -130,3 +130,7 @@ reading words content h =
     ∙ ap (λ n. record_from (row_of content).kind (row_of content).level (row_of content).next (row_of content).page (row_of content).first (row_of content).second (items_in (row_of content).level n (drop 13 words))) many
     ∙ ap (record_from (row_of content).kind (row_of content).level (row_of content).next (row_of content).page (row_of content).first (row_of content).second) items
     ∙ from_parts content h.spellable
+
+-- what spells a record spells the record that is read of it
+pub kept : (words : List ℕ) (content : Record) → IsSpelling content words → IsSpelling (record_in words) words
+kept words content h = subst (λ (one : Record). IsSpelling one words) (sym (reading words content h)) h

@@ -1,5 +1,5 @@
 -- The texts of a row, by its record.
-use Rattle.std.proofs.Common.{◌≡◌, ◌<◌, ◌+◌, ◌*◌, ◌/◌, ◌%◌, ℕ, suc, Bool, true, false, List, [], ◌∷◌, length, get_or, take, drop, refl, sym, ap, ◌∙◌, arith}
+use Rattle.std.proofs.Common.{◌≡◌, ◌<◌, ◌≤◌, ◌+◌, ◌*◌, ◌/◌, ◌%◌, ℕ, suc, Bool, true, false, List, [], ◌∷◌, length, get_or, take, drop, refl, sym, ap, subst, ◌∙◌, arith}
 use Rattle.std.specs.Prelude.{Option, Some, None, IfSome, not, ◌&&◌, option_map}
 use Rattle.std.specs.declared.cmp.Ordering.{Ordering}
 use Rattle.std.specs.declared.cmp.Ordering.TheVariants.{Less, Equal, Greater}
@@ -10,7 +10,7 @@ use Rattle.bw_model.specs.Bytes.{IsShort, key_cmp, is_below, is_under}
 use Rattle.base_page.specs.declared.item.Content.TheVariants.{Value}
 use Rattle.base_page.specs.declared.item.Item.{Item}
 use Rattle.base_page.proofs.ItemLaws.{IsAscending-from}
-use Rattle.base_page.specs.Pages.{IsAscending}
+use Rattle.base_page.specs.Pages.{AreItems, IsAscending}
 use Rattle.deltas.specs.Records.{names, next_row}
 use Rattle.deltas.specs.Spellable.{IsSpellable}
 use Rattle.deltas.specs.declared.record.Record.{Record}
@@ -20,16 +20,16 @@ use Rattle.record_slots.specs.Spells.{IsSpelling}
 use Rattle.record_slots.specs.Texts.{IsText}
 use Rattle.record_slots.specs.Parts.{row_of, items_of}
 use Rattle.record_slots.proofs.SpellingLaws.{counts, items_fit, items_spelled, row_spelled}
-use Rattle.row_search.specs.Reading.{first_key}
+use Rattle.row_search.specs.Reading.{first_key, record_in}
 use Rattle.row_search.specs.Rows.{StandIn}
 use Rattle.row_search.proofs.ItemTexts.{window}
 
-first_of : (n : ℕ) (xs : List ℕ) → get_or (take (suc n) xs) 0 0 ≡ get_or xs 0 0
+pub first_of : (n : ℕ) (xs : List ℕ) → get_or (take (suc n) xs) 0 0 ≡ get_or xs 0 0
 first_of n [] = refl
 first_of n (x ∷ xs) = refl
 
 -- a text whose field stands at a place
-text_at : (text words : List ℕ) (at : ℕ) → IsShort text → field_words text ≡ take 5 (drop at words) → IsText (get_or words at 0) (take 4 (drop (at + 1) words)) text
+pub text_at : (text words : List ℕ) (at : ℕ) → IsShort text → field_words text ≡ take 5 (drop at words) → IsText (get_or words at 0) (take 4 (drop (at + 1) words)) text
 text_at text words at short e = record {
   short = short;
   counts =
@@ -176,3 +176,13 @@ module _ (key : List ℕ) where
 pub first_is : (items : List Item) (d : Item) → 0 < length items → (get_or items 0 d).key ≡ first_key items
 first_is [] d h = absurd (omega arith)
 first_is (item ∷ items) d h = refl
+
+-- a row's words spell its record
+pub row_spells : (words : List ℕ) (content : Record) → record_in words ≡ content → IsSpelling (record_in words) words → IsSpelling content words
+row_spells words content e h = subst (λ (one : Record). IsSpelling one words) e h
+
+pub few_items : (words : List ℕ) (content : Record) → record_in words ≡ content → IsSpelling (record_in words) words → length (items_of content) ≤ 24
+few_items words content e h = (stands words content (row_spells words content e h)).few
+
+pub are_items : (words : List ℕ) (content : Record) → record_in words ≡ content → IsSpelling (record_in words) words → AreItems (items_of content)
+are_items words content e h = let is = stands words content (row_spells words content e h) in record { few = is.few; ascending = is.ascending }

@@ -1,19 +1,22 @@
 //! A record that stays as the words that were read.
-ghost use Rattle.std.specs.Prelude.{◌≡◌, ◌≤◌, ◌<◌, ◌/◌, length, option_map, slice_index};
-ghost use Rattle.bw_model.specs.Bytes.{key_cmp};
-ghost use Rattle.deltas.specs.Records.{names, next_row};
-ghost use Rattle.record_slots.specs.Parts.{items_of, row_of};
-ghost use Rattle.row_search.specs.Reading.{first_key};
-ghost use Rattle.row_search.specs.Rows.{StandIn};
+ghost use Rattle.std.specs.Prelude.{◌≡◌};
+ghost use Rattle.deltas.specs.Records.{next_row};
+ghost use Rattle.deltas.specs.Spellable.{IsSpellable};
+ghost use Rattle.deltas.specs.declared.record.Record.TheVariants as kind;
+ghost use Rattle.record_slots.specs.Parts.{row_of};
 
-use crate::KeyWords;
-use std::cmp::Ordering;
+mod bounds;
+mod names;
+mod says;
+
+use deltas::{Record, Remove};
+use record_slots::{ROW_WORDS, from_words, to_words};
 use std::marker::Model;
 
 /// A record as the words of its row.
 #[derive(Debug, Drop)]
 pub struct Row {
-    pub words: [u64; 256],
+    pub words: [u64; ROW_WORDS],
 }
 
 impl Model for Row {
@@ -29,11 +32,50 @@ impl Model for Row {
 }
 
 impl Row {
-    /// Which kind of record it is.
+    /// A removal, as it stands where nothing was read yet.
+    pub fn blank() -> Row
+        ensures { result ≡ kind.Remove (record { level = 0; next = 1 }) }
+    {
+        Row::of(&Record::Remove(Remove { level: 0, next: 1 }))
+    }
+
+    /// The row of the record.
+    fn of(content: &Record) -> Row
+        requires { IsSpellable content.now }
+        ensures { result ≡ content.now }
+    {
+        Row {
+            words: to_words(content),
+        }
+    }
+
+    /// Writes the record over the one that stood here.
+    pub fn write(&mut self, content: &Record)
+        requires { IsSpellable content.now }
+        ensures { self.new ≡ content.now }
+    {
+        self.words = to_words(content);
+    }
+
+    /// The record, decoded: about 3 KB. Searches ask the row itself.
+    pub fn record(&self) -> Record
+        ensures { result ≡ self.now }
+    {
+        from_words(&self.words).unwrap()
+    }
+
+    /// Which kind of record it is, by its number.
     fn kind(&self) -> u64
         ensures { result ≡ (row_of self.now).kind }
     {
         self.words[0] % 256
+    }
+
+    /// The level; puts and deletes stand on leaves.
+    pub fn level(&self) -> u8
+        ensures { result ≡ (row_of self.now).level }
+    {
+        (self.words[0] / 256 % 256) as u8
     }
 
     /// The row of the record under it.
@@ -46,65 +88,10 @@ impl Row {
         Some(self.words[1] as u16)
     }
 
-    /// How its first key compares with the key.
-    fn compare_first(&self, key: &KeyWords) -> Ordering
-        ensures { result ≡ key_cmp (row_of self.now).first key.now }
+    /// The PID that stands in the row, or 0.
+    fn page(&self) -> u16
+        ensures { result ≡ (row_of self.now).page }
     {
-        key.compare_at(&self.words, 4, self.words[3])
-    }
-
-    /// How its second key compares with the key, where it isn't without bound.
-    fn compare_second(&self, key: &KeyWords) -> Option<Ordering>
-        ensures { result ≡ option_map (λ bound. key_cmp bound key.now) (row_of self.now).second }
-    {
-        if self.words[8] == 255 {
-            return None;
-        }
-        Some(key.compare_at(&self.words, 9, self.words[8]))
-    }
-
-    /// How the key of its first item compares with the key.
-    fn compare_item(&self, key: &KeyWords) -> Ordering
-        requires { 0 < length (items_of self.now) }
-        ensures { result ≡ key_cmp (first_key (items_of self.now)) key.now }
-    {
-        key.compare_at(&self.words, 14, self.words[13] % 256)
-    }
-
-    /// Whether it decides what the key has.
-    pub fn names(&self, key: &KeyWords) -> bool
-        ensures { result ≡ names self.now key.now }
-    {
-        let kind = self.kind();
-        if kind == 1 {
-            return true;
-        }
-        if kind == 2 {
-            return self.compare_item(key).is_eq();
-        }
-        if kind == 4 {
-            return !self.compare_first(key).is_gt();
-        }
-        if kind == 7 {
-            return false;
-        }
-        if kind == 8 {
-            return self.covers(key);
-        }
-        self.compare_first(key).is_eq()
-    }
-
-    /// Whether the key is in the range of a merge.
-    fn covers(&self, key: &KeyWords) -> bool
-        requires { (row_of self.now).kind ≡ 8 }
-        ensures { result ≡ names self.now key.now }
-    {
-        if self.compare_first(key).is_gt() {
-            return false;
-        }
-        match self.compare_second(key) {
-            None => true,
-            Some(bound) => bound.is_gt(),
-        }
+        self.words[2] as u16
     }
 }

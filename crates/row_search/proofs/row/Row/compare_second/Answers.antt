@@ -10,4 +10,4 @@ pub returns : goal.returns
 returns c =
     let spelled : IsSpelling c.args.self.now c.self.inside.words = subst (λ (content : Record). IsSpelling content c.self.inside.words) c.self.view_is c.self.invariant in
     let is = row_spelled c.self.inside.words c.args.self.now spelled in
-    second_by c.args.key.now c.self.inside.words (row_of c.args.self.now).second is.is.second is.second c.if-self-eq255.false c.compare_at.result c.compare_at.ensures
+    second_by c.args.key.now c.self.inside.words (row_of c.args.self.now).second is.is.second is.second c.if-self-eq-NO_BOUND.false c.compare_at.result c.compare_at.ensures
