@@ -1,5 +1,5 @@
 -- What an item of a row has, read from its words.
-use Rattle.std.proofs.Common.{◌≡◌, ◌==◌, ◌<◌, ◌+◌, ◌*◌, ℕ, zero, suc, Bool, true, false, List, [], ◌∷◌, length, get_or, take, drop, refl, sym, ap, subst, ◌∙◌, arith}
+use Rattle.std.proofs.Common.{◌≡◌, ◌==◌, ◌<◌, ◌+◌, ◌*◌, ℕ, Bool, true, false, List, length, get_or, take, drop, refl, sym, ap, subst, ◌∙◌, arith}
 use Rattle.std.specs.Prelude.{if◌then◌else◌, nat_lt, nat_le, ◌≤◌, ◌-◌, Option, Some, None, IfSome}
 use Rattle.std.proofs.lemmas.Bool.{eqb-true, leb-true, leb-false, ltb-true, ltb-false, false_from_ne_true, true_from_ne_false}
 use Rattle.std.proofs.lemmas.List.{get_or-drop, drop-drop}
@@ -11,7 +11,7 @@ use Rattle.deltas.specs.Spellable.{HasPid}
 use Rattle.deltas.specs.declared.record.Record.{Record}
 use Rattle.record_slots.specs.Parts.{IsItem, row_of, items_of}
 use Rattle.bw_model.specs.Bytes.{IsShort}
-use Rattle.record_slots.specs.Spelling.{field_words, bound_words, content_words, item_words}
+use Rattle.record_slots.specs.Spelling.{bound_words, content_words, item_words}
 use Rattle.record_slots.specs.Spells.{IsShortContent, IsSpelling}
 use Rattle.record_slots.specs.Texts.{IsText, bytes_of}
 use Rattle.record_slots.proofs.SpellingLaws.{items_fit}

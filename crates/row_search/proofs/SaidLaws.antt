@@ -1,6 +1,6 @@
 -- What a record says, by its kind, its parts and its items.
-use Rattle.std.proofs.Common.{◌≡◌, ℕ, zero, suc, List, get_or, refl, sym, ap, ◌∙◌, arith}
-use Rattle.std.specs.Prelude.{Bool, true, false, Option, Some, None, IfSome, unwrap_or}
+use Rattle.std.proofs.Common.{◌≡◌, ℕ, List, get_or, refl, ap, arith}
+use Rattle.std.specs.Prelude.{true, false, Option, Some, None, IfSome, unwrap_or}
 use Rattle.base_page.specs.declared.item.Content.TheVariants.{Child}
 use Rattle.base_page.specs.declared.item.Item.{Item}
 use Rattle.base_page.specs.Pages.{content_at}

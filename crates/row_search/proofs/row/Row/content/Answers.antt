@@ -36,8 +36,8 @@ unwrap-requires c =
     let at = c.item_at-at.result in
     let there = value_there words c.args.self.now spelled c.args.place none c.requires leaf in
     found_one (λ (text : List ℕ). IsText (get_or words (at + 5) 0) (take (at + 10 - (at + 5 + 1)) (drop (at + 5 + 1) words)) text) c.value_in.result there.0
-        (to_slice words (at + 5 + 1) (at + 10) at (13 + 10 * c.args.place) there.0 c.item_at-at.ensures.at (omega arith) refl there.1.1)
-        c.value_in.ensures
+    (to_slice words (at + 5 + 1) (at + 10) at (13 + 10 * c.args.place) there.0 c.item_at-at.ensures.at (omega arith) refl there.1.1)
+    c.value_in.ensures
 
 pub returns : goal.returns
 returns c d =
@@ -46,5 +46,5 @@ returns c d =
     let leaf : (row_of c.args.self.now).level ≡ 0 = sym c.level.ensures ∙ omega (arith, c.if-level-gt0.false) in
     let at = c.item_at-at.result in
     value_is words c.args.self.now spelled c.args.place d c.requires leaf c.unwrap.result
-        (from_slice words (at + 5 + 1) (at + 10) at (13 + 10 * c.args.place) c.unwrap.result c.item_at-at.ensures.at (omega arith) refl
-            (unwrapped (λ (text : List ℕ). IsText (get_or words (at + 5) 0) (take (at + 10 - (at + 5 + 1)) (drop (at + 5 + 1) words)) text) c.value_in.result c.unwrap.result c.unwrap.ensures c.value_in.ensures))
+    (from_slice words (at + 5 + 1) (at + 10) at (13 + 10 * c.args.place) c.unwrap.result c.item_at-at.ensures.at (omega arith) refl
+    (unwrapped (λ (text : List ℕ). IsText (get_or words (at + 5) 0) (take (at + 10 - (at + 5 + 1)) (drop (at + 5 + 1) words)) text) c.value_in.result c.unwrap.result c.unwrap.ensures c.value_in.ensures))

@@ -11,5 +11,5 @@ returns c =
     let words = c.self.inside.words in
     let spelled = row_spells words c.args.self.now c.self.view_is c.self.invariant in
     text_same (get_or words 3 0) (take 4 (drop 4 words)) c.unwrap.result (row_of c.args.self.now).first
-        (unwrapped (λ (text : List ℕ). IsText (get_or words 3 0) (take 4 (drop 4 words)) text) c.key_in.result c.unwrap.result c.unwrap.ensures c.key_in.ensures)
-        (first_text words c.args.self.now spelled)
+    (unwrapped (λ (text : List ℕ). IsText (get_or words 3 0) (take 4 (drop 4 words)) text) c.key_in.result c.unwrap.result c.unwrap.ensures c.key_in.ensures)
+    (first_text words c.args.self.now spelled)

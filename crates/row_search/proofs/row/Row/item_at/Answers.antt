@@ -1,5 +1,4 @@
-use Rattle.std.proofs.Common.{◌≤◌, length, arith}
-use Rattle.record_slots.specs.Parts.{items_of}
+use Rattle.std.proofs.Common.{arith}
 use Rattle.row_search.proofs.RowTexts.{few_items}
 use Rattle.row_search.proofs.row.Row.item_at.Goals as goal
 

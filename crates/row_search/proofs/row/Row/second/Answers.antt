@@ -12,4 +12,4 @@ returns c =
     let words = c.self.inside.words in
     let is = row_spelled words c.args.self.now (row_spells words c.args.self.now c.self.view_is c.self.invariant) in
     second_there words (row_of c.args.self.now).second is.is.second is.second c.if-self-eq-NO_BOUND.false c.unwrap.result
-        (unwrapped (λ (text : List ℕ). IsText (get_or words 8 0) (take 4 (drop 9 words)) text) c.key_in.result c.unwrap.result c.unwrap.ensures c.key_in.ensures)
+    (unwrapped (λ (text : List ℕ). IsText (get_or words 8 0) (take 4 (drop 9 words)) text) c.key_in.result c.unwrap.result c.unwrap.ensures c.key_in.ensures)
