@@ -4,6 +4,12 @@
 /// How many words a row has.
 pub const ROW_WORDS: usize = 256;
 
+/// What one level counts in a row's first word; the kind is below it.
+pub const LEVEL_UNIT: u64 = 256;
+
+/// What one item counts in a row's first word.
+pub const ITEM_UNIT: u64 = 65536;
+
 /// How many words the bytes of a key or a value take; the length stands in the word before them.
 pub const TEXT_WORDS: usize = 4;
 

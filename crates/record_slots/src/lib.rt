@@ -13,8 +13,8 @@ mod write;
 
 pub use laws::{rows_have_256_words, spelling_is_one};
 pub use layout::{
-    FIRST_ITEM, FIRST_KEY, HELD, ITEM_CONTENT, ITEM_WORDS, NO_BOUND, ROW_WORDS, SECOND_KEY,
-    TEXT_WORDS,
+    FIRST_ITEM, FIRST_KEY, HELD, ITEM_CONTENT, ITEM_UNIT, ITEM_WORDS, LEVEL_UNIT, NO_BOUND,
+    ROW_WORDS, SECOND_KEY, TEXT_WORDS,
 };
 pub use read::from_words;
 pub use row::BadRow;

@@ -1,7 +1,7 @@
 -- What an item of a row has, read from its words.
-use Rattle.std.proofs.Common.{◌≡◌, ◌==◌, ◌<◌, ◌+◌, ◌*◌, ℕ, Bool, true, false, List, length, get_or, take, drop, refl, sym, ap, subst, ◌∙◌, arith}
-use Rattle.std.specs.Prelude.{if◌then◌else◌, nat_lt, nat_le, ◌≤◌, ◌-◌, Option, Some, None, IfSome}
-use Rattle.std.proofs.lemmas.Bool.{eqb-true, leb-true, leb-false, ltb-true, ltb-false, false_from_ne_true, true_from_ne_false}
+use Rattle.std.proofs.Common.{◌≡◌, ◌==◌, ◌<◌, ◌+◌, ◌*◌, ℕ, false, List, length, get_or, take, drop, refl, sym, ap, subst, ◌∙◌, arith}
+use Rattle.std.specs.Prelude.{if◌then◌else◌, nat_le, ◌-◌, Option, Some, None, IfSome}
+use Rattle.std.proofs.lemmas.Bool.{eqb-true, false_from_ne_true}
 use Rattle.std.proofs.lemmas.List.{get_or-drop, drop-drop}
 use Rattle.base_page.specs.declared.item.Content.{Content}
 use Rattle.base_page.specs.declared.item.Content.TheVariants.{Value, Child}
@@ -59,11 +59,11 @@ module _ (words : List ℕ) (content : Record) (h : IsSpelling content words) (p
   first_word : get_or (drop at words) 0 0 ≡ get_or words at 0
   first_word = let e : at + 0 ≡ at = omega arith in get_or-drop at words 0 0 ∙ ap (λ k. get_or words k 0) e
 
-  pub child_there : 0 < (row_of content).level → Child (get_or words (at + 5) 0) (nat_lt 255 (get_or words at 0)) ≡ item.content
+  pub child_there : 0 < (row_of content).level → Child (get_or words (at + 5) 0) (nat_le 256 (get_or words at 0)) ≡ item.content
   child_there above =
       let index : ((row_of content).level == 0) ≡ false = false_from_ne_true ((row_of content).level == 0) (λ is. let z : (row_of content).level ≡ 0 = eqb-true (row_of content).level 0 is in omega arith) in
-      (λ i. Child (sym (get_or-drop at words 5 0) i) (nat_lt 255 (sym first_word i)))
-      ∙ ap (λ b. if b then Value (field_in (drop 5 (drop at words))) else Child (get_or (drop at words) 5 0) (nat_lt 255 (get_or (drop at words) 0 0))) (sym index)
+      (λ i. Child (sym (get_or-drop at words 5 0) i) (nat_le 256 (sym first_word i)))
+      ∙ ap (λ b. if b then Value (field_in (drop 5 (drop at words))) else Child (get_or (drop at words) 5 0) (nat_le 256 (get_or (drop at words) 0 0))) (sym index)
       ∙ ap (λ (one : Item). one.content) read
 
   pub page_fits : 0 < (row_of content).level → get_or words (at + 5) 0 < 4096
@@ -88,13 +88,9 @@ module _ (words : List ℕ) (content : Record) (h : IsSpelling content words) (p
       let there = value_there leaf in
       ap Value (text_same (get_or words (at + 5) 0) (take 4 (drop (at + 6) words)) value there.0 text there.1.1) ∙ there.1.0
 
--- what a mark of 256 or more says
-mark : (word : ℕ) (b : Bool) → b ≡ nat_le 256 word → b ≡ nat_lt 255 word
-mark word true e = let l : 256 ≤ word = leb-true 256 word (sym e) in sym (true_from_ne_false (nat_lt 255 word) (λ is. let g : word ≤ 255 = ltb-false 255 word is in omega arith))
-mark word false e = let l : word < 256 = leb-false 256 word (sym e) in sym (false_from_ne_true (nat_lt 255 word) (λ is. let g : 255 < word = ltb-true 255 word is in omega arith))
-
-pub marked : (words : List ℕ) (here other : ℕ) → here ≡ other → Child (get_or words (here + 5) 0) (nat_le 256 (get_or words here 0)) ≡ Child (get_or words (other + 5) 0) (nat_lt 255 (get_or words other 0))
-marked words here other e = (λ i. Child (get_or words (e i + 5) 0) (nat_le 256 (get_or words (e i) 0))) ∙ ap (Child (get_or words (other + 5) 0)) (mark (get_or words other 0) (nat_le 256 (get_or words other 0)) refl)
+-- what stands at a place
+pub marked : (words : List ℕ) (here other : ℕ) → here ≡ other → Child (get_or words (here + 5) 0) (nat_le 256 (get_or words here 0)) ≡ Child (get_or words (other + 5) 0) (nat_le 256 (get_or words other 0))
+marked words here other e = λ i. Child (get_or words (e i + 5) 0) (nat_le 256 (get_or words (e i) 0))
 
 -- the words that a slice of an item's words gives
 module _ (words : List ℕ) (from to here other : ℕ) (text : List ℕ) (e : here ≡ other) (f : from ≡ here + 6) (g : to ≡ here + 10) where

@@ -1,8 +1,8 @@
 -- What is read of the words of a record is that record.
 use Rattle.std.proofs.Common.{◌≡◌, ◌==◌, ◌<◌, ◌≤◌, ◌+◌, ◌*◌, ◌/◌, ◌%◌, ℕ, zero, suc, Bool, true, false, List, [], ◌∷◌, length, get_or, take, drop, refl, sym, ap, subst, ◌∙◌, arith}
-use Rattle.std.specs.Prelude.{Option, Some, None, IfSome, if◌then◌else◌, nat_lt, unwrap_or}
+use Rattle.std.specs.Prelude.{Option, Some, None, IfSome, if◌then◌else◌, nat_le, unwrap_or}
 use Rattle.std.specs.List.{All}
-use Rattle.std.proofs.lemmas.Bool.{eqb-true, ltb-true, ltb-false, false_from_ne_true, true_from_ne_false}
+use Rattle.std.proofs.lemmas.Bool.{eqb-true, leb-true, leb-false, false_from_ne_true, true_from_ne_false}
 use Rattle.std.proofs.Math.Dec.{eqb-suc-zero}
 use Rattle.std.proofs.lemmas.List.{get_or-drop}
 use Rattle.std.proofs.lemmas.List.Elements.{All-head, All-tail}
@@ -54,19 +54,19 @@ right_read None h = refl
 right_read (Some zero) h = let some = h.0 in absurd (omega arith)
 right_read (Some (suc page)) h = ap (λ b. if b then None else Some (suc page)) (eqb-suc-zero page)
 
-held_read : (held : Bool) (count word : ℕ) → count ≤ 32 → word ≡ count + (if held then 256 else 0) → nat_lt 255 word ≡ held
-held_read true count word few e = true_from_ne_false (nat_lt 255 word) (λ is. let l : word ≤ 255 = ltb-false 255 word is in omega arith)
-held_read false count word few e = false_from_ne_true (nat_lt 255 word) (λ is. let l : 255 < word = ltb-true 255 word is in omega arith)
+held_read : (held : Bool) (count word : ℕ) → count ≤ 32 → word ≡ count + (if held then 256 else 0) → nat_le 256 word ≡ held
+held_read true count word few e = true_from_ne_false (nat_le 256 word) (λ is. let l : word < 256 = leb-false 256 word is in omega arith)
+held_read false count word few e = false_from_ne_true (nat_le 256 word) (λ is. let l : 256 ≤ word = leb-true 256 word is in omega arith)
 
-content_read : (level : ℕ) (content : Content) (words : List ℕ) → IsShortContent content → IsOfLevel level content → nat_lt 255 (get_or words 0 0) ≡ is_held content → take 5 (drop 5 words) ≡ content_words content
-    → (if level == 0 then Value (field_in (drop 5 words)) else Child (get_or words 5 0) (nat_lt 255 (get_or words 0 0))) ≡ content
+content_read : (level : ℕ) (content : Content) (words : List ℕ) → IsShortContent content → IsOfLevel level content → nat_le 256 (get_or words 0 0) ≡ is_held content → take 5 (drop 5 words) ≡ content_words content
+    → (if level == 0 then Value (field_in (drop 5 words)) else Child (get_or words 5 0) (nat_le 256 (get_or words 0 0))) ≡ content
 content_read level (Value value) words short leaf held e =
-    ap (λ l. if l == 0 then Value (field_in (drop 5 words)) else Child (get_or words 5 0) (nat_lt 255 (get_or words 0 0))) leaf
+    ap (λ l. if l == 0 then Value (field_in (drop 5 words)) else Child (get_or words 5 0) (nat_le 256 (get_or words 0 0))) leaf
     ∙ ap Value (field_read value (drop 5 words) short (sym e))
 content_read level (Child page mark) words short index held e =
     let above : (level == 0) ≡ false = false_from_ne_true (level == 0) (λ is. let z : level ≡ 0 = eqb-true level 0 is in omega (arith, index)) in
     let pid : get_or words 5 0 ≡ page = sym (get_or-drop 5 words 0 0) ∙ sym (first_of 4 (drop 5 words)) ∙ ap (λ ws. get_or ws 0 0) e in
-    ap (λ b. if b then Value (field_in (drop 5 words)) else Child (get_or words 5 0) (nat_lt 255 (get_or words 0 0))) above
+    ap (λ b. if b then Value (field_in (drop 5 words)) else Child (get_or words 5 0) (nat_le 256 (get_or words 0 0))) above
     ∙ (λ i. Child (pid i) (held i))
 
 pub five_of : (content : Content) → take 5 (content_words content) ≡ content_words content

@@ -3,13 +3,15 @@ use Rattle.std.specs.Prelude.{◌≡◌, ◌≤◌, ◌*◌, ◌/◌, ℕ, List,
 use Rattle.std.specs.List.{All}
 use Rattle.base_page.specs.declared.item.Item.{Item}
 use Rattle.base_page.specs.Pages.{IsAscending}
+use Rattle.base_page.specs.declared.items.TheConstants.{MAX_ITEMS}
 use Rattle.record_slots.specs.Spelling.{items_words}
+use Rattle.record_slots.specs.declared.layout.TheConstants.{FIRST_ITEM, ITEM_UNIT, ITEM_WORDS}
 use Rattle.record_slots.specs.Spells.{IsShortItem}
 
 -- The words of a row spell these items, which ascend.
 pub record StandIn (words : List ℕ) (items : List Item) : Type 0 where
-  pub count : slice_index words 0 / 65536 ≡ length items
-  pub few : length items ≤ 24
+  pub count : slice_index words 0 / ITEM_UNIT ≡ length items
+  pub few : length items ≤ MAX_ITEMS
   pub short : All IsShortItem items
-  pub are : items_words items ≡ take (10 * length items) (drop 13 words)
+  pub are : items_words items ≡ take (ITEM_WORDS * length items) (drop FIRST_ITEM words)
   pub ascending : IsAscending items

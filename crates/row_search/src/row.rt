@@ -10,7 +10,7 @@ mod names;
 mod says;
 
 use deltas::{Record, Remove};
-use record_slots::{ROW_WORDS, from_words, to_words};
+use record_slots::{LEVEL_UNIT, ROW_WORDS, from_words, to_words};
 use std::marker::Model;
 
 /// A record as the words of its row.
@@ -68,14 +68,14 @@ impl Row {
     fn kind(&self) -> u64
         ensures { result ≡ (row_of self.now).kind }
     {
-        self.words[0] % 256
+        self.words[0] % LEVEL_UNIT
     }
 
     /// The level; puts and deletes stand on leaves.
     pub fn level(&self) -> u8
         ensures { result ≡ (row_of self.now).level }
     {
-        (self.words[0] / 256 % 256) as u8
+        (self.words[0] / LEVEL_UNIT % LEVEL_UNIT) as u8
     }
 
     /// The row of the record under it.
