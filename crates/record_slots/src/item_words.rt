@@ -5,12 +5,10 @@ ghost use Rattle.record_slots.specs.Parts.{IsChildIn, IsContentIn, IsItemIn, Are
 ghost use Rattle.record_slots.specs.Spells.{FindsOne};
 
 use crate::BadRow;
+use crate::layout::HELD;
 use crate::texts::{key_in, value_in};
 use arrayvec::ArrayVec;
 use base_page::{Content, Item, MAX_ITEMS};
-
-/// The mark of a held term, beside its key's length.
-const HELD: u64 = 256;
 
 /// Adds the items of a page of the level, from ten words each, and answers whether there are such items.
 #[inline(never)]

@@ -4,15 +4,13 @@ ghost use Rattle.record_slots.specs.Spells.{FindsOne};
 ghost use Rattle.record_slots.specs.Texts.{IsText, IsField, IsBound, bytes_of, ends_there};
 
 use crate::BadRow;
+use crate::layout::NO_BOUND;
 use arrayvec::ArrayVec;
 use bw_model::{Key, MAX_LENGTH, Value};
 
-/// A length that stands for no bound.
-const NO_BOUND: u64 = 255;
-
 /// A key, from its length and four words of bytes.
 #[inline(never)]
-pub(crate) fn key_in(count: u64, words: &[u64]) -> Result<Key, BadRow>
+pub fn key_in(count: u64, words: &[u64]) -> Result<Key, BadRow>
     requires { length words.now ≡ 4 }
     ensures { FindsOne (IsText count words.now) result }
 {
@@ -26,7 +24,7 @@ pub(crate) fn key_in(count: u64, words: &[u64]) -> Result<Key, BadRow>
 
 /// A value, from its length and four words of bytes.
 #[inline(never)]
-pub(crate) fn value_in(count: u64, words: &[u64]) -> Result<Value, BadRow>
+pub fn value_in(count: u64, words: &[u64]) -> Result<Value, BadRow>
     requires { length words.now ≡ 4 }
     ensures { FindsOne (IsText count words.now) result }
 {

@@ -6,13 +6,11 @@ ghost use Rattle.deltas.specs.Spellable.{IsSpellable};
 ghost use Rattle.record_slots.specs.Spelling.{bound_words, content_words, field_words, item_words, items_words, packed, row_words, text_words, words_of};
 ghost use Rattle.record_slots.specs.Spells.{IsShortItem, IsSpelling};
 
+use crate::layout::ROW_WORDS;
 use arrayvec::ArrayVec;
 use base_page::{Content, Item};
 use bw_model::{Key, Value};
 use deltas::Record;
-
-/// How many words a row has.
-const ROW: usize = 256;
 
 /// The words of the record; where a row can spell it, they do.
 pub fn to_words(content: &Record) -> [u64; 256]
@@ -104,7 +102,7 @@ fn row_words(
     words.into_inner().unwrap()
 }
 
-fn push_items(words: &mut ArrayVec<u64, ROW>, items: &[Item])
+fn push_items(words: &mut ArrayVec<u64, ROW_WORDS>, items: &[Item])
     requires { length words.old.items + 10 * length items.now ≤ 256 }
     ensures words { words.new.items ≡ words.old.items ++ items_words items.now }
     ensures short { All IsShortItem items.now }
@@ -114,7 +112,7 @@ fn push_items(words: &mut ArrayVec<u64, ROW>, items: &[Item])
     }
 }
 
-fn push_item(words: &mut ArrayVec<u64, ROW>, item: &Item)
+fn push_item(words: &mut ArrayVec<u64, ROW_WORDS>, item: &Item)
     requires { length words.old.items + 10 ≤ 256 }
     ensures words { words.new.items ≡ words.old.items ++ item_words item.now }
     ensures short { IsShortItem item.now }
@@ -136,7 +134,7 @@ fn push_item(words: &mut ArrayVec<u64, ROW>, item: &Item)
 }
 
 /// A key or a value with its length.
-fn push_field(words: &mut ArrayVec<u64, ROW>, bytes: &[u8])
+fn push_field(words: &mut ArrayVec<u64, ROW_WORDS>, bytes: &[u8])
     requires room { length words.old.items + 5 ≤ 256 }
     requires short { length bytes.now ≤ 32 }
     ensures { words.new.items ≡ words.old.items ++ field_words bytes.now }
@@ -145,7 +143,7 @@ fn push_field(words: &mut ArrayVec<u64, ROW>, bytes: &[u8])
     push_text(words, bytes);
 }
 
-fn push_bound(words: &mut ArrayVec<u64, ROW>, bound: Option<&Key>)
+fn push_bound(words: &mut ArrayVec<u64, ROW_WORDS>, bound: Option<&Key>)
     requires { length words.old.items + 5 ≤ 256 }
     ensures words { words.new.items ≡ words.old.items ++ bound_words (option_copied bound.entry) }
     ensures short { IfSome (option_copied bound.entry) IsShort }
@@ -157,7 +155,7 @@ fn push_bound(words: &mut ArrayVec<u64, ROW>, bound: Option<&Key>)
 }
 
 /// The bytes of a key, which are few.
-fn key_bytes(key: &Key) -> &[u8]
+pub fn key_bytes(key: &Key) -> &[u8]
     ensures bytes { result.now ≡ key.now }
     ensures short { IsShort key.now }
 {
@@ -183,7 +181,7 @@ fn are_short(bytes: &[u8])
 {}
 
 /// A number, and four words of nothing.
-fn push_five(words: &mut ArrayVec<u64, ROW>, number: u64)
+fn push_five(words: &mut ArrayVec<u64, ROW_WORDS>, number: u64)
     requires { length words.old.items + 5 ≤ 256 }
     ensures { words.new.items ≡ words.old.items ++ number ∷ 0 ∷ 0 ∷ 0 ∷ 0 ∷ [] }
 {
@@ -195,7 +193,7 @@ fn push_five(words: &mut ArrayVec<u64, ROW>, number: u64)
 }
 
 /// Four words of bytes.
-fn push_text(words: &mut ArrayVec<u64, ROW>, bytes: &[u8])
+fn push_text(words: &mut ArrayVec<u64, ROW_WORDS>, bytes: &[u8])
     requires { length words.old.items + 4 ≤ 256 }
     ensures { words.new.items ≡ words.old.items ++ text_words 4 bytes.now }
 {
@@ -206,7 +204,7 @@ fn push_text(words: &mut ArrayVec<u64, ROW>, bytes: &[u8])
 }
 
 /// The eight bytes from a place on as one word, with zeros behind the last byte.
-fn word_at(bytes: &[u8], from: usize) -> u64
+pub fn word_at(bytes: &[u8], from: usize) -> u64
     requires { from ≤ 24 }
     ensures { result ≡ packed 8 (drop from bytes.now) }
 {
@@ -226,11 +224,11 @@ fn byte_at(bytes: &[u8], place: usize) -> u8
 }
 
 /// Zeros up to the end of the row.
-fn push_zeros(words: &mut ArrayVec<u64, ROW>)
+fn push_zeros(words: &mut ArrayVec<u64, ROW_WORDS>)
     requires { length words.old.items ≤ 256 }
     ensures { words.new.items ≡ words.old.items ++ replicate (256 - length words.old.items) 0 }
 {
-    for _ in words.len()..ROW {
+    for _ in words.len()..ROW_WORDS {
         words.push(0);
     }
 }

@@ -1,0 +1,102 @@
+-- What a record says, by its kind, its parts and its items.
+use Rattle.std.proofs.Common.{◌≡◌, ℕ, List, get_or, refl, ap, arith}
+use Rattle.std.specs.Prelude.{true, false, Option, Some, None, IfSome, unwrap_or}
+use Rattle.base_page.specs.declared.item.Content.TheVariants.{Child}
+use Rattle.base_page.specs.declared.item.Item.{Item}
+use Rattle.base_page.specs.Pages.{content_at}
+use Rattle.deltas.specs.Records.{content_said, right_after}
+use Rattle.deltas.specs.Spellable.{IsPid, IsSpellable}
+use Rattle.deltas.specs.declared.record.Record.{Record}
+use Rattle.deltas.specs.declared.record.Record.TheVariants.{Base, Put, Delete, Split, Term, Hold, Remove, Merge, Unterm}
+use Rattle.record_slots.specs.Parts.{row_of, items_of}
+
+-- what it says of a key that it names
+module _ (key : List ℕ) where
+  pub said_base : (content : Record) → (row_of content).kind ≡ 1 → content_at (items_of content) key ≡ content_said content key
+  said_base (Base page) e = refl
+  said_base content e = absurd (omega arith)
+
+  pub said_put : (content : Record) (d : Item) → (row_of content).kind ≡ 2 → Some (get_or (items_of content) 0 d).content ≡ content_said content key
+  said_put (Put put) d e = refl
+  said_put content d e = absurd (omega arith)
+
+  pub said_term : (content : Record) → (row_of content).kind ≡ 5 → Some (Child (row_of content).page false) ≡ content_said content key
+  said_term (Term term) e = refl
+  said_term content e = absurd (omega arith)
+
+  pub said_hold : (content : Record) → (row_of content).kind ≡ 6 → Some (Child (row_of content).page true) ≡ content_said content key
+  said_hold (Hold hold) e = refl
+  said_hold content e = absurd (omega arith)
+
+  pub said_merge : (content : Record) → (row_of content).kind ≡ 8 → content_at (items_of content) key ≡ content_said content key
+  said_merge (Merge merge) e = refl
+  said_merge content e = absurd (omega arith)
+
+  pub said_none : (content : Record) → ((row_of content).kind ≡ 1 → ⊥) → ((row_of content).kind ≡ 2 → ⊥) → ((row_of content).kind ≡ 5 → ⊥) → ((row_of content).kind ≡ 6 → ⊥) → ((row_of content).kind ≡ 8 → ⊥)
+      → None ≡ content_said content key
+  said_none (Base page) a b c d e = absurd (a refl)
+  said_none (Put put) a b c d e = absurd (b refl)
+  said_none (Delete delete) a b c d e = refl
+  said_none (Split split) a b c d e = refl
+  said_none (Term term) a b c d e = absurd (c refl)
+  said_none (Hold hold) a b c d e = absurd (d refl)
+  said_none (Remove remove) a b c d e = refl
+  said_none (Merge merge) a b c d e = absurd (e refl)
+  said_none (Unterm unterm) a b c d e = refl
+
+-- the page's right after it
+pub ends_base : (content : Record) → (row_of content).kind ≡ 1 → (right : Option ℕ) → right_after content right ≡ right_after content None
+ends_base (Base page) e right = refl
+ends_base content e right = absurd (omega arith)
+
+pub ends_split : (content : Record) → (row_of content).kind ≡ 4 → (right : Option ℕ) → right_after content right ≡ right_after content None
+ends_split (Split split) e right = refl
+ends_split content e right = absurd (omega arith)
+
+pub ends_merge : (content : Record) → (row_of content).kind ≡ 8 → (right : Option ℕ) → right_after content right ≡ right_after content None
+ends_merge (Merge merge) e right = refl
+ends_merge content e right = absurd (omega arith)
+
+pub ends_not : (content : Record) → ((row_of content).kind ≡ 1 → ⊥) → ((row_of content).kind ≡ 4 → ⊥) → ((row_of content).kind ≡ 8 → ⊥) → (right : Option ℕ) → right_after content right ≡ right
+ends_not (Base page) a b c right = absurd (a refl)
+ends_not (Put put) a b c right = refl
+ends_not (Delete delete) a b c right = refl
+ends_not (Split split) a b c right = absurd (b refl)
+ends_not (Term term) a b c right = refl
+ends_not (Hold hold) a b c right = refl
+ends_not (Remove remove) a b c right = refl
+ends_not (Merge merge) a b c right = absurd (c refl)
+ends_not (Unterm unterm) a b c right = refl
+
+no_right : (right : Option ℕ) → IfSome right IsPid → unwrap_or right 0 ≡ 0 → None ≡ right
+no_right None h e = refl
+no_right (Some page) h e = let some = h.0 in absurd (omega arith)
+
+some_right : (right : Option ℕ) → (unwrap_or right 0 ≡ 0 → ⊥) → Some (unwrap_or right 0) ≡ right
+some_right None h = absurd (h refl)
+some_right (Some page) h = refl
+
+pub right_none : (content : Record) → IsSpellable content → (row_of content).page ≡ 0 → None ≡ right_after content None
+right_none (Base page) h e = no_right page.right h.right e
+right_none (Put put) h e = refl
+right_none (Delete delete) h e = refl
+right_none (Split split) h e = let some = h.names.0 in absurd (omega arith)
+right_none (Term term) h e = refl
+right_none (Hold hold) h e = refl
+right_none (Remove remove) h e = refl
+right_none (Merge merge) h e = no_right merge.right h.3.right e
+right_none (Unterm unterm) h e = refl
+
+no_some : {G : Type 0} → ◌≡◌ {A = Option ℕ} (Some 0) None → G
+no_some e = let n : ◌≡◌ {A = ℕ} 0 1 = ap (λ (right : Option ℕ). unwrap_or right 1) e in absurd (omega arith)
+
+pub right_some : (content : Record) → ((right : Option ℕ) → right_after content right ≡ right_after content None) → ((row_of content).page ≡ 0 → ⊥) → Some (row_of content).page ≡ right_after content None
+right_some (Base page) f h = some_right page.right h
+right_some (Put put) f h = no_some (f (Some 0))
+right_some (Delete delete) f h = no_some (f (Some 0))
+right_some (Split split) f h = refl
+right_some (Term term) f h = no_some (f (Some 0))
+right_some (Hold hold) f h = no_some (f (Some 0))
+right_some (Remove remove) f h = no_some (f (Some 0))
+right_some (Merge merge) f h = some_right merge.right h
+right_some (Unterm unterm) f h = no_some (f (Some 0))

@@ -1,0 +1,22 @@
+use Rattle.std.proofs.Common.{◌≡◌, ◌+◌, ◌-◌, List, ℕ, take, drop, sym, ap, ◌∙◌, arith}
+use Rattle.std.specs.Ordering.{ordering_then}
+use Rattle.bw_model.specs.Bytes.{key_cmp}
+use Rattle.record_slots.specs.Texts.{IsText, bytes_of}
+use Rattle.row_search.specs.Order.{words_cmp}
+use Rattle.row_search.proofs.KeyOrder.{text_order}
+use Rattle.row_search.proofs.key_words.KeyWords.compare_at.Goals as goal
+
+by_words : (n m : ℕ) (words others text key : List ℕ) → IsText n words text → IsText m others key → words_cmp words n others m ≡ key_cmp text key
+by_words n m words others text key is other =
+    (λ i. words_cmp (sym is.are i) (sym is.counts i) (sym other.are i) (sym other.counts i))
+    ∙ sym (text_order 4 text key is.short.bytes_fit other.short.bytes_fit (let s = is.short.short in omega arith) (let s = other.short.short in omega arith))
+
+pub returns : goal.returns
+returns c text is =
+    let four : c.args.at + 4 - c.args.at ≡ 4 = omega arith in
+    let key : List ℕ = take c.self.inside.count (bytes_of c.self.inside.words) in
+    c.then.ensures
+    ∙ (λ i. ordering_then (c.cmp.ensures i) (c.cmp-2.ensures i))
+    ∙ ap (λ n. words_cmp (take n (drop c.args.at c.args.row.now)) c.args.count c.self.inside.words c.self.inside.count) four
+    ∙ by_words c.args.count c.self.inside.count (take 4 (drop c.args.at c.args.row.now)) c.self.inside.words text key is c.self.invariant
+    ∙ ap (key_cmp text) c.self.view_is

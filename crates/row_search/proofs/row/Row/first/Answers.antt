@@ -1,0 +1,15 @@
+use Rattle.std.proofs.Common.{List, ℕ, get_or, take, drop}
+use Rattle.record_slots.specs.Parts.{row_of}
+use Rattle.record_slots.specs.Texts.{IsText}
+use Rattle.row_search.proofs.Found.{unwrapped}
+use Rattle.row_search.proofs.ItemReads.{text_same}
+use Rattle.row_search.proofs.RowTexts.{first_text, row_spells}
+use Rattle.row_search.proofs.row.Row.first.Goals as goal
+
+pub returns : goal.returns
+returns c =
+    let words = c.self.inside.words in
+    let spelled = row_spells words c.args.self.now c.self.view_is c.self.invariant in
+    text_same (get_or words 3 0) (take 4 (drop 4 words)) c.unwrap.result (row_of c.args.self.now).first
+    (unwrapped (λ (text : List ℕ). IsText (get_or words 3 0) (take 4 (drop 4 words)) text) c.key_in.result c.unwrap.result c.unwrap.ensures c.key_in.ensures)
+    (first_text words c.args.self.now spelled)

@@ -1,0 +1,64 @@
+//! Keys as words.
+ghost use Rattle.std.specs.Prelude.{◌≡◌, ◌≤◌, ◌+◌, List, ℕ, take, drop};
+ghost use Rattle.bw_model.specs.Bytes.{key_cmp};
+ghost use Rattle.record_slots.specs.Spelling.{text_words};
+ghost use Rattle.record_slots.specs.Texts.{IsText};
+ghost use Rattle.record_slots.specs.declared.layout.TheConstants.{ROW_WORDS, TEXT_WORDS};
+
+use bw_model::Key;
+use record_slots::{ROW_WORDS, TEXT_WORDS, key_bytes, word_at};
+use std::cmp::Ordering;
+use std::marker::Model;
+
+/// A key as the words that spell it, and its length.
+#[derive(Debug, Drop)]
+pub struct KeyWords {
+    words: [u64; TEXT_WORDS],
+    count: u64,
+}
+
+impl Model for KeyWords {
+    ghost use Rattle.std.specs.Prelude.{List, ℕ, take};
+    ghost use Rattle.record_slots.specs.Texts.{IsText, bytes_of};
+
+    ghost Value = { List ℕ };
+
+    ghost view = { λ k. take k.count (bytes_of k.words) };
+
+    ghost invariant = { λ k. IsText k.count k.words (take k.count (bytes_of k.words)) };
+}
+
+impl KeyWords {
+    /// The words of the key.
+    pub fn of(key: &Key) -> KeyWords
+        ensures { result ≡ key.now }
+    {
+        let bytes = key_bytes(key);
+        KeyWords {
+            words: words_of(bytes),
+            count: bytes.len() as u64,
+        }
+    }
+
+    /// How the text of that length which four words of a row spell compares with the key: word by word, and then by the lengths.
+    #[inline]
+    pub fn compare_at(&self, row: &[u64; ROW_WORDS], at: usize, count: u64) -> Ordering
+        requires { at + TEXT_WORDS ≤ ROW_WORDS }
+        ensures { (text : List ℕ) → IsText count (take TEXT_WORDS (drop at row.now)) text → result ≡ key_cmp text self.now }
+    {
+        let words = &row[at..at + TEXT_WORDS];
+        words.cmp(&self.words[..]).then(count.cmp(&self.count))
+    }
+}
+
+/// The four words that spell the bytes.
+fn words_of(bytes: &[u8]) -> [u64; TEXT_WORDS]
+    ensures { result ≡ text_words TEXT_WORDS bytes.now }
+{
+    [
+        word_at(bytes, 0),
+        word_at(bytes, 8),
+        word_at(bytes, 16),
+        word_at(bytes, 24),
+    ]
+}
