@@ -17,7 +17,7 @@ trap 'rm -rf "$copy"' EXIT
 (cd "$top" && git ls-files HANDLES crates.txt crates | tar -cf - -T -) | tar -xf - -C "$copy"
 echo "refusals: $below" >>"$copy/crates.txt"
 mkdir -p "$copy/crates/refusals/src"
-cp "$top/bench/refusals/$program.rt" "$copy/crates/refusals/src/main.rt"
+cp "$top/bench/refusals/$program.rt.txt" "$copy/crates/refusals/src/main.rt"
 cd "$copy/crates/refusals"
 for n in $(seq "$first" "$last"); do
     told=$(rt try --fail-alloc "$n" 2>&1 | grep -v '^rt:\|^interpreter:\|^checked:\|^races:' | tr '\n' '|')
