@@ -8,7 +8,10 @@ use Rattle.std.specs.Cmp.Lexicographic.{slice_cmp}
 use Rattle.bw_model.specs.Bytes.{key_cmp}
 use Rattle.record_slots.specs.Spelling.{packed, text_words}
 use Rattle.record_slots.proofs.WordLaws.{AreBytes, no_packed, packed_below}
-use Rattle.row_search.specs.Order.{words_cmp}
+
+-- Keys are compared word by word, and where all words are the same, by their lengths.
+abbrev pub words_cmp : List ℕ → ℕ → List ℕ → ℕ → Ordering
+words_cmp one count other length = ordering_then (slice_cmp nat_cmp one other) (nat_cmp count length)
 
 -- n bytes, with zeros behind the last one
 abbrev padded : ℕ → List ℕ → List ℕ

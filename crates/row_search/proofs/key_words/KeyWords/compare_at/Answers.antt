@@ -2,8 +2,7 @@ use Rattle.std.proofs.Common.{◌≡◌, ◌+◌, ◌-◌, List, ℕ, take, drop
 use Rattle.std.specs.Ordering.{ordering_then}
 use Rattle.bw_model.specs.Bytes.{key_cmp}
 use Rattle.record_slots.specs.Texts.{IsText, bytes_of}
-use Rattle.row_search.specs.Order.{words_cmp}
-use Rattle.row_search.proofs.KeyOrder.{text_order}
+use Rattle.row_search.proofs.KeyOrder.{text_order, words_cmp}
 use Rattle.row_search.proofs.key_words.KeyWords.compare_at.Goals as goal
 
 by_words : (n m : ℕ) (words others text key : List ℕ) → IsText n words text → IsText m others key → words_cmp words n others m ≡ key_cmp text key
