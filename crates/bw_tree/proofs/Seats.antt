@@ -3,7 +3,7 @@ use Rattle.std.proofs.Common.{◌≡◌, ◌<◌, ◌+◌, ◌-◌, inl, ℕ, Li
 use Rattle.std.specs.Prelude.{IsSome, IfSome, Some, None}
 use Rattle.std.proofs.lemmas.Option.{same_Some}
 use Rattle.actors.specs.declared.actor.Running.{Running}
-use Rattle.actors.specs.Actors.{Actor, ExtendsFor, IsActorWith, IsGoing, IsRunning, IsTold, command_at, command_left, knows_then, running_command, wanted_by}
+use Rattle.actors.specs.Actors.{Actor, GoesOn, IsActorWith, IsGoing, IsRunning, IsTold, command_at, command_left, knows_then, running_command, wanted_by}
 use Rattle.actors.specs.Spending.{steps_due}
 use Rattle.bw_model.specs.declared.command.Command.{Command}
 use Rattle.bw_model.specs.declared.command.Reply.{Reply}
@@ -107,8 +107,8 @@ module _ (limits : Limits) (a : ℕ) (k : Knowledge) (r : Recalled) (now : Actor
     is_told = record { limits = limits; actor = a; k = k; r = r; going = going }
 
     -- what was taken is what was asked
-    pub goes_so : (reply : Option Reply) (new : Actor) → ExtendsFor limits a k r now w.running.wanted told reply new → ExtendsFor limits a k r now asked told reply new
-    goes_so reply new g = subst (λ s. ExtendsFor limits a k r now s told reply new) w.wanted g
+    pub goes_so : (reply : Option Reply) (new : Actor) → GoesOn limits a k r now w.running.wanted told reply new → GoesOn limits a k r now asked told reply new
+    goes_so reply new g = subst (λ s. GoesOn limits a k r now s told reply new) w.wanted g
 
 -- only a Leave has a reply
 pub no_reply : (limits : Limits) (a : ℕ) (k : Knowledge) (step : StepOf Record) (reply : Option Reply) → (step ≡ Leave → ⊥) → IsAllowed limits a k step reply → reply ≡ None
@@ -172,7 +172,7 @@ module _ (laws : HaveLaws) (limits : Limits) (a : ℕ) (seen : List Entry) (now 
         left commands (Some given) = replaced_same a None commands
 
     -- what the seat keeps after it
-    pub seated_then : (new : Actor) → ExtendsFor limits a k (recalls seen a) now asked told reply new → running_command new ≡ command_left reply (running_command now) → IsSeated limits a later new
+    pub seated_then : (new : Actor) → GoesOn limits a k (recalls seen a) now asked told reply new → running_command new ≡ command_left reply (running_command now) → IsSeated limits a later new
     seated_then new goes runs = record {
       lawful = took.kept;
       shows = subst (λ q. IsActorWith limits a q (recalls later a) new.hand new.running) (sym known_then)
