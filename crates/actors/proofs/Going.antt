@@ -1,5 +1,5 @@
 -- One step of an operation, from what `next` promises.
-use Rattle.std.proofs.Common.{◌≡◌, ◌≢◌, ◌<◌, ◌^◌, ℕ, Option, Some, None, is_some, true, false, sym, ◌∙◌, subst, refl, arith}
+use Rattle.std.proofs.Common.{◌≡◌, ◌≢◌, ◌<◌, ◌^◌, ℕ, Option, Some, None, is_some, true, false, sym, ap, ◌∙◌, subst, refl, arith}
 use Rattle.std.proofs.lemmas.Option.{same_Some}
 use Rattle.bw_model.specs.declared.command.Reply.{Reply}
 use Rattle.bw_model.specs.declared.limits.Limits.{Limits}
@@ -81,13 +81,17 @@ module _ (limits : Limits) (actor : ℕ) (k : Knowledge) (r : Recalled) (had has
   pub told_with : IsTold old.op had a
   told_with = record { k = k; r = r; shows = running.goes.shows; fits = fits_last }
 
+  -- what wants another step has another one wanted
+  pub wants_other : wanted_of old.op had ≢ Some step.Leave → old.wanted ≢ step.Leave
+  wants_other other e = other (running.goes.wanted ∙ ap Some e)
+
   pub stays_at : old.wanted ≢ step.Leave → is_leaving old.op.state ≡ false
   stays_at stays = stays_in old.op.task had.spares had.limbo k old.op.sweep old.op.state running.goes.shows.limbo (λ e. stays (same_Some old.wanted step.Leave (sym running.goes.wanted ∙ e)))
 
-  pub goes_on : (asked : StepOf Record) → Obeys old.op had a new has (Step asked) → Spends old.op had a new has (Step asked) → IsSameTask old.op.task new.task
+  pub goes_on : (asked : StepOf Record) → old.wanted ≢ step.Leave → Obeys old.op had a new has (Step asked) → Spends old.op had a new has (Step asked) → IsSameTask old.op.task new.task
       → GoesOn limits actor k r (at_work had old) old.wanted a None (at_work has (record { op = new; wanted = asked }))
-  goes_on asked o spends same = record {
-    allowed = record { may = rw (← running.own_actor) running.goes.may.may; frees = rw (← running.own_limits, ← running.own_actor) running.goes.may.frees; replied = tt };
+  goes_on asked other o spends same = record {
+    allowed = record { may = rw (← running.own_actor) running.goes.may.may; frees = rw (← running.own_limits, ← running.own_actor) running.goes.may.frees; replied = tt; ends = λ e. absurd (other e) };
     useful = running.goes.may.useful;
     shows = record {
       own_limits = same.limits ∙ running.own_limits;
@@ -99,7 +103,7 @@ module _ (limits : Limits) (actor : ℕ) (k : Knowledge) (r : Recalled) (had has
 
   pub is_done : (reply : Reply) → Obeys old.op had a new has (Done reply) → GoesOn limits actor k r (at_work had old) old.wanted a (Some reply) (record { hand = has; running = None })
   is_done reply o = record {
-    allowed = record { may = rw (← running.own_actor) running.goes.may.may; frees = rw (← running.own_limits, ← running.own_actor) running.goes.may.frees; replied = (last, rw (← running.own_limits, ← running.own_actor) ends.may) };
+    allowed = record { may = rw (← running.own_actor) running.goes.may.may; frees = rw (← running.own_limits, ← running.own_actor) running.goes.may.frees; replied = (last, rw (← running.own_limits, ← running.own_actor) ends.may); ends = λ e. refl };
     useful = running.goes.may.useful;
     shows = record {
       spares = rw (← running.own_limits) (rw last ends.rests);

@@ -22,7 +22,7 @@ use Rattle.bw_tree.specs.Calls.{Advances}
 use Rattle.bw_tree.specs.Laws.{HaveLaws}
 use Rattle.bw_tree.specs.Runs.{IsLawfulRun}
 use Rattle.bw_tree.specs.Seats.{IsSeated, Seat, unfinished_command}
-use Rattle.bw_tree.proofs.Seats.{Wants, wants, may, allowed, useful, due, going, is_told, goes_so, no_reply, may_take, grown, fits, leaves, command_then, seated_then}
+use Rattle.bw_tree.proofs.Seats.{Wants, wants, may, allowed, useful, due, going, is_told, goes_so, no_reply, may_take, grown, leaves, command_then, seated_then}
 
 -- what an actor promises of an answer that it takes
 abbrev pub Takes : Actor → Answer Record → Option Reply → Actor → Type 0
@@ -48,8 +48,8 @@ module _ (laws : HaveLaws) (limits : Limits) (a : ℕ) (seen : List Entry) (now 
   w : Wants limits a k r now asked
   w = wants limits a k r now asked h.shows e
 
-  pub may_go : IsLawfulStep IsLawfulRun limits a seen None asked None
-  may_go = may_take laws limits a seen now h asked None (allowed limits a k r now asked w) (useful limits a k r now asked w) busy (due limits a k r now asked w)
+  pub may_go : (asked ≡ Leave → ⊥) → IsLawfulStep IsLawfulRun limits a seen None asked None
+  may_go other = may_take laws limits a seen now h asked None (allowed limits a k r now asked w other) (useful limits a k r now asked w) busy (due limits a k r now asked w)
 
   pub known_may : May a k asked
   known_may = may limits a k r now asked w
@@ -79,8 +79,10 @@ module _ (laws : HaveLaws) (limits : Limits) (a : ℕ) (seen : List Entry) (now 
 
   -- a step that goes on: its answer, and what the actor makes of it
   module _ (told : Answer Record) (later : List Entry) (took : Took IsLawfulRun limits a seen None asked told None later) where
+    -- the answer fits what the seat's own entries show
     fit : Fits limits k asked told
-    fit = fits laws limits a seen now h asked None (allowed limits a k r now asked w) (useful limits a k r now asked w) told later took
+    fit = let lasts = laws.own limits a seen took.run took.extends in
+        subst (λ q. Fits limits q asked told) lasts.known (laws.fit limits took.run a asked told took.legal.state (subst (λ q. May a q asked) (sym lasts.known) known_may) took.answered)
 
     pub told_on : IsTold now told
     told_on = is_told limits a k r now asked w told fit

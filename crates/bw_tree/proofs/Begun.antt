@@ -102,13 +102,6 @@ module _ (laws : HaveLaws) (limits : Limits) (a : ℕ) (seen : List Entry) (now 
   busy_then run legal x = subst IsSome (sym has ∙ (begun_seated run legal x).runs) refl
 
   module _ (asked : StepOf Record) (e : wanted_by new.running ≡ Some asked) where
-    pub may_begin : IsLawfulStep IsLawfulRun limits a seen (Some command) asked None
-    may_begin run told legal x is =
-        let seen' : List Entry = run ++ Begin a command ∷ [] in
-        let at' : IsSeated limits a seen' new = begun_seated run legal x in
-        subst (IsLawfulRun limits) (sym (without_begin seen' a asked told None))
-        (may_go laws limits a seen' new at' (busy_then run legal x) asked e seen' told at'.lawful (extends_self a seen') (subst (λ m. IsAnswer m asked told) (sym (same_memory run)) is))
-
     -- the first step is one on a word, and no leave
     may_first : May a (knows (seen ++ Begin a command ∷ []) a) asked
     may_first = known_may laws limits a (seen ++ Begin a command ∷ []) new (begun_seated seen h.lawful (extends_self a seen)) (busy_then seen h.lawful (extends_self a seen)) asked e
@@ -119,6 +112,13 @@ module _ (laws : HaveLaws) (limits : Limits) (a : ℕ) (seen : List Entry) (now 
 
     not_leaving : asked ≡ step.Leave → ⊥
     not_leaving is = not_inside (knows (seen ++ Begin a command ∷ []) a).inside (subst (May a (knows (seen ++ Begin a command ∷ []) a)) is may_first) (outside seen (extends_self a seen))
+
+    pub may_begin : IsLawfulStep IsLawfulRun limits a seen (Some command) asked None
+    may_begin run told legal x is =
+        let seen' : List Entry = run ++ Begin a command ∷ [] in
+        let at' : IsSeated limits a seen' new = begun_seated run legal x in
+        subst (IsLawfulRun limits) (sym (without_begin seen' a asked told None))
+        (may_go laws limits a seen' new at' (busy_then run legal x) asked e not_leaving seen' told at'.lawful (extends_self a seen') (subst (λ m. IsAnswer m asked told) (sym (same_memory run)) is))
 
     module _ (told : Answer Record) (later : List Entry) (took : Took IsLawfulRun limits a seen (Some command) asked told None later) where
       abbrev seen' : List Entry

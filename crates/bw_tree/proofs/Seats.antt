@@ -93,8 +93,8 @@ module _ (limits : Limits) (a : ℕ) (k : Knowledge) (r : Recalled) (now : Actor
   pub useful : IsUseful k asked
   useful = subst (IsUseful k) w.wanted w.shows.goes.may.useful
 
-  pub allowed : IsAllowed limits a k asked None
-  allowed = record { may = may; frees = frees; replied = tt }
+  pub allowed : (asked ≡ Leave → ⊥) → IsAllowed limits a k asked None
+  allowed other = record { may = may; frees = frees; replied = tt; ends = λ e. absurd (other e) }
 
   pub due : 0 < steps_due r now.hand now.running
   due = subst (λ o. 0 < steps_due r now.hand o) (sym w.is) (some_left limits a k r now.hand w.running w.shows)
@@ -142,11 +142,6 @@ module _ (laws : HaveLaws) (limits : Limits) (a : ℕ) (seen : List Entry) (now 
   module _ (told : Answer Record) (later : List Entry) (took : Took IsLawfulRun limits a seen None asked told reply later) where
     pub grown : later ≡ took.run ++ Step a asked told reply ∷ []
     grown = took.grown ∙ sym (without_begin took.run a asked told reply)
-
-    -- the answer fits what the seat's own entries show
-    pub fits : Fits limits k asked told
-    fits = let lasts = laws.own limits a seen took.run took.extends in
-        subst (λ q. Fits limits q asked told) lasts.known (laws.fit limits took.run a asked told took.legal.state (subst (λ q. May a q asked) (sym lasts.known) allowed.may) took.answered)
 
     pub leaves : IfSome reply (λ given. (asked ≡ Leave) × (told ≡ answer.Done))
     leaves = last_of reply allowed.replied

@@ -1,5 +1,5 @@
 -- What an actor may do, by what it knows from its own entries alone: no more than what the law needs.
-use Rattle.std.specs.Prelude.{◌≡◌, ◌≢◌, ◌<◌, ◌≤◌, ◌/◌, ◌^◌, ℕ, zero, suc, ◌⊎◌, List, [], ◌∷◌, length, Option, None, Some, Bool, true, false, IsTrue, IsFalse, IfSome, MatchOption, ⊤}
+use Rattle.std.specs.Prelude.{◌≡◌, ◌≢◌, ◌<◌, ◌≤◌, ◌/◌, ◌^◌, ℕ, zero, suc, ◌⊎◌, List, [], ◌∷◌, length, Option, None, Some, Bool, true, false, IsTrue, IsFalse, IfSome, IsSome, MatchOption, ⊤}
 use Rattle.bw_model.specs.declared.command.Command.{Command}
 use Rattle.bw_model.specs.declared.command.Reply.{Reply}
 use Rattle.bw_model.specs.declared.command.Command.TheVariants.{Page, Tidy}
@@ -367,8 +367,9 @@ pub record MayReply (limits : Limits) (actor : ℕ) (k : Knowledge) (reply : Rep
   pub going : k.asked.command ≡ Some command
   pub justified : MayAnswer actor k command reply ⊎ MayShowPage k command reply ⊎ MayCallTidy k command reply ⊎ MayGiveUp limits k command reply
 
--- a step that the actor may take by what it knows, with its reply, if it has one
+-- A step that the actor may take by what it knows. A Leave, and no other step, has a reply, and so ends the operation.
 pub record IsAllowed (limits : Limits) (actor : ℕ) (k : Knowledge) (step : StepOf Record) (reply : Option Reply) : Type 0 where
   pub may : May actor k step
   pub frees : MayFree limits actor k step
   pub replied : IfSome reply (λ given. (step ≡ Leave) × MayReply limits actor k given)
+  pub ends : step ≡ Leave → IsSome reply

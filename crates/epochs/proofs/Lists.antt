@@ -21,7 +21,7 @@ abbrev AreApart : Entry → Entry → Type 0
 AreApart one other = one.number ≢ other.number
 
 abbrev IsWithin : ℕ → Entry → Type 0
-IsWithin limit entry = (0 < entry.number) × (entry.number < limit)
+IsWithin limit entry = entry.number < limit
 
 pub restaged_is_list : (stage_after : Stage → Stage) (list : LimboList) → IsLimboList list → IsLimboList (record list { entries = restaged stage_after list.entries })
 restaged_is_list stage_after list is = record {
@@ -70,7 +70,7 @@ added_is_list list number is new = record {
     entry = record { number = number; stage = Unstamped }
 
     only : All (IsWithin list.limit) (entry ∷ [])
-    only zero d lt = (new.some, new.below)
+    only zero d lt = new.below
     only (suc k) d lt = absurd (omega (arith, lt))
 
     once : AllPairs AreApart (list.entries ++ (entry ∷ []))
@@ -106,7 +106,7 @@ few list is =
         rw (get_or-map number list.entries i some_entry d earlier, get_or-map number list.entries j some_entry d lt) (is.once i j some_entry before lt)
 
     within : All (λ n. n < list.limit) (map number list.entries)
-    within = All-map (λ n. n < list.limit) number list.entries (λ k d lt. (is.within k d lt).1)
+    within = All-map (λ n. n < list.limit) number list.entries is.within
 
     below : (q : ℕ) → list_any (eqb q) (map number list.entries) ≡ true → q < list.limit
     below q found =

@@ -70,9 +70,8 @@ abbrev pub with_item : Item → Limbo → Limbo
 with_item (Row row) limbo = record limbo { rows = added row limbo.rows }
 with_item (Pid pid) limbo = record limbo { pids = added pid limbo.pids }
 
--- a number of the tree that isn't in the list
+-- a number below the limit that isn't in the list
 pub record IsNew (list : LimboList) (number : ℕ) : Type 0 where
-  pub some : 0 < number
   pub below : number < list.limit
   pub out : IsFalse (is_in list number)
 
@@ -80,8 +79,8 @@ abbrev pub IsNewItem : Limbo → Item → Type 0
 IsNewItem limbo (Row row) = IsNew limbo.rows row
 IsNewItem limbo (Pid pid) = IsNew limbo.pids pid
 
--- Each number is there once, and is a number of the tree.
+-- Each number is there once, and is below the limit.
 pub record IsLimboList (list : LimboList) : Type 0 where
   pub small : list.limit ≤ 16384
   pub once : AllPairs (λ one other. one.number ≢ other.number) list.entries
-  pub within : All (λ entry. (0 < entry.number) × (entry.number < list.limit)) list.entries
+  pub within : All (λ entry. entry.number < list.limit) list.entries

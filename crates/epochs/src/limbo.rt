@@ -40,7 +40,7 @@ impl<A: Allocator + Copy> Limbo<A> {
 }
 
 impl<A: Allocator> Limbo<A> {
-    /// Whether the item may come into limbo: it is a number of the tree, and isn't there.
+    /// Whether the item may come into limbo: its number is below the limit, and isn't there.
     pub fn accepts(&self, item: Item) -> bool
         ensures { IsTrue result ↔ IsNewItem self.now item }
     {

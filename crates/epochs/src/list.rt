@@ -44,7 +44,7 @@ impl<A: Allocator> LimboList<A> {
     pub(crate) fn accepts(&self, number: u16) -> bool
         ensures { IsTrue result ↔ IsNew self.now number }
     {
-        0 < number && u64::from(number) < self.limit && !self.contains(number)
+        u64::from(number) < self.limit && !self.contains(number)
     }
 
     /// Whether the number is in the list.
@@ -93,7 +93,7 @@ impl<A: Allocator> LimboList<A> {
         Some((word, bits))
     }
 
-    /// Each number is there once, and is one of the tree.
+    /// Each number is there once, and is below the limit.
     pub(crate) fn has_each_once(&self)
         ensures { IsLimboList self.now }
     {

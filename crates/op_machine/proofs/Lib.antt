@@ -18,5 +18,6 @@ pub mod Going
 pub mod Keeping
 pub mod TakingOut
 pub mod SweepMoves
+pub mod Leaving
 pub mod Nexts
 pub mod runs

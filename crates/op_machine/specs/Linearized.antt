@@ -4,6 +4,7 @@ use Rattle.bw_model.specs.declared.limits.Limits.{Limits}
 use Rattle.chain_search.specs.declared.trace.Entry.{Entry}
 use Rattle.chain_search.specs.declared.trace.Turn.{Turn}
 use Rattle.chain_search.specs.Run.{IsRunOf}
+use Rattle.op_machine.specs.Operations.{EndAtLeaves}
 use Rattle.op_machine.specs.Points.{HasPoints}
 use Rattle.op_machine.specs.Answered.{IsAnswered}
 use Rattle.op_machine.specs.Quiet.{IsQuiet}
@@ -14,11 +15,13 @@ use Rattle.op_machine.specs.Index.{IsExactIndex}
 use Rattle.op_machine.specs.Direct.{IsDirect}
 use Rattle.op_machine.specs.Reuse.{IsFreedByRule}
 
--- The entries are a run of the turns, with linearization points: each finished operation replies what one ordered map replies
--- at its point, or Tidied or Full, which have none and tell what it found; that map is updated where a put or a delete is linked and by
--- no other step; and each record that is read is the one whose row's name was learnt.
+-- The entries are a run of the turns, in which each operation ends with its only Leave, with linearization points: each finished
+-- operation replies what one ordered map replies at its point, or Tidied or Full, which have none and tell what it found; that map
+-- is updated where a put or a delete is linked and by no other step; and each record that is read is the one whose row's name was
+-- learnt.
 pub record IsLinearized (limits : Limits) (turns : List Turn) (entries : List Entry) : Type 0 where
   pub run : IsRunOf limits turns entries
+  pub ends : EndAtLeaves entries
   pub points : List Bool
   pub pointed : HasPoints entries points
   pub answered : IsAnswered limits entries points

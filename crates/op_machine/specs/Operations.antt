@@ -1,8 +1,9 @@
 -- Operations and their own steps.
-use Rattle.std.specs.Prelude.{◌≡◌, ◌<◌, ℕ, List, Option, Some, slice_get}
+use Rattle.std.specs.Prelude.{◌≡◌, ◌<◌, ℕ, List, Option, None, Some, IsSome, slice_get, ⊤}
 use Rattle.bw_model.specs.declared.command.Command.{Command}
 use Rattle.bw_model.specs.declared.command.Reply.{Reply}
 use Rattle.bw_model.specs.declared.step.Step.{Step as StepOf}
+use Rattle.bw_model.specs.declared.step.Step.TheVariants.{Leave}
 use Rattle.bw_model.specs.declared.step.Answer.{Answer}
 use Rattle.deltas.specs.declared.record.Record.{Record}
 use Rattle.chain_search.specs.declared.trace.Entry.{Entry}
@@ -33,3 +34,13 @@ module _ (entries : List Entry) where
   -- Step n ends the operation with the reply.
   abbrev pub Finishes : Operation → ℕ → Reply → Type 0
   Finishes operation n reply = (step : StepOf Record) × (answer : Answer Record) × IsOwnEntry operation n step answer (Some reply)
+
+-- A Leave has a reply, and no other step has one.
+abbrev pub RepliesAtLeave : Entry → Type 0
+RepliesAtLeave (Begin actor command) = ⊤
+RepliesAtLeave (Step actor Leave answer reply) = IsSome reply
+RepliesAtLeave (Step actor step answer reply) = reply ≡ None
+
+-- An operation leaves once, by its last step, which has its reply.
+pub record EndAtLeaves (entries : List Entry) : Type 0 where
+  pub each : (n : ℕ) (entry : Entry) → slice_get entries n ≡ Some entry → RepliesAtLeave entry

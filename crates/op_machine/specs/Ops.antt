@@ -1,8 +1,9 @@
 -- An operation: the step that it wants, and what its actor knows meanwhile.
-use Rattle.std.specs.Prelude.{◌≡◌, ℕ, Option, Some, None}
+use Rattle.std.specs.Prelude.{◌≡◌, ◌≢◌, ℕ, Option, Some, None}
 use Rattle.bw_model.specs.declared.command.Reply.{Reply}
 use Rattle.bw_model.specs.declared.limits.Limits.{Limits}
 use Rattle.bw_model.specs.declared.step.Step.{Step as StepOf}
+use Rattle.bw_model.specs.declared.step.Step.TheVariants as step
 use Rattle.bw_model.specs.declared.step.Answer.{Answer}
 use Rattle.deltas.specs.declared.record.Record.{Record}
 use Rattle.chain_search.specs.Knowledge.{Knowledge}
@@ -74,6 +75,11 @@ pub record Goes (k : Knowledge) (r : Recalled) (op : Op) (hand : Hand) (asked : 
 pub record IsOver (task : Task) (k : Knowledge) (last : Option (StepOf Record)) (told : Answer Record) (hand : Hand) (reply : Reply) : Type 0 where
   pub left : HasLeft task k last told hand.spares reply
   pub limbo : AreKept task.limits task.actor hand.limbo (learn_last k last told).limbo
+
+-- It is done exactly where its leave was the step that it wanted.
+abbrev pub EndsAtLeave : Op → Hand → Want → Type 0
+EndsAtLeave old had (Step asked) = wanted_of old had ≢ Some step.Leave
+EndsAtLeave old had (Done reply) = wanted_of old had ≡ Some step.Leave
 
 -- what comes of an answer: the operation wants its next step, or is done
 abbrev pub Answers : Knowledge → Recalled → Op → Hand → Answer Record → Op → Hand → Want → Type 0

@@ -4,7 +4,7 @@ ghost use Rattle.chain_search.specs.Fitting.{Fits};
 ghost use Rattle.chain_search.specs.Knowledge.{Knowledge, begun, learn};
 ghost use Rattle.chain_search.specs.Recalled.{Recalled, blank};
 ghost use Rattle.op_machine.specs.Hands.{Hand as HandSeen};
-ghost use Rattle.op_machine.specs.Ops.{IsAtRestWith, IsTold, Obeys, Shows};
+ghost use Rattle.op_machine.specs.Ops.{EndsAtLeave, IsAtRestWith, IsTold, Obeys, Shows};
 ghost use Rattle.op_machine.specs.Outcomes as Outcome;
 ghost use Rattle.op_machine.specs.Outcomes.{IsFaced, changed, has_machine, is_changing, is_leaving, is_reading, is_writing, reads_on_at};
 ghost use Rattle.op_machine.specs.Shows.{FitsLast, ShowsState, learn_last, wanted_at};
@@ -81,6 +81,7 @@ impl Op {
     pub fn next<A: Allocator>(&mut self, hand: &mut Hand<A>, answer: &Answer<Record>) -> Want
         requires told { IsTold self.old hand.old answer.now }
         ensures obeys { Obeys self.old hand.old answer.now self.new hand.new result }
+        ensures ends { EndsAtLeave self.old hand.old result }
         ensures spends { Spends self.old hand.old answer.now self.new hand.new result }
         ensures same { IsSameTask self.old.task self.new.task }
     {

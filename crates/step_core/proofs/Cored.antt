@@ -1,7 +1,8 @@
 -- What a turn makes of a core.
-use Rattle.std.proofs.Common.{◌≡◌, ◌≢◌, ◌<◌, inl, inr, ℕ, List, [], ◌∷◌, ◌++◌, length, Some, None, Option, Bool, true, false, set, get_or, ltb, refl, sym, ap, subst, ◌∙◌}
+use Rattle.std.proofs.Common.{◌≡◌, ◌≢◌, ◌<◌, inl, inr, ℕ, List, [], ◌∷◌, ◌++◌, length, Some, None, Option, Bool, true, false, set, get_or, ltb, refl, sym, ap, subst, ◌∙◌, append_assoc}
 use Rattle.std.specs.Prelude.{slice_get, is_some, if◌then◌else◌}
 use Rattle.std.specs.Option.{option_map}
+use Rattle.std.proofs.lemmas.List.{append-nil}
 use Rattle.std.proofs.lemmas.Option.{same_Some, slice_get-map}
 use Rattle.std.proofs.lemmas.Bool.{lt-ltb, ltb-true}
 use Rattle.bw_model.specs.declared.command.Command.{Command}
@@ -19,6 +20,7 @@ use Rattle.chain_search.specs.Steps.{IsAnswer, memory_after}
 use Rattle.chain_search.specs.Tables.{Table, memory_in}
 use Rattle.chain_search.specs.Trace.{command_of, commands_after, memory_of}
 use Rattle.chain_search.specs.Discipline.{IsAllowed, May}
+use Rattle.chain_search.specs.Disciplined.{IsDisciplinedFrom, MayStand}
 use Rattle.chain_search.specs.Knowledge.{Knowledge, begun, finished, knows, knows_after, learn, nothing}
 use Rattle.tree_law.specs.Direct.{IsDirectState, StaysDirect}
 use Rattle.tree_law.specs.Own.{RowsAreApart}
@@ -76,12 +78,18 @@ pays_set limits actors entries entry i new grows each others stays a at e = elim
   | inr h ↦ rw (grows.recalled, others a h.0) (stays.others a (steps_due (recalls entries a) at.hand at.running) h.0 (each a at h.1))
 ]
 
+-- a trace in which each actor obeys its discipline, with one entry more
+stands_push : (limits : Limits) (before entries : List Entry) (last : Entry) → IsDisciplinedFrom limits before entries → MayStand limits (before ++ entries) last → IsDisciplinedFrom limits before (entries ++ last ∷ [])
+stands_push limits before [] last h may = (subst (λ es. MayStand limits es last) (append-nil before) may, tt)
+stands_push limits before (entry ∷ entries) last h may = (h.0, stands_push limits (before ++ entry ∷ []) entries last h.1 (subst (λ es. MayStand limits es last) (sym (append_assoc before (entry ∷ []) entries)) may))
+
 module _ (limits : Limits) where
   pub core_opens : (table : Table) (actors : List Actor) (entries : List Entry) → table.limits ≡ limits → memory_in table ≡ opening limits → length actors ≡ limits.actors
       → ((a : ℕ) (at : Actor) → slice_get actors a ≡ Some at → at ≡ idle_actor limits) → ((limits : Limits) (number : ℕ) (r : Recalled) → IsActor limits number nothing r (idle_actor limits)) → IsState limits [] → IsDirectState limits [] → entries ≡ [] → IsCore limits table actors entries
   core_opens table actors entries same has count each rest state direct none = rw none (record {
     state = state;
     direct = direct;
+    disciplined = tt;
     same_limits = same;
     has = has;
     count = count;
@@ -169,6 +177,7 @@ module _ (limits : Limits) where
       rw (grown, same) (record {
         state = begins limits entries i command core.state goes.0 goes.1;
         direct = stays.state;
+        disciplined = stands_push limits [] entries (Begin i command) core.disciplined (goes.0, goes.1);
         same_limits = core.same_limits;
         has = rw grows.memory core.has;
         count = set_length actors i new ∙ core.count;
@@ -211,6 +220,7 @@ module _ (limits : Limits) where
       rw (grown, same) (record {
         state = steps limits entries i step answer reply core.state going allowed answered;
         direct = stays.state;
+        disciplined = stands_push limits [] entries (Step i step answer reply) core.disciplined (going, allowed, answered);
         same_limits = kept_limits ∙ core.same_limits;
         has = rw grows.memory (kept ∙ ap (memory_after i step) core.has);
         count = set_length actors i new ∙ core.count;

@@ -4,6 +4,7 @@ use Rattle.std.specs.Prelude.{slice_get}
 use Rattle.std.proofs.lemmas.List.{append-nil, map-append}
 use Rattle.bw_model.specs.declared.limits.Limits.{Limits}
 use Rattle.chain_search.specs.declared.trace.Turn.{Turn}
+use Rattle.chain_search.specs.Disciplined.{IsDisciplined}
 use Rattle.chain_search.specs.Trace.{turn_of}
 use Rattle.op_machine.specs.Linearized.{IsLinearized, IsOrderly}
 use Rattle.step_core.specs.declared.event.RunError.{RunError}
@@ -36,8 +37,8 @@ pub orderly : (limits : Limits) (new : Core) → new.limits ≡ limits → IsOrd
 orderly limits new same is = subst (λ l. IsOrderly l new.entries) same is
 
 -- a run that opens a core and takes the turns
-pub stops : (limits : Limits) (turns : List Turn) (opened left : Core) (e : RunError) → opened.entries ≡ [] → opened.limits ≡ limits → StopsAt opened turns e left → IsLinearized left.limits (map turn_of left.entries) left.entries → IsOrderly left.limits left.entries → Stops limits turns e
-stops limits turns opened left e empty same at linear in_order =
+pub stops : (limits : Limits) (turns : List Turn) (opened left : Core) (e : RunError) → opened.entries ≡ [] → opened.limits ≡ limits → StopsAt opened turns e left → IsDisciplined left.limits left.entries → IsLinearized left.limits (map turn_of left.entries) left.entries → IsOrderly left.limits left.entries → Stops limits turns e
+stops limits turns opened left e empty same at disciplined linear in_order =
     let adds = adds_entries opened left (take at.count turns) at.added in
     let now : left.limits ≡ limits = adds.1 ∙ same in
     inr (record {
@@ -46,6 +47,7 @@ stops limits turns opened left e empty same at linear in_order =
       opened_at = same;
       left = left;
       stops = at;
+      disciplined = subst (λ l. IsDisciplined l left.entries) now disciplined;
       linearized = subst (λ l. IsLinearized l (map turn_of left.entries) left.entries) now linear;
       orderly = orderly limits left now in_order;
     })

@@ -2,6 +2,7 @@
 use Rattle.std.specs.Prelude.{◌≡◌, ℕ, List, length, Some, slice_get}
 use Rattle.bw_model.specs.declared.limits.Limits.{Limits}
 use Rattle.chain_search.specs.declared.trace.Entry.{Entry}
+use Rattle.chain_search.specs.Disciplined.{IsDisciplined}
 use Rattle.chain_search.specs.Knowledge.{knows}
 use Rattle.chain_search.specs.Recalled.{recalls}
 use Rattle.chain_search.specs.Tables.{Table, memory_in}
@@ -20,6 +21,7 @@ Pays limits entries actor at = Accounts limits entries actor (steps_due (recalls
 pub record IsCore (limits : Limits) (table : Table) (actors : List Actor) (entries : List Entry) : Type 0 where
   pub state : IsState limits entries
   pub direct : IsDirectState limits entries
+  pub disciplined : IsDisciplined limits entries
   pub same_limits : table.limits ≡ limits
   pub has : memory_in table ≡ memory_of limits entries
   pub count : length actors ≡ limits.actors

@@ -14,6 +14,7 @@ use Rattle.chain_search.specs.declared.trace.Entry.{Entry}
 use Rattle.chain_search.specs.declared.trace.Entry.TheVariants as entry
 use Rattle.chain_search.specs.declared.trace.Turn.{Turn}
 use Rattle.chain_search.specs.declared.trace.Turn.TheVariants.{Begin, Step}
+use Rattle.chain_search.specs.Disciplined.{IsDisciplined}
 use Rattle.chain_search.specs.Steps.{IsAnswer, MovesRecord}
 use Rattle.chain_search.specs.Trace.{command_of, memory_of, turn_of}
 use Rattle.deltas.specs.Memory.{Memory}
@@ -142,13 +143,14 @@ pub record StopsAt (old : Core) (turns : List Turn) (error : RunError) (new : Co
   pub refused : (refusal : RunError) → refusal_of new next ≡ Some refusal → error ≡ refusal
   pub memory : refusal_of new next ≡ None → (error ≡ OutOfMemory (length new.entries)) × WantsMemory new next
 
--- A core was opened, took turns, and refused the next one; what it took is linearized.
+-- A core was opened, took turns, and refused the next one; in what it took each actor obeyed its discipline, and it is linearized.
 pub record StopsOnTheWay (limits : Limits) (turns : List Turn) (error : RunError) : Type 0 where
   pub opened : Core
   pub empty : opened.entries ≡ []
   pub opened_at : opened.limits ≡ limits
   pub left : Core
   pub stops : StopsAt opened turns error left
+  pub disciplined : IsDisciplined limits left.entries
   pub linearized : IsLinearized limits (map turn_of left.entries) left.entries
   pub orderly : IsOrderly limits left.entries
 

@@ -1,5 +1,6 @@
 //! The core: all actors over one memory, one turn at a time.
 ghost use Rattle.std.specs.Prelude.{◌≡◌, ◌<◌, ◌≤◌, ◌&&◌, [], length, map, nat_lt, is_some, IfOk, IfErr, IfSome, OnErr, Some, None};
+ghost use Rattle.chain_search.specs.Disciplined.{IsDisciplined};
 ghost use Rattle.chain_search.specs.Trace.{command_of, turn_of};
 ghost use Rattle.listing.specs.Listed.{IsListing};
 ghost use Rattle.op_machine.specs.Linearized.{IsLinearized, IsOrderly};
@@ -103,6 +104,7 @@ impl<A: Allocator + Copy> Core<A> {
     pub fn take_turns(&mut self, turns: &[Turn]) -> Result<(), RunError>
         ensures ok { IfOk result (λ _. AddsTurns self.old turns.now self.new) }
         ensures err { IfErr result (λ error. StopsAt self.old turns.now error self.new) }
+        ensures disciplined { IsDisciplined self.new.limits self.new.entries }
         ensures linearized { IsLinearized self.new.limits (map turn_of self.new.entries) self.new.entries }
         ensures orderly { IsOrderly self.new.limits self.new.entries }
     {
@@ -245,9 +247,10 @@ impl<A: Allocator> Core<A> {
         }
     }
 
-    /// Whatever was done so far, the operations took effect one at a time, on one ordered map, and beside that pages kept
+    /// Whatever was done so far, each actor obeyed its discipline; the operations took effect one at a time, on one ordered map, and beside that pages kept
     /// their phases, the index is exact, each operation took few steps, and freeing was by the rule of epochs. It does nothing.
     pub fn linearized(&self)
+        ensures disciplined { IsDisciplined self.now.limits self.now.entries }
         ensures linearized { IsLinearized self.now.limits (map turn_of self.now.entries) self.now.entries }
         ensures orderly { IsOrderly self.now.limits self.now.entries }
     {

@@ -29,7 +29,7 @@ abbrev AreBelow : LimboList → Type 0
 AreBelow list = All (λ (entry : Entry). entry.number < list.limit) list.entries
 
 pub are_below : (list : LimboList) → IsLimboList list → AreBelow list
-are_below list is k d lt = (is.within k d lt).1
+are_below list is = is.within
 
 restaged_below : (f : Stage → Stage) (list : LimboList) → AreBelow list → AreBelow (record list { entries = restaged f list.entries })
 restaged_below f list below = All-map (λ (entry : Entry). entry.number < list.limit) (λ (entry : Entry). record entry { stage = f entry.stage }) list.entries below

@@ -33,7 +33,6 @@ fresh_out (r ∷ rows) n apart = rw (ne_eqb r n (apart 0 n (omega arith))) (fres
 
 pub new_still : (list : LimboList) (rows : List ℕ) (n : ℕ) → IsNew list n → All (λ r. r ≢ n) rows → IsNew (with_rows rows list) n
 new_still list rows n new apart = record {
-  some = new.some;
   below = new.below;
   out = list_any-append (λ (entry : Entry). eqb entry.number n) list.entries (map fresh rows) ∙ rw (new.out, fresh_out rows n apart) refl;
 }
@@ -178,9 +177,8 @@ module _ (limits : Limits) (actor : ℕ) (last : Option ℕ) where
       one_of_one true = refl
       one_of_one false = refl
 
-  new_one : (list : LimboList) (limit n : ℕ) → list.limit ≡ limit → 0 < n → n < limit → (limbo : known.LimboMark) → limbo ≡ known.Absent → Agrees limits actor last (stage_of list n) limbo → IsNew list n
-  new_one list limit n is some below limbo absent h = record {
-    some = some;
+  new_one : (list : LimboList) (limit n : ℕ) → list.limit ≡ limit → n < limit → (limbo : known.LimboMark) → limbo ≡ known.Absent → Agrees limits actor last (stage_of list n) limbo → IsNew list n
+  new_one list limit n is below limbo absent h = record {
     below = rw is below;
     out = out_of list.entries n (absent_stage limits actor last (stage_in list.entries n) (rw absent at h));
   }
@@ -194,7 +192,7 @@ module _ (limits : Limits) (actor : ℕ) (limbo : Limbo) (k : Knowledge) (head :
       let row : ℕ = get_or (chain_rows head chain) i d in
       let on : is_one (chain_rows head chain) row ≡ true = list_any_at (λ r. eqb r row) (chain_rows head chain) i d lt (eq-eqb row row refl) in
       let there = free row (walked row on) in
-      new_one limits actor k.limbo.epoch limbo.rows limits.rows row kept.lists.rows there.0 there.1 (k.limbo.rows row) there.2 (kept.rows row)
+      new_one limits actor k.limbo.epoch limbo.rows limits.rows row kept.lists.rows there.1 (k.limbo.rows row) there.2 (kept.rows row)
 
   chain_apart : AllPairs (λ one other. one ≢ other) (chain_rows head chain)
   chain_apart = rows_apart k.read.seen one head chain is (λ row on. (free row (walked row on)).0)
@@ -210,6 +208,6 @@ module _ (limits : Limits) (actor : ℕ) (limbo : Limbo) (k : Knowledge) (head :
 
   pub page_taken : (page : ℕ) → 0 < page → page < limits.pids → k.limbo.pids page ≡ known.Absent → IsTakenOut limits actor limbo (chain_rows head chain) (Some page) (record k.limbo { rows = taken_out k.read.seen head k.limbo.rows; pids = replaced_at page known.Unstamped k.limbo.pids })
   page_taken page some below absent = record {
-    new = record { apart = chain_apart; new_rows = chain_new; new_pid = new_one limits actor k.limbo.epoch limbo.pids limits.pids page kept.lists.pids some below (k.limbo.pids page) absent (kept.pids page) };
+    new = record { apart = chain_apart; new_rows = chain_new; new_pid = new_one limits actor k.limbo.epoch limbo.pids limits.pids page kept.lists.pids below (k.limbo.pids page) absent (kept.pids page) };
     kept = record { lists = record { rows = kept.lists.rows; pids = kept.lists.pids }; rows = chain_agrees; pids = added_agrees limits actor k.limbo.epoch limbo.pids page k.limbo.pids absent kept.pids };
   }

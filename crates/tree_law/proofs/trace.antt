@@ -1,4 +1,5 @@
 pub mod Beginning
+pub mod Ending
 pub mod Lives
 pub mod Marks
 pub mod Names

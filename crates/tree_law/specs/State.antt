@@ -17,7 +17,7 @@ use Rattle.chain_search.specs.Learnt.{HasLearnt}
 use Rattle.chain_search.specs.Run.{IsRun}
 use Rattle.chain_search.specs.Trace.{memory_of, memory_at, command_of}
 use Rattle.op_machine.specs.Answered.{FindsNothingFree, FindsTidy, RepliesAt}
-use Rattle.op_machine.specs.Operations.{Operation, IsOperation, IsOwnStep, TakesOwnStep, Finishes}
+use Rattle.op_machine.specs.Operations.{EndAtLeaves, Operation, IsOperation, IsOwnStep, TakesOwnStep, Finishes}
 use Rattle.op_machine.specs.Points.{log_of, log_at, IsPoint}
 use Rattle.op_machine.specs.Quiet.{IsQuiet}
 use Rattle.op_machine.specs.Faithful.{IsFaithful, KnowsRow}
@@ -142,6 +142,7 @@ pub record IsState (limits : Limits) (entries : List Entry) : Type 0 where
   pub marked : IsMarked limits entries points
   pub updates : UpdatesAtLinks limits entries points
   pub run : IsRun limits entries
+  pub ends : EndAtLeaves entries
   pub quiet : IsQuiet limits entries points
   pub faithful : IsFaithful limits entries
   pub in_phase : (pid : ℕ) → IsInPhase limits entries (length entries) pid (phase_of (owners.page pid))

@@ -23,7 +23,7 @@ use Rattle.chain_search.specs.Run.{IsRun, MayPlace}
 use Rattle.chain_search.proofs.ChainLaws.{IsChainFrom-unique}
 use Rattle.chain_search.specs.Trace.{memory_at, memory_of, TakesStep, Happens}
 use Rattle.chain_search.proofs.RunLaws.{IsRun-from_steps}
-use Rattle.op_machine.specs.Operations.{Operation, IsOperation, IsOwnStep, Finishes}
+use Rattle.op_machine.specs.Operations.{EndAtLeaves, Finishes, IsOperation, IsOwnStep, Operation, RepliesAtLeave}
 use Rattle.std.specs.Option.{option_map}
 use Rattle.std.specs.Ordering.{is_eq}
 use Rattle.bw_model.specs.Bytes.{key_cmp}
@@ -305,9 +305,13 @@ is_faithful = record {
         entered : {C : Type 0} (k a : ℕ) → a ≡ 0 → (memory_at small insert_and_lookup k).announced 0 ≡ 1 → (memory_at small insert_and_lookup k).announced a ≡ 0 → C
         entered k a same one none = let odd : ◌≡◌ {A = ℕ} 1 0 = sym one ∙ subst (λ x. (memory_at small insert_and_lookup k).announced x ≡ 0) same none in cc
 
+ends_at_leaves : EndAtLeaves insert_and_lookup
+ends_at_leaves = record { each = EachAt-get (λ n entry. RepliesAtLeave entry) insert_and_lookup (tt, (refl, (refl, (refl, (refl, (refl, (refl, (refl, (refl, (refl, (refl, (tt, (refl, (refl, (refl, (refl, (refl, (refl, (refl, tt))))))))))))))))))) }
+
 pub is_linearized : IsLinearized small (map turn_of insert_and_lookup) insert_and_lookup
 is_linearized = record {
   run = record { in_turn = refl; run = is_run };
+  ends = ends_at_leaves;
   points = points;
   pointed = has_points;
   answered = is_answered;

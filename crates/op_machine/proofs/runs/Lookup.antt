@@ -19,7 +19,7 @@ use Rattle.std.specs.Prelude.{map}
 use Rattle.chain_search.specs.Trace.{turn_of}
 use Rattle.chain_search.specs.Trace.{memory_at, TakesStep, IsStep}
 use Rattle.chain_search.proofs.RunLaws.{IsRun-from_steps}
-use Rattle.op_machine.specs.Operations.{Operation, IsOperation, IsOwnStep, Finishes}
+use Rattle.op_machine.specs.Operations.{EndAtLeaves, Finishes, IsOperation, IsOwnStep, Operation, RepliesAtLeave}
 use Rattle.bw_model.specs.Log.{Update, logged_value}
 use Rattle.bw_model.specs.Replies.{reply_of}
 use Rattle.op_machine.specs.Points.{log_at, HasPoints, IsPoint, has_point}
@@ -249,9 +249,13 @@ is_exact_index = record {
     too_low n top h root below = let zero_top : top ≡ 0 = UpTo-at (λ k. (t : ℕ) → IsRootLevel (memory_at small lookup k) t → t ≡ 0) 7
         (leaf 0 refl (record { page = lit< tt; linked = lit< tt; records = (refl, refl) }), (leaf 1 refl (record { page = lit< tt; linked = lit< tt; records = (refl, refl) }), (leaf 2 refl (record { page = lit< tt; linked = lit< tt; records = (refl, refl) }), (leaf 3 refl (record { page = lit< tt; linked = lit< tt; records = (refl, refl) }), (leaf 4 refl (record { page = lit< tt; linked = lit< tt; records = (refl, refl) }), (leaf 5 refl (record { page = lit< tt; linked = lit< tt; records = (refl, refl) }), (leaf 6 refl (record { page = lit< tt; linked = lit< tt; records = (refl, refl) }), leaf 7 refl (record { page = lit< tt; linked = lit< tt; records = (refl, refl) })))))))) n h top root in omega arith
 
+ends_at_leaves : EndAtLeaves lookup
+ends_at_leaves = record { each = EachAt-get (λ n entry. RepliesAtLeave entry) lookup (tt, (refl, (refl, (refl, (refl, (refl, (refl, tt))))))) }
+
 pub is_linearized : IsLinearized small (map turn_of lookup) lookup
 is_linearized = record {
   run = record { in_turn = refl; run = is_run };
+  ends = ends_at_leaves;
   points = points;
   pointed = has_points;
   answered = is_answered;

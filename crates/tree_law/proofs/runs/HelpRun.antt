@@ -59,7 +59,7 @@ comes_late =
     ▸ (refl, quietly (refl, refl) tt, (other_put, refl, refl))
     ▸ (refl, quietly (refl, refl) tt, (upper_c, refl, refl))
     ▸ (refl, quietly (refl, adds (whole (root_a ∷ []) (refl, refl) refl refl) helped_term refl term_fits late (is_unset became refl)) tt, refl)
-    ▸ (refl, record { may = refl; frees = tt; replied = (refl, exists) }, refl)
+    ▸ (refl, record { may = refl; frees = tt; replied = (refl, exists); ends = λ e. refl }, refl)
     ▸ tt
 
 -- it posts the term and puts its key
@@ -71,7 +71,7 @@ finishes =
     ▸ (refl, quietly tt tt, refl)
     ▸ (refl, quietly (refl, tt, is_unset [] refl) tt, refl)
     ▸ (refl, quietly (refl, adds (whole (upper_c ∷ []) (refl, refl) refl refl) other_put refl put_fits updates (is_unset [] refl)) tt, refl)
-    ▸ (refl, record { may = refl; frees = tt; replied = (refl, inserted) }, refl)
+    ▸ (refl, record { may = refl; frees = tt; replied = (refl, inserted); ends = λ e. refl }, refl)
     ▸ comes_late
 
 -- the second goes from the root to the new leaf

@@ -114,7 +114,7 @@ deletes_it =
     (refl, quietly tt tt, refl)
     ▸ (refl, quietly (refl, tt, is_unset became refl) tt, refl)
     ▸ (refl, quietly (refl, deletes) tt, refl)
-    ▸ (refl, record { may = refl; frees = tt; replied = (refl, deleted) }, refl)
+    ▸ (refl, record { may = refl; frees = tt; replied = (refl, deleted); ends = λ e. refl }, refl)
     ▸ tt
 
 -- a second operation goes down to the leaf of the key
@@ -140,7 +140,7 @@ indexes =
     ▸ (refl, quietly tt tt, refl)
     ▸ (refl, quietly (refl, (refl, tt, is_unset (drop 2 became) refl)) tt, refl)
     ▸ (refl, quietly (refl, inl refl) tt, refl)
-    ▸ (refl, record { may = refl; frees = tt; replied = (refl, inserted) }, refl)
+    ▸ (refl, record { may = refl; frees = tt; replied = (refl, inserted); ends = λ e. refl }, refl)
     ▸ descends
 
 -- it splits the leaf again

@@ -143,7 +143,7 @@ tidies =
     ▸ (refl, quietly (refl, inl refl) tt, refl)
     ▸ (refl, quietly (refl, refl) tt, (right_term, refl, refl))
     ▸ (refl, quietly (refl, inr right_child) tt, refl)
-    ▸ (refl, record { may = refl; frees = tt; replied = (refl, nothing_due) }, refl)
+    ▸ (refl, record { may = refl; frees = tt; replied = (refl, nothing_due); ends = λ e. refl }, refl)
     ▸ tt
 
 -- it comes there again, and goes on to the leaf on the removed leaf's right
@@ -156,7 +156,7 @@ goes_on =
 -- it shows the removed leaf, and begins again
 shows : IsDisciplinedFrom small (removal ++ take 13 upkeep) (drop 13 upkeep)
 shows =
-    (refl, record { may = refl; frees = tt; replied = (refl, shows_removed) }, refl)
+    (refl, record { may = refl; frees = tt; replied = (refl, shows_removed); ends = λ e. refl }, refl)
     ▸ (lit< tt, refl)
     ▸ going_left (removal ++ take 15 upkeep) (drop 27 upkeep) refl refl refl refl goes_on
 
@@ -179,7 +179,7 @@ descends =
     ▸ (refl, quietly (refl, inr last_child) tt, refl)
     ▸ (refl, quietly (refl, refl) tt, (other_put, refl, refl))
     ▸ (refl, quietly (refl, refl) tt, (upper_c, refl, refl))
-    ▸ (refl, record { may = refl; frees = tt; replied = (refl, shows_last) }, refl)
+    ▸ (refl, record { may = refl; frees = tt; replied = (refl, shows_last); ends = λ e. refl }, refl)
     ▸ tt
 
 pub last_page_disciplined : IsDisciplined small (helped_split ++ last_page)

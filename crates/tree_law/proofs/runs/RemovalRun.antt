@@ -90,13 +90,13 @@ goes_on : IsDisciplinedFrom small (take 70 removal) (drop 70 removal)
 goes_on =
     (refl, quietly (refl, inr (right_beyond (knows (take 58 removal)))) tt, refl)
     ▸ (refl, quietly (refl, refl) tt, (upper_c, refl, refl))
-    ▸ (refl, record { may = refl; frees = tt; replied = (refl, none_beyond) }, refl)
+    ▸ (refl, record { may = refl; frees = tt; replied = (refl, none_beyond); ends = λ e. refl }, refl)
     ▸ tt
 
 -- the second replies from the removed leaf, and begins again
 replies : IsDisciplinedFrom small (take 56 removal) (drop 56 removal)
 replies =
-    (refl, record { may = refl; frees = tt; replied = (refl, none_there) }, refl)
+    (refl, record { may = refl; frees = tt; replied = (refl, none_there); ends = λ e. refl }, refl)
     ▸ (lit< tt, refl)
     ▸ going_left (take 58 removal) (drop 70 removal) refl refl refl refl goes_on
 

@@ -46,7 +46,7 @@ full = record { command = insert_a; going = refl; justified = inr (inr (inr (rec
 gives_up_allowed : IsDisciplinedFrom small before gives_up
 gives_up_allowed =
     (refl, quietly tt tt, (0, none_free, refl))
-    ▸ (refl, record { may = refl; frees = tt; replied = (refl, full) }, refl)
+    ▸ (refl, record { may = refl; frees = tt; replied = (refl, full); ends = λ e. refl }, refl)
     ▸ tt
 
 takes_allowed : IsDisciplinedFrom small (enters 0 insert_a) (takes 62 2)

@@ -6,6 +6,7 @@ use Rattle.std.proofs.lemmas.List.Sums.{fold-append}
 use Rattle.bw_model.specs.declared.command.Command.{Command}
 use Rattle.bw_model.specs.declared.limits.Limits.{Limits}
 use Rattle.bw_model.specs.declared.step.Step.{Step as StepOf}
+use Rattle.bw_model.specs.declared.step.Step.TheVariants.{Leave}
 use Rattle.deltas.specs.declared.record.Record.{Record}
 use Rattle.deltas.specs.Memory.{Memory}
 use Rattle.chain_search.specs.declared.trace.Entry.{Entry}
@@ -18,9 +19,18 @@ use Rattle.chain_search.specs.Trace.{command_of, commands_after, memory_of, memo
 use Rattle.chain_search.proofs.TraceLaws.{memory_of-push, command_of-push}
 use Rattle.op_machine.specs.Examples.{small}
 
+-- the step isn't the Leave, and what it frees no other actor can hold
+abbrev pub FreesOn : ℕ → Knowledge → StepOf Record → Type 0
+FreesOn actor k Leave = ⊥
+FreesOn actor k step = MayFree small actor k step
+
+going_on : (actor : ℕ) (k : Knowledge) (step : StepOf Record) → May actor k step → FreesOn actor k step → IsAllowed small actor k step None
+going_on actor k Leave may frees = absurd frees
+going_on actor k step may frees = record { may = may; frees = frees; replied = tt; ends = λ e. cc }
+
 -- a step without a reply
-pub quietly : {actor : ℕ} {k : Knowledge} {step : StepOf Record} → May actor k step → MayFree small actor k step → IsAllowed small actor k step None
-quietly may frees = record { may = may; frees = frees; replied = tt }
+pub quietly : {actor : ℕ} {k : Knowledge} {step : StepOf Record} → May actor k step → FreesOn actor k step → IsAllowed small actor k step None
+quietly {actor = actor} {k = k} {step = step} may frees = going_on actor k step may frees
 
 -- the parts of a trace
 pub joined : (limits : Limits) (before first second : List Entry) → IsDisciplinedFrom limits before first → IsDisciplinedFrom limits (before ++ first) second → IsDisciplinedFrom limits before (first ++ second)

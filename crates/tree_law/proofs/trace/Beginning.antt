@@ -40,6 +40,7 @@ use Rattle.tree_law.proofs.shape.Exactness.{is_indexed, below_top, root_indexed}
 use Rattle.tree_law.proofs.shape.Fitness.{opening_fitted}
 use Rattle.tree_law.proofs.shape.Levels.{indexed_first, indexed_push}
 use Rattle.tree_law.proofs.shape.Mapping.{map_of}
+use Rattle.tree_law.proofs.trace.Ending.{ends_none, ends_push}
 use Rattle.tree_law.proofs.trace.Lives.{begins_in_phase, begins_phases, begins_only}
 use Rattle.tree_law.proofs.trace.Updates.{updates_push}
 use Rattle.tree_law.proofs.trace.Marks.{marked_push, tells_other, quiet_push}
@@ -112,6 +113,7 @@ opens limits = record {
   stood = λ op is u e. absurd (cc);
   marked = record { beside = refl; own = λ n e. absurd (cc); one = λ op m n is own own' p q. absurd (cc); answered = λ op n r is ends. absurd (let e = ends.2.entry in cc) };
   run = IsRun-none limits;
+  ends = ends_none;
   updates = λ n. (λ h. absurd (let e = h.0 in cc), λ h. absurd (let e = h.at in cc));
   quiet = record { at_each = λ n h. at_zero n h };
   faithful = record { known = λ n a row x h. absurd (let e = h.1 in cc); outside = λ n a s x h. absurd (let e = h.1 in cc) };
@@ -176,6 +178,7 @@ begins limits entries a c state below idle = record {
   stood = stood_begin;
   marked = marked_push entries state.points (Begin a c) false state.marked.beside limits state.marked (λ e. absurd (cc)) (λ e. absurd (cc)) (λ op s x r is e u. absurd (cc)) (λ e. absurd (cc));
   run = IsRun-push limits entries (Begin a c) state.run (below, idle);
+  ends = ends_push entries (Begin a c) state.ends tt;
   updates = updates_push limits entries state.points (Begin a c) false state.marked.beside state.updates (λ h. absurd (let e = h.0 in cc), λ h. absurd (let e = h.5.0.1 in cc));
   quiet = quiet_push entries state.points (Begin a c) false state.marked.beside limits state.quiet
       (rw (memory_of-push limits entries (Begin a c), log_of-push entries state.points (Begin a c) false state.marked.beside) (map_of state.is_tree));

@@ -46,6 +46,7 @@ use Rattle.tree_law.proofs.epochs.Reused.{rows_numbers, rows_held, pages_numbers
 use Rattle.tree_law.proofs.epochs.Timewise.{timed_step}
 use Rattle.tree_law.proofs.epochs.Allowed.{after_of}
 use Rattle.tree_law.proofs.trace.Beginning.{knows-push}
+use Rattle.tree_law.proofs.trace.Ending.{ends_push, step_ends}
 use Rattle.tree_law.specs.Indexed.{IsFirst}
 use Rattle.tree_law.specs.Phase.{Indexed}
 use Rattle.tree_law.proofs.shape.Exactness.{is_indexed, root_indexed}
@@ -270,6 +271,7 @@ module _ (limits : Limits) (entries : List Entry) (a : ℕ) (step : StepOf Recor
         let same : op ≡ operation_of z.mine.start a asked = own_same (entries ++ last ∷ []) op (operation_of z.mine.start a asked) (length entries) (slice_get_kept entries (last ∷ []) op.start _ begun) (slice_get_kept entries (last ∷ []) z.mine.start _ z.mine.begins) own (own_new entries last z.mine.start a asked step answer r z.mine.begins z.mine.unended refl) in
         (state.searches (operation_of z.mine.start a asked) z.mine.begins z.mine.unended asks).unfinished m reply (subst (λ o. Finishes entries o m reply) same ends));
     run = IsRun-push limits entries last state.run (subst IsSome (sym asks) refl, may_take limits entries state.owners (memory_of limits entries) (knows entries) (log_of entries state.points) state.point state.logs state.is_tree state.named a step answer r allowed.may is refl step allowed.may, is);
+    ends = ends_push entries last state.ends (step_ends limits (knows entries a) a step answer r allowed.replied allowed.ends);
     updates = updates_push limits entries z.points last mark z.marked.beside z.updates updated_now;
     quiet = quiet_push entries z.points last mark z.marked.beside limits z.quiet (map_of tree_after);
     in_phase = in_phase_after;
@@ -427,6 +429,7 @@ pointless limits entries points op answer (inr h) e m own p = h.unmarked m own p
 pub is_one_map : StatesAreLinearized
 is_one_map limits entries state = record {
   run = record { in_turn = refl; run = state.run };
+  ends = state.ends;
   points = state.points;
   pointed = record {
     beside = state.marked.beside;

@@ -20,4 +20,4 @@ returns-in-Ok-taken-clause-orderly g c =
 
 pub returns-in-Err-taken-clause-err : goal.returns-in-Err-taken-clause-err
 returns-in-Err-taken-clause-err g c =
-    stops _ _ c.in-Ok.core c.take_turns-taken.new.self c.in-Err-taken.error c.in-Ok.ensures.entries c.in-Ok.ensures.limits c.in-Err-taken.ensures.err c.take_turns-taken.ensures.linearized c.take_turns-taken.ensures.orderly
+    stops _ _ c.in-Ok.core c.take_turns-taken.new.self c.in-Err-taken.error c.in-Ok.ensures.entries c.in-Ok.ensures.limits c.in-Err-taken.ensures.err c.take_turns-taken.ensures.disciplined c.take_turns-taken.ensures.linearized c.take_turns-taken.ensures.orderly

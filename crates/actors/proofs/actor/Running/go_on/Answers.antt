@@ -11,4 +11,4 @@ go_on-requires g c =
 
 pub returns-clause-goes : goal.returns-clause-goes
 returns-clause-goes g c = λ limits number k r running fits.
-    goes_on limits number k r c.args.hand.now c.go_on.new.hand c.args.self.now c.go_on.new.self c.args.answer.now running fits c.go_on.new.wanted c.go_on.ensures.obeys c.go_on.ensures.spends c.go_on.ensures.same
+    goes_on limits number k r c.args.hand.now c.go_on.new.hand c.args.self.now c.go_on.new.self c.args.answer.now running fits c.go_on.new.wanted c.requires.stays c.go_on.ensures.obeys c.go_on.ensures.spends c.go_on.ensures.same

@@ -36,7 +36,7 @@ returns-then-is_leaving-clause-advances g c =
 
 pub take-answer-requires-clause-may : goal.take-answer-requires-clause-may
 take-answer-requires-clause-may g c =
-    may_go c.laws_of_runs.ensures _ _ _ _ c.self.invariant.seated (busy_of _ _ c.self.view_is c.requires.busy) c.in-Some.wanted.now (sym c.in-Some.ensures)
+    may_go c.laws_of_runs.ensures _ _ _ _ c.self.invariant.seated (busy_of _ _ c.self.view_is c.requires.busy) c.in-Some.wanted.now (sym c.in-Some.ensures) (λ is. c.if-is_leaving.ensures (sym c.in-Some.ensures ∙ ap Some is))
 
 pub go_on-requires : goal.go_on-requires
 go_on-requires g c =

@@ -1,5 +1,8 @@
 use Rattle.step_core.proofs.machine.Core.linearized.Goals as goal
 
+pub returns-clause-disciplined : goal.returns-clause-disciplined
+returns-clause-disciplined g c = rw (← c.self.view_is) c.self.invariant.disciplined
+
 pub returns-clause-linearized : goal.returns-clause-linearized
 returns-clause-linearized g c = rw (← c.self.view_is) (c.states_are_lawful.ensures.linearized _ _ c.self.invariant.state)
 

@@ -1,0 +1,102 @@
+-- The leave is wanted in one state alone.
+use Rattle.std.proofs.Common.{◌≡◌, ◌≢◌, ℕ, Option, Some, None, true, false, refl}
+use Rattle.std.proofs.lemmas.Option.{same_Some}
+use Rattle.bw_model.specs.declared.step.Answer.{Answer}
+use Rattle.bw_model.specs.declared.step.Step.{Step as StepOf}
+use Rattle.bw_model.specs.declared.step.Step.TheVariants as step
+use Rattle.deltas.specs.declared.record.Record.{Record}
+use Rattle.chain_search.specs.Knowledge.{Knowledge}
+use Rattle.descent.specs.Descents as descent
+use Rattle.descent.specs.Visits as page
+use Rattle.descent.specs.declared.descent.State.{State as DescentState}
+use Rattle.descent.specs.declared.descent.State.TheVariants as descent_state
+use Rattle.descent.specs.declared.visit.State.{State as VisitState}
+use Rattle.descent.specs.declared.visit.State.TheVariants as visit_state
+use Rattle.epochs.specs.Limbo.{Limbo}
+use Rattle.epochs.specs.declared.item.Reuse.{Reuse}
+use Rattle.epochs.specs.declared.item.Reuse.TheVariants as reuse
+use Rattle.installs.specs.Changes as change
+use Rattle.installs.specs.Spares.{Spares}
+use Rattle.installs.specs.Taking.{wanted_number}
+use Rattle.installs.specs.declared.change.State.{State as ChangeState}
+use Rattle.installs.specs.declared.change.State.TheVariants as change_state
+use Rattle.installs.specs.declared.plan.Plan.{Plan}
+use Rattle.installs.specs.declared.taking.Kind.TheVariants as kind
+use Rattle.installs.specs.declared.taking.Taking.{Taking}
+use Rattle.installs.specs.declared.taking.Taking.TheVariants as taking
+use Rattle.op_machine.specs.Hands.{Hand}
+use Rattle.op_machine.specs.Ops.{EndsAtLeave, HoldsLimbo, IsTold, Op, asked_by}
+use Rattle.op_machine.specs.Outcomes.{is_leaving}
+use Rattle.op_machine.specs.Shows.{wanted_at}
+use Rattle.op_machine.specs.Tasks.{Task}
+use Rattle.op_machine.specs.Works.{LeavesWith}
+use Rattle.op_machine.specs.declared.op.Want.{Want}
+use Rattle.op_machine.specs.declared.op.Want.TheVariants.{Step, Done}
+use Rattle.op_machine.specs.declared.state.State.{State}
+use Rattle.op_machine.specs.declared.state.State.TheVariants.{Begun, Epoch, Enter, Read, Write, Change, Leave}
+use Rattle.sweep.specs.Sweeps as sweep
+use Rattle.sweep.specs.Sweeps.{Sweep}
+use Rattle.sweep.specs.declared.sweep.State.{State as SweepState}
+use Rattle.sweep.specs.declared.sweep.State.TheVariants as sweep_state
+
+in_visit : (pid : ℕ) (state : VisitState) → page.wanted_at pid state ≢ step.Leave
+in_visit pid visit_state.Slot e = cc
+in_visit pid (visit_state.Row head row) e = cc
+
+in_round : (state : DescentState) → descent.wanted_at state ≢ step.Leave
+in_round descent_state.Root e = cc
+in_round (descent_state.Page visit) e = in_visit visit.pid visit.state e
+
+in_taking : (taken : Taking) → wanted_number taken ≢ step.Leave
+in_taking (taking.Bits kind.Pid word) e = cc
+in_taking (taking.Bits kind.Row word) e = cc
+in_taking (taking.Take kind.Pid number) e = cc
+in_taking (taking.Take kind.Row number) e = cc
+
+in_change : (plan : Plan) (spares : Spares) (state : ChangeState) → change.wanted_at plan spares state ≢ step.Leave
+in_change plan spares (change_state.Taking taken) e = in_taking taken e
+in_change plan spares change_state.Base e = cc
+in_change plan spares change_state.Ready e = cc
+in_change plan spares change_state.Place e = cc
+in_change plan spares change_state.Link e = cc
+in_change plan spares change_state.Undo e = cc
+in_change plan spares change_state.Clear e = cc
+
+in_reuse : (given : Reuse) → sweep.step_of given ≢ step.Leave
+in_reuse (reuse.Rows word bits) e = cc
+in_reuse (reuse.Pids word bits) e = cc
+
+in_sweep : (actor : ℕ) (state : SweepState) → sweep.wanted_at actor state ≢ step.Leave
+in_sweep actor sweep_state.Epoch e = cc
+in_sweep actor (sweep_state.Retire epoch) e = cc
+in_sweep actor (sweep_state.Announce announces) e = cc
+in_sweep actor (sweep_state.Reuse given) e = in_reuse given e
+
+-- an operation that isn't at its leave wants another step
+elsewhere : (spares : Spares) (swept : Option Sweep) (state : State) → is_leaving state ≡ false → asked_by swept (wanted_at spares state) ≢ Some step.Leave
+elsewhere spares (Some swept) state on e = in_sweep swept.actor swept.state (same_Some (sweep.wanted swept) step.Leave e)
+elsewhere spares None Begun on e = cc
+elsewhere spares None Epoch on e = cc
+elsewhere spares None (Enter epoch) on e = cc
+elsewhere spares None (Read round) on e = in_round round.state (same_Some (descent.wanted_at round.state) step.Leave e)
+elsewhere spares None (Write round) on e = in_round round.state (same_Some (descent.wanted_at round.state) step.Leave e)
+elsewhere spares None (Change now then) on e = in_change now.plan spares now.state (same_Some (change.wanted_at now.plan spares now.state) step.Leave e)
+elsewhere spares None (Leave reply) on e = cc
+
+-- one that is at its leave wants it
+at_leave : (task : Task) (spares : Spares) (limbo : Limbo) (k : Knowledge) (swept : Option Sweep) (state : State) → HoldsLimbo task state limbo k swept → is_leaving state ≡ true → asked_by swept (wanted_at spares state) ≡ Some step.Leave
+at_leave task spares limbo k None (Leave reply) holds on = refl
+at_leave task spares limbo k (Some swept) (Leave reply) holds on = let first = holds.first in cc
+at_leave task spares limbo k swept Begun holds on = cc
+at_leave task spares limbo k swept Epoch holds on = cc
+at_leave task spares limbo k swept (Enter epoch) holds on = cc
+at_leave task spares limbo k swept (Read round) holds on = cc
+at_leave task spares limbo k swept (Write round) holds on = cc
+at_leave task spares limbo k swept (Change now then) holds on = cc
+
+pub goes_on : (old : Op) (had : Hand) (asked : StepOf Record) → is_leaving old.state ≡ false → EndsAtLeave old had (Step asked)
+goes_on old had asked on = elsewhere had.spares old.sweep old.state on
+
+pub ends : (old : Op) (had : Hand) (told : Answer Record) (want : Want) → IsTold old had told → is_leaving old.state ≡ true → LeavesWith old.state want → EndsAtLeave old had want
+ends old had told (Step asked) is on left = absurd left
+ends old had told (Done reply) is on left = at_leave old.task had.spares had.limbo is.k old.sweep old.state is.shows.limbo on
