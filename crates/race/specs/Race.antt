@@ -1,6 +1,7 @@
 -- What a race does, from its lines to what is written.
 use Rattle.std.specs.Prelude.{◌≡◌, ℕ, ◌⊎◌, ◌↔◌, List, [], ◌++◌, Bool, true, false, not, Option}
 use Rattle.std.specs.Io.KnownBytes.{Consumes, IsAtEnd}
+use Rattle.std.specs.Global.{Global}
 use Rattle.bw_model.specs.declared.limits.Limits.{Limits}
 use Rattle.shell_lines.specs.declared.race_line.JobCommand.{JobCommand}
 use Rattle.bw_tree.specs.Seats.{Seat}
@@ -21,7 +22,7 @@ use Rattle.race.specs.Jobs.{AreJobsOf}
 use Rattle.race.specs.Results.{results_text}
 
 -- On a fresh tree's seats the jobs were run, with these results; so the seats are now.
-pub record HaveRun (limits : Limits) (jobs : List Job) (results : List JobResult) (seats : List Seat) : Type 0 where
+pub record HaveRun (limits : Limits) (jobs : List Job) (results : List (JobResult Global)) (seats : List Seat) : Type 0 where
   pub tree : Tree
   pub fresh : List Seat
   pub limited : tree.limits ≡ limits
@@ -36,7 +37,7 @@ pub record WereRefused (limits : Limits) (jobs : List Job) (why : JobsRefusal) :
   pub seats : List Seat
   pub limited : tree.limits ≡ limits
   pub opened : AreFresh tree fresh
-  pub stopped : HaveStopped jobs why fresh seats
+  pub stopped : HaveStopped Global jobs why fresh seats
 
 -- how the program tells why jobs were refused
 abbrev pub told_as : JobsRefusal → Refusal
@@ -44,7 +45,7 @@ told_as jobs.Memory = refusal.NotRun
 told_as jobs.Results = refusal.WrongResults
 
 -- What is printed for results, and for closing the tree with its seats: its pairs, or that it was refused.
-abbrev pub Closes : Limits → List JobResult → List Seat → List ℕ → Bool → Type 0
+abbrev pub Closes : Limits → List (JobResult Global) → List Seat → List ℕ → Bool → Type 0
 Closes limits results seats text false = (pairs : List (List ℕ × List ℕ)) × AreClosed limits seats pairs × (text ≡ results_text results ++ listing_text pairs)
 Closes limits results seats text true = text ≡ results_text results ++ lone_refusal_text refusal.NotClosed
 
@@ -52,7 +53,7 @@ Closes limits results seats text true = text ≡ results_text results ++ lone_re
 -- refused.
 abbrev pub RunsJobs : Limits → List Job → List ℕ → Bool → Type 0
 RunsJobs limits jobs text refused =
-    ((results : List JobResult) × (seats : List Seat) × HaveRun limits jobs results seats × Closes limits results seats text refused)
+    ((results : List (JobResult Global)) × (seats : List Seat) × HaveRun limits jobs results seats × Closes limits results seats text refused)
     ⊎ ((refused ≡ true) × (text ≡ lone_refusal_text refusal.NotOpened))
     ⊎ ((refused ≡ true) × (why : JobsRefusal) × WereRefused limits jobs why × (text ≡ lone_refusal_text (told_as why)))
 

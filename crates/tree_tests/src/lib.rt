@@ -16,6 +16,8 @@ mod numbered;
 #[cfg(test)]
 mod opening;
 #[cfg(test)]
+mod refused_jobs;
+#[cfg(test)]
 mod runs;
 #[cfg(test)]
 mod stops;

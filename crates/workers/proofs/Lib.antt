@@ -1,4 +1,5 @@
 mod Ascending
 mod Going
+mod Looked
 mod Named
 mod Parting

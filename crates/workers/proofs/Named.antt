@@ -9,30 +9,30 @@ use Rattle.workers.specs.declared.job.JobResult.{JobResult}
 use Rattle.workers.specs.declared.worker.Worker.{Worker}
 use Rattle.workers.specs.Worked.{AreNamed}
 
-abbrev pub done_by : Worker → List JobResult
+abbrev pub done_by : {A : Type 0} → Worker A → List (JobResult A)
 done_by worker = worker.done.items
 
 -- The results of each worker name its place, from this one on.
-abbrev pub ArePlaced : ℕ → List Worker → Type 0
-ArePlaced base workers = (n : ℕ) (worker : Worker) → slice_get workers n ≡ Some worker → All (λ result. result.seat ≡ base + n) (done_by worker)
+abbrev pub ArePlaced : {A : Type 0} → ℕ → List (Worker A) → Type 0
+ArePlaced {A = A} base workers = (n : ℕ) (worker : Worker A) → slice_get workers n ≡ Some worker → All (λ result. result.seat ≡ base + n) (done_by worker)
 
-shifted : (base : ℕ) (first : Worker) (workers : List Worker) → ArePlaced base (first ∷ workers) → ArePlaced (suc base) workers
+shifted : {A : Type 0} (base : ℕ) (first : Worker A) (workers : List (Worker A)) → ArePlaced base (first ∷ workers) → ArePlaced (suc base) workers
 shifted base first workers placed n worker at = All-weaker (λ result. result.seat ≡ base + suc n) (λ result. result.seat ≡ suc base + n) (λ result e. omega (arith, e)) (done_by worker) (placed (suc n) worker at)
 
-others_apart : (place base : ℕ) (workers : List Worker) → place < base → ArePlaced base workers → All (λ result. result.seat ≡ place → ⊥) (flat_map done_by workers)
+others_apart : {A : Type 0} (place base : ℕ) (workers : List (Worker A)) → place < base → ArePlaced base workers → All (λ result. result.seat ≡ place → ⊥) (flat_map done_by workers)
 others_apart place base [] below placed = All-nil (λ result. result.seat ≡ place → ⊥)
 others_apart place base (worker ∷ workers) below placed =
     All-append (λ result. result.seat ≡ place → ⊥) (done_by worker) (flat_map done_by workers)
     (All-weaker (λ result. result.seat ≡ base + 0) (λ result. result.seat ≡ place → ⊥) (λ result e same. absurd (omega (arith, below, e, same))) (done_by worker) (placed 0 worker refl))
     (others_apart place (suc base) workers (omega (arith, below)) (shifted base worker workers placed))
 
-between : (xs order others : List JobResult) → IsPermutation (xs ++ (order ++ others)) (order ++ (xs ++ others))
+between : {A : Type 0} (xs order others : List (JobResult A)) → IsPermutation (xs ++ (order ++ others)) (order ++ (xs ++ others))
 between xs order others =
     subst (λ z. IsPermutation z (order ++ (xs ++ others))) (append_assoc xs order others)
     (subst (IsPermutation ((xs ++ order) ++ others)) (append_assoc order xs others) (IsPermutation-append_left others (xs ++ order) (order ++ xs) (IsPermutation-append_comm xs order)))
 
 -- the results that name a place are those of the worker there
-pub named : (base : ℕ) (workers : List Worker) → ArePlaced base workers → (n : ℕ) (worker : Worker) → slice_get workers n ≡ Some worker → AreNamed (base + n) (flat_map done_by workers) (done_by worker)
+pub named : {A : Type 0} (base : ℕ) (workers : List (Worker A)) → ArePlaced base workers → (n : ℕ) (worker : Worker A) → slice_get workers n ≡ Some worker → AreNamed (base + n) (flat_map done_by workers) (done_by worker)
 named base [] placed n worker at = cc
 named base (first ∷ workers) placed zero worker at = subst (λ w. AreNamed (base + 0) (flat_map done_by (first ∷ workers)) (done_by w)) (same_Some first worker at) record {
   others = flat_map done_by workers;
@@ -53,7 +53,7 @@ named base (first ∷ workers) placed (suc n) worker at =
     }
 
 -- in whatever order the results stand
-pub reordered : (place : ℕ) (xs ys order : List JobResult) → IsPermutation xs ys → AreNamed place xs order → AreNamed place ys order
+pub reordered : {A : Type 0} (place : ℕ) (xs ys order : List (JobResult A)) → IsPermutation xs ys → AreNamed place xs order → AreNamed place ys order
 reordered place xs ys order moved is = record {
   others = is.others;
   all = IsPermutation-trans ys xs (order ++ is.others) (IsPermutation-sym xs ys moved) is.all;

@@ -17,13 +17,13 @@ use Rattle.workers.specs.Worked.{AreIdle, AreNamed, HasWorked, HaveStopped, Have
 use Rattle.workers.specs.Working.{HasDone}
 use Rattle.workers.proofs.Named.{ArePlaced, done_by, named, reordered}
 
-abbrev pub seat_of : Worker → Seat
+abbrev pub seat_of : {A : Type 0} → Worker A → Seat
 seat_of worker = worker.seat
 
 pub times_more : (n k : ℕ) → (n + 1) * k ≡ n * k + k
 times_more n k = omega arith
 
-below_of : {X : Type 0} (xs : List X) (n : ℕ) (x : X) → slice_get xs n ≡ Some x → n < length xs
+pub below_of : {X : Type 0} (xs : List X) (n : ℕ) (x : X) → slice_get xs n ≡ Some x → n < length xs
 below_of [] n x e = cc
 below_of (y ∷ ys) zero x e = omega arith
 below_of (y ∷ ys) (suc n) x e = let below = below_of ys n x e in omega (arith, below)
@@ -33,7 +33,7 @@ there [] n below = absurd (omega (arith, below))
 there (y ∷ ys) zero below = (y, refl)
 there (y ∷ ys) (suc n) below = there ys n (omega (arith, below))
 
-index_is : {X : Type 0} (xs : List X) (n : ℕ) (x d : X) → slice_get xs n ≡ Some x → slice_index_or xs n d ≡ x
+pub index_is : {X : Type 0} (xs : List X) (n : ℕ) (x d : X) → slice_get xs n ≡ Some x → slice_index_or xs n d ≡ x
 index_is [] n x d e = cc
 index_is (y ∷ ys) zero x d e = same_Some y x e
 index_is (y ∷ ys) (suc n) x d e = index_is ys n x d e
@@ -55,7 +55,7 @@ all_mapped f P (x ∷ xs) each zero d below = each 0 (f x) refl
 all_mapped f P (x ∷ xs) each (suc n) d below = all_mapped f P xs (λ m y e. each (suc m) y e) n d (omega (arith, below))
 
 -- what holds of each seat holds of each worker's
-pub all_seats : (P : Seat → Type 0) (workers : List Worker) → ((n : ℕ) (seat : Seat) → slice_get (map seat_of workers) n ≡ Some seat → P seat) → All (λ worker. P (seat_of worker)) workers
+pub all_seats : {A : Type 0} (P : Seat → Type 0) (workers : List (Worker A)) → ((n : ℕ) (seat : Seat) → slice_get (map seat_of workers) n ≡ Some seat → P seat) → All (λ worker. P (seat_of worker)) workers
 all_seats P workers each = all_mapped seat_of P workers each
 
 -- a list that was written over from its beginning to its end
@@ -67,15 +67,15 @@ whole_again (x ∷ xs) (y ∷ ys) zero count all = absurd (omega (arith, all))
 whole_again (x ∷ xs) (y ∷ ys) (suc n) count all = ap (λ z. y ∷ z) (whole_again xs ys n (omega (arith, count)) (omega (arith, all)))
 
 -- Each worker has done what it did at its place.
-abbrev pub HaveDone : ℕ → List Worker → List Worker → Type 0
-HaveDone limit olds news = (place : ℕ) (other : Worker) → place < length olds → HasDone place limit (slice_index_or olds place other).seat (slice_index_or news place other)
+abbrev pub HaveDone : {A : Type 0} → ℕ → List (Worker A) → List (Worker A) → Type 0
+HaveDone {A = A} limit olds news = (place : ℕ) (other : Worker A) → place < length olds → HasDone place limit (slice_index_or olds place other).seat (slice_index_or news place other)
 
-done_at : (limit : ℕ) (olds news : List Worker) → HaveDone limit olds news → (place : ℕ) (old new : Worker) → slice_get olds place ≡ Some old → slice_get news place ≡ Some new → HasDone place limit (seat_of old) new
+done_at : {A : Type 0} (limit : ℕ) (olds news : List (Worker A)) → HaveDone limit olds news → (place : ℕ) (old new : Worker A) → slice_get olds place ≡ Some old → slice_get news place ≡ Some new → HasDone place limit (seat_of old) new
 done_at limit olds news done place old new at_old at_new =
     subst (HasDone place limit (seat_of old)) (index_is news place new new at_new)
     (subst (λ z. HasDone place limit (seat_of z) (slice_index_or news place new)) (index_is olds place old new at_old) (done place new (below_of olds place old at_old)))
 
-placed : (limit : ℕ) (olds news : List Worker) → length news ≡ length olds → HaveDone limit olds news → ArePlaced 0 news
+placed : {A : Type 0} (limit : ℕ) (olds news : List (Worker A)) → length news ≡ length olds → HaveDone limit olds news → ArePlaced 0 news
 placed limit olds news count done n worker at =
     let below = below_of news n worker at in
     let old = there olds n (omega (arith, below, count)) in
@@ -84,7 +84,7 @@ placed limit olds news count done n worker at =
 none_more : (place : ℕ) → 0 + place ≡ place
 none_more place = omega arith
 
-pub have_worked : (limit : ℕ) (olds news : List Worker) → length news ≡ length olds → HaveDone limit olds news → All (λ worker. IsOneHistory worker.seat.limits worker.seat.seen) news → HaveWorked (flat_map done_by news) (map seat_of olds) (map seat_of news)
+pub have_worked : {A : Type 0} (limit : ℕ) (olds news : List (Worker A)) → length news ≡ length olds → HaveDone limit olds news → All (λ worker. IsOneHistory worker.seat.limits worker.seat.seen) news → HaveWorked (flat_map done_by news) (map seat_of olds) (map seat_of news)
 have_worked limit olds news count done histories = record {
   count = length_map seat_of news ∙ count ∙ sym (length_map seat_of olds);
   each = λ place before after at_before at_after.
@@ -100,7 +100,7 @@ have_worked limit olds news count done histories = record {
 }
 
 -- in whatever order the results stand
-pub worked_reordered : (xs ys : List JobResult) (olds news : List Seat) → IsPermutation xs ys → HaveWorked xs olds news → HaveWorked ys olds news
+pub worked_reordered : {A : Type 0} (xs ys : List (JobResult A)) (olds news : List Seat) → IsPermutation xs ys → HaveWorked xs olds news → HaveWorked ys olds news
 worked_reordered xs ys olds news moved worked = record {
   count = worked.count;
   each = λ place before after at_before at_after.
@@ -109,7 +109,7 @@ worked_reordered xs ys olds news moved worked = record {
 }
 
 -- seats that have worked are the tree's, and idle
-pub own_after : (tree : Tree) (results : List JobResult) (olds news : List Seat) → HaveWorked results olds news → AreSeatsOf tree olds → AreSeatsOf tree news
+pub own_after : {A : Type 0} (tree : Tree) (results : List (JobResult A)) (olds news : List Seat) → HaveWorked results olds news → AreSeatsOf tree olds → AreSeatsOf tree news
 own_after tree results olds news worked own place after at =
     let below = below_of news place after at in
     let old = there olds place (omega (arith, below, worked.count)) in
@@ -117,21 +117,21 @@ own_after tree results olds news worked own place after at =
     let h = (worked.each place old.0 after old.1 at).goes in
     record { table = h.same.table ∙ before.table; limits = h.same.limits ∙ before.limits }
 
-pub idle_after : (results : List JobResult) (olds news : List Seat) → HaveWorked results olds news → AreIdle news
+pub idle_after : {A : Type 0} (results : List (JobResult A)) (olds news : List Seat) → HaveWorked results olds news → AreIdle news
 idle_after results olds news worked place after at =
     let below = below_of news place after at in
     let old = there olds place (omega (arith, below, worked.count)) in
     (worked.each place old.0 after old.1 at).goes.idle
 
-pub worked_as : (results others : List JobResult) (olds before news after : List Seat) → HaveWorked results olds news → others ≡ results → before ≡ olds → after ≡ news → HaveWorked others before after
+pub worked_as : {A : Type 0} (results others : List (JobResult A)) (olds before news after : List Seat) → HaveWorked results olds news → others ≡ results → before ≡ olds → after ≡ news → HaveWorked others before after
 worked_as results others olds before news after worked same_results same_olds same_news =
     subst (λ z. HaveWorked z before after) (sym same_results)
     (subst (λ z. HaveWorked results z after) (sym same_olds) (subst (HaveWorked results olds) (sym same_news) worked))
 
-pub stopped : (jobs : List Job) (refusal : JobsRefusal) (results : List JobResult) (olds news backs : List Seat) → refusal ≡ Results → backs ≡ news → HaveWorked results olds news → IsNonDecreasingBy (λ result. result.job) results → (AreResultsOf jobs results → ⊥)
-    → HaveStopped jobs refusal olds backs
-stopped jobs refusal results olds news backs is same worked order other =
-    subst (λ z. HaveStopped jobs z olds backs) (sym is) (results, subst (HaveWorked results olds) (sym same) worked, order, other)
+pub stopped : {A : Type 0} (jobs : List Job) (refusal : JobsRefusal) (results : List (JobResult A)) (olds news backs : List Seat) → refusal ≡ Results → backs ≡ news → HaveWorked results olds news → IsNonDecreasingBy (λ result. result.job) results → (AreResultsOf jobs results → ⊥)
+    → HaveStopped A jobs refusal olds backs
+stopped {A = A} jobs refusal results olds news backs is same worked order other =
+    subst (λ z. HaveStopped A jobs z olds backs) (sym is) (results, subst (HaveWorked results olds) (sym same) worked, order, other)
 
 -- what is so where a test is false
 pub where_false : (P Q : Type 0) (test : Bool) → test ≡ false → MatchBool test P Q → Q

@@ -17,8 +17,8 @@ abbrev pub AreIdle : List Seat → Type 0
 AreIdle seats = (n : ℕ) (seat : Seat) → slice_get seats n ≡ Some seat → unfinished_command seat ≡ None
 
 -- The results that name a seat by its place, in some order: together with others, which name other seats, they are all.
-pub record AreNamed (place : ℕ) (results order : List JobResult) : Type 0 where
-  pub others : List JobResult
+pub record AreNamed {A : Type 0} (place : ℕ) (results order : List (JobResult A)) : Type 0 where
+  pub others : List (JobResult A)
   pub all : IsPermutation results (order ++ others)
   pub named : All (λ result. result.seat ≡ place) order
   pub apart : All (λ result. result.seat ≡ place → ⊥) others
@@ -32,19 +32,19 @@ pub record GoesOn (old : Seat) (made : List (Command × Option Reply)) (new : Se
 
 -- The calls that the seat has made are those of exactly the results that name it, in some order of whole jobs. What it has seen is one
 -- history.
-pub record HasWorked (results : List JobResult) (place : ℕ) (old new : Seat) : Type 0 where
-  pub order : List JobResult
+pub record HasWorked {A : Type 0} (results : List (JobResult A)) (place : ℕ) (old new : Seat) : Type 0 where
+  pub order : List (JobResult A)
   pub named : AreNamed place results order
   pub goes : GoesOn old (flat_map calls_told order) new
   pub history : IsOneHistory new.limits new.seen
 
 -- All seats are there, in order, and each has worked.
-pub record HaveWorked (results : List JobResult) (old new : List Seat) : Type 0 where
+pub record HaveWorked {A : Type 0} (results : List (JobResult A)) (old new : List Seat) : Type 0 where
   pub count : length new ≡ length old
   pub each : (place : ℕ) (before after : Seat) → slice_get old place ≡ Some before → slice_get new place ≡ Some after → HasWorked results place before after
 
 -- What the seats that come back from a refusal have done. Where memory was refused, nothing. Otherwise they have worked, but the
 -- results, in order of their numbers, are not those of the jobs.
-abbrev pub HaveStopped : List Job → JobsRefusal → List Seat → List Seat → Type 0
-HaveStopped jobs Memory old new = new ≡ old
-HaveStopped jobs Results old new = (results : List JobResult) × HaveWorked results old new × IsNonDecreasingBy (λ result. result.job) results × (AreResultsOf jobs results → ⊥)
+abbrev pub HaveStopped : Type 0 → List Job → JobsRefusal → List Seat → List Seat → Type 0
+HaveStopped A jobs Memory old new = new ≡ old
+HaveStopped A jobs Results old new = (results : List (JobResult A)) × HaveWorked results old new × IsNonDecreasingBy (λ result. result.job) results × (AreResultsOf jobs results → ⊥)

@@ -4,9 +4,10 @@ ghost use Rattle.workers.specs.Jobs.{AreAscending, AreResultsOf, IsResultOf};
 
 use crate::job::{Job, JobResult};
 use bw_model::Command;
+use std::alloc::Allocator;
 
 /// Whether each job has one result, in the jobs' order.
-pub(crate) fn are_results(jobs: &[Job], results: &[JobResult]) -> bool
+pub(crate) fn are_results<A: Allocator>(jobs: &[Job], results: &[JobResult<A>]) -> bool
     ensures { MatchBool result (AreResultsOf jobs.now results.now) (AreResultsOf jobs.now results.now → ⊥) }
 {
     if jobs.len() != results.len() {
@@ -21,17 +22,17 @@ pub(crate) fn are_results(jobs: &[Job], results: &[JobResult]) -> bool
 }
 
 /// Whether the result is the job's.
-fn is_result(job: &Job, given: &JobResult) -> bool
+fn is_result<A: Allocator>(job: &Job, given: &JobResult<A>) -> bool
     ensures { MatchBool result (IsResultOf job.now given.now) (IsResultOf job.now given.now → ⊥) }
 {
     given.job == job.number
         && given.replies.len() == job.commands.len()
-        && are_same(&given.commands, &job.commands)
+        && are_same(given.commands.as_slice(), job.commands.as_slice())
 }
 
 /// Whether these are the same commands.
-fn are_same(one: &Vec<Command>, other: &Vec<Command>) -> bool
-    ensures { MatchBool result (one.now.items ≡ other.now.items) (one.now.items ≢ other.now.items) }
+fn are_same(one: &[Command], other: &[Command]) -> bool
+    ensures { MatchBool result (one.now ≡ other.now) (one.now ≢ other.now) }
 {
     one == other
 }

@@ -2,6 +2,7 @@
 
 use bw_model::{Command, Reply};
 use bw_tree::BwSeat;
+use std::alloc::{Allocator, Global};
 use thiserror::Error;
 
 /// Commands that one worker runs, in order.
@@ -14,16 +15,16 @@ pub struct Job {
 }
 
 /// What became of a job.
-#[derive(Debug, Drop)]
-pub struct JobResult {
+#[derive(Drop)]
+pub struct JobResult<A: Allocator = Global> {
     /// The job's number.
     pub job: u32,
     /// Which seat ran it: its place in the list of the seats.
     pub seat: usize,
     /// The job's commands.
-    pub commands: Vec<Command>,
+    pub commands: Vec<Command, A>,
     /// A reply for each command.
-    pub replies: Vec<Reply>,
+    pub replies: Vec<Reply, A>,
 }
 
 /// Why there are no results.
@@ -39,9 +40,9 @@ pub enum JobsRefusal {
 
 /// A refusal to run jobs, which hands back the seats.
 #[derive(Drop)]
-pub struct JobsError {
+pub struct JobsError<A: Allocator = Global> {
     /// Why.
     pub refusal: JobsRefusal,
     /// The seats, in their order. None has an operation.
-    pub seats: Vec<BwSeat>,
+    pub seats: Vec<BwSeat<A>, A>,
 }

@@ -6,20 +6,20 @@ ghost use Rattle.workers.specs.Working.{HasRoom, IsRoom};
 use crate::job::JobResult;
 use crate::worker::Worker;
 use bw_tree::BwSeat;
-use std::alloc::{AllocError, Global};
+use std::alloc::{AllocError, Allocator};
 
 /// Room for workers, for the results of each, for the seats that come back, and for all results.
 #[derive(Drop)]
-pub(crate) struct Room {
-    pub(crate) lists: Vec<Vec<JobResult>>,
-    pub(crate) workers: Vec<Worker>,
-    pub(crate) seats: Vec<BwSeat>,
-    pub(crate) results: Vec<JobResult>,
+pub(crate) struct Room<A: Allocator> {
+    pub(crate) lists: Vec<Vec<JobResult<A>, A>, A>,
+    pub(crate) workers: Vec<Worker<A>, A>,
+    pub(crate) seats: Vec<BwSeat<A>, A>,
+    pub(crate) results: Vec<JobResult<A>, A>,
 }
 
-impl Room {
+impl<A: Allocator + Copy> Room<A> {
     /// Room for so many workers, each of which may run all of so many jobs.
-    pub(crate) fn of(alloc: Global, count: usize, limit: usize) -> Result<Room, AllocError>
+    pub(crate) fn of(alloc: A, count: usize, limit: usize) -> Result<Room<A>, AllocError>
         ensures { IfOk result (IsRoom count limit) }
     {
         let Some(all) = count.checked_mul(limit) else {
@@ -35,7 +35,11 @@ impl Room {
 }
 
 /// So many empty lists, each with room for so many results.
-fn lists(alloc: Global, count: usize, limit: usize) -> Result<Vec<Vec<JobResult>>, AllocError>
+fn lists<A: Allocator + Copy>(
+    alloc: A,
+    count: usize,
+    limit: usize,
+) -> Result<Vec<Vec<JobResult<A>, A>, A>, AllocError>
     ensures count { IfOk result (λ lists. vec_len lists ≡ count) }
     ensures each { IfOk result (λ lists. All (HasRoom limit) lists.items) }
 {
@@ -47,12 +51,12 @@ fn lists(alloc: Global, count: usize, limit: usize) -> Result<Vec<Vec<JobResult>
 }
 
 /// A worker for each seat, in the seats' order, each with a list.
-pub(crate) fn seated(
-    seats: Vec<BwSeat>,
-    lists: Vec<Vec<JobResult>>,
-    workers: Vec<Worker>,
+pub(crate) fn seated<A: Allocator>(
+    seats: Vec<BwSeat<A>, A>,
+    lists: Vec<Vec<JobResult<A>, A>, A>,
+    workers: Vec<Worker<A>, A>,
     limit: usize,
-) -> Vec<Worker>
+) -> Vec<Worker<A>, A>
     requires lists { vec_len lists ≡ vec_len seats }
     requires each { All (HasRoom limit) lists.items }
     requires empty { workers.items ≡ [] }
@@ -73,12 +77,12 @@ pub(crate) fn seated(
 }
 
 /// The seats of workers, and all their results.
-pub(crate) fn parted(
-    workers: Vec<Worker>,
-    seats: Vec<BwSeat>,
-    results: Vec<JobResult>,
+pub(crate) fn parted<A: Allocator>(
+    workers: Vec<Worker<A>, A>,
+    seats: Vec<BwSeat<A>, A>,
+    results: Vec<JobResult<A>, A>,
     limit: usize,
-) -> (Vec<JobResult>, Vec<BwSeat>)
+) -> (Vec<JobResult<A>, A>, Vec<BwSeat<A>, A>)
     requires few { All (λ worker. vec_len worker.done ≤ limit) workers.items }
     requires seats { seats.items ≡ [] }
     requires results { results.items ≡ [] }

@@ -17,7 +17,7 @@ use crate::task::{Task, tasks};
 use crate::worker::Worker;
 use bw_tree::{BwSeat, Tree};
 use crossbeam_channel::Receiver;
-use std::alloc::Global;
+use std::alloc::Allocator;
 use std::sync::Wait;
 use std::thread::{Threads, for_each_mut};
 
@@ -25,14 +25,14 @@ use std::thread::{Threads, for_each_mut};
 /// end; it waits where the gate does. Where no thread can be made, its worker runs once a thread that is there is free. The results stand
 /// in order of the jobs' numbers. It is refused for want of memory, before a job has begun, and where a result is missing, doubled or
 /// foreign. The seats come back in their order, also from a refusal.
-pub fn run_jobs<R: Threads + Wait + Sync, G: Gate + Sync>(
+pub fn run_jobs<R: Threads + Wait + Sync, G: Gate + Sync, A: Allocator + Copy + Send + Sync>(
     rt: &R,
-    alloc: Global,
-    tree: &Tree,
-    seats: Vec<BwSeat>,
+    alloc: A,
+    tree: &Tree<A>,
+    seats: Vec<BwSeat<A>, A>,
     jobs: Vec<Job>,
     gate: &G,
-) -> Result<(Vec<JobResult>, Vec<BwSeat>), JobsError>
+) -> Result<(Vec<JobResult<A>, A>, Vec<BwSeat<A>, A>), JobsError<A>>
     requires own { AreSeatsOf tree.now seats.items }
     requires idle { AreIdle seats.items }
     requires some { 1 ≤ vec_len seats }
@@ -40,7 +40,7 @@ pub fn run_jobs<R: Threads + Wait + Sync, G: Gate + Sync>(
     ensures results { IfOk result (λ done. AreResultsOf jobs.items done.0.items) }
     ensures worked { IfOk result (λ done. HaveWorked done.0.items seats.items done.1.items) }
     ensures own { IfOk result (λ done. AreSeatsOf tree.now done.1.items) }
-    ensures refused { IfErr result (λ error. HaveStopped jobs.items error.refusal seats.items error.seats.items) }
+    ensures refused { IfErr result (λ error. HaveStopped A jobs.items error.refusal seats.items error.seats.items) }
     ensures left { IfErr result (λ error. AreSeatsOf tree.now error.seats.items × AreIdle error.seats.items) }
 {
     let Ok(room) = Room::of(alloc, seats.len(), jobs.len()) else {
@@ -59,7 +59,7 @@ pub fn run_jobs<R: Threads + Wait + Sync, G: Gate + Sync>(
 }
 
 /// A refusal to run jobs.
-fn refused(refusal: JobsRefusal, seats: Vec<BwSeat>) -> JobsError
+fn refused<A: Allocator>(refusal: JobsRefusal, seats: Vec<BwSeat<A>, A>) -> JobsError<A>
     ensures refusal { result.refusal ≡ refusal }
     ensures seats { result.seats.items ≡ seats.items }
 {
@@ -67,7 +67,7 @@ fn refused(refusal: JobsRefusal, seats: Vec<BwSeat>) -> JobsError
 }
 
 /// The results in order of their numbers.
-fn sorted(results: Vec<JobResult>) -> Vec<JobResult>
+fn sorted<A: Allocator>(results: Vec<JobResult<A>, A>) -> Vec<JobResult<A>, A>
     ensures permutation { IsPermutation results.items result.items }
     ensures order { IsNonDecreasingBy (λ result. result.job) result.items }
 {
@@ -77,15 +77,15 @@ fn sorted(results: Vec<JobResult>) -> Vec<JobResult>
 }
 
 /// The results of all workers, in no order, and the seats, once no more jobs come.
-fn worked<R: Threads + Wait + Sync, G: Gate + Sync>(
+fn worked<R: Threads + Wait + Sync, G: Gate + Sync, A: Allocator + Send + Sync>(
     rt: &R,
-    tree: &Tree,
-    seats: Vec<BwSeat>,
-    room: Room,
+    tree: &Tree<A>,
+    seats: Vec<BwSeat<A>, A>,
+    room: Room<A>,
     limit: usize,
-    tasks: &Receiver<Task>,
+    tasks: &Receiver<Task<A>, A>,
     gate: &G,
-) -> (Vec<JobResult>, Vec<BwSeat>)
+) -> (Vec<JobResult<A>, A>, Vec<BwSeat<A>, A>)
     requires own { AreSeatsOf tree.now seats.items }
     requires idle { AreIdle seats.items }
     requires some { 1 ≤ vec_len seats }
@@ -104,24 +104,24 @@ fn worked<R: Threads + Wait + Sync, G: Gate + Sync>(
 }
 
 /// Lets all workers run jobs at once, each in a thread of its own.
-fn in_threads<R: Threads + Wait + Sync, G: Gate + Sync>(
+fn in_threads<R: Threads + Wait + Sync, G: Gate + Sync, A: Allocator + Send + Sync>(
     rt: &R,
-    tree: &Tree,
-    workers: &mut [Worker],
+    tree: &Tree<A>,
+    workers: &mut [Worker<A>],
     limit: usize,
-    tasks: &Receiver<Task>,
+    tasks: &Receiver<Task<A>, A>,
     gate: &G,
 )
     requires some { 1 ≤ length workers.old }
     requires own { All (λ worker. IsSeatOf tree.now worker.seat) workers.old }
     requires idle { All (λ worker. unfinished_command worker.seat ≡ None) workers.old }
     requires room { All (λ worker. HasRoom limit worker.done) workers.old }
-    ensures done { (place : ℕ) (other : Worker) → place < length workers.old → HasDone place limit (slice_index_or workers.old place other).seat (slice_index_or workers.new place other) }
+    ensures done { (place : ℕ) (other : Worker A) → place < length workers.old → HasDone place limit (slice_index_or workers.old place other).seat (slice_index_or workers.new place other) }
     ensures history { All (λ worker. IsOneHistory worker.seat.limits worker.seat.seen) workers.new }
     ensures count { length workers.new ≡ length workers.old }
 {
     let count = workers.len();
-    let work = |place: usize, worker: &mut Worker|
+    let work = |place: usize, worker: &mut Worker<A>|
         requires own { IsSeatOf tree.now worker.now.seat }
         requires idle { unfinished_command worker.now.seat ≡ None }
         requires room { HasRoom limit worker.now.done }

@@ -3,24 +3,37 @@ ghost use Rattle.std.specs.Prelude.{◌≡◌, ◌≤◌, [], vec_len};
 ghost use Rattle.std.specs.Vec.{vec_capacity};
 
 use crate::job::Job;
+use crate::worker::copied;
 use bw_model::{Command, Reply};
 use crossbeam_channel::{Receiver, bounded};
-use std::alloc::{AllocError, Global};
+use std::alloc::{AllocError, Allocator};
 use std::sync::Wait;
 
 /// A job, with room for its replies.
 #[derive(Drop)]
-pub(crate) struct Task {
+pub(crate) struct Task<A: Allocator> {
     pub(crate) job: u32,
-    pub(crate) commands: Vec<Command>,
-    pub(crate) replies: Vec<Reply>,
+    pub(crate) commands: Vec<Command, A>,
+    pub(crate) replies: Vec<Reply, A>,
     pub(crate) ghost empty: { replies.items ≡ [] },
     pub(crate) ghost room: { vec_len commands ≤ vec_capacity replies },
 }
 
-impl Task {
-    fn of(alloc: Global, job: &Job) -> Result<Task, AllocError> {
-        let commands = job.commands.clone()?;
+/// The same commands once more.
+fn commands_of<A: Allocator>(
+    alloc: A,
+    commands: &[Command],
+) -> Result<Vec<Command, A>, AllocError> {
+    let mut copies = Vec::with_capacity(alloc, commands.len())?;
+    for command in commands {
+        copies.push(copied(command))?;
+    }
+    Ok(copies)
+}
+
+impl<A: Allocator + Copy> Task<A> {
+    fn of(alloc: A, job: &Job) -> Result<Task<A>, AllocError> {
+        let commands = commands_of(alloc, job.commands.as_slice())?;
         let replies = Vec::with_capacity(alloc, commands.len())?;
         Ok(Task {
             job: job.number,
@@ -31,11 +44,11 @@ impl Task {
 }
 
 /// All jobs, in a channel to which nobody sends any more.
-pub(crate) fn tasks<R: Wait>(
+pub(crate) fn tasks<R: Wait, A: Allocator + Copy>(
     rt: &R,
-    alloc: Global,
+    alloc: A,
     jobs: &[Job],
-) -> Result<Receiver<Task>, AllocError> {
+) -> Result<Receiver<Task<A>, A>, AllocError> {
     let (sender, receiver) = bounded(alloc, jobs.len().max(1))?;
     for job in jobs {
         let task = Task::of(alloc, job)?;

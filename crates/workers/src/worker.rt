@@ -13,6 +13,7 @@ use crate::task::Task;
 use bw_model::{Command, Reply};
 use bw_tree::{BwSeat, Called, Tree};
 use crossbeam_channel::Receiver;
+use std::alloc::Allocator;
 use std::sync::Wait;
 
 /// Steps between two looks whether a command is done.
@@ -20,20 +21,20 @@ const STEPS: u32 = 1 << 16;
 
 /// A seat, and the results of the jobs that were run on it.
 #[derive(Drop)]
-pub(crate) struct Worker {
-    pub(crate) seat: BwSeat,
-    pub(crate) done: Vec<JobResult>,
+pub(crate) struct Worker<A: Allocator> {
+    pub(crate) seat: BwSeat<A>,
+    pub(crate) done: Vec<JobResult<A>, A>,
 }
 
-impl Worker {
+impl<A: Allocator> Worker<A> {
     /// Runs jobs as they come, until no more will come, or there were as many as there are.
     pub(crate) fn work<R: Wait, G: Gate>(
         &mut self,
         rt: &R,
-        tree: &Tree,
+        tree: &Tree<A>,
         place: usize,
         limit: usize,
-        tasks: &Receiver<Task>,
+        tasks: &Receiver<Task<A>, A>,
         gate: &G,
     )
         requires own { IsSeatOf tree.now self.old.seat }
@@ -56,7 +57,14 @@ impl Worker {
     }
 
     /// Runs a job, and keeps its result.
-    fn run<R: Wait, G: Gate>(&mut self, rt: &R, tree: &Tree, place: usize, task: Task, gate: &G)
+    fn run<R: Wait, G: Gate>(
+        &mut self,
+        rt: &R,
+        tree: &Tree<A>,
+        place: usize,
+        task: Task<A>,
+        gate: &G,
+    )
         requires own { IsSeatOf tree.now self.old.seat }
         requires idle { unfinished_command self.old.seat ≡ None }
         requires room { vec_len self.old.done < vec_capacity self.old.done }
@@ -81,12 +89,12 @@ impl Worker {
 }
 
 /// Runs commands in order, each to its end.
-fn run_all<R: Wait>(
+fn run_all<R: Wait, A: Allocator>(
     rt: &R,
-    tree: &Tree,
-    seat: &mut BwSeat,
+    tree: &Tree<A>,
+    seat: &mut BwSeat<A>,
     commands: &[Command],
-    replies: &mut Vec<Reply>,
+    replies: &mut Vec<Reply, A>,
 )
     requires own { IsSeatOf tree.now seat.old }
     requires idle { unfinished_command seat.old ≡ None }
@@ -100,7 +108,12 @@ fn run_all<R: Wait>(
 }
 
 /// Runs a command to its end.
-fn run<R: Wait>(rt: &R, tree: &Tree, seat: &mut BwSeat, command: Command) -> Reply
+fn run<R: Wait, A: Allocator>(
+    rt: &R,
+    tree: &Tree<A>,
+    seat: &mut BwSeat<A>,
+    command: Command,
+) -> Reply
     requires own { IsSeatOf tree.now seat.old }
     requires idle { unfinished_command seat.old ≡ None }
     ensures goes { GoesOn seat.old ((command, Some result) ∷ []) seat.new }
@@ -117,7 +130,7 @@ fn run<R: Wait>(rt: &R, tree: &Tree, seat: &mut BwSeat, command: Command) -> Rep
 }
 
 /// The same command once more.
-fn copied(command: &Command) -> Command
+pub(crate) fn copied(command: &Command) -> Command
     ensures { result ≡ command.now }
 {
     match command {

@@ -8,4 +8,4 @@ decided true d = d.0 refl
 decided false d = λ p. cc (d.1 p)
 
 pub returns : goal.returns
-returns c = decided c.eq.result (slice_eq-Decides (λ a b. search rules) c.args.one.now.items c.args.other.now.items c.eq.result c.eq.ensures)
+returns c = decided c.eq.result (slice_eq-Decides (λ a b. search rules) c.args.one.now c.args.other.now c.eq.result c.eq.ensures)

@@ -4,7 +4,7 @@ use Rattle.std.specs.Vec.{vec_capacity}
 use Rattle.workers.proofs.room.parted.Given as goal
 
 abbrev pub invariant-loop-worker : goal.invariant-loop-worker
-invariant-loop-worker l = record {
+invariant-loop-worker g l = record {
   seats : l.seats.items ≡ map (λ worker. worker.seat) l.yielded;
   count : vec_len l.seats ≡ length l.yielded;
   results : l.results.items ≡ flat_map (λ worker. worker.done.items) l.yielded;

@@ -1,6 +1,8 @@
-use Rattle.std.proofs.Common.{[], ◌∷◌, ◌++◌, ◌∙◌, ap, arith, length, map, subst}
+use Rattle.std.proofs.Common.{[], ◌∷◌, ◌++◌, ◌∙◌, ap, arith, length, map, rules, subst, sym}
 use Rattle.std.specs.Prelude.{IfSome}
-use Rattle.std.proofs.lemmas.List.{length-append, map-append}
+use Rattle.std.proofs.lemmas.List.{length-append, map-append, map-id}
+use Rattle.std.proofs.lemmas.Iterator.Adapters.{YieldsList-from_vec}
+use Rattle.std.proofs.lemmas.Iterator.Consumers.{YieldsList-end, YieldsList-turn}
 use Rattle.std.proofs.lemmas.List.Elements.{All-pop, All-push}
 use Rattle.workers.specs.declared.worker.Worker.{Worker}
 use Rattle.workers.specs.Working.{HasRoom}
@@ -8,9 +10,9 @@ use Rattle.workers.proofs.Parting.{seat_of}
 use Rattle.workers.proofs.room.seated.Goals as goal
 
 pub loop-seat-preserved : goal.loop-seat-preserved
-loop-seat-preserved c =
+loop-seat-preserved g c =
     let before = c.loop-seat.invariant in
-    let worker : Worker = record { seat = c.in-Some.seat; done = c.in-Some-pop.done } in
+    let worker : Worker _ = record { seat = c.in-Some.seat; done = c.in-Some-pop.done } in
     let popped = All-pop (HasRoom c.args.limit) c.loop-seat.lists.items c.pop.new.self.items c.pop.result c.pop.ensures.items before.each in
     let given : HasRoom c.args.limit c.in-Some-pop.done = subst (λ r. IfSome r (HasRoom c.args.limit)) c.in-Some-pop.is popped.1 in
     let yielded = length-append c.loop-seat.yielded (c.in-Some.seat ∷ []) in
@@ -25,3 +27,16 @@ loop-seat-preserved c =
       count = omega (arith, longer, yielded, count);
       capacity = rw c.push_reserved.ensures.capacity before.capacity;
     }
+
+pub unreachable-requires : goal.unreachable-requires
+unreachable-requires g c =
+    let before = c.loop-seat.invariant in
+    let turn = YieldsList-turn (YieldsList-from_vec {s = c.into_iter-seat-iterator.result} c.args.seats.items (search rules) (search rules)) c.loop-seat.yielded c.loop-seat.seat-iterator c.loop-seat.yielded_by c.next.result c.next.new.self c.in-Some.seat c.in-Some.is c.next.ensures.steps in
+    let lists = before.lists in
+    let below = turn.0 in
+    let some = c.in_default.ensures.variant.1 (omega (arith, lists, below)) in cc
+
+pub returns-clause-seats : goal.returns-clause-seats
+returns-clause-seats g c =
+    let end = YieldsList-end (YieldsList-from_vec {s = c.into_iter-seat-iterator.result} c.args.seats.items (search rules) (search rules)) c.loop-seat.yielded c.loop-seat.seat-iterator c.loop-seat.yielded_by c.next.result c.next.new.self c.in-None.is c.next.ensures.steps in
+    c.loop-seat.invariant.seats ∙ sym (map-id c.loop-seat.yielded) ∙ end.0

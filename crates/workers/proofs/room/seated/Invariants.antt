@@ -5,7 +5,7 @@ use Rattle.workers.specs.Working.{HasRoom}
 use Rattle.workers.proofs.room.seated.Given as goal
 
 abbrev pub invariant-loop-seat : goal.invariant-loop-seat
-invariant-loop-seat l = record {
+invariant-loop-seat g l = record {
   lists : vec_len l.lists + length l.yielded ≡ vec_len l.fn.seats;
   each : All (HasRoom l.fn.limit) l.lists.items;
   seats : map (λ worker. worker.seat) l.workers.items ≡ l.yielded;

@@ -25,3 +25,9 @@ returns-clause-left g c =
     let own = own_after c.args.tree.now c.worked-results.result.0.items c.args.seats.items c.worked-results.result.1.items c.worked-results.ensures.worked c.requires.own in
     let idle = idle_after c.worked-results.result.0.items c.args.seats.items c.worked-results.result.1.items c.worked-results.ensures.worked in
     (subst (AreSeatsOf c.args.tree.now) (sym c.refused-else-are_results.ensures.seats) own, subst AreIdle (sym c.refused-else-are_results.ensures.seats) idle)
+
+pub returns-in_default-clause-left : goal.returns-in_default-clause-left
+returns-in_default-clause-left g c = (subst (AreSeatsOf c.args.tree.now) (sym c.refused.ensures.seats) c.requires.own, subst AreIdle (sym c.refused.ensures.seats) c.requires.idle)
+
+pub returns-in_default-tasks-clause-left : goal.returns-in_default-tasks-clause-left
+returns-in_default-tasks-clause-left g c = (subst (AreSeatsOf c.args.tree.now) (sym c.refused-in_default-tasks.ensures.seats) c.requires.own, subst AreIdle (sym c.refused-in_default-tasks.ensures.seats) c.requires.idle)

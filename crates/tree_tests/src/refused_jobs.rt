@@ -1,0 +1,88 @@
+//! Jobs of which each growth of memory is refused in turn: the seats come back, and the same jobs run on the same tree.
+
+use crate::numbered::{found, get, insert, key, value};
+use bw_model::{Key, Limits, Reply, Value};
+use bw_tree::{BwSeat, Tree};
+use refusing::Refusing;
+use std::alloc::{AllocError, Allocator, Global};
+use std::sync::Wait;
+use std::test::Fail;
+use std::thread::Threads;
+use workers::{Job, JobResult, JobsRefusal, Ungated, are_ascending, run_jobs};
+
+/// How often two jobs on two seats want memory: four lists for the workers and two for their results; the channel; and for each job
+/// its commands, its replies, and its way through the channel.
+const WANTS: u64 = 12;
+
+/// Job 3 inserts a key and looks it up, job 8 inserts another one.
+fn jobs(alloc: Global) -> Result<Vec<Job>, AllocError> {
+    let first = Job {
+        number: 3,
+        commands: vec![in alloc; insert(1), get(1)]?,
+    };
+    let second = Job {
+        number: 8,
+        commands: vec![in alloc; insert(2)]?,
+    };
+    Ok(vec![in alloc; first, second]?)
+}
+
+/// Whether the results are those of the jobs on a fresh tree.
+fn are_right<A: Allocator>(results: &[JobResult<A>]) -> bool {
+    let [first, second] = results else {
+        return false;
+    };
+    (first.job, second.job) == (3, 8)
+        && first.replies.as_slice() == [Reply::Inserted, found(1)].as_slice()
+        && second.replies.as_slice() == [Reply::Inserted].as_slice()
+}
+
+/// Whether a tree that is closed has the pairs of the jobs.
+fn closes<A: Allocator>(alloc: Global, tree: Tree<A>, seats: Vec<BwSeat<A>, A>) -> bool {
+    let pairs: [(Key, Value); 2] = [(key(1), value(1)), (key(2), value(2))];
+    match tree.close(alloc, seats) {
+        Ok(listed) => listed.as_slice() == pairs.as_slice(),
+        Err(_) => false,
+    }
+}
+
+/// Runs the jobs on a new tree while a growth is refused, and again where that was in their way; says whether it was, and none where
+/// anything else comes.
+fn was_refused<R: Threads + Wait + Sync>(
+    rt: &R,
+    alloc: Global,
+    heap: &Refusing<Global>,
+    limits: Limits,
+    growth: u64,
+) -> Option<bool> {
+    let (once, again) = (jobs(alloc).ok()?, jobs(alloc).ok()?);
+    let (tree, seats) = Tree::<&Refusing<Global>>::open(heap, limits).ok()?;
+    if !are_ascending(once.as_slice()) || !are_ascending(again.as_slice()) || seats.is_empty() {
+        return None;
+    }
+    heap.set(growth);
+    let ran = run_jobs(rt, heap, &tree, seats, once, &Ungated);
+    heap.set(u64::MAX);
+    let (results, seats, refused) = match ran {
+        Ok((results, seats)) => (results, seats, false),
+        Err(error) => {
+            if error.refusal != JobsRefusal::Memory || error.seats.is_empty() {
+                return None;
+            }
+            let (results, seats) = run_jobs(rt, heap, &tree, error.seats, again, &Ungated).ok()?;
+            (results, seats, true)
+        }
+    };
+    (are_right(results.as_slice()) && closes(alloc, tree, seats)).then_some(refused)
+}
+
+#[test]
+fn jobs_want_memory(rt: HostRuntime) -> Result<(), Fail> {
+    let limits = Limits::new(2, 64, 64, 1)?;
+    let heap = Refusing::new(rt.alloc());
+    for growth in 0..=WANTS {
+        let refused = was_refused(&rt, rt.alloc(), &heap, limits, growth);
+        assert_eq!(rt; refused, Some(growth < WANTS), "{growth}");
+    }
+    Ok(())
+}

@@ -1,0 +1,21 @@
+-- Results that were looked at, one after another.
+use Rattle.std.proofs.Common.{◌≡◌, ◌<◌, ◌+◌, ℕ, List, Some, sym, ap, subst, ◌∙◌, arith, length}
+use Rattle.std.specs.Prelude.{slice_get, slice_index_or}
+use mathlib.Core.Logic.{dite}
+use native.Mathlib.Decide.{ℕ_discrete}
+use Rattle.workers.specs.declared.job.Job.{Job}
+use Rattle.workers.specs.declared.job.JobResult.{JobResult}
+use Rattle.workers.specs.Jobs.{IsResultOf}
+use Rattle.workers.proofs.Parting.{index_is}
+
+-- the results below a place are the jobs'
+abbrev pub AreLooked : {A : Type 0} → List Job → List (JobResult A) → ℕ → Type 0
+AreLooked {A = A} jobs results place = (n : ℕ) (job : Job) (given : JobResult A) → n < place → slice_get jobs n ≡ Some job → slice_get results n ≡ Some given → IsResultOf job given
+
+pub one_looked : {A : Type 0} (jobs : List Job) (results : List (JobResult A)) (place : ℕ) (one : Job) (other : JobResult A) → one ≡ slice_index_or jobs place one → other ≡ slice_index_or results place other → IsResultOf one other → AreLooked jobs results place → AreLooked jobs results (place + 1)
+one_looked jobs results place one other is is_other right before n job given below at at_given = dite (ℕ_discrete n place)
+    (λ same.
+    let is_job : one ≡ job = is ∙ ap (λ k. slice_index_or jobs k one) (sym same) ∙ index_is jobs n job one at in
+    let is_given : other ≡ given = is_other ∙ ap (λ k. slice_index_or results k other) (sym same) ∙ index_is results n given other at_given in
+    subst (λ z. IsResultOf z given) is_job (subst (IsResultOf one) is_given right))
+    (λ apart. before n job given (omega (arith, below, apart)) at at_given)

@@ -1,0 +1,14 @@
+use Rattle.std.proofs.Common.{arith, sym}
+use Rattle.workers.proofs.Looked.{one_looked}
+use Rattle.workers.proofs.Parting.{below_of}
+use Rattle.workers.proofs.check.are_results.Goals as goal
+
+pub loop-place-preserved : goal.loop-place-preserved
+loop-place-preserved g c = one_looked c.args.jobs.now c.args.results.now c.loop-place.place c.index-jobs-place.result c.index-results-place.result c.index-jobs-place.is c.index-results-place.is c.if-not-is_result.ensures c.loop-place.invariant
+
+pub returns : goal.returns
+returns g c =
+    let all = c.loop-place-test.false in record {
+      count = sym c.if-jobs-results.false;
+      each = λ n job given at at_given. let below = below_of c.args.jobs.now n job at in c.loop-place.invariant n job given (omega (arith, below, all)) at at_given;
+    }
