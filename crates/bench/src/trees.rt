@@ -9,7 +9,7 @@ use bw_tree::{BwSeat, Tree};
 use std::alloc::{AllocError, Global};
 use std::thread::Threads;
 use std::time::{Clock, Instant};
-use tree_clients::{opened, work_in_threads};
+use workers::{opened, work_in_threads};
 
 /// Loads a new tree, and does what is asked on it, if that is more. Answers what was done last; none without memory, seats or a clock.
 pub(crate) fn run<R: Threads + Clock + Sync>(

@@ -3,7 +3,7 @@
 use crate::numbered::{key, value};
 use bw_model::{Command, Reply};
 use bw_tree::{BwSeat, Tree};
-use tree_clients::{Work, reply};
+use workers::{Work, reply};
 
 /// How many keys each client has of its own, and how many all share.
 pub(crate) const OWN: u32 = 16;

@@ -5,7 +5,7 @@ use crate::threads::done_at_once;
 use bw_model::{Command, Limits, Reply};
 use bw_tree::{BwSeat, Tree};
 use std::test::Fail;
-use tree_clients::{Work, reply};
+use workers::{Work, reply};
 
 /// How often each thread raises the counter.
 const TIMES: u32 = 1000;

@@ -4,7 +4,7 @@ use bw_model::{Command, Key, Limits, Reply, Value};
 use std::alloc::Global;
 use std::test::Fail;
 use std::thread::{Threads, join_mut};
-use tree_clients::{give_seat, opened, reply, take_seat};
+use workers::{give_seat, opened, reply, take_seat};
 
 /// One thread inserts a pair, and another one looks its key up: both replies, and the pairs of the tree at its end.
 fn share<R: Threads>(

@@ -8,8 +8,7 @@ use std::sync::Wait;
 use std::sync::atomic::{AtomicBool, AtomicU64, Ordering};
 use std::test::Fail;
 use std::thread::{Threads, yield_now};
-use tree_clients::opened;
-use workers::{Gate, Job, JobResult, JobsRefusal, Ungated, are_ascending, run_jobs};
+use workers::{Gate, Job, JobResult, JobsRefusal, Ungated, are_ascending, opened, run_jobs};
 
 /// The results of jobs on a new tree, which are run again where memory was refused, and the tree's pairs at its end.
 fn done<R: Threads + Wait + Sync, G: Gate + Sync>(

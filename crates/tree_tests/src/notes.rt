@@ -12,7 +12,7 @@ use std::marker::{Brand, PhantomData};
 use std::sync::Wait;
 use std::test::Fail;
 use std::thread::{Threads, join_mut};
-use tree_clients::{opened, reply, take_seat};
+use workers::{opened, reply, take_seat};
 
 /// How often the key is set, and a note of it sent.
 const TIMES: u32 = 300;

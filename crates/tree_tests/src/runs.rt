@@ -5,7 +5,7 @@ use crate::numbered::{found, get, insert, pair};
 use crate::stops::Stop;
 use bw_model::{Command, Key, Reply, Value};
 use bw_tree::{BwSeat, Called, Tree};
-use tree_clients::{called, reply, resumed};
+use workers::{called, reply, resumed};
 
 /// What is done.
 #[derive(Clone, Copy, Debug)]

@@ -4,7 +4,7 @@ ghost use Rattle.bw_tree.specs.Trees.{IsSeatOf};
 use crate::numbered::{delete, found, get, insert, upsert, value};
 use bw_model::{Command, Reply};
 use bw_tree::{BwSeat, Called, Tree};
-use tree_clients::{called, reply, resumed};
+use workers::{called, reply, resumed};
 
 /// The operation that is stopped.
 #[derive(Clone, Copy, Debug)]

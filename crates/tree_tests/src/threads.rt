@@ -7,7 +7,7 @@ use bw_tree::{BwSeat, Tree};
 use std::alloc::Global;
 use std::test::Fail;
 use std::thread::Threads;
-use tree_clients::{Work, opened, reply, work_in_threads};
+use workers::{Work, opened, reply, work_in_threads};
 
 /// Inserts 1,000 keys from a number on, each followed by a lookup of it, and counts the replies that are right.
 #[derive(Drop)]

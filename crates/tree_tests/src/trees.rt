@@ -10,7 +10,7 @@ use bw_tree::{BwSeat, CloseRefusal, Tree};
 use linked_list_allocator::LocalHeap;
 use std::alloc::Global;
 use std::test::Fail;
-use tree_clients::{give_seat, opened, take_seat};
+use workers::{give_seat, opened, take_seat};
 
 /// Takes the last two seats of a list, or the only one, does it, and gives them back in their order.
 fn runs(tree: &Tree, seats: &mut Vec<BwSeat>, run: Run) -> bool

@@ -3,3 +3,4 @@ mod Going
 mod Looked
 mod Named
 mod Parting
+mod Pushed

@@ -2,7 +2,7 @@ use Rattle.std.proofs.Common.{[], ◌∷◌, ◌∙◌, ap, arith, length}
 use Rattle.std.proofs.lemmas.List.{length-append}
 use Rattle.std.proofs.lemmas.List.Elements.{All-push}
 use Rattle.bw_tree.specs.Trees.{IsSeatOf}
-use Rattle.tree_clients.proofs.threads.seated.Goals as goal
+use Rattle.workers.proofs.threads.seated.Goals as goal
 
 pub loop-work-preserved : goal.loop-work-preserved
 loop-work-preserved g c =

@@ -1,7 +1,7 @@
 use Rattle.std.proofs.Common.{◌≡◌, [], ◌∷◌, ◌++◌, ◌∙◌, ap, arith, length}
 use Rattle.std.proofs.lemmas.List.{length-append}
-use Rattle.tree_clients.proofs.Pushed.{where_ok}
-use Rattle.tree_clients.proofs.threads.parted.Goals as goal
+use Rattle.workers.proofs.Pushed.{where_ok}
+use Rattle.workers.proofs.threads.parted.Goals as goal
 
 pub loop-job-preserved : goal.loop-job-preserved
 loop-job-preserved g c =
