@@ -43,12 +43,12 @@ along_snoc calls [] e = refl
 along_snoc calls (first ∷ entries) e = along_snoc (call_after calls first) entries e
 
 -- the reply of the call that was made last
-answered_snoc : (before : List (Command × Option Reply)) (command : Command) (last : Option Reply) (reply : Reply) → answered_last (before ++ (command, last) ∷ []) reply ≡ before ++ (command, Some reply) ∷ []
+pub answered_snoc : (before : List (Command × Option Reply)) (command : Command) (last : Option Reply) (reply : Reply) → answered_last (before ++ (command, last) ∷ []) reply ≡ before ++ (command, Some reply) ∷ []
 answered_snoc [] command last reply = refl
 answered_snoc (first ∷ []) command last reply = refl
 answered_snoc (first ∷ second ∷ rest) command last reply = ap (λ calls. first ∷ calls) (answered_snoc (second ∷ rest) command last reply)
 
-starts_on : (a b c : List Entry) → StartsWith b a → StartsWith c b → StartsWith c a
+pub starts_on : (a b c : List Entry) → StartsWith b a → StartsWith c b → StartsWith c a
 starts_on a b c p q = (p.0 ++ q.0, q.1 ∙ ap (λ (run : List Entry). run ++ q.0) p.1 ∙ append_assoc a p.0 q.0)
 
 pub same_self : (s : Seat) → IsSame s s

@@ -2,6 +2,7 @@ pub mod Seats
 pub mod Advancing
 pub mod Begun
 pub mod Going
+mod Resuming
 mod Joining
 mod Resting
 mod Meeting

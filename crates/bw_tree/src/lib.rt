@@ -10,6 +10,7 @@ mod closed;
 mod closing;
 mod examples;
 mod law;
+mod laws;
 mod note;
 mod opening;
 mod seat;
@@ -18,6 +19,7 @@ mod tree;
 
 pub use called::{Called, CloseError, CloseRefusal};
 pub use examples::{entries_tell_calls, last_call_is_answered};
+pub use laws::resumed_calls_are_calls;
 pub use note::Note;
 pub use seat::BwSeat;
 pub use tree::Tree;
