@@ -1,5 +1,5 @@
 -- A table that is closed with a seat in which all actors stand leaves the words of one run's memory.
-use Rattle.std.proofs.Common.{◌≡◌, ◌≢◌, ℕ, zero, suc, ◌+◌, ◌<◌, ◌≤◌, eqb, List, [], ◌∷◌, length, refl, sym, ap, subst, arith, eq-eqb, ne_eqb}
+use Rattle.std.proofs.Common.{◌≡◌, ℕ, zero, suc, ◌+◌, ◌<◌, ◌≤◌, eqb, List, [], ◌∷◌, length, refl, sym, ap, subst, arith, eq-eqb, ne_eqb}
 use mathlib.Core.Logic.{dite}
 use mathlib.Core.Option.{some}
 use native.Mathlib.Decide.{ℕ_discrete}

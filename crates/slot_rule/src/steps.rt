@@ -1,18 +1,16 @@
 //! The steps that are one atomic operation on a word.
-ghost use Rattle.std.specs.Prelude.{◌≡◌, ◌<◌, option_copied};
+ghost use Rattle.std.specs.Prelude.{◌≡◌, ◌<◌, ℕ, option_copied};
 ghost use Rattle.slot_rule.specs.declared.view.Reach.TheVariants.{Idle};
 ghost use Rattle.slot_rule.specs.Steps.{IsLawfulStep, Took};
 ghost use Rattle.slot_rule.specs.Views.{SitsAt, IsOf, seen_of};
-ghost use Rattle.tree_words.specs.Changes.{HasWord};
+ghost use Rattle.tree_words.specs.Changes.{HasWord, SetsBits, TellsNothing, changed_word, left_by, told, word_after};
 
 use crate::plays::{Acting, Telling};
 use crate::rule::{Law, TableSeat, Words};
 use bw_model::{Answer, Command, Limits, Reply, Step};
 use deltas::Record;
 use std::marker::Brand;
-use tree_words::{
-    announced_place, epoch_place, pid_bits_place, row_bits_place, slot_place, steps_change_one_word,
-};
+use tree_words::{Operation, made_by, steps_change_one_word, told_by, word_place};
 
 /// Takes a step of the seat's actor that is one atomic operation on a word, and answers what stood there. Told are the command of
 /// an operation that begins with the step, and the reply of one that it ends.
@@ -61,58 +59,53 @@ fn act_told<P: Law, C: Telling>(
 {
     let _ = begun;
     let _ = reply;
+    let operation = made_by(step);
+    let found = operate::<P, C>(
+        words,
+        seat,
+        limits,
+        actor,
+        word_place(actor, step),
+        operation,
+    );
+    told_by(step, found)
+}
+
+/// Makes the operation that the step is, and answers the number that it found; of a store, the number that it wrote.
+fn operate<P: Law, C: Telling>(
+    words: &Words<P>,
+    seat: &mut TableSeat,
+    limits: &Limits,
+    actor: u8,
+    at: usize,
+    operation: Operation,
+) -> u64
+    requires table { IsOf limits.now words.now.key words.now.table_id seat.old.table_id }
+    requires range { HasWord C.step }
+    requires bits { SetsBits C.step }
+    requires actor { actor < 16 }
+    requires seat { SitsAt limits.now actor Idle seat.old.me }
+    requires may { IsLawfulStep P.law limits.now actor (seen_of seat.old.me) C.begun C.step C.reply }
+    requires place { at ≡ changed_word actor C.step }
+    requires left { (found : ℕ) → left_by operation found ≡ word_after C.step found }
+    requires quiet { TellsNothing C.step operation }
+    ensures same { seat.new.table_id ≡ seat.old.table_id }
+    ensures seat { SitsAt limits.now actor Idle seat.new.me }
+    ensures took { Took P.law limits.now actor (seen_of seat.old.me) C.begun C.step (told C.step result) C.reply (seen_of seat.new.me) }
+{
+    let _ = limits;
+    let _ = actor;
     steps_change_one_word();
-    match step {
-        Step::Slot(pid) => Answer::Number(words.load::<Acting<P, C>>(seat, slot_place(*pid))),
-        Step::Epoch => Answer::Number(words.load::<Acting<P, C>>(seat, epoch_place())),
-        Step::Announce(other) => {
-            Answer::Number(words.load::<Acting<P, C>>(seat, announced_place(*other)))
+    match operation {
+        Operation::Load => words.load::<Acting<P, C>>(seat, at),
+        Operation::Store(word) => {
+            words.store::<Acting<P, C>>(seat, at, word);
+            word
         }
-        Step::PidBits(word) => {
-            Answer::Number(words.load::<Acting<P, C>>(seat, pid_bits_place(*word)))
+        Operation::Exchange(old, new) => {
+            words.compare_exchange::<Acting<P, C>>(seat, at, old, new)
         }
-        Step::RowBits(word) => {
-            Answer::Number(words.load::<Acting<P, C>>(seat, row_bits_place(*word)))
-        }
-        Step::Exchange(slot, old, new) => {
-            let old = u64::from(*old);
-            let new = u64::from(*new);
-            let found = words.compare_exchange::<Acting<P, C>>(seat, slot_place(*slot), old, new);
-            Answer::Whether(found == old)
-        }
-        Step::TakePid(pid) => {
-            let bit = 1u64 << (*pid % 64);
-            let place = pid_bits_place((*pid / 64) as u8);
-            let found = words.fetch_and::<Acting<P, C>>(seat, place, !bit);
-            Answer::Whether(found & bit != 0)
-        }
-        Step::TakeRow(row) => {
-            let bit = 1u64 << (*row % 64);
-            let place = row_bits_place((*row / 64) as u8);
-            let found = words.fetch_and::<Acting<P, C>>(seat, place, !bit);
-            Answer::Whether(found & bit != 0)
-        }
-        Step::Enter(epoch) => {
-            words.store::<Acting<P, C>>(seat, announced_place(actor), *epoch);
-            Answer::Done
-        }
-        Step::Leave => {
-            words.store::<Acting<P, C>>(seat, announced_place(actor), 0);
-            Answer::Done
-        }
-        Step::Retire(epoch) => {
-            let next = *epoch + 1;
-            let found = words.compare_exchange::<Acting<P, C>>(seat, epoch_place(), *epoch, next);
-            Answer::Whether(found == *epoch)
-        }
-        Step::ReusePids(word, bits) => {
-            words.fetch_or::<Acting<P, C>>(seat, pid_bits_place(*word), *bits);
-            Answer::Done
-        }
-        Step::ReuseRows(word, bits) => {
-            words.fetch_or::<Acting<P, C>>(seat, row_bits_place(*word), *bits);
-            Answer::Done
-        }
-        Step::Row(_) | Step::Place(_, _) => unreachable!(),
+        Operation::And(bits) => words.fetch_and::<Acting<P, C>>(seat, at, bits),
+        Operation::Or(bits) => words.fetch_or::<Acting<P, C>>(seat, at, bits),
     }
 }

@@ -11,6 +11,9 @@ use Rattle.deltas.specs.Memory.{Memory}
 use Rattle.chain_search.specs.Steps.{IsAnswer, memory_after}
 use Rattle.tree_words.specs.Layout.{slot_at, pid_bits_at, row_bits_at, epoch_at, announced_at, row_at, width}
 use Rattle.tree_words.specs.Words.{SpellsWhere}
+use Rattle.tree_words.specs.declared.operations.Operation.{Operation}
+use Rattle.tree_words.specs.declared.operations.Operation.TheVariants as operation
+use Rattle.tree_words.specs.declared.operations.Operation.TheVariants.{Load, Store, And, Or}
 
 -- a step that is one atomic operation on a word, and has one
 abbrev pub HasWord : Step Record → Type 0
@@ -78,6 +81,19 @@ word_after (Retire epoch) found = if found == epoch then epoch + 1 else found
 word_after (ReusePids word bits) found = bit_or found bits
 word_after (ReuseRows word bits) found = bit_or found bits
 word_after _ found = found
+
+-- what an atomic operation leaves of the number that it finds
+abbrev pub left_by : Operation → ℕ → ℕ
+left_by Load found = found
+left_by (Store word) found = word
+left_by (operation.Exchange old new) found = if found == old then new else found
+left_by (And bits) found = bit_and found bits
+left_by (Or bits) found = bit_or found bits
+
+-- A step that is a store tells nothing of what it finds.
+abbrev pub TellsNothing : Step Record → Operation → Type 0
+TellsNothing step (Store word) = (found : ℕ) → told step found ≡ Done
+TellsNothing step _ = ⊤
 
 -- the words once the step has changed its word
 abbrev pub words_after : ℕ → Step Record → List ℕ → List ℕ

@@ -4,6 +4,7 @@
 mod changes;
 mod examples;
 mod opening;
+mod operations;
 mod places;
 
 pub use changes::steps_change_one_word;
@@ -12,6 +13,5 @@ pub use examples::{
     steps_have_words,
 };
 pub use opening::{opening_is_spelled, opening_words};
-pub use places::{
-    announced_place, epoch_place, pid_bits_place, row_bits_place, row_place, slot_place, width,
-};
+pub use operations::{Operation, made_by, told_by, word_place};
+pub use places::{row_place, slot_place, width};

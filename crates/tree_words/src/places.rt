@@ -12,28 +12,28 @@ pub fn slot_place(pid: u16) -> usize
 }
 
 /// The place of a word of free PIDs.
-pub fn pid_bits_place(word: u8) -> usize
+pub(crate) fn pid_bits_place(word: u8) -> usize
     ensures { result ≡ pid_bits_at word }
 {
     4096 + usize::from(word)
 }
 
 /// The place of a word of free rows.
-pub fn row_bits_place(word: u8) -> usize
+pub(crate) fn row_bits_place(word: u8) -> usize
     ensures { result ≡ row_bits_at word }
 {
     4160 + usize::from(word)
 }
 
 /// The place of the epoch.
-pub fn epoch_place() -> usize
+pub(crate) fn epoch_place() -> usize
     ensures { result ≡ epoch_at }
 {
     4416
 }
 
 /// The place of the epoch that an actor announced: eight words lie between two actors', as a cache line has eight.
-pub fn announced_place(actor: u8) -> usize
+pub(crate) fn announced_place(actor: u8) -> usize
     ensures { result ≡ announced_at actor }
 {
     4424 + 8 * usize::from(actor)

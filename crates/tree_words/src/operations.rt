@@ -1,0 +1,80 @@
+//! Steps as atomic operations: on which word, by which operation, and what the number that it finds tells.
+ghost use Rattle.std.specs.Prelude.{◌≡◌, ℕ, ◌%◌, ◌^◌};
+ghost use Rattle.tree_words.specs.Changes.{HasWord, SetsBits, TellsNothing, changed_word, left_by, told, word_after};
+
+use crate::places::{announced_place, epoch_place, pid_bits_place, row_bits_place, slot_place};
+use bw_model::{Answer, Step};
+use deltas::Record;
+
+/// An atomic operation on a word.
+#[derive(Clone, Copy)]
+pub enum Operation {
+    /// Leaves the word as it is.
+    Load,
+    /// Writes this number.
+    Store(u64),
+    /// Writes the second number where it finds the first (compare-and-exchange).
+    Exchange(u64, u64),
+    /// Keeps these bits alone (fetch-and).
+    And(u64),
+    /// Sets these bits (fetch-or).
+    Or(u64),
+}
+
+/// The place of the word of an actor's step.
+pub fn word_place(actor: u8, step: &Step<Record>) -> usize
+    requires { HasWord step.now }
+    ensures { result ≡ changed_word actor step.now }
+{
+    match step {
+        Step::Slot(pid) | Step::Exchange(pid, _, _) => slot_place(*pid),
+        Step::Epoch | Step::Retire(_) => epoch_place(),
+        Step::Announce(other) => announced_place(*other),
+        Step::PidBits(word) | Step::ReusePids(word, _) => pid_bits_place(*word),
+        Step::RowBits(word) | Step::ReuseRows(word, _) => row_bits_place(*word),
+        Step::TakePid(pid) => pid_bits_place((*pid / 64) as u8),
+        Step::TakeRow(row) => row_bits_place((*row / 64) as u8),
+        Step::Enter(_) | Step::Leave => announced_place(actor),
+        Step::Row(_) | Step::Place(_, _) => unreachable!(),
+    }
+}
+
+/// The operation that a step is.
+pub fn made_by(step: &Step<Record>) -> Operation
+    requires { HasWord step.now }
+    ensures left { (found : ℕ) → left_by result found ≡ word_after step.now found }
+    ensures quiet { TellsNothing step.now result }
+    ensures bits { SetsBits step.now }
+{
+    match step {
+        Step::Exchange(_, old, new) => Operation::Exchange(u64::from(*old), u64::from(*new)),
+        Step::TakePid(number) | Step::TakeRow(number) => Operation::And(!bit(*number)),
+        Step::Enter(epoch) => Operation::Store(*epoch),
+        Step::Leave => Operation::Store(0),
+        Step::Retire(epoch) => Operation::Exchange(*epoch, *epoch + 1),
+        Step::ReusePids(_, bits) | Step::ReuseRows(_, bits) => Operation::Or(*bits),
+        _ => Operation::Load,
+    }
+}
+
+/// What a step is told by the number that it found in its word.
+pub fn told_by(step: &Step<Record>, found: u64) -> Answer<Record>
+    requires { HasWord step.now }
+    ensures { result ≡ told step.now found }
+{
+    match step {
+        Step::Exchange(_, old, _) => Answer::Whether(found == u64::from(*old)),
+        Step::TakePid(number) | Step::TakeRow(number) => Answer::Whether(found & bit(*number) != 0),
+        Step::Retire(epoch) => Answer::Whether(found == *epoch),
+        Step::Enter(_) | Step::Leave | Step::Place(_, _) => Answer::Done,
+        Step::ReusePids(_, _) | Step::ReuseRows(_, _) => Answer::Done,
+        _ => Answer::Number(found),
+    }
+}
+
+/// The bit of a number in its word.
+fn bit(number: u16) -> u64
+    ensures { result ≡ 2 ^ (number % 64) }
+{
+    1 << (number % 64)
+}
