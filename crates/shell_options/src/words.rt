@@ -86,16 +86,10 @@ fn with_limits<'a>(
     ensures shape { IfOk result (λ c. app_of c ≡ limits_rules (app_of command.entry)) }
     ensures local { IfOk result (λ c. (fields_of c).has_globals ≡ false) }
 {
-    let pids = number(alloc, "pids", pids_help);
-    let rows = number(alloc, "rows", rows_help);
-    let epoch = number(
-        alloc,
-        "epoch",
-        "The opening epoch, 1 to 4611686018427387904 [default: 1]",
-    );
-    let command = command.arg(pids)?;
-    let command = command.arg(rows)?;
-    let command = command.arg(epoch)?;
+    let command = command.arg(number(alloc, "pids", pids_help))?;
+    let command = command.arg(number(alloc, "rows", rows_help))?;
+    let epoch_help = "The opening epoch, 1 to 4611686018427387904 [default: 1]";
+    let command = command.arg(number(alloc, "epoch", epoch_help))?;
     Ok(command)
 }
 
@@ -189,13 +183,10 @@ fn race_command<'a>(alloc: Global) -> Result<Command<'a>, AllocError>
 fn plain_command<'a>(alloc: Global) -> Result<Command<'a>, AllocError>
     ensures { IfOk result (λ c. app_of c ≡ bwtree_app) }
 {
-    let script = script_command(alloc)?;
-    let weave = weave_command(alloc)?;
-    let race = race_command(alloc)?;
     let command = Command::new(alloc, "bwtree").subcommand_required(true);
-    let command = command.subcommand(script)?;
-    let command = command.subcommand(weave)?;
-    let command = command.subcommand(race)?;
+    let command = command.subcommand(script_command(alloc)?)?;
+    let command = command.subcommand(weave_command(alloc)?)?;
+    let command = command.subcommand(race_command(alloc)?)?;
     Ok(command)
 }
 
