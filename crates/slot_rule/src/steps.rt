@@ -68,7 +68,7 @@ fn act_told<P: Law, C: Telling>(
         word_place(actor, step),
         operation,
     );
-    match step { Step::Exchange(_, _, _) => Answer::Whether(true), _ => told_by(step, found) }
+    told_by(step, found)
 }
 
 /// Makes the operation that the step is, and answers the number that it found; of a store, the number that it wrote.
