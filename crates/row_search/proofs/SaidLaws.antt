@@ -4,7 +4,7 @@ use Rattle.std.specs.Prelude.{true, false, Option, Some, None, IfSome, unwrap_or
 use Rattle.base_page.specs.declared.item.Content.TheVariants.{Child}
 use Rattle.base_page.specs.declared.item.Item.{Item}
 use Rattle.base_page.specs.Pages.{content_at}
-use Rattle.deltas.specs.Records.{content_said, right_after}
+use Rattle.deltas.specs.Records.{content_said, high_after, right_after}
 use Rattle.deltas.specs.Spellable.{IsPid, IsSpellable}
 use Rattle.deltas.specs.declared.record.Record.{Record}
 use Rattle.deltas.specs.declared.record.Record.TheVariants.{Base, Put, Delete, Split, Term, Hold, Remove, Merge, Unterm}
@@ -100,3 +100,39 @@ right_some (Hold hold) f h = no_some (f (Some 0))
 right_some (Remove remove) f h = no_some (f (Some 0))
 right_some (Merge merge) f h = some_right merge.right h
 right_some (Unterm unterm) f h = no_some (f (Some 0))
+
+-- and its end
+pub high_ends_base : (content : Record) → (row_of content).kind ≡ 1 → (high : Option (List ℕ)) → high_after content high ≡ high_after content None
+high_ends_base (Base page) e high = refl
+high_ends_base content e high = absurd (omega arith)
+
+pub high_ends_split : (content : Record) → (row_of content).kind ≡ 4 → (high : Option (List ℕ)) → high_after content high ≡ high_after content None
+high_ends_split (Split split) e high = refl
+high_ends_split content e high = absurd (omega arith)
+
+pub high_ends_merge : (content : Record) → (row_of content).kind ≡ 8 → (high : Option (List ℕ)) → high_after content high ≡ high_after content None
+high_ends_merge (Merge merge) e high = refl
+high_ends_merge content e high = absurd (omega arith)
+
+pub high_ends_not : (content : Record) → ((row_of content).kind ≡ 1 → ⊥) → ((row_of content).kind ≡ 4 → ⊥) → ((row_of content).kind ≡ 8 → ⊥) → (high : Option (List ℕ)) → high_after content high ≡ high
+high_ends_not (Base page) a b c high = absurd (a refl)
+high_ends_not (Put put) a b c high = refl
+high_ends_not (Delete delete) a b c high = refl
+high_ends_not (Split split) a b c high = absurd (b refl)
+high_ends_not (Term term) a b c high = refl
+high_ends_not (Hold hold) a b c high = refl
+high_ends_not (Remove remove) a b c high = refl
+high_ends_not (Merge merge) a b c high = absurd (c refl)
+high_ends_not (Unterm unterm) a b c high = refl
+
+pub high_base : (content : Record) → (row_of content).kind ≡ 1 → (row_of content).second ≡ high_after content None
+high_base (Base page) e = refl
+high_base content e = absurd (omega arith)
+
+pub high_split : (content : Record) → (row_of content).kind ≡ 4 → Some (row_of content).first ≡ high_after content None
+high_split (Split split) e = refl
+high_split content e = absurd (omega arith)
+
+pub high_merge : (content : Record) → (row_of content).kind ≡ 8 → (row_of content).second ≡ high_after content None
+high_merge (Merge merge) e = refl
+high_merge content e = absurd (omega arith)
