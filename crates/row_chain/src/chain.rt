@@ -1,0 +1,78 @@
+//! The chain of a page as it was read.
+ghost use Rattle.std.specs.Prelude.{◌≡◌, ◌+◌, length};
+ghost use Rattle.chain_search.specs.Chains.{high_in, right_in};
+ghost use Rattle.chain_search.specs.Fitted.{IsPageChain};
+
+mod search;
+
+use crate::{ChainPart, HeldRow};
+use bw_model::Key;
+use std::alloc::{Allocator, Global};
+use std::marker::Model;
+use std::mem;
+
+/// The records of one page, each of which fits what is under it: at most twelve deltas, the newest first, over a base.
+#[derive(Drop)]
+pub struct Chain<A: Allocator = Global> {
+    part: ChainPart<A>,
+}
+
+impl<A: Allocator> Model for Chain<A> {
+    ghost use Rattle.std.specs.Prelude.{List};
+    ghost use Rattle.deltas.specs.declared.record.Record.{Record};
+    ghost use Rattle.chain_search.specs.Fitted.{IsPageChain};
+
+    ghost Value = { List Record };
+
+    ghost view = { λ c. c.part };
+
+    ghost invariant = { λ c. IsPageChain c.part };
+}
+
+impl<A: Allocator> Chain<A> {
+    /// Takes what was read as a page's whole chain, and gives the chain that it was: the two change hands, and no row is moved.
+    pub fn take(&mut self, part: &mut ChainPart<A>)
+        requires { IsPageChain part.old }
+        ensures chain { self.new ≡ part.old }
+        ensures part { part.new ≡ self.old }
+    {
+        mem::swap(&mut self.part, part);
+    }
+
+    /// Shows that the chain keeps the rules of a page's chain, at no cost.
+    pub fn keeps_rules(&self)
+        ensures { IsPageChain self.now }
+    {
+        let _ = &self.part;
+    }
+
+    fn rows(&self) -> &[HeldRow<A>]
+        ensures { result.now ≡ self.now }
+    {
+        self.part.as_slice()
+    }
+
+    /// The key from which on keys are in pages to the right, or none.
+    pub fn high(&self) -> Option<Key>
+        ensures { result ≡ high_in self.now }
+    {
+        for newest in self.rows() {
+            if newest.row().ends() {
+                return newest.row().high();
+            }
+        }
+        None
+    }
+
+    /// The PID of the next page to the right on the level, or none.
+    pub fn right(&self) -> Option<u16>
+        ensures { result ≡ right_in self.now }
+    {
+        for newest in self.rows() {
+            if newest.row().ends() {
+                return newest.row().right();
+            }
+        }
+        None
+    }
+}
