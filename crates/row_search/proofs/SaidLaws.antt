@@ -1,14 +1,15 @@
 -- What a record says, by its kind, its parts and its items.
-use Rattle.std.proofs.Common.{◌≡◌, ℕ, List, get_or, refl, ap, arith}
+use Rattle.std.proofs.Common.{◌≡◌, ◌==◌, ℕ, List, get_or, refl, ap, arith}
 use Rattle.std.specs.Prelude.{true, false, Option, Some, None, IfSome, unwrap_or}
 use Rattle.base_page.specs.declared.item.Content.TheVariants.{Child}
 use Rattle.base_page.specs.declared.item.Item.{Item}
 use Rattle.base_page.specs.Pages.{content_at}
-use Rattle.deltas.specs.Records.{content_said, high_after, right_after}
+use Rattle.deltas.specs.Records.{content_said, high_after, removed_after, right_after}
 use Rattle.deltas.specs.Spellable.{IsPid, IsSpellable}
 use Rattle.deltas.specs.declared.record.Record.{Record}
 use Rattle.deltas.specs.declared.record.Record.TheVariants.{Base, Put, Delete, Split, Term, Hold, Remove, Merge, Unterm}
 use Rattle.record_slots.specs.Parts.{row_of, items_of}
+use Rattle.row_search.specs.OneKey.{one_key}
 
 -- what it says of a key that it names
 module _ (key : List ℕ) where
@@ -136,3 +137,47 @@ high_split content e = absurd (omega arith)
 pub high_merge : (content : Record) → (row_of content).kind ≡ 8 → (row_of content).second ≡ high_after content None
 high_merge (Merge merge) e = refl
 high_merge content e = absurd (omega arith)
+
+-- whether it removes the page
+pub removes : (content : Record) → ((row_of content).kind == 7) ≡ removed_after content false
+removes (Base page) = refl
+removes (Put put) = refl
+removes (Delete delete) = refl
+removes (Split split) = refl
+removes (Term term) = refl
+removes (Hold hold) = refl
+removes (Remove remove) = refl
+removes (Merge merge) = refl
+removes (Unterm unterm) = refl
+
+-- the one key that it names
+pub one_delete : (content : Record) → (row_of content).kind ≡ 3 → Some ((row_of content).first, false) ≡ one_key content
+one_delete (Delete delete) e = refl
+one_delete content e = absurd (omega arith)
+
+pub one_term : (content : Record) → (row_of content).kind ≡ 5 → Some ((row_of content).first, true) ≡ one_key content
+one_term (Term term) e = refl
+one_term content e = absurd (omega arith)
+
+pub one_hold : (content : Record) → (row_of content).kind ≡ 6 → Some ((row_of content).first, true) ≡ one_key content
+one_hold (Hold hold) e = refl
+one_hold content e = absurd (omega arith)
+
+pub one_unterm : (content : Record) → (row_of content).kind ≡ 9 → Some ((row_of content).first, false) ≡ one_key content
+one_unterm (Unterm unterm) e = refl
+one_unterm content e = absurd (omega arith)
+
+pub one_put : (content : Record) (d : Item) → (row_of content).kind ≡ 2 → Some ((get_or (items_of content) 0 d).key, true) ≡ one_key content
+one_put (Put put) d e = refl
+one_put content d e = absurd (omega arith)
+
+pub one_none : (content : Record) → ((row_of content).kind ≡ 2 → ⊥) → ((row_of content).kind ≡ 3 → ⊥) → ((row_of content).kind ≡ 5 → ⊥) → ((row_of content).kind ≡ 6 → ⊥) → ((row_of content).kind ≡ 9 → ⊥) → None ≡ one_key content
+one_none (Base page) a b c d e = refl
+one_none (Put put) a b c d e = absurd (a refl)
+one_none (Delete delete) a b c d e = absurd (b refl)
+one_none (Split split) a b c d e = refl
+one_none (Term term) a b c d e = absurd (c refl)
+one_none (Hold hold) a b c d e = absurd (d refl)
+one_none (Remove remove) a b c d e = refl
+one_none (Merge merge) a b c d e = refl
+one_none (Unterm unterm) a b c d e = absurd (e refl)

@@ -83,7 +83,8 @@ impl Row {
 
     /// How many of its items are below the bound.
     pub fn items_below(&self, bound: &KeyWords) -> usize
-        ensures { IsCut (items_of self.now) bound.now result }
+        ensures cut { IsCut (items_of self.now) bound.now result }
+        ensures items { AreItems (items_of self.now) }
     {
         match self.place_of(bound) {
             Ok(place) => place,
