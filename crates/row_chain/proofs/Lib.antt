@@ -1,1 +1,3 @@
+pub mod Bases
 pub mod Newest
+pub mod Offers

@@ -1,12 +1,15 @@
 //! The chain of a page as it was read.
 ghost use Rattle.std.specs.Prelude.{◌≡◌, ◌+◌, length};
-ghost use Rattle.chain_search.specs.Chains.{high_in, right_in};
+ghost use Rattle.record_slots.specs.Parts.{row_of};
+ghost use Rattle.chain_search.specs.Chains.{high_in, is_removed, level_in, low_in, right_in};
 ghost use Rattle.chain_search.specs.Fitted.{IsPageChain};
 
 mod search;
+mod walk;
 
 use crate::{ChainPart, HeldRow};
 use bw_model::Key;
+use row_search::Row;
 use std::alloc::{Allocator, Global};
 use std::marker::Model;
 use std::mem;
@@ -44,6 +47,45 @@ impl<A: Allocator> Chain<A> {
         ensures { IsPageChain self.now }
     {
         let _ = &self.part;
+    }
+
+    /// How many deltas stand over the base.
+    pub fn deltas(&self) -> usize
+        ensures { result + 1 ≡ length self.now }
+    {
+        self.keeps_rules();
+        self.rows().len() - 1
+    }
+
+    /// The level: 0 for leaves, one more for each level above.
+    pub fn level(&self) -> u8
+        ensures { result ≡ level_in self.now }
+    {
+        self.base().level()
+    }
+
+    /// The lowest key that the page may have.
+    pub fn low(&self) -> Key
+        ensures { result ≡ low_in self.now }
+    {
+        self.base().first()
+    }
+
+    /// Whether the page is removed: nothing stands over a removal.
+    pub fn is_removed(&self) -> bool
+        ensures { result ≡ is_removed self.now }
+    {
+        self.keeps_rules();
+        self.rows()[0].row().removes()
+    }
+
+    /// The base, which is the last record; no delta changes its level nor its lowest key.
+    fn base(&self) -> &Row
+        ensures level { (row_of result.now).level ≡ level_in self.now }
+        ensures low { (row_of result.now).first ≡ low_in self.now }
+    {
+        self.keeps_rules();
+        self.rows()[self.deltas()].row()
     }
 
     fn rows(&self) -> &[HeldRow<A>]

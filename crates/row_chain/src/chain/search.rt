@@ -1,9 +1,11 @@
 //! What a chain decides for a key.
-ghost use Rattle.std.specs.Prelude.{◌≡◌, ◌++◌, List, MatchOption, is_some};
-ghost use Rattle.base_page.specs.Pages.{value_in};
+ghost use Rattle.std.specs.Prelude.{◌≡◌, ◌<◌, ◌++◌, List, IsSome, IsTrue, MatchOption, not, is_some};
+ghost use Rattle.bw_model.specs.Bytes.{is_below};
+ghost use Rattle.base_page.specs.Pages.{child_in, value_in};
+ghost use Rattle.base_page.specs.Places.{IsGreatestChild, HasNoChild};
 ghost use Rattle.deltas.specs.declared.record.Record.{Record};
 ghost use Rattle.deltas.specs.Records.{content_said};
-ghost use Rattle.chain_search.specs.Chains.{content_in};
+ghost use Rattle.chain_search.specs.Chains.{content_in, covers, level_in, low_in};
 ghost use Rattle.chain_search.specs.Walks.{is_named};
 
 use crate::{Chain, HeldRow};
@@ -29,6 +31,44 @@ impl<A: Allocator> Chain<A> {
     {
         match newest_of(self.rows(), key) {
             Some(newest) => newest.value_said(key),
+            None => None,
+        }
+    }
+
+    /// The child of the greatest term at or below the key, or none.
+    pub fn child_of(&self, key: &KeyWords) -> Option<u16>
+        ensures child { MatchOption result
+            (HasNoChild (content_in self.now) (λ q. not (is_below key.now q)))
+            (IsGreatestChild (content_in self.now) (λ q. not (is_below key.now q))) }
+        ensures index { 0 < level_in self.now → IsTrue (covers self.now key.now) → IsSome result }
+    {
+        self.keeps_rules();
+        match self.child_at(key) {
+            Some(child) => Some(child),
+            None => self.child_below(key),
+        }
+    }
+
+    /// The child of the greatest term below the key, or none.
+    pub fn child_below(&self, key: &KeyWords) -> Option<u16>
+        ensures child { MatchOption result
+            (HasNoChild (content_in self.now) (λ q. is_below q key.now))
+            (IsGreatestChild (content_in self.now) (λ q. is_below q key.now)) }
+        ensures index { 0 < level_in self.now → IsTrue (is_below (low_in self.now) key.now) → IsSome result }
+    {
+        self.keeps_rules();
+        match self.greatest_below(key) {
+            Some(separator) => self.child_at(&separator),
+            None => None,
+        }
+    }
+
+    /// The child that the page has at the key, which the newest record that names the key says, or none.
+    fn child_at(&self, key: &KeyWords) -> Option<u16>
+        ensures { result ≡ child_in (content_in self.now key.now) }
+    {
+        match newest_of(self.rows(), key) {
+            Some(newest) => newest.child_said(key),
             None => None,
         }
     }
