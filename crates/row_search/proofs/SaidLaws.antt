@@ -9,7 +9,7 @@ use Rattle.deltas.specs.Spellable.{IsPid, IsSpellable}
 use Rattle.deltas.specs.declared.record.Record.{Record}
 use Rattle.deltas.specs.declared.record.Record.TheVariants.{Base, Put, Delete, Split, Term, Hold, Remove, Merge, Unterm}
 use Rattle.record_slots.specs.Parts.{row_of, items_of}
-use Rattle.row_search.specs.OneKey.{one_key}
+use Rattle.row_search.specs.OneKey.{one_key, split_at}
 
 -- what it says of a key that it names
 module _ (key : List ℕ) where
@@ -181,3 +181,19 @@ one_none (Hold hold) a b c d e = absurd (d refl)
 one_none (Remove remove) a b c d e = refl
 one_none (Merge merge) a b c d e = refl
 one_none (Unterm unterm) a b c d e = absurd (e refl)
+
+-- where it cuts the page
+pub splits : (content : Record) → (row_of content).kind ≡ 4 → Some (row_of content).first ≡ split_at content
+splits (Split split) e = refl
+splits content e = absurd (omega arith)
+
+pub splits_not : (content : Record) → ((row_of content).kind ≡ 4 → ⊥) → None ≡ split_at content
+splits_not (Base page) h = refl
+splits_not (Put put) h = refl
+splits_not (Delete delete) h = refl
+splits_not (Split split) h = absurd (h refl)
+splits_not (Term term) h = refl
+splits_not (Hold hold) h = refl
+splits_not (Remove remove) h = refl
+splits_not (Merge merge) h = refl
+splits_not (Unterm unterm) h = refl

@@ -14,3 +14,8 @@ one_key (Hold hold) = Some (hold.separator, true)
 one_key (Remove remove) = None
 one_key (Merge merge) = None
 one_key (Unterm unterm) = Some (unterm.separator, false)
+
+-- the separator of a split
+abbrev pub split_at : Record → Option (List ℕ)
+split_at (Split split) = Some split.separator
+split_at content = None

@@ -1,11 +1,12 @@
 //! The keys of a row, as words.
-ghost use Rattle.std.specs.Prelude.{◌≡◌, ◌<◌, length, slice_index_or};
+ghost use Rattle.std.specs.Prelude.{◌≡◌, ◌≤◌, ◌<◌, length, slice_index_or};
 ghost use Rattle.base_page.specs.declared.item.Item.{Item};
+ghost use Rattle.base_page.specs.declared.items.TheConstants.{MAX_ITEMS};
 ghost use Rattle.record_slots.specs.Parts.{items_of, row_of};
-ghost use Rattle.row_search.specs.OneKey.{one_key};
+ghost use Rattle.row_search.specs.OneKey.{one_key, split_at};
 
 use crate::{KeyWords, Row};
-use record_slots::{FIRST_KEY, HELD};
+use record_slots::{FIRST_KEY, HELD, ITEM_UNIT};
 
 impl Row {
     /// The one key that it names, and whether it says that the key is there. A base, a split, a removal and a merge have none.
@@ -29,6 +30,24 @@ impl Row {
             return Some((self.first_words(), false));
         }
         None
+    }
+
+    /// The separator at which a split cuts the page; none of another record.
+    pub fn split_at(&self) -> Option<KeyWords>
+        ensures { result ≡ split_at self.now }
+    {
+        if self.kind() == 4 {
+            return Some(self.first_words());
+        }
+        None
+    }
+
+    /// How many items it has.
+    pub fn item_count(&self) -> usize
+        ensures count { result ≡ length (items_of self.now) }
+        ensures few { result ≤ MAX_ITEMS }
+    {
+        (self.words[0] / ITEM_UNIT) as usize
     }
 
     /// The key of the item at the place.
