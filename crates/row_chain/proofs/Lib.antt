@@ -1,3 +1,5 @@
 pub mod Bases
+pub mod Counts
 pub mod Newest
 pub mod Offers
+pub mod OneKeys

@@ -12,19 +12,12 @@ use Rattle.row_search.specs.OneKey.{one_key}
 use Rattle.chain_search.specs.Chains.{content_in}
 use Rattle.chain_search.specs.Walks.{is_open, IsGreatestKey}
 use Rattle.chain_search.proofs.WalkLaws.{in_range, offers_key}
+use Rattle.row_chain.proofs.OneKeys.{mark, named}
 
 -- a key that is there
 module _ (newer : List Record) (bound : List ℕ) where
   abbrev Offers : Record → List ℕ → Type 0
   Offers row key = IsGreatestKey (content_in (row ∷ [])) (is_open newer bound) (if is_open newer bound key then Some key else None)
-
-  abbrev mark : Option (List ℕ × Bool) → Bool
-  mark None = false
-  mark (Some (key, there)) = there
-
-  abbrev named : Option (List ℕ × Bool) → List ℕ
-  named None = []
-  named (Some (key, there)) = key
 
   pub there : (row : Record) (key : List ℕ) → one_key row ≡ Some (key, true) → Offers row key
   there (Base page) key e = cc

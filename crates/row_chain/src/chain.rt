@@ -4,6 +4,7 @@ ghost use Rattle.record_slots.specs.Parts.{row_of};
 ghost use Rattle.chain_search.specs.Chains.{high_in, is_removed, level_in, low_in, right_in};
 ghost use Rattle.chain_search.specs.Fitted.{IsPageChain};
 
+mod count;
 mod search;
 mod walk;
 
