@@ -3,3 +3,4 @@ pub mod Counts
 pub mod Newest
 pub mod Offers
 pub mod OneKeys
+pub mod Opening

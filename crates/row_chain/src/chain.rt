@@ -1,7 +1,10 @@
 //! The chain of a page as it was read.
-ghost use Rattle.std.specs.Prelude.{◌≡◌, ◌+◌, length};
+ghost use Rattle.std.specs.Prelude.{◌≡◌, ◌+◌, ◌∷◌, [], IfOk, length};
+ghost use Rattle.bw_model.specs.Bytes.{is_under};
+ghost use Rattle.base_page.specs.Pages.{empty_leaf};
+ghost use Rattle.deltas.specs.declared.record.Record.TheVariants.{Base};
 ghost use Rattle.record_slots.specs.Parts.{row_of};
-ghost use Rattle.chain_search.specs.Chains.{high_in, is_removed, level_in, low_in, right_in};
+ghost use Rattle.chain_search.specs.Chains.{covers, high_in, is_removed, level_in, low_in, right_in};
 ghost use Rattle.chain_search.specs.Fitted.{IsPageChain};
 
 mod count;
@@ -9,9 +12,11 @@ mod search;
 mod walk;
 
 use crate::{ChainPart, HeldRow};
+use base_page::Page;
 use bw_model::Key;
-use row_search::Row;
-use std::alloc::{Allocator, Global};
+use deltas::Record;
+use row_search::{KeyWords, Row};
+use std::alloc::{AllocError, Allocator, Global};
 use std::marker::Model;
 use std::mem;
 
@@ -31,6 +36,20 @@ impl<A: Allocator> Model for Chain<A> {
     ghost view = { λ c. c.part };
 
     ghost invariant = { λ c. IsPageChain c.part };
+}
+
+impl<A: Allocator + Copy> Chain<A> {
+    /// The chain of the page that opens a tree. Takes the memory for all rows, as a part does, and is refused for want of it alone. No
+    /// later call takes memory.
+    pub fn new(alloc: A) -> Result<Chain<A>, AllocError>
+        ensures { IfOk result (λ chain. chain ≡ Base empty_leaf ∷ []) }
+    {
+        let mut part = ChainPart::<A>::new(alloc)?;
+        let mut row = HeldRow::<A>::new(alloc)?;
+        row.write(&Record::Base(Page::empty_leaf()));
+        part.push(&mut row);
+        Ok(Chain { part })
+    }
 }
 
 impl<A: Allocator> Chain<A> {
@@ -117,5 +136,27 @@ impl<A: Allocator> Chain<A> {
             }
         }
         None
+    }
+
+    /// Whether the key is in the page's range.
+    pub fn covers(&self, key: &KeyWords) -> bool
+        ensures { result ≡ covers self.now key.now }
+    {
+        if !self.base().begins_by(key) {
+            return false;
+        }
+        self.ends_after(key)
+    }
+
+    /// Whether the key is below the page's end.
+    fn ends_after(&self, key: &KeyWords) -> bool
+        ensures { result ≡ is_under key.now (high_in self.now) }
+    {
+        for newest in self.rows() {
+            if newest.row().ends() {
+                return newest.row().ends_after(key);
+            }
+        }
+        true
     }
 }

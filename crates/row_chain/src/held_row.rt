@@ -1,7 +1,9 @@
 //! A row on the heap.
 ghost use Rattle.std.specs.Prelude.{◌≡◌, IfOk};
+ghost use Rattle.deltas.specs.Spellable.{IsSpellable};
 ghost use Rattle.deltas.specs.declared.record.Record.TheVariants as kind;
 
+use deltas::Record;
 use row_search::Row;
 use std::alloc::{AllocError, Allocator, Global};
 use std::marker::Model;
@@ -29,6 +31,14 @@ impl<A: Allocator> HeldRow<A> {
             Ok(owner) => Ok(HeldRow { owner }),
             Err(_) => Err(AllocError),
         }
+    }
+
+    /// Writes the record over the one that stood here.
+    pub fn write(&mut self, content: &Record)
+        requires { IsSpellable content.now }
+        ensures { self.new ≡ content.now }
+    {
+        self.owner.as_mut().write(content);
     }
 
     /// The row, where it lies.
