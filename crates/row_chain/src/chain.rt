@@ -8,6 +8,7 @@ ghost use Rattle.chain_search.specs.Chains.{covers, high_in, is_removed, level_i
 ghost use Rattle.chain_search.specs.Fitted.{IsPageChain};
 
 mod count;
+mod rows;
 mod search;
 mod walk;
 
@@ -74,7 +75,7 @@ impl<A: Allocator> Chain<A> {
         ensures { result + 1 ≡ length self.now }
     {
         self.keeps_rules();
-        self.rows().len() - 1
+        self.as_slice().len() - 1
     }
 
     /// The level: 0 for leaves, one more for each level above.
@@ -96,7 +97,7 @@ impl<A: Allocator> Chain<A> {
         ensures { result ≡ is_removed self.now }
     {
         self.keeps_rules();
-        self.rows()[0].row().removes()
+        self.as_slice()[0].row().removes()
     }
 
     /// The base, which is the last record; no delta changes its level nor its lowest key.
@@ -105,10 +106,10 @@ impl<A: Allocator> Chain<A> {
         ensures low { (row_of result.now).first ≡ low_in self.now }
     {
         self.keeps_rules();
-        self.rows()[self.deltas()].row()
+        self.as_slice()[self.deltas()].row()
     }
 
-    fn rows(&self) -> &[HeldRow<A>]
+    fn as_slice(&self) -> &[HeldRow<A>]
         ensures { result.now ≡ self.now }
     {
         self.part.as_slice()
@@ -118,7 +119,7 @@ impl<A: Allocator> Chain<A> {
     pub fn high(&self) -> Option<Key>
         ensures { result ≡ high_in self.now }
     {
-        for newest in self.rows() {
+        for newest in self.as_slice() {
             if newest.row().ends() {
                 return newest.row().high();
             }
@@ -130,7 +131,7 @@ impl<A: Allocator> Chain<A> {
     pub fn right(&self) -> Option<u16>
         ensures { result ≡ right_in self.now }
     {
-        for newest in self.rows() {
+        for newest in self.as_slice() {
             if newest.row().ends() {
                 return newest.row().right();
             }
@@ -152,7 +153,7 @@ impl<A: Allocator> Chain<A> {
     fn ends_after(&self, key: &KeyWords) -> bool
         ensures { result ≡ is_under key.now (high_in self.now) }
     {
-        for newest in self.rows() {
+        for newest in self.as_slice() {
             if newest.row().ends() {
                 return newest.row().ends_after(key);
             }

@@ -23,7 +23,7 @@ impl<A: Allocator> Chain<A> {
         ensures { (items : List Item) → IsItemsOf self.now items → result ≡ length items }
     {
         self.keeps_rules();
-        let rows = self.rows();
+        let rows = self.as_slice();
         let mut bound = None;
         let mut more = 0;
         let mut fewer = 0;

@@ -19,7 +19,7 @@ impl<A: Allocator> Chain<A> {
     pub fn content(&self, key: &KeyWords) -> Option<Content>
         ensures { result ≡ content_in self.now key.now }
     {
-        match newest_of(self.rows(), key) {
+        match newest_of(self.as_slice(), key) {
             Some(newest) => newest.content_said(key),
             None => None,
         }
@@ -29,7 +29,7 @@ impl<A: Allocator> Chain<A> {
     pub fn find(&self, key: &KeyWords) -> Option<Value>
         ensures { result ≡ value_in (content_in self.now key.now) }
     {
-        match newest_of(self.rows(), key) {
+        match newest_of(self.as_slice(), key) {
             Some(newest) => newest.value_said(key),
             None => None,
         }
@@ -67,7 +67,7 @@ impl<A: Allocator> Chain<A> {
     fn child_at(&self, key: &KeyWords) -> Option<u16>
         ensures { result ≡ child_in (content_in self.now key.now) }
     {
-        match newest_of(self.rows(), key) {
+        match newest_of(self.as_slice(), key) {
             Some(newest) => newest.child_said(key),
             None => None,
         }

@@ -17,7 +17,7 @@ impl<A: Allocator> Chain<A> {
     pub(super) fn greatest_below(&self, bound: &KeyWords) -> Option<KeyWords>
         ensures { IsGreatestKey (content_in self.now) (λ q. is_below q bound.now) result }
     {
-        let rows = self.rows();
+        let rows = self.as_slice();
         let mut greatest = None;
         for place in 0..rows.len() {
             let offered = offered(rows[place].row(), &rows[..place], bound);

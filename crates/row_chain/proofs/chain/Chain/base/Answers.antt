@@ -7,15 +7,15 @@ use Rattle.row_chain.proofs.chain.Chain.base.Goals as goal
 pub returns-clause-level : goal.returns-clause-level
 returns-clause-level g c =
     let place = c.deltas.result in
-    let row = c.index-rows-deltas.result in
+    let row = c.index-as_slice-deltas.result in
     let last : suc place ≡ length c.args.self.now = let d = c.deltas.ensures in omega (arith, d) in
-    ap (λ (r : Record). (row_of r).level) (c.row.ensures ∙ c.index-rows-deltas.is ∙ ap (λ (rows : List Record). get_or rows place row) c.rows.ensures)
+    ap (λ (r : Record). (row_of r).level) (c.row.ensures ∙ c.index-as_slice-deltas.is ∙ ap (λ (rows : List Record). get_or rows place row) c.as_slice.ensures)
     ∙ (start_of_last c.args.self.now place row c.keeps_rules.ensures.fitted last).0
 
 pub returns-clause-low : goal.returns-clause-low
 returns-clause-low g c =
     let place = c.deltas.result in
-    let row = c.index-rows-deltas.result in
+    let row = c.index-as_slice-deltas.result in
     let last : suc place ≡ length c.args.self.now = let d = c.deltas.ensures in omega (arith, d) in
-    ap (λ (r : Record). (row_of r).first) (c.row.ensures ∙ c.index-rows-deltas.is ∙ ap (λ (rows : List Record). get_or rows place row) c.rows.ensures)
+    ap (λ (r : Record). (row_of r).first) (c.row.ensures ∙ c.index-as_slice-deltas.is ∙ ap (λ (rows : List Record). get_or rows place row) c.as_slice.ensures)
     ∙ (start_of_last c.args.self.now place row c.keeps_rules.ensures.fitted last).1

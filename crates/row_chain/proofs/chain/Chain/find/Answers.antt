@@ -4,7 +4,7 @@ use Rattle.row_chain.proofs.Newest.{alone}
 use Rattle.row_chain.proofs.chain.Chain.find.Goals as goal
 
 pub returns-in-Some : goal.returns-in-Some
-returns-in-Some g c = c.value_said.ensures ∙ ap value_in (alone c.rows.result.now c.args.self.now c.args.key.now _ c.rows.ensures (c.in-Some.ensures.said []))
+returns-in-Some g c = c.value_said.ensures ∙ ap value_in (alone c.as_slice.result.now c.args.self.now c.args.key.now _ c.as_slice.ensures (c.in-Some.ensures.said []))
 
 pub returns-in-None : goal.returns-in-None
-returns-in-None g c = ap value_in (alone c.rows.result.now c.args.self.now c.args.key.now _ c.rows.ensures (c.in-None.ensures.said []))
+returns-in-None g c = ap value_in (alone c.as_slice.result.now c.args.self.now c.args.key.now _ c.as_slice.ensures (c.in-None.ensures.said []))

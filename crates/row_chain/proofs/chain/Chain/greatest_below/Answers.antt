@@ -9,7 +9,7 @@ use Rattle.row_chain.proofs.chain.Chain.greatest_below.Goals as goal
 
 pub loop-place-preserved : goal.loop-place-preserved
 loop-place-preserved g c =
-    let rows = c.rows-rows.result.now in
+    let rows = c.as_slice-rows.result.now in
     let row = c.index-rows-place.result in
     let front = take c.loop-place.place rows in
     let more : take (c.loop-place.place + 1) rows ≡ front ++ row ∷ [] = take_more rows c.loop-place.place row c.loop-place-test.true ∙ ap (λ d. front ++ d ∷ []) (sym c.index-rows-place.is) in

@@ -12,29 +12,29 @@ pub loop-place-init : goal.loop-place-init
 loop-place-init g c =
     let chain = c.args.self.now in
     record {
-      short = subst (λ (rows : List Record). length rows ≤ 13) (sym c.rows-rows.ensures) c.keeps_rules.ensures.short;
+      short = subst (λ (rows : List Record). length rows ≤ 13) (sym c.as_slice-rows.ensures) c.keeps_rules.ensures.short;
       more = omega arith;
       fewer = omega arith;
       count = λ items rest has rest_has.
-          let same : count_under None items ≡ count_under None rest = unchanged None chain chain items rest (λ q. refl) has (subst (λ (rows : List Record). IsItemsOf rows rest) c.rows-rows.ensures rest_has) in
+          let same : count_under None items ≡ count_under None rest = unchanged None chain chain items rest (λ q. refl) has (subst (λ (rows : List Record). IsItemsOf rows rest) c.as_slice-rows.ensures rest_has) in
           let all = count_all items in
           omega (arith, same, all);
     }
 
 pub change-came-requires : goal.change-came-requires
 change-came-requires g c =
-    let rows = c.rows-rows.result.now in
+    let rows = c.as_slice-rows.result.now in
     let place = c.loop-place.place in
-    let fitted = subst IsFitted (sym c.rows-rows.ensures) c.keeps_rules.ensures.fitted in
+    let fitted = subst IsFitted (sym c.as_slice-rows.ensures) c.keeps_rules.ensures.fitted in
     subst IsFitted (from_place rows place c.row-newest.result.now c.index-rows-place.result c.loop-place-test.true (c.row-newest.ensures ∙ c.index-rows-place.is))
     (fitted_from rows place fitted c.loop-place-test.true)
 
 pub loop-place-preserved : goal.loop-place-preserved
 loop-place-preserved g c =
-    let rows = c.rows-rows.result.now in
+    let rows = c.as_slice-rows.result.now in
     let row = c.row-newest.result.now in
     let place = c.loop-place.place in
-    let fitted = subst IsFitted (sym c.rows-rows.ensures) c.keeps_rules.ensures.fitted in
+    let fitted = subst IsFitted (sym c.as_slice-rows.ensures) c.keeps_rules.ensures.fitted in
     let made = page_of (drop place rows) (fitted_from rows place fitted c.loop-place-test.true) in
     let here = from_place rows place row c.index-rows-place.result c.loop-place-test.true (c.row-newest.ensures ∙ c.index-rows-place.is) in
     let more = c.loop-place.invariant.more in
@@ -55,8 +55,8 @@ loop-place-preserved g c =
 pub overflow_sub-result : goal.overflow_sub-result
 overflow_sub-result g c =
     let made = page_of c.args.self.now c.keeps_rules.ensures.fitted in
-    let all = c.loop-place.invariant.count made.0.items [] made.1.items (none_left c.rows-rows.result.now c.loop-place.place c.loop-place-test.false) in
+    let all = c.loop-place.invariant.count made.0.items [] made.1.items (none_left c.as_slice-rows.result.now c.loop-place.place c.loop-place-test.false) in
     omega (arith, all)
 
 pub returns : goal.returns
-returns g c items has = let all = c.loop-place.invariant.count items [] has (none_left c.rows-rows.result.now c.loop-place.place c.loop-place-test.false) in omega (arith, all)
+returns g c items has = let all = c.loop-place.invariant.count items [] has (none_left c.as_slice-rows.result.now c.loop-place.place c.loop-place-test.false) in omega (arith, all)
