@@ -1,5 +1,5 @@
 -- What an item of a row has, read from its words.
-use Rattle.std.proofs.Common.{◌≡◌, ◌==◌, ◌<◌, ◌+◌, ◌*◌, ℕ, false, List, length, get_or, take, drop, refl, sym, ap, subst, ◌∙◌, arith}
+use Rattle.std.proofs.Common.{◌≡◌, ◌==◌, ◌<◌, ◌+◌, ◌*◌, ◌%◌, ℕ, false, List, length, get_or, take, drop, refl, sym, ap, subst, ◌∙◌, arith}
 use Rattle.std.specs.Prelude.{if◌then◌else◌, nat_le, ◌-◌, Option, Some, None, IfSome}
 use Rattle.std.proofs.lemmas.Bool.{eqb-true, false_from_ne_true}
 use Rattle.std.proofs.lemmas.List.{get_or-drop, drop-drop}
@@ -17,7 +17,7 @@ use Rattle.record_slots.specs.Texts.{IsText, bytes_of}
 use Rattle.record_slots.proofs.SpellingLaws.{items_fit}
 use Rattle.record_slots.proofs.TextLaws.{read_back}
 use Rattle.row_search.specs.Reading.{field_in, item_in}
-use Rattle.row_search.proofs.ItemTexts.{item_stands, window}
+use Rattle.row_search.proofs.ItemTexts.{item_stands, item_text, window}
 use Rattle.row_search.proofs.ReadingLaws.{five_of, item_read}
 use Rattle.row_search.proofs.RowTexts.{first_of, stands, text_at}
 
@@ -28,6 +28,16 @@ text_is count words text h =
 
 pub text_same : (count : ℕ) (words one other : List ℕ) → IsText count words one → IsText count words other → one ≡ other
 text_same count words one other h g = sym (text_is count words one h) ∙ text_is count words other g
+
+pub text_stands : (count : ℕ) (words text : List ℕ) → IsText count words text → IsText count words (take count (bytes_of words))
+text_stands count words text h = subst (IsText count words) (sym (text_is count words text h)) h
+
+-- the key of an item
+pub key_text : (words : List ℕ) (content : Record) → IsSpelling content words → (place : ℕ) (d : Item) → place < length (items_of content) → (here : ℕ) → here ≡ 13 + 10 * place
+    → IsText (get_or words here 0 % 256) (take 4 (drop (here + 1) words)) (get_or (items_of content) place d).key
+key_text words content h place d within here e =
+    subst (λ n. IsText (get_or words n 0 % 256) (take 4 (drop (n + 1) words)) (get_or (items_of content) place d).key) (sym e)
+    (item_text words (items_of content) (stands words content h) place d within)
 
 abbrev page_word : Content → ℕ
 page_word (Value value) = 0

@@ -6,3 +6,4 @@ pub mod KeyOrder
 pub mod ReadingLaws
 pub mod RowTexts
 pub mod SaidLaws
+pub mod WordsCmp

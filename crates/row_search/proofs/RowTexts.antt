@@ -107,7 +107,7 @@ turned_lt Greater = refl
 same_turned : (a b : List ℕ) → is_eq (key_cmp a b) ≡ is_eq (key_cmp b a)
 same_turned a b = ap is_eq (nat_list_cmp_total.antisymm a b) ∙ turned_eq (key_cmp b a)
 
-below_turned : (a b : List ℕ) → is_below a b ≡ is_gt (key_cmp b a)
+pub below_turned : (a b : List ℕ) → is_below a b ≡ is_gt (key_cmp b a)
 below_turned a b = ap is_lt (nat_list_cmp_total.antisymm a b) ∙ turned_lt (key_cmp b a)
 
 -- which keys a record of each kind names, by comparisons of its keys with the key
@@ -132,29 +132,21 @@ module _ (key : List ℕ) where
   names_remove (Remove remove) e = refl
   names_remove content e = absurd (omega arith)
 
-  abbrev pub above : Option (List ℕ) → Bool
-  above None = true
-  above (Some bound) = is_gt (key_cmp bound key)
-
-  above_is : (bound : Option (List ℕ)) → is_under key bound ≡ above bound
-  above_is None = refl
-  above_is (Some bound) = below_turned key bound
-
   pub names_merge : (content : Record) → (row_of content).kind ≡ 8 → is_gt (key_cmp (row_of content).first key) ≡ true → names content key ≡ false
   names_merge (Merge merge) e low = ap (λ b. not b && is_under key merge.high) (below_turned key merge.low ∙ low)
   names_merge content e low = absurd (omega arith)
 
-  pub names_merge_under : (content : Record) → (row_of content).kind ≡ 8 → is_gt (key_cmp (row_of content).first key) ≡ false → names content key ≡ above (row_of content).second
-  names_merge_under (Merge merge) e low = ap (λ b. not b && is_under key merge.high) (below_turned key merge.low ∙ low) ∙ above_is merge.high
+  pub names_merge_under : (content : Record) → (row_of content).kind ≡ 8 → is_gt (key_cmp (row_of content).first key) ≡ false → names content key ≡ is_under key (row_of content).second
+  names_merge_under (Merge merge) e low = ap (λ b. not b && is_under key merge.high) (below_turned key merge.low ∙ low)
   names_merge_under content e low = absurd (omega arith)
 
-  pub above_none : (second : Option (List ℕ)) → None ≡ option_map (λ bound. key_cmp bound key) second → above second ≡ true
+  pub above_none : (second : Option (List ℕ)) → None ≡ option_map (λ bound. key_cmp bound key) second → is_under key second ≡ true
   above_none None e = refl
   above_none (Some bound) e = cc
 
-  pub above_some : (second : Option (List ℕ)) (o : Ordering) → Some o ≡ option_map (λ bound. key_cmp bound key) second → above second ≡ is_gt o
+  pub above_some : (second : Option (List ℕ)) (o : Ordering) → Some o ≡ option_map (λ bound. key_cmp bound key) second → is_under key second ≡ is_gt o
   above_some None o e = cc
-  above_some (Some bound) o e = ap (λ (p : Option Ordering). elim p as (λ q. Bool) [ None ↦ true | Some r ↦ is_gt r ]) (sym e)
+  above_some (Some bound) o e = below_turned key bound ∙ ap (λ (p : Option Ordering). elim p as (λ q. Bool) [ None ↦ true | Some r ↦ is_gt r ]) (sym e)
 
   pub second_by : (words : List ℕ) (second : Option (List ℕ)) → IfSome second IsShort → bound_words second ≡ take 5 (drop 8 words) → (get_or words 8 0 ≡ 255 → ⊥)
       → (o : Ordering) → ((text : List ℕ) → IsText (get_or words 8 0) (take 4 (drop 9 words)) text → o ≡ key_cmp text key) → Some o ≡ option_map (λ bound. key_cmp bound key) second

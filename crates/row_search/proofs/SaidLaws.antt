@@ -1,14 +1,15 @@
 -- What a record says, by its kind, its parts and its items.
-use Rattle.std.proofs.Common.{◌≡◌, ℕ, List, get_or, refl, ap, arith}
+use Rattle.std.proofs.Common.{◌≡◌, ◌==◌, ℕ, List, get_or, refl, ap, arith}
 use Rattle.std.specs.Prelude.{true, false, Option, Some, None, IfSome, unwrap_or}
 use Rattle.base_page.specs.declared.item.Content.TheVariants.{Child}
 use Rattle.base_page.specs.declared.item.Item.{Item}
 use Rattle.base_page.specs.Pages.{content_at}
-use Rattle.deltas.specs.Records.{content_said, right_after}
+use Rattle.deltas.specs.Records.{content_said, high_after, removed_after, right_after}
 use Rattle.deltas.specs.Spellable.{IsPid, IsSpellable}
 use Rattle.deltas.specs.declared.record.Record.{Record}
 use Rattle.deltas.specs.declared.record.Record.TheVariants.{Base, Put, Delete, Split, Term, Hold, Remove, Merge, Unterm}
 use Rattle.record_slots.specs.Parts.{row_of, items_of}
+use Rattle.row_search.specs.OneKey.{one_key, split_at}
 
 -- what it says of a key that it names
 module _ (key : List ℕ) where
@@ -100,3 +101,99 @@ right_some (Hold hold) f h = no_some (f (Some 0))
 right_some (Remove remove) f h = no_some (f (Some 0))
 right_some (Merge merge) f h = some_right merge.right h
 right_some (Unterm unterm) f h = no_some (f (Some 0))
+
+-- and its end
+pub high_ends_base : (content : Record) → (row_of content).kind ≡ 1 → (high : Option (List ℕ)) → high_after content high ≡ high_after content None
+high_ends_base (Base page) e high = refl
+high_ends_base content e high = absurd (omega arith)
+
+pub high_ends_split : (content : Record) → (row_of content).kind ≡ 4 → (high : Option (List ℕ)) → high_after content high ≡ high_after content None
+high_ends_split (Split split) e high = refl
+high_ends_split content e high = absurd (omega arith)
+
+pub high_ends_merge : (content : Record) → (row_of content).kind ≡ 8 → (high : Option (List ℕ)) → high_after content high ≡ high_after content None
+high_ends_merge (Merge merge) e high = refl
+high_ends_merge content e high = absurd (omega arith)
+
+pub high_ends_not : (content : Record) → ((row_of content).kind ≡ 1 → ⊥) → ((row_of content).kind ≡ 4 → ⊥) → ((row_of content).kind ≡ 8 → ⊥) → (high : Option (List ℕ)) → high_after content high ≡ high
+high_ends_not (Base page) a b c high = absurd (a refl)
+high_ends_not (Put put) a b c high = refl
+high_ends_not (Delete delete) a b c high = refl
+high_ends_not (Split split) a b c high = absurd (b refl)
+high_ends_not (Term term) a b c high = refl
+high_ends_not (Hold hold) a b c high = refl
+high_ends_not (Remove remove) a b c high = refl
+high_ends_not (Merge merge) a b c high = absurd (c refl)
+high_ends_not (Unterm unterm) a b c high = refl
+
+pub high_base : (content : Record) → (row_of content).kind ≡ 1 → (row_of content).second ≡ high_after content None
+high_base (Base page) e = refl
+high_base content e = absurd (omega arith)
+
+pub high_split : (content : Record) → (row_of content).kind ≡ 4 → Some (row_of content).first ≡ high_after content None
+high_split (Split split) e = refl
+high_split content e = absurd (omega arith)
+
+pub high_merge : (content : Record) → (row_of content).kind ≡ 8 → (row_of content).second ≡ high_after content None
+high_merge (Merge merge) e = refl
+high_merge content e = absurd (omega arith)
+
+-- whether it removes the page
+pub removes : (content : Record) → ((row_of content).kind == 7) ≡ removed_after content false
+removes (Base page) = refl
+removes (Put put) = refl
+removes (Delete delete) = refl
+removes (Split split) = refl
+removes (Term term) = refl
+removes (Hold hold) = refl
+removes (Remove remove) = refl
+removes (Merge merge) = refl
+removes (Unterm unterm) = refl
+
+-- the one key that it names
+pub one_delete : (content : Record) → (row_of content).kind ≡ 3 → Some ((row_of content).first, false) ≡ one_key content
+one_delete (Delete delete) e = refl
+one_delete content e = absurd (omega arith)
+
+pub one_term : (content : Record) → (row_of content).kind ≡ 5 → Some ((row_of content).first, true) ≡ one_key content
+one_term (Term term) e = refl
+one_term content e = absurd (omega arith)
+
+pub one_hold : (content : Record) → (row_of content).kind ≡ 6 → Some ((row_of content).first, true) ≡ one_key content
+one_hold (Hold hold) e = refl
+one_hold content e = absurd (omega arith)
+
+pub one_unterm : (content : Record) → (row_of content).kind ≡ 9 → Some ((row_of content).first, false) ≡ one_key content
+one_unterm (Unterm unterm) e = refl
+one_unterm content e = absurd (omega arith)
+
+pub one_put : (content : Record) (d : Item) → (row_of content).kind ≡ 2 → Some ((get_or (items_of content) 0 d).key, true) ≡ one_key content
+one_put (Put put) d e = refl
+one_put content d e = absurd (omega arith)
+
+pub one_none : (content : Record) → ((row_of content).kind ≡ 2 → ⊥) → ((row_of content).kind ≡ 3 → ⊥) → ((row_of content).kind ≡ 5 → ⊥) → ((row_of content).kind ≡ 6 → ⊥) → ((row_of content).kind ≡ 9 → ⊥) → None ≡ one_key content
+one_none (Base page) a b c d e = refl
+one_none (Put put) a b c d e = absurd (a refl)
+one_none (Delete delete) a b c d e = absurd (b refl)
+one_none (Split split) a b c d e = refl
+one_none (Term term) a b c d e = absurd (c refl)
+one_none (Hold hold) a b c d e = absurd (d refl)
+one_none (Remove remove) a b c d e = refl
+one_none (Merge merge) a b c d e = refl
+one_none (Unterm unterm) a b c d e = absurd (e refl)
+
+-- where it cuts the page
+pub splits : (content : Record) → (row_of content).kind ≡ 4 → Some (row_of content).first ≡ split_at content
+splits (Split split) e = refl
+splits content e = absurd (omega arith)
+
+pub splits_not : (content : Record) → ((row_of content).kind ≡ 4 → ⊥) → None ≡ split_at content
+splits_not (Base page) h = refl
+splits_not (Put put) h = refl
+splits_not (Delete delete) h = refl
+splits_not (Split split) h = absurd (h refl)
+splits_not (Term term) h = refl
+splits_not (Hold hold) h = refl
+splits_not (Remove remove) h = refl
+splits_not (Merge merge) h = refl
+splits_not (Unterm unterm) h = refl

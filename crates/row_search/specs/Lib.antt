@@ -1,2 +1,3 @@
+pub mod OneKey
 pub mod Reading
 pub mod Rows

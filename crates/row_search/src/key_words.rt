@@ -4,6 +4,7 @@ ghost use Rattle.bw_model.specs.Bytes.{key_cmp};
 ghost use Rattle.record_slots.specs.Spelling.{text_words};
 ghost use Rattle.record_slots.specs.Texts.{IsText};
 ghost use Rattle.record_slots.specs.declared.layout.TheConstants.{ROW_WORDS, TEXT_WORDS};
+ghost use Rattle.row_search.specs.Reading.{text_in};
 
 use bw_model::Key;
 use record_slots::{ROW_WORDS, TEXT_WORDS, key_bytes, word_at};
@@ -38,6 +39,26 @@ impl KeyWords {
             words: words_of(bytes),
             count: bytes.len() as u64,
         }
+    }
+
+    /// The key of that length which four words of a row spell.
+    pub(crate) fn at(row: &[u64; ROW_WORDS], at: usize, count: u64) -> KeyWords
+        requires room { at + TEXT_WORDS ≤ ROW_WORDS }
+        requires text { IsText count (take TEXT_WORDS (drop at row.now)) (text_in count (drop at row.now)) }
+        ensures { result ≡ text_in count (drop at row.now) }
+    {
+        let mut words = [0; TEXT_WORDS];
+        words.copy_from_slice(&row[at..at + TEXT_WORDS]);
+        KeyWords { words, count }
+    }
+
+    /// How it compares with another key.
+    pub fn compare(&self, other: &KeyWords) -> Ordering
+        ensures { result ≡ key_cmp self.now other.now }
+    {
+        self.words[..]
+            .cmp(&other.words[..])
+            .then(self.count.cmp(&other.count))
     }
 
     /// How the text of that length which four words of a row spell compares with the key: word by word, and then by the lengths.

@@ -1,11 +1,12 @@
 //! A record that stays as the words that were read.
-ghost use Rattle.std.specs.Prelude.{◌≡◌};
-ghost use Rattle.deltas.specs.Records.{next_row};
+ghost use Rattle.std.specs.Prelude.{◌≡◌, false};
+ghost use Rattle.deltas.specs.Records.{next_row, removed_after};
 ghost use Rattle.deltas.specs.Spellable.{IsSpellable};
 ghost use Rattle.deltas.specs.declared.record.Record.TheVariants as kind;
 ghost use Rattle.record_slots.specs.Parts.{row_of};
 
 mod bounds;
+mod keys;
 mod names;
 mod says;
 
@@ -64,6 +65,13 @@ impl Row {
         from_words(&self.words).unwrap()
     }
 
+    /// Shows that its record keeps the rules of what a row can spell, at no cost.
+    pub fn keeps_rules(&self)
+        ensures { IsSpellable self.now }
+    {
+        let _ = &self.words;
+    }
+
     /// Which kind of record it is, by its number.
     fn kind(&self) -> u64
         ensures { result ≡ (row_of self.now).kind }
@@ -76,6 +84,13 @@ impl Row {
         ensures { result ≡ (row_of self.now).level }
     {
         (self.words[0] / LEVEL_UNIT % LEVEL_UNIT) as u8
+    }
+
+    /// Whether it is a removal.
+    pub fn removes(&self) -> bool
+        ensures { result ≡ removed_after self.now false }
+    {
+        self.kind() == 7
     }
 
     /// The row of the record under it.

@@ -1,8 +1,8 @@
 //! The bounds of a row's record, and its items by a bound.
-ghost use Rattle.std.specs.Prelude.{◌≡◌, ℕ, Option, None, IsTrue, IsFalse, IfOk, IfErr};
+ghost use Rattle.std.specs.Prelude.{◌≡◌, ℕ, List, Option, None, IsTrue, IsFalse, IfOk, IfErr};
 ghost use Rattle.base_page.specs.Pages.{AreItems};
 ghost use Rattle.base_page.specs.Places.{IsAt, IsCut, IsGap};
-ghost use Rattle.deltas.specs.Records.{right_after};
+ghost use Rattle.deltas.specs.Records.{high_after, right_after};
 ghost use Rattle.record_slots.specs.Parts.{items_of, row_of};
 
 use crate::{KeyWords, Row, place_of};
@@ -29,10 +29,12 @@ impl Row {
         Some(key_in(self.words[SECOND_KEY], words).unwrap())
     }
 
-    /// Whether it says what the page's right is, as a base, a split and a merge do.
+    /// Whether it says where the page ends and what its right is, as a base, a split and a merge do.
     pub fn ends(&self) -> bool
         ensures said { IsTrue result → (right : Option ℕ) → right_after self.now right ≡ right_after self.now None }
         ensures kept { IsFalse result → (right : Option ℕ) → right_after self.now right ≡ right }
+        ensures high_said { IsTrue result → (high : Option (List ℕ)) → high_after self.now high ≡ high_after self.now None }
+        ensures high_kept { IsFalse result → (high : Option (List ℕ)) → high_after self.now high ≡ high }
     {
         let kind = self.kind();
         if kind == 1 {
@@ -62,9 +64,27 @@ impl Row {
         Some(page)
     }
 
+    /// The end that it gives the page: a split ends it at its separator.
+    pub fn high(&self) -> Option<Key>
+        ensures { result ≡ high_after self.now None }
+    {
+        let kind = self.kind();
+        if kind == 4 {
+            return Some(self.first());
+        }
+        if kind == 1 {
+            return self.second();
+        }
+        if kind == 8 {
+            return self.second();
+        }
+        None
+    }
+
     /// How many of its items are below the bound.
     pub fn items_below(&self, bound: &KeyWords) -> usize
-        ensures { IsCut (items_of self.now) bound.now result }
+        ensures cut { IsCut (items_of self.now) bound.now result }
+        ensures items { AreItems (items_of self.now) }
     {
         match self.place_of(bound) {
             Ok(place) => place,

@@ -1,7 +1,7 @@
 //! Which keys a row's record names.
-ghost use Rattle.std.specs.Prelude.{◌≡◌, ◌<◌, length, option_map};
-ghost use Rattle.bw_model.specs.Bytes.{key_cmp};
-ghost use Rattle.deltas.specs.Records.{names};
+ghost use Rattle.std.specs.Prelude.{◌≡◌, ◌<◌, None, length, not, option_map};
+ghost use Rattle.bw_model.specs.Bytes.{is_below, is_under, key_cmp};
+ghost use Rattle.deltas.specs.Records.{high_after, names};
 ghost use Rattle.record_slots.specs.Parts.{items_of, row_of};
 ghost use Rattle.row_search.specs.Reading.{first_key};
 
@@ -66,9 +66,40 @@ impl Row {
         if self.compare_first(key).is_gt() {
             return false;
         }
+        self.is_below_second(key)
+    }
+
+    /// Whether the key is below its second key, as each key is where that is without bound.
+    fn is_below_second(&self, key: &KeyWords) -> bool
+        ensures { result ≡ is_under key.now (row_of self.now).second }
+    {
         match self.compare_second(key) {
             None => true,
             Some(bound) => bound.is_gt(),
         }
+    }
+
+    /// Whether the key isn't below its first key.
+    pub fn begins_by(&self, key: &KeyWords) -> bool
+        ensures { result ≡ not (is_below key.now (row_of self.now).first) }
+    {
+        !self.compare_first(key).is_gt()
+    }
+
+    /// Whether the key is below the end that it gives the page.
+    pub fn ends_after(&self, key: &KeyWords) -> bool
+        ensures { result ≡ is_under key.now (high_after self.now None) }
+    {
+        let kind = self.kind();
+        if kind == 1 {
+            return self.is_below_second(key);
+        }
+        if kind == 4 {
+            return self.compare_first(key).is_gt();
+        }
+        if kind == 8 {
+            return self.is_below_second(key);
+        }
+        true
     }
 }

@@ -93,7 +93,7 @@ impl Row {
     }
 
     /// The first of an item's words.
-    fn item_at(&self, place: usize) -> usize
+    pub(super) fn item_at(&self, place: usize) -> usize
         requires { place < length (items_of self.now) }
         ensures at { result ≡ FIRST_ITEM + ITEM_WORDS * place }
         ensures room { result + ITEM_WORDS ≤ ROW_WORDS }

@@ -1,14 +1,10 @@
-use Rattle.std.proofs.Common.{◌≡◌, ◌+◌, ◌-◌, List, ℕ, take, drop, sym, ap, ◌∙◌, arith}
+use Rattle.std.proofs.Common.{◌≡◌, ◌+◌, ◌-◌, List, ℕ, take, drop, ap, ◌∙◌, arith}
 use Rattle.std.specs.Ordering.{ordering_then}
 use Rattle.bw_model.specs.Bytes.{key_cmp}
-use Rattle.record_slots.specs.Texts.{IsText, bytes_of}
-use Rattle.row_search.proofs.KeyOrder.{text_order, words_cmp}
+use Rattle.record_slots.specs.Texts.{bytes_of}
+use Rattle.row_search.proofs.KeyOrder.{words_cmp}
+use Rattle.row_search.proofs.WordsCmp.{by_words}
 use Rattle.row_search.proofs.key_words.KeyWords.compare_at.Goals as goal
-
-by_words : (n m : ℕ) (words others text key : List ℕ) → IsText n words text → IsText m others key → words_cmp words n others m ≡ key_cmp text key
-by_words n m words others text key is other =
-    (λ i. words_cmp (sym is.are i) (sym is.counts i) (sym other.are i) (sym other.counts i))
-    ∙ sym (text_order 4 text key is.short.bytes_fit other.short.bytes_fit (let s = is.short.short in omega arith) (let s = other.short.short in omega arith))
 
 pub returns : goal.returns
 returns c text is =

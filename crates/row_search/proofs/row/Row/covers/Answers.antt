@@ -2,7 +2,7 @@ use Rattle.std.proofs.Common.{◌≡◌, true, false, sym, ap, ◌∙◌}
 use Rattle.std.specs.Ordering.{is_gt}
 use Rattle.bw_model.specs.Bytes.{key_cmp}
 use Rattle.record_slots.specs.Parts.{row_of}
-use Rattle.row_search.proofs.RowTexts.{above_none, above_some, names_merge, names_merge_under}
+use Rattle.row_search.proofs.RowTexts.{names_merge, names_merge_under}
 use Rattle.row_search.proofs.row.Row.covers.Goals as goal
 
 pub returns-then-is_gt : goal.returns-then-is_gt
@@ -10,12 +10,7 @@ returns-then-is_gt c =
     let low : is_gt (key_cmp (row_of c.args.self.now).first c.args.key.now) ≡ true = ap is_gt (sym c.compare_first.ensures) ∙ sym c.is_gt.ensures ∙ c.if-is_gt.true in
     sym (names_merge c.args.key.now c.args.self.now c.requires low)
 
-pub returns-in-None : goal.returns-in-None
-returns-in-None c =
+pub returns : goal.returns
+returns c =
     let low : is_gt (key_cmp (row_of c.args.self.now).first c.args.key.now) ≡ false = ap is_gt (sym c.compare_first.ensures) ∙ sym c.is_gt.ensures ∙ c.if-is_gt.false in
-    sym (names_merge_under c.args.key.now c.args.self.now c.requires low ∙ above_none c.args.key.now (row_of c.args.self.now).second (sym c.in-None.is ∙ c.compare_second.ensures))
-
-pub returns-in-Some : goal.returns-in-Some
-returns-in-Some c =
-    let low : is_gt (key_cmp (row_of c.args.self.now).first c.args.key.now) ≡ false = ap is_gt (sym c.compare_first.ensures) ∙ sym c.is_gt.ensures ∙ c.if-is_gt.false in
-    c.is_gt-in-Some.ensures ∙ sym (names_merge_under c.args.key.now c.args.self.now c.requires low ∙ above_some c.args.key.now (row_of c.args.self.now).second c.in-Some.bound (sym c.in-Some.is ∙ c.compare_second.ensures))
+    c.is_below_second.ensures ∙ sym (names_merge_under c.args.key.now c.args.self.now c.requires low)

@@ -1,0 +1,57 @@
+-- What a fitted chain is: deltas over a base. No delta changes the level, the lowest key, or whether an older one removed the page.
+use Rattle.std.proofs.Common.{◌≡◌, ◌<◌, ℕ, zero, suc, List, [], ◌∷◌, length, get_or, refl, sym, ap, ◌∙◌, arith, true, false}
+use Rattle.std.specs.Prelude.{is_some}
+use Rattle.base_page.specs.Pages.{Page}
+use Rattle.deltas.specs.declared.record.Record.{Record}
+use Rattle.deltas.specs.declared.record.Record.TheVariants.{Base, Put, Delete, Split, Term, Hold, Remove, Merge, Unterm}
+use Rattle.deltas.specs.Fits.{FitsOnPage}
+use Rattle.deltas.specs.Records.{level_after, low_after, next_row, removed_after}
+use Rattle.record_slots.specs.Parts.{row_of}
+use Rattle.chain_search.specs.Chains.{is_removed, level_in, low_in}
+use Rattle.chain_search.specs.Fitted.{IsFitted}
+
+pub some : (chain : List Record) → IsFitted chain → 0 < length chain
+some [] h = absurd h
+some (newest ∷ under) h = omega arith
+
+keeps_start : (delta : Record) (level : ℕ) (low : List ℕ) → is_some (next_row delta) ≡ true → (level_after delta level ≡ level) × (low_after delta low ≡ low)
+keeps_start (Base page) level low h = cc
+keeps_start (Put put) level low h = (refl, refl)
+keeps_start (Delete delete) level low h = (refl, refl)
+keeps_start (Split split) level low h = (refl, refl)
+keeps_start (Term term) level low h = (refl, refl)
+keeps_start (Hold hold) level low h = (refl, refl)
+keeps_start (Remove remove) level low h = (refl, refl)
+keeps_start (Merge merge) level low h = (refl, refl)
+keeps_start (Unterm unterm) level low h = (refl, refl)
+
+-- the last record has the level and the lowest key
+pub start_of_last : (chain : List Record) (place : ℕ) (d : Record) → IsFitted chain → suc place ≡ length chain
+    → ((row_of (get_or chain place d)).level ≡ level_in chain) × ((row_of (get_or chain place d)).first ≡ low_in chain)
+start_of_last [] place d h e = absurd h
+start_of_last (newest ∷ []) zero d (page, is, stands) e =
+    (ap (λ r. (row_of r).level) is ∙ ap (λ r. level_after r 0) (sym is), ap (λ r. (row_of r).first) is ∙ ap (λ r. low_after r []) (sym is))
+start_of_last (newest ∷ []) (suc place) d h e = absurd (omega arith)
+start_of_last (newest ∷ older ∷ under) zero d h e = absurd (omega arith)
+start_of_last (newest ∷ older ∷ under) (suc place) d (over, rest) e =
+    let kept = keeps_start newest (level_in (older ∷ under)) (low_in (older ∷ under)) over.delta in
+    let start = start_of_last (older ∷ under) place d rest (omega arith) in
+    (start.0 ∙ sym kept.0, start.1 ∙ sym kept.1)
+
+-- each delta asks for a page that isn't removed
+alive : (delta : Record) (page : Page) → is_some (next_row delta) ≡ true → FitsOnPage page delta → page.removed ≡ false
+alive (Base base) page h fits = cc
+alive (Put put) page h fits = fits.alive
+alive (Delete delete) page h fits = fits.alive
+alive (Split split) page h fits = fits.alive
+alive (Term term) page h fits = fits.alive
+alive (Hold hold) page h fits = fits.alive
+alive (Remove remove) page h fits = fits.alive
+alive (Merge merge) page h fits = fits.alive
+alive (Unterm unterm) page h fits = fits.alive
+
+-- so only the newest record may remove it
+pub removed_by_newest : (chain : List Record) (d : Record) → IsFitted chain → removed_after (get_or chain 0 d) false ≡ is_removed chain
+removed_by_newest [] d h = absurd h
+removed_by_newest (newest ∷ []) d h = refl
+removed_by_newest (newest ∷ older ∷ under) d (over, rest) = ap (removed_after newest) (sym (alive newest over.page over.delta over.fits) ∙ over.makes.removed)

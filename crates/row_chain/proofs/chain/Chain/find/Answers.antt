@@ -1,0 +1,10 @@
+use Rattle.std.proofs.Common.{[], ap, ◌∙◌}
+use Rattle.base_page.specs.Pages.{value_in}
+use Rattle.row_chain.proofs.Newest.{alone}
+use Rattle.row_chain.proofs.chain.Chain.find.Goals as goal
+
+pub returns-in-Some : goal.returns-in-Some
+returns-in-Some g c = c.value_said.ensures ∙ ap value_in (alone c.as_slice.result.now c.args.self.now c.args.key.now _ c.as_slice.ensures (c.in-Some.ensures.said []))
+
+pub returns-in-None : goal.returns-in-None
+returns-in-None g c = ap value_in (alone c.as_slice.result.now c.args.self.now c.args.key.now _ c.as_slice.ensures (c.in-None.ensures.said []))

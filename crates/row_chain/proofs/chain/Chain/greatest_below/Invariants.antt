@@ -1,0 +1,8 @@
+use Rattle.std.proofs.Common.{take}
+use Rattle.bw_model.specs.Bytes.{is_below}
+use Rattle.chain_search.specs.Chains.{content_in}
+use Rattle.chain_search.specs.Walks.{IsGreatestKey}
+use Rattle.row_chain.proofs.chain.Chain.greatest_below.Given as goal
+
+abbrev pub invariant-loop-place : goal.invariant-loop-place
+invariant-loop-place g l = IsGreatestKey (content_in (take l.place l.rows)) (λ q. is_below q l.bound) l.greatest

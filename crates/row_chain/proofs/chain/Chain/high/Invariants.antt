@@ -1,0 +1,6 @@
+use Rattle.std.proofs.Common.{◌≡◌, drop}
+use Rattle.chain_search.specs.Chains.{high_in}
+use Rattle.row_chain.proofs.chain.Chain.high.Given as goal
+
+abbrev pub invariant-loop-newest : goal.invariant-loop-newest
+invariant-loop-newest g l = high_in (drop l.newest-index l.newest-items) ≡ high_in l.self

@@ -1,0 +1,13 @@
+use Rattle.std.proofs.Common.{◌≡◌, ◌≤◌, ◌+◌, ◌*◌, List, length, drop}
+use Rattle.base_page.specs.declared.item.Item.{Item}
+use Rattle.chain_search.specs.Chains.{IsItemsOf}
+use Rattle.chain_search.specs.Walks.{count_under}
+use Rattle.row_chain.proofs.chain.Chain.item_count.Given as goal
+
+abbrev pub invariant-loop-place : goal.invariant-loop-place
+invariant-loop-place g l = record {
+  short : length l.rows ≤ 13;
+  more : l.more ≤ 24 * l.place;
+  fewer : l.fewer ≤ l.place;
+  count : (items rest : List Item) → IsItemsOf l.self items → IsItemsOf (drop l.place l.rows) rest → length items + l.fewer ≡ count_under l.bound rest + l.more;
+}

@@ -1,0 +1,27 @@
+use Rattle.std.proofs.Common.{◌≡◌, ◌-◌, List, ℕ, [], Some, false, get_or, sym, ap, subst, ◌∙◌, arith}
+use Rattle.base_page.specs.declared.item.Content.TheVariants.{Child}
+use Rattle.base_page.specs.declared.item.Item.{Item}
+use Rattle.base_page.specs.Pages.{content_at}
+use Rattle.record_slots.specs.Parts.{items_of}
+use Rattle.chain_search.specs.Walks.{is_named, is_open, IsGreatestKey}
+use Rattle.chain_search.proofs.WalkLaws.{last_open, none_open}
+use Rattle.row_chain.proofs.chain.walk.last_open.Goals as goal
+
+none : Item
+none = record { key = []; content = Child 0 false }
+
+pub returns-then-is_none : goal.returns-then-is_none
+returns-then-is_none g c =
+    let items = items_of c.args.row.now in
+    let newer = c.args.newer.now in
+    let bound = c.args.bound.now in
+    let same = sym (c.key_at-key.ensures none) in
+    let free : is_named newer (get_or items (c.loop-place.place - 1) none).key ≡ false = ap (is_named newer) same ∙ sym c.newest_of.ensures.named ∙ c.if-is_none.ensures in
+    let last = last_open items c.items_below-count.ensures.items newer bound c.items_below-count.result c.items_below-count.ensures.cut c.loop-place.place c.loop-place.invariant
+    none c.loop-place-test.true (omega (arith, c.loop-place.auto.place)) free in
+    subst (λ (key : List ℕ). IsGreatestKey (content_at items) (is_open newer bound) (Some key)) same last
+
+pub returns : goal.returns
+returns g c =
+    none_open (items_of c.args.row.now) c.items_below-count.ensures.items c.args.newer.now c.args.bound.now c.items_below-count.result c.items_below-count.ensures.cut c.loop-place.place c.loop-place.invariant
+    (let end = c.loop-place-test.false in omega (arith, end))

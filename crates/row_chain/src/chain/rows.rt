@@ -1,0 +1,24 @@
+//! The numbers of a chain's rows.
+ghost use Rattle.std.specs.Prelude.{◌≡◌};
+ghost use Rattle.chain_search.specs.Chains.{chain_rows};
+
+use crate::Chain;
+use arrayvec::ArrayVec;
+use chain_search::MAX_RECORDS;
+use std::alloc::Allocator;
+
+impl<A: Allocator> Chain<A> {
+    /// The row of each record, where the newest one stands in this row: each record names the row under it.
+    pub fn rows(&self, newest: u16) -> ArrayVec<u16, MAX_RECORDS>
+        ensures { result.items ≡ chain_rows newest self.now }
+    {
+        self.keeps_rules();
+        let mut rows = ArrayVec::new();
+        let mut row = newest;
+        for record in self.as_slice() {
+            rows.push(row);
+            row = record.row().next().unwrap_or(0);
+        }
+        rows
+    }
+}

@@ -1,0 +1,10 @@
+//! Chains whose rows stay words.
+#![tactic(auto)]
+
+mod chain;
+mod chain_part;
+mod held_row;
+
+pub use chain::Chain;
+pub use chain_part::ChainPart;
+pub use held_row::HeldRow;
