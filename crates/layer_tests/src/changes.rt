@@ -13,8 +13,30 @@ use deltas::{Record, Remove, Unterm};
 use installs::{Change, End, Plan, Spares};
 use smo::SplitPlan;
 
+/// A step by its kind and the numbers that it names.
+type Shown = (char, u16, u16, u16);
+
+/// What is planned.
+#[derive(Clone, Copy)]
+enum Planned {
+    Install,
+    Split,
+    Root,
+    Unlink,
+}
+
+/// A change: what is planned, how many PIDs and rows are free, whether the exchange that decides wins, the steps, how it ends, and
+/// the PID and the rows that it leaves to the next one.
+struct Case {
+    plan: Planned,
+    free: (u8, u8),
+    won: bool,
+    steps: &'static [Shown],
+    end: (End, Option<u16>, &'static [u16]),
+}
+
 /// How many PIDs and rows are free, and whether the exchange that decides wins.
-#[derive(Drop)]
+#[derive(Clone, Copy)]
 struct World {
     pids: u8,
     rows: u8,
@@ -55,7 +77,7 @@ fn told(world: &mut World, limits: &Limits, step: &Step<Record>) -> Answer<Recor
 }
 
 /// What a step is and which numbers it names: of a placed record, its row and the row under it.
-fn shown(step: &Step<Record>) -> (char, u16, u16, u16) {
+fn shown(step: &Step<Record>) -> Shown {
     match step {
         Step::PidBits(word) => ('p', u16::from(*word), 0, 0),
         Step::RowBits(word) => ('r', u16::from(*word), 0, 0),
@@ -73,7 +95,7 @@ fn drive(
     spares: &mut Spares,
     plan: Plan,
     world: World,
-) -> (ArrayVec<(char, u16, u16, u16), 16>, Option<End>)
+) -> (ArrayVec<Shown, 16>, Option<End>)
     requires target { IsTarget limits.now plan }
     requires spells { IsSpellablePlan plan }
     requires room { HaveRoom limits.now spares.old }
@@ -160,32 +182,73 @@ fn unlink(limits: &Limits) -> Plan
     }
 }
 
-fn having(pids: u8, rows: u8, won: bool) -> World {
-    World { pids, rows, won }
+fn plan_of(limits: &Limits, plan: Planned) -> Plan
+    ensures target { IsTarget limits.now result }
+    ensures spells { IsSpellablePlan result }
+{
+    match plan {
+        Planned::Install => install(limits),
+        Planned::Split => split(limits),
+        Planned::Root => root(limits),
+        Planned::Unlink => unlink(limits),
+    }
 }
 
-#[test]
-fn installs_in_a_free_row(rt: HostRuntime) {
+/// Whether the steps and the end are those of the case.
+fn is_as_said(log: &[Shown], end: Option<End>, spares: &Spares, case: &Case) -> bool {
+    let (said, pid, rows) = case.end;
+    log == case.steps && end == Some(said) && spares.pid() == pid && spares.rows() == rows
+}
+
+/// Whether the change goes as the case says.
+fn goes(limits: &Limits, spares: &mut Spares, case: &Case) -> bool
+    requires room { HaveRoom limits.now spares.old }
+    ensures room { HaveRoom limits.now spares.new }
+{
+    let (pids, rows) = case.free;
+    let won = case.won;
+    let world = World { pids, rows, won };
+    let (log, end) = drive(limits, spares, plan_of(limits, case.plan), world);
+    is_as_said(log.as_slice(), end, spares, case)
+}
+
+/// How many of an actor's changes go as they say, from the first on.
+fn gone(cases: &[Case]) -> usize {
     let limits = smallest();
     let mut spares = Spares::new();
-    let (log, end) = drive(&limits, &mut spares, install(&limits), having(2, 2, true));
-    let steps = [
+    for (place, case) in cases.iter().enumerate() {
+        if !goes(&limits, &mut spares, case) {
+            return place;
+        }
+    }
+    cases.len()
+}
+
+/// The row is taken, filled and linked.
+const INSTALLED: &[Case] = &[Case {
+    plan: Planned::Install,
+    free: (2, 2),
+    won: true,
+    steps: &[
         ('r', 0, 0, 0),
         ('R', 3, 0, 0),
         ('=', 3, 7, 0),
         ('x', 1, 7, 3),
-    ];
-    assert_eq!(rt; log.as_slice(), steps.as_slice());
-    assert_eq!(rt; (end, spares.pid()), (Some(End::Won), None));
-    assert!(rt; spares.rows().is_empty());
-}
+    ],
+    end: (End::Won, None, &[]),
+}];
 
 #[test]
-fn takes_a_pid_and_then_rows(rt: HostRuntime) {
-    let limits = smallest();
-    let mut spares = Spares::new();
-    let (log, end) = drive(&limits, &mut spares, split(&limits), having(2, 2, true));
-    let steps = [
+fn installs_in_a_free_row(rt: HostRuntime) {
+    assert_eq!(rt; gone(INSTALLED), INSTALLED.len());
+}
+
+/// A split takes a PID and two rows, and sets the new page before it links the delta.
+const SPLIT: &[Case] = &[Case {
+    plan: Planned::Split,
+    free: (2, 2),
+    won: true,
+    steps: &[
         ('p', 0, 0, 0),
         ('P', 3, 0, 0),
         ('r', 0, 0, 0),
@@ -196,93 +259,164 @@ fn takes_a_pid_and_then_rows(rt: HostRuntime) {
         ('x', 3, 0, 3),
         ('=', 5, 7, 0),
         ('x', 1, 7, 5),
-    ];
-    assert_eq!(rt; log.as_slice(), steps.as_slice());
-    assert_eq!(rt; (end, spares.pid()), (Some(End::Won), None));
-    assert!(rt; spares.rows().is_empty());
+    ],
+    end: (End::Won, None, &[]),
+}];
+
+#[test]
+fn takes_a_pid_and_then_rows(rt: HostRuntime) {
+    assert_eq!(rt; gone(SPLIT), SPLIT.len());
 }
+
+/// What a lost split took is what the next changes use.
+const LOST_SPLIT: &[Case] = &[
+    Case {
+        plan: Planned::Split,
+        free: (2, 2),
+        won: false,
+        steps: &[
+            ('p', 0, 0, 0),
+            ('P', 3, 0, 0),
+            ('r', 0, 0, 0),
+            ('R', 3, 0, 0),
+            ('r', 0, 0, 0),
+            ('R', 5, 0, 0),
+            ('=', 3, 0, 0),
+            ('x', 3, 0, 3),
+            ('=', 5, 7, 0),
+            ('x', 1, 7, 5),
+            ('x', 3, 3, 0),
+        ],
+        end: (End::Lost, Some(3), &[3, 5]),
+    },
+    Case {
+        plan: Planned::Install,
+        free: (0, 0),
+        won: true,
+        steps: &[('=', 5, 7, 0), ('x', 1, 7, 5)],
+        end: (End::Won, Some(3), &[3]),
+    },
+    Case {
+        plan: Planned::Root,
+        free: (0, 0),
+        won: true,
+        steps: &[('=', 3, 0, 0), ('x', 3, 0, 3), ('x', 0, 1, 3)],
+        end: (End::Won, None, &[]),
+    },
+];
 
 #[test]
 fn undoes_a_lost_split_and_uses_its_spares(rt: HostRuntime) {
-    let limits = smallest();
-    let mut spares = Spares::new();
-    let (log, end) = drive(&limits, &mut spares, split(&limits), having(2, 2, false));
-    assert_eq!(rt; log.as_slice().last(), Some(&('x', 3, 3, 0)));
-    assert_eq!(rt; (end, spares.pid()), (Some(End::Lost), Some(3)));
-    assert_eq!(rt; spares.rows(), [3, 5].as_slice());
-    let (log, end) = drive(&limits, &mut spares, install(&limits), having(0, 0, true));
-    let steps = [('=', 5, 7, 0), ('x', 1, 7, 5)];
-    assert_eq!(rt; log.as_slice(), steps.as_slice());
-    assert_eq!(rt; (end, spares.pid()), (Some(End::Won), Some(3)));
-    assert_eq!(rt; spares.rows(), [3].as_slice());
-    let (log, end) = drive(&limits, &mut spares, root(&limits), having(0, 0, true));
-    let steps = [('=', 3, 0, 0), ('x', 3, 0, 3), ('x', 0, 1, 3)];
-    assert_eq!(rt; log.as_slice(), steps.as_slice());
-    assert_eq!(rt; (end, spares.pid()), (Some(End::Won), None));
-    assert!(rt; spares.rows().is_empty());
+    assert_eq!(rt; gone(LOST_SPLIT), LOST_SPLIT.len());
 }
+
+/// The new root's page is cleared, and its numbers stay.
+const LOST_ROOT: &[Case] = &[Case {
+    plan: Planned::Root,
+    free: (2, 2),
+    won: false,
+    steps: &[
+        ('p', 0, 0, 0),
+        ('P', 3, 0, 0),
+        ('r', 0, 0, 0),
+        ('R', 3, 0, 0),
+        ('=', 3, 0, 0),
+        ('x', 3, 0, 3),
+        ('x', 0, 1, 3),
+        ('x', 3, 3, 0),
+    ],
+    end: (End::Lost, Some(3), &[3]),
+}];
 
 #[test]
 fn undoes_a_lost_root(rt: HostRuntime) {
-    let limits = smallest();
-    let mut spares = Spares::new();
-    let (log, end) = drive(&limits, &mut spares, root(&limits), having(2, 2, false));
-    assert_eq!(rt; log.as_slice().last(), Some(&('x', 3, 3, 0)));
-    assert_eq!(rt; (end, spares.pid()), (Some(End::Lost), Some(3)));
-    assert_eq!(rt; spares.rows(), [3].as_slice());
+    assert_eq!(rt; gone(LOST_ROOT), LOST_ROOT.len());
 }
+
+/// The row of a record that wasn't linked stays.
+const LOST_RECORD: &[Case] = &[Case {
+    plan: Planned::Install,
+    free: (0, 1),
+    won: false,
+    steps: &[
+        ('r', 0, 0, 0),
+        ('R', 5, 0, 0),
+        ('=', 5, 7, 0),
+        ('x', 1, 7, 5),
+    ],
+    end: (End::Lost, None, &[5]),
+}];
 
 #[test]
 fn keeps_the_row_of_a_lost_record(rt: HostRuntime) {
-    let limits = smallest();
-    let mut spares = Spares::new();
-    let (log, end) = drive(&limits, &mut spares, install(&limits), having(0, 1, false));
-    assert_eq!(rt; log.as_slice().last(), Some(&('x', 1, 7, 5)));
-    assert_eq!(rt; (end, spares.pid()), (Some(End::Lost), None));
-    assert_eq!(rt; spares.rows(), [5].as_slice());
+    assert_eq!(rt; gone(LOST_RECORD), LOST_RECORD.len());
 }
 
-#[test]
-fn clears_a_page_once_its_term_is_out(rt: HostRuntime) {
-    let limits = smallest();
-    let mut spares = Spares::new();
-    let (log, end) = drive(&limits, &mut spares, unlink(&limits), having(0, 1, true));
-    let steps = [
+/// The removed page's slot is cleared after the parent's delta is linked.
+const UNLINKED: &[Case] = &[Case {
+    plan: Planned::Unlink,
+    free: (0, 1),
+    won: true,
+    steps: &[
         ('r', 0, 0, 0),
         ('R', 5, 0, 0),
         ('=', 5, 7, 0),
         ('x', 1, 7, 5),
         ('x', 9, 4, 0),
-    ];
-    assert_eq!(rt; log.as_slice(), steps.as_slice());
-    assert_eq!(rt; (end, spares.pid()), (Some(End::Won), None));
-    assert!(rt; spares.rows().is_empty());
+    ],
+    end: (End::Won, None, &[]),
+}];
+
+#[test]
+fn clears_a_page_once_its_term_is_out(rt: HostRuntime) {
+    assert_eq!(rt; gone(UNLINKED), UNLINKED.len());
 }
+
+/// Another actor took the term out.
+const LOST_UNLINK: &[Case] = &[Case {
+    plan: Planned::Unlink,
+    free: (0, 1),
+    won: false,
+    steps: &[
+        ('r', 0, 0, 0),
+        ('R', 5, 0, 0),
+        ('=', 5, 7, 0),
+        ('x', 1, 7, 5),
+    ],
+    end: (End::Lost, None, &[5]),
+}];
 
 #[test]
 fn clears_no_page_whose_term_another_took_out(rt: HostRuntime) {
-    let limits = smallest();
-    let mut spares = Spares::new();
-    let (log, end) = drive(&limits, &mut spares, unlink(&limits), having(0, 1, false));
-    assert_eq!(rt; log.as_slice().last(), Some(&('x', 1, 7, 5)));
-    assert_eq!(rt; (end, spares.pid()), (Some(End::Lost), None));
-    assert_eq!(rt; spares.rows(), [5].as_slice());
+    assert_eq!(rt; gone(LOST_UNLINK), LOST_UNLINK.len());
 }
+
+/// Splits that lack a PID, then both rows, then one.
+const FULL: &[Case] = &[
+    Case {
+        plan: Planned::Split,
+        free: (0, 2),
+        won: true,
+        steps: &[('p', 0, 0, 0)],
+        end: (End::Full, None, &[]),
+    },
+    Case {
+        plan: Planned::Split,
+        free: (1, 0),
+        won: true,
+        steps: &[('p', 0, 0, 0), ('P', 5, 0, 0), ('r', 0, 0, 0)],
+        end: (End::Full, Some(5), &[]),
+    },
+    Case {
+        plan: Planned::Split,
+        free: (0, 1),
+        won: true,
+        steps: &[('r', 0, 0, 0), ('R', 5, 0, 0), ('r', 0, 0, 0)],
+        end: (End::Full, Some(5), &[5]),
+    },
+];
 
 #[test]
 fn is_full_with_what_it_took(rt: HostRuntime) {
-    let limits = smallest();
-    let mut spares = Spares::new();
-    let (log, end) = drive(&limits, &mut spares, split(&limits), having(0, 2, true));
-    assert_eq!(rt; log.as_slice(), [('p', 0, 0, 0)].as_slice());
-    assert_eq!(rt; (end, spares.pid()), (Some(End::Full), None));
-    let (log, end) = drive(&limits, &mut spares, split(&limits), having(1, 0, true));
-    assert_eq!(rt; log.as_slice().last(), Some(&('r', 0, 0, 0)));
-    assert_eq!(rt; (end, spares.pid()), (Some(End::Full), Some(5)));
-    assert!(rt; spares.rows().is_empty());
-    let (log, end) = drive(&limits, &mut spares, split(&limits), having(0, 1, true));
-    let steps = [('r', 0, 0, 0), ('R', 5, 0, 0), ('r', 0, 0, 0)];
-    assert_eq!(rt; log.as_slice(), steps.as_slice());
-    assert_eq!(rt; (end, spares.pid()), (Some(End::Full), Some(5)));
-    assert_eq!(rt; spares.rows(), [5].as_slice());
+    assert_eq!(rt; gone(FULL), FULL.len());
 }

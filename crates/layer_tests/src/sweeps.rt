@@ -11,9 +11,20 @@ use bw_model::{Answer, Limits, Step};
 use deltas::Record;
 use epochs::{Item, Limbo};
 use std::alloc::Global;
-use std::process::Abort;
-use std::test::Fail;
 use sweep::{Sweep, take_out};
+
+/// A step by its kind and the numbers that it names.
+type Shown = (char, u64, u64);
+
+/// A sweep: the items that are unlinked before it, the epoch, what the actors announce, its steps, and whether limbo is empty
+/// after it.
+struct Case {
+    unlinked: &'static [Item],
+    epoch: u64,
+    announced: &'static [u64],
+    steps: &'static [Shown],
+    empty: bool,
+}
 
 /// The answer to a step of a sweep, where this is the epoch, and the actors announce these.
 fn told(epoch: u64, announced: &[u64], step: &Step<Record>) -> Answer<Record>
@@ -35,7 +46,7 @@ fn told(epoch: u64, announced: &[u64], step: &Step<Record>) -> Answer<Record>
 }
 
 /// What a step is and which numbers it names.
-fn shown(step: &Step<Record>) -> (char, u64, u64) {
+fn shown(step: &Step<Record>) -> Shown {
     match step {
         Step::Epoch => ('e', 0, 0),
         Step::Retire(epoch) => ('t', *epoch, 0),
@@ -53,7 +64,7 @@ fn drive(
     limbo: &mut Limbo,
     epoch: u64,
     announced: &[u64],
-) -> ArrayVec<(char, u64, u64), 24>
+) -> ArrayVec<Shown, 24>
     requires actor { actor < limits.now.actors }
     requires lists { IsLimboOf limits.now limbo.old }
     requires some { 0 < epoch }
@@ -74,119 +85,197 @@ fn drive(
     log
 }
 
-/// These items are unlinked.
-fn unlink(rt: &impl Abort, limits: &Limits, limbo: &mut Limbo, items: &[Item])
+/// The items are unlinked, if limbo accepts them all.
+fn unlink(limits: &Limits, limbo: &mut Limbo, items: &[Item]) -> bool
     requires { IsLimboOf limits.now limbo.old }
     ensures { IsLimboOf limits.now limbo.new }
 {
     let _ = limits;
     for item in items {
-        assert!(rt; limbo.accepts(*item));
+        if !limbo.accepts(*item) {
+            return false;
+        }
         limbo.unlinked(*item);
     }
+    true
 }
 
-#[test]
-fn frees_a_row_that_the_other_actor_has_passed(rt: HostRuntime) -> Result<(), Fail> {
-    let limits = Limits::new(2, 64, 256, 1)?;
-    let mut limbo = Limbo::new(rt.alloc(), &limits)?;
-    unlink(&rt, &limits, &mut limbo, &[Item::Row(3)]);
-    let log = drive(&limits, 0, &mut limbo, 1, &[1, 0]);
-    let steps = [('e', 0, 0), ('t', 1, 0), ('a', 1, 0), ('r', 0, 8)];
-    assert_eq!(rt; log.as_slice(), steps.as_slice());
-    assert!(rt; limbo.is_empty());
-    Ok(())
-}
-
-#[test]
-fn retires_no_last_epoch(rt: HostRuntime) -> Result<(), Fail> {
-    let limits = Limits::new(2, 64, 256, 1)?;
-    let mut limbo = Limbo::new(rt.alloc(), &limits)?;
-    unlink(&rt, &limits, &mut limbo, &[Item::Row(3)]);
-    let log = drive(&limits, 1, &mut limbo, 1 << 62, &[0, 0]);
-    let steps = [('e', 0, 0), ('a', 0, 0), ('r', 0, 8)];
-    assert_eq!(rt; log.as_slice(), steps.as_slice());
-    assert!(rt; limbo.is_empty());
-    Ok(())
-}
-
-#[test]
-fn reads_nobody_where_there_is_no_other_actor(rt: HostRuntime) -> Result<(), Fail> {
-    let limits = Limits::new(1, 64, 256, 1)?;
-    let mut limbo = Limbo::new(rt.alloc(), &limits)?;
-    assert!(rt; drive(&limits, 0, &mut limbo, 5, &[]).is_empty());
-    unlink(&rt, &limits, &mut limbo, &[Item::Pid(2)]);
-    let log = drive(&limits, 0, &mut limbo, 5, &[]);
-    let steps = [('e', 0, 0), ('t', 5, 0), ('p', 0, 4)];
-    assert_eq!(rt; log.as_slice(), steps.as_slice());
-    assert!(rt; limbo.is_empty());
-    Ok(())
-}
-
-#[test]
-fn reads_each_of_sixteen_actors_but_its_own(rt: HostRuntime) -> Result<(), Fail> {
-    let limits = Limits::new(16, 64, 256, 1)?;
-    let mut limbo = Limbo::new(rt.alloc(), &limits)?;
-    unlink(&rt, &limits, &mut limbo, &[Item::Row(64)]);
-    let log = drive(&limits, 7, &mut limbo, 4, &[0, 5, 0, 6, 0, 0, 7, 1]);
-    assert_eq!(rt; log.len(), 18);
-    for (place, step) in log.as_slice().iter().enumerate() {
-        let wanted = match place {
-            0 => ('e', 0, 0),
-            1 => ('t', 4, 0),
-            17 => ('r', 1, 1),
-            _ if place < 9 => ('a', place as u64 - 2, 0),
-            _ => ('a', place as u64 - 1, 0),
-        };
-        assert_eq!(rt; *step, wanted);
+/// Whether the sweep goes as the case says.
+fn goes(limits: &Limits, actor: u8, limbo: &mut Limbo, case: &Case) -> bool
+    requires actor { actor < limits.now.actors }
+    requires lists { IsLimboOf limits.now limbo.old }
+    ensures lists { IsLimboOf limits.now limbo.new }
+{
+    let epoch = case.epoch;
+    if epoch == 0 || epoch > 1 << 62 || !unlink(limits, limbo, case.unlinked) {
+        return false;
     }
-    assert!(rt; limbo.is_empty());
-    Ok(())
+    let log = drive(limits, actor, limbo, epoch, case.announced);
+    log.as_slice() == case.steps && limbo.is_empty() == case.empty
 }
 
+/// How many of the sweeps go as they say, from the first on, with these limits.
+fn gone(limits: &Limits, actor: u8, limbo: &mut Limbo, cases: &[Case]) -> usize
+    requires actor { actor < limits.now.actors }
+    requires lists { IsLimboOf limits.now limbo.old }
+{
+    for (place, case) in cases.iter().enumerate() {
+        if !goes(limits, actor, limbo, case) {
+            return place;
+        }
+    }
+    cases.len()
+}
+
+/// How many of an actor's sweeps go as they say, from the first on, of so many actors.
+fn swept(alloc: Global, actors: u64, actor: u8, cases: &[Case]) -> usize {
+    let Ok(limits) = Limits::new(actors, 64, 256, 1) else {
+        return 0;
+    };
+    let Ok(mut limbo) = Limbo::new(alloc, &limits) else {
+        return 0;
+    };
+    if u64::from(actor) >= actors {
+        return 0;
+    }
+    gone(&limits, actor, &mut limbo, cases)
+}
+
+const PASSED: &[Case] = &[Case {
+    unlinked: &[Item::Row(3)],
+    epoch: 1,
+    announced: &[1, 0],
+    steps: &[('e', 0, 0), ('t', 1, 0), ('a', 1, 0), ('r', 0, 8)],
+    empty: true,
+}];
+
 #[test]
-fn frees_later_what_an_actor_may_hold(rt: HostRuntime) -> Result<(), Fail> {
-    let limits = Limits::new(3, 64, 256, 1)?;
-    let mut limbo = Limbo::new(rt.alloc(), &limits)?;
-    unlink(&rt, &limits, &mut limbo, &[Item::Row(3)]);
-    let log = drive(&limits, 1, &mut limbo, 1, &[0, 0, 1]);
-    let steps = [('e', 0, 0), ('t', 1, 0), ('a', 0, 0), ('a', 2, 0)];
-    assert_eq!(rt; log.as_slice(), steps.as_slice());
-    let log = drive(&limits, 1, &mut limbo, 2, &[1, 0, 0]);
-    let steps = [('a', 0, 0), ('a', 2, 0)];
-    assert_eq!(rt; log.as_slice(), steps.as_slice());
-    unlink(&rt, &limits, &mut limbo, &[Item::Row(4)]);
-    let log = drive(&limits, 1, &mut limbo, 2, &[2, 0, 0]);
-    let steps = [
+fn frees_a_row_that_the_other_actor_has_passed(rt: HostRuntime) {
+    assert_eq!(rt; swept(rt.alloc(), 2, 0, PASSED), PASSED.len());
+}
+
+const LAST_EPOCH: &[Case] = &[Case {
+    unlinked: &[Item::Row(3)],
+    epoch: 1 << 62,
+    announced: &[0, 0],
+    steps: &[('e', 0, 0), ('a', 0, 0), ('r', 0, 8)],
+    empty: true,
+}];
+
+#[test]
+fn retires_no_last_epoch(rt: HostRuntime) {
+    assert_eq!(rt; swept(rt.alloc(), 2, 1, LAST_EPOCH), LAST_EPOCH.len());
+}
+
+/// The first one finds nothing in limbo.
+const ALONE: &[Case] = &[
+    Case {
+        unlinked: &[],
+        epoch: 5,
+        announced: &[],
+        steps: &[],
+        empty: true,
+    },
+    Case {
+        unlinked: &[Item::Pid(2)],
+        epoch: 5,
+        announced: &[],
+        steps: &[('e', 0, 0), ('t', 5, 0), ('p', 0, 4)],
+        empty: true,
+    },
+];
+
+#[test]
+fn reads_nobody_where_there_is_no_other_actor(rt: HostRuntime) {
+    assert_eq!(rt; swept(rt.alloc(), 1, 0, ALONE), ALONE.len());
+}
+
+const SIXTEEN: &[Case] = &[Case {
+    unlinked: &[Item::Row(64)],
+    epoch: 4,
+    announced: &[0, 5, 0, 6, 0, 0, 7, 1],
+    steps: &[
         ('e', 0, 0),
-        ('t', 2, 0),
+        ('t', 4, 0),
         ('a', 0, 0),
+        ('a', 1, 0),
         ('a', 2, 0),
-        ('r', 0, 8),
-    ];
-    assert_eq!(rt; log.as_slice(), steps.as_slice());
-    assert!(rt; !limbo.is_empty());
-    Ok(())
-}
+        ('a', 3, 0),
+        ('a', 4, 0),
+        ('a', 5, 0),
+        ('a', 6, 0),
+        ('a', 8, 0),
+        ('a', 9, 0),
+        ('a', 10, 0),
+        ('a', 11, 0),
+        ('a', 12, 0),
+        ('a', 13, 0),
+        ('a', 14, 0),
+        ('a', 15, 0),
+        ('r', 1, 1),
+    ],
+    empty: true,
+}];
 
 #[test]
-fn frees_word_by_word(rt: HostRuntime) -> Result<(), Fail> {
-    let limits = Limits::new(2, 64, 256, 1)?;
-    let mut limbo = Limbo::new(rt.alloc(), &limits)?;
-    let items = [Item::Pid(63), Item::Row(130), Item::Row(5), Item::Row(1)];
-    unlink(&rt, &limits, &mut limbo, items.as_slice());
-    let log = drive(&limits, 0, &mut limbo, 1, &[0, 2]);
-    let steps = [
+fn reads_each_of_sixteen_actors_but_its_own(rt: HostRuntime) {
+    assert_eq!(rt; swept(rt.alloc(), 16, 7, SIXTEEN), SIXTEEN.len());
+}
+
+/// The third one frees what the first one found, and keeps its own.
+const HELD: &[Case] = &[
+    Case {
+        unlinked: &[Item::Row(3)],
+        epoch: 1,
+        announced: &[0, 0, 1],
+        steps: &[('e', 0, 0), ('t', 1, 0), ('a', 0, 0), ('a', 2, 0)],
+        empty: false,
+    },
+    Case {
+        unlinked: &[],
+        epoch: 2,
+        announced: &[1, 0, 0],
+        steps: &[('a', 0, 0), ('a', 2, 0)],
+        empty: false,
+    },
+    Case {
+        unlinked: &[Item::Row(4)],
+        epoch: 2,
+        announced: &[2, 0, 0],
+        steps: &[
+            ('e', 0, 0),
+            ('t', 2, 0),
+            ('a', 0, 0),
+            ('a', 2, 0),
+            ('r', 0, 8),
+        ],
+        empty: false,
+    },
+];
+
+#[test]
+fn frees_later_what_an_actor_may_hold(rt: HostRuntime) {
+    assert_eq!(rt; swept(rt.alloc(), 3, 1, HELD), HELD.len());
+}
+
+const WORD_BY_WORD: &[Case] = &[Case {
+    unlinked: &[Item::Pid(63), Item::Row(130), Item::Row(5), Item::Row(1)],
+    epoch: 1,
+    announced: &[0, 2],
+    steps: &[
         ('e', 0, 0),
         ('t', 1, 0),
         ('a', 1, 0),
         ('r', 0, 0x22),
         ('r', 2, 0x4),
         ('p', 0, 0x8000000000000000),
-    ];
-    assert_eq!(rt; log.as_slice(), steps.as_slice());
-    assert!(rt; limbo.is_empty());
-    Ok(())
+    ],
+    empty: true,
+}];
+
+#[test]
+fn frees_word_by_word(rt: HostRuntime) {
+    assert_eq!(rt; swept(rt.alloc(), 2, 0, WORD_BY_WORD), WORD_BY_WORD.len());
 }
 
 /// Two rows and a PID are taken out of the tree.
@@ -198,19 +287,32 @@ fn take_out_some(limits: &Limits, limbo: &mut Limbo)
     take_out(limbo, &[3, 42], Some(2));
 }
 
-#[test]
-fn frees_what_was_taken_out(rt: HostRuntime) -> Result<(), Fail> {
-    let limits = Limits::new(1, 64, 256, 1)?;
-    let mut limbo = Limbo::new(rt.alloc(), &limits)?;
+/// How many sweeps go as they say, where two rows and a PID were taken out first.
+fn swept_out(alloc: Global, cases: &[Case]) -> usize {
+    let Ok(limits) = Limits::new(1, 64, 256, 1) else {
+        return 0;
+    };
+    let Ok(mut limbo) = Limbo::new(alloc, &limits) else {
+        return 0;
+    };
     take_out_some(&limits, &mut limbo);
-    let log = drive(&limits, 0, &mut limbo, 1, &[]);
-    let steps = [
+    gone(&limits, 0, &mut limbo, cases)
+}
+
+const TAKEN_OUT: &[Case] = &[Case {
+    unlinked: &[],
+    epoch: 1,
+    announced: &[],
+    steps: &[
         ('e', 0, 0),
         ('t', 1, 0),
         ('r', 0, 0x40000000008),
         ('p', 0, 0x4),
-    ];
-    assert_eq!(rt; log.as_slice(), steps.as_slice());
-    assert!(rt; limbo.is_empty());
-    Ok(())
+    ],
+    empty: true,
+}];
+
+#[test]
+fn frees_what_was_taken_out(rt: HostRuntime) {
+    assert_eq!(rt; swept_out(rt.alloc(), TAKEN_OUT), TAKEN_OUT.len());
 }
