@@ -6,15 +6,13 @@ ghost use Rattle.installs.specs.Changes.{IsOfChange, IsSpellablePlan, IsTarget};
 ghost use Rattle.installs.specs.Spares.{HaveRoom};
 ghost use Rattle.chain_search.specs.Within.{IsWithin};
 
-use arrayvec::ArrayVec;
+use arrayvec::ArrayString;
 use base_page::{Items, Page};
 use bw_model::{Answer, Key, Limits, Step};
 use deltas::{Record, Remove, Unterm};
 use installs::{Change, End, Plan, Spares};
 use smo::SplitPlan;
-
-/// A step by its kind and the numbers that it names.
-type Shown = (char, u16, u16, u16);
+use std::fmt::Write;
 
 /// What is planned.
 #[derive(Clone, Copy)]
@@ -27,13 +25,16 @@ enum Planned {
 
 /// A change: what is planned, how many PIDs and rows are free, whether the exchange that decides wins, the steps, how it ends, and
 /// the PID and the rows that it leaves to the next one.
-struct Case {
-    plan: Planned,
-    free: (u8, u8),
-    won: bool,
-    steps: &'static [Shown],
-    end: (End, Option<u16>, &'static [u16]),
-}
+type Case = (
+    Planned,
+    (u8, u8, bool),
+    &'static str,
+    (End, Option<u16>, &'static [u16]),
+);
+
+/// The steps of a change: `rows 0` reads a word of free rows, `row 3` takes a row, `3=7` places a record in row 3 over row 7, and
+/// `1:7>3` exchanges row 7 in slot 1 for row 3.
+type Log = ArrayString<256>;
 
 /// How many PIDs and rows are free, and whether the exchange that decides wins.
 #[derive(Clone, Copy)]
@@ -76,37 +77,32 @@ fn told(world: &mut World, limits: &Limits, step: &Step<Record>) -> Answer<Recor
     }
 }
 
-/// What a step is and which numbers it names: of a placed record, its row and the row under it.
-fn shown(step: &Step<Record>) -> Shown {
-    match step {
-        Step::PidBits(word) => ('p', u16::from(*word), 0, 0),
-        Step::RowBits(word) => ('r', u16::from(*word), 0, 0),
-        Step::TakePid(pid) => ('P', *pid, 0, 0),
-        Step::TakeRow(row) => ('R', *row, 0, 0),
-        Step::Place(row, content) => ('=', *row, content.next().unwrap_or(0), 0),
-        Step::Exchange(slot, old, new) => ('x', *slot, *old, *new),
-        _ => ('?', 0, 0, 0),
-    }
+/// Adds a step to the log.
+fn show(log: &mut Log, step: &Step<Record>) {
+    let _ = match step {
+        Step::PidBits(word) => write!(log, "pids {word} "),
+        Step::RowBits(word) => write!(log, "rows {word} "),
+        Step::TakePid(pid) => write!(log, "pid {pid} "),
+        Step::TakeRow(row) => write!(log, "row {row} "),
+        Step::Place(row, content) => write!(log, "{row}={} ", content.next().unwrap_or(0)),
+        Step::Exchange(slot, old, new) => write!(log, "{slot}:{old}>{new} "),
+        _ => write!(log, "? "),
+    };
 }
 
 /// The steps of a change, and how it ended.
-fn drive(
-    limits: &Limits,
-    spares: &mut Spares,
-    plan: Plan,
-    world: World,
-) -> (ArrayVec<Shown, 16>, Option<End>)
+fn drive(limits: &Limits, spares: &mut Spares, plan: Plan, world: World) -> (Log, Option<End>)
     requires target { IsTarget limits.now plan }
     requires spells { IsSpellablePlan plan }
     requires room { HaveRoom limits.now spares.old }
     ensures room { HaveRoom limits.now spares.new }
 {
     let mut world = world;
-    let mut log = ArrayVec::new();
+    let mut log = ArrayString::new();
     let mut change = Change::new(limits, spares, plan);
     for _ in 0..16 {
         let step = change.step(spares);
-        let _ = log.try_push(shown(&step));
+        show(&mut log, &step);
         let answer = told(&mut world, limits, &step);
         if let Some(end) = change.next(spares, &answer) {
             return (log, Some(end));
@@ -194,22 +190,20 @@ fn plan_of(limits: &Limits, plan: Planned) -> Plan
     }
 }
 
-/// Whether the steps and the end are those of the case.
-fn is_as_said(log: &[Shown], end: Option<End>, spares: &Spares, case: &Case) -> bool {
-    let (said, pid, rows) = case.end;
-    log == case.steps && end == Some(said) && spares.pid() == pid && spares.rows() == rows
-}
-
 /// Whether the change goes as the case says.
 fn goes(limits: &Limits, spares: &mut Spares, case: &Case) -> bool
     requires room { HaveRoom limits.now spares.old }
     ensures room { HaveRoom limits.now spares.new }
 {
-    let (pids, rows) = case.free;
-    let won = case.won;
+    let (plan, (pids, rows, won), steps, (said, pid, left)) = *case;
     let world = World { pids, rows, won };
-    let (log, end) = drive(limits, spares, plan_of(limits, case.plan), world);
-    is_as_said(log.as_slice(), end, spares, case)
+    let (log, end) = drive(limits, spares, plan_of(limits, plan), world);
+    let goes = log.as_str().trim_end() == steps && end == Some(said);
+    goes && leaves(spares, pid, left)
+}
+
+fn leaves(spares: &Spares, pid: Option<u16>, rows: &[u16]) -> bool {
+    spares.pid() == pid && spares.rows() == rows
 }
 
 /// How many of an actor's changes go as they say, from the first on.
@@ -225,18 +219,12 @@ fn gone(cases: &[Case]) -> usize {
 }
 
 /// The row is taken, filled and linked.
-const INSTALLED: &[Case] = &[Case {
-    plan: Planned::Install,
-    free: (2, 2),
-    won: true,
-    steps: &[
-        ('r', 0, 0, 0),
-        ('R', 3, 0, 0),
-        ('=', 3, 7, 0),
-        ('x', 1, 7, 3),
-    ],
-    end: (End::Won, None, &[]),
-}];
+const INSTALLED: &[Case] = &[(
+    Planned::Install,
+    (2, 2, true),
+    "rows 0 row 3 3=7 1:7>3",
+    (End::Won, None, &[]),
+)];
 
 #[test]
 fn installs_in_a_free_row(rt: HostRuntime) {
@@ -244,24 +232,12 @@ fn installs_in_a_free_row(rt: HostRuntime) {
 }
 
 /// A split takes a PID and two rows, and sets the new page before it links the delta.
-const SPLIT: &[Case] = &[Case {
-    plan: Planned::Split,
-    free: (2, 2),
-    won: true,
-    steps: &[
-        ('p', 0, 0, 0),
-        ('P', 3, 0, 0),
-        ('r', 0, 0, 0),
-        ('R', 3, 0, 0),
-        ('r', 0, 0, 0),
-        ('R', 5, 0, 0),
-        ('=', 3, 0, 0),
-        ('x', 3, 0, 3),
-        ('=', 5, 7, 0),
-        ('x', 1, 7, 5),
-    ],
-    end: (End::Won, None, &[]),
-}];
+const SPLIT: &[Case] = &[(
+    Planned::Split,
+    (2, 2, true),
+    "pids 0 pid 3 rows 0 row 3 rows 0 row 5 3=0 3:0>3 5=7 1:7>5",
+    (End::Won, None, &[]),
+)];
 
 #[test]
 fn takes_a_pid_and_then_rows(rt: HostRuntime) {
@@ -270,39 +246,24 @@ fn takes_a_pid_and_then_rows(rt: HostRuntime) {
 
 /// What a lost split took is what the next changes use.
 const LOST_SPLIT: &[Case] = &[
-    Case {
-        plan: Planned::Split,
-        free: (2, 2),
-        won: false,
-        steps: &[
-            ('p', 0, 0, 0),
-            ('P', 3, 0, 0),
-            ('r', 0, 0, 0),
-            ('R', 3, 0, 0),
-            ('r', 0, 0, 0),
-            ('R', 5, 0, 0),
-            ('=', 3, 0, 0),
-            ('x', 3, 0, 3),
-            ('=', 5, 7, 0),
-            ('x', 1, 7, 5),
-            ('x', 3, 3, 0),
-        ],
-        end: (End::Lost, Some(3), &[3, 5]),
-    },
-    Case {
-        plan: Planned::Install,
-        free: (0, 0),
-        won: true,
-        steps: &[('=', 5, 7, 0), ('x', 1, 7, 5)],
-        end: (End::Won, Some(3), &[3]),
-    },
-    Case {
-        plan: Planned::Root,
-        free: (0, 0),
-        won: true,
-        steps: &[('=', 3, 0, 0), ('x', 3, 0, 3), ('x', 0, 1, 3)],
-        end: (End::Won, None, &[]),
-    },
+    (
+        Planned::Split,
+        (2, 2, false),
+        "pids 0 pid 3 rows 0 row 3 rows 0 row 5 3=0 3:0>3 5=7 1:7>5 3:3>0",
+        (End::Lost, Some(3), &[3, 5]),
+    ),
+    (
+        Planned::Install,
+        (0, 0, true),
+        "5=7 1:7>5",
+        (End::Won, Some(3), &[3]),
+    ),
+    (
+        Planned::Root,
+        (0, 0, true),
+        "3=0 3:0>3 0:1>3",
+        (End::Won, None, &[]),
+    ),
 ];
 
 #[test]
@@ -311,22 +272,12 @@ fn undoes_a_lost_split_and_uses_its_spares(rt: HostRuntime) {
 }
 
 /// The new root's page is cleared, and its numbers stay.
-const LOST_ROOT: &[Case] = &[Case {
-    plan: Planned::Root,
-    free: (2, 2),
-    won: false,
-    steps: &[
-        ('p', 0, 0, 0),
-        ('P', 3, 0, 0),
-        ('r', 0, 0, 0),
-        ('R', 3, 0, 0),
-        ('=', 3, 0, 0),
-        ('x', 3, 0, 3),
-        ('x', 0, 1, 3),
-        ('x', 3, 3, 0),
-    ],
-    end: (End::Lost, Some(3), &[3]),
-}];
+const LOST_ROOT: &[Case] = &[(
+    Planned::Root,
+    (2, 2, false),
+    "pids 0 pid 3 rows 0 row 3 3=0 3:0>3 0:1>3 3:3>0",
+    (End::Lost, Some(3), &[3]),
+)];
 
 #[test]
 fn undoes_a_lost_root(rt: HostRuntime) {
@@ -334,18 +285,12 @@ fn undoes_a_lost_root(rt: HostRuntime) {
 }
 
 /// The row of a record that wasn't linked stays.
-const LOST_RECORD: &[Case] = &[Case {
-    plan: Planned::Install,
-    free: (0, 1),
-    won: false,
-    steps: &[
-        ('r', 0, 0, 0),
-        ('R', 5, 0, 0),
-        ('=', 5, 7, 0),
-        ('x', 1, 7, 5),
-    ],
-    end: (End::Lost, None, &[5]),
-}];
+const LOST_RECORD: &[Case] = &[(
+    Planned::Install,
+    (0, 1, false),
+    "rows 0 row 5 5=7 1:7>5",
+    (End::Lost, None, &[5]),
+)];
 
 #[test]
 fn keeps_the_row_of_a_lost_record(rt: HostRuntime) {
@@ -353,19 +298,12 @@ fn keeps_the_row_of_a_lost_record(rt: HostRuntime) {
 }
 
 /// The removed page's slot is cleared after the parent's delta is linked.
-const UNLINKED: &[Case] = &[Case {
-    plan: Planned::Unlink,
-    free: (0, 1),
-    won: true,
-    steps: &[
-        ('r', 0, 0, 0),
-        ('R', 5, 0, 0),
-        ('=', 5, 7, 0),
-        ('x', 1, 7, 5),
-        ('x', 9, 4, 0),
-    ],
-    end: (End::Won, None, &[]),
-}];
+const UNLINKED: &[Case] = &[(
+    Planned::Unlink,
+    (0, 1, true),
+    "rows 0 row 5 5=7 1:7>5 9:4>0",
+    (End::Won, None, &[]),
+)];
 
 #[test]
 fn clears_a_page_once_its_term_is_out(rt: HostRuntime) {
@@ -373,18 +311,12 @@ fn clears_a_page_once_its_term_is_out(rt: HostRuntime) {
 }
 
 /// Another actor took the term out.
-const LOST_UNLINK: &[Case] = &[Case {
-    plan: Planned::Unlink,
-    free: (0, 1),
-    won: false,
-    steps: &[
-        ('r', 0, 0, 0),
-        ('R', 5, 0, 0),
-        ('=', 5, 7, 0),
-        ('x', 1, 7, 5),
-    ],
-    end: (End::Lost, None, &[5]),
-}];
+const LOST_UNLINK: &[Case] = &[(
+    Planned::Unlink,
+    (0, 1, false),
+    "rows 0 row 5 5=7 1:7>5",
+    (End::Lost, None, &[5]),
+)];
 
 #[test]
 fn clears_no_page_whose_term_another_took_out(rt: HostRuntime) {
@@ -393,27 +325,24 @@ fn clears_no_page_whose_term_another_took_out(rt: HostRuntime) {
 
 /// Splits that lack a PID, then both rows, then one.
 const FULL: &[Case] = &[
-    Case {
-        plan: Planned::Split,
-        free: (0, 2),
-        won: true,
-        steps: &[('p', 0, 0, 0)],
-        end: (End::Full, None, &[]),
-    },
-    Case {
-        plan: Planned::Split,
-        free: (1, 0),
-        won: true,
-        steps: &[('p', 0, 0, 0), ('P', 5, 0, 0), ('r', 0, 0, 0)],
-        end: (End::Full, Some(5), &[]),
-    },
-    Case {
-        plan: Planned::Split,
-        free: (0, 1),
-        won: true,
-        steps: &[('r', 0, 0, 0), ('R', 5, 0, 0), ('r', 0, 0, 0)],
-        end: (End::Full, Some(5), &[5]),
-    },
+    (
+        Planned::Split,
+        (0, 2, true),
+        "pids 0",
+        (End::Full, None, &[]),
+    ),
+    (
+        Planned::Split,
+        (1, 0, true),
+        "pids 0 pid 5 rows 0",
+        (End::Full, Some(5), &[]),
+    ),
+    (
+        Planned::Split,
+        (0, 1, true),
+        "rows 0 row 5 rows 0",
+        (End::Full, Some(5), &[5]),
+    ),
 ];
 
 #[test]

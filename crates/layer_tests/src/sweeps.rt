@@ -6,25 +6,20 @@ ghost use Rattle.chain_search.specs.Knowledge.{nothing};
 ghost use Rattle.sweep.specs.Kept.{IsLimboOf, empty_limbo};
 ghost use Rattle.sweep.specs.Sweeps.{IsOfSweep};
 
-use arrayvec::ArrayVec;
+use arrayvec::ArrayString;
 use bw_model::{Answer, Limits, Step};
 use deltas::Record;
 use epochs::{Item, Limbo};
 use std::alloc::Global;
+use std::fmt::Write;
 use sweep::{Sweep, take_out};
-
-/// A step by its kind and the numbers that it names.
-type Shown = (char, u64, u64);
 
 /// A sweep: the items that are unlinked before it, the epoch, what the actors announce, its steps, and whether limbo is empty
 /// after it.
-struct Case {
-    unlinked: &'static [Item],
-    epoch: u64,
-    announced: &'static [u64],
-    steps: &'static [Shown],
-    empty: bool,
-}
+type Case = (&'static [Item], u64, &'static [u64], &'static str, bool);
+
+/// The steps of a sweep: `a1` reads what actor 1 announces, `rows 0:8` frees the bits 8 (hexadecimal) of word 0 of the rows.
+type Log = ArrayString<256>;
 
 /// The answer to a step of a sweep, where this is the epoch, and the actors announce these.
 fn told(epoch: u64, announced: &[u64], step: &Step<Record>) -> Answer<Record>
@@ -45,39 +40,33 @@ fn told(epoch: u64, announced: &[u64], step: &Step<Record>) -> Answer<Record>
     }
 }
 
-/// What a step is and which numbers it names.
-fn shown(step: &Step<Record>) -> Shown {
-    match step {
-        Step::Epoch => ('e', 0, 0),
-        Step::Retire(epoch) => ('t', *epoch, 0),
-        Step::Announce(other) => ('a', u64::from(*other), 0),
-        Step::ReuseRows(word, bits) => ('r', u64::from(*word), *bits),
-        Step::ReusePids(word, bits) => ('p', u64::from(*word), *bits),
-        _ => ('?', 0, 0),
-    }
+/// Adds a step to the log.
+fn show(log: &mut Log, step: &Step<Record>) {
+    let _ = match step {
+        Step::Epoch => write!(log, "epoch "),
+        Step::Retire(epoch) => write!(log, "retire {epoch} "),
+        Step::Announce(other) => write!(log, "a{other} "),
+        Step::ReuseRows(word, bits) => write!(log, "rows {word}:{bits:x} "),
+        Step::ReusePids(word, bits) => write!(log, "pids {word}:{bits:x} "),
+        _ => write!(log, "? "),
+    };
 }
 
 /// The steps of a sweep.
-fn drive(
-    limits: &Limits,
-    actor: u8,
-    limbo: &mut Limbo,
-    epoch: u64,
-    announced: &[u64],
-) -> ArrayVec<Shown, 24>
+fn drive(limits: &Limits, actor: u8, limbo: &mut Limbo, epoch: u64, announced: &[u64]) -> Log
     requires actor { actor < limits.now.actors }
     requires lists { IsLimboOf limits.now limbo.old }
     requires some { 0 < epoch }
     requires small { epoch ≤ 2 ^ 62 }
     ensures lists { IsLimboOf limits.now limbo.new }
 {
-    let mut log = ArrayVec::new();
+    let mut log = ArrayString::new();
     let Some(mut sweep) = Sweep::begin(limits, actor, limbo) else {
         return log;
     };
     for _ in 0..24 {
         let step = sweep.step();
-        let _ = log.try_push(shown(&step));
+        show(&mut log, &step);
         if !sweep.next(limbo, &told(epoch, announced, &step)) {
             return log;
         }
@@ -106,12 +95,12 @@ fn goes(limits: &Limits, actor: u8, limbo: &mut Limbo, case: &Case) -> bool
     requires lists { IsLimboOf limits.now limbo.old }
     ensures lists { IsLimboOf limits.now limbo.new }
 {
-    let epoch = case.epoch;
-    if epoch == 0 || epoch > 1 << 62 || !unlink(limits, limbo, case.unlinked) {
+    let (unlinked, epoch, announced, steps, empty) = *case;
+    if epoch == 0 || epoch > 1 << 62 || !unlink(limits, limbo, unlinked) {
         return false;
     }
-    let log = drive(limits, actor, limbo, epoch, case.announced);
-    log.as_slice() == case.steps && limbo.is_empty() == case.empty
+    let log = drive(limits, actor, limbo, epoch, announced);
+    log.as_str().trim_end() == steps && limbo.is_empty() == empty
 }
 
 /// How many of the sweeps go as they say, from the first on, with these limits.
@@ -141,26 +130,20 @@ fn swept(alloc: Global, actors: u64, actor: u8, cases: &[Case]) -> usize {
     gone(&limits, actor, &mut limbo, cases)
 }
 
-const PASSED: &[Case] = &[Case {
-    unlinked: &[Item::Row(3)],
-    epoch: 1,
-    announced: &[1, 0],
-    steps: &[('e', 0, 0), ('t', 1, 0), ('a', 1, 0), ('r', 0, 8)],
-    empty: true,
-}];
+const PASSED: &[Case] = &[(
+    &[Item::Row(3)],
+    1,
+    &[1, 0],
+    "epoch retire 1 a1 rows 0:8",
+    true,
+)];
 
 #[test]
 fn frees_a_row_that_the_other_actor_has_passed(rt: HostRuntime) {
     assert_eq!(rt; swept(rt.alloc(), 2, 0, PASSED), PASSED.len());
 }
 
-const LAST_EPOCH: &[Case] = &[Case {
-    unlinked: &[Item::Row(3)],
-    epoch: 1 << 62,
-    announced: &[0, 0],
-    steps: &[('e', 0, 0), ('a', 0, 0), ('r', 0, 8)],
-    empty: true,
-}];
+const LAST_EPOCH: &[Case] = &[(&[Item::Row(3)], 1 << 62, &[0, 0], "epoch a0 rows 0:8", true)];
 
 #[test]
 fn retires_no_last_epoch(rt: HostRuntime) {
@@ -169,20 +152,8 @@ fn retires_no_last_epoch(rt: HostRuntime) {
 
 /// The first one finds nothing in limbo.
 const ALONE: &[Case] = &[
-    Case {
-        unlinked: &[],
-        epoch: 5,
-        announced: &[],
-        steps: &[],
-        empty: true,
-    },
-    Case {
-        unlinked: &[Item::Pid(2)],
-        epoch: 5,
-        announced: &[],
-        steps: &[('e', 0, 0), ('t', 5, 0), ('p', 0, 4)],
-        empty: true,
-    },
+    (&[], 5, &[], "", true),
+    (&[Item::Pid(2)], 5, &[], "epoch retire 5 pids 0:4", true),
 ];
 
 #[test]
@@ -190,32 +161,13 @@ fn reads_nobody_where_there_is_no_other_actor(rt: HostRuntime) {
     assert_eq!(rt; swept(rt.alloc(), 1, 0, ALONE), ALONE.len());
 }
 
-const SIXTEEN: &[Case] = &[Case {
-    unlinked: &[Item::Row(64)],
-    epoch: 4,
-    announced: &[0, 5, 0, 6, 0, 0, 7, 1],
-    steps: &[
-        ('e', 0, 0),
-        ('t', 4, 0),
-        ('a', 0, 0),
-        ('a', 1, 0),
-        ('a', 2, 0),
-        ('a', 3, 0),
-        ('a', 4, 0),
-        ('a', 5, 0),
-        ('a', 6, 0),
-        ('a', 8, 0),
-        ('a', 9, 0),
-        ('a', 10, 0),
-        ('a', 11, 0),
-        ('a', 12, 0),
-        ('a', 13, 0),
-        ('a', 14, 0),
-        ('a', 15, 0),
-        ('r', 1, 1),
-    ],
-    empty: true,
-}];
+const SIXTEEN: &[Case] = &[(
+    &[Item::Row(64)],
+    4,
+    &[0, 5, 0, 6, 0, 0, 7, 1],
+    "epoch retire 4 a0 a1 a2 a3 a4 a5 a6 a8 a9 a10 a11 a12 a13 a14 a15 rows 1:1",
+    true,
+)];
 
 #[test]
 fn reads_each_of_sixteen_actors_but_its_own(rt: HostRuntime) {
@@ -224,33 +176,21 @@ fn reads_each_of_sixteen_actors_but_its_own(rt: HostRuntime) {
 
 /// The third one frees what the first one found, and keeps its own.
 const HELD: &[Case] = &[
-    Case {
-        unlinked: &[Item::Row(3)],
-        epoch: 1,
-        announced: &[0, 0, 1],
-        steps: &[('e', 0, 0), ('t', 1, 0), ('a', 0, 0), ('a', 2, 0)],
-        empty: false,
-    },
-    Case {
-        unlinked: &[],
-        epoch: 2,
-        announced: &[1, 0, 0],
-        steps: &[('a', 0, 0), ('a', 2, 0)],
-        empty: false,
-    },
-    Case {
-        unlinked: &[Item::Row(4)],
-        epoch: 2,
-        announced: &[2, 0, 0],
-        steps: &[
-            ('e', 0, 0),
-            ('t', 2, 0),
-            ('a', 0, 0),
-            ('a', 2, 0),
-            ('r', 0, 8),
-        ],
-        empty: false,
-    },
+    (
+        &[Item::Row(3)],
+        1,
+        &[0, 0, 1],
+        "epoch retire 1 a0 a2",
+        false,
+    ),
+    (&[], 2, &[1, 0, 0], "a0 a2", false),
+    (
+        &[Item::Row(4)],
+        2,
+        &[2, 0, 0],
+        "epoch retire 2 a0 a2 rows 0:8",
+        false,
+    ),
 ];
 
 #[test]
@@ -258,20 +198,13 @@ fn frees_later_what_an_actor_may_hold(rt: HostRuntime) {
     assert_eq!(rt; swept(rt.alloc(), 3, 1, HELD), HELD.len());
 }
 
-const WORD_BY_WORD: &[Case] = &[Case {
-    unlinked: &[Item::Pid(63), Item::Row(130), Item::Row(5), Item::Row(1)],
-    epoch: 1,
-    announced: &[0, 2],
-    steps: &[
-        ('e', 0, 0),
-        ('t', 1, 0),
-        ('a', 1, 0),
-        ('r', 0, 0x22),
-        ('r', 2, 0x4),
-        ('p', 0, 0x8000000000000000),
-    ],
-    empty: true,
-}];
+const WORD_BY_WORD: &[Case] = &[(
+    &[Item::Pid(63), Item::Row(130), Item::Row(5), Item::Row(1)],
+    1,
+    &[0, 2],
+    "epoch retire 1 a1 rows 0:22 rows 2:4 pids 0:8000000000000000",
+    true,
+)];
 
 #[test]
 fn frees_word_by_word(rt: HostRuntime) {
@@ -299,18 +232,13 @@ fn swept_out(alloc: Global, cases: &[Case]) -> usize {
     gone(&limits, 0, &mut limbo, cases)
 }
 
-const TAKEN_OUT: &[Case] = &[Case {
-    unlinked: &[],
-    epoch: 1,
-    announced: &[],
-    steps: &[
-        ('e', 0, 0),
-        ('t', 1, 0),
-        ('r', 0, 0x40000000008),
-        ('p', 0, 0x4),
-    ],
-    empty: true,
-}];
+const TAKEN_OUT: &[Case] = &[(
+    &[],
+    1,
+    &[],
+    "epoch retire 1 rows 0:40000000008 pids 0:4",
+    true,
+)];
 
 #[test]
 fn frees_what_was_taken_out(rt: HostRuntime) {
