@@ -218,134 +218,121 @@ fn gone(cases: &[Case]) -> usize {
     cases.len()
 }
 
-/// The row is taken, filled and linked.
-const INSTALLED: &[Case] = &[(
-    Planned::Install,
-    (2, 2, true),
-    "rows 0 row 3 3=7 1:7>3",
-    (End::Won, None, &[]),
-)];
-
-#[test]
-fn installs_in_a_free_row(rt: HostRuntime) {
-    assert_eq!(rt; gone(INSTALLED), INSTALLED.len());
-}
-
-/// A split takes a PID and two rows, and sets the new page before it links the delta.
-const SPLIT: &[Case] = &[(
-    Planned::Split,
-    (2, 2, true),
-    "pids 0 pid 3 rows 0 row 3 rows 0 row 5 3=0 3:0>3 5=7 1:7>5",
-    (End::Won, None, &[]),
-)];
-
-#[test]
-fn takes_a_pid_and_then_rows(rt: HostRuntime) {
-    assert_eq!(rt; gone(SPLIT), SPLIT.len());
-}
-
-/// What a lost split took is what the next changes use.
-const LOST_SPLIT: &[Case] = &[
+/// What an actor does, one change after another.
+const CHANGES: &[(&str, &[Case])] = &[
+    // The row is taken, filled and linked.
     (
-        Planned::Split,
-        (2, 2, false),
-        "pids 0 pid 3 rows 0 row 3 rows 0 row 5 3=0 3:0>3 5=7 1:7>5 3:3>0",
-        (End::Lost, Some(3), &[3, 5]),
+        "installs in a free row",
+        &[(
+            Planned::Install,
+            (2, 2, true),
+            "rows 0 row 3 3=7 1:7>3",
+            (End::Won, None, &[]),
+        )],
     ),
+    // A split takes a PID and two rows, and sets the new page before it links the delta.
     (
-        Planned::Install,
-        (0, 0, true),
-        "5=7 1:7>5",
-        (End::Won, Some(3), &[3]),
+        "takes a pid and then rows",
+        &[(
+            Planned::Split,
+            (2, 2, true),
+            "pids 0 pid 3 rows 0 row 3 rows 0 row 5 3=0 3:0>3 5=7 1:7>5",
+            (End::Won, None, &[]),
+        )],
     ),
+    // What a lost split took is what the next changes use.
     (
-        Planned::Root,
-        (0, 0, true),
-        "3=0 3:0>3 0:1>3",
-        (End::Won, None, &[]),
+        "undoes a lost split and uses its spares",
+        &[
+            (
+                Planned::Split,
+                (2, 2, false),
+                "pids 0 pid 3 rows 0 row 3 rows 0 row 5 3=0 3:0>3 5=7 1:7>5 3:3>0",
+                (End::Lost, Some(3), &[3, 5]),
+            ),
+            (
+                Planned::Install,
+                (0, 0, true),
+                "5=7 1:7>5",
+                (End::Won, Some(3), &[3]),
+            ),
+            (
+                Planned::Root,
+                (0, 0, true),
+                "3=0 3:0>3 0:1>3",
+                (End::Won, None, &[]),
+            ),
+        ],
     ),
-];
-
-#[test]
-fn undoes_a_lost_split_and_uses_its_spares(rt: HostRuntime) {
-    assert_eq!(rt; gone(LOST_SPLIT), LOST_SPLIT.len());
-}
-
-/// The new root's page is cleared, and its numbers stay.
-const LOST_ROOT: &[Case] = &[(
-    Planned::Root,
-    (2, 2, false),
-    "pids 0 pid 3 rows 0 row 3 3=0 3:0>3 0:1>3 3:3>0",
-    (End::Lost, Some(3), &[3]),
-)];
-
-#[test]
-fn undoes_a_lost_root(rt: HostRuntime) {
-    assert_eq!(rt; gone(LOST_ROOT), LOST_ROOT.len());
-}
-
-/// The row of a record that wasn't linked stays.
-const LOST_RECORD: &[Case] = &[(
-    Planned::Install,
-    (0, 1, false),
-    "rows 0 row 5 5=7 1:7>5",
-    (End::Lost, None, &[5]),
-)];
-
-#[test]
-fn keeps_the_row_of_a_lost_record(rt: HostRuntime) {
-    assert_eq!(rt; gone(LOST_RECORD), LOST_RECORD.len());
-}
-
-/// The removed page's slot is cleared after the parent's delta is linked.
-const UNLINKED: &[Case] = &[(
-    Planned::Unlink,
-    (0, 1, true),
-    "rows 0 row 5 5=7 1:7>5 9:4>0",
-    (End::Won, None, &[]),
-)];
-
-#[test]
-fn clears_a_page_once_its_term_is_out(rt: HostRuntime) {
-    assert_eq!(rt; gone(UNLINKED), UNLINKED.len());
-}
-
-/// Another actor took the term out.
-const LOST_UNLINK: &[Case] = &[(
-    Planned::Unlink,
-    (0, 1, false),
-    "rows 0 row 5 5=7 1:7>5",
-    (End::Lost, None, &[5]),
-)];
-
-#[test]
-fn clears_no_page_whose_term_another_took_out(rt: HostRuntime) {
-    assert_eq!(rt; gone(LOST_UNLINK), LOST_UNLINK.len());
-}
-
-/// Splits that lack a PID, then both rows, then one.
-const FULL: &[Case] = &[
+    // The new root's page is cleared, and its numbers stay.
     (
-        Planned::Split,
-        (0, 2, true),
-        "pids 0",
-        (End::Full, None, &[]),
+        "undoes a lost root",
+        &[(
+            Planned::Root,
+            (2, 2, false),
+            "pids 0 pid 3 rows 0 row 3 3=0 3:0>3 0:1>3 3:3>0",
+            (End::Lost, Some(3), &[3]),
+        )],
     ),
+    // The row of a record that wasn't linked stays.
     (
-        Planned::Split,
-        (1, 0, true),
-        "pids 0 pid 5 rows 0",
-        (End::Full, Some(5), &[]),
+        "keeps the row of a lost record",
+        &[(
+            Planned::Install,
+            (0, 1, false),
+            "rows 0 row 5 5=7 1:7>5",
+            (End::Lost, None, &[5]),
+        )],
     ),
+    // The removed page's slot is cleared after the parent's delta is linked.
     (
-        Planned::Split,
-        (0, 1, true),
-        "rows 0 row 5 rows 0",
-        (End::Full, Some(5), &[5]),
+        "clears a page once its term is out",
+        &[(
+            Planned::Unlink,
+            (0, 1, true),
+            "rows 0 row 5 5=7 1:7>5 9:4>0",
+            (End::Won, None, &[]),
+        )],
+    ),
+    // Another actor took the term out.
+    (
+        "clears no page whose term another took out",
+        &[(
+            Planned::Unlink,
+            (0, 1, false),
+            "rows 0 row 5 5=7 1:7>5",
+            (End::Lost, None, &[5]),
+        )],
+    ),
+    // Splits that lack a PID, then both rows, then one.
+    (
+        "is full with what it took",
+        &[
+            (
+                Planned::Split,
+                (0, 2, true),
+                "pids 0",
+                (End::Full, None, &[]),
+            ),
+            (
+                Planned::Split,
+                (1, 0, true),
+                "pids 0 pid 5 rows 0",
+                (End::Full, Some(5), &[]),
+            ),
+            (
+                Planned::Split,
+                (0, 1, true),
+                "rows 0 row 5 rows 0",
+                (End::Full, Some(5), &[5]),
+            ),
+        ],
     ),
 ];
 
 #[test]
-fn is_full_with_what_it_took(rt: HostRuntime) {
-    assert_eq!(rt; gone(FULL), FULL.len());
+fn goes_step_by_step(rt: HostRuntime) {
+    for (rule, cases) in CHANGES {
+        assert_eq!(rt; gone(cases), cases.len(), "{rule}");
+    }
 }

@@ -108,19 +108,86 @@ fn frees_by_what_all_others_announce(rt: HostRuntime) {
     }
 }
 
-const LAST_EPOCH: &[Act<'static>] = &[
-    Act::Unlinks(&[Item::Pid(2)]),
-    Act::Stamps(1 << 62),
-    Act::MayFree(&[1 << 62]),
-    Act::HandsOnNothing,
-    Act::MayFree(&[0]),
-    Act::HandsOn(Reuse::Pids(0, 4)),
-    Act::HandsOnNothing,
+/// What limbo does, one act after another.
+const LIMBO: &[(&str, &[Act<'static>])] = &[
+    (
+        "passes the last epoch by 0 alone",
+        &[
+            Act::Unlinks(&[Item::Pid(2)]),
+            Act::Stamps(1 << 62),
+            Act::MayFree(&[1 << 62]),
+            Act::HandsOnNothing,
+            Act::MayFree(&[0]),
+            Act::HandsOn(Reuse::Pids(0, 4)),
+            Act::HandsOnNothing,
+        ],
+    ),
+    // The last act: what was handed on may come again.
+    (
+        "hands on word by word",
+        &[
+            Act::Unlinks(EIGHT),
+            Act::Stamps(1),
+            Act::MayFree(&[0, 2]),
+            Act::IsEmpty(false),
+            Act::HandsOn(Reuse::Rows(0, 0x22)),
+            Act::IsEmpty(false),
+            Act::HandsOn(Reuse::Rows(1, 0x21)),
+            Act::IsEmpty(false),
+            Act::HandsOn(Reuse::Rows(2, 0x4)),
+            Act::IsEmpty(false),
+            Act::HandsOn(Reuse::Rows(3, 0x8000000000000000)),
+            Act::IsEmpty(false),
+            Act::HandsOn(Reuse::Pids(0, 0x8000000000000004)),
+            Act::IsEmpty(true),
+            Act::HandsOnNothing,
+            Act::Unlinks(EIGHT),
+        ],
+    ),
+    (
+        "keeps the first stamp",
+        &[
+            Act::HasUnstamped(false),
+            Act::Unlinks(&[Item::Row(1)]),
+            Act::HasUnstamped(true),
+            Act::Stamps(3),
+            Act::HasUnstamped(false),
+            Act::Unlinks(&[Item::Row(2), Item::Pid(1)]),
+            Act::MayFree(&[0]),
+            Act::HasUnstamped(true),
+            Act::Stamps(7),
+            Act::MayFree(&[5]),
+            Act::HandsOn(Reuse::Rows(0, 2)),
+            Act::HandsOnNothing,
+            Act::MayFree(&[8]),
+            Act::MayFree(&[7]),
+            Act::HandsOnNothing,
+            Act::MayFree(&[8]),
+            Act::HandsOn(Reuse::Rows(0, 4)),
+            Act::HandsOn(Reuse::Pids(0, 2)),
+            Act::IsEmpty(true),
+        ],
+    ),
+    (
+        "accepts each number below the limit once",
+        &[
+            Act::Refuses(Item::Row(256)),
+            Act::Refuses(Item::Row(257)),
+            Act::Refuses(Item::Pid(64)),
+            Act::Refuses(Item::Pid(65)),
+            Act::Unlinks(&[Item::Row(255), Item::Pid(63)]),
+            Act::Refuses(Item::Row(255)),
+            Act::Refuses(Item::Pid(63)),
+            Act::Accepts(Item::Row(63)),
+        ],
+    ),
 ];
 
 #[test]
-fn passes_the_last_epoch_by_0_alone(rt: HostRuntime) {
-    assert_eq!(rt; done(rt.alloc(), LAST_EPOCH), LAST_EPOCH.len());
+fn does_as_it_is_told(rt: HostRuntime) {
+    for (rule, acts) in LIMBO {
+        assert_eq!(rt; done(rt.alloc(), acts), acts.len(), "{rule}");
+    }
 }
 
 const EIGHT: &[Item] = &[
@@ -133,71 +200,3 @@ const EIGHT: &[Item] = &[
     Item::Row(255),
     Item::Row(1),
 ];
-
-/// The last act: what was handed on may come again.
-const WORD_BY_WORD: &[Act<'static>] = &[
-    Act::Unlinks(EIGHT),
-    Act::Stamps(1),
-    Act::MayFree(&[0, 2]),
-    Act::IsEmpty(false),
-    Act::HandsOn(Reuse::Rows(0, 0x22)),
-    Act::IsEmpty(false),
-    Act::HandsOn(Reuse::Rows(1, 0x21)),
-    Act::IsEmpty(false),
-    Act::HandsOn(Reuse::Rows(2, 0x4)),
-    Act::IsEmpty(false),
-    Act::HandsOn(Reuse::Rows(3, 0x8000000000000000)),
-    Act::IsEmpty(false),
-    Act::HandsOn(Reuse::Pids(0, 0x8000000000000004)),
-    Act::IsEmpty(true),
-    Act::HandsOnNothing,
-    Act::Unlinks(EIGHT),
-];
-
-#[test]
-fn hands_on_word_by_word(rt: HostRuntime) {
-    assert_eq!(rt; done(rt.alloc(), WORD_BY_WORD), WORD_BY_WORD.len());
-}
-
-const FIRST_STAMP: &[Act<'static>] = &[
-    Act::HasUnstamped(false),
-    Act::Unlinks(&[Item::Row(1)]),
-    Act::HasUnstamped(true),
-    Act::Stamps(3),
-    Act::HasUnstamped(false),
-    Act::Unlinks(&[Item::Row(2), Item::Pid(1)]),
-    Act::MayFree(&[0]),
-    Act::HasUnstamped(true),
-    Act::Stamps(7),
-    Act::MayFree(&[5]),
-    Act::HandsOn(Reuse::Rows(0, 2)),
-    Act::HandsOnNothing,
-    Act::MayFree(&[8]),
-    Act::MayFree(&[7]),
-    Act::HandsOnNothing,
-    Act::MayFree(&[8]),
-    Act::HandsOn(Reuse::Rows(0, 4)),
-    Act::HandsOn(Reuse::Pids(0, 2)),
-    Act::IsEmpty(true),
-];
-
-#[test]
-fn keeps_the_first_stamp(rt: HostRuntime) {
-    assert_eq!(rt; done(rt.alloc(), FIRST_STAMP), FIRST_STAMP.len());
-}
-
-const ACCEPTED_ONCE: &[Act<'static>] = &[
-    Act::Refuses(Item::Row(256)),
-    Act::Refuses(Item::Row(257)),
-    Act::Refuses(Item::Pid(64)),
-    Act::Refuses(Item::Pid(65)),
-    Act::Unlinks(&[Item::Row(255), Item::Pid(63)]),
-    Act::Refuses(Item::Row(255)),
-    Act::Refuses(Item::Pid(63)),
-    Act::Accepts(Item::Row(63)),
-];
-
-#[test]
-fn accepts_each_number_below_the_limit_once(rt: HostRuntime) {
-    assert_eq!(rt; done(rt.alloc(), ACCEPTED_ONCE), ACCEPTED_ONCE.len());
-}

@@ -130,85 +130,91 @@ fn swept(alloc: Global, actors: u64, actor: u8, cases: &[Case]) -> usize {
     gone(&limits, actor, &mut limbo, cases)
 }
 
-const PASSED: &[Case] = &[(
-    &[Item::Row(3)],
-    1,
-    &[1, 0],
-    "epoch retire 1 a1 rows 0:8",
-    true,
-)];
-
-#[test]
-fn frees_a_row_that_the_other_actor_has_passed(rt: HostRuntime) {
-    assert_eq!(rt; swept(rt.alloc(), 2, 0, PASSED), PASSED.len());
-}
-
-const LAST_EPOCH: &[Case] = &[(&[Item::Row(3)], 1 << 62, &[0, 0], "epoch a0 rows 0:8", true)];
-
-#[test]
-fn retires_no_last_epoch(rt: HostRuntime) {
-    assert_eq!(rt; swept(rt.alloc(), 2, 1, LAST_EPOCH), LAST_EPOCH.len());
-}
-
-/// The first one finds nothing in limbo.
-const ALONE: &[Case] = &[
-    (&[], 5, &[], "", true),
-    (&[Item::Pid(2)], 5, &[], "epoch retire 5 pids 0:4", true),
-];
-
-#[test]
-fn reads_nobody_where_there_is_no_other_actor(rt: HostRuntime) {
-    assert_eq!(rt; swept(rt.alloc(), 1, 0, ALONE), ALONE.len());
-}
-
-const SIXTEEN: &[Case] = &[(
-    &[Item::Row(64)],
-    4,
-    &[0, 5, 0, 6, 0, 0, 7, 1],
-    "epoch retire 4 a0 a1 a2 a3 a4 a5 a6 a8 a9 a10 a11 a12 a13 a14 a15 rows 1:1",
-    true,
-)];
-
-#[test]
-fn reads_each_of_sixteen_actors_but_its_own(rt: HostRuntime) {
-    assert_eq!(rt; swept(rt.alloc(), 16, 7, SIXTEEN), SIXTEEN.len());
-}
-
-/// The third one frees what the first one found, and keeps its own.
-const HELD: &[Case] = &[
+/// Of how many actors which one sweeps, one sweep after another.
+const SWEEPS: &[(&str, u64, u8, &[Case])] = &[
     (
-        &[Item::Row(3)],
-        1,
-        &[0, 0, 1],
-        "epoch retire 1 a0 a2",
-        false,
-    ),
-    (&[], 2, &[1, 0, 0], "a0 a2", false),
-    (
-        &[Item::Row(4)],
+        "frees a row that the other actor has passed",
         2,
-        &[2, 0, 0],
-        "epoch retire 2 a0 a2 rows 0:8",
-        false,
+        0,
+        &[(
+            &[Item::Row(3)],
+            1,
+            &[1, 0],
+            "epoch retire 1 a1 rows 0:8",
+            true,
+        )],
+    ),
+    (
+        "retires no last epoch",
+        2,
+        1,
+        &[(&[Item::Row(3)], 1 << 62, &[0, 0], "epoch a0 rows 0:8", true)],
+    ),
+    // The first one finds nothing in limbo.
+    (
+        "reads nobody where there is no other actor",
+        1,
+        0,
+        &[
+            (&[], 5, &[], "", true),
+            (&[Item::Pid(2)], 5, &[], "epoch retire 5 pids 0:4", true),
+        ],
+    ),
+    (
+        "reads each of sixteen actors but its own",
+        16,
+        7,
+        &[(
+            &[Item::Row(64)],
+            4,
+            &[0, 5, 0, 6, 0, 0, 7, 1],
+            "epoch retire 4 a0 a1 a2 a3 a4 a5 a6 a8 a9 a10 a11 a12 a13 a14 a15 rows 1:1",
+            true,
+        )],
+    ),
+    // The third one frees what the first one found, and keeps its own.
+    (
+        "frees later what an actor may hold",
+        3,
+        1,
+        &[
+            (
+                &[Item::Row(3)],
+                1,
+                &[0, 0, 1],
+                "epoch retire 1 a0 a2",
+                false,
+            ),
+            (&[], 2, &[1, 0, 0], "a0 a2", false),
+            (
+                &[Item::Row(4)],
+                2,
+                &[2, 0, 0],
+                "epoch retire 2 a0 a2 rows 0:8",
+                false,
+            ),
+        ],
+    ),
+    (
+        "frees word by word",
+        2,
+        0,
+        &[(
+            &[Item::Pid(63), Item::Row(130), Item::Row(5), Item::Row(1)],
+            1,
+            &[0, 2],
+            "epoch retire 1 a1 rows 0:22 rows 2:4 pids 0:8000000000000000",
+            true,
+        )],
     ),
 ];
 
 #[test]
-fn frees_later_what_an_actor_may_hold(rt: HostRuntime) {
-    assert_eq!(rt; swept(rt.alloc(), 3, 1, HELD), HELD.len());
-}
-
-const WORD_BY_WORD: &[Case] = &[(
-    &[Item::Pid(63), Item::Row(130), Item::Row(5), Item::Row(1)],
-    1,
-    &[0, 2],
-    "epoch retire 1 a1 rows 0:22 rows 2:4 pids 0:8000000000000000",
-    true,
-)];
-
-#[test]
-fn frees_word_by_word(rt: HostRuntime) {
-    assert_eq!(rt; swept(rt.alloc(), 2, 0, WORD_BY_WORD), WORD_BY_WORD.len());
+fn goes_step_by_step(rt: HostRuntime) {
+    for (rule, actors, actor, cases) in SWEEPS {
+        let gone = swept(rt.alloc(), *actors, *actor, cases);
+        assert_eq!(rt; gone, cases.len(), "{rule}");
+    }
 }
 
 /// Two rows and a PID are taken out of the tree.
