@@ -4,8 +4,9 @@ ghost use Rattle.base_page.specs.declared.item.Content.TheVariants.{Child};
 ghost use Rattle.deltas.specs.declared.record.Record.TheVariants as kind;
 ghost use Rattle.chain_search.specs.Examples.{leaf, leaf_chain, index, index_chain, index_split, split_index, long_index};
 
+use crate::texts;
 use base_page::{Content, Items, Page};
-use bw_model::{Key, Pairs, Value};
+use bw_model::{Key, MAX_PAIRS, Pairs, Value};
 use chain_search::{Chain, ChainPart};
 use deltas::{Delete, Hold, Merge, Put, Record, Remove, Split, Term, Unterm};
 
@@ -180,79 +181,135 @@ fn long_index() -> Chain
     part.over(index())
 }
 
+/// Whether the chain has this value at the key, or none.
+fn finds(chain: &Chain, at: &[u8], text: Option<&[u8]>) -> bool {
+    match (chain.find(&texts::key(at)), text) {
+        (None, None) => true,
+        (Some(value), Some(text)) => value.as_slice() == text,
+        _ => false,
+    }
+}
+
+fn child_of(chain: &Chain, at: &[u8]) -> Option<u16> {
+    chain.child_of(&texts::key(at))
+}
+
+fn child_below(chain: &Chain, at: &[u8]) -> Option<u16> {
+    chain.child_below(&texts::key(at))
+}
+
+/// Whether the chain shows these pairs from the key on.
+fn shows(chain: &Chain, from: &[u8], texts: &[(&[u8], &[u8])]) -> bool {
+    chain.pairs_from(&texts::key(from)) == pairs(texts)
+}
+
+fn pairs(texts: &[(&[u8], &[u8])]) -> Pairs {
+    let mut pairs = Pairs::new();
+    for (key, value) in texts {
+        if pairs.as_slice().len() < MAX_PAIRS {
+            pairs.push(texts::key(key), texts::value(value));
+        }
+    }
+    pairs
+}
+
 /// How many items the chain has, and how many the page that it makes.
 fn counted(chain: &Chain) -> (usize, usize) {
     (chain.item_count(), chain.page().items().len())
 }
 
+/// How many deltas the chain has, its level, and its right.
+fn shape(chain: &Chain) -> (usize, u8, Option<u16>) {
+    (chain.deltas(), chain.level(), chain.right())
+}
+
 #[test]
 fn decides_the_keys_of_a_leaf(rt: HostRuntime) {
     let chain = leaf_chain();
-    assert_eq!(rt; chain.find(&key(b"k07")), Some(&value(b"v07")));
-    assert_eq!(rt; chain.find(&key(b"k08")), None);
-    assert_eq!(rt; chain.find(&key(b"k09")), Some(&value(b"w09")));
-    assert_eq!(rt; chain.content(&key(b"k10")), None);
-    assert!(rt; chain.is_removed());
-    assert_eq!(rt;
-        (chain.deltas(), chain.level(), chain.right()),
-        (5, 0, None)
-    );
-    assert_eq!(rt; chain.high(), None);
-    assert!(rt; chain.covers(&key(b"k09")));
-    let page = chain.page();
-    assert!(rt; page.is_removed());
-    assert_eq!(rt; page.items().len(), 2);
+    let decided = [
+        finds(&chain, b"k07", Some(b"v07")),
+        finds(&chain, b"k08", None),
+        finds(&chain, b"k09", Some(b"w09")),
+        chain.content(&texts::key(b"k10")).is_none(),
+        chain.covers(&texts::key(b"k09")),
+    ];
+    assert_eq!(rt; decided, [true; 5]);
+}
+
+#[test]
+fn ends_a_removed_leaf_nowhere(rt: HostRuntime) {
+    let chain = leaf_chain();
+    let ends = [
+        chain.is_removed(),
+        chain.high().is_none(),
+        chain.page().is_removed(),
+    ];
+    assert_eq!(rt; (shape(&chain), ends), ((5, 0, None), [true; 3]));
 }
 
 #[test]
 fn finds_the_children_of_an_index_page(rt: HostRuntime) {
     let chain = index_chain();
-    assert_eq!(rt; chain.child_of(&key(b"k08")), Some(1));
-    assert_eq!(rt; chain.child_of(&key(b"k10")), Some(3));
-    assert_eq!(rt; chain.child_below(&key(b"k09")), Some(1));
-    assert_eq!(rt; chain.child_below(chain.low()), None);
-    let page = chain.consolidated();
-    assert_eq!(rt; page.items().len(), 2);
-    assert_eq!(rt; page.child_of(&key(b"k09")), Some(3));
+    let children = [
+        child_of(&chain, b"k08"),
+        child_of(&chain, b"k10"),
+        child_below(&chain, b"k09"),
+        child_below(&chain, b""),
+    ];
+    assert_eq!(rt; children, [Some(1), Some(3), Some(1), None]);
+}
+
+#[test]
+fn consolidates_an_index_page(rt: HostRuntime) {
+    let page = index_chain().consolidated();
+    let child = page.child_of(&texts::key(b"k09"));
+    assert_eq!(rt; (page.items().len(), child), (2, Some(3)));
 }
 
 #[test]
 fn finds_no_child_past_a_split(rt: HostRuntime) {
     let chain = split_index();
-    assert_eq!(rt; chain.child_of(&key(b"k08")), Some(1));
-    assert_eq!(rt; chain.child_of(&key(b"k09")), Some(1));
-    assert_eq!(rt; chain.child_below(&key(b"k10")), Some(1));
+    let children = [
+        child_of(&chain, b"k08"),
+        child_of(&chain, b"k09"),
+        child_below(&chain, b"k10"),
+    ];
+    assert_eq!(rt; children, [Some(1); 3]);
 }
 
 #[test]
 fn finds_the_held_child_of_a_merge(rt: HostRuntime) {
     let chain = long_index();
-    assert_eq!(rt; chain.child_of(&key(b"k10")), Some(5));
-    assert_eq!(rt; chain.child_of(&key(b"k09")), Some(5));
-    assert_eq!(rt; chain.child_below(&key(b"k10")), Some(5));
-    assert_eq!(rt; chain.child_below(&key(b"k09")), Some(1));
-    assert_eq!(rt; chain.child_below(chain.low()), None);
+    let children = [
+        child_of(&chain, b"k10"),
+        child_of(&chain, b"k09"),
+        child_below(&chain, b"k10"),
+        child_below(&chain, b"k09"),
+        child_below(&chain, b""),
+    ];
+    assert_eq!(rt; children, [Some(5), Some(5), Some(5), Some(1), None]);
 }
 
 #[test]
 fn shows_the_pairs_from_a_key(rt: HostRuntime) {
     let chain = leaf_chain();
-    let mut pairs = Pairs::new();
-    pairs.push(key(b"k07"), value(b"v07"));
-    pairs.push(key(b"k09"), value(b"w09"));
-    assert_eq!(rt; chain.pairs_from(chain.low()), pairs);
-    assert_eq!(rt; chain.pairs_from(&key(b"k07")), pairs);
-    let mut rest = Pairs::new();
-    rest.push(key(b"k09"), value(b"w09"));
-    assert_eq!(rt; chain.pairs_from(&key(b"k08")), rest);
-    assert_eq!(rt; chain.pairs_from(&key(b"k10")), Pairs::new());
-    assert_eq!(rt; index_chain().pairs_from(&key(b"k08")), Pairs::new());
+    let shown = [
+        shows(&chain, b"a", &[(b"k07", b"v07"), (b"k09", b"w09")]),
+        shows(&chain, b"k07", &[(b"k07", b"v07"), (b"k09", b"w09")]),
+        shows(&chain, b"k08", &[(b"k09", b"w09")]),
+        shows(&chain, b"k10", &[]),
+        shows(&index_chain(), b"k08", &[]),
+    ];
+    assert_eq!(rt; shown, [true; 5]);
 }
 
 #[test]
 fn counts_the_items_of_each_kind_of_record(rt: HostRuntime) {
-    assert_eq!(rt; counted(&leaf_chain()), (2, 2));
-    assert_eq!(rt; counted(&index_chain()), (2, 2));
-    assert_eq!(rt; counted(&split_index()), (1, 1));
-    assert_eq!(rt; counted(&long_index()), (2, 2));
+    let counts = [
+        counted(&leaf_chain()),
+        counted(&index_chain()),
+        counted(&split_index()),
+        counted(&long_index()),
+    ];
+    assert_eq!(rt; counts, [(2, 2), (2, 2), (1, 1), (2, 2)]);
 }

@@ -6,15 +6,38 @@ ghost use Rattle.installs.specs.Changes.{IsOfChange, IsSpellablePlan, IsTarget};
 ghost use Rattle.installs.specs.Spares.{HaveRoom};
 ghost use Rattle.chain_search.specs.Within.{IsWithin};
 
-use arrayvec::ArrayVec;
+use arrayvec::ArrayString;
 use base_page::{Items, Page};
 use bw_model::{Answer, Key, Limits, Step};
 use deltas::{Record, Remove, Unterm};
 use installs::{Change, End, Plan, Spares};
 use smo::SplitPlan;
+use std::fmt::Write;
+
+/// What is planned.
+#[derive(Clone, Copy)]
+enum Planned {
+    Install,
+    Split,
+    Root,
+    Unlink,
+}
+
+/// A change: what is planned, how many PIDs and rows are free, whether the exchange that decides wins, the steps, how it ends, and
+/// the PID and the rows that it leaves to the next one.
+type Case = (
+    Planned,
+    (u8, u8, bool),
+    &'static str,
+    (End, Option<u16>, &'static [u16]),
+);
+
+/// The steps of a change: `rows 0` reads a word of free rows, `row 3` takes a row, `3=7` places a record in row 3 over row 7, and
+/// `1:7>3` exchanges row 7 in slot 1 for row 3.
+type Log = ArrayString<256>;
 
 /// How many PIDs and rows are free, and whether the exchange that decides wins.
-#[derive(Drop)]
+#[derive(Clone, Copy)]
 struct World {
     pids: u8,
     rows: u8,
@@ -54,37 +77,32 @@ fn told(world: &mut World, limits: &Limits, step: &Step<Record>) -> Answer<Recor
     }
 }
 
-/// What a step is and which numbers it names: of a placed record, its row and the row under it.
-fn shown(step: &Step<Record>) -> (char, u16, u16, u16) {
-    match step {
-        Step::PidBits(word) => ('p', u16::from(*word), 0, 0),
-        Step::RowBits(word) => ('r', u16::from(*word), 0, 0),
-        Step::TakePid(pid) => ('P', *pid, 0, 0),
-        Step::TakeRow(row) => ('R', *row, 0, 0),
-        Step::Place(row, content) => ('=', *row, content.next().unwrap_or(0), 0),
-        Step::Exchange(slot, old, new) => ('x', *slot, *old, *new),
-        _ => ('?', 0, 0, 0),
-    }
+/// Adds a step to the log.
+fn show(log: &mut Log, step: &Step<Record>) {
+    let _ = match step {
+        Step::PidBits(word) => write!(log, "pids {word} "),
+        Step::RowBits(word) => write!(log, "rows {word} "),
+        Step::TakePid(pid) => write!(log, "pid {pid} "),
+        Step::TakeRow(row) => write!(log, "row {row} "),
+        Step::Place(row, content) => write!(log, "{row}={} ", content.next().unwrap_or(0)),
+        Step::Exchange(slot, old, new) => write!(log, "{slot}:{old}>{new} "),
+        _ => write!(log, "? "),
+    };
 }
 
 /// The steps of a change, and how it ended.
-fn drive(
-    limits: &Limits,
-    spares: &mut Spares,
-    plan: Plan,
-    world: World,
-) -> (ArrayVec<(char, u16, u16, u16), 16>, Option<End>)
+fn drive(limits: &Limits, spares: &mut Spares, plan: Plan, world: World) -> (Log, Option<End>)
     requires target { IsTarget limits.now plan }
     requires spells { IsSpellablePlan plan }
     requires room { HaveRoom limits.now spares.old }
     ensures room { HaveRoom limits.now spares.new }
 {
     let mut world = world;
-    let mut log = ArrayVec::new();
+    let mut log = ArrayString::new();
     let mut change = Change::new(limits, spares, plan);
     for _ in 0..16 {
         let step = change.step(spares);
-        let _ = log.try_push(shown(&step));
+        show(&mut log, &step);
         let answer = told(&mut world, limits, &step);
         if let Some(end) = change.next(spares, &answer) {
             return (log, Some(end));
@@ -160,129 +178,161 @@ fn unlink(limits: &Limits) -> Plan
     }
 }
 
-fn having(pids: u8, rows: u8, won: bool) -> World {
-    World { pids, rows, won }
+fn plan_of(limits: &Limits, plan: Planned) -> Plan
+    ensures target { IsTarget limits.now result }
+    ensures spells { IsSpellablePlan result }
+{
+    match plan {
+        Planned::Install => install(limits),
+        Planned::Split => split(limits),
+        Planned::Root => root(limits),
+        Planned::Unlink => unlink(limits),
+    }
 }
 
-#[test]
-fn installs_in_a_free_row(rt: HostRuntime) {
-    let limits = smallest();
-    let mut spares = Spares::new();
-    let (log, end) = drive(&limits, &mut spares, install(&limits), having(2, 2, true));
-    let steps = [
-        ('r', 0, 0, 0),
-        ('R', 3, 0, 0),
-        ('=', 3, 7, 0),
-        ('x', 1, 7, 3),
-    ];
-    assert_eq!(rt; log.as_slice(), steps.as_slice());
-    assert_eq!(rt; (end, spares.pid()), (Some(End::Won), None));
-    assert!(rt; spares.rows().is_empty());
+/// Whether the change goes as the case says.
+fn goes(limits: &Limits, spares: &mut Spares, case: &Case) -> bool
+    requires room { HaveRoom limits.now spares.old }
+    ensures room { HaveRoom limits.now spares.new }
+{
+    let (plan, (pids, rows, won), steps, (said, pid, left)) = *case;
+    let world = World { pids, rows, won };
+    let (log, end) = drive(limits, spares, plan_of(limits, plan), world);
+    let goes = log.as_str().trim_end() == steps && end == Some(said);
+    goes && leaves(spares, pid, left)
 }
 
-#[test]
-fn takes_a_pid_and_then_rows(rt: HostRuntime) {
-    let limits = smallest();
-    let mut spares = Spares::new();
-    let (log, end) = drive(&limits, &mut spares, split(&limits), having(2, 2, true));
-    let steps = [
-        ('p', 0, 0, 0),
-        ('P', 3, 0, 0),
-        ('r', 0, 0, 0),
-        ('R', 3, 0, 0),
-        ('r', 0, 0, 0),
-        ('R', 5, 0, 0),
-        ('=', 3, 0, 0),
-        ('x', 3, 0, 3),
-        ('=', 5, 7, 0),
-        ('x', 1, 7, 5),
-    ];
-    assert_eq!(rt; log.as_slice(), steps.as_slice());
-    assert_eq!(rt; (end, spares.pid()), (Some(End::Won), None));
-    assert!(rt; spares.rows().is_empty());
+fn leaves(spares: &Spares, pid: Option<u16>, rows: &[u16]) -> bool {
+    spares.pid() == pid && spares.rows() == rows
 }
 
-#[test]
-fn undoes_a_lost_split_and_uses_its_spares(rt: HostRuntime) {
+/// How many of an actor's changes go as they say, from the first on.
+fn gone(cases: &[Case]) -> usize {
     let limits = smallest();
     let mut spares = Spares::new();
-    let (log, end) = drive(&limits, &mut spares, split(&limits), having(2, 2, false));
-    assert_eq!(rt; log.as_slice().last(), Some(&('x', 3, 3, 0)));
-    assert_eq!(rt; (end, spares.pid()), (Some(End::Lost), Some(3)));
-    assert_eq!(rt; spares.rows(), [3, 5].as_slice());
-    let (log, end) = drive(&limits, &mut spares, install(&limits), having(0, 0, true));
-    let steps = [('=', 5, 7, 0), ('x', 1, 7, 5)];
-    assert_eq!(rt; log.as_slice(), steps.as_slice());
-    assert_eq!(rt; (end, spares.pid()), (Some(End::Won), Some(3)));
-    assert_eq!(rt; spares.rows(), [3].as_slice());
-    let (log, end) = drive(&limits, &mut spares, root(&limits), having(0, 0, true));
-    let steps = [('=', 3, 0, 0), ('x', 3, 0, 3), ('x', 0, 1, 3)];
-    assert_eq!(rt; log.as_slice(), steps.as_slice());
-    assert_eq!(rt; (end, spares.pid()), (Some(End::Won), None));
-    assert!(rt; spares.rows().is_empty());
+    for (place, case) in cases.iter().enumerate() {
+        if !goes(&limits, &mut spares, case) {
+            return place;
+        }
+    }
+    cases.len()
 }
 
-#[test]
-fn undoes_a_lost_root(rt: HostRuntime) {
-    let limits = smallest();
-    let mut spares = Spares::new();
-    let (log, end) = drive(&limits, &mut spares, root(&limits), having(2, 2, false));
-    assert_eq!(rt; log.as_slice().last(), Some(&('x', 3, 3, 0)));
-    assert_eq!(rt; (end, spares.pid()), (Some(End::Lost), Some(3)));
-    assert_eq!(rt; spares.rows(), [3].as_slice());
-}
+/// What an actor does, one change after another.
+const CHANGES: &[(&str, &[Case])] = &[
+    // The row is taken, filled and linked.
+    (
+        "installs in a free row",
+        &[(
+            Planned::Install,
+            (2, 2, true),
+            "rows 0 row 3 3=7 1:7>3",
+            (End::Won, None, &[]),
+        )],
+    ),
+    // A split takes a PID and two rows, and sets the new page before it links the delta.
+    (
+        "takes a pid and then rows",
+        &[(
+            Planned::Split,
+            (2, 2, true),
+            "pids 0 pid 3 rows 0 row 3 rows 0 row 5 3=0 3:0>3 5=7 1:7>5",
+            (End::Won, None, &[]),
+        )],
+    ),
+    // What a lost split took is what the next changes use.
+    (
+        "undoes a lost split and uses its spares",
+        &[
+            (
+                Planned::Split,
+                (2, 2, false),
+                "pids 0 pid 3 rows 0 row 3 rows 0 row 5 3=0 3:0>3 5=7 1:7>5 3:3>0",
+                (End::Lost, Some(3), &[3, 5]),
+            ),
+            (
+                Planned::Install,
+                (0, 0, true),
+                "5=7 1:7>5",
+                (End::Won, Some(3), &[3]),
+            ),
+            (
+                Planned::Root,
+                (0, 0, true),
+                "3=0 3:0>3 0:1>3",
+                (End::Won, None, &[]),
+            ),
+        ],
+    ),
+    // The new root's page is cleared, and its numbers stay.
+    (
+        "undoes a lost root",
+        &[(
+            Planned::Root,
+            (2, 2, false),
+            "pids 0 pid 3 rows 0 row 3 3=0 3:0>3 0:1>3 3:3>0",
+            (End::Lost, Some(3), &[3]),
+        )],
+    ),
+    // The row of a record that wasn't linked stays.
+    (
+        "keeps the row of a lost record",
+        &[(
+            Planned::Install,
+            (0, 1, false),
+            "rows 0 row 5 5=7 1:7>5",
+            (End::Lost, None, &[5]),
+        )],
+    ),
+    // The removed page's slot is cleared after the parent's delta is linked.
+    (
+        "clears a page once its term is out",
+        &[(
+            Planned::Unlink,
+            (0, 1, true),
+            "rows 0 row 5 5=7 1:7>5 9:4>0",
+            (End::Won, None, &[]),
+        )],
+    ),
+    // Another actor took the term out.
+    (
+        "clears no page whose term another took out",
+        &[(
+            Planned::Unlink,
+            (0, 1, false),
+            "rows 0 row 5 5=7 1:7>5",
+            (End::Lost, None, &[5]),
+        )],
+    ),
+    // Splits that lack a PID, then both rows, then one.
+    (
+        "is full with what it took",
+        &[
+            (
+                Planned::Split,
+                (0, 2, true),
+                "pids 0",
+                (End::Full, None, &[]),
+            ),
+            (
+                Planned::Split,
+                (1, 0, true),
+                "pids 0 pid 5 rows 0",
+                (End::Full, Some(5), &[]),
+            ),
+            (
+                Planned::Split,
+                (0, 1, true),
+                "rows 0 row 5 rows 0",
+                (End::Full, Some(5), &[5]),
+            ),
+        ],
+    ),
+];
 
 #[test]
-fn keeps_the_row_of_a_lost_record(rt: HostRuntime) {
-    let limits = smallest();
-    let mut spares = Spares::new();
-    let (log, end) = drive(&limits, &mut spares, install(&limits), having(0, 1, false));
-    assert_eq!(rt; log.as_slice().last(), Some(&('x', 1, 7, 5)));
-    assert_eq!(rt; (end, spares.pid()), (Some(End::Lost), None));
-    assert_eq!(rt; spares.rows(), [5].as_slice());
-}
-
-#[test]
-fn clears_a_page_once_its_term_is_out(rt: HostRuntime) {
-    let limits = smallest();
-    let mut spares = Spares::new();
-    let (log, end) = drive(&limits, &mut spares, unlink(&limits), having(0, 1, true));
-    let steps = [
-        ('r', 0, 0, 0),
-        ('R', 5, 0, 0),
-        ('=', 5, 7, 0),
-        ('x', 1, 7, 5),
-        ('x', 9, 4, 0),
-    ];
-    assert_eq!(rt; log.as_slice(), steps.as_slice());
-    assert_eq!(rt; (end, spares.pid()), (Some(End::Won), None));
-    assert!(rt; spares.rows().is_empty());
-}
-
-#[test]
-fn clears_no_page_whose_term_another_took_out(rt: HostRuntime) {
-    let limits = smallest();
-    let mut spares = Spares::new();
-    let (log, end) = drive(&limits, &mut spares, unlink(&limits), having(0, 1, false));
-    assert_eq!(rt; log.as_slice().last(), Some(&('x', 1, 7, 5)));
-    assert_eq!(rt; (end, spares.pid()), (Some(End::Lost), None));
-    assert_eq!(rt; spares.rows(), [5].as_slice());
-}
-
-#[test]
-fn is_full_with_what_it_took(rt: HostRuntime) {
-    let limits = smallest();
-    let mut spares = Spares::new();
-    let (log, end) = drive(&limits, &mut spares, split(&limits), having(0, 2, true));
-    assert_eq!(rt; log.as_slice(), [('p', 0, 0, 0)].as_slice());
-    assert_eq!(rt; (end, spares.pid()), (Some(End::Full), None));
-    let (log, end) = drive(&limits, &mut spares, split(&limits), having(1, 0, true));
-    assert_eq!(rt; log.as_slice().last(), Some(&('r', 0, 0, 0)));
-    assert_eq!(rt; (end, spares.pid()), (Some(End::Full), Some(5)));
-    assert!(rt; spares.rows().is_empty());
-    let (log, end) = drive(&limits, &mut spares, split(&limits), having(0, 1, true));
-    let steps = [('r', 0, 0, 0), ('R', 5, 0, 0), ('r', 0, 0, 0)];
-    assert_eq!(rt; log.as_slice(), steps.as_slice());
-    assert_eq!(rt; (end, spares.pid()), (Some(End::Full), Some(5)));
-    assert_eq!(rt; spares.rows(), [5].as_slice());
+fn goes_step_by_step(rt: HostRuntime) {
+    for (rule, cases) in CHANGES {
+        assert_eq!(rt; gone(cases), cases.len(), "{rule}");
+    }
 }

@@ -1,130 +1,202 @@
 //! Limbo by hand: what the rule frees, and in which order.
 
-use bw_model::{Limits, OpenError};
+use bw_model::Limits;
 use epochs::{Item, Limbo, Reuse};
 use std::alloc::Global;
-use std::process::Abort;
-use std::test::Fail;
 
-/// With 64 PIDs and 256 rows.
-fn limbo(alloc: Global) -> Result<Limbo, Fail> {
-    let limits = Limits::new(2, 64, 256, 1)?;
-    Ok(Limbo::new(alloc, &limits)?)
+/// What is done with limbo, or what it shows then.
+#[derive(Clone, Copy)]
+enum Act<'a> {
+    Unlinks(&'a [Item]),
+    Stamps(u64),
+    MayFree(&'a [u64]),
+    HandsOn(Reuse),
+    HandsOnNothing,
+    Accepts(Item),
+    Refuses(Item),
+    IsEmpty(bool),
+    HasUnstamped(bool),
 }
 
-fn unlink(rt: &impl Abort, limbo: &mut Limbo, items: &[Item]) {
+/// Whether limbo does and shows what the act says.
+fn does(limbo: &mut Limbo, act: &Act<'_>) -> bool {
+    match act {
+        Act::Unlinks(items) => unlinks(limbo, items),
+        Act::Stamps(epoch) => stamps(limbo, *epoch),
+        Act::MayFree(announces) => may_free(limbo, announces),
+        Act::HandsOn(word) => limbo.next_word() == Some(*word),
+        Act::HandsOnNothing => limbo.next_word().is_none(),
+        Act::Accepts(item) => limbo.accepts(*item),
+        Act::Refuses(item) => !limbo.accepts(*item),
+        Act::IsEmpty(whether) => limbo.is_empty() == *whether,
+        Act::HasUnstamped(whether) => limbo.has_unstamped() == *whether,
+    }
+}
+
+/// The items come into limbo, as far as it accepts them; whether it accepts them all.
+fn unlinks(limbo: &mut Limbo, items: &[Item]) -> bool {
     for item in items {
-        assert!(rt; limbo.accepts(*item));
+        if !limbo.accepts(*item) {
+            return false;
+        }
         limbo.unlinked(*item);
     }
+    true
 }
 
-#[test]
-fn frees_by_what_all_others_announce(rt: HostRuntime) -> Result<(), Fail> {
-    let rows: [(&[u64], bool); 10] = [
-        (&[], true),
-        (&[0], true),
-        (&[4], false),
-        (&[5], false),
-        (&[6], true),
-        (&[0, 6, 0], true),
-        (&[5, 6], false),
-        (&[6, 5], false),
-        (&[0, 0, 5], false),
-        (&[0, 1 << 62], true),
-    ];
-    for (announces, free) in rows {
-        let mut limbo = limbo(rt.alloc())?;
-        unlink(&rt, &mut limbo, &[Item::Row(3)]);
-        limbo.stamped(5);
-        limbo.may_free(announces);
-        let reuse = if free { Some(Reuse::Rows(0, 8)) } else { None };
-        assert_eq!(rt; limbo.next_word(), reuse);
-        assert_eq!(rt; limbo.is_empty(), free);
+fn stamps(limbo: &mut Limbo, epoch: u64) -> bool {
+    limbo.stamped(epoch);
+    true
+}
+
+fn may_free(limbo: &mut Limbo, announces: &[u64]) -> bool {
+    limbo.may_free(announces);
+    true
+}
+
+/// How many of the acts limbo does as they say, from the first on, with 64 PIDs and 256 rows.
+fn done(alloc: Global, acts: &[Act<'_>]) -> usize {
+    let Ok(limits) = Limits::new(2, 64, 256, 1) else {
+        return 0;
+    };
+    let Ok(mut limbo) = Limbo::new(alloc, &limits) else {
+        return 0;
+    };
+    for (place, act) in acts.iter().enumerate() {
+        if !does(&mut limbo, act) {
+            return place;
+        }
     }
-    Ok(())
+    acts.len()
 }
 
-#[test]
-fn passes_the_last_epoch_by_0_alone(rt: HostRuntime) -> Result<(), Fail> {
-    let mut limbo = limbo(rt.alloc())?;
-    unlink(&rt, &mut limbo, &[Item::Pid(2)]);
-    limbo.stamped(1 << 62);
-    limbo.may_free(&[1 << 62]);
-    assert_eq!(rt; limbo.next_word(), None);
-    limbo.may_free(&[0]);
-    assert_eq!(rt; limbo.next_word(), Some(Reuse::Pids(0, 4)));
-    assert_eq!(rt; limbo.next_word(), None);
-    Ok(())
-}
+/// What all other actors announce, where a row has the stamp 5, and whether it is freed.
+const ANNOUNCED: &[(&[u64], bool)] = &[
+    (&[], true),
+    (&[0], true),
+    (&[4], false),
+    (&[5], false),
+    (&[6], true),
+    (&[0, 6, 0], true),
+    (&[5, 6], false),
+    (&[6, 5], false),
+    (&[0, 0, 5], false),
+    (&[0, 1 << 62], true),
+];
 
-#[test]
-fn hands_on_word_by_word(rt: HostRuntime) -> Result<(), Fail> {
-    let mut limbo = limbo(rt.alloc())?;
-    let items = [
-        Item::Pid(2),
-        Item::Row(130),
-        Item::Row(64),
-        Item::Row(5),
-        Item::Pid(63),
-        Item::Row(69),
-        Item::Row(255),
-        Item::Row(1),
+/// Whether the row is freed, or stays.
+fn decides(alloc: Global, announces: &[u64], free: bool) -> bool {
+    let next = if free {
+        Act::HandsOn(Reuse::Rows(0, 8))
+    } else {
+        Act::HandsOnNothing
+    };
+    let acts = [
+        Act::Unlinks(&[Item::Row(3)]),
+        Act::Stamps(5),
+        Act::MayFree(announces),
+        next,
+        Act::IsEmpty(free),
     ];
-    unlink(&rt, &mut limbo, items.as_slice());
-    limbo.stamped(1);
-    limbo.may_free(&[0, 2]);
-    let words = [
-        Reuse::Rows(0, 0x22),
-        Reuse::Rows(1, 0x21),
-        Reuse::Rows(2, 0x4),
-        Reuse::Rows(3, 0x8000000000000000),
-        Reuse::Pids(0, 0x8000000000000004),
-    ];
-    for word in words {
-        assert!(rt; !limbo.is_empty());
-        assert_eq!(rt; limbo.next_word(), Some(word));
-    }
-    assert!(rt; limbo.is_empty());
-    assert_eq!(rt; limbo.next_word(), None);
-    unlink(&rt, &mut limbo, items.as_slice());
-    Ok(())
+    done(alloc, &acts) == acts.len()
 }
 
 #[test]
-fn keeps_the_first_stamp(rt: HostRuntime) -> Result<(), Fail> {
-    let mut limbo = limbo(rt.alloc())?;
-    assert!(rt; !limbo.has_unstamped());
-    unlink(&rt, &mut limbo, &[Item::Row(1)]);
-    assert!(rt; limbo.has_unstamped());
-    limbo.stamped(3);
-    assert!(rt; !limbo.has_unstamped());
-    unlink(&rt, &mut limbo, &[Item::Row(2), Item::Pid(1)]);
-    limbo.may_free(&[0]);
-    assert!(rt; limbo.has_unstamped());
-    limbo.stamped(7);
-    limbo.may_free(&[5]);
-    assert_eq!(rt; limbo.next_word(), Some(Reuse::Rows(0, 2)));
-    assert_eq!(rt; limbo.next_word(), None);
-    limbo.may_free(&[8]);
-    limbo.may_free(&[7]);
-    assert_eq!(rt; limbo.next_word(), None);
-    limbo.may_free(&[8]);
-    assert_eq!(rt; limbo.next_word(), Some(Reuse::Rows(0, 4)));
-    assert_eq!(rt; limbo.next_word(), Some(Reuse::Pids(0, 2)));
-    assert!(rt; limbo.is_empty());
-    Ok(())
+fn frees_by_what_all_others_announce(rt: HostRuntime) {
+    for (announces, free) in ANNOUNCED {
+        assert!(rt; decides(rt.alloc(), announces, *free));
+    }
 }
 
+/// What limbo does, one act after another.
+const LIMBO: &[(&str, &[Act<'static>])] = &[
+    (
+        "passes the last epoch by 0 alone",
+        &[
+            Act::Unlinks(&[Item::Pid(2)]),
+            Act::Stamps(1 << 62),
+            Act::MayFree(&[1 << 62]),
+            Act::HandsOnNothing,
+            Act::MayFree(&[0]),
+            Act::HandsOn(Reuse::Pids(0, 4)),
+            Act::HandsOnNothing,
+        ],
+    ),
+    // The last act: what was handed on may come again.
+    (
+        "hands on word by word",
+        &[
+            Act::Unlinks(EIGHT),
+            Act::Stamps(1),
+            Act::MayFree(&[0, 2]),
+            Act::IsEmpty(false),
+            Act::HandsOn(Reuse::Rows(0, 0x22)),
+            Act::IsEmpty(false),
+            Act::HandsOn(Reuse::Rows(1, 0x21)),
+            Act::IsEmpty(false),
+            Act::HandsOn(Reuse::Rows(2, 0x4)),
+            Act::IsEmpty(false),
+            Act::HandsOn(Reuse::Rows(3, 0x8000000000000000)),
+            Act::IsEmpty(false),
+            Act::HandsOn(Reuse::Pids(0, 0x8000000000000004)),
+            Act::IsEmpty(true),
+            Act::HandsOnNothing,
+            Act::Unlinks(EIGHT),
+        ],
+    ),
+    (
+        "keeps the first stamp",
+        &[
+            Act::HasUnstamped(false),
+            Act::Unlinks(&[Item::Row(1)]),
+            Act::HasUnstamped(true),
+            Act::Stamps(3),
+            Act::HasUnstamped(false),
+            Act::Unlinks(&[Item::Row(2), Item::Pid(1)]),
+            Act::MayFree(&[0]),
+            Act::HasUnstamped(true),
+            Act::Stamps(7),
+            Act::MayFree(&[5]),
+            Act::HandsOn(Reuse::Rows(0, 2)),
+            Act::HandsOnNothing,
+            Act::MayFree(&[8]),
+            Act::MayFree(&[7]),
+            Act::HandsOnNothing,
+            Act::MayFree(&[8]),
+            Act::HandsOn(Reuse::Rows(0, 4)),
+            Act::HandsOn(Reuse::Pids(0, 2)),
+            Act::IsEmpty(true),
+        ],
+    ),
+    (
+        "accepts each number below the limit once",
+        &[
+            Act::Refuses(Item::Row(256)),
+            Act::Refuses(Item::Row(257)),
+            Act::Refuses(Item::Pid(64)),
+            Act::Refuses(Item::Pid(65)),
+            Act::Unlinks(&[Item::Row(255), Item::Pid(63)]),
+            Act::Refuses(Item::Row(255)),
+            Act::Refuses(Item::Pid(63)),
+            Act::Accepts(Item::Row(63)),
+        ],
+    ),
+];
+
 #[test]
-fn accepts_each_number_below_the_limit_once(rt: HostRuntime) -> Result<(), Fail> {
-    let mut limbo = limbo(rt.alloc())?;
-    for item in [Item::Row(256), Item::Row(257), Item::Pid(64), Item::Pid(65)] {
-        assert!(rt; !limbo.accepts(item));
+fn does_as_it_is_told(rt: HostRuntime) {
+    for (rule, acts) in LIMBO {
+        assert_eq!(rt; done(rt.alloc(), acts), acts.len(), "{rule}");
     }
-    unlink(&rt, &mut limbo, &[Item::Row(255), Item::Pid(63)]);
-    assert!(rt; !limbo.accepts(Item::Row(255)));
-    assert!(rt; !limbo.accepts(Item::Pid(63)));
-    assert!(rt; limbo.accepts(Item::Row(63)));
-    Ok(())
 }
+
+const EIGHT: &[Item] = &[
+    Item::Pid(2),
+    Item::Row(130),
+    Item::Row(64),
+    Item::Row(5),
+    Item::Pid(63),
+    Item::Row(69),
+    Item::Row(255),
+    Item::Row(1),
+];

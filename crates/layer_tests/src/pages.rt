@@ -40,52 +40,103 @@ fn filled() -> Page {
     page
 }
 
+fn finds(page: &Page, at: &[u8], text: &[u8]) -> bool {
+    page.find(&key(at)) == Some(&value(text))
+}
+
+/// The leaf with another value at `k12`.
+fn changed() -> Page {
+    with_value(filled(), b"k12", b"v12")
+}
+
 #[test]
 fn fills_a_leaf(rt: HostRuntime) {
-    let page = with_value(filled(), b"k12", b"v12");
-    assert_eq!(rt; page.items().len(), 16);
-    assert!(rt; page.has_room(8));
-    assert!(rt; !page.has_room(9));
-    assert_eq!(rt; page.find(&key(b"k12")), Some(&value(b"v12")));
+    let page = changed();
+    let room = [page.has_room(8), page.has_room(9)];
+    assert_eq!(rt; (page.items().len(), room), (16, [true, false]));
+}
+
+#[test]
+fn changes_a_value_and_takes_it_out(rt: HostRuntime) {
+    let page = changed();
+    let found = finds(&page, b"k12", b"v12");
     let page = page.without(&key(b"k12"));
-    assert_eq!(rt; page.find(&key(b"k12")), None);
+    assert_eq!(rt; [found, page.find(&key(b"k12")).is_none()], [true; 2]);
+}
+
+/// Whether the leaf was cut at `k09`, where page 2 begins.
+fn is_cut(lower: &Page, upper: &Page) -> bool {
+    let ninth = key(b"k09");
+    let ends = lower.high() == Some(&ninth) && lower.right() == Some(2);
+    ends && lower.items().len() == 8 && !lower.covers(&ninth) && upper.low() == &ninth
+}
+
+/// Whether the leaf is cut in its middle, and how many items it has and what its right is once its halves are joined.
+fn cut_and_joined() -> Option<(bool, usize, Option<u16>)> {
+    let page = filled();
+    if page.items().len() != 16 {
+        return None;
+    }
+    let (lower, upper) = page.cut_at(8, 2);
+    let cut = is_cut(&lower, &upper);
+    if !lower.has_room(upper.items().len()) {
+        return None;
+    }
+    let whole = lower.joined(&upper);
+    Some((cut, whole.items().len(), whole.right()))
 }
 
 #[test]
 fn cuts_and_joins_a_leaf(rt: HostRuntime) {
-    let page = filled();
-    if page.items().len() == 16 {
-        let (lower, upper) = page.cut_at(8, 2);
-        assert_eq!(rt; lower.items().len(), 8);
-        assert_eq!(rt; lower.high(), Some(&key(b"k09")));
-        assert_eq!(rt; lower.right(), Some(2));
-        assert!(rt; !lower.covers(&key(b"k09")));
-        assert_eq!(rt; upper.low(), &key(b"k09"));
-        if lower.has_room(upper.items().len()) {
-            let whole = lower.joined(&upper);
-            assert_eq!(rt; whole.items().len(), 16);
-            assert_eq!(rt; whole.right(), None);
-        }
-    }
+    assert_eq!(rt; cut_and_joined(), Some((true, 16, None)));
+}
+
+/// An index page with page 1 at the empty key and page 2 at `k09`.
+fn root() -> Page {
+    let empty = Page::new(1, Key::default(), None, None, Items::new());
+    with_term(with_term(empty, b"k09", 2), b"", 1)
+}
+
+fn child_of(page: &Page, at: &[u8]) -> Option<u16> {
+    page.child_of(&key(at))
+}
+
+fn child_below(page: &Page, at: &[u8]) -> Option<u16> {
+    page.child_below(&key(at))
 }
 
 #[test]
 fn finds_children_by_their_separators(rt: HostRuntime) {
-    let empty = Page::new(1, Key::default(), None, None, Items::new());
-    let root = with_term(with_term(empty, b"k09", 2), b"", 1);
-    assert_eq!(rt; root.child_of(&key(b"")), Some(1));
-    assert_eq!(rt; root.child_of(&key(b"k08")), Some(1));
-    assert_eq!(rt; root.child_of(&key(b"k09")), Some(2));
-    assert_eq!(rt; root.child_of(&key(b"k17")), Some(2));
-    assert_eq!(rt; root.child_below(&key(b"k09")), Some(1));
-    assert_eq!(rt; root.child_below(&key(b"")), None);
-    assert_eq!(rt; root.find(&key(b"k09")), None);
-    let held = root.with_held(&key(b"k09"));
+    let root = root();
+    let children = [
+        child_of(&root, b""),
+        child_of(&root, b"k08"),
+        child_of(&root, b"k09"),
+        child_of(&root, b"k17"),
+        child_below(&root, b"k09"),
+        child_below(&root, b""),
+    ];
+    assert_eq!(rt;
+        children,
+        [Some(1), Some(1), Some(2), Some(2), Some(1), None]
+    );
+}
+
+/// Whether page 2 is held at `k09`, and page 1 is found at the empty key.
+fn is_held(page: &Page) -> bool {
     let term = Content::Child {
         page: 2,
         held: true,
     };
-    assert_eq!(rt; held.content(&key(b"k09")), Some(&term));
-    assert_eq!(rt; held.items().child_at(&key(b"")), Some(1));
-    assert!(rt; held.with_removed().is_removed());
+    page.content(&key(b"k09")) == Some(&term) && page.items().child_at(&key(b"")) == Some(1)
+}
+
+#[test]
+fn holds_a_child_and_is_removed(rt: HostRuntime) {
+    let root = root();
+    let bare = root.find(&key(b"k09")).is_none();
+    let held = root.with_held(&key(b"k09"));
+    let is_held = is_held(&held);
+    let removed = held.with_removed().is_removed();
+    assert_eq!(rt; [bare, is_held, removed], [true; 3]);
 }

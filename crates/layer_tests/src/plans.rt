@@ -67,21 +67,25 @@ pub(crate) fn version(pid: u16, deltas: usize, page: Page) -> Version
     }
 }
 
-/// Whether a leaf with so many items under so many deltas is split, and where.
-fn splits(items: u8, deltas: usize) -> Option<Key>
-    requires few { deltas ≤ 12 }
-{
-    let page = version(2, deltas, leaf(key(b"k"), items));
-    plan_split(&page).map(|plan| plan.upper.low().copied())
+/// Items and deltas of a leaf, and whether it is split at its eighth item; none where it isn't split.
+const SPLIT: [(u8, usize, Option<bool>); 5] = [
+    (15, 0, None),
+    (16, 0, Some(true)),
+    (17, 0, Some(true)),
+    (16, 7, Some(true)),
+    (16, 8, None),
+];
+
+fn splits(items: u8, deltas: usize) -> Option<bool> {
+    let page = version(2, deltas.min(12), leaf(key(b"k"), items));
+    plan_split(&page).map(|plan| plan.upper.low() == &key(&[b'x', 8]))
 }
 
 #[test]
 fn splits_a_page_of_sixteen(rt: HostRuntime) {
-    assert_eq!(rt; splits(15, 0), None);
-    assert_eq!(rt; splits(16, 0), Some(key(&[b'x', 8])));
-    assert_eq!(rt; splits(17, 0), Some(key(&[b'x', 8])));
-    assert_eq!(rt; splits(16, 7), Some(key(&[b'x', 8])));
-    assert_eq!(rt; splits(16, 8), None);
+    for (items, deltas, split) in SPLIT {
+        assert_eq!(rt; splits(items, deltas), split);
+    }
 }
 
 /// An index page that has page 1 at the empty key.
@@ -151,32 +155,50 @@ pub(crate) fn parent(chain: Chain) -> Version
 fn posts_a_term_once(rt: HostRuntime) {
     let page = version(2, 0, leaf(key(b"k09"), 3));
     let term = plan_term(&parent(bare()), &page);
-    assert_eq!(rt;
-        term.map(|term| (term.level, term.next, term.child)),
-        Some((1, 8, 2))
-    );
-    assert!(rt; plan_term(&parent(termed()), &page).is_none());
+    let again = plan_term(&parent(termed()), &page).is_some();
+    let named = term.map(|term| (term.level, term.next, term.child));
+    assert_eq!(rt; (named, again), (Some((1, 8, 2)), false));
+}
+
+/// Whether the parent's term of the page may be held, if the page begins at the key.
+fn may_be_held(parent: &Version, pid: u16, low: &[u8]) -> bool
+    requires alive { is_removed parent.now.chain ≡ false }
+    requires pid { IsPid pid }
+    requires low { length low.now ≤ 32 }
+{
+    plan_hold(parent, &version(pid, 0, leaf(key(low), 3))).is_some()
 }
 
 #[test]
 fn holds_a_free_term_that_is_not_the_first(rt: HostRuntime) {
-    let page = version(2, 0, leaf(key(b"k09"), 3));
-    let first = version(1, 0, leaf(Key::default(), 3));
-    let other = version(3, 0, leaf(key(b"k09"), 3));
-    assert!(rt; plan_hold(&parent(termed()), &page).is_some());
-    assert!(rt; plan_hold(&parent(termed()), &first).is_none());
-    assert!(rt; plan_hold(&parent(termed()), &other).is_none());
-    assert!(rt; plan_hold(&parent(held()), &page).is_none());
+    let termed = parent(termed());
+    let held = [
+        may_be_held(&termed, 2, b"k09"),
+        may_be_held(&termed, 1, b""),
+        may_be_held(&termed, 3, b"k09"),
+        may_be_held(&parent(held()), 2, b"k09"),
+    ];
+    assert_eq!(rt; held, [true, false, false, false]);
+}
+
+/// Whether a leaf of so many items under so many deltas may be removed, below a parent that holds the term of page 2 there.
+fn removes(pid: u16, items: u8, deltas: usize) -> bool
+    requires pid { IsPid pid }
+{
+    let page = version(pid, deltas.min(12), leaf(key(b"k09"), items));
+    plan_remove(&parent(held()), &page).is_some()
 }
 
 #[test]
 fn removes_a_page_of_four(rt: HostRuntime) {
-    let parent = parent(held());
-    assert!(rt; plan_remove(&parent, &version(2, 0, leaf(key(b"k09"), 4))).is_some());
-    assert!(rt; plan_remove(&parent, &version(2, 0, leaf(key(b"k09"), 5))).is_none());
-    assert!(rt; plan_remove(&parent, &version(2, 7, leaf(key(b"k09"), 4))).is_some());
-    assert!(rt; plan_remove(&parent, &version(2, 8, leaf(key(b"k09"), 4))).is_none());
-    assert!(rt; plan_remove(&parent, &version(3, 0, leaf(key(b"k09"), 4))).is_none());
+    let given = [
+        removes(2, 4, 0),
+        removes(2, 5, 0),
+        removes(2, 4, 7),
+        removes(2, 4, 8),
+        removes(3, 4, 0),
+    ];
+    assert_eq!(rt; given, [true, false, true, false, false]);
 }
 
 #[test]

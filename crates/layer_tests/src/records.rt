@@ -21,26 +21,47 @@ fn with_put(page: Page, at: &[u8], text: &[u8]) -> Page {
     }
 }
 
-#[test]
-fn puts_and_deletes_in_a_leaf(rt: HostRuntime) {
-    let page = with_put(Page::empty_leaf(), b"a", b"1");
-    assert_eq!(rt; page.find(&key(b"a")), Some(&value(b"1")));
-    let page = with_put(with_put(page, b"b", b"2"), b"a", b"3");
-    assert_eq!(rt; page.find(&key(b"a")), Some(&value(b"3")));
-    assert_eq!(rt; page.items().len(), 2);
-    let delete = Delete {
-        next: 2,
-        key: key(b"a"),
-    };
-    if page.level() == 0 && !page.is_removed() && page.covers(&delete.key) {
-        let page = apply(page, &Record::Delete(delete));
-        assert_eq!(rt; page.find(&key(b"a")), None);
-        assert_eq!(rt; page.find(&key(b"b")), Some(&value(b"2")));
+/// The page without the key, by a delete, where the delete fits.
+fn deleted(page: Page, at: &[u8]) -> Page {
+    let key = key(at);
+    if page.level() == 0 && !page.is_removed() && page.covers(&key) {
+        return apply(page, &Record::Delete(Delete { next: 2, key }));
+    }
+    page
+}
+
+/// Whether the page has this value at the key, or none.
+fn finds(page: &Page, at: &[u8], text: Option<&[u8]>) -> bool {
+    match (page.find(&key(at)), text) {
+        (None, None) => true,
+        (Some(value), Some(text)) => value.as_slice() == text,
+        _ => false,
     }
 }
 
+/// An empty leaf that got `a`, `b`, and `a` again.
+fn put_thrice() -> Page {
+    let page = with_put(Page::empty_leaf(), b"a", b"1");
+    with_put(with_put(page, b"b", b"2"), b"a", b"3")
+}
+
 #[test]
-fn splits_and_removes_a_leaf(rt: HostRuntime) {
+fn puts_in_a_leaf(rt: HostRuntime) {
+    let first = finds(&with_put(Page::empty_leaf(), b"a", b"1"), b"a", Some(b"1"));
+    let page = put_thrice();
+    let both = [finds(&page, b"a", Some(b"3")), page.items().len() == 2];
+    assert_eq!(rt; (first, both), (true, [true; 2]));
+}
+
+#[test]
+fn deletes_in_a_leaf(rt: HostRuntime) {
+    let page = deleted(put_thrice(), b"a");
+    let found = [finds(&page, b"a", None), finds(&page, b"b", Some(b"2"))];
+    assert_eq!(rt; found, [true; 2]);
+}
+
+/// The lower part of a leaf from `k05` on with two keys, once it was split at `k09`.
+fn split_leaf() -> Option<Page> {
     let page = Page::new(0, key(b"k05"), None, None, Items::new());
     let page = with_put(with_put(page, b"k08", b"v"), b"k09", b"v");
     let split = Split {
@@ -51,44 +72,86 @@ fn splits_and_removes_a_leaf(rt: HostRuntime) {
     };
     let inner = page.low().cmp(&split.separator).is_lt() && page.covers(&split.separator);
     if inner && page.level() == 0 && !page.is_removed() {
-        let page = apply(page, &Record::Split(split));
-        assert_eq!(rt; page.find(&key(b"k08")), Some(&value(b"v")));
-        assert_eq!(rt; page.find(&key(b"k09")), None);
-        assert_eq!(rt; page.high(), Some(&key(b"k09")));
-        assert_eq!(rt; page.right(), Some(2));
-        let inner = Key::default().cmp(page.low()).is_lt();
-        if inner && page.items().len() <= 4 && page.level() == 0 && !page.is_removed() {
-            let remove = Record::Remove(Remove { level: 0, next: 12 });
-            let page = apply(page, &remove);
-            assert!(rt; page.is_removed());
-            assert_eq!(rt; page.items().len(), 1);
-        }
+        return Some(apply(page, &Record::Split(split)));
     }
+    None
+}
+
+/// Whether the page has the lower key alone, and ends at `k09`, where page 2 begins.
+fn is_lower(page: &Page) -> bool {
+    let ends = page.high() == Some(&key(b"k09")) && page.right() == Some(2);
+    ends && finds(page, b"k08", Some(b"v")) && finds(page, b"k09", None)
 }
 
 #[test]
-fn says_what_a_merge_brings(rt: HostRuntime) {
-    let mut items = Items::new();
-    if items.is_empty() {
-        items.put(key(b"k10"), Content::Value(value(b"v10")));
+fn splits_a_leaf(rt: HostRuntime) {
+    assert_eq!(rt; split_leaf().map(|page| is_lower(&page)), Some(true));
+}
+
+/// Whether the page is removed by a record, and how many items it has then.
+fn removed(page: Page) -> Option<(bool, usize)> {
+    let inner = Key::default().cmp(page.low()).is_lt();
+    if inner && page.items().len() <= 4 && page.level() == 0 && !page.is_removed() {
+        let remove = Record::Remove(Remove { level: 0, next: 12 });
+        let page = apply(page, &remove);
+        return Some((page.is_removed(), page.items().len()));
     }
-    let merge = Record::Merge(Merge {
+    None
+}
+
+#[test]
+fn removes_a_leaf(rt: HostRuntime) {
+    assert_eq!(rt; split_leaf().and_then(removed), Some((true, 1)));
+}
+
+/// What a leaf from `k09` to `k17`, with one item, brings to its left page.
+fn merge() -> Record {
+    let mut items = Items::new();
+    items.put(key(b"k10"), Content::Value(value(b"v10")));
+    Record::Merge(Merge {
         level: 0,
         next: 7,
         low: key(b"k09"),
         high: Some(key(b"k17")),
         right: Some(5),
         items,
-    });
-    assert!(rt; merge.names(&key(b"k09")));
-    assert!(rt; merge.names(&key(b"k16")));
-    assert!(rt; !merge.names(&key(b"k17")));
-    assert!(rt; !merge.names(&key(b"k08")));
-    assert_eq!(rt; merge.content_said(&key(b"k09")), None);
-    assert_eq!(rt;
-        merge.content_said(&key(b"k10")),
-        Some(Content::Value(value(b"v10")))
-    );
-    assert_eq!(rt; merge.next(), Some(7));
-    assert_eq!(rt; merge.link(), Link::Merge);
+    })
+}
+
+fn names(record: &Record, at: &[u8]) -> bool {
+    record.names(&key(at))
+}
+
+/// Whether the record says this value of the key, or that it is absent.
+fn says(record: &Record, at: &[u8], text: Option<&[u8]>) -> bool {
+    let content = text.map(|text| Content::Value(value(text)));
+    record.content_said(&key(at)) == content
+}
+
+#[test]
+fn names_the_keys_of_a_merge(rt: HostRuntime) {
+    let merge = merge();
+    let named = [
+        names(&merge, b"k08"),
+        names(&merge, b"k09"),
+        names(&merge, b"k16"),
+        names(&merge, b"k17"),
+    ];
+    assert_eq!(rt; named, [false, true, true, false]);
+}
+
+#[test]
+fn says_what_a_merge_brings(rt: HostRuntime) {
+    let merge = merge();
+    let said = [
+        says(&merge, b"k09", None),
+        says(&merge, b"k10", Some(b"v10")),
+    ];
+    assert_eq!(rt; said, [true; 2]);
+}
+
+#[test]
+fn shows_how_a_merge_is_linked(rt: HostRuntime) {
+    let merge = merge();
+    assert_eq!(rt; (merge.next(), merge.link()), (Some(7), Link::Merge));
 }

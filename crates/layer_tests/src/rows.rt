@@ -1,13 +1,15 @@
 //! Rows by hand: one of each kind, rows that spell nothing, and each bit of a row turned over.
 
-use crate::texts::key;
+use crate::texts::{key, value};
 use base_page::Page;
-use bw_model::{Key, Value};
 use deltas::{Hold, Put, Record, Split};
 use record_slots::{BadRow, from_words, to_words};
 
-/// The row that has these words at these places.
-fn row(words: &[(usize, u64)]) -> [u64; 256] {
+/// The words of a row by their places; the others are 0.
+type Words = &'static [(usize, u64)];
+
+/// The row that has these words.
+fn row(words: Words) -> [u64; 256] {
     let mut row = [0; 256];
     for (place, word) in words {
         if *place < 256 {
@@ -18,86 +20,70 @@ fn row(words: &[(usize, u64)]) -> [u64; 256] {
 }
 
 /// The opening leaf.
-fn opening() -> [u64; 256] {
-    row(&[(0, 0x1), (8, 255)])
-}
+const OPENING: Words = &[(0, 0x1), (8, 255)];
 
 /// `a` has `1`, over row 1.
-fn put() -> [u64; 256] {
-    row(&[
-        (0, 0x10002),
-        (1, 1),
-        (13, 1),
-        (14, 0x6100000000000000),
-        (18, 1),
-        (19, 0x3100000000000000),
-    ])
-}
-
-/// A leaf is split at `k09`, with page 2 to the right, over row 11.
-fn split() -> [u64; 256] {
-    row(&[(0, 0x4), (1, 11), (2, 2), (3, 3), (4, 0x6b30390000000000)])
-}
-
-/// The term of `k09` and child 2 is held, over row 5.
-fn hold() -> [u64; 256] {
-    row(&[(0, 0x106), (1, 5), (2, 2), (3, 3), (4, 0x6b30390000000000)])
-}
+const PUT: Words = &[
+    (0, 0x10002),
+    (1, 1),
+    (13, 1),
+    (14, 0x6100000000000000),
+    (18, 1),
+    (19, 0x3100000000000000),
+];
 
 /// `k09` is absent, over row 7.
-fn delete() -> [u64; 256] {
-    row(&[(0, 0x3), (1, 7), (3, 3), (4, 0x6b30390000000000)])
-}
+const DELETE: Words = &[(0, 0x3), (1, 7), (3, 3), (4, 0x6b30390000000000)];
+
+/// A leaf is split at `k09`, with page 2 to the right, over row 11.
+const SPLIT: Words = &[(0, 0x4), (1, 11), (2, 2), (3, 3), (4, 0x6b30390000000000)];
 
 /// The term of `k09` and child 2 is added on level 15, over row 16383.
-fn term() -> [u64; 256] {
-    row(&[
-        (0, 0xf05),
-        (1, 16383),
-        (2, 2),
-        (3, 3),
-        (4, 0x6b30390000000000),
-    ])
-}
+const TERM: Words = &[
+    (0, 0xf05),
+    (1, 16383),
+    (2, 2),
+    (3, 3),
+    (4, 0x6b30390000000000),
+];
+
+/// The term of `k09` and child 2 is held, over row 5.
+const HOLD: Words = &[(0, 0x106), (1, 5), (2, 2), (3, 3), (4, 0x6b30390000000000)];
 
 /// A page of level 1 is removed, over row 9.
-fn remove() -> [u64; 256] {
-    row(&[(0, 0x107), (1, 9)])
-}
+const REMOVE: Words = &[(0, 0x107), (1, 9)];
 
 /// The leaf from `k09` up to `l`, with page 4095 to its right and one item, comes to its left page, over row 3.
-fn merge() -> [u64; 256] {
-    row(&[
-        (0, 0x10008),
-        (1, 3),
-        (2, 4095),
-        (3, 3),
-        (4, 0x6b30390000000000),
-        (8, 1),
-        (9, 0x6c00000000000000),
-        (13, 9),
-        (14, 0x6b30396162636465),
-        (15, 0x6600000000000000),
-        (18, 0),
-    ])
-}
+const MERGE: Words = &[
+    (0, 0x10008),
+    (1, 3),
+    (2, 4095),
+    (3, 3),
+    (4, 0x6b30390000000000),
+    (8, 1),
+    (9, 0x6c00000000000000),
+    (13, 9),
+    (14, 0x6b30396162636465),
+    (15, 0x6600000000000000),
+    (18, 0),
+];
 
 /// The term of `k09` and child 2 goes, over row 4.
-fn unterm() -> [u64; 256] {
-    row(&[(0, 0x109), (1, 4), (2, 2), (3, 3), (4, 0x6b30390000000000)])
-}
+const UNTERM: Words = &[(0, 0x109), (1, 4), (2, 2), (3, 3), (4, 0x6b30390000000000)];
 
 /// An index page over all keys, with child 1 at the empty key and child 2, which is held, at `k09`.
-fn index() -> [u64; 256] {
-    row(&[
-        (0, 0x20101),
-        (8, 255),
-        (18, 1),
-        (23, 0x103),
-        (24, 0x6b30390000000000),
-        (28, 2),
-    ])
-}
+const INDEX: Words = &[
+    (0, 0x20101),
+    (8, 255),
+    (18, 1),
+    (23, 0x103),
+    (24, 0x6b30390000000000),
+    (28, 2),
+];
+
+const EACH_KIND: [Words; 10] = [
+    OPENING, INDEX, PUT, DELETE, SPLIT, TERM, HOLD, REMOVE, MERGE, UNTERM,
+];
 
 /// Whether the words spell a record, whose words they are.
 fn is_spelled(words: &[u64; 256]) -> bool {
@@ -110,15 +96,6 @@ fn is_spelled(words: &[u64; 256]) -> bool {
 /// Whether the words spell nothing.
 fn is_refused(words: &[u64; 256]) -> bool {
     matches!(from_words(words), Err(BadRow))
-}
-
-/// The row with another word at a place.
-fn with(row: [u64; 256], place: usize, word: u64) -> [u64; 256] {
-    let mut row = row;
-    if place < 256 {
-        row[place] = word;
-    }
-    row
 }
 
 /// How many of the rows with one bit turned over spell a record, all of which have to be its own words.
@@ -140,61 +117,83 @@ fn spelled_by_one_bit(words: &[u64; 256]) -> Option<u32> {
     Some(spelled)
 }
 
+/// Whether the row is the record's.
+fn writes(content: &Record, words: Words) -> bool {
+    to_words(content) == row(words)
+}
+
 #[test]
-fn writes_the_rows_of_records(rt: HostRuntime) {
+fn writes_the_rows_of_a_leaf_and_a_put(rt: HostRuntime) {
     let leaf = Record::Base(Page::empty_leaf());
-    assert!(rt; to_words(&leaf) == opening());
-    let change = Record::Put(Put {
+    let put = Record::Put(Put {
         next: 1,
         key: key(b"a"),
-        value: Value::from_slice(b"1").unwrap_or_default(),
+        value: value(b"1"),
     });
-    assert!(rt; to_words(&change) == put());
-    let cut = Record::Split(Split {
+    assert_eq!(rt; [writes(&leaf, OPENING), writes(&put, PUT)], [true; 2]);
+}
+
+#[test]
+fn writes_the_rows_of_a_split_and_a_hold(rt: HostRuntime) {
+    let split = Record::Split(Split {
         level: 0,
         next: 11,
         separator: key(b"k09"),
         page: 2,
     });
-    assert!(rt; to_words(&cut) == split());
-    let mark = Record::Hold(Hold {
+    let hold = Record::Hold(Hold {
         level: 1,
         next: 5,
         separator: key(b"k09"),
         child: 2,
     });
-    assert!(rt; to_words(&mark) == hold());
+    assert_eq!(rt; [writes(&split, SPLIT), writes(&hold, HOLD)], [true; 2]);
 }
 
 #[test]
 fn reads_a_row_of_each_kind(rt: HostRuntime) {
-    assert!(rt; is_spelled(&opening()));
-    assert!(rt; is_spelled(&index()));
-    assert!(rt; is_spelled(&put()));
-    assert!(rt; is_spelled(&delete()));
-    assert!(rt; is_spelled(&split()));
-    assert!(rt; is_spelled(&term()));
-    assert!(rt; is_spelled(&hold()));
-    assert!(rt; is_spelled(&remove()));
-    assert!(rt; is_spelled(&merge()));
-    assert!(rt; is_spelled(&unterm()));
+    for words in EACH_KIND {
+        assert!(rt; is_spelled(&row(words)));
+    }
+}
+
+/// Rows with one word changed, so that they spell nothing.
+const SPOILT: &[(Words, usize, u64)] = &[
+    (PUT, 15, 1),
+    (PUT, 0, 0x10102),
+    (PUT, 1, 0),
+    (INDEX, 18, 4096),
+    (INDEX, 13, 0x100),
+];
+
+/// The row with another word at a place.
+fn with(words: Words, place: usize, word: u64) -> [u64; 256] {
+    let mut row = row(words);
+    if place < 256 {
+        row[place] = word;
+    }
+    row
 }
 
 #[test]
 fn refuses_rows_that_spell_nothing(rt: HostRuntime) {
-    assert!(rt; is_refused(&with(put(), 15, 1)));
-    assert!(rt; is_refused(&with(put(), 0, 0x10102)));
-    assert!(rt; is_refused(&with(put(), 1, 0)));
-    assert!(rt; is_refused(&[0; 256]));
-    assert!(rt; is_refused(&[u64::MAX; 256]));
-    assert!(rt; is_refused(&with(index(), 18, 4096)));
-    assert!(rt; is_refused(&with(index(), 13, 0x100)));
+    for (words, place, word) in SPOILT {
+        assert!(rt; is_refused(&with(words, *place, *word)));
+    }
 }
 
 #[test]
+fn refuses_rows_of_one_word(rt: HostRuntime) {
+    let refused = [is_refused(&[0; 256]), is_refused(&[u64::MAX; 256])];
+    assert_eq!(rt; refused, [true; 2]);
+}
+
+/// How many of the rows that differ in one bit spell a record.
+const TURNED: &[(Words, u32)] = &[(OPENING, 7), (PUT, 37), (SPLIT, 56), (HOLD, 56)];
+
+#[test]
 fn each_bit_of_a_row_counts(rt: HostRuntime) {
-    assert_eq!(rt; spelled_by_one_bit(&opening()), Some(7));
-    assert_eq!(rt; spelled_by_one_bit(&put()), Some(37));
-    assert_eq!(rt; spelled_by_one_bit(&split()), Some(56));
-    assert_eq!(rt; spelled_by_one_bit(&hold()), Some(56));
+    for (words, spelled) in TURNED {
+        assert_eq!(rt; spelled_by_one_bit(&row(words)), Some(*spelled));
+    }
 }

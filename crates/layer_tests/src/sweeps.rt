@@ -6,14 +6,20 @@ ghost use Rattle.chain_search.specs.Knowledge.{nothing};
 ghost use Rattle.sweep.specs.Kept.{IsLimboOf, empty_limbo};
 ghost use Rattle.sweep.specs.Sweeps.{IsOfSweep};
 
-use arrayvec::ArrayVec;
+use arrayvec::ArrayString;
 use bw_model::{Answer, Limits, Step};
 use deltas::Record;
 use epochs::{Item, Limbo};
 use std::alloc::Global;
-use std::process::Abort;
-use std::test::Fail;
+use std::fmt::Write;
 use sweep::{Sweep, take_out};
+
+/// A sweep: the items that are unlinked before it, the epoch, what the actors announce, its steps, and whether limbo is empty
+/// after it.
+type Case = (&'static [Item], u64, &'static [u64], &'static str, bool);
+
+/// The steps of a sweep: `a1` reads what actor 1 announces, `rows 0:8` frees the bits 8 (hexadecimal) of word 0 of the rows.
+type Log = ArrayString<256>;
 
 /// The answer to a step of a sweep, where this is the epoch, and the actors announce these.
 fn told(epoch: u64, announced: &[u64], step: &Step<Record>) -> Answer<Record>
@@ -34,39 +40,33 @@ fn told(epoch: u64, announced: &[u64], step: &Step<Record>) -> Answer<Record>
     }
 }
 
-/// What a step is and which numbers it names.
-fn shown(step: &Step<Record>) -> (char, u64, u64) {
-    match step {
-        Step::Epoch => ('e', 0, 0),
-        Step::Retire(epoch) => ('t', *epoch, 0),
-        Step::Announce(other) => ('a', u64::from(*other), 0),
-        Step::ReuseRows(word, bits) => ('r', u64::from(*word), *bits),
-        Step::ReusePids(word, bits) => ('p', u64::from(*word), *bits),
-        _ => ('?', 0, 0),
-    }
+/// Adds a step to the log.
+fn show(log: &mut Log, step: &Step<Record>) {
+    let _ = match step {
+        Step::Epoch => write!(log, "epoch "),
+        Step::Retire(epoch) => write!(log, "retire {epoch} "),
+        Step::Announce(other) => write!(log, "a{other} "),
+        Step::ReuseRows(word, bits) => write!(log, "rows {word}:{bits:x} "),
+        Step::ReusePids(word, bits) => write!(log, "pids {word}:{bits:x} "),
+        _ => write!(log, "? "),
+    };
 }
 
 /// The steps of a sweep.
-fn drive(
-    limits: &Limits,
-    actor: u8,
-    limbo: &mut Limbo,
-    epoch: u64,
-    announced: &[u64],
-) -> ArrayVec<(char, u64, u64), 24>
+fn drive(limits: &Limits, actor: u8, limbo: &mut Limbo, epoch: u64, announced: &[u64]) -> Log
     requires actor { actor < limits.now.actors }
     requires lists { IsLimboOf limits.now limbo.old }
     requires some { 0 < epoch }
     requires small { epoch ≤ 2 ^ 62 }
     ensures lists { IsLimboOf limits.now limbo.new }
 {
-    let mut log = ArrayVec::new();
+    let mut log = ArrayString::new();
     let Some(mut sweep) = Sweep::begin(limits, actor, limbo) else {
         return log;
     };
     for _ in 0..24 {
         let step = sweep.step();
-        let _ = log.try_push(shown(&step));
+        show(&mut log, &step);
         if !sweep.next(limbo, &told(epoch, announced, &step)) {
             return log;
         }
@@ -74,119 +74,147 @@ fn drive(
     log
 }
 
-/// These items are unlinked.
-fn unlink(rt: &impl Abort, limits: &Limits, limbo: &mut Limbo, items: &[Item])
+/// The items are unlinked, if limbo accepts them all.
+fn unlink(limits: &Limits, limbo: &mut Limbo, items: &[Item]) -> bool
     requires { IsLimboOf limits.now limbo.old }
     ensures { IsLimboOf limits.now limbo.new }
 {
     let _ = limits;
     for item in items {
-        assert!(rt; limbo.accepts(*item));
+        if !limbo.accepts(*item) {
+            return false;
+        }
         limbo.unlinked(*item);
     }
+    true
 }
 
-#[test]
-fn frees_a_row_that_the_other_actor_has_passed(rt: HostRuntime) -> Result<(), Fail> {
-    let limits = Limits::new(2, 64, 256, 1)?;
-    let mut limbo = Limbo::new(rt.alloc(), &limits)?;
-    unlink(&rt, &limits, &mut limbo, &[Item::Row(3)]);
-    let log = drive(&limits, 0, &mut limbo, 1, &[1, 0]);
-    let steps = [('e', 0, 0), ('t', 1, 0), ('a', 1, 0), ('r', 0, 8)];
-    assert_eq!(rt; log.as_slice(), steps.as_slice());
-    assert!(rt; limbo.is_empty());
-    Ok(())
-}
-
-#[test]
-fn retires_no_last_epoch(rt: HostRuntime) -> Result<(), Fail> {
-    let limits = Limits::new(2, 64, 256, 1)?;
-    let mut limbo = Limbo::new(rt.alloc(), &limits)?;
-    unlink(&rt, &limits, &mut limbo, &[Item::Row(3)]);
-    let log = drive(&limits, 1, &mut limbo, 1 << 62, &[0, 0]);
-    let steps = [('e', 0, 0), ('a', 0, 0), ('r', 0, 8)];
-    assert_eq!(rt; log.as_slice(), steps.as_slice());
-    assert!(rt; limbo.is_empty());
-    Ok(())
-}
-
-#[test]
-fn reads_nobody_where_there_is_no_other_actor(rt: HostRuntime) -> Result<(), Fail> {
-    let limits = Limits::new(1, 64, 256, 1)?;
-    let mut limbo = Limbo::new(rt.alloc(), &limits)?;
-    assert!(rt; drive(&limits, 0, &mut limbo, 5, &[]).is_empty());
-    unlink(&rt, &limits, &mut limbo, &[Item::Pid(2)]);
-    let log = drive(&limits, 0, &mut limbo, 5, &[]);
-    let steps = [('e', 0, 0), ('t', 5, 0), ('p', 0, 4)];
-    assert_eq!(rt; log.as_slice(), steps.as_slice());
-    assert!(rt; limbo.is_empty());
-    Ok(())
-}
-
-#[test]
-fn reads_each_of_sixteen_actors_but_its_own(rt: HostRuntime) -> Result<(), Fail> {
-    let limits = Limits::new(16, 64, 256, 1)?;
-    let mut limbo = Limbo::new(rt.alloc(), &limits)?;
-    unlink(&rt, &limits, &mut limbo, &[Item::Row(64)]);
-    let log = drive(&limits, 7, &mut limbo, 4, &[0, 5, 0, 6, 0, 0, 7, 1]);
-    assert_eq!(rt; log.len(), 18);
-    for (place, step) in log.as_slice().iter().enumerate() {
-        let wanted = match place {
-            0 => ('e', 0, 0),
-            1 => ('t', 4, 0),
-            17 => ('r', 1, 1),
-            _ if place < 9 => ('a', place as u64 - 2, 0),
-            _ => ('a', place as u64 - 1, 0),
-        };
-        assert_eq!(rt; *step, wanted);
+/// Whether the sweep goes as the case says.
+fn goes(limits: &Limits, actor: u8, limbo: &mut Limbo, case: &Case) -> bool
+    requires actor { actor < limits.now.actors }
+    requires lists { IsLimboOf limits.now limbo.old }
+    ensures lists { IsLimboOf limits.now limbo.new }
+{
+    let (unlinked, epoch, announced, steps, empty) = *case;
+    if epoch == 0 || epoch > 1 << 62 || !unlink(limits, limbo, unlinked) {
+        return false;
     }
-    assert!(rt; limbo.is_empty());
-    Ok(())
+    let log = drive(limits, actor, limbo, epoch, announced);
+    log.as_str().trim_end() == steps && limbo.is_empty() == empty
 }
 
-#[test]
-fn frees_later_what_an_actor_may_hold(rt: HostRuntime) -> Result<(), Fail> {
-    let limits = Limits::new(3, 64, 256, 1)?;
-    let mut limbo = Limbo::new(rt.alloc(), &limits)?;
-    unlink(&rt, &limits, &mut limbo, &[Item::Row(3)]);
-    let log = drive(&limits, 1, &mut limbo, 1, &[0, 0, 1]);
-    let steps = [('e', 0, 0), ('t', 1, 0), ('a', 0, 0), ('a', 2, 0)];
-    assert_eq!(rt; log.as_slice(), steps.as_slice());
-    let log = drive(&limits, 1, &mut limbo, 2, &[1, 0, 0]);
-    let steps = [('a', 0, 0), ('a', 2, 0)];
-    assert_eq!(rt; log.as_slice(), steps.as_slice());
-    unlink(&rt, &limits, &mut limbo, &[Item::Row(4)]);
-    let log = drive(&limits, 1, &mut limbo, 2, &[2, 0, 0]);
-    let steps = [
-        ('e', 0, 0),
-        ('t', 2, 0),
-        ('a', 0, 0),
-        ('a', 2, 0),
-        ('r', 0, 8),
-    ];
-    assert_eq!(rt; log.as_slice(), steps.as_slice());
-    assert!(rt; !limbo.is_empty());
-    Ok(())
+/// How many of the sweeps go as they say, from the first on, with these limits.
+fn gone(limits: &Limits, actor: u8, limbo: &mut Limbo, cases: &[Case]) -> usize
+    requires actor { actor < limits.now.actors }
+    requires lists { IsLimboOf limits.now limbo.old }
+{
+    for (place, case) in cases.iter().enumerate() {
+        if !goes(limits, actor, limbo, case) {
+            return place;
+        }
+    }
+    cases.len()
 }
 
+/// How many of an actor's sweeps go as they say, from the first on, of so many actors.
+fn swept(alloc: Global, actors: u64, actor: u8, cases: &[Case]) -> usize {
+    let Ok(limits) = Limits::new(actors, 64, 256, 1) else {
+        return 0;
+    };
+    let Ok(mut limbo) = Limbo::new(alloc, &limits) else {
+        return 0;
+    };
+    if u64::from(actor) >= actors {
+        return 0;
+    }
+    gone(&limits, actor, &mut limbo, cases)
+}
+
+/// Of how many actors which one sweeps, one sweep after another.
+const SWEEPS: &[(&str, u64, u8, &[Case])] = &[
+    (
+        "frees a row that the other actor has passed",
+        2,
+        0,
+        &[(
+            &[Item::Row(3)],
+            1,
+            &[1, 0],
+            "epoch retire 1 a1 rows 0:8",
+            true,
+        )],
+    ),
+    (
+        "retires no last epoch",
+        2,
+        1,
+        &[(&[Item::Row(3)], 1 << 62, &[0, 0], "epoch a0 rows 0:8", true)],
+    ),
+    // The first one finds nothing in limbo.
+    (
+        "reads nobody where there is no other actor",
+        1,
+        0,
+        &[
+            (&[], 5, &[], "", true),
+            (&[Item::Pid(2)], 5, &[], "epoch retire 5 pids 0:4", true),
+        ],
+    ),
+    (
+        "reads each of sixteen actors but its own",
+        16,
+        7,
+        &[(
+            &[Item::Row(64)],
+            4,
+            &[0, 5, 0, 6, 0, 0, 7, 1],
+            "epoch retire 4 a0 a1 a2 a3 a4 a5 a6 a8 a9 a10 a11 a12 a13 a14 a15 rows 1:1",
+            true,
+        )],
+    ),
+    // The third one frees what the first one found, and keeps its own.
+    (
+        "frees later what an actor may hold",
+        3,
+        1,
+        &[
+            (
+                &[Item::Row(3)],
+                1,
+                &[0, 0, 1],
+                "epoch retire 1 a0 a2",
+                false,
+            ),
+            (&[], 2, &[1, 0, 0], "a0 a2", false),
+            (
+                &[Item::Row(4)],
+                2,
+                &[2, 0, 0],
+                "epoch retire 2 a0 a2 rows 0:8",
+                false,
+            ),
+        ],
+    ),
+    (
+        "frees word by word",
+        2,
+        0,
+        &[(
+            &[Item::Pid(63), Item::Row(130), Item::Row(5), Item::Row(1)],
+            1,
+            &[0, 2],
+            "epoch retire 1 a1 rows 0:22 rows 2:4 pids 0:8000000000000000",
+            true,
+        )],
+    ),
+];
+
 #[test]
-fn frees_word_by_word(rt: HostRuntime) -> Result<(), Fail> {
-    let limits = Limits::new(2, 64, 256, 1)?;
-    let mut limbo = Limbo::new(rt.alloc(), &limits)?;
-    let items = [Item::Pid(63), Item::Row(130), Item::Row(5), Item::Row(1)];
-    unlink(&rt, &limits, &mut limbo, items.as_slice());
-    let log = drive(&limits, 0, &mut limbo, 1, &[0, 2]);
-    let steps = [
-        ('e', 0, 0),
-        ('t', 1, 0),
-        ('a', 1, 0),
-        ('r', 0, 0x22),
-        ('r', 2, 0x4),
-        ('p', 0, 0x8000000000000000),
-    ];
-    assert_eq!(rt; log.as_slice(), steps.as_slice());
-    assert!(rt; limbo.is_empty());
-    Ok(())
+fn goes_step_by_step(rt: HostRuntime) {
+    for (rule, actors, actor, cases) in SWEEPS {
+        let gone = swept(rt.alloc(), *actors, *actor, cases);
+        assert_eq!(rt; gone, cases.len(), "{rule}");
+    }
 }
 
 /// Two rows and a PID are taken out of the tree.
@@ -198,19 +226,27 @@ fn take_out_some(limits: &Limits, limbo: &mut Limbo)
     take_out(limbo, &[3, 42], Some(2));
 }
 
-#[test]
-fn frees_what_was_taken_out(rt: HostRuntime) -> Result<(), Fail> {
-    let limits = Limits::new(1, 64, 256, 1)?;
-    let mut limbo = Limbo::new(rt.alloc(), &limits)?;
+/// How many sweeps go as they say, where two rows and a PID were taken out first.
+fn swept_out(alloc: Global, cases: &[Case]) -> usize {
+    let Ok(limits) = Limits::new(1, 64, 256, 1) else {
+        return 0;
+    };
+    let Ok(mut limbo) = Limbo::new(alloc, &limits) else {
+        return 0;
+    };
     take_out_some(&limits, &mut limbo);
-    let log = drive(&limits, 0, &mut limbo, 1, &[]);
-    let steps = [
-        ('e', 0, 0),
-        ('t', 1, 0),
-        ('r', 0, 0x40000000008),
-        ('p', 0, 0x4),
-    ];
-    assert_eq!(rt; log.as_slice(), steps.as_slice());
-    assert!(rt; limbo.is_empty());
-    Ok(())
+    gone(&limits, 0, &mut limbo, cases)
+}
+
+const TAKEN_OUT: &[Case] = &[(
+    &[],
+    1,
+    &[],
+    "epoch retire 1 rows 0:40000000008 pids 0:4",
+    true,
+)];
+
+#[test]
+fn frees_what_was_taken_out(rt: HostRuntime) {
+    assert_eq!(rt; swept_out(rt.alloc(), TAKEN_OUT), TAKEN_OUT.len());
 }

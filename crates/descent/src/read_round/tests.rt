@@ -5,8 +5,7 @@ ghost use Rattle.descent.specs.ReadRounds.{CanPass, way_of};
 ghost use Rattle.smo.specs.declared.version.Version.{Version as VersionOf};
 
 use super::{Goal, ReadEnd, ReadRound};
-use crate::write_round::tests::{first, halves, key, leaf, parent};
-use bw_model::Limits;
+use crate::write_round::tests::{first, halves, key, leaf, limits, parent};
 use smo::Version;
 
 /// How a round went on: to the page that it asks for, or to its end.
@@ -48,13 +47,13 @@ fn meet(round: &mut ReadRound, page: Version) -> Turn
     passes(round);
     if is_reached(round, &page) {
         let end = round.treat(page);
-        return told(round, end);
+        return told(round, end.as_ref());
     }
     Turn::Other
 }
 
 /// The turn that an end is, or the page that the round asks for.
-fn told(round: &ReadRound, end: Option<ReadEnd>) -> Turn {
+fn told(round: &ReadRound, end: Option<&ReadEnd>) -> Turn {
     match end {
         None => round.descent.asked().map_or(Turn::Other, Turn::To),
         Some(ReadEnd::Again | ReadEnd::Removed(_)) => Turn::Other,
@@ -63,26 +62,30 @@ fn told(round: &ReadRound, end: Option<ReadEnd>) -> Turn {
     }
 }
 
-/// What a reader does at the page, to the left of page 2, which begins in the middle of a leaf.
-fn to_the_left(page: Version) -> Option<Turn> {
-    let limits = Limits::new(1, 4096, 16384, 1).ok()?;
+/// What a reader does at the page, to the left of a page, which begins in the middle of a leaf.
+fn to_the_left(removed: Version, page: Version) -> Turn {
+    let mut round = ReadRound::left(&limits(), key(b"y"), removed);
+    meet(&mut round, page)
+}
+
+/// What it does at that page to the left of page 2.
+fn left_of_second(page: Version) -> Option<Turn> {
     let (_, removed) = halves()?;
-    let mut round = ReadRound::left(&limits, key(b"y"), removed);
-    Some(meet(&mut round, page))
+    Some(to_the_left(removed, page))
 }
 
 #[test]
 fn goes_down_to_the_left(rt: HostRuntime) {
-    assert_eq!(rt; to_the_left(parent()), Some(Turn::To(1)));
+    assert_eq!(rt; left_of_second(parent()), Some(Turn::To(1)));
 }
 
 #[test]
 fn ends_beside_the_page_to_the_right(rt: HostRuntime) {
-    let (left, _) = halves().expect(&rt, "a full leaf is split");
-    assert_eq!(rt; to_the_left(left), Some(Turn::Beside(1, 2)));
+    let turn = halves().map(|(left, removed)| to_the_left(removed, left));
+    assert_eq!(rt; turn, Some(Turn::Beside(1, 2)));
 }
 
 #[test]
 fn ends_at_the_leaf_that_has_what_the_page_had(rt: HostRuntime) {
-    assert_eq!(rt; to_the_left(first(0, leaf(3))), Some(Turn::Leaf(1)));
+    assert_eq!(rt; left_of_second(first(0, leaf(3))), Some(Turn::Leaf(1)));
 }

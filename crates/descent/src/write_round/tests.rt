@@ -164,7 +164,7 @@ fn meet(round: &mut WriteRound, page: Version) -> Turn
         if is_reached(round, &page) {
             if meets(round) {
                 let end = round.treat(page);
-                return told(round, end);
+                return told(round, end.as_ref());
             }
         }
     }
@@ -172,48 +172,33 @@ fn meet(round: &mut WriteRound, page: Version) -> Turn
 }
 
 /// The turn that an end is, or the page that the round asks for.
-fn told(round: &WriteRound, end: Option<WriteEnd>) -> Turn {
+fn told(round: &WriteRound, end: Option<&WriteEnd>) -> Turn {
     match end {
         None => round.descent.asked().map_or(Turn::Other, Turn::To),
-        Some(WriteEnd::Again) => Turn::Other,
         Some(WriteEnd::Removed(_)) => Turn::Removed,
         Some(WriteEnd::Consolidate(_)) => Turn::Consolidate,
         Some(WriteEnd::Split { .. }) => Turn::Split,
         Some(WriteEnd::Term { parent, term }) => Turn::Term(parent.pid, term.next, term.child),
         Some(WriteEnd::Root { left, .. }) => Turn::Root(left.pid),
         Some(WriteEnd::Leaf { parent, .. }) => Turn::Leaf(parent.is_some()),
-        Some(WriteEnd::Merge { .. } | WriteEnd::Unterm { .. }) => Turn::Other,
         Some(WriteEnd::Done) => Turn::Done,
+        Some(_) => Turn::Other,
     }
 }
 
+/// The limits of all rounds here.
+pub(crate) fn limits() -> Limits
+    ensures { result.pids ≡ 4096 }
+{
+    Limits::new(1, 4096, 16384, 1).unwrap()
+}
+
 /// What a writer does at a leaf of so many deltas and items, where so many deltas are due.
-fn at_leaf(deltas: usize, items: u8, due: usize) -> Option<Turn>
-    requires few { deltas ≤ 12 }
+fn at_leaf(deltas: usize, items: u8, due: usize) -> Turn
     requires due { 0 < due }
 {
-    let limits = Limits::new(1, 4096, 16384, 1).ok()?;
-    let mut round = WriteRound::new(&limits, key(b"x"), due);
-    Some(meet(&mut round, first(deltas, leaf(items))))
-}
-
-/// What a writer does at a page that was split, and at the new page.
-fn at_halves() -> Option<[Turn; 2]> {
-    let limits = Limits::new(1, 4096, 16384, 1).ok()?;
-    let mut round = WriteRound::new(&limits, key(b"y"), 8);
-    let (left, right) = halves()?;
-    let aside = meet(&mut round, left);
-    Some([aside, meet(&mut round, right)])
-}
-
-/// The same below an index page that lacks the term.
-fn below_parent() -> Option<[Turn; 3]> {
-    let limits = Limits::new(1, 4096, 16384, 1).ok()?;
-    let mut round = WriteRound::new(&limits, key(b"y"), 8);
-    let (left, right) = halves()?;
-    let down = meet(&mut round, parent());
-    let aside = meet(&mut round, left);
-    Some([down, aside, meet(&mut round, right)])
+    let mut round = WriteRound::new(&limits(), key(b"x"), due);
+    meet(&mut round, first(deltas.min(12), leaf(items)))
 }
 
 #[test]
@@ -224,61 +209,80 @@ fn consolidates_at_eight_deltas(rt: HostRuntime) {
         at_leaf(0, 3, 1),
         at_leaf(1, 3, 1),
     ];
-    let leaf = Some(Turn::Leaf(false));
-    let long = Some(Turn::Consolidate);
+    let (leaf, long) = (Turn::Leaf(false), Turn::Consolidate);
     assert_eq!(rt; turns, [leaf, long, leaf, long]);
 }
 
 #[test]
 fn splits_at_sixteen_items(rt: HostRuntime) {
     let turns = [at_leaf(0, 15, 8), at_leaf(7, 16, 8), at_leaf(8, 16, 8)];
-    assert_eq!(rt;
-        turns,
-        [
-            Some(Turn::Leaf(false)),
-            Some(Turn::Split),
-            Some(Turn::Consolidate)
-        ]
-    );
+    assert_eq!(rt; turns, [Turn::Leaf(false), Turn::Split, Turn::Consolidate]);
+}
+
+/// What the round does at a page that was split, and then at the new page.
+fn meet_halves(round: &mut WriteRound) -> Option<[Turn; 2]>
+    requires limits { round.old.limits.pids ≡ 4096 }
+{
+    let (left, right) = halves()?;
+    let aside = meet(round, left);
+    Some([aside, meet(round, right)])
+}
+
+/// A writer's round to the key in the middle of the pages.
+fn seeking() -> WriteRound
+    ensures { result.limits.pids ≡ 4096 }
+{
+    WriteRound::new(&limits(), key(b"y"), 8)
+}
+
+/// A writer's round to the left of a removed page that begins at the key.
+fn to_the_left(at: &[u8], removed: u16) -> WriteRound
+    ensures { result.limits.pids ≡ 4096 }
+{
+    WriteRound::left(&limits(), key(at), removed, 0)
 }
 
 #[test]
 fn finishes_a_split_without_a_parent(rt: HostRuntime) {
-    assert_eq!(rt; at_halves(), Some([Turn::To(2), Turn::Root(1)]));
+    let turns = meet_halves(&mut seeking());
+    assert_eq!(rt; turns, Some([Turn::To(2), Turn::Root(1)]));
+}
+
+/// The same below an index page that lacks the term.
+fn below_parent() -> (Turn, Option<[Turn; 2]>) {
+    let mut round = seeking();
+    let down = meet(&mut round, parent());
+    (down, meet_halves(&mut round))
 }
 
 #[test]
 fn finishes_a_split_below_a_parent(rt: HostRuntime) {
     assert_eq!(rt;
         below_parent(),
-        Some([Turn::To(1), Turn::To(2), Turn::Term(5, 8, 2)])
+        (Turn::To(1), Some([Turn::To(2), Turn::Term(5, 8, 2)]))
     );
 }
 
-/// What a writer does to the left of a removed page that begins at the key, at one page and then at another.
-fn to_the_left(at: Key, removed: u16, page: Version, next: Version) -> Option<[Turn; 2]> {
-    let limits = Limits::new(1, 4096, 16384, 1).ok()?;
-    let mut round = WriteRound::left(&limits, at, removed, 0);
-    let turn = meet(&mut round, page);
-    Some([turn, meet(&mut round, next)])
+/// What a writer does to the left of page 2 at an index page, and then at a leaf that has no right.
+fn down_to_the_left() -> [Turn; 2] {
+    let mut round = to_the_left(b"y", 2);
+    let down = meet(&mut round, parent());
+    [down, meet(&mut round, first(0, leaf(3)))]
 }
 
 #[test]
 fn goes_left_of_a_removed_page(rt: HostRuntime) {
-    let down = to_the_left(key(b"y"), 2, parent(), first(0, leaf(3)));
-    assert_eq!(rt; down, Some([Turn::To(1), Turn::Done]));
+    assert_eq!(rt; down_to_the_left(), [Turn::To(1), Turn::Done]);
 }
 
 #[test]
 fn reads_the_removed_page_to_the_right_again(rt: HostRuntime) {
-    let (left, right) = halves().expect(&rt, "a full leaf is split");
-    let turns = to_the_left(key(&[b'x', 8]), 2, left, right);
+    let turns = meet_halves(&mut to_the_left(&[b'x', 8], 2));
     assert_eq!(rt; turns, Some([Turn::To(2), Turn::Done]));
 }
 
 #[test]
 fn goes_right_below_the_removed_page(rt: HostRuntime) {
-    let (left, right) = halves().expect(&rt, "a full leaf is split");
-    let turns = to_the_left(key(b"y"), 3, left, right);
+    let turns = meet_halves(&mut to_the_left(b"y", 3));
     assert_eq!(rt; turns, Some([Turn::To(2), Turn::Root(1)]));
 }

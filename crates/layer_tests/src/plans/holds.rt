@@ -4,7 +4,6 @@ ghost use Rattle.chain_search.specs.Chains.{is_removed};
 
 use crate::plans::grown::{at, with_hold, with_term};
 use crate::plans::{bare, leaf, parent, version};
-use bw_model::Key;
 use smo::{Version, plan_hold, plan_split};
 
 /// An index page of sixteen terms, where those at these places are held.
@@ -21,42 +20,57 @@ fn sixteen(places: &[u8]) -> Version
     page
 }
 
-/// The hold of the term at the place.
-fn hold(parent: &Version, place: u8) -> Option<(u8, u16, Key, u16)>
+/// Whether what the parent gets, over row 7, holds the term at the place; none where it gets nothing.
+fn holds(parent: &Version, place: u8) -> Option<bool>
     requires alive { is_removed parent.now.chain ≡ false }
 {
-    let page = version(u16::from(place) + 10, 0, leaf(at(place), 0));
+    let child = u16::from(place) + 10;
+    let page = version(child, 0, leaf(at(place), 0));
     let hold = plan_hold(parent, &page)?;
-    Some((hold.level, hold.next, hold.separator, hold.child))
-}
-
-/// Where the page is split, and how many items go.
-fn split_at(page: &Version) -> Option<(Key, usize)> {
-    let plan = plan_split(page)?;
-    Some((plan.upper.low().copied(), plan.upper.items().len()))
+    let named = (hold.level, hold.next, hold.child) == (1, 7, child);
+    Some(named && hold.separator == at(place))
 }
 
 #[test]
 fn holds_beside_no_held_term(rt: HostRuntime) {
     let page = sixteen(&[3]);
-    assert_eq!(rt; hold(&page, 1), Some((1, 7, at(1), 11)));
-    assert!(rt; hold(&page, 2).is_none());
-    assert!(rt; hold(&page, 3).is_none());
-    assert!(rt; hold(&page, 4).is_none());
-    assert_eq!(rt; hold(&page, 5), Some((1, 7, at(5), 15)));
+    let held = [
+        holds(&page, 1),
+        holds(&page, 2),
+        holds(&page, 3),
+        holds(&page, 4),
+        holds(&page, 5),
+    ];
+    assert_eq!(rt; held, [Some(true), None, None, None, Some(true)]);
 }
 
 #[test]
 fn holds_four_terms(rt: HostRuntime) {
-    assert!(rt; hold(&sixteen(&[2, 6, 10]), 14).is_some());
-    assert!(rt; hold(&sixteen(&[2, 6, 10, 12]), 14).is_none());
+    let fourth = holds(&sixteen(&[2, 6, 10]), 14);
+    let fifth = holds(&sixteen(&[2, 6, 10, 12]), 14);
+    assert_eq!(rt; [fourth, fifth], [Some(true), None]);
+}
+
+/// Terms that are held, the place at which the page is split, and how many items go.
+const SPLIT: &[(&[u8], u8, usize)] = &[
+    (&[], 8, 8),
+    (&[8], 9, 7),
+    (&[6, 8, 10], 9, 7),
+    (&[7, 9], 8, 8),
+    (&[9], 8, 8),
+];
+
+/// Whether the page is split at the place, and so many items go.
+fn is_split(page: &Version, place: u8, count: usize) -> bool {
+    match plan_split(page) {
+        None => false,
+        Some(plan) => plan.upper.low() == &at(place) && plan.upper.items().len() == count,
+    }
 }
 
 #[test]
 fn splits_at_no_held_term(rt: HostRuntime) {
-    assert_eq!(rt; split_at(&sixteen(&[])), Some((at(8), 8)));
-    assert_eq!(rt; split_at(&sixteen(&[8])), Some((at(9), 7)));
-    assert_eq!(rt; split_at(&sixteen(&[6, 8, 10])), Some((at(9), 7)));
-    assert_eq!(rt; split_at(&sixteen(&[7, 9])), Some((at(8), 8)));
-    assert_eq!(rt; split_at(&sixteen(&[9])), Some((at(8), 8)));
+    for (held, place, count) in SPLIT {
+        assert!(rt; is_split(&sixteen(held), *place, *count));
+    }
 }

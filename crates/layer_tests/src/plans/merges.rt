@@ -1,148 +1,225 @@
 //! Merges of a removed page into its left one, and the end of its term.
 ghost use Rattle.std.specs.Prelude.{◌≡◌, false, IfSome};
 ghost use Rattle.chain_search.specs.Chains.{is_removed};
+ghost use Rattle.deltas.specs.Spellable.{IsPid};
 
 use crate::plans::grown::{
     at, held, joined, posted, removed, root_over, split, thinned, with_terms, without,
 };
 use crate::plans::{leaf, version};
-use base_page::Items;
 use bw_model::Key;
 use smo::{Version, plan_merge, plan_remove, plan_unterm};
 
-/// A root that holds the term of its second leaf, the first leaf, and the second one, which has four items.
-fn family() -> Option<(Version, Version, Version)>
-    ensures root { IfSome result (λ pages. is_removed pages.0.chain ≡ false) }
-    ensures left { IfSome result (λ pages. is_removed pages.1.chain ≡ false) }
+/// A root that holds the term of its second leaf; the first leaf; the second one, which has four items; and that one removed.
+#[derive(Drop)]
+struct Family {
+    root: Version,
+    left: Version,
+    right: Version,
+    gone: Version,
+}
+
+fn related() -> Option<Family>
+    ensures root { IfSome result (λ pages. is_removed pages.root.chain ≡ false) }
+    ensures left { IfSome result (λ pages. is_removed pages.left.chain ≡ false) }
 {
     let (left, _) = split(1, Key::default(), 16, 2)?;
     let (whole, _) = split(2, at(8), 24, 3)?;
     let right = thinned(whole, 12);
     let root = held(&root_over(&left, &right)?, &right)?;
-    Some((root, left, right))
+    let gone = removed(&root, &right)?;
+    Some(Family {
+        root,
+        left,
+        right,
+        gone,
+    })
 }
 
-/// What the left page gets of the removed one.
-fn merged(
+/// Whether the left page gets the removed one.
+fn merges(left: &Version, removed: &Version) -> bool {
+    plan_merge(left, removed).is_some()
+}
+
+/// Whether the left page, over row 7, gets so many items from the middle of its leaf on, up to the key, where the right page begins.
+fn brings(
     left: &Version,
     removed: &Version,
-) -> Option<(u8, u16, Key, Option<Key>, Option<u16>, Items)> {
-    let merge = plan_merge(left, removed)?;
-    Some((
-        merge.level,
-        merge.next,
-        merge.low,
-        merge.high,
-        merge.right,
-        merge.items,
-    ))
+    count: u8,
+    high: Option<Key>,
+    right: Option<u16>,
+) -> bool {
+    match plan_merge(left, removed) {
+        None => false,
+        Some(merge) => {
+            let place = (merge.level, merge.next, merge.right) == (0, 7, right);
+            let range = merge.low == at(8) && merge.high == high;
+            place && range && &merge.items == leaf(at(8), count).items()
+        }
+    }
 }
 
-/// The unterm of the removed page.
-fn untermed(parent: &Version, left: &Version, removed: &Version) -> Option<(u8, u16, Key, u16)>
+/// Whether the parent loses the removed page's term.
+fn unterms(parent: &Version, left: &Version, removed: &Version) -> bool
     requires alive { is_removed parent.now.chain ≡ false }
 {
-    let unterm = plan_unterm(parent, left, removed)?;
-    Some((unterm.level, unterm.next, unterm.separator, unterm.child))
+    plan_unterm(parent, left, removed).is_some()
+}
+
+/// Whether the parent, over row 7, loses the term of this child at the key of this place.
+fn loses(parent: &Version, left: &Version, removed: &Version, place: u8, child: u16) -> bool
+    requires alive { is_removed parent.now.chain ≡ false }
+{
+    match plan_unterm(parent, left, removed) {
+        None => false,
+        Some(unterm) => {
+            let named = (unterm.level, unterm.next, unterm.child) == (1, 7, child);
+            named && unterm.separator == at(place)
+        }
+    }
 }
 
 #[test]
 fn merges_a_removed_page(rt: HostRuntime) {
-    let (root, left, right) = family().expect(&rt, "a root");
-    let gone = removed(&root, &right).expect(&rt, "a removal");
-    let items = leaf(at(8), 12).items().copied();
-    assert_eq!(rt;
-        merged(&left, &gone),
-        Some((0, 7, at(8), Some(at(16)), Some(3), items))
-    );
-    let based = version(2, 0, leaf(at(8), 11));
-    let gone_too = removed(&root, &based).expect(&rt, "a removal");
-    let items = leaf(at(8), 11).items().copied();
-    assert_eq!(rt;
-        merged(&left, &gone_too),
-        Some((0, 7, at(8), None, None, items))
-    );
-    assert!(rt; plan_merge(&left, &right).is_none());
-    assert!(rt; plan_merge(&gone, &gone).is_none());
+    let pages = related().expect(&rt, "a removal");
+    let brought = brings(&pages.left, &pages.gone, 12, Some(at(16)), Some(3));
+    let refused = [
+        merges(&pages.left, &pages.right),
+        merges(&pages.gone, &pages.gone),
+    ];
+    assert_eq!(rt; (brought, refused), (true, [false; 2]));
+}
+
+#[test]
+fn merges_a_removed_base(rt: HostRuntime) {
+    let pages = related().expect(&rt, "a removal");
+    let gone = removed(&pages.root, &version(2, 0, leaf(at(8), 11)));
+    let brought = gone.map(|gone| brings(&pages.left, &gone, 11, None, None));
+    assert_eq!(rt; brought, Some(true));
+}
+
+/// Whether a page 4 that was split so, from so many items to this page, gets the removed one.
+fn merges_left_of(removed: &Version, count: u8, right: u16) -> Option<bool>
+    requires right { IsPid right }
+{
+    let (left, _) = split(4, Key::default(), count, right)?;
+    Some(merges(&left, removed))
 }
 
 #[test]
 fn merges_into_the_left_page_alone(rt: HostRuntime) {
-    let (root, _, right) = family().expect(&rt, "a root");
-    let gone = removed(&root, &right).expect(&rt, "a removal");
-    let (left, _) = split(4, Key::default(), 17, 2).expect(&rt, "a split");
-    let (before_another, _) = split(4, Key::default(), 16, 3).expect(&rt, "a split");
-    let (up_to_the_ninth, _) = split(4, Key::default(), 18, 2).expect(&rt, "a split");
-    assert!(rt; plan_merge(&left, &gone).is_some());
-    assert!(rt; plan_merge(&before_another, &gone).is_none());
-    assert!(rt; plan_merge(&up_to_the_ninth, &gone).is_none());
-    assert!(rt; plan_merge(&version(4, 0, leaf(Key::default(), 8)), &gone).is_none());
+    let gone = related().expect(&rt, "a removal").gone;
+    let before = merges_left_of(&gone, 17, 2);
+    let before_another = merges_left_of(&gone, 16, 3);
+    let up_to_the_ninth = merges_left_of(&gone, 18, 2);
+    let endless = merges(&version(4, 0, leaf(Key::default(), 8)), &gone);
+    assert_eq!(rt;
+        [before, before_another, up_to_the_ninth, Some(endless)],
+        [Some(true), Some(false), Some(false), Some(false)]
+    );
 }
 
 #[test]
 fn merges_under_eight_deltas(rt: HostRuntime) {
-    let (root, left, right) = family().expect(&rt, "a root");
-    let gone = removed(&root, &right).expect(&rt, "a removal");
-    let seven = without(without(thinned(left, 0), 4), 5);
-    assert!(rt; plan_merge(&seven, &gone).is_some());
-    assert!(rt; plan_merge(&without(seven, 6), &gone).is_none());
+    let pages = related().expect(&rt, "a removal");
+    let seven = without(without(thinned(pages.left, 0), 4), 5);
+    let given = merges(&seven, &pages.gone);
+    let refused = merges(&without(seven, 6), &pages.gone);
+    assert_eq!(rt; [given, refused], [true, false]);
 }
 
 #[test]
 fn ends_the_term_of_a_merged_page(rt: HostRuntime) {
-    let (root, left, right) = family().expect(&rt, "a root");
-    let gone = removed(&root, &right).expect(&rt, "a removal");
+    let Family {
+        root,
+        left,
+        right,
+        gone,
+    } = related().expect(&rt, "a removal");
     let whole = joined(&left, &gone).expect(&rt, "a merge");
-    let unterm = (1, 7, at(8), 2);
-    assert_eq!(rt; untermed(&root, &whole, &gone), Some(unterm));
-    assert!(rt; untermed(&root, &left, &gone).is_none());
-    assert!(rt; untermed(&root, &whole, &right).is_none());
-    assert!(rt; untermed(&root, &gone, &gone).is_none());
+    let ended = [
+        loses(&root, &whole, &gone, 8, 2),
+        unterms(&root, &left, &gone),
+        unterms(&root, &whole, &right),
+        unterms(&root, &gone, &gone),
+    ];
+    assert_eq!(rt; ended, [true, false, false, false]);
+}
+
+#[test]
+fn ends_no_term_that_is_not_held(rt: HostRuntime) {
+    let Family {
+        left,
+        right,
+        gone,
+        ..
+    } = related().expect(&rt, "a removal");
+    let whole = joined(&left, &gone).expect(&rt, "a merge");
     let unheld = root_over(&left, &right).expect(&rt, "a root");
-    assert!(rt; untermed(&unheld, &whole, &gone).is_none());
+    assert!(rt; !unterms(&unheld, &whole, &gone));
 }
 
 #[test]
 fn ends_a_term_under_seven_deltas(rt: HostRuntime) {
-    let (root, left, right) = family().expect(&rt, "a root");
-    let gone = removed(&root, &right).expect(&rt, "a removal");
-    let whole = joined(&left, &gone).expect(&rt, "a merge");
-    let seven = with_terms(root, 0, 6);
-    let given = untermed(&seven, &whole, &gone);
-    let eight = with_terms(seven, 6, 7);
-    let refused = untermed(&eight, &whole, &gone);
-    assert_eq!(rt; [given, refused], [Some((1, 7, at(8), 2)), None]);
+    let pages = related().expect(&rt, "a removal");
+    let whole = joined(&pages.left, &pages.gone).expect(&rt, "a merge");
+    let seven = with_terms(pages.root, 0, 6);
+    let given = loses(&seven, &whole, &pages.gone, 8, 2);
+    let refused = unterms(&with_terms(seven, 6, 7), &whole, &pages.gone);
+    assert_eq!(rt; [given, refused], [true, false]);
 }
 
 #[test]
 fn ends_a_term_inside_its_left_page(rt: HostRuntime) {
-    let (root, _, right) = family().expect(&rt, "a root");
-    let gone = removed(&root, &right).expect(&rt, "a removal");
+    let pages = related().expect(&rt, "a removal");
     let endless = version(1, 0, leaf(Key::default(), 3));
     let beside = version(4, 0, leaf(at(8), 12));
-    assert!(rt; untermed(&root, &endless, &gone).is_some());
-    assert!(rt; untermed(&root, &beside, &gone).is_none());
+    let ended = [
+        unterms(&pages.root, &endless, &pages.gone),
+        unterms(&pages.root, &beside, &pages.gone),
+    ];
+    assert_eq!(rt; ended, [true, false]);
+}
+
+/// A root that holds the term of its third leaf, the second leaf, and the third one, removed.
+fn last_of_three(left: &Version) -> Option<(Version, Version, Version)>
+    ensures root { IfSome result (λ pages. is_removed pages.0.chain ≡ false) }
+{
+    let (middle, last) = split(2, at(8), 24, 3)?;
+    let last = thinned(last, 16);
+    let root = posted(&root_over(left, &middle)?, &last)?;
+    let root = held(&root, &last)?;
+    let gone = removed(&root, &last)?;
+    Some((root, middle, gone))
 }
 
 #[test]
 fn ends_no_term_beyond_its_left_page(rt: HostRuntime) {
     let (left, _) = split(1, Key::default(), 16, 2).expect(&rt, "a split");
-    let (middle, last) = split(2, at(8), 24, 3).expect(&rt, "a split");
-    let last = thinned(last, 16);
-    let root = root_over(&left, &middle).expect(&rt, "a root");
-    let root = posted(&root, &last).expect(&rt, "a term");
-    let root = held(&root, &last).expect(&rt, "a hold");
-    let gone = removed(&root, &last).expect(&rt, "a removal");
-    assert!(rt; untermed(&root, &left, &gone).is_none());
-    assert!(rt; untermed(&root, &middle, &gone).is_none());
+    let (root, middle, gone) = last_of_three(&left).expect(&rt, "a removal");
     let whole = joined(&middle, &gone).expect(&rt, "a merge");
-    assert_eq!(rt; untermed(&root, &whole, &gone), Some((1, 7, at(16), 3)));
+    let ended = [
+        unterms(&root, &left, &gone),
+        unterms(&root, &middle, &gone),
+        loses(&root, &whole, &gone, 16, 3),
+    ];
+    assert_eq!(rt; ended, [false, false, true]);
 }
 
 #[test]
 fn removes_no_first_page(rt: HostRuntime) {
-    let (root, left, right) = family().expect(&rt, "a root");
-    assert!(rt; plan_remove(&root, &right).is_some());
-    assert!(rt; plan_remove(&root, &thinned(left, 0)).is_none());
-    assert!(rt; plan_remove(&root, &version(1, 0, leaf(Key::default(), 0))).is_none());
+    let Family {
+        root,
+        left,
+        right,
+        ..
+    } = related().expect(&rt, "a removal");
+    let thin = thinned(left, 0);
+    let bare = version(1, 0, leaf(Key::default(), 0));
+    let given = [
+        plan_remove(&root, &right).is_some(),
+        plan_remove(&root, &thin).is_some(),
+        plan_remove(&root, &bare).is_some(),
+    ];
+    assert_eq!(rt; given, [true, false, false]);
 }
