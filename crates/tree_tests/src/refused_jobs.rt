@@ -2,13 +2,12 @@
 
 use crate::numbered::{found, get, insert, key, value};
 use bw_model::{Key, Limits, Reply, Value};
-use bw_tree::{BwSeat, Tree};
 use refusing::Refusing;
 use std::alloc::{AllocError, Allocator, Global};
 use std::sync::Wait;
 use std::test::Fail;
 use std::thread::Threads;
-use workers::{Job, JobResult, JobsRefusal, Ungated, are_ascending, run_jobs};
+use workers::{Job, JobResult, JobsRefusal, Ungated, are_ascending, opened, run_jobs};
 
 /// How often two jobs on two seats want memory: four lists for the workers and two for their results; the channel; and for each job
 /// its commands, its replies, and its way through the channel.
@@ -37,13 +36,9 @@ fn are_right<A: Allocator>(results: &[JobResult<A>]) -> bool {
         && second.replies.as_slice() == [Reply::Inserted].as_slice()
 }
 
-/// Whether a tree that is closed has the pairs of the jobs.
-fn closes<A: Allocator>(alloc: Global, tree: Tree<A>, seats: Vec<BwSeat<A>, A>) -> bool {
-    let pairs: [(Key, Value); 2] = [(key(1), value(1)), (key(2), value(2))];
-    match tree.close(alloc, seats) {
-        Ok(listed) => listed.as_slice() == pairs.as_slice(),
-        Err(_) => false,
-    }
+/// Whether the pairs are those of the jobs.
+fn are_inserted(pairs: &[(Key, Value)]) -> bool {
+    pairs == [(key(1), value(1)), (key(2), value(2))].as_slice()
 }
 
 /// Runs the jobs on a new tree while a growth is refused, and again where that was in their way; says whether it was, and none where
@@ -56,7 +51,7 @@ fn was_refused<R: Threads + Wait + Sync>(
     growth: u64,
 ) -> Option<bool> {
     let (once, again) = (jobs(alloc).ok()?, jobs(alloc).ok()?);
-    let (tree, seats) = Tree::<&Refusing<Global>>::open(heap, limits).ok()?;
+    let (tree, seats) = opened(heap, limits).ok()?;
     if !are_ascending(once.as_slice()) || !are_ascending(again.as_slice()) || seats.is_empty() {
         return None;
     }
@@ -73,7 +68,8 @@ fn was_refused<R: Threads + Wait + Sync>(
             (results, seats, true)
         }
     };
-    (are_right(results.as_slice()) && closes(alloc, tree, seats)).then_some(refused)
+    let pairs = tree.close(alloc, seats).ok()?;
+    (are_right(results.as_slice()) && are_inserted(pairs.as_slice())).then_some(refused)
 }
 
 #[test]

@@ -2,5 +2,6 @@ mod Ascending
 mod Going
 mod Looked
 mod Named
+mod Fresh
 mod Parting
 mod Pushed

@@ -4,16 +4,19 @@ ghost use Rattle.bw_tree.specs.Trees.{AreFresh, AreSeatsOf, IsSeatOf};
 
 use bw_model::{Limits, OpenError};
 use bw_tree::{BwSeat, Tree};
-use std::alloc::{AllocError, Global};
+use std::alloc::{AllocError, Allocator};
 
 /// A tree with a seat for each actor, of which the last one is taken first; refused for want of memory alone.
-pub fn opened(alloc: Global, limits: Limits) -> Result<(Tree, Vec<BwSeat>), OpenError>
+pub fn opened<A: Allocator + Copy>(
+    alloc: A,
+    limits: Limits,
+) -> Result<(Tree<A>, Vec<BwSeat<A>, A>), OpenError>
     ensures limits { IfOk result (λ opened. opened.0.limits ≡ limits) }
     ensures fresh { IfOk result (λ opened. AreFresh opened.0 opened.1.items) }
     ensures own { IfOk result (λ opened. AreSeatsOf opened.0 opened.1.items) }
     ensures err { IfErr result (λ error. error ≡ OpenError.Memory) }
 {
-    Tree::<Global>::open(alloc, limits)
+    Tree::<A>::open(alloc, limits)
 }
 
 /// Takes the last seat of a list, if it has one.
