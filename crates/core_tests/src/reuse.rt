@@ -179,15 +179,20 @@ fn swept(entry: &SharedEntry) -> u8 {
 }
 
 /// Whether the entries from one on have these letters.
-pub(crate) fn has_letters(
+pub(crate) fn has_letters<F: Fn(&SharedEntry) -> u8>(
     entries: &[SharedEntry],
     first: u64,
     letters: &[u8],
-    letter: fn(&SharedEntry) -> u8,
-) -> bool {
+    letter: F,
+) -> bool
+    requires { F.IsAlwaysCallable letter }
+{
     let mut left = entries.iter().skip(first as usize);
     for wanted in letters {
-        if left.next().map(letter) != Some(*wanted) {
+        let Some(entry) = left.next() else {
+            return false;
+        };
+        if letter(entry) != *wanted {
             return false;
         }
     }

@@ -34,13 +34,16 @@ fn is_listed(number: u32, last: u32, put: bool) -> bool {
 
 /// Whether the pairs are exactly those.
 fn are_listed(pairs: &[(Key, Value)], last: u32, put: bool) -> bool {
-    let mut left = pairs.iter();
+    let mut place = 0usize;
     for number in 1..=last {
-        if is_listed(number, last, put) && !is_pair(left.next(), number, number) {
-            return false;
+        if is_listed(number, last, put) {
+            if !is_pair(pairs.get(place), number, number) {
+                return false;
+            }
+            place = place.saturating_add(1);
         }
     }
-    left.next().is_none()
+    place == pairs.len()
 }
 
 /// Whether the listing has exactly those.
