@@ -1,8 +1,7 @@
 //! Turns by hand, with what they are to tell.
 
-use bw_model::{Command, Key, Link, Reply, Value};
+use bw_model::{Command, Link, Reply};
 use chain_search::Turn;
-use std::alloc::Global;
 use step_core::{Core, Event};
 
 /// Whether an actor begins an operation.
@@ -18,6 +17,35 @@ pub(crate) fn steps(core: &mut Core, actor: u8, times: u32, link: Option<Link>) 
         }
     }
     true
+}
+
+/// Begins an operation of actor 0, and takes so many steps. Answers whether an exchange with this link was among these; none where
+/// they are not taken, or the operation is done by then.
+pub(crate) fn begun(core: &mut Core, command: Command, times: u32, link: Link) -> Option<bool> {
+    core.turn(Turn::Begin(0, command)).ok()?;
+    let mut linked = false;
+    for _ in 0..times {
+        match core.turn(Turn::Step(0)) {
+            Ok(Event::Stepped(made)) => linked |= made == Some(link),
+            _ => return None,
+        }
+    }
+    Some(linked)
+}
+
+/// Whether an exchange of the actor with this link wins before its operation is done.
+pub(crate) fn until(core: &mut Core, actor: u8, link: Link) -> bool {
+    for _ in 0..1000u32 {
+        match core.turn(Turn::Step(actor)) {
+            Ok(Event::Stepped(made)) => {
+                if made == Some(link) {
+                    return true;
+                }
+            }
+            _ => return false,
+        }
+    }
+    false
 }
 
 /// Whether an actor takes so many steps, unless its operation is done before.
@@ -52,6 +80,14 @@ pub(crate) fn finish(core: &mut Core, actor: u8) -> Option<(Reply, u32)> {
     None
 }
 
+/// Whether the operation that an actor has is done with this reply, after as many steps as it takes.
+pub(crate) fn finishes(core: &mut Core, actor: u8, wanted: Reply) -> bool {
+    match finish(core, actor) {
+        Some((reply, _)) => reply == wanted,
+        None => false,
+    }
+}
+
 /// The reply of an actor's command, after as many steps as it takes.
 pub(crate) fn reply(core: &mut Core, actor: u8, command: Command) -> Option<Reply> {
     core.turn(Turn::Begin(actor, command)).ok()?;
@@ -61,13 +97,5 @@ pub(crate) fn reply(core: &mut Core, actor: u8, command: Command) -> Option<Repl
 
 /// Whether an actor's command has this reply.
 pub(crate) fn replies(core: &mut Core, actor: u8, command: Command, wanted: Reply) -> bool {
-    reply(core, actor, command) == Some(wanted)
-}
-
-/// Whether the core lists these pairs.
-pub(crate) fn lists(alloc: Global, core: &Core, pairs: &[(Key, Value)]) -> bool {
-    match core.listing(alloc) {
-        Ok(listed) => listed.as_slice() == pairs,
-        Err(_) => false,
-    }
+    begins(core, actor, command) && finishes(core, actor, wanted)
 }

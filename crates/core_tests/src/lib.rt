@@ -30,6 +30,8 @@ mod runs;
 #[cfg(test)]
 mod schedules;
 #[cfg(test)]
+mod scripts;
+#[cfg(test)]
 mod seeded;
 #[cfg(test)]
 mod shrinking;

@@ -35,3 +35,19 @@ pub(crate) fn number_of(key: &Key) -> Option<u32> {
         _ => None,
     }
 }
+
+/// Whether a pair is the key of a number and the value of one.
+pub(crate) fn is_pair(pair: Option<&(Key, Value)>, number: u32, of: u32) -> bool {
+    pair == Some(&(key(number), value(of)))
+}
+
+/// Whether the pairs are those of the keys below a number, in order, each with the value of its number.
+pub(crate) fn are_first(pairs: &[(Key, Value)], count: u32) -> bool {
+    let mut left = pairs.iter();
+    for number in 0..count {
+        if !is_pair(left.next(), number, number) {
+            return false;
+        }
+    }
+    left.next().is_none()
+}

@@ -1,10 +1,9 @@
 //! Cursor pages of small trees, by hand.
 
-use crate::by_hand::{begins, ends, replies, steps};
-use bw_model::{Command, Key, Limits, Pairs, Reply, Value};
+use crate::by_hand::replies;
+use crate::scripts::{Ask, Line, Say, after, is_told, runs};
+use bw_model::{Command, Key, Pairs, Reply, Value};
 use std::alloc::Global;
-use std::test::Fail;
-use step_core::Core;
 
 /// A letter and the two digits of a number.
 fn text(letter: u8, number: u8) -> [u8; 3] {
@@ -17,19 +16,6 @@ pub(crate) fn key(number: u8) -> Key {
 
 pub(crate) fn value(number: u8) -> Value {
     Value::from_slice(&text(b'v', number)).unwrap_or_default()
-}
-
-/// A core with the keys k01 and on, each with the value of its number, inserted in their order.
-pub(crate) fn grown(alloc: Global, count: u8) -> Option<Core> {
-    let limits = Limits::new(2, 64, 256, 1).ok()?;
-    let mut core = Core::open(alloc, limits).ok()?;
-    for number in 1..=count {
-        let insert = Command::Insert(key(number), value(number));
-        if !replies(&mut core, 0, insert, Reply::Inserted) {
-            return None;
-        }
-    }
-    Some(core)
 }
 
 /// The cursor page of these keys and the next one.
@@ -48,33 +34,35 @@ pub(crate) fn page(first: u8, last: u8, next: Option<u8>) -> Reply {
 
 // The steps are those of a lookup: read epoch, enter, slot 0, slot 1, one record, leave.
 #[test]
-fn the_opening_tree_has_an_empty_page(rt: HostRuntime) -> Result<(), Fail> {
-    let mut core = Core::open(rt.alloc(), Limits::new(1, 64, 64, 1)?)?;
-    let empty = Reply::Page {
-        items: Pairs::new(),
-        next: None,
-    };
-    let told = [
-        begins(&mut core, 0, Command::Page(Key::default())),
-        steps(&mut core, 0, 5, None),
-        ends(&mut core, 0, empty),
+fn the_opening_tree_has_an_empty_page(rt: HostRuntime) {
+    let lines = [
+        Line::Begins(0, Ask::First),
+        Line::Steps(0, 5, None),
+        Line::Ends(0, Say::Page(1, 0, None)),
     ];
-    assert_eq!(rt; told, [true; 3]);
-    Ok(())
+    assert!(rt; is_told(rt.alloc(), 1, 64, &lines));
 }
 
-// Page 1 has k01 to k08, and page 2 has k09 to k17.
-#[test]
-fn pages_end_at_high_keys(rt: HostRuntime) -> Result<(), Fail> {
-    let Some(mut core) = grown(rt.alloc(), 17) else {
-        return Err(Fail::from("no tree grew"));
-    };
-    let between = Command::Insert(Key::from_slice(b"k085")?, Value::from_slice(b"y")?);
-    let told = [
-        replies(&mut core, 0, Command::Page(key(5)), page(5, 8, Some(9))),
-        replies(&mut core, 0, between, Reply::Inserted),
-        replies(&mut core, 0, Command::Page(key(16)), page(16, 17, None)),
+/// An insert of a key between k08 and k09.
+fn between() -> Command {
+    let key = Key::from_slice(b"k085").unwrap_or_default();
+    Command::Insert(key, Value::from_slice(b"y").unwrap_or_default())
+}
+
+/// Whether page 1 has k01 to k08, and page 2 has k09 to k17, also once a key between them is inserted.
+fn has_two_pages(alloc: Global) -> bool {
+    let first = [
+        Line::Inserts(1, 17),
+        Line::Replies(0, Ask::Page(5), Say::Page(5, 8, Some(9))),
     ];
-    assert_eq!(rt; told, [true; 3]);
-    Ok(())
+    let Some(mut core) = after(alloc, 2, 256, &first) else {
+        return false;
+    };
+    let last = [Line::Replies(0, Ask::Page(16), Say::Page(16, 17, None))];
+    replies(&mut core, 0, between(), Reply::Inserted) && runs(alloc, &mut core, &last)
+}
+
+#[test]
+fn pages_end_at_high_keys(rt: HostRuntime) {
+    assert!(rt; has_two_pages(rt.alloc()));
 }

@@ -1,7 +1,7 @@
 //! A plain map of numbers to numbers, with its past: what it had at each moment.
 
-use crate::numbered::{key, number_of, value};
-use bw_model::{Key, Pairs};
+use crate::numbered::{is_pair, number_of};
+use bw_model::{Key, Pairs, Value};
 use std::alloc::{AllocError, Global};
 
 /// How many values there are.
@@ -22,11 +22,11 @@ fn value_in(values: &[u32], number: u32) -> u32 {
 }
 
 /// Whether the items are the pairs from a number up to an end.
-fn has_page(values: &[u32], from: u32, end: u32, items: &Pairs) -> bool {
-    let mut left = items.as_slice().iter();
+fn has_page(values: &[u32], from: u32, end: u32, items: &[(Key, Value)]) -> bool {
+    let mut left = items.iter();
     for number in from..end {
         let had = value_in(values, number);
-        if had != ABSENT && left.next() != Some(&(key(number), value(had))) {
+        if had != ABSENT && !is_pair(left.next(), number, had) {
             return false;
         }
     }
@@ -61,6 +61,11 @@ impl PlainMap {
         Ok(())
     }
 
+    /// Whether these are all pairs.
+    pub(crate) fn has(&self, pairs: &[(Key, Value)]) -> bool {
+        has_page(self.values.as_slice(), 0, 1024, pairs)
+    }
+
     /// Whether these were the pairs from a number up to the next key, at one of the moments since.
     pub(crate) fn had_page(
         &self,
@@ -75,13 +80,13 @@ impl PlainMap {
         };
         let mut values = self.values.clone()?;
         for (number, before) in self.changes.as_slice().iter().skip(since).rev() {
-            if has_page(values.as_slice(), from, end, items) {
+            if has_page(values.as_slice(), from, end, items.as_slice()) {
                 return Ok(true);
             }
             if let Some(place) = values.get_mut(*number as usize) {
                 *place = *before;
             }
         }
-        Ok(has_page(values.as_slice(), from, end, items))
+        Ok(has_page(values.as_slice(), from, end, items.as_slice()))
     }
 }

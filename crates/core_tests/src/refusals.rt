@@ -40,16 +40,22 @@ fn open_error(alloc: Global, limits: Limits, size: usize) -> Result<Option<OpenE
     Ok(Core::<&LocalHeap>::open(&heap, limits).err())
 }
 
+/// Whether each heap that is too small is refused for want of memory, up to one that is large enough.
+fn opens_at_last(alloc: Global, limits: Limits) -> bool {
+    for step in 1..100_000usize {
+        match open_error(alloc, limits, STEP * step) {
+            Ok(None) => return true,
+            Ok(Some(OpenError::Memory)) => {}
+            _ => return false,
+        }
+    }
+    false
+}
+
 #[test]
 fn open_wants_memory(rt: HostRuntime) -> Result<(), Fail> {
     let limits = Limits::new(2, 64, 64, 1)?;
-    for step in 1..100_000usize {
-        let Some(error) = open_error(rt.alloc(), limits, STEP * step)? else {
-            return Ok(());
-        };
-        assert_eq!(rt; error, OpenError::Memory);
-    }
-    assert!(rt; false);
+    assert!(rt; opens_at_last(rt.alloc(), limits));
     Ok(())
 }
 
@@ -64,20 +70,34 @@ fn run_error(
     Ok(run::<&LocalHeap>(&heap, limits, turns).err())
 }
 
-#[test]
-fn run_wants_memory(rt: HostRuntime) -> Result<(), Fail> {
-    let limits = Limits::new(1, 64, 64, 1)?;
-    let turns = updates(rt.alloc())?;
+/// Whether larger and larger heaps lack memory at these turns, one after another, and at last at none.
+fn lacks(alloc: Global, limits: Limits, turns: &[Turn]) -> bool {
     let mut lacks = LACKS.as_slice().iter();
     let mut last = None;
     for step in 1..10_000usize {
-        let error = run_error(rt.alloc(), limits, turns.as_slice(), STEP * step)?;
-        if error != last {
-            assert_eq!(rt; error, lacks.next().map(|turn| RunError::Memory(*turn)));
+        let Ok(error) = run_error(alloc, limits, turns, STEP * step) else {
+            return false;
+        };
+        if error != last && error != lacks.next().map(|turn| RunError::Memory(*turn)) {
+            return false;
         }
         last = error;
     }
-    assert_eq!(rt; last, None);
+    last.is_none()
+}
+
+/// Whether the updates do.
+fn updates_lack(alloc: Global, limits: Limits) -> bool {
+    match updates(alloc) {
+        Ok(turns) => lacks(alloc, limits, turns.as_slice()),
+        Err(_) => false,
+    }
+}
+
+#[test]
+fn run_wants_memory(rt: HostRuntime) -> Result<(), Fail> {
+    let limits = Limits::new(1, 64, 64, 1)?;
+    assert!(rt; updates_lack(rt.alloc(), limits));
     Ok(())
 }
 
@@ -102,44 +122,59 @@ fn turn_when_full<'a>(
     alloc: Global,
     heap: &'a LocalHeap,
     core: &mut Core<&'a LocalHeap>,
-    turn: Turn,
-) -> Result<Result<Event, RunError>, AllocError> {
-    let pieces = filled(alloc, heap)?;
-    let event = core.turn(turn);
+    turn: &Turn,
+) -> Option<Result<Event, RunError>> {
+    let pieces = filled(alloc, heap).ok()?;
+    let event = core.turn(turn.clone().unwrap());
     drop(pieces);
-    Ok(event)
+    Some(event)
 }
 
-/// Whether both cores answer the same to what can be asked of them.
-fn are_alike(alloc: Global, core: &Core<&LocalHeap>, twin: &Core) -> bool {
-    let alike = core.turns() == twin.turns() && core.is_busy(0) == twin.is_busy(0);
+/// Whether both cores list the same pairs.
+fn list_alike(alloc: Global, core: &Core<&LocalHeap>, twin: &Core) -> bool {
     match (core.listing(alloc), twin.listing(alloc)) {
-        (Ok(pairs), Ok(same)) => alike && pairs == same,
+        (Ok(pairs), Ok(same)) => pairs == same,
         _ => false,
     }
 }
 
-/// Takes a turn of both cores, first while the heap of the one has nothing left, and says whether it was refused so: for want of
-/// memory, after which both are alike still. Answers none where anything else comes.
-fn is_refused<'a>(
+/// Whether both cores answer the same to what can be asked of them.
+fn are_alike(alloc: Global, core: &Core<&LocalHeap>, twin: &Core) -> bool {
+    core.turns() == twin.turns()
+        && core.is_busy(0) == twin.is_busy(0)
+        && list_alike(alloc, core, twin)
+}
+
+/// Whether the core refuses a turn while its heap has nothing left, for want of memory, and is like its twin still.
+fn refuses<'a>(
+    alloc: Global,
+    heap: &'a LocalHeap,
+    core: &mut Core<&'a LocalHeap>,
+    twin: &Core,
+    turn: &Turn,
+) -> bool {
+    let refused = Some(Err(RunError::Memory(twin.turns())));
+    turn_when_full(alloc, heap, core, turn) == refused && are_alike(alloc, core, twin)
+}
+
+/// Whether both cores take a turn alike, also while the heap of the one has nothing left, if that is said.
+fn take<'a>(
     alloc: Global,
     heap: &'a LocalHeap,
     core: &mut Core<&'a LocalHeap>,
     twin: &mut Core,
-    turn: &Turn,
-) -> Result<Option<bool>, AllocError> {
-    let mut event = turn_when_full(alloc, heap, core, turn.clone()?)?;
-    let refused = event.is_err();
-    if refused {
-        if event != Err(RunError::Memory(twin.turns())) || !are_alike(alloc, core, twin) {
-            return Ok(None);
-        }
-        event = core.turn(turn.clone()?);
-    }
-    Ok((event == twin.turn(turn.clone()?) && are_alike(alloc, core, twin)).then_some(refused))
+    (turn, full): (&Turn, bool),
+) -> bool {
+    let event = if full {
+        turn_when_full(alloc, heap, core, turn)
+    } else {
+        Some(core.turn(turn.clone().unwrap()))
+    };
+    event == Some(twin.turn(turn.clone().unwrap())) && are_alike(alloc, core, twin)
 }
 
-/// Takes the turns so, up to one that is not refused exactly where memory is wanted, and says how many were taken by then.
+/// Takes the turns while the heap has nothing left, but for those that want memory, which are refused first. Says how many were
+/// taken before one that is not refused exactly where memory is wanted.
 fn all_refused<'a>(
     alloc: Global,
     heap: &'a LocalHeap,
@@ -147,75 +182,56 @@ fn all_refused<'a>(
     twin: &mut Core,
     turns: &[Turn],
     wants: &[u64],
-) -> Result<u64, AllocError> {
+) -> u64 {
     for turn in turns {
         let wants = wants.contains(&core.turns());
-        if is_refused(alloc, heap, core, twin, turn)? != Some(wants) {
+        let refused = !wants || refuses(alloc, heap, core, twin, turn);
+        if !refused || !take(alloc, heap, core, twin, (turn, !wants)) {
             break;
         }
     }
-    Ok(core.turns())
+    core.turns()
 }
 
 /// Takes first turns while there is memory, and the turns behind them so.
-fn taken_by_twins(
-    alloc: Global,
-    heap: &LocalHeap,
-    first: &[Turn],
-    turns: &[Turn],
-    wants: &[u64],
-) -> Result<u64, AllocError> {
-    let Ok(limits) = Limits::new(1, 64, 64, 1) else {
-        return Ok(0);
-    };
-    let Ok(mut twin) = Core::open(alloc, limits) else {
-        return Ok(0);
-    };
-    match Core::<&LocalHeap>::open(heap, limits) {
-        Ok(mut core) => {
-            if are_taken(&mut core, first) && are_taken(&mut twin, first) {
-                all_refused(alloc, heap, &mut core, &mut twin, turns, wants)
-            } else {
-                Ok(0)
-            }
-        }
-        Err(_) => Ok(0),
+fn taken_by_twins(alloc: Global, first: &[Turn], turns: &[Turn], wants: &[u64]) -> Option<u64> {
+    let limits = Limits::new(1, 64, 64, 1).ok()?;
+    let heap = LocalHeap::new(alloc, 1 << 22).ok()?;
+    let mut twin = Core::open(alloc, limits).ok()?;
+    let mut core = Core::<&LocalHeap>::open(&heap, limits).ok()?;
+    if !are_taken(&mut core, first) || !are_taken(&mut twin, first) {
+        return None;
     }
+    Some(all_refused(alloc, &heap, &mut core, &mut twin, turns, wants))
+}
+
+/// How many of the updates are taken so.
+fn updates_taken(alloc: Global) -> Option<u64> {
+    let turns = updates(alloc).ok()?;
+    taken_by_twins(alloc, &[], turns.as_slice(), &WANTS)
 }
 
 #[test]
-fn turn_wants_memory(rt: HostRuntime) -> Result<(), Fail> {
-    let turns = updates(rt.alloc())?;
-    let heap = LocalHeap::new(rt.alloc(), 1 << 22)?;
-    assert_eq!(rt;
-        taken_by_twins(rt.alloc(), &heap, &[], turns.as_slice(), &WANTS)?,
-        23
-    );
-    Ok(())
+fn turn_wants_memory(rt: HostRuntime) {
+    assert!(rt; updates_taken(rt.alloc()) == Some(23));
 }
 
 /// Before which turns a cursor page behind one insert wants memory: where the trace has to grow, at 16, and for its pairs, at its
 /// last step.
 const PAGE_WANTS: [u64; 2] = [16, 18];
 
-#[test]
-fn page_wants_memory(rt: HostRuntime) -> Result<(), Fail> {
-    let mut first = vec![in rt.alloc(); Turn::Step(0); 11]?;
+/// How many turns of an insert and a cursor page are taken so.
+fn page_taken(alloc: Global) -> Option<u64> {
+    let mut first = vec![in alloc; Turn::Step(0); 11].ok()?;
     first[0] = insert(Key::default(), Value::default());
-    let mut turns = vec![in rt.alloc(); Turn::Step(0); 8]?;
+    let mut turns = vec![in alloc; Turn::Step(0); 8].ok()?;
     turns[0] = Turn::Begin(0, Command::Page(Key::default()));
-    let heap = LocalHeap::new(rt.alloc(), 1 << 22)?;
-    assert_eq!(rt;
-        taken_by_twins(
-            rt.alloc(),
-            &heap,
-            first.as_slice(),
-            turns.as_slice(),
-            &PAGE_WANTS
-        )?,
-        19
-    );
-    Ok(())
+    taken_by_twins(alloc, first.as_slice(), turns.as_slice(), &PAGE_WANTS)
+}
+
+#[test]
+fn page_wants_memory(rt: HostRuntime) {
+    assert!(rt; page_taken(rt.alloc()) == Some(19));
 }
 
 /// Sixteen inserts in the order of their keys, and their steps. The ninth consolidates the page, and the tenth first frees the rows of
@@ -240,23 +256,17 @@ fn inserts(alloc: Global) -> Result<Vec<Turn>, AllocError> {
 /// the trace has to grow, at 256, and for each of the five records that are placed.
 const SPLIT_WANTS: [u64; 6] = [256, 266, 277, 279, 291, 306];
 
-#[test]
-fn split_wants_memory(rt: HostRuntime) -> Result<(), Fail> {
-    let first = inserts(rt.alloc())?;
-    let mut turns = vec![in rt.alloc(); Turn::Step(0); 59]?;
+/// How many turns of the inserts are taken so.
+fn split_taken(alloc: Global) -> Option<u64> {
+    let first = inserts(alloc).ok()?;
+    let mut turns = vec![in alloc; Turn::Step(0); 59].ok()?;
     turns[0] = Turn::Begin(0, numbered::insert(16));
-    let heap = LocalHeap::new(rt.alloc(), 1 << 22)?;
-    assert_eq!(rt;
-        taken_by_twins(
-            rt.alloc(),
-            &heap,
-            first.as_slice(),
-            turns.as_slice(),
-            &SPLIT_WANTS
-        )?,
-        309
-    );
-    Ok(())
+    taken_by_twins(alloc, first.as_slice(), turns.as_slice(), &SPLIT_WANTS)
+}
+
+#[test]
+fn split_wants_memory(rt: HostRuntime) {
+    assert!(rt; split_taken(rt.alloc()) == Some(309));
 }
 
 /// Whether the core takes the turns.
@@ -275,18 +285,26 @@ fn listing_error(alloc: Global, core: &Core, size: usize) -> Result<Option<RunEr
     Ok(core.listing::<&LocalHeap>(&heap).err())
 }
 
-#[test]
-fn listing_wants_memory(rt: HostRuntime) -> Result<(), Fail> {
-    let mut core = Core::open(rt.alloc(), Limits::new(1, 64, 64, 1)?)?;
-    let turns = updates(rt.alloc())?;
-    assert!(rt; are_taken(&mut core, turns.as_slice()));
+/// Whether each heap that is too small is refused for want of memory, at least one, up to one that is large enough.
+fn lists_at_last(alloc: Global, core: &Core) -> bool {
     for step in 1..10_000usize {
-        let Some(error) = listing_error(rt.alloc(), &core, STEP * step)? else {
-            assert!(rt; step > 1);
-            return Ok(());
-        };
-        assert_eq!(rt; error, RunError::Memory(23));
+        match listing_error(alloc, core, STEP * step) {
+            Ok(None) => return step > 1,
+            Ok(Some(RunError::Memory(23))) => {}
+            _ => return false,
+        }
     }
-    assert!(rt; false);
-    Ok(())
+    false
+}
+
+/// Whether the listing is refused so behind the updates.
+fn listing_lacks(alloc: Global) -> Option<bool> {
+    let turns = updates(alloc).ok()?;
+    let mut core = Core::open(alloc, Limits::new(1, 64, 64, 1).ok()?).ok()?;
+    Some(are_taken(&mut core, turns.as_slice()) && lists_at_last(alloc, &core))
+}
+
+#[test]
+fn listing_wants_memory(rt: HostRuntime) {
+    assert!(rt; listing_lacks(rt.alloc()) == Some(true));
 }

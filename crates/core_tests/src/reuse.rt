@@ -4,11 +4,11 @@ use crate::accounts::{comes_to_rest, is_settled, is_sound};
 use crate::by_hand::{begins, finish, replies, reply, steps};
 use crate::numbered;
 use crate::pages::{key, value};
+use crate::scripts::{Ask, Line, Say, after, opened};
 use crate::small_leaves::lists;
-use bw_model::{Answer, Command, Limits, Reply, Step};
+use bw_model::{Answer, Command, Reply, Step};
 use chain_search::{Entry, SharedEntry};
 use std::alloc::Global;
-use std::test::Fail;
 use step_core::Core;
 
 /// The greatest epoch, which is never retired.
@@ -79,25 +79,28 @@ fn retired_and_freed(entries: &[SharedEntry], first: u64, end: u64) -> (u32, u32
 
 /// Whether the core lists all seventeen keys.
 pub(crate) fn is_round(alloc: Global, core: &Core) -> bool {
-    lists(alloc, core, &SEVENTEEN, &value(10))
+    lists(alloc, core, &SEVENTEEN, 10)
+}
+
+/// Whether all goes on for a hundred rounds.
+fn come_and_go(alloc: Global) -> Option<bool> {
+    let end = rounds(100);
+    let mut core = opened(alloc, 2, 256, 1)?;
+    let right = served(&mut core, 0, end) == Some(end) && is_round(alloc, &core);
+    Some(right && is_settled(alloc, core, &key(20)))
 }
 
 // Each round removes a page and makes one: the identifiers would do for 61 rounds, the rows for fewer than ten.
 #[test]
-fn pages_come_and_go(rt: HostRuntime) -> Result<(), Fail> {
-    let end = rounds(100);
-    let mut core = Core::open(rt.alloc(), Limits::new(2, 64, 256, 1)?)?;
-    assert_eq!(rt; served(&mut core, 0, end), Some(end));
-    assert!(rt; is_round(rt.alloc(), &core));
-    assert!(rt; is_settled(rt.alloc(), core, &key(20)));
-    Ok(())
+fn pages_come_and_go(rt: HostRuntime) {
+    assert!(rt; come_and_go(rt.alloc()) == Some(true));
 }
 
 /// Whether all goes on as it is to where actor 2 stays inside from the second round on: before so many rounds are done the others
 /// find no room, since nothing is freed, and once it has left there is room again.
 fn waits(alloc: Global, rows: u64, epoch: u64, count: u32) -> Option<[bool; 9]> {
-    let limits = Limits::new(3, 64, rows, epoch).ok()?;
-    let mut core = Core::open(alloc, limits).ok()?;
+    let mut core = opened(alloc, 3, rows, epoch)?;
+    let limits = *core.limits();
     let (first, end) = (rounds(2), rounds(count));
     let grown = served(&mut core, 0, first) == Some(first);
     let begun = begins(&mut core, 2, Command::Get(key(10)));
@@ -126,22 +129,21 @@ fn waits(alloc: Global, rows: u64, epoch: u64, count: u32) -> Option<[bool; 9]> 
 
 // With few rows these are gone before the twelfth round, with many the identifiers are before the seventieth.
 #[test]
-fn what_an_actor_inside_may_reach_waits(rt: HostRuntime) -> Result<(), Fail> {
-    for epoch in [1, LAST_EPOCH.wrapping_sub(1), LAST_EPOCH] {
-        assert_eq!(rt;
-            waits(rt.alloc(), 128, epoch, 12),
-            Some([true; 9]),
-            "{epoch}"
-        );
+fn what_an_actor_inside_may_reach_waits(rt: HostRuntime) {
+    for (rows, epoch, count) in [
+        (128, 1, 12),
+        (128, LAST_EPOCH - 1, 12),
+        (128, LAST_EPOCH, 12),
+        (2048, 1, 70),
+    ] {
+        assert!(rt; waits(rt.alloc(), rows, epoch, count) == Some([true; 9]));
     }
-    assert_eq!(rt; waits(rt.alloc(), 2048, 1, 70), Some([true; 9]));
-    Ok(())
 }
 
 /// How many epochs are retired in some rounds from this epoch on, if all goes well.
 fn retired(alloc: Global, epoch: u64) -> Option<u32> {
-    let limits = Limits::new(2, 64, 128, epoch).ok()?;
-    let mut core = Core::open(alloc, limits).ok()?;
+    let mut core = opened(alloc, 2, 128, epoch)?;
+    let limits = *core.limits();
     let goes = served(&mut core, 0, rounds(20)) == Some(rounds(20));
     let rests = comes_to_rest(&mut core, &key(20));
     let turns = core.turns();
@@ -152,57 +154,73 @@ fn retired(alloc: Global, epoch: u64) -> Option<u32> {
 }
 
 #[test]
-fn the_last_epoch_stays(rt: HostRuntime) -> Result<(), Fail> {
+fn the_last_epoch_stays(rt: HostRuntime) {
     for before in [0u32, 1, 5] {
-        let epoch = LAST_EPOCH.wrapping_sub(u64::from(before));
-        assert_eq!(rt; retired(rt.alloc(), epoch), Some(before));
+        let epoch = LAST_EPOCH - u64::from(before);
+        assert!(rt; retired(rt.alloc(), epoch) == Some(before));
     }
-    Ok(())
 }
 
-/// Whether an entry is this step of a sweep: the epoch is read and retired, the other actor's announce is read, and the rows 1 to 9
-/// are freed; then the operation enters.
-fn is_swept(place: usize, entry: &SharedEntry) -> bool {
+/// A letter for an entry, if it is one of these: the epoch 1 is read and retired, the other actor's announce is read, and the rows 1 to
+/// 9 are freed; then the operation enters at the epoch 2.
+fn swept(entry: &SharedEntry) -> u8 {
     let Entry::Step(0, step, answer, None) = entry.entry() else {
-        return false;
+        return b'-';
     };
-    match (place, step, answer) {
-        (0, Step::Epoch, Answer::Number(1)) => true,
-        (1, Step::Retire(1), Answer::Whether(true)) => true,
-        (2, Step::Announce(1), Answer::Number(0)) => true,
-        (3, Step::ReuseRows(0, 0b11_1111_1110), Answer::Done) => true,
-        (4, Step::Epoch, Answer::Number(2)) => true,
-        (5, Step::Enter(2), Answer::Done) => true,
-        _ => false,
+    match (step, answer) {
+        (Step::Epoch, Answer::Number(1)) => b'1',
+        (Step::Retire(1), Answer::Whether(true)) => b't',
+        (Step::Announce(1), Answer::Number(0)) => b'a',
+        (Step::ReuseRows(0, 0b11_1111_1110), Answer::Done) => b'r',
+        (Step::Epoch, Answer::Number(2)) => b'2',
+        (Step::Enter(2), Answer::Done) => b'i',
+        _ => b'-',
     }
+}
+
+/// Whether the entries from one on have these letters.
+pub(crate) fn has_letters<F: Fn(&SharedEntry) -> u8>(
+    entries: &[SharedEntry],
+    first: u64,
+    letters: &[u8],
+    letter: F,
+) -> bool
+    requires { F.IsAlwaysCallable letter }
+{
+    let mut left = entries.iter().skip(first as usize);
+    for wanted in letters {
+        let Some(entry) = left.next() else {
+            return false;
+        };
+        if letter(entry) != *wanted {
+            return false;
+        }
+    }
+    true
+}
+
+/// Nine inserts, and a lookup.
+const BEFORE_SWEEP: [Line; 2] = [
+    Line::Inserts(1, 9),
+    Line::Replies(0, Ask::Get(9), Say::Value(9)),
+];
+
+/// Whether the tenth insert takes sixteen turns, the first six steps of which are those of a sweep and the entry.
+fn is_swept(alloc: Global) -> Option<bool> {
+    let mut core = after(alloc, 2, 256, &BEFORE_SWEEP)?;
+    let turns = core.turns();
+    let inserted = replies(&mut core, 0, Ask::Insert(10).command(), Reply::Inserted);
+    let took = core.turns().saturating_sub(turns);
+    let trace = core.into_trace();
+    let entries = trace.entries.as_slice();
+    let first = turns.saturating_add(1);
+    Some(inserted && took == 16 && has_letters(entries, first, b"1tar2i", swept))
 }
 
 // The ninth insert consolidates; the old chain's rows are 1 to 9. A lookup leaves them to the tenth insert, which frees them.
 #[test]
-fn the_steps_of_a_sweep(rt: HostRuntime) -> Result<(), Fail> {
-    let mut core = Core::open(rt.alloc(), Limits::new(2, 64, 256, 1)?)?;
-    for number in 1..=9u8 {
-        let insert = Command::Insert(key(number), value(number));
-        assert!(rt; replies(&mut core, 0, insert, Reply::Inserted));
-    }
-    assert!(rt; replies(&mut core, 0, Command::Get(key(9)), Reply::Value(value(9))));
-    let turns = core.turns();
-    assert!(rt;
-        replies(
-            &mut core,
-            0,
-            Command::Insert(key(10), value(10)),
-            Reply::Inserted
-        )
-    );
-    assert_eq!(rt; core.turns(), turns.wrapping_add(16));
-    let trace = core.into_trace();
-    let first = turns.wrapping_add(1) as usize;
-    let sweep = trace.entries.iter().skip(first).take(6);
-    for (place, entry) in sweep.enumerate() {
-        assert!(rt; is_swept(place, entry), "{place}");
-    }
-    Ok(())
+fn the_steps_of_a_sweep(rt: HostRuntime) {
+    assert!(rt; is_swept(rt.alloc()) == Some(true));
 }
 
 /// How many keys are inserted in their order before there is no room for one more.
@@ -217,32 +235,38 @@ fn inserted(core: &mut Core) -> Option<u32> {
     None
 }
 
-/// Whether the commands on these keys each have the reply.
-fn all_reply(core: &mut Core, first: u32, end: u32, insert: bool) -> bool {
+/// Whether so many keys from one on are deleted.
+fn all_deleted(core: &mut Core, first: u32, end: u32) -> bool {
     for number in first..end {
-        let right = if insert {
-            replies(core, 1, numbered::insert(number), Reply::Inserted)
-        } else {
-            let delete = Command::Delete(numbered::key(number));
-            replies(core, 1, delete, Reply::Deleted(numbered::value(number)))
-        };
-        if !right {
+        let delete = Command::Delete(numbered::key(number));
+        if !replies(core, 1, delete, Reply::Deleted(numbered::value(number))) {
             return false;
         }
     }
     true
 }
 
+/// Whether so many keys from one on are inserted.
+fn all_inserted(core: &mut Core, first: u32, end: u32) -> bool {
+    for number in first..end {
+        if !replies(core, 1, numbered::insert(number), Reply::Inserted) {
+            return false;
+        }
+    }
+    true
+}
+
+/// Whether a full tree takes keys at one end once those at the other end are deleted.
+fn goes_on(alloc: Global) -> Option<bool> {
+    let mut core = opened(alloc, 2, 1024, 1)?;
+    let right = inserted(&mut core) == Some(448)
+        && all_deleted(&mut core, 0, 200)
+        && all_inserted(&mut core, 448, 600);
+    Some(right && is_settled(alloc, core, &numbered::key(0)))
+}
+
 // The identifiers do for 448 keys. Once leaves at the other end are removed, the tree grows on.
 #[test]
-fn a_full_tree_goes_on(rt: HostRuntime) -> Result<(), Fail> {
-    let mut core = Core::open(rt.alloc(), Limits::new(2, 64, 1024, 1)?)?;
-    let told = [
-        inserted(&mut core) == Some(448),
-        all_reply(&mut core, 0, 200, false),
-        all_reply(&mut core, 448, 600, true),
-        is_settled(rt.alloc(), core, &numbered::key(0)),
-    ];
-    assert_eq!(rt; told, [true; 4]);
-    Ok(())
+fn a_full_tree_goes_on(rt: HostRuntime) {
+    assert!(rt; goes_on(rt.alloc()) == Some(true));
 }

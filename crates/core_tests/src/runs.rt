@@ -1,168 +1,153 @@
 //! Runs by hand, with the counts of steps and the replies that are wanted of them.
 
-use crate::by_hand::{begins, ends, lists, replies, steps};
-use bw_model::{Command, Key, Limits, Link, Reply, Value};
+use crate::pages::{key, value};
+use crate::scripts::{Ask, Line, Say, is_told};
+use bw_model::{Command, Limits, Link, Reply};
 use chain_search::{Entry, SharedEntry, Turn};
 use std::alloc::{AllocError, Global};
-use std::test::Fail;
 use step_core::{Core, RunError, run};
 
-fn key(text: &[u8]) -> Key {
-    Key::from_slice(text).unwrap_or_default()
-}
-
-fn value(text: &[u8]) -> Value {
-    Value::from_slice(text).unwrap_or_default()
-}
-
-fn insert(text: &[u8], of: &[u8]) -> Command {
-    Command::Insert(key(text), value(of))
-}
-
-#[test]
-fn takes_the_steps_of_a_lookup_and_an_insert(rt: HostRuntime) -> Result<(), Fail> {
-    let mut core = Core::open(rt.alloc(), Limits::new(2, 64, 256, 1)?)?;
-    let told = [
-        begins(&mut core, 0, Command::Get(key(b"a"))),
-        steps(&mut core, 0, 5, None),
-        ends(&mut core, 0, Reply::None),
-        begins(&mut core, 1, insert(b"a", b"1")),
-        steps(&mut core, 1, 8, None),
-        steps(&mut core, 1, 1, Some(Link::Put)),
-        ends(&mut core, 1, Reply::Inserted),
-        core.turns() == 18,
-        lists(rt.alloc(), &core, &[(key(b"a"), value(b"1"))]),
-    ];
-    assert_eq!(rt; told, [true; 9]);
-    Ok(())
-}
+const LOOKUP_AND_INSERT: [Line; 9] = [
+    Line::Begins(0, Ask::Get(1)),
+    Line::Steps(0, 5, None),
+    Line::Ends(0, Say::None),
+    Line::Begins(1, Ask::Insert(1)),
+    Line::Steps(1, 8, None),
+    Line::Steps(1, 1, Some(Link::Put)),
+    Line::Ends(1, Say::Inserted),
+    Line::Turns(18),
+    Line::Lists(&[1], 10),
+];
 
 #[test]
-fn a_lost_exchange_keeps_its_row(rt: HostRuntime) -> Result<(), Fail> {
-    let mut core = Core::open(rt.alloc(), Limits::new(2, 64, 64, 1)?)?;
-    let told = [
-        begins(&mut core, 0, insert(b"a", b"1")),
-        steps(&mut core, 0, 8, None),
-        begins(&mut core, 1, insert(b"b", b"2")),
-        steps(&mut core, 1, 8, None),
-        steps(&mut core, 1, 1, Some(Link::Put)),
-        ends(&mut core, 1, Reply::Inserted),
-        !core.is_busy(1),
-        // The exchange loses; then a round of four reads, and the row that was kept is placed and exchanged.
-        steps(&mut core, 0, 6, None),
-        steps(&mut core, 0, 1, Some(Link::Put)),
-        ends(&mut core, 0, Reply::Inserted),
-        !core.is_busy(0),
-    ];
-    assert_eq!(rt; told, [true; 11]);
-    Ok(())
+fn takes_the_steps_of_a_lookup_and_an_insert(rt: HostRuntime) {
+    assert!(rt; is_told(rt.alloc(), 2, 256, &LOOKUP_AND_INSERT));
 }
 
-/// How many pairs the core lists.
-fn listed(alloc: Global, core: &Core) -> Option<usize> {
-    match core.listing(alloc) {
-        Ok(pairs) => Some(pairs.len()),
-        Err(_) => None,
-    }
-}
+const LOST_EXCHANGE: [Line; 11] = [
+    Line::Begins(0, Ask::Insert(1)),
+    Line::Steps(0, 8, None),
+    Line::Begins(1, Ask::Insert(2)),
+    Line::Steps(1, 8, None),
+    Line::Steps(1, 1, Some(Link::Put)),
+    Line::Ends(1, Say::Inserted),
+    Line::Idle(1),
+    // The exchange loses; then a round of four reads, and the row that was kept is placed and exchanged.
+    Line::Steps(0, 6, None),
+    Line::Steps(0, 1, Some(Link::Put)),
+    Line::Ends(0, Say::Inserted),
+    Line::Idle(0),
+];
 
 #[test]
-fn a_writer_consolidates(rt: HostRuntime) -> Result<(), Fail> {
-    let mut core = Core::open(rt.alloc(), Limits::new(1, 64, 64, 1)?)?;
-    for digit in b"12345678" {
-        let text = [b'k', *digit];
-        assert!(rt; replies(&mut core, 0, insert(&text, &text), Reply::Inserted));
-    }
-    let told = [
-        core.turns() == 116,
-        replies(
-            &mut core,
-            0,
-            Command::Delete(key(b"k1")),
-            Reply::Deleted(value(b"k1")),
-        ),
-        core.turns() == 142,
-        replies(&mut core, 0, Command::Get(key(b"k1")), Reply::None),
-        listed(rt.alloc(), &core) == Some(7),
-    ];
-    assert_eq!(rt; told, [true; 5]);
-    Ok(())
+fn a_lost_exchange_keeps_its_row(rt: HostRuntime) {
+    assert!(rt; is_told(rt.alloc(), 2, 64, &LOST_EXCHANGE));
+}
+
+const CONSOLIDATION: [Line; 6] = [
+    Line::Inserts(1, 8),
+    Line::Turns(116),
+    Line::Replies(0, Ask::Delete(1), Say::Deleted(1)),
+    Line::Turns(142),
+    Line::Replies(0, Ask::Get(1), Say::None),
+    Line::Lists(&[2, 3, 4, 5, 6, 7, 8], 10),
+];
+
+#[test]
+fn a_writer_consolidates(rt: HostRuntime) {
+    assert!(rt; is_told(rt.alloc(), 1, 64, &CONSOLIDATION));
 }
 
 /// Two inserts of one key, the first of which takes ten steps, and the second seven.
 fn inserts(alloc: Global) -> Result<Vec<Turn>, AllocError> {
     let mut turns = vec![in alloc; Turn::Step(0); 19]?;
-    turns[0] = Turn::Begin(0, insert(b"b", b"2"));
-    turns[11] = Turn::Begin(0, insert(b"b", b"3"));
+    turns[0] = Turn::Begin(0, Ask::Insert(2).command());
+    turns[11] = Turn::Begin(0, Command::Insert(key(2), value(3)));
     Ok(turns)
 }
 
 /// The reply of a step.
-fn reply_of(entry: &SharedEntry) -> Option<Reply> {
-    match entry.entry() {
+fn reply_of(entry: Option<&SharedEntry>) -> Option<Reply> {
+    match entry?.entry() {
         Entry::Step(_, _, _, reply) => reply,
         Entry::Begin(_, _) => None,
     }
 }
 
-#[test]
-fn runs_all_turns(rt: HostRuntime) -> Result<(), Fail> {
-    let turns = inserts(rt.alloc())?;
-    let trace = run(rt.alloc(), Limits::new(1, 64, 64, 1)?, turns.as_slice())?;
-    assert_eq!(rt; trace.entries.len(), 19);
-    assert!(rt; reply_of(&trace.entries[10]) == Some(Reply::Inserted));
-    assert!(rt; reply_of(&trace.entries[18]) == Some(Reply::Exists(value(b"2"))));
-    Ok(())
+/// Whether these are nineteen entries, with a reply at 10, and one at 18.
+fn are_answered(entries: &[SharedEntry]) -> bool {
+    entries.len() == 19
+        && reply_of(entries.get(10)) == Some(Reply::Inserted)
+        && reply_of(entries.get(18)) == Some(Say::Exists(2).reply())
 }
 
-fn refusal(alloc: Global, limits: Limits, turns: &[Turn]) -> Option<RunError> {
-    run(alloc, limits, turns).err()
+/// The limits of the runs below.
+fn limits(actors: u64) -> Option<Limits> {
+    Limits::new(actors, 64, 64, 1).ok()
+}
+
+/// Whether the two inserts are run.
+fn are_run(alloc: Global) -> Option<bool> {
+    let turns = inserts(alloc).ok()?;
+    let trace = run(alloc, limits(1)?, turns.as_slice()).ok()?;
+    Some(are_answered(trace.entries.as_slice()))
 }
 
 #[test]
-fn refuses_turns(rt: HostRuntime) -> Result<(), Fail> {
-    let limits = Limits::new(2, 64, 64, 1)?;
-    let unfinished = [
-        Turn::Begin(0, Command::Get(key(b"a"))),
-        Turn::Begin(0, Command::Get(key(b"a"))),
+fn runs_all_turns(rt: HostRuntime) {
+    assert!(rt; are_run(rt.alloc()) == Some(true));
+}
+
+fn refusal(alloc: Global, actors: u64, turns: &[Turn]) -> Option<RunError> {
+    run(alloc, limits(actors)?, turns).err()
+}
+
+/// A lookup that begins.
+fn begins() -> Turn {
+    Turn::Begin(0, Ask::Get(1).command())
+}
+
+#[test]
+fn refuses_turns(rt: HostRuntime) {
+    let refused = [
+        refusal(rt.alloc(), 2, &[Turn::Step(3)]),
+        refusal(rt.alloc(), 2, &[begins(), begins()]),
+        refusal(rt.alloc(), 2, &[Turn::Step(0)]),
     ];
-    assert_eq!(rt;
-        refusal(rt.alloc(), limits, &[Turn::Step(3)]),
-        Some(RunError::NoActor(0))
-    );
-    assert_eq!(rt;
-        refusal(rt.alloc(), limits, &unfinished),
-        Some(RunError::Unfinished(1))
-    );
-    assert_eq!(rt;
-        refusal(rt.alloc(), limits, &[Turn::Step(0)]),
-        Some(RunError::NoOperation(0))
-    );
-    Ok(())
+    let wanted = [
+        Some(RunError::NoActor(0)),
+        Some(RunError::Unfinished(1)),
+        Some(RunError::NoOperation(0)),
+    ];
+    assert!(rt; refused == wanted);
+}
+
+/// How a core of one actor refuses the turns, and how many it has taken before.
+fn stopped(alloc: Global, turns: &[Turn]) -> Option<(RunError, u64)> {
+    let mut core = Core::open(alloc, limits(1)?).ok()?;
+    let refused = core.take_turns(turns).err()?;
+    Some((refused, core.turns()))
 }
 
 /// The two inserts with another turn in a place, as `run` refuses them, where a core refuses them the same, and has taken the turns before.
 fn refused_at(alloc: Global, at: u8, turn: Turn) -> Option<RunError> {
-    let limits = Limits::new(1, 64, 64, 1).ok()?;
     let mut turns = inserts(alloc).ok()?;
     *turns.get_mut(usize::from(at))? = turn;
-    let mut core = Core::open(alloc, limits).ok()?;
-    let refused = core.take_turns(turns.as_slice()).err()?;
-    if core.turns() == u64::from(at) && refusal(alloc, limits, turns.as_slice()) == Some(refused) {
-        Some(refused)
-    } else {
-        None
-    }
+    let refused = refusal(alloc, 1, turns.as_slice())?;
+    (stopped(alloc, turns.as_slice()) == Some((refused, u64::from(at)))).then_some(refused)
 }
 
 #[test]
-fn refuses_by_the_turns_before(rt: HostRuntime) -> Result<(), Fail> {
-    let alloc = rt.alloc();
+fn refuses_by_the_turns_before(rt: HostRuntime) {
     let refused = [
-        refused_at(alloc, 10, Turn::Begin(0, insert(b"b", b"4"))) == Some(RunError::Unfinished(10)),
-        refused_at(alloc, 11, Turn::Step(0)) == Some(RunError::NoOperation(11)),
-        refused_at(alloc, 12, Turn::Begin(0, insert(b"b", b"4"))) == Some(RunError::Unfinished(12)),
+        refused_at(rt.alloc(), 10, begins()),
+        refused_at(rt.alloc(), 11, Turn::Step(0)),
+        refused_at(rt.alloc(), 12, begins()),
     ];
-    assert_eq!(rt; refused, [true; 3]);
-    Ok(())
+    let wanted = [
+        Some(RunError::Unfinished(10)),
+        Some(RunError::NoOperation(11)),
+        Some(RunError::Unfinished(12)),
+    ];
+    assert!(rt; refused == wanted);
 }

@@ -9,7 +9,6 @@ use rand_core::SeedableRng;
 use rand_core::utils::NextWord;
 use rand_pcg::Pcg32;
 use std::alloc::{AllocError, Global};
-use std::test::Fail;
 use step_core::{Core, Event};
 
 /// The bit that stands for a value.
@@ -248,17 +247,10 @@ impl Twin {
 
     /// Whether the core lists exactly the map's pairs.
     fn is_listed(&self, alloc: Global, core: &Core) -> bool {
-        let Ok(pairs) = core.listing(alloc) else {
-            return false;
-        };
-        let mut left = pairs.as_slice().iter();
-        for number in 0..1024u32 {
-            let had = self.map.value(number);
-            if had != ABSENT && left.next() != Some(&(key(number), value(had))) {
-                return false;
-            }
+        match core.listing(alloc) {
+            Ok(pairs) => self.map.has(pairs.as_slice()),
+            Err(_) => false,
         }
-        left.next().is_none()
     }
 }
 
@@ -334,56 +326,46 @@ fn seen(
 
 // All rows but one leaf's are used again and again.
 #[test]
-fn few_keys(rt: HostRuntime) -> Result<(), Fail> {
+fn few_keys(rt: HostRuntime) {
     let four = seen(rt.alloc(), (&FOUR, 8), (7, 3, 20_000), (64, 64));
     let seven = seen(rt.alloc(), (&SEVEN, 8), (12, 3, 20_000), (64, 64));
-    assert_eq!(rt;
-        (four, seven),
-        (Some((0, false, false)), Some((0, false, false)))
-    );
-    Ok(())
+    let wanted = Some((0, false, false));
+    assert!(rt; four == wanted && seven == wanted);
 }
 
 #[test]
-fn keys_for_three_levels(rt: HostRuntime) -> Result<(), Fail> {
+fn keys_for_three_levels(rt: HostRuntime) {
     let four = seen(rt.alloc(), (&FOUR, 676), (8, 3, 50_000), (256, 2048));
-    assert_eq!(rt; four, Some((2, false, false)));
-    Ok(())
+    assert!(rt; four == Some((2, false, false)));
 }
 
 #[test]
-fn seven_commands_on_three_levels(rt: HostRuntime) -> Result<(), Fail> {
+fn seven_commands_on_three_levels(rt: HostRuntime) {
     let seven = seen(rt.alloc(), (&SEVEN, 676), (13, 5, 40_000), (256, 2048));
-    assert_eq!(rt; seven, Some((2, false, false)));
-    Ok(())
+    assert!(rt; seven == Some((2, false, false)));
 }
 
 #[test]
-fn many_actors(rt: HostRuntime) -> Result<(), Fail> {
+fn many_actors(rt: HostRuntime) {
     let four = seen(rt.alloc(), (&FOUR, 40), (9, 16, 30_000), (64, 512));
-    assert_eq!(rt; four, Some((1, false, false)));
-    Ok(())
+    assert!(rt; four == Some((1, false, false)));
 }
 
 #[test]
-fn few_pids(rt: HostRuntime) -> Result<(), Fail> {
+fn few_pids(rt: HostRuntime) {
     let four = seen(
         rt.alloc(),
         (&FEW_DELETES, 1024),
         (10, 4, 60_000),
         (64, 1024),
     );
-    assert_eq!(rt; four, Some((2, true, true)));
-    Ok(())
+    assert!(rt; four == Some((2, true, true)));
 }
 
 #[test]
-fn few_rows(rt: HostRuntime) -> Result<(), Fail> {
+fn few_rows(rt: HostRuntime) {
     let four = seen(rt.alloc(), (&FOUR, 100), (11, 6, 20_000), (64, 64));
     let seven = seen(rt.alloc(), (&SEVEN, 300), (14, 6, 20_000), (64, 64));
-    assert_eq!(rt;
-        (four, seven),
-        (Some((1, true, true)), Some((1, true, true)))
-    );
-    Ok(())
+    let wanted = Some((1, true, true));
+    assert!(rt; four == wanted && seven == wanted);
 }

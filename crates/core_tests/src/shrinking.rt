@@ -3,11 +3,11 @@
 ghost use Rattle.std.specs.Prelude.{◌<◌};
 
 use crate::by_hand::{begins, replies, reply};
-use crate::numbered::{insert, key, value};
-use bw_model::{Command, Key, Limits, Pairs, Reply};
+use crate::numbered::{are_first, insert, key, value};
+use crate::scripts::opened;
+use bw_model::{Command, Key, Pairs, Reply};
 use chain_search::Turn;
 use std::alloc::Global;
-use std::test::Fail;
 use step_core::{Core, Event};
 
 /// How many keys there are.
@@ -56,20 +56,12 @@ fn shrinks(core: &mut Core, order: Order) -> bool {
     true
 }
 
-/// Whether the core lists all keys, or none.
-fn lists(alloc: Global, core: &Core, all: bool) -> bool {
-    let Ok(pairs) = core.listing(alloc) else {
-        return false;
-    };
-    let mut left = pairs.as_slice().iter();
-    if all {
-        for number in 0..KEYS {
-            if left.next() != Some(&(key(number), value(number))) {
-                return false;
-            }
-        }
+/// Whether the core lists the first so many keys, and no others.
+fn lists(alloc: Global, core: &Core, count: u32) -> bool {
+    match core.listing(alloc) {
+        Ok(pairs) => are_first(pairs.as_slice(), count),
+        Err(_) => false,
     }
-    left.next().is_none()
 }
 
 /// How many leaves there are, by their cursor pages.
@@ -93,41 +85,38 @@ fn is_empty(alloc: Global, core: &mut Core) -> bool {
         items: Pairs::new(),
         next: None,
     };
-    replies(core, 1, Command::Page(Key::default()), empty) && lists(alloc, core, false)
+    replies(core, 1, Command::Page(Key::default()), empty) && lists(alloc, core, 0)
 }
 
 /// Whether the tree grows to nine leaves, of eight keys each but the last, and shrinks to one, and whether it does so once more.
 fn lives_twice(alloc: Global, order: Order) -> Option<[bool; 9]> {
-    let mut core = Core::open(alloc, Limits::new(2, 64, 4096, 1).ok()?).ok()?;
+    let mut core = opened(alloc, 2, 4096, 1)?;
     Some([
         grows(&mut core),
-        lists(alloc, &core, true),
+        lists(alloc, &core, KEYS),
         leaves(&mut core) == Some(9),
         shrinks(&mut core, order),
         is_empty(alloc, &mut core),
         grows(&mut core),
-        lists(alloc, &core, true),
+        lists(alloc, &core, KEYS),
         shrinks(&mut core, order),
         is_empty(alloc, &mut core),
     ])
 }
 
 #[test]
-fn a_tree_shrinks_from_its_first_key(rt: HostRuntime) -> Result<(), Fail> {
-    assert_eq!(rt; lives_twice(rt.alloc(), Order::Ascending), Some([true; 9]));
-    Ok(())
+fn a_tree_shrinks_from_its_first_key(rt: HostRuntime) {
+    assert!(rt; lives_twice(rt.alloc(), Order::Ascending) == Some([true; 9]));
 }
 
 #[test]
-fn a_tree_shrinks_from_its_last_key(rt: HostRuntime) -> Result<(), Fail> {
-    assert_eq!(rt; lives_twice(rt.alloc(), Order::Descending), Some([true; 9]));
-    Ok(())
+fn a_tree_shrinks_from_its_last_key(rt: HostRuntime) {
+    assert!(rt; lives_twice(rt.alloc(), Order::Descending) == Some([true; 9]));
 }
 
 #[test]
-fn a_tree_shrinks_everywhere(rt: HostRuntime) -> Result<(), Fail> {
-    assert_eq!(rt; lives_twice(rt.alloc(), Order::Scattered), Some([true; 9]));
-    Ok(())
+fn a_tree_shrinks_everywhere(rt: HostRuntime) {
+    assert!(rt; lives_twice(rt.alloc(), Order::Scattered) == Some([true; 9]));
 }
 
 /// Whether an actor's next turn is right: it deletes the keys of every second place, in this order.
@@ -178,22 +167,21 @@ fn is_tidied(core: &mut Core) -> bool {
 
 /// Whether the tree grows, shrinks by two actors to one leaf, and grows again.
 fn is_shared(alloc: Global, order: Order) -> Option<[bool; 7]> {
-    let mut core = Core::open(alloc, Limits::new(2, 64, 4096, 1).ok()?).ok()?;
+    let mut core = opened(alloc, 2, 4096, 1)?;
     Some([
         grows(&mut core),
         shrinks_in_turns(&mut core, order),
-        lists(alloc, &core, false),
+        lists(alloc, &core, 0),
         is_tidied(&mut core),
         is_empty(alloc, &mut core),
         grows(&mut core),
-        lists(alloc, &core, true),
+        lists(alloc, &core, KEYS),
     ])
 }
 
 #[test]
-fn two_actors_shrink_a_tree(rt: HostRuntime) -> Result<(), Fail> {
+fn two_actors_shrink_a_tree(rt: HostRuntime) {
     for order in [Order::Ascending, Order::Descending, Order::Scattered] {
-        assert_eq!(rt; is_shared(rt.alloc(), order), Some([true; 7]));
+        assert!(rt; is_shared(rt.alloc(), order) == Some([true; 7]));
     }
-    Ok(())
 }

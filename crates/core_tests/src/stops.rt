@@ -1,60 +1,63 @@
 //! An insert that splits pages, stopped after each of its steps, while another actor goes on at both sides of the split.
 
-ghost use Rattle.std.specs.Prelude.{◌<◌};
-
-use crate::by_hand::{finish, replies};
-use crate::numbered::{found, insert, key, value};
-use bw_model::{Command, Limits, Link, Reply};
-use chain_search::Turn;
+use crate::by_hand::{begins, begun, finish, replies};
+use crate::numbered::{found, insert, is_pair, key};
+use crate::scripts::opened;
+use bw_model::{Command, Key, Link, Reply, Value};
 use std::alloc::Global;
-use std::test::Fail;
-use step_core::{Core, Event};
+use step_core::Core;
 
-/// A core with the keys of the first so many even numbers from 2 on, inserted in their order.
-fn grown(alloc: Global, count: u32) -> Option<Core> {
-    let limits = Limits::new(2, 64, 512, 1).ok()?;
-    let mut core = Core::open(alloc, limits).ok()?;
+/// Whether the keys of the first so many even numbers from 2 on are inserted in their order.
+fn grows(core: &mut Core, count: u32) -> bool {
     for place in 1..=count {
-        if !replies(&mut core, 0, insert(place.wrapping_mul(2)), Reply::Inserted) {
-            return None;
-        }
-    }
-    Some(core)
-}
-
-/// Actor 0 begins to insert a key, and takes so many steps. Answers whether the key was given its value in these.
-fn begun(core: &mut Core, number: u32, steps: u32) -> Option<bool> {
-    core.turn(Turn::Begin(0, insert(number))).ok()?;
-    let mut put = false;
-    for _ in 0..steps {
-        match core.turn(Turn::Step(0)) {
-            Ok(Event::Stepped(link)) => put |= link == Some(Link::Put),
-            _ => return None,
-        }
-    }
-    Some(put)
-}
-
-/// Whether the listing has exactly the keys of the even numbers below the last, of the two odd ones, and of the last if it was put.
-fn lists(alloc: Global, core: &Core, last: u32, put: bool) -> bool {
-    let Ok(pairs) = core.listing(alloc) else {
-        return false;
-    };
-    let mut left = pairs.as_slice().iter();
-    for number in 1..=last {
-        let odd = number == 1 || number == last.wrapping_sub(1);
-        let even = number % 2 == 0 && (number < last || put);
-        if (odd || even) && left.next() != Some(&(key(number), value(number))) {
+        if !replies(core, 0, insert(place.wrapping_mul(2)), Reply::Inserted) {
             return false;
         }
     }
-    left.next().is_none()
+    true
+}
+
+/// A core with these keys.
+fn grown(alloc: Global, count: u32) -> Option<Core> {
+    let mut core = opened(alloc, 2, 512, 1)?;
+    grows(&mut core, count).then_some(core)
+}
+
+/// Whether a number's key is listed: that of an even number below the last, of one of the two odd ones, and of the last if it was put.
+fn is_listed(number: u32, last: u32, put: bool) -> bool {
+    if number == last {
+        put
+    } else {
+        number % 2 == 0 || number == 1 || number == last.wrapping_sub(1)
+    }
+}
+
+/// Whether the pairs are exactly those.
+fn are_listed(pairs: &[(Key, Value)], last: u32, put: bool) -> bool {
+    let mut place = 0usize;
+    for number in 1..=last {
+        if is_listed(number, last, put) {
+            if !is_pair(pairs.get(place), number, number) {
+                return false;
+            }
+            place = place.saturating_add(1);
+        }
+    }
+    place == pairs.len()
+}
+
+/// Whether the listing has exactly those.
+fn lists(alloc: Global, core: &Core, last: u32, put: bool) -> bool {
+    match core.listing(alloc) {
+        Ok(pairs) => are_listed(pairs.as_slice(), last, put),
+        Err(_) => false,
+    }
 }
 
 /// Whether every reply and listing is right where actor 0 stops after so many steps, actor 1 then inserts and looks up keys of both
 /// sides, and actor 0 goes on after that.
 fn goes_on(core: &mut Core, alloc: Global, last: u32, steps: u32) -> bool {
-    let Some(put) = begun(core, last, steps) else {
+    let Some(put) = begun(core, insert(last), steps, Link::Put) else {
         return false;
     };
     let (low, high) = (last.wrapping_sub(2), last.wrapping_sub(1));
@@ -70,39 +73,44 @@ fn goes_on(core: &mut Core, alloc: Global, last: u32, steps: u32) -> bool {
     told == [true; 7]
 }
 
-/// How many steps an insert behind the keys takes alone, if all goes right wherever it stops after a multiple of so many.
-fn steps_of(alloc: Global, count: u32, stride: u32) -> Option<u32>
-    requires { 0 < stride }
-{
-    let last = count.wrapping_add(1).wrapping_mul(2);
+/// How many steps an insert behind the keys takes alone.
+fn steps_alone(alloc: Global, count: u32, last: u32) -> Option<u32> {
     let mut core = grown(alloc, count)?;
-    core.turn(Turn::Begin(0, insert(last))).ok()?;
+    if !begins(&mut core, 0, insert(last)) {
+        return None;
+    }
     let (reply, steps) = finish(&mut core, 0)?;
-    for stop in 0..steps {
-        if stop % stride != 0 {
-            continue;
-        }
-        let mut core = grown(alloc, count)?;
-        if !goes_on(&mut core, alloc, last, stop) {
-            return None;
+    (reply == Reply::Inserted).then_some(steps)
+}
+
+/// Whether it takes so many steps, and all goes right wherever it stops after a multiple of some of them.
+fn stops_anywhere(alloc: Global, count: u32, stride: u32, steps: u32) -> bool {
+    let last = count.wrapping_add(1).wrapping_mul(2);
+    for place in 0..steps {
+        let stop = place.saturating_mul(stride);
+        if stop < steps {
+            let Some(mut core) = grown(alloc, count) else {
+                return false;
+            };
+            if !goes_on(&mut core, alloc, last, stop) {
+                return false;
+            }
         }
     }
-    (reply == Reply::Inserted).then_some(steps)
+    steps_alone(alloc, count, last) == Some(steps)
 }
 
 // Two steps enter. Eleven read page 1, four consolidate it, three read it again, ten split it; six read it and the new page, and
 // seven put a root over both. Five read the way to the new page, where nothing is left to do, and five read it for the insert,
 // which takes four, and one to leave.
 #[test]
-fn a_split_stops_anywhere(rt: HostRuntime) -> Result<(), Fail> {
-    assert_eq!(rt; steps_of(rt.alloc(), 16, 1), Some(58));
-    Ok(())
+fn a_split_stops_anywhere(rt: HostRuntime) {
+    assert!(rt; stops_anywhere(rt.alloc(), 16, 1, 58));
 }
 
 // The leaf is consolidated and split; its term is the sixteenth of the root, which is split too, with a new root over both. The
 // insert takes eight rows. All of them are in the first word of free bits, since the rows of old chains are used again.
 #[test]
-fn a_split_of_the_root_stops_anywhere(rt: HostRuntime) -> Result<(), Fail> {
-    assert_eq!(rt; steps_of(rt.alloc(), 128, 9), Some(126));
-    Ok(())
+fn a_split_of_the_root_stops_anywhere(rt: HostRuntime) {
+    assert!(rt; stops_anywhere(rt.alloc(), 128, 9, 126));
 }

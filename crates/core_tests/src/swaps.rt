@@ -1,146 +1,103 @@
 //! A swap that stops after each of its steps, while another actor splits the leaf of its key, or removes it.
 
-use crate::by_hand::{begins, finish, replies, takes};
-use crate::pages::{grown, key, value};
+use crate::by_hand::{begins, begun, finish, takes};
 use crate::removal_readers::at_stage;
-use crate::small_leaves::{ELEVEN, lists, with_small_leaf};
-use bw_model::{Command, Link, Reply};
-use chain_search::Turn;
+use crate::scripts::{Ask, Line, Say, after, runs};
+use crate::small_leaves::ELEVEN;
+use bw_model::{Link, Reply};
 use std::alloc::Global;
-use std::test::Fail;
-use step_core::{Core, Event};
 
 /// A swap of the value that k10 has from the beginning on.
-fn swap() -> Command {
-    Command::Swap(key(10), value(10), value(30))
+const SWAP: Ask = Ask::Swap(10, 10, 30);
+
+/// What another actor does to the leaf of k10 meanwhile: the tree before that, what it does, and the keys after that.
+#[derive(Clone, Copy)]
+struct Meanwhile {
+    before: &'static [Line],
+    happens: &'static [Line],
+    left: &'static [u8],
 }
 
-/// The keys once the leaf is split.
-const SEVENTEEN: [u8; 17] = [1, 2, 3, 4, 5, 6, 7, 8, 9, 10, 11, 12, 13, 14, 15, 16, 17];
+/// The leaf's sixteenth item comes, and the writer that finds it full splits it: k10 goes to the new page.
+const SPLITS: Meanwhile = Meanwhile {
+    before: &[Line::Inserts(1, 15)],
+    happens: &[
+        Line::Replies(1, Ask::Insert(16), Say::Inserted),
+        Line::Replies(1, Ask::Insert(17), Say::Inserted),
+    ],
+    left: &[1, 2, 3, 4, 5, 6, 7, 8, 9, 10, 11, 12, 13, 14, 15, 16, 17],
+};
 
-/// What another actor does to the leaf of k10 meanwhile.
-#[derive(Clone, Copy, Debug)]
-enum Meanwhile {
-    /// Its sixteenth item comes, and the writer that finds it full splits it: k10 goes to the new page.
-    Splits,
-    /// A delete removes it, and merges it into the leaf to its left.
-    Removes,
-}
-
-impl Meanwhile {
-    /// The tree before that.
-    fn core(self, alloc: Global) -> Option<Core> {
-        match self {
-            Meanwhile::Splits => grown(alloc, 15),
-            Meanwhile::Removes => with_small_leaf(alloc),
-        }
-    }
-
-    /// Whether actor 1 does it.
-    fn happens(self, core: &mut Core) -> bool {
-        match self {
-            Meanwhile::Splits => {
-                let full = Command::Insert(key(16), value(16));
-                let more = Command::Insert(key(17), value(17));
-                replies(core, 1, full, Reply::Inserted) && replies(core, 1, more, Reply::Inserted)
-            }
-            Meanwhile::Removes => {
-                let delete = Command::Delete(key(12));
-                replies(core, 1, delete, Reply::Deleted(value(12)))
-            }
-        }
-    }
-
-    /// The keys after that.
-    fn left(self) -> &'static [u8] {
-        match self {
-            Meanwhile::Splits => &SEVENTEEN,
-            Meanwhile::Removes => &ELEVEN,
-        }
-    }
-}
-
-/// Actor 0 begins the swap, and takes so many steps. Answers whether the key was given its new value in these.
-fn begun(core: &mut Core, steps: u32) -> Option<bool> {
-    core.turn(Turn::Begin(0, swap())).ok()?;
-    let mut put = false;
-    for _ in 0..steps {
-        match core.turn(Turn::Step(0)) {
-            Ok(Event::Stepped(link)) => put |= link == Some(Link::Put),
-            _ => return None,
-        }
-    }
-    Some(put)
-}
-
-/// Whether the swap ends with this reply.
-fn ends_with(core: &mut Core, wanted: Reply) -> bool {
-    match finish(core, 0) {
-        Some((reply, _)) => reply == wanted,
-        None => false,
-    }
-}
+/// A delete removes the leaf, and merges it into the leaf to its left.
+const REMOVES: Meanwhile = Meanwhile {
+    before: &[Line::Inserts(1, 17), Line::Deletes(17, 13)],
+    happens: &[Line::Replies(1, Ask::Delete(12), Say::Deleted(12))],
+    left: &ELEVEN,
+};
 
 /// Whether all is right where the swap stops after so many steps.
-fn swaps(alloc: Global, meanwhile: Meanwhile, steps: u32) -> bool {
-    let Some(mut core) = meanwhile.core(alloc) else {
+fn swaps(alloc: Global, meanwhile: &Meanwhile, steps: u32) -> bool {
+    let Some(mut core) = after(alloc, 2, 256, meanwhile.before) else {
         return false;
     };
-    let told = [
-        begun(&mut core, steps).is_some(),
-        meanwhile.happens(&mut core),
-        ends_with(&mut core, Reply::Swapped),
-        lists(alloc, &core, meanwhile.left(), &value(30)),
+    let last = [
+        Line::Finishes(0, Say::Swapped),
+        Line::Lists(meanwhile.left, 30),
     ];
-    told == [true; 4]
+    begun(&mut core, SWAP.command(), steps, Link::Put).is_some()
+        && runs(alloc, &mut core, meanwhile.happens)
+        && runs(alloc, &mut core, &last)
 }
 
 /// Whether all is right where the key is given a third value, too, while the swap stops after so many steps.
-fn differs(alloc: Global, meanwhile: Meanwhile, steps: u32) -> bool {
-    let Some(mut core) = meanwhile.core(alloc) else {
+fn differs(alloc: Global, meanwhile: &Meanwhile, steps: u32) -> bool {
+    let Some(mut core) = after(alloc, 2, 256, meanwhile.before) else {
         return false;
     };
-    let Some(put) = begun(&mut core, steps) else {
-        return false;
+    let (had, wanted) = match begun(&mut core, SWAP.command(), steps, Link::Put) {
+        Some(true) => (30, Say::Swapped),
+        Some(false) => (10, Say::Differs(50)),
+        None => return false,
     };
-    let (had, wanted) = if put {
-        (value(30), Reply::Swapped)
-    } else {
-        (value(10), Reply::Differs(value(50)))
-    };
-    let upsert = Command::Upsert(key(10), value(50));
-    let told = [
-        meanwhile.happens(&mut core),
-        replies(&mut core, 1, upsert, Reply::Replaced(had)),
-        ends_with(&mut core, wanted),
-        lists(alloc, &core, meanwhile.left(), &value(50)),
+    let last = [
+        Line::Replies(1, Ask::Upsert(10, 50), Say::Replaced(had)),
+        Line::Finishes(0, wanted),
+        Line::Lists(meanwhile.left, 50),
     ];
-    told == [true; 4]
+    runs(alloc, &mut core, meanwhile.happens) && runs(alloc, &mut core, &last)
 }
 
-/// How many steps the swap takes alone, if all goes right wherever it stops.
-fn steps_of(alloc: Global, meanwhile: Meanwhile) -> Option<u32> {
-    let mut core = meanwhile.core(alloc)?;
-    core.turn(Turn::Begin(0, swap())).ok()?;
+/// How many steps the swap takes alone.
+fn steps_of(alloc: Global, meanwhile: &Meanwhile) -> Option<u32> {
+    let mut core = after(alloc, 2, 256, meanwhile.before)?;
+    if !begins(&mut core, 0, SWAP.command()) {
+        return None;
+    }
     let (reply, steps) = finish(&mut core, 0)?;
+    (reply == Reply::Swapped && steps > 9).then_some(steps)
+}
+
+/// Whether the swap takes more than nine steps, and all goes right wherever it stops.
+fn stops_anywhere(alloc: Global, meanwhile: &Meanwhile) -> bool {
+    let Some(steps) = steps_of(alloc, meanwhile) else {
+        return false;
+    };
     for stop in 0..steps {
         if !swaps(alloc, meanwhile, stop) || !differs(alloc, meanwhile, stop) {
-            return None;
+            return false;
         }
     }
-    (reply == Reply::Swapped).then_some(steps)
+    true
 }
 
 #[test]
-fn a_leaf_is_split_under_a_swap(rt: HostRuntime) -> Result<(), Fail> {
-    assert!(rt; steps_of(rt.alloc(), Meanwhile::Splits) > Some(9));
-    Ok(())
+fn a_leaf_is_split_under_a_swap(rt: HostRuntime) {
+    assert!(rt; stops_anywhere(rt.alloc(), &SPLITS));
 }
 
 #[test]
-fn a_leaf_is_removed_under_a_swap(rt: HostRuntime) -> Result<(), Fail> {
-    assert!(rt; steps_of(rt.alloc(), Meanwhile::Removes) > Some(9));
-    Ok(())
+fn a_leaf_is_removed_under_a_swap(rt: HostRuntime) {
+    assert!(rt; stops_anywhere(rt.alloc(), &REMOVES));
 }
 
 /// Whether all is right where actor 1 begins the swap at a stage of the leaf's removal, and stops after so many steps until the
@@ -150,23 +107,19 @@ fn goes_through(alloc: Global, stage: usize, taken: u32) -> bool {
         return false;
     };
     let mut done = None;
-    let told = [
-        begins(&mut core, 1, swap()),
-        takes(&mut core, 1, taken, &mut done),
-        ends_with(&mut core, Reply::Deleted(value(12))),
-        takes(&mut core, 1, 1000, &mut done),
-        done == Some(Reply::Swapped),
-        lists(alloc, &core, &ELEVEN, &value(30)),
-    ];
-    told == [true; 6]
+    begins(&mut core, 1, SWAP.command())
+        && takes(&mut core, 1, taken, &mut done)
+        && runs(alloc, &mut core, &[Line::Finishes(0, Say::Deleted(12))])
+        && takes(&mut core, 1, 1000, &mut done)
+        && done == Some(Reply::Swapped)
+        && runs(alloc, &mut core, &[Line::Lists(&ELEVEN, 30)])
 }
 
 #[test]
-fn swaps_through_a_removal(rt: HostRuntime) -> Result<(), Fail> {
+fn swaps_through_a_removal(rt: HostRuntime) {
     for stage in 0..6usize {
         for taken in 0..60u32 {
-            assert!(rt; goes_through(rt.alloc(), stage, taken), "{stage} {taken}");
+            assert!(rt; goes_through(rt.alloc(), stage, taken));
         }
     }
-    Ok(())
 }
