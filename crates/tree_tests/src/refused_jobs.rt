@@ -57,15 +57,15 @@ fn was_refused<R: Threads + Wait + Sync>(
     }
     heap.set(growth);
     let ran = run_jobs(rt, heap, &tree, seats, once, &Ungated);
+    let refused = ran.is_err();
     heap.set(u64::MAX);
-    let (results, seats, refused) = match ran {
-        Ok((results, seats)) => (results, seats, false),
+    let (results, seats) = match ran {
+        Ok(done) => done,
         Err(error) => {
             if error.refusal != JobsRefusal::Memory || error.seats.is_empty() {
                 return None;
             }
-            let (results, seats) = run_jobs(rt, heap, &tree, error.seats, again, &Ungated).ok()?;
-            (results, seats, true)
+            run_jobs(rt, heap, &tree, error.seats, again, &Ungated).ok()?
         }
     };
     let pairs = tree.close(alloc, seats).ok()?;

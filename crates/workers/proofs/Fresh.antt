@@ -1,15 +1,21 @@
--- The seats with which a tree opens are its own.
+-- The seats with which a tree opens are its own, and idle.
 use Rattle.std.proofs.Common.{◌≡◌, ℕ, ◌<◌, List, Some, refl, sym, subst, ◌∙◌}
-use Rattle.std.specs.Prelude.{IfOk, Result, Ok, Err, slice_get}
+use Rattle.std.specs.Prelude.{IfOk, None, Result, Ok, Err, slice_get}
 use Rattle.std.proofs.lemmas.Option.{same_Some, slice_get_within}
-use Rattle.bw_tree.specs.Seats.{Seat}
+use Rattle.bw_tree.specs.Seats.{Seat, unfinished_command}
 use Rattle.bw_tree.specs.Trees.{AreFresh, AreSeatsOf, IsSeatOf, Tree, fresh_seat}
+use Rattle.workers.specs.Worked.{AreIdle}
+
+is_fresh : (tree : Tree) (seats : List Seat) → AreFresh tree seats → (n : ℕ) (seat : Seat) → slice_get seats n ≡ Some seat → fresh_seat tree n ≡ seat
+is_fresh tree seats fresh n seat at =
+    let below : n < tree.limits.actors = subst (λ m. n < m) fresh.count (slice_get_within seats n seat at) in
+    same_Some (fresh_seat tree n) seat (sym (fresh.each n below) ∙ at)
 
 pub fresh_own : (tree : Tree) (seats : List Seat) → AreFresh tree seats → AreSeatsOf tree seats
-fresh_own tree seats fresh n seat at =
-    let below : n < tree.limits.actors = subst (λ m. n < m) fresh.count (slice_get_within seats n seat at) in
-    let is : fresh_seat tree n ≡ seat = same_Some (fresh_seat tree n) seat (sym (fresh.each n below) ∙ at) in
-    subst (IsSeatOf tree) is (record { table = refl; limits = refl })
+fresh_own tree seats fresh n seat at = subst (IsSeatOf tree) (is_fresh tree seats fresh n seat at) (record { table = refl; limits = refl })
+
+pub fresh_idle : (tree : Tree) (seats : List Seat) → AreFresh tree seats → AreIdle seats
+fresh_idle tree seats fresh n seat at = subst (λ s. unfinished_command s ≡ None) (is_fresh tree seats fresh n seat at) refl
 
 pub where_opened : {T E : Type 0} (P Q : T → Type 0) → ((t : T) → P t → Q t) → (r : Result T E) → IfOk r P → IfOk r Q
 where_opened P Q f (Ok t) p = f t p

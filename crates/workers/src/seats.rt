@@ -1,6 +1,7 @@
 //! Lists of a tree's seats.
 ghost use Rattle.std.specs.Prelude.{◌≡◌, ◌++◌, ◌∷◌, [], IfErr, IfOk, IfSome, None, OnErr, OnOk, option_to_list, vec_len};
 ghost use Rattle.bw_tree.specs.Trees.{AreFresh, AreSeatsOf, IsSeatOf};
+ghost use Rattle.workers.specs.Worked.{AreIdle};
 
 use bw_model::{Limits, OpenError};
 use bw_tree::{BwSeat, Tree};
@@ -14,6 +15,7 @@ pub fn opened<A: Allocator + Copy>(
     ensures limits { IfOk result (λ opened. opened.0.limits ≡ limits) }
     ensures fresh { IfOk result (λ opened. AreFresh opened.0 opened.1.items) }
     ensures own { IfOk result (λ opened. AreSeatsOf opened.0 opened.1.items) }
+    ensures idle { IfOk result (λ opened. AreIdle opened.1.items) }
     ensures err { IfErr result (λ error. error ≡ OpenError.Memory) }
 {
     Tree::<A>::open(alloc, limits)
