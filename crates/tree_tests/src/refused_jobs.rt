@@ -1,7 +1,9 @@
 //! Jobs of which each growth of memory is refused in turn: the seats come back, and the same jobs run on the same tree.
+ghost use Rattle.bw_tree.specs.Trees.{AreSeatsOf};
 
 use crate::numbered::{found, get, insert, key, value};
-use bw_model::{Key, Limits, Reply, Value};
+use bw_model::{Limits, Reply};
+use bw_tree::{BwSeat, Tree};
 use refusing::Refusing;
 use std::alloc::{AllocError, Allocator, Global};
 use std::sync::Wait;
@@ -36,9 +38,20 @@ fn are_right<A: Allocator>(results: &[JobResult<A>]) -> bool {
         && second.replies.as_slice() == [Reply::Inserted].as_slice()
 }
 
-/// Whether the pairs are those of the jobs.
-fn are_inserted(pairs: &[(Key, Value)]) -> bool {
-    pairs == [(key(1), value(1)), (key(2), value(2))].as_slice()
+/// Whether the results are those of the jobs, and the tree is closed with their pairs.
+fn is_done<A: Allocator>(
+    alloc: Global,
+    tree: Tree<A>,
+    results: &[JobResult<A>],
+    seats: Vec<BwSeat<A>, A>,
+) -> bool
+    requires own { AreSeatsOf tree seats.items }
+{
+    let pairs = [(key(1), value(1)), (key(2), value(2))];
+    match tree.close(alloc, seats) {
+        Ok(listed) => are_right(results) && listed.as_slice() == pairs.as_slice(),
+        Err(_) => false,
+    }
 }
 
 /// Runs the jobs on a new tree while a growth is refused, and again where that was in their way; says whether it was, and none where
@@ -57,19 +70,21 @@ fn was_refused<R: Threads + Wait + Sync>(
     }
     heap.set(growth);
     let ran = run_jobs(rt, heap, &tree, seats, once, &Ungated);
-    let refused = ran.is_err();
     heap.set(u64::MAX);
-    let (results, seats) = match ran {
-        Ok(done) => done,
+    match ran {
+        Ok((results, seats)) => is_done(alloc, tree, results.as_slice(), seats).then_some(false),
         Err(error) => {
             if error.refusal != JobsRefusal::Memory || error.seats.is_empty() {
                 return None;
             }
-            run_jobs(rt, heap, &tree, error.seats, again, &Ungated).ok()?
+            match run_jobs(rt, heap, &tree, error.seats, again, &Ungated) {
+                Ok((results, seats)) => {
+                    is_done(alloc, tree, results.as_slice(), seats).then_some(true)
+                }
+                Err(_) => None,
+            }
         }
-    };
-    let pairs = tree.close(alloc, seats).ok()?;
-    (are_right(results.as_slice()) && are_inserted(pairs.as_slice())).then_some(refused)
+    }
 }
 
 #[test]
