@@ -81,6 +81,9 @@ const INDEX: Words = &[
     (28, 2),
 ];
 
+/// The same with both children at the empty key.
+const EQUAL_KEYS: Words = &[(0, 0x20101), (8, 255), (18, 1), (23, 0x100), (28, 2)];
+
 const EACH_KIND: [Words; 10] = [
     OPENING, INDEX, PUT, DELETE, SPLIT, TERM, HOLD, REMOVE, MERGE, UNTERM,
 ];
@@ -186,6 +189,11 @@ fn refuses_rows_that_spell_nothing(rt: HostRuntime) {
 fn refuses_rows_of_one_word(rt: HostRuntime) {
     let refused = [is_refused(&[0; 256]), is_refused(&[u64::MAX; 256])];
     assert_eq!(rt; refused, [true; 2]);
+}
+
+#[test]
+fn refuses_equal_keys(rt: HostRuntime) {
+    assert!(rt; is_refused(&row(EQUAL_KEYS)));
 }
 
 /// How many of the rows that differ in one bit spell a record.
