@@ -1,6 +1,7 @@
 pub mod Answers
 pub mod Bytes
 pub mod Examples
+pub mod Lent
 pub mod Limits
 pub mod Log
 pub mod Pairs

@@ -23,6 +23,6 @@ pub use limits::{BadLimits, Limits, OpenError};
 pub use pairs::{MAX_PAIRS, Pairs};
 pub use schedule::Schedule;
 pub use short_bytes::{MAX_LENGTH, TooLong};
-pub use step::{Answer, Link, Step};
+pub use step::{Answer, Link, Step, Told};
 pub use update::{Update, logged_value};
 pub use value::Value;

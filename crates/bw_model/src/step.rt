@@ -1,6 +1,6 @@
 //! The steps that an operation takes over the shared memory, one at a time, and their answers.
 ghost use Rattle.std.specs.Prelude.{◌≡◌};
-ghost use Rattle.bw_model.specs.Answers.{IsNumber, IsContent, IsWhether};
+ghost use Rattle.bw_model.specs.Answers.{IsNumber, IsContent, IsWhether, TellsNumber, answer_of};
 
 /// One atomic step of one actor, over records of type `R`; the first six are reads.
 #[derive(Clone, Debug, Drop)]
@@ -46,6 +46,19 @@ pub enum Answer<R> {
     Number(u64),
     /// The record that was read.
     Content(R),
+    /// Whether an exchange or a retiring went, or a taken number was free.
+    Whether(bool),
+    /// The step was taken.
+    Done,
+}
+
+/// The answer to a step that reads no record. A record that was read is taken from where it lies.
+#[derive(Clone, Copy, Debug, PartialEq, Eq)]
+pub enum Told {
+    /// No step has been taken yet.
+    Start,
+    /// The number that was read.
+    Number(u64),
     /// Whether an exchange or a retiring went, or a taken number was free.
     Whether(bool),
     /// The step was taken.
@@ -113,6 +126,32 @@ impl<R: Drop> Answer<R> {
     {
         match self {
             Answer::Whether(whether) => *whether,
+            _ => unreachable!(),
+        }
+    }
+}
+
+impl Told {
+    /// The same among the answers that have room for a record.
+    #[inline(never)]
+    pub fn answer<R>(self) -> Answer<R>
+        ensures { result ≡ answer_of self }
+    {
+        match self {
+            Told::Start => Answer::Start,
+            Told::Number(number) => Answer::Number(number),
+            Told::Whether(whether) => Answer::Whether(whether),
+            Told::Done => Answer::Done,
+        }
+    }
+
+    /// The number that was read.
+    pub fn number(self) -> u64
+        requires { TellsNumber self }
+        ensures { self ≡ Told.Number result }
+    {
+        match self {
+            Told::Number(number) => number,
             _ => unreachable!(),
         }
     }

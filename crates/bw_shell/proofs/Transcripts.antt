@@ -1,9 +1,11 @@
 -- Laws of transcripts.
-use Rattle.std.proofs.Common.{◌≡◌, ℕ, ◌+◌, ◌<◌, List, [], ◌∷◌, ◌++◌, length, refl, sym, ap, ◌∙◌, arith, add-one, inl, inr, Bool, true, false, Option, Some, None}
+use Rattle.std.proofs.Common.{◌≡◌, ℕ, ◌+◌, ◌<◌, List, [], ◌∷◌, ◌++◌, length, refl, sym, ap, ◌∙◌, arith, add-one, inl, inr, Bool, true, false, Option, Some, None, Result, Ok, Err, IfErr, OnOk}
 use Rattle.std.proofs.lemmas.List.{append_assoc, append-nil}
 use Rattle.bw_model.specs.declared.command.Command.{Command}
 use Rattle.bw_model.specs.declared.step.Link.{Link}
-use Rattle.bw_shell.specs.Turns.{Trace}
+use Rattle.chain_search.specs.declared.trace.Turn.TheVariants.{Begin as BeginTurn}
+use Rattle.step_core.specs.declared.event.Event.TheVariants as event
+use Rattle.bw_shell.specs.Turns.{Trace, Refuses, TakesTurn}
 use Rattle.shell_lines.specs.Request.{Says, IsShortRequest, until_done}
 use Rattle.shell_lines.specs.declared.request.Language.{Language}
 use Rattle.shell_lines.specs.declared.request.Request.{Request}
@@ -12,7 +14,7 @@ use Rattle.bw_shell.specs.declared.turns.Progress.{Progress}
 use Rattle.bw_shell.specs.declared.turns.Progress.TheVariants.{GoesOn}
 use Rattle.bw_shell.specs.declared.refusal.Refusal.{Refusal}
 use Rattle.bw_shell.specs.Text.{finished_text, refused_text}
-use Rattle.bw_shell.specs.Transcript.{StepsOn, TakesOne, TakesUpTo, Performs, RefusesLine, Transcript, RequestTold}
+use Rattle.bw_shell.specs.Transcript.{StepsOn, TakesOne, TakesUpTo, RefusedWithin, Performs, RefusesRequest, RefusesLine, Transcript, LineTold, RequestTold}
 
 pub no_steps : (until : Option Link) (m : Trace) (actor : ℕ) → StepsOn until m actor 0 m
 unfolding StepsOn
@@ -24,19 +26,27 @@ unfolding StepsOn
 steps_more until m actor n mid after s t = rw (add-one n) (mid, s, t)
 
 -- what `until` and `finish` tell
-pub until_told : (n : ℕ) (m : Trace) (actor : ℕ) (until : Option Link) (after : Trace) (progress : Progress) → TakesUpTo until m actor 100000 progress after
-    → RequestTold n m (until_done actor until) after (finished_text actor progress) false
-until_told n m actor None after progress taken = (progress, taken, refl)
-until_told n m actor (Some link) after progress taken = (progress, taken, refl)
+pub until_told : (m : Trace) (actor : ℕ) (until : Option Link) (after : Trace) (progress : Progress) → TakesUpTo until m actor 100000 progress after
+    → Performs m (until_done actor until) after (finished_text actor progress)
+until_told m actor None after progress taken = (progress, taken, refl)
+until_told m actor (Some link) after progress taken = (progress, taken, refl)
+
+pub until_refused : (m : Trace) (actor : ℕ) (until : Option Link) (after : Trace) (refusal : Refusal) → RefusedWithin until m actor 100000 refusal after
+    → RefusesRequest m (until_done actor until) refusal after []
+until_refused m actor None after refusal within = (within, refl)
+until_refused m actor (Some link) after refusal within = (within, refl)
+
+-- what the begin of an operation tells
+pub begun_told : (a b : Trace) (actor : ℕ) (command : Command) (result : Result (Unit {0}) Refusal) → OnOk result (TakesTurn a (BeginTurn actor command) event.Began b)
+    → IfErr result (λ refusal. Refuses a (BeginTurn actor command) refusal) → IfErr result (λ refusal. b ≡ a) → RequestTold a (Begin actor command) result b []
+begun_told a b actor command (Ok done) begins refuses same = (begins, refl)
+begun_told a b actor command (Err refusal) begins refuses same = (refuses, same, refl)
 
 -- a command of a script
-pub run_told : (n : ℕ) (a b c : Trace) (command : Command) (t u : List ℕ) (no : Bool) → RequestTold n a (Begin 0 command) b t false → RequestTold n b (Finish 0) c u no
-    → RequestTold n a (Run command) c (t ++ u) no
-run_told n a b c command t u false begun told = (b, begun.0, (told.0, told.1, ap (λ (l : List ℕ). l ++ u) begun.1 ∙ told.2))
-run_told n a b c command t u true begun told = (told.0, told.1, inr (b, begun.0, told.2.0, told.2.1), ap (λ (l : List ℕ). l ++ u) begun.1 ∙ told.3)
-
-pub run_refused : (n : ℕ) (a b : Trace) (command : Command) (t : List ℕ) → RequestTold n a (Begin 0 command) b t true → RequestTold n a (Run command) b t true
-run_refused n a b command t told = (told.0, told.1, inl told.2, told.3)
+pub run_told : (a b c : Trace) (command : Command) (result : Result (Unit {0}) Refusal) (text : List ℕ) → TakesTurn a (BeginTurn 0 command) event.Began b → RequestTold b (Finish 0) result c text
+    → RequestTold a (Run command) result c text
+run_told a b c command (Ok done) text begun told = (b, begun, told)
+run_told a b c command (Err refusal) text begun told = inr (b, begun, told.0, told.1)
 
 -- ---- one line
 
@@ -57,11 +67,11 @@ unfolding Transcript
 refused language n m [] refusal after shown some r = absurd (omega arith)
 refused language n m (b ∷ bs) refusal after shown some r = inr (refusal, shown, r, refl, refl)
 
-pub asked : (language : Language) (n : ℕ) (m : Trace) (line : List ℕ) (request : Request) (after : Trace) (text : List ℕ) (no : Bool) → 0 < length line
-    → Says language line request → IsShortRequest request → RequestTold n m request after text no → Transcript language n m (line ∷ []) after text no
-asked language n m line request after text false some says short told = performed language n m line request after text some says short told
-asked language n m line request after text true some says short told =
-    rw told.3 (refused language n m line told.0 after told.1 some (inr (inr (request, says, short, told.2))))
+-- what was asked for, as a line of a run
+pub asked : (language : Language) (m : Trace) (line : List ℕ) (request : Request) (after : Trace) (result : Result (Unit {0}) Refusal) (text : List ℕ)
+    → Says language line request → IsShortRequest request → RequestTold m request result after text → LineTold language m line result after text
+asked language m line request after (Ok done) text says short told = (request, says, short, told)
+asked language m line request after (Err refusal) text says short told = inr (inr (request, says, short, told))
 
 -- ---- lines behind lines
 

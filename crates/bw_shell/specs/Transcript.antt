@@ -132,12 +132,17 @@ abbrev pub TurnsTold : Option Link → Trace → ℕ → ℕ → Result Progress
 TurnsTold until before actor limit (Ok progress) after = TakesUpTo until before actor limit progress after
 TurnsTold until before actor limit (Err refusal) after = RefusedWithin until before actor limit refusal after
 
--- what is printed for what is asked on line n, and whether that is a refusal
-abbrev pub RequestTold : ℕ → Trace → Request → Trace → List ℕ → Bool → Type 0
-RequestTold n before request after text false = Performs before request after text
-RequestTold n before request after text true = (refusal : Refusal) × (shown : List ℕ) × RefusesRequest before request refusal after shown × (text ≡ shown ++ refused_text n refusal)
+-- what is printed for what is asked, up to the refusal, if it is refused
+abbrev pub RequestTold : Trace → Request → Result (Unit {0}) Refusal → Trace → List ℕ → Type 0
+RequestTold before request (Ok done) after text = Performs before request after text
+RequestTold before request (Err refusal) after text = RefusesRequest before request refusal after text
 
--- what is printed for an actor that was drawn by line n, and whether that is a refusal
-abbrev pub DrawTold : ℕ → Trace → ℕ → Trace → List ℕ → Bool → Type 0
-DrawTold n before actor after text false = TakesDrawn before actor after text
-DrawTold n before actor after text true = (refusal : Refusal) × RefusesDrawn before actor refusal × (after ≡ before) × (text ≡ refused_text n refusal)
+-- what is printed for an actor that was drawn, if its turn isn't refused
+abbrev pub DrawTold : Trace → ℕ → Result (Unit {0}) Refusal → Trace → List ℕ → Type 0
+DrawTold before actor (Ok done) after text = TakesDrawn before actor after text
+DrawTold before actor (Err refusal) after text = RefusesDrawn before actor refusal × (after ≡ before) × (text ≡ [])
+
+-- what is printed for a line that isn't empty, up to the refusal, if it is refused
+abbrev pub LineTold : Language → Trace → List ℕ → Result (Unit {0}) Refusal → Trace → List ℕ → Type 0
+LineTold language before line (Ok done) after text = (request : Request) × Says language line request × IsShortRequest request × Performs before request after text
+LineTold language before line (Err refusal) after text = RefusesLine language before line refusal after text

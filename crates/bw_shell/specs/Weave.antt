@@ -1,14 +1,15 @@
 -- What a run over an input does.
-use Rattle.std.specs.Prelude.{◌≡◌, ℕ, ◌+◌, ◌⊎◌, ◌↔◌, List, [], ◌∷◌, ◌++◌, length, Bool, true, false, not, ◌||◌, MatchBool, Option}
+use Rattle.std.specs.Prelude.{◌≡◌, ℕ, ◌+◌, ◌⊎◌, ◌↔◌, List, [], ◌∷◌, ◌++◌, length, Bool, true, false, not, ◌||◌, MatchBool, Option, Result}
 use Rattle.std.specs.Io.KnownBytes.{Consumes, IsAtEnd}
 use Rattle.bw_model.specs.declared.limits.Limits.{Limits}
 use Rattle.shell_lines.specs.declared.request.Language.{Language}
 use Rattle.shell_lines.specs.declared.request.Request.{Request}
 use Rattle.bw_shell.specs.Lines.{lines_of, Splits}
+use Rattle.bw_shell.specs.declared.refusal.Refusal.{Refusal}
 use Rattle.bw_shell.specs.declared.refusal.Refusal.TheVariants.{NotOpened}
 use Rattle.bw_shell.specs.Text.{lone_refusal_text}
 use Rattle.bw_shell.specs.Output.{Sink, Prints, Writes}
-use Rattle.bw_shell.specs.Transcript.{Transcript, RequestTold, DrawTold}
+use Rattle.bw_shell.specs.Transcript.{Transcript, RequestTold, DrawTold, LineTold}
 use Rattle.bw_shell.specs.Turns.{Trace, IsOneMap, opening_trace}
 
 -- With part of line n in hand the bytes are read: their whole lines are run, and part' is in hand.
@@ -23,12 +24,16 @@ abbrev pub StopsAmong : Language → ℕ → Trace → List ℕ → List ℕ →
 StopsAmong language n before part bytes after text refused = (rest : List ℕ) → (front : List (List ℕ)) × (others : List (List ℕ)) × (lines_of ((part ++ bytes) ++ rest) ≡ front ++ others) × Transcript language n before front after text refused
 
 -- what is asked for was run, and this is shown
-abbrev pub RequestRuns : ℕ → Trace → Request → Trace → Sink → Sink → Bool → Type 0
-RequestRuns n before request after old new refused = (text : List ℕ) × RequestTold n before request after text refused × Prints old new text
+abbrev pub RequestRuns : Trace → Request → Trace → Sink → Sink → Result (Unit {0}) Refusal → Type 0
+RequestRuns before request after old new result = (text : List ℕ) × RequestTold before request result after text × Prints old new text
 
--- an actor that line n has drawn took its turn, and this is shown
-abbrev pub DrawRuns : ℕ → Trace → ℕ → Trace → Sink → Sink → Bool → Type 0
-DrawRuns n before actor after old new refused = (text : List ℕ) × DrawTold n before actor after text refused × Prints old new text
+-- an actor that was drawn took its turn, and this is shown
+abbrev pub DrawRuns : Trace → ℕ → Trace → Sink → Sink → Result (Unit {0}) Refusal → Type 0
+DrawRuns before actor after old new result = (text : List ℕ) × DrawTold before actor result after text × Prints old new text
+
+-- what a line asks for was run, and this is shown
+abbrev pub AskedRuns : Language → Trace → List ℕ → Trace → Sink → Sink → Result (Unit {0}) Refusal → Type 0
+AskedRuns language before line after old new result = (text : List ℕ) × LineTold language before line result after text × Prints old new text
 
 -- a line was run, and this is shown
 abbrev pub LineRuns : Language → ℕ → Trace → List ℕ → Trace → Sink → Sink → Bool → Type 0

@@ -27,7 +27,7 @@ pub enum Refusal {
     Malformed,
     #[error("no memory for the map")]
     NotOpened,
-    #[error("no memory to run the jobs")]
+    #[error("no memory or no thread to run the jobs")]
     NotRun,
     #[error("the results are not those of the jobs")]
     WrongResults,

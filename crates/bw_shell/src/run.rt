@@ -3,7 +3,7 @@
 ghost use Rattle.std.specs.Prelude.{◌≡◌};
 ghost use Rattle.shell_lines.specs.Request.{until_done};
 ghost use Rattle.bw_shell.specs.Turns.{seen};
-ghost use Rattle.bw_shell.specs.Weave.{RequestRuns, DrawRuns, LineRuns};
+ghost use Rattle.bw_shell.specs.Weave.{AskedRuns, RequestRuns, DrawRuns, LineRuns};
 
 use crate::refusal::Refusal;
 use crate::streams::Output;
@@ -17,141 +17,128 @@ use step_core::Core;
 /// How many turns `until` and `finish` take at most.
 const MANY: u64 = 100_000;
 
-fn run_begin<O: Output>(
-    core: &mut Core,
-    number: u64,
-    actor: u64,
-    command: Command,
-    out: &mut O,
-) -> bool
-    ensures { RequestRuns number (seen core.old) (Request.Begin actor command) (seen core.new) (O.state out.old) (O.state out.new) result }
-{
-    match begin(core, actor, command) {
-        Ok(()) => false,
-        Err(refusal) => {
-            show_refused(out, number, refusal);
-            true
-        }
-    }
-}
-
-fn run_turn<O: Output>(core: &mut Core, number: u64, actor: u64, count: u64, out: &mut O) -> bool
-    ensures { RequestRuns number (seen core.old) (Request.Turn actor count) (seen core.new) (O.state out.old) (O.state out.new) result }
+// So many turns of an actor, fewer if it is done.
+fn run_turn<O: Output>(core: &mut Core, actor: u64, count: u64, out: &mut O) -> Result<(), Refusal>
+    ensures { RequestRuns (seen core.old) (Request.Turn actor count) (seen core.new) (O.state out.old) (O.state out.new) result }
 {
     match steps(core, actor, None, count) {
         Ok(progress) => {
             show_turned(out, actor, &progress);
-            false
+            Ok(())
         }
-        Err(refusal) => {
-            show_refused(out, number, refusal);
-            true
-        }
+        Err(refusal) => Err(refusal),
     }
 }
 
 // Takes turns until an exchange won with the link, if one is given, or the operation is done.
 fn run_until<O: Output>(
     core: &mut Core,
-    number: u64,
     actor: u64,
     link: Option<Link>,
     out: &mut O,
-) -> bool
-    ensures { RequestRuns number (seen core.old) (until_done actor link) (seen core.new) (O.state out.old) (O.state out.new) result }
+) -> Result<(), Refusal>
+    ensures { RequestRuns (seen core.old) (until_done actor link) (seen core.new) (O.state out.old) (O.state out.new) result }
 {
     match steps(core, actor, link, MANY) {
         Ok(progress) => {
             show_finished(out, actor, &progress);
-            false
+            Ok(())
         }
-        Err(refusal) => {
-            show_refused(out, number, refusal);
-            true
-        }
+        Err(refusal) => Err(refusal),
     }
 }
 
 // One turn of an actor that was drawn, if it has an operation.
-fn run_drawn<O: Output>(core: &mut Core, number: u64, actor: u8, out: &mut O) -> bool
-    ensures { DrawRuns number (seen core.old) actor (seen core.new) (O.state out.old) (O.state out.new) result }
+fn run_drawn<O: Output>(core: &mut Core, actor: u8, out: &mut O) -> Result<(), Refusal>
+    ensures { DrawRuns (seen core.old) actor (seen core.new) (O.state out.old) (O.state out.new) result }
 {
     if !core.is_busy(actor) {
-        return false;
+        return Ok(());
     }
     let actor = u64::from(actor);
     match step(core, actor, None) {
         Ok(progress) => {
             show_turned(out, actor, &progress);
-            false
+            Ok(())
         }
-        Err(refusal) => {
-            show_refused(out, number, refusal);
-            true
-        }
+        Err(refusal) => Err(refusal),
     }
 }
 
 // So many draws of the seed's schedule.
-fn run_mix<O: Output>(core: &mut Core, number: u64, seed: u64, count: u64, out: &mut O) -> bool
-    ensures { RequestRuns number (seen core.old) (Request.Mix seed count) (seen core.new) (O.state out.old) (O.state out.new) result }
+fn run_mix<O: Output>(core: &mut Core, seed: u64, count: u64, out: &mut O) -> Result<(), Refusal>
+    ensures { RequestRuns (seen core.old) (Request.Mix seed count) (seen core.new) (O.state out.old) (O.state out.new) result }
 {
     let mut schedule = schedule_over(core, seed);
     for _draw in 0..count {
         let actor = schedule.next();
-        if run_drawn(core, number, actor, out) {
-            return true;
+        match run_drawn(core, actor, out) {
+            Ok(()) => {}
+            Err(refusal) => return Err(refusal),
         }
     }
-    false
+    Ok(())
 }
 
 // A command of a script, which actor 0 runs to its end.
-fn run_command<O: Output>(core: &mut Core, number: u64, command: Command, out: &mut O) -> bool
-    ensures { RequestRuns number (seen core.old) (Request.Run command) (seen core.new) (O.state out.old) (O.state out.new) result }
+fn run_command<O: Output>(core: &mut Core, command: Command, out: &mut O) -> Result<(), Refusal>
+    ensures { RequestRuns (seen core.old) (Request.Run command) (seen core.new) (O.state out.old) (O.state out.new) result }
 {
-    if run_begin(core, number, 0, command, out) {
-        return true;
+    match begin(core, 0, command) {
+        Ok(()) => run_until(core, 0, None, out),
+        Err(refusal) => Err(refusal),
     }
-    run_until(core, number, 0, None, out)
 }
 
-fn run_list<O: Output>(alloc: Global, core: &mut Core, number: u64, out: &mut O) -> bool
-    ensures { RequestRuns number (seen core.old) Request.List (seen core.new) (O.state out.old) (O.state out.new) result }
+fn run_list<O: Output>(alloc: Global, core: &mut Core, out: &mut O) -> Result<(), Refusal>
+    ensures { RequestRuns (seen core.old) Request.List (seen core.new) (O.state out.old) (O.state out.new) result }
 {
     match pairs_of(alloc, core) {
         Ok(pairs) => {
             show_listing(out, pairs.as_slice());
-            false
+            Ok(())
         }
-        Err(refusal) => {
-            show_refused(out, number, refusal);
-            true
-        }
+        Err(refusal) => Err(refusal),
     }
 }
 
 fn run_request<O: Output>(
     alloc: Global,
     core: &mut Core,
-    number: u64,
     request: Request,
     out: &mut O,
-) -> bool
-    ensures { RequestRuns number (seen core.old) request (seen core.new) (O.state out.old) (O.state out.new) result }
+) -> Result<(), Refusal>
+    ensures { RequestRuns (seen core.old) request (seen core.new) (O.state out.old) (O.state out.new) result }
 {
     match request {
-        Request::Begin(actor, command) => run_begin(core, number, actor, command, out),
-        Request::Turn(actor, count) => run_turn(core, number, actor, count, out),
-        Request::Until(actor, link) => run_until(core, number, actor, Some(link), out),
-        Request::Finish(actor) => run_until(core, number, actor, None, out),
-        Request::Mix(seed, count) => run_mix(core, number, seed, count, out),
-        Request::List => run_list(alloc, core, number, out),
-        Request::Run(command) => run_command(core, number, command, out),
+        Request::Begin(actor, command) => begin(core, actor, command),
+        Request::Turn(actor, count) => run_turn(core, actor, count, out),
+        Request::Until(actor, link) => run_until(core, actor, Some(link), out),
+        Request::Finish(actor) => run_until(core, actor, None, out),
+        Request::Mix(seed, count) => run_mix(core, seed, count, out),
+        Request::List => run_list(alloc, core, out),
+        Request::Run(command) => run_command(core, command, out),
     }
 }
 
-/// Runs a line, and answers whether it was refused.
+// Runs what a line asks for.
+fn run_asked<O: Output>(
+    alloc: Global,
+    language: Language,
+    core: &mut Core,
+    line: &[u8],
+    out: &mut O,
+) -> Result<(), Refusal>
+    ensures { AskedRuns language (seen core.old) line.now (seen core.new) (O.state out.old) (O.state out.new) result }
+{
+    match parse(language, line) {
+        Ok(request) => run_request(alloc, core, request, out),
+        Err(LineError::Malformed) => Err(Refusal::Malformed),
+        Err(LineError::TooLong) => Err(Refusal::TooLong),
+    }
+}
+
+/// Runs a line, and answers whether it was refused, which is shown here.
 pub fn run_line<O: Output>(
     alloc: Global,
     language: Language,
@@ -165,15 +152,11 @@ pub fn run_line<O: Output>(
     if line.is_empty() {
         return false;
     }
-    match parse(language, line) {
-        Err(LineError::Malformed) => {
-            show_refused(out, number, Refusal::Malformed);
+    match run_asked(alloc, language, core, line, out) {
+        Ok(()) => false,
+        Err(refusal) => {
+            show_refused(out, number, refusal);
             true
         }
-        Err(LineError::TooLong) => {
-            show_refused(out, number, Refusal::TooLong);
-            true
-        }
-        Ok(request) => run_request(alloc, core, number, request, out),
     }
 }

@@ -1,8 +1,9 @@
 //! Laws of rounds: each function does nothing, and its contract is proved of all of them.
-ghost use Rattle.std.specs.Prelude.{◌≡◌, ◌≤◌, ◌+◌, ℕ, List, Bool, None, Some, IsTrue};
+ghost use Rattle.std.specs.Prelude.{◌≡◌, ◌≤◌, ◌+◌, ℕ, List, Bool, Option, None, Some, IsTrue};
 ghost use Rattle.bw_model.specs.declared.limits.Limits.{Limits};
 ghost use Rattle.bw_model.specs.declared.step.Answer.{Answer};
 ghost use Rattle.chain_search.specs.Discipline.{MayHold, MayMerge, MayRemove, MayUnterm, WasStanding};
+ghost use Rattle.chain_search.specs.Fitting.{Fits};
 ghost use Rattle.chain_search.specs.Knowledge.{Knowledge};
 ghost use Rattle.chain_search.specs.Recalled.{Recalled};
 ghost use Rattle.descent.specs.ReadRounds as reader;
@@ -21,6 +22,8 @@ ghost use Rattle.deltas.specs.declared.record.Unterm.{Unterm};
 ghost use Rattle.smo.specs.Holds.{IsHoldPlan};
 ghost use Rattle.smo.specs.Removals.{IsRemovePlan};
 ghost use Rattle.smo.specs.declared.version.Version.{Version};
+ghost use Rattle.descent.specs.declared.read_round.ReadEnd.{ReadEnd};
+ghost use Rattle.descent.specs.declared.write_round.WriteEnd.{WriteEnd};
 
 use smo::plans_are_due;
 
@@ -32,6 +35,34 @@ pub fn rounds_are_short()
     ensures write { (reserve kept : ℕ) (k : Knowledge) (r : Recalled) (round : writer.WriteRound)
         → writer.Shows round k r
         → writer.reads_left reserve kept r round ≤ few_reads + with_walk reserve + writer.kept_for kept round.goal }
+{}
+
+/// What a reader's round makes of an answer that fits what is known leaves it what it shows, and spends as it may.
+pub fn read_rounds_follow()
+    ensures follows { (old new : reader.ReadRound) (told : Answer Record) (result : Option ReadEnd) (k : Knowledge) (r : Recalled)
+        → reader.Shows old k r
+        → Fits old.limits k (reader.wanted old) told
+        → reader.Responds old told new result
+        → reader.Follows k r old told new result }
+    ensures spends { (reserve kept : ℕ) (old new : reader.ReadRound) (told : Answer Record) (result : Option ReadEnd) (k : Knowledge) (r : Recalled)
+        → reader.Shows old k r
+        → Fits old.limits k (reader.wanted old) told
+        → reader.Responds old told new result
+        → reader.Spends reserve kept r old told new result }
+{}
+
+/// So does what a writer's round makes of one.
+pub fn write_rounds_follow()
+    ensures follows { (old new : writer.WriteRound) (told : Answer Record) (result : Option WriteEnd) (k : Knowledge) (r : Recalled)
+        → writer.Shows old k r
+        → Fits old.limits k (writer.wanted old) told
+        → writer.Responds old told new result
+        → writer.Follows k r old told new result }
+    ensures spends { (reserve kept : ℕ) (old new : writer.WriteRound) (told : Answer Record) (result : Option WriteEnd) (k : Knowledge) (r : Recalled)
+        → writer.Shows old k r
+        → Fits old.limits k (writer.wanted old) told
+        → writer.Responds old told new result
+        → writer.Spends reserve kept r old told new result }
 {}
 
 /// A round to the left of a removed page that goes on doesn't become one to the leaf of its key.

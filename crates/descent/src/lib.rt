@@ -12,7 +12,8 @@ mod write_round;
 
 pub use detour::{Detour, DetourEnd};
 pub use laws::{
-    detours_lead_on, leaves_stand, left_rounds_stay, removals_are_due, rounds_are_short,
+    detours_lead_on, leaves_stand, left_rounds_stay, read_rounds_follow, removals_are_due,
+    rounds_are_short, write_rounds_follow,
 };
 pub use read_round::{ReadEnd, ReadRound};
 pub use visit::{Sight, Visit, reads_on};

@@ -18,10 +18,11 @@ use Rattle.installs.proofs.Following.{base_placed, lost_bare, lost_ready, may_li
 use Rattle.installs.proofs.Learning.{went}
 use Rattle.installs.proofs.Taken.{finds}
 use Rattle.installs.proofs.Winning.{won_at}
+use Rattle.installs.proofs.Making.{bare, bare_at, follows_bare, shows_bare, sound_bare}
 
 module _ (actor : ℕ) (limits : Limits) (k : Knowledge) (plan : Plan) (spares : Spares) where
   abbrev change : State → Change
-  change state = record { limits = limits; plan = plan; state = state }
+  change state = bare_at limits plan state
 
   -- what follows where the change goes on so
   abbrev pub FollowsTo : State → Answer Record → Moved → Type 0
@@ -50,9 +51,11 @@ module _ (actor : ℕ) (limits : Limits) (k : Knowledge) (plan : Plan) (spares :
 
 -- the same of a change that has gone on so
 module _ (old new : Change) (had has : Spares) (told : Answer Record) (end : Option End) (is : moved old.limits old.plan had old.state told ≡ record { state = new.state; spares = has; end = end }) (same : IsSame old new) where
-  pub only_state : new ≡ record old { state = new.state }
-  only_state = λ i. record { limits = same.limits i; plan = same.plan i; state = new.state }
+  pub only_state : bare new ≡ bare (record old { state = new.state })
+  only_state = λ i. bare_at (same.limits i) (same.plan i) new.state
 
   pub follows : (actor : ℕ) (k : Knowledge) → IsSoundChange old had → IsTarget old.limits old.plan → Shows actor old had k → Fits old.limits k (wanted old had) told → Follows actor k (learn k (wanted old had) told) old told new has end
   follows actor k sound target h fits =
-      rw only_state (subst (λ (now : Moved). Follows actor k (learn k (wanted old had) told) old told (record old { state = now.state }) now.spares now.end) is (follows_at actor old.limits k old.plan had old.state told sound target h fits))
+      let at_state = follows_at actor old.limits k old.plan had old.state told (sound_bare old had sound) target (shows_bare actor old had k h) fits in
+      follows_bare actor k (learn k (wanted old had) told) old told new has end
+      (rw only_state (subst (λ (now : Moved). Follows actor k (learn k (wanted old had) told) (bare old) told (bare_at old.limits old.plan now.state) now.spares now.end) is at_state))

@@ -15,6 +15,7 @@ use Rattle.installs.specs.declared.plan.Plan.TheVariants.{Install, Split, Root, 
 use Rattle.installs.proofs.Learning.{clear_went, cleared_learnt}
 use Rattle.installs.proofs.SpareLaws.{page_gone}
 use Rattle.installs.proofs.Winning.{kept_apart, unset_gone}
+use Rattle.installs.proofs.Making.{bare_at}
 
 -- the slot of a page that is gone may go to 0
 pub may_clear : (actor : ℕ) (k : Knowledge) (page row : ℕ) → 0 < page → 0 < row → k.own.pages page ≡ Gone → MayExchange actor k page row 0
@@ -40,8 +41,8 @@ may_end actor change spares k is sound target shows =
 
 module _ (actor : ℕ) (limits : Limits) (k : Knowledge) (spares : Spares) where
   -- what is known then
-  pub cleared_so : (plan : Plan) (told : Answer Record) → clears plan ≡ true → IsTarget limits plan → Shows actor (record { limits = limits; plan = plan; state = state.Clear }) spares k → Fits limits k (wanted_at plan spares state.Clear) told
-      → IsOver k (learn k (wanted_at plan spares state.Clear) told) (record { limits = limits; plan = plan; state = state.Clear }) told spares end.Won
+  pub cleared_so : (plan : Plan) (told : Answer Record) → clears plan ≡ true → IsTarget limits plan → Shows actor (bare_at limits plan state.Clear) spares k → Fits limits k (wanted_at plan spares state.Clear) told
+      → IsOver k (learn k (wanted_at plan spares state.Clear) told) (bare_at limits plan state.Clear) told spares end.Won
   cleared_so (Install pid head content) told is target h fits = cc
   cleared_so (Split pid plan) told is target h fits = cc
   cleared_so (Root left root) told is target h fits = cc

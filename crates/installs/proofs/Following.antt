@@ -23,6 +23,7 @@ use Rattle.installs.specs.declared.plan.Plan.{Plan}
 use Rattle.installs.specs.declared.plan.Plan.TheVariants.{Install, Split, Root, Unlink}
 use Rattle.installs.proofs.Learning.{empty_page, ready_learnt, ready_went, undo_went, undone_learnt}
 use Rattle.installs.proofs.SpareLaws.{apart, page_moved, replaced_other, replaced_same, row_placed}
+use Rattle.installs.proofs.Making.{bare_at}
 
 pub like_self : (k : Knowledge) → IsLike k.asked.linked k k
 like_self k = record { inside = refl; read = refl; command = refl; linked_now = refl }
@@ -114,7 +115,7 @@ module _ (actor : ℕ) (limits : Limits) (k : Knowledge) (plan : Plan) (spares :
   pid_own needs = rw (pid_is needs) at are.page
 
   abbrev change : State → Change
-  change state = record { limits = limits; plan = plan; state = state }
+  change state = bare_at limits plan state
 
   -- a base is placed
   pub base_placed : (told : Answer Record) → needs_pid plan ≡ true → AreUnset k.own → GoesOn actor k (learn k (wanted_at plan spares state.Base) told) (change state.Ready) spares

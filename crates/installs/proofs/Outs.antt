@@ -26,6 +26,7 @@ use Rattle.installs.specs.declared.taking.Taking.{Taking}
 use Rattle.installs.specs.declared.taking.Taking.TheVariants.{Bits, Take}
 use Rattle.installs.proofs.Following.{last_is, set_learnt, undo_learnt}
 use Rattle.installs.proofs.Learning.{clear_fresh, clear_went, cleared_learnt, over_fresh, over_learnt, over_other, rooted_learnt, went}
+use Rattle.installs.proofs.Making.{bare_at, shows_bare, sound_bare}
 
 -- what is taken out by a change that ended so, or goes on
 pub record TakesOut (limits : Limits) (k now : Knowledge) (plan : Plan) (end : Option End) : Type 0 where
@@ -123,7 +124,7 @@ lost_outs k limits (Unlink pid head unterm removal) spares = record { limbo = re
 
 module _ (actor : ℕ) (limits : Limits) (k : Knowledge) (spares : Spares) where
   abbrev change : Plan → State → Change
-  change plan state = record { limits = limits; plan = plan; state = state }
+  change plan state = bare_at limits plan state
 
   decided_outs : (plan : Plan) (won : Bool) → IsSoundChange (change plan state.Link) spares → IsTarget limits plan → Shows actor (change plan state.Link) spares k → Fits limits k (wanted_at plan spares state.Link) (answer.Whether won)
       → TakesOutTo k limits plan spares state.Link (answer.Whether won)
@@ -162,4 +163,4 @@ module _ (actor : ℕ) (limits : Limits) (k : Knowledge) (spares : Spares) where
 module _ (old new : Change) (had has : Spares) (told : Answer Record) (end : Option End) (is : moved old.limits old.plan had old.state told ≡ record { state = new.state; spares = has; end = end }) where
   pub outs : (actor : ℕ) (k : Knowledge) → IsSoundChange old had → IsTarget old.limits old.plan → Shows actor old had k → Fits old.limits k (wanted old had) told
       → TakesOut old.limits k (learn k (wanted old had) told) old.plan end
-  outs actor k sound target h fits = subst (λ (now : Moved). TakesOut old.limits k (learn k (wanted old had) told) old.plan now.end) is (outs_at actor old.limits k had old.plan old.state told sound target h fits)
+  outs actor k sound target h fits = subst (λ (now : Moved). TakesOut old.limits k (learn k (wanted old had) told) old.plan now.end) is (outs_at actor old.limits k had old.plan old.state told (sound_bare old had sound) target (shows_bare actor old had k h) fits)

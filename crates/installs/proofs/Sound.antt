@@ -7,7 +7,6 @@ use Rattle.std.specs.Int.{trailing_zeros, w64}
 use Rattle.std.proofs.lemmas.Nat.Bits.{bit_at-trailing_zeros}
 use Rattle.bw_model.specs.declared.step.Answer.TheVariants as answer
 use Rattle.deltas.specs.Spellable.{IsPid}
-use Rattle.installs.proofs.Answered.{only_state}
 use Rattle.bw_model.specs.declared.limits.Limits.{Limits}
 use Rattle.bw_model.specs.declared.step.Answer.{Answer}
 use Rattle.deltas.specs.declared.record.Record.{Record}
@@ -109,7 +108,7 @@ module _ (limits : Limits) (plan : Plan) where
       pid_kept false = room.pid
 
   -- the first state is one of the plan's
-  first_sound : (spares : Spares) → IsTarget limits plan → IsSoundState limits plan spares (first_state plan spares)
+  pub first_sound : (spares : Spares) → IsTarget limits plan → IsSoundState limits plan spares (first_state plan spares)
   first_sound spares target = at_first (needs_pid plan && not (is_some spares.pid)) refl (ltb (length spares.rows) (rows_needed plan)) refl
     where
       missing_pid : (needs : Bool) (pid : Option ℕ) → (needs && not (is_some pid)) ≡ true → (needs ≡ true) × (pid ≡ None)
@@ -183,5 +182,5 @@ module _ (old new : Change) (had has : Spares) (told : Answer Record) (end : Opt
   sound_stays = by_end end stays.1
     where
       by_end : (end : Option End) → IfNone end (IsSoundState old.limits old.plan has new.state) → IfNone end (IsSoundChange new has)
-      by_end None h = rw (only_state old new had has told end is same) (record { room = stays.0; state = h })
+      by_end None h = record { room = rw same.limits stays.0; state = rw (same.limits, same.plan) h }
       by_end (Some end) h = tt

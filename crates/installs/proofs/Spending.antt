@@ -30,6 +30,7 @@ use Rattle.installs.proofs.Following.{some_pid}
 use Rattle.installs.proofs.Learning.{went}
 use Rattle.installs.proofs.SpareLaws.{replaced_other, replaced_same}
 use Rattle.installs.proofs.Taken.{in_word}
+use Rattle.installs.proofs.Making.{bare, bare_at, sound_bare, spends_bare}
 
 -- a word of either kind is one of 256
 few_words : (limits : Limits) (kind : Kind) (word : ℕ) → 64 * word < count_of limits kind → word < 256
@@ -89,7 +90,7 @@ recalls_first r plan spares h = at_first (needs_pid plan && not (is_some spares.
 
 module _ (limits : Limits) (plan : Plan) (spares : Spares) (after : ℕ) (r : Recalled) (apart : IsApart plan spares.pid) where
   abbrev change : State → Change
-  change state = record { limits = limits; plan = plan; state = state }
+  change state = bare_at limits plan state
 
   abbrev pub SpendsSo : State → Answer Record → Moved → Type 0
   SpendsSo state told now = SpendsTo after r (change state) spares told (change now.state) now.spares now.end
@@ -214,4 +215,6 @@ module _ (limits : Limits) (plan : Plan) (spares : Spares) (after : ℕ) (r : Re
 module _ (old new : Change) (had has : Spares) (told : Answer Record) (end : Option End) (is : moved old.limits old.plan had old.state told ≡ record { state = new.state; spares = has; end = end }) (same : IsSame old new) where
   pub spends : (k : Knowledge) → Fits old.limits k (wanted old had) told → IsSoundChange old had → Spends old had told new has end
   spends k fits sound = λ after r h far.
-      rw (only_state old new had has told end is same) (subst (λ (now : Moved). SpendsTo after r old had told (record old { state = now.state }) now.spares now.end) is (spends_at old.limits old.plan had after r h.apart old.state told k fits sound h.at far))
+      let at_state = spends_at old.limits old.plan had after r h.apart old.state told k fits (sound_bare old had sound) h.at far in
+      spends_bare after r old had told new has end
+      (rw (only_state old new had has told end is same) (subst (λ (now : Moved). SpendsTo after r (bare old) had told (bare_at old.limits old.plan now.state) now.spares now.end) is at_state))

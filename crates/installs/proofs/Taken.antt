@@ -26,6 +26,7 @@ use Rattle.installs.specs.declared.taking.Taking.{Taking}
 use Rattle.installs.specs.declared.taking.Taking.TheVariants.{Bits, Take}
 use Rattle.installs.proofs.Following.{like_self, still_may, unlinked}
 use Rattle.installs.proofs.SpareLaws.{pid_taken, replaced_other, replaced_same, row_taken}
+use Rattle.installs.proofs.Making.{bare_at}
 
 -- a word that was read as 0 adds to those below it
 none_free : (words : ℕ → Bool) (word below : ℕ) → below ≤ word → ((below : ℕ) → below < word → words below ≡ true) → replaced_at word true words below ≡ true
@@ -43,7 +44,7 @@ in_word limit word bits fits =
     (omega (arith, within), rw place lowest.1)
 
 -- where all that is known stands, a change begins with the first number that is missing, or with its first place
-shows_first : (actor : ℕ) (limits : Limits) (k : Knowledge) (plan : Plan) (spares : Spares) → MayChange actor k plan → KeepsSpare plan spares.pid → AreTheSpares k.own spares → AreUnset k.own → Shows actor (record { limits = limits; plan = plan; state = first_state plan spares }) spares k
+pub shows_first : (actor : ℕ) (limits : Limits) (k : Knowledge) (plan : Plan) (spares : Spares) → MayChange actor k plan → KeepsSpare plan spares.pid → AreTheSpares k.own spares → AreUnset k.own → Shows actor (bare_at limits plan (first_state plan spares)) spares k
 shows_first actor limits k plan spares may keeps are bare = record { may = may; keeps = keeps; are = are; stands = at_first (needs_pid plan && not (is_some spares.pid)) (ltb (length spares.rows) (rows_needed plan)) }
   where
     at_place : (plan : Plan) → ShowsState plan spares k (after_taking plan)
@@ -59,7 +60,7 @@ shows_first actor limits k plan spares may keeps are bare = record { may = may; 
 
 module _ (actor : ℕ) (limits : Limits) (k : Knowledge) (plan : Plan) (spares : Spares) (may : MayChange actor k plan) (keeps : KeepsSpare plan spares.pid) (are : AreTheSpares k.own spares) (bare : AreUnset k.own) where
   abbrev pub change : State → Change
-  change state = record { limits = limits; plan = plan; state = state }
+  change state = bare_at limits plan state
 
   -- what follows an answer of a taking
   abbrev pub Finds : Taking → Answer Record → Type 0

@@ -21,6 +21,7 @@ use Rattle.installs.specs.declared.plan.Plan.TheVariants.{Install, Split, Root, 
 use Rattle.installs.proofs.Following.{own_last, some_pid, still_may, unset_then}
 use Rattle.installs.proofs.Learning.{no_split, over_learnt, over_other, rooted_learnt}
 use Rattle.installs.proofs.SpareLaws.{first_linked, last_linked, page_gone, page_linked, replaced_other, replaced_same}
+use Rattle.installs.proofs.Making.{bare_at}
 
 -- the rows but for the last one, and two rows
 rows_last : (rows : List ℕ) → 1 ≤ length rows → length rows ≤ 2 → rows ≡ take (length rows - 1) rows ++ get_or rows (length rows - 1) 0 ∷ []
@@ -50,7 +51,7 @@ unset_gone own page o unset bare = λ other row e. elim (cases_eq other page) [
 module _ (actor : ℕ) (limits : Limits) (k : Knowledge) (spares : Spares) (room : HaveRoom limits spares) (are : AreTheSpares k.own spares) where
   -- a record is linked over a page's newest row
   over_row : (pid head : ℕ) (content : Record) → 1 ≤ length spares.rows → IsTarget limits (Install pid head content) → KeepsSparePage content spares.pid → MayExchange actor k pid head (last_row spares) → AreUnset k.own → k.own.rows (last_row spares) ≡ Written content
-      → IsOver k (linked_over (Written content) head (last_row spares) k) (record { limits = limits; plan = Install pid head content; state = state.Link }) (answer.Whether true) (unused (Install pid head content) spares) end.Won
+      → IsOver k (linked_over (Written content) head (last_row spares) k) (bare_at limits (Install pid head content) state.Link) (answer.Whether true) (unused (Install pid head content) spares) end.Won
   over_row pid head content some target kept may bare placed = by_content content kept placed
     where
       front : List ℕ
@@ -60,7 +61,7 @@ module _ (actor : ℕ) (limits : Limits) (k : Knowledge) (spares : Spares) (room
       linked = last_linked k.own spares are (last_row spares) front (rows_last spares.rows some room.few)
 
       by_content : (content : Record) → KeepsSparePage content spares.pid → k.own.rows (last_row spares) ≡ Written content
-          → IsOver k (linked_over (Written content) head (last_row spares) k) (record { limits = limits; plan = Install pid head content; state = state.Link }) (answer.Whether true) (unused (Install pid head content) spares) end.Won
+          → IsOver k (linked_over (Written content) head (last_row spares) k) (bare_at limits (Install pid head content) state.Link) (answer.Whether true) (unused (Install pid head content) spares) end.Won
       by_content (kind.Base base) kept placed = record { like = record { inside = refl; read = refl; command = refl; linked_now = refl }; rest = record { are = linked; unset = bare }; decided = (refl, refl) }
       by_content (kind.Put put) kept placed = record { like = record { inside = refl; read = refl; command = refl; linked_now = refl }; rest = record { are = linked; unset = bare }; decided = (refl, refl) }
       by_content (kind.Delete delete) kept placed = record { like = record { inside = refl; read = refl; command = refl; linked_now = refl }; rest = record { are = linked; unset = bare }; decided = (refl, refl) }
@@ -80,7 +81,7 @@ module _ (actor : ℕ) (limits : Limits) (k : Knowledge) (spares : Spares) (room
 
   -- a term is out, and its page is to be cleared
   term_out : (pid head : ℕ) (unterm : Unterm) (removal : ℕ) → 1 ≤ length spares.rows → MayChange actor k (Unlink pid head unterm removal) → KeepsSparePage (kind.Unterm unterm) spares.pid → AreUnset k.own
-      → GoesOn actor k (handed_page unterm.child Gone (last_row spares) k) (record { limits = limits; plan = Unlink pid head unterm removal; state = state.Clear }) (unused (Unlink pid head unterm removal) spares)
+      → GoesOn actor k (handed_page unterm.child Gone (last_row spares) k) (bare_at limits (Unlink pid head unterm removal) state.Clear) (unused (Unlink pid head unterm removal) spares)
   term_out pid head unterm removal some may kept bare =
       let front = take (length spares.rows - 1) spares.rows in
       let linked = last_linked k.own spares are (last_row spares) front (rows_last spares.rows some room.few) in
@@ -96,7 +97,7 @@ module _ (actor : ℕ) (limits : Limits) (k : Knowledge) (spares : Spares) (room
 
   -- what follows where the exchange that decides has won
   abbrev WonTo : Plan → Moved → Type 0
-  WonTo plan now = Follows actor k (learn k (wanted_at plan spares state.Link) (answer.Whether true)) (record { limits = limits; plan = plan; state = state.Link }) (answer.Whether true) (record { limits = limits; plan = plan; state = now.state }) now.spares now.end
+  WonTo plan now = Follows actor k (learn k (wanted_at plan spares state.Link) (answer.Whether true)) (bare_at limits plan state.Link) (answer.Whether true) (bare_at limits plan now.state) now.spares now.end
 
   pub won_at : (plan : Plan) → AreEnough plan spares → IsTarget limits plan → MayChange actor k plan → KeepsSpare plan spares.pid → MayExchange actor k (slot_of plan) (head_of plan) (linked_number plan spares) → StandsReady plan spares k.own → IsPlaced plan spares k.own → Fits limits k (wanted_at plan spares state.Link) (answer.Whether true)
       → WonTo plan (decided_by plan spares true)

@@ -26,11 +26,12 @@ use Rattle.installs.specs.declared.taking.Kind.TheVariants.{Pid, Row}
 use Rattle.installs.specs.Spares.{AreTheSpares, AreUnset, HaveRoom, Rest, Spares, first_row, last_row, pid_of}
 use Rattle.installs.specs.Taking.{AllFull, AreFull, IsSoundTaking, kind_of, wanted_number, word_read}
 
--- what is to be linked, and how far it has come
+-- what is to be linked, how far it has come, and a record that was made to be placed
 pub record Change : Type 0 where
   pub limits : Limits
   pub plan : Plan
   pub state : State
+  pub made : Record
 
 -- whether a plan brings a new page, and how many rows it needs
 abbrev pub needs_pid : Plan → Bool
@@ -74,6 +75,13 @@ new_record (Install pid head content) right = content
 new_record (Split pid plan) right = kind.Split (split_to plan right)
 new_record (Root left root) right = kind.Base root
 new_record (Unlink pid head unterm removal) right = kind.Unterm unterm
+
+-- the record that is to be placed, where a plan has it as such, or where one was made
+abbrev pub placed_in : Plan → Record → Record
+placed_in (Install pid head content) made = content
+placed_in (Split pid plan) made = made
+placed_in (Root left root) made = made
+placed_in (Unlink pid head unterm removal) made = made
 
 -- the exchange that decides: its slot, the number that was read there, and the number to come
 abbrev pub slot_of : Plan → ℕ
@@ -177,6 +185,15 @@ IsSoundState limits plan spares Clear = clears plan ≡ true
 pub record IsSoundChange (change : Change) (spares : Spares) : Type 0 where
   pub room : HaveRoom change.limits spares
   pub state : IsSoundState change.limits change.plan spares change.state
+
+-- The record that the state asks to place is there.
+abbrev pub IsMadeAt : Plan → Record → Spares → State → Type 0
+IsMadeAt plan made spares Base = placed_in plan made ≡ new_base plan
+IsMadeAt plan made spares Place = placed_in plan made ≡ new_record plan (pid_of spares)
+IsMadeAt plan made spares state = ⊤
+
+abbrev pub IsMade : Change → Spares → Type 0
+IsMade change spares = IsMadeAt change.plan change.made spares change.state
 
 -- The same is known but of own rows, own pages and words of free bits; this is known of the command's update.
 pub record IsLike (linked : Option (Option ℕ)) (was now : Knowledge) : Type 0 where

@@ -1,13 +1,14 @@
 //! A change of the tree: a record over a page's newest row, the split of a page, a new root, or the end of a removed page.
 ghost use Rattle.std.specs.Prelude.{◌≡◌, ◌<◌, ◌≤◌, ◌*◌, ◌+◌, ◌/◌, ℕ, false, None, Some, IfNone};
 ghost use Rattle.std.specs.Int.{trailing_zeros, w64};
+ghost use Rattle.bw_model.specs.Lent.{lent};
 ghost use Rattle.bw_model.specs.declared.limits.Limits.{Limits as LimitsSeen};
 ghost use Rattle.chain_search.specs.Discipline.{May, MayFree};
 ghost use Rattle.chain_search.specs.Fitting.{Fits};
 ghost use Rattle.chain_search.specs.Knowledge.{Knowledge, learn};
 ghost use Rattle.chain_search.specs.Recalled.{Recalled, WasHead};
 ghost use Rattle.installs.specs.Bounded.{IsApart, IsPidFrom, Recalls, Spends, pid_taken, steps_left};
-ghost use Rattle.installs.specs.Changes.{Follows, IsOfChange, IsSame, IsSoundChange, IsSpellablePlan, IsTarget, IsTold, KeepsSpare, MayChange, Shows, at, base_row, head_of, linked_number, slot_of, wanted};
+ghost use Rattle.installs.specs.Changes.{Follows, IsMade, IsMadeAt, IsOfChange, IsSame, IsSoundChange, IsSpellablePlan, IsTarget, IsTold, KeepsSpare, MayChange, Shows, at, base_row, head_of, linked_number, placed_in, slot_of, wanted};
 ghost use Rattle.installs.specs.Moves.{after_ready, decided_by, first_state, moved, moved_by};
 ghost use Rattle.installs.specs.Outs.{TakesFresh, limbo_after};
 ghost use Rattle.installs.specs.Spares.{HaveRoom, Rest};
@@ -17,7 +18,7 @@ ghost use Rattle.chain_search.specs.Within.{IsWithin};
 use crate::taking::{Found, Kind, Taking};
 use crate::{Plan, Spares};
 use bw_model::{Answer, Limits, Step};
-use deltas::Record;
+use deltas::{Record, Remove};
 use std::marker::Model;
 
 /// How a change ended.
@@ -50,12 +51,14 @@ pub(crate) enum State {
     Clear,
 }
 
-/// A change that is under way. What it takes and places is among the spares of its actor until it is linked.
+/// A change that is under way. What it takes and places is among the spares of its actor until it is linked. A record that is to be
+/// placed, and that the plan hasn't as such, is made once, and lies here.
 #[derive(Debug, Drop)]
 pub struct Change {
     limits: Limits,
     plan: Plan,
     state: State,
+    made: Record,
 }
 
 impl Model for Change {
@@ -63,7 +66,7 @@ impl Model for Change {
 
     ghost Value = { Change };
 
-    ghost view = { λ c. record { limits = c.limits; plan = c.plan; state = c.state } };
+    ghost view = { λ c. record { limits = c.limits; plan = c.plan; state = c.state; made = c.made } };
 
     ghost invariant = { λ c. IsTarget c.limits c.plan × IsSpellablePlan c.plan };
 }
@@ -76,16 +79,19 @@ impl Change {
         requires room { HaveRoom limits.now spares.now }
         ensures shows { (actor : ℕ) (k : Knowledge) → MayChange actor k plan → KeepsSpare plan spares.now.pid → Rest k.own spares.now → Shows actor result spares.now k }
         ensures sound { IsSoundChange result spares.now }
+        ensures made { IsMade result spares.now }
         ensures limits { result.limits ≡ limits.now }
         ensures plan { result.plan ≡ plan }
         ensures recalls { (r : Recalled) → WasHead r (slot_of plan) (head_of plan) → IsApart plan spares.now.pid → Recalls result spares.now r }
         ensures few { (after : ℕ) → steps_left after result spares.now ≤ 800 }
     {
         let state = first_state(&plan, spares);
+        let made = made_for(&plan, state, spares);
         Change {
             limits: *limits,
             plan,
             state,
+            made,
         }
     }
 
@@ -113,6 +119,41 @@ impl Change {
         }
     }
 
+    /// The same, with the record that is to be placed lent from where it lies.
+    pub fn wanted(&self, spares: &Spares) -> Step<&Record>
+        requires sound { IsSoundChange self.now spares.now }
+        requires made { IsMade self.now spares.now }
+        ensures wanted { lent result ≡ wanted self.now spares.now }
+        ensures within { IsWithin self.now.limits (lent result) }
+        ensures may { (actor : ℕ) (k : Knowledge) → Shows actor self.now spares.now k → May actor k (lent result) }
+        ensures only { IsOfChange (lent result) }
+        ensures frees { (limits : LimitsSeen) (actor : ℕ) (k : Knowledge) → MayFree limits actor k (lent result) }
+    {
+        match self.state {
+            State::Taking(taking) => taking.wanted(),
+            State::Base => Step::Place(self.base_row(spares), self.placed()),
+            State::Ready => Step::Exchange(spares.pid_or_0(), 0, self.base_row(spares)),
+            State::Place => Step::Place(spares.last_row(), self.placed()),
+            State::Link => Step::Exchange(
+                self.plan.slot(),
+                self.plan.head(),
+                self.linked_number(spares),
+            ),
+            State::Undo => Step::Exchange(spares.pid_or_0(), self.base_row(spares), 0),
+            State::Clear => Step::Exchange(self.plan.cleared_page(), self.plan.cleared_row(), 0),
+        }
+    }
+
+    /// The record that is to be placed.
+    fn placed(&self) -> &Record
+        ensures { result.now ≡ placed_in self.now.plan self.now.made }
+    {
+        match &self.plan {
+            Plan::Install { content, .. } => content,
+            Plan::Split { .. } | Plan::Root { .. } | Plan::Unlink { .. } => &self.made,
+        }
+    }
+
     /// Takes the answer to the step wanted last, and tells whether the change has ended.
     pub fn next(&mut self, spares: &mut Spares, answer: &Answer<Record>) -> Option<End>
         requires sound { IsSoundChange self.old spares.old }
@@ -121,6 +162,7 @@ impl Change {
         ensures limbo { (actor : ℕ) (k : Knowledge) → Shows actor self.old spares.old k → Fits self.old.limits k (wanted self.old spares.old) answer.now → (learn k (wanted self.old spares.old) answer.now).limbo ≡ limbo_after self.old.plan result k }
         ensures fresh { (actor : ℕ) (k : Knowledge) → Shows actor self.old spares.old k → Fits self.old.limits k (wanted self.old spares.old) answer.now → TakesFresh self.old.limits k self.old.plan result }
         ensures sound { IfNone result (IsSoundChange self.new spares.new) }
+        ensures made { IsMade self.new spares.new }
         ensures room { HaveRoom self.old.limits spares.new }
         ensures same { IsSame self.old self.new }
         ensures pid { IsPidFrom spares.old.pid (pid_taken (wanted self.old spares.old) answer.now) spares.new.pid }
@@ -132,8 +174,45 @@ impl Change {
         self.move_on(spares, answer)
     }
 
-    /// Goes to the state that follows.
+    /// Goes to the state that follows, and makes what is to be placed there.
     fn move_on(&mut self, spares: &mut Spares, answer: &Answer<Record>) -> Option<End>
+        requires sound { IsSoundChange self.old spares.old }
+        requires told { IsTold self.old spares.old answer.now }
+        ensures moved { moved self.old.limits self.old.plan spares.old self.old.state answer.now ≡ record { state = self.new.state; spares = spares.new; end = result } }
+        ensures same { IsSame self.old self.new }
+        ensures made { IsMade self.new spares.new }
+    {
+        let end = self.follow(spares, answer);
+        self.make(spares);
+        end
+    }
+
+    /// Makes the record that is to be placed next, where the plan hasn't it as such.
+    fn make(&mut self, spares: &Spares)
+        ensures made { IsMade self.new spares.now }
+        ensures same { IsSame self.old self.new }
+        ensures state { self.new.state ≡ self.old.state }
+    {
+        if let Plan::Install { .. } = &self.plan {
+            return;
+        }
+        if let State::Base | State::Place = self.state {
+            self.make_now(spares);
+        }
+    }
+
+    /// Makes the record that is to be placed next.
+    #[inline(never)]
+    fn make_now(&mut self, spares: &Spares)
+        ensures made { IsMade self.new spares.now }
+        ensures same { IsSame self.old self.new }
+        ensures state { self.new.state ≡ self.old.state }
+    {
+        self.made = made_for(&self.plan, self.state, spares);
+    }
+
+    /// Goes to the state that follows.
+    fn follow(&mut self, spares: &mut Spares, answer: &Answer<Record>) -> Option<End>
         requires sound { IsSoundChange self.old spares.old }
         requires told { IsTold self.old spares.old answer.now }
         ensures moved { moved self.old.limits self.old.plan spares.old self.old.state answer.now ≡ record { state = self.new.state; spares = spares.new; end = result } }
@@ -220,6 +299,25 @@ impl Change {
             Plan::Root { .. } => spares.pid_or_0(),
         }
     }
+}
+
+/// The record that is to be placed in a state, where the plan hasn't it as such.
+fn made_for(plan: &Plan, state: State, spares: &Spares) -> Record
+    ensures { IsMadeAt plan.now result spares.now state }
+{
+    match plan {
+        Plan::Install { .. } => nothing(),
+        Plan::Split { .. } | Plan::Root { .. } | Plan::Unlink { .. } => match state {
+            State::Base => plan.base(),
+            State::Place => plan.record(spares.pid_or_0()),
+            _ => nothing(),
+        },
+    }
+}
+
+/// A record where none is needed.
+fn nothing() -> Record {
+    Record::Remove(Remove { level: 0, next: 0 })
 }
 
 /// What follows once the new page's slot is set.

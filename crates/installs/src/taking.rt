@@ -1,5 +1,6 @@
 //! The taking of one free number: it reads words of free bits, and takes the lowest free number of the first word that has one.
 ghost use Rattle.std.specs.Prelude.{◌≡◌, ◌<◌, ◌*◌};
+ghost use Rattle.bw_model.specs.Lent.{lent};
 ghost use Rattle.chain_search.specs.Fitting.{FitsWord};
 ghost use Rattle.installs.specs.Taking.{FitsTaking, IsSoundFound, IsSoundTaking, count_of, found_after, wanted_number};
 
@@ -47,6 +48,22 @@ impl Taking {
     /// The step that the taking wants next.
     pub(crate) fn step(self) -> Step<Record>
         ensures { result ≡ wanted_number self }
+    {
+        match self {
+            Taking::Bits { kind, word } => match kind {
+                Kind::Pid => Step::PidBits(word),
+                Kind::Row => Step::RowBits(word),
+            },
+            Taking::Take { kind, number } => match kind {
+                Kind::Pid => Step::TakePid(number),
+                Kind::Row => Step::TakeRow(number),
+            },
+        }
+    }
+
+    /// The same among steps that lend the record that they place.
+    pub(crate) fn wanted<'a>(self) -> Step<&'a Record>
+        ensures { lent result ≡ wanted_number self }
     {
         match self {
             Taking::Bits { kind, word } => match kind {

@@ -21,3 +21,8 @@ pub mod SweepMoves
 pub mod Leaving
 pub mod Nexts
 pub mod runs
+pub mod Takes
+pub mod InPlaces
+pub mod InPlaceChanges
+pub mod Executing
+pub mod RowsRead

@@ -36,7 +36,7 @@ not_begun (Change now then) e = cc
 not_begun (Leave reply) e = cc
 
 -- nothing of the sweep is left then
-nothing_left : (state : State) → has_begun state ≡ true → sweep_left None state ≡ 0
+pub nothing_left : (state : State) → has_begun state ≡ true → sweep_left None state ≡ 0
 nothing_left Begun e = cc
 nothing_left Epoch e = refl
 nothing_left (Enter epoch) e = refl
@@ -60,20 +60,20 @@ module _ (old : Op) (had : Hand) (told : Answer Record) (begun : has_begun old.s
   swept_first k None holds = refl
   swept_first k (Some sweep) holds = let e = sym (ap has_begun holds.first) ∙ begun in cc
 
-  left_is : (op : Op) (hand : Hand) (r : Recalled) → op.sweep ≡ None → has_begun op.state ≡ true → steps_left r op hand ≡ with_errands op.task.errands (left_at r hand.spares op.state)
+  pub left_is : (op : Op) (hand : Hand) (r : Recalled) → op.sweep ≡ None → has_begun op.state ≡ true → steps_left r op hand ≡ with_errands op.task.errands (left_at r hand.spares op.state)
   left_is op hand r none on = let zero : sweep_left op.sweep op.state ≡ 0 = rw none (nothing_left op.state on) in omega (arith, zero)
 
   module _ (k : Knowledge) (r : Recalled) (shows : Shows old had k r) where
-    unswept : old.sweep ≡ None
+    pub unswept : old.sweep ≡ None
     unswept = swept_first k old.sweep shows.limbo
 
-    asks : wanted_of old had ≡ asked_of old had.spares
+    pub asks : wanted_of old had ≡ asked_of old had.spares
     asks = ap (λ (o : Option Sweep). asked_by o (asked_of old had.spares)) unswept
 
-    fits_on : FitsLast old.task.limits k (wanted_of old had) told → FitsLast old.task.limits k (asked_of old had.spares) told
+    pub fits_on : FitsLast old.task.limits k (wanted_of old had) told → FitsLast old.task.limits k (asked_of old had.spares) told
     fits_on fits = subst (λ w. FitsLast old.task.limits k w told) asks fits
 
-    kept_begun : AreKept old.task.limits old.task.actor had.limbo k.limbo
+    pub kept_begun : AreKept old.task.limits old.task.actor had.limbo k.limbo
     kept_begun = rw unswept at shows.limbo
 
     module _ (new : Op) (has : Hand) (same : new.sweep ≡ old.sweep) (task : IsSameTask old.task new.task) where
@@ -117,20 +117,20 @@ module _ (old mid : Op) (spares : Spares) (limbo now : Limbo) (told : Answer Rec
   abbrev between : Hand
   between = with_limbo spares now
 
-  sweep_asks : wanted_of old had ≡ swept_by old
+  pub sweep_asks : wanted_of old had ≡ swept_by old
   sweep_asks = ap (λ (state : State). asked_by old.sweep (wanted_at spares state)) first
 
-  fits_swept : (k : Knowledge) → FitsLast old.task.limits k (wanted_of old had) told → FitsLast old.task.limits k (swept_by old) told
+  pub fits_swept : (k : Knowledge) → FitsLast old.task.limits k (wanted_of old had) told → FitsLast old.task.limits k (swept_by old) told
   fits_swept k fits = subst (λ w. FitsLast old.task.limits k w told) sweep_asks fits
 
   goes_swept : (k : Knowledge) (r : Recalled) (new : Op) (has : Hand) (asked : StepOf Record) → Goes (learn_last k (swept_by old) told) (recall_last r (swept_by old) told) new has asked → Answers k r old had told new has (Step asked)
   goes_swept k r new has asked goes = subst (λ w. Goes (learn_last k w told) (recall_last r w told) new has asked) (sym sweep_asks) goes
 
-  fewer : (r : Recalled) (last : Option (StepOf Record)) (left rest : ℕ) → rest < left → IsSpentLast r last told left rest
+  pub fewer : (r : Recalled) (last : Option (StepOf Record)) (left rest : ℕ) → rest < left → IsSpentLast r last told left rest
   fewer r None left rest less = less
   fewer r (Some asked) left rest less = inl less
 
-  left_first : (r : Recalled) → steps_left r old had ≡ with_errands old.task.errands (sweep_left old.sweep Begun + (one_round + 3))
+  pub left_first : (r : Recalled) → steps_left r old had ≡ with_errands old.task.errands (sweep_left old.sweep Begun + (one_round + 3))
   left_first r = rw first refl
 
   -- the sweep goes on
@@ -153,23 +153,23 @@ module _ (old mid : Op) (spares : Spares) (limbo now : Limbo) (told : Answer Rec
 
   -- and is over, so that the work begins
   module _ (over : ObeysSweep old limbo told mid now None) where
-    asks_none : asked_of mid spares ≡ None
+    pub asks_none : asked_of mid spares ≡ None
     asks_none = ap (wanted_at spares) (same.state ∙ first)
 
     module _ (k : Knowledge) (r : Recalled) (h : Shows old had k r) (f : FitsLast old.task.limits k (wanted_of old had) told) where
-      abbrev then : Knowledge
+      abbrev pub then : Knowledge
       then = learn_last k (swept_by old) told
 
-      abbrev recalled : Recalled
+      abbrev pub recalled : Recalled
       recalled = recall_last r (swept_by old) told
 
-      rests : (mid.sweep ≡ None) × Shows mid between then recalled
+      pub rests : (mid.sweep ≡ None) × Shows mid between then recalled
       rests = over k r spares h (fits_swept k f)
 
-      starts : FitsLast mid.task.limits then (asked_of mid spares) Start
+      pub starts : FitsLast mid.task.limits then (asked_of mid spares) Start
       starts = rw asks_none refl
 
-      kept_after : AreKept mid.task.limits mid.task.actor now then.limbo
+      pub kept_after : AreKept mid.task.limits mid.task.actor now then.limbo
       kept_after = rw rests.0 at rests.1.limbo
 
       module _ (new : Op) (has : Hand) (sweep : new.sweep ≡ mid.sweep) (task : IsSameTask mid.task new.task) where

@@ -23,3 +23,5 @@ pub mod Hands
 pub mod Works
 pub mod Spending
 pub mod Sweeping
+pub mod Places
+pub mod InPlace

@@ -59,6 +59,7 @@ pub record IsInChange (task : Task) (spares : Spares) (k : Knowledge) (r : Recal
   pub split : IsReadPlan k now.plan
   pub unread : IsUnreadPid spares k
   pub sound : change.IsSoundChange now spares
+  pub made : change.IsMade now spares
   pub shows : change.Shows task.actor now spares k
   pub recalls : bound.Recalls now spares r
 

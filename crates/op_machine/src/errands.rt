@@ -50,6 +50,13 @@ impl Errands {
         }
     }
 
+    /// Takes all off.
+    pub(crate) fn clear(&mut self)
+        ensures { self.new ≡ [] }
+    {
+        self.keys.clear();
+    }
+
     /// Takes the newest one off.
     pub(crate) fn finish(&mut self)
         ensures { self.new ≡ take (length self.old - 1) self.old }

@@ -4,6 +4,7 @@
 mod errands;
 mod examples;
 mod hand;
+mod in_place;
 mod laws;
 mod link;
 mod listing;
@@ -20,6 +21,8 @@ pub use examples::{
     useless_links_are_refused,
 };
 pub use hand::Hand;
+pub use in_place::Operation;
+pub(crate) use in_place::Places;
 pub use laws::{
     knowledge_stays, late_mark_keeps_log, log_grows, one_leaf_has_the_map, phases_grow,
 };

@@ -323,7 +323,11 @@ impl Op {
 }
 
 /// The sweep after an answer, if it goes on.
-fn swept<A: Allocator>(sweep: Sweep, limbo: &mut Limbo<A>, answer: &Answer<Record>) -> Option<Sweep>
+pub(crate) fn swept<A: Allocator>(
+    sweep: Sweep,
+    limbo: &mut Limbo<A>,
+    answer: &Answer<Record>,
+) -> Option<Sweep>
     requires sound { IsSoundSweep sweep limbo.old }
     requires told { IsToldAlone sweep answer.now }
     ensures follows { (k : Knowledge) → ShowsSweep sweep limbo.old k → Fits sweep.limits k (wanted sweep) answer.now → FollowsSweep k (learn k (wanted sweep) answer.now) sweep result limbo.new }

@@ -186,7 +186,7 @@ impl State {
     }
 }
 
-fn copied(reply: &Reply) -> Reply
+pub(crate) fn copied(reply: &Reply) -> Reply
     ensures { result ≡ reply.now }
 {
     reply.clone().unwrap()

@@ -1,5 +1,5 @@
 //! What an operation was asked, and what it makes of what it has come to.
-ghost use Rattle.std.specs.Prelude.{◌≡◌, ◌<◌, ◌≤◌, ◌+◌, ◌-◌, ℕ, List, [], Option, Some, IfSome, IsSome, MatchOption, is_some, length, take, true, false};
+ghost use Rattle.std.specs.Prelude.{◌≡◌, ◌<◌, ◌≤◌, ◌+◌, ◌-◌, ℕ, List, [], Option, Some, IfSome, IsSome, MatchOption, is_some, length, option_copied, slice_get, take, true, false};
 ghost use Rattle.chain_search.specs.Chains.{high_in, is_removed};
 ghost use Rattle.chain_search.specs.Discipline.{found};
 ghost use Rattle.chain_search.specs.Knowledge.{Knowledge};
@@ -13,7 +13,7 @@ ghost use Rattle.installs.specs.Changes.{IsSpellablePlan, IsTarget};
 ghost use Rattle.installs.specs.Spares.{HaveRoom, Spares};
 ghost use Rattle.op_machine.specs.Bounded.{few_changes, left_at, left_for, one_round, with_errands};
 ghost use Rattle.op_machine.specs.Brings.{errands_after, update_over};
-ghost use Rattle.op_machine.specs.Errands.{due_of, way_key};
+ghost use Rattle.op_machine.specs.Errands.{due_of, way_key, with_errand};
 ghost use Rattle.op_machine.specs.Outcomes as Outcome;
 ghost use Rattle.op_machine.specs.Outcomes.{FacesChanged, FacesRead, FacesWritten, IsAtLeaf, IsAtLeafBelow, StandsForReader};
 ghost use Rattle.op_machine.specs.Shows.{MayBegin, ShowsState, wanted_at};
@@ -81,6 +81,45 @@ impl Task {
         &self.command
     }
 
+    /// How large the tree is.
+    pub(crate) fn limits(&self) -> &Limits
+        ensures { result.now ≡ self.now.limits }
+    {
+        &self.limits
+    }
+
+    /// The operation is asked another command, by another actor, on a tree of these limits.
+    pub(crate) fn begin(&mut self, command: Command, actor: u8, limits: &Limits)
+        requires { actor < limits.now.actors }
+        ensures { self.new ≡ record { limits = limits.now; actor = actor; command = command; errands = [] } }
+    {
+        self.limits = *limits;
+        self.actor = actor;
+        self.command = command;
+        self.errands.clear();
+    }
+
+    /// The newest errand's key, if there is an errand.
+    pub(crate) fn errand(&self) -> Option<&Key>
+        ensures { option_copied result ≡ slice_get self.now.errands (length self.now.errands - 1) }
+    {
+        self.errands.newest()
+    }
+
+    /// The newest errand is done.
+    pub(crate) fn finish_errand(&mut self)
+        ensures { self.new ≡ record self.old { errands = take (length self.old.errands - 1) self.old.errands } }
+    {
+        self.errands.finish();
+    }
+
+    /// There is one errand more, if there is room.
+    pub(crate) fn add_errand(&mut self, key: Key)
+        ensures { self.new ≡ record self.old { errands = with_errand key self.old.errands } }
+    {
+        self.errands.add(key);
+    }
+
     /// The sweep with which a writer begins, if there is anything in limbo.
     pub(crate) fn sweep<A: Allocator>(&self, limbo: &mut Limbo<A>) -> Option<Sweep>
         requires lists { IsLimboOf self.now.limits limbo.old }
@@ -118,7 +157,7 @@ impl Task {
     }
 
     /// The newest errand's key, or the command's.
-    fn way_key(&self) -> &Key
+    pub(crate) fn way_key(&self) -> &Key
         ensures { result.now ≡ way_key self.now.errands self.now.command }
     {
         match self.errands.newest() {
@@ -128,7 +167,7 @@ impl Task {
     }
 
     /// At how many deltas the leaf that is looked for is consolidated: a tidying leaves none at the leaf of its key.
-    fn due(&self) -> usize
+    pub(crate) fn due(&self) -> usize
         ensures due { result ≡ due_of self.now.errands self.now.command }
         ensures some { 0 < result }
     {
@@ -307,7 +346,7 @@ impl Task {
     }
 
     /// The record that a command which changes the map places over the row `next`.
-    fn update_over(&self, next: u16) -> Record
+    pub(crate) fn update_over(&self, next: u16) -> Record
         requires { (old : Option (List ℕ)) × (is_some (update_of 0 self.now.command old) ≡ true) }
         ensures { result ≡ update_over self.now.command next }
     {
@@ -479,7 +518,7 @@ impl Task {
 }
 
 /// The pairs of a leaf from a key on, and where the next page goes on.
-fn cursor_page(leaf: &Chain, from: &Key) -> Reply
+pub(crate) fn cursor_page(leaf: &Chain, from: &Key) -> Reply
     ensures { (pairs : List (List ℕ × List ℕ)) × ArePairsOf (found leaf.now) from.now (high_in leaf.now) pairs × (result ≡ reply.Page pairs (high_in leaf.now)) }
 {
     Reply::Page {

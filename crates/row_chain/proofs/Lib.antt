@@ -4,3 +4,4 @@ pub mod Newest
 pub mod Offers
 pub mod OneKeys
 pub mod Opening
+pub mod Typing

@@ -10,6 +10,7 @@ ghost use Rattle.chain_search.specs.Fitted.{IsPageChain};
 mod count;
 mod rows;
 mod search;
+mod typed;
 mod walk;
 
 use crate::{ChainPart, HeldRow};
@@ -150,7 +151,7 @@ impl<A: Allocator> Chain<A> {
     }
 
     /// Whether the key is below the page's end.
-    fn ends_after(&self, key: &KeyWords) -> bool
+    pub fn ends_after(&self, key: &KeyWords) -> bool
         ensures { result ≡ is_under key.now (high_in self.now) }
     {
         for newest in self.as_slice() {

@@ -18,7 +18,7 @@ use Rattle.shell_lines.specs.Token.{Means, token_value}
 use Rattle.shell_lines.specs.Number.{number_of, capped, fitting}
 use Rattle.shell_lines.specs.Fields.{fields_of}
 use Rattle.shell_lines.specs.Request.{Says, SpellsRequest, SpellsNumber, SpellsCommand, IsAskedIn, IsShortCommand, IsShortRequest, word_of}
-use Rattle.shell_lines.specs.Reading.{key_in, pair_in, swap_in, IsShortPair, command_in, capped_number, begin_in, turn_by, turn_in, link_in, until_in, finish_in, mix_by, mix_in, list_in, woven_in, script_in, asked, GivesRequest}
+use Rattle.shell_lines.specs.Reading.{key_in, pair_in, pair_said, swap_in, command_in, capped_number, begin_in, turn_by, turn_in, link_in, until_in, finish_in, mix_by, mix_in, list_in, woven_in, script_in, asked, GivesRequest}
 use Rattle.shell_lines.proofs.Tokens.{chosen, some_is, value_means, means_value}
 
 pub map_some : {A B : Type 0} (f : A → B) (o : Option A) (y : B) → option_map f o ≡ Some y → (x : A) × (o ≡ Some x) × (f x ≡ y)
@@ -89,22 +89,18 @@ key_is [] key h = cc h
 key_is (k ∷ []) key h = (k, refl, value_means k key h)
 key_is (k ∷ x ∷ rest) key h = cc h
 
-pair_is : (args : List (List ℕ)) (pair : List ℕ × List ℕ) → pair_in args ≡ Some pair → (k : List ℕ) × (v : List ℕ) × (args ≡ k ∷ v ∷ []) × Means k pair.0 × Means v pair.1
-unfolding pair_in
-pair_is [] pair h = cc h
-pair_is (k ∷ []) pair h = cc h
-pair_is (k ∷ v ∷ []) pair h =
-    let a = then_some (λ key. option_map (λ value. (key, value)) (token_value v)) (token_value k) pair h in
-    let b = map_some (λ value. (a.0, value)) (token_value v) pair a.2 in
-    rw (sym b.2) (k, v, refl, value_means k a.0 a.1, value_means v b.0 b.1)
-pair_is (k ∷ v ∷ x ∷ rest) pair h = cc h
-
-two_are : (k v : List ℕ) (pair : List ℕ × List ℕ) → pair_in (k ∷ v ∷ []) ≡ Some pair → Means k pair.0 × Means v pair.1
-unfolding pair_in
+two_are : (k v : List ℕ) (pair : List ℕ × List ℕ) → pair_said k v ≡ Some pair → Means k pair.0 × Means v pair.1
 two_are k v pair h =
     let a = then_some (λ key. option_map (λ value. (key, value)) (token_value v)) (token_value k) pair h in
     let b = map_some (λ value. (a.0, value)) (token_value v) pair a.2 in
     rw (sym b.2) (value_means k a.0 a.1, value_means v b.0 b.1)
+
+pair_is : (args : List (List ℕ)) (pair : List ℕ × List ℕ) → pair_in args ≡ Some pair → (k : List ℕ) × (v : List ℕ) × (args ≡ k ∷ v ∷ []) × Means k pair.0 × Means v pair.1
+unfolding pair_in
+pair_is [] pair h = cc h
+pair_is (k ∷ []) pair h = cc h
+pair_is (k ∷ v ∷ []) pair h = let both = two_are k v pair h in (k, v, refl, both.0, both.1)
+pair_is (k ∷ v ∷ x ∷ rest) pair h = cc h
 
 swap_is : (args : List (List ℕ)) (c : Command) → swap_in args ≡ Some c → SpellsCommand (codes "swap" ∷ args) c
 unfolding swap_in
@@ -112,7 +108,7 @@ swap_is [] c h = cc h
 swap_is (k ∷ []) c h = cc h
 swap_is (k ∷ e ∷ []) c h = cc h
 swap_is (k ∷ e ∷ v ∷ []) c h =
-    let a = then_some (λ (pair : List ℕ × List ℕ). option_map (Swap pair.0 pair.1) (token_value v)) (pair_in (k ∷ e ∷ [])) c h in
+    let a = then_some (λ (pair : List ℕ × List ℕ). option_map (Swap pair.0 pair.1) (token_value v)) (pair_said k e) c h in
     let b = map_some (Swap a.0.0 a.0.1) (token_value v) c a.2 in
     let p = two_are k e a.0 a.1 in
     rw (sym b.2) (k, e, v, refl, p.0, p.1, value_means v b.0 b.1)
@@ -174,19 +170,6 @@ is_command fs (Delete key) h = rw (h.1, means_value h.0 key h.2) refl
 is_command fs (Swap key expected value) h = rw (h.3, means_value h.0 key h.4, means_value h.1 expected h.5, means_value h.2 value h.6) refl
 is_command fs (Page key) h = rw (h.1, means_value h.0 key h.2) refl
 is_command fs (Tidy key) h = rw (h.1, means_value h.0 key h.2) refl
-
--- a pair of which one part is too long
-pub too_long_pair : (k v key value : List ℕ) → token_value k ≡ Some key → token_value v ≡ Some value → (32 < length key) ⊎ (32 < length value)
-    → (pair : List ℕ × List ℕ) × (pair_in (k ∷ v ∷ []) ≡ Some pair) × (IsShortPair pair → ⊥)
-unfolding pair_in
-too_long_pair k v key value a b (inl long) = ((key, value), rw (a, b) refl, λ short. omega arith)
-too_long_pair k v key value a b (inr long) = ((key, value), rw (a, b) refl, λ short. omega arith)
-
--- a swap whose key or expected value is too long
-pub too_long_swap : (k e v : List ℕ) (pair : List ℕ × List ℕ) (value : List ℕ) → pair_in (k ∷ e ∷ []) ≡ Some pair → token_value v ≡ Some value → (IsShortPair pair → ⊥)
-    → (command : Command) × (swap_in (k ∷ e ∷ v ∷ []) ≡ Some command) × (IsShortCommand command → ⊥)
-unfolding swap_in
-too_long_swap k e v pair value a b long = (Swap pair.0 pair.1 value, rw (a, b) refl, λ short. long (short.0, short.1))
 
 -- ---- lines
 

@@ -5,3 +5,4 @@ pub mod Fields
 pub mod Request
 pub mod Reading
 pub mod RaceLine
+pub mod Both

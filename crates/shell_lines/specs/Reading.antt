@@ -13,29 +13,27 @@ use Rattle.shell_lines.specs.declared.request.Request.TheVariants.{Begin, Turn, 
 use Rattle.shell_lines.specs.declared.token.LineError.{LineError}
 use Rattle.shell_lines.specs.declared.token.LineError.TheVariants.{Malformed, TooLong}
 use Rattle.shell_lines.specs.Token.{token_value}
+use Rattle.shell_lines.specs.Fields.{one_of, two_of, three_of}
 use Rattle.shell_lines.specs.Number.{number_of, capped, fitting}
 use Rattle.shell_lines.specs.Request.{IsShortRequest, IsShortCommand}
 
 -- the key that the fields after a verb give, if they are one token
 unfoldable pub key_in : List (List ℕ) → Option (List ℕ)
-key_in [] = None
-key_in (k ∷ []) = token_value k
-key_in (k ∷ x ∷ rest) = None
+key_in fields = option_and_then token_value (one_of fields)
 
 -- the key and the value that they give, if they are two
+abbrev pub pair_said : List ℕ → List ℕ → Option (List ℕ × List ℕ)
+pair_said k v = option_and_then (λ key. option_map (λ value. (key, value)) (token_value v)) (token_value k)
+
 unfoldable pub pair_in : List (List ℕ) → Option (List ℕ × List ℕ)
-pair_in [] = None
-pair_in (k ∷ []) = None
-pair_in (k ∷ v ∷ []) = option_and_then (λ key. option_map (λ value. (key, value)) (token_value v)) (token_value k)
-pair_in (k ∷ v ∷ x ∷ rest) = None
+pair_in fields = option_and_then (λ two. pair_said two.0 two.1) (two_of fields)
 
 -- the swap that they give, if they are a key, the expected value and the new one
+abbrev pub swap_said : List ℕ → List ℕ → List ℕ → Option Command
+swap_said k e v = option_and_then (λ pair. option_map (Swap pair.0 pair.1) (token_value v)) (pair_said k e)
+
 unfoldable pub swap_in : List (List ℕ) → Option Command
-swap_in [] = None
-swap_in (k ∷ []) = None
-swap_in (k ∷ e ∷ []) = None
-swap_in (k ∷ e ∷ v ∷ []) = option_and_then (λ pair. option_map (Swap pair.0 pair.1) (token_value v)) (pair_in (k ∷ e ∷ []))
-swap_in (k ∷ e ∷ v ∷ x ∷ rest) = None
+swap_in fields = option_and_then (λ three. swap_said three.0 three.1 three.2) (three_of fields)
 
 unfoldable pub command_in : List (List ℕ) → Option Command
 command_in [] = None
@@ -61,10 +59,7 @@ abbrev pub turn_by : ℕ → ℕ → Option Request
 turn_by actor count = if nat_le 1 count && nat_le count 100000 then Some (Turn actor count) else None
 
 unfoldable pub turn_in : List (List ℕ) → Option Request
-turn_in [] = None
-turn_in (a ∷ []) = None
-turn_in (a ∷ n ∷ []) = option_and_then (λ actor. option_and_then (turn_by actor) (capped_number n)) (capped_number a)
-turn_in (a ∷ n ∷ x ∷ rest) = None
+turn_in fields = option_and_then (λ two. option_and_then (λ actor. option_and_then (turn_by actor) (capped_number two.1)) (capped_number two.0)) (two_of fields)
 
 -- the link that a word stands for
 unfoldable pub link_in : List ℕ → Option Link
@@ -83,24 +78,16 @@ link_in word =
     else None
 
 unfoldable pub until_in : List (List ℕ) → Option Request
-until_in [] = None
-until_in (a ∷ []) = None
-until_in (a ∷ w ∷ []) = option_and_then (λ actor. option_map (Until actor) (link_in w)) (capped_number a)
-until_in (a ∷ w ∷ x ∷ rest) = None
+until_in fields = option_and_then (λ two. option_and_then (λ actor. option_map (Until actor) (link_in two.1)) (capped_number two.0)) (two_of fields)
 
 unfoldable pub finish_in : List (List ℕ) → Option Request
-finish_in [] = None
-finish_in (a ∷ []) = option_map Finish (capped_number a)
-finish_in (a ∷ x ∷ rest) = None
+finish_in fields = option_and_then (λ a. option_map Finish (capped_number a)) (one_of fields)
 
 abbrev pub mix_by : ℕ → ℕ → Option Request
 mix_by seed count = if nat_le 1 count && nat_le count 100000 then Some (Mix seed count) else None
 
 unfoldable pub mix_in : List (List ℕ) → Option Request
-mix_in [] = None
-mix_in (s ∷ []) = None
-mix_in (s ∷ n ∷ []) = option_and_then (λ seed. option_and_then (mix_by seed) (capped_number n)) (option_and_then fitting (number_of s))
-mix_in (s ∷ n ∷ x ∷ rest) = None
+mix_in fields = option_and_then (λ two. option_and_then (λ seed. option_and_then (mix_by seed) (capped_number two.1)) (option_and_then fitting (number_of two.0))) (two_of fields)
 
 unfoldable pub list_in : List (List ℕ) → Option Request
 list_in [] = Some ListPairs

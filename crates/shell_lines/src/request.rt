@@ -1,15 +1,16 @@
 //! What a line asks for.
 
-ghost use Rattle.std.specs.Prelude.{◌≡◌, ◌&&◌, ℕ, List, [], ◌∷◌, nat_le, IfOk, IsErrOf};
+ghost use Rattle.std.specs.Prelude.{◌≡◌, ◌&&◌, ℕ, List, nat_le, IfOk, IfSome, IsErrOf};
 ghost use Rattle.std.specs.Option.{option_copied};
 ghost use Rattle.shell_lines.specs.Fields.{fields_in, fields_of};
 ghost use Rattle.shell_lines.specs.Gives.{Gives};
 ghost use Rattle.shell_lines.specs.Request.{Says, IsShortRequest};
-ghost use Rattle.shell_lines.specs.Reading.{GivesCommand, GivesPair, GivesRequest, key_in, pair_in, swap_in, command_in, begin_in, turn_in, link_in, until_in, finish_in, mix_in, list_in, woven_in, script_in, asked};
+ghost use Rattle.shell_lines.specs.Both.{both_of};
+ghost use Rattle.shell_lines.specs.Reading.{GivesCommand, GivesPair, GivesRequest, key_in, pair_in, pair_said, swap_in, swap_said, command_in, begin_in, turn_in, link_in, until_in, finish_in, mix_in, list_in, woven_in, script_in, asked};
 ghost use Rattle.shell_lines.specs.declared.request.Language.{Language as LanguageSeen};
 ghost use Rattle.shell_lines.specs.declared.request.Request.{Request as RequestSeen};
 
-use crate::fields::next_field;
+use crate::fields::{next_field, one_field, three_fields, two_fields};
 use crate::number::{read_number, read_seed};
 use crate::token::{LineError, key_of, value_of};
 use bw_model::{Command, Key, Link, Value};
@@ -46,66 +47,51 @@ pub enum Request {
 fn read_key(args: Option<&[u8]>) -> Result<Key, LineError>
     ensures { Gives result (key_in (fields_in (option_copied args.entry))) }
 {
-    let Some((key, rest)) = next_field(args) else {
-        return Err(LineError::Malformed);
-    };
-    if next_field(rest).is_some() {
-        return Err(LineError::Malformed);
+    match one_field(args) {
+        Some(key) => key_of(key),
+        None => Err(LineError::Malformed),
     }
-    key_of(key)
 }
 
-// A token outside the grammar comes before one that is too long.
-#[tactic(auto, unfolding(crate::specs::Reading::pair_in))]
-fn pair_by(key: &[u8], value: &[u8]) -> Result<(Key, Value), LineError>
-    ensures { GivesPair result (pair_in (key.now ∷ value.now ∷ [])) }
+// What two parts of a line give together: one outside the grammar comes before one that is too long.
+fn both<A: Drop, B: Drop>(
+    first: Result<A, LineError>,
+    second: Result<B, LineError>,
+) -> Result<(A, B), LineError>
+    ensures { result ≡ both_of first second }
 {
-    match key_of(key) {
-        Err(LineError::Malformed) => Err(LineError::Malformed),
-        Err(LineError::TooLong) => match value_of(value) {
-            Err(LineError::Malformed) => Err(LineError::Malformed),
-            Err(LineError::TooLong) => Err(LineError::TooLong),
-            Ok(_) => Err(LineError::TooLong),
-        },
-        Ok(key) => match value_of(value) {
-            Ok(value) => Ok((key, value)),
-            Err(error) => Err(error),
-        },
+    match (first, second) {
+        (Ok(first), Ok(second)) => Ok((first, second)),
+        (Err(LineError::Malformed), _) | (_, Err(LineError::Malformed)) => {
+            Err(LineError::Malformed)
+        }
+        _ => Err(LineError::TooLong),
     }
+}
+
+fn pair_by(key: &[u8], value: &[u8]) -> Result<(Key, Value), LineError>
+    ensures { GivesPair result (pair_said key.now value.now) }
+{
+    both(key_of(key), value_of(value))
 }
 
 #[tactic(auto, unfolding(crate::specs::Reading::pair_in))]
 fn read_pair(args: Option<&[u8]>) -> Result<(Key, Value), LineError>
     ensures { GivesPair result (pair_in (fields_in (option_copied args.entry))) }
 {
-    let Some((key, rest)) = next_field(args) else {
-        return Err(LineError::Malformed);
-    };
-    let Some((value, rest)) = next_field(rest) else {
-        return Err(LineError::Malformed);
-    };
-    if next_field(rest).is_some() {
-        return Err(LineError::Malformed);
+    match two_fields(args) {
+        Some((key, value)) => pair_by(key, value),
+        None => Err(LineError::Malformed),
     }
-    pair_by(key, value)
 }
 
-// The same of a key, the expected value and the new one.
-#[tactic(auto, unfolding(crate::specs::Reading::swap_in))]
+// A swap of a key, from the expected value to the new one.
 fn swap_by(key: &[u8], expected: &[u8], new: &[u8]) -> Result<Command, LineError>
-    ensures { GivesCommand result (swap_in (key.now ∷ expected.now ∷ new.now ∷ [])) }
+    ensures { GivesCommand result (swap_said key.now expected.now new.now) }
 {
-    match pair_by(key, expected) {
-        Err(LineError::Malformed) => Err(LineError::Malformed),
-        Err(LineError::TooLong) => match value_of(new) {
-            Err(LineError::Malformed) => Err(LineError::Malformed),
-            Err(LineError::TooLong) => Err(LineError::TooLong),
-            Ok(_) => Err(LineError::TooLong),
-        },
-        Ok((key, expected)) => match value_of(new) {
-            Ok(new) => Ok(Command::Swap(key, expected, new)),
-            Err(error) => Err(error),
-        },
+    match both(pair_by(key, expected), value_of(new)) {
+        Ok(((key, expected), new)) => Ok(Command::Swap(key, expected, new)),
+        Err(error) => Err(error),
     }
 }
 
@@ -113,19 +99,10 @@ fn swap_by(key: &[u8], expected: &[u8], new: &[u8]) -> Result<Command, LineError
 fn read_swap(args: Option<&[u8]>) -> Result<Command, LineError>
     ensures { GivesCommand result (swap_in (fields_in (option_copied args.entry))) }
 {
-    let Some((key, rest)) = next_field(args) else {
-        return Err(LineError::Malformed);
-    };
-    let Some((expected, rest)) = next_field(rest) else {
-        return Err(LineError::Malformed);
-    };
-    let Some((new, rest)) = next_field(rest) else {
-        return Err(LineError::Malformed);
-    };
-    if next_field(rest).is_some() {
-        return Err(LineError::Malformed);
+    match three_fields(args) {
+        Some((key, expected, new)) => swap_by(key, expected, new),
+        None => Err(LineError::Malformed),
     }
-    swap_by(key, expected, new)
 }
 
 // The command that the fields spell.
@@ -186,28 +163,18 @@ fn is_count(count: u64) -> bool
 }
 
 #[tactic(auto, unfolding(crate::specs::Reading::turn_in))]
-fn read_turn(args: Option<&[u8]>) -> Result<Request, LineError>
-    ensures { GivesRequest result (turn_in (fields_in (option_copied args.entry))) }
+fn read_turn(args: Option<&[u8]>) -> Option<Request>
+    ensures read { result ≡ turn_in (fields_in (option_copied args.entry)) }
+    ensures short { IfSome result IsShortRequest }
 {
-    let Some((actor, rest)) = next_field(args) else {
-        return Err(LineError::Malformed);
-    };
-    let Some((count, rest)) = next_field(rest) else {
-        return Err(LineError::Malformed);
-    };
-    if next_field(rest).is_some() {
-        return Err(LineError::Malformed);
+    let (actor, count) = two_fields(args)?;
+    let actor = read_number(actor)?;
+    let count = read_number(count)?;
+    if is_count(count) {
+        Some(Request::Turn(actor, count))
+    } else {
+        None
     }
-    let Some(actor) = read_number(actor) else {
-        return Err(LineError::Malformed);
-    };
-    let Some(count) = read_number(count) else {
-        return Err(LineError::Malformed);
-    };
-    if !is_count(count) {
-        return Err(LineError::Malformed);
-    }
-    Ok(Request::Turn(actor, count))
 }
 
 #[tactic(auto, unfolding(crate::specs::Reading::link_in))]
@@ -251,76 +218,60 @@ fn read_link(word: &[u8]) -> Option<Link>
 }
 
 #[tactic(auto, unfolding(crate::specs::Reading::until_in))]
-fn read_until(args: Option<&[u8]>) -> Result<Request, LineError>
-    ensures { GivesRequest result (until_in (fields_in (option_copied args.entry))) }
+fn read_until(args: Option<&[u8]>) -> Option<Request>
+    ensures read { result ≡ until_in (fields_in (option_copied args.entry)) }
+    ensures short { IfSome result IsShortRequest }
 {
-    let Some((actor, rest)) = next_field(args) else {
-        return Err(LineError::Malformed);
-    };
-    let Some((word, rest)) = next_field(rest) else {
-        return Err(LineError::Malformed);
-    };
-    if next_field(rest).is_some() {
-        return Err(LineError::Malformed);
-    }
-    let Some(actor) = read_number(actor) else {
-        return Err(LineError::Malformed);
-    };
-    let Some(link) = read_link(word) else {
-        return Err(LineError::Malformed);
-    };
-    Ok(Request::Until(actor, link))
+    let (actor, word) = two_fields(args)?;
+    let actor = read_number(actor)?;
+    let link = read_link(word)?;
+    Some(Request::Until(actor, link))
 }
 
 #[tactic(auto, unfolding(crate::specs::Reading::finish_in))]
-fn read_finish(args: Option<&[u8]>) -> Result<Request, LineError>
-    ensures { GivesRequest result (finish_in (fields_in (option_copied args.entry))) }
+fn read_finish(args: Option<&[u8]>) -> Option<Request>
+    ensures read { result ≡ finish_in (fields_in (option_copied args.entry)) }
+    ensures short { IfSome result IsShortRequest }
 {
-    let Some((actor, rest)) = next_field(args) else {
-        return Err(LineError::Malformed);
-    };
-    if next_field(rest).is_some() {
-        return Err(LineError::Malformed);
-    }
-    match read_number(actor) {
-        None => Err(LineError::Malformed),
-        Some(actor) => Ok(Request::Finish(actor)),
-    }
+    let actor = read_number(one_field(args)?)?;
+    Some(Request::Finish(actor))
 }
 
 #[tactic(auto, unfolding(crate::specs::Reading::mix_in))]
-fn read_mix(args: Option<&[u8]>) -> Result<Request, LineError>
-    ensures { GivesRequest result (mix_in (fields_in (option_copied args.entry))) }
+fn read_mix(args: Option<&[u8]>) -> Option<Request>
+    ensures read { result ≡ mix_in (fields_in (option_copied args.entry)) }
+    ensures short { IfSome result IsShortRequest }
 {
-    let Some((seed, rest)) = next_field(args) else {
-        return Err(LineError::Malformed);
-    };
-    let Some((count, rest)) = next_field(rest) else {
-        return Err(LineError::Malformed);
-    };
-    if next_field(rest).is_some() {
-        return Err(LineError::Malformed);
+    let (seed, count) = two_fields(args)?;
+    let seed = read_seed(seed)?;
+    let count = read_number(count)?;
+    if is_count(count) {
+        Some(Request::Mix(seed, count))
+    } else {
+        None
     }
-    let Some(seed) = read_seed(seed) else {
-        return Err(LineError::Malformed);
-    };
-    let Some(count) = read_number(count) else {
-        return Err(LineError::Malformed);
-    };
-    if !is_count(count) {
-        return Err(LineError::Malformed);
-    }
-    Ok(Request::Mix(seed, count))
 }
 
 #[tactic(auto, unfolding(crate::specs::Reading::list_in))]
-fn read_list(args: Option<&[u8]>) -> Result<Request, LineError>
-    ensures { GivesRequest result (list_in (fields_in (option_copied args.entry))) }
+fn read_list(args: Option<&[u8]>) -> Option<Request>
+    ensures read { result ≡ list_in (fields_in (option_copied args.entry)) }
+    ensures short { IfSome result IsShortRequest }
 {
-    if next_field(args).is_some() {
-        return Err(LineError::Malformed);
+    match next_field(args) {
+        Some(_) => None,
+        None => Some(Request::List),
     }
-    Ok(Request::List)
+}
+
+// A request in which nothing can be too long.
+fn given(request: Option<Request>) -> Result<Request, LineError>
+    requires { IfSome request IsShortRequest }
+    ensures { GivesRequest result request }
+{
+    match request {
+        Some(request) => Ok(request),
+        None => Err(LineError::Malformed),
+    }
 }
 
 #[tactic(auto, unfolding(crate::specs::Reading::woven_in))]
@@ -334,21 +285,21 @@ fn read_woven(line: &[u8]) -> Result<Request, LineError>
         return read_begin(args);
     }
     if verb == b"turn".as_slice() {
-        return read_turn(args);
+        return given(read_turn(args));
     }
     if verb == b"until".as_slice() {
-        return read_until(args);
+        return given(read_until(args));
     }
     if verb == b"finish".as_slice() {
-        return read_finish(args);
+        return given(read_finish(args));
     }
     if verb == b"mix".as_slice() {
-        return read_mix(args);
+        return given(read_mix(args));
     }
     if verb == b"list".as_slice() {
-        return read_list(args);
+        return given(read_list(args));
     }
-    Err(LineError::Malformed)
+    given(None)
 }
 
 #[tactic(auto, unfolding(crate::specs::Reading::script_in))]
@@ -359,7 +310,7 @@ fn read_script(line: &[u8]) -> Result<Request, LineError>
         return Err(LineError::Malformed);
     };
     if verb == b"list".as_slice() {
-        return read_list(args);
+        return given(read_list(args));
     }
     match read_command(Some(line)) {
         Ok(command) => Ok(Request::Run(command)),

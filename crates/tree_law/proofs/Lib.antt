@@ -1,3 +1,4 @@
+pub mod Words
 pub mod answering
 pub mod epochs
 pub mod links

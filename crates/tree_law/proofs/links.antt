@@ -1,6 +1,7 @@
 pub mod Exchanged
 pub mod Indexing
 pub mod Keeping
+pub mod Learning
 pub mod Merging
 pub mod Reading
 pub mod Relinking

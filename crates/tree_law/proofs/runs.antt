@@ -11,5 +11,4 @@ pub mod RoomRun
 pub mod SplitRun
 pub mod Standing
 pub mod SweepRun
-pub mod Taking
 pub mod Unset

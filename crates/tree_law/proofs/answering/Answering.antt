@@ -1,52 +1,34 @@
 -- A reply that an actor may give is its command's by a log of its operation.
-use Rattle.std.proofs.Common.{◌≡◌, ◌⊎◌, inl, inr, ℕ, List, Option, Some, None, false, ap, ◌∙◌, subst, ⊎_elim}
-use Rattle.std.specs.Prelude.{IsFalse}
-use Rattle.bw_model.specs.declared.command.Command.{Command}
-use Rattle.bw_model.specs.declared.command.Reply.{Reply}
-use Rattle.bw_model.specs.Log.{Update, logged_value}
-use Rattle.bw_model.specs.Replies.{command_key, reply_of, update_of}
-use Rattle.chain_search.specs.Chains.{content_in, is_removed}
-use Rattle.tree_law.specs.Keys.{Key, Covers}
-use Rattle.chain_search.specs.Knowledge.{Knowledge}
-use Rattle.chain_search.specs.Discipline.{WasStanding, MayAnswer, value_of, found}
-use Rattle.tree_law.specs.Shared.{Shared}
-use Rattle.tree_law.specs.Owners.{Owners, Among, leaf_map, SpellsLog, HeadFits, LinkFits, InOrder, OrderFits}
-use Rattle.tree_law.specs.Replies.{IsRepliedAt}
-use Rattle.tree_law.specs.Tree.{IsTree}
-use Rattle.tree_law.proofs.shape.KeyOrder.{covers_from}
-use Rattle.tree_law.proofs.shape.Frames.{chain_stands, chain_decides}
+use Rattle.tree_law.proofs.Words.{false, ◌⊎◌, ap, Option, None, List, inl, inr, subst, ℕ, ◌≡◌, ◌∙◌, Some, ⊎_elim, IsFalse, Update, logged_value, update_of, command_key, reply_of, Command, Reply}
+use Rattle.tree_law.proofs.Words.{content_in, is_removed, found, value_of, MayAnswer, WasStanding, Knowledge, Key, Owners, LinkFits, HeadFits, OrderFits, InOrder, SpellsLog, leaf_map, IsRepliedAt}
+use Rattle.tree_law.proofs.Words.{Shared, IsTree}
+use Rattle.tree_law.specs.Owners.{Among}
+use Rattle.tree_law.proofs.shape.{covers_from, chain_stands, chain_decides}
 use Rattle.tree_law.proofs.links.Updating.{value_of_map}
 
 module _ {m : Shared} {log : List Update} {o : Owners} {knows : ℕ → Knowledge} {point : ℕ → Option (List Update)} {logs : ℕ → List (List Update)} (g : IsTree m log o knows point logs) (a : ℕ) where
   -- a chain that decides its key as the log does gives the log's reply
   replied : (command : Command) (reply : Reply) → (h : MayAnswer a (knows a) command reply) → (l : List Update) → content_in h.chain (command_key command) ≡ leaf_map l (command_key command)
       → (point a ≡ Some l) ⊎ ((point a ≡ None) × (update_of a command (found h.chain (command_key command)) ≡ None) × Among l (logs a)) → IsRepliedAt a command reply (point a) (logs a)
-  replied command reply h l decides own = record {
-    at = l;
-    same = subst (λ (v : Option Key). reply_of command v ≡ Some reply) value h.is;
-    own = ⊎_elim
-        (λ (u : point a ≡ Some l). inl u)
-        (λ (u : (point a ≡ None) × (update_of a command (found h.chain (command_key command)) ≡ None) × Among l (logs a)). inr (u.0, subst (λ (v : Option Key). update_of a command v ≡ None) value u.1, u.2))
-        own;
-  }
-    where
-      value : found h.chain (command_key command) ≡ logged_value l (command_key command)
-      value = ap value_of decides ∙ value_of_map (logged_value l (command_key command))
+  replied command reply h l decides own =
+      let value : found h.chain (command_key command) ≡ logged_value l (command_key command) = ap value_of decides ∙ value_of_map (logged_value l (command_key command)) in
+      record {
+        at = l;
+        same = subst (λ (v : Option Key). reply_of command v ≡ Some reply) value h.is;
+        own = ⊎_elim
+            (λ (u : point a ≡ Some l). inl u)
+            (λ (u : (point a ≡ None) × (update_of a command (found h.chain (command_key command)) ≡ None) × Among l (logs a)). inr (u.0, subst (λ (v : Option Key). update_of a command v ≡ None) value u.1, u.2))
+            own;
+      }
 
   pub answers : (command : Command) (reply : Reply) → MayAnswer a (knows a) command reply → IsRepliedAt a command reply (point a) (logs a)
-  answers command reply h = ⊎_elim by_link (λ (u : Unlinked). by_stand u.0 u.2 u.1) h.basis
+  answers command reply h = ⊎_elim by_link (λ (u : (((knows a).asked.linked ≡ None) × WasStanding (knows a) h.row h.chain × Changeless)). by_stand u.0 u.2 u.1) h.basis
     where
-      inside : Covers h.chain (command_key command)
-      inside = covers_from h.chain (command_key command) h.covers
-
       decides : is_removed h.chain ≡ false → (l : List Update) → SpellsLog o m h.row l → content_in h.chain (command_key command) ≡ leaf_map l (command_key command)
-      decides alive l s = chain_decides o m (knows a).read.seen (g.sound a).seen_fits h.row h.chain h.read l s h.leaf alive (command_key command) inside
+      decides alive l s = chain_decides o m (knows a).read.seen (g.sound a).seen_fits h.row h.chain h.read l s h.leaf alive (command_key command) (covers_from h.chain (command_key command) h.covers)
 
       Changeless : Type 0
       Changeless = update_of a command (found h.chain (command_key command)) ≡ None
-
-      Unlinked : Type 0
-      Unlinked = ((knows a).asked.linked ≡ None) × WasStanding (knows a) h.row h.chain × Changeless
 
       none : (knows a).asked.linked ≡ None → point a ≡ None
       none e = subst (λ (v : Option (Option ℕ)). LinkFits o m (point a) v) e (g.sound a).linked_fits
@@ -62,4 +44,4 @@ module _ {m : Shared} {log : List Update} {o : Owners} {knows : ℕ → Knowledg
           let b = u.0 in
           let e : InOrder o m (logs a) b.left b.head b.other h.row = subst (λ (v : Option ℕ). OrderFits o m (logs a) b.left b.other (Some b.head) v) b.order (subst (λ (v : Option ℕ). OrderFits o m (logs a) b.left b.other v ((knows a).read.before b.left b.other)) b.basis.head ((g.sound a).orders_fit b.left b.other)) in
           let i = e.spelled h.chain b.basis.chain (chain_stands o m (knows a).read.seen (g.sound a).seen_fits h.chain (Some h.row) h.read) (chain_stands o m (knows a).read.seen (g.sound a).seen_fits b.basis.chain (Some b.head) b.basis.read) u.1 b.basis.alive h.leaf b.right in
-          replied command reply h i.0 (i.2 (command_key command) inside) (inr (none unlinked, changeless, i.1))
+          replied command reply h i.0 (i.2 (command_key command) (covers_from h.chain (command_key command) h.covers)) (inr (none unlinked, changeless, i.1))

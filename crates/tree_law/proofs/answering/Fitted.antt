@@ -1,44 +1,19 @@
 -- What a state's memory answers fits what each actor knows.
+use Rattle.tree_law.proofs.Words.{false, ◌⊎◌, [], ap, refl, Option, suc, None, List, true, inl, ◌≤◌, inr, ◌∷◌, subst, sym, ℕ, ◌≡◌, Bool, zero, ◌∙◌, ◌<◌, arith, Some, ◌+◌, ⊎_elim, ◌==◌, ◌*◌, eqb-true}
+use Rattle.tree_law.proofs.Words.{same_Some, bit_at, IfSome, if◌then◌else◌, Limits, Answer, Whether, Number, StepOf, TakePid, Row, TakeRow, Slot, Epoch, PidBits, Exchange, RowBits, Announce, Memory}
+use Rattle.tree_law.proofs.Words.{next_row, IsSpellable, Record, low_in, level_in, May, MayExchange, Fits, knows, Knowledge, Foreign, Empty, OwnPage, Taken, Other, Gone, Written, OwnRow, LimboMark}
+use Rattle.tree_law.proofs.Words.{Absent, IsAnswer, IsWordOf, memory_of, Entry, Key, Free, Linked, Reached, IsOut, OwnFits, HeadFits, PageFits, SeenFits, Nobody, Placed, Indexed, PageOwner, Keeps}
+use Rattle.tree_law.proofs.Words.{Fresh, shared, slot_in, row_in, IsState, phase_of, IsInTree, LimboFits, Outing}
 use Rattle.tree_law.proofs.links.Merging.{frozen_as}
-use Rattle.std.proofs.Common.{◌≡◌, ◌<◌, ◌≤◌, ◌+◌, ◌*◌, ◌==◌, inl, inr, ℕ, zero, suc, List, [], ◌∷◌, Option, Some, None, Bool, true, false, refl, sym, ap, ◌∙◌, subst, arith, ◌⊎◌, ⊎_elim}
-use Rattle.std.specs.Prelude.{IfSome, if◌then◌else◌}
-use Rattle.std.specs.Int.{bit_at}
-use Rattle.std.proofs.lemmas.Bool.{eqb-true}
-use Rattle.std.proofs.lemmas.Option.{same_Some}
-use Rattle.bw_model.specs.declared.limits.Limits.{Limits}
-use Rattle.bw_model.specs.declared.step.Answer.{Answer}
-use Rattle.bw_model.specs.declared.step.Answer.TheVariants.{Number, Whether}
-use Rattle.bw_model.specs.declared.step.Step.{Step as StepOf}
-use Rattle.bw_model.specs.declared.step.Step.TheVariants.{Slot, Row, Epoch, Announce, PidBits, RowBits, Place, Exchange, TakePid, TakeRow, Enter, Leave, Retire, ReusePids, ReuseRows}
-use Rattle.deltas.specs.declared.record.Record.{Record}
-use Rattle.deltas.specs.Records.{next_row}
-use Rattle.deltas.specs.Spellable.{IsSpellable}
-use Rattle.deltas.specs.Memory.{Memory}
-use Rattle.chain_search.specs.declared.trace.Entry.{Entry}
-use Rattle.chain_search.specs.Chains.{level_in, low_in}
 use Rattle.chain_search.specs.Fitting.{FitsWord, ReadsRemoved}
-use Rattle.chain_search.specs.Steps.{IsWordOf, IsAnswer}
-use Rattle.chain_search.specs.Trace.{memory_of}
-use Rattle.chain_search.specs.Discipline.{MayExchange, May}
-use Rattle.chain_search.specs.Fitting.{FitsRow, FitsTaken, FitsTakenPid, AreOutOfLimbo, FitsExchange, Fits}
-use Rattle.chain_search.specs.Knowledge.{OwnRow, Foreign, Taken, Written, OwnPage, Other, Empty, Ready, Gone, LimboMark, Absent, Unstamped, Stamped, Knowledge, knows}
+use Rattle.chain_search.specs.Fitting.{FitsRow, FitsTaken, FitsTakenPid, AreOutOfLimbo, FitsExchange}
 use Rattle.chain_search.proofs.FittedLaws.{first_spellable}
-use Rattle.tree_law.specs.Owners.{Free, Linked, Reached, HeadFits, OwnFits, PageFits, SeenFits, IsOut}
 use Rattle.op_machine.specs.Phases as phase
-use Rattle.tree_law.specs.Keys.{Key}
-use Rattle.tree_law.specs.Phase.{Fresh, Indexed, Held, Removed, Merged, PageOwner, Nobody, Keeps, Placed, Cleared}
-use Rattle.tree_law.specs.Shared.{row_in, slot_in, shared}
-use Rattle.tree_law.specs.State.{phase_of, IsInTree, IsState}
-use Rattle.tree_law.specs.Times.{Outing, LimboFits}
 use Rattle.tree_law.proofs.epochs.Exchanging.{on_walk, slot_linked}
 use Rattle.tree_law.proofs.links.Keeping.{slot_of, met_placed}
-use Rattle.tree_law.proofs.shape.Exactness.{is_indexed, below_top}
-use Rattle.tree_law.proofs.shape.Kept.{placed_reached}
-use Rattle.tree_law.proofs.shape.Mapping.{slot_some}
+use Rattle.tree_law.proofs.shape.{is_indexed, below_top, placed_reached, slot_some, by_test, next_linked, none_if, false_if}
 use Rattle.tree_law.proofs.trace.Names.{slot_none}
-use Rattle.tree_law.proofs.shape.Puts.{by_test}
 use Rattle.tree_law.proofs.links.Relinking.{not_own, found, place_of}
-use Rattle.tree_law.proofs.shape.Rows.{next_linked}
 use Rattle.tree_law.proofs.trace.Slots.{reached_in_tree}
 use Rattle.tree_law.proofs.answering.Whole.{reached_one, read_reached, short_front, whole_chain}
 
@@ -46,11 +21,7 @@ in_tree_phase : (w : PageOwner) → IsInTree w → phase_of w ≡ phase.free →
 in_tree_phase Nobody h e = absurd h
 in_tree_phase (Keeps a) h e = absurd h
 in_tree_phase (Placed Fresh l s) h e = cc
-in_tree_phase (Placed Indexed l s) h e = cc
-in_tree_phase (Placed Held l s) h e = cc
-in_tree_phase (Placed Removed l s) h e = cc
-in_tree_phase (Placed Merged l s) h e = cc
-in_tree_phase (Cleared a l s) h e = cc
+in_tree_phase w h e = cc
 
 above : (n : ℕ) → (n ≡ 0 → ⊥) → 0 < n
 above zero never = absurd (never refl)
@@ -87,8 +58,7 @@ module _ (limits : Limits) (entries : List Entry) (state : IsState limits entrie
   is_spellable : (q : ℕ) (w : Record) → state.owners.row q ≡ Linked → m.rows q ≡ Some w → IsSpellable w
   is_spellable q w linked e =
       let l = state.is_tree.closed q linked in
-      let fitted = (state.fitted q linked (l.content ∷ l.rest) (l.stands, l.is_rest)).fitted in
-      subst IsSpellable (same_Some l.content w (sym l.stands ∙ e)) (first_spellable l.content l.rest fitted)
+      subst IsSpellable (same_Some l.content w (sym l.stands ∙ e)) (first_spellable l.content l.rest ((state.fitted q linked (l.content ∷ l.rest) (l.stands, l.is_rest)).fitted))
 
   fits_row : (q : ℕ) (w : Record) → k.read.learnt q ≡ true → m.rows q ≡ Some w → FitsRow limits k q w
   fits_row q w learnt e = record {
@@ -112,58 +82,44 @@ module _ (limits : Limits) (entries : List Entry) (state : IsState limits entrie
   -- what is not out is in no limbo
   not_in_limbo : (out : Option Outing) → out ≡ None → (l : LimboMark) → LimboFits a (λ c. (knows entries c).inside) state.times.entered out l → l ≡ Absent
   not_in_limbo out e Absent h = refl
-  not_in_limbo out e Unstamped h = absurd (let i = sym e ∙ h.1 in cc)
-  not_in_limbo out e (Stamped epoch passed) h = absurd (let i = sym e ∙ h.1 in cc)
+  not_in_limbo out e l h = absurd (let i = sym e ∙ h.1 in cc)
 
   fits_taken : (q : ℕ) → m.free_rows q ≡ true → FitsTaken limits k q
-  fits_taken q e = record {
-    some = (free_some q e).0;
-    below = (free_some q e).1;
-    foreign = is_foreign (k.own.rows q) (state.is_tree.owns a q);
-    unlearnt = is_unlearnt (k.read.learnt q) refl;
-    unseen = is_unseen (k.read.seen q) ((state.is_tree.sound a).seen_fits q);
-    freed = not_in_limbo (state.times.row_out q) (not_out (state.times.row_out q) refl) (k.limbo.rows q) (state.timed.limbo_rows a q);
-  }
+  fits_taken q e =
+      let row_in : state.times.row_out q ≡ None = none_if (state.times.row_out q) (λ w i. elim (state.timed.rows q w i).0 [ inl l ↦ (let f = was in cc) | inr l ↦ (let f = was in cc) ]) in
+      record {
+        some = (free_some q e).0;
+        below = (free_some q e).1;
+        foreign = is_foreign (k.own.rows q) (state.is_tree.owns a q);
+        unlearnt = false_if (k.read.learnt q) (λ i. let f = was in let g : state.owners.row q ≡ Linked = (state.is_tree.sound a).learnt_fits q i in cc);
+        unseen = none_if (k.read.seen q) (λ w i. let f = was in let g = (subst (SeenFits (state.owners.row q) (m.rows q)) i ((state.is_tree.sound a).seen_fits q)).0 in cc);
+        freed = not_in_limbo (state.times.row_out q) row_in (k.limbo.rows q) (state.timed.limbo_rows a q);
+      }
     where
       was : state.owners.row q ≡ Free
       was = state.is_tree.frees.row q e
-
-      not_out : (out : Option Outing) → state.times.row_out q ≡ out → out ≡ None
-      not_out None i = refl
-      not_out (Some w) i = elim (state.timed.rows q w i).0 [ inl l ↦ (let f = was in absurd (cc)) | inr l ↦ (let f = was in absurd (cc)) ]
 
       is_foreign : (o : OwnRow) → OwnFits a (state.owners.row q) (m.rows q) o → o ≡ Foreign
       is_foreign Foreign h = refl
       is_foreign Taken h = let f = was in absurd (cc)
       is_foreign (Written w) h = let f = was in let g = h.0 in absurd (cc)
 
-      is_unlearnt : (t : Bool) → k.read.learnt q ≡ t → k.read.learnt q ≡ false
-      is_unlearnt true i = let f = was in let g : state.owners.row q ≡ Linked = (state.is_tree.sound a).learnt_fits q i in absurd (cc)
-      is_unlearnt false i = i
-
-      is_unseen : (o : Option Record) → SeenFits (state.owners.row q) (m.rows q) o → o ≡ None
-      is_unseen None h = refl
-      is_unseen (Some w) h = let f = was in let g = h.0 in absurd (cc)
-
   fits_taken_pid : (q : ℕ) → m.free_pids q ≡ true → FitsTakenPid limits k q
-  fits_taken_pid q e = record { some = (state.named.free_pid_below q e).0; below = (state.named.free_pid_below q e).1; other = is_other (k.own.pages q) (state.is_tree.owns_pages a q); unread = is_unread (k.read.heads q) ((state.is_tree.sound a).heads_fit q); freed = not_in_limbo (state.times.page_out q) (not_out (state.times.page_out q) refl) (k.limbo.pids q) (state.timed.limbo_pids a q) }
+  fits_taken_pid q e = record {
+    some = (state.named.free_pid_below q e).0;
+    below = (state.named.free_pid_below q e).1;
+    other = is_other (k.own.pages q) (state.is_tree.owns_pages a q);
+    unread = none_if (k.read.heads q) (λ x i. let h = subst (HeadFits state.owners (shared m) (state.logs a) q) i ((state.is_tree.sound a).heads_fit q) in subst (Reached 0 (level_in h.2.chain) (low_in h.2.chain)) was h.3);
+    freed = not_in_limbo (state.times.page_out q) (none_if (state.times.page_out q) (λ w i. let v = (state.timed.pages q w i).0.2 in let f = was in cc)) (k.limbo.pids q) (state.timed.limbo_pids a q);
+  }
     where
       was : state.owners.page q ≡ Nobody
       was = (state.is_tree.frees.page q e).0
 
-      not_out : (out : Option Outing) → state.times.page_out q ≡ out → out ≡ None
-      not_out None i = refl
-      not_out (Some w) i = let v = (state.timed.pages q w i).0.2 in let f = was in absurd (cc)
-
       is_other : (o : OwnPage) → PageFits a (state.owners.page q) (slot_in m.slots q) o → o ≡ Other
       is_other Other h = refl
-      is_other Empty h = let f = was in let g = h.0 in absurd (cc)
-      is_other (Ready row) h = let f = was in let g = h.0 in absurd (cc)
       is_other Gone h = let f = was in let g = h.2 in absurd (cc)
-
-      is_unread : (h : Option ℕ) → HeadFits state.owners (shared m) (state.logs a) q h → h ≡ None
-      is_unread None h = refl
-      is_unread (Some x) h = absurd (subst (Reached 0 (level_in h.2.chain) (low_in h.2.chain)) was h.3)
+      is_other o h = let f = was in let g = h.0 in absurd (cc)
 
   -- a page that was the root is in its place
   root_linked : (p : ℕ) → k.read.roots p ≡ true → 0 < m.slots p
@@ -171,9 +127,7 @@ module _ (limits : Limits) (entries : List Entry) (state : IsState limits entrie
       let first = state.rooted a p root in
       let index = is_indexed m state.is_tree in
       let le = below_top m state.is_tree p first.0 [] first.1.0 first.1.1 in
-      let same : p ≡ index.first first.0 = index.only p first.0 first.1.0 le first.1.1 first.1.2 in
-      let here = (index.begins first.0 le).1.linked in
-      rw same here
+      rw (index.only p first.0 first.1.0 le first.1.1 first.1.2) ((index.begins first.0 le).1.linked)
 
   -- a page that was read removed is as it was, or its slot is empty
   stays : (p head : ℕ) → ReadsRemoved k (suc p) head → (m.slots (suc p) ≡ head) ⊎ (m.slots (suc p) ≡ 0)
@@ -231,23 +185,19 @@ module _ (limits : Limits) (entries : List Entry) (state : IsState limits entrie
   fits_exchange (suc p) zero zero t may e = absurd may
   fits_exchange (suc p) zero (suc y) t may e =
       let own = subst (λ (v : OwnPage). PageFits a (state.owners.page (suc p)) (slot_in m.slots (suc p)) v) may.0 (state.is_tree.owns_pages a (suc p)) in
-      let none : m.slots (suc p) ≡ 0 = slot_none m.slots (suc p) (omega arith) own.1 in
-      sym e ∙ rw none refl
-  fits_exchange (suc p) (suc x) zero t may e = (
-    λ ready.
-        let own = subst (λ (v : OwnPage). PageFits a (state.owners.page (suc p)) (slot_in m.slots (suc p)) v) ready (state.is_tree.owns_pages a (suc p)) in
-        wins (slot_some m.slots (suc p) (suc x) own.1).1,
-    λ gone h.
-        let own = subst (λ (v : OwnPage). PageFits a (state.owners.page (suc p)) (slot_in m.slots (suc p)) v) gone (state.is_tree.owns_pages a (suc p)) in
-        ⊎_elim
-        (λ (u : slot_in m.slots (suc p) ≡ Some (suc x)). wins (slot_some m.slots (suc p) (suc x) u).1)
-        (λ (u : IsOut (state.owners.page (suc p)) (slot_in m.slots (suc p))). absurd (let f = u.0 in let g = own.3 in cc))
-        (frozen_as state.is_tree a (suc p) (suc x) h.head h.chain h.read h.gone),
-    λ won gone. gone_out_of_limbo (suc p) (suc x) gone (ap row_in (eqb-true (m.slots (suc p)) (suc x) (e ∙ won))),
-  )
-    where
-      wins : m.slots (suc p) ≡ suc x → t ≡ true
-      wins at = sym e ∙ rw at (by_test (suc x) (suc x) (λ t. t ≡ true) (λ i. refl) (λ ne. absurd (ne refl)))
+      sym e ∙ rw (slot_none m.slots (suc p) (omega arith) own.1) refl
+  fits_exchange (suc p) (suc x) zero t may e =
+      let wins : m.slots (suc p) ≡ suc x → t ≡ true = λ at. sym e ∙ rw at (by_test (suc x) (suc x) (λ t. t ≡ true) (λ i. refl) (λ ne. absurd (ne refl))) in (
+        λ ready.
+            wins (slot_some m.slots (suc p) (suc x) (subst (λ (v : OwnPage). PageFits a (state.owners.page (suc p)) (slot_in m.slots (suc p)) v) ready (state.is_tree.owns_pages a (suc p))).1).1,
+        λ gone h.
+            let own = subst (λ (v : OwnPage). PageFits a (state.owners.page (suc p)) (slot_in m.slots (suc p)) v) gone (state.is_tree.owns_pages a (suc p)) in
+            ⊎_elim
+            (λ (u : slot_in m.slots (suc p) ≡ Some (suc x)). wins (slot_some m.slots (suc p) (suc x) u).1)
+            (λ (u : IsOut (state.owners.page (suc p)) (slot_in m.slots (suc p))). absurd (let f = u.0 in let g = own.3 in cc))
+            (frozen_as state.is_tree a (suc p) (suc x) h.head h.chain h.read h.gone),
+        λ won gone. gone_out_of_limbo (suc p) (suc x) gone (ap row_in (eqb-true (m.slots (suc p)) (suc x) (e ∙ won))),
+      )
   fits_exchange (suc p) (suc x) (suc y) t may e = λ won.
       let at : m.slots (suc p) ≡ suc x = eqb-true (m.slots (suc p)) (suc x) (e ∙ won) in
       let read = may.basis in
@@ -267,19 +217,14 @@ module _ (limits : Limits) (entries : List Entry) (state : IsState limits entrie
       not_before (Some before) e = state.timed.epochs a before e
   fits (PidBits word) answer may is = subst (Fits limits k (PidBits word)) (sym is.2) (fits_word m.free_pids limits.pids word is.0 state.named.free_pid_below is.1)
   fits (RowBits word) answer may is = subst (Fits limits k (RowBits word)) (sym is.2) (fits_word m.free_rows limits.rows word is.0 free_some is.1)
-  fits (Place q w) answer may is = subst (Fits limits k (Place q w)) (sym is) tt
   fits (Exchange p x y) answer may is = subst (Fits limits k (Exchange p x y)) (sym is) (fits_exchange p x y (m.slots p == x) may.1 refl)
   fits (TakeRow q) answer may is = subst (Fits limits k (TakeRow q)) (sym is) (fits_take q (m.free_rows q) refl)
   fits (TakePid q) answer may is = subst (Fits limits k (TakePid q)) (sym is) (fits_take_pid q (m.free_pids q) refl)
-  fits (Enter e) answer may is = subst (Fits limits k (Enter e)) (sym is) tt
-  fits Leave answer may is = subst (Fits limits k Leave) (sym is) tt
   fits (Announce b) answer may is = subst (Fits limits k (Announce b)) (sym is) (at_most (state.named.posted b) state.named.epoch.1)
     where
       at_most : {x y z : ℕ} → x ≤ y → y ≤ z → x ≤ z
       at_most i j = omega arith
-  fits (Retire e) answer may is = subst (Fits limits k (Retire e)) (sym is) tt
-  fits (ReusePids w b) answer may is = subst (Fits limits k (ReusePids w b)) (sym is) tt
-  fits (ReuseRows w b) answer may is = subst (Fits limits k (ReuseRows w b)) (sym is) tt
+  fits step answer may is = subst (Fits limits k step) (sym is) tt
 
   -- a row that the actor may read has a record
   pub row_stands : (q : ℕ) → May a k (Row q) → (content : Record) × (m.rows q ≡ Some content)

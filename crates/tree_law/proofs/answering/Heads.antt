@@ -1,15 +1,6 @@
 -- The row in a page's slot has a record.
-use Rattle.std.proofs.Common.{◌≡◌, ◌<◌, inl, inr, ℕ, zero, suc, List, Some, refl, sym, ◌∙◌, subst, arith}
-use Rattle.std.proofs.lemmas.Option.{same_Some}
-use Rattle.bw_model.specs.declared.limits.Limits.{Limits}
-use Rattle.deltas.specs.declared.record.Record.{Record}
-use Rattle.deltas.specs.declared.record.Record.TheVariants.{Base}
-use Rattle.deltas.specs.Memory.{Memory}
-use Rattle.chain_search.specs.Trace.{memory_of}
-use Rattle.chain_search.specs.declared.trace.Entry.{Entry}
-use Rattle.tree_law.specs.Owners.{Linked}
-use Rattle.tree_law.specs.Shared.{row_in, slot_in}
-use Rattle.tree_law.specs.State.{IsState}
+use Rattle.tree_law.proofs.Words.{refl, suc, List, inl, inr, subst, sym, ℕ, ◌≡◌, zero, ◌∙◌, ◌<◌, arith, Some, same_Some, Limits, Memory, Record, Base, memory_of, Entry, Linked, slot_in, row_in}
+use Rattle.tree_law.proofs.Words.{IsState}
 use Rattle.tree_law.proofs.links.Keeping.{slot_of}
 use Rattle.tree_law.proofs.trace.Names.{placed_at}
 

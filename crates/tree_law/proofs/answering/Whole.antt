@@ -1,33 +1,17 @@
 -- What an actor may count on of a chain while it reads it, and once it has read it whole.
-use Rattle.std.proofs.Common.{◌≡◌, ◌⊎◌, inl, inr, ◌<◌, ◌+◌, ℕ, false, List, [], ◌∷◌, ◌++◌, length, Option, Some, None, refl, sym, ap, ◌∙◌, subst, arith}
+use Rattle.tree_law.proofs.Words.{false, ◌⊎◌, [], ap, refl, Option, None, List, inl, length, ◌++◌, inr, ◌∷◌, subst, sym, ℕ, ◌≡◌, ◌∙◌, ◌<◌, arith, Some, ◌+◌, Update, Limits, Child, next_row, Record}
+use Rattle.tree_law.proofs.Words.{IsChainFrom-unique, IsChainFrom, right_in, low_in, is_removed, level_in, IsFront, NamesChild, Knowledge, AreFitted, Key, Linked, Owners, Reached, HeadFits, SeenFits}
+use Rattle.tree_law.proofs.Words.{ChainNames, Placed, PageOwner, Cleared, rank_of, Shared, IsTree}
 use Rattle.std.proofs.lemmas.List.{length-append}
-use Rattle.bw_model.specs.declared.limits.Limits.{Limits}
-use Rattle.bw_model.specs.Log.{Update}
-use Rattle.base_page.specs.declared.item.Content.TheVariants.{Child}
-use Rattle.deltas.specs.declared.record.Record.{Record}
-use Rattle.deltas.specs.Records.{next_row}
-use Rattle.chain_search.specs.Chains.{IsChainFrom, IsFront, level_in, low_in, right_in, is_removed}
-use Rattle.chain_search.specs.Discipline.{NamesChild}
 use Rattle.chain_search.specs.Fitting.{SaysOf, IsReadWhole}
-use Rattle.chain_search.specs.Knowledge.{Knowledge}
-use Rattle.chain_search.proofs.ChainLaws.{IsChainFrom-unique}
-use Rattle.tree_law.specs.Fitness.{AreFitted}
-use Rattle.tree_law.specs.Keys.{Key}
-use Rattle.tree_law.specs.Owners.{Linked, Owners, Reached, ChainNames, SeenFits, HeadFits}
-use Rattle.tree_law.specs.Phase.{PageOwner, Nobody, Keeps, Placed, Cleared, rank_of}
-use Rattle.tree_law.specs.Shared.{Shared}
-use Rattle.tree_law.specs.Tree.{IsTree}
-use Rattle.tree_law.proofs.shape.Chains.{front_of}
-use Rattle.tree_law.proofs.shape.Frames.{chain_stands}
+use Rattle.tree_law.proofs.shape.{front_of, chain_stands, covers_from}
 use Rattle.tree_law.proofs.links.Keeping.{read_names, beyond_names}
-use Rattle.tree_law.proofs.shape.KeyOrder.{covers_from}
 
 -- a page is in the tree at one level and one low key
 pub reached_one : (r r' l l' : ℕ) (s s' : Key) (w : PageOwner) → Reached r l s w → Reached r' l' s' w → (l' ≡ l) × (s' ≡ s)
-reached_one r r' l l' s s' Nobody h i = absurd h
-reached_one r r' l l' s s' (Keeps a) h i = absurd h
 reached_one r r' l l' s s' (Placed st k t) h i = (sym i.0 ∙ h.0, sym i.1 ∙ h.1)
 reached_one r r' l l' s s' (Cleared a k t) h i = (sym i.0 ∙ h.0, sym i.1 ∙ h.1)
+reached_one r r' l l' s s' w h i = absurd h
 
 some_longer : (rows : ℕ → Option Record) (x : ℕ) (c : List Record) → IsChainFrom rows x c → 0 < length c
 some_longer rows x [] h = absurd h
@@ -114,5 +98,4 @@ module _ {m : Shared} {log : List Update} {o : Owners} {knows : ℕ → Knowledg
 
     pub whole_chain : (limits : Limits) → ((r p l : ℕ) (s : Key) → Reached r l s (o.page p) → (0 < p) × (p < limits.pids)) → next_row w ≡ None → IsReadWhole limits (knows a) page (front ++ w ∷ [])
     whole_chain limits below last =
-        let ends : rest.0 ≡ w ∷ [] = IsChainFrom-unique m.rows q rest.0 (w ∷ []) rest.1 (stands, rw last refl) in
-        subst (IsReadWhole limits (knows a) page) (rest.2 ∙ ap (λ r. front ++ r) ends) (is_whole limits below page head at whole)
+        subst (IsReadWhole limits (knows a) page) (rest.2 ∙ ap (λ r. front ++ r) (IsChainFrom-unique m.rows q rest.0 (w ∷ []) rest.1 (stands, rw last refl))) (is_whole limits below page head at whole)

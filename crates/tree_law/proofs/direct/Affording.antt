@@ -1,33 +1,9 @@
 -- A begin keeps a trace direct, and so does a step that its operation can afford.
-use Rattle.std.proofs.Common.{◌≡◌, ◌≢◌, ◌<◌, ◌≤◌, ◌^◌, inl, inr, ℕ, List, [], ◌∷◌, ◌++◌, length, Option, Some, true, false, cond, refl, sym, ap, ◌∙◌, subst, arith}
-use Rattle.std.specs.Prelude.{IsSome, ◌==◌}
-use Rattle.std.proofs.lemmas.Bool.Decides.{eqb_tells}
-use Rattle.std.proofs.lemmas.Option.{same_Some}
-use Rattle.bw_model.specs.declared.command.Command.{Command}
-use Rattle.bw_model.specs.declared.command.Reply.{Reply}
-use Rattle.bw_model.specs.declared.limits.Limits.{Limits}
-use Rattle.bw_model.specs.declared.step.Answer.{Answer}
-use Rattle.bw_model.specs.declared.step.Answer.TheVariants.{Content, Whether}
-use Rattle.bw_model.specs.declared.step.Link.{Link}
-use Rattle.bw_model.specs.declared.step.Step.{Step as StepOf}
-use Rattle.bw_model.specs.declared.step.Step.TheVariants.{Row, Exchange}
-use Rattle.deltas.specs.Memory.{replaced_at}
-use Rattle.deltas.specs.declared.record.Record.{Record}
-use Rattle.chain_search.specs.Discipline.{May}
-use Rattle.chain_search.specs.Fitting.{Fits}
-use Rattle.chain_search.specs.Knowledge.{Ready, Knowledge, begun, finished, knows, learn}
-use Rattle.chain_search.specs.Recalled.{IsStepSpent, Recalled, blank, recall, recalls}
-use Rattle.chain_search.specs.Steps.{IsAnswer}
-use Rattle.chain_search.specs.Trace.{memory_of}
-use Rattle.chain_search.specs.Useful.{IsUseful}
-use Rattle.chain_search.specs.declared.trace.Entry.{Entry}
-use Rattle.chain_search.specs.declared.trace.Entry.TheVariants.{Begin, Step}
-use Rattle.op_machine.specs.Direct.{IsExchangeOf, Links, is_step_of}
-use Rattle.op_machine.specs.Operations.{Operation}
-use Rattle.op_machine.specs.Updates.{IsUpdateLink}
-use Rattle.tree_law.specs.Direct.{Accounts, Affords, IsDirectState, IsLast, Recollects, StaysDirect, Walks}
-use Rattle.tree_law.specs.State.{IsState}
-use Rattle.tree_law.specs.TraceLaws.{Opens}
+use Rattle.tree_law.proofs.Words.{false, [], ap, refl, cond, Option, List, true, inl, ◌≢◌, length, ◌++◌, ◌≤◌, inr, ◌∷◌, subst, sym, ℕ, ◌≡◌, ◌∙◌, ◌<◌, arith, Some, ◌^◌, ◌==◌, eqb_tells, same_Some}
+use Rattle.tree_law.proofs.Words.{IsSome, Command, Reply, Limits, Answer, Whether, Content, Link, StepOf, Row, Exchange, replaced_at, Record, May, Fits, begun, knows, Knowledge, finished, Ready}
+use Rattle.tree_law.proofs.Words.{learn, recall, Recalled, blank, recalls, IsAnswer, memory_of, IsUseful, Entry, Begin, Step, is_step_of, Links, IsExchangeOf, Operation, IsUpdateLink, Accounts}
+use Rattle.tree_law.proofs.Words.{IsLast, Affords, IsDirectState, Recollects, Walks, StaysDirect, IsState, Opens}
+use Rattle.chain_search.specs.Recalled.{IsStepSpent}
 use Rattle.tree_law.proofs.answering.Fitted.{fits}
 use Rattle.tree_law.proofs.shape.Puts.{at_place, by_test}
 use Rattle.tree_law.proofs.direct.Appended.{knows-push, last_begun, last_cases, recalls-push, takes_below}
@@ -148,29 +124,27 @@ module _ (limits : Limits) (entries : List Entry) (a : ℕ) (s : StepOf Record) 
   ]
 
   walks_stepped : (op : Operation) → IsLast grown op → (recalls grown op.actor).walk.rooted ≡ true → Walks limits grown op (knows grown op.actor).read.seen (recalls grown op.actor).walk
-  walks_stepped op latest = elim (last_cases entries next op latest) [
-    | inl before ↦
-        subst (λ (rs : ℕ → Recalled). (rs op.actor).walk.rooted ≡ true → Walks limits grown op (knows grown op.actor).read.seen (rs op.actor).walk) (sym (recalls-push entries next))
-        (subst (λ (ks : ℕ → Knowledge). (replaced_at a mine (recalls entries) op.actor).walk.rooted ≡ true → Walks limits grown op (ks op.actor).read.seen (replaced_at a mine (recalls entries) op.actor).walk) (sym (knows-push entries next))
-        (by_test op.actor a (λ t. (cond t mine (recalls entries op.actor)).walk.rooted ≡ true → Walks limits grown op (cond t (finished (learn (knows entries a) s x) reply) (knows entries op.actor)).read.seen (cond t mine (recalls entries op.actor)).walk)
-        (λ same. walks_own limits entries next op s x reply before (of_actor op same) (knows entries a) (recalls entries a) (memory_of limits entries) is_answer
-        (subst (λ b. (recalls entries b).walk.rooted ≡ true → Walks limits entries op (knows entries b).read.seen (recalls entries b).walk) same (kept.walks op before)))
-        (λ ne rooted. walks_kept limits entries next op (knows entries op.actor).read.seen (recalls entries op.actor).walk (λ step answer r is. absurd (ne (let e : op.actor ≡ a = cc in e))) (kept.walks op before rooted))))
-    | inr at ↦ let e = at.1 in absurd (cc)
-  ]
-    where
-      mine : Recalled
-      mine = recall (recalls entries a) s x
+  walks_stepped op latest =
+      let mine : Recalled = recall (recalls entries a) s x in
+      elim (last_cases entries next op latest) [
+        | inl before ↦
+            subst (λ (rs : ℕ → Recalled). (rs op.actor).walk.rooted ≡ true → Walks limits grown op (knows grown op.actor).read.seen (rs op.actor).walk) (sym (recalls-push entries next))
+            (subst (λ (ks : ℕ → Knowledge). (replaced_at a mine (recalls entries) op.actor).walk.rooted ≡ true → Walks limits grown op (ks op.actor).read.seen (replaced_at a mine (recalls entries) op.actor).walk) (sym (knows-push entries next))
+            (by_test op.actor a (λ t. (cond t mine (recalls entries op.actor)).walk.rooted ≡ true → Walks limits grown op (cond t (finished (learn (knows entries a) s x) reply) (knows entries op.actor)).read.seen (cond t mine (recalls entries op.actor)).walk)
+            (λ same. walks_own limits entries next op s x reply before (of_actor op same) (knows entries a) (recalls entries a) (memory_of limits entries) is_answer
+            (subst (λ b. (recalls entries b).walk.rooted ≡ true → Walks limits entries op (knows entries b).read.seen (recalls entries b).walk) same (kept.walks op before)))
+            (λ ne rooted. walks_kept limits entries next op (knows entries op.actor).read.seen (recalls entries op.actor).walk (λ step answer r is. absurd (ne (let e : op.actor ≡ a = cc in e))) (kept.walks op before rooted))))
+        | inr at ↦ let e = at.1 in absurd (cc)
+      ]
 
   foreign_stepped : (actor : ℕ) → AreForeign (recalls grown actor) (knows grown actor)
-  foreign_stepped actor = subst (λ (rs : ℕ → Recalled). AreForeign (rs actor) (knows grown actor)) (sym (recalls-push entries next)) (subst (λ (ks : ℕ → Knowledge). AreForeign (replaced_at a (recall (recalls entries a) s x) (recalls entries) actor) (ks actor)) (sym (knows-push entries next))
-      (by_test actor a (λ t. AreForeign (cond t (recall (recalls entries a) s x) (recalls entries actor)) (cond t (finished (learn (knows entries a) s x) reply) (knows entries actor))) (λ same. own) (λ ne. kept.foreign actor)))
-    where
-      own : AreForeign (recall (recalls entries a) s x) (learn (knows entries a) s x)
-      own page head base e f = elim (heads_cases (recalls entries a) s x page head e) [
+  foreign_stepped actor =
+      let own : AreForeign (recall (recalls entries a) s x) (learn (knows entries a) s x) = λ page head base e f. elim (heads_cases (recalls entries a) s x page head e) [
         | inl now ↦ never_read limits entries state a page base (subst (May a (knows entries a)) now.0 may) (was_ready page base (knows entries a) s x (λ i. subst (IsExchangeOf page) now.0 i) f)
         | inr old ↦ kept.foreign a page head base old.0 (was_ready page base (knows entries a) s x old.1 f)
-      ]
+      ] in
+      subst (λ (rs : ℕ → Recalled). AreForeign (rs actor) (knows grown actor)) (sym (recalls-push entries next)) (subst (λ (ks : ℕ → Knowledge). AreForeign (replaced_at a (recall (recalls entries a) s x) (recalls entries) actor) (ks actor)) (sym (knows-push entries next))
+      (by_test actor a (λ t. AreForeign (cond t (recall (recalls entries a) s x) (recalls entries actor)) (cond t (finished (learn (knows entries a) s x) reply) (knows entries actor))) (λ same. own) (λ ne. kept.foreign actor)))
 
   linked_stepped : (op : Operation) (n : ℕ) (kind : Link) → IsLast grown op → Links limits grown op n kind → IsUpdateLink kind → IsSome (knows grown op.actor).asked.linked
   linked_stepped op n kind latest links is = elim (last_cases entries next op latest) [
@@ -189,9 +163,8 @@ module _ (limits : Limits) (entries : List Entry) (a : ℕ) (s : StepOf Record) 
       now op kind at is =
           let made = (changes op.actor at.slot at.old at.new at.reply at.is).0 in
           let same : made.kind ≡ kind = same_Some _ _ (sym made.is ∙ at.link) in
-          let some : IsSome (learn (knows entries op.actor) (Exchange at.slot at.old at.new) (Whether true)).asked.linked = made.known (subst IsUpdateLink (sym same) is) in
           at_place (λ (k : Knowledge). IsSome k.asked.linked) a (finished (learn (knows entries a) s x) reply) (knows entries) op.actor
-          (λ e. subst Learns (sym at.is) some)
+          (λ e. subst Learns (sym at.is) (made.known (subst IsUpdateLink (sym same) is)))
           (λ ne. absurd (ne (let f = at.is in let e : op.actor ≡ a = cc in e)))
         where
           Learns : Entry → Type 0
@@ -201,8 +174,7 @@ module _ (limits : Limits) (entries : List Entry) (a : ℕ) (s : StepOf Record) 
   -- a record that is read again is the one that was read before
   read_again : (row : ℕ) (content before : Record) → s ≡ Row row → x ≡ Content content → (knows entries a).read.seen row ≡ Some before → content ≡ before
   read_again row content before i j e =
-      let fit : Fits limits (knows entries a) (Row row) (Content content) = subst (λ y. Fits limits (knows entries a) (Row row) y) j (subst (λ t. Fits limits (knows entries a) t x) i (fits limits entries state a s x may is_answer)) in
-      fit.same before e
+      (subst (λ y. Fits limits (knows entries a) (Row row) y) j (subst (λ t. Fits limits (knows entries a) t x) i (fits limits entries state a s x may is_answer))).same before e
 
   module _ (left rest : ℕ) (accounts : Accounts limits entries a left) (spent : IsStepSpent (recalls entries a) s x left rest) where
     afford : (op : Operation) → IsLast entries op → op.actor ≡ a → Affords limits grown op rest

@@ -1,14 +1,7 @@
 -- A trace is direct where each actor obeys its discipline and each operation says how many steps it has left.
-use Rattle.std.proofs.Common.{ℕ, List, [], ◌∷◌, ◌++◌, cond, sym, subst, append_assoc}
-use Rattle.std.proofs.lemmas.List.{append-nil}
-use Rattle.bw_model.specs.declared.limits.Limits.{Limits}
-use Rattle.deltas.specs.Memory.{replaced_at}
-use Rattle.chain_search.specs.Disciplined.{IsDisciplinedFrom}
-use Rattle.chain_search.specs.declared.trace.Entry.{Entry}
-use Rattle.chain_search.specs.declared.trace.Entry.TheVariants.{Begin, Step}
-use Rattle.op_machine.specs.Direct.{IsDirect}
-use Rattle.tree_law.specs.Direct.{Accounts, DirectRuns, IsDirectState, SpendsFrom, StaysDirect}
-use Rattle.tree_law.specs.State.{IsState}
+use Rattle.tree_law.proofs.Words.{[], cond, List, ◌++◌, ◌∷◌, subst, sym, ℕ, append_assoc, append-nil, Limits, replaced_at, IsDisciplinedFrom, Entry, Begin, Step, IsDirect, Accounts, IsDirectState}
+use Rattle.tree_law.proofs.Words.{StaysDirect, IsState}
+use Rattle.tree_law.specs.Direct.{DirectRuns, SpendsFrom}
 use Rattle.tree_law.proofs.trace.Beginning as beginning
 use Rattle.tree_law.proofs.trace.Steps as growth
 use Rattle.tree_law.proofs.shape.Puts.{by_test}

@@ -1,21 +1,7 @@
 -- One more entry: what it leaves known and recalled, and which operation is its actor's last.
-use Rattle.std.proofs.Common.{◌≡◌, ◌<◌, ◌≤◌, ◌⊎◌, inl, inr, ℕ, List, [], ◌∷◌, ◌++◌, length, Option, Some, sym, ap, ◌∙◌, arith}
-use Rattle.std.proofs.lemmas.List.Sums.{fold-append}
-use Rattle.bw_model.specs.declared.command.Command.{Command}
-use Rattle.bw_model.specs.declared.command.Reply.{Reply}
-use Rattle.bw_model.specs.declared.limits.Limits.{Limits}
-use Rattle.bw_model.specs.declared.step.Answer.{Answer}
-use Rattle.bw_model.specs.declared.step.Step.{Step as StepOf}
-use Rattle.deltas.specs.declared.record.Record.{Record}
-use Rattle.chain_search.specs.Knowledge.{knows, knows_after}
-use Rattle.chain_search.specs.Recalled.{recalls, recalls_after}
-use Rattle.chain_search.specs.Trace.{memory_at, memory_of}
-use Rattle.chain_search.specs.declared.trace.Entry.{Entry}
-use Rattle.chain_search.specs.declared.trace.Entry.TheVariants.{Begin, Step}
-use Rattle.chain_search.proofs.Pushes.{slice_get-push, slice_get-push_cases, slice_get_below, slice_get_kept, take-push, take-push_whole}
-use Rattle.op_machine.specs.Operations.{Operation, IsOperation, TakesOwnStep}
-use Rattle.tree_law.specs.Direct.{IsLast}
-use Rattle.tree_law.specs.State.{IsUnended}
+use Rattle.tree_law.proofs.Words.{◌⊎◌, [], ap, Option, List, inl, length, ◌++◌, ◌≤◌, inr, ◌∷◌, sym, ℕ, ◌≡◌, ◌∙◌, ◌<◌, arith, Some, fold-append, Command, Reply, Limits, Answer, StepOf, Record}
+use Rattle.tree_law.proofs.Words.{slice_get_below, slice_get_kept, slice_get-push_cases, slice_get-push, take-push, take-push_whole, knows, knows_after, recalls_after, recalls, memory_at, memory_of}
+use Rattle.tree_law.proofs.Words.{Entry, Begin, Step, IsOperation, Operation, TakesOwnStep, IsLast, IsUnended}
 use Rattle.tree_law.proofs.trace.Owned.{operation_old, own_cases, takes_new}
 
 module _ (entries : List Entry) (last : Entry) where

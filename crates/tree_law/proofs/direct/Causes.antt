@@ -1,21 +1,7 @@
 -- What an operation's step did it has done in the longer trace too.
-use Rattle.std.proofs.Common.{◌≡◌, ◌<◌, ◌≤◌, ◌⊎◌, inl, inr, ℕ, List, [], ◌∷◌, ◌++◌, length, Option, Some, true, sym, ◌∙◌, ap, arith}
-use Rattle.bw_model.specs.declared.command.Reply.{Reply}
-use Rattle.bw_model.specs.declared.limits.Limits.{Limits}
-use Rattle.bw_model.specs.declared.step.Answer.{Answer}
-use Rattle.bw_model.specs.declared.step.Answer.TheVariants.{Whether}
-use Rattle.bw_model.specs.declared.step.Link.{Link}
-use Rattle.bw_model.specs.declared.step.Step.{Step as StepOf}
-use Rattle.bw_model.specs.declared.step.Step.TheVariants.{Exchange}
-use Rattle.deltas.specs.declared.record.Record.{Record}
-use Rattle.deltas.specs.Memory.{Memory}
-use Rattle.chain_search.specs.Trace.{memory_at, memory_of}
-use Rattle.chain_search.specs.declared.trace.Entry.{Entry}
-use Rattle.chain_search.specs.declared.trace.Entry.TheVariants.{Step}
-use Rattle.op_machine.specs.Direct.{IsCause, Links, Loses, Meets, MissesNumber, TakesNone}
-use Rattle.op_machine.specs.Links.{link_of}
-use Rattle.op_machine.specs.Operations.{Operation, TakesOwnStep}
-use Rattle.tree_law.specs.State.{IsUnended}
+use Rattle.tree_law.proofs.Words.{◌⊎◌, [], ap, Option, List, true, inl, length, ◌++◌, ◌≤◌, inr, ◌∷◌, sym, ℕ, ◌≡◌, ◌∙◌, ◌<◌, arith, Some, Reply, Limits, Answer, Whether, Link, StepOf, Exchange, Memory}
+use Rattle.tree_law.proofs.Words.{Record, memory_at, memory_of, Entry, Step, Links, IsCause, TakesNone, link_of, Operation, TakesOwnStep, IsUnended}
+use Rattle.op_machine.specs.Direct.{Loses, Meets, MissesNumber}
 use Rattle.tree_law.proofs.trace.Searches.{takes_kept}
 use Rattle.tree_law.proofs.direct.Appended.{memory_kept, memory_last, takes_before, takes_below, takes_cases}
 

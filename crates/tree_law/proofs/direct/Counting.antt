@@ -1,19 +1,11 @@
 -- The causes of an operation pay for one step more: by those that were left, or by being one more cause.
-use Rattle.std.proofs.Common.{◌≡◌, ◌<◌, ◌≤◌, ◌+◌, ◌-◌, ◌*◌, ◌^◌, inl, inr, ℕ, suc, List, [], ◌∷◌, ◌++◌, length, take, drop, Bool, true, false, cond, sym, ap, ◌∙◌, arith, length-drop}
-use Rattle.std.specs.Prelude.{slice_range}
-use Rattle.std.specs.List.{All, count_by}
-use Rattle.std.specs.List.Sorted.{IsStrictlyIncreasing}
+use Rattle.tree_law.proofs.Words.{false, [], ap, cond, suc, List, true, inl, length, ◌++◌, ◌≤◌, inr, ◌∷◌, sym, ℕ, ◌≡◌, Bool, ◌∙◌, ◌<◌, arith, take, ◌+◌, ◌^◌, drop, ◌*◌, ◌-◌, cases_lt, All-weaker}
+use Rattle.tree_law.proofs.Words.{fold-append, All, count_by, IsStrictlyIncreasing, slice_range, Limits, Entry, is_step_of, IsCause, IsOperation, Operation, Affords}
+use Rattle.std.proofs.Common.{length-drop}
 use Rattle.std.proofs.Math.Seq.{get_or-append_seam}
-use Rattle.std.proofs.lemmas.Bool.{cases_lt}
 use Rattle.std.proofs.lemmas.List.{drop-append-le, drop_at, get_or_append_left, take-append-le}
-use Rattle.std.proofs.lemmas.List.Elements.{All-push, All-weaker}
-use Rattle.std.proofs.lemmas.List.Sums.{fold-append}
+use Rattle.std.proofs.lemmas.List.Elements.{All-push}
 use Rattle.std.proofs.lemmas.Option.{slice_get_within}
-use Rattle.bw_model.specs.declared.limits.Limits.{Limits}
-use Rattle.chain_search.specs.declared.trace.Entry.{Entry}
-use Rattle.op_machine.specs.Direct.{IsCause, is_step_of}
-use Rattle.op_machine.specs.Operations.{Operation, IsOperation}
-use Rattle.tree_law.specs.Direct.{Affords}
 use Rattle.tree_law.proofs.trace.Owned.{pushed_length}
 use Rattle.tree_law.proofs.direct.Causes.{cause_kept}
 

@@ -1,32 +1,10 @@
 -- A direct trace stays direct with one entry more, where its operation can afford it.
-use Rattle.std.proofs.Common.{◌≡◌, ◌<◌, ◌≤◌, ◌+◌, ◌-◌, ◌*◌, ◌^◌, inl, inr, ℕ, suc, List, [], ◌∷◌, ◌++◌, length, take, drop, Option, Some, None, true, sym, ap, ◌∙◌, subst, arith}
-use Rattle.std.specs.Prelude.{IsSome, slice_range}
-use Rattle.std.specs.List.{All, count_by}
-use Rattle.std.specs.List.Sorted.{IsStrictlyIncreasing}
+use Rattle.tree_law.proofs.Words.{[], ap, Option, suc, None, List, true, inl, length, ◌++◌, ◌≤◌, inr, ◌∷◌, subst, sym, ℕ, ◌≡◌, ◌∙◌, ◌<◌, arith, Some, take, ◌+◌, ◌^◌, drop, ◌*◌, ◌-◌, All-weaker}
+use Rattle.tree_law.proofs.Words.{same_Some, All, count_by, IsStrictlyIncreasing, IsSome, slice_range, Reply, Limits, Answer, Whether, Link, StepOf, Exchange, Memory, Record, IsChainOf, knows}
+use Rattle.tree_law.proofs.Words.{memory_at, memory_of, IsUseful, Entry, Step, is_step_of, Links, IsCause, IsDirect, link_of, IsOperation, Operation, IsOwnStep, TakesOwnStep, IsUpdateLink, IsLast}
+use Rattle.tree_law.proofs.Words.{Affords, IsDirectState}
 use Rattle.std.proofs.lemmas.List.{take_rest}
-use Rattle.std.proofs.lemmas.List.Elements.{All-weaker}
-use Rattle.std.proofs.lemmas.Option.{same_Some}
-use Rattle.bw_model.specs.declared.command.Reply.{Reply}
-use Rattle.bw_model.specs.declared.limits.Limits.{Limits}
-use Rattle.bw_model.specs.declared.step.Answer.{Answer}
-use Rattle.bw_model.specs.declared.step.Answer.TheVariants.{Whether}
-use Rattle.bw_model.specs.declared.step.Link.{Link}
 use Rattle.bw_model.specs.declared.step.Link.TheVariants as link
-use Rattle.bw_model.specs.declared.step.Step.{Step as StepOf}
-use Rattle.bw_model.specs.declared.step.Step.TheVariants.{Exchange}
-use Rattle.deltas.specs.Memory.{Memory}
-use Rattle.deltas.specs.declared.record.Record.{Record}
-use Rattle.chain_search.specs.Chains.{IsChainOf}
-use Rattle.chain_search.specs.Knowledge.{knows}
-use Rattle.chain_search.specs.Trace.{memory_at, memory_of}
-use Rattle.chain_search.specs.Useful.{IsUseful}
-use Rattle.chain_search.specs.declared.trace.Entry.{Entry}
-use Rattle.chain_search.specs.declared.trace.Entry.TheVariants.{Step}
-use Rattle.op_machine.specs.Direct.{IsCause, IsDirect, Links, is_step_of}
-use Rattle.op_machine.specs.Links.{link_of}
-use Rattle.op_machine.specs.Operations.{Operation, IsOperation, IsOwnStep, TakesOwnStep}
-use Rattle.op_machine.specs.Updates.{IsUpdateLink}
-use Rattle.tree_law.specs.Direct.{Affords, IsDirectState, IsLast}
 use Rattle.tree_law.proofs.trace.Owned.{pushed_length}
 use Rattle.tree_law.proofs.direct.Appended.{memory_kept, memory_last, operation_before, takes_below, takes_cases}
 use Rattle.tree_law.proofs.direct.Causes.{LinksLast, cause_kept, links_cases}
@@ -85,10 +63,7 @@ module _ (limits : Limits) (entries : List Entry) (last : Entry) (kept : IsDirec
     apart : (op : Operation) (m : ℕ) (first second : Link) → IsLast entries op → Links limits entries op m first → LinksLast limits entries last op second → IsUpdateLink first → IsUpdateLink second → ⊥
     apart op m first second latest before now one two =
         let made = (change op.actor now.slot now.old now.new now.reply now.is).0 in
-        let some : IsSome (knows entries op.actor).asked.linked = kept.linked op m first latest before one in
-        let same : made.kind ≡ second = same_Some _ _ (sym made.is ∙ now.link) in
-        let none : (knows entries op.actor).asked.linked ≡ None = made.once (subst IsUpdateLink (sym same) two) in
-        let false : IsSome {T = ℕ} None = subst IsSome none some in
+        let false : IsSome {T = ℕ} None = subst IsSome (made.once (subst IsUpdateLink (sym (same_Some _ _ (sym made.is ∙ now.link))) two)) (kept.linked op m first latest before one) in
         cc
 
     once : (op : Operation) (m n : ℕ) (first second : Link) → IsOperation longer op → Links limits longer op m first → Links limits longer op n second → IsUpdateLink first → IsUpdateLink second → m ≡ n
@@ -117,9 +92,8 @@ module _ (limits : Limits) (entries : List Entry) (last : Entry) (kept : IsDirec
           | inr at ↦
               let made = change op.actor slot old new at.1.0 at.1.1 in
               let same : memory_at limits longer n ≡ memory_of limits entries = ap (memory_at limits longer) at.0 ∙ memory_last entries last limits in
-              let here : IsChainOf (memory_of limits entries) slot chain = subst (λ (m : Memory). IsChainOf m slot chain) same is_chain in
               let kind : made.0.kind ≡ link.Base = same_Some _ _ (sym made.0.is ∙ subst (λ (m : Memory). link_of m slot old new ≡ Some link.Base) same is) in
-              made.0.useful made.1 kind chain here
+              made.0.useful made.1 kind chain (subst (λ (m : Memory). IsChainOf m slot chain) same is_chain)
         ]
 
     pub direct : IsDirect limits longer

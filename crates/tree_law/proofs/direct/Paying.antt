@@ -1,23 +1,9 @@
 -- A step that is paid for is a cause of its operation.
-use Rattle.std.proofs.Common.{◌≡◌, ◌<◌, inl, inr, ℕ, zero, suc, List, [], ◌∷◌, ◌++◌, length, Option, Some, true, false, sym, ap, ◌∙◌, refl, subst, arith}
-use Rattle.bw_model.specs.declared.command.Reply.{Reply}
-use Rattle.bw_model.specs.declared.limits.Limits.{Limits}
-use Rattle.bw_model.specs.declared.step.Answer.{Answer}
-use Rattle.bw_model.specs.declared.step.Answer.TheVariants.{Number, Content, Whether}
-use Rattle.bw_model.specs.declared.step.Step.{Step as StepOf}
-use Rattle.bw_model.specs.declared.step.Step.TheVariants.{Slot, Row, Exchange, TakePid, TakeRow}
-use Rattle.deltas.specs.Memory.{Memory}
-use Rattle.deltas.specs.declared.record.Record.{Record}
-use Rattle.deltas.specs.declared.record.Record.TheVariants.{Remove}
+use Rattle.tree_law.proofs.Words.{false, [], ap, refl, Option, suc, List, true, inl, length, ◌++◌, inr, ◌∷◌, subst, sym, ℕ, ◌≡◌, zero, ◌∙◌, ◌<◌, arith, Some, Reply, Limits, Answer, Whether, Content}
+use Rattle.tree_law.proofs.Words.{Number, StepOf, TakePid, Row, TakeRow, Slot, Exchange, Memory, Record, Remove, knows, Ready, Recalled, is_removal, Entry, Step, IsExchangeOf, IsCause, TakesNone}
+use Rattle.tree_law.proofs.Words.{IsTheStep, IsTake, link_of, Operation, TakesOwnStep, IsLast, Recollects, Walks}
 use Rattle.deltas.specs.declared.record.Remove.{Remove as Removal}
-use Rattle.chain_search.specs.Knowledge.{Ready, knows}
-use Rattle.chain_search.specs.Recalled.{AnyNames, IsPaid, IsUnread, Recalled, is_removal}
-use Rattle.chain_search.specs.declared.trace.Entry.{Entry}
-use Rattle.chain_search.specs.declared.trace.Entry.TheVariants.{Step}
-use Rattle.op_machine.specs.Direct.{IsCause, IsExchangeOf, IsTake, IsTheStep, TakesNone}
-use Rattle.op_machine.specs.Links.{link_of}
-use Rattle.op_machine.specs.Operations.{Operation, TakesOwnStep}
-use Rattle.tree_law.specs.Direct.{IsLast, Recollects, Walks}
+use Rattle.chain_search.specs.Recalled.{AnyNames, IsPaid, IsUnread}
 use Rattle.tree_law.proofs.trace.Searches.{takes_kept}
 use Rattle.tree_law.proofs.direct.Appended.{memory_last, takes_below, takes_last}
 use Rattle.tree_law.proofs.direct.Causes.{none_kept}
@@ -33,21 +19,19 @@ module _ (limits : Limits) (entries : List Entry) (last : Entry) (op : Operation
   -- since slot 0 was last read, the first removal
   removal : (row : ℕ) (remove : Removal) (r : Recalled) (seen : ℕ → Option Record) → last ≡ Step op.actor (Row row) (Content (Remove remove)) reply → ((before : Record) → seen row ≡ Some before → Remove remove ≡ before)
       → Walks limits entries op seen r.walk → r.walk.removed ≡ false → IsCause limits longer op (length entries)
-  removal row remove r seen is same w fresh = inr (inr (inr (
-    w.at,
-    w.root,
-    takes_below entries last op w.at _ _ w.begins,
-    takes_kept entries last op w.at _ _ w.begins,
-    none w.at (IsTheStep limits entries op (Slot 0)) w.last,
-    inl (row, remove, takes_last entries last op _ _ reply latest is, none w.at (IsTheStep limits entries op (Row row)) first),
-  )))
-    where
-      first : TakesNone limits entries op w.at (length entries) (IsTheStep limits entries op (Row row))
-      first between step answer low high own kind =
-          let was = w.rows between row answer low (subst (λ t. TakesOwnStep entries op between t answer) kind own) in
-          let removes : is_removal was.0 ≡ true = subst (λ content. is_removal content ≡ true) (same was.0 was.1) refl in
-          let f : true ≡ false = sym (was.2 removes) ∙ fresh in
-          cc
+  removal row remove r seen is same w fresh =
+      let first : TakesNone limits entries op w.at (length entries) (IsTheStep limits entries op (Row row)) = λ between step answer low high own kind.
+      let was = w.rows between row answer low (subst (λ t. TakesOwnStep entries op between t answer) kind own) in
+      let f : true ≡ false = sym (was.2 (subst (λ content. is_removal content ≡ true) (same was.0 was.1) refl)) ∙ fresh in
+      cc in
+      inr (inr (inr (
+        w.at,
+        w.root,
+        takes_below entries last op w.at _ _ w.begins,
+        takes_kept entries last op w.at _ _ w.begins,
+        none w.at (IsTheStep limits entries op (Slot 0)) w.last,
+        inl (row, remove, takes_last entries last op _ _ reply latest is, none w.at (IsTheStep limits entries op (Row row)) first),
+      )))
 
   -- the slot of a page that a record names, which holds 0
   emptied : (page : ℕ) (r : Recalled) (seen : ℕ → Option Record) → last ≡ Step op.actor (Slot page) (Number 0) reply → Walks limits entries op seen r.walk → r.walk.removed ≡ false → IsUnread page r.walk.visited → AnyNames r.walk.records page → IsCause limits longer op (length entries)
@@ -85,16 +69,13 @@ module _ (limits : Limits) (entries : List Entry) (last : Entry) (op : Operation
   paid (Exchange slot old new) (Whether true) r seen is change foreign same reads walks h = won slot old new is (change slot old new refl refl) h.0 (λ base e. foreign slot old base h.1 e)
   paid (Exchange slot old new) (Whether false) r seen is change foreign same reads walks h =
       let (m, took, none') = reads.heads slot old h.1 in
-      let under : m < length entries = takes_below entries last op m _ _ took in
-      inr (inl (slot, old, new, m, takes_last entries last op _ _ reply latest is, under, takes_kept entries last op m _ _ took, none m (IsExchangeOf slot) none'))
+      inr (inl (slot, old, new, m, takes_last entries last op _ _ reply latest is, (takes_below entries last op m _ _ took), takes_kept entries last op m _ _ took, none m (IsExchangeOf slot) none'))
   paid (TakePid pid) (Whether false) r seen is change foreign same reads walks h =
       let (m, took, none') = reads.pids _ h.0 h.1 in
-      let under : m < length entries = takes_below entries last op m _ _ took in
-      inr (inr (inl (pid, h.0, m, under, h.2, none m IsTake none', inl (takes_last entries last op _ _ reply latest is, takes_kept entries last op m _ _ took))))
+      inr (inr (inl (pid, h.0, m, (takes_below entries last op m _ _ took), h.2, none m IsTake none', inl (takes_last entries last op _ _ reply latest is, takes_kept entries last op m _ _ took))))
   paid (TakeRow row) (Whether false) r seen is change foreign same reads walks h =
       let (m, took, none') = reads.rows _ h.0 h.1 in
-      let under : m < length entries = takes_below entries last op m _ _ took in
-      inr (inr (inl (row, h.0, m, under, h.2, none m IsTake none', inr (takes_last entries last op _ _ reply latest is, takes_kept entries last op m _ _ took))))
+      inr (inr (inl (row, h.0, m, (takes_below entries last op m _ _ took), h.2, none m IsTake none', inr (takes_last entries last op _ _ reply latest is, takes_kept entries last op m _ _ took))))
   paid (Slot (suc page)) (Number zero) r seen is change foreign same reads walks h = emptied (suc page) r seen is (walks h.0) h.1 h.2 h.3
   paid (Row row) (Content (Remove remove)) r seen is change foreign same reads walks h = removal row remove r seen is (λ before e. same row (Remove remove) before refl refl e) (walks h.0) h.1
   paid s x r seen is change foreign same reads walks h = absurd h

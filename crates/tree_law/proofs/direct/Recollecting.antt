@@ -1,20 +1,8 @@
 -- What an actor recalls of its last operation, that operation has read.
-use Rattle.std.proofs.Common.{◌≡◌, ◌≢◌, ◌⊎◌, inl, inr, ℕ, suc, List, [], ◌∷◌, ◌++◌, length, Option, Some, None, cond, sym, ap, ◌∙◌, subst, arith}
-use Rattle.std.proofs.lemmas.Bool.Decides.{eqb_tells}
-use Rattle.bw_model.specs.declared.command.Reply.{Reply}
-use Rattle.bw_model.specs.declared.limits.Limits.{Limits}
-use Rattle.bw_model.specs.declared.step.Answer.{Answer}
-use Rattle.bw_model.specs.declared.step.Answer.TheVariants.{Number, Content}
-use Rattle.bw_model.specs.declared.step.Step.{Step as StepOf}
-use Rattle.bw_model.specs.declared.step.Step.TheVariants.{Slot, Row, PidBits, RowBits, Exchange, TakePid, TakeRow}
-use Rattle.deltas.specs.declared.record.Record.{Record}
-use Rattle.deltas.specs.Memory.{replaced_at}
-use Rattle.chain_search.specs.declared.trace.Entry.{Entry}
-use Rattle.chain_search.specs.declared.trace.Entry.TheVariants.{Step}
-use Rattle.chain_search.specs.Recalled.{Recalled, blank, recall}
-use Rattle.op_machine.specs.Direct.{IsExchangeOf, IsTake}
-use Rattle.op_machine.specs.Operations.{Operation}
-use Rattle.tree_law.specs.Direct.{HasReadSince, IsLast, Recollects}
+use Rattle.tree_law.proofs.Words.{◌⊎◌, [], ap, cond, Option, suc, None, List, inl, ◌≢◌, length, ◌++◌, inr, ◌∷◌, subst, sym, ℕ, ◌≡◌, ◌∙◌, arith, Some, eqb_tells, Reply, Limits, Answer, Content, Number}
+use Rattle.tree_law.proofs.Words.{StepOf, TakePid, Row, TakeRow, Slot, PidBits, Exchange, RowBits, replaced_at, Record, recall, Recalled, blank, Entry, Step, IsExchangeOf, IsTake, Operation, IsLast}
+use Rattle.tree_law.proofs.Words.{Recollects}
+use Rattle.tree_law.specs.Direct.{HasReadSince}
 use Rattle.tree_law.proofs.trace.Owned.{pushed_length}
 use Rattle.tree_law.proofs.trace.Searches.{takes_kept}
 use Rattle.tree_law.proofs.direct.Appended.{takes_below, takes_cases, takes_last}

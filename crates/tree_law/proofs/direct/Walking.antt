@@ -1,26 +1,14 @@
 -- What an actor recalls of its reads since it last read slot 0, its last operation has read since then.
-use Rattle.std.proofs.Common.{◌≡◌, ◌≢◌, ◌<◌, ◌||◌, inl, inr, ℕ, zero, suc, List, [], ◌∷◌, ◌++◌, length, Option, Some, Bool, true, false, cond, refl, sym, ap, ◌∙◌, subst, arith}
-use Rattle.bw_model.specs.declared.command.Reply.{Reply}
-use Rattle.bw_model.specs.declared.limits.Limits.{Limits}
-use Rattle.bw_model.specs.declared.step.Answer.{Answer}
-use Rattle.bw_model.specs.declared.step.Answer.TheVariants.{Number, Content, Whether}
-use Rattle.bw_model.specs.declared.step.Step.{Step as StepOf}
-use Rattle.bw_model.specs.declared.step.Step.TheVariants.{Slot, Row, Epoch, Announce, PidBits, RowBits, Exchange, TakePid, TakeRow, Leave}
-use Rattle.deltas.specs.declared.record.Record.{Record}
-use Rattle.deltas.specs.Memory.{Memory, replaced_at}
-use Rattle.chain_search.specs.declared.trace.Entry.{Entry}
-use Rattle.chain_search.specs.declared.trace.Entry.TheVariants.{Step}
-use Rattle.chain_search.specs.Knowledge.{Knowledge, learn}
-use Rattle.chain_search.specs.Recalled.{Recalled, Walk, is_removal, note, recall, visit}
-use Rattle.chain_search.specs.Steps.{IsAnswer}
-use Rattle.op_machine.specs.Direct.{IsTheStep, TakesNone}
-use Rattle.op_machine.specs.Operations.{Operation, TakesOwnStep}
-use Rattle.tree_law.specs.Direct.{IsLast, Walks}
+use Rattle.tree_law.proofs.Words.{false, [], ap, refl, cond, Option, suc, List, true, inl, ◌≢◌, length, ◌++◌, inr, ◌∷◌, subst, sym, ℕ, ◌≡◌, Bool, zero, ◌∙◌, ◌<◌, arith, Some, ◌||◌, Reply, Limits}
+use Rattle.tree_law.proofs.Words.{Answer, Content, Number, StepOf, Leave, Row, Slot, PidBits, RowBits, Memory, replaced_at, Record, Knowledge, learn, recall, Recalled, is_removal, IsAnswer, Entry}
+use Rattle.tree_law.proofs.Words.{Step, TakesNone, IsTheStep, Operation, TakesOwnStep, IsLast, Walks}
+use Rattle.chain_search.specs.Recalled.{Walk, note, visit}
 use Rattle.tree_law.proofs.links.Exchanged.{exchanged_alike}
 use Rattle.tree_law.proofs.trace.Owned.{pushed_length}
 use Rattle.tree_law.proofs.shape.Puts.{by_test}
 use Rattle.tree_law.proofs.trace.Searches.{takes_kept}
 use Rattle.tree_law.proofs.direct.Appended.{takes_below, takes_cases, takes_last}
+use Rattle.tree_law.proofs.links.Learning.{learning, at_row, wins, leaves}
 
 -- what was read stays known but for a read of a row, and a leave
 abbrev KeepsSeen : StepOf Record → Type 0
@@ -29,19 +17,12 @@ KeepsSeen Leave = ⊥
 KeepsSeen step = Unit {0}
 
 seen_kept : (k : Knowledge) (s : StepOf Record) (x : Answer Record) → KeepsSeen s → (learn k s x).read.seen ≡ k.read.seen
-seen_kept k (Slot zero) (Number n) h = refl
-seen_kept k (Slot (suc p)) (Number zero) h = refl
-seen_kept k (Slot (suc p)) (Number (suc n)) h = refl
-seen_kept k (Row row) x h = absurd h
-seen_kept k Leave x h = absurd h
-seen_kept k Epoch (Number n) h = refl
-seen_kept k (Announce b) (Number n) h = refl
-seen_kept k (PidBits w) (Number n) h = refl
-seen_kept k (RowBits w) (Number n) h = refl
-seen_kept k (TakePid p) (Whether true) h = refl
-seen_kept k (TakeRow q) (Whether true) h = refl
-seen_kept k (Exchange p x y) (Whether true) h = ap (λ read. read.seen) (exchanged_alike p x y k).read
-seen_kept k s x h = refl
+seen_kept k s x h = (elim (learning k s x) as (λ s x k' v. KeepsSeen s → k'.read.seen ≡ k.read.seen) [
+  | at_row r w ↦ λ h. absurd h
+  | leaves y ↦ λ h. absurd h
+  | wins p y z ↦ λ h. ap (λ read. read.seen) (exchanged_alike p y z k).read
+  | v ↦ λ h. refl
+]) h
 
 -- what was read since slot 0 was read stays but for reads, and a leave
 abbrev IsStill : StepOf Record → Type 0

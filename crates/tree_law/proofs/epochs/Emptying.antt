@@ -1,33 +1,15 @@
 -- An exchange of a page's slot to 0, and one of slot 0: what they take out of the tree, and what actors hold afterwards.
-use Rattle.std.proofs.Common.{◌≡◌, ◌⊎◌, inl, inr, ℕ, suc, List, Option, Some, None, Bool, true, false, cond, eqb, refl, sym, ap, ◌∙◌, subst, ⊎_elim, arith}
-use Rattle.std.specs.Prelude.{IfSome, ◌&&◌}
-use Rattle.std.proofs.Math.Bool.{and-false}
-use Rattle.std.proofs.lemmas.Option.{same_Some}
-use Rattle.bw_model.specs.declared.command.Reply.{Reply}
-use Rattle.bw_model.specs.declared.limits.Limits.{Limits}
-use Rattle.bw_model.specs.declared.step.Step.TheVariants.{Exchange}
+use Rattle.tree_law.proofs.Words.{false, ◌⊎◌, ap, refl, cond, Option, suc, None, List, true, inl, inr, subst, sym, ℕ, ◌≡◌, Bool, ◌∙◌, arith, Some, eqb, ⊎_elim, and-false, same_Some, IfSome, ◌&&◌}
+use Rattle.tree_law.proofs.Words.{Update, Reply, Limits, Exchange, Memory, replaced_at, next_row, Record, Base, IsOwn, IsOwnBase, Knowledge, finished, Ready, Foreign, Empty, OwnPage, Other, Gone}
+use Rattle.tree_law.proofs.Words.{OwnRow, Unstamped, handed_page, is_on_walk, set_page, Key, IsHomed, Linked, Owners, Reached, Spare, PageFits, PageOwner, Cleared, Keeps, put, shared, slot_in, Times}
+use Rattle.tree_law.proofs.Words.{Timed, times_after, LimboFits, Outing, out_after, is_linked, is_cleared, IsTree}
 use Rattle.bw_model.specs.declared.step.Answer.TheVariants as answer
-use Rattle.bw_model.specs.Log.{Update}
-use Rattle.deltas.specs.declared.record.Record.{Record}
-use Rattle.deltas.specs.declared.record.Record.TheVariants.{Base}
-use Rattle.deltas.specs.Memory.{Memory, replaced_at}
-use Rattle.deltas.specs.Records.{next_row}
-use Rattle.chain_search.specs.Discipline.{IsOwn, IsOwnBase}
-use Rattle.chain_search.specs.Knowledge.{OwnRow, Foreign, Taken, Written, OwnPage, Other, Empty, Ready, Gone, Unstamped, Knowledge, is_on_walk, finished, cleared, handed_page, set_page}
-use Rattle.tree_law.specs.Keys.{Key}
-use Rattle.tree_law.specs.Next.{IsHomed}
-use Rattle.tree_law.specs.Owners.{Spare, Linked, Owners, Reached, PageFits}
-use Rattle.tree_law.specs.Phase.{PageOwner, Keeps, Cleared}
-use Rattle.tree_law.specs.Put.{put}
-use Rattle.tree_law.specs.Shared.{slot_in, shared}
-use Rattle.tree_law.specs.Tree.{IsTree}
-use Rattle.tree_law.specs.Times.{Outing, Times, LimboFits, Timed, is_linked, is_cleared, out_after, times_after}
-use Rattle.tree_law.proofs.shape.Puts.{by_test, eqb_same, eqb_true, eqb_apart, put_other, put_all}
-use Rattle.tree_law.proofs.shape.Rows.{next_linked}
+use Rattle.chain_search.specs.Knowledge.{cleared}
+use Rattle.tree_law.proofs.shape.{by_test, eqb_same, eqb_true, eqb_apart, put_other, put_all, next_linked, own_base}
 use Rattle.tree_law.proofs.links.Stepping.{slot_put, root_apart}
 use Rattle.tree_law.proofs.epochs.Timing.{Turn, limbo_row, limbo_pid, held_later, announced_still, put_timed}
 use Rattle.tree_law.proofs.epochs.Timely.{linked}
-use Rattle.tree_law.proofs.epochs.Exchanging.{tested_linked, tested_cleared, both_true, out_now, later_out, out_cases, own_spare, slot_linked, on_walk}
+use Rattle.tree_law.proofs.epochs.Exchanging.{tested_linked, tested_cleared, both_true, out_now, later_out, out_cases, spare_of, slot_linked, on_walk}
 
 module _ {limits : Limits} {m : Memory} {log : List Update} {o : Owners} {knows : ℕ → Knowledge} {point : ℕ → Option (List Update)} {logs : ℕ → List (List Update)} {now : ℕ} {t : Times} (g : IsTree (shared m) log o knows point logs) (T : Timed limits m o knows now t) (a : ℕ) where
   module _ (p x : ℕ) where
@@ -47,7 +29,7 @@ module _ {limits : Limits} {m : Memory} {log : List Update} {o : Owners} {knows 
       pub spare : (r b : ℕ) → o.row r ≡ Spare b → o'.row r ≡ Spare b
 
     pub own_in : (b r : ℕ) → IsOwn ((knows b).own.rows r) → t2.row_out r ≡ None
-    own_in b r i = rw (T.own_rows b r i, own_spare g T a b r i) refl
+    own_in b r i = rw (T.own_rows b r i, spare_of g T a b r i) refl
 
     module _ (o' : Owners) (k' : Knowledge) (inside : k'.inside ≡ (knows a).inside) (f : Emptying o') where
       page_cases : (q : ℕ) (w : Outing) → t2.page_out q ≡ Some w → ((l : ℕ) × (s : Key) × (o'.page q ≡ Cleared w.who l s))
@@ -56,9 +38,7 @@ module _ {limits : Limits} {m : Memory} {log : List Update} {o : Owners} {knows 
           (λ (u : (t.page_out q ≡ None) × ((eqb q (suc p) && is_cleared (o.page q)) ≡ true) × (w ≡ out_now g T a)).
           let b = both_true (eqb q (suc p)) (is_cleared (o.page q)) u.1 in
           let c = tested_cleared (o.page q) b.1 in
-          let i : q ≡ suc p = eqb_true q (suc p) b.0 in
-          let who : c.0 ≡ a = f.whose c.0 c.1 c.2 (ap o.page (sym i) ∙ c.3) in
-          (c.1, c.2, ap (λ (h : ℕ → PageOwner). h q) f.pages ∙ c.3 ∙ ap (λ n. Cleared n c.1 c.2) (who ∙ sym (ap (λ v. v.who) u.2))))
+          (c.1, c.2, ap (λ (h : ℕ → PageOwner). h q) f.pages ∙ c.3 ∙ ap (λ n. Cleared n c.1 c.2) ((f.whose c.0 c.1 c.2 (ap o.page (sym (eqb_true q (suc p) b.0)) ∙ c.3)) ∙ sym (ap (λ v. v.who) u.2))))
           (out_cases g T a (t.page_out q) (eqb q (suc p) && is_cleared (o.page q)) w e)
 
       slot_out : (q : ℕ) (w : Outing) → t2.page_out q ≡ Some w → put (slot_in m.slots) (suc p) None q ≡ None
@@ -76,9 +56,8 @@ module _ {limits : Limits} {m : Memory} {log : List Update} {o : Owners} {knows 
       together_after : (r n : ℕ) (w : Record) → o'.row r ≡ Linked → m.rows r ≡ Some w → next_row w ≡ Some n → (t2.home n ≡ t2.home r) × (t2.row_out n ≡ t2.row_out r)
       together_after r n w l e i =
           let was = f.back r l in
-          let ln : o.row n ≡ Linked = subst (λ v. IfSome v (λ j. o.row j ≡ Linked)) i (next_linked o (shared m) g.closed r w was e) in
           let c = T.together r n w was e i in
-          (c.0, rw (ln, was, c.0, c.1) refl)
+          (c.0, rw ((subst (λ v. IfSome v (λ j. o.row j ≡ Linked)) i (next_linked o (shared m) g.closed r w was e)), was, c.0, c.1) refl)
 
       pub emptying_turn : Turn T (linked g T a) a m2 o' k' t2
       emptying_turn = record {
@@ -126,14 +105,13 @@ module _ {limits : Limits} {m : Memory} {log : List Update} {o : Owners} {knows 
 
     -- an own page that was ready is empty again
     pub undone_timed : (o' : Owners) (f : Emptying o') → (l : o.page (suc p) ≡ Keeps a) (r : Option Reply) → Timed limits m2 o' (put knows a (finished (set_page (suc p) Empty (knows a)) r)) (suc now) t2
-    undone_timed o' f own r = emptied_timed o' f k' refl refl refl refl refl refl refl refl refl
+    undone_timed o' f own r =
+        let k' : Knowledge = finished (set_page (suc p) Empty (knows a)) r in
+        emptied_timed o' f k' refl refl refl refl refl refl refl refl refl
         (λ q. by_test q (suc p) (λ z. cond z Empty ((knows a).own.pages q) ≡ Gone → out_after (t.page_out q) (z && is_cleared (o.page q)) (out_now g T a) ≡ None) (λ e i. absurd (cc)) (λ ne i. rw (T.gone_pages a q i) refl))
         (λ n. limbo_row T (linked g T a) a m2 o' k' t2 n a)
         (λ n. limbo_pid T (linked g T a) a m2 o' k' t2 n a)
         (λ q j. by_test q (suc p) (λ z. cond z Empty ((knows a).own.pages q) ≡ Ready j → (knows a).own.pages q ≡ Ready j) (λ e i. absurd (cc)) (λ ne i. i))
-      where
-        k' : Knowledge
-        k' = finished (set_page (suc p) Empty (knows a)) r
 
     -- a page whose term the actor took out is out of the tree, with its chain
     pub cleared_timed : (o' : Owners) (f : Emptying o') → (own : (knows a).own.pages (suc p) ≡ Gone) (r : Option Reply)
@@ -182,11 +160,6 @@ module _ {limits : Limits} {m : Memory} {log : List Update} {o : Owners} {knows 
       pub spare : (r b : ℕ) → o.row r ≡ Spare b → (o'.row r ≡ Spare b) ⊎ (o'.row r ≡ Linked)
       pub cleared : (q b l : ℕ) (s : Key) → o.page q ≡ Cleared b l s → o'.page q ≡ Cleared b l s
 
-    own_base : (v : OwnRow) → IsOwnBase v → IsOwn v
-    own_base Foreign h = absurd h
-    own_base Taken h = tt
-    own_base (Written w) h = tt
-
     module _ (o' : Owners) (f : Rooting o') (r : Option Reply) where
       own : IsOwn ((knows a).own.rows f.base)
       own = own_base ((knows a).own.rows f.base) (T.ready a y f.base f.ready)
@@ -201,7 +174,7 @@ module _ {limits : Limits} {m : Memory} {log : List Update} {o : Owners} {knows 
       slots_rooted q z l s h e = ⊎_elim
           (λ (old : Reached 0 l s (o.page q)). let b = T.slots q z l s old e in (rw (slot_linked g T a q z l s old e) b.0, b.1))
           (λ (i : q ≡ y). let same : f.base ≡ z = same_Some f.base z (sym held ∙ ap (slot_in m.slots) (sym i) ∙ e) in
-          subst (λ j. (t3.home j ≡ q) × (t3.row_out j ≡ None)) same (rw (own_spare g T a a f.base own) (sym i), T.own_rows a f.base own))
+          subst (λ j. (t3.home j ≡ q) × (t3.row_out j ≡ None)) same (rw (spare_of g T a a f.base own) (sym i), T.own_rows a f.base own))
           (f.reached q l s h)
 
       together_rooted : (j n : ℕ) (w : Record) → o'.row j ≡ Linked → m.rows j ≡ Some w → next_row w ≡ Some n → (t3.home n ≡ t3.home j) × (t3.row_out n ≡ t3.row_out j)

@@ -1,37 +1,18 @@
 -- An exchange of a page's slot to a row: what it takes out of the tree, and what actors hold afterwards.
-use Rattle.std.proofs.Common.{◌≡◌, ◌≢◌, ◌⊎◌, inl, inr, ℕ, zero, suc, List, Option, Some, None, Bool, true, false, cond, eqb, refl, sym, ap, ◌∙◌, subst, ⊎_elim, arith}
-use Rattle.std.specs.Prelude.{IfSome, ◌&&◌, ◌||◌}
-use Rattle.std.proofs.Math.Bool.{and-false}
-use Rattle.std.proofs.lemmas.Option.{same_Some}
-use Rattle.bw_model.specs.declared.limits.Limits.{Limits}
-use Rattle.bw_model.specs.declared.step.Step.TheVariants.{Exchange}
+use Rattle.tree_law.proofs.Words.{false, ◌⊎◌, ap, refl, cond, Option, suc, None, List, true, inl, ◌≢◌, inr, subst, sym, ℕ, ◌≡◌, Bool, ◌∙◌, arith, Some, eqb, ⊎_elim, and-false, same_Some, IfSome, ◌||◌}
+use Rattle.tree_law.proofs.Words.{◌&&◌, Update, Limits, Exchange, Memory, replaced_at, next_row, Record, Base, IsOwn, Knowledge, is_on_walk, taken_out, next_seen, Key, IsHomed, Linked, Owners}
+use Rattle.tree_law.proofs.Words.{Reached, Spare, Owner, SeenFits, PageOwner, Cleared, put, shared, slot_in, Times, Timed, times_after, LimboFits, Outing, out_after, is_linked, is_cleared, is_base}
+use Rattle.tree_law.proofs.Words.{split_page, IsTree}
 use Rattle.bw_model.specs.declared.step.Answer.TheVariants as answer
-use Rattle.bw_model.specs.Log.{Update}
-use Rattle.deltas.specs.declared.record.Record.{Record}
-use Rattle.deltas.specs.declared.record.Record.TheVariants.{Base, Put, Delete, Split, Term, Hold, Remove, Merge, Unterm}
-use Rattle.deltas.specs.Memory.{Memory, replaced_at}
-use Rattle.deltas.specs.Records.{next_row}
-use Rattle.chain_search.specs.Discipline.{IsOwn}
-use Rattle.chain_search.specs.Knowledge.{OwnRow, Foreign, Taken, Written, Unstamped, Knowledge, is_on_walk, next_seen, taken_out}
-use Rattle.tree_law.specs.Keys.{Key}
-use Rattle.tree_law.specs.Next.{IsHomed}
-use Rattle.tree_law.specs.Owners.{Owner, Free, Spare, Linked, Owners, Reached, OwnFits, SeenFits}
-use Rattle.tree_law.specs.Phase.{PageOwner, Cleared}
-use Rattle.tree_law.specs.Put.{put}
-use Rattle.tree_law.specs.Shared.{slot_in, shared}
-use Rattle.tree_law.specs.Tree.{IsTree}
-use Rattle.tree_law.specs.Times.{Outing, Times, LimboFits, Timed, is_linked, is_cleared, is_base, split_page, out_after, times_after}
 use Rattle.tree_law.proofs.links.Keeping.{slot_of}
-use Rattle.tree_law.proofs.shape.Puts.{by_test, eqb_same, eqb_apart, put_other}
-use Rattle.tree_law.proofs.shape.Rows.{next_linked}
+use Rattle.tree_law.proofs.shape.{by_test, eqb_same, eqb_apart, put_other, decided, next_linked, own_spare}
 use Rattle.tree_law.proofs.links.Stepping.{slot_put}
 use Rattle.tree_law.proofs.epochs.Timing.{IsLater, Turn, limbo_row}
 use Rattle.tree_law.proofs.epochs.Timely.{linked}
 
 pub tested_linked : (v : Owner) → is_linked v ≡ true → v ≡ Linked
-tested_linked Free e = absurd (cc)
-tested_linked (Spare b) e = absurd (cc)
 tested_linked Linked e = refl
+tested_linked v e = absurd (cc)
 
 pub tested_cleared : (w : PageOwner) → is_cleared w ≡ true → (b l : ℕ) × (s : Key) × (w ≡ Cleared b l s)
 tested_cleared (Cleared b l s) e = (b, l, s, refl)
@@ -39,29 +20,20 @@ tested_cleared _ e = absurd (cc)
 
 pub both_true : (a b : Bool) → (a && b) ≡ true → (a ≡ true) × (b ≡ true)
 both_true true true e = (refl, refl)
-both_true true false e = absurd (cc)
-both_true false b e = absurd (cc)
+both_true a b e = absurd (cc)
 
 -- a record over another is no base
 over_no_base : (w : Record) (n : ℕ) → next_row w ≡ Some n → is_base (Some w) ≡ false
 over_no_base (Base page) n e = absurd (cc)
-over_no_base (Put r) n e = refl
-over_no_base (Delete r) n e = refl
-over_no_base (Split r) n e = refl
-over_no_base (Term r) n e = refl
-over_no_base (Hold r) n e = refl
-over_no_base (Remove r) n e = refl
-over_no_base (Merge r) n e = refl
-over_no_base (Unterm r) n e = refl
+over_no_base w n e = refl
 
 module _ {limits : Limits} {m : Memory} {log : List Update} {o : Owners} {knows : ℕ → Knowledge} {point : ℕ → Option (List Update)} {logs : ℕ → List (List Update)} {now : ℕ} {t : Times} (g : IsTree (shared m) log o knows point logs) (T : Timed limits m o knows now t) (a : ℕ) where
   abbrev pub out_now : Outing
   out_now = record { at = now; epoch = m.epoch; who = a }
 
   pub later_out : (out : Option Outing) (b : Bool) → IsLater now m.epoch a out (out_after out b out_now)
-  later_out (Some w) b = inl refl
   later_out None true = inr (refl, refl)
-  later_out None false = inl refl
+  later_out out b = inl refl
 
   -- what is out afterwards was out, or is taken out now
   pub out_cases : (out : Option Outing) (b : Bool) (w : Outing) → out_after out b out_now ≡ Some w → (out ≡ Some w) ⊎ ((out ≡ None) × (b ≡ true) × (w ≡ out_now))
@@ -69,13 +41,8 @@ module _ {limits : Limits} {m : Memory} {log : List Update} {o : Owners} {knows 
   out_cases None true w e = inr (refl, refl, sym (same_Some out_now w e))
   out_cases None false w e = absurd (cc)
 
-  pub own_spare : (b q : ℕ) → IsOwn ((knows b).own.rows q) → o.row q ≡ Spare b
-  own_spare b q i = go ((knows b).own.rows q) (g.owns b q) i
-    where
-      go : (v : OwnRow) → OwnFits b (o.row q) (m.rows q) v → IsOwn v → o.row q ≡ Spare b
-      go Foreign h i = absurd i
-      go Taken h i = h
-      go (Written w) h i = h.0
+  pub spare_of : (b q : ℕ) → IsOwn ((knows b).own.rows q) → o.row q ≡ Spare b
+  spare_of b q = own_spare (m.rows q) ((knows b).own.rows q) (g.owns b q)
 
   -- the row in the slot of a page of the tree is linked
   pub slot_linked : (q z l : ℕ) (s : Key) → Reached 0 l s (o.page q) → slot_in m.slots q ≡ Some z → o.row z ≡ Linked
@@ -86,8 +53,6 @@ module _ {limits : Limits} {m : Memory} {log : List Update} {o : Owners} {knows 
 
   -- the rows of a chain as far as it was read are linked, and where its first one is
   pub on_walk : (h n : ℕ) (start : Option ℕ) (r : ℕ) → IfSome start (λ s. (o.row s ≡ Linked) × (t.home s ≡ h) × (t.row_out s ≡ None)) → is_on_walk n (knows a).read.seen start r ≡ true → (o.row r ≡ Linked) × (t.home r ≡ h) × (t.row_out r ≡ None)
-  on_walk h zero start r f e = absurd (cc)
-  on_walk h (suc n) None r f e = absurd (cc)
   on_walk h (suc n) (Some s) r f e = by_test r s (λ z. (z || is_on_walk n (knows a).read.seen (next_seen ((knows a).read.seen s)) r) ≡ true → (o.row r ≡ Linked) × (t.home r ≡ h) × (t.row_out r ≡ None))
       (λ i v. subst (λ j. (o.row j ≡ Linked) × (t.home j ≡ h) × (t.row_out j ≡ None)) (sym i) f)
       (λ ne v. on_walk h n (next_seen ((knows a).read.seen s)) r (under ((knows a).read.seen s) ((g.sound a).seen_fits s)) v) e
@@ -99,6 +64,7 @@ module _ {limits : Limits} {m : Memory} {log : List Update} {o : Owners} {knows 
       under : (v : Option Record) → SeenFits (o.row s) (m.rows s) v → IfSome (next_seen v) (λ j. (o.row j ≡ Linked) × (t.home j ≡ h) × (t.row_out j ≡ None))
       under None i = tt
       under (Some w) i = at w i.1 (next_row w) refl (next_linked o (shared m) g.closed s w i.0 i.1)
+  on_walk h n start r f e = absurd (cc)
 
   -- The slot of page p + 1 goes from x to y + 1.
   module _ (p x y : ℕ) where
@@ -123,17 +89,17 @@ module _ {limits : Limits} {m : Memory} {log : List Update} {o : Owners} {knows 
     home_linked r l = rw l refl
 
     pub in_own : (b r : ℕ) → IsOwn ((knows b).own.rows r) → t1.row_out r ≡ None
-    in_own b r i = rw (T.own_rows b r i, own_spare b r i, and-false (is_base (m.rows (suc y)))) refl
+    in_own b r i = rw (T.own_rows b r i, spare_of b r i, and-false (is_base (m.rows (suc y)))) refl
 
     in_beside : (r : ℕ) → t.row_out r ≡ None → t.home r ≢ suc p → t1.row_out r ≡ None
     in_beside r e ne = rw (e, eqb_apart (t.home r) (suc p) ne, and-false (is_linked (o.row r)), and-false (is_base (m.rows (suc y)))) refl
 
     module _ (o' : Owners) (k' : Knowledge) (inside : k'.inside ≡ (knows a).inside) (f : Filling o') where
       home_new : t1.home (suc y) ≡ suc p
-      home_new = rw (own_spare a (suc y) f.own, eqb_same (suc y)) refl
+      home_new = rw (spare_of a (suc y) f.own, eqb_same (suc y)) refl
 
       home_split : (z : ℕ) → IsOwn ((knows a).own.rows z) → z ≢ suc y → t1.home z ≡ split_page (m.rows (suc y))
-      home_split z i ne = rw (own_spare a z i, eqb_apart z (suc y) ne) refl
+      home_split z i ne = rw (spare_of a z i, eqb_apart z (suc y) ne) refl
 
       slots_after : (q z l : ℕ) (s : Key) → Reached 0 l s (o'.page q) → put (slot_in m.slots) (suc p) (Some (suc y)) q ≡ Some z → (t1.home z ≡ q) × (t1.row_out z ≡ None)
       slots_after q z l s r = by_test q (suc p) (λ v. cond v (Some (suc y)) (slot_in m.slots q) ≡ Some z → (t1.home z ≡ q) × (t1.row_out z ≡ None))
@@ -144,14 +110,12 @@ module _ {limits : Limits} {m : Memory} {log : List Update} {o : Owners} {knows 
           (f.reached q l s r))
 
       together_after : (r n : ℕ) (w : Record) → o'.row r ≡ Linked → m.rows r ≡ Some w → next_row w ≡ Some n → (t1.home n ≡ t1.home r) × (t1.row_out n ≡ t1.row_out r)
-      together_after r n w l e i = ⊎_elim old new (f.homed r l)
+      together_after r n w l e i =
+          let old : o.row r ≡ Linked → (t1.home n ≡ t1.home r) × (t1.row_out n ≡ t1.row_out r) = λ was.
+          let c = T.together r n w was e i in
+          rw ((subst (λ v. IfSome v (λ j. o.row j ≡ Linked)) i (next_linked o (shared m) g.closed r w was e)), was, c.0, c.1) (refl, refl) in
+          ⊎_elim old new (f.homed r l)
         where
-          old : o.row r ≡ Linked → (t1.home n ≡ t1.home r) × (t1.row_out n ≡ t1.row_out r)
-          old was =
-              let ln : o.row n ≡ Linked = subst (λ v. IfSome v (λ j. o.row j ≡ Linked)) i (next_linked o (shared m) g.closed r w was e) in
-              let c = T.together r n w was e i in
-              rw (ln, was, c.0, c.1) (refl, refl)
-
           new : IsHomed (shared m) (Exchange (suc p) x (suc y)) (answer.Whether true) r → (t1.home n ≡ t1.home r) × (t1.row_out n ≡ t1.row_out r)
           new (inl h) =
               let at : m.rows (suc y) ≡ Some w = ap m.rows (sym h.1) ∙ e in
@@ -184,8 +148,7 @@ module _ {limits : Limits} {m : Memory} {log : List Update} {o : Owners} {knows 
 
       -- the rows of the chain that a base is linked in the place of are in the actor's limbo
       pub base_limbo : is_base (m.rows (suc y)) ≡ true → (h : (o.row x ≡ Linked) × (t.home x ≡ suc p) × (t.row_out x ≡ None)) → (r : ℕ) → LimboFits a (λ c. (put knows a k' c).inside) t1.entered (t1.row_out r) (taken_out (knows a).read.seen x (knows a).limbo.rows r)
-      base_limbo is h r = go (is_on_walk 13 (knows a).read.seen (Some x) r) refl
-        where
-          go : (z : Bool) → is_on_walk 13 (knows a).read.seen (Some x) r ≡ z → LimboFits a (λ c. (put knows a k' c).inside) t1.entered (t1.row_out r) (cond z Unstamped ((knows a).limbo.rows r))
-          go true e = let w = on_walk (suc p) 13 (Some x) r h e in (out_now, rw (w.2, is, w.0, w.1, eqb_same (suc p)) refl, refl)
-          go false e = limbo_row T (linked g T a) a m1 o' k' t1 filling_turn a r
+      base_limbo is h r = elim (decided (is_on_walk 13 (knows a).read.seen (Some x) r)) [
+        | inl e ↦ let w = on_walk (suc p) 13 (Some x) r h e in rw e (out_now, rw (w.2, is, w.0, w.1, eqb_same (suc p)) refl, refl)
+        | inr e ↦ rw e (limbo_row T (linked g T a) a m1 o' k' t1 filling_turn a r)
+      ]

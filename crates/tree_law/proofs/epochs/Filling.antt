@@ -1,21 +1,7 @@
 -- After its exchange of a page's slot to a row won: what the actor itself holds.
-use Rattle.std.proofs.Common.{◌≡◌, ℕ, suc, List, Option, Some, None, true, cond, refl, sym, ap, ◌∙◌, subst}
-use Rattle.std.proofs.lemmas.Option.{same_Some}
-use Rattle.bw_model.specs.declared.command.Reply.{Reply}
-use Rattle.bw_model.specs.declared.limits.Limits.{Limits}
-use Rattle.bw_model.specs.Log.{Update}
-use Rattle.deltas.specs.declared.record.Record.{Record}
-use Rattle.deltas.specs.declared.record.Record.TheVariants.{Base, Put, Delete, Split, Term, Hold, Remove, Merge, Unterm}
-use Rattle.deltas.specs.declared.record.Split.{Split as SplitOf}
-use Rattle.deltas.specs.declared.record.Unterm.{Unterm as UntermOf}
-use Rattle.deltas.specs.Memory.{Memory}
-use Rattle.chain_search.specs.Discipline.{IsOwn, IsOwnBase, IsUnset}
-use Rattle.chain_search.specs.Knowledge.{OwnRow, Foreign, Written, Other, Empty, Ready, Gone, LimboMark, Knowledge, linked_over, split_off, finished, handed_over, handed_page, rebuilt, set_page}
-use Rattle.tree_law.specs.Owners.{Linked, Owners}
-use Rattle.tree_law.specs.Put.{put}
-use Rattle.tree_law.specs.Shared.{shared}
-use Rattle.tree_law.specs.Tree.{IsTree}
-use Rattle.tree_law.specs.Times.{Times, LimboFits, Timed, is_base}
+use Rattle.tree_law.proofs.Words.{ap, refl, cond, Option, suc, None, List, true, subst, sym, ℕ, ◌≡◌, ◌∙◌, Some, same_Some, Update, Reply, Limits, Memory, Record, Base, Split, Put, Delete, Unterm}
+use Rattle.tree_law.proofs.Words.{SplitOf, UntermOf, IsOwn, IsOwnBase, IsUnset, Knowledge, finished, Ready, Foreign, Empty, Other, Gone, Written, OwnRow, linked_over, handed_page, LimboMark}
+use Rattle.tree_law.proofs.Words.{handed_over, set_page, rebuilt, Linked, Owners, put, shared, Times, Timed, LimboFits, is_base, IsTree}
 use Rattle.tree_law.proofs.shape.Puts.{by_test, put_other}
 use Rattle.tree_law.proofs.epochs.Timing.{Turn, limbo_row, limbo_pid, held_later, announced_still, put_timed}
 use Rattle.tree_law.proofs.epochs.Timely.{linked}
@@ -81,30 +67,25 @@ module _ {limits : Limits} {m : Memory} {log : List Update} {o : Owners} {knows 
         → Timed limits (m1 g T a p x y) o' (put knows a (finished (linked_over (Written w) x (suc y) (knows a)) r)) (suc now) (t1 g T a p x y)
     linked_timed (Put w) is child ready = handed (Some (Some x)) linked_old
     linked_timed (Delete w) is child ready = handed (Some (Some x)) linked_old
-    linked_timed (Term w) is child ready = handed (knows a).asked.linked linked_before
-    linked_timed (Hold w) is child ready = handed (knows a).asked.linked linked_before
-    linked_timed (Remove w) is child ready = handed (knows a).asked.linked linked_before
-    linked_timed (Merge w) is child ready = handed (knows a).asked.linked linked_before
-    linked_timed (Base w) is child ready = filled_timed k' refl refl refl refl refl refl refl refl
+    linked_timed (Base w) is child ready = filled_timed (finished (rebuilt x (suc y) (knows a)) r) refl refl refl refl refl refl refl refl
         linked_before (own_less (knows a).own.rows (suc y)) (T.gone_pages a)
-        (λ n. base_limbo g T a p x y o' k' refl f (ap is_base is) old_in)
+        (λ n. base_limbo g T a p x y o' (finished (rebuilt x (suc y) (knows a)) r) refl f (ap is_base is) old_in)
         still_ready (T.apart a)
-      where
-        k' : Knowledge
-        k' = finished (rebuilt x (suc y) (knows a)) r
-    linked_timed (Unterm w) is child ready = filled_timed k' refl refl refl refl refl refl refl refl
+    linked_timed (Unterm w) is child ready = filled_timed (finished (handed_page w.child Gone (suc y) (knows a)) r) refl refl refl refl refl refl refl refl
         linked_before (own_less (knows a).own.rows (suc y))
         (λ q. by_test q w.child (λ z. cond z Gone ((knows a).own.pages q) ≡ Gone → t.page_out q ≡ None) (λ e i. ap t.page_out e ∙ child w refl) (λ ne. T.gone_pages a q))
-        (same_limbo k' refl)
+        (same_limbo (finished (handed_page w.child Gone (suc y) (knows a)) r) refl)
         (λ q j e. still_ready q j (was q j e))
         (λ q s j e i. T.apart a q s j (was q j e) (was s j i))
       where
-        k' : Knowledge
-        k' = finished (handed_page w.child Gone (suc y) (knows a)) r
-
         was : (q j : ℕ) → put (knows a).own.pages w.child Gone q ≡ Ready j → (knows a).own.pages q ≡ Ready j
         was q j = by_test q w.child (λ z. cond z Gone ((knows a).own.pages q) ≡ Ready j → (knows a).own.pages q ≡ Ready j) (λ e i. absurd (cc)) (λ ne i. i)
-    linked_timed (Split w) is child ready = subst (λ (k : Knowledge). Timed limits (m1 g T a p x y) o' (put knows a (finished k r)) (suc now) (t1 g T a p x y)) (sym learned)
+    linked_timed (Split w) is child ready =
+        let was : (q j : ℕ) → put (knows a).own.pages w.page Other q ≡ Ready j → (knows a).own.pages q ≡ Ready j =
+        λ q j. by_test q w.page (λ z. cond z Other ((knows a).own.pages q) ≡ Ready j → (knows a).own.pages q ≡ Ready j) (λ e i. absurd (cc)) (λ ne i. i) in
+        let b : (base : ℕ) × ((knows a).own.pages w.page ≡ Ready base) = ready w refl in
+        let k' : Knowledge = finished (handed_page w.page Other (suc y) (handed_over b.0 (knows a))) r in
+        subst (λ (k : Knowledge). Timed limits (m1 g T a p x y) o' (put knows a (finished k r)) (suc now) (t1 g T a p x y)) (sym (rw b.1 refl))
         (filled_timed k' refl refl refl refl refl refl refl refl
         linked_before (λ j i. own_less (knows a).own.rows b.0 j (own_less (put (knows a).own.rows b.0 Foreign) (suc y) j i))
         (λ q. by_test q w.page (λ z. cond z Other ((knows a).own.pages q) ≡ Gone → t.page_out q ≡ None) (λ e i. absurd (cc)) (λ ne. T.gone_pages a q))
@@ -112,32 +93,17 @@ module _ {limits : Limits} {m : Memory} {log : List Update} {o : Owners} {knows 
         (λ q j. by_test q w.page (λ z. cond z Other ((knows a).own.pages q) ≡ Ready j → IsOwnBase (put (put (knows a).own.rows b.0 Foreign) (suc y) Foreign j)) (λ e i. absurd (cc))
         (λ ne e. subst IsOwnBase (sym (put_other (put (knows a).own.rows b.0 Foreign) (suc y) Foreign j (λ i. unset q (e ∙ ap Ready i)) ∙ put_other (knows a).own.rows b.0 Foreign j (λ i. ne (T.apart a q w.page j e (b.1 ∙ ap Ready (sym i)))))) (T.ready a q j e)))
         (λ q s j e i. T.apart a q s j (was q j e) (was s j i)))
-      where
-        b : (base : ℕ) × ((knows a).own.pages w.page ≡ Ready base)
-        b = ready w refl
-
-        k' : Knowledge
-        k' = finished (handed_page w.page Other (suc y) (handed_over b.0 (knows a))) r
-
-        learned : split_off ((knows a).own.pages w.page) w.page (suc y) (knows a) ≡ handed_page w.page Other (suc y) (handed_over b.0 (knows a))
-        learned = rw b.1 refl
-
-        was : (q j : ℕ) → put (knows a).own.pages w.page Other q ≡ Ready j → (knows a).own.pages q ≡ Ready j
-        was q j = by_test q w.page (λ z. cond z Other ((knows a).own.pages q) ≡ Ready j → (knows a).own.pages q ≡ Ready j) (λ e i. absurd (cc)) (λ ne i. i)
+    linked_timed w is child ready = handed (knows a).asked.linked linked_before
 
   -- an own page is ready with an own base
   pub ready_timed : (knows a).own.pages (suc p) ≡ Empty → IsOwnBase ((knows a).own.rows (suc y)) → IsUnset (knows a) (suc y) → (r : Option Reply) → Timed limits (m1 g T a p x y) o' (put knows a (finished (set_page (suc p) (Ready (suc y)) (knows a)) r)) (suc now) (t1 g T a p x y)
-  ready_timed empty base unset r = filled_timed k' refl refl refl refl refl refl refl refl
+  ready_timed empty base unset r =
+      let same_row : (i j : ℕ) → Ready i ≡ Ready j → i ≡ j = λ i j e. let f : i ≡ j = cc in f in
+      filled_timed (finished (set_page (suc p) (Ready (suc y)) (knows a)) r) refl refl refl refl refl refl refl refl
       (T.holds a).linked_learnt (λ j i. i)
       (λ q. by_test q (suc p) (λ z. cond z (Ready (suc y)) ((knows a).own.pages q) ≡ Gone → t.page_out q ≡ None) (λ e i. absurd (cc)) (λ ne. T.gone_pages a q))
-      (same_limbo k' refl)
+      (same_limbo (finished (set_page (suc p) (Ready (suc y)) (knows a)) r) refl)
       (λ q j. by_test q (suc p) (λ z. cond z (Ready (suc y)) ((knows a).own.pages q) ≡ Ready j → IsOwnBase ((knows a).own.rows j)) (λ e i. subst (λ n. IsOwnBase ((knows a).own.rows n)) (same_row (suc y) j i) base) (λ ne. T.ready a q j))
       (λ q s j. by_test q (suc p) (λ z. cond z (Ready (suc y)) ((knows a).own.pages q) ≡ Ready j → put (knows a).own.pages (suc p) (Ready (suc y)) s ≡ Ready j → q ≡ s)
       (λ e i. by_test s (suc p) (λ z. cond z (Ready (suc y)) ((knows a).own.pages s) ≡ Ready j → q ≡ s) (λ d v. e ∙ sym d) (λ ne v. absurd (unset s (v ∙ ap Ready (sym (same_row (suc y) j i))))))
       (λ ne i. by_test s (suc p) (λ z. cond z (Ready (suc y)) ((knows a).own.pages s) ≡ Ready j → q ≡ s) (λ d v. absurd (unset q (i ∙ ap Ready (sym (same_row (suc y) j v))))) (λ nd v. T.apart a q s j i v)))
-    where
-      k' : Knowledge
-      k' = finished (set_page (suc p) (Ready (suc y)) (knows a)) r
-
-      same_row : (i j : ℕ) → Ready i ≡ Ready j → i ≡ j
-      same_row i j e = let f : i ≡ j = cc in f

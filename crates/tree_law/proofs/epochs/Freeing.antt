@@ -1,33 +1,11 @@
 -- A reuse frees what nobody can hold: the invariant and what actors hold stay.
-use Rattle.std.proofs.Common.{◌≡◌, ◌≢◌, ◌⊎◌, inl, inr, ℕ, zero, suc, ◌<◌, ◌≤◌, List, ◌∷◌, Option, Some, None, Bool, true, false, cond, ltb, refl, sym, ap, ◌∙◌, subst, ⊎_elim, arith}
-use Rattle.std.specs.Prelude.{◌||◌}
-use Rattle.std.proofs.lemmas.Bool.{ltb-true, ltb-false, le-ltb}
-use Rattle.std.proofs.lemmas.Option.{same_Some}
-use Rattle.bw_model.specs.declared.command.Reply.{Reply}
-use Rattle.bw_model.specs.declared.limits.Limits.{Limits}
-use Rattle.bw_model.specs.declared.step.Step.TheVariants.{ReusePids, ReuseRows}
-use Rattle.bw_model.specs.declared.step.Answer.{Answer}
-use Rattle.bw_model.specs.Log.{Update}
-use Rattle.base_page.specs.declared.item.Content.{Content}
-use Rattle.deltas.specs.declared.record.Record.{Record}
-use Rattle.deltas.specs.Memory.{Memory}
-use Rattle.deltas.specs.Records.{next_row}
-use Rattle.chain_search.specs.Chains.{content_in, level_in, right_in, is_removed}
-use Rattle.chain_search.specs.Discipline.{IsOwn, IsOwnBase, IsPassed}
-use Rattle.chain_search.specs.Knowledge.{Ready, Gone, LimboMark, Absent, Unstamped, Stamped, Knowledge, learn, finished}
-use Rattle.bw_model.specs.Words.{is_among}
-use Rattle.chain_search.specs.Steps.{memory_after}
-use Rattle.tree_law.specs.Keys.{Key, Covers}
-use Rattle.tree_law.specs.Next.{After}
-use Rattle.tree_law.specs.Owners.{IsChain, Owner, Free, Spare, Linked, Owners, Reached, IsCleared}
-use Rattle.tree_law.specs.Phase.{PageOwner, Nobody, child_of}
-use Rattle.tree_law.specs.Put.{put}
-use Rattle.tree_law.specs.Shared.{slot_in, shared}
-use Rattle.tree_law.specs.Tree.{IsTree}
-use Rattle.tree_law.specs.Times.{Outing, Times, IsSince, NamesSince, HeldHead, Holds, LimboFits, Timed}
-use Rattle.tree_law.proofs.shape.Chains.{chain_unique}
+use Rattle.tree_law.proofs.Words.{false, ◌⊎◌, ap, refl, cond, ltb, Option, suc, None, List, true, inl, ◌≢◌, ◌≤◌, inr, ◌∷◌, subst, sym, ℕ, ◌≡◌, Bool, zero, ◌∙◌, ◌<◌, arith, Some, ⊎_elim, ltb-true}
+use Rattle.tree_law.proofs.Words.{same_Some, ◌||◌, Update, is_among, Reply, Limits, Answer, ReuseRows, ReusePids, ContentOf, Memory, next_row, Record, content_in, right_in, is_removed, level_in}
+use Rattle.tree_law.proofs.Words.{IsOwn, IsOwnBase, IsPassed, Knowledge, finished, Ready, learn, Gone, LimboMark, Absent, memory_after, Key, Covers, After, Free, Linked, Owners, Reached, Spare, Owner}
+use Rattle.tree_law.proofs.Words.{IsChain, IsCleared, Nobody, PageOwner, child_of, put, shared, slot_in, Times, Timed, LimboFits, Outing, NamesSince, IsSince, HeldHead, IsTree, HoldsBy}
+use Rattle.std.proofs.lemmas.Bool.{ltb-false, le-ltb}
+use Rattle.tree_law.proofs.shape.{chain_unique, by_test, decided, false_if}
 use Rattle.tree_law.proofs.links.Keeping.{quiet, mine}
-use Rattle.tree_law.proofs.shape.Puts.{by_test}
 use Rattle.tree_law.proofs.epochs.Reusing.{Learnt, AreLoose, AreSame, lets_rows, frees_pages}
 use Rattle.tree_law.proofs.epochs.Timing.{holds_later, limbo_later}
 
@@ -37,29 +15,19 @@ pub record Oldest (n : ℕ) (inside : ℕ → Bool) (entered : ℕ → ℕ) (now
   pub first : (b : ℕ) → b < n → inside b ≡ true → at ≤ entered b
   pub before : (u : ℕ) → u < now → ((b : ℕ) → b < n → inside b ≡ true → u < entered b) → u < at
 
-below_last : (b n : ℕ) → b < suc n → b ≢ n → b < n
-below_last b n lt ne = go (ltb b n) refl
-  where
-    go : (z : Bool) → ltb b n ≡ z → b < n
-    go true e = ltb-true b n e
-    go false e = absurd (ne (let h = ltb-false b n e in omega arith))
-
 -- with one actor more
 older : (n : ℕ) (inside : ℕ → Bool) (entered : ℕ → ℕ) (now : ℕ) → Oldest n inside entered now → Oldest (suc n) inside entered now
 older n inside entered now rest = go (inside n) (ltb (entered n) rest.at) refl refl
   where
     at_most : (x : ℕ) → x ≤ rest.at → (inside n ≡ true → x ≤ entered n) → (b : ℕ) → b < suc n → inside b ≡ true → x ≤ entered b
-    at_most x le f b lt i = by_test b n (λ z. x ≤ entered b) (λ e. subst (λ j. x ≤ entered j) (sym e) (f (subst (λ j. inside j ≡ true) e i))) (λ ne. let h = rest.first b (below_last b n lt ne) i in omega arith)
-
-    last : n < suc n
-    last = omega arith
+    at_most x le f b lt i = by_test b n (λ z. x ≤ entered b) (λ e. subst (λ j. x ≤ entered j) (sym e) (f (subst (λ j. inside j ≡ true) e i))) (λ ne. let h = rest.first b (omega arith) i in omega arith)
 
     wider : (b : ℕ) → b < n → b < suc n
     wider b l = omega arith
 
     go : (y z : Bool) → inside n ≡ y → ltb (entered n) rest.at ≡ z → Oldest (suc n) inside entered now
     go false z e i = record { at = rest.at; first = at_most rest.at (omega arith) (λ h. absurd (cc)); before = λ u lt f. rest.before u lt (λ b l. f b (wider b l)) }
-    go true true e i = let h = ltb-true (entered n) rest.at i in record { at = entered n; first = at_most (entered n) (omega arith) (λ h. omega arith); before = λ u lt f. f n last e }
+    go true true e i = let h = ltb-true (entered n) rest.at i in record { at = entered n; first = at_most (entered n) (omega arith) (λ h. omega arith); before = λ u lt f. f n (omega arith) e }
     go true false e i = let h = ltb-false (entered n) rest.at i in record { at = rest.at; first = at_most rest.at (omega arith) (λ j. h); before = λ u lt f. rest.before u lt (λ b l. f b (wider b l)) }
 
 pub oldest : (n : ℕ) (inside : ℕ → Bool) (entered : ℕ → ℕ) (now : ℕ) → Oldest n inside entered now
@@ -73,29 +41,17 @@ row_after first false Linked (Some w) = cond (ltb w.at first) (Spare w.who) Link
 row_after first false v out = v
 
 row_same : (first : ℕ) (z : Bool) (v : Owner) (out : Option Outing) → z ≡ false → ((w : Outing) → out ≡ Some w → first ≤ w.at) → row_after first z v out ≡ v
-row_same first z Free out e f = rw e refl
-row_same first z (Spare b) out e f = rw e refl
-row_same first z Linked None e f = rw e refl
 row_same first z Linked (Some w) e f = rw (e, le-ltb w.at first (f w refl)) refl
+row_same first z v out e f = rw e refl
 
 -- a row that is linked afterwards was, and is not older
 pub row_linked : (first : ℕ) (z : Bool) (v : Owner) (out : Option Outing) → row_after first z v out ≡ Linked → (z ≡ false) × (v ≡ Linked) × ((w : Outing) → out ≡ Some w → first ≤ w.at)
-row_linked first true v out e = absurd (cc)
-row_linked first false Free out e = absurd (cc)
-row_linked first false (Spare b) out e = absurd (cc)
 row_linked first false Linked None e = (refl, refl, λ w i. absurd (cc))
-row_linked first false Linked (Some w) e = (refl, refl, λ v i. subst (λ j. first ≤ j.at) (same_Some w v i) (go (ltb w.at first) refl e))
-  where
-    go : (z : Bool) → ltb w.at first ≡ z → cond z (Spare w.who) Linked ≡ Linked → first ≤ w.at
-    go true i j = absurd (cc)
-    go false i j = ltb-false w.at first i
+row_linked first false Linked (Some w) e = (refl, refl, λ v i. subst (λ j. first ≤ j.at) (same_Some w v i) (elim (decided (ltb w.at first)) [ inl t ↦ absurd (let f = rw t at e in cc) | inr f ↦ ltb-false w.at first f ]))
+row_linked first z v out e = absurd (cc)
 
 row_of : (first : ℕ) (v : Owner) (w : Outing) → (v ≡ Linked) ⊎ (v ≡ Spare w.who) → (row_after first false v (Some w) ≡ Linked) ⊎ (row_after first false v (Some w) ≡ Spare w.who)
-row_of first v w (inl e) = subst (λ j. (row_after first false j (Some w) ≡ Linked) ⊎ (row_after first false j (Some w) ≡ Spare w.who)) (sym e) (go (ltb w.at first))
-  where
-    go : (z : Bool) → (cond z (Spare w.who) Linked ≡ Linked) ⊎ (cond z (Spare w.who) Linked ≡ Spare w.who)
-    go true = inr refl
-    go false = inl refl
+row_of first v w (inl e) = subst (λ j. (row_after first false j (Some w) ≡ Linked) ⊎ (row_after first false j (Some w) ≡ Spare w.who)) (sym e) (elim (decided (ltb w.at first)) [ inl t ↦ inr (rw t refl) | inr f ↦ inl (rw f refl) ])
 row_of first v w (inr e) = inr (rw e refl)
 
 freed_out : (z : Bool) (out : Option Outing) (w : Outing) → cond z None out ≡ Some w → (z ≡ false) × (out ≡ Some w)
@@ -138,9 +94,6 @@ module _ {limits : Limits} {m : Memory} {log : List Update} {o : Owners} {knows 
   known b = let h = T.holds b in record { seen = h.seen_learnt; heads = λ p x e. (h.heads_since p x e).learnt_row; before = λ p f x e. (h.before_since p f x e).learnt_row; linked = h.linked_learnt }
 
   module _ (word bits : ℕ) where
-    among : ℕ → Bool
-    among r = is_among word bits r
-
     -- after the actor, which is outside, freed those among the word's bits and knows this
     module _ (k : Knowledge) (stays_outside : k.inside ≡ (knows a).inside) where
       same_inside : (b : ℕ) → (put knows a k b).inside ≡ true → (knows b).inside ≡ true
@@ -169,17 +122,12 @@ module _ {limits : Limits} {m : Memory} {log : List Update} {o : Owners} {knows 
 
         module _ (gone : (n : ℕ) → is_among word bits n ≡ true → Freed (outs n)) where
           apart : (b n : ℕ) → b ≢ a → (w : Outing) → outs n ≡ Some w → w.who ≡ b → is_among word bits n ≡ false
-          apart b n ne w e who = go (is_among word bits n) refl
-            where
-              go : (z : Bool) → is_among word bits n ≡ z → is_among word bits n ≡ false
-              go true i = absurd (let f = gone n i in ne (sym who ∙ ap (λ v. v.who) (same_Some w f.outing (sym e ∙ f.is)) ∙ f.who))
-              go false i = i
+          apart b n ne w e who = false_if (is_among word bits n) (λ i. let f = gone n i in ne (sym who ∙ ap (λ v. v.who) (same_Some w f.outing (sym e ∙ f.is)) ∙ f.who))
 
           -- what another actor has in its limbo is not freed
           others_limbo : (b n : ℕ) → b ≢ a → (l : LimboMark) → Fitted b n l → FitsNow b (left n) l
           others_limbo b n ne Absent h = tt
-          others_limbo b n ne Unstamped h = limbo_kept b n Unstamped (apart b n ne h.0 h.1 h.2) h
-          others_limbo b n ne (Stamped e p) h = limbo_kept b n (Stamped e p) (apart b n ne h.0 h.1 h.2) h
+          others_limbo b n ne l h = limbo_kept b n l (apart b n ne h.0 h.1 h.2) h
 
     module _ (may : (r : ℕ) → is_among word bits r ≡ true → IsPassed limits a ((knows a).limbo.rows r)) (r0 : Option Reply) (x : Answer Record) where
       abbrev pub first : Oldest limits.actors (λ c. (knows c).inside) t.entered now
@@ -206,17 +154,12 @@ module _ {limits : Limits} {m : Memory} {log : List Update} {o : Owners} {knows 
       freed_old : (r : ℕ) → is_among word bits r ≡ true → (w : Outing) → t.row_out r ≡ Some w → first.at ≤ w.at → ⊥
       freed_old r e w i le =
           let f = freed r e in
-          let same : f.outing ≡ w = same_Some f.outing w (sym f.is ∙ i) in
           let lt : f.outing.at < first.at = first.before f.outing.at (T.rows r f.outing f.is).1 (λ b l v. f.old b v) in
-          let eq = ap (λ v. v.at) same in
+          let eq = ap (λ v. v.at) (same_Some f.outing w (sym f.is ∙ i)) in
           omega arith
 
       pub not_among : (r : ℕ) → ((w : Outing) → t.row_out r ≡ Some w → first.at ≤ w.at) → is_among word bits r ≡ false
-      not_among r h = go (is_among word bits r) refl
-        where
-          go : (z : Bool) → is_among word bits r ≡ z → is_among word bits r ≡ false
-          go true e = absurd (let f = freed r e in freed_old r e f.outing f.is (h f.outing f.is))
-          go false e = e
+      not_among r h = false_if (is_among word bits r) (λ e. let f = freed r e in freed_old r e f.outing f.is (h f.outing f.is))
 
       -- a row that is not out, or not older, stays
       pub stays : (r : ℕ) → ((w : Outing) → t.row_out r ≡ Some w → first.at ≤ w.at) → row1 r ≡ o.row r
@@ -273,32 +216,31 @@ module _ {limits : Limits} {m : Memory} {log : List Update} {o : Owners} {knows 
       rows_past r w e = (T.rows r w e).1
 
       pub rows_timed : Timed limits m1 o1 (put knows a k1) (suc now) t1
-      rows_timed = record {
-        within = λ b i. T.within b (same_inside k1 refl b i);
-        holds = λ b. by_test b a (λ z. Holds m.rows t1.row_out t.page_out (t.entered b) (cond z k1 (knows b)).inside (cond z k1 (knows b)).read.seen (cond z k1 (knows b)).read.learnt (cond z k1 (knows b)).read.roots (cond z k1 (knows b)).read.heads (cond z k1 (knows b)).read.before (cond z k1 (knows b)).asked.linked)
-            (λ e. subst (λ j. Holds m.rows t1.row_out t.page_out (t.entered j) (knows a).inside (knows a).read.seen (knows a).read.learnt (knows a).read.roots (knows a).read.heads (knows a).read.before (knows a).asked.linked) (sym e) (holds a)) (λ ne. holds b);
-        announced = λ b i. let h = T.announced b (same_inside k1 refl b i) in record { some = h.some; old = h.old; past = (let p = h.past in omega arith); rows = λ r w e. h.rows r w (freed_out (is_among word bits r) (t.row_out r) w e).1; pages = h.pages };
-        epochs = λ b e. by_test b a (λ z. (cond z k1 (knows b)).limbo.epoch ≡ Some e → e ≤ m.epoch) (λ i. T.epochs a e) (λ ne. T.epochs b e);
-        slots = λ p q l s h e. let v = T.slots p q l s h e in (v.0, freed_none (is_among word bits q) (t.row_out q) v.1);
-        together = λ r n w l e i.
-            let h = row_linked first.at (is_among word bits r) (o.row r) (t.row_out r) l in
-            let c = T.together r n w h.1 e i in
-            (c.0, rw (h.0, not_among n (under r n w l e i)) c.1);
-        rows = λ r w e. let v = freed_out (is_among word bits r) (t.row_out r) w e in let u = T.rows r w v.1 in (rw (v.0, v.1) (row_of first.at (o.row r) w u.0), (let z = u.1 in let y : w.at < suc now = omega arith in y), u.2);
-        pages = λ p w e. let v = T.pages p w e in (v.0, v.1, (let z = v.2 in let y : w.at < suc now = omega arith in y), v.3);
-        own_rows = λ b r. by_test b a (λ z. IsOwn ((cond z k1 (knows b)).own.rows r) → t1.row_out r ≡ None) (λ i h. freed_none (is_among word bits r) (t.row_out r) (T.own_rows a r h)) (λ ne h. freed_none (is_among word bits r) (t.row_out r) (T.own_rows b r h));
-        gone_pages = λ b p. by_test b a (λ z. (cond z k1 (knows b)).own.pages p ≡ Gone → t.page_out p ≡ None) (λ i. T.gone_pages a p) (λ ne. T.gone_pages b p);
-        limbo_rows = λ b r. by_test b a (λ z. LimboFits b (λ c. (put knows a k1 c).inside) t.entered (t1.row_out r) ((cond z k1 (knows b)).limbo.rows r)) (λ i. subst (λ j. LimboFits j (λ c. (put knows a k1 c).inside) t.entered (t1.row_out r) (cond (is_among word bits r) Absent ((knows a).limbo.rows r))) (sym i) (own_limbo k1 refl t.row_out rows_past r ((knows a).limbo.rows r) (is_among word bits r) refl (T.limbo_rows a r))) (λ ne. others_limbo k1 refl t.row_out rows_past freed b r ne ((knows b).limbo.rows r) (T.limbo_rows b r));
-        limbo_pids = λ b p. by_test b a (λ z. LimboFits b (λ c. (put knows a k1 c).inside) t.entered (t.page_out p) ((cond z k1 (knows b)).limbo.pids p)) (λ i. subst (λ j. LimboFits j (λ c. (put knows a k1 c).inside) t.entered (t.page_out p) ((knows a).limbo.pids p)) (sym i) (pids_still a p)) (λ ne. pids_still b p);
-        ready = λ b p r. by_test b a (λ z. (cond z k1 (knows b)).own.pages p ≡ Ready r → IsOwnBase ((cond z k1 (knows b)).own.rows r)) (λ i. T.ready a p r) (λ ne. T.ready b p r);
-        apart = λ b p q r. by_test b a (λ z. (cond z k1 (knows b)).own.pages p ≡ Ready r → (cond z k1 (knows b)).own.pages q ≡ Ready r → p ≡ q) (λ i. T.apart a p q r) (λ ne. T.apart b p q r);
-      }
-        where
-          holds : (b : ℕ) → Holds m.rows t1.row_out t.page_out (t.entered b) (knows b).inside (knows b).read.seen (knows b).read.learnt (knows b).read.roots (knows b).read.heads (knows b).read.before (knows b).asked.linked
-          holds b = holds_later m.rows m.rows t.row_out t1.row_out t.page_out t.page_out (t.entered b) (knows b).inside (knows b).read.seen (knows b).read.learnt (knows b).read.roots (knows b).read.heads (knows b).read.before (knows b).asked.linked (λ i r. freed_since (is_among word bits r) (t.row_out r) (t.entered b)) (λ i p h. h) (λ x c e h. h) (T.holds b)
-
-          pids_still : (b p : ℕ) → LimboFits b (λ c. (put knows a k1 c).inside) t.entered (t.page_out p) ((knows b).limbo.pids p)
-          pids_still b p = limbo_still k1 refl t.page_out (λ q w e. (T.pages q w e).2) b p ((knows b).limbo.pids p) (T.limbo_pids b p)
+      rows_timed =
+          let holds : (b : ℕ) → HoldsBy m.rows t1.row_out t.page_out (t.entered b) (knows b) =
+          λ b. holds_later m.rows m.rows t.row_out t1.row_out t.page_out t.page_out (t.entered b) (knows b).inside (knows b).read.seen (knows b).read.learnt (knows b).read.roots (knows b).read.heads (knows b).read.before (knows b).asked.linked (λ i r. freed_since (is_among word bits r) (t.row_out r) (t.entered b)) (λ i p h. h) (λ x c e h. h) (T.holds b) in
+          let pids_still : (b p : ℕ) → LimboFits b (λ c. (put knows a k1 c).inside) t.entered (t.page_out p) ((knows b).limbo.pids p) =
+          λ b p. limbo_still k1 refl t.page_out (λ q w e. (T.pages q w e).2) b p ((knows b).limbo.pids p) (T.limbo_pids b p) in
+          record {
+            within = λ b i. T.within b (same_inside k1 refl b i);
+            holds = λ b. by_test b a (λ z. HoldsBy m.rows t1.row_out t.page_out (t.entered b) (cond z k1 (knows b)))
+                (λ e. subst (λ j. HoldsBy m.rows t1.row_out t.page_out (t.entered j) (knows a)) (sym e) (holds a)) (λ ne. holds b);
+            announced = λ b i. let h = T.announced b (same_inside k1 refl b i) in record { some = h.some; old = h.old; past = (let p = h.past in omega arith); rows = λ r w e. h.rows r w (freed_out (is_among word bits r) (t.row_out r) w e).1; pages = h.pages };
+            epochs = λ b e. by_test b a (λ z. (cond z k1 (knows b)).limbo.epoch ≡ Some e → e ≤ m.epoch) (λ i. T.epochs a e) (λ ne. T.epochs b e);
+            slots = λ p q l s h e. let v = T.slots p q l s h e in (v.0, freed_none (is_among word bits q) (t.row_out q) v.1);
+            together = λ r n w l e i.
+                let h = row_linked first.at (is_among word bits r) (o.row r) (t.row_out r) l in
+                let c = T.together r n w h.1 e i in
+                (c.0, rw (h.0, not_among n (under r n w l e i)) c.1);
+            rows = λ r w e. let v = freed_out (is_among word bits r) (t.row_out r) w e in let u = T.rows r w v.1 in (rw (v.0, v.1) (row_of first.at (o.row r) w u.0), (let z = u.1 in let y : w.at < suc now = omega arith in y), u.2);
+            pages = λ p w e. let v = T.pages p w e in (v.0, v.1, (let z = v.2 in let y : w.at < suc now = omega arith in y), v.3);
+            own_rows = λ b r. by_test b a (λ z. IsOwn ((cond z k1 (knows b)).own.rows r) → t1.row_out r ≡ None) (λ i h. freed_none (is_among word bits r) (t.row_out r) (T.own_rows a r h)) (λ ne h. freed_none (is_among word bits r) (t.row_out r) (T.own_rows b r h));
+            gone_pages = λ b p. by_test b a (λ z. (cond z k1 (knows b)).own.pages p ≡ Gone → t.page_out p ≡ None) (λ i. T.gone_pages a p) (λ ne. T.gone_pages b p);
+            limbo_rows = λ b r. by_test b a (λ z. LimboFits b (λ c. (put knows a k1 c).inside) t.entered (t1.row_out r) ((cond z k1 (knows b)).limbo.rows r)) (λ i. subst (λ j. LimboFits j (λ c. (put knows a k1 c).inside) t.entered (t1.row_out r) (cond (is_among word bits r) Absent ((knows a).limbo.rows r))) (sym i) (own_limbo k1 refl t.row_out rows_past r ((knows a).limbo.rows r) (is_among word bits r) refl (T.limbo_rows a r))) (λ ne. others_limbo k1 refl t.row_out rows_past freed b r ne ((knows b).limbo.rows r) (T.limbo_rows b r));
+            limbo_pids = λ b p. by_test b a (λ z. LimboFits b (λ c. (put knows a k1 c).inside) t.entered (t.page_out p) ((cond z k1 (knows b)).limbo.pids p)) (λ i. subst (λ j. LimboFits j (λ c. (put knows a k1 c).inside) t.entered (t.page_out p) ((knows a).limbo.pids p)) (sym i) (pids_still a p)) (λ ne. pids_still b p);
+            ready = λ b p r. by_test b a (λ z. (cond z k1 (knows b)).own.pages p ≡ Ready r → IsOwnBase ((cond z k1 (knows b)).own.rows r)) (λ i. T.ready a p r) (λ ne. T.ready b p r);
+            apart = λ b p q r. by_test b a (λ z. (cond z k1 (knows b)).own.pages p ≡ Ready r → (cond z k1 (knows b)).own.pages q ≡ Ready r → p ≡ q) (λ i. T.apart a p q r) (λ ne. T.apart b p q r);
+          }
 
     module _ (may : (p : ℕ) → is_among word bits p ≡ true → IsPassed limits a ((knows a).limbo.pids p)) (r0 : Option Reply) (x : Answer Record) where
       abbrev pub page2 : ℕ → PageOwner
@@ -320,11 +262,7 @@ module _ {limits : Limits} {m : Memory} {log : List Update} {o : Owners} {knows 
       freed_page p e = freed_of (t.page_out p) ((knows a).limbo.pids p) (T.limbo_pids a p) (may p e)
 
       pub same_page : (p : ℕ) → (is_among word bits p ≡ true → ⊥) → page2 p ≡ o.page p
-      same_page p f = go (is_among word bits p) refl
-        where
-          go : (z : Bool) → is_among word bits p ≡ z → cond z Nobody (o.page p) ≡ o.page p
-          go true e = absurd (f e)
-          go false e = refl
+      same_page p f = elim (decided (is_among word bits p)) [ inl e ↦ absurd (f e) | inr e ↦ rw e refl ]
 
       page_in : (p : ℕ) → t.page_out p ≡ None → page2 p ≡ o.page p
       page_in p e = same_page p (λ i. let f = freed_page p i in absurd (let z = sym e ∙ f.is in cc))
@@ -335,34 +273,27 @@ module _ {limits : Limits} {m : Memory} {log : List Update} {o : Owners} {knows 
       head_inside : (b p x : ℕ) → HeldHead m.rows t.page_out (t.entered b) (knows b).read.learnt p x → (knows b).inside ≡ true
       head_inside b p x h = (T.holds b).learnt_inside x h.learnt_row
 
-      head_items : (b p x : ℕ) (h : HeldHead m.rows t.page_out (t.entered b) (knows b).read.learnt p x) (l : ℕ) (s : Key) (i : Content) (c : List Record) → IsChain m.rows c (Some x) → is_removed c ≡ false → level_in c ≡ suc l → Covers c s → content_in c s ≡ Some i → page2 (child_of i) ≡ o.page (child_of i)
+      head_items : (b p x : ℕ) (h : HeldHead m.rows t.page_out (t.entered b) (knows b).read.learnt p x) (l : ℕ) (s : Key) (i : ContentOf) (c : List Record) → IsChain m.rows c (Some x) → is_removed c ≡ false → level_in c ≡ suc l → Covers c s → content_in c s ≡ Some i → page2 (child_of i) ≡ o.page (child_of i)
       head_items b p x h l s i c is alive at v d =
           let same : h.chain ≡ c = chain_unique m.rows h.chain c (Some x) h.is_chain is in
-          let n = subst (λ (e : List Record). NamesSince t.page_out (t.entered b) e) same (h.names (ap is_removed same ∙ alive)) in
-          page_held b (child_of i) (head_inside b p x h) (n.items l s i at v d)
+          page_held b (child_of i) (head_inside b p x h) ((subst (λ (e : List Record). NamesSince t.page_out (t.entered b) e) same (h.names (ap is_removed same ∙ alive))).items l s i at v d)
 
       head_right : (b p x : ℕ) (h : HeldHead m.rows t.page_out (t.entered b) (knows b).read.learnt p x) (q : ℕ) (c : List Record) → IsChain m.rows c (Some x) → is_removed c ≡ false → right_in c ≡ Some q → page2 q ≡ o.page q
       head_right b p x h q c is alive e =
           let same : h.chain ≡ c = chain_unique m.rows h.chain c (Some x) h.is_chain is in
-          let n = subst (λ (e : List Record). NamesSince t.page_out (t.entered b) e) same (h.names (ap is_removed same ∙ alive)) in
-          page_held b q (head_inside b p x h) (n.right q e)
+          page_held b q (head_inside b p x h) ((subst (λ (e : List Record). NamesSince t.page_out (t.entered b) e) same (h.names (ap is_removed same ∙ alive))).right q e)
 
       gone : (q : ℕ) → (page2 q ≡ o.page q) ⊎ ((page2 q ≡ Nobody) × IsCleared (o.page q))
-      gone q = go (is_among word bits q) refl
-        where
-          go : (z : Bool) → is_among word bits q ≡ z → (cond z Nobody (o.page q) ≡ o.page q) ⊎ ((cond z Nobody (o.page q) ≡ Nobody) × IsCleared (o.page q))
-          go true e = let f = freed_page q e in let v = (T.pages q f.outing f.is).0 in inr (refl, (f.outing.who, v.0, v.1, v.2))
-          go false e = inl refl
+      gone q = elim (decided (is_among word bits q)) [
+        | inl e ↦ let f = freed_page q e in let v = (T.pages q f.outing f.is).0 in inr (rw e refl, (f.outing.who, v.0, v.1, v.2))
+        | inr e ↦ inl (rw e refl)
+      ]
 
       frees : (q : ℕ) → m2.free_pids q ≡ true → (page2 q ≡ Nobody) × (slot_in m.slots q ≡ None)
       frees q e = ⊎_elim
-          (λ (u : m.free_pids q ≡ true). let f = g.frees.page q u in (nobody (is_among word bits q) f.0, f.1))
+          (λ (u : m.free_pids q ≡ true). let f = g.frees.page q u in (elim (decided (is_among word bits q)) [ inl i ↦ rw i refl | inr i ↦ rw i f.0 ], f.1))
           (λ (u : is_among word bits q ≡ true). let f = freed_page q u in (rw u refl, (T.pages q f.outing f.is).1))
           (or_cases (m.free_pids q) (is_among word bits q) e)
-        where
-          nobody : (z : Bool) → o.page q ≡ Nobody → cond z Nobody (o.page q) ≡ Nobody
-          nobody true i = refl
-          nobody false i = i
 
       beyond_held : (b p f y x : ℕ) (c d : List Record) → (knows b).read.heads p ≡ Some y → (knows b).read.before p f ≡ Some x → IsChain m.rows c (Some x) → IsChain m.rows d (Some y) → is_removed c ≡ true → is_removed d ≡ false → right_in d ≡ Some f → AreSame page2 o.page c
       beyond_held b p f y x c d i j ic id rc nd e =
@@ -406,30 +337,29 @@ module _ {limits : Limits} {m : Memory} {log : List Update} {o : Owners} {knows 
       pages_past p w e = (T.pages p w e).2
 
       pub pages_timed : Timed limits m2 o2 (put knows a k2) (suc now) t2
-      pages_timed = record {
-        within = λ b i. T.within b (same_inside k2 refl b i);
-        holds = λ b. by_test b a (λ z. Holds m.rows t.row_out t2.page_out (t.entered b) (cond z k2 (knows b)).inside (cond z k2 (knows b)).read.seen (cond z k2 (knows b)).read.learnt (cond z k2 (knows b)).read.roots (cond z k2 (knows b)).read.heads (cond z k2 (knows b)).read.before (cond z k2 (knows b)).asked.linked)
-            (λ e. subst (λ j. Holds m.rows t.row_out t2.page_out (t.entered j) (knows a).inside (knows a).read.seen (knows a).read.learnt (knows a).read.roots (knows a).read.heads (knows a).read.before (knows a).asked.linked) (sym e) (holds a)) (λ ne. holds b);
-        announced = λ b i. let h = T.announced b (same_inside k2 refl b i) in record { some = h.some; old = h.old; past = (let p = h.past in omega arith); rows = h.rows; pages = λ p w e. h.pages p w (freed_out (is_among word bits p) (t.page_out p) w e).1 };
-        epochs = λ b e. by_test b a (λ z. (cond z k2 (knows b)).limbo.epoch ≡ Some e → e ≤ m.epoch) (λ i. T.epochs a e) (λ ne. T.epochs b e);
-        slots = λ p q l s h e. T.slots p q l s (reached p l s (is_among word bits p) h) e;
-        together = T.together;
-        rows = λ r w e. let v = T.rows r w e in (v.0, (let z = v.1 in let y : w.at < suc now = omega arith in y), v.2);
-        pages = λ p w e. let v = freed_out (is_among word bits p) (t.page_out p) w e in let u = T.pages p w v.1 in ((u.0.0, u.0.1, same_page p (λ i. absurd (let z = v.0 in cc)) ∙ u.0.2), u.1, (let z = u.2 in let y : w.at < suc now = omega arith in y), u.3);
-        own_rows = λ b r. by_test b a (λ z. IsOwn ((cond z k2 (knows b)).own.rows r) → t.row_out r ≡ None) (λ i. T.own_rows a r) (λ ne. T.own_rows b r);
-        gone_pages = λ b p. by_test b a (λ z. (cond z k2 (knows b)).own.pages p ≡ Gone → t2.page_out p ≡ None) (λ i h. freed_none (is_among word bits p) (t.page_out p) (T.gone_pages a p h)) (λ ne h. freed_none (is_among word bits p) (t.page_out p) (T.gone_pages b p h));
-        limbo_rows = λ b r. by_test b a (λ z. LimboFits b (λ c. (put knows a k2 c).inside) t.entered (t.row_out r) ((cond z k2 (knows b)).limbo.rows r)) (λ i. subst (λ j. LimboFits j (λ c. (put knows a k2 c).inside) t.entered (t.row_out r) ((knows a).limbo.rows r)) (sym i) (rows_still a r)) (λ ne. rows_still b r);
-        limbo_pids = λ b p. by_test b a (λ z. LimboFits b (λ c. (put knows a k2 c).inside) t.entered (t2.page_out p) ((cond z k2 (knows b)).limbo.pids p)) (λ i. subst (λ j. LimboFits j (λ c. (put knows a k2 c).inside) t.entered (t2.page_out p) (cond (is_among word bits p) Absent ((knows a).limbo.pids p))) (sym i) (own_limbo k2 refl t.page_out pages_past p ((knows a).limbo.pids p) (is_among word bits p) refl (T.limbo_pids a p))) (λ ne. others_limbo k2 refl t.page_out pages_past freed_page b p ne ((knows b).limbo.pids p) (T.limbo_pids b p));
-        ready = λ b p r. by_test b a (λ z. (cond z k2 (knows b)).own.pages p ≡ Ready r → IsOwnBase ((cond z k2 (knows b)).own.rows r)) (λ i. T.ready a p r) (λ ne. T.ready b p r);
-        apart = λ b p q r. by_test b a (λ z. (cond z k2 (knows b)).own.pages p ≡ Ready r → (cond z k2 (knows b)).own.pages q ≡ Ready r → p ≡ q) (λ i. T.apart a p q r) (λ ne. T.apart b p q r);
-      }
+      pages_timed =
+          let holds : (b : ℕ) → HoldsBy m.rows t.row_out t2.page_out (t.entered b) (knows b) =
+          λ b. holds_later m.rows m.rows t.row_out t.row_out t.page_out t2.page_out (t.entered b) (knows b).inside (knows b).read.seen (knows b).read.learnt (knows b).read.roots (knows b).read.heads (knows b).read.before (knows b).asked.linked (λ i r h. h) (λ i p. freed_since (is_among word bits p) (t.page_out p) (t.entered b)) (λ x c e h. h) (T.holds b) in
+          let rows_still : (b r : ℕ) → LimboFits b (λ c. (put knows a k2 c).inside) t.entered (t.row_out r) ((knows b).limbo.rows r) =
+          λ b r. limbo_still k2 refl t.row_out (λ q w e. (T.rows q w e).1) b r ((knows b).limbo.rows r) (T.limbo_rows b r) in
+          record {
+            within = λ b i. T.within b (same_inside k2 refl b i);
+            holds = λ b. by_test b a (λ z. HoldsBy m.rows t.row_out t2.page_out (t.entered b) (cond z k2 (knows b)))
+                (λ e. subst (λ j. HoldsBy m.rows t.row_out t2.page_out (t.entered j) (knows a)) (sym e) (holds a)) (λ ne. holds b);
+            announced = λ b i. let h = T.announced b (same_inside k2 refl b i) in record { some = h.some; old = h.old; past = (let p = h.past in omega arith); rows = h.rows; pages = λ p w e. h.pages p w (freed_out (is_among word bits p) (t.page_out p) w e).1 };
+            epochs = λ b e. by_test b a (λ z. (cond z k2 (knows b)).limbo.epoch ≡ Some e → e ≤ m.epoch) (λ i. T.epochs a e) (λ ne. T.epochs b e);
+            slots = λ p q l s h e. T.slots p q l s (reached p l s (is_among word bits p) h) e;
+            together = T.together;
+            rows = λ r w e. let v = T.rows r w e in (v.0, (let z = v.1 in let y : w.at < suc now = omega arith in y), v.2);
+            pages = λ p w e. let v = freed_out (is_among word bits p) (t.page_out p) w e in let u = T.pages p w v.1 in ((u.0.0, u.0.1, same_page p (λ i. absurd (let z = v.0 in cc)) ∙ u.0.2), u.1, (let z = u.2 in let y : w.at < suc now = omega arith in y), u.3);
+            own_rows = λ b r. by_test b a (λ z. IsOwn ((cond z k2 (knows b)).own.rows r) → t.row_out r ≡ None) (λ i. T.own_rows a r) (λ ne. T.own_rows b r);
+            gone_pages = λ b p. by_test b a (λ z. (cond z k2 (knows b)).own.pages p ≡ Gone → t2.page_out p ≡ None) (λ i h. freed_none (is_among word bits p) (t.page_out p) (T.gone_pages a p h)) (λ ne h. freed_none (is_among word bits p) (t.page_out p) (T.gone_pages b p h));
+            limbo_rows = λ b r. by_test b a (λ z. LimboFits b (λ c. (put knows a k2 c).inside) t.entered (t.row_out r) ((cond z k2 (knows b)).limbo.rows r)) (λ i. subst (λ j. LimboFits j (λ c. (put knows a k2 c).inside) t.entered (t.row_out r) ((knows a).limbo.rows r)) (sym i) (rows_still a r)) (λ ne. rows_still b r);
+            limbo_pids = λ b p. by_test b a (λ z. LimboFits b (λ c. (put knows a k2 c).inside) t.entered (t2.page_out p) ((cond z k2 (knows b)).limbo.pids p)) (λ i. subst (λ j. LimboFits j (λ c. (put knows a k2 c).inside) t.entered (t2.page_out p) (cond (is_among word bits p) Absent ((knows a).limbo.pids p))) (sym i) (own_limbo k2 refl t.page_out pages_past p ((knows a).limbo.pids p) (is_among word bits p) refl (T.limbo_pids a p))) (λ ne. others_limbo k2 refl t.page_out pages_past freed_page b p ne ((knows b).limbo.pids p) (T.limbo_pids b p));
+            ready = λ b p r. by_test b a (λ z. (cond z k2 (knows b)).own.pages p ≡ Ready r → IsOwnBase ((cond z k2 (knows b)).own.rows r)) (λ i. T.ready a p r) (λ ne. T.ready b p r);
+            apart = λ b p q r. by_test b a (λ z. (cond z k2 (knows b)).own.pages p ≡ Ready r → (cond z k2 (knows b)).own.pages q ≡ Ready r → p ≡ q) (λ i. T.apart a p q r) (λ ne. T.apart b p q r);
+          }
         where
-          holds : (b : ℕ) → Holds m.rows t.row_out t2.page_out (t.entered b) (knows b).inside (knows b).read.seen (knows b).read.learnt (knows b).read.roots (knows b).read.heads (knows b).read.before (knows b).asked.linked
-          holds b = holds_later m.rows m.rows t.row_out t.row_out t.page_out t2.page_out (t.entered b) (knows b).inside (knows b).read.seen (knows b).read.learnt (knows b).read.roots (knows b).read.heads (knows b).read.before (knows b).asked.linked (λ i r h. h) (λ i p. freed_since (is_among word bits p) (t.page_out p) (t.entered b)) (λ x c e h. h) (T.holds b)
-
           reached : (p l : ℕ) (s : Key) (z : Bool) → Reached 0 l s (cond z Nobody (o.page p)) → Reached 0 l s (o.page p)
           reached p l s true h = absurd h
           reached p l s false h = h
-
-          rows_still : (b r : ℕ) → LimboFits b (λ c. (put knows a k2 c).inside) t.entered (t.row_out r) ((knows b).limbo.rows r)
-          rows_still b r = limbo_still k2 refl t.row_out (λ q w e. (T.rows q w e).1) b r ((knows b).limbo.rows r) (T.limbo_rows b r)

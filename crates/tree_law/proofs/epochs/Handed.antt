@@ -1,71 +1,29 @@
 -- One more step: what the limbos show of it, and that what it frees is freed by the rule.
-use Rattle.std.proofs.Common.{◌≡◌, ◌<◌, ◌⊎◌, inl, inr, ℕ, zero, suc, List, [], ◌∷◌, ◌++◌, length, Option, Some, None, Bool, true, false, cond, eqb, refl, sym, ap, ◌∙◌, subst, ⊎_elim, arith}
-use Rattle.std.specs.Prelude.{MatchOption, IfSome, unwrap_or, slice_index_or, take}
-use Rattle.std.specs.List.{Contains}
-use Rattle.std.proofs.lemmas.Bool.{eqb-true}
-use Rattle.std.proofs.lemmas.Option.{same_Some}
-use Rattle.bw_model.specs.declared.command.Reply.{Reply}
-use Rattle.bw_model.specs.declared.limits.Limits.{Limits}
-use Rattle.bw_model.specs.declared.step.Answer.{Answer}
-use Rattle.bw_model.specs.declared.step.Answer.TheVariants.{Whether}
-use Rattle.bw_model.specs.declared.step.Step.{Step as StepOf}
-use Rattle.bw_model.specs.declared.step.Step.TheVariants.{Exchange, TakePid, TakeRow, ReusePids, ReuseRows}
-use Rattle.bw_model.specs.Log.{Update}
+use Rattle.tree_law.proofs.Words.{false, ◌⊎◌, [], ap, refl, cond, Option, suc, None, List, true, inl, length, ◌++◌, inr, ◌∷◌, subst, sym, ℕ, ◌≡◌, zero, ◌∙◌, ◌<◌, arith, Some, take, eqb, ⊎_elim}
+use Rattle.tree_law.proofs.Words.{eqb-true, same_Some, Contains, IfSome, MatchOption, unwrap_or, slice_index_or, Update, is_among, Reply, Limits, Answer, StepOf, ReuseRows, ReusePids, TakePid}
+use Rattle.tree_law.proofs.Words.{TakeRow, Exchange, Memory, next_row, Record, Base, slice_get_below, slice_get-push, take-push_whole, TakesStep-push_cases, memory_of-push, IsChainOf, IsOnChain}
+use Rattle.tree_law.proofs.Words.{chain_rows, IsChainFrom, low_in, level_in, May, MayExchange, IsAllowed, IsPassed, MayFree, knows, Knowledge, finished, learn, OwnPage, Other, Gone, Unstamped}
+use Rattle.tree_law.proofs.Words.{LimboMark, Absent, Stamped, passed_by, stamped, IsAnswer, memory_after, memory_at, memory_of, IsStep, Entry, Step, UnlinksPid, UnlinksRow, HandsPid, HandsRow, Key}
+use Rattle.tree_law.proofs.Words.{IsInLimbo, Free, Linked, Owners, Reached, Spare, HeadFits, PageFits, SeenFits, Nobody, PageOwner, put, shared, slot_in, IsReadyPage, IsState, IsInTree, Times, Timed}
+use Rattle.tree_law.proofs.Words.{LimboFits, Outing, IsTree}
 use Rattle.base_page.specs.Pages as pages
-use Rattle.deltas.specs.declared.record.Record.{Record}
-use Rattle.deltas.specs.declared.record.Record.TheVariants.{Base}
-use Rattle.deltas.specs.Memory.{Memory}
-use Rattle.deltas.specs.Records.{next_row}
-use Rattle.chain_search.specs.declared.trace.Entry.{Entry}
-use Rattle.chain_search.specs.declared.trace.Entry.TheVariants.{Step}
-use Rattle.chain_search.specs.Chains.{IsChainFrom, IsChainOf, IsOnChain, chain_rows, level_in, low_in}
-use Rattle.chain_search.specs.Discipline.{IsOwn, IsOwnBase, IsPassed, MayExchange, May, MayFree, IsAllowed}
-use Rattle.chain_search.specs.Knowledge.{OwnRow, Foreign, Taken, Written, OwnPage, Other, Gone, LimboMark, Absent, Unstamped, Stamped, Knowledge, learn, finished, knows, passed_by, stamped}
-use Rattle.bw_model.specs.Words.{is_among}
-use Rattle.chain_search.specs.Steps.{IsAnswer, memory_after}
-use Rattle.chain_search.specs.Trace.{memory_of, memory_at, TakesStep, IsStep}
-use Rattle.chain_search.proofs.Pushes.{slice_get-push, slice_get_below, take-push_whole}
-use Rattle.chain_search.proofs.TraceLaws.{memory_of-push, TakesStep-push_cases}
-use Rattle.op_machine.specs.Reuse.{HandsPid, HandsRow, UnlinksPid, UnlinksRow, IsFreedByRule}
-use Rattle.tree_law.specs.Keys.{Key}
-use Rattle.tree_law.specs.Limbos.{IsInLimbo}
-use Rattle.tree_law.specs.Owners.{Free, Spare, Linked, Owners, Reached, PageFits, HeadFits, SeenFits}
-use Rattle.tree_law.specs.Phase.{PageOwner, Nobody, Keeps, Placed, Cleared}
-use Rattle.tree_law.specs.Put.{put}
-use Rattle.tree_law.specs.Shared.{slot_in, shared}
-use Rattle.tree_law.specs.State.{IsInTree, IsReadyPage, IsState}
-use Rattle.tree_law.specs.Times.{Outing, Times, LimboFits, Timed}
-use Rattle.tree_law.specs.Tree.{IsTree}
+use Rattle.chain_search.specs.Trace.{TakesStep}
+use Rattle.op_machine.specs.Reuse.{IsFreedByRule}
 use Rattle.tree_law.proofs.links.Keeping.{slot_of}
 use Rattle.tree_law.proofs.epochs.Limbed.{LimboCase, as_it_was, is_stamped, is_passed, is_out, is_freed, RowOut, PageOut, FreesRows, FreesPids, limbo_case, walk_contained}
 use Rattle.tree_law.proofs.epochs.Limbos.{limbo_push, stamped_now, passed_now, freed_push, freed_now, pid_longer, row_longer}
-use Rattle.tree_law.proofs.shape.Mapping.{slot_some}
-use Rattle.tree_law.proofs.trace.Names.{slot_none}
+use Rattle.tree_law.proofs.shape.{slot_some, by_test, put_same, next_linked, own_base}
+use Rattle.tree_law.proofs.trace.Names.{placed_at, slot_none, whether_same}
 use Rattle.tree_law.proofs.trace.Owned.{pushed_length}
-use Rattle.tree_law.proofs.shape.Puts.{by_test, put_same}
-use Rattle.tree_law.proofs.shape.Rows.{next_linked}
-
-placed_at : (w : PageOwner) → IsInTree w → (l : ℕ) × (k : Key) × Reached 0 l k w
-placed_at Nobody h = absurd h
-placed_at (Keeps b) h = absurd h
-placed_at (Placed st l k) h = (l, k, (refl, refl, omega arith))
-placed_at (Cleared b l k) h = (l, k, (refl, refl))
-
-own_base : (v : OwnRow) → IsOwnBase v → IsOwn v
-own_base Foreign h = absurd h
-own_base Taken h = tt
-own_base (Written w) h = tt
 
 -- what is in a limbo is there still when it was stamped, and when an actor was passed
 unstamped : (e : ℕ) (l : LimboMark) → stamped e l ≡ Absent → l ≡ Absent
 unstamped e Absent h = refl
-unstamped e Unstamped h = absurd (cc)
-unstamped e (Stamped epoch passed) h = absurd (cc)
+unstamped e l h = absurd (cc)
 
 unpassed : (c value : ℕ) (l : LimboMark) → passed_by c value l ≡ Absent → l ≡ Absent
 unpassed c value Absent h = refl
-unpassed c value Unstamped h = absurd (cc)
-unpassed c value (Stamped epoch passed) h = absurd (cc)
+unpassed c value l h = absurd (cc)
 
 -- a row that is out is on no chain
 module _ {limits : Limits} {m : Memory} {log : List Update} {o : Owners} {knows : ℕ → Knowledge} {point : ℕ → Option (List Update)} {logs : ℕ → List (List Update)} {now : ℕ} {t : Times} (g : IsTree (shared m) log o knows point logs) (T : Timed limits m o knows now t)
@@ -86,8 +44,7 @@ module _ {limits : Limits} {m : Memory} {log : List Update} {o : Owners} {knows 
       in_base : (x : ℕ) (base : pages.Page) (d : List Record) → IsChainFrom m.rows x d → Contains (chain_rows x d) row → m.rows x ≡ Some (Base base) → t.row_out x ≡ None → ⊥
       in_base x base [] ch am e n = ch
       in_base x base (v ∷ d) ch (suc k, lt, at) e n =
-          let same : v ≡ Base base = same_Some v (Base base) (sym ch.0 ∙ e) in
-          let none : d ≡ [] = subst (λ u. MatchOption (next_row u) (d ≡ []) (λ n. IsChainFrom m.rows n d)) same ch.1 in
+          let none : d ≡ [] = subst (λ u. MatchOption (next_row u) (d ≡ []) (λ n. IsChainFrom m.rows n d)) (same_Some v (Base base) (sym ch.0 ∙ e)) ch.1 in
           let short : length (chain_rows (unwrap_or (next_row v) 0) d) ≡ 0 = ap (λ z. length (chain_rows (unwrap_or (next_row v) 0) z)) none in
           absurd (omega arith)
       in_base x base (v ∷ d) ch (zero, lt, at) e n = let f = sym n ∙ ap t.row_out at ∙ out in cc
@@ -129,9 +86,6 @@ module _ (limits : Limits) (entries : List Entry) (a : ℕ) (step : StepOf Recor
       let f = subst (λ (v : LimboMark). LimboFits a (λ c. (knows entries c).inside) state.times.entered out v) p.stamped h in
       sym who ∙ ap (λ v. v.who) (same_Some w f.0 (sym e ∙ f.1)) ∙ f.2
 
-  whether_true : (z : Bool) (y : Answer Record) → y ≡ Whether z → y ≡ Whether true → z ≡ true
-  whether_true z y e f = cc
-
   -- no step but its actor's own reuse hands on what is in a limbo
   hands_row : (b q : ℕ) → ((knows entries b).limbo.rows q ≡ Absent → ⊥) → HandsRow q step answer → (b ≡ a) × ((word bits : ℕ) × (step ≡ ReuseRows word bits) × (is_among word bits q ≡ true))
   hands_row b q some h = go step answer refl is allowed.frees h
@@ -141,7 +95,7 @@ module _ (limits : Limits) (entries : List Entry) (a : ℕ) (step : StepOf Recor
 
       go : (s : StepOf Record) (y : Answer Record) → step ≡ s → IsAnswer m s y → MayFree limits a k s → HandsRow q s y → (b ≡ a) × ((word bits : ℕ) × (step ≡ ReuseRows word bits) × (is_among word bits q ≡ true))
       go (TakeRow taken) y i j f hands =
-          let free : state.owners.row q ≡ Free = subst (λ n. state.owners.row n ≡ Free) hands.1 (state.is_tree.frees.row taken (whether_true (m.free_rows taken) y j hands.0)) in
+          let free : state.owners.row q ≡ Free = subst (λ n. state.owners.row n ≡ Free) hands.1 (state.is_tree.frees.row taken (whether_same (m.free_rows taken) true y j hands.0)) in
           absurd (⊎_elim (λ (l : state.owners.row q ≡ Linked). (let z = free in cc)) (λ (l : state.owners.row q ≡ Spare out.0.who). (let z = free in cc)) (state.timed.rows q out.0 out.1).0)
       go (ReuseRows word bits) y i j f hands = (freed_who b (state.times.row_out q) out.0 out.1 out.2 (k.limbo.rows q) (state.timed.limbo_rows a q) (f q hands), (word, bits, i, hands))
       go s y i j f hands = absurd hands
@@ -154,7 +108,7 @@ module _ (limits : Limits) (entries : List Entry) (a : ℕ) (step : StepOf Recor
 
       go : (s : StepOf Record) (y : Answer Record) → step ≡ s → IsAnswer m s y → MayFree limits a k s → HandsPid q s y → (b ≡ a) × ((word bits : ℕ) × (step ≡ ReusePids word bits) × (is_among word bits q ≡ true))
       go (TakePid taken) y i j f hands =
-          let free : state.owners.page q ≡ Nobody = subst (λ n. state.owners.page n ≡ Nobody) hands.1 (state.is_tree.frees.page taken (whether_true (m.free_pids taken) y j hands.0)).0 in
+          let free : state.owners.page q ≡ Nobody = subst (λ n. state.owners.page n ≡ Nobody) hands.1 (state.is_tree.frees.page taken (whether_same (m.free_pids taken) true y j hands.0)).0 in
           absurd (let v = (state.timed.pages q out.0 out.1).0.2 in let z = sym free ∙ v in cc)
       go (ReusePids word bits) y i j f hands = (freed_who b (state.times.page_out q) out.0 out.1 out.2 (k.limbo.pids q) (state.timed.limbo_pids a q) (f q hands), (word, bits, i, hands))
       go s y i j f hands = absurd hands
@@ -189,9 +143,6 @@ module _ (limits : Limits) (entries : List Entry) (a : ℕ) (step : StepOf Recor
   none_after : (between other : ℕ) (s : StepOf Record) (x : Answer Record) → length entries < between → TakesStep (entries ++ last ∷ []) between other s x → ⊥
   none_after between other s x lt h = let b = slice_get_below (entries ++ last ∷ []) between _ h.1 in let e = pushed_length entries last in omega arith
 
-  now_below : length entries < length (entries ++ last ∷ [])
-  now_below = let e = pushed_length entries last in omega arith
-
   -- of a row or a page: what its limbo shows afterwards
   module _ (U U' : ℕ → Type 0) (H : StepOf Record → Answer Record → Type 0) (longer : (n : ℕ) → n < length entries → U n → U' n) (old new : LimboMark) (Out Freed : Type 0)
       (calm : (new ≡ Absent → old ≡ Absent) → (old ≡ Absent → ⊥) → (other : ℕ) (s : StepOf Record) (x : Answer Record) → IsStep last other s x → H s x → ⊥)
@@ -203,7 +154,7 @@ module _ (limits : Limits) (entries : List Entry) (a : ℕ) (step : StepOf Recor
     in_limbo (as_it_was is) = subst Shows (sym is) (limbo_push entries last U U' H longer a old (calm (λ gone. sym is ∙ gone)) was)
     in_limbo (is_stamped e i j is) = subst Shows (sym is) (stamped_now entries last U U' H longer a e r (λ d. Step a (i d) (j d) r) old (calm (λ gone. unstamped e old (sym is ∙ gone))) was)
     in_limbo (is_passed c v i j is) = subst Shows (sym is) (passed_now entries last U U' H longer a c v r (λ d. Step a (i d) (j d) r) old (calm (λ gone. unpassed c v old (sym is ∙ gone))) was)
-    in_limbo (is_out is h) = subst Shows (sym is) (record { at = length entries; below = now_below; unlinked = unlinks is h; kept = λ between other s x lt took hands. none_after between other s x lt took })
+    in_limbo (is_out is h) = subst Shows (sym is) (record { at = length entries; below = (let e = pushed_length entries last in omega arith); unlinked = unlinks is h; kept = λ between other s x lt took hands. none_after between other s x lt took })
     in_limbo (is_freed is f) = subst Shows (sym is) tt
 
   module _ {log' : List Update} {o' : Owners} {point' : ℕ → Option (List Update)} {logs' : ℕ → List (List Update)} {t' : Times}
@@ -212,25 +163,26 @@ module _ (limits : Limits) (entries : List Entry) (a : ℕ) (step : StepOf Recor
       (held' : (p q : ℕ) → slot_in (memory_after a step m).slots p ≡ Some q → IsInTree (o'.page p) ⊎ IsReadyPage o' (memory_after a step m) (put (knows entries) a (finished (learn k step answer) r)) p q) where
     -- an exchange that took a row out
     unlinks_row : (q : ℕ) → (learn k step answer).limbo.rows q ≡ Unstamped → RowOut k step answer q → UnlinksRow limits (entries ++ last ∷ []) a q (length entries)
-    unlinks_row q new h = (
-      suc h.page,
-      h.old,
-      h.new,
-      found.0,
-      (r, slice_get-push entries last ∙ (λ d. Some (Step a (h.step d) (h.won d) r))),
-      subst (λ v. IsChainOf v (suc h.page) found.0) (sym whole_before) found.1,
-      walk_contained 13 k.read.seen m.rows stand h.old found.0 q (subst (λ n. IsChainFrom m.rows n found.0) at found.1.records) h.walk,
-      λ on. off_chain g' T' held' q out.0 out.1 (subst (λ v. IsOnChain v q) after on),
-    )
+    unlinks_row q new h =
+        let stand : (r : ℕ) (w : Record) → k.read.seen r ≡ Some w → m.rows r ≡ Some w =
+        λ r w e. (subst (λ (v : Option Record). SeenFits (state.owners.row r) (m.rows r) v) e ((state.is_tree.sound a).seen_fits r)).1 in
+        let at : m.slots (suc h.page) ≡ h.old = eqb-true (m.slots (suc h.page)) h.old (whether_same (eqb (m.slots (suc h.page)) h.old) true answer (subst (λ s. IsAnswer m s answer) h.step is) h.won) in
+        let found : (c : List Record) × IsChainOf m (suc h.page) c = elim (slot_of state.is_tree a (suc h.page) reached.0 reached.1 reached.2) [
+          | inl none ↦ absurd (let z : m.slots (suc h.page) ≡ 0 = slot_none m.slots (suc h.page) (omega arith) none in let s = some_old in let e = at in omega arith)
+          | inr v ↦ (let z = slot_some m.slots (suc h.page) v.0 v.1 in (v.2.chain, record { page = omega arith; linked = subst (λ n. 0 < n) (sym z.1) z.2; records = subst (λ n. IsChainFrom m.rows n v.2.chain) (sym z.1) v.2.is_chain }))
+        ] in (
+          suc h.page,
+          h.old,
+          h.new,
+          found.0,
+          (r, slice_get-push entries last ∙ (λ d. Some (Step a (h.step d) (h.won d) r))),
+          subst (λ v. IsChainOf v (suc h.page) found.0) (sym whole_before) found.1,
+          walk_contained 13 k.read.seen m.rows stand h.old found.0 q (subst (λ n. IsChainFrom m.rows n found.0) at found.1.records) h.walk,
+          λ on. off_chain g' T' held' q out.0 out.1 (subst (λ v. IsOnChain v q) after on),
+        )
       where
         may : MayExchange a k (suc h.page) h.old h.new
         may = (subst (May a k) h.step allowed.may).1
-
-        at : m.slots (suc h.page) ≡ h.old
-        at = eqb-true (m.slots (suc h.page)) h.old (whether_true (eqb (m.slots (suc h.page)) h.old) answer (subst (λ s. IsAnswer m s answer) h.step is) h.won)
-
-        stand : (r : ℕ) (w : Record) → k.read.seen r ≡ Some w → m.rows r ≡ Some w
-        stand r w e = (subst (λ (v : Option Record). SeenFits (state.owners.row r) (m.rows r) v) e ((state.is_tree.sound a).seen_fits r)).1
 
         reached : (l : ℕ) × (s : Key) × Reached 0 l s (state.owners.page (suc h.page))
         reached = ⊎_elim
@@ -240,8 +192,7 @@ module _ (limits : Limits) (entries : List Entry) (a : ℕ) (step : StepOf Recor
             by_link : (x y : ℕ) → k.own.pages (suc h.page) ≡ Other → MayExchange a k (suc h.page) x (suc y) → (l : ℕ) × (s : Key) × Reached 0 l s (state.owners.page (suc h.page))
             by_link zero y other v = absurd (let e = v.0 in cc)
             by_link (suc x) y other v =
-                let read = v.basis in
-                let f = subst (λ (z : Option ℕ). HeadFits state.owners (shared m) (state.logs a) (suc h.page) z) read.head ((state.is_tree.sound a).heads_fit (suc h.page)) in
+                let f = subst (λ (z : Option ℕ). HeadFits state.owners (shared m) (state.logs a) (suc h.page) z) v.basis.head ((state.is_tree.sound a).heads_fit (suc h.page)) in
                 (level_in f.2.chain, low_in f.2.chain, f.3)
 
         some_old : 0 < h.old
@@ -255,12 +206,6 @@ module _ (limits : Limits) (entries : List Entry) (a : ℕ) (step : StepOf Recor
             by_some zero y other v = absurd (let e = v.0 in cc)
             by_some (suc x) y other v = omega arith
 
-        found : (c : List Record) × IsChainOf m (suc h.page) c
-        found = elim (slot_of state.is_tree a (suc h.page) reached.0 reached.1 reached.2) [
-          | inl none ↦ absurd (let z : m.slots (suc h.page) ≡ 0 = slot_none m.slots (suc h.page) (omega arith) none in let s = some_old in let e = at in omega arith)
-          | inr v ↦ (let z = slot_some m.slots (suc h.page) v.0 v.1 in (v.2.chain, record { page = omega arith; linked = subst (λ n. 0 < n) (sym z.1) z.2; records = subst (λ n. IsChainFrom m.rows n v.2.chain) (sym z.1) v.2.is_chain }))
-        ]
-
         out : (w : Outing) × (t'.row_out q ≡ Some w) × (w.who ≡ a)
         out = subst (λ (l : LimboMark). LimboFits a (λ c. (put (knows entries) a (finished (learn k step answer) r) c).inside) t'.entered (t'.row_out q) l) new
             (subst (λ (kk : Knowledge). LimboFits a (λ c. (put (knows entries) a (finished (learn k step answer) r) c).inside) t'.entered (t'.row_out q) (kk.limbo.rows q)) (put_same (knows entries) a (finished (learn k step answer) r)) (T'.limbo_rows a q))
@@ -270,9 +215,8 @@ module _ (limits : Limits) (entries : List Entry) (a : ℕ) (step : StepOf Recor
           where
             whole_take : (es : List Entry) (n : ℕ) → length es ≡ n → take n es ≡ es
             whole_take [] zero e = refl
-            whole_take [] (suc n) e = absurd (omega arith)
-            whole_take (x ∷ es) zero e = absurd (omega arith)
             whole_take (x ∷ es) (suc n) e = ap (λ v. x ∷ v) (whole_take es n (omega arith))
+            whole_take es n e = absurd (omega arith)
 
     -- what the rows in limbos show afterwards
     pub rows_in_limbo : (b q : ℕ) → IsInLimbo (entries ++ last ∷ []) b (UnlinksRow limits (entries ++ last ∷ []) b q) (HandsRow q) ((put (knows entries) a (finished (learn k step answer) r) b).limbo.rows q)
@@ -286,14 +230,13 @@ module _ (limits : Limits) (entries : List Entry) (a : ℕ) (step : StepOf Recor
 
     -- an exchange that took a page out
     unlinks_pid : (q : ℕ) → PageOut k step answer q → UnlinksPid limits (entries ++ last ∷ []) a q (length entries)
-    unlinks_pid q h = (h.old, by_zero h.old (subst (May a k) h.step allowed.may).1, (r, slice_get-push entries last ∙ (λ d. Some (Step a (named d) (h.won d) r))))
+    unlinks_pid q h =
+        let named : step ≡ Exchange q h.old 0 = h.step ∙ ap (λ n. Exchange n h.old 0) (sym h.is) in
+        (h.old, by_zero h.old (subst (May a k) h.step allowed.may).1, (r, slice_get-push entries last ∙ (λ d. Some (Step a (named d) (h.won d) r))))
       where
         by_zero : (x : ℕ) → MayExchange a k (suc h.at) x 0 → 0 < x
         by_zero zero v = absurd v
         by_zero (suc x) v = omega arith
-
-        named : step ≡ Exchange q h.old 0
-        named = h.step ∙ ap (λ n. Exchange n h.old 0) (sym h.is)
 
     pub pids_in_limbo : (b q : ℕ) → IsInLimbo (entries ++ last ∷ []) b (UnlinksPid limits (entries ++ last ∷ []) b q) (HandsPid q) ((put (knows entries) a (finished (learn k step answer) r) b).limbo.pids q)
     pids_in_limbo b q = by_test b a (λ z. IsInLimbo (entries ++ last ∷ []) b (UnlinksPid limits (entries ++ last ∷ []) b q) (HandsPid q) ((cond z (finished (learn k step answer) r) (knows entries b)).limbo.pids q))

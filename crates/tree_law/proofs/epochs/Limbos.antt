@@ -1,25 +1,10 @@
 -- One more entry: what the limbos show, and what was freed by the rule.
-use Rattle.std.proofs.Common.{◌≡◌, ◌<◌, ◌⊎◌, inl, inr, ℕ, suc, List, [], ◌∷◌, ◌++◌, length, Option, Some, Bool, true, false, cond, eqb, ltb, refl, sym, ap, ◌∙◌, subst, arith}
-use Rattle.std.specs.Prelude.{◌||◌}
-use Rattle.std.proofs.lemmas.Bool.{ltb-true, eqb-true}
-use Rattle.bw_model.specs.declared.command.Reply.{Reply}
-use Rattle.bw_model.specs.declared.limits.Limits.{Limits}
-use Rattle.bw_model.specs.declared.step.Answer.{Answer}
-use Rattle.bw_model.specs.declared.step.Answer.TheVariants.{Number}
-use Rattle.bw_model.specs.declared.step.Step.{Step as StepOf}
-use Rattle.bw_model.specs.declared.step.Step.TheVariants.{Epoch, Announce}
-use Rattle.deltas.specs.declared.record.Record.{Record}
-use Rattle.deltas.specs.Memory.{replaced_at}
-use Rattle.chain_search.specs.declared.trace.Entry.{Entry}
-use Rattle.chain_search.specs.declared.trace.Entry.TheVariants.{Step}
-use Rattle.chain_search.specs.Chains.{IsChainOf, IsOnChain}
-use Rattle.chain_search.specs.Discipline.{IsPassed}
-use Rattle.chain_search.specs.Knowledge.{LimboMark, Absent, Unstamped, Stamped, stamped, passed_by}
-use Rattle.chain_search.specs.Trace.{IsStep}
-use Rattle.chain_search.proofs.Pushes.{slice_get-push, slice_get_below}
-use Rattle.chain_search.proofs.TraceLaws.{memory_at-push, TakesStep-kept, TakesStep-push_cases}
-use Rattle.op_machine.specs.Reuse.{UnlinksPid, UnlinksRow, IsFreed}
-use Rattle.tree_law.specs.Limbos.{WasTakenOut, IsPassedAt, IsStamped, IsInLimbo}
+use Rattle.tree_law.proofs.Words.{false, ◌⊎◌, [], ap, refl, cond, ltb, Option, suc, List, true, inl, length, ◌++◌, inr, ◌∷◌, subst, sym, ℕ, ◌≡◌, Bool, ◌∙◌, ◌<◌, arith, Some, eqb, ltb-true, eqb-true}
+use Rattle.tree_law.proofs.Words.{◌||◌, Reply, Limits, Answer, Number, StepOf, Epoch, Announce, replaced_at, Record, slice_get_below, slice_get-push, TakesStep-push_cases, memory_at-push, IsChainOf}
+use Rattle.tree_law.proofs.Words.{IsOnChain, IsPassed, Unstamped, LimboMark, Absent, Stamped, passed_by, stamped, IsStep, Entry, Step, UnlinksPid, UnlinksRow, IsInLimbo}
+use Rattle.chain_search.proofs.TraceLaws.{TakesStep-kept}
+use Rattle.op_machine.specs.Reuse.{IsFreed}
+use Rattle.tree_law.specs.Limbos.{WasTakenOut, IsPassedAt, IsStamped}
 use Rattle.tree_law.proofs.trace.Owned.{pushed_length}
 use Rattle.tree_law.proofs.shape.Puts.{by_test}
 
@@ -29,9 +14,6 @@ module _ (entries : List Entry) (last : Entry) where
 
   in_longer : (n : ℕ) → n < length entries → n < length (entries ++ last ∷ [])
   in_longer n lt = let e = longer in omega arith
-
-  now_below : length entries < length (entries ++ last ∷ [])
-  now_below = let e = longer in omega arith
 
   module _ (U U' : ℕ → Type 0) (H : StepOf Record → Answer Record → Type 0) (mono : (n : ℕ) → n < length entries → U n → U' n) where
     pub out_push : ((other : ℕ) (s : StepOf Record) (x : Answer Record) → IsStep last other s x → H s x → ⊥) → WasTakenOut entries U H → WasTakenOut (entries ++ last ∷ []) U' H
@@ -62,7 +44,7 @@ module _ (entries : List Entry) (last : Entry) where
       out = out_push (calm (λ e. cc)) h;
       at = length entries;
       after = h.below;
-      below = now_below;
+      below = (let e = longer in omega arith);
       took = (r, slice_get-push entries last ∙ ap Some is);
       by = λ c e. absurd (cc);
     }

@@ -1,28 +1,11 @@
 -- After a reuse: what numbers there are, and which slots hold rows.
-use Rattle.std.proofs.Common.{◌≡◌, ◌⊎◌, inl, inr, ℕ, ◌<◌, List, Option, Some, Bool, true, false, cond, refl, sym, ap, ◌∙◌, subst, ⊎_elim}
-use Rattle.std.specs.Prelude.{◌||◌}
-use Rattle.bw_model.specs.declared.command.Reply.{Reply}
-use Rattle.bw_model.specs.declared.limits.Limits.{Limits}
-use Rattle.bw_model.specs.declared.step.Step.TheVariants.{ReusePids, ReuseRows}
-use Rattle.bw_model.specs.declared.step.Answer.{Answer}
-use Rattle.bw_model.specs.Log.{Update}
-use Rattle.deltas.specs.declared.record.Record.{Record}
-use Rattle.deltas.specs.Memory.{Memory}
-use Rattle.chain_search.specs.declared.trace.Entry.{Entry}
-use Rattle.chain_search.specs.Discipline.{IsOwn, IsOwnBase, IsPassed}
-use Rattle.chain_search.specs.Knowledge.{OwnRow, Foreign, Taken, Written, Ready, Knowledge, learn, finished}
-use Rattle.bw_model.specs.Words.{is_among}
-use Rattle.chain_search.specs.Steps.{IsAnswer, memory_after}
+use Rattle.tree_law.proofs.Words.{false, ◌⊎◌, ap, refl, cond, Option, List, true, inl, inr, subst, sym, ℕ, ◌≡◌, Bool, ◌∙◌, ◌<◌, Some, ⊎_elim, Update, is_among, Reply, Limits, Answer, ReuseRows}
+use Rattle.tree_law.proofs.Words.{ReusePids, Memory, Record, IsOwn, IsOwnBase, IsPassed, Knowledge, finished, Ready, learn, Foreign, Taken, Written, OwnRow, IsAnswer, memory_after, Entry, Free}
+use Rattle.tree_law.proofs.Words.{Linked, Owners, Spare, Owner, OwnFits, put, shared, slot_in, IsReadyPage, phase_of, IsInTree, IsNamed, Times, Timed, Outing, IsTree}
 use Rattle.op_machine.specs.Phases as phase
-use Rattle.tree_law.specs.Owners.{Owner, Free, Spare, Linked, Owners, OwnFits}
-use Rattle.tree_law.specs.Put.{put}
-use Rattle.tree_law.specs.Shared.{slot_in, shared}
-use Rattle.tree_law.specs.State.{phase_of, IsInTree, IsReadyPage, IsNamed}
-use Rattle.tree_law.specs.Times.{Outing, Times, Timed}
-use Rattle.tree_law.specs.Tree.{IsTree}
 use Rattle.tree_law.proofs.epochs.Freeing.{or_cases, row_after, freed, freed_page, held, in_tree, not_among, stays, same_page, o1, page2, o2}
 use Rattle.tree_law.proofs.trace.Names.{Numbers}
-use Rattle.tree_law.proofs.shape.Puts.{by_test}
+use Rattle.tree_law.proofs.shape.Puts.{by_test, decided}
 
 in_row_after : (first : ℕ) (z : Bool) (v : Owner) (out : Option Outing) → v ≡ Free → row_after first z v out ≡ Free
 in_row_after first true v out e = refl
@@ -44,15 +27,14 @@ module _ (limits : Limits) (entries : List Entry) (o : Owners) (m : Memory) (kno
     rows_numbers = record {
       undisturbed = λ b q e d. let z = not_among g T a outside word bits may r x q (held g T a outside word bits may r x b q e) in absurd (let y : is_among word bits q ≡ true = d in cc);
       zero_free = in_row_after _ (is_among word bits 0) (o.row 0) (t.row_out 0) old.zero_free;
-      zero_taken = zero (is_among word bits 0) refl;
+      zero_taken = elim (decided (is_among word bits 0)) [
+        | inl e ↦ absurd (let f = freed g T a outside word bits may r x 0 e in let u = old.zero_free in ⊎_elim (λ (l : o.row 0 ≡ Linked). (let z = u in cc)) (λ (l : o.row 0 ≡ Spare f.outing.who). (let z = u in cc)) (T.rows 0 f.outing f.is).0)
+        | inr e ↦ rw (old.zero_taken, e) refl
+      ];
       free_row_below = λ q e. ⊎_elim (λ (u : m.free_rows q ≡ true). old.free_row_below q u) (freed_below q) (or_cases (m.free_rows q) (is_among word bits q) e);
       row_below = λ q. ⊎_elim (λ (u : o.row q ≡ Free). inl (in_row_after _ (is_among word bits q) (o.row q) (t.row_out q) u)) (λ (lt : q < limits.rows). inr lt) (old.row_below q);
       free_pid_below = old.free_pid_below;
     }
-      where
-        zero : (z : Bool) → is_among word bits 0 ≡ z → (m.free_rows 0 || is_among word bits 0) ≡ false
-        zero true e = absurd (let f = freed g T a outside word bits may r x 0 e in let u = old.zero_free in ⊎_elim (λ (l : o.row 0 ≡ Linked). (let z = u in cc)) (λ (l : o.row 0 ≡ Spare f.outing.who). (let z = u in cc)) (T.rows 0 f.outing f.is).0)
-        zero false e = rw (old.zero_taken, e) refl
 
     own_of : (b q : ℕ) (v : OwnRow) → OwnFits b (o.row q) (m.rows q) v → IsOwnBase v → (IsOwn v) × (o.row q ≡ Spare b)
     own_of b q Foreign h i = absurd i

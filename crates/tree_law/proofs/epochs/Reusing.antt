@@ -1,19 +1,8 @@
 -- Rows and pages that nobody holds may be freed: the invariant stays.
-use Rattle.std.proofs.Common.{◌≡◌, ◌⊎◌, inl, inr, ℕ, suc, List, [], ◌∷◌, Option, Some, None, Bool, true, false, refl, sym, ◌∙◌, subst, ⊎_elim}
-use Rattle.std.specs.Prelude.{IfSome}
-use Rattle.bw_model.specs.Log.{Update}
-use Rattle.base_page.specs.declared.item.Content.{Content}
-use Rattle.base_page.specs.declared.item.Content.TheVariants.{Child}
-use Rattle.deltas.specs.declared.record.Record.{Record}
-use Rattle.deltas.specs.Records.{next_row}
-use Rattle.chain_search.specs.Chains.{content_in, level_in, low_in, high_in, right_in, is_removed}
-use Rattle.chain_search.specs.Discipline.{IsOwn}
-use Rattle.chain_search.specs.Knowledge.{OwnRow, Foreign, Taken, Written, OwnPage, Other, Empty, Ready, Gone, Knowledge}
-use Rattle.tree_law.specs.Keys.{Key, Covers}
-use Rattle.tree_law.specs.Phase.{Stage, Indexed, Merged, PageOwner, Nobody, Keeps, Placed, Cleared, child_of, rank_of}
-use Rattle.tree_law.specs.Owners.{IsChain, Owner, Free, Linked, Owners, Reached, OwnFits, PageFits, SeenFits, SpellsLog, IsCleared, HeadFits, LinkFits, OrderFits, Knows, IsOut}
-use Rattle.tree_law.specs.Shared.{Shared}
-use Rattle.tree_law.specs.Tree.{spec, SidePage, InPlace, IsPart, Exact, IsOff, Off, IsTree}
+use Rattle.tree_law.proofs.Words.{false, ◌⊎◌, [], refl, Option, suc, None, List, true, inl, inr, ◌∷◌, subst, sym, ℕ, ◌≡◌, Bool, ◌∙◌, Some, ⊎_elim, IfSome, Update, ContentOf, Child, next_row, Record}
+use Rattle.tree_law.proofs.Words.{content_in, right_in, low_in, is_removed, level_in, high_in, IsOwn, Knowledge, Foreign, OwnPage, Taken, Other, Gone, Written, OwnRow, Key, Covers, Free, Linked}
+use Rattle.tree_law.proofs.Words.{Owners, Reached, IsOut, Owner, OwnFits, LinkFits, HeadFits, OrderFits, PageFits, IsChain, IsCleared, SpellsLog, SeenFits, Nobody, Placed, Indexed, PageOwner, Cleared}
+use Rattle.tree_law.proofs.Words.{Keeps, Merged, Stage, rank_of, child_of, Shared, IsTree, spec, IsOff, Off, SidePage, InPlace, IsPart, Exact, KnowsBy}
 use Rattle.tree_law.proofs.shape.Kept.{placed_reached}
 
 -- What actors know, they know of rows whose names they have learnt.
@@ -35,7 +24,7 @@ pub record AreLoose (o : Owners) (m : Shared) (knows : ℕ → Knowledge) (row :
 -- The pages that the chain names are whose they were.
 pub record AreSame (page was : ℕ → PageOwner) (c : List Record) : Type 0 where
   pub right : (q : ℕ) → right_in c ≡ Some q → page q ≡ was q
-  pub items : (l : ℕ) (s : Key) (i : Content) → level_in c ≡ suc l → Covers c s → content_in c s ≡ Some i → page (child_of i) ≡ was (child_of i)
+  pub items : (l : ℕ) (s : Key) (i : ContentOf) → level_in c ≡ suc l → Covers c s → content_in c s ≡ Some i → page (child_of i) ≡ was (child_of i)
 
 module _ {m : Shared} {log : List Update} {o : Owners} {knows : ℕ → Knowledge} {point : ℕ → Option (List Update)} {logs : ℕ → List (List Update)} (g : IsTree m log o knows point logs) where
   module _ (row : ℕ → Owner) (free : ℕ → Bool) (known : (b : ℕ) → Learnt (knows b)) (h : AreLoose o m knows row free) where
@@ -45,7 +34,7 @@ module _ {m : Shared} {log : List Update} {o : Owners} {knows : ℕ → Knowledg
     abbrev pub m1 : Shared
     m1 = record m { free = free }
 
-    place_loose : (lv : ℕ) (mp : Key → Option Content) (p : SidePage) → InPlace o m lv mp p → InPlace o1 m1 lv mp p
+    place_loose : (lv : ℕ) (mp : Key → Option ContentOf) (p : SidePage) → InPlace o m lv mp p → InPlace o1 m1 lv mp p
     place_loose lv mp p e = record {
       stage = e.stage;
       placed = e.placed;
@@ -55,7 +44,7 @@ module _ {m : Shared} {log : List Update} {o : Owners} {knows : ℕ → Knowledg
       is_page = record { head = e.is_page.head; is_chain = e.is_page.is_chain; on_level = e.is_page.on_level; some = e.is_page.some; same = e.is_page.same };
     }
 
-    part_loose : (lv : ℕ) (mp : Key → Option Content) (gs : List SidePage) (p : Option ℕ) (low : Option Key) (q : Option ℕ) (high : Option Key) → IsPart o m lv mp gs p low q high → IsPart o1 m1 lv mp gs p low q high
+    part_loose : (lv : ℕ) (mp : Key → Option ContentOf) (gs : List SidePage) (p : Option ℕ) (low : Option Key) (q : Option ℕ) (high : Option Key) → IsPart o m lv mp gs p low q high → IsPart o1 m1 lv mp gs p low q high
     part_loose lv mp [] p low q high e = e
     part_loose lv mp (x ∷ xs) p low q high e = (e.0, e.1, place_loose lv mp x e.2, part_loose lv mp xs (right_in x.chain) (high_in x.chain) q high e.3)
 
@@ -74,19 +63,18 @@ module _ {m : Shared} {log : List Update} {o : Owners} {knows : ℕ → Knowledg
     nexts r w l e None i f = tt
     nexts r w l e (Some n) i f = h.next r n w l e i ∙ f
 
-    knows_loose : (b : ℕ) → Knows o1 m1 (knows b).read.seen (knows b).read.learnt (knows b).read.roots (knows b).read.heads (knows b).read.before (knows b).asked.linked (point b) (logs b)
-    knows_loose b = record {
-      seen_fits = λ r. seen_at r ((knows b).read.seen r) refl (s.seen_fits r);
-      learnt_fits = λ r e. h.learnt b r e ∙ s.learnt_fits r e;
-      roots_fit = s.roots_fit;
-      heads_fit = λ p. head_at p ((knows b).read.heads p) refl (s.heads_fit p);
-      orders_fit = λ p f. order_at p f ((knows b).read.heads p) ((knows b).read.before p f) refl refl (s.orders_fit p f);
-      linked_fits = link_at ((knows b).asked.linked) refl s.linked_fits;
-    }
+    knows_loose : (b : ℕ) → KnowsBy o1 m1 (knows b) (point b) (logs b)
+    knows_loose b =
+        let s : KnowsBy o m (knows b) (point b) (logs b) = g.sound b in
+        record {
+          seen_fits = λ r. seen_at r ((knows b).read.seen r) refl (s.seen_fits r);
+          learnt_fits = λ r e. h.learnt b r e ∙ s.learnt_fits r e;
+          roots_fit = s.roots_fit;
+          heads_fit = λ p. head_at p ((knows b).read.heads p) refl (s.heads_fit p);
+          orders_fit = λ p f. order_at p f ((knows b).read.heads p) ((knows b).read.before p f) refl refl (s.orders_fit p f);
+          linked_fits = link_at ((knows b).asked.linked) refl s.linked_fits;
+        }
       where
-        s : Knows o m (knows b).read.seen (knows b).read.learnt (knows b).read.roots (knows b).read.heads (knows b).read.before (knows b).asked.linked (point b) (logs b)
-        s = g.sound b
-
         seen_at : (r : ℕ) (v : Option Record) → (knows b).read.seen r ≡ v → SeenFits (o.row r) (m.rows r) v → SeenFits (row r) (m.rows r) v
         seen_at r None e f = tt
         seen_at r (Some w) e f = (h.learnt b r ((known b).seen r w e) ∙ f.0, f.1)
@@ -96,8 +84,6 @@ module _ {m : Shared} {log : List Update} {o : Owners} {knows : ℕ → Knowledg
         head_at p (Some x) e f = (f.0, f.1, spells_loose x f.0 (h.learnt b x ((known b).heads p x e)) f.2, f.3, f.4, λ i. let n = f.5 i in record { right = n.right; items = n.items })
 
         order_at : (p f : ℕ) (y x : Option ℕ) → (knows b).read.heads p ≡ y → (knows b).read.before p f ≡ x → OrderFits o m (logs b) p f y x → OrderFits o1 m1 (logs b) p f y x
-        order_at p f None x e i v = tt
-        order_at p f (Some y) None e i v = tt
         order_at p f (Some y) (Some x) e i v = record {
           above = h.learnt b x ((known b).before p f x i) ∙ v.above;
           below = h.learnt b y ((known b).heads p y e) ∙ v.below;
@@ -109,11 +95,11 @@ module _ {m : Shared} {log : List Update} {o : Owners} {knows : ℕ → Knowledg
           beyond = λ c d ic id rc nd e. let n = v.beyond c d ic id rc nd e in record { right = n.right; items = n.items };
           spelled = v.spelled;
         }
+        order_at p f y x e i v = tt
 
         link_at : (x : Option (Option ℕ)) → (knows b).asked.linked ≡ x → LinkFits o m (point b) x → LinkFits o1 m1 (point b) x
-        link_at None e f = f
-        link_at (Some None) e f = f
         link_at (Some (Some x)) e f = (f.0, f.1, spells_loose x f.0 (h.learnt b x ((known b).linked x e)) f.2)
+        link_at x e f = f
 
     -- rows are let go, or freed
     pub lets_rows : IsTree m1 log o1 knows point logs
@@ -146,8 +132,8 @@ module _ {m : Shared} {log : List Update} {o : Owners} {knows : ℕ → Knowledg
       (heads : (b p x : ℕ) → (knows b).read.heads p ≡ Some x → page p ≡ o.page p)
       (before : (b p f x : ℕ) → (knows b).read.before p f ≡ Some x → page f ≡ o.page f)
       (heads_right : (b p x q : ℕ) (c : List Record) → (knows b).read.heads p ≡ Some x → IsChain m.rows c (Some x) → is_removed c ≡ false → right_in c ≡ Some q → page q ≡ o.page q)
-      (heads_items : (b p x l : ℕ) (s : Key) (i : Content) (c : List Record) → (knows b).read.heads p ≡ Some x → IsChain m.rows c (Some x) → is_removed c ≡ false → level_in c ≡ suc l → Covers c s → content_in c s ≡ Some i → page (child_of i) ≡ o.page (child_of i))
-      (before_items : (b p f x l : ℕ) (s : Key) (i : Content) (c : List Record) → (knows b).read.before p f ≡ Some x → IsChain m.rows c (Some x) → is_removed c ≡ false → level_in c ≡ suc l → Covers c s → content_in c s ≡ Some i → page (child_of i) ≡ o.page (child_of i))
+      (heads_items : (b p x l : ℕ) (s : Key) (i : ContentOf) (c : List Record) → (knows b).read.heads p ≡ Some x → IsChain m.rows c (Some x) → is_removed c ≡ false → level_in c ≡ suc l → Covers c s → content_in c s ≡ Some i → page (child_of i) ≡ o.page (child_of i))
+      (before_items : (b p f x l : ℕ) (s : Key) (i : ContentOf) (c : List Record) → (knows b).read.before p f ≡ Some x → IsChain m.rows c (Some x) → is_removed c ≡ false → level_in c ≡ suc l → Covers c s → content_in c s ≡ Some i → page (child_of i) ≡ o.page (child_of i))
       (beyond : (b p f y x : ℕ) (c d : List Record) → (knows b).read.heads p ≡ Some y → (knows b).read.before p f ≡ Some x → IsChain m.rows c (Some x) → IsChain m.rows d (Some y) → is_removed c ≡ true → is_removed d ≡ false → right_in d ≡ Some f → AreSame page o.page c)
       (gone_own : (b p : ℕ) → (knows b).own.pages p ≡ Gone → page p ≡ o.page p)
       (frees : (q : ℕ) → free q ≡ true → (page q ≡ Nobody) × (m.slots q ≡ None)) where
@@ -167,7 +153,7 @@ module _ {m : Shared} {log : List Update} {o : Owners} {knows : ℕ → Knowledg
     was_cleared : (q b l : ℕ) (s : Key) → page q ≡ Cleared b l s → o.page q ≡ Cleared b l s
     was_cleared q b l s e = ⊎_elim (λ (u : page q ≡ o.page q). sym u ∙ e) (λ (u : (page q ≡ Nobody) × IsCleared (o.page q)). absurd (let f = sym e ∙ u.0 in cc)) (gone q)
 
-    place_free : (lv : ℕ) (mp : Key → Option Content) (p : SidePage) → InPlace o m lv mp p → InPlace o2 m2 lv mp p
+    place_free : (lv : ℕ) (mp : Key → Option ContentOf) (p : SidePage) → InPlace o m lv mp p → InPlace o2 m2 lv mp p
     place_free lv mp p e = record {
       stage = e.stage;
       placed = stays p.page lv (low_in p.chain) e.stage e.placed;
@@ -177,22 +163,19 @@ module _ {m : Shared} {log : List Update} {o : Owners} {knows : ℕ → Knowledg
       is_page = record { head = e.is_page.head; is_chain = e.is_page.is_chain; on_level = e.is_page.on_level; some = e.is_page.some; same = e.is_page.same };
     }
 
-    part_free : (lv : ℕ) (mp : Key → Option Content) (gs : List SidePage) (p : Option ℕ) (low : Option Key) (q : Option ℕ) (high : Option Key) → IsPart o m lv mp gs p low q high → IsPart o2 m2 lv mp gs p low q high
+    part_free : (lv : ℕ) (mp : Key → Option ContentOf) (gs : List SidePage) (p : Option ℕ) (low : Option Key) (q : Option ℕ) (high : Option Key) → IsPart o m lv mp gs p low q high → IsPart o2 m2 lv mp gs p low q high
     part_free lv mp [] p low q high e = e
     part_free lv mp (x ∷ xs) p low q high e = (e.0, e.1, place_free lv mp x e.2, part_free lv mp xs (right_in x.chain) (high_in x.chain) q high e.3)
 
     exact_free : Exact page o.index g.tree.top m.root
     exact_free = record {
-      below = λ q l s st e. x.below q l s st (was q l s st e);
-      posted = λ q l s st i e. x.posted q l s st i (was q l s st e);
-      named = λ l s i e. let n = x.named l s i e in (n.0, (n.1.0, stays (child_of i) l s n.1.0 n.1.1, n.1.2));
-      others = λ q s st e. x.others q s st (was q g.tree.top s st e);
-      gone = λ q b l s e. x.gone q b l s (was_cleared q b l s e);
-      is_root = stays m.root g.tree.top [] Indexed x.is_root;
+      below = λ q l s st e. g.tree.exact.below q l s st (was q l s st e);
+      posted = λ q l s st i e. g.tree.exact.posted q l s st i (was q l s st e);
+      named = λ l s i e. let n = g.tree.exact.named l s i e in (n.0, (n.1.0, stays (child_of i) l s n.1.0 n.1.1, n.1.2));
+      others = λ q s st e. g.tree.exact.others q s st (was q g.tree.top s st e);
+      gone = λ q b l s e. g.tree.exact.gone q b l s (was_cleared q b l s e);
+      is_root = stays m.root g.tree.top [] Indexed g.tree.exact.is_root;
     }
-      where
-        x : Exact o.page o.index g.tree.top m.root
-        x = g.tree.exact
 
     off_was : (q l : ℕ) (s : Key) → IsOff (page q) l s → IsOff (o.page q) l s
     off_was q l s (inl e) = inl (was q l s Merged e)
@@ -209,19 +192,18 @@ module _ {m : Shared} {log : List Update} {o : Owners} {knows : ℕ → Knowledg
     cleared_was : (p : ℕ) → IsCleared (page p) → IsCleared (o.page p)
     cleared_was p c = (c.0, c.1, c.2, was_cleared p c.0 c.1 c.2 c.3)
 
-    knows_free : (b : ℕ) → Knows o2 m2 (knows b).read.seen (knows b).read.learnt (knows b).read.roots (knows b).read.heads (knows b).read.before (knows b).asked.linked (point b) (logs b)
-    knows_free b = record {
-      seen_fits = s.seen_fits;
-      learnt_fits = s.learnt_fits;
-      roots_fit = λ p e. let i = s.roots_fit p e in (i.0, subst (λ (w : PageOwner). Reached 0 i.0 [] w) (sym (roots b p e)) i.1);
-      heads_fit = λ p. head_at p ((knows b).read.heads p) refl (s.heads_fit p);
-      orders_fit = λ p f. order_at p f ((knows b).read.heads p) ((knows b).read.before p f) refl refl (s.orders_fit p f);
-      linked_fits = link_at ((knows b).asked.linked) s.linked_fits;
-    }
+    knows_free : (b : ℕ) → KnowsBy o2 m2 (knows b) (point b) (logs b)
+    knows_free b =
+        let s : KnowsBy o m (knows b) (point b) (logs b) = g.sound b in
+        record {
+          seen_fits = s.seen_fits;
+          learnt_fits = s.learnt_fits;
+          roots_fit = λ p e. let i = s.roots_fit p e in (i.0, subst (λ (w : PageOwner). Reached 0 i.0 [] w) (sym (roots b p e)) i.1);
+          heads_fit = λ p. head_at p ((knows b).read.heads p) refl (s.heads_fit p);
+          orders_fit = λ p f. order_at p f ((knows b).read.heads p) ((knows b).read.before p f) refl refl (s.orders_fit p f);
+          linked_fits = link_at ((knows b).asked.linked) s.linked_fits;
+        }
       where
-        s : Knows o m (knows b).read.seen (knows b).read.learnt (knows b).read.roots (knows b).read.heads (knows b).read.before (knows b).asked.linked (point b) (logs b)
-        s = g.sound b
-
         spells_free : (x : ℕ) (l : List Update) → SpellsLog o m x l → SpellsLog o2 m2 x l
         spells_free x l v = record { linked = v.linked; chain = v.chain; is_chain = v.is_chain; same = v.same }
 
@@ -240,8 +222,6 @@ module _ {m : Shared} {log : List Update} {o : Owners} {knows : ℕ → Knowledg
         )
 
         order_at : (p f : ℕ) (y x : Option ℕ) → (knows b).read.heads p ≡ y → (knows b).read.before p f ≡ x → OrderFits o m (logs b) p f y x → OrderFits o2 m2 (logs b) p f y x
-        order_at p f None x e i v = tt
-        order_at p f (Some y) None e i v = tt
         order_at p f (Some y) (Some x) e i v = record {
           above = v.above;
           below = v.below;
@@ -259,11 +239,11 @@ module _ {m : Shared} {log : List Update} {o : Owners} {knows : ℕ → Knowledg
               };
           spelled = v.spelled;
         }
+        order_at p f y x e i v = tt
 
         link_at : (x : Option (Option ℕ)) → LinkFits o m (point b) x → LinkFits o2 m2 (point b) x
-        link_at None f = f
-        link_at (Some None) f = f
         link_at (Some (Some x)) f = (f.0, f.1, spells_free x f.0 f.2)
+        link_at x f = f
 
     pub frees_pages : IsTree m2 log o2 knows point logs
     frees_pages = record {
@@ -288,6 +268,5 @@ module _ {m : Shared} {log : List Update} {o : Owners} {knows : ℕ → Knowledg
 
         own_at : (b p : ℕ) (v : OwnPage) → (knows b).own.pages p ≡ v → PageFits b (o.page p) (m.slots p) v → PageFits b (page p) (m.slots p) v
         own_at b p Other e f = tt
-        own_at b p Empty e f = (kept b p f.0, f.1)
-        own_at b p (Ready r) e f = (kept b p f.0, f.1)
         own_at b p Gone e f = (f.0, f.1, gone_own b p e ∙ f.2, f.3)
+        own_at b p v e f = (kept b p f.0, f.1)

@@ -1,34 +1,12 @@
 -- An actor enters and leaves, reads the epoch and announced epochs, takes and places: what actors hold stays so.
-use Rattle.std.proofs.Common.{◌≡◌, ◌⊎◌, inl, inr, ℕ, suc, ◌<◌, ◌≤◌, List, Option, Some, None, Bool, true, false, cond, eqb, ltb, refl, sym, ap, ◌∙◌, subst, ⊎_elim, arith}
-use Rattle.std.specs.Prelude.{◌||◌}
-use Rattle.std.proofs.lemmas.Bool.{ltb-true, ltb-false, eqb-true}
-use Rattle.std.proofs.lemmas.Option.{same_Some}
-use Rattle.bw_model.specs.declared.command.Reply.{Reply}
-use Rattle.bw_model.specs.declared.limits.Limits.{Limits}
-use Rattle.bw_model.specs.declared.step.Step.TheVariants.{Epoch, Announce, Place, TakePid, TakeRow, Enter, Leave}
-use Rattle.bw_model.specs.declared.step.Answer.{Answer}
+use Rattle.tree_law.proofs.Words.{false, ◌⊎◌, ap, refl, cond, ltb, Option, suc, None, List, true, inl, ◌≤◌, inr, subst, sym, ℕ, ◌≡◌, Bool, ◌∙◌, ◌<◌, arith, Some, eqb, ⊎_elim, ltb-true, cases_lt}
+use Rattle.tree_law.proofs.Words.{eqb-true, same_Some, ◌||◌, Update, Reply, Limits, Answer, Leave, TakePid, Place, TakeRow, Enter, Epoch, Announce, Memory, Record, IsOwn, IsOwnBase, IsUnset}
+use Rattle.tree_law.proofs.Words.{Knowledge, finished, Ready, learn, Empty, Taken, Gone, Written, forgotten, Unstamped, LimboMark, Absent, Stamped, passed_by, stamped, memory_after, Free, Linked}
+use Rattle.tree_law.proofs.Words.{Owners, Spare, put, shared, Times, Timed, LimboFits, Outing, Holds, IsTree, HoldsBy}
 use Rattle.bw_model.specs.declared.step.Answer.TheVariants as answer
-use Rattle.bw_model.specs.Log.{Update}
-use Rattle.deltas.specs.declared.record.Record.{Record}
-use Rattle.deltas.specs.Memory.{Memory}
-use Rattle.chain_search.specs.Discipline.{IsOwn, IsOwnBase, IsUnset}
-use Rattle.chain_search.specs.Knowledge.{OwnRow, Foreign, Taken, Written, Empty, Ready, Gone, LimboMark, Absent, Unstamped, Stamped, Knowledge, learn, finished, stamped, passed_by, forgotten}
-use Rattle.chain_search.specs.Steps.{memory_after}
-use Rattle.tree_law.specs.Owners.{Free, Spare, Linked, Owners, OwnFits}
-use Rattle.tree_law.specs.Put.{put}
-use Rattle.tree_law.specs.Shared.{shared}
-use Rattle.tree_law.specs.Tree.{IsTree}
-use Rattle.tree_law.specs.Times.{Outing, Times, Holds, LimboFits, Timed}
-use Rattle.tree_law.proofs.shape.Puts.{by_test, put_same, put_other}
-use Rattle.tree_law.proofs.epochs.Timing.{Turn, limbo_row, limbo_pid, put_timed}
+use Rattle.tree_law.proofs.shape.{by_test, put_same, put_other, own_spare, own_base, none_if}
+use Rattle.tree_law.proofs.epochs.Timing.{Turn, limbo_row, limbo_pid, put_timed, held_later}
 use Rattle.tree_law.proofs.epochs.Timely.{linked, Calm, calm_turn, idle_timed}
-
-below_or : (a b : ℕ) → (a ≤ b) ⊎ (b < a)
-below_or a b = go (ltb b a) refl
-  where
-    go : (z : Bool) → ltb b a ≡ z → (a ≤ b) ⊎ (b < a)
-    go true e = inr (ltb-true b a e)
-    go false e = inl (ltb-false b a e)
 
 -- what has no stamp gets the epoch that is read
 stamped_fits : (a epoch : ℕ) (inside : ℕ → Bool) (entered : ℕ → ℕ) (out : Option Outing) (l : LimboMark) → ((w : Outing) → out ≡ Some w → w.epoch ≤ epoch) → LimboFits a inside entered out l → LimboFits a inside entered out (stamped epoch l)
@@ -45,7 +23,7 @@ passed_fits a b announced inside entered out (Stamped e p) f h = (h.0, h.1, h.2,
     late : inside b ≡ true → (announced ≡ 0) ⊎ (e < announced) → h.0.at < entered b
     late i past =
         let v = f h.0 h.1 i in
-        ⊎_elim (λ (u : entered b ≤ h.0.at). absurd (let x = v.1 u in let y = h.3 in let z = v.0 in ⊎_elim (λ (n : announced ≡ 0). omega arith) (λ (n : e < announced). omega arith) past)) (λ (u : h.0.at < entered b). u) (below_or (entered b) h.0.at)
+        ⊎_elim (λ (u : h.0.at < entered b). u) (λ (u : entered b ≤ h.0.at). absurd (let x = v.1 u in let y = h.3 in let z = v.0 in ⊎_elim (λ (n : announced ≡ 0). omega arith) (λ (n : e < announced). omega arith) past)) (cases_lt h.0.at (entered b))
 
     on : ((announced ≡ 0) ⊎ (e < announced)) → (c : ℕ) → put p b true c ≡ true → inside c ≡ true → h.0.at < entered c
     on past c = by_test c b (λ z. cond z true (p c) ≡ true → inside c ≡ true → h.0.at < entered c) (λ j i v. subst (λ n. h.0.at < entered n) (sym j) (late (subst (λ n. inside n ≡ true) j v) past)) (λ ne. h.4 c)
@@ -62,50 +40,26 @@ module _ {limits : Limits} {m : Memory} {log : List Update} {o : Owners} {knows 
     blind i = let e = outside in cc
 
     pub blank_holds : (e : ℕ) → Holds m.rows t.row_out t.page_out e true (knows a).read.seen (λ r. false) (knows a).read.roots (knows a).read.heads (knows a).read.before (knows a).asked.linked
-    blank_holds e = record {
-      learnt_inside = λ r i. refl;
-      learnt_since = λ r i. absurd (cc);
-      seen_learnt = λ r w i. absurd (blind (h.learnt_inside r (h.seen_learnt r w i)));
-      roots_inside = λ p i. refl;
-      roots_since = λ p i. absurd (blind (h.roots_inside p i));
-      heads_since = λ p x i. absurd (blind (h.learnt_inside x (h.heads_since p x i).learnt_row));
-      before_since = λ p f x i. absurd (blind (h.learnt_inside x (h.before_since p f x i).learnt_row));
-      beside_since = λ p f y x i j. absurd (blind (h.learnt_inside x (h.before_since p f x j).learnt_row));
-      linked_learnt = λ x i. absurd (blind (h.learnt_inside x (h.linked_learnt x i)));
-    }
-      where
-        h : Holds m.rows t.row_out t.page_out (t.entered a) (knows a).inside (knows a).read.seen (knows a).read.learnt (knows a).read.roots (knows a).read.heads (knows a).read.before (knows a).asked.linked
-        h = T.holds a
+    blank_holds e =
+        let h : HoldsBy m.rows t.row_out t.page_out (t.entered a) (knows a) = T.holds a in
+        record {
+          learnt_inside = λ r i. refl;
+          learnt_since = λ r i. absurd (cc);
+          seen_learnt = λ r w i. absurd (blind (h.learnt_inside r (h.seen_learnt r w i)));
+          roots_inside = λ p i. refl;
+          roots_since = λ p i. absurd (blind (h.roots_inside p i));
+          heads_since = λ p x i. absurd (blind (h.learnt_inside x (h.heads_since p x i).learnt_row));
+          before_since = λ p f x i. absurd (blind (h.learnt_inside x (h.before_since p f x i).learnt_row));
+          beside_since = λ p f y x i j. absurd (blind (h.learnt_inside x (h.before_since p f x j).learnt_row));
+          linked_learnt = λ x i. absurd (blind (h.learnt_inside x (h.linked_learnt x i)));
+        }
 
   pub enter_timed : (e : ℕ) (x : Answer Record) (r : Option Reply) (o' : Owners) → Calm g T a (memory_after a (Enter e) m) o' → (knows a).inside ≡ false → 0 < e → (knows a).limbo.epoch ≡ Some e → a < limits.actors
       → Timed limits (memory_after a (Enter e) m) o' (put knows a (finished (learn (knows a) (Enter e) x) r)) (suc now) (record t { entered = put t.entered a now })
-  enter_timed e x r o' c outside some read actor = put_timed T (linked g T a) a (memory_after a (Enter e) m) o' k' t' turn (record {
-    within = λ i. actor;
-    holds = blank_holds outside (t'.entered a);
-    announced = λ i. record {
-      some = subst (λ n. 0 < n) (sym (put_same m.announced a e)) some;
-      old = subst (λ n. n ≤ m.epoch) (sym (put_same m.announced a e)) (T.epochs a e read);
-      past = subst (λ n. n < suc now) (sym (put_same t.entered a now)) (omega arith);
-      rows = λ q w i j. absurd (let l = (T.rows q w i).1 in let f : now ≤ w.at = subst (λ n. n ≤ w.at) (put_same t.entered a now) j in omega arith);
-      pages = λ q w i j. absurd (let l = (T.pages q w i).2 in let f : now ≤ w.at = subst (λ n. n ≤ w.at) (put_same t.entered a now) j in omega arith);
-    };
-    epochs = T.epochs a;
-    own_rows = T.own_rows a;
-    gone_pages = T.gone_pages a;
-    limbo_rows = limbo_row T (linked g T a) a (memory_after a (Enter e) m) o' k' t' turn a;
-    limbo_pids = limbo_pid T (linked g T a) a (memory_after a (Enter e) m) o' k' t' turn a;
-    ready = T.ready a;
-    apart = T.apart a;
-  })
-    where
-      k' : Knowledge
-      k' = finished (learn (knows a) (Enter e) x) r
-
-      t' : Times
-      t' = record t { entered = put t.entered a now }
-
-      turn : Turn T (linked g T a) a (memory_after a (Enter e) m) o' k' t'
-      turn = record {
+  enter_timed e x r o' c outside some read actor =
+      let k' : Knowledge = finished (learn (knows a) (Enter e) x) r in
+      let t' : Times = record t { entered = put t.entered a now } in
+      let turn : Turn T (linked g T a) a (memory_after a (Enter e) m) o' k' t' = record {
         rows_later = λ q. inl refl;
         pages_later = λ p. inl refl;
         chains = λ q d l h. h;
@@ -119,76 +73,77 @@ module _ {limits : Limits} {m : Memory} {log : List Update} {o : Owners} {knows 
         pages = λ p w i. let v = T.pages p w i in ((v.0.0, v.0.1, c.cleared p w.who v.0.0 v.0.1 v.0.2), v.1);
         own_rows = λ b q ne. T.own_rows b q;
         gone_pages = λ b p ne. T.gone_pages b p;
-      }
+      } in
+      put_timed T (linked g T a) a (memory_after a (Enter e) m) o' k' t' turn (record {
+        within = λ i. actor;
+        holds = blank_holds outside (t'.entered a);
+        announced = λ i. record {
+          some = subst (λ n. 0 < n) (sym (put_same m.announced a e)) some;
+          old = subst (λ n. n ≤ m.epoch) (sym (put_same m.announced a e)) (T.epochs a e read);
+          past = subst (λ n. n < suc now) (sym (put_same t.entered a now)) (omega arith);
+          rows = λ q w i j. absurd (let l = (T.rows q w i).1 in let f : now ≤ w.at = subst (λ n. n ≤ w.at) (put_same t.entered a now) j in omega arith);
+          pages = λ q w i j. absurd (let l = (T.pages q w i).2 in let f : now ≤ w.at = subst (λ n. n ≤ w.at) (put_same t.entered a now) j in omega arith);
+        };
+        epochs = T.epochs a;
+        own_rows = T.own_rows a;
+        gone_pages = T.gone_pages a;
+        limbo_rows = limbo_row T (linked g T a) a (memory_after a (Enter e) m) o' k' t' turn a;
+        limbo_pids = limbo_pid T (linked g T a) a (memory_after a (Enter e) m) o' k' t' turn a;
+        ready = T.ready a;
+        apart = T.apart a;
+      })
 
   forgotten_none : (l : Option (Option ℕ)) (x : ℕ) → forgotten l ≡ Some (Some x) → ⊥
   forgotten_none None x e = cc
   forgotten_none (Some v) x e = cc
 
   pub leave_timed : (r : Option Reply) (o' : Owners) → Calm g T a (memory_after a Leave m) o' → Timed limits (memory_after a Leave m) o' (put knows a (finished (learn (knows a) Leave answer.Done) r)) (suc now) t
-  leave_timed r o' c = put_timed T (linked g T a) a (memory_after a Leave m) o' k' t turn (record {
-    within = λ i. absurd (cc);
-    holds = record { learnt_inside = λ q i. absurd (cc); learnt_since = λ q i. absurd (cc); seen_learnt = λ q w i. absurd (cc); roots_inside = λ p i. absurd (cc); roots_since = λ p i. absurd (cc); heads_since = λ p x i. absurd (cc); before_since = λ p f x i. absurd (cc); beside_since = λ p f y x i. absurd (cc); linked_learnt = λ x i. absurd (forgotten_none (knows a).asked.linked x i) };
-    announced = λ i. absurd (cc);
-    epochs = T.epochs a;
-    own_rows = T.own_rows a;
-    gone_pages = T.gone_pages a;
-    limbo_rows = limbo_row T (linked g T a) a (memory_after a Leave m) o' k' t turn a;
-    limbo_pids = limbo_pid T (linked g T a) a (memory_after a Leave m) o' k' t turn a;
-    ready = T.ready a;
-    apart = T.apart a;
-  })
-    where
-      k' : Knowledge
-      k' = finished (learn (knows a) Leave answer.Done) r
-
-      turn : Turn T (linked g T a) a (memory_after a Leave m) o' k' t
-      turn = calm_turn g T a (memory_after a Leave m) o' k' c (λ i. absurd (cc))
+  leave_timed r o' c =
+      let k' : Knowledge = finished (learn (knows a) Leave answer.Done) r in
+      let turn : Turn T (linked g T a) a (memory_after a Leave m) o' k' t = calm_turn g T a (memory_after a Leave m) o' k' c (λ i. absurd (cc)) in
+      put_timed T (linked g T a) a (memory_after a Leave m) o' k' t turn (record {
+        within = λ i. absurd (cc);
+        holds = record { learnt_inside = λ q i. absurd (cc); learnt_since = λ q i. absurd (cc); seen_learnt = λ q w i. absurd (cc); roots_inside = λ p i. absurd (cc); roots_since = λ p i. absurd (cc); heads_since = λ p x i. absurd (cc); before_since = λ p f x i. absurd (cc); beside_since = λ p f y x i. absurd (cc); linked_learnt = λ x i. absurd (forgotten_none (knows a).asked.linked x i) };
+        announced = λ i. absurd (cc);
+        epochs = T.epochs a;
+        own_rows = T.own_rows a;
+        gone_pages = T.gone_pages a;
+        limbo_rows = limbo_row T (linked g T a) a (memory_after a Leave m) o' k' t turn a;
+        limbo_pids = limbo_pid T (linked g T a) a (memory_after a Leave m) o' k' t turn a;
+        ready = T.ready a;
+        apart = T.apart a;
+      })
 
   -- the epoch is read
   pub epoch_timed : (r : Option Reply) (o' : Owners) → Calm g T a m o' → Timed limits m o' (put knows a (finished (learn (knows a) Epoch (answer.Number m.epoch)) r)) (suc now) t
-  epoch_timed r o' c = idle_timed g T a m o' k' c refl refl refl refl refl refl refl refl
+  epoch_timed r o' c =
+      let k' : Knowledge = finished (learn (knows a) Epoch (answer.Number m.epoch)) r in
+      idle_timed g T a m o' k' c refl refl (λ n. held_later T (linked g T a) a m o' k' t n a)
       (λ e i. let f = same_Some m.epoch e i in omega arith)
       (T.own_rows a) (T.gone_pages a)
       (λ n q. stamped_fits a m.epoch (λ b. (put knows a k' b).inside) t.entered (t.row_out q) ((knows a).limbo.rows q) (λ w e. (T.rows q w e).2) (limbo_row T (linked g T a) a m o' k' t n a q))
       (λ n p. stamped_fits a m.epoch (λ b. (put knows a k' b).inside) t.entered (t.page_out p) ((knows a).limbo.pids p) (λ w e. (T.pages p w e).3) (limbo_pid T (linked g T a) a m o' k' t n a p))
       (T.ready a) (T.apart a)
-    where
-      k' : Knowledge
-      k' = finished (learn (knows a) Epoch (answer.Number m.epoch)) r
 
   -- an announced epoch is read
   pub announce_timed : (b : ℕ) (r : Option Reply) (o' : Owners) → Calm g T a m o' → Timed limits m o' (put knows a (finished (learn (knows a) (Announce b) (answer.Number (m.announced b))) r)) (suc now) t
-  announce_timed b r o' c = idle_timed g T a m o' k' c refl refl refl refl refl refl refl refl
+  announce_timed b r o' c =
+      let k' : Knowledge = finished (learn (knows a) (Announce b) (answer.Number (m.announced b))) r in
+      let was_inside : (put knows a k' b).inside ≡ true → (knows b).inside ≡ true =
+      by_test b a (λ z. (cond z k' (knows b)).inside ≡ true → (knows b).inside ≡ true) (λ e i. subst (λ n. (knows n).inside ≡ true) (sym e) i) (λ ne i. i) in
+      idle_timed g T a m o' k' c refl refl (λ n. held_later T (linked g T a) a m o' k' t n a)
       (T.epochs a)
       (T.own_rows a) (T.gone_pages a)
       (λ n q. passed_fits a b (m.announced b) (λ c. (put knows a k' c).inside) t.entered (t.row_out q) ((knows a).limbo.rows q) (λ w e i. let h = T.announced b (was_inside i) in (h.some, h.rows q w e)) (limbo_row T (linked g T a) a m o' k' t n a q))
       (λ n p. passed_fits a b (m.announced b) (λ c. (put knows a k' c).inside) t.entered (t.page_out p) ((knows a).limbo.pids p) (λ w e i. let h = T.announced b (was_inside i) in (h.some, h.pages p w e)) (limbo_pid T (linked g T a) a m o' k' t n a p))
       (T.ready a) (T.apart a)
-    where
-      k' : Knowledge
-      k' = finished (learn (knows a) (Announce b) (answer.Number (m.announced b))) r
-
-      was_inside : (put knows a k' b).inside ≡ true → (knows b).inside ≡ true
-      was_inside = by_test b a (λ z. (cond z k' (knows b)).inside ≡ true → (knows b).inside ≡ true) (λ e i. subst (λ n. (knows n).inside ≡ true) (sym e) i) (λ ne i. i)
-
-  -- a row that is the actor's own is a spare
-  own_spare : (q : ℕ) → IsOwn ((knows a).own.rows q) → o.row q ≡ Spare a
-  own_spare q i = go ((knows a).own.rows q) (g.owns a q) i
-    where
-      go : (v : OwnRow) → OwnFits a (o.row q) (m.rows q) v → IsOwn v → o.row q ≡ Spare a
-      go Foreign h i = absurd i
-      go Taken h i = h
-      go (Written w) h i = h.0
-
-  own_base : (v : OwnRow) → IsOwnBase v → IsOwn v
-  own_base Foreign h = absurd h
-  own_base Taken h = tt
-  own_base (Written w) h = tt
 
   -- a record is placed in an own row that stands in no slot
   pub place_timed : (q : ℕ) (w : Record) (r : Option Reply) (o' : Owners) → Calm g T a (memory_after a (Place q w) m) o' → IsOwn ((knows a).own.rows q) → IsUnset (knows a) q → Timed limits (memory_after a (Place q w) m) o' (put knows a (finished (learn (knows a) (Place q w) answer.Done) r)) (suc now) t
-  place_timed q w r o' c own unset = idle_timed g T a m' o' k' c refl refl refl refl refl refl refl refl
+  place_timed q w r o' c own unset =
+      let m' : Memory = memory_after a (Place q w) m in
+      let k' : Knowledge = finished (learn (knows a) (Place q w) answer.Done) r in
+      idle_timed g T a m' o' k' c refl refl (λ n. held_later T (linked g T a) a m' o' k' t n a)
       (T.epochs a)
       (λ j. by_test j q (λ z. IsOwn (cond z (Written w) ((knows a).own.rows j)) → t.row_out j ≡ None) (λ e i. ap t.row_out e ∙ T.own_rows a q own) (λ ne. T.own_rows a j))
       (T.gone_pages a)
@@ -196,53 +151,34 @@ module _ {limits : Limits} {m : Memory} {log : List Update} {o : Owners} {knows 
       (λ n. limbo_pid T (linked g T a) a m' o' k' t n a)
       (λ p j i. subst IsOwnBase (sym (put_other (knows a).own.rows q (Written w) j (λ e. unset p (subst (λ n. (knows a).own.pages p ≡ Ready n) e i)))) (T.ready a p j i))
       (T.apart a)
-    where
-      m' : Memory
-      m' = memory_after a (Place q w) m
-
-      k' : Knowledge
-      k' = finished (learn (knows a) (Place q w) answer.Done) r
 
   -- a row that was free is taken
   pub take_row_timed : (q : ℕ) (r : Option Reply) → m.free_rows q ≡ true → (o' : Owners) → Calm g T a (memory_after a (TakeRow q) m) o'
       → Timed limits (memory_after a (TakeRow q) m) o' (put knows a (finished (learn (knows a) (TakeRow q) (answer.Whether true)) r)) (suc now) t
-  take_row_timed q r f o' c = idle_timed g T a m' o' k' c refl refl refl refl refl refl refl refl
+  take_row_timed q r f o' c =
+      let was : o.row q ≡ Free = g.frees.row q f in
+      let m' : Memory = memory_after a (TakeRow q) m in
+      let k' : Knowledge = finished (learn (knows a) (TakeRow q) (answer.Whether true)) r in
+      idle_timed g T a m' o' k' c refl refl (λ n. held_later T (linked g T a) a m' o' k' t n a)
       (T.epochs a)
-      (λ j. by_test j q (λ z. IsOwn (cond z Taken ((knows a).own.rows j)) → t.row_out j ≡ None) (λ e i. ap t.row_out e ∙ not_out (t.row_out q) refl) (λ ne. T.own_rows a j))
+      (λ j. by_test j q (λ z. IsOwn (cond z Taken ((knows a).own.rows j)) → t.row_out j ≡ None) (λ e i. ap t.row_out e ∙ none_if (t.row_out q) (λ w d. ⊎_elim (λ (u : o.row q ≡ Linked). let v = was in cc) (λ (u : o.row q ≡ Spare w.who). let v = was in cc) (T.rows q w d).0)) (λ ne. T.own_rows a j))
       (T.gone_pages a)
       (λ n. limbo_row T (linked g T a) a m' o' k' t n a)
       (λ n. limbo_pid T (linked g T a) a m' o' k' t n a)
-      (λ p j i. subst IsOwnBase (sym (put_other (knows a).own.rows q Taken j (λ e. absurd (let h = own_spare j (own_base ((knows a).own.rows j) (T.ready a p j i)) in let v = ap o.row e ∙ was in cc)))) (T.ready a p j i))
+      (λ p j i. subst IsOwnBase (sym (put_other (knows a).own.rows q Taken j (λ e. absurd (let h : o.row j ≡ Spare a = own_spare (m.rows j) ((knows a).own.rows j) (g.owns a j) (own_base ((knows a).own.rows j) (T.ready a p j i)) in let v = ap o.row e ∙ was in cc)))) (T.ready a p j i))
       (T.apart a)
-    where
-      m' : Memory
-      m' = memory_after a (TakeRow q) m
-
-      k' : Knowledge
-      k' = finished (learn (knows a) (TakeRow q) (answer.Whether true)) r
-
-      was : o.row q ≡ Free
-      was = g.frees.row q f
-
-      not_out : (out : Option Outing) → t.row_out q ≡ out → out ≡ None
-      not_out None e = refl
-      not_out (Some w) e = ⊎_elim (λ (u : o.row q ≡ Linked). absurd (let v = was in cc)) (λ (u : o.row q ≡ Spare w.who). absurd (let v = was in cc)) (T.rows q w e).0
 
   -- a PID that was free is taken
   pub take_pid_timed : (q : ℕ) (r : Option Reply) (o' : Owners) → Calm g T a (memory_after a (TakePid q) m) o' → Timed limits (memory_after a (TakePid q) m) o' (put knows a (finished (learn (knows a) (TakePid q) (answer.Whether true)) r)) (suc now) t
-  take_pid_timed q r o' c = idle_timed g T a m' o' k' c refl refl refl refl refl refl refl refl
+  take_pid_timed q r o' c =
+      let was : (p j : ℕ) → put (knows a).own.pages q Empty p ≡ Ready j → (knows a).own.pages p ≡ Ready j =
+      λ p j. by_test p q (λ z. cond z Empty ((knows a).own.pages p) ≡ Ready j → (knows a).own.pages p ≡ Ready j) (λ e i. absurd (cc)) (λ ne i. i) in
+      let m' : Memory = memory_after a (TakePid q) m in
+      let k' : Knowledge = finished (learn (knows a) (TakePid q) (answer.Whether true)) r in
+      idle_timed g T a m' o' k' c refl refl (λ n. held_later T (linked g T a) a m' o' k' t n a)
       (T.epochs a) (T.own_rows a)
       (λ p. by_test p q (λ z. cond z Empty ((knows a).own.pages p) ≡ Gone → t.page_out p ≡ None) (λ e i. absurd (cc)) (λ ne. T.gone_pages a p))
       (λ n. limbo_row T (linked g T a) a m' o' k' t n a)
       (λ n. limbo_pid T (linked g T a) a m' o' k' t n a)
       (λ p j i. T.ready a p j (was p j i))
       (λ p s j e i. T.apart a p s j (was p j e) (was s j i))
-    where
-      m' : Memory
-      m' = memory_after a (TakePid q) m
-
-      k' : Knowledge
-      k' = finished (learn (knows a) (TakePid q) (answer.Whether true)) r
-
-      was : (p j : ℕ) → put (knows a).own.pages q Empty p ≡ Ready j → (knows a).own.pages p ≡ Ready j
-      was p j = by_test p q (λ z. cond z Empty ((knows a).own.pages p) ≡ Ready j → (knows a).own.pages p ≡ Ready j) (λ e i. absurd (cc)) (λ ne i. i)

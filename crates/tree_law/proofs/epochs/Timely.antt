@@ -1,25 +1,11 @@
 -- Steps that take nothing out of the tree and free nothing keep what actors hold.
-use Rattle.std.proofs.Common.{◌≡◌, ◌≢◌, inl, inr, ℕ, suc, ◌≤◌, List, [], Option, Some, None, Bool, true, cond, refl, sym, ap, ◌∙◌, subst, ⊎_elim, arith}
-use Rattle.std.proofs.lemmas.Option.{same_Some}
-use Rattle.bw_model.specs.declared.limits.Limits.{Limits}
-use Rattle.bw_model.specs.Log.{Update}
-use Rattle.deltas.specs.declared.record.Record.{Record}
-use Rattle.deltas.specs.Memory.{Memory}
-use Rattle.deltas.specs.Records.{next_row}
-use Rattle.chain_search.specs.Chains.{level_in, low_in}
-use Rattle.chain_search.specs.Discipline.{IsOwn, IsOwnBase}
-use Rattle.chain_search.specs.Knowledge.{OwnRow, OwnPage, Ready, Gone, LimboMark, Knowledge, learnt_next}
-use Rattle.tree_law.specs.Keys.{Key}
-use Rattle.tree_law.specs.Owners.{Spare, Linked, Owners, Reached, SpellsLog}
-use Rattle.tree_law.specs.Phase.{Stage, Indexed, Placed, Cleared, child_of}
-use Rattle.tree_law.specs.Put.{put}
-use Rattle.tree_law.specs.Shared.{slot_in, shared}
-use Rattle.tree_law.specs.Tree.{spec, SidePage, InPlace, IsTree}
-use Rattle.tree_law.specs.Times.{Outing, Times, IsSince, NamesSince, HeldBeside, HeldHead, Holds, LimboFits, Timed}
+use Rattle.tree_law.proofs.Words.{[], ap, refl, cond, Option, suc, None, List, true, inl, ◌≢◌, ◌≤◌, inr, subst, sym, ℕ, ◌≡◌, Bool, ◌∙◌, arith, Some, ⊎_elim, same_Some, Update, Limits, Memory}
+use Rattle.tree_law.proofs.Words.{next_row, Record, low_in, level_in, IsOwn, IsOwnBase, Knowledge, Ready, learnt_next, OwnPage, Gone, OwnRow, LimboMark, Key, Linked, Owners, Reached, Spare, SpellsLog}
+use Rattle.tree_law.proofs.Words.{Placed, Indexed, Cleared, Stage, child_of, put, shared, slot_in, Times, Timed, LimboFits, Holds, NamesSince, IsSince, HeldHead, IsTree, spec, SidePage, InPlace}
+use Rattle.tree_law.proofs.Words.{HoldsBy}
+use Rattle.tree_law.specs.Times.{HeldBeside}
 use Rattle.tree_law.proofs.links.Keeping.{alive_place, beyond_place}
-use Rattle.tree_law.proofs.shape.Puts.{by_test, put_same}
-use Rattle.tree_law.proofs.shape.Rows.{rows_kept}
-use Rattle.tree_law.proofs.shape.Sides.{right_page}
+use Rattle.tree_law.proofs.shape.{by_test, put_same, rows_kept, right_page, none_if}
 use Rattle.tree_law.proofs.epochs.Timing.{none_since, head_more, Turn, limbo_row, limbo_pid, held_later, announced_still, put_timed}
 
 module _ {limits : Limits} {m : Memory} {log : List Update} {o : Owners} {knows : ℕ → Knowledge} {point : ℕ → Option (List Update)} {logs : ℕ → List (List Update)} {now : ℕ} {t : Times} (g : IsTree (shared m) log o knows point logs) (T : Timed limits m o knows now t) (a : ℕ) where
@@ -57,17 +43,18 @@ module _ {limits : Limits} {m : Memory} {log : List Update} {o : Owners} {knows 
       gone_pages = λ b p ne. T.gone_pages b p;
     }
 
-    -- a step after which the actor holds what it held
-    pub idle_timed : m'.announced a ≡ m.announced a → k'.inside ≡ (knows a).inside → k'.read.seen ≡ (knows a).read.seen → k'.read.learnt ≡ (knows a).read.learnt → k'.read.roots ≡ (knows a).read.roots → k'.read.heads ≡ (knows a).read.heads → k'.read.before ≡ (knows a).read.before → k'.asked.linked ≡ (knows a).asked.linked
+    -- a step after which the actor holds this
+    pub idle_timed : m'.announced a ≡ m.announced a → k'.inside ≡ (knows a).inside → ((n : Turn T linked a m' o' k' t) → HoldsBy m'.rows t.row_out t.page_out (t.entered a) k')
         → ((e : ℕ) → k'.limbo.epoch ≡ Some e → e ≤ m'.epoch) → ((r : ℕ) → IsOwn (k'.own.rows r) → t.row_out r ≡ None) → ((p : ℕ) → k'.own.pages p ≡ Gone → t.page_out p ≡ None)
-        → ((n : Turn T linked a m' o' k' t) (r : ℕ) → LimboFits a (λ b. (put knows a k' b).inside) t.entered (t.row_out r) (k'.limbo.rows r)) → ((n : Turn T linked a m' o' k' t) (p : ℕ) → LimboFits a (λ b. (put knows a k' b).inside) t.entered (t.page_out p) (k'.limbo.pids p))
+        → ((n : Turn T linked a m' o' k' t) (r : ℕ) → LimboFits a (λ b. (put knows a k' b).inside) t.entered (t.row_out r) (k'.limbo.rows r))
+        → ((n : Turn T linked a m' o' k' t) (p : ℕ) → LimboFits a (λ b. (put knows a k' b).inside) t.entered (t.page_out p) (k'.limbo.pids p))
         → ((p r : ℕ) → k'.own.pages p ≡ Ready r → IsOwnBase (k'.own.rows r)) → ((p q r : ℕ) → k'.own.pages p ≡ Ready r → k'.own.pages q ≡ Ready r → p ≡ q)
         → Timed limits m' o' (put knows a k') (suc now) t
-    idle_timed an e0 e1 e2 e3 e4 e5 e6 epochs own gone rows pids ready apart =
+    idle_timed an e0 holds epochs own gone rows pids ready apart =
         let n = calm_turn (λ i. sym e0 ∙ i) in
         put_timed T linked a m' o' k' t n (record {
           within = λ i. T.within a (sym e0 ∙ i);
-          holds = rw (e0, e1, e2, e3, e4, e5, e6) (held_later T linked a m' o' k' t n a);
+          holds = holds n;
           announced = λ i. announced_still T linked a m' o' k' t n a an (sym e0 ∙ i);
           epochs = epochs;
           own_rows = own;
@@ -78,10 +65,11 @@ module _ {limits : Limits} {m : Memory} {log : List Update} {o : Owners} {knows 
           apart = apart;
         })
 
-    -- a step after which it also has and has taken out what it had
-    pub still_timed : m'.announced a ≡ m.announced a → k'.inside ≡ (knows a).inside → k'.read.seen ≡ (knows a).read.seen → k'.read.learnt ≡ (knows a).read.learnt → k'.read.roots ≡ (knows a).read.roots → k'.read.heads ≡ (knows a).read.heads → k'.read.before ≡ (knows a).read.before → k'.asked.linked ≡ (knows a).asked.linked
-        → k'.limbo.epoch ≡ (knows a).limbo.epoch → k'.own.rows ≡ (knows a).own.rows → k'.own.pages ≡ (knows a).own.pages → k'.limbo.rows ≡ (knows a).limbo.rows → k'.limbo.pids ≡ (knows a).limbo.pids → Timed limits m' o' (put knows a k') (suc now) t
-    still_timed an e0 e1 e2 e3 e4 e5 e6 f0 f1 f2 f3 f4 = idle_timed an e0 e1 e2 e3 e4 e5 e6
+    -- a read, after which it also has and has taken out what it had
+    pub read_timed : m'.announced a ≡ m.announced a → k'.inside ≡ (knows a).inside → HoldsBy m'.rows t.row_out t.page_out (t.entered a) k'
+        → k'.limbo.epoch ≡ (knows a).limbo.epoch → k'.own.rows ≡ (knows a).own.rows → k'.own.pages ≡ (knows a).own.pages → k'.limbo.rows ≡ (knows a).limbo.rows → k'.limbo.pids ≡ (knows a).limbo.pids
+        → Timed limits m' o' (put knows a k') (suc now) t
+    read_timed an e0 holds f0 f1 f2 f3 f4 = idle_timed an e0 (λ n. holds)
         (λ e i. let j = T.epochs a e (ap (λ (v : Option ℕ). v) (sym f0) ∙ i) in let l = c.epoch in omega arith)
         (λ r i. T.own_rows a r (subst (λ (f : ℕ → OwnRow). IsOwn (f r)) f1 i))
         (λ p i. T.gone_pages a p (ap (λ (f : ℕ → OwnPage). f p) (sym f2) ∙ i))
@@ -90,90 +78,81 @@ module _ {limits : Limits} {m : Memory} {log : List Update} {o : Owners} {knows 
         (λ p r i. subst (λ (f : ℕ → OwnRow). IsOwnBase (f r)) (sym f1) (T.ready a p r (ap (λ (f : ℕ → OwnPage). f p) (sym f2) ∙ i)))
         (λ p q r i j. T.apart a p q r (ap (λ (f : ℕ → OwnPage). f p) (sym f2) ∙ i) (ap (λ (f : ℕ → OwnPage). f q) (sym f2) ∙ j))
 
-    -- a read after which it holds more
-    pub read_timed : m'.announced a ≡ m.announced a → k'.inside ≡ (knows a).inside
-        → Holds m'.rows t.row_out t.page_out (t.entered a) k'.inside k'.read.seen k'.read.learnt k'.read.roots k'.read.heads k'.read.before k'.asked.linked
-        → k'.limbo.epoch ≡ (knows a).limbo.epoch → k'.own.rows ≡ (knows a).own.rows → k'.own.pages ≡ (knows a).own.pages → k'.limbo.rows ≡ (knows a).limbo.rows → k'.limbo.pids ≡ (knows a).limbo.pids → Timed limits m' o' (put knows a k') (suc now) t
-    read_timed an e0 holds f0 f1 f2 f3 f4 =
-        let n = calm_turn (λ i. sym e0 ∙ i) in
-        put_timed T linked a m' o' k' t n (record {
-          within = λ i. T.within a (sym e0 ∙ i);
-          holds = holds;
-          announced = λ i. announced_still T linked a m' o' k' t n a an (sym e0 ∙ i);
-          epochs = λ e i. let j = T.epochs a e (ap (λ (v : Option ℕ). v) (sym f0) ∙ i) in let l = c.epoch in omega arith;
-          own_rows = λ r i. T.own_rows a r (subst (λ (f : ℕ → OwnRow). IsOwn (f r)) f1 i);
-          gone_pages = λ p i. T.gone_pages a p (ap (λ (f : ℕ → OwnPage). f p) (sym f2) ∙ i);
-          limbo_rows = λ r. subst (λ (f : ℕ → LimboMark). LimboFits a (λ b. (put knows a k' b).inside) t.entered (t.row_out r) (f r)) (sym f3) (limbo_row T linked a m' o' k' t n a r);
-          limbo_pids = λ p. subst (λ (f : ℕ → LimboMark). LimboFits a (λ b. (put knows a k' b).inside) t.entered (t.page_out p) (f p)) (sym f4) (limbo_pid T linked a m' o' k' t n a p);
-          ready = λ p r i. subst (λ (f : ℕ → OwnRow). IsOwnBase (f r)) (sym f1) (T.ready a p r (ap (λ (f : ℕ → OwnPage). f p) (sym f2) ∙ i));
-          apart = λ p q r i j. T.apart a p q r (ap (λ (f : ℕ → OwnPage). f p) (sym f2) ∙ i) (ap (λ (f : ℕ → OwnPage). f q) (sym f2) ∙ j);
-        })
+    -- a step after which it also holds what it held
+    pub still_timed : m'.announced a ≡ m.announced a → k'.inside ≡ (knows a).inside → k'.read.seen ≡ (knows a).read.seen → k'.read.learnt ≡ (knows a).read.learnt → k'.read.roots ≡ (knows a).read.roots
+        → k'.read.heads ≡ (knows a).read.heads → k'.read.before ≡ (knows a).read.before → k'.asked.linked ≡ (knows a).asked.linked → k'.limbo.epoch ≡ (knows a).limbo.epoch
+        → k'.own.rows ≡ (knows a).own.rows → k'.own.pages ≡ (knows a).own.pages → k'.limbo.rows ≡ (knows a).limbo.rows → k'.limbo.pids ≡ (knows a).limbo.pids → Timed limits m' o' (put knows a k') (suc now) t
+    still_timed an e0 e1 e2 e3 e4 e5 e6 = read_timed an e0 (rw (e0, e1, e2, e3, e4, e5, e6) (held_later T linked a m' o' k' t (calm_turn (λ i. sym e0 ∙ i)) a))
 
   -- nothing is changed
   pub calm_same : Calm m o
   calm_same = record { slots = λ p. refl; kept = λ r l. refl; stay = λ r l. l; back = λ r l. l; spare = λ r b e. e; reached = λ p l s r. r; cleared = λ p b l s e. e; epoch = omega arith; announced = λ b ne. refl }
 
   -- a page in the tree with a row in its slot, and one on a side chain, are not out
-  pub not_out : (p x : ℕ) → slot_in m.slots p ≡ Some x → (out : Option Outing) → t.page_out p ≡ out → out ≡ None
-  not_out p x s None e = refl
-  not_out p x s (Some w) e = absurd (let f = sym s ∙ (T.pages p w e).1 in cc)
+  pub not_out : (p x : ℕ) → slot_in m.slots p ≡ Some x → t.page_out p ≡ None
+  not_out p x s = none_if (t.page_out p) (λ w e. let f = sym s ∙ (T.pages p w e).1 in cc)
 
-  pub placed_in : (p l : ℕ) (k : Key) (st : Stage) → o.page p ≡ Placed st l k → (out : Option Outing) → t.page_out p ≡ out → out ≡ None
-  placed_in p l k st s None e = refl
-  placed_in p l k st s (Some w) e = absurd (let f = sym s ∙ (T.pages p w e).0.2 in cc)
+  pub placed_in : (p l : ℕ) (k : Key) (st : Stage) → o.page p ≡ Placed st l k → t.page_out p ≡ None
+  placed_in p l k st s = none_if (t.page_out p) (λ w e. let f = sym s ∙ (T.pages p w e).0.2 in cc)
 
   -- what a page on its side chain names is not out
   pub place_since : (e : ℕ) (p : SidePage) → InPlace o (shared m) (level_in p.chain) (spec log o.index (level_in p.chain)) p → NamesSince t.page_out e p.chain
   place_since e p h = record {
     right = λ q i. let n = right_page o (shared m) (level_in p.chain) (spec log o.index (level_in p.chain)) (g.tree.first (level_in p.chain)) (g.tree.levels (level_in p.chain) (g.tree.exact.below p.page (level_in p.chain) (low_in p.chain) h.stage h.placed)) p h q i in
-        none_since e (t.page_out q) (placed_in q (level_in p.chain) (low_in n.0.chain) n.3.stage (ap o.page (sym n.1) ∙ n.3.placed) (t.page_out q) refl);
+        none_since e (t.page_out q) (placed_in q (level_in p.chain) (low_in n.0.chain) n.3.stage (ap o.page (sym n.1) ∙ n.3.placed));
     items = λ l s i at v d.
-        let named : o.index l s ≡ Some i = sym (h.is_page.same s v ∙ ap (λ n. spec log o.index n s) at) ∙ d in
-        let n = (g.tree.exact.named l s i named).1 in
-        none_since e (t.page_out (child_of i)) (placed_in (child_of i) l s n.0 n.1 (t.page_out (child_of i)) refl);
+        let n = (g.tree.exact.named l s i (sym (h.is_page.same s v ∙ ap (λ n. spec log o.index n s) at) ∙ d)).1 in
+        none_since e (t.page_out (child_of i)) (placed_in (child_of i) l s n.0 n.1);
   }
 
   -- the actor reads the root
   pub root_holds : (knows a).inside ≡ true → Holds m.rows t.row_out t.page_out (t.entered a) (knows a).inside (knows a).read.seen (knows a).read.learnt (put (knows a).read.roots (m.slots 0) true) (knows a).read.heads (knows a).read.before (knows a).asked.linked
-  root_holds inside = record {
-    learnt_inside = h.learnt_inside;
-    learnt_since = h.learnt_since;
-    seen_learnt = h.seen_learnt;
-    roots_inside = λ p i. inside;
-    roots_since = λ p. by_test p (m.slots 0) (λ z. cond z true ((knows a).read.roots p) ≡ true → IsSince (t.entered a) (t.page_out p)) (λ e i. none_since (t.entered a) (t.page_out p) (placed_in p g.tree.top [] Indexed (ap o.page e ∙ g.tree.exact.is_root) (t.page_out p) refl)) (λ ne. h.roots_since p);
-    heads_since = h.heads_since;
-    before_since = h.before_since;
-    beside_since = h.beside_since;
-    linked_learnt = h.linked_learnt;
-  }
-    where
-      h : Holds m.rows t.row_out t.page_out (t.entered a) (knows a).inside (knows a).read.seen (knows a).read.learnt (knows a).read.roots (knows a).read.heads (knows a).read.before (knows a).asked.linked
-      h = T.holds a
+  root_holds inside =
+      let h : HoldsBy m.rows t.row_out t.page_out (t.entered a) (knows a) = T.holds a in
+      record {
+        learnt_inside = h.learnt_inside;
+        learnt_since = h.learnt_since;
+        seen_learnt = h.seen_learnt;
+        roots_inside = λ p i. inside;
+        roots_since = λ p. by_test p (m.slots 0) (λ z. cond z true ((knows a).read.roots p) ≡ true → IsSince (t.entered a) (t.page_out p)) (λ e i. none_since (t.entered a) (t.page_out p) (placed_in p g.tree.top [] Indexed (ap o.page e ∙ g.tree.exact.is_root))) (λ ne. h.roots_since p);
+        heads_since = h.heads_since;
+        before_since = h.before_since;
+        beside_since = h.beside_since;
+        linked_learnt = h.linked_learnt;
+      }
 
   more : (learnt : ℕ → Bool) (x : ℕ) (r : ℕ) → learnt r ≡ true → put learnt x true r ≡ true
   more learnt x r e = by_test r x (λ z. cond z true (learnt r) ≡ true) (λ i. refl) (λ ne. e)
 
   -- the actor reads the slot of a page
   pub head_holds : (knows a).inside ≡ true → (p x : ℕ) → slot_in m.slots p ≡ Some x → (l : ℕ) (s : Key) → Reached 0 l s (o.page p) → (spells : SpellsLog o (shared m) x log) → Reached 0 (level_in spells.chain) (low_in spells.chain) (o.page p) → Holds m.rows t.row_out t.page_out (t.entered a) (knows a).inside (knows a).read.seen (put (knows a).read.learnt x true) (knows a).read.roots (put (knows a).read.heads p (Some x)) (put (knows a).read.before p (knows a).read.heads) (knows a).asked.linked
-  head_holds inside p x sx l s reached spells there = record {
-    learnt_inside = λ r i. inside;
-    learnt_since = λ r. by_test r x (λ z. cond z true ((knows a).read.learnt r) ≡ true → IsSince (t.entered a) (t.row_out r)) (λ e i. none_since (t.entered a) (t.row_out r) (ap t.row_out e ∙ (T.slots p x l s reached sx).1)) (λ ne. h.learnt_since r);
-    seen_learnt = λ r w e. more (knows a).read.learnt x r (h.seen_learnt r w e);
-    roots_inside = h.roots_inside;
-    roots_since = h.roots_since;
-    heads_since = λ q y. by_test q p (λ z. cond z (Some x) ((knows a).read.heads q) ≡ Some y → HeldHead m.rows t.page_out (t.entered a) (put (knows a).read.learnt x true) q y)
-        (λ e i. subst (λ j. HeldHead m.rows t.page_out (t.entered a) (put (knows a).read.learnt x true) j y) (sym e) (subst (λ j. HeldHead m.rows t.page_out (t.entered a) (put (knows a).read.learnt x true) p j) (same_Some x y i) here))
-        (λ ne i. head_more m.rows t.page_out (t.entered a) (knows a).read.learnt (put (knows a).read.learnt x true) q y (more (knows a).read.learnt x) (h.heads_since q y i));
-    before_since = λ q f y. by_test q p (λ z. cond z (knows a).read.heads ((knows a).read.before q) f ≡ Some y → HeldHead m.rows t.page_out (t.entered a) (put (knows a).read.learnt x true) f y)
-        (λ e i. head_more m.rows t.page_out (t.entered a) (knows a).read.learnt (put (knows a).read.learnt x true) f y (more (knows a).read.learnt x) (h.heads_since f y i))
-        (λ ne i. head_more m.rows t.page_out (t.entered a) (knows a).read.learnt (put (knows a).read.learnt x true) f y (more (knows a).read.learnt x) (h.before_since q f y i));
-    beside_since = λ q f y z. by_test q p (λ u. cond u (Some x) ((knows a).read.heads q) ≡ Some y → cond u (knows a).read.heads ((knows a).read.before q) f ≡ Some z → HeldBeside m.rows t.page_out (t.entered a) f y z)
-        (λ e i j. subst (λ v. HeldBeside m.rows t.page_out (t.entered a) f v z) (same_Some x y i) (beside f z j))
-        (λ ne. h.beside_since q f y z);
-    linked_learnt = λ y i. more (knows a).read.learnt x y (h.linked_learnt y i);
-  }
+  head_holds inside p x sx l s reached spells there =
+      let here : HeldHead m.rows t.page_out (t.entered a) (put (knows a).read.learnt x true) p x = record {
+        learnt_row = put_same (knows a).read.learnt x true;
+        page = none_since (t.entered a) (t.page_out p) (not_out p x sx);
+        chain = spells.chain;
+        is_chain = spells.is_chain;
+        names = λ alive. place_since (t.entered a) (record { page = p; row = x; chain = spells.chain }) (alive_place g a p l s reached x sx spells.chain spells.is_chain alive);
+      } in
+      record {
+        learnt_inside = λ r i. inside;
+        learnt_since = λ r. by_test r x (λ z. cond z true ((knows a).read.learnt r) ≡ true → IsSince (t.entered a) (t.row_out r)) (λ e i. none_since (t.entered a) (t.row_out r) (ap t.row_out e ∙ (T.slots p x l s reached sx).1)) (λ ne. h.learnt_since r);
+        seen_learnt = λ r w e. more (knows a).read.learnt x r (h.seen_learnt r w e);
+        roots_inside = h.roots_inside;
+        roots_since = h.roots_since;
+        heads_since = λ q y. by_test q p (λ z. cond z (Some x) ((knows a).read.heads q) ≡ Some y → HeldHead m.rows t.page_out (t.entered a) (put (knows a).read.learnt x true) q y)
+            (λ e i. subst (λ j. HeldHead m.rows t.page_out (t.entered a) (put (knows a).read.learnt x true) j y) (sym e) (subst (λ j. HeldHead m.rows t.page_out (t.entered a) (put (knows a).read.learnt x true) p j) (same_Some x y i) here))
+            (λ ne i. head_more m.rows t.page_out (t.entered a) (knows a).read.learnt (put (knows a).read.learnt x true) q y (more (knows a).read.learnt x) (h.heads_since q y i));
+        before_since = λ q f y. by_test q p (λ z. cond z (knows a).read.heads ((knows a).read.before q) f ≡ Some y → HeldHead m.rows t.page_out (t.entered a) (put (knows a).read.learnt x true) f y)
+            (λ e i. head_more m.rows t.page_out (t.entered a) (knows a).read.learnt (put (knows a).read.learnt x true) f y (more (knows a).read.learnt x) (h.heads_since f y i))
+            (λ ne i. head_more m.rows t.page_out (t.entered a) (knows a).read.learnt (put (knows a).read.learnt x true) f y (more (knows a).read.learnt x) (h.before_since q f y i));
+        beside_since = λ q f y z. by_test q p (λ u. cond u (Some x) ((knows a).read.heads q) ≡ Some y → cond u (knows a).read.heads ((knows a).read.before q) f ≡ Some z → HeldBeside m.rows t.page_out (t.entered a) f y z)
+            (λ e i j. subst (λ v. HeldBeside m.rows t.page_out (t.entered a) f v z) (same_Some x y i) ((at_chain there) f z j))
+            (λ ne. h.beside_since q f y z);
+        linked_learnt = λ y i. more (knows a).read.learnt x y (h.linked_learnt y i);
+      }
     where
-      h : Holds m.rows t.row_out t.page_out (t.entered a) (knows a).inside (knows a).read.seen (knows a).read.learnt (knows a).read.roots (knows a).read.heads (knows a).read.before (knows a).asked.linked
+      h : HoldsBy m.rows t.row_out t.page_out (t.entered a) (knows a)
       h = T.holds a
 
       at_chain : Reached 0 (level_in spells.chain) (low_in spells.chain) (o.page p) → (f z : ℕ) → (knows a).read.heads f ≡ Some z → HeldBeside m.rows t.page_out (t.entered a) f x z
@@ -186,18 +165,6 @@ module _ {limits : Limits} {m : Memory} {log : List Update} {o : Owners} {knows 
             is_left = spells.is_chain;
             since = λ gone alive right. place_since (t.entered a) (record { page = f; row = z; chain = d.chain }) (beyond_place g a p x sx spells.chain spells.is_chain there alive f z right j d.chain d.is_chain gone);
           }
-
-      beside : (f z : ℕ) → (knows a).read.heads f ≡ Some z → HeldBeside m.rows t.page_out (t.entered a) f x z
-      beside = at_chain there
-
-      here : HeldHead m.rows t.page_out (t.entered a) (put (knows a).read.learnt x true) p x
-      here = record {
-        learnt_row = put_same (knows a).read.learnt x true;
-        page = none_since (t.entered a) (t.page_out p) (not_out p x sx (t.page_out p) refl);
-        chain = spells.chain;
-        is_chain = spells.is_chain;
-        names = λ alive. place_since (t.entered a) (record { page = p; row = x; chain = spells.chain }) (alive_place g a p l s reached x sx spells.chain spells.is_chain alive);
-      }
 
   -- the actor reads a row
   pub row_holds : (q : ℕ) (w : Record) → (knows a).read.learnt q ≡ true → m.rows q ≡ Some w → Holds m.rows t.row_out t.page_out (t.entered a) (knows a).inside (put (knows a).read.seen q (Some w)) (learnt_next (next_row w) (knows a).read.learnt) (knows a).read.roots (knows a).read.heads (knows a).read.before (knows a).asked.linked
@@ -213,7 +180,7 @@ module _ {limits : Limits} {m : Memory} {log : List Update} {o : Owners} {knows 
     linked_learnt = λ x i. grows (next_row w) x (h.linked_learnt x i);
   }
     where
-      h : Holds m.rows t.row_out t.page_out (t.entered a) (knows a).inside (knows a).read.seen (knows a).read.learnt (knows a).read.roots (knows a).read.heads (knows a).read.before (knows a).asked.linked
+      h : HoldsBy m.rows t.row_out t.page_out (t.entered a) (knows a)
       h = T.holds a
 
       grows : (n : Option ℕ) (r : ℕ) → (knows a).read.learnt r ≡ true → learnt_next n (knows a).read.learnt r ≡ true

@@ -1,34 +1,13 @@
 -- Each allowed step but a reuse keeps what actors hold, with the times after it.
-use Rattle.std.proofs.Common.{◌≡◌, ◌≢◌, ◌⊎◌, inl, inr, ℕ, zero, suc, ◌<◌, ◌≤◌, ◌+◌, List, [], Option, Some, None, Bool, true, false, cond, eqb, refl, sym, ap, ◌∙◌, subst, ⊎_elim, arith}
-use Rattle.std.proofs.lemmas.Option.{same_Some}
-use Rattle.bw_model.specs.declared.command.Reply.{Reply}
-use Rattle.bw_model.specs.declared.limits.Limits.{Limits}
-use Rattle.bw_model.specs.declared.step.Step.{Step as StepOf}
-use Rattle.bw_model.specs.declared.step.Step.TheVariants.{Slot, Row, Epoch, Announce, PidBits, RowBits, Place, Exchange, TakePid, TakeRow, Enter, Leave, Retire, ReusePids, ReuseRows}
-use Rattle.bw_model.specs.declared.step.Answer.{Answer}
+use Rattle.tree_law.proofs.Words.{false, ◌⊎◌, [], ap, refl, cond, Option, suc, None, List, true, inl, ◌≢◌, ◌≤◌, inr, subst, sym, ℕ, ◌≡◌, Bool, zero, ◌∙◌, ◌<◌, arith, Some, ◌+◌, eqb, ⊎_elim, same_Some}
+use Rattle.tree_law.proofs.Words.{Update, set, unset, Reply, Limits, Answer, StepOf, ReuseRows, ReusePids, Leave, TakePid, Row, Place, TakeRow, Slot, Enter, Epoch, Exchange, Announce, Retire, Memory}
+use Rattle.tree_law.proofs.Words.{replaced_at, next_row, Record, Remove, Base, Hold, Split, Put, Delete, Merge, Term, Unterm, SplitOf, low_in, level_in, May, IsOwn, MayExchange, IsOwnBase, MayLink}
+use Rattle.tree_law.proofs.Words.{MayRoot, MayAdd, base_from, HasRead, update_record, Knowledge, finished, Ready, learn, OwnPage, Other, Written, filled, rooted, OwnRow, emptied, IsAnswer}
+use Rattle.tree_law.proofs.Words.{memory_after, Key, IsReuse, IsMoved, Next, IsHomed, Linked, Owners, Reached, Spare, Owner, OwnFits, PageFits, Placed, Indexed, PageOwner, Cleared, Keeps, Fresh}
+use Rattle.tree_law.proofs.Words.{Removed, Held, Merged, Stage, LinkMoves, Exchanged, put, shared, slot_in, row_in, Times, Timed, times_after, Holds, split_page, IsTree}
 use Rattle.bw_model.specs.declared.step.Answer.TheVariants as answer
-use Rattle.bw_model.specs.Log.{Update, set, unset}
-use Rattle.deltas.specs.declared.record.Record.{Record}
-use Rattle.deltas.specs.declared.record.Record.TheVariants.{Base, Put, Delete, Split, Term, Hold, Remove, Merge, Unterm}
-use Rattle.deltas.specs.declared.record.Split.{Split as SplitOf}
-use Rattle.deltas.specs.Memory.{Memory, replaced_at}
-use Rattle.deltas.specs.Records.{next_row}
-use Rattle.chain_search.specs.Chains.{low_in, level_in}
-use Rattle.chain_search.specs.Discipline.{update_record, base_from, HasRead, IsOwn, IsOwnBase, MayAdd, MayLink, MayRoot, MayExchange, May}
-use Rattle.chain_search.specs.Knowledge.{OwnRow, Foreign, Taken, Written, OwnPage, Other, Ready, Knowledge, learn, filled, emptied, rooted, finished}
-use Rattle.chain_search.specs.Steps.{IsAnswer, memory_after}
-use Rattle.tree_law.specs.Keys.{Key}
-use Rattle.tree_law.specs.Next.{IsReuse, IsMoved, IsHomed, Next}
-use Rattle.tree_law.specs.Owners.{Owner, Spare, Linked, Owners, Reached, OwnFits, PageFits}
-use Rattle.tree_law.specs.Phase.{Stage, Fresh, Indexed, Held, Removed, Merged, PageOwner, Keeps, Placed, Cleared}
-use Rattle.tree_law.specs.Phases.{LinkMoves, Exchanged}
-use Rattle.tree_law.specs.Put.{put}
-use Rattle.tree_law.specs.Shared.{row_in, slot_in, shared}
-use Rattle.tree_law.specs.Tree.{IsTree}
-use Rattle.tree_law.specs.Times.{Outing, Times, Holds, Timed, split_page, times_after}
 use Rattle.tree_law.proofs.links.Keeping.{slot_of, met_placed}
-use Rattle.tree_law.proofs.shape.Kept.{placed_reached}
-use Rattle.tree_law.proofs.shape.Puts.{by_test, put_other}
+use Rattle.tree_law.proofs.shape.{placed_reached, by_test, put_other, own_base, none_if}
 use Rattle.tree_law.proofs.links.Relinking.{not_own, found, place_of}
 use Rattle.tree_law.proofs.epochs.Timely.{Calm, still_timed, read_timed, not_out, placed_in, root_holds, head_holds, row_holds}
 use Rattle.tree_law.proofs.epochs.Seasons.{enter_timed, leave_timed, epoch_timed, announce_timed, place_timed, take_row_timed, take_pid_timed}
@@ -42,9 +21,6 @@ record IsLink (k : Knowledge) (page old new : ℕ) : Type 0 where
   placed : k.own.rows new ≡ Written content
   over : (n : ℕ) → next_row content ≡ Some n → n ≡ old
   split : (s : SplitOf) → content ≡ Split s → (base : ℕ) × (k.own.pages s.page ≡ Ready base) × IsOwn (k.own.rows base) × (base ≢ new)
-
-no_split : (w : Record) (s : SplitOf) → (w ≡ Split s → ⊥) → {X : Type 0} → w ≡ Split s → X
-no_split w s f {X} e = absurd (f e)
 
 update_over : (u : Update) (x n : ℕ) → next_row (update_record u x) ≡ Some n → n ≡ x
 update_over (set b k v) x n e = sym (same_Some x n e)
@@ -74,11 +50,7 @@ link_of a k page old new add = by_kind add.content add.placed add.due
           over = λ n f. sym (same_Some old n f);
           split = λ s f. let same : w ≡ s = cc in (h.row, ap k.own.pages (ap (λ v. v.page) (sym same)) ∙ h.ready, rw h.base tt, λ i. let z : Written b ≡ Written (Split w) = sym h.base ∙ ap k.own.rows i ∙ e ∙ ap Written h.is in cc);
         }
-    by_kind (Term term) e h = over (Term term) e _ h.is (λ n f. sym (same_Some old n f)) (λ s f. cc)
-    by_kind (Hold hold) e h = over (Hold hold) e _ h.is (λ n f. sym (same_Some old n f)) (λ s f. cc)
-    by_kind (Remove remove) e h = over (Remove remove) e _ h.is (λ n f. sym (same_Some old n f)) (λ s f. cc)
-    by_kind (Merge merge) e h = over (Merge merge) e _ h.is (λ n f. sym (same_Some old n f)) (λ s f. cc)
-    by_kind (Unterm unterm) e h = over (Unterm unterm) e _ h.is (λ n f. sym (same_Some old n f)) (λ s f. cc)
+    by_kind content e h = over content e _ h.is (λ n f. sym (same_Some old n f)) (λ s f. cc)
 
 -- where a page goes on, it was in the tree before
 put_reached : (f f' : ℕ → PageOwner) (c l0 : ℕ) (s0 : Key) (st : Stage) (n : PageOwner) → f c ≡ Placed st l0 s0 → f' ≡ put f c n → ((l : ℕ) (s : Key) → Reached 0 l s n → (l0 ≡ l) × (s0 ≡ s)) → (q l : ℕ) (s : Key) → Reached 0 l s (f' q) → Reached 0 l s (f q)
@@ -107,20 +79,19 @@ module _ {limits : Limits} {m : Memory} {log : List Update} {o : Owners} {knows 
   -- a step that takes nothing out and links nothing
   pub calm_next : (s : StepOf Record) (x : Answer Record) (r : Option Reply) (m' : Memory) (n : Next a (shared m) (shared m') log o knows point logs s x r) → m'.slots ≡ m.slots → ((row : ℕ) → IsHomed (shared m) s x row → ⊥)
       → ((p l : ℕ) (k : Key) → Reached 0 l k (n.owners.page p) → Reached 0 l k (o.page p)) → ((p b l : ℕ) (k : Key) → o.page p ≡ Cleared b l k → n.owners.page p ≡ Cleared b l k) → m.epoch ≤ m'.epoch → ((b : ℕ) → b ≢ a → m'.announced b ≡ m.announced b) → Calm g T a m' n.owners
-  calm_next s x r m' n slots homed reached cleared epoch announced = record {
-    slots = λ p. ap (λ f. slot_in f p) slots;
-    kept = λ j l. (n.kept j l).1;
-    stay = λ j l. (n.kept j l).0;
-    back = back;
-    spare = λ j b e. still_spare b (m.free_rows j) (o.row j) (n.owners.row j) e (back j) (n.moved j);
-    reached = reached;
-    cleared = cleared;
-    epoch = epoch;
-    announced = announced;
-  }
-    where
-      back : (j : ℕ) → n.owners.row j ≡ Linked → o.row j ≡ Linked
-      back j l = ⊎_elim (λ (u : o.row j ≡ Linked). u) (λ (u : IsHomed (shared m) s x j). absurd (homed j u)) (n.homed j l)
+  calm_next s x r m' n slots homed reached cleared epoch announced =
+      let back : (j : ℕ) → n.owners.row j ≡ Linked → o.row j ≡ Linked = λ j l. ⊎_elim (λ (u : o.row j ≡ Linked). u) (λ (u : IsHomed (shared m) s x j). absurd (homed j u)) (n.homed j l) in
+      record {
+        slots = λ p. ap (λ f. slot_in f p) slots;
+        kept = λ j l. (n.kept j l).1;
+        stay = λ j l. (n.kept j l).0;
+        back = back;
+        spare = λ j b e. still_spare b (m.free_rows j) (o.row j) (n.owners.row j) e (back j) (n.moved j);
+        reached = reached;
+        cleared = cleared;
+        epoch = epoch;
+        announced = announced;
+      }
 
   -- one that leaves pages whose they are
   calm_pages : (s : StepOf Record) (x : Answer Record) (r : Option Reply) (m' : Memory) (n : Next a (shared m) (shared m') log o knows point logs s x r) → m'.slots ≡ m.slots → ((row : ℕ) → IsHomed (shared m) s x row → ⊥) → n.owners.page ≡ o.page → m.epoch ≤ m'.epoch → ((b : ℕ) → b ≢ a → m'.announced b ≡ m.announced b) → Calm g T a m' n.owners
@@ -129,6 +100,8 @@ module _ {limits : Limits} {m : Memory} {log : List Update} {o : Owners} {knows 
   reads : (p : ℕ) (v : ℕ) (r : Option Reply) → May a (knows a) (Slot (suc p)) → m.slots (suc p) ≡ v → After m (Slot (suc p)) (answer.Number v) r
   reads p zero r may e n = still_timed g T a m n.owners (finished (learn (knows a) (Slot (suc p)) (answer.Number 0)) r) (calm_pages (Slot (suc p)) (answer.Number 0) r m n refl (λ row h. h) n.phased (omega arith) (λ b ne. refl)) refl refl refl refl refl refl refl refl refl refl refl refl refl
   reads p (suc x) r may e n =
+      let Holds' : ℕ → Type 0 =
+      λ j. Holds m.rows t.row_out t.page_out (t.entered a) (knows a).inside (knows a).read.seen (put (knows a).read.learnt j true) (knows a).read.roots (put (knows a).read.heads (suc p) (Some j)) (put (knows a).read.before (suc p) (knows a).read.heads) (knows a).asked.linked in
       let here = met_placed g a (suc p) may.1 in
       elim (slot_of g a (suc p) here.0 here.1 here.2) [
         | inl none ↦ absurd (let f = sym none ∙ ap row_in e in cc)
@@ -136,14 +109,6 @@ module _ {limits : Limits} {m : Memory} {log : List Update} {o : Owners} {knows 
             read_timed g T a m n.owners (finished (learn (knows a) (Slot (suc p)) (answer.Number (suc x))) r) (calm_pages (Slot (suc p)) (answer.Number (suc x)) r m n refl (λ row h. h) n.phased (omega arith) (λ b ne. refl)) refl refl
             (subst (λ j. Holds' j) same (head_holds g T a may.0 (suc p) v.0 v.1 here.0 here.1 here.2 v.2 v.3)) refl refl refl refl refl)
       ]
-    where
-      Holds' : ℕ → Type 0
-      Holds' j = Holds m.rows t.row_out t.page_out (t.entered a) (knows a).inside (knows a).read.seen (put (knows a).read.learnt j true) (knows a).read.roots (put (knows a).read.heads (suc p) (Some j)) (put (knows a).read.before (suc p) (knows a).read.heads) (knows a).asked.linked
-
-  own_base : (v : OwnRow) → IsOwnBase v → IsOwn v
-  own_base Foreign h = absurd h
-  own_base Taken h = tt
-  own_base (Written w) h = tt
 
   base_stands : (q : ℕ) (v : OwnRow) → OwnFits a (o.row q) (m.rows q) v → IsOwnBase v → (w : Record) → m.rows q ≡ Some w → next_row w ≡ None
   base_stands q (Written (Base page)) h i w e = ap next_row (same_Some w (Base page) (sym e ∙ h.1))
@@ -170,9 +135,6 @@ module _ {limits : Limits} {m : Memory} {log : List Update} {o : Owners} {knows 
   -- what a link does with pages
   links_pages : (p x y : ℕ) (w : Record) (f' : ℕ → PageOwner) → m.rows (suc y) ≡ Some w → ((s : SplitOf) → w ≡ Split s → (base : ℕ) × ((knows a).own.pages s.page ≡ Ready base) × IsOwn ((knows a).own.rows base) × (base ≢ suc y)) → LinkMoves (shared m) a w (suc p) o.page f' → Reach p y f' × Clears f'
   unfolding Reach Clears
-  links_pages p x y (Base w) f' st sp h = (same_reach p y f' h, same_clears f' h)
-  links_pages p x y (Put w) f' st sp h = (same_reach p y f' h, same_clears f' h)
-  links_pages p x y (Delete w) f' st sp h = (same_reach p y f' h, same_clears f' h)
   links_pages p x y (Term w) f' st sp h = (put_reach p y f' w.child h.0 w.separator Fresh (Placed Indexed h.0 w.separator) h.1 h.2 (λ l s r. (r.0, r.1)), put_cleared o.page f' w.child h.0 w.separator Fresh (Placed Indexed h.0 w.separator) h.1 h.2)
   links_pages p x y (Hold w) f' st sp h = (put_reach p y f' w.child h.0 w.separator Indexed (Placed Held h.0 w.separator) h.1 h.2 (λ l s r. (r.0, r.1)), put_cleared o.page f' w.child h.0 w.separator Indexed (Placed Held h.0 w.separator) h.1 h.2)
   links_pages p x y (Unterm w) f' st sp h = (put_reach p y f' w.child h.0 w.separator Merged (Cleared a h.0 w.separator) h.1 h.2 (λ l s r. (r.0, r.1)), put_cleared o.page f' w.child h.0 w.separator Merged (Cleared a h.0 w.separator) h.1 h.2)
@@ -196,18 +158,20 @@ module _ {limits : Limits} {m : Memory} {log : List Update} {o : Owners} {knows 
 
       cleared : Clears f'
       cleared q c l s e = ap (λ (f : ℕ → PageOwner). f q) h.5 ∙ put_other o.page w.page (Placed Fresh h.1 w.separator) q (λ i. absurd (let z = sym e ∙ ap o.page i ∙ h.4 in cc)) ∙ e
+  links_pages p x y w f' st sp h = (same_reach p y f' h, same_clears f' h)
 
-  no_page_out : (q : ℕ) → o.page q ≡ Keeps a → (out : Option Outing) → t.page_out q ≡ out → out ≡ None
-  no_page_out q e None i = refl
-  no_page_out q e (Some w) i = absurd (let f = sym e ∙ (T.pages q w i).0.2 in cc)
+  no_page_out : (q : ℕ) → o.page q ≡ Keeps a → t.page_out q ≡ None
+  no_page_out q e = none_if (t.page_out q) (λ w i. let f = sym e ∙ (T.pages q w i).0.2 in cc)
 
   -- an exchange of a page's slot to a row, which won
   fills : (p x y : ℕ) (r : Option Reply) → MayExchange a (knows a) (suc p) x (suc y) → slot_in m.slots (suc p) ≡ row_in x → After (record m { slots = replaced_at (suc p) (suc y) m.slots }) (Exchange (suc p) x (suc y)) (answer.Whether true) r
   unfolding Reach Clears
-  fills p zero y r may held n = subst (λ (v : OwnPage). Timed limits m' n.owners (put knows a (finished (filled v (suc p) zero (suc y) (knows a)) r)) (suc now) (times_after a m o now (Exchange (suc p) zero (suc y)) (answer.Whether true) t)) (sym may.0)
+  fills p zero y r may held n =
+      let m' : Memory = record m { slots = replaced_at (suc p) (suc y) m.slots } in
+      subst (λ (v : OwnPage). Timed limits m' n.owners (put knows a (finished (filled v (suc p) zero (suc y) (knows a)) r)) (suc now) (times_after a m o now (Exchange (suc p) zero (suc y)) (answer.Whether true) t)) (sym may.0)
       (ready_timed g T a p zero y n.owners (record {
         own = own_base ((knows a).own.rows (suc y)) may.1;
-        page_in = no_page_out (suc p) n.phased.1 (t.page_out (suc p)) refl;
+        page_in = no_page_out (suc p) n.phased.1;
         under = λ j w e i. absurd (let z = sym (base_stands (suc y) ((knows a).own.rows (suc y)) (g.owns a (suc y)) may.1 w e) ∙ i in cc);
         reached = same_reach p y n.owners.page n.phased.0;
         homed = n.homed;
@@ -215,26 +179,22 @@ module _ {limits : Limits} {m : Memory} {log : List Update} {o : Owners} {knows 
         spare = λ j b e. spare_or b (m.free_rows j) (o.row j) (n.owners.row j) e (n.moved j);
         cleared = same_clears n.owners.page n.phased.0;
       }) may.0 may.1 may.2 r)
-    where
-      m' : Memory
-      m' = record m { slots = replaced_at (suc p) (suc y) m.slots }
   fills p (suc x) y r may held n =
+      let m' : Memory = record m { slots = replaced_at (suc p) (suc y) m.slots } in
       let h = link_of a (knows a) (suc p) (suc x) (suc y) may in
       let f = found g a (suc p) (suc x) h.basis in
       let place = place_of g a (suc p) (suc x) h.basis.chain f h.basis.alive held in
       let other : (knows a).own.pages (suc p) ≡ Other = not_own g a (suc p) (level_in h.basis.chain) (low_in h.basis.chain) place.stage place.placed ((knows a).own.pages (suc p)) (g.owns_pages a (suc p)) in
       let own : (o.row (suc y) ≡ Spare a) × (m.rows (suc y) ≡ Some h.content) = subst (λ (v : OwnRow). OwnFits a (o.row (suc y)) (m.rows (suc y)) v) h.placed (g.owns a (suc y)) in
-      let same : n.phased.0 ≡ h.content = same_Some n.phased.0 h.content (sym n.phased.1 ∙ own.1) in
-      let links = subst (λ (w : Record). LinkMoves (shared m) a w (suc p) o.page n.owners.page) same n.phased.2 in
+      let links = subst (λ (w : Record). LinkMoves (shared m) a w (suc p) o.page n.owners.page) (same_Some n.phased.0 h.content (sym n.phased.1 ∙ own.1)) n.phased.2 in
       let pages = links_pages p (suc x) y h.content n.owners.page own.1 h.split links in
       let at = T.slots (suc p) (suc x) (level_in h.basis.chain) (low_in h.basis.chain) f.reached held in
       subst (λ (k : Knowledge). Timed limits m' n.owners (put knows a (finished k r)) (suc now) (times_after a m o now (Exchange (suc p) (suc x) (suc y)) (answer.Whether true) t)) (sym (rw (other, h.placed) refl))
       (linked_timed g T a p (suc x) y n.owners (record {
         own = rw h.placed tt;
-        page_in = not_out g T a (suc p) (suc x) held (t.page_out (suc p)) refl;
+        page_in = not_out g T a (suc p) (suc x) held;
         under = λ j w e i.
-            let v : w ≡ h.content = same_Some w h.content (sym e ∙ own.1) in
-            let z : j ≡ suc x = h.over j (ap next_row (sym v) ∙ i) in
+            let z : j ≡ suc x = h.over j (ap next_row (sym (same_Some w h.content (sym e ∙ own.1))) ∙ i) in
             (ap t.home z ∙ at.0, ap t.row_out z ∙ at.1, ap o.row z ∙ f.linked);
         reached = pages.0;
         homed = n.homed;
@@ -246,11 +206,8 @@ module _ {limits : Limits} {m : Memory} {log : List Update} {o : Owners} {knows 
       ((T.holds a).heads_since (suc p) (suc x) h.basis.head).learnt_row
       (f.linked, at.0, at.1)
       r h.content own.1
-      (λ u e. let l = subst (λ (w : Record). LinkMoves (shared m) a w (suc p) o.page n.owners.page) e links in placed_in g T a u.child l.0 u.separator Merged l.1 (t.page_out u.child) refl)
+      (λ u e. let l = subst (λ (w : Record). LinkMoves (shared m) a w (suc p) o.page n.owners.page) e links in placed_in g T a u.child l.0 u.separator Merged l.1)
       (λ s e. let b = h.split s e in (b.0, b.1)))
-    where
-      m' : Memory
-      m' = record m { slots = replaced_at (suc p) (suc y) m.slots }
 
   emptying_of : (p x : ℕ) (r : Option Reply) → slot_in m.slots (suc p) ≡ Some (suc x) → ((b l : ℕ) (s : Key) → o.page (suc p) ≡ Cleared b l s → b ≡ a) → (n : Next a (shared m) (shared (record m { slots = replaced_at (suc p) 0 m.slots })) log o knows point logs (Exchange (suc p) (suc x) 0) (answer.Whether true) r) → Emptying g T a p (suc x) n.owners
   emptying_of p x r held whose n = record {
@@ -268,23 +225,21 @@ module _ {limits : Limits} {m : Memory} {log : List Update} {o : Owners} {knows 
   -- an exchange of a page's slot to 0, which won
   clears : (p x : ℕ) (r : Option Reply) → MayExchange a (knows a) (suc p) x 0 → slot_in m.slots (suc p) ≡ row_in x → After (record m { slots = replaced_at (suc p) 0 m.slots }) (Exchange (suc p) x 0) (answer.Whether true) r
   clears p zero r may held n = absurd may
-  clears p (suc x) r (inl ready) held n = subst (λ (v : OwnPage). Timed limits m' n.owners (put knows a (finished (emptied v (suc p) (suc x) (knows a)) r)) (suc now) (times_after a m o now (Exchange (suc p) (suc x) 0) (answer.Whether true) t)) (sym ready)
+  clears p (suc x) r (inl ready) held n =
+      let m' : Memory = record m { slots = replaced_at (suc p) 0 m.slots } in
+      let own : o.page (suc p) ≡ Keeps a = (subst (λ (v : OwnPage). PageFits a (o.page (suc p)) (slot_in m.slots (suc p)) v) ready (g.owns_pages a (suc p))).0 in
+      subst (λ (v : OwnPage). Timed limits m' n.owners (put knows a (finished (emptied v (suc p) (suc x) (knows a)) r)) (suc now) (times_after a m o now (Exchange (suc p) (suc x) 0) (answer.Whether true) t)) (sym ready)
       (undone_timed g T a p (suc x) n.owners (emptying_of p x r held (λ b l s e. absurd (let f = sym own ∙ e in cc)) n) own r)
-    where
-      m' : Memory
-      m' = record m { slots = replaced_at (suc p) 0 m.slots }
-
-      own : o.page (suc p) ≡ Keeps a
-      own = (subst (λ (v : OwnPage). PageFits a (o.page (suc p)) (slot_in m.slots (suc p)) v) ready (g.owns_pages a (suc p))).0
-  clears p (suc x) r (inr gone) held n = subst (λ (v : OwnPage). Timed limits m' n.owners (put knows a (finished (emptied v (suc p) (suc x) (knows a)) r)) (suc now) (times_after a m o now (Exchange (suc p) (suc x) 0) (answer.Whether true) t)) (sym gone)
+  clears p (suc x) r (inr gone) held n =
+      let m' : Memory = record m { slots = replaced_at (suc p) 0 m.slots } in
+      subst (λ (v : OwnPage). Timed limits m' n.owners (put knows a (finished (emptied v (suc p) (suc x) (knows a)) r)) (suc now) (times_after a m o now (Exchange (suc p) (suc x) 0) (answer.Whether true) t)) (sym gone)
       (cleared_timed g T a p (suc x) n.owners (emptying_of p x r held (λ b l s e. let w = (subst (λ (v : OwnPage). PageFits a (o.page (suc p)) (slot_in m.slots (suc p)) v) gone (g.owns_pages a (suc p))) in let f : Cleared b l s ≡ Cleared a w.0 w.1 = sym e ∙ w.2 in let z : b ≡ a = cc in z) n) gone r)
-    where
-      m' : Memory
-      m' = record m { slots = replaced_at (suc p) 0 m.slots }
 
   -- an exchange of slot 0, which won
   roots : (x y : ℕ) (r : Option Reply) → MayRoot (knows a) x y → After (record m { slots = replaced_at 0 y m.slots }) (Exchange 0 x y) (answer.Whether true) r
-  roots x y r h n = subst (λ (v : OwnPage). Timed limits m' n.owners (put knows a (finished (rooted v y (knows a)) r)) (suc now) (times_after a m o now (Exchange 0 x y) (answer.Whether true) t)) (sym h.ready)
+  roots x y r h n =
+      let m' : Memory = record m { slots = replaced_at 0 y m.slots } in
+      subst (λ (v : OwnPage). Timed limits m' n.owners (put knows a (finished (rooted v y (knows a)) r)) (suc now) (times_after a m o now (Exchange 0 x y) (answer.Whether true) t)) (sym h.ready)
       (rooted_timed g T a x y n.owners (record {
         base = h.base_row;
         ready = h.ready;
@@ -295,9 +250,6 @@ module _ {limits : Limits} {m : Memory} {log : List Update} {o : Owners} {knows 
         cleared = λ q b l s i. ap (λ (f : ℕ → PageOwner). f q) e.6 ∙ put_other (put o.page e.0 (Placed Indexed e.1 e.2)) y (Placed Indexed (suc e.1) []) q (λ j. absurd (let z = sym i ∙ ap o.page j ∙ e.5 in cc)) ∙ put_other o.page e.0 (Placed Indexed e.1 e.2) q (λ j. absurd (let z = sym i ∙ ap o.page j ∙ e.4 in cc)) ∙ i;
       }) r)
     where
-      m' : Memory
-      m' = record m { slots = replaced_at 0 y m.slots }
-
       e : Exchanged a (shared m) 0 x y o.page n.owners.page
       e = n.phased
 
@@ -315,12 +267,9 @@ module _ {limits : Limits} {m : Memory} {log : List Update} {o : Owners} {knows 
   exchange (suc p) x zero r h = by_test (m.slots (suc p)) x (λ z. After (record m { slots = cond z (replaced_at (suc p) 0 m.slots) m.slots }) (Exchange (suc p) x 0) (answer.Whether z) r) (λ e. clears p x r h (ap row_in e)) (λ ne. loses (suc p) x 0 r m refl refl (λ row i. i))
   exchange (suc p) x (suc y) r h = by_test (m.slots (suc p)) x (λ z. After (record m { slots = cond z (replaced_at (suc p) (suc y) m.slots) m.slots }) (Exchange (suc p) x (suc y)) (answer.Whether z) r) (λ e. fills p x y r h (ap row_in e)) (λ ne. loses (suc p) x (suc y) r m refl refl (λ row i. i))
 
-  still : (s : StepOf Record) (x : Answer Record) (r : Option Reply) (m' : Memory) (n : Next a (shared m) (shared m') log o knows point logs s x r) → m'.slots ≡ m.slots → ((row : ℕ) → IsHomed (shared m) s x row → ⊥) → n.owners.page ≡ o.page → m.epoch ≤ m'.epoch → ((b : ℕ) → b ≢ a → m'.announced b ≡ m.announced b) → Calm g T a m' n.owners
-  still s x r m' n = calm_pages s x r m' n
-
   takes_row : (q : ℕ) (r : Option Reply) (z : Bool) → m.free_rows q ≡ z → After (memory_after a (TakeRow q) m) (TakeRow q) (answer.Whether z) r
-  takes_row q r true e n = take_row_timed g T a q r e n.owners (still (TakeRow q) (answer.Whether true) r (memory_after a (TakeRow q) m) n refl (λ row i. i) n.phased (omega arith) (λ b ne. refl))
-  takes_row q r false e n = still_timed g T a (memory_after a (TakeRow q) m) n.owners (finished (knows a) r) (still (TakeRow q) (answer.Whether false) r (memory_after a (TakeRow q) m) n refl (λ row i. i) n.phased (omega arith) (λ b ne. refl)) refl refl refl refl refl refl refl refl refl refl refl refl refl
+  takes_row q r true e n = take_row_timed g T a q r e n.owners (calm_pages (TakeRow q) (answer.Whether true) r (memory_after a (TakeRow q) m) n refl (λ row i. i) n.phased (omega arith) (λ b ne. refl))
+  takes_row q r false e n = still_timed g T a (memory_after a (TakeRow q) m) n.owners (finished (knows a) r) (calm_pages (TakeRow q) (answer.Whether false) r (memory_after a (TakeRow q) m) n refl (λ row i. i) n.phased (omega arith) (λ b ne. refl)) refl refl refl refl refl refl refl refl refl refl refl refl refl
 
   takes_pid : (q : ℕ) (r : Option Reply) (z : Bool) → m.free_pids q ≡ z → After (memory_after a (TakePid q) m) (TakePid q) (answer.Whether z) r
   takes_pid q r true e n = take_pid_timed g T a q r n.owners (calm_next (TakePid q) (answer.Whether true) r (memory_after a (TakePid q) m) n refl (λ row i. i) reached cleared (omega arith) (λ b ne. refl))
@@ -333,26 +282,24 @@ module _ {limits : Limits} {m : Memory} {log : List Update} {o : Owners} {knows 
 
       cleared : (p b l : ℕ) (k : Key) → o.page p ≡ Cleared b l k → n.owners.page p ≡ Cleared b l k
       cleared p b l k i = ap (λ (f : ℕ → PageOwner). f p) n.phased ∙ put_other o.page q (Keeps a) p (λ j. absurd (let v = sym i ∙ ap o.page j ∙ (g.frees.page q e).0 in cc)) ∙ i
-  takes_pid q r false e n = still_timed g T a (memory_after a (TakePid q) m) n.owners (finished (knows a) r) (still (TakePid q) (answer.Whether false) r (memory_after a (TakePid q) m) n refl (λ row i. i) n.phased (omega arith) (λ b ne. refl)) refl refl refl refl refl refl refl refl refl refl refl refl refl
+  takes_pid q r false e n = still_timed g T a (memory_after a (TakePid q) m) n.owners (finished (knows a) r) (calm_pages (TakePid q) (answer.Whether false) r (memory_after a (TakePid q) m) n refl (λ row i. i) n.phased (omega arith) (λ b ne. refl)) refl refl refl refl refl refl refl refl refl refl refl refl refl
 
   -- each allowed step but a reuse
   pub timed_step : (s : StepOf Record) → (IsReuse s → ⊥) → (x : Answer Record) (r : Option Reply) → May a (knows a) s → IsAnswer m s x → a < limits.actors → After (memory_after a s m) s x r
-  timed_step (Slot zero) calm x r may is actor = subst (λ v. After m (Slot 0) v r) (sym is) (λ n. read_timed g T a m n.owners (finished (learn (knows a) (Slot 0) (answer.Number (m.slots 0))) r) (still (Slot 0) (answer.Number (m.slots 0)) r m n refl (λ row i. i) n.phased (omega arith) (λ b ne. refl)) refl refl (root_holds g T a may) refl refl refl refl refl)
+  timed_step (Slot zero) calm x r may is actor = subst (λ v. After m (Slot 0) v r) (sym is) (λ n. read_timed g T a m n.owners (finished (learn (knows a) (Slot 0) (answer.Number (m.slots 0))) r) (calm_pages (Slot 0) (answer.Number (m.slots 0)) r m n refl (λ row i. i) n.phased (omega arith) (λ b ne. refl)) refl refl (root_holds g T a may) refl refl refl refl refl)
   timed_step (Slot (suc p)) calm x r may is actor = subst (λ v. After m (Slot (suc p)) v r) (sym is) (reads p (m.slots (suc p)) r may refl)
-  timed_step (Row q) calm x r may is actor = subst (λ v. After m (Row q) v r) (sym is.2) (λ n. read_timed g T a m n.owners (finished (learn (knows a) (Row q) (answer.Content is.0)) r) (still (Row q) (answer.Content is.0) r m n refl (λ row i. i) n.phased (omega arith) (λ b ne. refl)) refl refl (row_holds g T a q is.0 may.1 is.1) refl refl refl refl refl)
-  timed_step Epoch calm x r may is actor = subst (λ v. After m Epoch v r) (sym is) (λ n. epoch_timed g T a r n.owners (still Epoch (answer.Number m.epoch) r m n refl (λ row i. i) n.phased (omega arith) (λ b ne. refl)))
-  timed_step (Announce c) calm x r may is actor = subst (λ v. After m (Announce c) v r) (sym is) (λ n. announce_timed g T a c r n.owners (still (Announce c) (answer.Number (m.announced c)) r m n refl (λ row i. i) n.phased (omega arith) (λ b ne. refl)))
-  timed_step (PidBits w) calm x r may is actor = subst (λ v. After m (PidBits w) v r) (sym is.2) (λ n. still_timed g T a m n.owners (finished (learn (knows a) (PidBits w) (answer.Number is.0)) r) (still (PidBits w) (answer.Number is.0) r m n refl (λ row i. i) n.phased (omega arith) (λ b ne. refl)) refl refl refl refl refl refl refl refl refl refl refl refl refl)
-  timed_step (RowBits w) calm x r may is actor = subst (λ v. After m (RowBits w) v r) (sym is.2) (λ n. still_timed g T a m n.owners (finished (learn (knows a) (RowBits w) (answer.Number is.0)) r) (still (RowBits w) (answer.Number is.0) r m n refl (λ row i. i) n.phased (omega arith) (λ b ne. refl)) refl refl refl refl refl refl refl refl refl refl refl refl refl)
-  timed_step (Place q w) calm x r may is actor = subst (λ v. After (memory_after a (Place q w) m) (Place q w) v r) (sym is) (λ n. place_timed g T a q w r n.owners (still (Place q w) answer.Done r (memory_after a (Place q w) m) n refl (λ row i. i) n.phased (omega arith) (λ b ne. refl)) may.1 may.2)
+  timed_step (Row q) calm x r may is actor = subst (λ v. After m (Row q) v r) (sym is.2) (λ n. read_timed g T a m n.owners (finished (learn (knows a) (Row q) (answer.Content is.0)) r) (calm_pages (Row q) (answer.Content is.0) r m n refl (λ row i. i) n.phased (omega arith) (λ b ne. refl)) refl refl (row_holds g T a q is.0 may.1 is.1) refl refl refl refl refl)
+  timed_step Epoch calm x r may is actor = subst (λ v. After m Epoch v r) (sym is) (λ n. epoch_timed g T a r n.owners (calm_pages Epoch (answer.Number m.epoch) r m n refl (λ row i. i) n.phased (omega arith) (λ b ne. refl)))
+  timed_step (Announce c) calm x r may is actor = subst (λ v. After m (Announce c) v r) (sym is) (λ n. announce_timed g T a c r n.owners (calm_pages (Announce c) (answer.Number (m.announced c)) r m n refl (λ row i. i) n.phased (omega arith) (λ b ne. refl)))
+  timed_step (Place q w) calm x r may is actor = subst (λ v. After (memory_after a (Place q w) m) (Place q w) v r) (sym is) (λ n. place_timed g T a q w r n.owners (calm_pages (Place q w) answer.Done r (memory_after a (Place q w) m) n refl (λ row i. i) n.phased (omega arith) (λ b ne. refl)) may.1 may.2)
   timed_step (Exchange p old new) calm x r may is actor = subst (λ v. After (memory_after a (Exchange p old new) m) (Exchange p old new) v r) (sym is) (exchange p old new r may.1)
   timed_step (TakePid q) calm x r may is actor = subst (λ v. After (memory_after a (TakePid q) m) (TakePid q) v r) (sym is) (takes_pid q r (m.free_pids q) refl)
   timed_step (TakeRow q) calm x r may is actor = subst (λ v. After (memory_after a (TakeRow q) m) (TakeRow q) v r) (sym is) (takes_row q r (m.free_rows q) refl)
-  timed_step (Enter e) calm x r may is actor = λ n. enter_timed g T a e x r n.owners (still (Enter e) x r (memory_after a (Enter e) m) n refl (λ row i. i) n.phased (omega arith) (λ b ne. put_other m.announced a e b ne)) may.0 may.1 may.2 actor
-  timed_step Leave calm x r may is actor = subst (λ v. After (memory_after a Leave m) Leave v r) (sym is) (λ n. leave_timed g T a r n.owners (still Leave answer.Done r (memory_after a Leave m) n refl (λ row i. i) n.phased (omega arith) (λ b ne. put_other m.announced a 0 b ne)))
-  timed_step (Retire e) calm x r may is actor = λ n. still_timed g T a (memory_after a (Retire e) m) n.owners (finished (knows a) r) (still (Retire e) x r (memory_after a (Retire e) m) n refl (λ row i. i) n.phased (retired e) (λ b ne. refl)) refl refl refl refl refl refl refl refl refl refl refl refl refl
-    where
-      retired : (e : ℕ) → m.epoch ≤ (memory_after a (Retire e) m).epoch
-      retired e = by_test m.epoch e (λ z. m.epoch ≤ cond z (e + 1) m.epoch) (λ i. omega arith) (λ ne. omega arith)
+  timed_step (Enter e) calm x r may is actor = λ n. enter_timed g T a e x r n.owners (calm_pages (Enter e) x r (memory_after a (Enter e) m) n refl (λ row i. i) n.phased (omega arith) (λ b ne. put_other m.announced a e b ne)) may.0 may.1 may.2 actor
+  timed_step Leave calm x r may is actor = subst (λ v. After (memory_after a Leave m) Leave v r) (sym is) (λ n. leave_timed g T a r n.owners (calm_pages Leave answer.Done r (memory_after a Leave m) n refl (λ row i. i) n.phased (omega arith) (λ b ne. put_other m.announced a 0 b ne)))
+  timed_step (Retire e) calm x r may is actor =
+      let retired : (e : ℕ) → m.epoch ≤ (memory_after a (Retire e) m).epoch = λ e. by_test m.epoch e (λ z. m.epoch ≤ cond z (e + 1) m.epoch) (λ i. omega arith) (λ ne. omega arith) in
+      λ n. still_timed g T a (memory_after a (Retire e) m) n.owners (finished (knows a) r) (calm_pages (Retire e) x r (memory_after a (Retire e) m) n refl (λ row i. i) n.phased (retired e) (λ b ne. refl)) refl refl refl refl refl refl refl refl refl refl refl refl refl
   timed_step (ReusePids w b) calm x r may is actor = absurd (calm tt)
   timed_step (ReuseRows w b) calm x r may is actor = absurd (calm tt)
+  timed_step s calm x r may is actor = subst (λ v. After m s v r) (sym is.2) (λ n. still_timed g T a m n.owners (finished (learn (knows a) s (answer.Number is.0)) r) (calm_pages s (answer.Number is.0) r m n refl (λ row i. i) n.phased (omega arith) (λ b ne. refl)) refl refl refl refl refl refl refl refl refl refl refl refl refl)

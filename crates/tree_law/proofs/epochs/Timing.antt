@@ -1,19 +1,8 @@
 -- What stays of the times, and of what each actor holds, at a step of one actor.
-use Rattle.std.proofs.Common.{◌≡◌, ◌≢◌, ◌⊎◌, inl, inr, ℕ, suc, ◌<◌, ◌≤◌, List, Option, Some, None, Bool, true, cond, sym, ap, ◌∙◌, subst, ⊎_elim, arith}
-use Rattle.std.proofs.lemmas.Option.{same_Some}
-use Rattle.bw_model.specs.declared.limits.Limits.{Limits}
-use Rattle.deltas.specs.declared.record.Record.{Record}
-use Rattle.deltas.specs.Memory.{Memory}
-use Rattle.deltas.specs.Records.{next_row}
-use Rattle.chain_search.specs.Chains.{IsChainFrom}
-use Rattle.chain_search.specs.Discipline.{IsOwn, IsOwnBase}
-use Rattle.chain_search.specs.Knowledge.{Ready, Gone, LimboMark, Absent, Unstamped, Stamped, Knowledge}
-use Rattle.tree_law.specs.Keys.{Key}
-use Rattle.tree_law.specs.Owners.{Spare, Linked, Owners, Reached}
-use Rattle.tree_law.specs.Phase.{Cleared}
-use Rattle.tree_law.specs.Put.{put}
-use Rattle.tree_law.specs.Shared.{slot_in}
-use Rattle.tree_law.specs.Times.{Outing, Times, IsSince, NamesSince, HeldHead, Holds, IsAnnounced, LimboFits, Timed}
+use Rattle.tree_law.proofs.Words.{◌⊎◌, ap, cond, Option, suc, None, List, true, inl, ◌≢◌, ◌≤◌, inr, subst, sym, ℕ, ◌≡◌, Bool, ◌∙◌, ◌<◌, arith, Some, ⊎_elim, same_Some, Limits, Memory, next_row}
+use Rattle.tree_law.proofs.Words.{Record, IsChainFrom, IsOwn, IsOwnBase, Knowledge, Ready, Gone, Unstamped, LimboMark, Absent, Stamped, Key, Linked, Owners, Reached, Spare, Cleared, put, slot_in}
+use Rattle.tree_law.proofs.Words.{Times, Timed, LimboFits, Outing, Holds, NamesSince, IsSince, HeldHead, HoldsBy}
+use Rattle.tree_law.specs.Times.{IsAnnounced}
 use Rattle.tree_law.proofs.shape.Puts.{by_test}
 
 -- it stays out or in, or is taken out now
@@ -102,7 +91,7 @@ module _ {limits : Limits} {m : Memory} {o : Owners} {knows : ℕ → Knowledge}
   -- what the actor itself then knows
   pub record Mine (m' : Memory) (k' : Knowledge) (t' : Times) : Type 0 where
     pub within : k'.inside ≡ true → a < limits.actors
-    pub holds : Holds m'.rows t'.row_out t'.page_out (t'.entered a) k'.inside k'.read.seen k'.read.learnt k'.read.roots k'.read.heads k'.read.before k'.asked.linked
+    pub holds : HoldsBy m'.rows t'.row_out t'.page_out (t'.entered a) k'
     pub announced : k'.inside ≡ true → IsAnnounced t' m'.epoch (m'.announced a) (suc now) (t'.entered a)
     pub epochs : (e : ℕ) → k'.limbo.epoch ≡ Some e → e ≤ m'.epoch
     pub own_rows : (r : ℕ) → IsOwn (k'.own.rows r) → t'.row_out r ≡ None
@@ -132,7 +121,7 @@ module _ {limits : Limits} {m : Memory} {o : Owners} {knows : ℕ → Knowledge}
     limbo_pid b p = limbo_later b now (λ c. (knows c).inside) (λ c. (put knows a k' c).inside) t.entered t'.entered (t.page_out p) (t'.page_out p) ((knows b).limbo.pids p) (page_stays p) pass (T.limbo_pids b p)
 
     -- what an actor held it still holds
-    pub held_later : (b : ℕ) → Holds m'.rows t'.row_out t'.page_out (t.entered b) (knows b).inside (knows b).read.seen (knows b).read.learnt (knows b).read.roots (knows b).read.heads (knows b).read.before (knows b).asked.linked
+    pub held_later : (b : ℕ) → HoldsBy m'.rows t'.row_out t'.page_out (t.entered b) (knows b)
     held_later b = holds_later m.rows m'.rows t.row_out t'.row_out t.page_out t'.page_out (t.entered b) (knows b).inside (knows b).read.seen (knows b).read.learnt (knows b).read.roots (knows b).read.heads (knows b).read.before (knows b).asked.linked
         (λ i r. since_later (t.entered b) now m.epoch a (t.row_out r) (t'.row_out r) (let p = (T.announced b i).past in omega arith) (n.rows_later r))
         (λ i p. since_later (t.entered b) now m.epoch a (t.page_out p) (t'.page_out p) (let q = (T.announced b i).past in omega arith) (n.pages_later p))
@@ -145,9 +134,9 @@ module _ {limits : Limits} {m : Memory} {o : Owners} {knows : ℕ → Knowledge}
     pub put_timed : Mine m' k' t' → Timed limits m' o' (put knows a k') (suc now) t'
     put_timed k = record {
       within = λ b. by_test b a (λ z. (cond z k' (knows b)).inside ≡ true → b < limits.actors) (λ e i. subst (λ j. j < limits.actors) (sym e) (k.within i)) (λ ne. T.within b);
-      holds = λ b. by_test b a (λ z. Holds m'.rows t'.row_out t'.page_out (t'.entered b) (cond z k' (knows b)).inside (cond z k' (knows b)).read.seen (cond z k' (knows b)).read.learnt (cond z k' (knows b)).read.roots (cond z k' (knows b)).read.heads (cond z k' (knows b)).read.before (cond z k' (knows b)).asked.linked)
-          (λ e. subst (λ j. Holds m'.rows t'.row_out t'.page_out (t'.entered j) k'.inside k'.read.seen k'.read.learnt k'.read.roots k'.read.heads k'.read.before k'.asked.linked) (sym e) k.holds)
-          (λ ne. subst (λ j. Holds m'.rows t'.row_out t'.page_out j (knows b).inside (knows b).read.seen (knows b).read.learnt (knows b).read.roots (knows b).read.heads (knows b).read.before (knows b).asked.linked) (sym (n.entered b ne)) (held_later b));
+      holds = λ b. by_test b a (λ z. HoldsBy m'.rows t'.row_out t'.page_out (t'.entered b) (cond z k' (knows b)))
+          (λ e. subst (λ j. HoldsBy m'.rows t'.row_out t'.page_out (t'.entered j) k') (sym e) k.holds)
+          (λ ne. subst (λ j. HoldsBy m'.rows t'.row_out t'.page_out j (knows b)) (sym (n.entered b ne)) (held_later b));
       announced = λ b. by_test b a (λ z. (cond z k' (knows b)).inside ≡ true → IsAnnounced t' m'.epoch (m'.announced b) (suc now) (t'.entered b))
           (λ e i. subst (λ j. IsAnnounced t' m'.epoch (m'.announced j) (suc now) (t'.entered j)) (sym e) (k.announced i))
           (λ ne i. subst (λ j. IsAnnounced t' m'.epoch (m'.announced b) (suc now) j) (sym (n.entered b ne)) (announced_still b (n.announced b ne) i));

@@ -1,48 +1,25 @@
 -- Links on an index page that change one term: a term is posted, held, or taken away.
-use Rattle.std.specs.Prelude.{IsSome}
-use Rattle.std.proofs.Common.{◌≡◌, ◌≢◌, ℕ, zero, suc, ◌<◌, ◌≤◌, List, ◌∷◌, Option, Some, None, true, false, cond, refl, sym, ap, ◌∙◌, subst, ⊎_elim, arith, inl}
-use Rattle.std.proofs.lemmas.Option.{same_Some}
-use Rattle.bw_model.specs.declared.command.Reply.{Reply}
-use Rattle.bw_model.specs.Log.{Update}
-use Rattle.base_page.specs.declared.item.Content.{Content}
-use Rattle.base_page.specs.declared.item.Content.TheVariants.{Child}
-use Rattle.deltas.specs.declared.record.Record.{Record}
-use Rattle.deltas.specs.declared.record.Record.TheVariants.{Term, Hold, Unterm}
-use Rattle.deltas.specs.Records.{next_row}
-use Rattle.chain_search.specs.Chains.{content_in, level_in, low_in, high_in, right_in, is_removed}
-use Rattle.tree_law.specs.Keys.{Key, Covers, put_key}
-use Rattle.chain_search.specs.Knowledge.{OwnRow, Foreign, Gone, Knowledge, filled, finished, handed_over, handed_page, Written}
-use Rattle.tree_law.specs.Phase.{Stage, Fresh, Indexed, Held, Removed, Merged, PageOwner, Placed, Cleared, mark, rank, child_of, rank_of}
-use Rattle.tree_law.specs.Put.{put}
-use Rattle.tree_law.specs.Shared.{Shared}
-use Rattle.tree_law.specs.Owners.{IsChain, Spare, Linked, Owners, Reached, OwnFits, PageFits, OwnsPages, InOrder, OrderFits, IsOut}
-use Rattle.tree_law.specs.Tree.{spec, InPlace, IsTree, Off}
-use Rattle.std.specs.Ordering.{is_eq}
-use Rattle.bw_model.specs.Bytes.{key_cmp}
-use Rattle.chain_search.specs.Discipline.{MayPost, MayHold, MayUnterm, HasRead}
-use Rattle.tree_law.proofs.shape.KeyOrder.{by_key, key_other, covers_from}
-use Rattle.tree_law.proofs.shape.Puts.{by_test, put_same, put_other}
-use Rattle.tree_law.proofs.shape.Kept.{reached_placed}
-use Rattle.tree_law.proofs.shape.Sides.{same_page}
-use Rattle.tree_law.proofs.shape.Terms.{exact_moved}
+use Rattle.tree_law.proofs.Words.{false, ap, refl, cond, Option, suc, None, List, true, inl, ◌≢◌, ◌≤◌, ◌∷◌, subst, sym, ℕ, ◌≡◌, zero, ◌∙◌, ◌<◌, arith, Some, ⊎_elim, same_Some, is_eq, IsSome, key_cmp}
+use Rattle.tree_law.proofs.Words.{Update, Reply, ContentOf, Child, next_row, Record, Hold, Term, Unterm, content_in, right_in, low_in, is_removed, level_in, high_in, HasRead, MayPost, MayUnterm}
+use Rattle.tree_law.proofs.Words.{MayHold, Knowledge, finished, Foreign, Gone, Written, filled, OwnRow, handed_page, handed_over, Key, Covers, put_key, Linked, Owners, Reached, Spare, IsOut, OwnFits}
+use Rattle.tree_law.proofs.Words.{OrderFits, InOrder, PageFits, IsChain, OwnsPages, Placed, Indexed, PageOwner, Cleared, Fresh, rank, Held, Merged, Stage, rank_of, child_of, mark, put, Shared, IsTree}
+use Rattle.tree_law.proofs.Words.{spec, Off, InPlace}
+use Rattle.tree_law.proofs.shape.{by_key, key_other, covers_from, by_test, put_same, put_other, reached_placed, same_page, placed_level, exact_moved}
 use Rattle.tree_law.proofs.links.Keeping.{mine, alive_place}
-use Rattle.tree_law.proofs.links.Relinking.{placed_level, Found, Moves, stay, go, clear, not_own, found, place_of, relink_one}
+use Rattle.tree_law.proofs.links.Relinking.{Found, Moves, stay, go, clear, not_own, found, place_of, relink_one}
 
 pub not_fresh : (st : Stage) (q : ℕ) → mark st q ≡ None → st ≡ Fresh
 not_fresh Fresh q e = refl
-not_fresh Indexed q e = absurd (cc)
-not_fresh Held q e = absurd (cc)
-not_fresh Removed q e = absurd (cc)
-not_fresh Merged q e = absurd (cc)
+not_fresh st q e = absurd (cc)
 
 module _ {m : Shared} {log : List Update} {o : Owners} {knows : ℕ → Knowledge} {point : ℕ → Option (List Update)} {logs : ℕ → List (List Update)} (g : IsTree m log o knows point logs) (a : ℕ) where
   index_one : (p x y : ℕ) (c : List Record) → Found o m p x c → (place : InPlace o m (level_in c) (spec log o.index (level_in c)) (record { page = p; row = x; chain = c })) → is_removed c ≡ false → m.slots p ≡ Some x → o.row y ≡ Spare a
       → (lv : ℕ) (sep : Key) (q : ℕ) → level_in c ≡ suc lv → Covers c sep → (st : Stage) → o.page q ≡ Placed st lv sep → o.index lv sep ≡ mark st q
-      → (n : PageOwner) (v : Option Content) → Moves a o m p y (o.page q) n
+      → (n : PageOwner) (v : Option ContentOf) → Moves a o m p y (o.page q) n
       → ((l' : ℕ) (s' : Key) (st' : Stage) → n ≡ Placed st' l' s' → (lv ≡ l') × (sep ≡ s') × (mark st' q ≡ v))
-      → ((i : Content) → v ≡ Some i → (st' : Stage) × (child_of i ≡ q) × (n ≡ Placed st' lv sep) × (mark st' q ≡ Some i))
+      → ((i : ContentOf) → v ≡ Some i → (st' : Stage) × (child_of i ≡ q) × (n ≡ Placed st' lv sep) × (mark st' q ≡ Some i))
       → ((b l' : ℕ) (s' : Key) → n ≡ Cleared b l' s' → lv ≡ l')
-      → ((i : Content) → v ≡ Some i → Reached (rank_of i) lv sep n)
+      → ((i : ContentOf) → v ≡ Some i → Reached (rank_of i) lv sep n)
       → (w : Record) → m.rows y ≡ Some w → next_row w ≡ Some x → level_in (w ∷ c) ≡ level_in c → low_in (w ∷ c) ≡ low_in c → right_in (w ∷ c) ≡ right_in c → high_in (w ∷ c) ≡ high_in c → is_removed (w ∷ c) ≡ is_removed c
       → ((k : Key) → content_in (w ∷ c) k ≡ cond (is_eq (key_cmp k sep)) v (content_in c k))
       → (k : Knowledge) → k.own.rows ≡ put (knows a).own.rows y Foreign
@@ -50,32 +27,22 @@ module _ {m : Shared} {log : List Update} {o : Owners} {knows : ℕ → Knowledg
       → k.read.seen ≡ (knows a).read.seen → k.read.learnt ≡ (knows a).read.learnt → k.read.roots ≡ (knows a).read.roots → k.read.heads ≡ (knows a).read.heads → k.read.before ≡ (knows a).read.before → k.asked.linked ≡ (knows a).asked.linked
       → IsTree (record m { slots = put m.slots p (Some y) }) log (record { row = put o.row y Linked; page = put o.page q n; index = put o.index lv (put_key (o.index lv) sep v) }) (put knows a k) (put point a (point a)) (put logs a (log ∷ logs a))
   index_one p x y c f place alive s was lv sep q level covers st e had n v move fits full clears reach w wy next wl wlow wright whigh wrem finds k e0 pages e2 e3 e4 e5 e6 e7 =
-      relink_one g a p x y c f place alive s was place.stage (omega arith) place.on page' index' (put_other o.page q n p (λ i. apart (sym i)) ∙ place.placed)
+      let apart : q ≢ p = λ i. absurd (let z = (placed_level st place.stage lv (level_in c) sep (low_in c) (sym e ∙ ap o.page i ∙ place.placed)).0 in omega arith) in
+      let same : (key : Key) → Covers c key → content_in c key ≡ o.index lv key = λ key cv. place.is_page.same key cv ∙ ap (λ n. spec log o.index n key) level in
+      relink_one g a p x y c f place alive s was place.stage (omega arith) place.on (put o.page q n) index' (put_other o.page q n p (λ i. apart (sym i)) ∙ place.placed)
       (λ j ne. by_test j q (λ t. Moves a o m p y (o.page j) (cond t n (o.page j))) (λ i. subst (λ (z : ℕ). Moves a o m p y (o.page z) n) (sym i) move) (λ i. stay refl))
-      (exact_moved o.page o.index g.tree.top m.root q lv sep st n v e lt had fits full clears g.tree.exact)
+      (exact_moved o.page o.index g.tree.top m.root q lv sep st n v e (let i = g.tree.exact.below p (level_in c) (low_in c) place.stage place.placed in omega arith) had fits full clears g.tree.exact)
       w wy (rw next f.linked) c (rw next f.stands)
       wl wlow wright whigh (wrem ∙ place.flagged)
       log
       (λ key cv. subst (λ (z : ℕ). content_in (w ∷ c) key ≡ spec log index' z key) (sym level)
-      (finds key ∙ by_key key sep (λ t. cond t v (content_in c key) ≡ cond t v (o.index lv key)) (λ j. refl) (λ j. same key cv) ∙ sym (ap (λ (f : Key → Option Content). f key) (put_same o.index lv (put_key (o.index lv) sep v)))))
+      (finds key ∙ by_key key sep (λ t. cond t v (content_in c key) ≡ cond t v (o.index lv key)) (λ j. refl) (λ j. same key cv) ∙ sym (ap (λ (f : Key → Option ContentOf). f key) (put_same o.index lv (put_key (o.index lv) sep v)))))
       outside
       k e0 pages e2 e3 e4 e5 e6
       (point a) (rw e7 (mine g a).linked_fits)
     where
-      page' : ℕ → PageOwner
-      page' = put o.page q n
-
-      index' : ℕ → Key → Option Content
+      index' : ℕ → Key → Option ContentOf
       index' = put o.index lv (put_key (o.index lv) sep v)
-
-      lt : lv < g.tree.top
-      lt = let i = g.tree.exact.below p (level_in c) (low_in c) place.stage place.placed in omega arith
-
-      apart : q ≢ p
-      apart i = absurd (let z = (placed_level st place.stage lv (level_in c) sep (low_in c) (sym e ∙ ap o.page i ∙ place.placed)).0 in omega arith)
-
-      same : (key : Key) → Covers c key → content_in c key ≡ o.index lv key
-      same key cv = place.is_page.same key cv ∙ ap (λ n. spec log o.index n key) level
 
       outside : (l : ℕ) (key : Key) → (l ≡ level_in c → Covers c key → ⊥) → spec log index' l key ≡ spec log o.index l key
       outside zero key ne = refl
@@ -90,19 +57,28 @@ module _ {m : Shared} {log : List Update} {o : Owners} {knows : ℕ → Knowledg
   -- the exchange that links a term
   pub posts : (p x y : ℕ) → m.slots p ≡ Some x → (basis : HasRead (knows a) p x) (content : Record) → (knows a).own.rows y ≡ Written content → (h : MayPost (knows a) p x basis.chain content) → (r : Option Reply)
       → IsTree (record m { slots = put m.slots p (Some y) }) log (record { row = put o.row y Linked; page = put o.page h.child (Placed Indexed (level_in h.below.chain) (low_in h.below.chain)); index = put o.index (level_in h.below.chain) (put_key (o.index (level_in h.below.chain)) (low_in h.below.chain) (Some (Child h.child false))) }) (put knows a (finished (filled ((knows a).own.pages p) p x y (knows a)) r)) (put point a (point a)) (put logs a (log ∷ logs a)) × (o.page h.child ≡ Placed Fresh (level_in h.below.chain) (low_in h.below.chain))
-  posts p x y s basis content written h r = (
-    subst (λ (k : Knowledge). IsTree (record m { slots = put m.slots p (Some y) }) log (record { row = put o.row y Linked; page = put o.page q (Placed Indexed lv sep); index = put o.index lv (put_key (o.index lv) sep (Some (Child q false))) }) (put knows a (finished k r)) (put point a (point a)) (put logs a (log ∷ logs a))) (sym learned)
-        (index_one p x y c f place basis.alive s fits.0 lv sep q h.level (covers_from c sep h.covers) Fresh was absent (Placed Indexed lv sep) (Some (Child q false))
-        (go Fresh Indexed lv sep was refl (omega arith) (omega arith) refl)
-        (λ l' s' st' e. let i = placed_level Indexed st' lv l' sep s' e in let j : Indexed ≡ st' = cc in (i.0, i.1, ap (λ v. mark v q) (sym j)))
-        (λ i e. (Indexed, ap child_of (sym (same_Some (Child q false) i e)), refl, e))
-        (λ b l' s' e. absurd (cc))
-        (λ i e. subst (λ (u : Content). Reached (rank_of u) lv sep (Placed Indexed lv sep)) (same_Some (Child q false) i e) (refl, refl, (omega arith)))
-        (Term (record { level = level_in c; next = x; separator = sep; child = q })) fits.1 refl refl refl refl refl refl (λ k. refl)
-        (finished (handed_over y (knows a)) r)
-        refl (λ v. v) refl refl refl refl refl refl),
-    was,
-  )
+  posts p x y s basis content written h r =
+      let order : InOrder o m (log ∷ logs a) q h.row p x =
+      subst (λ (v : Option ℕ). OrderFits o m (log ∷ logs a) q p (Some h.row) v) h.order (subst (λ (v : Option ℕ). OrderFits o m (log ∷ logs a) q p v ((knows a).read.before q p)) h.below.head ((mine g a).orders_fit q p)) in
+      let learned : filled ((knows a).own.pages p) p x y (knows a) ≡ handed_over y (knows a) =
+      rw (not_own g a p (level_in c) (low_in c) place.stage place.placed ((knows a).own.pages p) (g.owns_pages a p), (written ∙ ap Written h.is)) refl in
+      let d : Found o m q h.row h.below.chain = found g a q h.row h.below in
+      let was : o.page q ≡ Placed Fresh lv sep = ⊎_elim
+      (λ (u : (st : Stage) × (o.page q ≡ Placed st lv sep) × (0 ≤ rank st)). u.1 ∙ ap (λ st. Placed st lv sep) (fresh u.0 u.1 (mark u.0 q) refl))
+      (λ (u : (b : ℕ) × (o.page q ≡ Cleared b lv sep)). absurd (order.uncleared c h.below.chain f.stands d.stands basis.alive h.below.alive h.level (covers_from c sep h.covers) s (u.0, lv, sep, u.1)))
+      (reached_placed 0 lv sep (o.page q) d.reached) in (
+        subst (λ (k : Knowledge). IsTree (record m { slots = put m.slots p (Some y) }) log (record { row = put o.row y Linked; page = put o.page q (Placed Indexed lv sep); index = put o.index lv (put_key (o.index lv) sep (Some (Child q false))) }) (put knows a (finished k r)) (put point a (point a)) (put logs a (log ∷ logs a))) (sym learned)
+            (index_one p x y c f place basis.alive s fits.0 lv sep q h.level (covers_from c sep h.covers) Fresh was absent (Placed Indexed lv sep) (Some (Child q false))
+            (go Fresh Indexed lv sep was refl (omega arith) (omega arith) refl)
+            (λ l' s' st' e. let i = placed_level Indexed st' lv l' sep s' e in let j : Indexed ≡ st' = cc in (i.0, i.1, ap (λ v. mark v q) (sym j)))
+            (λ i e. (Indexed, ap child_of (sym (same_Some (Child q false) i e)), refl, e))
+            (λ b l' s' e. absurd (cc))
+            (λ i e. subst (λ (u : ContentOf). Reached (rank_of u) lv sep (Placed Indexed lv sep)) (same_Some (Child q false) i e) (refl, refl, (omega arith)))
+            (Term (record { level = level_in c; next = x; separator = sep; child = q })) fits.1 refl refl refl refl refl refl (λ k. refl)
+            (finished (handed_over y (knows a)) r)
+            refl (λ v. v) refl refl refl refl refl refl),
+        was,
+      )
     where
       c : List Record
       c = basis.chain
@@ -122,9 +98,6 @@ module _ {m : Shared} {log : List Update} {o : Owners} {knows : ℕ → Knowledg
       place : InPlace o m (level_in c) (spec log o.index (level_in c)) (record { page = p; row = x; chain = c })
       place = place_of g a p x c f basis.alive s
 
-      d : Found o m q h.row h.below.chain
-      d = found g a q h.row h.below
-
       fits : (o.row y ≡ Spare a) × (m.rows y ≡ Some (Term (record { level = level_in c; next = x; separator = sep; child = q })))
       fits = subst (λ (v : OwnRow). OwnFits a (o.row y) (m.rows y) v) (written ∙ ap Written h.is) (g.owns a y)
 
@@ -134,21 +107,9 @@ module _ {m : Shared} {log : List Update} {o : Owners} {knows : ℕ → Knowledg
       lt : lv < g.tree.top
       lt = let i = g.tree.exact.below p (level_in c) (low_in c) place.stage place.placed in let j = h.level in omega arith
 
-      fresh : (st : Stage) → o.page q ≡ Placed st lv sep → (v : Option Content) → mark st q ≡ v → st ≡ Fresh
+      fresh : (st : Stage) → o.page q ≡ Placed st lv sep → (v : Option ContentOf) → mark st q ≡ v → st ≡ Fresh
       fresh st e None i = not_fresh st q i
       fresh st e (Some v) i = absurd (let j = sym absent ∙ g.tree.exact.posted q lv sep st v e lt i in cc)
-
-      order : InOrder o m (log ∷ logs a) q h.row p x
-      order = subst (λ (v : Option ℕ). OrderFits o m (log ∷ logs a) q p (Some h.row) v) h.order (subst (λ (v : Option ℕ). OrderFits o m (log ∷ logs a) q p v ((knows a).read.before q p)) h.below.head ((mine g a).orders_fit q p))
-
-      was : o.page q ≡ Placed Fresh lv sep
-      was = ⊎_elim
-          (λ (u : (st : Stage) × (o.page q ≡ Placed st lv sep) × (0 ≤ rank st)). u.1 ∙ ap (λ st. Placed st lv sep) (fresh u.0 u.1 (mark u.0 q) refl))
-          (λ (u : (b : ℕ) × (o.page q ≡ Cleared b lv sep)). absurd (order.uncleared c h.below.chain f.stands d.stands basis.alive h.below.alive h.level (covers_from c sep h.covers) s (u.0, lv, sep, u.1)))
-          (reached_placed 0 lv sep (o.page q) d.reached)
-
-      learned : filled ((knows a).own.pages p) p x y (knows a) ≡ handed_over y (knows a)
-      learned = rw (not_own g a p (level_in c) (low_in c) place.stage place.placed ((knows a).own.pages p) (g.owns_pages a p), (written ∙ ap Written h.is)) refl
 
   -- the exchange that holds a term
   pub holds : (p x y : ℕ) → m.slots p ≡ Some x → (basis : HasRead (knows a) p x) (content : Record) → (knows a).own.rows y ≡ Written content → (h : MayHold x basis.chain content) → (r : Option Reply)
@@ -171,7 +132,7 @@ module _ {m : Shared} {log : List Update} {o : Owners} {knows : ℕ → Knowledg
             (λ l' s' st' e. let i = placed_level Held st' lv l' sep s' e in let j : Held ≡ st' = cc in (i.0, i.1, ap (λ v. mark v q) (sym j)))
             (λ i e. (Held, ap child_of (sym (same_Some (Child q true) i e)), refl, e))
             (λ b l' s' e. absurd (cc))
-            (λ i e. subst (λ (u : Content). Reached (rank_of u) lv sep (Placed Held lv sep)) (same_Some (Child q true) i e) (refl, refl, (omega arith)))
+            (λ i e. subst (λ (u : ContentOf). Reached (rank_of u) lv sep (Placed Held lv sep)) (same_Some (Child q true) i e) (refl, refl, (omega arith)))
             (Hold (record { level = level_in c; next = x; separator = sep; child = q })) fits.1 refl refl refl refl refl refl (λ k. refl)
             (finished (handed_over y (knows a)) r)
             refl (λ v. v) refl refl refl refl refl refl),
@@ -181,9 +142,7 @@ module _ {m : Shared} {log : List Update} {o : Owners} {knows : ℕ → Knowledg
       is_indexed : (st : Stage) (q : ℕ) → mark st q ≡ Some (Child q false) → st ≡ Indexed
       is_indexed Fresh q e = absurd (cc)
       is_indexed Indexed q e = refl
-      is_indexed Held q e = absurd (let f = same_Some (Child q true) (Child q false) e in cc)
-      is_indexed Removed q e = absurd (let f = same_Some (Child q true) (Child q false) e in cc)
-      is_indexed Merged q e = absurd (let f = same_Some (Child q true) (Child q false) e in cc)
+      is_indexed st q e = absurd (let f = same_Some (Child q true) (Child q false) e in cc)
 
   -- the exchange that takes a held term away
   pub unterms : (p x y : ℕ) → m.slots p ≡ Some x → (basis : HasRead (knows a) p x) (content : Record) → (knows a).own.rows y ≡ Written content → (h : MayUnterm (knows a) p x basis.chain content) → (r : Option Reply)
@@ -222,9 +181,6 @@ module _ {m : Shared} {log : List Update} {o : Owners} {knows : ℕ → Knowledg
       place : InPlace o m (level_in c) (spec log o.index (level_in c)) (record { page = p; row = x; chain = c })
       place = place_of g a p x c f basis.alive s
 
-      d : Found o m h.left h.row h.below.chain
-      d = found g a h.left h.row h.below
-
       fits : (o.row y ≡ Spare a) × (m.rows y ≡ Some (Unterm (record { level = level_in c; next = x; separator = sep; child = q })))
       fits = subst (λ (v : OwnRow). OwnFits a (o.row y) (m.rows y) v) (written ∙ ap Written h.is) (g.owns a y)
 
@@ -235,14 +191,11 @@ module _ {m : Shared} {log : List Update} {o : Owners} {knows : ℕ → Knowledg
       order = subst (λ (v : Option ℕ). OrderFits o m (log ∷ logs a) h.left p (Some h.row) v) h.order (subst (λ (v : Option ℕ). OrderFits o m (log ∷ logs a) h.left p v ((knows a).read.before h.left p)) h.below.head ((mine g a).orders_fit h.left p))
 
       merged : Reached 4 lv sep (o.page q)
-      merged = order.merged c h.below.chain sep q f.stands d.stands basis.alive h.below.alive h.level (covers_from c sep h.covers) h.present h.above h.within h.apart
+      merged = order.merged c h.below.chain sep q f.stands (found g a h.left h.row h.below).stands basis.alive h.below.alive h.level (covers_from c sep h.covers) h.present h.above h.within h.apart
 
       is_merged : (st : Stage) → 4 ≤ rank st → st ≡ Merged
-      is_merged Fresh i = absurd (omega arith)
-      is_merged Indexed i = absurd (omega arith)
-      is_merged Held i = absurd (omega arith)
-      is_merged Removed i = absurd (omega arith)
       is_merged Merged i = refl
+      is_merged st i = absurd (omega arith)
 
       was : o.page q ≡ Placed Merged lv sep
       was = let n = (g.tree.exact.named lv sep (Child q true) present).1 in n.1 ∙ ap (λ st. Placed st lv sep) (is_merged n.0 (subst (λ (v : PageOwner). Reached 4 lv sep v) n.1 merged).2)
@@ -254,12 +207,10 @@ module _ {m : Shared} {log : List Update} {o : Owners} {knows : ℕ → Knowledg
 
       guard : (f' x' : ℕ) (c' : List Record) → o.row x' ≡ Linked → IsChain m.rows c' (Some x') → Reached 0 (level_in c') (low_in c') (o.page f') → is_removed c' ≡ false → level_in c' ≡ suc lv → Covers c' sep → m.slots f' ≡ Some x' → put m.slots p (Some y) f' ≡ Some x' → ⊥
       guard f' x' c' l' ch' r' n' e' v' s' now =
-          let other = alive_place g a f' (level_in c') (low_in c') r' x' s' c' ch' n' in
           let i : level_in c' ≡ level_in c = e' ∙ sym h.level in
-          let there = subst (λ (n : ℕ). InPlace o m n (spec log o.index n) (record { page = f'; row = x'; chain = c' })) i other in
+          let there = subst (λ (n : ℕ). InPlace o m n (spec log o.index n) (record { page = f'; row = x'; chain = c' })) i (alive_place g a f' (level_in c') (low_in c') r' x' s' c' ch' n') in
           let same : p ≡ f' = same_page o m (level_in c) (spec log o.index (level_in c)) (g.tree.first (level_in c)) (g.tree.levels (level_in c) (g.tree.exact.below p (level_in c) (low_in c) place.stage place.placed)) (record { page = p; row = x; chain = c }) (record { page = f'; row = x'; chain = c' }) place there sep (covers_from c sep h.covers) v' in
-          let z : y ≡ x' = same_Some y x' (sym (put_same m.slots p (Some y)) ∙ ap (put m.slots p (Some y)) same ∙ now) in
-          absurd (let u = sym fits.0 ∙ ap o.row z ∙ l' in cc)
+          absurd (let u = sym fits.0 ∙ ap o.row (same_Some y x' (sym (put_same m.slots p (Some y)) ∙ ap (put m.slots p (Some y)) same ∙ now)) ∙ l' in cc)
 
       learned : filled ((knows a).own.pages p) p x y (knows a) ≡ handed_page q Gone y (knows a)
       learned = rw (not_own g a p (level_in c) (low_in c) place.stage place.placed ((knows a).own.pages p) (g.owns_pages a p), (written ∙ ap Written h.is)) refl

@@ -1,24 +1,10 @@
 -- What a step leaves, and what the tree says of a slot.
-use Rattle.std.proofs.Common.{◌≡◌, ◌⊎◌, inl, inr, ℕ, ◌≤◌, List, [], ◌∷◌, Option, Some, None, true, false, cond, refl, sym, ap, ◌∙◌, subst, ⊎_elim, arith}
-use Rattle.std.proofs.lemmas.Option.{same_Some}
-use Rattle.bw_model.specs.declared.command.Command.{Command}
-use Rattle.bw_model.specs.declared.command.Reply.{Reply}
-use Rattle.bw_model.specs.declared.step.Step.TheVariants.{Enter, Leave}
-use Rattle.bw_model.specs.declared.step.Answer.{Answer}
-use Rattle.bw_model.specs.declared.step.Answer.TheVariants.{Done}
-use Rattle.bw_model.specs.Log.{Update}
-use Rattle.base_page.specs.declared.item.Content.{Content}
-use Rattle.base_page.specs.declared.item.Content.TheVariants.{Child}
-use Rattle.deltas.specs.declared.record.Record.{Record}
-use Rattle.chain_search.specs.Chains.{level_in, low_in, right_in, is_removed}
-use Rattle.tree_law.specs.Keys.{Key}
-use Rattle.chain_search.specs.Knowledge.{Knowledge, begun, learn, finished, forgotten}
-use Rattle.chain_search.specs.Discipline.{HasRead, IsBeyond, IsMet, NamesChild}
-use Rattle.tree_law.specs.Phase.{Stage, Fresh, Indexed, Held, Removed, Merged, PageOwner, Placed, Cleared, mark, rank, child_of, rank_of}
-use Rattle.tree_law.specs.Put.{put}
-use Rattle.tree_law.specs.Shared.{Shared}
-use Rattle.tree_law.specs.Owners.{IsChain, Owner, Owners, Reached, ChainNames, IsClosed, Owns, OwnsPages, SpellsLog, leaf_map, HeadFits, LinkFits, InOrder, OrderFits, Knows, IsOut}
-use Rattle.tree_law.specs.Tree.{SidePage, InPlace, spec, IsOff, Off, HasLevels, FreeAreUnowned, IsTree}
+use Rattle.tree_law.proofs.Words.{false, ◌⊎◌, [], ap, refl, cond, Option, None, List, true, inl, ◌≤◌, inr, ◌∷◌, subst, sym, ℕ, ◌≡◌, ◌∙◌, arith, Some, ⊎_elim, same_Some, Update, Command, Reply, Answer}
+use Rattle.tree_law.proofs.Words.{Done, Leave, Enter, ContentOf, Child, Record, right_in, low_in, is_removed, level_in, HasRead, IsMet, NamesChild, begun, Knowledge, finished, learn, forgotten, Key}
+use Rattle.tree_law.proofs.Words.{Owners, Reached, IsOut, Owner, LinkFits, HeadFits, OrderFits, InOrder, IsChain, IsClosed, SpellsLog, leaf_map, ChainNames, OwnsPages, Owns, Placed, Indexed}
+use Rattle.tree_law.proofs.Words.{PageOwner, Cleared, Fresh, rank, Removed, Held, Merged, Stage, rank_of, child_of, mark, put, Shared, IsTree, spec, IsOff, Off, SidePage, InPlace, HasLevels, KnowsBy}
+use Rattle.chain_search.specs.Discipline.{IsBeyond}
+use Rattle.tree_law.specs.Tree.{FreeAreUnowned}
 use Rattle.tree_law.proofs.shape.KeyOrder.{covers_from}
 use Rattle.tree_law.proofs.shape.Puts.{by_test}
 use Rattle.tree_law.proofs.shape.Chains.{chain_unique}
@@ -26,29 +12,26 @@ use Rattle.tree_law.proofs.shape.Kept.{Kept, cleared_forward, reached_placed, pl
 use Rattle.tree_law.proofs.shape.Sides.{locate, in_level_as, right_page, tree_kept}
 use Rattle.tree_law.proofs.shape.Frames.{Change, kept_change, spared_change, change_none, knows_more, chain_stands}
 
-pub spec_leaf : (log : List Update) (index : ℕ → Key → Option Content) (l : ℕ) → l ≡ 0 → (k : Key) → spec log index l k ≡ leaf_map log k
+pub spec_leaf : (log : List Update) (index : ℕ → Key → Option ContentOf) (l : ℕ) → l ≡ 0 → (k : Key) → spec log index l k ≡ leaf_map log k
 spec_leaf log index l e k = ap (λ n. spec log index n k) e
 
 pub on_or_merged : (st : Stage) → (rank st ≤ 3) ⊎ (st ≡ Merged)
-on_or_merged Fresh = inl (omega arith)
-on_or_merged Indexed = inl (omega arith)
-on_or_merged Held = inl (omega arith)
-on_or_merged Removed = inl (omega arith)
 on_or_merged Merged = inr refl
+on_or_merged st = inl (omega arith)
 
 -- a page is as far as its term says
-marked_rank : (st : Stage) (q : ℕ) (i : Content) → mark st q ≡ Some i → rank_of i ≤ rank st
+marked_rank : (st : Stage) (q : ℕ) (i : ContentOf) → mark st q ≡ Some i → rank_of i ≤ rank st
 marked_rank Fresh q i e = absurd (cc)
-marked_rank Indexed q i e = subst (λ (c : Content). rank_of c ≤ 1) (same_Some (Child q false) i e) (omega arith)
-marked_rank Held q i e = subst (λ (c : Content). rank_of c ≤ 2) (same_Some (Child q true) i e) (omega arith)
-marked_rank Removed q i e = subst (λ (c : Content). rank_of c ≤ 3) (same_Some (Child q true) i e) (omega arith)
-marked_rank Merged q i e = subst (λ (c : Content). rank_of c ≤ 4) (same_Some (Child q true) i e) (omega arith)
+marked_rank Indexed q i e = subst (λ (c : ContentOf). rank_of c ≤ 1) (same_Some (Child q false) i e) (omega arith)
+marked_rank Held q i e = subst (λ (c : ContentOf). rank_of c ≤ 2) (same_Some (Child q true) i e) (omega arith)
+marked_rank Removed q i e = subst (λ (c : ContentOf). rank_of c ≤ 3) (same_Some (Child q true) i e) (omega arith)
+marked_rank Merged q i e = subst (λ (c : ContentOf). rank_of c ≤ 4) (same_Some (Child q true) i e) (omega arith)
 
 module _ {m : Shared} {log : List Update} {o : Owners} {knows : ℕ → Knowledge} {point : ℕ → Option (List Update)} {logs : ℕ → List (List Update)} (g : IsTree m log o knows point logs) (a : ℕ) where
   -- what a step of the actor leaves
   pub put_tree : (m' : Shared) (log' : List Update) (o' : Owners) (k : Knowledge) (p : Option (List Update)) (s : List (List Update))
       → Change a o o' m m' → FreeAreUnowned o' m' → IsClosed o' m' → HasLevels o' m' log'
-      → Owns a o' m' k.own.rows → OwnsPages a o' m' k.own.pages → Knows o' m' k.read.seen k.read.learnt k.read.roots k.read.heads k.read.before k.asked.linked p s
+      → Owns a o' m' k.own.rows → OwnsPages a o' m' k.own.pages → KnowsBy o' m' k p s
       → IsTree m' log' o' (put knows a k) (put point a p) (put logs a s)
   put_tree m' log' o' k p s change frees closed tree own pages kn =
       record {
@@ -61,21 +44,21 @@ module _ {m : Shared} {log : List Update} {o : Owners} {knows : ℕ → Knowledg
         owns_pages = λ b. by_test b a (λ t. OwnsPages b o' m' (cond t k (knows b)).own.pages)
             (λ e. subst (λ (n : ℕ). OwnsPages n o' m' k.own.pages) (sym e) pages)
             (λ ne. pages_spared b o o' m m' (spared_change a b o o' m m' ne change) (knows b).own.pages (g.owns_pages b));
-        sound = λ b. by_test b a (λ t. Knows o' m' (cond t k (knows b)).read.seen (cond t k (knows b)).read.learnt (cond t k (knows b)).read.roots (cond t k (knows b)).read.heads (cond t k (knows b)).read.before (cond t k (knows b)).asked.linked (cond t p (point b)) (cond t s (logs b)))
+        sound = λ b. by_test b a (λ t. KnowsBy o' m' (cond t k (knows b)) (cond t p (point b)) (cond t s (logs b)))
             (λ e. kn)
             (λ ne. knows_kept o o' m m' g.closed (kept_change a o o' m m' change) (knows b).read.seen (knows b).read.learnt (knows b).read.roots (knows b).read.heads (knows b).read.before (knows b).asked.linked (point b) (logs b) (g.sound b));
       }
 
   -- a step that leaves memory and log
-  pub quiet : (k : Knowledge) (p : Option (List Update)) (s : List (List Update)) → Owns a o m k.own.rows → OwnsPages a o m k.own.pages → Knows o m k.read.seen k.read.learnt k.read.roots k.read.heads k.read.before k.asked.linked p s
+  pub quiet : (k : Knowledge) (p : Option (List Update)) (s : List (List Update)) → Owns a o m k.own.rows → OwnsPages a o m k.own.pages → KnowsBy o m k p s
       → IsTree m log o (put knows a k) (put point a p) (put logs a s)
   quiet k p s own pages kn = put_tree m log o k p s (change_none a o m) g.frees g.closed g.tree own pages kn
 
-  pub mine : Knows o m (knows a).read.seen (knows a).read.learnt (knows a).read.roots (knows a).read.heads (knows a).read.before (knows a).asked.linked (point a) (log ∷ logs a)
+  pub mine : KnowsBy o m (knows a) (point a) (log ∷ logs a)
   mine = knows_more o m (knows a).read.seen (knows a).read.learnt (knows a).read.roots (knows a).read.heads (knows a).read.before (knows a).asked.linked (point a) (logs a) log (g.sound a)
 
   -- what the actor knows stays so at a step of its own
-  pub mine_at : (o' : Owners) (m' : Shared) → Kept o o' m m' → Knows o' m' (knows a).read.seen (knows a).read.learnt (knows a).read.roots (knows a).read.heads (knows a).read.before (knows a).asked.linked (point a) (log ∷ logs a)
+  pub mine_at : (o' : Owners) (m' : Shared) → Kept o o' m m' → KnowsBy o' m' (knows a) (point a) (log ∷ logs a)
   mine_at o' m' kept = knows_kept o o' m m' g.closed kept (knows a).read.seen (knows a).read.learnt (knows a).read.roots (knows a).read.heads (knows a).read.before (knows a).asked.linked (point a) (log ∷ logs a) mine
 
   pub begins : (c : Command) → IsTree m log o (put knows a (begun (knows a) c)) (put point a None) (put logs a [])
@@ -90,9 +73,8 @@ module _ {m : Shared} {log : List Update} {o : Owners} {knows : ℕ → Knowledg
   enters e x r = quiet (finished (learn (knows a) (Enter e) x) r) (point a) (log ∷ logs a) (g.owns a) (g.owns_pages a) (record { seen_fits = mine.seen_fits; learnt_fits = λ q e. absurd (cc); roots_fit = mine.roots_fit; heads_fit = mine.heads_fit; orders_fit = mine.orders_fit; linked_fits = mine.linked_fits })
 
   forgets : (linked : Option (Option ℕ)) → LinkFits o m (point a) linked → LinkFits o m (point a) (forgotten linked)
-  forgets None h = h
-  forgets (Some None) h = h
   forgets (Some (Some x)) h = (h.0, h.1)
+  forgets linked h = h
 
   pub leaves : (r : Option Reply) → IsTree m log o (put knows a (finished (learn (knows a) Leave Done) r)) (put point a (point a)) (put logs a (log ∷ logs a))
   leaves r = quiet (finished (learn (knows a) Leave Done) r) (point a) (log ∷ logs a) (g.owns a) (g.owns_pages a) (record { seen_fits = λ q. tt; learnt_fits = λ q e. absurd (cc); roots_fit = λ p e. absurd (cc); heads_fit = λ p. tt; orders_fit = λ p f. tt; linked_fits = forgets (knows a).asked.linked mine.linked_fits })
@@ -113,8 +95,7 @@ module _ {m : Shared} {log : List Update} {o : Owners} {knows : ℕ → Knowledg
       off : IsOff (o.page p) l s → InPlace o m (level_in d) (spec log o.index (level_in d)) (record { page = p; row = y; chain = d })
       off i = ⊎_elim (λ (n : IsOut (o.page p) (m.slots p)). absurd (let e = sym sy ∙ n.0 in cc))
           (λ (w : Off o m p l s).
-          let same : w.row ≡ y = same_Some w.row y (sym w.head ∙ sy) in
-          let e : w.chain ≡ d = chain_unique m.rows w.chain d (Some y) (subst (λ (n : ℕ). IsChain m.rows w.chain (Some n)) same w.is_chain) h in
+          let e : w.chain ≡ d = chain_unique m.rows w.chain d (Some y) (subst (λ (n : ℕ). IsChain m.rows w.chain (Some n)) (same_Some w.row y (sym w.head ∙ sy)) w.is_chain) h in
           absurd (let f : true ≡ false = sym w.flagged ∙ ap is_removed e ∙ nd in cc))
           (g.tree.off p l s i)
 
@@ -161,8 +142,7 @@ module _ {m : Shared} {log : List Update} {o : Owners} {knows : ℕ → Knowledg
     right = λ q i. let n = right_page o m (level_in p.chain) (spec log o.index (level_in p.chain)) (g.tree.first (level_in p.chain)) (g.tree.levels (level_in p.chain) (g.tree.exact.below p.page (level_in p.chain) (low_in p.chain) e.stage e.placed)) p e q i in
         (low_in n.0.chain, n.2, placed_reached (level_in p.chain) (low_in n.0.chain) n.3.stage (o.page q) (ap o.page (sym n.1) ∙ n.3.placed));
     items = λ l s i at v d.
-        let t : o.index l s ≡ Some i = sym (e.is_page.same s v ∙ ap (λ n. spec log o.index n s) at) ∙ d in
-        let n = (g.tree.exact.named l s i t).1 in
+        let n = (g.tree.exact.named l s i (sym (e.is_page.same s v ∙ ap (λ n. spec log o.index n s) at) ∙ d)).1 in
         subst (λ (w : PageOwner). Reached (rank_of i) l s w) (sym n.1) (refl, refl, marked_rank n.0 (child_of i) i n.2);
   }
 

@@ -1,36 +1,26 @@
 -- The exchanges that merge a removed page into its left one, and that clear a merged page's slot.
-use Rattle.std.specs.Prelude.{IsSome}
-use Rattle.std.proofs.Common.{◌≡◌, ◌≢◌, ◌⊎◌, inl, inr, ℕ, ◌≤◌, List, ◌∷◌, Option, Some, None, true, cond, refl, sym, ap, ◌∙◌, subst, ⊎_elim, arith}
-use Rattle.std.proofs.lemmas.Option.{same_Some}
-use Rattle.bw_model.specs.declared.command.Reply.{Reply}
-use Rattle.bw_model.specs.Log.{Update}
-use Rattle.base_page.specs.Pages.{content_at}
-use Rattle.deltas.specs.declared.record.Record.{Record}
-use Rattle.deltas.specs.declared.record.Record.TheVariants.{Merge}
-use Rattle.chain_search.specs.Chains.{content_in, level_in, low_in, high_in, right_in, is_removed}
-use Rattle.tree_law.specs.Keys.{Key, IsBelow, IsUnder, Covers}
-use Rattle.chain_search.specs.Knowledge.{OwnRow, Foreign, OwnPage, Other, Gone, Knowledge, filled, emptied, finished, cleared, handed_over, Written}
-use Rattle.tree_law.specs.Phase.{Stage, Fresh, Indexed, Held, Removed, Merged, PageOwner, Placed, Cleared, rank, stage_removed}
-use Rattle.tree_law.specs.Put.{put}
-use Rattle.tree_law.specs.Shared.{Shared}
-use Rattle.tree_law.specs.Owners.{IsChain, Spare, Linked, Owners, IsLinked, OwnFits, PageFits, HeadFits, IsOut}
-use Rattle.tree_law.specs.Tree.{spec, SidePage, InPlace, IsOff, Off, IsTree}
-use Rattle.chain_search.specs.Discipline.{MayMerge, HasRead}
-use Rattle.tree_law.proofs.shape.KeyOrder.{not_below, upto_same, under_trans, by_range, covers_to}
-use Rattle.tree_law.proofs.shape.Puts.{by_test, put_same, put_other, put_all}
-use Rattle.tree_law.proofs.shape.Chains.{chain_unique}
-use Rattle.tree_law.proofs.shape.Kept.{Kept, chain_kept}
-use Rattle.tree_law.proofs.shape.Sides.{in_level_as, one_chain, right_page, tree_kept, tree_merged}
-use Rattle.tree_law.proofs.shape.Terms.{exact_going}
-use Rattle.tree_law.proofs.shape.Frames.{RowChange, row_own, row_same, PageChange, page_same, page_stage, page_link, page_gone, Change, kept_change, closed_kept, chain_stands}
+use Rattle.tree_law.proofs.Words.{◌⊎◌, ap, refl, cond, Option, None, List, true, inl, ◌≢◌, ◌≤◌, inr, ◌∷◌, subst, sym, ℕ, ◌≡◌, ◌∙◌, arith, Some, ⊎_elim, same_Some, IsSome, Update, Reply, content_at}
+use Rattle.tree_law.proofs.Words.{Record, Merge, content_in, right_in, low_in, is_removed, level_in, high_in, HasRead, MayMerge, Knowledge, finished, Foreign, OwnPage, Other, Gone, Written, filled}
+use Rattle.tree_law.proofs.Words.{OwnRow, emptied, handed_over, Key, IsBelow, Covers, IsUnder, Linked, Owners, Spare, IsOut, IsLinked, OwnFits, HeadFits, PageFits, IsChain, Placed, PageOwner, Cleared}
+use Rattle.tree_law.proofs.Words.{rank, Removed, Merged, Stage, stage_removed, put, Shared, IsTree, spec, IsOff, Off, SidePage, InPlace}
+use Rattle.chain_search.specs.Knowledge.{cleared}
+use Rattle.tree_law.proofs.shape.{not_below, upto_same, under_trans, by_range, covers_to, by_test, put_same, put_other, put_all, chain_unique, chain_kept, in_level_as, one_chain, right_page}
+use Rattle.tree_law.proofs.shape.{tree_kept, tree_merged, placed_level, exact_going, RowChange, row_own, row_same, PageChange, page_same, page_stage, page_link, page_gone, Change, kept_change}
+use Rattle.tree_law.proofs.shape.{closed_kept, chain_stands}
 use Rattle.tree_law.proofs.links.Keeping.{put_tree, mine, mine_at, off_still}
-use Rattle.tree_law.proofs.links.Relinking.{placed_level, not_off, Found, not_own, found, found_as, place_of}
+use Rattle.tree_law.proofs.links.Relinking.{not_off, Found, not_own, found, found_as, place_of}
 use Rattle.tree_law.proofs.links.Updating.{below_top}
+use Rattle.tree_law.proofs.shape.Kept.{Kept}
 
 module _ {m : Shared} {log : List Update} {o : Owners} {knows : ℕ → Knowledge} {point : ℕ → Option (List Update)} {logs : ℕ → List (List Update)} (g : IsTree m log o knows point logs) (a : ℕ) where
   pub clears : (p x : ℕ) → m.slots p ≡ Some x → (knows a).own.pages p ≡ Gone → (r : Option Reply) → IsTree (record m { slots = put m.slots p None }) log o (put knows a (finished (emptied ((knows a).own.pages p) p x (knows a)) r)) (put point a (point a)) (put logs a (log ∷ logs a))
   clears p x s own r =
-      subst (λ (k : Knowledge). IsTree m' log o (put knows a (finished k r)) (put point a (point a)) (put logs a (log ∷ logs a))) (sym learned)
+      let was : (l : ℕ) × (k : Key) × (o.page p ≡ Cleared a l k) × IsSome (m.slots p) = subst (λ (v : OwnPage). PageFits a (o.page p) (m.slots p) v) own (g.owns_pages a p) in
+      let m' : Shared = record m { slots = put m.slots p None } in
+      let change : Change a o o m m' =
+      record { row = λ j. row_same refl refl; page = λ j. by_test j p (λ t. PageChange a o m m' (o.page j) (o.page j) (m.slots j) (cond t None (m.slots j))) (λ e. page_gone was.0 was.1 (ap o.page e ∙ was.2) (ap o.page e ∙ was.2) refl) (λ e. page_same refl refl) } in
+      let kept : Kept o o m m' = kept_change a o o m m' change in
+      subst (λ (k : Knowledge). IsTree m' log o (put knows a (finished k r)) (put point a (point a)) (put logs a (log ∷ logs a))) (sym (rw own refl))
       (put_tree g a m' log o (finished k r) (point a) (log ∷ logs a)
       change
       (record { row = g.frees.row; page = λ j h. let f = g.frees.page j h in (f.0, put_other m.slots p None j (λ e. absurd (let i = sym f.0 ∙ ap o.page e ∙ was.2 in cc)) ∙ f.1) })
@@ -42,23 +32,8 @@ module _ {m : Shared} {log : List Update} {o : Owners} {knows : ℕ → Knowledg
       (λ j. by_test j p (λ t. PageFits a (o.page j) (cond t None (m.slots j)) (cond t Other ((knows a).own.pages j))) (λ i. tt) (λ i. g.owns_pages a j))
       (mine_at g a o m' kept))
     where
-      was : (l : ℕ) × (k : Key) × (o.page p ≡ Cleared a l k) × IsSome (m.slots p)
-      was = subst (λ (v : OwnPage). PageFits a (o.page p) (m.slots p) v) own (g.owns_pages a p)
-
-      m' : Shared
-      m' = record m { slots = put m.slots p None }
-
-      change : Change a o o m m'
-      change = record { row = λ j. row_same refl refl; page = λ j. by_test j p (λ t. PageChange a o m m' (o.page j) (o.page j) (m.slots j) (cond t None (m.slots j))) (λ e. page_gone was.0 was.1 (ap o.page e ∙ was.2) (ap o.page e ∙ was.2) refl) (λ e. page_same refl refl) }
-
-      kept : Kept o o m m'
-      kept = kept_change a o o m m' change
-
       k : Knowledge
       k = cleared p x (knows a)
-
-      learned : emptied ((knows a).own.pages p) p x (knows a) ≡ k
-      learned = rw own refl
 
   -- a page that was read removed is as it was read
   pub frozen_as : (p x : ℕ) → (knows a).read.heads p ≡ Some x → (c : List Record) → IsChain (knows a).read.seen c (Some x) → is_removed c ≡ true → (m.slots p ≡ Some x) ⊎ IsOut (o.page p) (m.slots p)
@@ -68,41 +43,51 @@ module _ {m : Shared} {log : List Update} {o : Owners} {knows : ℕ → Knowledg
 
   -- the exchange that merges a page's right into it
   pub merges : (p x y : ℕ) → m.slots p ≡ Some x → (basis : HasRead (knows a) p x) (content : Record) → (knows a).own.rows y ≡ Written content → (h : MayMerge (knows a) x basis.chain content) → (r : Option Reply) → IsTree (record m { slots = put m.slots p (Some y) }) log (record { row = put o.row y Linked; page = put o.page h.other (Placed Merged (level_in basis.chain) (low_in h.merged)); index = o.index }) (put knows a (finished (filled ((knows a).own.pages p) p x y (knows a)) r)) (put point a (point a)) (put logs a (log ∷ logs a)) × (o.page h.other ≡ Placed Removed (level_in basis.chain) (low_in h.merged))
-  merges p x y s basis content written h r = (
-    subst (λ (k : Knowledge). IsTree m' log o' (put knows a (finished k r)) (put point a (point a)) (put logs a (log ∷ logs a))) (sym learned)
-        (put_tree g a m' log o' (finished (handed_over y (knows a)) r) (point a) (log ∷ logs a)
-        change
-        (record {
-          row = λ j f. put_other o.row y Linked j (λ i. absurd (let r = g.frees.row j f in let z = ap o.row i ∙ fits.0 in cc)) ∙ g.frees.row j f;
-          page = λ j n. let v = g.frees.page j n in (put_other o.page q gone j (λ i. absurd (let z = sym v.0 ∙ ap o.page i ∙ was in cc)) ∙ v.0, put_other m.slots p (Some y) j (λ i. absurd (let z = sym v.0 ∙ ap o.page i ∙ place.placed in cc)) ∙ v.1);
-        })
-        (closed_kept o o' m m' kept g.closed (λ j. by_test j y (λ t. cond t Linked (o.row j) ≡ Linked → (o.row j ≡ Linked) ⊎ IsLinked o' m' j)
-        (λ i l. inr (subst (λ (n : ℕ). IsLinked o' m' n) (sym i) (record { linked = put_same o.row y Linked; content = w; stands = fits.1; next = (kept.row x f.linked).0; rest = c; is_rest = f.stands })))
-        (λ i l. inl l)))
-        (tree_merged o o' m m' log g.closed kept g.tree p lv (low_in c) q sq place.stage Removed place.placed place.on was above
-        (λ j l k st np nq e on. (put_other m.slots p (Some y) j np, (st, put_other o.page q gone j nq ∙ e, on, refl))) refl refl
-        new refl
-        (λ g1 k h1 e1 hk rk.
-        let c1 : g1.chain ≡ c = one_chain o m lv (spec log o.index lv) (spec log o.index lv) here g1 place h1 e1 in
-        let kq : k.page ≡ q = same_Some k.page q (sym rk ∙ ap right_in c1 ∙ h.right) in
-        let ck : k.chain ≡ d = one_chain o m lv (spec log o.index lv) (spec log o.index lv) there k removed_place hk kq in
-        (kq, (refl, refl, new_place, (ap right_in (sym ck), ap high_in (sym ck)))))
-        (λ g1 h1 e1. ap right_in (one_chain o m lv (spec log o.index lv) (spec log o.index lv) here g1 place h1 e1) ∙ h.right)
-        (λ j l k st. by_test j q (λ t. cond t gone (o.page j) ≡ Placed st l k → rank st ≤ 3 → (j ≢ q) × ((st' : Stage) × (o.page j ≡ Placed st' l k) × (rank st' ≤ 3)))
-        (λ i e on. absurd (let z : Merged ≡ st = cc in let u = ap rank z in omega arith)) (λ i e on. ((λ z. i z), (st, e, on))))
-        (exact_going o.page o.index g.tree.top m.root q lv sq Removed Merged was (below_top g a q lv sq Removed was (omega arith)) refl g.tree.exact)
-        (λ j l k. by_test j q (λ t. IsOff (cond t gone (o.page j)) l k → IsOut (put o.page q gone j) (put m.slots p (Some y) j) ⊎ Off o' m' j l k)
-        (λ i e. let z = at_off l k e in inr (record { row = h.row; chain = d; head = put_other m.slots p (Some y) j (λ u. apart (sym i ∙ u)) ∙ ap m.slots i ∙ slot; linked = (kept.row h.row fd.linked).0; is_chain = chain_kept o o' m m' g.closed kept d (Some h.row) fd.linked fd.stands; flagged = h.gone; level = level ∙ z.0; low = z.1 }))
-        (λ i e. off_still g a o' m' kept j l k (put_other m.slots p (Some y) j (λ u. not_off place.stage lv (low_in c) l k place.on (subst (λ (v : PageOwner). IsOff v l k) (ap o.page u ∙ place.placed) e))) (g.tree.off j l k e))))
-        (put_all (λ j v. OwnFits a (o'.row j) (m.rows j) v) (knows a).own.rows y Foreign tt (λ j ne. rw (put_other o.row y Linked j ne) (g.owns a j)))
-        (λ j. by_test j q (λ t. PageFits a (cond t gone (o.page j)) (put m.slots p (Some y) j) ((knows a).own.pages j))
-        (λ i. subst (λ (v : OwnPage). PageFits a gone (put m.slots p (Some y) j) v) (sym (not_own g a j lv sq Removed (ap o.page i ∙ was) ((knows a).own.pages j) (g.owns_pages a j))) tt)
-        (λ i. by_test j p (λ t. PageFits a (o.page j) (cond t (Some y) (m.slots j)) ((knows a).own.pages j))
-        (λ i. subst (λ (v : OwnPage). PageFits a (o.page j) (Some y) v) (sym (not_own g a j lv (low_in c) place.stage (ap o.page i ∙ place.placed) ((knows a).own.pages j) (g.owns_pages a j))) tt)
-        (λ i. g.owns_pages a j)))
-        (mine_at g a o' m' kept)),
-    was,
-  )
+  merges p x y s basis content written h r =
+      let learned : filled ((knows a).own.pages p) p x y (knows a) ≡ handed_over y (knows a) =
+      rw (not_own g a p lv (low_in c) place.stage place.placed ((knows a).own.pages p) (g.owns_pages a p), (written ∙ ap Written h.is)) refl in
+      let change : Change a o o' m m' = record {
+        row = λ j. by_test j y (λ t. RowChange a (o.row j) (cond t Linked (o.row j)) (m.rows j) (m.rows j)) (λ i. row_own (ap o.row i ∙ fits.0)) (λ i. row_same refl refl);
+        page = λ j. by_test j q (λ t. PageChange a o m m' (o.page j) (cond t gone (o.page j)) (m.slots j) (put m.slots p (Some y) j))
+            (λ i. page_stage Removed Merged lv sq (ap o.page i ∙ was) refl (omega arith) (put_other m.slots p (Some y) j (λ u. apart (sym i ∙ u))))
+            (λ i. by_test j p (λ t. PageChange a o m m' (o.page j) (o.page j) (m.slots j) (cond t (Some y) (m.slots j)))
+            (λ i. page_link place.stage place.stage lv (low_in c) (ap o.page i ∙ place.placed) (ap o.page i ∙ place.placed) (omega arith) x y c (ap m.slots i ∙ s) f.stands basis.alive refl fits.0)
+            (λ i. page_same refl refl));
+      } in
+      let kept : Kept o o' m m' = kept_change a o o' m m' change in (
+        subst (λ (k : Knowledge). IsTree m' log o' (put knows a (finished k r)) (put point a (point a)) (put logs a (log ∷ logs a))) (sym learned)
+            (put_tree g a m' log o' (finished (handed_over y (knows a)) r) (point a) (log ∷ logs a)
+            change
+            (record {
+              row = λ j f. put_other o.row y Linked j (λ i. absurd (let r = g.frees.row j f in let z = ap o.row i ∙ fits.0 in cc)) ∙ g.frees.row j f;
+              page = λ j n. let v = g.frees.page j n in (put_other o.page q gone j (λ i. absurd (let z = sym v.0 ∙ ap o.page i ∙ was in cc)) ∙ v.0, put_other m.slots p (Some y) j (λ i. absurd (let z = sym v.0 ∙ ap o.page i ∙ place.placed in cc)) ∙ v.1);
+            })
+            (closed_kept o o' m m' kept g.closed (λ j. by_test j y (λ t. cond t Linked (o.row j) ≡ Linked → (o.row j ≡ Linked) ⊎ IsLinked o' m' j)
+            (λ i l. inr (subst (λ (n : ℕ). IsLinked o' m' n) (sym i) (record { linked = put_same o.row y Linked; content = w; stands = fits.1; next = (kept.row x f.linked).0; rest = c; is_rest = f.stands })))
+            (λ i l. inl l)))
+            (tree_merged o o' m m' log g.closed kept g.tree p lv (low_in c) q sq place.stage Removed place.placed place.on was above
+            (λ j l k st np nq e on. (put_other m.slots p (Some y) j np, (st, put_other o.page q gone j nq ∙ e, on, refl))) refl refl
+            (record { page = p; row = y; chain = w ∷ c }) refl
+            (λ g1 k h1 e1 hk rk.
+            let kq : k.page ≡ q = same_Some k.page q (sym rk ∙ ap right_in (one_chain o m lv (spec log o.index lv) (spec log o.index lv) here g1 place h1 e1) ∙ h.right) in
+            let ck : k.chain ≡ d = one_chain o m lv (spec log o.index lv) (spec log o.index lv) (record { page = q; row = h.row; chain = d }) k removed_place hk kq in
+            (kq, (refl, refl, new_place, (ap right_in (sym ck), ap high_in (sym ck)))))
+            (λ g1 h1 e1. ap right_in (one_chain o m lv (spec log o.index lv) (spec log o.index lv) here g1 place h1 e1) ∙ h.right)
+            (λ j l k st. by_test j q (λ t. cond t gone (o.page j) ≡ Placed st l k → rank st ≤ 3 → (j ≢ q) × ((st' : Stage) × (o.page j ≡ Placed st' l k) × (rank st' ≤ 3)))
+            (λ i e on. absurd (let z : Merged ≡ st = cc in let u = ap rank z in omega arith)) (λ i e on. ((λ z. i z), (st, e, on))))
+            (exact_going o.page o.index g.tree.top m.root q lv sq Removed Merged was (below_top g a q lv sq Removed was (omega arith)) refl g.tree.exact)
+            (λ j l k. by_test j q (λ t. IsOff (cond t gone (o.page j)) l k → IsOut (put o.page q gone j) (put m.slots p (Some y) j) ⊎ Off o' m' j l k)
+            (λ i e. let z = at_off l k e in inr (record { row = h.row; chain = d; head = put_other m.slots p (Some y) j (λ u. apart (sym i ∙ u)) ∙ ap m.slots i ∙ slot; linked = (kept.row h.row fd.linked).0; is_chain = chain_kept o o' m m' g.closed kept d (Some h.row) fd.linked fd.stands; flagged = h.gone; level = level ∙ z.0; low = z.1 }))
+            (λ i e. off_still g a o' m' kept j l k (put_other m.slots p (Some y) j (λ u. not_off place.stage lv (low_in c) l k place.on (subst (λ (v : PageOwner). IsOff v l k) (ap o.page u ∙ place.placed) e))) (g.tree.off j l k e))))
+            (put_all (λ j v. OwnFits a (o'.row j) (m.rows j) v) (knows a).own.rows y Foreign tt (λ j ne. rw (put_other o.row y Linked j ne) (g.owns a j)))
+            (λ j. by_test j q (λ t. PageFits a (cond t gone (o.page j)) (put m.slots p (Some y) j) ((knows a).own.pages j))
+            (λ i. subst (λ (v : OwnPage). PageFits a gone (put m.slots p (Some y) j) v) (sym (not_own g a j lv sq Removed (ap o.page i ∙ was) ((knows a).own.pages j) (g.owns_pages a j))) tt)
+            (λ i. by_test j p (λ t. PageFits a (o.page j) (cond t (Some y) (m.slots j)) ((knows a).own.pages j))
+            (λ i. subst (λ (v : OwnPage). PageFits a (o.page j) (Some y) v) (sym (not_own g a j lv (low_in c) place.stage (ap o.page i ∙ place.placed) ((knows a).own.pages j) (g.owns_pages a j))) tt)
+            (λ i. g.owns_pages a j)))
+            (mine_at g a o' m' kept)),
+        was,
+      )
     where
       c : List Record
       c = basis.chain
@@ -137,18 +122,13 @@ module _ {m : Shared} {log : List Update} {o : Owners} {knows : ℕ → Knowledg
       slot : m.slots q ≡ Some h.row
       slot = ⊎_elim (λ (u : m.slots q ≡ Some h.row). u) (λ (u : IsOut (o.page q) (m.slots q)). absurd (let e = sym next.3.placed ∙ ap o.page next.1 ∙ u.1.3 in cc)) (frozen_as q h.row h.head d h.read h.gone)
 
-      there : SidePage
-      there = record { page = q; row = h.row; chain = d }
-
-      removed_place : InPlace o m lv (spec log o.index lv) there
+      removed_place : InPlace o m lv (spec log o.index lv) (record { page = q; row = h.row; chain = d })
       removed_place = (in_level_as o m lv (spec log o.index lv) (g.tree.first lv) (g.tree.levels lv (g.tree.exact.below p lv (low_in c) place.stage place.placed)) q (low_in next.0.chain) next.3.stage (ap o.page (sym next.1) ∙ next.3.placed) next.3.on h.row slot d fd.stands).place
 
       is_frozen : (st : Stage) → rank st ≤ 3 → stage_removed st ≡ true → st ≡ Removed
-      is_frozen Fresh i e = absurd (cc)
-      is_frozen Indexed i e = absurd (cc)
-      is_frozen Held i e = absurd (cc)
       is_frozen Removed i e = refl
       is_frozen Merged i e = absurd (omega arith)
+      is_frozen st i e = absurd (cc)
 
       was : o.page q ≡ Placed Removed lv sq
       was = removed_place.placed ∙ ap (λ st. Placed st lv sq) (is_frozen removed_place.stage removed_place.on (sym removed_place.flagged ∙ h.gone))
@@ -172,9 +152,6 @@ module _ {m : Shared} {log : List Update} {o : Owners} {knows : ℕ → Knowledg
       w : Record
       w = Merge (record { level = lv; next = x; low = sq; high = high_in d; right = right_in d; items = h.items })
 
-      new : SidePage
-      new = record { page = p; row = y; chain = w ∷ c }
-
       fits : (o.row y ≡ Spare a) × (m.rows y ≡ Some w)
       fits = subst (λ (v : OwnRow). OwnFits a (o.row y) (m.rows y) v) (written ∙ ap Written h.is) (g.owns a y)
 
@@ -184,20 +161,7 @@ module _ {m : Shared} {log : List Update} {o : Owners} {knows : ℕ → Knowledg
       o' : Owners
       o' = record { row = put o.row y Linked; page = put o.page q gone; index = o.index }
 
-      change : Change a o o' m m'
-      change = record {
-        row = λ j. by_test j y (λ t. RowChange a (o.row j) (cond t Linked (o.row j)) (m.rows j) (m.rows j)) (λ i. row_own (ap o.row i ∙ fits.0)) (λ i. row_same refl refl);
-        page = λ j. by_test j q (λ t. PageChange a o m m' (o.page j) (cond t gone (o.page j)) (m.slots j) (put m.slots p (Some y) j))
-            (λ i. page_stage Removed Merged lv sq (ap o.page i ∙ was) refl (omega arith) (put_other m.slots p (Some y) j (λ u. apart (sym i ∙ u))))
-            (λ i. by_test j p (λ t. PageChange a o m m' (o.page j) (o.page j) (m.slots j) (cond t (Some y) (m.slots j)))
-            (λ i. page_link place.stage place.stage lv (low_in c) (ap o.page i ∙ place.placed) (ap o.page i ∙ place.placed) (omega arith) x y c (ap m.slots i ∙ s) f.stands basis.alive refl fits.0)
-            (λ i. page_same refl refl));
-      }
-
-      kept : Kept o o' m m'
-      kept = kept_change a o o' m m' change
-
-      new_place : InPlace o' m' lv (spec log o'.index lv) new
+      new_place : InPlace o' m' lv (spec log o'.index lv) (record { page = p; row = y; chain = w ∷ c })
       new_place = record {
         stage = place.stage;
         placed = put_other o.page q gone p (λ i. apart (sym i)) ∙ place.placed;
@@ -214,6 +178,3 @@ module _ {m : Shared} {log : List Update} {o : Owners} {knows : ℕ → Knowledg
               (λ i. place.is_page.same k (record { low = v.low; high = subst (λ (b : Option Key). IsUnder k b) (sym h.high) i }));
         };
       }
-
-      learned : filled ((knows a).own.pages p) p x y (knows a) ≡ handed_over y (knows a)
-      learned = rw (not_own g a p lv (low_in c) place.stage place.placed ((knows a).own.pages p) (g.owns_pages a p), (written ∙ ap Written h.is)) refl

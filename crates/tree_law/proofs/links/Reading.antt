@@ -1,26 +1,9 @@
 -- The reads keep the invariant. At the read of a slot it is known for is_tree what stood in the slots that were read before.
-use Rattle.std.proofs.Common.{◌≡◌, inl, ℕ, ◌≤◌, List, [], ◌∷◌, Option, Some, None, true, cond, refl, sym, ap, ◌∙◌, subst, ⊎_elim, arith}
-use Rattle.std.specs.Prelude.{IfSome}
-use Rattle.std.proofs.lemmas.Option.{same_Some}
-use Rattle.bw_model.specs.declared.command.Reply.{Reply}
-use Rattle.bw_model.specs.declared.step.Step.TheVariants.{Row}
+use Rattle.tree_law.proofs.Words.{[], ap, refl, cond, Option, None, List, true, inl, ◌≤◌, ◌∷◌, subst, sym, ℕ, ◌≡◌, ◌∙◌, arith, Some, ⊎_elim, same_Some, IfSome, Update, Reply, Row, Child, next_row}
+use Rattle.tree_law.proofs.Words.{Record, low_in, is_removed, level_in, Knowledge, finished, learn, learnt_next, learn_head, Linked, Owners, Reached, IsOut, IsLinked, HeadFits, OrderFits, SpellsLog}
+use Rattle.tree_law.proofs.Words.{SeenFits, ChainNames, Placed, Indexed, PageOwner, Cleared, rank, Merged, Stage, put, Shared, IsTree, spec}
 use Rattle.bw_model.specs.declared.step.Answer.TheVariants as answer
-use Rattle.bw_model.specs.Log.{Update}
-use Rattle.base_page.specs.declared.item.Content.TheVariants.{Child}
-use Rattle.deltas.specs.declared.record.Record.{Record}
-use Rattle.deltas.specs.Records.{next_row}
-use Rattle.chain_search.specs.Chains.{level_in, low_in, is_removed}
-use Rattle.chain_search.specs.Knowledge.{Knowledge, learnt_next, learn_head, learn, finished}
-use Rattle.tree_law.specs.Phase.{Stage, Indexed, Merged, PageOwner, Placed, Cleared, rank}
-use Rattle.tree_law.specs.Put.{put}
-use Rattle.tree_law.specs.Shared.{Shared}
-use Rattle.tree_law.specs.Owners.{Linked, Owners, Reached, ChainNames, IsLinked, SeenFits, SpellsLog, HeadFits, OrderFits, IsOut}
-use Rattle.tree_law.specs.Tree.{spec, IsTree}
-use Rattle.tree_law.proofs.shape.Puts.{by_test, put_all}
-use Rattle.tree_law.proofs.shape.Chains.{chain_unique}
-use Rattle.tree_law.proofs.shape.Kept.{reached_placed, placed_reached}
-use Rattle.tree_law.proofs.shape.Sides.{in_level_as, no_gap, right_page}
-use Rattle.tree_law.proofs.shape.Frames.{name_more}
+use Rattle.tree_law.proofs.shape.{by_test, put_all, chain_unique, reached_placed, placed_reached, in_level_as, no_gap, right_page, name_more}
 use Rattle.tree_law.proofs.links.Keeping.{spec_leaf, on_or_merged, quiet, mine, alive_place, beyond_place, place_names}
 
 module _ {m : Shared} {log : List Update} {o : Owners} {knows : ℕ → Knowledge} {point : ℕ → Option (List Update)} {logs : ℕ → List (List Update)} (g : IsTree m log o knows point logs) (a : ℕ) where
@@ -71,8 +54,6 @@ module _ {m : Shared} {log : List Update} {o : Owners} {knows : ℕ → Knowledg
             place_names g a (record { page = f; row = z'; chain = c }) (beyond_place g a p x sx d id (subst (λ (d : List Record). Reached 0 (level_in d) (low_in d) (o.page p)) same e) nd f z' i at c ic rc);
         merged = λ c d k q ic id nc nd i v fd lo hi ne.
             let same : h.2.chain ≡ c = chain_unique m.rows h.2.chain c (Some z') h.2.is_chain ic in
-            let n = subst (λ (d : List Record). ChainNames o d) same (h.5 (ap is_removed same ∙ nc)) in
-            let r = n.items (level_in d) k (Child q true) i v fd in
             let w = alive_place g a p (level_in s.chain) (low_in s.chain) e x sx d id nd in
             ⊎_elim
             (λ (u : (st : Stage) × (o.page q ≡ Placed st (level_in d) k) × (2 ≤ rank st)). ⊎_elim
@@ -82,27 +63,22 @@ module _ {m : Shared} {log : List Update} {o : Owners} {knows : ℕ → Knowledg
             (λ (e : u.0 ≡ Merged). subst (λ (v : PageOwner). Reached 4 (level_in d) k v) (sym (u.1 ∙ ap (λ st. Placed st (level_in d) k) e)) (refl, refl, (let z : 4 ≤ 4 = omega arith in z)))
             (on_or_merged u.0))
             (λ (u : (b : ℕ) × (o.page q ≡ Cleared b (level_in d) k)). subst (λ (v : PageOwner). Reached 4 (level_in d) k v) (sym u.1) (refl, refl))
-            (reached_placed 2 (level_in d) k (o.page q) r);
+            (reached_placed 2 (level_in d) k (o.page q) ((subst (λ (d : List Record). ChainNames o d) same (h.5 (ap is_removed same ∙ nc))).items (level_in d) k (Child q true) i v fd));
       }
 
   pub reads_row : (q : ℕ) (w : Record) → (knows a).read.learnt q ≡ true → m.rows q ≡ Some w → (r : Option Reply) → IsTree m log o (put knows a (finished (learn (knows a) (Row q) (answer.Content w)) r)) (put point a (point a)) (put logs a (log ∷ logs a))
   reads_row q w l e r =
+      let at : IsLinked o m q = g.closed q ((mine g a).learnt_fits q l) in
       quiet g a (finished (learn (knows a) (Row q) (answer.Content w)) r) (point a) (log ∷ logs a) (g.owns a) (g.owns_pages a)
       (record {
         seen_fits = put_all (λ j v. SeenFits (o.row j) (m.rows j) v) (knows a).read.seen q (Some w) (at.linked, e) (λ j ne. (mine g a).seen_fits j);
-        learnt_fits = rows (next_row w) (subst (λ (v : Record). IfSome (next_row v) (λ n. o.row n ≡ Linked)) same at.next);
+        learnt_fits = rows (next_row w) (subst (λ (v : Record). IfSome (next_row v) (λ n. o.row n ≡ Linked)) (same_Some at.content w (sym at.stands ∙ e)) at.next);
         roots_fit = (mine g a).roots_fit;
         heads_fit = (mine g a).heads_fit;
         orders_fit = (mine g a).orders_fit;
         linked_fits = (mine g a).linked_fits;
       })
     where
-      at : IsLinked o m q
-      at = g.closed q ((mine g a).learnt_fits q l)
-
-      same : at.content ≡ w
-      same = same_Some at.content w (sym at.stands ∙ e)
-
       rows : (x : Option ℕ) → IfSome x (λ n. o.row n ≡ Linked) → (j : ℕ) → learnt_next x (knows a).read.learnt j ≡ true → o.row j ≡ Linked
       rows None h = (mine g a).learnt_fits
       rows (Some n) h = name_more o (knows a).read.learnt n h (mine g a).learnt_fits

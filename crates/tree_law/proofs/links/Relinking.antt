@@ -1,28 +1,14 @@
 -- One row is linked over the chain of a page that was read, and pages go on.
-use Rattle.std.proofs.Common.{◌≡◌, ◌≢◌, ◌⊎◌, inl, inr, ℕ, suc, ◌≤◌, List, [], ◌∷◌, Option, Some, None, false, cond, refl, sym, ap, ◌∙◌, subst, ⊎_elim, arith}
-use Rattle.std.specs.Prelude.{IfSome}
-use Rattle.bw_model.specs.Log.{Update}
-use Rattle.base_page.specs.declared.item.Content.{Content}
-use Rattle.deltas.specs.declared.record.Record.{Record}
-use Rattle.deltas.specs.Records.{next_row}
-use Rattle.chain_search.specs.Chains.{content_in, level_in, low_in, high_in, right_in, is_removed}
-use Rattle.tree_law.specs.Keys.{Key, IsUpTo, IsUnder, Covers}
-use Rattle.chain_search.specs.Knowledge.{OwnRow, Foreign, Written, OwnPage, Other, Empty, Ready, Gone, Knowledge}
-use Rattle.chain_search.specs.Discipline.{HasRead}
-use Rattle.tree_law.specs.Phase.{Stage, Merged, PageOwner, Nobody, Placed, Cleared, rank, stage_removed}
-use Rattle.tree_law.specs.Put.{put}
-use Rattle.tree_law.specs.Shared.{Shared}
-use Rattle.tree_law.specs.Owners.{IsChain, Spare, Linked, Owners, Reached, IsLinked, OwnFits, PageFits, OwnsPages, HeadFits, LinkFits, Knows, IsOut}
-use Rattle.tree_law.specs.Tree.{spec, InPlace, HasSidePage, IsOff, Off, Exact, IsTree}
+use Rattle.tree_law.proofs.Words.{false, ◌⊎◌, [], ap, refl, cond, Option, suc, None, List, inl, ◌≢◌, ◌≤◌, inr, ◌∷◌, subst, sym, ℕ, ◌≡◌, ◌∙◌, arith, Some, ⊎_elim, IfSome, Update, ContentOf, next_row}
+use Rattle.tree_law.proofs.Words.{Record, content_in, right_in, low_in, is_removed, level_in, high_in, HasRead, Knowledge, Ready, Foreign, Empty, OwnPage, Other, Gone, Written, OwnRow, Key, IsUpTo}
+use Rattle.tree_law.proofs.Words.{Covers, IsUnder, Linked, Owners, Reached, Spare, IsOut, IsLinked, OwnFits, LinkFits, HeadFits, PageFits, IsChain, OwnsPages, Nobody, Placed, PageOwner, Cleared, rank}
+use Rattle.tree_law.proofs.Words.{Merged, Stage, stage_removed, put, Shared, IsTree, spec, HasSidePage, IsOff, Off, InPlace, Exact, KnowsBy}
 use Rattle.tree_law.proofs.shape.Puts.{by_test, put_same, put_other, put_all}
 use Rattle.tree_law.proofs.shape.Chains.{chain_unique}
 use Rattle.tree_law.proofs.shape.Kept.{Kept, link_kept}
-use Rattle.tree_law.proofs.shape.Sides.{tree_relinked}
+use Rattle.tree_law.proofs.shape.Sides.{tree_relinked, placed_level}
 use Rattle.tree_law.proofs.shape.Frames.{RowChange, row_own, row_same, PageChange, page_same, page_stage, page_link, page_clear, Change, kept_change, closed_kept, read_linked, chain_stands}
 use Rattle.tree_law.proofs.links.Keeping.{put_tree, mine, mine_at, alive_place, off_still}
-
-pub placed_level : (st st' : Stage) (l l' : ℕ) (s s' : Key) → Placed st l s ≡ Placed st' l' s' → (l ≡ l') × (s ≡ s')
-placed_level st st' l l' s s' e = ((let f : l ≡ l' = cc in f), (let f : s ≡ s' = cc in f))
 
 pub not_off : (st : Stage) (l : ℕ) (s : Key) (l' : ℕ) (s' : Key) → rank st ≤ 3 → IsOff (Placed st l s) l' s' → ⊥
 not_off st l s l' s' r (inl e) = absurd (let f : st ≡ Merged = cc in let i : rank Merged ≤ 3 = subst (λ (w : Stage). rank w ≤ 3) f r in omega arith)
@@ -44,9 +30,8 @@ pub data Moves (a : ℕ) (o : Owners) (m : Shared) (p y : ℕ) (w n : PageOwner)
 module _ {m : Shared} {log : List Update} {o : Owners} {knows : ℕ → Knowledge} {point : ℕ → Option (List Update)} {logs : ℕ → List (List Update)} (g : IsTree m log o knows point logs) (a : ℕ) where
   pub not_own : (p l : ℕ) (s : Key) (st : Stage) → o.page p ≡ Placed st l s → (v : OwnPage) → PageFits a (o.page p) (m.slots p) v → v ≡ Other
   not_own p l s st e Other f = refl
-  not_own p l s st e Empty f = absurd (let i = sym e ∙ f.0 in cc)
-  not_own p l s st e (Ready r) f = absurd (let i = sym e ∙ f.0 in cc)
   not_own p l s st e Gone f = absurd (let i = sym e ∙ f.2 in cc)
+  not_own p l s st e v f = absurd (let i = sym e ∙ f.0 in cc)
 
   -- a page that was read
   pub found_as : (p x : ℕ) → (knows a).read.heads p ≡ Some x → (c : List Record) → IsChain (knows a).read.seen c (Some x) → Found o m p x c
@@ -105,7 +90,7 @@ module _ {m : Shared} {log : List Update} {o : Owners} {knows : ℕ → Knowledg
   -- one row is linked in the place of the chain of a page, and pages go on
   pub relink_one : (p x y : ℕ) (c : List Record) → Found o m p x c → (place : InPlace o m (level_in c) (spec log o.index (level_in c)) (record { page = p; row = x; chain = c })) → is_removed c ≡ false → m.slots p ≡ Some x → o.row y ≡ Spare a
       → (stage' : Stage) → rank place.stage ≤ rank stage' → rank stage' ≤ 3
-      → (page' : ℕ → PageOwner) (index' : ℕ → Key → Option Content) → page' p ≡ Placed stage' (level_in c) (low_in c) → ((q : ℕ) → q ≢ p → Moves a o m p y (o.page q) (page' q)) → Exact page' index' g.tree.top m.root
+      → (page' : ℕ → PageOwner) (index' : ℕ → Key → Option ContentOf) → page' p ≡ Placed stage' (level_in c) (low_in c) → ((q : ℕ) → q ≢ p → Moves a o m p y (o.page q) (page' q)) → Exact page' index' g.tree.top m.root
       → (w : Record) → m.rows y ≡ Some w → IfSome (next_row w) (λ n. o.row n ≡ Linked) → (rest : List Record) → IsChain m.rows rest (next_row w)
       → level_in (w ∷ rest) ≡ level_in c → low_in (w ∷ rest) ≡ low_in c → right_in (w ∷ rest) ≡ right_in c → high_in (w ∷ rest) ≡ high_in c → is_removed (w ∷ rest) ≡ stage_removed stage'
       → (log' : List Update) → ((k : Key) → Covers c k → content_in (w ∷ rest) k ≡ spec log' index' (level_in c) k) → ((l : ℕ) (k : Key) → (l ≡ level_in c → Covers c k → ⊥) → spec log' index' l k ≡ spec log o.index l k)
@@ -114,6 +99,10 @@ module _ {m : Shared} {log : List Update} {o : Owners} {knows : ℕ → Knowledg
       → (ps : Option (List Update)) → LinkFits o m ps k.asked.linked
       → IsTree (record m { slots = put m.slots p (Some y) }) log' (record { row = put o.row y Linked; page = page'; index = index' }) (put knows a k) (put point a ps) (put logs a (log ∷ logs a))
   relink_one p x y c f place alive s was stage' le on page' index' here moves exact w wy next rest is_rest level low right high flagged log' same apart k e0 pages e2 e3 e4 e5 e6 ps link =
+      let owned : OwnsPages a o' m' (knows a).own.pages = λ j. by_test j p (λ t. PageFits a (page' j) (cond t (Some y) (m.slots j)) ((knows a).own.pages j))
+      (λ i. subst (λ (v : OwnPage). PageFits a (page' j) (Some y) v) (sym (not_own j (level_in c) (low_in c) place.stage (ap o.page i ∙ place.placed) ((knows a).own.pages j) (g.owns_pages a j))) tt)
+      (λ ne. moved_own p y (o.page j) (page' j) (moves j ne) (m.slots j) ((knows a).own.pages j) (g.owns_pages a j)) in
+      let mine' : KnowsBy o' m' (knows a) (point a) (log ∷ logs a) = mine_at g a o' m' kept in
       put_tree g a m' log' o' k ps (log ∷ logs a)
       change
       (record {
@@ -173,17 +162,9 @@ module _ {m : Shared} {log : List Update} {o : Owners} {knows : ℕ → Knowledg
       kept : Kept o o' m m'
       kept = kept_change a o o' m m' change
 
-      mine' : Knows o' m' (knows a).read.seen (knows a).read.learnt (knows a).read.roots (knows a).read.heads (knows a).read.before (knows a).asked.linked (point a) (log ∷ logs a)
-      mine' = mine_at g a o' m' kept
-
       nexts : (v : Option ℕ) → IfSome v (λ n. o.row n ≡ Linked) → IfSome v (λ n. put o.row y Linked n ≡ Linked)
       nexts None i = tt
       nexts (Some n) i = (kept.row n i).0
-
-      owned : OwnsPages a o' m' (knows a).own.pages
-      owned j = by_test j p (λ t. PageFits a (page' j) (cond t (Some y) (m.slots j)) ((knows a).own.pages j))
-          (λ i. subst (λ (v : OwnPage). PageFits a (page' j) (Some y) v) (sym (not_own j (level_in c) (low_in c) place.stage (ap o.page i ∙ place.placed) ((knows a).own.pages j) (g.owns_pages a j))) tt)
-          (λ ne. moved_own p y (o.page j) (page' j) (moves j ne) (m.slots j) ((knows a).own.pages j) (g.owns_pages a j))
 
   -- what was placed in a row of its own
   pub placed_row : (y : ℕ) (w : Record) → (knows a).own.rows y ≡ Written w → m.rows y ≡ Some w

@@ -1,39 +1,15 @@
 -- Each allowed step with the memory's answer keeps the invariant.
-use Rattle.std.proofs.Common.{◌≡◌, ◌⊎◌, inl, inr, ℕ, zero, suc, List, [], ◌∷◌, Option, Some, None, Bool, true, false, cond, eqb, refl, sym, ap, ◌∙◌, subst, ⊎_elim}
-use Rattle.std.specs.Prelude.{IsTrue, IfSome}
-use Rattle.std.proofs.lemmas.Option.{same_Some}
-use Rattle.bw_model.specs.declared.command.Reply.{Reply}
-use Rattle.bw_model.specs.declared.step.Step.{Step as StepOf}
-use Rattle.bw_model.specs.declared.step.Step.TheVariants.{Slot, Row, Epoch, Announce, PidBits, RowBits, Place, Exchange, TakePid, TakeRow, Enter, Leave, Retire, ReusePids, ReuseRows}
-use Rattle.bw_model.specs.declared.step.Answer.{Answer}
-use Rattle.bw_model.specs.declared.step.Answer.TheVariants.{Number, Whether}
-use Rattle.bw_model.specs.Log.{Update, set, unset}
-use Rattle.base_page.specs.declared.item.Content.{Content as ContentOf}
-use Rattle.base_page.specs.declared.item.Content.TheVariants.{Child}
-use Rattle.base_page.specs.Pages.{Page}
-use Rattle.deltas.specs.declared.record.Record.{Record}
-use Rattle.deltas.specs.declared.record.Record.TheVariants.{Base, Put, Delete, Split, Term, Hold, Remove, Merge, Unterm}
-use Rattle.deltas.specs.Memory.{Memory, replaced_at}
-use Rattle.deltas.specs.Records.{next_row}
-use Rattle.chain_search.specs.Chains.{level_in, low_in}
-use Rattle.chain_search.specs.Fitted.{IsFitted}
-use Rattle.chain_search.specs.Steps.{IsAnswer, memory_after}
-use Rattle.tree_law.specs.Keys.{Key, put_key}
-use Rattle.chain_search.specs.Knowledge.{OwnRow, Written, OwnPage, Empty, Ready, Gone, Knowledge, learn_head, filled, emptied, learn, finished}
-use Rattle.chain_search.specs.Discipline.{update_record, base_from, root_over, IsMet, HasRead, FitsOn, MayUpdate, MayConsolidate, MaySplit, MayPost, MayHold, MayRemove, MayMerge, MayUnterm, MayRoot, MayLink, MayExchange, May}
-use Rattle.tree_law.specs.Phase.{Fresh, Indexed, Held, Removed, Merged, PageOwner, Keeps, Placed, Cleared}
-use Rattle.tree_law.specs.Phases.{LinkMoves, Phased}
-use Rattle.tree_law.specs.Put.{put}
-use Rattle.tree_law.specs.Shared.{Shared, row_in, slot_in, shared}
-use Rattle.tree_law.specs.Owners.{Spare, Linked, Owners, OwnFits, PageFits, Reached, SpellsLog}
-use Rattle.tree_law.specs.Tree.{IsTree}
-use Rattle.tree_law.specs.Fitness.{IsAdded}
-use Rattle.tree_law.specs.Next.{IsReuse, IsMoved, IsHomed, Next}
-use Rattle.tree_law.proofs.shape.Frames.{read_linked, chain_stands}
-use Rattle.tree_law.proofs.shape.Puts.{by_test, put_other}
+use Rattle.tree_law.proofs.Words.{false, ◌⊎◌, [], ap, refl, cond, Option, suc, None, List, true, inl, inr, ◌∷◌, subst, sym, ℕ, ◌≡◌, Bool, zero, ◌∙◌, Some, eqb, ⊎_elim, same_Some, IfSome, IsTrue}
+use Rattle.tree_law.proofs.Words.{Update, set, unset, Reply, Answer, Whether, Number, StepOf, ReuseRows, ReusePids, Leave, TakePid, Row, Place, TakeRow, Slot, Enter, Epoch, Exchange, Announce, Retire}
+use Rattle.tree_law.proofs.Words.{Page, ContentOf, Child, Memory, replaced_at, next_row, Record, Remove, Base, Hold, Split, Merge, Term, Unterm, low_in, level_in, May, root_over, MayExchange, FitsOn}
+use Rattle.tree_law.proofs.Words.{MayLink, MayRoot, base_from, HasRead, update_record, MayPost, IsMet, MayUpdate, MayUnterm, MayHold, MayMerge, MaySplit, MayConsolidate, MayRemove, IsFitted}
+use Rattle.tree_law.proofs.Words.{Knowledge, finished, Ready, learn, Empty, OwnPage, Gone, Written, filled, OwnRow, emptied, learn_head, IsAnswer, memory_after, IsAdded, Key, put_key, IsReuse}
+use Rattle.tree_law.proofs.Words.{IsMoved, Next, IsHomed, Linked, Owners, Reached, Spare, OwnFits, PageFits, SpellsLog, Placed, Indexed, PageOwner, Cleared, Keeps, Fresh, Removed, Held, Merged}
+use Rattle.tree_law.proofs.Words.{Phased, LinkMoves, put, shared, slot_in, row_in, Shared, IsTree}
+use Rattle.tree_law.proofs.shape.{read_linked, chain_stands, by_test, put_other, own_spare}
 use Rattle.tree_law.proofs.links.Keeping.{idles, enters, leaves, slot_of, met_placed}
 use Rattle.tree_law.proofs.links.Reading.{reads_root, reads_slot, reads_row}
-use Rattle.tree_law.proofs.links.Taking.{takes_row, takes_page, own_spare, places, own_slot}
+use Rattle.tree_law.proofs.links.Taking.{takes_row, takes_page, places, own_slot}
 use Rattle.tree_law.proofs.links.Relinking.{placed_row}
 use Rattle.tree_law.proofs.links.Updating.{updates, consolidates, removes}
 use Rattle.tree_law.proofs.links.Indexing.{posts, holds, unterms}
@@ -58,10 +34,7 @@ slot_put slots p y = λ d q. at q d
 
 -- a bit that is clear is cleared again
 cleared_again : (free : ℕ → Bool) (n : ℕ) → free n ≡ false → replaced_at n false free ≡ free
-cleared_again free n h = λ d j. at j d
-  where
-    at : (j : ℕ) → replaced_at n false free j ≡ free j
-    at j = by_test j n (λ t. cond t false (free j) ≡ free j) (λ e. sym (ap free e ∙ h)) (λ ne. refl)
+cleared_again free n h = λ d j. by_test j n (λ t. cond t false (free j) ≡ free j) (λ e. sym (ap free e ∙ h)) (λ ne. refl) d
 
 record_next : (u : Update) (x : ℕ) → next_row (update_record u x) ≡ Some x
 record_next (set b k v) x = refl
@@ -248,14 +221,13 @@ module _ (memory : Memory) {log : List Update} {o : Owners} {knows : ℕ → Kno
   -- what is placed is linked, by its kind
   links : (p x y : ℕ) (r : Option Reply) (s : slot_in memory.slots (suc p) ≡ Some (suc x)) (basis : HasRead (knows a) (suc p) (suc x)) (content : Record) (written : (knows a).own.rows (suc y) ≡ Written content) (fits : FitsOn basis.chain content) → MayLink a (knows a) (suc p) (suc x) basis.chain content → Linking p x y r s basis content written fits
   links p x y r s basis (Base base) = by_base p x y r s basis (Base base)
-  links p x y r s basis (Put put) = by_update p x y r s basis (Put put)
-  links p x y r s basis (Delete delete) = by_update p x y r s basis (Delete delete)
   links p x y r s basis (Split split) = by_split p x y r s basis (Split split)
   links p x y r s basis (Term term) = by_post p x y r s basis (Term term)
   links p x y r s basis (Hold hold) = by_hold p x y r s basis (Hold hold)
   links p x y r s basis (Remove remove) = by_remove p x y r s basis (Remove remove)
   links p x y r s basis (Merge merge) = by_merge p x y r s basis (Merge merge)
   links p x y r s basis (Unterm unterm) = by_unterm p x y r s basis (Unterm unterm)
+  links p x y r s basis content = by_update p x y r s basis content
 
   own_kept : (p : ℕ) (v : OwnPage) → (knows a).own.pages p ≡ v → PageFits a (o.page p) (slot_in memory.slots p) v
   own_kept p v e = subst (λ (w : OwnPage). PageFits a (o.page p) (slot_in memory.slots p) w) e (g.owns_pages a p)
@@ -306,9 +278,7 @@ module _ (memory : Memory) {log : List Update} {o : Owners} {knows : ℕ → Kno
   step (Row q) calm r h x e = subst (λ (v : Answer Record). After memory (Row q) v r) (sym e.2) (rests refl (λ row l. refl) (reads_row g a q e.0 h.1 e.1 r))
   step Epoch calm r h x e = subst (λ (v : Answer Record). After memory Epoch v r) (sym e) (rests refl (λ row l. refl) (idles g a (finished (learn (knows a) Epoch (Number memory.epoch)) r) refl refl refl refl refl refl refl refl))
   step (Announce b) calm r h x e = subst (λ (v : Answer Record). After memory (Announce b) v r) (sym e) (rests refl (λ row l. refl) (idles g a (finished (learn (knows a) (Announce b) (Number (memory.announced b))) r) refl refl refl refl refl refl refl refl))
-  step (PidBits w) calm r h x e = subst (λ (v : Answer Record). After memory (PidBits w) v r) (sym e.2) (rests refl (λ row l. refl) (idles g a (finished (learn (knows a) (PidBits w) (Number e.0)) r) refl refl refl refl refl refl refl refl))
-  step (RowBits w) calm r h x e = subst (λ (v : Answer Record). After memory (RowBits w) v r) (sym e.2) (rests refl (λ row l. refl) (idles g a (finished (learn (knows a) (RowBits w) (Number e.0)) r) refl refl refl refl refl refl refl refl))
-  step (Place q w) calm r h x e = subst (λ (v : Answer Record). After (memory_after a (Place q w) memory) (Place q w) v r) (sym e) (rests refl (λ row l. put_other memory.rows q (Some w) row (λ i. absurd (let f = own_spare g a q ((knows a).own.rows q) (g.owns a q) h.1 in let l' = sym (ap o.row i) ∙ l in cc))) (places g a q w h.1 r))
+  step (Place q w) calm r h x e = subst (λ (v : Answer Record). After (memory_after a (Place q w) memory) (Place q w) v r) (sym e) (rests refl (λ row l. put_other memory.rows q (Some w) row (λ i. absurd (let f : o.row q ≡ Spare a = own_spare (memory.rows q) ((knows a).own.rows q) (g.owns a q) h.1 in let l' = sym (ap o.row i) ∙ l in cc))) (places g a q w h.1 r))
   step (Exchange p old y) calm r h x e = subst (λ (v : Answer Record). After (memory_after a (Exchange p old y) memory) (Exchange p old y) v r) (sym e) (exchange p old y r h.1)
   step (TakePid q) calm r h x e = subst (λ (v : Answer Record). After (memory_after a (TakePid q) memory) (TakePid q) v r) (sym e) (takes_pid q r (memory.free_pids q) refl)
   step (TakeRow q) calm r h x e = subst (λ (v : Answer Record). After (memory_after a (TakeRow q) memory) (TakeRow q) v r) (sym e) (takes q r (memory.free_rows q) refl)
@@ -317,3 +287,4 @@ module _ (memory : Memory) {log : List Update} {o : Owners} {knows : ℕ → Kno
   step (Retire n) calm r h x e = rests refl (λ row l. refl) (idles g a (finished (knows a) r) refl refl refl refl refl refl refl refl)
   step (ReusePids w b) calm r h x e = absurd (calm tt)
   step (ReuseRows w b) calm r h x e = absurd (calm tt)
+  step s calm r h x e = subst (λ (v : Answer Record). After memory s v r) (sym e.2) (rests refl (λ row l. refl) (idles g a (finished (learn (knows a) s (Number e.0)) r) refl refl refl refl refl refl refl refl))

@@ -1,28 +1,20 @@
 -- Taking rows and pages, placing records in own rows and rows in the slots of own pages keep the invariant.
-use Rattle.std.proofs.Common.{◌≡◌, ◌⊎◌, inl, inr, ℕ, List, ◌∷◌, Option, Some, None, true, false, cond, refl, sym, ap, ◌∙◌, ⊎_elim}
-use Rattle.bw_model.specs.declared.command.Reply.{Reply}
-use Rattle.bw_model.specs.declared.step.Step.TheVariants.{Place, TakePid, TakeRow}
-use Rattle.bw_model.specs.declared.step.Answer.TheVariants.{Whether, Done}
-use Rattle.bw_model.specs.Log.{Update}
-use Rattle.deltas.specs.declared.record.Record.{Record}
-use Rattle.tree_law.specs.Keys.{Key}
-use Rattle.chain_search.specs.Knowledge.{OwnRow, Foreign, Taken, Written, OwnPage, Empty, Knowledge, learn, finished}
-use Rattle.chain_search.specs.Discipline.{IsOwn}
-use Rattle.tree_law.specs.Phase.{Stage, Merged, Nobody, Keeps, Placed, Cleared}
-use Rattle.tree_law.specs.Put.{put}
-use Rattle.tree_law.specs.Shared.{Shared}
-use Rattle.tree_law.specs.Owners.{Free, Spare, Linked, Owners, IsLinked, OwnFits, PageFits}
-use Rattle.tree_law.specs.Tree.{IsTree}
-use Rattle.tree_law.proofs.shape.Puts.{by_test, put_same, put_other, put_all}
-use Rattle.tree_law.proofs.shape.Kept.{Kept}
-use Rattle.tree_law.proofs.shape.Sides.{tree_kept}
-use Rattle.tree_law.proofs.shape.Terms.{exact_same}
-use Rattle.tree_law.proofs.shape.Frames.{RowChange, row_free, row_own, row_same, PageChange, page_free, page_own, page_same, Change, kept_change, closed_kept}
+use Rattle.tree_law.proofs.Words.{false, ◌⊎◌, ap, refl, cond, Option, None, List, true, inl, inr, ◌∷◌, sym, ℕ, ◌≡◌, ◌∙◌, Some, ⊎_elim, Update, Reply, Whether, Done, TakePid, Place, TakeRow, Record}
+use Rattle.tree_law.proofs.Words.{IsOwn, Knowledge, finished, learn, Empty, OwnPage, Taken, Written, Key, Free, Linked, Owners, Spare, IsLinked, OwnFits, PageFits, Nobody, Placed, Cleared, Keeps}
+use Rattle.tree_law.proofs.Words.{Merged, Stage, put, Shared, IsTree}
+use Rattle.tree_law.proofs.shape.{by_test, put_same, put_other, put_all, tree_kept, exact_same, RowChange, row_free, row_own, row_same, PageChange, page_free, page_own, page_same, Change}
+use Rattle.tree_law.proofs.shape.{kept_change, closed_kept, own_spare}
 use Rattle.tree_law.proofs.links.Keeping.{put_tree, mine_at, tree_at, off_still}
+use Rattle.tree_law.proofs.shape.Kept.{Kept}
 
 module _ {m : Shared} {log : List Update} {o : Owners} {knows : ℕ → Knowledge} {point : ℕ → Option (List Update)} {logs : ℕ → List (List Update)} (g : IsTree m log o knows point logs) (a : ℕ) where
   pub takes_row : (q : ℕ) → m.free q ≡ true → (r : Option Reply) → IsTree (record m { free = put m.free q false }) log (record o { row = put o.row q (Spare a) }) (put knows a (finished (learn (knows a) (TakeRow q) (Whether true)) r)) (put point a (point a)) (put logs a (log ∷ logs a))
   takes_row q f r =
+      let m' : Shared = record m { free = put m.free q false } in
+      let o' : Owners = record o { row = put o.row q (Spare a) } in
+      let change : Change a o o' m m' =
+      record { row = λ j. by_test j q (λ t. RowChange a (o.row j) (cond t (Spare a) (o.row j)) (m.rows j) (m.rows j)) (λ i. row_free (ap o.row i ∙ g.frees.row q f)) (λ i. row_same refl refl); page = λ p. page_same refl refl } in
+      let kept : Kept o o' m m' = kept_change a o o' m m' change in
       put_tree g a m' log o' (finished (learn (knows a) (TakeRow q) (Whether true)) r) (point a) (log ∷ logs a)
       change
       (record {
@@ -34,21 +26,21 @@ module _ {m : Shared} {log : List Update} {o : Owners} {knows : ℕ → Knowledg
       (put_all (λ j v. OwnFits a (o'.row j) (m.rows j) v) (knows a).own.rows q Taken (put_same o.row q (Spare a)) (λ j ne. rw (put_other o.row q (Spare a) j ne) (g.owns a j)))
       (g.owns_pages a)
       (mine_at g a o' m' kept)
-    where
-      m' : Shared
-      m' = record m { free = put m.free q false }
-
-      o' : Owners
-      o' = record o { row = put o.row q (Spare a) }
-
-      change : Change a o o' m m'
-      change = record { row = λ j. by_test j q (λ t. RowChange a (o.row j) (cond t (Spare a) (o.row j)) (m.rows j) (m.rows j)) (λ i. row_free (ap o.row i ∙ g.frees.row q f)) (λ i. row_same refl refl); page = λ p. page_same refl refl }
-
-      kept : Kept o o' m m'
-      kept = kept_change a o o' m m' change
 
   pub takes_page : (q : ℕ) → m.free_pages q ≡ true → (r : Option Reply) → IsTree (record m { free_pages = put m.free_pages q false }) log (record o { page = put o.page q (Keeps a) }) (put knows a (finished (learn (knows a) (TakePid q) (Whether true)) r)) (put point a (point a)) (put logs a (log ∷ logs a))
   takes_page q f r =
+      let was : (o.page q ≡ Nobody) × (m.slots q ≡ None) = g.frees.page q f in
+      let m' : Shared = record m { free_pages = put m.free_pages q false } in
+      let o' : Owners = record o { page = put o.page q (Keeps a) } in
+      let change : Change a o o' m m' =
+      record { row = λ j. row_same refl refl; page = λ p. by_test p q (λ t. PageChange a o m m' (o.page p) (cond t (Keeps a) (o.page p)) (m.slots p) (m.slots p)) (λ i. page_free (ap o.page i ∙ was.0)) (λ i. page_same refl refl) } in
+      let new : (p l : ℕ) (s : Key) (st : Stage) → o.page p ≡ Placed st l s → put o.page q (Keeps a) p ≡ Placed st l s =
+      λ p l s st e. put_other o.page q (Keeps a) p (λ i. absurd (let f = sym (ap o.page i ∙ was.0) ∙ e in cc)) ∙ e in
+      let cleared : (p b l : ℕ) (s : Key) → put o.page q (Keeps a) p ≡ Cleared b l s → o.page p ≡ Cleared b l s =
+      λ p b l s. by_test p q (λ t. cond t (Keeps a) (o.page p) ≡ Cleared b l s → o.page p ≡ Cleared b l s) (λ i h. absurd (cc)) (λ i h. h) in
+      let old : (p l : ℕ) (s : Key) (st : Stage) → put o.page q (Keeps a) p ≡ Placed st l s → o.page p ≡ Placed st l s =
+      λ p l s st. by_test p q (λ t. cond t (Keeps a) (o.page p) ≡ Placed st l s → o.page p ≡ Placed st l s) (λ i h. absurd (cc)) (λ i h. h) in
+      let kept : Kept o o' m m' = kept_change a o o' m m' change in
       put_tree g a m' log o' (finished (learn (knows a) (TakePid q) (Whether true)) r) (point a) (log ∷ logs a)
       change
       (record {
@@ -61,64 +53,30 @@ module _ {m : Shared} {log : List Update} {o : Owners} {knows : ℕ → Knowledg
       (g.owns a)
       (put_all (λ j v. PageFits a (o'.page j) (m.slots j) v) (knows a).own.pages q Empty (put_same o.page q (Keeps a), was.1) (λ j ne. rw (put_other o.page q (Keeps a) j ne) (g.owns_pages a j)))
       (mine_at g a o' m' kept)
-    where
-      was : (o.page q ≡ Nobody) × (m.slots q ≡ None)
-      was = g.frees.page q f
-
-      m' : Shared
-      m' = record m { free_pages = put m.free_pages q false }
-
-      o' : Owners
-      o' = record o { page = put o.page q (Keeps a) }
-
-      change : Change a o o' m m'
-      change = record { row = λ j. row_same refl refl; page = λ p. by_test p q (λ t. PageChange a o m m' (o.page p) (cond t (Keeps a) (o.page p)) (m.slots p) (m.slots p)) (λ i. page_free (ap o.page i ∙ was.0)) (λ i. page_same refl refl) }
-
-      new : (p l : ℕ) (s : Key) (st : Stage) → o.page p ≡ Placed st l s → put o.page q (Keeps a) p ≡ Placed st l s
-      new p l s st e = put_other o.page q (Keeps a) p (λ i. absurd (let f = sym (ap o.page i ∙ was.0) ∙ e in cc)) ∙ e
-
-      cleared : (p b l : ℕ) (s : Key) → put o.page q (Keeps a) p ≡ Cleared b l s → o.page p ≡ Cleared b l s
-      cleared p b l s = by_test p q (λ t. cond t (Keeps a) (o.page p) ≡ Cleared b l s → o.page p ≡ Cleared b l s) (λ i h. absurd (cc)) (λ i h. h)
-
-      old : (p l : ℕ) (s : Key) (st : Stage) → put o.page q (Keeps a) p ≡ Placed st l s → o.page p ≡ Placed st l s
-      old p l s st = by_test p q (λ t. cond t (Keeps a) (o.page p) ≡ Placed st l s → o.page p ≡ Placed st l s) (λ i h. absurd (cc)) (λ i h. h)
-
-      kept : Kept o o' m m'
-      kept = kept_change a o o' m m' change
-
-  -- a row of its own is a spare of its own
-  pub own_spare : (q : ℕ) (v : OwnRow) → OwnFits a (o.row q) (m.rows q) v → IsOwn v → o.row q ≡ Spare a
-  own_spare q Foreign h i = absurd i
-  own_spare q Taken h i = h
-  own_spare q (Written w) h i = h.0
 
   pub places : (q : ℕ) (w : Record) → IsOwn ((knows a).own.rows q) → (r : Option Reply) → IsTree (record m { rows = put m.rows q (Some w) }) log o (put knows a (finished (learn (knows a) (Place q w) Done) r)) (put point a (point a)) (put logs a (log ∷ logs a))
   places q w i r =
+      let was : o.row q ≡ Spare a = own_spare (m.rows q) ((knows a).own.rows q) (g.owns a q) i in
+      let m' : Shared = record m { rows = put m.rows q (Some w) } in
+      let change : Change a o o m m' =
+      record { row = λ j. by_test j q (λ t. RowChange a (o.row j) (o.row j) (m.rows j) (cond t (Some w) (m.rows j))) (λ e. row_own (ap o.row e ∙ was)) (λ e. row_same refl refl); page = λ p. page_same refl refl } in
       put_tree g a m' log o (finished (learn (knows a) (Place q w) Done) r) (point a) (log ∷ logs a)
       change
       (record { row = g.frees.row; page = g.frees.page })
-      (closed_kept o o m m' kept g.closed (λ j l. inl l))
-      (tree_at g a o.row m' kept refl refl)
+      (closed_kept o o m m' (kept_change a o o m m' change) g.closed (λ j l. inl l))
+      (tree_at g a o.row m' (kept_change a o o m m' change) refl refl)
       (put_all (λ j v. OwnFits a (o.row j) (m'.rows j) v) (knows a).own.rows q (Written w) (was, put_same m.rows q (Some w)) (λ j ne. rw (put_other m.rows q (Some w) j ne) (g.owns a j)))
       (g.owns_pages a)
-      (mine_at g a o m' kept)
-    where
-      was : o.row q ≡ Spare a
-      was = own_spare q ((knows a).own.rows q) (g.owns a q) i
-
-      m' : Shared
-      m' = record m { rows = put m.rows q (Some w) }
-
-      change : Change a o o m m'
-      change = record { row = λ j. by_test j q (λ t. RowChange a (o.row j) (o.row j) (m.rows j) (cond t (Some w) (m.rows j))) (λ e. row_own (ap o.row e ∙ was)) (λ e. row_same refl refl); page = λ p. page_same refl refl }
-
-      kept : Kept o o m m'
-      kept = kept_change a o o m m' change
+      (mine_at g a o m' (kept_change a o o m m' change))
 
   -- the slot of a page of its own is changed
   pub own_slot : (p : ℕ) (x : Option ℕ) (v : OwnPage) → o.page p ≡ Keeps a → PageFits a (o.page p) x v → (k : Knowledge) → k.own.rows ≡ (knows a).own.rows → k.own.pages ≡ put (knows a).own.pages p v → k.read.seen ≡ (knows a).read.seen → k.read.learnt ≡ (knows a).read.learnt → k.read.roots ≡ (knows a).read.roots → k.read.heads ≡ (knows a).read.heads → k.read.before ≡ (knows a).read.before → k.asked.linked ≡ (knows a).asked.linked
       → IsTree (record m { slots = put m.slots p x }) log o (put knows a k) (put point a (point a)) (put logs a (log ∷ logs a))
   own_slot p x v was fits k e0 e1 e2 e3 e4 e5 e7 e6 =
+      let m' : Shared = record m { slots = put m.slots p x } in
+      let change : Change a o o m m' =
+      record { row = λ j. row_same refl refl; page = λ j. by_test j p (λ t. PageChange a o m m' (o.page j) (o.page j) (m.slots j) (cond t x (m.slots j))) (λ e. page_own (ap o.page e ∙ was)) (λ e. page_same refl refl) } in
+      let kept : Kept o o m m' = kept_change a o o m m' change in
       put_tree g a m' log o k (point a) (log ∷ logs a)
       change
       (record { row = g.frees.row; page = λ j h. let f = g.frees.page j h in (f.0, put_other m.slots p x j (λ e. absurd (let i = ap o.page e ∙ was in let h = f.0 in cc)) ∙ f.1) })
@@ -128,13 +86,3 @@ module _ {m : Shared} {log : List Update} {o : Owners} {knows : ℕ → Knowledg
       (rw e0 (g.owns a))
       (rw e1 (put_all (λ j w. PageFits a (o.page j) (m'.slots j) w) (knows a).own.pages p v (rw (put_same m.slots p x) fits) (λ j ne. rw (put_other m.slots p x j ne) (g.owns_pages a j))))
       (rw (e2, e3, e4, e5, e7, e6) (mine_at g a o m' kept))
-    where
-      m' : Shared
-      m' = record m { slots = put m.slots p x }
-
-      change : Change a o o m m'
-      change = record { row = λ j. row_same refl refl; page = λ j. by_test j p (λ t. PageChange a o m m' (o.page j) (o.page j) (m.slots j) (cond t x (m.slots j))) (λ e. page_own (ap o.page e ∙ was)) (λ e. page_same refl refl) }
-
-      kept : Kept o o m m'
-      kept = kept_change a o o m m' change
-      -- a page of the tree is not its own

@@ -1,33 +1,11 @@
 -- Links that leave the index as it is: an update, a consolidation, and the removal of a page.
-use Rattle.std.proofs.Common.{◌≡◌, ◌≢◌, ℕ, zero, suc, ◌<◌, ◌≤◌, List, [], ◌∷◌, ◌++◌, Option, Some, None, Bool, true, false, cond, refl, sym, ap, ◌∙◌, subst, arith}
-use Rattle.std.proofs.lemmas.Option.{same_Some}
-use Rattle.std.proofs.lemmas.Bool.Decides.{nat_tests}
-use Rattle.bw_model.specs.declared.command.Reply.{Reply}
-use Rattle.bw_model.specs.Log.{Update}
-use Rattle.base_page.specs.declared.item.Content.{Content}
-use Rattle.base_page.specs.declared.item.Content.TheVariants.{Value, Child}
-use Rattle.deltas.specs.declared.record.Record.{Record}
-use Rattle.deltas.specs.declared.record.Record.TheVariants.{Remove}
-use Rattle.deltas.specs.Records.{next_row}
-use Rattle.chain_search.specs.Chains.{content_in, level_in, low_in, high_in, right_in, is_removed}
-use Rattle.tree_law.specs.Keys.{Key, Covers}
-use Rattle.chain_search.specs.Knowledge.{OwnRow, Written, Knowledge, filled, linked_over, finished, handed_over, rebuilt, updated}
-use Rattle.tree_law.specs.Phase.{Stage, Fresh, Indexed, Held, Removed, Merged, PageOwner, Placed, rank, stage_removed}
-use Rattle.tree_law.specs.Put.{put}
-use Rattle.tree_law.specs.Shared.{Shared}
-use Rattle.tree_law.specs.Owners.{Spare, Linked, Owners, Reached, OwnFits, leaf_map, SpellsLog, LinkFits}
-use Rattle.tree_law.specs.Tree.{spec, IsTree}
-use Rattle.std.specs.Ordering.{is_eq}
-use Rattle.std.specs.Option.{option_map}
-use Rattle.std.specs.Prelude.{if◌then◌else◌}
-use Rattle.std.specs.Str.{bytes_eq}
-use Rattle.std.proofs.lemmas.List.Sums.{fold-append}
-use Rattle.bw_model.specs.declared.command.Command.{Command}
-use Rattle.bw_model.specs.declared.command.Command.TheVariants.{Get, Insert, Upsert, Delete, Swap, Page, Tidy}
-use Rattle.bw_model.specs.Bytes.{key_cmp}
-use Rattle.bw_model.specs.Log.{set, unset, updated_key, updated_value, logged_value}
-use Rattle.bw_model.specs.Replies.{command_key, update_of}
-use Rattle.chain_search.specs.Discipline.{MayUpdate, MayConsolidate, MayRemove, update_record, value_of, base_from, HasRead}
+use Rattle.tree_law.proofs.Words.{false, [], ap, refl, cond, Option, suc, None, List, true, ◌≢◌, ◌++◌, ◌≤◌, ◌∷◌, subst, sym, ℕ, ◌≡◌, Bool, zero, ◌∙◌, ◌<◌, arith, Some, nat_tests, fold-append}
+use Rattle.tree_law.proofs.Words.{same_Some, option_map, is_eq, if◌then◌else◌, bytes_eq, key_cmp, Update, logged_value, set, unset, update_of, command_key, Command, Swap, Upsert, Insert, Reply}
+use Rattle.tree_law.proofs.Words.{ContentOf, Child, Value, next_row, Record, Remove, content_in, right_in, low_in, is_removed, level_in, high_in, value_of, base_from, HasRead, update_record}
+use Rattle.tree_law.proofs.Words.{MayUpdate, MayConsolidate, MayRemove, Knowledge, finished, Written, filled, OwnRow, linked_over, handed_over, rebuilt, updated, Key, Covers, Linked, Owners, Reached}
+use Rattle.tree_law.proofs.Words.{Spare, OwnFits, LinkFits, leaf_map, Placed, Indexed, PageOwner, rank, Removed, Held, Merged, Stage, stage_removed, put, Shared, IsTree, spec}
+use Rattle.bw_model.specs.declared.command.Command.TheVariants.{Delete}
+use Rattle.bw_model.specs.Log.{updated_key, updated_value}
 use Rattle.tree_law.proofs.shape.KeyOrder.{by_key, covers_from, covers_to}
 use Rattle.tree_law.proofs.shape.Puts.{by_test, put_same, put_other}
 use Rattle.tree_law.proofs.shape.Terms.{exact_going}
@@ -59,7 +37,7 @@ over_decides (set b j v) x c l k e = by_key k j (λ t. cond t (Some (Value v)) (
 over_decides (unset b j) x c l k e = by_key k j (λ t. cond t None (content_in c k) ≡ option_map Value (cond t None (logged_value l k))) (λ i. refl) (λ i. e) ∙ sym (ap (option_map Value) (logged_value_push l (unset b j) k))
 
 -- an update's key is in its page, so the log changes there only
-log_outside : (u : Update) (log : List Update) (index : ℕ → Key → Option Content) (lv : ℕ) (c : List Record) → lv ≡ 0 → ((k : Key) → (Covers c k → ⊥) → leaf_map (log ++ u ∷ []) k ≡ leaf_map log k) → (l : ℕ) (k : Key) → (l ≡ lv → Covers c k → ⊥) → spec (log ++ u ∷ []) index l k ≡ spec log index l k
+log_outside : (u : Update) (log : List Update) (index : ℕ → Key → Option ContentOf) (lv : ℕ) (c : List Record) → lv ≡ 0 → ((k : Key) → (Covers c k → ⊥) → leaf_map (log ++ u ∷ []) k ≡ leaf_map log k) → (l : ℕ) (k : Key) → (l ≡ lv → Covers c k → ⊥) → spec (log ++ u ∷ []) index l k ≡ spec log index l k
 log_outside u log index lv c z f zero k n = f k (n (sym z))
 log_outside u log index lv c z f (suc l) k n = refl
 
@@ -73,16 +51,11 @@ chosen_key false b k v u e = absurd (cc)
 
 -- an update is of its command's key
 key_due : (b : ℕ) (c : Command) (old : Option Key) (u : Update) → update_of b c old ≡ Some u → updated_key u ≡ command_key c
-key_due b (Get k) old u e = absurd (cc)
-key_due b (Page k) old u e = absurd (cc)
-key_due b (Tidy k) old u e = absurd (cc)
 key_due b (Insert k v) None u e = ap updated_key (sym (same_Some (set b k v) u e))
-key_due b (Insert k v) (Some x) u e = absurd (cc)
 key_due b (Upsert k v) old u e = ap updated_key (sym (same_Some (set b k v) u e))
-key_due b (Swap k x v) None u e = absurd (cc)
 key_due b (Swap k x v) (Some o) u e = chosen_key (bytes_eq o x) b k v u e
-key_due b (Delete k) None u e = absurd (cc)
 key_due b (Delete k) (Some x) u e = ap updated_key (sym (same_Some (unset b k) u e))
+key_due b c old u e = absurd (cc)
 
 linked_update : (u : Update) (x y : ℕ) (k : Knowledge) → linked_over (Written (update_record u x)) x y k ≡ updated x y k
 linked_update (set b j v) x y k = refl
@@ -99,7 +72,6 @@ module _ {m : Shared} {log : List Update} {o : Owners} {knows : ℕ → Knowledg
       let f = found g a p x basis in
       let place = place_of g a p x c f basis.alive s in
       let is : (k : Key) → Covers c k → content_in c k ≡ leaf_map log k = λ k v. place.is_page.same k v ∙ spec_leaf log o.index (level_in c) h.leaf k in
-      let here : SpellsLog o m x log = record { linked = f.linked; chain = c; is_chain = f.stands; same = λ z n. is } in
       let fits : (o.row y ≡ Spare a) × (m.rows y ≡ Some (update_record u x)) = subst (λ (v : OwnRow). OwnFits a (o.row y) (m.rows y) v) (written ∙ ap Written h.is) (g.owns a y) in
       let over = is_over u x c in
       let inside : Covers c (command_key h.command) = covers_from c (command_key h.command) h.covers in
@@ -115,7 +87,7 @@ module _ {m : Shared} {log : List Update} {o : Owners} {knows : ℕ → Knowledg
             (λ l k n. log_outside u log o.index (level_in c) c h.leaf (λ k n. key_apart u log k (λ i. n (subst (λ (z : Key). Covers c z) (sym (i ∙ key_due a h.command (logged_value log (command_key h.command)) u due)) inside))) l k n)
             (finished (updated x y (knows a)) r)
             refl (λ v. v) refl refl refl refl refl
-            (Some log) (log, refl, here)),
+            (Some log) (log, refl, (record { linked = f.linked; chain = c; is_chain = f.stands; same = λ z n. is }))),
         due,
       )
 
@@ -148,6 +120,8 @@ module _ {m : Shared} {log : List Update} {o : Owners} {knows : ℕ → Knowledg
   -- the exchange that removes a page
   pub removes : (p x y : ℕ) → m.slots p ≡ Some x → (basis : HasRead (knows a) p x) (content : Record) → (knows a).own.rows y ≡ Written content → (h : MayRemove (knows a) p x basis.chain content) → (r : Option Reply) → IsTree (record m { slots = put m.slots p (Some y) }) log (record { row = put o.row y Linked; page = put o.page p (Placed Removed (level_in basis.chain) (low_in basis.chain)); index = o.index }) (put knows a (finished (filled ((knows a).own.pages p) p x y (knows a)) r)) (put point a (point a)) (put logs a (log ∷ logs a)) × (o.page p ≡ Placed Held (level_in basis.chain) (low_in basis.chain))
   removes p x y s basis content written h r =
+      let ranked : (r l : ℕ) (s : Key) (l' : ℕ) (s' : Key) (st : Stage) (w : PageOwner) → w ≡ Placed st l' s' → Reached r l s w → r ≤ rank st =
+      λ r l s l' s' st w e h. (subst (λ (v : PageOwner). Reached r l s v) e h).2 in
       let c = basis.chain in
       let f = found g a p x basis in
       let place = place_of g a p x c f basis.alive s in
@@ -169,12 +143,8 @@ module _ {m : Shared} {log : List Update} {o : Owners} {knows : ℕ → Knowledg
         was,
       )
     where
-      ranked : (r l : ℕ) (s : Key) (l' : ℕ) (s' : Key) (st : Stage) (w : PageOwner) → w ≡ Placed st l' s' → Reached r l s w → r ≤ rank st
-      ranked r l s l' s' st w e h = (subst (λ (v : PageOwner). Reached r l s v) e h).2
-
       is_held : (st : Stage) → 2 ≤ rank st → stage_removed st ≡ false → st ≡ Held
-      is_held Fresh i e = absurd (omega arith)
-      is_held Indexed i e = absurd (omega arith)
       is_held Held i e = refl
       is_held Removed i e = absurd (cc)
       is_held Merged i e = absurd (cc)
+      is_held st i e = absurd (omega arith)

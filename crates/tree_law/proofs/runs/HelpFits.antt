@@ -1,34 +1,16 @@
 -- What each link of the helped split puts over a chain fits it.
-use Rattle.std.proofs.Common.{◌≡◌, ◌≤◌, ℕ, [], ◌∷◌, Option, Some, None, Bool, true, false, refl, arith}
-use Rattle.std.specs.Prelude.{if◌then◌else◌, not}
+use Rattle.tree_law.proofs.Words.{false, [], refl, Option, None, true, ◌≤◌, ◌∷◌, ℕ, ◌≡◌, Bool, arith, Some, All-from_recursion, is_eq, if◌then◌else◌, not, key_cmp, IsPage-from, Page, content_at}
+use Rattle.tree_law.proofs.Words.{IsPage, IsRuled, held_count, ContentOf, Child, Item, Applies, IsSpellablePage, HasPid, Split, Term, FitsOn, IsFitted, opening_leaf, right_term, root_a, a, hold_a}
+use Rattle.tree_law.proofs.Words.{other_put, helped_term, Key, upper_b, second_split, first_split, upper_c, b}
 use Rattle.std.specs.List.Sorted.{IsStrictlySortedBy}
-use Rattle.std.specs.Ordering.{is_eq}
-use Rattle.std.proofs.lemmas.List.Elements.{All-from_recursion}
-use Rattle.bw_model.specs.Bytes.{key_cmp}
-use Rattle.base_page.specs.declared.item.Content.{Content}
-use Rattle.base_page.specs.declared.item.Content.TheVariants.{Child}
-use Rattle.base_page.specs.declared.item.Item.{Item}
-use Rattle.base_page.specs.Pages.{Page, IsPage, content_at}
-use Rattle.base_page.specs.Rules.{held_count, IsRuled}
-use Rattle.base_page.proofs.PageLaws.{IsPage-from}
-use Rattle.deltas.specs.declared.record.Record.TheVariants.{Split, Term}
-use Rattle.deltas.specs.Applies.{Applies}
-use Rattle.deltas.specs.Spellable.{HasPid, IsSpellablePage}
-use Rattle.chain_search.specs.Discipline.{FitsOn}
-use Rattle.chain_search.specs.Fitted.{IsFitted}
-use Rattle.tree_law.specs.CursorPages.{right_term}
-use Rattle.op_machine.specs.Examples.{opening_leaf}
-use Rattle.tree_law.specs.Example.{a, root_a, hold_a}
-use Rattle.tree_law.specs.HelpedSplit.{item_b, helped_term, other_put}
-use Rattle.tree_law.specs.TwoSplits.{b, upper_b, first_split, upper_c, second_split}
-use Rattle.tree_law.specs.Keys.{Key}
+use Rattle.tree_law.specs.HelpedSplit.{item_b}
 use Rattle.tree_law.proofs.shape.KeyOrder.{by_key, by_below}
 use Rattle.tree_law.proofs.runs.LinkFits.{leaf, leaf_page, leaf_ruled, first, alone, both, linked, root_makes, hold_makes}
 use Rattle.tree_law.proofs.runs.Making.{base_makes, fits_over}
 
 pub leaf_splits : (low : Key) (high : Option Key) (right : Option ℕ) (next page : ℕ) (key : Key) → Applies (leaf low high right) (Split (record { level = 0; next = next; separator = key; page = page })) (leaf low (Some key) (Some page))
 unfolding IsStrictlySortedBy
-leaf_splits low high right next page key = record { ascending = tt; contents = λ k. by_below k key (λ t. ◌≡◌ {A = Option Content} None (if not t then None else None)) (λ below. refl) (λ above. refl); level = refl; low = refl; high = refl; right = refl; removed = refl }
+leaf_splits low high right next page key = record { ascending = tt; contents = λ k. by_below k key (λ t. ◌≡◌ {A = Option ContentOf} None (if not t then None else None)) (λ below. refl) (λ above. refl); level = refl; low = refl; high = refl; right = refl; removed = refl }
 
 -- the leaf with the key put, and the root with its term
 abbrev put : Page

@@ -1,20 +1,14 @@
 -- Each step of the helped split is allowed.
-use Rattle.std.proofs.Common.{ℕ, [], ◌∷◌, take, drop, false, refl, inl, inr, lit<}
-use Rattle.std.specs.Prelude.{codes}
+use Rattle.tree_law.proofs.Words.{false, [], refl, inl, inr, ◌∷◌, ℕ, take, drop, lit<, codes, set, MayReply, MayPost, IsMet, MayUpdate, IsDisciplined, knows, Knowledge, opening_leaf, small, root_a, a}
+use Rattle.tree_law.proofs.Words.{other_put, helped_term, helped_split, upper_b, two_splits, second_split, first_split, upper_c, b}
 use Rattle.bw_model.specs.declared.command.Reply.TheVariants as reply
-use Rattle.bw_model.specs.Log.{set}
-use Rattle.chain_search.specs.Discipline.{IsMet, MayUpdate, MayPost, MayReply}
-use Rattle.chain_search.specs.Disciplined.{IsDisciplinedFrom, IsDisciplined}
-use Rattle.chain_search.specs.Knowledge.{Knowledge, knows}
-use Rattle.op_machine.specs.Examples.{small, opening_leaf}
-use Rattle.tree_law.specs.Example.{a, root_a}
-use Rattle.tree_law.specs.HelpedSplit.{insert_other, helped_term, other_put, helped_split}
-use Rattle.tree_law.specs.TwoSplits.{b, insert_b, two_splits, upper_b, first_split, upper_c, second_split}
+use Rattle.tree_law.specs.HelpedSplit.{insert_other}
+use Rattle.tree_law.specs.TwoSplits.{insert_b}
 use Rattle.tree_law.proofs.runs.HelpFits.{term_fits, put_fits}
 use Rattle.tree_law.proofs.runs.Linking.{whole, adds}
 use Rattle.tree_law.proofs.runs.SplitRun.{became, splits_twice}
-use Rattle.tree_law.proofs.runs.Standing.{◌▸◌, joined, quietly}
-use Rattle.tree_law.proofs.runs.Unset.{is_unset}
+use Rattle.tree_law.proofs.runs.Standing.{◌▸◌, disciplined, joined}
+use Rattle.tree_law.proofs.runs.Unset.{is_unset, none}
 
 -- what an actor knows before entry n
 abbrev before : ℕ → ℕ → Knowledge
@@ -50,52 +44,21 @@ late = record { child = 4; row = 9; below = whole (other_put ∷ upper_c ∷ [])
 exists : MayReply small 0 (before 58 0) (reply.Exists (codes "2"))
 exists = record { command = insert_b; going = refl; justified = inl (record { row = 9; chain = other_put ∷ upper_c ∷ []; read = (refl, (refl, refl)); leaf = refl; covers = refl; is = refl; basis = inr (refl, inl ((4, refl), refl), refl) }) }
 
--- the first's exchange loses, and it finds the key
-comes_late : IsDisciplinedFrom small (take 52 helped_split) (drop 52 helped_split)
-comes_late =
-    (refl, quietly (refl, inr right_of_first) tt, refl)
-    ▸ (refl, quietly (refl, refl) tt, (second_split, refl, refl))
-    ▸ (refl, quietly (refl, inr right_known) tt, refl)
-    ▸ (refl, quietly (refl, refl) tt, (other_put, refl, refl))
-    ▸ (refl, quietly (refl, refl) tt, (upper_c, refl, refl))
-    ▸ (refl, quietly (refl, adds (whole (root_a ∷ []) (refl, refl) refl refl) helped_term refl term_fits late (is_unset became refl)) tt, refl)
-    ▸ (refl, record { may = refl; frees = tt; replied = (refl, exists); ends = λ e. refl }, refl)
-    ▸ tt
-
--- it posts the term and puts its key
-finishes : IsDisciplinedFrom small (take 45 helped_split) (drop 45 helped_split)
-finishes =
-    (refl, quietly tt tt, refl)
-    ▸ (refl, quietly (refl, tt, is_unset [] refl) tt, refl)
-    ▸ (refl, quietly (refl, adds (whole (root_a ∷ []) (refl, refl) refl refl) helped_term refl term_fits helps (is_unset [] refl)) tt, refl)
-    ▸ (refl, quietly tt tt, refl)
-    ▸ (refl, quietly (refl, tt, is_unset [] refl) tt, refl)
-    ▸ (refl, quietly (refl, adds (whole (upper_c ∷ []) (refl, refl) refl refl) other_put refl put_fits updates (is_unset [] refl)) tt, refl)
-    ▸ (refl, record { may = refl; frees = tt; replied = (refl, inserted); ends = λ e. refl }, refl)
-    ▸ comes_late
-
--- the second goes from the root to the new leaf
-descends : IsDisciplinedFrom small (take 37 helped_split) (drop 37 helped_split)
-descends =
-    (refl, quietly refl tt, refl)
-    ▸ (refl, quietly (refl, inl refl) tt, refl)
-    ▸ (refl, quietly (refl, refl) tt, (root_a, refl, refl))
-    ▸ (refl, quietly (refl, inr child_of_root) tt, refl)
-    ▸ (refl, quietly (refl, refl) tt, (second_split, refl, refl))
-    ▸ (refl, quietly (refl, refl) tt, (upper_b, refl, refl))
-    ▸ (refl, quietly (refl, inr right_seen) tt, refl)
-    ▸ (refl, quietly (refl, refl) tt, (upper_c, refl, refl))
-    ▸ finishes
-
--- after two splits the second begins and enters, and the first writes the term of the new leaf
-begins : IsDisciplinedFrom small two_splits (drop 32 helped_split)
-begins =
-    (lit< tt, refl)
-    ▸ (refl, quietly tt tt, refl)
-    ▸ (refl, quietly (refl, lit< tt, refl) tt, refl)
-    ▸ (refl, quietly tt tt, refl)
-    ▸ (refl, quietly (refl, tt, is_unset became refl) tt, refl)
-    ▸ descends
-
+-- After two splits the second begins and enters, and the first writes the term of the new leaf. The second goes from the root to
+-- that leaf, posts the term and puts its key; the first's exchange loses, and it finds the key.
 pub help_disciplined : IsDisciplined small helped_split
-help_disciplined = joined small [] two_splits (drop 32 helped_split) splits_twice begins
+help_disciplined = joined small [] two_splits (drop 32 helped_split) splits_twice (disciplined two_splits (drop 32 helped_split) refl refl (
+    (refl, lit< tt, refl)
+    ▸ (refl, tt, is_unset became refl)
+    ▸ (refl, inr child_of_root)
+    ▸ (refl, inr right_seen)
+    ▸ (refl, tt, none)
+    ▸ (refl, adds (whole (root_a ∷ []) (refl, refl) refl refl) helped_term refl term_fits helps none)
+    ▸ (refl, tt, none)
+    ▸ (refl, adds (whole (upper_c ∷ []) (refl, refl) refl refl) other_put refl put_fits updates none)
+    ▸ (refl, inserted)
+    ▸ (refl, inr right_of_first)
+    ▸ (refl, inr right_known)
+    ▸ (refl, adds (whole (root_a ∷ []) (refl, refl) refl refl) helped_term refl term_fits late (is_unset became refl))
+    ▸ (refl, exists)
+    ▸ tt))

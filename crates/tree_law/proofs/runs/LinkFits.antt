@@ -1,24 +1,9 @@
 -- What each link of the run puts over a chain fits it.
-use Rattle.std.proofs.Common.{◌≡◌, ◌≢◌, ℕ, ◌≤◌, [], ◌∷◌, Option, Some, None, Bool, true, false, cond, refl, sym, subst, arith}
-use Rattle.std.specs.Prelude.{if◌then◌else◌, not, is_some, IsTrue}
+use Rattle.tree_law.proofs.Words.{false, [], refl, cond, Option, None, true, ◌≢◌, ◌≤◌, ◌∷◌, subst, sym, ℕ, ◌≡◌, Bool, arith, Some, All-from_recursion, is_eq, if◌then◌else◌, IsTrue, not, is_some}
+use Rattle.tree_law.proofs.Words.{key_cmp, is_under, IsPage-from, empty_leaf, Page, content_at, IsPage, IsRuled, held_count, ContentOf, Child, Item, Applies, IsSpellablePage, HasPid, FitsOn, IsFitted}
+use Rattle.tree_law.proofs.Words.{Makes, opening_leaf, put_a, split_a, term_b, item_a, base_b, unterm_a, split_b, upper_a, deletion_a, merge_a, root_a, a, hold_a, remove_a, Key, IsBelow}
 use Rattle.std.specs.List.Sorted.{IsStrictlySortedBy}
-use Rattle.std.specs.Ordering.{is_eq}
-use Rattle.std.proofs.lemmas.List.Elements.{All-from_recursion}
-use Rattle.bw_model.specs.Bytes.{key_cmp, is_under}
-use Rattle.base_page.specs.declared.item.Content.{Content}
-use Rattle.base_page.specs.declared.item.Content.TheVariants.{Child}
-use Rattle.base_page.specs.declared.item.Item.{Item}
-use Rattle.base_page.specs.Pages.{Page, IsPage, content_at, empty_leaf}
-use Rattle.base_page.specs.Rules.{held_count, IsRuled}
-use Rattle.base_page.proofs.PageLaws.{IsPage-from}
-use Rattle.deltas.specs.Applies.{Applies}
-use Rattle.deltas.specs.Spellable.{HasPid, IsPid, IsRow, IsSpellableLink, IsSpellablePage}
-use Rattle.chain_search.specs.Discipline.{FitsOn}
-use Rattle.chain_search.specs.Fitted.{Makes, IsFitted}
-use Rattle.tree_law.specs.AllLinks.{item_a, upper_a, split_a, merge_a, unterm_a, split_b, term_b, base_b, deletion_a}
-use Rattle.op_machine.specs.Examples.{opening_leaf, put_a}
-use Rattle.tree_law.specs.Example.{a, root_a, hold_a, remove_a}
-use Rattle.tree_law.specs.Keys.{Key, IsBelow}
+use Rattle.deltas.specs.Spellable.{IsPid, IsRow, IsSpellableLink}
 use Rattle.tree_law.proofs.shape.KeyOrder.{by_key, by_below, by_range, not_self}
 use Rattle.tree_law.proofs.runs.Making.{base_makes, over_makes, fits_over}
 
@@ -129,18 +114,18 @@ remove_applies = record { ascending = (tt, tt); contents = λ key. refl; level =
 
 deletion_applies : Applies upper deletion_a (leaf a None None)
 unfolding IsStrictlySortedBy
-deletion_applies = record { ascending = tt; contents = λ key. by_key key a (λ t. ◌≡◌ {A = Option Content} None (if t then None else (if t then Some item_a.content else None))) (λ same. refl) (λ ne. refl); level = refl; low = refl; high = refl; right = refl; removed = refl }
+deletion_applies = record { ascending = tt; contents = λ key. by_key key a (λ t. ◌≡◌ {A = Option ContentOf} None (if t then None else (if t then Some item_a.content else None))) (λ same. refl) (λ ne. refl); level = refl; low = refl; high = refl; right = refl; removed = refl }
 
 -- the term at the key is changed, taken out, and put in
-changed : (old new : Content) (key : Key) → content_at (first ∷ record { key = a; content = new } ∷ []) key ≡ (if is_eq (key_cmp key a) then Some new else content_at (first ∷ record { key = a; content = old } ∷ []) key)
+changed : (old new : ContentOf) (key : Key) → content_at (first ∷ record { key = a; content = new } ∷ []) key ≡ (if is_eq (key_cmp key a) then Some new else content_at (first ∷ record { key = a; content = old } ∷ []) key)
 changed old new key = by_key key a (λ t. (if is_eq (key_cmp key []) then Some first.content else (if t then Some new else None)) ≡ (if t then Some new else (if is_eq (key_cmp key []) then Some first.content else (if t then Some old else None))))
     (λ same. rw same refl) (λ ne. refl)
 
-taken : (old : Content) (key : Key) → content_at (first ∷ []) key ≡ (if is_eq (key_cmp key a) then None else content_at (first ∷ record { key = a; content = old } ∷ []) key)
+taken : (old : ContentOf) (key : Key) → content_at (first ∷ []) key ≡ (if is_eq (key_cmp key a) then None else content_at (first ∷ record { key = a; content = old } ∷ []) key)
 taken old key = by_key key a (λ t. (if is_eq (key_cmp key []) then Some first.content else None) ≡ (if t then None else (if is_eq (key_cmp key []) then Some first.content else (if t then Some old else None))))
     (λ same. rw same refl) (λ ne. refl)
 
-given : (new : Content) (key : Key) → content_at (first ∷ record { key = a; content = new } ∷ []) key ≡ (if is_eq (key_cmp key a) then Some new else content_at (first ∷ []) key)
+given : (new : ContentOf) (key : Key) → content_at (first ∷ record { key = a; content = new } ∷ []) key ≡ (if is_eq (key_cmp key a) then Some new else content_at (first ∷ []) key)
 given new key = by_key key a (λ t. (if is_eq (key_cmp key []) then Some first.content else (if t then Some new else None)) ≡ (if t then Some new else (if is_eq (key_cmp key []) then Some first.content else None)))
     (λ same. rw same refl) (λ ne. refl)
 

@@ -1,20 +1,14 @@
 -- Each step of the run that makes all links is allowed.
-use Rattle.std.proofs.Common.{ℕ, List, [], ◌∷◌, take, drop, false, refl, inl, inr, lit<, arith}
-use Rattle.std.specs.Prelude.{codes}
+use Rattle.tree_law.proofs.Words.{false, [], refl, List, inl, inr, ◌∷◌, ℕ, take, drop, lit<, codes, set, unset, MayReply, MayRoot, MayAdd, IsMet, IsDisciplined, knows, Knowledge, Ready, Empty}
+use Rattle.tree_law.proofs.Words.{OwnPage, Other, Gone, opening_leaf, small, put_a, split_a, term_b, item_a, base_b, unterm_a, split_b, upper_a, deletion_a, merge_a, all_links, insert_a, root_a, a}
+use Rattle.tree_law.proofs.Words.{hold_a, remove_a}
 use Rattle.bw_model.specs.declared.command.Reply.TheVariants as reply
-use Rattle.bw_model.specs.Log.{set, unset}
-use Rattle.chain_search.specs.Discipline.{IsMet, MayAdd, MayRoot, MayReply}
-use Rattle.chain_search.specs.Disciplined.{IsDisciplinedFrom, IsDisciplined}
 use Rattle.chain_search.proofs.UnheldLaws.{unheld_at}
-use Rattle.chain_search.specs.Knowledge.{OwnPage, Other, Empty, Ready, Gone, Knowledge, knows}
-use Rattle.tree_law.specs.AllLinks.{insert_a, delete_a, item_a, upper_a, split_a, merge_a, unterm_a, lower_a, split_b, term_b, base_b, deletion_a, placed, all_links}
-use Rattle.op_machine.specs.Examples.{small, opening_leaf, put_a}
-use Rattle.tree_law.specs.Example.{a, root_a, hold_a, remove_a, enters, takes, places}
+use Rattle.tree_law.specs.AllLinks.{delete_a, lower_a}
 use Rattle.tree_law.proofs.runs.LinkFits.{put_fits, split_fits, hold_fits, remove_fits, merge_fits, unterm_fits, second_fits, term_fits, deletion_fits, upper_fitted}
 use Rattle.tree_law.proofs.runs.Linking.{whole, adds, puts_root}
-use Rattle.tree_law.proofs.runs.Standing.{◌▸◌, quietly, joined}
-use Rattle.tree_law.proofs.runs.Taking.{enters_first, free_at_first, takes_after, are_taken, places_after}
-use Rattle.tree_law.proofs.runs.Unset.{is_unset}
+use Rattle.tree_law.proofs.runs.Standing.{◌▸◌, disciplined}
+use Rattle.tree_law.proofs.runs.Unset.{is_unset, none}
 
 -- what the actor knows before entry n
 abbrev before : ℕ → ℕ → Knowledge
@@ -108,112 +102,35 @@ inserted = record { command = insert_a; going = refl; justified = inl (record { 
 deleted : MayReply small 0 (before 88 0) (reply.Deleted (codes "1"))
 deleted = record { command = delete_a; going = refl; justified = inl (record { row = 13; chain = base_b ∷ []; read = (refl, refl); leaf = refl; covers = refl; is = refl; basis = inl (refl, refl) }) }
 
--- it deletes the key
-deletes_it : IsDisciplinedFrom small (take 85 all_links) (drop 85 all_links)
-deletes_it =
-    (refl, quietly tt tt, refl)
-    ▸ (refl, quietly (refl, tt, is_unset became refl) tt, refl)
-    ▸ (refl, quietly (refl, deletes) tt, refl)
-    ▸ (refl, record { may = refl; frees = tt; replied = (refl, deleted); ends = λ e. refl }, refl)
-    ▸ tt
-
--- a second operation goes down to the leaf of the key
-descends : IsDisciplinedFrom small (take 75 all_links) (drop 75 all_links)
-descends =
-    (lit< tt, refl)
-    ▸ (refl, quietly (refl, lit< tt, refl) tt, refl)
-    ▸ (refl, quietly refl tt, refl)
-    ▸ (refl, quietly (refl, inl refl) tt, refl)
-    ▸ (refl, quietly (refl, refl) tt, (term_b, refl, refl))
-    ▸ (refl, quietly (refl, refl) tt, (unterm_a, refl, refl))
-    ▸ (refl, quietly (refl, refl) tt, (hold_a, refl, refl))
-    ▸ (refl, quietly (refl, refl) tt, (root_a, refl, refl))
-    ▸ (refl, quietly (refl, inr child_of_root) tt, refl)
-    ▸ (refl, quietly (refl, refl) tt, (base_b, refl, refl))
-    ▸ deletes_it
-
--- it posts the term, puts a base in the new leaf's place, takes a page and gives it back, and replies
-indexes : IsDisciplinedFrom small (take 69 all_links) (drop 69 all_links)
-indexes =
-    (refl, quietly (refl, posts) tt, refl)
-    ▸ (refl, quietly (refl, consolidates) tt, refl)
-    ▸ (refl, quietly tt tt, refl)
-    ▸ (refl, quietly (refl, (refl, tt, is_unset (drop 2 became) refl)) tt, refl)
-    ▸ (refl, quietly (refl, inl refl) tt, refl)
-    ▸ (refl, record { may = refl; frees = tt; replied = (refl, inserted); ends = λ e. refl }, refl)
-    ▸ descends
-
--- it splits the leaf again
-divides : IsDisciplinedFrom small (take 62 all_links) (drop 62 all_links)
-divides =
-    (refl, quietly (refl, splits_again) tt, refl)
-    ▸ (refl, quietly (refl, inl refl) tt, refl)
-    ▸ (refl, quietly (refl, refl) tt, (unterm_a, refl, refl))
-    ▸ (refl, quietly (refl, inl refl) tt, refl)
-    ▸ (refl, quietly (refl, refl) tt, (split_b, refl, refl))
-    ▸ (refl, quietly (refl, inr right_of_second) tt, refl)
-    ▸ (refl, quietly (refl, refl) tt, (lower_a, refl, refl))
-    ▸ indexes
-
--- it takes the leaf's term out, and empties its slot
-clears : IsDisciplinedFrom small (take 55 all_links) (drop 55 all_links)
-clears =
-    (refl, quietly (refl, inl refl) tt, refl)
-    ▸ (refl, quietly (refl, inl refl) tt, refl)
-    ▸ (refl, quietly (refl, refl) tt, (merge_a, refl, refl))
-    ▸ (refl, quietly (refl, unterms) tt, refl)
-    ▸ (refl, quietly (refl, inr refl) tt, refl)
-    ▸ (refl, quietly tt tt, refl)
-    ▸ (refl, quietly (refl, (refl, tt, is_unset (drop 5 became) refl)) tt, refl)
-    ▸ divides
-
--- it removes the leaf
-removes_it : IsDisciplinedFrom small (take 47 all_links) (drop 47 all_links)
-removes_it =
-    (refl, quietly (refl, inl refl) tt, refl)
-    ▸ (refl, quietly (refl, refl) tt, (hold_a, refl, refl))
-    ▸ (refl, quietly (refl, inr right_of_first) tt, refl)
-    ▸ (refl, quietly (refl, refl) tt, (upper_a, refl, refl))
-    ▸ (refl, quietly (refl, removes) tt, refl)
-    ▸ (refl, quietly (refl, inr right_again) tt, refl)
-    ▸ (refl, quietly (refl, refl) tt, (remove_a, refl, refl))
-    ▸ (refl, quietly (refl, merges) tt, refl)
-    ▸ clears
-
--- it makes a root, and holds the new leaf's term
-grows : IsDisciplinedFrom small (take 38 all_links) (drop 38 all_links)
-grows =
-    (refl, quietly (refl, inl refl) tt, refl)
-    ▸ (refl, quietly (refl, refl) tt, (split_a, refl, refl))
-    ▸ (refl, quietly tt tt, refl)
-    ▸ (refl, quietly (refl, (refl, tt, is_unset (drop 10 became) refl)) tt, refl)
-    ▸ (refl, quietly (refl, roots) tt, refl)
-    ▸ (refl, quietly refl tt, refl)
-    ▸ (refl, quietly (refl, inl refl) tt, refl)
-    ▸ (refl, quietly (refl, refl) tt, (root_a, refl, refl))
-    ▸ (refl, quietly (refl, holds) tt, refl)
-    ▸ removes_it
-
--- it puts its key, and splits the leaf
-updates : IsDisciplinedFrom small (take 29 all_links) (drop 29 all_links)
-updates =
-    (refl, quietly refl tt, refl)
-    ▸ (refl, quietly (refl, inl refl) tt, refl)
-    ▸ (refl, quietly (refl, refl) tt, (opening_leaf, refl, refl))
-    ▸ (refl, quietly (refl, puts) tt, refl)
-    ▸ (refl, quietly (refl, inl refl) tt, refl)
-    ▸ (refl, quietly (refl, refl) tt, (put_a, refl, refl))
-    ▸ (refl, quietly tt tt, refl)
-    ▸ (refl, quietly (refl, (refl, tt, is_unset (drop 13 became) refl)) tt, refl)
-    ▸ (refl, quietly (refl, splits) tt, refl)
-    ▸ grows
-
--- the actor takes rows, and places what it will link
-takes_rows : IsDisciplinedFrom small (take 3 all_links) (takes 13 2)
-takes_rows = takes_after 13 2 (take 3 all_links) refl (λ row low high. free_at_first row low (omega arith))
-
-writes : IsDisciplinedFrom small (take 16 all_links) (places 2 placed)
-writes = places_after 2 placed (take 16 all_links) refl refl (λ row low high. are_taken 13 2 (knows (take 3 all_links)) row (inr (low, high))) (λ row. is_unset [] refl)
-
+-- The actor enters, and places what it will link.
 pub all_links_disciplined : IsDisciplined small all_links
-all_links_disciplined = joined small [] (enters 0 insert_a) (drop 3 all_links) (enters_first insert_a) (joined small (take 3 all_links) (takes 13 2) (drop 16 all_links) takes_rows (joined small (take 16 all_links) (places 2 placed) (drop 29 all_links) writes updates))
+all_links_disciplined = disciplined [] all_links refl refl (
+    (refl, lit< tt, refl)
+    ▸ (refl, tt, none) ▸ (refl, tt, none) ▸ (refl, tt, none) ▸ (refl, tt, none) ▸ (refl, tt, none) ▸ (refl, tt, none) ▸ (refl, tt, none) ▸ (refl, tt, none)
+    ▸ (refl, tt, none) ▸ (refl, tt, none) ▸ (refl, tt, none) ▸ (refl, tt, none) ▸ (refl, tt, none)
+    ▸ (refl, puts)
+    ▸ (refl, (refl, tt, is_unset (drop 13 became) refl))
+    ▸ (refl, splits)
+    ▸ (refl, (refl, tt, is_unset (drop 10 became) refl))
+    ▸ (refl, roots)
+    ▸ (refl, holds)
+    ▸ (refl, inr right_of_first)
+    ▸ (refl, removes)
+    ▸ (refl, inr right_again)
+    ▸ (refl, merges)
+    ▸ (refl, unterms)
+    ▸ (refl, inr refl)
+    ▸ (refl, (refl, tt, is_unset (drop 5 became) refl))
+    ▸ (refl, splits_again)
+    ▸ (refl, inr right_of_second)
+    ▸ (refl, posts)
+    ▸ (refl, consolidates)
+    ▸ (refl, (refl, tt, is_unset (drop 2 became) refl))
+    ▸ (refl, inl refl)
+    ▸ (refl, inserted)
+    ▸ (refl, lit< tt, refl)
+    ▸ (refl, inr child_of_root)
+    ▸ (refl, tt, is_unset became refl)
+    ▸ (refl, deletes)
+    ▸ (refl, deleted)
+    ▸ tt)

@@ -1,12 +1,6 @@
 -- What an actor has read, and what it may link over that.
-use Rattle.std.proofs.Common.{◌≡◌, ℕ, suc, List, [], ◌∷◌, Some, refl, sym, subst}
-use Rattle.std.specs.Prelude.{IsFalse}
-use Rattle.deltas.specs.declared.record.Record.{Record}
-use Rattle.chain_search.specs.Chains.{IsChainFrom, high_in, is_removed, level_in, right_in}
-use Rattle.chain_search.specs.Discipline.{FitsOn, HasRead, IsUnset, MayAdd, MayLink, MayRoot, root_over}
-use Rattle.chain_search.specs.Fitted.{IsFitted}
-use Rattle.chain_search.specs.Knowledge.{Knowledge, Ready, Written}
-use Rattle.tree_law.specs.Example.{a, root_a}
+use Rattle.tree_law.proofs.Words.{[], refl, suc, List, ◌∷◌, subst, sym, ℕ, ◌≡◌, Some, IsFalse, Record, IsChainFrom, right_in, is_removed, level_in, high_in, root_over, FitsOn, IsUnset, MayLink}
+use Rattle.tree_law.proofs.Words.{MayRoot, MayAdd, HasRead, IsFitted, Knowledge, Ready, Written, root_a, a}
 use Rattle.tree_law.proofs.runs.LinkFits.{root_fitted}
 
 -- a page was read with its whole chain

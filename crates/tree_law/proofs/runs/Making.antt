@@ -1,15 +1,8 @@
 -- The page that a chain makes, as its records make it one on another.
-use Rattle.std.proofs.Common.{◌≡◌, true, false, List, [], ◌∷◌, is_some, refl, ap, ◌∙◌}
-use Rattle.std.specs.Prelude.{if◌then◌else◌}
-use Rattle.base_page.specs.Pages.{Page, IsPage}
-use Rattle.base_page.specs.Rules.{IsRuled}
-use Rattle.deltas.specs.declared.record.Record.{Record}
-use Rattle.deltas.specs.declared.record.Record.TheVariants.{Base}
-use Rattle.deltas.specs.Applies.{Applies}
+use Rattle.tree_law.proofs.Words.{false, [], ap, refl, List, true, ◌∷◌, ◌≡◌, ◌∙◌, if◌then◌else◌, Page, IsPage, IsRuled, Applies, next_row, names, IsSpellable, Record, Base, FitsOver, Makes}
+use Rattle.std.proofs.Common.{is_some}
 use Rattle.deltas.specs.Fits.{FitsOnPage}
-use Rattle.deltas.specs.Spellable.{IsSpellable}
-use Rattle.deltas.specs.Records.{names, next_row, content_said, level_after, low_after, high_after, right_after, removed_after}
-use Rattle.chain_search.specs.Fitted.{Makes, FitsOver}
+use Rattle.deltas.specs.Records.{content_said, level_after, low_after, high_after, right_after, removed_after}
 
 -- a base makes its own page
 pub base_makes : (page : Page) → IsPage page → page.removed ≡ false → Makes (Base page ∷ []) page

@@ -1,33 +1,19 @@
 -- Each step of the runs with cursor pages is allowed.
-use Rattle.std.proofs.Common.{◌≡◌, ◌<◌, ℕ, zero, suc, List, [], ◌∷◌, ◌++◌, take, drop, Some, None, Bool, true, false, cond, refl, sym, subst, inl, inr, lit<, arith}
-use Rattle.std.specs.Prelude.{codes, IsTrue, not, slice_index_or}
-use Rattle.std.specs.List.{Contains}
+use Rattle.tree_law.proofs.Words.{false, [], refl, cond, suc, None, List, true, inl, ◌++◌, inr, ◌∷◌, subst, sym, ℕ, ◌≡◌, zero, ◌<◌, arith, Some, take, lit<, Contains, IsTrue, not, slice_index_or}
+use Rattle.tree_law.proofs.Words.{codes, is_in_range, is_below, ArePairsOf, Value, Record, MayReply, found, value_of, MayAdd, IsMet, IsDisciplined, HoldsBack, knows, Knowledge, small, right_term}
+use Rattle.tree_law.proofs.Words.{root_a, a, hold_a, other_put, helped_term, helped_split, Key, removal, upper_c, b}
 use Rattle.std.specs.List.Sorted.{IsStrictlySortedBy}
 use Rattle.bw_model.specs.declared.command.Reply.TheVariants as reply
-use Rattle.bw_model.specs.Bytes.{is_below, is_in_range}
-use Rattle.bw_model.specs.Pairs.{ArePairsOf}
-use Rattle.base_page.specs.declared.item.Content.TheVariants.{Value}
-use Rattle.deltas.specs.declared.record.Record.{Record}
-use Rattle.chain_search.specs.Discipline.{IsMet, MayAdd, MayReply, found, value_of}
-use Rattle.chain_search.specs.Disciplined.{IsDisciplinedFrom, IsDisciplined}
-use Rattle.chain_search.specs.HeldBack.{HoldsBack}
-use Rattle.chain_search.specs.Knowledge.{Knowledge, knows}
-use Rattle.tree_law.specs.CursorPages.{page_a, page_b, tidy_b, right_term, upkeep, last_page}
-use Rattle.op_machine.specs.Examples.{small}
-use Rattle.tree_law.specs.Example.{a, root_a, hold_a}
-use Rattle.tree_law.specs.HelpedSplit.{other_put, helped_term, helped_split}
-use Rattle.tree_law.specs.Keys.{Key}
-use Rattle.tree_law.specs.Removal.{removal}
-use Rattle.tree_law.specs.TwoSplits.{b, upper_c}
-use Rattle.tree_law.proofs.runs.GoingLeft.{removed, right_beyond, beside, going_left}
+use Rattle.tree_law.specs.CursorPages.{page_a, page_b, tidy_b, upkeep, last_page}
+use Rattle.tree_law.proofs.runs.GoingLeft.{removed, held_child, left_child, right_beyond, beside}
 use Rattle.tree_law.proofs.runs.HelpFits.{grown, right_fits, term_applies}
 use Rattle.tree_law.proofs.runs.HelpRun.{help_disciplined}
 use Rattle.tree_law.proofs.runs.LinkFits.{leaf, hold_makes}
 use Rattle.tree_law.proofs.runs.Linking.{whole, adds}
 use Rattle.tree_law.proofs.runs.Making.{over_makes}
 use Rattle.tree_law.proofs.runs.RemovalRun.{removal_disciplined}
-use Rattle.tree_law.proofs.runs.Standing.{◌▸◌, joined, quietly}
-use Rattle.tree_law.proofs.runs.Unset.{is_unset}
+use Rattle.tree_law.proofs.runs.Standing.{◌▸◌, disciplined, joined}
+use Rattle.tree_law.proofs.runs.Unset.{is_unset, none}
 use Rattle.tree_law.proofs.shape.KeyOrder.{by_key}
 
 -- what the actor knows before entry n of what follows the removal, and of what follows the helped split
@@ -39,11 +25,7 @@ before_last n = knows (helped_split ++ take n last_page) 1
 
 -- the removed leaf has no values
 empty : (key value : Key) → found removed key ≡ Some value → ⊥
-empty key value e = go (not (is_below key b)) e
-  where
-    go : (t : Bool) → value_of (cond t None None) ≡ Some value → ⊥
-    go true f = cc
-    go false f = cc
+empty key value e = (elim (not (is_below key b)) as (λ t. value_of (cond t None None) ≡ Some value → ⊥) [ true ↦ λ f. cc | false ↦ λ f. cc ]) e
 
 no_pairs : ArePairsOf (found removed) a (Some b) []
 unfolding IsStrictlySortedBy
@@ -134,53 +116,25 @@ shows_last = record {
   justified = inr (inl (record { from = b; asks = refl; row = 9; chain = last; read = (refl, (refl, refl)); leaf = refl; covers = refl; pairs = (b, codes "2") ∷ []; exact = one_pair; is = refl; unlinked = refl; basis = inl ((4, refl), refl) }));
 }
 
--- it posts the term of that leaf, at which then nothing is due
-tidies : IsDisciplinedFrom small (removal ++ take 29 upkeep) (drop 29 upkeep)
-tidies =
-    (refl, quietly tt tt, refl)
-    ▸ (refl, quietly (refl, tt, is_unset [] refl) tt, refl)
-    ▸ (refl, quietly (refl, posts) tt, refl)
-    ▸ (refl, quietly (refl, inl refl) tt, refl)
-    ▸ (refl, quietly (refl, refl) tt, (right_term, refl, refl))
-    ▸ (refl, quietly (refl, inr right_child) tt, refl)
-    ▸ (refl, record { may = refl; frees = tt; replied = (refl, nothing_due); ends = λ e. refl }, refl)
-    ▸ tt
-
--- it comes there again, and goes on to the leaf on the removed leaf's right
-goes_on : IsDisciplinedFrom small (removal ++ take 27 upkeep) (drop 27 upkeep)
-goes_on =
-    (refl, quietly (refl, inr (right_beyond (knows (removal ++ take 15 upkeep)))) tt, refl)
-    ▸ (refl, quietly (refl, refl) tt, (upper_c, refl, refl))
-    ▸ tidies
-
--- it shows the removed leaf, and begins again
-shows : IsDisciplinedFrom small (removal ++ take 13 upkeep) (drop 13 upkeep)
-shows =
-    (refl, record { may = refl; frees = tt; replied = (refl, shows_removed); ends = λ e. refl }, refl)
-    ▸ (lit< tt, refl)
-    ▸ going_left (removal ++ take 15 upkeep) (drop 27 upkeep) refl refl refl refl goes_on
-
--- it comes to the leaf on the removed one's left
-comes : IsDisciplinedFrom small removal upkeep
-comes = (lit< tt, refl) ▸ going_left (removal ++ take 1 upkeep) (drop 13 upkeep) refl refl refl refl shows
-
+-- It comes to the leaf on the removed one's left, shows the removed leaf, and begins again. It comes there again, goes on to the
+-- leaf on the removed leaf's right, and posts the term of that leaf, at which then nothing is due.
 pub upkeep_disciplined : IsDisciplined small (removal ++ upkeep)
-upkeep_disciplined = joined small [] removal upkeep removal_disciplined comes
+upkeep_disciplined = joined small [] removal upkeep removal_disciplined (disciplined removal upkeep refl refl (
+    (refl, lit< tt, refl)
+    ▸ (refl, inr (held_child (knows (removal ++ take 1 upkeep))))
+    ▸ (refl, inr (left_child (knows (removal ++ take 1 upkeep))))
+    ▸ (refl, shows_removed)
+    ▸ (refl, lit< tt, refl)
+    ▸ (refl, inr (held_child (knows (removal ++ take 15 upkeep))))
+    ▸ (refl, inr (left_child (knows (removal ++ take 15 upkeep))))
+    ▸ (refl, inr (right_beyond (knows (removal ++ take 15 upkeep))))
+    ▸ (refl, tt, none)
+    ▸ (refl, posts)
+    ▸ (refl, inr right_child)
+    ▸ (refl, nothing_due)
+    ▸ tt))
 
 -- from the root to the last leaf
-descends : IsDisciplinedFrom small helped_split last_page
-descends =
-    (lit< tt, refl)
-    ▸ (refl, quietly (refl, lit< tt, refl) tt, refl)
-    ▸ (refl, quietly refl tt, refl)
-    ▸ (refl, quietly (refl, inl refl) tt, refl)
-    ▸ (refl, quietly (refl, refl) tt, (helped_term, refl, refl))
-    ▸ (refl, quietly (refl, refl) tt, (root_a, refl, refl))
-    ▸ (refl, quietly (refl, inr last_child) tt, refl)
-    ▸ (refl, quietly (refl, refl) tt, (other_put, refl, refl))
-    ▸ (refl, quietly (refl, refl) tt, (upper_c, refl, refl))
-    ▸ (refl, record { may = refl; frees = tt; replied = (refl, shows_last); ends = λ e. refl }, refl)
-    ▸ tt
-
 pub last_page_disciplined : IsDisciplined small (helped_split ++ last_page)
-last_page_disciplined = joined small [] helped_split last_page help_disciplined descends
+last_page_disciplined = joined small [] helped_split last_page help_disciplined (disciplined helped_split last_page refl refl (
+    (refl, lit< tt, refl) ▸ (refl, inr last_child) ▸ (refl, shows_last) ▸ tt))

@@ -1,27 +1,18 @@
 -- Each step of the run with a removal is allowed.
-use Rattle.std.proofs.Common.{◌≡◌, ℕ, Bool, [], ◌∷◌, take, drop, Some, None, true, false, refl, inl, inr, lit<, arith}
+use Rattle.tree_law.proofs.Words.{false, [], refl, None, true, inl, inr, ◌∷◌, ℕ, ◌≡◌, Bool, arith, Some, take, drop, lit<, if◌then◌else◌, Page, IsPage, IsRuled, Child, Applies, names, MayReply}
+use Rattle.tree_law.proofs.Words.{FitsOn, MayAdd, IsMet, IsDisciplined, knows, Knowledge, opening_leaf, small, root_a, a, hold_a, remove_a, removal, upper_b, two_splits, second_split, first_split}
+use Rattle.tree_law.proofs.Words.{upper_c, b}
 use Rattle.std.specs.List.Sorted.{IsStrictlySortedBy}
 use Rattle.bw_model.specs.declared.command.Reply.TheVariants as reply
-use Rattle.std.specs.Prelude.{if◌then◌else◌}
-use Rattle.deltas.specs.Applies.{Applies}
-use Rattle.deltas.specs.Records.{names}
-use Rattle.base_page.specs.declared.item.Content.TheVariants.{Child}
-use Rattle.base_page.specs.Pages.{Page, IsPage}
-use Rattle.base_page.specs.Rules.{IsRuled}
-use Rattle.chain_search.specs.Discipline.{FitsOn, IsMet, MayAdd, MayReply}
-use Rattle.chain_search.specs.Disciplined.{IsDisciplinedFrom, IsDisciplined}
-use Rattle.chain_search.specs.Knowledge.{Knowledge, knows}
-use Rattle.op_machine.specs.Examples.{small, opening_leaf}
-use Rattle.tree_law.specs.Example.{a, get_a, root_a, hold_a, remove_a}
-use Rattle.tree_law.specs.Removal.{get_b, removal}
-use Rattle.tree_law.specs.TwoSplits.{b, two_splits, upper_b, first_split, upper_c, second_split}
-use Rattle.tree_law.proofs.runs.GoingLeft.{removed, right_beyond, beside, going_left}
+use Rattle.tree_law.specs.Example.{get_a}
+use Rattle.tree_law.specs.Removal.{get_b}
+use Rattle.tree_law.proofs.runs.GoingLeft.{removed, held_child, left_child, right_beyond, beside}
 use Rattle.tree_law.proofs.runs.HelpFits.{leaf_splits}
 use Rattle.tree_law.proofs.runs.LinkFits.{leaf, leaf_page, hold_fits}
 use Rattle.tree_law.proofs.runs.Linking.{whole, adds}
 use Rattle.tree_law.proofs.runs.Making.{base_makes, over_makes, fits_over}
 use Rattle.tree_law.proofs.runs.SplitRun.{became, splits_twice}
-use Rattle.tree_law.proofs.runs.Standing.{◌▸◌, joined, quietly}
+use Rattle.tree_law.proofs.runs.Standing.{◌▸◌, disciplined, joined}
 use Rattle.tree_law.proofs.runs.Unset.{is_unset}
 
 -- what an actor knows before entry n
@@ -85,42 +76,22 @@ none_there = record {
 none_beyond : MayReply small 1 (before 72 1) reply.None
 none_beyond = record { command = get_b; going = refl; justified = inl (record { row = 6; chain = upper_c ∷ []; read = (refl, refl); leaf = refl; covers = refl; is = refl; basis = inr (refl, inl ((4, refl), refl), refl) }) }
 
--- it comes there again, goes on at the removed leaf's right, and replies from there
-goes_on : IsDisciplinedFrom small (take 70 removal) (drop 70 removal)
-goes_on =
-    (refl, quietly (refl, inr (right_beyond (knows (take 58 removal)))) tt, refl)
-    ▸ (refl, quietly (refl, refl) tt, (upper_c, refl, refl))
-    ▸ (refl, record { may = refl; frees = tt; replied = (refl, none_beyond); ends = λ e. refl }, refl)
-    ▸ tt
-
--- the second replies from the removed leaf, and begins again
-replies : IsDisciplinedFrom small (take 56 removal) (drop 56 removal)
-replies =
-    (refl, record { may = refl; frees = tt; replied = (refl, none_there); ends = λ e. refl }, refl)
-    ▸ (lit< tt, refl)
-    ▸ going_left (take 58 removal) (drop 70 removal) refl refl refl refl goes_on
-
--- it begins, and comes to the leaf on the removed one's left
-comes : IsDisciplinedFrom small (take 42 removal) (drop 42 removal)
-comes =
-    (lit< tt, refl)
-    ▸ (refl, quietly tt tt, refl)
-    ▸ going_left (take 44 removal) (drop 56 removal) refl refl refl refl replies
-
--- after two splits the first holds the upper leaf's term, and removes the leaf
-removes_it : IsDisciplinedFrom small two_splits (drop 32 removal)
-removes_it =
-    (refl, quietly tt tt, refl)
-    ▸ (refl, quietly tt tt, refl)
-    ▸ (refl, quietly (refl, tt, is_unset became refl) tt, refl)
-    ▸ (refl, quietly (refl, tt, is_unset became refl) tt, refl)
-    ▸ (refl, quietly (refl, holds) tt, refl)
-    ▸ (refl, quietly (refl, inl refl) tt, refl)
-    ▸ (refl, quietly (refl, refl) tt, (hold_a, refl, refl))
-    ▸ (refl, quietly (refl, inr right_of_first) tt, refl)
-    ▸ (refl, quietly (refl, refl) tt, (second_split, refl, refl))
-    ▸ (refl, quietly (refl, removes) tt, refl)
-    ▸ comes
-
+-- After two splits the first holds the upper leaf's term, and removes the leaf. The second comes to the leaf on the removed one's
+-- left, replies from the removed leaf, begins again, and goes on at the removed leaf's right.
 pub removal_disciplined : IsDisciplined small removal
-removal_disciplined = joined small [] two_splits (drop 32 removal) splits_twice removes_it
+removal_disciplined = joined small [] two_splits (drop 32 removal) splits_twice (disciplined two_splits (drop 32 removal) refl refl (
+    (refl, tt, is_unset became refl)
+    ▸ (refl, tt, is_unset became refl)
+    ▸ (refl, holds)
+    ▸ (refl, inr right_of_first)
+    ▸ (refl, removes)
+    ▸ (refl, lit< tt, refl)
+    ▸ (refl, inr (held_child (knows (take 44 removal))))
+    ▸ (refl, inr (left_child (knows (take 44 removal))))
+    ▸ (refl, none_there)
+    ▸ (refl, lit< tt, refl)
+    ▸ (refl, inr (held_child (knows (take 58 removal))))
+    ▸ (refl, inr (left_child (knows (take 58 removal))))
+    ▸ (refl, inr (right_beyond (knows (take 58 removal))))
+    ▸ (refl, none_beyond)
+    ▸ tt))

@@ -1,20 +1,10 @@
 -- Each step of the sweep is allowed.
-use Rattle.std.proofs.Common.{◌≡◌, ◌⊎◌, inl, inr, ℕ, ◌<◌, ◌/◌, ◌%◌, ◌==◌, [], ◌∷◌, ◌++◌, take, drop, Bool, true, false, refl, sym, ap, ◌∙◌, subst, ⊎_elim, lit<, arith}
-use Rattle.std.specs.Prelude.{◌||◌, not}
-use Rattle.std.specs.Int.{bit_at}
-use Rattle.std.proofs.lemmas.Bool.{eqb-true}
-use Rattle.deltas.specs.Memory.{replaced_at}
-use Rattle.chain_search.specs.Discipline.{IsPassed, MayFree}
-use Rattle.chain_search.specs.Disciplined.{IsDisciplinedFrom, IsDisciplined}
-use Rattle.chain_search.specs.Knowledge.{Empty, LimboMark, Stamped, Knowledge, knows}
-use Rattle.bw_model.specs.Words.{is_among}
-use Rattle.bw_model.specs.declared.step.Step.TheVariants.{ReusePids, ReuseRows}
-use Rattle.op_machine.proofs.Listed.{all_below-at, and_left, and_right}
-use Rattle.tree_law.specs.AllLinks.{all_links}
-use Rattle.op_machine.specs.Examples.{small}
+use Rattle.tree_law.proofs.Words.{false, ◌⊎◌, [], ap, refl, true, inl, ◌++◌, inr, ◌∷◌, subst, sym, ℕ, ◌≡◌, Bool, ◌∙◌, ◌<◌, arith, take, ⊎_elim, ◌==◌, lit<, eqb-true, bit_at, ◌||◌, not, is_among}
+use Rattle.tree_law.proofs.Words.{ReuseRows, ReusePids, replaced_at, IsPassed, MayFree, IsDisciplined, knows, Knowledge, Empty, LimboMark, Stamped, and_right, and_left, all_below-at, small, all_links}
+use Rattle.std.proofs.Common.{◌/◌, ◌%◌}
 use Rattle.tree_law.specs.Sweep.{sweep}
 use Rattle.tree_law.proofs.runs.LinkRun.{became, all_links_disciplined}
-use Rattle.tree_law.proofs.runs.Standing.{◌▸◌, quietly, joined}
+use Rattle.tree_law.proofs.runs.Standing.{◌▸◌, disciplined, joined}
 use Rattle.tree_law.proofs.runs.Unset.{is_unset}
 
 implied : (a b : Bool) → (not a || b) ≡ true → a ≡ true → b ≡ true
@@ -60,27 +50,13 @@ frees_page page e = let two : page ≡ 2 = ⊎_elim (λ (u : page ≡ 2). u) (λ
     (among 4 2 2 2 page (λ m lt. all_below-at (λ m. not (bit_at 4 m == 1) || ((m == 2) || ((m == 2) || (m == 2)))) 64 refl m lt) e) in
     passed_at (before 5).limbo.pids page 2 looked_at two refl refl
 
--- it enters the new epoch, and takes the page and a row again
-takes : IsDisciplinedFrom small (all_links ++ take 6 sweep) (drop 6 sweep)
-takes =
-    (refl, quietly tt tt, refl)
-    ▸ (refl, quietly (refl, lit< tt, refl) tt, refl)
-    ▸ (refl, quietly tt tt, refl)
-    ▸ (refl, quietly tt tt, refl)
-    ▸ (refl, quietly (refl, tt, is_unset ((2, Empty) ∷ became) refl) tt, refl)
-    ▸ (refl, quietly (refl, (refl, tt, is_unset ((2, Empty) ∷ became) refl)) tt, refl)
-    ▸ tt
-
--- it frees what it took out
-frees : IsDisciplinedFrom small all_links sweep
-frees =
-    (lit< tt, refl)
-    ▸ (refl, quietly tt tt, refl)
-    ▸ (refl, quietly (lit< tt) tt, refl)
-    ▸ (refl, quietly tt tt, refl)
-    ▸ (refl, quietly refl frees_rows, refl)
-    ▸ (refl, quietly refl frees_page, refl)
-    ▸ takes
-
+-- it frees what it took out, enters the new epoch, and takes the page and a row again
 pub sweep_disciplined : IsDisciplined small (all_links ++ sweep)
-sweep_disciplined = joined small [] all_links sweep all_links_disciplined frees
+sweep_disciplined = joined small [] all_links sweep all_links_disciplined (disciplined all_links sweep refl refl (
+    lit< tt
+    ▸ (refl, frees_rows)
+    ▸ (refl, frees_page)
+    ▸ (refl, lit< tt, refl)
+    ▸ (refl, tt, is_unset ((2, Empty) ∷ became) refl)
+    ▸ (refl, (refl, tt, is_unset ((2, Empty) ∷ became) refl))
+    ▸ tt))

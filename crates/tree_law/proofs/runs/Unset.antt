@@ -1,9 +1,5 @@
 -- That a row stands in the slot of no own page, by what became of the pages that the actor took.
-use Rattle.std.proofs.Common.{◌≡◌, ℕ, ◌==◌, List, [], ◌∷◌, Bool, true, ◌&&◌, subst}
-use Rattle.std.specs.Prelude.{not, if◌then◌else◌}
-use Rattle.deltas.specs.Memory.{replaced_at}
-use Rattle.op_machine.proofs.Listed.{and_left, and_right}
-use Rattle.chain_search.specs.Knowledge.{OwnPage, Other, Empty, Ready, Gone}
+use Rattle.tree_law.proofs.Words.{[], List, true, ◌∷◌, subst, ℕ, ◌≡◌, Bool, ◌==◌, if◌then◌else◌, ◌&&◌, not, replaced_at, Ready, OwnPage, Other, and_right, and_left}
 use Rattle.tree_law.proofs.shape.Puts.{by_test, eqb_same}
 
 -- the own pages after these changes, newest first
@@ -13,10 +9,8 @@ pages_after (change ∷ changes) = replaced_at change.0 change.1 (pages_after ch
 
 -- whether a page was never ready with the row
 abbrev is_apart : ℕ → OwnPage → Bool
-is_apart row Other = true
-is_apart row Empty = true
 is_apart row (Ready base) = not (base == row)
-is_apart row Gone = true
+is_apart row page = true
 
 abbrev are_apart : List (ℕ × OwnPage) → ℕ → Bool
 are_apart [] row = true
@@ -24,8 +18,7 @@ are_apart (change ∷ changes) row = is_apart row change.1 && are_apart changes 
 
 not_ready : (row : ℕ) (page : OwnPage) → is_apart row page ≡ true → page ≡ Ready row → ⊥
 not_ready row page apart e = let no : not (row == row) ≡ true = subst (λ p. is_apart row p ≡ true) e apart in
-    let yes : (row == row) ≡ true = eqb_same row in
-    let same : not true ≡ true = subst (λ t. not t ≡ true) yes no in
+    let same : not true ≡ true = subst (λ t. not t ≡ true) (eqb_same row) no in
     cc
 
 pub is_unset : (changes : List (ℕ × OwnPage)) {row : ℕ} → are_apart changes row ≡ true → (page : ℕ) → pages_after changes page ≡ Ready row → ⊥
@@ -33,3 +26,7 @@ is_unset [] {row} apart page e = cc
 is_unset (change ∷ changes) {row} apart page e = by_test page change.0 (λ t. (if t then change.1 else pages_after changes page) ≡ Ready row → ⊥)
     (λ here. not_ready row change.1 (and_left (is_apart row change.1) (are_apart changes row) apart))
     (λ elsewhere. is_unset changes (and_right (is_apart row change.1) (are_apart changes row) apart) page) e
+
+-- no page is ready with any row before the first page is
+pub none : {row : ℕ} (page : ℕ) → Other ≡ Ready row → ⊥
+none page e = cc

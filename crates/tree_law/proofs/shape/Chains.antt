@@ -1,19 +1,12 @@
 -- Chains: there is one from each row, and it stays while its rows do.
-use Rattle.std.proofs.Common.{◌≡◌, ℕ, List, [], ◌∷◌, ◌++◌, Option, Some, None, refl, sym, ◌∙◌, subst}
-use Rattle.std.specs.Prelude.{MatchOption}
-use Rattle.std.proofs.lemmas.Option.{same_Some}
-use Rattle.deltas.specs.declared.record.Record.{Record}
-use Rattle.deltas.specs.Records.{next_row}
-use Rattle.chain_search.specs.Chains.{IsChainFrom, IsFront}
-use Rattle.tree_law.specs.Owners.{IsChain}
+use Rattle.tree_law.proofs.Words.{[], refl, Option, None, List, ◌++◌, ◌∷◌, subst, sym, ℕ, ◌≡◌, ◌∙◌, Some, same_Some, MatchOption, next_row, Record, IsChainFrom, IsFront, IsChain}
 
 pub chain_unique : (rows : ℕ → Option Record) (c d : List Record) (o : Option ℕ) → IsChain rows c o → IsChain rows d o → c ≡ d
 chain_unique rows c d None h g = h ∙ sym g
 chain_unique rows [] d (Some x) h g = absurd h
 chain_unique rows (v ∷ c) [] (Some x) h g = absurd g
 chain_unique rows (v ∷ c) (w ∷ d) (Some x) h g =
-    let e : v ≡ w = same_Some v w (sym h.0 ∙ g.0) in
-    let t : c ≡ d = chain_unique rows c d (next_row v) h.1 (subst (λ (u : Record). IsChain rows d (next_row u)) (sym e) g.1) in
+    let t : c ≡ d = chain_unique rows c d (next_row v) h.1 (subst (λ (u : Record). IsChain rows d (next_row u)) (sym (same_Some v w (sym h.0 ∙ g.0))) g.1) in
     cc
 
 -- what was read of a chain is its front

@@ -1,22 +1,8 @@
 -- Each level is a whole side chain, and each level above the leaves has just the terms of the pages under it.
-use Rattle.std.proofs.Common.{◌≡◌, inl, ℕ, suc, ◌≤◌, List, [], ◌∷◌, map, Option, Some, None, Bool, sym, ap, ◌∙◌, subst, ⊎_elim, arith}
-use Rattle.std.specs.Prelude.{IsTrue}
-use Rattle.std.proofs.lemmas.Option.{same_Some}
-use Rattle.bw_model.specs.Log.{Update}
-use Rattle.base_page.specs.declared.item.Content.{Content}
-use Rattle.base_page.specs.declared.item.Content.TheVariants.{Child}
-use Rattle.deltas.specs.declared.record.Record.{Record}
-use Rattle.deltas.specs.Memory.{Memory}
-use Rattle.chain_search.specs.Chains.{IsChainOf, content_in, level_in, low_in, high_in, covers}
-use Rattle.chain_search.specs.SideChain.{LivePage}
-use Rattle.chain_search.proofs.ChainLaws.{IsChainOf-unique}
-use Rattle.tree_law.specs.Keys.{Key, IsUpTo, IsUnder, Covers}
-use Rattle.chain_search.specs.Knowledge.{Knowledge}
-use Rattle.tree_law.specs.Phase.{Stage, Indexed, Merged, Placed, rank}
-use Rattle.tree_law.specs.Shared.{Shared, shared}
-use Rattle.tree_law.specs.Owners.{Owners, IsOut}
-use Rattle.tree_law.specs.Tree.{SidePage, InPlace, IsPart, spec, Level, Off, IsTree}
-use Rattle.tree_law.specs.Indexed.{HasTermAt, IsPageIn, HasMark, IsIndexed}
+use Rattle.tree_law.proofs.Words.{[], ap, Option, suc, None, List, inl, ◌≤◌, ◌∷◌, subst, sym, ℕ, ◌≡◌, Bool, ◌∙◌, arith, Some, map, ⊎_elim, same_Some, IsTrue, Update, ContentOf, Child, Memory, Record}
+use Rattle.tree_law.proofs.Words.{IsChainOf-unique, IsChainOf, content_in, low_in, level_in, high_in, covers, Knowledge, LivePage, HasMark, IsIndexed, Key, IsUpTo, Covers, IsUnder, Owners, IsOut}
+use Rattle.tree_law.proofs.Words.{Placed, Indexed, rank, Merged, Stage, shared, Shared, IsTree, spec, Level, Off, SidePage, InPlace, IsPart}
+use Rattle.tree_law.specs.Indexed.{HasTermAt, IsPageIn}
 use Rattle.tree_law.proofs.shape.KeyOrder.{empty_lowest, covers_from, covers_to}
 use Rattle.tree_law.proofs.links.Keeping.{on_or_merged}
 use Rattle.tree_law.proofs.shape.Mapping.{live, chain_at, chain_of, side_from, whole_from, among, covering}
@@ -25,7 +11,7 @@ use Rattle.tree_law.proofs.shape.Sides.{locate, same_page}
 placed_low : (st st' : Stage) (l l' : ℕ) (s s' : Key) → Placed st l s ≡ Placed st' l' s' → s ≡ s'
 placed_low st st' l l' s s' e = cc
 
-first_page : (o : Owners) (m : Shared) (lv : ℕ) (mp : Key → Option Content) (gs : List SidePage) (p : ℕ) (low : Key) → IsPart o m lv mp gs (Some p) (Some low) None None → (g : SidePage) × (g.page ≡ p) × (low_in g.chain ≡ low) × InPlace o m lv mp g
+first_page : (o : Owners) (m : Shared) (lv : ℕ) (mp : Key → Option ContentOf) (gs : List SidePage) (p : ℕ) (low : Key) → IsPart o m lv mp gs (Some p) (Some low) None None → (g : SidePage) × (g.page ≡ p) × (low_in g.chain ≡ low) × InPlace o m lv mp g
 first_page o m lv mp [] p low h = absurd (let e = h.0 in cc)
 first_page o m lv mp (g ∷ gs) p low h = (g, sym (same_Some p g.page h.0), sym (same_Some low (low_in g.chain) h.1), h.2)
 
@@ -63,38 +49,34 @@ module _ (memory : Memory) {log : List Update} {o : Owners} {knows : ℕ → Kno
     has_term key child held (at, (st, l', s', placed, marked)) =
         let here = page_at child l' s' st placed in
         let same : here.0 ≡ at.0 = IsChainOf-unique memory child here.0 at.0 here.1 at.1 in
-        let level : l' ≡ l = sym here.2 ∙ ap level_in same ∙ at.2 in
-        let low : s' ≡ key = sym here.3 ∙ ap low_in same ∙ at.3 in
-        let there : o.page child ≡ Placed st l key = rw (sym level, sym low) placed in
-        let is = g.tree.exact.posted child l key st (Child child held) there (omega arith) marked in
+        let is = g.tree.exact.posted child l key st (Child child held) (rw (sym (sym here.2 ∙ ap level_in same ∙ at.2), sym (sym here.3 ∙ ap low_in same ∙ at.3)) placed) (omega arith) marked in
         let f = covering memory o (suc l) (o.index l) above.side (Some (g.tree.first (suc l))) (Some []) above.whole key (empty_lowest key) in
         (live f.0, f.1, covers_to f.0.chain key f.3, f.2.is_page.same key f.3 ∙ is)
 
   pub is_indexed : IsIndexed memory o
-  is_indexed = record {
-    top = g.tree.top;
-    first = g.tree.first;
-    leftmost = g.tree.leaf;
-    root = g.tree.root;
-    firsts = λ l le. let f = front l le in (f.3.stage, ap o.page (sym f.1) ∙ f.3.placed ∙ ap (λ (k : Key). Placed f.3.stage l k) f.2, f.3.on);
-    only = λ q l st le e on.
-        let t = g.tree.levels l le in
-        let f = front l le in
-        let h = locate o (shared memory) l (spec log o.index l) t.side (Some (g.tree.first l)) (Some []) None None q t.whole (t.listed q [] st e on) in
-        let low : low_in h.page.chain ≡ [] = placed_low h.here.stage st l l (low_in h.page.chain) [] (sym h.here.placed ∙ ap o.page h.is ∙ e) in
-        sym h.is ∙ same_page o (shared memory) l (spec log o.index l) (g.tree.first l) t h.page f.0 h.here f.3 [] (from_empty h.page.chain low h.here.is_page.some) (from_empty f.0.chain f.2 f.3.is_page.some) ∙ f.1;
-    begins = λ l le. let f = front l le in page_at (g.tree.first l) l [] f.3.stage (ap o.page (sym f.1) ∙ f.3.placed ∙ ap (λ (k : Key). Placed f.3.stage l k) f.2);
-    pages = λ l le. map live (g.tree.levels l le).side;
-    side = λ l le. side_from memory o l (spec log o.index l) (g.tree.levels l le).side (Some (g.tree.first l)) (Some []) (g.tree.levels l le).whole;
-    whole = λ l le. whole_from memory o l (spec log o.index l) (g.tree.levels l le).side (Some (g.tree.first l)) (Some []) (g.tree.levels l le).whole;
-    terms = λ l le key child held. (posted l le key child held, has_term l le key child held);
-  }
-    where
-      front : (l : ℕ) (le : l ≤ g.tree.top) → (f : SidePage) × (f.page ≡ g.tree.first l) × (low_in f.chain ≡ []) × InPlace o (shared memory) l (spec log o.index l) f
-      front l le = first_page o (shared memory) l (spec log o.index l) (g.tree.levels l le).side (g.tree.first l) [] (g.tree.levels l le).whole
-
-      from_empty : (c : List Record) → low_in c ≡ [] → IsUnder (low_in c) (high_in c) → Covers c []
-      from_empty c e some = record { low = subst (λ (k : Key). IsUpTo k []) (sym e) (empty_lowest []); high = subst (λ (k : Key). IsUnder k (high_in c)) e some }
+  is_indexed =
+      let front : (l : ℕ) (le : l ≤ g.tree.top) → (f : SidePage) × (f.page ≡ g.tree.first l) × (low_in f.chain ≡ []) × InPlace o (shared memory) l (spec log o.index l) f =
+      λ l le. first_page o (shared memory) l (spec log o.index l) (g.tree.levels l le).side (g.tree.first l) [] (g.tree.levels l le).whole in
+      let from_empty : (c : List Record) → low_in c ≡ [] → IsUnder (low_in c) (high_in c) → Covers c [] =
+      λ c e some. record { low = subst (λ (k : Key). IsUpTo k []) (sym e) (empty_lowest []); high = subst (λ (k : Key). IsUnder k (high_in c)) e some } in
+      record {
+        top = g.tree.top;
+        first = g.tree.first;
+        leftmost = g.tree.leaf;
+        root = g.tree.root;
+        firsts = λ l le. let f = front l le in (f.3.stage, ap o.page (sym f.1) ∙ f.3.placed ∙ ap (λ (k : Key). Placed f.3.stage l k) f.2, f.3.on);
+        only = λ q l st le e on.
+            let t = g.tree.levels l le in
+            let f = front l le in
+            let h = locate o (shared memory) l (spec log o.index l) t.side (Some (g.tree.first l)) (Some []) None None q t.whole (t.listed q [] st e on) in
+            let low : low_in h.page.chain ≡ [] = placed_low h.here.stage st l l (low_in h.page.chain) [] (sym h.here.placed ∙ ap o.page h.is ∙ e) in
+            sym h.is ∙ same_page o (shared memory) l (spec log o.index l) (g.tree.first l) t h.page f.0 h.here f.3 [] (from_empty h.page.chain low h.here.is_page.some) (from_empty f.0.chain f.2 f.3.is_page.some) ∙ f.1;
+        begins = λ l le. let f = front l le in page_at (g.tree.first l) l [] f.3.stage (ap o.page (sym f.1) ∙ f.3.placed ∙ ap (λ (k : Key). Placed f.3.stage l k) f.2);
+        pages = λ l le. map live (g.tree.levels l le).side;
+        side = λ l le. side_from memory o l (spec log o.index l) (g.tree.levels l le).side (Some (g.tree.first l)) (Some []) (g.tree.levels l le).whole;
+        whole = λ l le. whole_from memory o l (spec log o.index l) (g.tree.levels l le).side (Some (g.tree.first l)) (Some []) (g.tree.levels l le).whole;
+        terms = λ l le key child held. (posted l le key child held, has_term l le key child held);
+      }
 
   -- no page is above the top level
   pub below_top : (q l : ℕ) (s : Key) (st : Stage) → o.page q ≡ Placed st l s → l ≤ is_indexed.top

@@ -1,26 +1,10 @@
 -- A step keeps the first page of each level, and adds at most one level on top.
-use Rattle.std.proofs.Common.{◌≡◌, ◌≢◌, ◌≤◌, ◌⊎◌, inl, inr, ℕ, zero, suc, List, [], Option, Bool, true, false, refl, sym, ap, ◌∙◌, subst, arith}
-use Rattle.bw_model.specs.declared.step.Step.{Step as StepOf}
-use Rattle.bw_model.specs.declared.step.Step.TheVariants.{Exchange, TakePid, ReusePids}
-use Rattle.bw_model.specs.declared.step.Answer.{Answer}
-use Rattle.bw_model.specs.declared.step.Answer.TheVariants.{Start, Number, Content, Whether, Done}
-use Rattle.bw_model.specs.Log.{Update}
-use Rattle.deltas.specs.declared.record.Record.{Record}
-use Rattle.deltas.specs.declared.record.Record.TheVariants.{Base, Put, Delete, Split, Term, Hold, Remove, Merge, Unterm}
-use Rattle.deltas.specs.Memory.{Memory}
-use Rattle.bw_model.specs.Words.{is_among}
-use Rattle.chain_search.specs.Steps.{IsAnswer}
-use Rattle.tree_law.specs.Indexed.{IsFirst}
-use Rattle.tree_law.specs.Keys.{Key}
-use Rattle.chain_search.specs.Knowledge.{Knowledge}
-use Rattle.tree_law.specs.Owners.{Owners}
-use Rattle.tree_law.specs.Phase.{Stage, Fresh, Indexed, Held, Removed, Merged, PageOwner, Nobody, Keeps, Placed, Cleared, rank}
-use Rattle.tree_law.specs.Phases.{LinkMoves, Exchanged, Phased}
-use Rattle.tree_law.specs.Put.{put}
-use Rattle.tree_law.specs.Shared.{Shared, shared}
-use Rattle.tree_law.specs.Tree.{IsTree}
+use Rattle.tree_law.proofs.Words.{false, ◌⊎◌, [], ap, Option, suc, List, true, inl, ◌≢◌, ◌≤◌, inr, subst, sym, ℕ, ◌≡◌, zero, ◌∙◌, arith, Update, is_among, Answer, Whether, StepOf, ReusePids, TakePid}
+use Rattle.tree_law.proofs.Words.{Exchange, Memory, Record, Remove, Hold, Split, Merge, Term, Unterm, Knowledge, IsAnswer, IsFirst, Key, Owners, Nobody, Placed, Indexed, PageOwner, Cleared, Keeps}
+use Rattle.tree_law.proofs.Words.{Fresh, rank, Removed, Held, Merged, Stage, Phased, LinkMoves, Exchanged, put, shared, Shared, IsTree}
 use Rattle.tree_law.proofs.shape.Exactness.{is_indexed, below_top, root_indexed}
-use Rattle.tree_law.proofs.shape.Puts.{by_test, put_same, put_other}
+use Rattle.tree_law.proofs.shape.Puts.{by_test, put_same, put_other, decided}
+use Rattle.tree_law.proofs.shape.Sides.{placed_level}
 
 -- A page on a side chain is there afterwards, at its place, or was merged, and then nothing else was changed.
 abbrev Stays : (ℕ → PageOwner) → (ℕ → PageOwner) → ℕ → ℕ → Key → Type 0
@@ -29,9 +13,6 @@ Stays f f' q l s = ((st : Stage) × (f' q ≡ Placed st l s) × (rank st ≤ 3))
 -- A page placed afterwards has its level from a page that was placed before, or is one above it.
 abbrev Grown : (ℕ → PageOwner) → ℕ → Type 0
 Grown f l = (p : ℕ) × (st : Stage) × (below : ℕ) × (s : Key) × (f p ≡ Placed st below s) × (l ≤ suc below)
-
-same_level : (st st' : Stage) (l l' : ℕ) (s s' : Key) → Placed st l s ≡ Placed st' l' s' → l ≡ l'
-same_level st st' l l' s s' e = cc
 
 module _ (f f' : ℕ → PageOwner) where
   unchanged : (q l : ℕ) (s : Key) (st : Stage) → f q ≡ Placed st l s → rank st ≤ 3 → f' ≡ f → Stays f f' q l s
@@ -42,8 +23,7 @@ module _ (f f' : ℕ → PageOwner) where
   staged q l s st p lp sp from to at on was next e = by_test q p (λ t. Stays f f' q l s)
       (λ i.
       let here : f p ≡ Placed st l s = ap f (sym i) ∙ at in
-      let same : Placed to lp sp ≡ Placed to l s = cc in
-      inl (to, ap (λ (k : ℕ → PageOwner). k q) e ∙ ap (put f p (Placed to lp sp)) i ∙ put_same f p (Placed to lp sp) ∙ same, next))
+      inl (to, ap (λ (k : ℕ → PageOwner). k q) e ∙ ap (put f p (Placed to lp sp)) i ∙ put_same f p (Placed to lp sp) ∙ cc, next))
       (λ ne. inl (st, ap (λ (k : ℕ → PageOwner). k q) e ∙ put_other f p (Placed to lp sp) q ne ∙ at, on))
 
   -- a page that was on no side chain is changed
@@ -55,9 +35,6 @@ module _ (f f' : ℕ → PageOwner) where
 
   module _ (m : Shared) (a : ℕ) where
     by_links : (w : Record) (p : ℕ) → LinkMoves m a w p f f' → (q l : ℕ) (s : Key) (st : Stage) → f q ≡ Placed st l s → rank st ≤ 3 → Stays f f' q l s
-    by_links (Base page) p h q l s st at on = unchanged q l s st at on h
-    by_links (Put record') p h q l s st at on = unchanged q l s st at on h
-    by_links (Delete record') p h q l s st at on = unchanged q l s st at on h
     by_links (Term term) p h q l s st at on = staged q l s st term.child h.0 term.separator Fresh Indexed at on h.1 (omega arith) h.2
     by_links (Hold hold) p h q l s st at on = staged q l s st hold.child h.0 hold.separator Indexed Held at on h.1 (omega arith) h.2
     by_links (Unterm unterm) p h q l s st at on = elsewhere q l s st unterm.child (Cleared a h.0 unterm.separator) at on (λ e. not_merged st l h.0 s unterm.separator on (sym h.1 ∙ e)) h.2
@@ -67,17 +44,16 @@ module _ (f f' : ℕ → PageOwner) where
         (λ i.
         let here : f h.0 ≡ Placed st l s = ap f (sym i) ∙ at in
         let was : f h.0 ≡ Placed Removed h.1 merge.low = h.2 in
-        let same : Placed Merged h.1 merge.low ≡ Placed Merged l s = cc in
-        inr (h.3 ∙ ap (λ n. put f n (Placed Merged h.1 merge.low)) (sym i) ∙ ap (λ v. put f q v) same))
+        inr (h.3 ∙ ap (λ n. put f n (Placed Merged h.1 merge.low)) (sym i) ∙ ap (λ v. put f q v) cc))
         (λ ne. inl (st, ap (λ (k : ℕ → PageOwner). k q) h.3 ∙ put_other f h.0 (Placed Merged h.1 merge.low) q ne ∙ at, on))
+    by_links w p h q l s st at on = unchanged q l s st at on h
 
     by_root : (x y : ℕ) → Exchanged a m zero x y f f' → (q l : ℕ) (s : Key) (st : Stage) → f q ≡ Placed st l s → rank st ≤ 3 → Stays f f' q l s
     by_root x y h q l s st at on = by_test q h.0 (λ t. Stays f f' q l s)
         (λ i.
         let here : f h.0 ≡ Placed st l s = ap f (sym i) ∙ at in
         let was : f h.0 ≡ Placed Fresh h.1 h.2 = h.4 in
-        let same : Placed Indexed h.1 h.2 ≡ Placed Indexed l s = cc in
-        inl (Indexed, rest ∙ ap (put f h.0 (Placed Indexed h.1 h.2)) i ∙ put_same f h.0 (Placed Indexed h.1 h.2) ∙ same, omega arith))
+        inl (Indexed, rest ∙ ap (put f h.0 (Placed Indexed h.1 h.2)) i ∙ put_same f h.0 (Placed Indexed h.1 h.2) ∙ cc, omega arith))
         (λ ne. inl (st, rest ∙ put_other f h.0 (Placed Indexed h.1 h.2) q ne ∙ at, on))
       where
         rest : f' q ≡ put f h.0 (Placed Indexed h.1 h.2) q
@@ -93,24 +69,22 @@ module _ (f f' : ℕ → PageOwner) where
         (λ ne. (q, st, l, s, sym (ap (λ (k : ℕ → PageOwner). k q) e ∙ put_other f p to q ne) ∙ at, omega arith))
 
     from : (q l : ℕ) (s : Key) (st : Stage) (lp : ℕ) (sp sf : Key) (sto sfrom : Stage) (p : ℕ) → f p ≡ Placed sfrom lp sf → Placed sto lp sp ≡ Placed st l s → Grown f l
-    from q l s st lp sp sf sto sfrom p was e = (p, sfrom, lp, sf, was, let i : lp ≡ l = same_level sto st lp l sp s e in omega arith)
+    from q l s st lp sp sf sto sfrom p was e = (p, sfrom, lp, sf, was, let i : lp ≡ l = (placed_level sto st lp l sp s e).0 in omega arith)
 
     links_back : (w : Record) (p : ℕ) → LinkMoves m a w p f f' → (q l : ℕ) (s : Key) (st : Stage) → f' q ≡ Placed st l s → Grown f l
-    links_back (Base page) p h q l s st at = was_there q l s st at h
-    links_back (Put record') p h q l s st at = was_there q l s st at h
-    links_back (Delete record') p h q l s st at = was_there q l s st at h
     links_back (Term term) p h q l s st at = put_back q l s st term.child (Placed Indexed h.0 term.separator) at h.2 (from q l s st h.0 term.separator term.separator Indexed Fresh term.child h.1)
     links_back (Hold hold) p h q l s st at = put_back q l s st hold.child (Placed Held h.0 hold.separator) at h.2 (from q l s st h.0 hold.separator hold.separator Held Indexed hold.child h.1)
     links_back (Unterm unterm) p h q l s st at = put_back q l s st unterm.child (Cleared a h.0 unterm.separator) at h.2 (λ e. absurd (cc))
     links_back (Split split) p h q l s st at = put_back q l s st split.page (Placed Fresh h.1 split.separator) at h.5 (from q l s st h.1 split.separator h.2 Fresh h.0 p h.3)
     links_back (Remove remove) p h q l s st at = put_back q l s st p (Placed Removed h.0 h.1) at h.3 (from q l s st h.0 h.1 h.1 Removed Held p h.2)
     links_back (Merge merge) p h q l s st at = put_back q l s st h.0 (Placed Merged h.1 merge.low) at h.3 (from q l s st h.1 merge.low merge.low Merged Removed h.0 h.2)
+    links_back w p h q l s st at = was_there q l s st at h
 
     root_back : (x y : ℕ) → Exchanged a m zero x y f f' → (q l : ℕ) (s : Key) (st : Stage) → f' q ≡ Placed st l s → Grown f l
     root_back x y h q l s st at = by_test q y (λ t. Grown f l)
         (λ i.
         let now : f' q ≡ Placed Indexed (suc h.1) [] = ap (λ (k : ℕ → PageOwner). k q) h.6 ∙ ap (put (put f h.0 (Placed Indexed h.1 h.2)) y (Placed Indexed (suc h.1) [])) i ∙ put_same (put f h.0 (Placed Indexed h.1 h.2)) y (Placed Indexed (suc h.1) []) in
-        let is : suc h.1 ≡ l = same_level Indexed st (suc h.1) l [] s (sym now ∙ at) in
+        let is : suc h.1 ≡ l = (placed_level Indexed st (suc h.1) l [] s (sym now ∙ at)).0 in
         (x, Indexed, h.1, [], h.3, omega arith))
         (λ ne.
         let rest : f' q ≡ put f h.0 (Placed Indexed h.1 h.2) q = ap (λ (k : ℕ → PageOwner). k q) h.6 ∙ put_other (put f h.0 (Placed Indexed h.1 h.2)) y (Placed Indexed (suc h.1) []) q ne in
@@ -128,26 +102,16 @@ module _ (m : Memory) {log : List Update} {o : Owners} {knows : ℕ → Knowledg
     where
       go : (t : StepOf Record) (y : Answer Record) → IsAnswer m t y → Phased a (shared m) t y o.page f' → Stays o.page f' q l low
       go (TakePid p) (Whether true) e ph' = elsewhere o.page f' q l low st p (Keeps a) at on (λ i. let was : o.page p ≡ Nobody = taken_nobody p (cc) in absurd (cc)) ph'
-      go (TakePid p) (Whether false) e ph' = unchanged o.page f' q l low st at on ph'
       go (Exchange zero old new) (Whether true) e ph' = by_root o.page f' (shared m) a old new ph' q l low st at on
       go (Exchange (suc p) zero zero) (Whether true) e ph' = unchanged o.page f' q l low st at on ph'.0
       go (Exchange (suc p) zero (suc new)) (Whether true) e ph' = unchanged o.page f' q l low st at on ph'.0
       go (Exchange (suc p) (suc old) zero) (Whether true) e ph' = unchanged o.page f' q l low st at on ph'.0
       go (Exchange (suc p) (suc old) (suc new)) (Whether true) e ph' = by_links o.page f' (shared m) a ph'.0 (suc p) ph'.2 q l low st at on
       go (Exchange p old new) (Whether false) e ph' = unchanged o.page f' q l low st at on ph'
-      go (Exchange p old new) (Number n) e ph' = absurd (let f = e in cc)
-      go (Exchange p old new) (Content w) e ph' = absurd (let f = e in cc)
-      go (Exchange p old new) Done e ph' = absurd (let f = e in cc)
-      go (Exchange p old new) Start e ph' = absurd (let f = e in cc)
-      go (TakePid p) (Number n) e ph' = absurd (let f = e in cc)
-      go (TakePid p) (Content w) e ph' = absurd (let f = e in cc)
-      go (TakePid p) Done e ph' = absurd (let f = e in cc)
-      go (TakePid p) Start e ph' = absurd (let f = e in cc)
-      go (ReusePids word bits) y e ph' = by_word (is_among word bits q) refl
-        where
-          by_word : (z : Bool) → is_among word bits q ≡ z → Stays o.page f' q l low
-          by_word true k = absurd (let v = (ph' q).0 k in let f = sym at ∙ v.3 in cc)
-          by_word false k = inl (st, (ph' q).1 k ∙ at, on)
+      go (TakePid p) (Whether false) e ph' = unchanged o.page f' q l low st at on ph'
+      go (ReusePids word bits) y e ph' = elim (decided (is_among word bits q)) [ inl k ↦ absurd (let v = (ph' q).0 k in let f = sym at ∙ v.3 in cc) | inr k ↦ inl (st, (ph' q).1 k ∙ at, on) ]
+      go (Exchange p old new) y e ph' = absurd (let f = e in cc)
+      go (TakePid p) y e ph' = absurd (let f = e in cc)
       go t y e ph' = unchanged o.page f' q l low st at on ph'
 
   grown_by_one : Phased a (shared m) s x o.page f' → (q l : ℕ) (low : Key) (st : Stage) → f' q ≡ Placed st l low → Grown o.page l
@@ -158,26 +122,16 @@ module _ (m : Memory) {log : List Update} {o : Owners} {knows : ℕ → Knowledg
 
       go : (t : StepOf Record) (y : Answer Record) → IsAnswer m t y → Phased a (shared m) t y o.page f' → Grown o.page l
       go (TakePid p) (Whether true) e ph' = put_back o.page f' (shared m) a q l low st p (Keeps a) at ph' (λ i. absurd (cc))
-      go (TakePid p) (Whether false) e ph' = same ph'
       go (Exchange zero old new) (Whether true) e ph' = root_back o.page f' (shared m) a old new ph' q l low st at
       go (Exchange (suc p) zero zero) (Whether true) e ph' = same ph'.0
       go (Exchange (suc p) zero (suc new)) (Whether true) e ph' = same ph'.0
       go (Exchange (suc p) (suc old) zero) (Whether true) e ph' = same ph'.0
       go (Exchange (suc p) (suc old) (suc new)) (Whether true) e ph' = links_back o.page f' (shared m) a ph'.0 (suc p) ph'.2 q l low st at
       go (Exchange p old new) (Whether false) e ph' = same ph'
-      go (Exchange p old new) (Number n) e ph' = absurd (let f = e in cc)
-      go (Exchange p old new) (Content w) e ph' = absurd (let f = e in cc)
-      go (Exchange p old new) Done e ph' = absurd (let f = e in cc)
-      go (Exchange p old new) Start e ph' = absurd (let f = e in cc)
-      go (TakePid p) (Number n) e ph' = absurd (let f = e in cc)
-      go (TakePid p) (Content w) e ph' = absurd (let f = e in cc)
-      go (TakePid p) Done e ph' = absurd (let f = e in cc)
-      go (TakePid p) Start e ph' = absurd (let f = e in cc)
-      go (ReusePids word bits) y e ph' = by_word (is_among word bits q) refl
-        where
-          by_word : (z : Bool) → is_among word bits q ≡ z → Grown o.page l
-          by_word true k = absurd (let v = (ph' q).0 k in let f = sym at ∙ v.4 in cc)
-          by_word false k = (q, st, l, low, sym ((ph' q).1 k) ∙ at, omega arith)
+      go (TakePid p) (Whether false) e ph' = same ph'
+      go (ReusePids word bits) y e ph' = elim (decided (is_among word bits q)) [ inl k ↦ absurd (let v = (ph' q).0 k in let f = sym at ∙ v.4 in cc) | inr k ↦ (q, st, l, low, sym ((ph' q).1 k) ∙ at, omega arith) ]
+      go (Exchange p old new) y e ph' = absurd (let f = e in cc)
+      go (TakePid p) y e ph' = absurd (let f = e in cc)
       go t y e ph' = same ph'
 
 -- from one memory that meets the invariant to the next
@@ -191,8 +145,7 @@ module _ (m m' : Memory) {log log' : List Update} {o o' : Owners} {knows knows' 
         let now = is_indexed m' g' in
         let was = is_indexed m g in
         let merged : o'.page q ≡ Placed Merged l [] = ap (λ (k : ℕ → PageOwner). k q) gone ∙ put_same o.page q (Placed Merged l []) in
-        let le : l ≤ now.top = below_top m' g' q l [] Merged merged in
-        let first = now.firsts l le in
+        let first = now.firsts l (below_top m' g' q l [] Merged merged) in
         let other : now.first l ≢ q = λ i. not_merged o.page o'.page first.0 l l [] [] first.2 (sym merged ∙ ap o'.page (sym i) ∙ first.1) in
         let before : o.page (now.first l) ≡ Placed first.0 l [] = sym (put_other o.page q (Placed Merged l []) (now.first l) other) ∙ ap (λ (k : ℕ → PageOwner). k (now.first l)) (sym gone) ∙ first.1 in
         let le' : l ≤ was.top = below_top m g q l [] st at in

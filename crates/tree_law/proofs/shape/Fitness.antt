@@ -1,25 +1,9 @@
 -- The chain of each linked row stays a page's chain.
-use Rattle.std.proofs.Common.{◌≡◌, ◌⊎◌, inl, inr, ℕ, ◌≤◌, List, [], ◌∷◌, length, Option, Some, None, cond, refl, sym, subst, arith}
-use Rattle.std.specs.Prelude.{IfSome, MatchOption}
-use Rattle.bw_model.specs.declared.limits.Limits.{Limits}
+use Rattle.tree_law.proofs.Words.{◌⊎◌, [], refl, cond, Option, None, List, inl, length, ◌≤◌, inr, ◌∷◌, subst, sym, ℕ, ◌≡◌, arith, Some, All-from_recursion, IfSome, MatchOption, Limits, IsPage-from}
+use Rattle.tree_law.proofs.Words.{empty_leaf, IsRuled, Item, opening, next_row, IsSpellablePage, HasPid, Record, Base, IsChainFrom-unique, IsChainFrom, FitsOn, IsFitted, FitsOver, AreFitted, IsAdded}
+use Rattle.tree_law.proofs.Words.{Free, Linked, Owners, IsChain, IsClosed, Shared}
 use Rattle.std.specs.List.Sorted.{IsStrictlySortedBy}
-use Rattle.std.proofs.lemmas.List.Elements.{All-from_recursion}
-use Rattle.base_page.specs.declared.item.Item.{Item}
-use Rattle.base_page.specs.Pages.{empty_leaf}
-use Rattle.base_page.specs.Rules.{IsRuled}
-use Rattle.base_page.proofs.PageLaws.{IsPage-from}
-use Rattle.deltas.specs.declared.record.Record.{Record}
-use Rattle.deltas.specs.declared.record.Record.TheVariants.{Base}
-use Rattle.deltas.specs.Records.{next_row}
-use Rattle.deltas.specs.Memory.{opening}
-use Rattle.deltas.specs.Spellable.{HasPid, IsSpellablePage}
-use Rattle.chain_search.specs.Chains.{IsChainFrom}
-use Rattle.chain_search.specs.Discipline.{FitsOn}
-use Rattle.chain_search.specs.Fitted.{FitsOver, IsFitted, IsPageChain}
-use Rattle.chain_search.proofs.ChainLaws.{IsChainFrom-unique}
-use Rattle.tree_law.specs.Fitness.{AreFitted, IsAdded}
-use Rattle.tree_law.specs.Owners.{IsChain, Free, Linked, Owners, IsClosed}
-use Rattle.tree_law.specs.Shared.{Shared}
+use Rattle.chain_search.specs.Fitted.{IsPageChain}
 use Rattle.tree_law.proofs.trace.Opening.{opening_owners}
 use Rattle.tree_law.proofs.shape.Puts.{by_test}
 use Rattle.tree_law.proofs.shape.Rows.{chain_was}

@@ -1,16 +1,7 @@
 -- What a step touches was free or its actor's own: so all else stays.
-use Rattle.std.proofs.Common.{◌≡◌, ◌≢◌, ◌⊎◌, inl, inr, ℕ, suc, ◌≤◌, List, [], ◌∷◌, Option, Some, None, Bool, true, false, cond, refl, sym, ap, ◌∙◌, subst, ⊎_elim, arith}
-use Rattle.std.specs.Prelude.{IfSome}
-use Rattle.std.proofs.lemmas.Option.{same_Some}
-use Rattle.bw_model.specs.Log.{Update}
-use Rattle.deltas.specs.declared.record.Record.{Record}
-use Rattle.deltas.specs.Records.{next_row}
-use Rattle.chain_search.specs.Chains.{content_in, level_in, low_in, is_removed}
-use Rattle.tree_law.specs.Keys.{Key, Covers}
-use Rattle.tree_law.specs.Phase.{Stage, Fresh, Indexed, Held, Removed, Merged, PageOwner, Nobody, Keeps, Placed, Cleared, rank}
-use Rattle.tree_law.specs.Put.{put}
-use Rattle.tree_law.specs.Shared.{Shared}
-use Rattle.tree_law.specs.Owners.{IsChain, Owner, Free, Spare, Linked, Owners, Reached, Forward, IsCleared, IsLinked, IsClosed, SeenFits, SpellsLog, leaf_map, HeadFits, OrderFits, Knows, IsOut}
+use Rattle.tree_law.proofs.Words.{false, ◌⊎◌, [], ap, refl, cond, Option, suc, None, List, true, inl, ◌≢◌, ◌≤◌, inr, ◌∷◌, subst, sym, ℕ, ◌≡◌, Bool, ◌∙◌, arith, Some, ⊎_elim, same_Some, IfSome, Update}
+use Rattle.tree_law.proofs.Words.{next_row, Record, content_in, low_in, is_removed, level_in, Key, Covers, Free, Linked, Owners, Reached, Spare, IsOut, IsLinked, Owner, HeadFits, OrderFits, IsChain}
+use Rattle.tree_law.proofs.Words.{IsClosed, IsCleared, SpellsLog, Knows, leaf_map, SeenFits, Forward, Nobody, Placed, PageOwner, Cleared, Keeps, rank, Merged, Stage, put, Shared}
 use Rattle.tree_law.proofs.shape.Puts.{by_test}
 use Rattle.tree_law.proofs.shape.Chains.{chain_unique, chain_within}
 use Rattle.tree_law.proofs.shape.Kept.{chain_kept, Kept, Spared}
@@ -40,13 +31,6 @@ not_reached r l s w a e h = subst (λ (v : PageOwner). Reached r l s v) e h
 nobody_reached : (r l : ℕ) (s : Key) (w : PageOwner) → w ≡ Nobody → Reached r l s w → ⊥
 nobody_reached r l s w e h = subst (λ (v : PageOwner). Reached r l s v) e h
 
-rank_merged : (st : Stage) → rank st ≤ 4
-rank_merged Fresh = omega arith
-rank_merged Indexed = omega arith
-rank_merged Held = omega arith
-rank_merged Removed = omega arith
-rank_merged Merged = omega arith
-
 pub kept_change : (a : ℕ) (o o' : Owners) (m m' : Shared) → Change a o o' m m' → Kept o o' m m'
 kept_change a o o' m m' c = record {
   row = λ r l. row r l (c.row r);
@@ -58,9 +42,9 @@ kept_change a o o' m m' c = record {
 }
   where
     row : (r : ℕ) → o.row r ≡ Linked → RowChange a (o.row r) (o'.row r) (m.rows r) (m'.rows r) → (o'.row r ≡ Linked) × (m'.rows r ≡ m.rows r)
+    row r l (row_same e f) = (e ∙ l, f)
     row r l (row_free e) = absurd (cc)
     row r l (row_own e) = absurd (cc)
-    row r l (row_same e f) = (e ∙ l, f)
 
     staged : (w n : PageOwner) (st st' : Stage) (lv : ℕ) (low : Key) → w ≡ Placed st lv low → n ≡ Placed st' lv low → rank st ≤ rank st' → Forward w n
     staged w n st st' lv low e f le r l s h =
@@ -92,8 +76,7 @@ kept_change a o o' m m' c = record {
     frozen w n u v x l s d (page_stage st st' lv low e f le j) r i lx ch rm = inl (j ∙ i)
     frozen w n u v x l s d (page_link st st' lv low e f le x' y d' j k nr z q) r i lx ch rm =
         absurd (let t : x' ≡ x = same_Some x' x (sym j ∙ i) in
-        let same : d' ≡ d = chain_unique m.rows d' d (Some x) (subst (λ (b : ℕ). IsChain m.rows d' (Some b)) t k) ch in
-        let h : true ≡ false = sym rm ∙ ap is_removed (sym same) ∙ nr in cc)
+        let h : true ≡ false = sym rm ∙ ap is_removed (sym (chain_unique m.rows d' d (Some x) (subst (λ (b : ℕ). IsChain m.rows d' (Some b)) t k) ch)) ∙ nr in cc)
     frozen w n u v x l s d (page_clear lv low e f j g) r i lx ch rm = inl (j ∙ i)
     frozen w n u v x l s d (page_gone lv low e f j) r i lx ch rm = inr (j, (a, lv, low, f))
 
@@ -177,9 +160,8 @@ knows_more o m seen learnt roots heads before linked point logs l k =
     record { seen_fits = k.seen_fits; learnt_fits = k.learnt_fits; roots_fit = k.roots_fit; heads_fit = λ p. go p (heads p) (k.heads_fit p); orders_fit = λ p f. order p f (heads p) (before p f) (k.orders_fit p f); linked_fits = k.linked_fits }
   where
     order : (p f : ℕ) (y x : Option ℕ) → OrderFits o m logs p f y x → OrderFits o m (l ∷ logs) p f y x
-    order p f None x h = tt
-    order p f (Some y) None h = tt
     order p f (Some y) (Some x) h = record { above = h.above; below = h.below; chain = h.chain; is_chain = h.is_chain; placed = h.placed; uncleared = h.uncleared; merged = h.merged; beyond = h.beyond; spelled = λ c d ic id rc nd z r. let s = h.spelled c d ic id rc nd z r in (s.0, inr s.1, s.2) }
+    order p f y x h = tt
 
     go : (p : ℕ) (x : Option ℕ) → HeadFits o m logs p x → HeadFits o m (l ∷ logs) p x
     go p None h = tt

@@ -1,16 +1,8 @@
 -- What stays of what actors know: linked rows stay, and pages go forward.
-use Rattle.std.proofs.Common.{◌≡◌, ◌⊎◌, inl, inr, ⊎_elim, ℕ, suc, ◌<◌, ◌≤◌, List, [], ◌∷◌, Option, Some, None, Bool, true, false, refl, sym, ◌∙◌, subst, arith}
-use Rattle.std.specs.Prelude.{IfSome, IsSome}
-use Rattle.std.proofs.lemmas.Option.{same_Some}
-use Rattle.bw_model.specs.Log.{Update}
-use Rattle.deltas.specs.declared.record.Record.{Record}
-use Rattle.deltas.specs.Records.{next_row}
-use Rattle.chain_search.specs.Chains.{level_in, low_in, is_removed}
-use Rattle.tree_law.specs.Keys.{Key, Covers}
-use Rattle.chain_search.specs.Knowledge.{OwnRow, Foreign, Taken, Written, OwnPage, Other, Empty, Ready, Gone}
-use Rattle.tree_law.specs.Phase.{Stage, Fresh, Indexed, Held, Removed, Merged, PageOwner, Nobody, Keeps, Placed, Cleared, rank, child_of, rank_of}
-use Rattle.tree_law.specs.Shared.{Shared}
-use Rattle.tree_law.specs.Owners.{IsChain, Spare, Linked, Owners, Reached, Forward, ChainNames, IsClosed, OwnFits, Owns, PageFits, OwnsPages, SeenFits, SpellsLog, IsCleared, HeadFits, LinkFits, InOrder, OrderFits, Knows, IsOut}
+use Rattle.tree_law.proofs.Words.{false, ◌⊎◌, [], refl, Option, suc, None, List, true, inl, ◌≤◌, inr, ◌∷◌, subst, sym, ℕ, ◌≡◌, Bool, ◌∙◌, ◌<◌, arith, Some, ⊎_elim, same_Some, IsSome, IfSome, Update}
+use Rattle.tree_law.proofs.Words.{next_row, Record, low_in, is_removed, level_in, Foreign, OwnPage, Taken, Other, Gone, Written, OwnRow, Key, Covers, Linked, Owners, Reached, Spare, IsOut, OwnFits}
+use Rattle.tree_law.proofs.Words.{LinkFits, HeadFits, OrderFits, InOrder, PageFits, IsChain, IsClosed, IsCleared, SpellsLog, Knows, SeenFits, ChainNames, OwnsPages, Forward, Owns, Placed, PageOwner}
+use Rattle.tree_law.proofs.Words.{Cleared, Keeps, Fresh, rank, Stage, rank_of, child_of, Shared}
 use Rattle.tree_law.proofs.shape.Chains.{chain_unique}
 
 -- linked rows stay, and pages go forward
@@ -34,17 +26,13 @@ pub record Spared (a : ℕ) (o o' : Owners) (m m' : Shared) : Type 0 where
 
 -- a page that is so far is in the tree
 pub reached_placed : (r l : ℕ) (s : Key) (w : PageOwner) → Reached r l s w → ((st : Stage) × (w ≡ Placed st l s) × (r ≤ rank st)) ⊎ ((a : ℕ) × (w ≡ Cleared a l s))
-reached_placed r l s Nobody h = absurd h
-reached_placed r l s (Keeps a) h = absurd h
 reached_placed r l s (Placed st l' s') h = inl (st, (let e = h.0 in let f = h.1 in cc), h.2)
 reached_placed r l s (Cleared a l' s') h = inr (a, (let e = h.0 in let f = h.1 in cc))
+reached_placed r l s w h = absurd h
 
 rank_below : (st : Stage) → rank st < 5
 rank_below Fresh = omega arith
-rank_below Indexed = omega arith
-rank_below Held = omega arith
-rank_below Removed = omega arith
-rank_below Merged = omega arith
+rank_below st = omega arith
 
 pub cleared_forward : (w n : PageOwner) → Forward w n → IsCleared w → IsCleared n
 cleared_forward w n f u =
@@ -61,8 +49,7 @@ chain_kept o o' m m' closed kept c None l h = h
 chain_kept o o' m m' closed kept [] (Some x) l h = h
 chain_kept o o' m m' closed kept (w ∷ c) (Some x) l h =
     let k = closed x l in
-    let e : k.content ≡ w = same_Some k.content w (sym k.stands ∙ h.0) in
-    let n = subst (λ (u : Record). IfSome (next_row u) (λ n. o.row n ≡ Linked)) e k.next in
+    let n = subst (λ (u : Record). IfSome (next_row u) (λ n. o.row n ≡ Linked)) (same_Some k.content w (sym k.stands ∙ h.0)) k.next in
     ((kept.row x l).1 ∙ h.0, chain_kept o o' m m' closed kept c (next_row w) n h.1)
 
 -- and back
@@ -77,9 +64,8 @@ spells_kept o o' m m' closed kept x l s =
     record { linked = (kept.row x s.linked).0; chain = s.chain; is_chain = chain_kept o o' m m' closed kept s.chain (Some x) s.linked s.is_chain; same = s.same }
 
 pub link_kept : (o o' : Owners) (m m' : Shared) → IsClosed o m → Kept o o' m m' → (point : Option (List Update)) (x : Option (Option ℕ)) → LinkFits o m point x → LinkFits o' m' point x
-link_kept o o' m m' closed kept point None h = h
-link_kept o o' m m' closed kept point (Some None) h = h
 link_kept o o' m m' closed kept point (Some (Some x)) h = (h.0, h.1, spells_kept o o' m m' closed kept x h.0 h.2)
+link_kept o o' m m' closed kept point x h = h
 
 pub names_kept : (o o' : Owners) → ((p : ℕ) → Forward (o.page p) (o'.page p)) → (c : List Record) → ChainNames o c → ChainNames o' c
 names_kept o o' kept c n = record {
@@ -103,13 +89,12 @@ knows_kept o o' m m' closed kept seen learnt roots heads before linked point log
   where
     still : (p f x y : ℕ) (c d : List Record) → IsChain m.rows c (Some x) → IsChain m.rows d (Some y) → is_removed c ≡ false → is_removed d ≡ false → level_in c ≡ suc (level_in d) → Covers c (low_in d) → m'.slots f ≡ Some x → IsCleared (o'.page p) → HeadFits o m logs p (Some y) → InOrder o m logs p y f x → ⊥
     still p f x y c d ic id nc nd e v s u h i =
-        let same : h.2.chain ≡ d = chain_unique m.rows h.2.chain d (Some y) h.2.is_chain id in
         let above : i.chain ≡ c = chain_unique m.rows i.chain c (Some x) i.is_chain ic in
         let was : m.slots f ≡ Some x = kept.back f x (level_in i.chain) (low_in i.chain) i.placed i.above s in
         ⊎_elim
         (λ (r : (st : Stage) × (o.page p ≡ Placed st (level_in d) (low_in d)) × (0 ≤ rank st)). kept.clears p (level_in d) (low_in d) r.0 r.1 u f x c i.above ic (subst (λ (w : List Record). Reached 0 (level_in w) (low_in w) (o.page f)) above i.placed) nc e v was s)
         (λ (r : (a : ℕ) × (o.page p ≡ Cleared a (level_in d) (low_in d))). i.uncleared c d ic id nc nd e v was (r.0, level_in d, low_in d, r.1))
-        (reached_placed 0 (level_in d) (low_in d) (o.page p) (subst (λ (w : List Record). Reached 0 (level_in w) (low_in w) (o.page p)) same h.3))
+        (reached_placed 0 (level_in d) (low_in d) (o.page p) (subst (λ (w : List Record). Reached 0 (level_in w) (low_in w) (o.page p)) (chain_unique m.rows h.2.chain d (Some y) h.2.is_chain id) h.3))
 
     seen_at : (r : ℕ) (w : Option Record) → SeenFits (o.row r) (m.rows r) w → SeenFits (o'.row r) (m'.rows r) w
     seen_at r None h = tt
@@ -127,8 +112,6 @@ knows_kept o o' m m' closed kept seen learnt roots heads before linked point log
     )
 
     order_at : (p f : ℕ) (y x : Option ℕ) → HeadFits o m logs p y → OrderFits o m logs p f y x → OrderFits o' m' logs p f y x
-    order_at p f None x h i = tt
-    order_at p f (Some y) None h i = tt
     order_at p f (Some y) (Some x) h i = record {
       above = (kept.row x i.above).0;
       below = (kept.row y i.below).0;
@@ -136,28 +119,24 @@ knows_kept o o' m m' closed kept seen learnt roots heads before linked point log
       is_chain = chain_kept o o' m m' closed kept i.chain (Some x) i.above i.is_chain;
       placed = kept.page f 0 (level_in i.chain) (low_in i.chain) i.placed;
       uncleared = λ c d ic id nc nd e v s u.
-          let ic' = chain_back o o' m m' closed kept c x i.above ic in
-          let id' = chain_back o o' m m' closed kept d y i.below id in
-          still p f x y c d ic' id' nc nd e v s u h i;
+          still p f x y c d (chain_back o o' m m' closed kept c x i.above ic) (chain_back o o' m m' closed kept d y i.below id) nc nd e v s u h i;
       spelled = λ c d ic id. i.spelled c d (chain_back o o' m m' closed kept c x i.above ic) (chain_back o o' m m' closed kept d y i.below id);
       beyond = λ c d ic id rc nd e. names_kept o o' kept.page c (i.beyond c d (chain_back o o' m m' closed kept c x i.above ic) (chain_back o o' m m' closed kept d y i.below id) rc nd e);
       merged = λ c d s q ic id nc nd e v t lo hi ne. kept.page q 4 (level_in d) s (i.merged c d s q (chain_back o o' m m' closed kept c x i.above ic) (chain_back o o' m m' closed kept d y i.below id) nc nd e v t lo hi ne);
     }
+    order_at p f y x h i = tt
 
 -- what an actor has to itself stays so
 pub owns_spared : (a : ℕ) (o o' : Owners) (m m' : Shared) → Spared a o o' m m' → (own : ℕ → OwnRow) → Owns a o m own → Owns a o' m' own
-owns_spared a o o' m m' kept own h r = at (own r) (h r)
-  where
-    at : (v : OwnRow) → OwnFits a (o.row r) (m.rows r) v → OwnFits a (o'.row r) (m'.rows r) v
-    at Foreign f = tt
-    at Taken f = (kept.row r f).0
-    at (Written v) f = ((kept.row r f.0).0, (kept.row r f.0).1 ∙ f.1)
+owns_spared a o o' m m' kept own h r = (elim (own r) as (λ v. OwnFits a (o.row r) (m.rows r) v → OwnFits a (o'.row r) (m'.rows r) v) [
+  | Foreign ↦ λ f. tt
+  | Taken ↦ λ f. (kept.row r f).0
+  | Written v ↦ λ f. ((kept.row r f.0).0, (kept.row r f.0).1 ∙ f.1)
+]) (h r)
 
 pub pages_spared : (a : ℕ) (o o' : Owners) (m m' : Shared) → Spared a o o' m m' → (pages : ℕ → OwnPage) → OwnsPages a o m pages → OwnsPages a o' m' pages
-pages_spared a o o' m m' kept pages h p = at (pages p) (h p)
-  where
-    at : (v : OwnPage) → PageFits a (o.page p) (m.slots p) v → PageFits a (o'.page p) (m'.slots p) v
-    at Other f = tt
-    at Empty f = ((kept.page p f.0).0, (kept.page p f.0).1 ∙ f.1)
-    at (Ready r) f = ((kept.page p f.0).0, (kept.page p f.0).1 ∙ f.1)
-    at Gone f = let g = kept.gone p f.0 f.1 f.2 in (f.0, f.1, g.0, subst IsSome (sym g.1) f.3)
+pages_spared a o o' m m' kept pages h p = (elim (pages p) as (λ v. PageFits a (o.page p) (m.slots p) v → PageFits a (o'.page p) (m'.slots p) v) [
+  | Other ↦ λ f. tt
+  | Gone ↦ λ f. let g = kept.gone p f.0 f.1 f.2 in (f.0, f.1, g.0, subst IsSome (sym g.1) f.3)
+  | v ↦ λ f. ((kept.page p f.0).0, (kept.page p f.0).1 ∙ f.1)
+]) (h p)

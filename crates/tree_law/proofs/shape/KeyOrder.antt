@@ -1,23 +1,14 @@
 -- The order of keys is total, and the empty key is lowest.
-use Rattle.std.proofs.Common.{◌≡◌, ◌≢◌, List, [], ◌∷◌, Option, Some, None, Bool, true, false, cond, refl, sym, ap, ◌∙◌, subst}
-use Rattle.std.specs.Prelude.{IsTrue, not, ◌&&◌}
-use Rattle.std.specs.declared.cmp.Ordering.{Ordering}
+use Rattle.tree_law.proofs.Words.{false, [], ap, refl, cond, Option, None, List, true, inl, ◌≢◌, inr, ◌∷◌, subst, sym, ◌≡◌, Bool, ◌∙◌, Some, is_eq, IsTrue, ◌&&◌, not, key_cmp, is_under, is_in_range}
+use Rattle.tree_law.proofs.Words.{is_below, Record, low_in, high_in, covers, Key, IsBelow, IsUpTo, Covers, IsUnder, put_key}
 use Rattle.std.specs.declared.cmp.Ordering.TheVariants.{Less, Equal, Greater}
-use Rattle.std.specs.Ordering.{is_eq, is_lt, ordering_reverse}
+use Rattle.std.specs.Ordering.{is_lt, ordering_reverse}
 use Rattle.std.proofs.lemmas.Cmp.{nat_list_cmp_total, tied_itself}
 use Rattle.std.proofs.lemmas.Map.Lookups.{exact_bytes}
-use Rattle.bw_model.specs.Bytes.{key_cmp, is_below, is_under, is_in_range}
-use Rattle.deltas.specs.declared.record.Record.{Record}
-use Rattle.chain_search.specs.Chains.{low_in, high_in, covers}
-use Rattle.tree_law.specs.Keys.{Key, IsBelow, IsUpTo, IsUnder, Covers, put_key}
+use Rattle.tree_law.proofs.shape.Puts.{decided}
 
 cmp_less : (a b : Key) → IsBelow a b → key_cmp a b ≡ Less
-cmp_less a b h = go (key_cmp a b) h
-  where
-    go : (o : Ordering) → is_lt o ≡ true → o ≡ Less
-    go Less e = refl
-    go Equal e = cc
-    go Greater e = cc
+cmp_less a b h = (elim (key_cmp a b) as (λ o. is_lt o ≡ true → o ≡ Less) [ Less ↦ λ e. refl | o ↦ λ e. cc ]) h
 
 less_below : (a b : Key) → key_cmp a b ≡ Less → IsBelow a b
 less_below a b h = ap is_lt h
@@ -43,12 +34,11 @@ not_self a h = not_below a a h (upto_refl a)
 
 -- at or below is below or the same
 upto_cases : (a b : Key) (P : Type 0) → IsUpTo a b → (IsBelow a b → P) → (a ≡ b → P) → P
-upto_cases a b P h below same = go (key_cmp a b) refl
-  where
-    go : (o : Ordering) → key_cmp a b ≡ o → P
-    go Less e = below (less_below a b e)
-    go Equal e = same (exact_bytes a b e)
-    go Greater e = absurd (let i : key_cmp b a ≡ Less = nat_list_cmp_total.antisymm b a ∙ ap ordering_reverse e in not_below b a (less_below b a i) h)
+upto_cases a b P h below same = (elim (key_cmp a b) as (λ o. key_cmp a b ≡ o → P) [
+  | Less ↦ λ e. below (less_below a b e)
+  | Equal ↦ λ e. same (exact_bytes a b e)
+  | Greater ↦ λ e. absurd (let i : key_cmp b a ≡ Less = nat_list_cmp_total.antisymm b a ∙ ap ordering_reverse e in not_below b a (less_below b a i) h)
+]) refl
 
 pub below_upto : (a b c : Key) → IsBelow a b → IsUpTo b c → IsBelow a c
 below_upto a b c h k = upto_cases b c (IsBelow a c) k (λ i. below_trans a b c h i) (λ e. subst (λ (n : Key). IsBelow a n) e h)
@@ -72,19 +62,14 @@ under_trans k s (Some x) h i = below_trans k s x h i
 
 -- tests on keys, by cases
 pub by_key : (j i : Key) (P : Bool → Type 0) → (j ≡ i → P true) → (j ≢ i → P false) → P (is_eq (key_cmp j i))
-by_key j i P same other = go (key_cmp j i) refl
-  where
-    go : (o : Ordering) → key_cmp j i ≡ o → P (is_eq o)
-    go Less e = other (λ s. not_self i (subst (λ (n : Key). IsBelow n i) s (less_below j i e)))
-    go Equal e = same (exact_bytes j i e)
-    go Greater e = other (λ s. let i2 : key_cmp i j ≡ Less = nat_list_cmp_total.antisymm i j ∙ ap ordering_reverse e in not_self i (subst (λ (n : Key). IsBelow i n) s (less_below i j i2)))
+by_key j i P same other = (elim (key_cmp j i) as (λ o. key_cmp j i ≡ o → P (is_eq o)) [
+  | Less ↦ λ e. other (λ s. not_self i (subst (λ (n : Key). IsBelow n i) s (less_below j i e)))
+  | Equal ↦ λ e. same (exact_bytes j i e)
+  | Greater ↦ λ e. other (λ s. let i2 : key_cmp i j ≡ Less = nat_list_cmp_total.antisymm i j ∙ ap ordering_reverse e in not_self i (subst (λ (n : Key). IsBelow i n) s (less_below i j i2)))
+]) refl
 
 pub by_below : (j i : Key) (P : Bool → Type 0) → (IsBelow j i → P true) → (IsUpTo i j → P false) → P (is_below j i)
-by_below j i P below other = go (is_below j i) refl
-  where
-    go : (t : Bool) → is_below j i ≡ t → P t
-    go true e = below e
-    go false e = other e
+by_below j i P below other = elim (decided (is_below j i)) [ inl e ↦ rw e (below e) | inr e ↦ rw e (other e) ]
 
 -- of a key under the bound of a range, whether it is in the range
 pub by_range : (low k : Key) (high : Option Key) → IsUnder k high → (P : Bool → Type 0) → (IsUpTo low k → P true) → (IsBelow k low → P false) → P (is_in_range low high k)

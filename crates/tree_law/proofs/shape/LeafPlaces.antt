@@ -1,27 +1,8 @@
 -- A page in its place on the lowest level is a leaf, and no other leaf has its keys; and what such a leaf has, the log has.
-use Rattle.std.proofs.Common.{◌≡◌, inl, inr, ℕ, zero, suc, List, [], ◌∷◌, map, Option, Some, None, refl, ap, ◌∙◌, subst, arith}
-use Rattle.std.specs.Prelude.{IsTrue}
-use Rattle.std.specs.Option.{option_map}
-use Rattle.std.specs.List.{Contains}
-use Rattle.bw_model.specs.Bytes.{is_in_range}
-use Rattle.bw_model.specs.Log.{Update}
-use Rattle.bw_model.specs.Pairs.{ArePairsOf}
-use Rattle.base_page.specs.declared.item.Content.{Content}
-use Rattle.base_page.specs.declared.item.Content.TheVariants.{Value, Child}
-use Rattle.deltas.specs.declared.record.Record.{Record}
-use Rattle.deltas.specs.Memory.{Memory}
-use Rattle.chain_search.specs.Chains.{content_in, low_in, high_in, right_in, covers}
-use Rattle.chain_search.specs.Discipline.{value_of, found}
-use Rattle.chain_search.specs.Knowledge.{Knowledge}
-use Rattle.chain_search.specs.SideChain.{LivePage}
+use Rattle.tree_law.proofs.Words.{[], ap, refl, Option, suc, None, List, inl, inr, ◌∷◌, subst, ℕ, ◌≡◌, zero, ◌∙◌, arith, Some, map, Contains, option_map, IsTrue, is_in_range, Update, ArePairsOf}
+use Rattle.tree_law.proofs.Words.{ContentOf, Value, Memory, Record, content_in, right_in, low_in, high_in, covers, found, value_of, Knowledge, LivePage, HasMapOf, Key, Owners, leaf_map, Placed}
+use Rattle.tree_law.proofs.Words.{shared, IsLeafWith, IsTree, HasSidePage, SidePage, InPlace, IsPart}
 use Rattle.op_machine.specs.Answered.{IsCursorPage}
-use Rattle.op_machine.specs.Quiet.{HasMapOf}
-use Rattle.tree_law.specs.Keys.{Key}
-use Rattle.tree_law.specs.Owners.{Owners, leaf_map}
-use Rattle.tree_law.specs.Phase.{Placed}
-use Rattle.tree_law.specs.Shared.{shared}
-use Rattle.tree_law.specs.Stood.{IsLeafWith}
-use Rattle.tree_law.specs.Tree.{SidePage, InPlace, IsPart, HasSidePage, IsTree}
 use Rattle.tree_law.proofs.shape.Exactness.{is_indexed}
 use Rattle.tree_law.proofs.shape.KeyOrder.{both, covers_from, covers_to, upto_trans}
 use Rattle.tree_law.proofs.shape.Mapping.{live, leaves, is_leaves, map_of}
@@ -49,16 +30,12 @@ module _ (memory : Memory) {log : List Update} {o : Owners} {knows : ℕ → Kno
       there : (f : SidePage) × (f.page ≡ page) × Contains (map live (leaves memory g).side) (live f) × Here f
       there = listed (leaves memory g).side (Some 1) (Some []) (leaves memory g).whole page ((leaves memory g).listed page (low_in chain) place.stage place.placed place.on)
 
-      one : there.0.chain ≡ chain
-      one = one_chain o (shared memory) 0 (leaf_map log) (leaf_map log) (record { page = page; row = row; chain = chain }) there.0 place there.3 there.1
-
       same : live there.0 ≡ record { pid = page; chain = chain }
-      same = λ i. record { pid = there.1 i; chain = one i }
+      same = λ i. record { pid = there.1 i; chain = (one_chain o (shared memory) 0 (leaf_map log) (leaf_map log) (record { page = page; row = row; chain = chain }) there.0 place there.3 there.1) i }
 
-valued : (content : Option Content) (value : Key) → value_of content ≡ Some value → content ≡ Some (Value value)
-valued None value e = absurd (cc)
+valued : (content : Option ContentOf) (value : Key) → value_of content ≡ Some value → content ≡ Some (Value value)
 valued (Some (Value v)) value e = ap (λ (w : Key). Some (Value w)) (let f : v ≡ value = cc in f)
-valued (Some (Child child is_held)) value e = absurd (cc)
+valued content value e = absurd (cc)
 
 -- the pairs of such a leaf from one of its keys on are those of the log
 pub shows : (memory : Memory) (log : List Update) → HasMapOf memory log → (page : LivePage) → IsLeafWith memory page → (from : Key) → IsTrue (covers page.chain from) → (pairs : List (Key × Key)) → ArePairsOf (found page.chain) from (high_in page.chain) pairs

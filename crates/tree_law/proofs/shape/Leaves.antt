@@ -1,35 +1,17 @@
 -- The leaves of a state stand, and are fewer than there are slots.
-use Rattle.std.proofs.Common.{◌≡◌, ◌≢◌, ◌<◌, ◌≤◌, inl, inr, ℕ, List, [], ◌∷◌, length, map, Option, Some, None, true, false, sym, ap, ◌∙◌, subst, ⊎_elim, arith}
-use Rattle.std.specs.Prelude.{⊤}
+use Rattle.tree_law.proofs.Words.{false, [], ap, Option, None, List, true, inl, ◌≢◌, length, ◌≤◌, inr, ◌∷◌, subst, sym, ℕ, ◌≡◌, ◌∙◌, ◌<◌, arith, Some, map, ⊎_elim, cases_lt, nat_tests, All-weaker}
+use Rattle.tree_law.proofs.Words.{All-from_recursion, All, ⊤, Update, Limits, ContentOf, Memory, right_in, low_in, high_in, LivePage, memory_of, turn_of, Entry, IsLinearized, log_of, HasMapOf, Key}
+use Rattle.tree_law.proofs.Words.{Owners, leaf_map, Placed, Fresh, Stage, shared, Shared, IsState, phase_of, SidePage, InPlace, IsPart}
 use Rattle.std.proofs.Math.Dec.{eqb}
-use Rattle.std.specs.List.{All, AllByRecursion, AllPairs, list_any}
-use Rattle.std.proofs.lemmas.Bool.Decides.{nat_tests, Decides-eqb}
-use Rattle.std.proofs.lemmas.Bool.{cases_lt}
+use Rattle.std.specs.List.{AllByRecursion, AllPairs, list_any}
+use Rattle.std.proofs.lemmas.Bool.Decides.{Decides-eqb}
 use Rattle.std.proofs.lemmas.List.{length-map, take_all}
-use Rattle.std.proofs.lemmas.List.Elements.{All-from_recursion, All-weaker}
 use Rattle.std.proofs.lemmas.List.Folds.{list_any_none}
 use Rattle.std.proofs.lemmas.List.Kept.{AllPairs-cons}
 use Rattle.std.proofs.lemmas.Map.Made.{IsDistinct-from_AllPairs}
 use Rattle.std.proofs.lemmas.Map.Steps.{length-le_from_distinct_below}
-use Rattle.bw_model.specs.declared.limits.Limits.{Limits}
-use Rattle.bw_model.specs.Log.{Update}
-use Rattle.base_page.specs.declared.item.Content.{Content}
-use Rattle.deltas.specs.Memory.{Memory}
-use Rattle.chain_search.specs.Chains.{low_in, high_in, right_in}
-use Rattle.chain_search.specs.SideChain.{LivePage}
-use Rattle.chain_search.specs.Trace.{memory_of, turn_of}
-use Rattle.chain_search.specs.declared.trace.Entry.{Entry}
-use Rattle.op_machine.specs.Linearized.{IsLinearized}
 use Rattle.op_machine.specs.Phases as phase
-use Rattle.op_machine.specs.Points.{log_of}
-use Rattle.op_machine.specs.Quiet.{HasMapOf}
-use Rattle.tree_law.specs.Keys.{Key}
 use Rattle.tree_law.specs.Leaves.{IsLeafPage, HasLeafPages}
-use Rattle.tree_law.specs.Owners.{Owners, leaf_map}
-use Rattle.tree_law.specs.Phase.{Stage, Fresh, Indexed, Held, Removed, Merged, Placed}
-use Rattle.tree_law.specs.Shared.{Shared, shared}
-use Rattle.tree_law.specs.State.{phase_of, IsState}
-use Rattle.tree_law.specs.Tree.{SidePage, InPlace, IsPart}
 use Rattle.tree_law.proofs.shape.Mapping.{live, chain_of, leaves, is_leaves, whole_from}
 use Rattle.tree_law.proofs.shape.Sides.{AllPages, StartsFrom, all_in, all_pages, begins_after, beside_after}
 
@@ -69,7 +51,7 @@ fewer n xs some apart above below =
     omega arith
 
 -- no page stands twice in a part of a side chain
-apart_in : (o : Owners) (m : Shared) (lv : ℕ) (mp : Key → Option Content) (gs : List SidePage) (p : Option ℕ) (low : Option Key) (q : Option ℕ) (high : Option Key) → IsPart o m lv mp gs p low q high → AreApart (pids gs)
+apart_in : (o : Owners) (m : Shared) (lv : ℕ) (mp : Key → Option ContentOf) (gs : List SidePage) (p : Option ℕ) (low : Option Key) (q : Option ℕ) (high : Option Key) → IsPart o m lv mp gs p low q high → AreApart (pids gs)
 apart_in o m lv mp [] p low q high h = λ i j d lt below. absurd (omega (arith, lt, below))
 apart_in o m lv mp (g ∷ gs) p low q high h = apart_after g.page (pids gs)
     (of_pids (λ n. g.page ≢ n) gs (all_in o m lv mp (λ f. StartsFrom (high_in g.chain) (low_in f.chain)) (λ f. g.page ≢ f.page)
@@ -80,10 +62,7 @@ apart_in o m lv mp (g ∷ gs) p low q high h = apart_after g.page (pids gs)
 -- a page in the tree is not free
 not_free : (st : Stage) (l : ℕ) (s : Key) → phase_of (Placed st l s) ≡ phase.free → ⊥
 not_free Fresh l s e = absurd (cc)
-not_free Indexed l s e = absurd (cc)
-not_free Held l s e = absurd (cc)
-not_free Removed l s e = absurd (cc)
-not_free Merged l s e = absurd (cc)
+not_free st l s e = absurd (cc)
 
 module _ (limits : Limits) (entries : List Entry) (state : IsState limits entries) where
   abbrev m : Memory

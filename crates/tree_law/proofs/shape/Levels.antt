@@ -1,68 +1,21 @@
 -- The index is exact at each moment of a trace: that of the moment after all entries is the invariant's.
-use Rattle.std.proofs.Common.{◌≡◌, ◌≤◌, inl, inr, ℕ, suc, List, [], ◌∷◌, ◌++◌, length, Option, Bool, true, false, refl, sym, ap, ◌∙◌, subst, arith}
-use Rattle.std.proofs.lemmas.Bool.{cases_lt}
-use Rattle.bw_model.specs.declared.limits.Limits.{Limits}
-use Rattle.bw_model.specs.Log.{Update}
-use Rattle.deltas.specs.Memory.{Memory}
-use Rattle.chain_search.specs.declared.trace.Entry.{Entry}
-use Rattle.chain_search.specs.Chains.{IsChainOf, level_in}
-use Rattle.chain_search.specs.SideChain.{IsSideChainFrom}
-use Rattle.chain_search.specs.Trace.{memory_of, memory_at}
-use Rattle.chain_search.proofs.ChainLaws.{IsChainOf-unique}
-use Rattle.op_machine.specs.Index.{IsRootLevel, IsLeftmost, HasPhaseOfTerm, Indexes}
-use Rattle.op_machine.specs.Phases.{Phase, indexed, held, removed, merged, IsInPhase}
-use Rattle.tree_law.specs.Indexed.{HasMark, IsFirst, IsIndexed, IsIndexedAlong}
-use Rattle.chain_search.specs.Knowledge.{Knowledge}
-use Rattle.tree_law.specs.Owners.{Owners}
-use Rattle.tree_law.specs.Phase.{Stage, Fresh, Indexed, Held, Removed, Merged, PageOwner, Nobody, Keeps, Placed, Cleared}
-use Rattle.tree_law.specs.Shared.{shared}
-use Rattle.tree_law.specs.State.{phase_of}
-use Rattle.tree_law.specs.Tree.{IsTree}
+use Rattle.tree_law.proofs.Words.{false, [], ap, refl, Option, suc, List, true, inl, length, ◌++◌, ◌≤◌, inr, ◌∷◌, subst, sym, ℕ, ◌≡◌, Bool, ◌∙◌, arith, Some, cases_lt, Update, Limits, Child, Memory}
+use Rattle.tree_law.proofs.Words.{IsChainOf-unique, IsChainOf, level_in, Knowledge, IsSideChainFrom, memory_at, memory_of, Entry, IsLeftmost, IsRootLevel, Indexes, HasPhaseOfTerm, indexed, IsInPhase}
+use Rattle.tree_law.proofs.Words.{Phase, held, removed, merged, IsFirst, HasMark, IsIndexed, Owners, Placed, Indexed, PageOwner, Fresh, Removed, Held, Merged, Stage, mark, shared, phase_of, IsTree}
+use Rattle.tree_law.specs.Indexed.{IsIndexedAlong}
 use Rattle.tree_law.proofs.shape.Exactness.{is_indexed, below_top, root_indexed}
 use Rattle.tree_law.proofs.trace.Marks.{take_whole}
 use Rattle.tree_law.proofs.shape.Moments.{same_memory, leftmost_later, indexes_kept}
 use Rattle.tree_law.proofs.trace.Owned.{pushed_length}
 
 -- the mark of a page in a phase
-of_indexed : (w : PageOwner) (child : ℕ) → indexed ≡ phase_of w → HasMark w child false
-of_indexed Nobody child e = absurd (let f = e in cc)
-of_indexed (Keeps a) child e = absurd (let f = e in cc)
-of_indexed (Placed Fresh l s) child e = absurd (let f = e in cc)
-of_indexed (Placed Indexed l s) child e = (Indexed, l, s, refl, refl)
-of_indexed (Placed Held l s) child e = absurd (let f = e in cc)
-of_indexed (Placed Removed l s) child e = absurd (let f = e in cc)
-of_indexed (Placed Merged l s) child e = absurd (let f = e in cc)
-of_indexed (Cleared a l s) child e = absurd (let f = e in cc)
-
-of_held : (w : PageOwner) (child : ℕ) → held ≡ phase_of w → HasMark w child true
-of_held Nobody child e = absurd (let f = e in cc)
-of_held (Keeps a) child e = absurd (let f = e in cc)
-of_held (Placed Fresh l s) child e = absurd (let f = e in cc)
-of_held (Placed Indexed l s) child e = absurd (let f = e in cc)
-of_held (Placed Held l s) child e = (Held, l, s, refl, refl)
-of_held (Placed Removed l s) child e = absurd (let f = e in cc)
-of_held (Placed Merged l s) child e = absurd (let f = e in cc)
-of_held (Cleared a l s) child e = absurd (let f = e in cc)
-
-of_removed : (w : PageOwner) (child : ℕ) → removed ≡ phase_of w → HasMark w child true
-of_removed Nobody child e = absurd (let f = e in cc)
-of_removed (Keeps a) child e = absurd (let f = e in cc)
-of_removed (Placed Fresh l s) child e = absurd (let f = e in cc)
-of_removed (Placed Indexed l s) child e = absurd (let f = e in cc)
-of_removed (Placed Held l s) child e = absurd (let f = e in cc)
-of_removed (Placed Removed l s) child e = (Removed, l, s, refl, refl)
-of_removed (Placed Merged l s) child e = absurd (let f = e in cc)
-of_removed (Cleared a l s) child e = absurd (let f = e in cc)
-
-of_merged : (w : PageOwner) (child : ℕ) → merged ≡ phase_of w → HasMark w child true
-of_merged Nobody child e = absurd (let f = e in cc)
-of_merged (Keeps a) child e = absurd (let f = e in cc)
-of_merged (Placed Fresh l s) child e = absurd (let f = e in cc)
-of_merged (Placed Indexed l s) child e = absurd (let f = e in cc)
-of_merged (Placed Held l s) child e = absurd (let f = e in cc)
-of_merged (Placed Removed l s) child e = absurd (let f = e in cc)
-of_merged (Placed Merged l s) child e = (Merged, l, s, refl, refl)
-of_merged (Cleared a l s) child e = absurd (let f = e in cc)
+of_stage : (st : Stage) (w : PageOwner) (child : ℕ) (is_held : Bool) → phase_of (Placed st 0 []) ≡ phase_of w → mark st child ≡ Some (Child child is_held) → HasMark w child is_held
+of_stage Fresh (Placed Fresh l s) child is_held e k = (Fresh, l, s, refl, k)
+of_stage Indexed (Placed Indexed l s) child is_held e k = (Indexed, l, s, refl, k)
+of_stage Held (Placed Held l s) child is_held e k = (Held, l, s, refl, k)
+of_stage Removed (Placed Removed l s) child is_held e k = (Removed, l, s, refl, k)
+of_stage Merged (Placed Merged l s) child is_held e k = (Merged, l, s, refl, k)
+of_stage st w child is_held e k = absurd (let f = e in cc)
 
 -- the moment after all entries
 module _ (limits : Limits) (entries : List Entry) {log : List Update} {o : Owners} {knows : ℕ → Knowledge} {point : ℕ → Option (List Update)} {logs : ℕ → List (List Update)} (g : IsTree (shared (memory_of limits entries)) log o knows point logs) where
@@ -89,22 +42,17 @@ module _ (limits : Limits) (entries : List Entry) {log : List Update} {o : Owner
     in_phase_by child l s st e = subst (λ w. IsInPhase limits entries (length entries) child (phase_of w)) e (in_phase child)
 
     to_phase : (child : ℕ) (is_held : Bool) → HasMark (o.page child) child is_held → HasPhaseOfTerm limits entries (length entries) child is_held
-    to_phase child false (Fresh, l, s, e, k) = absurd (let f = k in cc)
     to_phase child false (Indexed, l, s, e, k) = in_phase_by child l s Indexed e
-    to_phase child false (Held, l, s, e, k) = absurd (let f = k in cc)
-    to_phase child false (Removed, l, s, e, k) = absurd (let f = k in cc)
-    to_phase child false (Merged, l, s, e, k) = absurd (let f = k in cc)
-    to_phase child true (Fresh, l, s, e, k) = absurd (let f = k in cc)
-    to_phase child true (Indexed, l, s, e, k) = absurd (let f = k in cc)
     to_phase child true (Held, l, s, e, k) = inl (in_phase_by child l s Held e)
     to_phase child true (Removed, l, s, e, k) = inr (inl (in_phase_by child l s Removed e))
     to_phase child true (Merged, l, s, e, k) = inr (inr (in_phase_by child l s Merged e))
+    to_phase child is_held (st, l, s, e, k) = absurd (let f = k in cc)
 
     to_mark : (child : ℕ) (is_held : Bool) → HasPhaseOfTerm limits entries (length entries) child is_held → HasMark (o.page child) child is_held
-    to_mark child false h = of_indexed (o.page child) child (only_phase child indexed h)
-    to_mark child true (inl h) = of_held (o.page child) child (only_phase child held h)
-    to_mark child true (inr (inl h)) = of_removed (o.page child) child (only_phase child removed h)
-    to_mark child true (inr (inr h)) = of_merged (o.page child) child (only_phase child merged h)
+    to_mark child false h = of_stage Indexed (o.page child) child false (only_phase child indexed h) refl
+    to_mark child true (inl h) = of_stage Held (o.page child) child true (only_phase child held h) refl
+    to_mark child true (inr (inl h)) = of_stage Removed (o.page child) child true (only_phase child removed h) refl
+    to_mark child true (inr (inr h)) = of_stage Merged (o.page child) child true (only_phase child merged h) refl
 
     indexes_now : (leftmost : (l q : ℕ) → IsFirst o l q → IsLeftmost limits entries (length entries) l q) (level : ℕ) (le : suc level ≤ is.top) → Indexes limits entries (length entries) level (is.pages (suc level) le)
     indexes_now leftmost level le = record {
@@ -147,31 +95,30 @@ module _ (limits : Limits) (entries : List Entry) (last : Entry) {log log' : Lis
   is_first l q le h = after.only q l h.0 le h.1 h.2
 
   leftmost_after : (l q : ℕ) → IsFirst o' l q → IsLeftmost limits longer (length longer) l q
-  leftmost_after l q h = elim (cases_lt before.top l) [
-    | inr le ↦
-        let first = before.firsts l le in
-        let same : before.first l ≡ q = is_first l (before.first l) low (stays l (before.first l) first) ∙ sym (is_first l q low h) in
-        let e = long in
-        subst (λ p. IsLeftmost limits longer (length longer) l p) same (leftmost_later limits entries last (length entries) (length longer) l (before.first l) (omega arith) (omega arith) (old.leftmost l (before.first l) first))
-    | inl lt ↦
-        let e = long in
-        let up : after.top ≤ suc before.top = grows in
-        let low' : l ≤ after.top = low in
-        let is : after.top ≡ l = omega arith in
-        let at : (memory_of limits longer).slots 0 ≡ q = after.root ∙ ap after.first is ∙ sym (is_first l q low h) in (
-          length longer,
-          omega arith,
-          subst (λ (x : Memory). x.slots 0 ≡ q) (sym (whole_trace limits longer g')) at,
-          subst (λ (x : Memory). IsRootLevel x l) (sym (whole_trace limits longer g')) (subst (λ k. IsRootLevel (memory_of limits longer) k) is (root_now limits longer g')),
-          λ earlier under root.
-              let f = old.rooted earlier l (omega arith) (root_before earlier l (omega arith) root) in
-              let below : l ≤ before.top = below_top (memory_of limits entries) g f.0 l [] f.1.0 f.1.1 in
+  leftmost_after l q h =
+      let low : l ≤ after.top = below_top (memory_of limits longer) g' q l [] h.0 h.1 in
+      elim (cases_lt before.top l) [
+        | inr le ↦
+            let first = before.firsts l le in
+            let same : before.first l ≡ q = is_first l (before.first l) low (stays l (before.first l) first) ∙ sym (is_first l q low h) in
+            let e = long in
+            subst (λ p. IsLeftmost limits longer (length longer) l p) same (leftmost_later limits entries last (length entries) (length longer) l (before.first l) (omega arith) (omega arith) (old.leftmost l (before.first l) first))
+        | inl lt ↦
+            let e = long in
+            let up : after.top ≤ suc before.top = grows in
+            let low' : l ≤ after.top = low in
+            let is : after.top ≡ l = omega arith in
+            let at : (memory_of limits longer).slots 0 ≡ q = after.root ∙ ap after.first is ∙ sym (is_first l q low h) in (
+              length longer,
               omega arith,
-        )
-  ]
-    where
-      low : l ≤ after.top
-      low = below_top (memory_of limits longer) g' q l [] h.0 h.1
+              subst (λ (x : Memory). x.slots 0 ≡ q) (sym (whole_trace limits longer g')) at,
+              subst (λ (x : Memory). IsRootLevel x l) (sym (whole_trace limits longer g')) (subst (λ k. IsRootLevel (memory_of limits longer) k) is (root_now limits longer g')),
+              λ earlier under root.
+                  let f = old.rooted earlier l (omega arith) (root_before earlier l (omega arith) root) in
+                  let below : l ≤ before.top = below_top (memory_of limits entries) g f.0 l [] f.1.0 f.1.1 in
+                  omega arith,
+            )
+      ]
 
   rooted_after : (k l : ℕ) → k ≤ length longer → IsRootLevel (memory_at limits longer k) l → (q : ℕ) × IsFirst o' l q
   rooted_after k l le h = elim (cases_lt (length entries) k) [
@@ -224,13 +171,11 @@ module _ (limits : Limits) {log : List Update} {o : Owners} {knows : ℕ → Kno
   indexed_first = record {
     leftmost = λ l q h.
         let is : start.top ≡ l = top_zero ∙ sym (flat l q h) in
-        let le : l ≤ start.top = omega arith in
-        let at : (memory_of limits []).slots 0 ≡ q = start.root ∙ ap start.first is ∙ sym (start.only q l h.0 le h.1 h.2) in
+        let at : (memory_of limits []).slots 0 ≡ q = start.root ∙ ap start.first is ∙ sym (start.only q l h.0 (omega arith) h.1 h.2) in
         (0, omega arith, subst (λ (x : Memory). x.slots 0 ≡ q) (sym (whole_trace limits [] g)) at, subst (λ k. IsRootLevel (memory_at limits [] 0) k) is (root_first 0 (omega arith)), λ earlier lt root. absurd (omega arith));
     rooted = λ n l le h.
         let is = top_first n l le h in
-        let low : l ≤ start.top = omega arith in
-        (start.first l, start.firsts l low);
+        (start.first l, start.firsts l (omega arith));
     exact = record {
       rooted = λ n le. (start.top, root_first n le);
       each = λ n level top le root under.

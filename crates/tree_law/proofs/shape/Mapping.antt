@@ -1,26 +1,12 @@
 -- The memory has the map of the log: the leaves are whole, and decide each key as the log does.
-use Rattle.std.proofs.Common.{◌≡◌, ℕ, zero, suc, ◌<◌, List, [], ◌∷◌, map, Option, Some, None, Bool, true, false, refl, sym, ap, ◌∙◌, subst, arith}
-use Rattle.std.specs.Prelude.{MatchOption, IsTrue}
-use Rattle.std.specs.List.{Contains}
-use Rattle.std.proofs.lemmas.Option.{same_Some}
-use Rattle.bw_model.specs.Bytes.{is_under}
-use Rattle.bw_model.specs.Log.{Update, logged_value}
-use Rattle.base_page.specs.declared.item.Content.{Content}
-use Rattle.deltas.specs.declared.record.Record.{Record}
-use Rattle.deltas.specs.Memory.{Memory}
-use Rattle.chain_search.specs.Chains.{IsChainOf, content_in, low_in, high_in, right_in, covers}
-use Rattle.chain_search.specs.SideChain.{LivePage, IsSideChainFrom, IsWholeFrom, IsLeaves, Spells}
+use Rattle.tree_law.proofs.Words.{false, [], ap, refl, Option, suc, None, List, true, ◌∷◌, subst, sym, ℕ, ◌≡◌, Bool, zero, ◌∙◌, ◌<◌, arith, Some, map, same_Some, Contains, MatchOption, IsTrue}
+use Rattle.tree_law.proofs.Words.{is_under, Update, logged_value, ContentOf, Memory, Record, IsChainOf, content_in, right_in, low_in, high_in, covers, value_of, Knowledge, LivePage, IsSideChainFrom}
+use Rattle.tree_law.proofs.Words.{HasMapOf, Key, Covers, IsUnder, Owners, IsChain, leaf_map, shared, slot_in, row_in, IsTree, Level, SidePage, InPlace, IsPart}
+use Rattle.chain_search.specs.SideChain.{IsWholeFrom, IsLeaves, Spells}
 use Rattle.chain_search.proofs.ChainLaws.{IsSideChainFrom-unique}
-use Rattle.op_machine.specs.Quiet.{HasMapOf}
-use Rattle.tree_law.specs.Keys.{Key, IsUnder, Covers}
-use Rattle.chain_search.specs.Knowledge.{Knowledge}
-use Rattle.tree_law.specs.Shared.{row_in, slot_in, shared}
-use Rattle.tree_law.specs.Owners.{IsChain, Owners, leaf_map}
-use Rattle.tree_law.specs.Tree.{SidePage, InPlace, IsPart, Level, IsTree}
 use Rattle.tree_law.proofs.shape.KeyOrder.{empty_lowest, covers_from, covers_to}
 use Rattle.tree_law.proofs.shape.Sides.{StartsFrom}
 use Rattle.tree_law.proofs.links.Updating.{value_of_map}
-use Rattle.chain_search.specs.Discipline.{value_of}
 
 -- a page as all see it
 abbrev pub live : SidePage → LivePage
@@ -29,31 +15,28 @@ live g = record { pid = g.page; chain = g.chain }
 -- a slot that holds a row is that of a page
 pub slot_some : (slots : ℕ → ℕ) (p r : ℕ) → slot_in slots p ≡ Some r → (0 < p) × (slots p ≡ r) × (0 < r)
 slot_some slots zero r e = absurd (cc)
-slot_some slots (suc p) r e = go (slots (suc p)) e
-  where
-    go : (n : ℕ) → row_in n ≡ Some r → (0 < suc p) × (n ≡ r) × (0 < r)
-    go zero f = absurd (cc)
-    go (suc n) f = let same : suc n ≡ r = same_Some (suc n) r f in (omega arith, same, omega arith)
+slot_some slots (suc p) r e = (elim (slots (suc p)) as (λ n. row_in n ≡ Some r → (0 < suc p) × (n ≡ r) × (0 < r)) [
+  | zero ↦ λ f. absurd (cc)
+  | suc n ↦ λ f. let same : suc n ≡ r = same_Some (suc n) r f in (omega arith, same, omega arith)
+]) e
 
 pub chain_at : (memory : Memory) (p x : ℕ) (c : List Record) → slot_in memory.slots p ≡ Some x → IsChain memory.rows c (Some x) → IsChainOf memory p c
 chain_at memory p x c e h = let s = slot_some memory.slots p x e in record { page = s.0; linked = subst (λ (n : ℕ). 0 < n) (sym s.1) s.2; records = rw s.1 h }
 
-module _ (memory : Memory) (o : Owners) (lv : ℕ) (mp : Key → Option Content) where
+module _ (memory : Memory) (o : Owners) (lv : ℕ) (mp : Key → Option ContentOf) where
   pub chain_of : (g : SidePage) → InPlace o (shared memory) lv mp g → IsChainOf memory g.page g.chain
   chain_of g h = chain_at memory g.page g.row g.chain h.is_page.head h.is_page.is_chain
 
   -- the pages are a side chain, and their ranges follow one another
   pub side_from : (gs : List SidePage) (p : Option ℕ) (low : Option Key) → IsPart o (shared memory) lv mp gs p low None None → MatchOption p (map live gs ≡ []) (λ q. IsSideChainFrom memory q (map live gs))
   side_from [] None low h = refl
-  side_from [] (Some p) low h = absurd (let e = h.0 in cc)
-  side_from (g ∷ gs) None low h = absurd (let e = h.0 in cc)
   side_from (g ∷ gs) (Some p) low h = (sym (same_Some p g.page h.0), subst (λ (n : ℕ). IsChainOf memory n g.chain) (sym (same_Some p g.page h.0)) (chain_of g h.2), side_from gs (right_in g.chain) (high_in g.chain) h.3)
+  side_from gs p low h = absurd (let e = h.0 in cc)
 
   pub whole_from : (gs : List SidePage) (p : Option ℕ) (low : Option Key) → IsPart o (shared memory) lv mp gs p low None None → MatchOption low (map live gs ≡ []) (λ k. IsWholeFrom k (map live gs))
   whole_from [] p None h = refl
-  whole_from [] p (Some k) h = absurd (let e = h.1 in cc)
-  whole_from (g ∷ gs) p None h = absurd (let e = h.1 in cc)
   whole_from (g ∷ gs) p (Some k) h = (sym (same_Some k (low_in g.chain) h.1), whole_from gs (right_in g.chain) (high_in g.chain) h.3)
+  whole_from gs p low h = absurd (let e = h.1 in cc)
 
   -- a page among them is in its place
   pub among : (gs : List SidePage) (p : Option ℕ) (low : Option Key) → IsPart o (shared memory) lv mp gs p low None None → (page : LivePage) → Contains (map live gs) page → (g : SidePage) × (live g ≡ page) × InPlace o (shared memory) lv mp g

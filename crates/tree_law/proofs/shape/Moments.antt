@@ -1,16 +1,9 @@
 -- What was so of a moment is so in a longer trace.
-use Rattle.std.proofs.Common.{◌≡◌, ◌≤◌, inl, inr, ℕ, suc, List, [], ◌∷◌, ◌++◌, length, Bool, true, false, sym, subst, arith}
-use Rattle.bw_model.specs.declared.limits.Limits.{Limits}
-use Rattle.deltas.specs.Memory.{Memory}
-use Rattle.chain_search.specs.declared.trace.Entry.{Entry}
-use Rattle.chain_search.specs.Chains.{IsChainOf}
-use Rattle.chain_search.specs.SideChain.{LivePage, IsSideChainFrom}
-use Rattle.chain_search.specs.Trace.{memory_at}
-use Rattle.chain_search.proofs.TraceLaws.{memory_at-push, Happens-kept, Happens-push_cases}
-use Rattle.op_machine.specs.Index.{IsRootLevel, IsLeftmost, IsPageAt, HasPhaseOfTerm, Indexes}
-use Rattle.op_machine.specs.Phases.{Phase, indexed, held, removed, merged, Rests, IsInPhase}
+use Rattle.tree_law.proofs.Words.{false, [], suc, List, true, inl, length, ◌++◌, ◌≤◌, inr, ◌∷◌, subst, sym, ℕ, ◌≡◌, Bool, arith, Limits, Memory, memory_at-push, Happens-kept, Happens-push_cases}
+use Rattle.tree_law.proofs.Words.{IsChainOf, LivePage, IsSideChainFrom, memory_at, Entry, IsLeftmost, IsRootLevel, Indexes, HasPhaseOfTerm, indexed, IsInPhase, Phase, held, removed, merged, Key}
+use Rattle.op_machine.specs.Index.{IsPageAt}
+use Rattle.op_machine.specs.Phases.{Rests}
 use Rattle.op_machine.proofs.PhaseLaws.{IsInPhase-kept}
-use Rattle.tree_law.specs.Keys.{Key}
 
 module _ (limits : Limits) (entries : List Entry) (last : Entry) where
   abbrev longer : List Entry

@@ -1,14 +1,6 @@
 -- The rows of a chain from a linked row are linked.
-use Rattle.std.proofs.Common.{◌≡◌, ◌<◌, ℕ, zero, suc, List, [], ◌∷◌, length, Option, Some, None, sym, ap, ◌∙◌, subst, arith}
-use Rattle.std.specs.Prelude.{IfSome, MatchOption, unwrap_or, slice_index_or}
-use Rattle.std.specs.List.{Contains}
-use Rattle.std.proofs.lemmas.Option.{same_Some}
-use Rattle.deltas.specs.declared.record.Record.{Record}
-use Rattle.deltas.specs.Records.{next_row}
-use Rattle.chain_search.specs.Chains.{IsChainFrom, chain_rows}
-use Rattle.chain_search.proofs.ChainLaws.{IsChainFrom-unique}
-use Rattle.tree_law.specs.Owners.{Linked, Owners, IsClosed}
-use Rattle.tree_law.specs.Shared.{Shared}
+use Rattle.tree_law.proofs.Words.{[], ap, Option, suc, None, List, length, ◌∷◌, subst, sym, ℕ, ◌≡◌, zero, ◌∙◌, ◌<◌, arith, Some, same_Some, Contains, IfSome, MatchOption, unwrap_or, slice_index_or}
+use Rattle.tree_law.proofs.Words.{next_row, Record, IsChainFrom-unique, chain_rows, IsChainFrom, Linked, Owners, IsClosed, Shared}
 
 -- the record of a linked row has a linked row under it
 pub next_linked : (o : Owners) (m : Shared) → IsClosed o m → (x : ℕ) (w : Record) → o.row x ≡ Linked → m.rows x ≡ Some w → IfSome (next_row w) (λ n. o.row n ≡ Linked)
@@ -21,13 +13,11 @@ pub chain_linked : (o : Owners) (m : Shared) → IsClosed o m → (x : ℕ) (c :
 chain_linked o m closed x [] l h row among = absurd h
 chain_linked o m closed x (w ∷ c) l h row (zero, lt, e) = subst (λ r. o.row r ≡ Linked) e l
 chain_linked o m closed x (w ∷ c) l h row (suc k, lt, e) =
+    let nothing_under : c ≡ [] → k < length (chain_rows 0 c) → ⊥ = λ empty within. let none_there : length (chain_rows 0 c) ≡ 0 = ap (λ r. length (chain_rows 0 r)) empty in omega arith in
     elim (next_row w) as (λ n. IfSome n (λ n. o.row n ≡ Linked) → MatchOption n (c ≡ []) (λ n. IsChainFrom m.rows n c) → k < length (chain_rows (unwrap_or n 0) c) → slice_index_or (chain_rows (unwrap_or n 0) c) k row ≡ row → o.row row ≡ Linked) [
       | None ↦ λ i empty within at. absurd (nothing_under empty within)
       | Some n ↦ λ i under within at. chain_linked o m closed n c i under row (k, within, at)
     ] (next_linked o m closed x w l h.0) h.1 (omega arith) e
-  where
-    nothing_under : c ≡ [] → k < length (chain_rows 0 c) → ⊥
-    nothing_under empty within = let none_there : length (chain_rows 0 c) ≡ 0 = ap (λ r. length (chain_rows 0 r)) empty in omega arith
 
 -- the chain of a linked row stays where the records of linked rows stay
 pub rows_kept : (o : Owners) (m : Shared) (rows' : ℕ → Option Record) → IsClosed o m → ((r : ℕ) → o.row r ≡ Linked → rows' r ≡ m.rows r) → (x : ℕ) (c : List Record) → o.row x ≡ Linked → IsChainFrom m.rows x c → IsChainFrom rows' x c

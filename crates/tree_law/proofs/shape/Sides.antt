@@ -1,16 +1,8 @@
 -- Parts of the side chain: joining, finding a page, what is outside a page, putting others in its place.
-use Rattle.std.proofs.Common.{◌≡◌, ◌≢◌, ◌⊎◌, inl, inr, ℕ, ◌≤◌, List, [], ◌∷◌, ◌++◌, Option, Some, None, refl, sym, ap, ◌∙◌, subst, ⊎_elim}
-use Rattle.std.specs.Prelude.{⊤}
-use Rattle.std.proofs.lemmas.Option.{same_Some}
-use Rattle.bw_model.specs.Log.{Update}
-use Rattle.base_page.specs.declared.item.Content.{Content}
-use Rattle.deltas.specs.declared.record.Record.{Record}
-use Rattle.chain_search.specs.Chains.{low_in, high_in, right_in, is_removed}
-use Rattle.tree_law.specs.Keys.{Key, IsBelow, IsUpTo, IsUnder, IsWithinEnd, Covers}
-use Rattle.tree_law.specs.Phase.{Stage, Placed, rank, stage_removed}
-use Rattle.tree_law.specs.Shared.{Shared}
-use Rattle.tree_law.specs.Owners.{IsChain, Owners, IsClosed, IsOut}
-use Rattle.tree_law.specs.Tree.{SidePage, InPlace, IsPart, HasSidePage, spec, Level, Exact, IsOff, Off, HasLevels}
+use Rattle.tree_law.proofs.Words.{◌⊎◌, [], ap, refl, Option, None, List, inl, ◌≢◌, ◌++◌, ◌≤◌, inr, ◌∷◌, subst, sym, ℕ, ◌≡◌, ◌∙◌, Some, ⊎_elim, same_Some, ⊤, Update, ContentOf, Record, right_in}
+use Rattle.tree_law.proofs.Words.{low_in, is_removed, high_in, Key, IsBelow, IsUpTo, Covers, IsUnder, Owners, IsOut, IsChain, IsClosed, Placed, rank, Stage, stage_removed, Shared, spec, HasSidePage}
+use Rattle.tree_law.proofs.Words.{Level, IsOff, Off, SidePage, InPlace, IsPart, Exact, HasLevels}
+use Rattle.tree_law.specs.Keys.{IsWithinEnd}
 use Rattle.tree_law.proofs.shape.KeyOrder.{not_below, below_not, below_upto, upto_same, upto_refl, upto_both, upto_trans}
 use Rattle.tree_law.proofs.shape.Puts.{by_test}
 use Rattle.tree_law.proofs.shape.Chains.{chain_unique}
@@ -28,12 +20,12 @@ pub all_map : (P Q : SidePage → Type 0) → ((g : SidePage) → P g → Q g) �
 all_map P Q f [] h = tt
 all_map P Q f (g ∷ gs) h = (f g h.0, all_map P Q f gs h.1)
 
-pub part_join : (o : Owners) (m : Shared) (lv : ℕ) (mp : Key → Option Content) (xs ys : List SidePage) (p : Option ℕ) (low : Option Key) (q : Option ℕ) (high : Option Key) (r : Option ℕ) (top : Option Key) → IsPart o m lv mp xs p low q high → IsPart o m lv mp ys q high r top → IsPart o m lv mp (xs ++ ys) p low r top
+pub part_join : (o : Owners) (m : Shared) (lv : ℕ) (mp : Key → Option ContentOf) (xs ys : List SidePage) (p : Option ℕ) (low : Option Key) (q : Option ℕ) (high : Option Key) (r : Option ℕ) (top : Option Key) → IsPart o m lv mp xs p low q high → IsPart o m lv mp ys q high r top → IsPart o m lv mp (xs ++ ys) p low r top
 part_join o m lv mp [] ys p low q high r top h g = rw (h.0, h.1) g
 part_join o m lv mp (x ∷ xs) ys p low q high r top h g = (h.0, h.1, h.2, part_join o m lv mp xs ys (right_in x.chain) (high_in x.chain) q high r top h.3 g)
 
 -- a page of a part, with what is before and after it
-pub record Located (o : Owners) (m : Shared) (lv : ℕ) (mp : Key → Option Content) (gs : List SidePage) (p : Option ℕ) (low : Option Key) (q : Option ℕ) (high : Option Key) (at : ℕ) : Type 0 where
+pub record Located (o : Owners) (m : Shared) (lv : ℕ) (mp : Key → Option ContentOf) (gs : List SidePage) (p : Option ℕ) (low : Option Key) (q : Option ℕ) (high : Option Key) (at : ℕ) : Type 0 where
   pub before : List SidePage
   pub page : SidePage
   pub after : List SidePage
@@ -43,45 +35,35 @@ pub record Located (o : Owners) (m : Shared) (lv : ℕ) (mp : Key → Option Con
   pub here : InPlace o m lv mp page
   pub rest : IsPart o m lv mp after (right_in page.chain) (high_in page.chain) q high
 
-pub locate : (o : Owners) (m : Shared) (lv : ℕ) (mp : Key → Option Content) (gs : List SidePage) (p : Option ℕ) (low : Option Key) (q : Option ℕ) (high : Option Key) (at : ℕ) → IsPart o m lv mp gs p low q high → HasSidePage at gs → Located o m lv mp gs p low q high at
+pub locate : (o : Owners) (m : Shared) (lv : ℕ) (mp : Key → Option ContentOf) (gs : List SidePage) (p : Option ℕ) (low : Option Key) (q : Option ℕ) (high : Option Key) (at : ℕ) → IsPart o m lv mp gs p low q high → HasSidePage at gs → Located o m lv mp gs p low q high at
 locate o m lv mp [] p low q high at h has = absurd has
 locate o m lv mp (g ∷ gs) p low q high at h (inl e) = record { before = []; page = g; after = gs; is = e; all = refl; first = (h.0, h.1); here = h.2; rest = h.3 }
 locate o m lv mp (g ∷ gs) p low q high at h (inr e) =
     let l = locate o m lv mp gs (right_in g.chain) (high_in g.chain) q high at h.3 e in
     record { before = g ∷ l.before; page = l.page; after = l.after; is = l.is; all = ap (λ xs. g ∷ xs) l.all; first = (h.0, h.1, h.2, l.first); here = l.here; rest = l.rest }
 
--- a bound at or below a key; a bound from which a key is
-abbrev pub EndsBy : Option Key → Key → Type 0
-EndsBy None h = ⊥
-EndsBy (Some x) h = IsUpTo x h
-
+-- a bound from which a key is
 abbrev pub StartsFrom : Option Key → Key → Type 0
 StartsFrom None x = ⊥
 StartsFrom (Some l) x = IsUpTo l x
-
-under_end : (l h : Key) (b : Option Key) → IsUnder l b → EndsBy b h → IsBelow l h
-under_end l h None i u = absurd u
-under_end l h (Some x) i u = below_upto l x h i u
 
 under_start : (l x : Key) (b : Option Key) → IsUnder l b → StartsFrom b x → IsBelow l x
 under_start l x None i u = absurd u
 under_start l x (Some y) i u = below_upto l y x i u
 
-ends_itself : (b : Option Key) (h : Key) → b ≡ Some h → EndsBy b h
+ends_itself : (b : Option Key) (h : Key) → b ≡ Some h → StartsFrom b h
 ends_itself None h e = absurd (cc)
 ends_itself (Some x) h e = upto_same x h (same_Some x h e)
 
 -- the pages of a part end at or below its end
-ends_before : (o : Owners) (m : Shared) (lv : ℕ) (mp : Key → Option Content) (gs : List SidePage) (p : Option ℕ) (low : Option Key) (q : Option ℕ) (h : Key) → IsPart o m lv mp gs p low q (Some h) → EndsBy low h × AllPages (λ g. EndsBy (high_in g.chain) h) gs
+ends_before : (o : Owners) (m : Shared) (lv : ℕ) (mp : Key → Option ContentOf) (gs : List SidePage) (p : Option ℕ) (low : Option Key) (q : Option ℕ) (h : Key) → IsPart o m lv mp gs p low q (Some h) → StartsFrom low h × AllPages (λ g. StartsFrom (high_in g.chain) h) gs
 ends_before o m lv mp [] p low q h part = (ends_itself low h part.1, tt)
 ends_before o m lv mp (g ∷ gs) p low q h part =
     let r = ends_before o m lv mp gs (right_in g.chain) (high_in g.chain) q h part.3 in
-    let l : IsBelow (low_in g.chain) h = under_end (low_in g.chain) h (high_in g.chain) part.2.is_page.some r.0 in
-    let i : IsUpTo (low_in g.chain) h = below_not (low_in g.chain) h l in
-    (subst (λ (b : Option Key). EndsBy b h) (sym part.1) i, (r.0, r.1))
+    (subst (λ (b : Option Key). StartsFrom b h) (sym part.1) (below_not (low_in g.chain) h (under_start (low_in g.chain) h (high_in g.chain) part.2.is_page.some r.0)), (r.0, r.1))
 
 -- and begin at or above its beginning
-pub begins_after : (o : Owners) (m : Shared) (lv : ℕ) (mp : Key → Option Content) (gs : List SidePage) (p : Option ℕ) (low : Option Key) (q : Option ℕ) (high : Option Key) → IsPart o m lv mp gs p low q high → AllPages (λ g. StartsFrom low (low_in g.chain)) gs
+pub begins_after : (o : Owners) (m : Shared) (lv : ℕ) (mp : Key → Option ContentOf) (gs : List SidePage) (p : Option ℕ) (low : Option Key) (q : Option ℕ) (high : Option Key) → IsPart o m lv mp gs p low q high → AllPages (λ g. StartsFrom low (low_in g.chain)) gs
 begins_after o m lv mp [] p low q high part = tt
 begins_after o m lv mp (g ∷ gs) p low q high part =
     let r = begins_after o m lv mp gs (right_in g.chain) (high_in g.chain) q high part.3 in
@@ -95,19 +77,19 @@ pub record Beside (g f : SidePage) : Type 0 where
   pub apart : (k : Key) → Covers f.chain k → Covers g.chain k → ⊥
 
 -- one page has one chain
-pub one_chain : (o : Owners) (m : Shared) (lv : ℕ) (mp mp' : Key → Option Content) (g f : SidePage) → InPlace o m lv mp g → InPlace o m lv mp' f → f.page ≡ g.page → f.chain ≡ g.chain
+pub one_chain : (o : Owners) (m : Shared) (lv : ℕ) (mp mp' : Key → Option ContentOf) (g f : SidePage) → InPlace o m lv mp g → InPlace o m lv mp' f → f.page ≡ g.page → f.chain ≡ g.chain
 one_chain o m lv mp mp' g f hg hf e =
     let i : f.row ≡ g.row = same_Some f.row g.row (sym hf.is_page.head ∙ ap m.slots e ∙ hg.is_page.head) in
     chain_unique m.rows f.chain g.chain (Some g.row) (subst (λ (r : ℕ). IsChain m.rows f.chain (Some r)) i hf.is_page.is_chain) hg.is_page.is_chain
 
-beside_before : (o : Owners) (m : Shared) (lv : ℕ) (mp : Key → Option Content) (g f : SidePage) → InPlace o m lv mp g → InPlace o m lv mp f → EndsBy (high_in f.chain) (low_in g.chain) → Beside g f
+beside_before : (o : Owners) (m : Shared) (lv : ℕ) (mp : Key → Option ContentOf) (g f : SidePage) → InPlace o m lv mp g → InPlace o m lv mp f → StartsFrom (high_in f.chain) (low_in g.chain) → Beside g f
 beside_before o m lv mp g f hg hf u =
     record {
-      other = λ e. let c = one_chain o m lv mp mp g f hg hf e in let l = under_end (low_in f.chain) (low_in g.chain) (high_in f.chain) hf.is_page.some u in not_below (low_in f.chain) (low_in g.chain) l (upto_same (low_in g.chain) (low_in f.chain) (sym (ap low_in c)));
-      apart = λ k cf cg. let l = under_end k (low_in g.chain) (high_in f.chain) cf.high u in not_below k (low_in g.chain) l cg.low;
+      other = λ e. let c = one_chain o m lv mp mp g f hg hf e in let l = under_start (low_in f.chain) (low_in g.chain) (high_in f.chain) hf.is_page.some u in not_below (low_in f.chain) (low_in g.chain) l (upto_same (low_in g.chain) (low_in f.chain) (sym (ap low_in c)));
+      apart = λ k cf cg. let l = under_start k (low_in g.chain) (high_in f.chain) cf.high u in not_below k (low_in g.chain) l cg.low;
     }
 
-pub beside_after : (o : Owners) (m : Shared) (lv : ℕ) (mp : Key → Option Content) (g f : SidePage) → InPlace o m lv mp g → InPlace o m lv mp f → StartsFrom (high_in g.chain) (low_in f.chain) → Beside g f
+pub beside_after : (o : Owners) (m : Shared) (lv : ℕ) (mp : Key → Option ContentOf) (g f : SidePage) → InPlace o m lv mp g → InPlace o m lv mp f → StartsFrom (high_in g.chain) (low_in f.chain) → Beside g f
 beside_after o m lv mp g f hg hf u =
     record {
       other = λ e. let c = one_chain o m lv mp mp g f hg hf e in let l = under_start (low_in g.chain) (low_in f.chain) (high_in g.chain) hg.is_page.some u in not_below (low_in g.chain) (low_in f.chain) l (upto_same (low_in f.chain) (low_in g.chain) (ap low_in c));
@@ -115,7 +97,7 @@ beside_after o m lv mp g f hg hf u =
     }
 
 -- with what is so of each page of a part
-pub all_in : (o : Owners) (m : Shared) (lv : ℕ) (mp : Key → Option Content) (P Q : SidePage → Type 0) → ((g : SidePage) → InPlace o m lv mp g → P g → Q g) → (gs : List SidePage) (p : Option ℕ) (low : Option Key) (q : Option ℕ) (high : Option Key) → IsPart o m lv mp gs p low q high → AllPages P gs → AllPages Q gs
+pub all_in : (o : Owners) (m : Shared) (lv : ℕ) (mp : Key → Option ContentOf) (P Q : SidePage → Type 0) → ((g : SidePage) → InPlace o m lv mp g → P g → Q g) → (gs : List SidePage) (p : Option ℕ) (low : Option Key) (q : Option ℕ) (high : Option Key) → IsPart o m lv mp gs p low q high → AllPages P gs → AllPages Q gs
 all_in o m lv mp P Q f [] p low q high part h = tt
 all_in o m lv mp P Q f (g ∷ gs) p low q high part h = (f g part.2 h.0, all_in o m lv mp P Q f gs (right_in g.chain) (high_in g.chain) q high part.3 h.1)
 
@@ -124,12 +106,12 @@ abbrev pub Rest : Owners → Owners → Shared → Shared → ℕ → ℕ → Ke
 Rest o o' m m' q l s st = (m'.slots q ≡ m.slots q) × ((st' : Stage) × (o'.page q ≡ Placed st' l s) × (rank st' ≤ 3) × (stage_removed st ≡ stage_removed st'))
 
 -- what a page of the tree is to keep
-pub record Stays (o' : Owners) (m m' : Shared) (lv : ℕ) (mp mp' : Key → Option Content) (g : SidePage) : Type 0 where
+pub record Stays (o' : Owners) (m m' : Shared) (lv : ℕ) (mp mp' : Key → Option ContentOf) (g : SidePage) : Type 0 where
   pub slot : m'.slots g.page ≡ m.slots g.page
   pub values : (k : Key) → Covers g.chain k → mp' k ≡ mp k
   pub on : (st : Stage) × (o'.page g.page ≡ Placed st lv (low_in g.chain)) × (rank st ≤ 3) × (is_removed g.chain ≡ stage_removed st)
 
-pub place_kept : (o o' : Owners) (m m' : Shared) (lv : ℕ) (mp mp' : Key → Option Content) → IsClosed o m → Kept o o' m m' → (g : SidePage) → Stays o' m m' lv mp mp' g → InPlace o m lv mp g → InPlace o' m' lv mp' g
+pub place_kept : (o o' : Owners) (m m' : Shared) (lv : ℕ) (mp mp' : Key → Option ContentOf) → IsClosed o m → Kept o o' m m' → (g : SidePage) → Stays o' m m' lv mp mp' g → InPlace o m lv mp g → InPlace o' m' lv mp' g
 place_kept o o' m m' lv mp mp' closed kept g s h =
     record {
       stage = s.on.0;
@@ -146,7 +128,7 @@ place_kept o o' m m' lv mp mp' closed kept g s h =
       };
     }
 
-pub part_kept : (o o' : Owners) (m m' : Shared) (lv : ℕ) (mp mp' : Key → Option Content) → IsClosed o m → Kept o o' m m' → (gs : List SidePage) (p : Option ℕ) (low : Option Key) (q : Option ℕ) (high : Option Key) → AllPages (Stays o' m m' lv mp mp') gs → IsPart o m lv mp gs p low q high → IsPart o' m' lv mp' gs p low q high
+pub part_kept : (o o' : Owners) (m m' : Shared) (lv : ℕ) (mp mp' : Key → Option ContentOf) → IsClosed o m → Kept o o' m m' → (gs : List SidePage) (p : Option ℕ) (low : Option Key) (q : Option ℕ) (high : Option Key) → AllPages (Stays o' m m' lv mp mp') gs → IsPart o m lv mp gs p low q high → IsPart o' m' lv mp' gs p low q high
 part_kept o o' m m' lv mp mp' closed kept [] p low q high s h = h
 part_kept o o' m m' lv mp mp' closed kept (g ∷ gs) p low q high s h =
     (h.0, h.1, place_kept o o' m m' lv mp mp' closed kept g s.0 h.2, part_kept o o' m m' lv mp mp' closed kept gs (right_in g.chain) (high_in g.chain) q high s.1 h.3)
@@ -167,11 +149,11 @@ has_other p [] g news after ne (inr e) = has_right p news after e
 has_other p (b ∷ before) g news after ne (inl e) = inl e
 has_other p (b ∷ before) g news after ne (inr e) = inr (has_other p before g news after ne e)
 
-stays_by : (o o' : Owners) (m m' : Shared) (lv : ℕ) (mp mp' : Key → Option Content) (f : SidePage) → (h : InPlace o m lv mp f) → Rest o o' m m' f.page lv (low_in f.chain) h.stage → ((k : Key) → Covers f.chain k → mp' k ≡ mp k) → Stays o' m m' lv mp mp' f
+stays_by : (o o' : Owners) (m m' : Shared) (lv : ℕ) (mp mp' : Key → Option ContentOf) (f : SidePage) → (h : InPlace o m lv mp f) → Rest o o' m m' f.page lv (low_in f.chain) h.stage → ((k : Key) → Covers f.chain k → mp' k ≡ mp k) → Stays o' m m' lv mp mp' f
 stays_by o o' m m' lv mp mp' f h r v = record { slot = r.0; values = v; on = (r.1.0, r.1.1, r.1.2, h.flagged ∙ r.1.3) }
 
 -- pages in the place of one, on the same keys
-pub replaced : (o o' : Owners) (m m' : Shared) (lv : ℕ) (mp mp' : Key → Option Content) → IsClosed o m → Kept o o' m m' → (gs : List SidePage) (p : Option ℕ) (low : Option Key) (q : Option ℕ) (high : Option Key) (at : ℕ) (l : Located o m lv mp gs p low q high at)
+pub replaced : (o o' : Owners) (m m' : Shared) (lv : ℕ) (mp mp' : Key → Option ContentOf) → IsClosed o m → Kept o o' m m' → (gs : List SidePage) (p : Option ℕ) (low : Option Key) (q : Option ℕ) (high : Option Key) (at : ℕ) (l : Located o m lv mp gs p low q high at)
     → ((f : SidePage) → (h : InPlace o m lv mp f) → Beside l.page f → Rest o o' m m' f.page lv (low_in f.chain) h.stage)
     → ((k : Key) → (Covers l.page.chain k → ⊥) → mp' k ≡ mp k)
     → (news : List SidePage) → IsPart o' m' lv mp' news (Some l.page.page) (Some (low_in l.page.chain)) (right_in l.page.chain) (high_in l.page.chain)
@@ -179,7 +161,7 @@ pub replaced : (o o' : Owners) (m m' : Shared) (lv : ℕ) (mp mp' : Key → Opti
 replaced o o' m m' lv mp mp' closed kept gs p low q high at l rests logs news new =
     let g = l.page in
     let stays = λ (f : SidePage) (h : InPlace o m lv mp f) (b : Beside g f). (let r : Stays o' m m' lv mp mp' f = stays_by o o' m m' lv mp mp' f h (rests f h b) (λ k c. logs k (b.apart k c)) in r) in
-    let first = all_in o m lv mp (λ f. EndsBy (high_in f.chain) (low_in g.chain)) (Stays o' m m' lv mp mp') (λ f h u. stays f h (beside_before o m lv mp g f l.here h u)) l.before p low (Some g.page) (Some (low_in g.chain)) l.first (ends_before o m lv mp l.before p low (Some g.page) (low_in g.chain) l.first).1 in
+    let first = all_in o m lv mp (λ f. StartsFrom (high_in f.chain) (low_in g.chain)) (Stays o' m m' lv mp mp') (λ f h u. stays f h (beside_before o m lv mp g f l.here h u)) l.before p low (Some g.page) (Some (low_in g.chain)) l.first (ends_before o m lv mp l.before p low (Some g.page) (low_in g.chain) l.first).1 in
     let rest = all_in o m lv mp (λ f. StartsFrom (high_in g.chain) (low_in f.chain)) (Stays o' m m' lv mp mp') (λ f h u. stays f h (beside_after o m lv mp g f l.here h u)) l.after (right_in g.chain) (high_in g.chain) q high l.rest (begins_after o m lv mp l.after (right_in g.chain) (high_in g.chain) q high l.rest) in
     part_join o' m' lv mp' l.before (news ++ l.after) p low (Some g.page) (Some (low_in g.chain)) q high
     (part_kept o o' m m' lv mp mp' closed kept l.before p low (Some g.page) (Some (low_in g.chain)) first l.first)
@@ -187,7 +169,7 @@ replaced o o' m m' lv mp mp' closed kept gs p low q high at l rests logs news ne
     (part_kept o o' m m' lv mp mp' closed kept l.after (right_in g.chain) (high_in g.chain) q high rest l.rest))
 
 -- a level stays where its slots do
-pub level_kept : (o o' : Owners) (m m' : Shared) (lv : ℕ) (mp mp' : Key → Option Content) (first : ℕ) → IsClosed o m → Kept o o' m m' → ((p : ℕ) (s : Key) (st : Stage) → o.page p ≡ Placed st lv s → rank st ≤ 3 → Rest o o' m m' p lv s st) → ((k : Key) → mp' k ≡ mp k)
+pub level_kept : (o o' : Owners) (m m' : Shared) (lv : ℕ) (mp mp' : Key → Option ContentOf) (first : ℕ) → IsClosed o m → Kept o o' m m' → ((p : ℕ) (s : Key) (st : Stage) → o.page p ≡ Placed st lv s → rank st ≤ 3 → Rest o o' m m' p lv s st) → ((k : Key) → mp' k ≡ mp k)
     → ((p : ℕ) (s : Key) (st : Stage) → o'.page p ≡ Placed st lv s → rank st ≤ 3 → (st' : Stage) × (o.page p ≡ Placed st' lv s) × (rank st' ≤ 3)) → Level o m lv mp first → Level o' m' lv mp' first
 level_kept o o' m m' lv mp mp' first closed kept rests same old t =
     record {
@@ -199,10 +181,10 @@ level_kept o o' m m' lv mp mp' first closed kept rests same old t =
     }
 
 -- what a level says of the chain of a slot
-pub record InLevelAs (o : Owners) (m : Shared) (lv : ℕ) (mp : Key → Option Content) (p x : ℕ) (c : List Record) : Type 0 where
+pub record InLevelAs (o : Owners) (m : Shared) (lv : ℕ) (mp : Key → Option ContentOf) (p x : ℕ) (c : List Record) : Type 0 where
   pub place : InPlace o m lv mp (record { page = p; row = x; chain = c })
 
-pub in_level_as : (o : Owners) (m : Shared) (lv : ℕ) (mp : Key → Option Content) (first : ℕ) → (t : Level o m lv mp first) → (p : ℕ) (s : Key) (st : Stage) → o.page p ≡ Placed st lv s → rank st ≤ 3 → (x : ℕ) → m.slots p ≡ Some x → (c : List Record) → IsChain m.rows c (Some x) → InLevelAs o m lv mp p x c
+pub in_level_as : (o : Owners) (m : Shared) (lv : ℕ) (mp : Key → Option ContentOf) (first : ℕ) → (t : Level o m lv mp first) → (p : ℕ) (s : Key) (st : Stage) → o.page p ≡ Placed st lv s → rank st ≤ 3 → (x : ℕ) → m.slots p ≡ Some x → (c : List Record) → IsChain m.rows c (Some x) → InLevelAs o m lv mp p x c
 in_level_as o m lv mp first t p s st e on x i c h =
     let l = locate o m lv mp t.side (Some first) (Some []) None None p t.whole (t.listed p s st e on) in
     let r : l.page.row ≡ x = same_Some l.page.row x (sym l.here.is_page.head ∙ ap m.slots l.is ∙ i) in
@@ -211,7 +193,7 @@ in_level_as o m lv mp first t p s st e on x i c h =
     record { place = subst (λ (f : SidePage). InPlace o m lv mp f) q l.here }
 
 -- pages in the place of one
-level_relinked : (o o' : Owners) (m m' : Shared) (lv : ℕ) (mp mp' : Key → Option Content) (first : ℕ) → IsClosed o m → Kept o o' m m' → (t : Level o m lv mp first) → (p : ℕ) (s : Key) (st : Stage) → o.page p ≡ Placed st lv s → rank st ≤ 3 → (x : ℕ) → m.slots p ≡ Some x → (c : List Record) → IsChain m.rows c (Some x)
+level_relinked : (o o' : Owners) (m m' : Shared) (lv : ℕ) (mp mp' : Key → Option ContentOf) (first : ℕ) → IsClosed o m → Kept o o' m m' → (t : Level o m lv mp first) → (p : ℕ) (s : Key) (st : Stage) → o.page p ≡ Placed st lv s → rank st ≤ 3 → (x : ℕ) → m.slots p ≡ Some x → (c : List Record) → IsChain m.rows c (Some x)
     → ((q : ℕ) (s : Key) (st : Stage) → q ≢ p → o.page q ≡ Placed st lv s → rank st ≤ 3 → Rest o o' m m' q lv s st)
     → ((k : Key) → (Covers c k → ⊥) → mp' k ≡ mp k)
     → (news : List SidePage) → IsPart o' m' lv mp' news (Some p) (Some (low_in c)) (right_in c) (high_in c) → HasSidePage p news
@@ -235,8 +217,8 @@ level_relinked o o' m m' lv mp mp' first closed kept t p s st e on x i c h rests
           (listed q s' st' i on');
     }
 
-placed_level : (st st' : Stage) (l l' : ℕ) (s s' : Key) → Placed st l s ≡ Placed st' l' s' → l ≡ l'
-placed_level st st' l l' s s' e = cc
+pub placed_level : (st st' : Stage) (l l' : ℕ) (s s' : Key) → Placed st l s ≡ Placed st' l' s' → (l ≡ l') × (s ≡ s')
+placed_level st st' l l' s s' e = ((let f : l ≡ l' = cc in f), (let f : s ≡ s' = cc in f))
 
 -- the tree stays where its slots do
 pub tree_kept : (o o' : Owners) (m m' : Shared) (log : List Update) → IsClosed o m → Kept o o' m m' → ((p l : ℕ) (s : Key) (st : Stage) → o.page p ≡ Placed st l s → rank st ≤ 3 → Rest o o' m m' p l s st) → m'.root ≡ m.root → o'.index ≡ o.index
@@ -247,7 +229,7 @@ tree_kept o o' m m' log closed kept rests root index old t exact off =
       first = t.first;
       leaf = t.leaf;
       root = root ∙ t.root;
-      levels = λ l le. level_kept o o' m m' l (spec log o.index l) (spec log o'.index l) (t.first l) closed kept (λ p s st. rests p l s st) (λ k. ap (λ (f : ℕ → Key → Option Content). spec log f l k) index) (λ p s st. old p l s st) (t.levels l le);
+      levels = λ l le. level_kept o o' m m' l (spec log o.index l) (spec log o'.index l) (t.first l) closed kept (λ p s st. rests p l s st) (λ k. ap (λ (f : ℕ → Key → Option ContentOf). spec log f l k) index) (λ p s st. old p l s st) (t.levels l le);
       exact = exact;
       off = off;
     }
@@ -270,7 +252,7 @@ tree_relinked o o' m m' log log' closed kept t p lv s st e on x i c h rests root
           (level_relinked o o' m m' lv (spec log o.index lv) (spec log' o'.index lv) (t.first lv) closed kept (t.levels lv (t.exact.below p lv s st e)) p s st e on x i c h (λ q s' st'. rests q lv s' st') (λ k n. outside lv k (λ j. n)) news new has
           (λ q s' st' f on'. ⊎_elim (λ (u : (st'' : Stage) × (o.page q ≡ Placed st'' lv s') × (rank st'' ≤ 3)). inl u) (λ (u : (lv ≡ lv) × HasSidePage q news). inr u.1) (listed q lv s' st' f on'))))
           (λ ne. level_kept o o' m m' l (spec log o.index l) (spec log' o'.index l) (t.first l) closed kept
-          (λ q s' st' f. rests q l s' st' (λ j. ne (placed_level st' st l lv s' s (sym f ∙ ap o.page j ∙ e))) f)
+          (λ q s' st' f. rests q l s' st' (λ j. ne (placed_level st' st l lv s' s (sym f ∙ ap o.page j ∙ e)).0) f)
           (λ k. outside l k (λ j. absurd (ne j)))
           (λ q s' st' f on'. ⊎_elim (λ (u : (st'' : Stage) × (o.page q ≡ Placed st'' l s') × (rank st'' ≤ 3)). u) (λ (u : (l ≡ lv) × HasSidePage q news). absurd (ne u.0)) (listed q l s' st' f on'))
           (t.levels l le));
@@ -279,7 +261,7 @@ tree_relinked o o' m m' log log' closed kept t p lv s st e on x i c h rests root
     }
 
 -- two pages of a level that have a key in common are one
-pub same_page : (o : Owners) (m : Shared) (lv : ℕ) (mp : Key → Option Content) (first : ℕ) → Level o m lv mp first → (g f : SidePage) → InPlace o m lv mp g → InPlace o m lv mp f → (k : Key) → Covers g.chain k → Covers f.chain k → g.page ≡ f.page
+pub same_page : (o : Owners) (m : Shared) (lv : ℕ) (mp : Key → Option ContentOf) (first : ℕ) → Level o m lv mp first → (g f : SidePage) → InPlace o m lv mp g → InPlace o m lv mp f → (k : Key) → Covers g.chain k → Covers f.chain k → g.page ≡ f.page
 same_page o m lv mp first t g f hg hf k cg cf = go t.side (Some first) (Some []) t.whole (t.listed g.page (low_in g.chain) hg.stage hg.placed hg.on) (t.listed f.page (low_in f.chain) hf.stage hf.placed hf.on)
   where
     moved : (h e : SidePage) → InPlace o m lv mp h → InPlace o m lv mp e → h.page ≡ e.page → Covers e.chain k → Covers h.chain k
@@ -307,7 +289,7 @@ same_page o m lv mp first t g f hg hf k cg cf = go t.side (Some first) (Some [])
     go (h ∷ gs) p low part (inr a) (inr b) = go gs (right_in h.chain) (high_in h.chain) part.3 a b
 
 -- a page of a level with its low beyond another's, and not beyond its end, is its right
-pub no_gap : (o : Owners) (m : Shared) (lv : ℕ) (mp : Key → Option Content) (first : ℕ) → Level o m lv mp first → (g : SidePage) → InPlace o m lv mp g → (q : ℕ) (s : Key) (st : Stage) → o.page q ≡ Placed st lv s → rank st ≤ 3 → IsBelow (low_in g.chain) s → IsWithinEnd s (high_in g.chain) → (high_in g.chain ≡ Some s) × (right_in g.chain ≡ Some q)
+pub no_gap : (o : Owners) (m : Shared) (lv : ℕ) (mp : Key → Option ContentOf) (first : ℕ) → Level o m lv mp first → (g : SidePage) → InPlace o m lv mp g → (q : ℕ) (s : Key) (st : Stage) → o.page q ≡ Placed st lv s → rank st ≤ 3 → IsBelow (low_in g.chain) s → IsWithinEnd s (high_in g.chain) → (high_in g.chain ≡ Some s) × (right_in g.chain ≡ Some q)
 no_gap o m lv mp first t g hg q s st e on lo hi = go t.side (Some first) (Some []) t.whole (t.listed g.page (low_in g.chain) hg.stage hg.placed hg.on) (t.listed q s st e on)
   where
     low_is : (f : SidePage) → InPlace o m lv mp f → f.page ≡ q → low_in f.chain ≡ s
@@ -334,8 +316,7 @@ no_gap o m lv mp first t g hg q s st e on lo hi = go t.side (Some first) (Some [
     go [] p low part a b = absurd a
     go (h ∷ gs) p low part (inl a) (inl b) = absurd (not_below (low_in g.chain) s lo (upto_same s (low_in g.chain) (sym (low_is h part.2 b) ∙ ap low_in (chain_is h part.2 a))))
     go (h ∷ gs) p low part (inl a) (inr b) =
-        let c = chain_is h part.2 a in
-        let r : IsPart o m lv mp gs (right_in g.chain) (high_in g.chain) None None = subst (λ (d : List Record). IsPart o m lv mp gs (right_in d) (high_in d) None None) c part.3 in
+        let r : IsPart o m lv mp gs (right_in g.chain) (high_in g.chain) None None = subst (λ (d : List Record). IsPart o m lv mp gs (right_in d) (high_in d) None None) (chain_is h part.2 a) part.3 in
         let i = upto (high_in g.chain) (from gs (right_in g.chain) (high_in g.chain) r q b s low_is) hi in
         (i, next gs (right_in g.chain) (high_in g.chain) r i b)
     go (h ∷ gs) p low part (inr a) (inl b) = absurd (
@@ -344,7 +325,7 @@ no_gap o m lv mp first t g hg q s st e on lo hi = go t.side (Some first) (Some [
     go (h ∷ gs) p low part (inr a) (inr b) = go gs (right_in h.chain) (high_in h.chain) part.3 a b
 
 -- the page right of a page
-pub right_page : (o : Owners) (m : Shared) (lv : ℕ) (mp : Key → Option Content) (first : ℕ) → Level o m lv mp first → (g : SidePage) → InPlace o m lv mp g → (q : ℕ) → right_in g.chain ≡ Some q → (f : SidePage) × (f.page ≡ q) × (high_in g.chain ≡ Some (low_in f.chain)) × InPlace o m lv mp f
+pub right_page : (o : Owners) (m : Shared) (lv : ℕ) (mp : Key → Option ContentOf) (first : ℕ) → Level o m lv mp first → (g : SidePage) → InPlace o m lv mp g → (q : ℕ) → right_in g.chain ≡ Some q → (f : SidePage) × (f.page ≡ q) × (high_in g.chain ≡ Some (low_in f.chain)) × InPlace o m lv mp f
 right_page o m lv mp first t g hg q r = go t.side (Some first) (Some []) t.whole (t.listed g.page (low_in g.chain) hg.stage hg.placed hg.on)
   where
     next : (gs : List SidePage) → IsPart o m lv mp gs (right_in g.chain) (high_in g.chain) None None → (f : SidePage) × (f.page ≡ q) × (high_in g.chain ≡ Some (low_in f.chain)) × InPlace o m lv mp f
@@ -357,7 +338,7 @@ right_page o m lv mp first t g hg q r = go t.side (Some first) (Some []) t.whole
     go (h ∷ gs) p low part (inr a) = go gs (right_in h.chain) (high_in h.chain) part.3 a
 
 -- one page in the place of two
-level_merged : (o o' : Owners) (m m' : Shared) (lv : ℕ) (mp mp' : Key → Option Content) (first : ℕ) → IsClosed o m → Kept o o' m m' → (t : Level o m lv mp first) → (p : ℕ) (sp : Key) (q : ℕ) (sq : Key) (st st2 : Stage) → o.page p ≡ Placed st lv sp → rank st ≤ 3 → o.page q ≡ Placed st2 lv sq → IsBelow sp sq
+level_merged : (o o' : Owners) (m m' : Shared) (lv : ℕ) (mp mp' : Key → Option ContentOf) (first : ℕ) → IsClosed o m → Kept o o' m m' → (t : Level o m lv mp first) → (p : ℕ) (sp : Key) (q : ℕ) (sq : Key) (st st2 : Stage) → o.page p ≡ Placed st lv sp → rank st ≤ 3 → o.page q ≡ Placed st2 lv sq → IsBelow sp sq
     → ((r : ℕ) (s : Key) (st : Stage) → r ≢ p → r ≢ q → o.page r ≡ Placed st lv s → rank st ≤ 3 → Rest o o' m m' r lv s st) → ((k : Key) → mp' k ≡ mp k)
     → (new : SidePage) → new.page ≡ p → ((g k : SidePage) → InPlace o m lv mp g → g.page ≡ p → InPlace o m lv mp k → right_in g.chain ≡ Some k.page → (k.page ≡ q) × IsPart o' m' lv mp' (new ∷ []) (Some p) (Some sp) (right_in k.chain) (high_in k.chain))
     → ((g : SidePage) → InPlace o m lv mp g → g.page ≡ p → right_in g.chain ≡ Some q)
@@ -428,10 +409,10 @@ tree_merged o o' m m' log closed kept t p lv sp q sq st st2 ep on eq lt rests ro
       root = root ∙ t.root;
       levels = λ l le. by_test l lv (λ b. Level o' m' l (spec log o'.index l) (t.first l))
           (λ j. subst (λ (n : ℕ). Level o' m' n (spec log o'.index n) (t.first n)) (sym j)
-          (level_merged o o' m m' lv (spec log o.index lv) (spec log o'.index lv) (t.first lv) closed kept (t.levels lv (t.exact.below p lv sp st ep)) p sp q sq st st2 ep on eq lt (λ r s. rests r lv s) (λ k. ap (λ (f : ℕ → Key → Option Content). spec log f lv k) index) new is pair right (λ r s. old r lv s)))
+          (level_merged o o' m m' lv (spec log o.index lv) (spec log o'.index lv) (t.first lv) closed kept (t.levels lv (t.exact.below p lv sp st ep)) p sp q sq st st2 ep on eq lt (λ r s. rests r lv s) (λ k. ap (λ (f : ℕ → Key → Option ContentOf). spec log f lv k) index) new is pair right (λ r s. old r lv s)))
           (λ ne. level_kept o o' m m' l (spec log o.index l) (spec log o'.index l) (t.first l) closed kept
-          (λ r s' st' f. rests r l s' st' (λ j. ne (placed_level st' st l lv s' sp (sym f ∙ ap o.page j ∙ ep))) (λ j. ne (placed_level st' st2 l lv s' sq (sym f ∙ ap o.page j ∙ eq))) f)
-          (λ k. ap (λ (f : ℕ → Key → Option Content). spec log f l k) index)
+          (λ r s' st' f. rests r l s' st' (λ j. ne (placed_level st' st l lv s' sp (sym f ∙ ap o.page j ∙ ep)).0) (λ j. ne (placed_level st' st2 l lv s' sq (sym f ∙ ap o.page j ∙ eq)).0) f)
+          (λ k. ap (λ (f : ℕ → Key → Option ContentOf). spec log f l k) index)
           (λ r s' st' f i. (old r l s' st' f i).1)
           (t.levels l le));
       exact = exact;

@@ -1,45 +1,17 @@
 -- The empty trace is a state, and a begin keeps a state.
-use Rattle.std.proofs.Common.{◌≡◌, ◌≢◌, ◌<◌, ◌≤◌, inl, inr, ℕ, zero, suc, List, [], ◌∷◌, ◌++◌, length, Option, Some, None, Bool, true, false, cond, leb, ltb, ◌⊎◌, refl, sym, ap, ◌∙◌, subst, arith}
-use Rattle.std.specs.Prelude.{slice_get}
-use Rattle.std.proofs.lemmas.Bool.{ltb-true}
-use Rattle.bw_model.specs.declared.command.Command.{Command}
-use Rattle.bw_model.specs.declared.limits.Limits.{Limits}
-use Rattle.bw_model.specs.Log.{Update}
-use Rattle.deltas.specs.Memory.{Memory, opening}
-use Rattle.chain_search.specs.declared.trace.Entry.{Entry}
-use Rattle.chain_search.specs.declared.trace.Entry.TheVariants.{Begin}
-use Rattle.chain_search.specs.Learnt.{ShowsRow}
-use Rattle.chain_search.specs.Trace.{memory_of, memory_at, command_of}
-use Rattle.chain_search.proofs.Pushes.{slice_get-push, slice_get-push_cases, slice_get_below, slice_get_kept}
-use Rattle.chain_search.proofs.TraceLaws.{memory_of-push, command_of-push, TakesStep-push_cases}
-use Rattle.chain_search.proofs.RunLaws.{IsRun-none, IsRun-push}
-use Rattle.op_machine.specs.Operations.{Operation, IsOperation}
-use Rattle.op_machine.specs.Points.{log_of, log_at}
-use Rattle.op_machine.specs.Quiet.{HasMapOf}
-use Rattle.op_machine.proofs.Listed.{same_operation, and_left, and_right}
-use Rattle.op_machine.proofs.LogLaws.{log_of-push}
-use Rattle.std.proofs.lemmas.List.Sums.{fold-append}
-use Rattle.chain_search.specs.Knowledge.{Knowledge, begun, knows_after, knows}
-use Rattle.tree_law.specs.Owners.{Free, Linked, Owners}
-use Rattle.tree_law.specs.Phase.{Indexed, Nobody, Placed}
-use Rattle.tree_law.specs.Put.{put}
-use Rattle.tree_law.specs.Shared.{slot_in, shared}
-use Rattle.tree_law.specs.State.{phase_of, IsUnended, operation_of, Tells, IsSearch, IsInTree, IsReadyPage, IsState}
-use Rattle.tree_law.specs.Stood.{HaveStood}
-use Rattle.bw_model.specs.declared.step.Step.TheVariants.{ReusePids, ReuseRows}
-use Rattle.op_machine.specs.Reuse.{HandsPid, HandsRow, UnlinksPid, UnlinksRow}
-use Rattle.tree_law.specs.Limbos.{IsInLimbo}
-use Rattle.tree_law.specs.Times.{Times, Timed}
+use Rattle.tree_law.proofs.Words.{false, ◌⊎◌, [], ap, refl, cond, ltb, Option, suc, None, List, true, inl, ◌≢◌, length, ◌++◌, ◌≤◌, inr, ◌∷◌, subst, sym, ℕ, ◌≡◌, Bool, zero, ◌∙◌, ◌<◌, arith, Some}
+use Rattle.tree_law.proofs.Words.{ltb-true, fold-append, slice_get, Update, Command, Limits, ReuseRows, ReusePids, opening, Memory, slice_get_below, slice_get_kept, slice_get-push_cases}
+use Rattle.tree_law.proofs.Words.{slice_get-push, IsRun-push, TakesStep-push_cases, memory_of-push, command_of-push, begun, knows, Knowledge, knows_after, ShowsRow, memory_at, command_of, memory_of}
+use Rattle.tree_law.proofs.Words.{Entry, Begin, and_right, same_operation, and_left, log_of-push, IsOperation, Operation, indexed, free, log_at, log_of, HasMapOf, UnlinksPid, UnlinksRow, HandsPid}
+use Rattle.tree_law.proofs.Words.{HandsRow, IsFirst, IsInLimbo, Free, Linked, Owners, Nobody, Placed, Indexed, put, shared, slot_in, IsReadyPage, Tells, operation_of, IsSearch, IsState, phase_of}
+use Rattle.tree_law.proofs.Words.{IsInTree, IsUnended, HaveStood, Times, Timed, Opens, IsTree}
+use Rattle.std.proofs.Common.{leb}
+use Rattle.chain_search.proofs.RunLaws.{IsRun-none}
 use Rattle.tree_law.proofs.epochs.Limbos.{limbo_push, freed_push, pid_longer, row_longer}
-use Rattle.tree_law.specs.TraceLaws.{BeginsKeep, Opens}
-use Rattle.tree_law.specs.Tree.{IsTree}
+use Rattle.tree_law.specs.TraceLaws.{BeginsKeep}
 use Rattle.tree_law.proofs.epochs.Timely.{calm_same, read_timed}
 use Rattle.tree_law.proofs.links.Keeping.{begins as tree_begins}
-use Rattle.op_machine.specs.Phases.{free, indexed}
-use Rattle.tree_law.proofs.shape.Exactness.{is_indexed, below_top, root_indexed}
-use Rattle.tree_law.proofs.shape.Fitness.{opening_fitted}
-use Rattle.tree_law.proofs.shape.Levels.{indexed_first, indexed_push}
-use Rattle.tree_law.proofs.shape.Mapping.{map_of}
+use Rattle.tree_law.proofs.shape.{is_indexed, below_top, root_indexed, opening_fitted, indexed_first, indexed_push, map_of, by_test, put_same, put_other}
 use Rattle.tree_law.proofs.trace.Ending.{ends_none, ends_push}
 use Rattle.tree_law.proofs.trace.Lives.{begins_in_phase, begins_phases, begins_only}
 use Rattle.tree_law.proofs.trace.Updates.{updates_push}
@@ -47,8 +19,6 @@ use Rattle.tree_law.proofs.trace.Marks.{marked_push, tells_other, quiet_push}
 use Rattle.tree_law.proofs.trace.Names.{faithful_push, named_begins}
 use Rattle.tree_law.proofs.trace.Opening.{opening_slots, opening_owners, opening_tree}
 use Rattle.tree_law.proofs.trace.Owned.{pushed_length}
-use Rattle.tree_law.proofs.shape.Puts.{by_test, put_same, put_other}
-use Rattle.tree_law.specs.Indexed.{IsFirst}
 use Rattle.tree_law.proofs.trace.Searches.{search_new, search_other}
 use Rattle.tree_law.proofs.trace.Standing.{stood_kept}
 
@@ -115,7 +85,7 @@ opens limits = record {
   run = IsRun-none limits;
   ends = ends_none;
   updates = λ n. (λ h. absurd (let e = h.0 in cc), λ h. absurd (let e = h.at in cc));
-  quiet = record { at_each = λ n h. at_zero n h };
+  quiet = record { at_each = λ n h. (elim n as (λ n. n ≤ 0 → HasMapOf (memory_at limits [] n) (log_at [] [] n)) [ zero ↦ λ h. map_of (opening_tree limits) | suc n ↦ λ h. absurd (omega arith) ]) h };
   faithful = record { known = λ n a row x h. absurd (let e = h.1 in cc); outside = λ n a s x h. absurd (let e = h.1 in cc) };
   in_phase = λ pid. inr (λ k from to low high. absurd (omega arith), by_test pid 1 (λ t. phase_of (cond t (Placed Indexed 0 []) Nobody) ≡ cond t indexed free) (λ i. refl) (λ ne. refl));
   only_phase = λ pid phase h. elim h [
@@ -144,10 +114,6 @@ opens limits = record {
     held p r e = by_test p 1 (λ t. cond {A = Option ℕ} t (Some 1) None ≡ Some r → IsInTree (cond t (Placed Indexed 0 []) Nobody) ⊎ IsReadyPage (opening_owners limits) (opening limits) (knows []) p r)
         (λ i f. inl tt) (λ ne f. absurd (cc)) (subst (λ (f : ℕ → Option ℕ). f p ≡ Some r) (opening_slots limits) e)
 
-    at_zero : (n : ℕ) → n ≤ 0 → HasMapOf (memory_at limits [] n) (log_at [] [] n)
-    at_zero zero h = map_of (opening_tree limits)
-    at_zero (suc n) h = absurd (omega arith)
-
 -- what is told of an actor that begins
 tells_new : (entries : List Entry) (points : List Bool) (a : ℕ) (c : Command) → Tells (entries ++ Begin a c ∷ []) points a c None []
 tells_new entries points a c = record {
@@ -162,64 +128,59 @@ tells_new entries points a c = record {
     past n low high = let long : length (entries ++ Begin a c ∷ []) ≡ suc (length entries) = pushed_length entries (Begin a c) in omega arith
 
 pub begins : BeginsKeep IsState
-begins limits entries a c state below idle = record {
-  points = state.points ++ false ∷ [];
-  owners = state.owners;
-  point = put state.point a None;
-  logs = put state.logs a [];
-  is_tree = tree_after;
-  fitted = rw (memory_of-push limits entries (Begin a c)) state.fitted;
-  named = rw (memory_of-push limits entries (Begin a c), knows-push entries (Begin a c)) (named_begins limits entries state.owners (memory_of limits entries) (knows entries) a c state.named (command_of-push entries (Begin a c)));
-  tells = λ b asked e. by_test b a (λ t. cond t (Some c) (command_of entries b) ≡ Some asked → Tells (entries ++ Begin a c ∷ []) (state.points ++ false ∷ []) b asked (cond t None (state.point b)) (cond t [] (state.logs b)))
-      (λ i f. let same : c ≡ asked = cc in rw i (subst (λ d. Tells (entries ++ Begin a c ∷ []) (state.points ++ false ∷ []) a d None []) same (tells_new entries (state.points ++ false ∷ []) a c)))
-      (λ ne f. tells_other entries state.points (Begin a c) false state.marked.beside b asked (state.point b) (state.logs b) (λ d i. ne (let j : a ≡ b = cc in sym j)) (λ s x r i. absurd (cc)) (state.tells b asked f))
-      (subst (λ k. k b ≡ Some asked) (command_of-push entries (Begin a c)) e);
-  searches = searches_begin;
-  stood = stood_begin;
-  marked = marked_push entries state.points (Begin a c) false state.marked.beside limits state.marked (λ e. absurd (cc)) (λ e. absurd (cc)) (λ op s x r is e u. absurd (cc)) (λ e. absurd (cc));
-  run = IsRun-push limits entries (Begin a c) state.run (below, idle);
-  ends = ends_push entries (Begin a c) state.ends tt;
-  updates = updates_push limits entries state.points (Begin a c) false state.marked.beside state.updates (λ h. absurd (let e = h.0 in cc), λ h. absurd (let e = h.5.0.1 in cc));
-  quiet = quiet_push entries state.points (Begin a c) false state.marked.beside limits state.quiet
-      (rw (memory_of-push limits entries (Begin a c), log_of-push entries state.points (Begin a c) false state.marked.beside) (map_of state.is_tree));
-  in_phase = λ pid. begins_in_phase limits entries a c pid (phase_of (state.owners.page pid)) (state.in_phase pid);
-  only_phase = begins_only limits entries a c state.owners.page state.in_phase state.only_phase;
-  phases = begins_phases limits entries a c state.phases;
-  limbo_rows = rw (knows-push entries (Begin a c)) (λ b q. by_test b a (λ z. IsInLimbo (entries ++ Begin a c ∷ []) b (UnlinksRow limits (entries ++ Begin a c ∷ []) b q) (HandsRow q) ((cond z (begun (knows entries a) c) (knows entries b)).limbo.rows q)) (λ i. rw i (rows_longer a q)) (λ ne. rows_longer b q));
-  limbo_pids = rw (knows-push entries (Begin a c)) (λ b q. by_test b a (λ z. IsInLimbo (entries ++ Begin a c ∷ []) b (UnlinksPid limits (entries ++ Begin a c ∷ []) b q) (HandsPid q) ((cond z (begun (knows entries a) c) (knows entries b)).limbo.pids q)) (λ i. rw i (pids_longer a q)) (λ ne. pids_longer b q));
-  freed = record {
-    pids = λ n b word bits pid x h among. elim (TakesStep-push_cases entries (Begin a c) n b (ReusePids word bits) x h) [
-      | inl before ↦ freed_push entries (Begin a c) (UnlinksPid limits entries b pid) (UnlinksPid limits (entries ++ Begin a c ∷ []) b pid) (HandsPid pid) (pid_longer entries (Begin a c) limits b pid) limits b n (slice_get_below entries n _ before.1) (state.freed.pids n b word bits pid x before among)
-      | inr at ↦ absurd (let e = at.1.1 in cc)
-    ];
-    rows = λ n b word bits row x h among. elim (TakesStep-push_cases entries (Begin a c) n b (ReuseRows word bits) x h) [
-      | inl before ↦ freed_push entries (Begin a c) (UnlinksRow limits entries b row) (UnlinksRow limits (entries ++ Begin a c ∷ []) b row) (HandsRow row) (row_longer entries (Begin a c) limits b row) limits b n (slice_get_below entries n _ before.1) (state.freed.rows n b word bits row x before among)
-      | inr at ↦ absurd (let e = at.1.1 in cc)
-    ];
-  };
-  times = state.times;
-  timed = rw (memory_of-push limits entries (Begin a c), knows-push entries (Begin a c), pushed_length entries (Begin a c)) (begin_timed state.is_tree state.timed a c);
-  faithful = faithful_push limits entries (Begin a c) state.faithful (λ b row x h. let e = h.1 in absurd (cc)) (λ b s x h z. let e = h.1 in absurd (cc));
-  rooted = λ b p e. by_test b a (λ t. (cond t (begun (knows entries a) c) (knows entries b)).read.roots p ≡ true → (level : ℕ) × IsFirst state.owners level p)
-      (λ i f. state.rooted a p f) (λ ne f. state.rooted b p f)
-      (subst (λ (ks : ℕ → Knowledge). (ks b).read.roots p ≡ true) (knows-push entries (Begin a c)) e);
-  indexed = indexed_push limits entries (Begin a c) state.is_tree tree_after (λ l q h. h)
-      (let le = below_top (memory_of limits entries) state.is_tree ((memory_of limits (entries ++ Begin a c ∷ [])).slots 0) ((is_indexed (memory_of limits (entries ++ Begin a c ∷ [])) tree_after).top) [] Indexed (root_indexed (memory_of limits (entries ++ Begin a c ∷ [])) tree_after) in omega arith)
-      (λ pid. begins_in_phase limits entries a c pid (phase_of (state.owners.page pid)) (state.in_phase pid)) (begins_only limits entries a c state.owners.page state.in_phase state.only_phase) state.indexed;
-}
+begins limits entries a c state below idle =
+    let rows_longer : (b q : ℕ) → IsInLimbo (entries ++ Begin a c ∷ []) b (UnlinksRow limits (entries ++ Begin a c ∷ []) b q) (HandsRow q) ((knows entries b).limbo.rows q) =
+    λ b q. limbo_push entries (Begin a c) (UnlinksRow limits entries b q) (UnlinksRow limits (entries ++ Begin a c ∷ []) b q) (HandsRow q) (row_longer entries (Begin a c) limits b q) b ((knows entries b).limbo.rows q) (λ f other s x h. absurd (let e = h.1 in cc)) (state.limbo_rows b q) in
+    let pids_longer : (b q : ℕ) → IsInLimbo (entries ++ Begin a c ∷ []) b (UnlinksPid limits (entries ++ Begin a c ∷ []) b q) (HandsPid q) ((knows entries b).limbo.pids q) =
+    λ b q. limbo_push entries (Begin a c) (UnlinksPid limits entries b q) (UnlinksPid limits (entries ++ Begin a c ∷ []) b q) (HandsPid q) (pid_longer entries (Begin a c) limits b q) b ((knows entries b).limbo.pids q) (λ f other s x h. absurd (let e = h.1 in cc)) (state.limbo_pids b q) in
+    let tree_after : IsTree (shared (memory_of limits (entries ++ Begin a c ∷ []))) (log_of (entries ++ Begin a c ∷ []) (state.points ++ false ∷ [])) state.owners (knows (entries ++ Begin a c ∷ [])) (put state.point a None) (put state.logs a []) =
+    rw (memory_of-push limits entries (Begin a c), log_of-push entries state.points (Begin a c) false state.marked.beside, knows-push entries (Begin a c)) (tree_begins state.is_tree a c) in
+    record {
+      points = state.points ++ false ∷ [];
+      owners = state.owners;
+      point = put state.point a None;
+      logs = put state.logs a [];
+      is_tree = tree_after;
+      fitted = rw (memory_of-push limits entries (Begin a c)) state.fitted;
+      named = rw (memory_of-push limits entries (Begin a c), knows-push entries (Begin a c)) (named_begins limits entries state.owners (memory_of limits entries) (knows entries) a c state.named (command_of-push entries (Begin a c)));
+      tells = λ b asked e. by_test b a (λ t. cond t (Some c) (command_of entries b) ≡ Some asked → Tells (entries ++ Begin a c ∷ []) (state.points ++ false ∷ []) b asked (cond t None (state.point b)) (cond t [] (state.logs b)))
+          (λ i f. let same : c ≡ asked = cc in rw i (subst (λ d. Tells (entries ++ Begin a c ∷ []) (state.points ++ false ∷ []) a d None []) same (tells_new entries (state.points ++ false ∷ []) a c)))
+          (λ ne f. tells_other entries state.points (Begin a c) false state.marked.beside b asked (state.point b) (state.logs b) (λ d i. ne (let j : a ≡ b = cc in sym j)) (λ s x r i. absurd (cc)) (state.tells b asked f))
+          (subst (λ k. k b ≡ Some asked) (command_of-push entries (Begin a c)) e);
+      searches = searches_begin;
+      stood = stood_begin;
+      marked = marked_push entries state.points (Begin a c) false state.marked.beside limits state.marked (λ e. absurd (cc)) (λ e. absurd (cc)) (λ op s x r is e u. absurd (cc)) (λ e. absurd (cc));
+      run = IsRun-push limits entries (Begin a c) state.run (below, idle);
+      ends = ends_push entries (Begin a c) state.ends tt;
+      updates = updates_push limits entries state.points (Begin a c) false state.marked.beside state.updates (λ h. absurd (let e = h.0 in cc), λ h. absurd (let e = h.5.0.1 in cc));
+      quiet = quiet_push entries state.points (Begin a c) false state.marked.beside limits state.quiet
+          (rw (memory_of-push limits entries (Begin a c), log_of-push entries state.points (Begin a c) false state.marked.beside) (map_of state.is_tree));
+      in_phase = λ pid. begins_in_phase limits entries a c pid (phase_of (state.owners.page pid)) (state.in_phase pid);
+      only_phase = begins_only limits entries a c state.owners.page state.in_phase state.only_phase;
+      phases = begins_phases limits entries a c state.phases;
+      limbo_rows = rw (knows-push entries (Begin a c)) (λ b q. by_test b a (λ z. IsInLimbo (entries ++ Begin a c ∷ []) b (UnlinksRow limits (entries ++ Begin a c ∷ []) b q) (HandsRow q) ((cond z (begun (knows entries a) c) (knows entries b)).limbo.rows q)) (λ i. rw i (rows_longer a q)) (λ ne. rows_longer b q));
+      limbo_pids = rw (knows-push entries (Begin a c)) (λ b q. by_test b a (λ z. IsInLimbo (entries ++ Begin a c ∷ []) b (UnlinksPid limits (entries ++ Begin a c ∷ []) b q) (HandsPid q) ((cond z (begun (knows entries a) c) (knows entries b)).limbo.pids q)) (λ i. rw i (pids_longer a q)) (λ ne. pids_longer b q));
+      freed = record {
+        pids = λ n b word bits pid x h among. elim (TakesStep-push_cases entries (Begin a c) n b (ReusePids word bits) x h) [
+          | inl before ↦ freed_push entries (Begin a c) (UnlinksPid limits entries b pid) (UnlinksPid limits (entries ++ Begin a c ∷ []) b pid) (HandsPid pid) (pid_longer entries (Begin a c) limits b pid) limits b n (slice_get_below entries n _ before.1) (state.freed.pids n b word bits pid x before among)
+          | inr at ↦ absurd (let e = at.1.1 in cc)
+        ];
+        rows = λ n b word bits row x h among. elim (TakesStep-push_cases entries (Begin a c) n b (ReuseRows word bits) x h) [
+          | inl before ↦ freed_push entries (Begin a c) (UnlinksRow limits entries b row) (UnlinksRow limits (entries ++ Begin a c ∷ []) b row) (HandsRow row) (row_longer entries (Begin a c) limits b row) limits b n (slice_get_below entries n _ before.1) (state.freed.rows n b word bits row x before among)
+          | inr at ↦ absurd (let e = at.1.1 in cc)
+        ];
+      };
+      times = state.times;
+      timed = rw (memory_of-push limits entries (Begin a c), knows-push entries (Begin a c), pushed_length entries (Begin a c)) (begin_timed state.is_tree state.timed a c);
+      faithful = faithful_push limits entries (Begin a c) state.faithful (λ b row x h. let e = h.1 in absurd (cc)) (λ b s x h z. let e = h.1 in absurd (cc));
+      rooted = λ b p e. by_test b a (λ t. (cond t (begun (knows entries a) c) (knows entries b)).read.roots p ≡ true → (level : ℕ) × IsFirst state.owners level p)
+          (λ i f. state.rooted a p f) (λ ne f. state.rooted b p f)
+          (subst (λ (ks : ℕ → Knowledge). (ks b).read.roots p ≡ true) (knows-push entries (Begin a c)) e);
+      indexed = indexed_push limits entries (Begin a c) state.is_tree tree_after (λ l q h. h)
+          (let le = below_top (memory_of limits entries) state.is_tree ((memory_of limits (entries ++ Begin a c ∷ [])).slots 0) ((is_indexed (memory_of limits (entries ++ Begin a c ∷ [])) tree_after).top) [] Indexed (root_indexed (memory_of limits (entries ++ Begin a c ∷ [])) tree_after) in omega arith)
+          (λ pid. begins_in_phase limits entries a c pid (phase_of (state.owners.page pid)) (state.in_phase pid)) (begins_only limits entries a c state.owners.page state.in_phase state.only_phase) state.indexed;
+    }
   where
-    rows_longer : (b q : ℕ) → IsInLimbo (entries ++ Begin a c ∷ []) b (UnlinksRow limits (entries ++ Begin a c ∷ []) b q) (HandsRow q) ((knows entries b).limbo.rows q)
-    rows_longer b q = limbo_push entries (Begin a c) (UnlinksRow limits entries b q) (UnlinksRow limits (entries ++ Begin a c ∷ []) b q) (HandsRow q) (row_longer entries (Begin a c) limits b q) b ((knows entries b).limbo.rows q) (λ f other s x h. absurd (let e = h.1 in cc)) (state.limbo_rows b q)
-
-    pids_longer : (b q : ℕ) → IsInLimbo (entries ++ Begin a c ∷ []) b (UnlinksPid limits (entries ++ Begin a c ∷ []) b q) (HandsPid q) ((knows entries b).limbo.pids q)
-    pids_longer b q = limbo_push entries (Begin a c) (UnlinksPid limits entries b q) (UnlinksPid limits (entries ++ Begin a c ∷ []) b q) (HandsPid q) (pid_longer entries (Begin a c) limits b q) b ((knows entries b).limbo.pids q) (λ f other s x h. absurd (let e = h.1 in cc)) (state.limbo_pids b q)
-
-    now : IsTree (shared (memory_of limits entries)) (log_of entries state.points) state.owners (put (knows entries) a (begun (knows entries a) c)) (put state.point a None) (put state.logs a [])
-    now = tree_begins state.is_tree a c
-
-    tree_after : IsTree (shared (memory_of limits (entries ++ Begin a c ∷ []))) (log_of (entries ++ Begin a c ∷ []) (state.points ++ false ∷ [])) state.owners (knows (entries ++ Begin a c ∷ [])) (put state.point a None) (put state.logs a [])
-    tree_after = rw (memory_of-push limits entries (Begin a c), log_of-push entries state.points (Begin a c) false state.marked.beside, knows-push entries (Begin a c)) now
-
     -- what is so of each unfinished operation: the one that begins, and those of others
     unfinished_begin : (P : Operation → Knowledge → Type 0) → P (operation_of (length entries) a c) (begun (knows entries a) c)
         → ((op : Operation) → IsOperation entries op → IsUnended entries op.start op.actor → command_of entries op.actor ≡ Some op.command → P op (knows entries op.actor))

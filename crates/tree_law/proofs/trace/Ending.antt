@@ -1,17 +1,6 @@
 -- Operations end at their leaves.
-use Rattle.std.proofs.Common.{◌≡◌, inl, inr, ℕ, List, [], ◌∷◌, ◌++◌, Option, None, Some, refl, sym, subst}
-use Rattle.std.specs.Prelude.{IfSome, IsSome}
-use Rattle.bw_model.specs.declared.command.Reply.{Reply}
-use Rattle.bw_model.specs.declared.limits.Limits.{Limits}
-use Rattle.bw_model.specs.declared.step.Answer.{Answer}
-use Rattle.bw_model.specs.declared.step.Step.{Step as StepOf}
-use Rattle.bw_model.specs.declared.step.Step.TheVariants.{Leave}
-use Rattle.deltas.specs.declared.record.Record.{Record}
-use Rattle.chain_search.specs.declared.trace.Entry.{Entry}
-use Rattle.chain_search.specs.declared.trace.Entry.TheVariants.{Step}
-use Rattle.chain_search.specs.Discipline.{MayReply}
-use Rattle.chain_search.specs.Knowledge.{Knowledge}
-use Rattle.chain_search.proofs.Pushes.{slice_get-push_cases}
+use Rattle.tree_law.proofs.Words.{[], refl, Option, None, List, inl, ◌++◌, inr, ◌∷◌, subst, sym, ℕ, ◌≡◌, Some, IsSome, IfSome, Reply, Limits, Answer, StepOf, Leave, Record, slice_get-push_cases}
+use Rattle.tree_law.proofs.Words.{MayReply, Knowledge, Entry, Step}
 use Rattle.op_machine.specs.Operations.{EndAtLeaves, RepliesAtLeave}
 
 pub ends_none : EndAtLeaves []

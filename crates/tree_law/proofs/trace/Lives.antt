@@ -1,29 +1,11 @@
 -- One more entry: the life of each page, and that nothing is used again.
-use Rattle.std.proofs.Common.{◌≡◌, ◌⊎◌, inl, inr, ℕ, suc, List, [], ◌∷◌, ◌++◌, length, Option, true, ◌<◌, refl, sym, ◌∙◌, subst, arith}
-use Rattle.bw_model.specs.declared.command.Command.{Command}
-use Rattle.bw_model.specs.declared.limits.Limits.{Limits}
-use Rattle.bw_model.specs.declared.step.Step.{Step as StepOf}
-use Rattle.bw_model.specs.declared.step.Step.TheVariants.{TakePid}
-use Rattle.bw_model.specs.declared.command.Reply.{Reply}
-use Rattle.bw_model.specs.declared.step.Answer.{Answer}
-use Rattle.bw_model.specs.declared.step.Answer.TheVariants.{Whether}
+use Rattle.tree_law.proofs.Words.{◌⊎◌, [], refl, Option, suc, List, true, inl, length, ◌++◌, inr, ◌∷◌, subst, sym, ℕ, ◌≡◌, ◌∙◌, ◌<◌, arith, Command, Reply, Limits, Answer, Whether, StepOf, TakePid}
+use Rattle.tree_law.proofs.Words.{Memory, Record, Remove, RemoveOf, Happens-kept, Happens-push_cases, IsChainOf, IsAnswer, memory_of, IsUnheld, Entry, Begin, Step, Wins, Installs, free, IsInPhase}
+use Rattle.tree_law.proofs.Words.{MovesPhase, removes, Phase, cleared, splits, merges, becomes_root, reuses, under_root, terms, holds, unterms, PageOwner, phase_of}
 use Rattle.bw_model.specs.declared.step.Link.TheVariants as link
-use Rattle.deltas.specs.declared.record.Record.{Record}
-use Rattle.deltas.specs.declared.record.Record.TheVariants.{Remove}
-use Rattle.deltas.specs.declared.record.Remove.{Remove as RemoveOf}
-use Rattle.deltas.specs.Memory.{Memory}
-use Rattle.chain_search.specs.declared.trace.Entry.{Entry}
-use Rattle.chain_search.specs.declared.trace.Entry.TheVariants.{Begin, Step}
-use Rattle.chain_search.specs.Chains.{IsChainOf}
-use Rattle.chain_search.specs.Steps.{IsAnswer}
-use Rattle.chain_search.specs.Trace.{memory_of}
-use Rattle.chain_search.specs.Unheld.{IsUnheld}
-use Rattle.chain_search.proofs.TraceLaws.{Happens-below, Happens-kept, Happens-push_cases, Happens-last}
-use Rattle.op_machine.specs.Links.{Installs, Wins}
-use Rattle.op_machine.specs.Phases.{Phase, free, cleared, MovesPhase, takes, splits, becomes_root, terms, under_root, holds, removes, merges, unterms, reuses, IsInPhase, KeepsPhases}
+use Rattle.chain_search.proofs.TraceLaws.{Happens-below, Happens-last}
+use Rattle.op_machine.specs.Phases.{takes, KeepsPhases}
 use Rattle.op_machine.proofs.PhaseLaws.{IsInPhase-moved, IsInPhase-rested, KeepsPhases-push}
-use Rattle.tree_law.specs.State.{phase_of}
-use Rattle.tree_law.specs.Phase.{PageOwner}
 use Rattle.tree_law.proofs.trace.Owned.{pushed_length}
 
 -- a begin moves nothing
@@ -42,15 +24,7 @@ begin_still (reuses b word bits answer step among) = let e = step.1 in cc
 -- a move leaves its phase
 moves_on : {m : Memory} {entry : Entry} {pid : ℕ} {from to : Phase} → MovesPhase m entry pid from to → from ≡ to → ⊥
 moves_on (takes b step) e = cc
-moves_on (splits slot split installs at) e = cc
-moves_on (becomes_root makes) e = cc
-moves_on (terms slot term installs at) e = cc
-moves_on (under_root root chain key held makes stands above said) e = cc
-moves_on (holds slot hold installs at) e = cc
-moves_on (removes remove installs) e = cc
-moves_on (merges slot merge chain installs stood right) e = cc
-moves_on (unterms slot unterm installs at) e = cc
-moves_on (reuses b word bits answer step among) e = cc
+moves_on m e = cc
 
 -- what leaves the free ones is taken from them
 taken_from : {m : Memory} {a : ℕ} {s : StepOf Record} {x : Answer Record} {r : Option Reply} {pid : ℕ} {from to : Phase} → MovesPhase m (Step a s x r) pid from to → from ≡ free → IsAnswer m s x → m.free_pids pid ≡ true
@@ -61,14 +35,7 @@ taken_from {m} {a} {s} {x} {r} {pid} (takes b step) e is =
     let says : x ≡ Whether (m.free_pids pid) = subst (λ t. IsAnswer m t x) i is in
     cc (says, j)
 taken_from (splits slot split installs at) e is = absurd (cc)
-taken_from (becomes_root makes) e is = absurd (cc)
-taken_from (terms slot term installs at) e is = absurd (cc)
-taken_from (under_root root chain key held makes stands above said) e is = absurd (cc)
-taken_from (holds slot hold installs at) e is = absurd (cc)
-taken_from (removes remove installs) e is = absurd (cc)
-taken_from (merges slot merge chain installs stood right) e is = absurd (cc)
-taken_from (unterms slot unterm installs at) e is = absurd (cc)
-taken_from (reuses b word bits answer step among) e is = absurd (cc)
+taken_from m e is = absurd (cc)
 
 -- a PID that is not free is one of the stated number
 pub pid_below_after : {m : Memory} {a : ℕ} {s : StepOf Record} {x : Answer Record} {r : Option Reply} (limits : Limits) (f f' : ℕ → PageOwner) → IsAnswer m s x

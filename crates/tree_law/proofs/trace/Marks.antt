@@ -1,25 +1,10 @@
 -- One more entry, marked or not.
-use Rattle.std.proofs.Common.{◌≡◌, ◌<◌, inl, inr, ℕ, zero, suc, List, [], ◌∷◌, ◌++◌, length, take, Option, Some, None, Bool, true, false, cond, refl, sym, ap, ◌∙◌, subst, arith}
-use Rattle.std.specs.Prelude.{MatchOption}
-use Rattle.std.proofs.lemmas.Bool.{cases_lt}
-use Rattle.bw_model.specs.declared.command.Command.{Command}
-use Rattle.bw_model.specs.declared.command.Reply.{Reply}
-use Rattle.bw_model.specs.declared.limits.Limits.{Limits}
-use Rattle.bw_model.specs.declared.step.Answer.{Answer}
-use Rattle.bw_model.specs.declared.step.Step.{Step as StepOf}
-use Rattle.bw_model.specs.Log.{Update}
-use Rattle.deltas.specs.declared.record.Record.{Record}
-use Rattle.chain_search.specs.declared.trace.Entry.{Entry}
-use Rattle.chain_search.specs.declared.trace.Entry.TheVariants.{Begin, Step}
-use Rattle.chain_search.specs.Trace.{memory_of, memory_at, command_of}
-use Rattle.chain_search.proofs.Pushes.{slice_get-push, slice_get_kept, slice_get_below, take-push, take-push_whole}
-use Rattle.chain_search.proofs.TraceLaws.{memory_at-push}
+use Rattle.tree_law.proofs.Words.{false, [], ap, refl, cond, Option, suc, None, List, true, inl, length, ◌++◌, inr, ◌∷◌, subst, sym, ℕ, ◌≡◌, Bool, zero, ◌∙◌, ◌<◌, arith, Some, take, cases_lt}
+use Rattle.tree_law.proofs.Words.{MatchOption, Update, Command, Reply, Limits, Answer, StepOf, Record, slice_get_below, slice_get_kept, slice_get-push, take-push, take-push_whole, memory_at-push}
+use Rattle.tree_law.proofs.Words.{memory_at, command_of, memory_of, Entry, Begin, Step, log_at-push, IsOperation, Operation, Finishes, IsOwnStep, log_at, log_of, IsPoint, HasMapOf, IsQuiet, Tells}
+use Rattle.tree_law.proofs.Words.{operation_of, IsUnended, IsAnsweredBy, IsMarked, HasFound}
 use Rattle.op_machine.specs.Answered.{IsLeafOf}
-use Rattle.op_machine.specs.Operations.{Operation, IsOperation, IsOwnStep, Finishes}
-use Rattle.op_machine.specs.Points.{IsPoint, log_of, log_at}
-use Rattle.op_machine.specs.Quiet.{IsQuiet, HasMapOf}
-use Rattle.op_machine.proofs.LogLaws.{log_at-push}
-use Rattle.tree_law.specs.State.{IsUnended, operation_of, Tells, Justifies, HasFound, IsAnsweredBy, IsMarked}
+use Rattle.tree_law.specs.State.{Justifies}
 use Rattle.tree_law.proofs.trace.Searches.{held_back_kept, nothing_free_kept}
 use Rattle.tree_law.proofs.trace.Owned.{pushed_length, point_below, point_last, own_step_kept, own_cases, step_cases, step_below, own_new, unended_kept, operation_old}
 
@@ -118,17 +103,16 @@ module _ (entries : List Entry) (points : List Bool) (last : Entry) (mark : Bool
   -- what is told of an actor whose entry this isn't
   pub tells_other : (b : ℕ) (asked : Command) (point : Option (List Update)) (logs : List (List Update)) → ((c : Command) → last ≡ Begin b c → ⊥)
       → ((step : StepOf Record) (answer : Answer Record) (reply : Option Reply) → last ≡ Step b step answer reply → ⊥) → Tells entries points b asked point logs → Tells entries' points' b asked point logs
-  tells_other b asked point logs no_begin no_step t = record {
-    start = t.start;
-    begins = slice_get_kept entries (last ∷ []) t.start _ t.begins;
-    unended = unended_kept entries last t.start b t.unended no_begin;
-    logs_at = λ l among. let h = t.logs_at l among in logs_kept h.0 h.1 h.2 h.3;
-    point_at = point_kept point t.point_at;
-  }
+  tells_other b asked point logs no_begin no_step t =
+      let op : Operation = operation_of t.start b asked in
+      record {
+        start = t.start;
+        begins = slice_get_kept entries (last ∷ []) t.start _ t.begins;
+        unended = unended_kept entries last t.start b t.unended no_begin;
+        logs_at = λ l among. let h = t.logs_at l among in logs_kept h.0 h.1 h.2 h.3;
+        point_at = point_kept point t.point_at;
+      }
     where
-      op : Operation
-      op = operation_of t.start b asked
-
       logs_kept : {l : List Update} (m : ℕ) → IsOwnStep entries (operation_of t.start b asked) m → log_at entries points m ≡ l → command_of (take m entries) b ≡ Some asked
           → (n : ℕ) × IsOwnStep entries' (operation_of t.start b asked) n × (log_at entries' points' n ≡ l) × (command_of (take n entries') b ≡ Some asked)
       logs_kept m own same asks =
@@ -159,10 +143,9 @@ module _ (entries : List Entry) (points : List Bool) (last : Entry) (mark : Bool
       new = own_new entries last t.start a asked step answer reply t.begins t.unended is
 
       last_log : log_at entries' points' (length entries) ≡ log
-      last_log = log_at-push entries points (last ∷ []) (mark ∷ []) (length entries) beside (omega arith) ∙ whole ∙ now
-        where
-          whole : log_at entries points (length entries) ≡ log_of entries points
-          whole = rw (take_whole entries (length entries) refl, take_whole points (length entries) (sym beside)) refl
+      last_log =
+          let whole : log_at entries points (length entries) ≡ log_of entries points = rw (take_whole entries (length entries) refl, take_whole points (length entries) (sym beside)) refl in
+          log_at-push entries points (last ∷ []) (mark ∷ []) (length entries) beside (omega arith) ∙ whole ∙ now
 
       logs_kept : {l : List Update} (m : ℕ) → IsOwnStep entries (operation_of t.start a asked) m → log_at entries points m ≡ l → command_of (take m entries) a ≡ Some asked
           → (n : ℕ) × IsOwnStep entries' (operation_of t.start a asked) n × (log_at entries' points' n ≡ l) × (command_of (take n entries') a ≡ Some asked)

@@ -1,50 +1,22 @@
 -- One more entry: what the names that actors have learnt are, and what is read.
-use Rattle.std.proofs.Common.{◌≡◌, ◌≢◌, ◌<◌, ◌≤◌, ◌+◌, ◌^◌, ◌⊎◌, inl, inr, ℕ, zero, suc, List, [], ◌∷◌, ◌++◌, length, Option, Some, None, Bool, true, false, cond, eqb, refl, sym, ap, ◌∙◌, subst, arith}
-use Rattle.std.specs.Prelude.{MatchOption, IsFalse, unwrap_or}
-use Rattle.std.specs.List.{Contains}
-use Rattle.std.proofs.lemmas.Option.{same_Some}
-use Rattle.bw_model.specs.declared.command.Command.{Command}
-use Rattle.bw_model.specs.declared.command.Reply.{Reply}
-use Rattle.bw_model.specs.declared.limits.Limits.{Limits}
-use Rattle.bw_model.specs.declared.step.Answer.{Answer}
-use Rattle.bw_model.specs.declared.step.Answer.TheVariants.{Number, Content, Whether}
-use Rattle.bw_model.specs.declared.step.Step.{Step as StepOf}
-use Rattle.bw_model.specs.declared.step.Step.TheVariants.{Slot, Row, Epoch, Announce, PidBits, RowBits, Place, Exchange, TakePid, TakeRow, Enter, Leave, Retire, ReusePids, ReuseRows}
-use Rattle.bw_model.specs.Log.{Update}
-use Rattle.deltas.specs.declared.record.Record.{Record}
+use Rattle.tree_law.proofs.Words.{false, ◌⊎◌, [], ap, refl, cond, Option, suc, None, List, true, inl, ◌≢◌, length, ◌++◌, ◌≤◌, inr, ◌∷◌, subst, sym, ℕ, ◌≡◌, Bool, zero, ◌∙◌, ◌<◌, arith, Some, ◌+◌, ◌^◌}
+use Rattle.tree_law.proofs.Words.{eqb, same_Some, Contains, MatchOption, unwrap_or, IsFalse, Update, Command, Reply, Limits, Answer, Whether, Content, Number, StepOf, ReuseRows, ReusePids, Leave}
+use Rattle.tree_law.proofs.Words.{TakePid, Row, Place, TakeRow, Slot, Enter, Exchange, Retire, Memory, next_row, Record, Base, slice_get_below, slice_get-push, take-push_whole, TakesStep-push_cases}
+use Rattle.tree_law.proofs.Words.{memory_at-push, IsOnChain, chain_rows, IsChainFrom, May, begun, Knowledge, knows_after, finished, Ready, learn, learnt_next, ShowsRow, IsAnswer, memory_after}
+use Rattle.tree_law.proofs.Words.{memory_at, command_of, memory_of, IsStep, commands_after, Entry, Begin, Step, Key, IsReuse, IsMoved, Free, Linked, Owners, Reached, Spare, Placed, PageOwner, Cleared}
+use Rattle.tree_law.proofs.Words.{put, shared, slot_in, row_in, IsReadyPage, phase_of, IsInTree, IsNamed, IsTree}
 use Rattle.base_page.specs.Pages as pages
-use Rattle.deltas.specs.declared.record.Record.TheVariants.{Base}
-use Rattle.deltas.specs.Records.{next_row}
-use Rattle.deltas.specs.Memory.{Memory}
-use Rattle.chain_search.specs.declared.trace.Entry.{Entry}
-use Rattle.chain_search.specs.declared.trace.Entry.TheVariants.{Begin, Step}
-use Rattle.chain_search.specs.Chains.{IsChainFrom, IsOnChain, chain_rows}
-use Rattle.chain_search.specs.Learnt.{ShowsRow}
 use Rattle.chain_search.specs.Run.{MayTake}
-use Rattle.chain_search.specs.Steps.{IsAnswer, memory_after}
-use Rattle.chain_search.specs.Trace.{memory_of, memory_at, command_of, commands_after, IsStep}
-use Rattle.chain_search.proofs.Pushes.{slice_get-push, slice_get_below, take-push_whole}
-use Rattle.chain_search.proofs.TraceLaws.{memory_at-push, TakesStep-push_cases, HasLearnt-push_cases}
+use Rattle.chain_search.proofs.TraceLaws.{HasLearnt-push_cases}
 use Rattle.op_machine.specs.Phases as phase
 use Rattle.op_machine.specs.Faithful.{IsFaithful, KnowsRow, Disturbs, touches_pages}
 use Rattle.op_machine.proofs.FaithLaws.{KnowsRow-before, KnowsRow-kept, KnowsRow-shown}
-use Rattle.chain_search.specs.Discipline.{May}
-use Rattle.chain_search.specs.Knowledge.{Ready, Knowledge, begun, learnt_next, learn, going_on, finished, knows_after}
-use Rattle.tree_law.specs.Next.{IsReuse, IsMoved}
-use Rattle.tree_law.specs.Owners.{Free, Spare, Linked, Owners, Reached}
-use Rattle.tree_law.specs.Keys.{Key}
-use Rattle.tree_law.specs.Phase.{PageOwner, Nobody, Keeps, Placed, Cleared}
-use Rattle.tree_law.specs.Put.{put}
-use Rattle.tree_law.specs.Shared.{row_in, slot_in, shared}
-use Rattle.tree_law.specs.State.{phase_of, IsInTree, IsReadyPage, IsNamed}
-use Rattle.tree_law.specs.Tree.{IsTree}
-use Rattle.tree_law.proofs.shape.Puts.{by_test, put_same, put_other}
+use Rattle.chain_search.specs.Knowledge.{going_on}
+use Rattle.tree_law.proofs.shape.{by_test, put_same, put_other, slot_some, chain_linked, own_spare, false_if}
 use Rattle.tree_law.proofs.links.Exchanged.{exchanged_alike}
 use Rattle.tree_law.proofs.links.Keeping.{slot_of}
-use Rattle.tree_law.proofs.shape.Mapping.{slot_some}
-use Rattle.tree_law.proofs.shape.Rows.{chain_linked}
-use Rattle.tree_law.proofs.links.Taking.{own_spare}
 use Rattle.tree_law.proofs.trace.Owned.{pushed_length}
+use Rattle.tree_law.proofs.links.Learning.{Stays, learning, wins, at_page, at_row, enters, leaves, in_rows, in_limbo, idle}
 
 pub faithful_push : (limits : Limits) (entries : List Entry) (last : Entry) → IsFaithful limits entries
     → ((b row : ℕ) (x : Answer Record) → IsStep last b (Row row) x → KnowsRow entries (length entries) b row)
@@ -102,52 +74,26 @@ abbrev Shown : StepOf Record → Answer Record → ℕ → Type 0
 Shown s x r = ((p : ℕ) × (0 < p) × (s ≡ Slot p) × (x ≡ Number r)) ⊎ ((above : ℕ) × (w : Record) × (s ≡ Row above) × (x ≡ Content w) × (next_row w ≡ Some r))
 
 learn_command : (k : Knowledge) (s : StepOf Record) (x : Answer Record) → (learn k s x).asked.command ≡ k.asked.command
-learn_command k (Slot zero) (Number n) = refl
-learn_command k (Slot (suc p)) (Number zero) = refl
-learn_command k (Slot (suc p)) (Number (suc n)) = refl
-learn_command k (Row r) (Content w) = refl
-learn_command k Epoch (Number n) = refl
-learn_command k (Announce b) (Number n) = refl
-learn_command k (PidBits w) (Number n) = refl
-learn_command k (RowBits w) (Number n) = refl
-learn_command k (TakePid p) (Whether true) = refl
-learn_command k (TakePid p) (Whether false) = refl
-learn_command k (TakeRow r) (Whether true) = refl
-learn_command k (TakeRow r) (Whether false) = refl
-learn_command k (Exchange p x y) (Whether true) = (exchanged_alike p x y k).command
-learn_command k (Exchange p x y) (Whether false) = refl
-learn_command k s x = refl
-
--- an actor that goes on is neither entering nor leaving
-abbrev Stays : StepOf Record → Type 0
-Stays (Enter e) = ⊥
-Stays Leave = ⊥
-Stays s = Unit {0}
+learn_command k s x = elim (learning k s x) as (λ s x k' v. k'.asked.command ≡ k.asked.command) [ wins p y z ↦ (exchanged_alike p y z k).command | v ↦ refl ]
 
 learnt_cases : (k : Knowledge) (s : StepOf Record) (x : Answer Record) (r : ℕ) → (learn k s x).read.learnt r ≡ true → ((k.read.learnt r ≡ true) × Stays s) ⊎ Shown s x r
-learnt_cases k (Slot zero) (Number n) r e = inl (e, tt)
-learnt_cases k (Slot (suc p)) (Number zero) r e = inl (e, tt)
-learnt_cases k (Slot (suc p)) (Number (suc n)) r e = by_test r (suc n) (λ t. cond t true (k.read.learnt r) ≡ true → ((k.read.learnt r ≡ true) × Unit {0}) ⊎ Shown (Slot (suc p)) (Number (suc n)) r)
-    (λ i f. inr (inl (suc p, omega arith, refl, ap Number (sym i)))) (λ ne f. inl (f, tt)) e
-learnt_cases k (Row q) (Content w) r e = go (next_row w) refl e
+learnt_cases k s x r e = (elim (learning k s x) as (λ s x k' v. k'.read.learnt r ≡ true → ((k.read.learnt r ≡ true) × Stays s) ⊎ Shown s x r) [
+  | at_page p n ↦ by_test r (suc n) (λ t. cond t true (k.read.learnt r) ≡ true → ((k.read.learnt r ≡ true) × Unit {0}) ⊎ Shown (Slot (suc p)) (Number (suc n)) r)
+      (λ i f. inr (inl (suc p, omega arith, refl, ap Number (sym i)))) (λ ne f. inl (f, tt))
+  | at_row q w ↦ go q w (next_row w) refl
+  | wins p y z ↦ λ f. inl (subst (λ f. f r ≡ true) (ap (λ v. v.learnt) (exchanged_alike p y z k).read) f, tt)
+  | enters n y ↦ λ f. absurd (cc)
+  | leaves y ↦ λ f. absurd (cc)
+  | in_rows rows st ↦ λ f. inl (f, st)
+  | in_limbo limbo st ↦ λ f. inl (f, st)
+  | idle st ↦ λ f. inl (f, st)
+  | v ↦ λ f. inl (f, tt)
+]) e
   where
-    go : (o : Option ℕ) → next_row w ≡ o → learnt_next o k.read.learnt r ≡ true → ((k.read.learnt r ≡ true) × Unit {0}) ⊎ Shown (Row q) (Content w) r
-    go None i f = inl (f, tt)
-    go (Some n) i f = by_test r n (λ t. cond t true (k.read.learnt r) ≡ true → ((k.read.learnt r ≡ true) × Unit {0}) ⊎ Shown (Row q) (Content w) r)
+    go : (q : ℕ) (w : Record) (o : Option ℕ) → next_row w ≡ o → learnt_next o k.read.learnt r ≡ true → ((k.read.learnt r ≡ true) × Unit {0}) ⊎ Shown (Row q) (Content w) r
+    go q w None i f = inl (f, tt)
+    go q w (Some n) i f = by_test r n (λ t. cond t true (k.read.learnt r) ≡ true → ((k.read.learnt r ≡ true) × Unit {0}) ⊎ Shown (Row q) (Content w) r)
         (λ j g. inr (inr (q, w, refl, refl, i ∙ ap Some (sym j)))) (λ ne g. inl (g, tt)) f
-learnt_cases k Epoch (Number n) r e = inl (e, tt)
-learnt_cases k (Announce b) (Number n) r e = inl (e, tt)
-learnt_cases k (PidBits w) (Number n) r e = inl (e, tt)
-learnt_cases k (RowBits w) (Number n) r e = inl (e, tt)
-learnt_cases k (TakePid p) (Whether true) r e = inl (e, tt)
-learnt_cases k (TakePid p) (Whether false) r e = inl (e, tt)
-learnt_cases k (TakeRow q) (Whether true) r e = inl (e, tt)
-learnt_cases k (TakeRow q) (Whether false) r e = inl (e, tt)
-learnt_cases k (Exchange p x y) (Whether true) r e = inl (subst (λ f. f r ≡ true) (ap (λ v. v.learnt) (exchanged_alike p x y k).read) e, tt)
-learnt_cases k (Exchange p x y) (Whether false) r e = inl (e, tt)
-learnt_cases k (Enter n) x r e = absurd (cc)
-learnt_cases k Leave x r e = absurd (cc)
-learnt_cases k s x r e = inl (e, tt)
 
 stays_no_enter : (s : StepOf Record) (e : ℕ) → Stays s → s ≡ Enter e → ⊥
 stays_no_enter s e h i = subst Stays i h
@@ -155,27 +101,16 @@ stays_no_enter s e h i = subst Stays i h
 stays_no_leave : (s : StepOf Record) → Stays s → s ≡ Leave → ⊥
 stays_no_leave s h i = subst Stays i h
 
-whether_same : (b c : Bool) (y : Answer Record) → y ≡ Whether b → y ≡ Whether c → b ≡ c
+pub whether_same : (b c : Bool) (y : Answer Record) → y ≡ Whether b → y ≡ Whether c → b ≡ c
 whether_same b c y e f = cc
 
 learn_inside : (k : Knowledge) (s : StepOf Record) (x : Answer Record) → Stays s → (learn k s x).inside ≡ k.inside
-learn_inside k (Slot zero) (Number n) h = refl
-learn_inside k (Slot (suc p)) (Number zero) h = refl
-learn_inside k (Slot (suc p)) (Number (suc n)) h = refl
-learn_inside k (Row r) (Content w) h = refl
-learn_inside k Epoch (Number n) h = refl
-learn_inside k (Announce b) (Number n) h = refl
-learn_inside k (PidBits w) (Number n) h = refl
-learn_inside k (RowBits w) (Number n) h = refl
-learn_inside k (TakePid p) (Whether true) h = refl
-learn_inside k (TakePid p) (Whether false) h = refl
-learn_inside k (TakeRow r) (Whether true) h = refl
-learn_inside k (TakeRow r) (Whether false) h = refl
-learn_inside k (Exchange p x y) (Whether true) h = (exchanged_alike p x y k).inside
-learn_inside k (Exchange p x y) (Whether false) h = refl
-learn_inside k (Enter e) x h = absurd h
-learn_inside k Leave x h = absurd h
-learn_inside k s x h = refl
+learn_inside k s x h = (elim (learning k s x) as (λ s x k' v. Stays s → k'.inside ≡ k.inside) [
+  | wins p y z ↦ λ st. (exchanged_alike p y z k).inside
+  | enters e y ↦ λ st. absurd st
+  | leaves y ↦ λ st. absurd st
+  | v ↦ λ st. refl
+]) h
 
 same_announced : (a : ℕ) (m : Memory) (s : StepOf Record) → Stays s → (memory_after a s m).announced ≡ m.announced
 same_announced a m (Enter e) h = absurd h
@@ -186,25 +121,14 @@ touches_inside : (a : ℕ) (k : Knowledge) (s : StepOf Record) → May a k s →
 touches_inside a k (Slot zero) h = inl h
 touches_inside a k (Slot (suc p)) h = inl h.0
 touches_inside a k (Row r) h = inl h.0
-touches_inside a k Epoch h = inr refl
-touches_inside a k (Announce b) h = inr refl
-touches_inside a k (PidBits w) h = inr refl
-touches_inside a k (RowBits w) h = inr refl
 touches_inside a k (Place r w) h = inl h.0
 touches_inside a k (Exchange p x y) h = inl h.0
-touches_inside a k (TakePid p) h = inr refl
-touches_inside a k (TakeRow r) h = inr refl
-touches_inside a k (Enter e) h = inr refl
-touches_inside a k Leave h = inr refl
-touches_inside a k (Retire e) h = inr refl
-touches_inside a k (ReusePids w b) h = inr refl
-touches_inside a k (ReuseRows w b) h = inr refl
+touches_inside a k s h = inr refl
 
 pub placed_at : (w : PageOwner) → IsInTree w → (l : ℕ) × (k : Key) × Reached 0 l k w
-placed_at Nobody h = absurd h
-placed_at (Keeps b) h = absurd h
 placed_at (Placed st l k) h = (l, k, (refl, refl, omega arith))
 placed_at (Cleared b l k) h = (l, k, (refl, refl))
+placed_at w h = absurd h
 
 row_none : (n : ℕ) → row_in n ≡ None → n ≡ 0
 row_none zero e = refl
@@ -222,7 +146,7 @@ module _ (limits : Limits) (entries : List Entry) (o : Owners) (m : Memory) (kno
   -- a step but a reuse disturbs no linked row
   pub calm : (t : StepOf Record) → (IsReuse t → ⊥) → May a (knows a) t → (y : Answer Record) → IsAnswer m t y → (q : ℕ) → o.row q ≡ Linked → Disturbs t y q → ⊥
   calm (Place row w) still_so h y i q l same =
-      let spare : o.row row ≡ Spare a = own_spare g a row ((knows a).own.rows row) (g.owns a row) h.1 in
+      let spare : o.row row ≡ Spare a = own_spare (m.rows row) ((knows a).own.rows row) (g.owns a row) h.1 in
       let l' : o.row row ≡ Linked = subst (λ n. o.row n ≡ Linked) (sym same) l in cc
   calm (TakeRow row) still_so h y i q l d =
       let free : o.row row ≡ Free = g.frees.row row (whether_same (m.free_rows row) true y i d.0) in
@@ -256,23 +180,14 @@ module _ (limits : Limits) (entries : List Entry) (o : Owners) (m : Memory) (kno
 
   -- what an actor that goes on has learnt it knows still
   learnt_stays : (k : Knowledge) (t : StepOf Record) (y : Answer Record) → Stays t → (q : ℕ) → k.read.learnt q ≡ true → (learn k t y).read.learnt q ≡ true
-  learnt_stays k (Slot zero) (Number n) st q e = e
-  learnt_stays k (Slot (suc p)) (Number zero) st q e = e
-  learnt_stays k (Slot (suc p)) (Number (suc n)) st q e = grows k.read.learnt (suc n) q e
-  learnt_stays k (Row r) (Content w) st q e = grows_next (next_row w) k.read.learnt q e
-  learnt_stays k Epoch (Number n) st q e = e
-  learnt_stays k (Announce b) (Number n) st q e = e
-  learnt_stays k (PidBits w) (Number n) st q e = e
-  learnt_stays k (RowBits w) (Number n) st q e = e
-  learnt_stays k (TakePid p) (Whether true) st q e = e
-  learnt_stays k (TakePid p) (Whether false) st q e = e
-  learnt_stays k (TakeRow r) (Whether true) st q e = e
-  learnt_stays k (TakeRow r) (Whether false) st q e = e
-  learnt_stays k (Exchange p x y) (Whether true) st q e = subst (λ (f : ℕ → Bool). f q ≡ true) (sym (ap (λ v. v.learnt) (exchanged_alike p x y k).read)) e
-  learnt_stays k (Exchange p x y) (Whether false) st q e = e
-  learnt_stays k (Enter n) y st q e = absurd st
-  learnt_stays k Leave y st q e = absurd st
-  learnt_stays k t y st q e = e
+  learnt_stays k t y st q e = (elim (learning k t y) as (λ s x k' v. Stays s → k.read.learnt q ≡ true → k'.read.learnt q ≡ true) [
+    | at_page p n ↦ λ st. grows k.read.learnt (suc n) q
+    | at_row r w ↦ λ st. grows_next (next_row w) k.read.learnt q
+    | wins p x z ↦ λ st. subst (λ (f : ℕ → Bool). f q ≡ true) (sym (ap (λ v. v.learnt) (exchanged_alike p x z k).read))
+    | enters n x ↦ λ st e. absurd st
+    | leaves x ↦ λ st e. absurd st
+    | v ↦ λ st e. e
+  ]) st e
 
   stays_or : (t : StepOf Record) → May a (knows a) t → (q : ℕ) → (knows a).read.learnt q ≡ true → ((q : ℕ) → (knows a).read.learnt q ≡ true → (knows a).inside ≡ true) → (t ≡ Leave) ⊎ Stays t
   stays_or (Enter n) h q e inside = absurd (let i = inside q e in let f = h.0 in cc)
@@ -380,7 +295,7 @@ module _ (limits : Limits) (entries : List Entry) (o : Owners) (m : Memory) (kno
         | inr l ↦ inr (by_test b a (λ t. (cond t (finished (learn (knows a) s x) r) (knows b)).read.learnt q ≡ true)
             (λ i. let l' : (knows a).read.learnt q ≡ true = subst (λ n. (knows n).read.learnt q ≡ true) i l in
             elim (stays_or s may q l' inside) [
-              | inl leaves ↦ let back = sym i in absurd (before.1 x (r, λ d. Step (back d) (leaves d) x r))
+              | inl left ↦ let back = sym i in absurd (before.1 x (r, λ d. Step (back d) (left d) x r))
               | inr st ↦ learnt_stays (knows a) s x st q l'
             ])
             (λ ne. l))
@@ -429,7 +344,7 @@ module _ (limits : Limits) (entries : List Entry) (o : Owners) (m : Memory) (kno
 
   pub may_take : memory_of limits entries ≡ m → (t : StepOf Record) → May a (knows a) t → MayTake limits entries a t
   may_take same (Place row w) h = record {
-    taken = rw same (not_free (m.free_rows row) refl);
+    taken = rw same (false_if (m.free_rows row) (λ e. let f : o.row row ≡ Free = g.frees.row row e in let sp = spare in cc));
     unlinked = λ on. unlinked (subst (λ n. IsOnChain n row) same on);
     unlearnt = λ other ne learnt. elim (old.shown other row learnt) [
       | inl z ↦ let f : o.row row ≡ Free = ap o.row z ∙ old.zero_free in let sp = spare in absurd (cc)
@@ -438,11 +353,7 @@ module _ (limits : Limits) (entries : List Entry) (o : Owners) (m : Memory) (kno
   }
     where
       spare : o.row row ≡ Spare a
-      spare = own_spare g a row ((knows a).own.rows row) (g.owns a row) h.1
-
-      not_free : (t : Bool) → m.free_rows row ≡ t → m.free_rows row ≡ false
-      not_free true e = let f : o.row row ≡ Free = g.frees.row row e in let sp = spare in absurd (cc)
-      not_free false e = e
+      spare = own_spare (m.rows row) ((knows a).own.rows row) (g.owns a row) h.1
 
       -- the row is on the chain of no linked row
       apart : (x : ℕ) (c : List Record) → IsChainFrom m.rows x c → Contains (chain_rows x c) row → o.row x ≡ Linked → ⊥

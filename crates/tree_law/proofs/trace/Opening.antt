@@ -1,18 +1,8 @@
 -- The opening memory meets the invariant: one empty leaf, which is the root.
-use Rattle.std.proofs.Common.{◌≡◌, ◌≢◌, ◌⊎◌, inl, inr, ℕ, zero, suc, ◌<◌, ◌≤◌, [], ◌∷◌, Option, Some, None, Bool, false, cond, refl, sym, ap, ◌∙◌, subst, arith}
-use Rattle.std.proofs.lemmas.Bool.Decides.{nat_tests}
+use Rattle.tree_law.proofs.Words.{false, ◌⊎◌, [], ap, refl, cond, Option, suc, None, inl, ◌≢◌, ◌≤◌, inr, ◌∷◌, subst, sym, ℕ, ◌≡◌, Bool, ◌∙◌, ◌<◌, arith, Some, nat_tests, Limits, empty_leaf, opening}
+use Rattle.tree_law.proofs.Words.{Base, nothing, Key, Free, Linked, Owners, IsOut, IsLinked, Nobody, Placed, Indexed, Cleared, Fresh, rank, put, shared, slot_in, row_in, Shared, IsTree, spec}
+use Rattle.tree_law.proofs.Words.{HasSidePage, Level, IsOff, Off, SidePage}
 use Rattle.std.specs.Prelude.{nat_le}
-use Rattle.bw_model.specs.declared.limits.Limits.{Limits}
-use Rattle.base_page.specs.Pages.{empty_leaf}
-use Rattle.deltas.specs.declared.record.Record.TheVariants.{Base}
-use Rattle.deltas.specs.Memory.{opening}
-use Rattle.tree_law.specs.Keys.{Key}
-use Rattle.chain_search.specs.Knowledge.{nothing}
-use Rattle.tree_law.specs.Phase.{Fresh, Indexed, Nobody, Placed, Cleared, rank}
-use Rattle.tree_law.specs.Put.{put}
-use Rattle.tree_law.specs.Shared.{Shared, row_in, slot_in, shared}
-use Rattle.tree_law.specs.Owners.{Free, Linked, Owners, IsLinked, IsOut}
-use Rattle.tree_law.specs.Tree.{spec, SidePage, HasSidePage, Level, IsOff, Off, IsTree}
 use Rattle.tree_law.proofs.shape.Puts.{by_test}
 
 module _ (free free_pages : ℕ → Bool) (taken : free 1 ≡ false) (taken_page : free_pages 1 ≡ false) where
@@ -74,12 +64,10 @@ pub opening_slots : (limits : Limits) → slot_in (opening limits).slots ≡ put
 opening_slots limits = λ d p. at p d
   where
     at : (p : ℕ) → slot_in (opening limits).slots p ≡ put {X = Option ℕ} (λ p. None) 1 (Some 1) p
-    at zero = refl
-    at (suc zero) = refl
-    at (suc (suc p)) = by_test (suc (suc p)) 1 (λ t. row_in (cond (nat_le (suc (suc p)) 1) 1 0) ≡ cond {A = Option ℕ} t (Some 1) None) (λ e. absurd (cc)) (λ ne. ap (λ t. row_in (cond t 1 0)) (above p))
-      where
-        above : (p : ℕ) → nat_le (suc (suc p)) 1 ≡ false
-        above p = grind (arith, nat_tests)
+    at (suc (suc p)) =
+        let above : (p : ℕ) → nat_le (suc (suc p)) 1 ≡ false = λ p. grind (arith, nat_tests) in
+        by_test (suc (suc p)) 1 (λ t. row_in (cond (nat_le (suc (suc p)) 1) 1 0) ≡ cond {A = Option ℕ} t (Some 1) None) (λ e. absurd (cc)) (λ ne. ap (λ t. row_in (cond t 1 0)) (above p))
+    at p = refl
 
 abbrev pub opening_owners : Limits → Owners
 opening_owners limits = o (opening limits).free_rows (opening limits).free_pids refl refl

@@ -1,18 +1,7 @@
 -- What is an actor's own outlasts the entries of others.
-use Rattle.std.proofs.Common.{◌≡◌, ℕ, List, [], ◌∷◌, Option, Some, None, true, false, refl, ap, ◌∙◌, inl, inr, sym, subst, append_assoc, ◌++◌}
-use Rattle.std.specs.Prelude.{if◌then◌else◌}
-use Rattle.std.specs.List.{fold}
-use Rattle.std.proofs.lemmas.List.{append-nil}
-use Rattle.std.proofs.lemmas.List.Sums.{fold-append}
-use Rattle.bw_model.specs.declared.command.Command.{Command}
-use Rattle.bw_model.specs.declared.limits.Limits.{Limits}
-use Rattle.chain_search.specs.declared.trace.Entry.{Entry}
-use Rattle.chain_search.specs.declared.trace.Entry.TheVariants.{Begin, Step}
-use Rattle.chain_search.specs.Disciplined.{Extends, is_entry_of, own_entries}
-use Rattle.chain_search.specs.Knowledge.{knows_after, nothing}
-use Rattle.chain_search.specs.Recalled.{Recalled, blank, recall, recalls_after}
-use Rattle.chain_search.specs.Trace.{commands_after}
-use Rattle.tree_law.specs.Direct.{Accounts}
+use Rattle.tree_law.proofs.Words.{false, [], ap, refl, Option, None, List, true, inl, ◌++◌, inr, ◌∷◌, subst, sym, ℕ, ◌≡◌, ◌∙◌, Some, append_assoc, append-nil, fold-append, fold, if◌then◌else◌}
+use Rattle.tree_law.proofs.Words.{Command, Limits, own_entries, is_entry_of, knows_after, nothing, recall, Recalled, blank, recalls_after, commands_after, Entry, Begin, Step, Accounts}
+use Rattle.chain_search.specs.Disciplined.{Extends}
 use Rattle.tree_law.specs.Own.{OwnLasts}
 use Rattle.tree_law.proofs.trace.OwnEntries.{after_other}
 use Rattle.tree_law.proofs.shape.Puts.{eqb_false, put_other}

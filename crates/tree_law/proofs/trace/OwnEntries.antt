@@ -1,11 +1,6 @@
 -- What an actor knows comes from its own entries alone.
-use Rattle.std.proofs.Common.{◌≡◌, ℕ, List, [], ◌∷◌, true, false, refl, sym, ap, subst, ◌∙◌}
-use Rattle.std.specs.Prelude.{if◌then◌else◌}
-use Rattle.std.specs.List.{fold}
-use Rattle.chain_search.specs.declared.trace.Entry.{Entry}
-use Rattle.chain_search.specs.declared.trace.Entry.TheVariants.{Begin, Step}
-use Rattle.chain_search.specs.Knowledge.{Knowledge, nothing, begun, learn, finished, knows_after}
-use Rattle.chain_search.specs.Disciplined.{is_entry_of, own_entries}
+use Rattle.tree_law.proofs.Words.{false, [], ap, refl, List, true, ◌∷◌, subst, sym, ℕ, ◌≡◌, ◌∙◌, fold, if◌then◌else◌, own_entries, is_entry_of, begun, Knowledge, knows_after, finished, learn, nothing}
+use Rattle.tree_law.proofs.Words.{Entry, Begin, Step}
 use Rattle.tree_law.specs.TraceLaws.{KnowledgeIsOwn}
 use Rattle.tree_law.proofs.shape.Puts.{eqb_true, eqb_false, put_same, put_other}
 

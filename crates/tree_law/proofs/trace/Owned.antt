@@ -1,18 +1,9 @@
 -- One more entry: which steps are an operation's own.
-use Rattle.std.proofs.Common.{◌≡◌, ◌<◌, ◌⊎◌, inl, inr, ℕ, suc, List, [], ◌∷◌, ◌++◌, length, Option, Some, Bool, true, refl, sym, ap, ◌∙◌, arith}
-use Rattle.std.specs.Prelude.{slice_get}
-use Rattle.std.proofs.lemmas.Bool.{cases_lt}
-use Rattle.bw_model.specs.declared.command.Command.{Command}
-use Rattle.bw_model.specs.declared.command.Reply.{Reply}
-use Rattle.bw_model.specs.declared.step.Answer.{Answer}
-use Rattle.bw_model.specs.declared.step.Step.{Step as StepOf}
-use Rattle.deltas.specs.declared.record.Record.{Record}
-use Rattle.chain_search.specs.declared.trace.Entry.{Entry}
-use Rattle.chain_search.specs.declared.trace.Entry.TheVariants.{Begin, Step}
-use Rattle.chain_search.proofs.Pushes.{slice_get-push, slice_get-push_cases, slice_get_kept, slice_get_below, slice_get-append_left}
-use Rattle.op_machine.specs.Operations.{Operation, IsOperation, IsOwnEntry, IsOwnStep, TakesOwnStep}
-use Rattle.op_machine.specs.Points.{IsPoint}
-use Rattle.tree_law.specs.State.{IsUnended, operation_of}
+use Rattle.tree_law.proofs.Words.{◌⊎◌, [], ap, refl, Option, suc, List, true, inl, length, ◌++◌, inr, ◌∷◌, sym, ℕ, ◌≡◌, Bool, ◌∙◌, ◌<◌, arith, Some, cases_lt, slice_get, Command, Reply, Answer}
+use Rattle.tree_law.proofs.Words.{StepOf, Record, slice_get_below, slice_get_kept, slice_get-push_cases, slice_get-push, Entry, Begin, Step, IsOperation, Operation, IsOwnStep, TakesOwnStep, IsPoint}
+use Rattle.tree_law.proofs.Words.{operation_of, IsUnended}
+use Rattle.chain_search.proofs.Pushes.{slice_get-append_left}
+use Rattle.op_machine.specs.Operations.{IsOwnEntry}
 
 pub pushed_length : {X : Type 0} (xs : List X) (x : X) → length (xs ++ x ∷ []) ≡ suc (length xs)
 pushed_length [] x = refl

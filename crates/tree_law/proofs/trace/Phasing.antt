@@ -1,48 +1,14 @@
 -- A step moves each PID from the phase that its owner says to the one that it says afterwards.
-use Rattle.bw_model.specs.Bytes.{key_cmp}
-use Rattle.std.specs.Ordering.{is_eq}
-use Rattle.tree_law.proofs.shape.KeyOrder.{by_key, not_self}
-use Rattle.std.proofs.Common.{◌≡◌, ◌≢◌, ◌⊎◌, inl, inr, ℕ, zero, suc, ◌<◌, List, [], ◌∷◌, Option, Some, None, Bool, true, false, cond, eqb, refl, sym, ap, ◌∙◌, subst}
-use Rattle.std.specs.Prelude.{if◌then◌else◌}
-use Rattle.std.specs.Option.{option_map}
-use Rattle.std.proofs.lemmas.Option.{same_Some}
-use Rattle.bw_model.specs.declared.command.Reply.{Reply}
-use Rattle.bw_model.specs.declared.step.Step.{Step as StepOf}
-use Rattle.bw_model.specs.declared.step.Step.TheVariants.{Exchange, TakePid, ReusePids}
-use Rattle.bw_model.specs.declared.step.Answer.{Answer}
-use Rattle.bw_model.specs.declared.step.Answer.TheVariants.{Start, Number, Content, Whether, Done}
-use Rattle.bw_model.specs.declared.step.Link.{Link}
+use Rattle.tree_law.proofs.Words.{false, ◌⊎◌, [], ap, refl, cond, Option, suc, None, List, true, inl, ◌≢◌, inr, ◌∷◌, subst, sym, ℕ, ◌≡◌, Bool, zero, ◌∙◌, ◌<◌, Some, eqb, same_Some, option_map, is_eq}
+use Rattle.tree_law.proofs.Words.{if◌then◌else◌, key_cmp, Update, is_among, Reply, Answer, Whether, Link, StepOf, ReusePids, TakePid, Exchange, ContentOf, Child, record_link, Memory, Record, Remove}
+use Rattle.tree_law.proofs.Words.{Base, Hold, Split, Merge, Term, Unterm, RemoveOf, IsChainFrom-unique, IsChainOf, IsChainFrom, content_in, right_in, low_in, May, root_over, Knowledge, IsAnswer}
+use Rattle.tree_law.proofs.Words.{IsUnheld, Entry, Step, link_without, link_of, Wins, Installs, indexed, free, MovesPhase, removes, Phase, cleared, held, removed, merged, splits, merges, becomes_root}
+use Rattle.tree_law.proofs.Words.{reuses, under_root, terms, holds, unterms, IsBelow, Owners, Nobody, Placed, Indexed, PageOwner, Cleared, Keeps, Fresh, Removed, Held, Merged, Phased, LinkMoves, put}
+use Rattle.tree_law.proofs.Words.{shared, slot_in, row_in, IsReadyPage, phase_of, IsInTree, IsTree}
+use Rattle.tree_law.proofs.shape.{by_key, not_self, slot_some, eqb_true, eqb_apart, by_test, put_same, put_other, decided}
 use Rattle.bw_model.specs.declared.step.Link.TheVariants as link
-use Rattle.bw_model.specs.Log.{Update}
-use Rattle.base_page.specs.declared.item.Content.{Content as ContentOf}
-use Rattle.base_page.specs.declared.item.Content.TheVariants.{Child}
 use Rattle.base_page.specs.Pages as pages
-use Rattle.deltas.specs.declared.record.Record.{Record}
-use Rattle.deltas.specs.declared.record.Record.TheVariants.{Base, Put, Delete, Split, Term, Hold, Remove, Merge, Unterm}
-use Rattle.deltas.specs.declared.record.Remove.{Remove as RemoveOf}
-use Rattle.deltas.specs.Links.{record_link}
-use Rattle.deltas.specs.Memory.{Memory}
-use Rattle.chain_search.specs.declared.trace.Entry.{Entry}
-use Rattle.chain_search.specs.declared.trace.Entry.TheVariants.{Step}
-use Rattle.chain_search.specs.Chains.{IsChainFrom, IsChainOf, right_in, content_in, low_in}
-use Rattle.bw_model.specs.Words.{is_among}
-use Rattle.chain_search.specs.Steps.{IsAnswer}
-use Rattle.chain_search.specs.Unheld.{IsUnheld}
-use Rattle.chain_search.proofs.ChainLaws.{IsChainFrom-unique}
-use Rattle.op_machine.specs.Links.{link_without, link_of, Wins, Installs}
-use Rattle.op_machine.specs.Phases.{Phase, free, owned, fresh, indexed, held, removed, merged, cleared, MakesRoot, MovesPhase, takes, splits, becomes_root, terms, under_root, holds, removes, merges, unterms, reuses}
-use Rattle.chain_search.specs.Discipline.{root_over, May}
-use Rattle.tree_law.specs.Keys.{IsBelow}
-use Rattle.chain_search.specs.Knowledge.{Knowledge}
-use Rattle.tree_law.specs.Owners.{Owners}
-use Rattle.tree_law.specs.Phase.{Fresh, Indexed, Held, Removed, Merged, PageOwner, Nobody, Keeps, Placed, Cleared}
-use Rattle.tree_law.specs.Phases.{LinkMoves, Phased}
-use Rattle.tree_law.specs.Put.{put}
-use Rattle.tree_law.specs.Shared.{row_in, slot_in, shared}
-use Rattle.tree_law.specs.State.{phase_of, IsInTree, IsReadyPage}
-use Rattle.tree_law.specs.Tree.{IsTree}
-use Rattle.tree_law.proofs.shape.Mapping.{slot_some}
-use Rattle.tree_law.proofs.shape.Puts.{eqb_true, eqb_apart, by_test, put_same, put_other}
+use Rattle.op_machine.specs.Phases.{owned, fresh, MakesRoot, takes}
 
 -- whether it is the link of a record in front of a chain
 abbrev is_front : Link → Bool
@@ -54,25 +20,11 @@ is_front kind = true
 
 record_front : (w : Record) → is_front (record_link w) ≡ true
 record_front (Base page) = refl
-record_front (Put record') = refl
-record_front (Delete record') = refl
-record_front (Split record') = refl
-record_front (Term record') = refl
-record_front (Hold record') = refl
-record_front (Remove record') = refl
-record_front (Merge record') = refl
-record_front (Unterm record') = refl
+record_front w = refl
 
 without_front : (w : Record) → is_front (link_without w) ≡ false
 without_front (Base page) = refl
-without_front (Put record') = refl
-without_front (Delete record') = refl
-without_front (Split record') = refl
-without_front (Term record') = refl
-without_front (Hold record') = refl
-without_front (Remove record') = refl
-without_front (Merge record') = refl
-without_front (Unterm record') = refl
+without_front w = refl
 
 no_front : (k : Link) (w : Record) → is_front k ≡ false → Some k ≡ Some (record_link w) → ⊥
 no_front k w e same = let f : is_front (record_link w) ≡ false = subst (λ z. is_front z ≡ false) (same_Some k (record_link w) same) e in let g = record_front w in cc
@@ -130,8 +82,7 @@ module _ (m : Memory) {log : List Update} {o : Owners} {knows : ℕ → Knowledg
   linked_by (suc p) (suc old) zero w i j kind stands = absurd (no_front_map (m.rows (suc old)) w (sym (link_empty m p old) ∙ kind))
   linked_by (suc p) (suc old) (suc new) w i j kind stands =
       let h : Phased a (shared m) (Exchange (suc p) (suc old) (suc new)) (Whether true) o.page f' = subst (λ y. Phased a (shared m) (Exchange (suc p) (suc old) (suc new)) y o.page f') j (subst (λ t. Phased a (shared m) t x o.page f') i ph) in
-      let same : h.0 ≡ w = same_Some h.0 w (sym h.1 ∙ stands) in
-      (p, refl, subst (λ u. LinkMoves (shared m) a u (suc p) o.page f') same h.2)
+      (p, refl, subst (λ u. LinkMoves (shared m) a u (suc p) o.page f') (same_Some h.0 w (sym h.1 ∙ stands)) h.2)
 
   -- the step is the exchange that put the record in front of a chain
   installed : (slot : ℕ) (w : Record) → Installs m last slot w → (p : ℕ) × (slot ≡ suc p) × LinkMoves (shared m) a w (suc p) o.page f'
@@ -147,9 +98,7 @@ module _ (m : Memory) {log : List Update} {o : Owners} {knows : ℕ → Knowledg
   taken : (pid : ℕ) → s ≡ TakePid pid → x ≡ Whether true → (phase_of (o.page pid) ≡ free) × (phase_of (f' pid) ≡ owned)
   taken pid i j =
       let h : f' ≡ put o.page pid (Keeps a) = subst (λ y. Phased a (shared m) (TakePid pid) y o.page f') j (subst (λ t. Phased a (shared m) t x o.page f') i ph) in
-      let e : x ≡ Whether (m.free_pids pid) = subst (λ t. IsAnswer m t x) i is in
-      let was : m.free_pids pid ≡ true = cc (e, j) in
-      (ap phase_of (g.frees.page pid was).0, put_phase o.page f' pid (Keeps a) h)
+      (ap phase_of (g.frees.page pid (cc ((subst (λ t. IsAnswer m t x) i is), j))).0, put_phase o.page f' pid (Keeps a) h)
 
   -- each move goes from the phase that the owner says
   pub moves_between : (pid : ℕ) (from to : Phase) → MovesPhase m last pid from to → (phase_of (o.page pid) ≡ from) × (phase_of (f' pid) ≡ to)
@@ -185,9 +134,8 @@ module _ (m : Memory) {log : List Update} {o : Owners} {knows : ℕ → Knowledg
       let i = installed slot (Merge merge) installs in
       let h = i.2 in
       let side = h.4 in
-      let stood' : IsChainOf m (suc i.0) chain = subst (λ p. IsChainOf m p chain) i.1 stood in
       let at : m.slots (suc i.0) ≡ side.0 = (slot_some m.slots (suc i.0) side.0 side.2).1 in
-      let same : side.1 ≡ chain = IsChainFrom-unique m.rows side.0 side.1 chain side.3 (subst (λ n. IsChainFrom m.rows n chain) at stood'.records) in
+      let same : side.1 ≡ chain = IsChainFrom-unique m.rows side.0 side.1 chain side.3 (subst (λ n. IsChainFrom m.rows n chain) at (subst (λ p. IsChainOf m p chain) i.1 stood).records) in
       let here : h.0 ≡ pid = same_Some h.0 pid (sym side.4 ∙ ap right_in same ∙ right) in
       subst (λ q. (phase_of (o.page q) ≡ removed) × (phase_of (f' q) ≡ merged)) here (ap phase_of h.2, put_phase o.page f' h.0 (Placed Merged h.1 merge.low) h.3)
   moves_between pid from to (unterms slot unterm installs at) =
@@ -205,10 +153,8 @@ module _ (m : Memory) {log : List Update} {o : Owners} {knows : ℕ → Knowledg
   removes_unheld pid remove chain installs stood =
       let i = installed pid (Remove remove) installs in
       let bare = i.2.4 in
-      let stood' : IsChainOf m (suc i.0) chain = subst (λ p. IsChainOf m p chain) i.1 stood in
       let at : m.slots (suc i.0) ≡ bare.0 = (slot_some m.slots (suc i.0) bare.0 bare.2).1 in
-      let same : bare.1 ≡ chain = IsChainFrom-unique m.rows bare.0 bare.1 chain bare.3 (subst (λ n. IsChainFrom m.rows n chain) at stood'.records) in
-      subst IsUnheld same bare.4
+      subst IsUnheld (IsChainFrom-unique m.rows bare.0 bare.1 chain bare.3 (subst (λ n. IsChainFrom m.rows n chain) at (subst (λ p. IsChainOf m p chain) i.1 stood).records)) bare.4
 
   -- the slot of a removed page is emptied only when it is cleared
   pub clears_cleared : (b pid old : ℕ) → Wins m last b pid old 0 link.Clear → phase_of (o.page pid) ≡ cleared
@@ -218,10 +164,8 @@ module _ (m : Memory) {log : List Update} {o : Owners} {knows : ℕ → Knowledg
       go zero old i j kind = absurd (let e : Some link.Root ≡ Some link.Clear = kind in cc)
       go (suc p) zero i j kind = absurd (let e : Some link.Ready ≡ Some link.Clear = sym (link_ready m p 0) ∙ kind in cc)
       go (suc p) (suc old) i j kind =
-          let h : Phased a (shared m) (Exchange (suc p) (suc old) zero) (Whether true) o.page f' = subst (λ y. Phased a (shared m) (Exchange (suc p) (suc old) zero) y o.page f') j (subst (λ t. Phased a (shared m) t x o.page f') i ph) in
-          let says : x ≡ Whether (eqb (m.slots (suc p)) (suc old)) = subst (λ t. IsAnswer m t x) i is in
-          let at : m.slots (suc p) ≡ suc old = eqb_true (m.slots (suc p)) (suc old) (cc (says, j)) in
-          elim h.1 [
+          let at : m.slots (suc p) ≡ suc old = eqb_true (m.slots (suc p)) (suc old) (cc ((subst (λ t. IsAnswer m t x) i is), j)) in
+          elim (subst (λ y. Phased a (shared m) (Exchange (suc p) (suc old) zero) y o.page f') j (subst (λ t. Phased a (shared m) t x o.page f') i ph)).1 [
             | inl keeps ↦ elim (inhabited (suc p) (suc old) (ap row_in at)) [
               | inl tree ↦ absurd (subst IsInTree keeps tree)
               | inr ready ↦ absurd (clear_base ready.base (m.rows (suc old)) ready.stands (sym (link_empty m p old) ∙ kind))
@@ -244,9 +188,6 @@ module _ (m : Memory) {log : List Update} {o : Owners} {knows : ℕ → Knowledg
   same_phase pid e = inr (ap (λ (k : ℕ → PageOwner). phase_of (k pid)) e)
 
   by_link : (p old new : ℕ) (w : Record) → s ≡ Exchange (suc p) (suc old) (suc new) → x ≡ Whether true → m.rows (suc new) ≡ Some w → LinkMoves (shared m) a w (suc p) o.page f' → (pid : ℕ) → MovesPhase m last pid (phase_of (o.page pid)) (phase_of (f' pid)) ⊎ (phase_of (f' pid) ≡ phase_of (o.page pid))
-  by_link p old new (Base page) i j stands h pid = same_phase pid h
-  by_link p old new (Put put') i j stands h pid = same_phase pid h
-  by_link p old new (Delete delete) i j stands h pid = same_phase pid h
   by_link p old new (Split split) i j stands h pid = moved_at split.page pid (Keeps a) (Placed Fresh h.1 split.separator) h.4 h.5 (splits (suc p) split (installs_now p old new (Split split) i j stands) refl)
   by_link p old new (Term term) i j stands h pid = moved_at term.child pid (Placed Fresh h.0 term.separator) (Placed Indexed h.0 term.separator) h.1 h.2 (terms (suc p) term (installs_now p old new (Term term) i j stands) refl)
   by_link p old new (Hold hold) i j stands h pid = moved_at hold.child pid (Placed Indexed h.0 hold.separator) (Placed Held h.0 hold.separator) h.1 h.2 (holds (suc p) hold (installs_now p old new (Hold hold) i j stands) refl)
@@ -256,9 +197,19 @@ module _ (m : Memory) {log : List Update} {o : Owners} {knows : ℕ → Knowledg
       let at = slot_some m.slots (suc p) side.0 side.2 in
       moved_at h.0 pid (Placed Removed h.1 merge.low) (Placed Merged h.1 merge.low) h.2 h.3 (merges (suc p) merge side.1 (installs_now p old new (Merge merge) i j stands) (record { page = at.0; linked = subst (λ n. 0 < n) (sym at.1) at.2; records = subst (λ n. IsChainFrom m.rows n side.1) (sym at.1) side.3 }) side.4)
   by_link p old new (Unterm unterm) i j stands h pid = moved_at unterm.child pid (Placed Merged h.0 unterm.separator) (Cleared a h.0 unterm.separator) h.1 h.2 (unterms (suc p) unterm (installs_now p old new (Unterm unterm) i j stands) refl)
+  by_link p old new w i j stands h pid = same_phase pid h
 
   by_root : (old y : ℕ) → s ≡ Exchange 0 old y → x ≡ Whether true → Phased a (shared m) (Exchange 0 old y) (Whether true) o.page f' → (pid : ℕ) → MovesPhase m last pid (phase_of (o.page pid)) (phase_of (f' pid)) ⊎ (phase_of (f' pid) ≡ phase_of (o.page pid))
-  by_root old y i j h pid = by_test pid y (λ t. MovesPhase m last pid (phase_of (o.page pid)) (phase_of (f' pid)) ⊎ (phase_of (f' pid) ≡ phase_of (o.page pid)))
+  by_root old y i j h pid =
+      let rest : pid ≢ y → phase_of (f' pid) ≡ phase_of (put o.page h.0 (Placed Indexed h.1 h.2) pid) =
+      λ ne. ap (λ (k : ℕ → PageOwner). phase_of (k pid)) h.6 ∙ ap phase_of (put_other (put o.page h.0 (Placed Indexed h.1 h.2)) y (Placed Indexed (suc h.1) []) pid ne) in
+      let makes : MakesRoot m last y = (a, old, ((r, λ d. Step a (i d) (j d) r), refl)) in
+      let under : MovesPhase m last h.0 fresh indexed =
+      let base = h.7 in
+      let at = slot_some m.slots y base.0 base.2 in
+      let own : IsChainOf m y (root_over base.1 old h.2 h.0 ∷ []) = record { page = at.0; linked = subst (λ n. 0 < n) (sym at.1) at.2; records = (ap m.rows at.1 ∙ base.3, refl) } in
+      under_root y (root_over base.1 old h.2 h.0 ∷ []) h.2 false makes own h.8 (at_second h.2 old h.0 h.8) in
+      by_test pid y (λ t. MovesPhase m last pid (phase_of (o.page pid)) (phase_of (f' pid)) ⊎ (phase_of (f' pid) ≡ phase_of (o.page pid)))
       (λ e. inl (subst (λ n. MovesPhase m last n (phase_of (o.page n)) (phase_of (f' n))) (sym e)
       (subst (λ k. MovesPhase m last y k (phase_of (f' y))) (sym (ap phase_of h.5)) (subst (λ k. MovesPhase m last y owned k) (sym (put_phase (put o.page h.0 (Placed Indexed h.1 h.2)) f' y (Placed Indexed (suc h.1) []) h.6)) (becomes_root makes)))))
       (λ ne. by_test pid h.0 (λ t. MovesPhase m last pid (phase_of (o.page pid)) (phase_of (f' pid)) ⊎ (phase_of (f' pid) ≡ phase_of (o.page pid)))
@@ -266,19 +217,6 @@ module _ (m : Memory) {log : List Update} {o : Owners} {knows : ℕ → Knowledg
       (subst (λ k. MovesPhase m last pid fresh k) (sym (rest ne ∙ ap (λ n. phase_of (put o.page h.0 (Placed Indexed h.1 h.2) n)) e ∙ ap phase_of (put_same o.page h.0 (Placed Indexed h.1 h.2))))
       (subst (λ n. MovesPhase m last n fresh indexed) (sym e) under))))
       (λ other. inr (rest ne ∙ ap phase_of (put_other o.page h.0 (Placed Indexed h.1 h.2) pid other))))
-    where
-      makes : MakesRoot m last y
-      makes = (a, old, ((r, λ d. Step a (i d) (j d) r), refl))
-
-      rest : pid ≢ y → phase_of (f' pid) ≡ phase_of (put o.page h.0 (Placed Indexed h.1 h.2) pid)
-      rest ne = ap (λ (k : ℕ → PageOwner). phase_of (k pid)) h.6 ∙ ap phase_of (put_other (put o.page h.0 (Placed Indexed h.1 h.2)) y (Placed Indexed (suc h.1) []) pid ne)
-
-      under : MovesPhase m last h.0 fresh indexed
-      under =
-          let base = h.7 in
-          let at = slot_some m.slots y base.0 base.2 in
-          let own : IsChainOf m y (root_over base.1 old h.2 h.0 ∷ []) = record { page = at.0; linked = subst (λ n. 0 < n) (sym at.1) at.2; records = (ap m.rows at.1 ∙ base.3, refl) } in
-          under_root y (root_over base.1 old h.2 h.0 ∷ []) h.2 false makes own h.8 (at_second h.2 old h.0 h.8)
 
   -- each PID is moved from phase to phase, or stays in its own
   pub moves_or_rests : (pid : ℕ) → MovesPhase m last pid (phase_of (o.page pid)) (phase_of (f' pid)) ⊎ (phase_of (f' pid) ≡ phase_of (o.page pid))
@@ -286,8 +224,7 @@ module _ (m : Memory) {log : List Update} {o : Owners} {knows : ℕ → Knowledg
     where
       go : (t : StepOf Record) (y : Answer Record) → s ≡ t → x ≡ y → May a (knows a) t → IsAnswer m t y → Phased a (shared m) t y o.page f' → MovesPhase m last pid (phase_of (o.page pid)) (phase_of (f' pid)) ⊎ (phase_of (f' pid) ≡ phase_of (o.page pid))
       go (TakePid q) (Whether true) i j h e ph' =
-          let was : m.free_pids q ≡ true = cc in
-          moved_at q pid Nobody (Keeps a) (g.frees.page q was).0 ph' (takes a (r, λ d. Step a (i d) (j d) r))
+          moved_at q pid Nobody (Keeps a) (g.frees.page q cc).0 ph' (takes a (r, λ d. Step a (i d) (j d) r))
       go (TakePid q) (Whether false) i j h e ph' = same_phase pid ph'
       go (Exchange zero old new) (Whether true) i j h e ph' = by_root old new i j ph' pid
       go (Exchange (suc p) zero zero) (Whether true) i j h e ph' = absurd h.1
@@ -295,17 +232,10 @@ module _ (m : Memory) {log : List Update} {o : Owners} {knows : ℕ → Knowledg
       go (Exchange (suc p) (suc old) zero) (Whether true) i j h e ph' = same_phase pid ph'.0
       go (Exchange (suc p) (suc old) (suc new)) (Whether true) i j h e ph' = by_link p old new ph'.0 i j ph'.1 ph'.2 pid
       go (Exchange p old new) (Whether false) i j h e ph' = same_phase pid ph'
-      go (Exchange p old new) (Number n) i j h e ph' = absurd (let f = e in cc)
-      go (Exchange p old new) (Content w) i j h e ph' = absurd (let f = e in cc)
-      go (Exchange p old new) Done i j h e ph' = absurd (let f = e in cc)
-      go (Exchange p old new) Start i j h e ph' = absurd (let f = e in cc)
-      go (TakePid q) (Number n) i j h e ph' = absurd (let f = e in cc)
-      go (TakePid q) (Content w) i j h e ph' = absurd (let f = e in cc)
-      go (TakePid q) Done i j h e ph' = absurd (let f = e in cc)
-      go (TakePid q) Start i j h e ph' = absurd (let f = e in cc)
-      go (ReusePids word bits) y i j h e ph' = by_word (is_among word bits pid) refl
-        where
-          by_word : (z : Bool) → is_among word bits pid ≡ z → MovesPhase m last pid (phase_of (o.page pid)) (phase_of (f' pid)) ⊎ (phase_of (f' pid) ≡ phase_of (o.page pid))
-          by_word true k = let v = (ph' pid).0 k in inl (subst (λ z. MovesPhase m last pid z (phase_of (f' pid))) (sym (ap phase_of v.3)) (subst (λ z. MovesPhase m last pid cleared z) (sym (ap phase_of v.4)) (reuses a word bits y (r, λ d. Step a (i d) (j d) r) k)))
-          by_word false k = inr (ap phase_of ((ph' pid).1 k))
+      go (ReusePids word bits) y i j h e ph' = elim (decided (is_among word bits pid)) [
+        | inl k ↦ let v = (ph' pid).0 k in inl (subst (λ z. MovesPhase m last pid z (phase_of (f' pid))) (sym (ap phase_of v.3)) (subst (λ z. MovesPhase m last pid cleared z) (sym (ap phase_of v.4)) (reuses a word bits y (r, λ d. Step a (i d) (j d) r) k)))
+        | inr k ↦ inr (ap phase_of ((ph' pid).1 k))
+      ]
+      go (Exchange p old new) y i j h e ph' = absurd (let f = e in cc)
+      go (TakePid q) y i j h e ph' = absurd (let f = e in cc)
       go t y i j h e ph' = same_phase pid ph'

@@ -1,29 +1,15 @@
 -- A mark set later, at an own step at which the command makes no update: each log stays.
-use Rattle.std.proofs.Common.{◌≡◌, ◌≢◌, ◌<◌, ◌≤◌, ◌⊎◌, inl, inr, ℕ, zero, suc, List, [], ◌∷◌, ◌++◌, length, take, set, Option, Some, None, Bool, true, false, refl, sym, ap, ◌∙◌, subst, arith}
-use Rattle.std.specs.Prelude.{slice_get, MatchOption}
-use Rattle.std.proofs.lemmas.Bool.{cases_lt}
-use Rattle.bw_model.specs.declared.command.Command.{Command}
-use Rattle.bw_model.specs.declared.command.Reply.{Reply}
-use Rattle.bw_model.specs.declared.limits.Limits.{Limits}
-use Rattle.bw_model.specs.Log.{Update, logged_value}
-use Rattle.bw_model.specs.Replies.{command_key, update_of}
-use Rattle.chain_search.specs.declared.trace.Entry.{Entry}
-use Rattle.chain_search.specs.declared.trace.Entry.TheVariants.{Begin, Step}
-use Rattle.chain_search.specs.Trace.{command_of}
-use Rattle.chain_search.proofs.Pushes.{slice_get_below}
-use Rattle.op_machine.specs.Operations.{Operation, IsOperation, IsOwnStep, Finishes}
-use Rattle.op_machine.specs.Points.{IsPoint, log_of, log_at, updates_at}
-use Rattle.op_machine.specs.Quiet.{IsQuiet}
-use Rattle.op_machine.specs.Updates.{UpdatesAtLinks}
+use Rattle.tree_law.proofs.Words.{false, ◌⊎◌, [], ap, refl, Option, suc, None, List, true, inl, ◌≢◌, length, ◌++◌, ◌≤◌, inr, ◌∷◌, subst, sym, ℕ, ◌≡◌, Bool, zero, ◌∙◌, ◌<◌, arith, Some, take, cases_lt}
+use Rattle.tree_law.proofs.Words.{slice_get, MatchOption, Update, logged_value, update_of, command_key, Command, Reply, Limits, slice_get_below, command_of, Entry, Begin, Step, same_operation}
+use Rattle.tree_law.proofs.Words.{IsOperation, Operation, Finishes, IsOwnStep, log_at, log_of, IsPoint, IsQuiet, UpdatesAtLinks, Tells, operation_of, IsMarked}
+use Rattle.std.proofs.Common.{set}
+use Rattle.op_machine.specs.Points.{updates_at}
 use Rattle.op_machine.proofs.LogLaws.{log_of-marked, log_at-step}
-use Rattle.op_machine.proofs.Listed.{same_operation}
-use Rattle.tree_law.specs.State.{operation_of, Tells, IsMarked}
 use Rattle.tree_law.proofs.shape.Puts.{by_test}
 
 set_length : {X : Type 0} (xs : List X) (i : ℕ) (x : X) → length (set xs i x) ≡ length xs
-set_length [] i x = refl
-set_length (z ∷ xs) zero x = refl
 set_length (z ∷ xs) (suc i) x = ap suc (set_length xs i x)
+set_length xs i x = refl
 
 get_set_same : {X : Type 0} (xs : List X) (m : ℕ) (x : X) → m < length xs → slice_get (set xs m x) m ≡ Some x
 get_set_same [] m x lt = absurd (omega arith)
@@ -31,11 +17,9 @@ get_set_same (y ∷ xs) zero x lt = refl
 get_set_same (y ∷ xs) (suc m) x lt = get_set_same xs m x (omega arith)
 
 get_set_other : {X : Type 0} (xs : List X) (m : ℕ) (x : X) (n : ℕ) → n ≢ m → slice_get (set xs m x) n ≡ slice_get xs n
-get_set_other [] m x n ne = refl
 get_set_other (y ∷ xs) zero x zero ne = absurd (ne refl)
-get_set_other (y ∷ xs) zero x (suc n) ne = refl
-get_set_other (y ∷ xs) (suc m) x zero ne = refl
 get_set_other (y ∷ xs) (suc m) x (suc n) ne = get_set_other xs m x n (λ e. ne (ap suc e))
+get_set_other xs m x n ne = refl
 
 take_set_below : {X : Type 0} (xs : List X) (m : ℕ) (x : X) (n : ℕ) → n ≤ m → take n (set xs m x) ≡ take n xs
 take_set_below xs m x zero le = refl
@@ -116,9 +100,7 @@ module _ (limits : Limits) (entries : List Entry) (points : List Bool) (a : ℕ)
   -- no own step of the operation was marked
   alone : (op : Operation) (i j : ℕ) → IsOperation entries op → IsOwnStep entries op i → i ≡ place → IsOwnStep entries op j → IsPoint points j → ⊥
   alone op i j is own e own' p =
-      let own_at : IsOwnStep entries op place = subst (IsOwnStep entries op) e own in
-      let same : op ≡ operation_of t.start a asked = own_same entries op (operation_of t.start a asked) place is t.begins own_at mine in
-      t.point_at j (subst (λ o. IsOwnStep entries o j) same own') p
+      t.point_at j (subst (λ o. IsOwnStep entries o j) (own_same entries op (operation_of t.start a asked) place is t.begins (subst (IsOwnStep entries op) e own) mine) own') p
 
   pub marked' : ((n : ℕ) (reply : Reply) → Finishes entries (operation_of t.start a asked) n reply → ⊥) → IsMarked limits entries remarked
   marked' unfinished = record {
@@ -133,8 +115,7 @@ module _ (limits : Limits) (entries : List Entry) (points : List Bool) (a : ℕ)
       | inr h ↦ inr (record {
         unmarked = λ m own p. elim (point_cases m p) [
           | inl e ↦
-              let same : op ≡ operation_of t.start a asked = own_same entries op (operation_of t.start a asked) place is t.begins (subst (IsOwnStep entries op) e own) mine in
-              unfinished n reply (subst (λ o. Finishes entries o n reply) same ends)
+              unfinished n reply (subst (λ o. Finishes entries o n reply) (own_same entries op (operation_of t.start a asked) place is t.begins (subst (IsOwnStep entries op) e own) mine) ends)
           | inr p' ↦ h.unmarked m own p'
         ];
         finds = h.finds;

@@ -1,14 +1,6 @@
 -- In a trace in which each actor obeys its discipline, the state stands after each entry.
-use Rattle.std.proofs.Common.{List, [], ◌∷◌, ◌++◌, subst, append_assoc}
-use Rattle.std.specs.Prelude.{map}
-use Rattle.std.proofs.lemmas.List.{append-nil}
-use Rattle.bw_model.specs.declared.limits.Limits.{Limits}
-use Rattle.chain_search.specs.declared.trace.Entry.{Entry}
-use Rattle.chain_search.specs.declared.trace.Entry.TheVariants.{Begin, Step}
-use Rattle.chain_search.specs.Disciplined.{MayStand, IsDisciplinedFrom, IsDisciplined}
-use Rattle.chain_search.specs.Trace.{turn_of}
-use Rattle.op_machine.specs.Linearized.{IsLinearized}
-use Rattle.tree_law.specs.State.{IsState}
+use Rattle.tree_law.proofs.Words.{[], List, ◌++◌, ◌∷◌, subst, append_assoc, map, append-nil, Limits, IsDisciplined, IsDisciplinedFrom, turn_of, Entry, Begin, Step, IsLinearized, IsState}
+use Rattle.chain_search.specs.Disciplined.{MayStand}
 use Rattle.tree_law.specs.TraceLaws.{DisciplinedRuns}
 use Rattle.tree_law.proofs.trace.Beginning.{opens, begins}
 use Rattle.tree_law.proofs.trace.Steps.{steps, is_one_map}

@@ -1,30 +1,13 @@
 -- What an operation has found stays found, and what a further step finds.
-use Rattle.std.proofs.Common.{◌≡◌, ◌<◌, ◌≤◌, ◌⊎◌, inl, inr, ℕ, zero, suc, List, [], ◌∷◌, ◌++◌, length, Option, Some, None, Bool, true, false, cond, refl, sym, ap, ◌∙◌, subst, arith}
-use Rattle.std.specs.Prelude.{slice_get}
-use Rattle.bw_model.specs.declared.command.Command.{Command}
-use Rattle.bw_model.specs.declared.command.Reply.{Reply}
-use Rattle.bw_model.specs.declared.limits.Limits.{Limits}
-use Rattle.bw_model.specs.declared.step.Answer.{Answer}
-use Rattle.bw_model.specs.declared.step.Step.{Step as StepOf}
-use Rattle.bw_model.specs.declared.step.Step.TheVariants.{Slot, Row, Epoch, Announce, PidBits, RowBits, Exchange, TakePid, TakeRow}
-use Rattle.bw_model.specs.declared.step.Answer.TheVariants.{Number, Content, Whether}
-use Rattle.deltas.specs.declared.record.Record.{Record}
-use Rattle.chain_search.specs.declared.trace.Entry.{Entry}
-use Rattle.chain_search.specs.declared.trace.Entry.TheVariants.{Begin, Step}
-use Rattle.chain_search.specs.Chains.{IsChainOf, is_removed, low_in}
-use Rattle.chain_search.specs.HeldBack.{HoldsBack}
-use Rattle.chain_search.specs.SideChain.{LivePage}
-use Rattle.chain_search.proofs.Pushes.{slice_get_below}
-use Rattle.chain_search.proofs.TraceLaws.{memory_at-push}
-use Rattle.op_machine.specs.Answered.{FindsNothingFree, WasHeldBack}
-use Rattle.op_machine.specs.Operations.{Operation, TakesOwnStep}
-use Rattle.chain_search.specs.Discipline.{LacksRoom}
-use Rattle.chain_search.specs.Knowledge.{Asked, Knowledge, begun, learn, finished}
-use Rattle.tree_law.specs.State.{IsUnended, operation_of, IsSearch}
-use Rattle.tree_law.specs.Stood.{WasRead}
+use Rattle.tree_law.proofs.Words.{false, ◌⊎◌, [], ap, refl, cond, Option, suc, None, List, true, inl, length, ◌++◌, ◌≤◌, inr, ◌∷◌, subst, sym, ℕ, ◌≡◌, Bool, zero, ◌∙◌, ◌<◌, arith, Some, slice_get}
+use Rattle.tree_law.proofs.Words.{Command, Reply, Limits, Answer, Number, StepOf, PidBits, RowBits, Record, slice_get_below, memory_at-push, IsChainOf, low_in, is_removed, LacksRoom, HoldsBack, begun}
+use Rattle.tree_law.proofs.Words.{Knowledge, finished, learn, LivePage, Entry, Begin, Step, WasHeldBack, Operation, TakesOwnStep, operation_of, IsSearch, IsUnended, WasRead}
+use Rattle.op_machine.specs.Answered.{FindsNothingFree}
+use Rattle.chain_search.specs.Knowledge.{Asked}
 use Rattle.tree_law.proofs.shape.Puts.{by_test}
 use Rattle.tree_law.proofs.links.Exchanged.{exchanged_alike}
 use Rattle.tree_law.proofs.trace.Owned.{pushed_length, own_kept, own_cases, takes_new}
+use Rattle.tree_law.proofs.links.Learning.{learning, pid_word, row_word, wins}
 
 -- the step and its answer are these
 abbrev Is : StepOf Record → Answer Record → StepOf Record → Answer Record → Type 0
@@ -41,28 +24,18 @@ bits_of false word = RowBits word
 
 -- Where a word is known as 0 after a step: the step read it, or it was known before.
 words_cases : (pids : Bool) (k : Knowledge) (s : StepOf Record) (x : Answer Record) (word : ℕ) → no_words pids (learn k s x).asked word ≡ true → (no_words pids k.asked word ≡ true) ⊎ Is s x (bits_of pids word) (Number 0)
-words_cases true k (PidBits v) (Number zero) word e = by_test word v (λ t. cond t true (k.asked.no_pids word) ≡ true → (k.asked.no_pids word ≡ true) ⊎ Is (PidBits v) (Number 0) (PidBits word) (Number 0))
-    (λ i f. inr (ap PidBits (sym i), refl)) (λ ne f. inl f) e
-words_cases false k (RowBits v) (Number zero) word e = by_test word v (λ t. cond t true (k.asked.no_rows word) ≡ true → (k.asked.no_rows word ≡ true) ⊎ Is (RowBits v) (Number 0) (RowBits word) (Number 0))
-    (λ i f. inr (ap RowBits (sym i), refl)) (λ ne f. inl f) e
-words_cases true k (RowBits v) (Number zero) word e = inl e
-words_cases false k (PidBits v) (Number zero) word e = inl e
-words_cases true k (Exchange p y z) (Whether true) word e = inl (subst (λ f. f word ≡ true) (exchanged_alike p y z k).no_pids e)
-words_cases false k (Exchange p y z) (Whether true) word e = inl (subst (λ f. f word ≡ true) (exchanged_alike p y z k).no_rows e)
-words_cases pids k (PidBits v) (Number (suc n)) word e = inl e
-words_cases pids k (RowBits v) (Number (suc n)) word e = inl e
-words_cases pids k Epoch (Number n) word e = inl e
-words_cases pids k (Announce b) (Number n) word e = inl e
-words_cases pids k (Slot zero) (Number n) word e = inl e
-words_cases pids k (Slot (suc p)) (Number zero) word e = inl e
-words_cases pids k (Slot (suc p)) (Number (suc n)) word e = inl e
-words_cases pids k (Row q) (Content v) word e = inl e
-words_cases pids k (TakePid q) (Whether true) word e = inl e
-words_cases pids k (TakePid q) (Whether false) word e = inl e
-words_cases pids k (TakeRow q) (Whether true) word e = inl e
-words_cases pids k (TakeRow q) (Whether false) word e = inl e
-words_cases pids k (Exchange p y z) (Whether false) word e = inl e
-words_cases pids k s x word e = inl e
+words_cases true k s x word e = (elim (learning k s x) as (λ s x k' v. k'.asked.no_pids word ≡ true → (k.asked.no_pids word ≡ true) ⊎ Is s x (PidBits word) (Number 0)) [
+  | pid_word v zero ↦ by_test word v (λ t. cond t true (k.asked.no_pids word) ≡ true → (k.asked.no_pids word ≡ true) ⊎ Is (PidBits v) (Number 0) (PidBits word) (Number 0)) (λ i f. inr (ap PidBits (sym i), refl)) (λ ne f. inl f)
+  | pid_word v (suc n) ↦ λ f. inl f
+  | wins p y z ↦ λ f. inl (subst (λ f. f word ≡ true) (exchanged_alike p y z k).no_pids f)
+  | v ↦ λ f. inl f
+]) e
+words_cases false k s x word e = (elim (learning k s x) as (λ s x k' v. k'.asked.no_rows word ≡ true → (k.asked.no_rows word ≡ true) ⊎ Is s x (RowBits word) (Number 0)) [
+  | row_word v zero ↦ by_test word v (λ t. cond t true (k.asked.no_rows word) ≡ true → (k.asked.no_rows word ≡ true) ⊎ Is (RowBits v) (Number 0) (RowBits word) (Number 0)) (λ i f. inr (ap RowBits (sym i), refl)) (λ ne f. inl f)
+  | row_word v (suc n) ↦ λ f. inl f
+  | wins p y z ↦ λ f. inl (subst (λ f. f word ≡ true) (exchanged_alike p y z k).no_rows f)
+  | v ↦ λ f. inl f
+]) e
 
 -- a page above the leaf was read, which held it back
 pub held_back : {limits : Limits} {entries : List Entry} {op : Operation} {n : ℕ} (leaf : LivePage) (page row : ℕ) (chain : List Record) → WasRead limits entries op n page row chain → is_removed chain ≡ false → HoldsBack chain leaf.pid (low_in leaf.chain) → WasHeldBack limits entries op n leaf

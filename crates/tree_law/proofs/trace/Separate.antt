@@ -1,23 +1,11 @@
 -- In a state, the rows that actors have taken are apart from each other and from those that anyone has learnt.
-use Rattle.std.proofs.Common.{◌≡◌, inl, inr, ℕ, List, Option, true, subst}
-use Rattle.bw_model.specs.declared.limits.Limits.{Limits}
-use Rattle.deltas.specs.declared.record.Record.{Record}
-use Rattle.chain_search.specs.declared.trace.Entry.{Entry}
-use Rattle.chain_search.specs.Discipline.{IsOwn}
-use Rattle.chain_search.specs.Knowledge.{OwnRow, Foreign, Taken, Written, knows}
-use Rattle.chain_search.specs.Trace.{memory_of}
+use Rattle.tree_law.proofs.Words.{List, true, inl, inr, subst, ℕ, ◌≡◌, Limits, IsOwn, knows, OwnRow, memory_of, Entry, Linked, Spare, OwnFits, IsState}
 use Rattle.tree_law.specs.Own.{AreSeparate}
-use Rattle.tree_law.specs.Owners.{Owner, Spare, Linked, OwnFits}
-use Rattle.tree_law.specs.State.{IsState}
-
-own_spare : (a : ℕ) (o : Owner) (w : Option Record) (v : OwnRow) → OwnFits a o w v → IsOwn v → o ≡ Spare a
-own_spare a o w Foreign h own = absurd own
-own_spare a o w Taken h own = h
-own_spare a o w (Written x) h own = h.0
+use Rattle.tree_law.proofs.shape.Own.{own_spare}
 
 module _ (limits : Limits) (entries : List Entry) (state : IsState limits entries) where
   spare : (a row : ℕ) → IsOwn ((knows entries a).own.rows row) → state.owners.row row ≡ Spare a
-  spare a row own = own_spare a (state.owners.row row) ((memory_of limits entries).rows row) ((knows entries a).own.rows row) (state.is_tree.owns a row) own
+  spare a row own = own_spare ((memory_of limits entries).rows row) ((knows entries a).own.rows row) (state.is_tree.owns a row) own
 
   linked : (a row : ℕ) → (knows entries a).read.learnt row ≡ true → state.owners.row row ≡ Linked
   linked a row learnt = (state.is_tree.sound a).learnt_fits row learnt

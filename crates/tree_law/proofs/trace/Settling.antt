@@ -1,32 +1,11 @@
 -- Why a reply is right: where an actor may reply, its operation is answered by the points before that step.
-use Rattle.std.proofs.Common.{◌≡◌, ◌≢◌, ◌<◌, inl, inr, ℕ, List, [], length, take, Option, Some, None, Bool, refl, sym, ap, ◌∙◌, subst, ⊎_elim, arith}
-use Rattle.std.specs.Prelude.{IfSome, MatchOption}
-use Rattle.std.proofs.lemmas.Option.{same_Some}
-use Rattle.bw_model.specs.declared.command.Command.{Command}
-use Rattle.bw_model.specs.declared.command.Reply.{Reply}
-use Rattle.bw_model.specs.declared.limits.Limits.{Limits}
-use Rattle.bw_model.specs.Log.{Update, logged_value}
-use Rattle.bw_model.specs.Replies.{command_key, reply_of, update_of}
-use Rattle.deltas.specs.declared.record.Record.{Record}
-use Rattle.chain_search.specs.declared.trace.Entry.{Entry}
-use Rattle.chain_search.specs.Chains.{IsChainFrom, high_in, level_in, low_in}
-use Rattle.chain_search.specs.Trace.{memory_of, memory_at, command_of}
-use Rattle.chain_search.proofs.Pushes.{slice_get_below}
-use Rattle.op_machine.specs.Answered.{RepliesAt, WasHeldBack}
-use Rattle.op_machine.specs.Updates.{UpdatesAtLinks}
-use Rattle.op_machine.specs.Operations.{Operation, IsOwnStep}
-use Rattle.op_machine.specs.Points.{IsPoint, log_of, log_at}
-use Rattle.op_machine.specs.Quiet.{IsQuiet}
-use Rattle.chain_search.specs.Discipline.{IsHeldBack, MayAnswer, MayShowPage, MayCallTidy, MayGiveUp, MayReply}
-use Rattle.chain_search.specs.Knowledge.{knows}
-use Rattle.tree_law.specs.Owners.{LinkFits}
-use Rattle.tree_law.specs.Replies.{IsRepliedAt}
-use Rattle.tree_law.specs.Shared.{shared}
-use Rattle.tree_law.specs.State.{operation_of, Tells, HasFound, IsAnsweredBy, IsMarked, IsState}
-use Rattle.tree_law.specs.Stood.{WasLeafWith, WereRead, HaveStood}
+use Rattle.tree_law.proofs.Words.{[], ap, refl, Option, None, List, inl, ◌≢◌, length, inr, subst, sym, ℕ, ◌≡◌, Bool, ◌∙◌, ◌<◌, arith, Some, take, ⊎_elim, same_Some, IfSome, MatchOption, Update}
+use Rattle.tree_law.proofs.Words.{logged_value, update_of, command_key, reply_of, Command, Reply, Limits, Record, slice_get_below, IsChainFrom, low_in, level_in, high_in, MayReply, MayAnswer, knows}
+use Rattle.tree_law.proofs.Words.{memory_at, command_of, memory_of, Entry, WasHeldBack, RepliesAt, Operation, IsOwnStep, log_at, log_of, IsPoint, IsQuiet, UpdatesAtLinks, LinkFits, IsRepliedAt}
+use Rattle.tree_law.proofs.Words.{shared, Tells, operation_of, IsState, IsAnsweredBy, IsMarked, HasFound, HaveStood, WereRead, WasLeafWith}
+use Rattle.chain_search.specs.Discipline.{IsHeldBack, MayShowPage, MayCallTidy, MayGiveUp}
 use Rattle.tree_law.proofs.answering.Answering.{answers}
-use Rattle.tree_law.proofs.shape.Frames.{chain_stands}
-use Rattle.tree_law.proofs.shape.LeafPlaces.{shows}
+use Rattle.tree_law.proofs.shape.{chain_stands, shows}
 use Rattle.tree_law.proofs.trace.Remark.{remarked, log_of_same, log_at_same, marked', marked_now, told, told_other, updates', quiet'}
 use Rattle.tree_law.proofs.trace.Searches.{held_back, lacks}
 use Rattle.tree_law.proofs.trace.Standing.{was_standing}
@@ -93,26 +72,27 @@ module _ (limits : Limits) (entries : List Entry) (a : ℕ) (asked : Command) (s
       t = record { start = begun.start; begins = begun.begins; unended = begun.unended; logs_at = begun.logs_at; point_at = point_told None none }
 
   by_value : (reply : Reply) → MayAnswer a (knows entries a) asked reply → Settled limits entries (log_of entries state.points) state.point state.logs a asked (Some reply)
-  by_value reply may = elim at.own [
-    | inl linked ↦
-        let p = point_told (Some at.at) linked in
-        as_they_are (Some reply) (λ y e. inl (p.0, p.1, p.2, inl (subst (λ l. reply_of asked (logged_value l (command_key asked)) ≡ Some y) (sym p.3) (at.same ∙ e))))
-    | inr u ↦
-        let h = begun.logs_at at.at u.2 in
-        marked_late reply u.0 h.0 h.1 h.3
-        (subst (λ l. update_of a asked (logged_value l (command_key asked)) ≡ None) (sym h.2) u.1)
-        (inl (subst (λ l. reply_of asked (logged_value l (command_key asked)) ≡ Some reply) (sym h.2) at.same))
-  ]
-    where
-      at : IsRepliedAt a asked reply (state.point a) (state.logs a)
-      at = answers state.is_tree a asked reply may
+  by_value reply may =
+      let at : IsRepliedAt a asked reply (state.point a) (state.logs a) = answers state.is_tree a asked reply may in
+      elim at.own [
+        | inl linked ↦
+            let p = point_told (Some at.at) linked in
+            as_they_are (Some reply) (λ y e. inl (p.0, p.1, p.2, inl (subst (λ l. reply_of asked (logged_value l (command_key asked)) ≡ Some y) (sym p.3) (at.same ∙ e))))
+        | inr u ↦
+            let h = begun.logs_at at.at u.2 in
+            marked_late reply u.0 h.0 h.1 h.3
+            (subst (λ l. update_of a asked (logged_value l (command_key asked)) ≡ None) (sym h.2) u.1)
+            (inl (subst (λ l. reply_of asked (logged_value l (command_key asked)) ≡ Some reply) (sym h.2) at.same))
+      ]
 
   stood : HaveStood limits entries mine (memory_of limits entries).rows (knows entries a).read
   stood = state.stood mine begun.begins begun.unended asks
 
   -- a cursor page has its point where its leaf stood
   by_page : (reply : Reply) → MayShowPage (knows entries a) asked reply → Settled limits entries (log_of entries state.points) state.point state.logs a asked (Some reply)
-  by_page reply may = marked_late reply (no_point may.unlinked) was.1.step was.1.own was.1.asked (ap (λ c. update_of a c (logged_value (log_at entries state.points was.1.step) (command_key c))) may.asks)
+  by_page reply may =
+      let below : was.1.step < length entries = slice_get_below entries was.1.step _ was.1.own.2.1.entry in
+      marked_late reply (no_point may.unlinked) was.1.step was.1.own was.1.asked (ap (λ c. update_of a c (logged_value (log_at entries state.points was.1.step) (command_key c))) may.asks)
       (inr (record {
         from = may.from;
         asks = may.asks;
@@ -124,9 +104,6 @@ module _ (limits : Limits) (entries : List Entry) (a : ℕ) (asked : Command) (s
     where
       was : (page : ℕ) × WasLeafWith limits entries mine (record { pid = page; chain = may.chain })
       was = was_standing state.is_tree a limits entries mine stood may.row may.chain may.read may.leaf may.basis
-
-      below : was.1.step < length entries
-      below = slice_get_below entries was.1.step _ was.1.own.2.1.entry
 
   -- what an operation without a point may reply
   pointlessly : (reply : Reply) → (knows entries a).asked.linked ≡ None → HasFound limits entries mine reply → Settled limits entries (log_of entries state.points) state.point state.logs a asked (Some reply)
@@ -166,12 +143,11 @@ module _ (limits : Limits) (entries : List Entry) (a : ℕ) (asked : Command) (s
 
   pub settled : (r : Option Reply) → IfSome r (MayReply limits a (knows entries a)) → Settled limits entries (log_of entries state.points) state.point state.logs a asked r
   settled None may = as_they_are None (λ reply e. absurd (cc))
-  settled (Some reply) may = elim may.justified [
-    | inl value ↦ by_value reply (subst (λ c. MayAnswer a (knows entries a) c reply) same value)
-    | inr (inl page) ↦ by_page reply (subst (λ c. MayShowPage (knows entries a) c reply) same page)
-    | inr (inr (inl tidy)) ↦ by_tidying reply (subst (λ c. MayCallTidy (knows entries a) c reply) same tidy)
-    | inr (inr (inr want)) ↦ by_want reply (subst (λ c. MayGiveUp limits (knows entries a) c reply) same want)
-  ]
-    where
-      same : may.command ≡ asked
-      same = same_Some may.command asked (sym may.going ∙ state.named.commands a ∙ asks)
+  settled (Some reply) may =
+      let same : may.command ≡ asked = same_Some may.command asked (sym may.going ∙ state.named.commands a ∙ asks) in
+      elim may.justified [
+        | inl value ↦ by_value reply (subst (λ c. MayAnswer a (knows entries a) c reply) same value)
+        | inr (inl page) ↦ by_page reply (subst (λ c. MayShowPage (knows entries a) c reply) same page)
+        | inr (inr (inl tidy)) ↦ by_tidying reply (subst (λ c. MayCallTidy (knows entries a) c reply) same tidy)
+        | inr (inr (inr want)) ↦ by_want reply (subst (λ c. MayGiveUp limits (knows entries a) c reply) same want)
+      ]

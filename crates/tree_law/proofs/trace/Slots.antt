@@ -1,32 +1,13 @@
 -- Which slots hold rows, after a step.
-use Rattle.std.proofs.Common.{◌≡◌, ◌≢◌, ◌⊎◌, inl, inr, ℕ, zero, suc, List, [], Option, Some, None, Bool, true, false, cond, eqb, refl, sym, ap, ◌∙◌, subst}
-use Rattle.std.proofs.lemmas.Option.{same_Some}
-use Rattle.bw_model.specs.declared.command.Reply.{Reply}
-use Rattle.bw_model.specs.declared.step.Step.{Step as StepOf}
-use Rattle.bw_model.specs.declared.step.Step.TheVariants.{Slot, Row, Epoch, Announce, PidBits, RowBits, Place, Exchange, TakePid, TakeRow, Enter, Leave, Retire, ReusePids, ReuseRows}
-use Rattle.bw_model.specs.declared.step.Answer.{Answer}
-use Rattle.bw_model.specs.declared.step.Answer.TheVariants.{Start, Number, Content, Whether, Done}
-use Rattle.bw_model.specs.Log.{Update}
+use Rattle.tree_law.proofs.Words.{false, ◌⊎◌, [], ap, refl, cond, Option, suc, None, List, true, inl, ◌≢◌, inr, subst, sym, ℕ, ◌≡◌, Bool, zero, ◌∙◌, Some, eqb, same_Some, Update, Reply, Answer}
+use Rattle.tree_law.proofs.Words.{Whether, Content, Number, StepOf, ReuseRows, ReusePids, TakePid, Row, Place, TakeRow, Slot, Epoch, PidBits, Exchange, RowBits, Announce, Memory, replaced_at, Record}
+use Rattle.tree_law.proofs.Words.{Remove, Base, Hold, Split, Merge, Term, Unterm, low_in, level_in, May, IsOwn, MayExchange, IsOwnBase, Knowledge, finished, Ready, learn, Empty, OwnPage, Other, Gone}
+use Rattle.tree_law.proofs.Words.{Written, filled, rooted, OwnRow, emptied, exchanged, split_off, linked_over, IsAnswer, memory_after, Key, IsReuse, IsMoved, Linked, Owners, Reached, Spare, OwnFits}
+use Rattle.tree_law.proofs.Words.{HeadFits, Placed, Indexed, PageOwner, Cleared, Keeps, Fresh, Removed, Held, Merged, Stage, Phased, LinkMoves, put, shared, slot_in, Shared, IsReadyPage, IsInTree}
+use Rattle.tree_law.proofs.Words.{IsTree}
 use Rattle.base_page.specs.Pages as pages
-use Rattle.deltas.specs.declared.record.Record.{Record}
-use Rattle.deltas.specs.declared.record.Record.TheVariants.{Base, Put, Delete, Split, Term, Hold, Remove, Merge, Unterm}
-use Rattle.deltas.specs.Memory.{Memory, replaced_at}
-use Rattle.chain_search.specs.Chains.{level_in, low_in}
-use Rattle.chain_search.specs.Steps.{IsAnswer, memory_after}
-use Rattle.chain_search.specs.Discipline.{IsOwn, IsOwnBase, MayExchange, May}
-use Rattle.tree_law.specs.Keys.{Key}
-use Rattle.chain_search.specs.Knowledge.{OwnRow, Foreign, Taken, Written, OwnPage, Other, Empty, Ready, Gone, Knowledge, split_off, linked_over, filled, emptied, rooted, exchanged, learn, finished}
-use Rattle.tree_law.specs.Next.{IsReuse, IsMoved}
-use Rattle.tree_law.specs.Owners.{Spare, Linked, Owners, OwnFits, Reached, HeadFits}
-use Rattle.tree_law.specs.Phase.{Stage, Fresh, Indexed, Held, Removed, Merged, PageOwner, Nobody, Keeps, Placed, Cleared}
-use Rattle.tree_law.specs.Phases.{LinkMoves, Phased}
-use Rattle.tree_law.specs.Put.{put}
-use Rattle.tree_law.specs.Shared.{Shared, slot_in, shared}
-use Rattle.tree_law.specs.State.{IsInTree, IsReadyPage}
-use Rattle.tree_law.specs.Tree.{IsTree}
-use Rattle.tree_law.proofs.shape.Puts.{by_test, put_same, put_other}
+use Rattle.tree_law.proofs.shape.{by_test, put_same, put_other, own_spare}
 use Rattle.tree_law.proofs.links.Stepping.{root_apart, slot_put}
-use Rattle.tree_law.proofs.links.Taking.{own_spare}
 
 -- a page that was placed at one place is in the tree
 put_in_tree : (f : ℕ → PageOwner) (q p : ℕ) (st : Stage) (l : ℕ) (k : Key) → IsInTree (f p) → IsInTree (put f q (Placed st l k) p)
@@ -40,21 +21,18 @@ here_in_tree f q st l k = subst IsInTree (sym (put_same f q (Placed st l k))) tt
 
 -- what is in the tree stays in it when a record is linked
 links_in_tree : (m : Shared) (a : ℕ) (w : Record) (q : ℕ) (f f' : ℕ → PageOwner) → LinkMoves m a w q f f' → (p : ℕ) → IsInTree (f p) → IsInTree (f' p)
-links_in_tree m a (Base page) q f f' h p i = subst (λ (g : ℕ → PageOwner). IsInTree (g p)) (sym h) i
-links_in_tree m a (Put put') q f f' h p i = subst (λ (g : ℕ → PageOwner). IsInTree (g p)) (sym h) i
-links_in_tree m a (Delete delete) q f f' h p i = subst (λ (g : ℕ → PageOwner). IsInTree (g p)) (sym h) i
 links_in_tree m a (Term term) q f f' h p i = subst (λ (g : ℕ → PageOwner). IsInTree (g p)) (sym h.2) (put_in_tree f term.child p Indexed h.0 term.separator i)
 links_in_tree m a (Hold hold) q f f' h p i = subst (λ (g : ℕ → PageOwner). IsInTree (g p)) (sym h.2) (put_in_tree f hold.child p Held h.0 hold.separator i)
 links_in_tree m a (Unterm unterm) q f f' h p i = subst (λ (g : ℕ → PageOwner). IsInTree (g p)) (sym h.2) (put_cleared f unterm.child p a h.0 unterm.separator i)
 links_in_tree m a (Split split) q f f' h p i = subst (λ (g : ℕ → PageOwner). IsInTree (g p)) (sym h.5) (put_in_tree f split.page p Fresh h.1 split.separator i)
 links_in_tree m a (Remove remove) q f f' h p i = subst (λ (g : ℕ → PageOwner). IsInTree (g p)) (sym h.3) (put_in_tree f q p Removed h.0 h.1 i)
 links_in_tree m a (Merge merge) q f f' h p i = subst (λ (g : ℕ → PageOwner). IsInTree (g p)) (sym h.3) (put_in_tree f h.0 p Merged h.1 merge.low i)
+links_in_tree m a w q f f' h p i = subst (λ (g : ℕ → PageOwner). IsInTree (g p)) (sym h) i
 
 pub reached_in_tree : (r l : ℕ) (k : Key) (w : PageOwner) → Reached r l k w → IsInTree w
-reached_in_tree r l k Nobody h = h
-reached_in_tree r l k (Keeps b) h = h
 reached_in_tree r l k (Placed st l' k') h = tt
 reached_in_tree r l k (Cleared b l' k') h = tt
+reached_in_tree r l k w h = h
 
 module _ (m : Memory) {log : List Update} {o : Owners} {knows : ℕ → Knowledge} {point : ℕ → Option (List Update)} {logs : ℕ → List (List Update)} (g : IsTree (shared m) log o knows point logs)
     (held : (p q : ℕ) → slot_in m.slots p ≡ Some q → IsInTree (o.page p) ⊎ IsReadyPage o m knows p q) (a : ℕ) (o' : Owners) (kept : (q : ℕ) → o.row q ≡ Linked → (o'.row q ≡ Linked)) (moved : (q : ℕ) → IsMoved a (m.free_rows q) (o.row q) (o'.row q)) where
@@ -95,37 +73,25 @@ module _ (m : Memory) {log : List Update} {o : Owners} {knows : ℕ → Knowledg
     -- a page that is ready is so afterwards, or in the tree
     linked_ready : (v : OwnRow) → OwnFits a (o.row (suc y)) (m.rows (suc y)) v → (p q : ℕ) → (knows a).own.pages p ≡ Ready q → IsInTree (o'.page p) ⊎ ((linked_over v (suc x) (suc y) (knows a)).own.pages p ≡ Ready q)
     linked_ready (Written (Split split)) fits p q e =
-        let same : w ≡ Split split = same_Some w (Split split) (sym stands ∙ fits.1) in
-        let h = subst (λ (u : Record). LinkMoves (shared m) a u (suc n) o.page o'.page) same links in
+        let h = subst (λ (u : Record). LinkMoves (shared m) a u (suc n) o.page o'.page) (same_Some w (Split split) (sym stands ∙ fits.1)) links in
         elim ((knows a).own.pages split.page) as (λ z. IsInTree (o'.page p) ⊎ ((split_off z split.page (suc y) (knows a)).own.pages p ≡ Ready q)) [
           | Ready base ↦ by_test p split.page (λ t. IsInTree (o'.page p) ⊎ (cond t Other ((knows a).own.pages p) ≡ Ready q))
               (λ i. inl (subst (λ (f : ℕ → PageOwner). IsInTree (f p)) (sym h.5) (rw i (here_in_tree o.page split.page Fresh h.1 split.separator))))
               (λ ne. inr e)
-          | Other ↦ inr e
-          | Empty ↦ inr e
-          | Gone ↦ inr e
+          | v ↦ inr e
         ]
     linked_ready (Written (Unterm unterm)) fits p q e =
-        let same : w ≡ Unterm unterm = same_Some w (Unterm unterm) (sym stands ∙ fits.1) in
-        let h = subst (λ (u : Record). LinkMoves (shared m) a u (suc n) o.page o'.page) same links in
+        let h = subst (λ (u : Record). LinkMoves (shared m) a u (suc n) o.page o'.page) (same_Some w (Unterm unterm) (sym stands ∙ fits.1)) links in
         by_test p unterm.child (λ t. IsInTree (o'.page p) ⊎ (cond t Gone ((knows a).own.pages p) ≡ Ready q))
         (λ i. inl (subst (λ (f : ℕ → PageOwner). IsInTree (f p)) (sym h.2) (rw i (subst IsInTree (sym (put_same o.page unterm.child (Cleared a h.0 unterm.separator))) tt))))
         (λ ne. inr e)
     linked_ready (Written (Base page)) fits p q e = inr e
-    linked_ready (Written (Put put')) fits p q e = inr e
-    linked_ready (Written (Delete delete)) fits p q e = inr e
-    linked_ready (Written (Term term)) fits p q e = inr e
-    linked_ready (Written (Hold hold)) fits p q e = inr e
-    linked_ready (Written (Remove remove)) fits p q e = inr e
-    linked_ready (Written (Merge merge)) fits p q e = inr e
-    linked_ready Taken fits p q e = inr e
-    linked_ready Foreign fits p q e = inr e
+    linked_ready v fits p q e = inr e
 
     filled_ready : (v : OwnPage) (p q : ℕ) → p ≢ suc n → (knows a).own.pages p ≡ Ready q → IsInTree (o'.page p) ⊎ ((filled v (suc n) (suc x) (suc y) (knows a)).own.pages p ≡ Ready q)
     filled_ready Other p q ne e = linked_ready ((knows a).own.rows (suc y)) (g.owns a (suc y)) p q e
     filled_ready Empty p q ne e = inr (with_other (Ready (suc y)) (suc n) p q ne e)
-    filled_ready (Ready base) p q ne e = inr e
-    filled_ready Gone p q ne e = inr e
+    filled_ready v p q ne e = inr e
 
     linking : (m' : Memory) → m'.rows ≡ m.rows → (p q : ℕ) → put (slot_in m.slots) (suc n) (Some (suc y)) p ≡ Some q → IsInTree (o'.page p) ⊎ IsReadyPage o' m' (put knows a (finished (exchanged (suc n) (suc x) (suc y) (knows a)) r)) p q
     linking m' rows p q e = by_test p (suc n) (λ t. cond t (Some (suc y)) (slot_in m.slots p) ≡ Some q → IsInTree (o'.page p) ⊎ IsReadyPage o' m' (put knows a (finished (exchanged (suc n) (suc x) (suc y) (knows a)) r)) p q)
@@ -146,16 +112,7 @@ module _ (m : Memory) {log : List Update} {o : Owners} {knows : ℕ → Knowledg
   -- a base in a row of its own
   own_base : (q : ℕ) (v : OwnRow) → OwnFits a (o.row q) (m.rows q) v → IsOwnBase v → (o.row q ≡ Spare a) × ((base : pages.Page) × (m.rows q ≡ Some (Base base)))
   own_base q (Written (Base page)) fits h = (fits.0, (page, fits.1))
-  own_base q (Written (Put record')) fits h = absurd h
-  own_base q (Written (Delete record')) fits h = absurd h
-  own_base q (Written (Split record')) fits h = absurd h
-  own_base q (Written (Term record')) fits h = absurd h
-  own_base q (Written (Hold record')) fits h = absurd h
-  own_base q (Written (Remove record')) fits h = absurd h
-  own_base q (Written (Merge record')) fits h = absurd h
-  own_base q (Written (Unterm record')) fits h = absurd h
-  own_base q Taken fits h = absurd h
-  own_base q Foreign fits h = absurd h
+  own_base q v fits h = absurd h
 
   readies : (n y : ℕ) (r : Option Reply) → (knows a).own.pages (suc n) ≡ Empty → IsOwnBase ((knows a).own.rows (suc y)) → o'.page ≡ o.page → (p q : ℕ) → put (slot_in m.slots) (suc n) (Some (suc y)) p ≡ Some q
       → IsInTree (o'.page p) ⊎ IsReadyPage o' (record m { slots = replaced_at (suc n) (suc y) m.slots }) (put knows a (finished (exchanged (suc n) zero (suc y) (knows a)) r)) p q
@@ -178,9 +135,8 @@ module _ (m : Memory) {log : List Update} {o : Owners} {knows : ℕ → Knowledg
 
   emptied_ready : (v : OwnPage) (n x p q : ℕ) → p ≢ n → (knows a).own.pages p ≡ Ready q → (emptied v n x (knows a)).own.pages p ≡ Ready q
   emptied_ready (Ready base) n x p q ne e = with_other Empty n p q ne e
-  emptied_ready Other n x p q ne e = e
-  emptied_ready Empty n x p q ne e = e
   emptied_ready Gone n x p q ne e = with_other Other n p q ne e
+  emptied_ready v n x p q ne e = e
 
   empties : (n x : ℕ) (r : Option Reply) (m' : Memory) → m'.rows ≡ m.rows → o'.page ≡ o.page → (p q : ℕ) → put (slot_in m.slots) (suc n) None p ≡ Some q → IsInTree (o'.page p) ⊎ IsReadyPage o' m' (put knows a (finished (exchanged (suc n) (suc x) zero (knows a)) r)) p q
   empties n x r m' rows same p q e = by_test p (suc n) (λ t. cond t None (slot_in m.slots p) ≡ Some q → IsInTree (o'.page p) ⊎ IsReadyPage o' m' (put knows a (finished (exchanged (suc n) (suc x) zero (knows a)) r)) p q)
@@ -192,9 +148,7 @@ module _ (m : Memory) {log : List Update} {o : Owners} {knows : ℕ → Knowledg
 
   rooted_ready : (v : OwnPage) (n p q : ℕ) → p ≢ n → (knows a).own.pages p ≡ Ready q → (rooted v n (knows a)).own.pages p ≡ Ready q
   rooted_ready (Ready base) n p q ne e = with_other Other n p q ne e
-  rooted_ready Other n p q ne e = e
-  rooted_ready Empty n p q ne e = e
-  rooted_ready Gone n p q ne e = e
+  rooted_ready v n p q ne e = e
 
   roots : (x y : ℕ) (r : Option Reply) (m' : Memory) → m'.rows ≡ m.rows → (b l : ℕ) (k : Key) → o'.page ≡ put (put o.page b (Placed Indexed l k)) y (Placed Indexed (suc l) []) → (p q : ℕ) → slot_in m.slots p ≡ Some q → IsInTree (o'.page p) ⊎ IsReadyPage o' m' (put knows a (finished (exchanged zero x y (knows a)) r)) p q
   roots x y r m' rows b l k same p q e = elim (held p q e) [
@@ -210,8 +164,7 @@ module _ (m : Memory) {log : List Update} {o : Owners} {knows : ℕ → Knowledg
   exchange_won (suc n) zero (suc y) r may ph p q e = readies n y r may.0 may.1 ph.0 p q (subst (λ (f : ℕ → Option ℕ). f p ≡ Some q) (slot_put m.slots n (suc y)) e)
   exchange_won (suc n) (suc x) zero r may ph p q e = empties n x r (record m { slots = replaced_at (suc n) zero m.slots }) refl ph.0 p q (subst (λ (f : ℕ → Option ℕ). f p ≡ Some q) (slot_put m.slots n zero) e)
   exchange_won (suc n) (suc x) (suc y) r may ph p q e =
-      let read = may.basis in
-      let h = subst (λ (v : Option ℕ). HeadFits o (shared m) (logs a) (suc n) v) read.head ((g.sound a).heads_fit (suc n)) in
+      let h = subst (λ (v : Option ℕ). HeadFits o (shared m) (logs a) (suc n) v) may.basis.head ((g.sound a).heads_fit (suc n)) in
       linking n x y r ph.0 ph.1 ph.2 (reached_in_tree 0 (level_in h.2.chain) (low_in h.2.chain) (o.page (suc n)) h.3) (record m { slots = replaced_at (suc n) (suc y) m.slots }) refl p q (subst (λ (f : ℕ → Option ℕ). f p ≡ Some q) (slot_put m.slots n (suc y)) e)
 
   takes : (n : ℕ) (r : Option Reply) → m.free_pids n ≡ true → o'.page ≡ put o.page n (Keeps a) → Holds (memory_after a (TakePid n) m) (finished (learn (knows a) (TakePid n) (Whether true)) r)
@@ -227,31 +180,27 @@ module _ (m : Memory) {log : List Update} {o : Owners} {knows : ℕ → Knowledg
     | inl h ↦ inl (subst (λ (f : ℕ → PageOwner). IsInTree (f p)) (sym same) h)
     | inr h ↦ inr (ready_after (memory_after a (Place n w) m) (finished (learn (knows a) (Place n w) x) r) p q h
         (λ owned. put_other m.rows n (Some w) q (λ i. elim owned [
-          | inl l ↦ let mine = spare in let l' : o.row n ≡ Linked = subst (λ z. o.row z ≡ Linked) i l in absurd (cc)
+          | inl l ↦ let mine = (own_spare (m.rows n) ((knows a).own.rows n) (g.owns a n) own) in let l' : o.row n ≡ Linked = subst (λ z. o.row z ≡ Linked) i l in absurd (cc)
           | inr s ↦
-              let mine = spare in
+              let mine = (own_spare (m.rows n) ((knows a).own.rows n) (g.owns a n) own) in
               let his : o.row n ≡ Spare h.actor = subst (λ z. o.row z ≡ Spare h.actor) i s in
               let actors : h.actor ≡ a = cc in
               never p (subst (λ z. (knows z).own.pages p ≡ Ready n) actors (h.ready ∙ ap Ready i))
         ]))
         (λ j. subst (λ z. (knows z).own.pages p ≡ Ready q) j h.ready))
   ]
-    where
-      spare : o.row n ≡ Spare a
-      spare = own_spare g a n ((knows a).own.rows n) (g.owns a n) own
 
   -- after an allowed step
   pub held_after : (s : StepOf Record) → (IsReuse s → ⊥) → (x : Answer Record) (r : Option Reply) → May a (knows a) s → IsAnswer m s x → Phased a (shared m) s x o.page o'.page → Holds (memory_after a s m) (finished (learn (knows a) s x) r)
-  held_after (Slot zero) still_so (Number n) r may is ph = still m (finished (learn (knows a) (Slot zero) (Number n)) r) refl ph refl
-  held_after (Slot (suc p)) still_so (Number zero) r may is ph = still m (finished (learn (knows a) (Slot (suc p)) (Number zero)) r) refl ph refl
-  held_after (Slot (suc p)) still_so (Number (suc n)) r may is ph = still m (finished (learn (knows a) (Slot (suc p)) (Number (suc n))) r) refl ph refl
-  held_after (Row q) still_so (Content w) r may is ph = still m (finished (learn (knows a) (Row q) (Content w)) r) refl ph refl
-  held_after (PidBits w) still_so (Number n) r may is ph = still m (finished (learn (knows a) (PidBits w) (Number n)) r) refl ph refl
-  held_after (RowBits w) still_so (Number n) r may is ph = still m (finished (learn (knows a) (RowBits w) (Number n)) r) refl ph refl
-  held_after (TakePid n) still_so (Whether true) r may is ph = takes n r (let e = is in cc) ph
-  held_after (TakePid n) still_so (Whether false) r may is ph = still (memory_after a (TakePid n) m) (finished (learn (knows a) (TakePid n) (Whether false)) r) refl ph refl
+  held_after (Slot zero) still_so (Number n) r may is ph = still (memory_after a (Slot zero) m) (finished (learn (knows a) (Slot zero) (Number n)) r) refl ph refl
+  held_after (Slot (suc p)) still_so (Number zero) r may is ph = still (memory_after a (Slot (suc p)) m) (finished (learn (knows a) (Slot (suc p)) (Number zero)) r) refl ph refl
+  held_after (Row q) still_so (Content w) r may is ph = still (memory_after a (Row q) m) (finished (learn (knows a) (Row q) (Content w)) r) refl ph refl
+  held_after Epoch still_so (Number n) r may is ph = still (memory_after a Epoch m) (finished (learn (knows a) Epoch (Number n)) r) refl ph refl
+  held_after (Announce b) still_so (Number n) r may is ph = still (memory_after a (Announce b) m) (finished (learn (knows a) (Announce b) (Number n)) r) refl ph refl
+  held_after (PidBits w) still_so (Number n) r may is ph = still (memory_after a (PidBits w) m) (finished (learn (knows a) (PidBits w) (Number n)) r) refl ph refl
+  held_after (RowBits w) still_so (Number n) r may is ph = still (memory_after a (RowBits w) m) (finished (learn (knows a) (RowBits w) (Number n)) r) refl ph refl
   held_after (TakeRow n) still_so (Whether true) r may is ph = still (memory_after a (TakeRow n) m) (finished (learn (knows a) (TakeRow n) (Whether true)) r) refl ph refl
-  held_after (TakeRow n) still_so (Whether false) r may is ph = still (memory_after a (TakeRow n) m) (finished (learn (knows a) (TakeRow n) (Whether false)) r) refl ph refl
+  held_after (TakePid n) still_so (Whether true) r may is ph = takes n r (let e = is in cc) ph
   held_after (Place n w) still_so x r may is ph = places n w x r may.1 may.2 ph
   held_after (Exchange p x y) still_so (Whether true) r may is ph =
       let won : eqb (m.slots p) x ≡ true = let e = is in cc in
@@ -259,38 +208,7 @@ module _ (m : Memory) {log : List Update} {o : Owners} {knows : ℕ → Knowledg
   held_after (Exchange p x y) still_so (Whether false) r may is ph =
       let lost : eqb (m.slots p) x ≡ false = let e = is in cc in
       subst (λ (t : Bool). Holds (record m { slots = cond t (replaced_at p y m.slots) m.slots }) (finished (knows a) r)) (sym lost) (still m (finished (knows a) r) refl ph refl)
-  held_after (Exchange p x y) still_so (Number n) r may is ph = absurd (let e = is in cc)
-  held_after (Exchange p x y) still_so (Content w) r may is ph = absurd (let e = is in cc)
-  held_after (Exchange p x y) still_so Done r may is ph = absurd (let e = is in cc)
-  held_after (Retire e) still_so x r may is ph = still (memory_after a (Retire e) m) (finished (learn (knows a) (Retire e) x) r) refl ph refl
+  held_after (Exchange p x y) still_so z r may is ph = absurd (let e = is in cc)
   held_after (ReusePids w b) still_so x r may is ph = absurd (still_so tt)
   held_after (ReuseRows w b) still_so x r may is ph = absurd (still_so tt)
-  held_after (Slot p) still_so (Content w) r may is ph = absurd (let e = is in cc)
-  held_after (Slot p) still_so (Whether b) r may is ph = absurd (let e = is in cc)
-  held_after (Slot p) still_so Done r may is ph = absurd (let e = is in cc)
-  held_after (TakePid q) still_so (Number n) r may is ph = absurd (let e = is in cc)
-  held_after (TakePid q) still_so (Content w) r may is ph = absurd (let e = is in cc)
-  held_after (TakePid q) still_so Done r may is ph = absurd (let e = is in cc)
-  held_after (TakeRow q) still_so (Number n) r may is ph = absurd (let e = is in cc)
-  held_after (TakeRow q) still_so (Content w) r may is ph = absurd (let e = is in cc)
-  held_after (TakeRow q) still_so Done r may is ph = absurd (let e = is in cc)
-  held_after (PidBits v) still_so (Content w) r may is ph = absurd (let e = is.2 in cc)
-  held_after (PidBits v) still_so (Whether b) r may is ph = absurd (let e = is.2 in cc)
-  held_after (PidBits v) still_so Done r may is ph = absurd (let e = is.2 in cc)
-  held_after (RowBits v) still_so (Content w) r may is ph = absurd (let e = is.2 in cc)
-  held_after (RowBits v) still_so (Whether b) r may is ph = absurd (let e = is.2 in cc)
-  held_after (RowBits v) still_so Done r may is ph = absurd (let e = is.2 in cc)
-  held_after (Row q) still_so (Number n) r may is ph = absurd (let e = is.2 in cc)
-  held_after (Row q) still_so (Whether b) r may is ph = absurd (let e = is.2 in cc)
-  held_after (Row q) still_so Done r may is ph = absurd (let e = is.2 in cc)
-  held_after Epoch still_so x r may is ph = subst (λ (y : Answer Record). Holds (memory_after a Epoch m) (finished (learn (knows a) Epoch y) r)) (sym is) (still (memory_after a Epoch m) (finished (learn (knows a) Epoch (Number m.epoch)) r) refl ph refl)
-  held_after (Announce b) still_so x r may is ph = subst (λ (y : Answer Record). Holds (memory_after a (Announce b) m) (finished (learn (knows a) (Announce b) y) r)) (sym is) (still (memory_after a (Announce b) m) (finished (learn (knows a) (Announce b) (Number (m.announced b))) r) refl ph refl)
-  held_after (Enter e) still_so x r may is ph = still (memory_after a (Enter e) m) (finished (learn (knows a) (Enter e) x) r) refl ph refl
-  held_after Leave still_so x r may is ph = still (memory_after a Leave m) (finished (learn (knows a) Leave x) r) refl ph refl
-  held_after (Slot p) still_so Start r may is ph = absurd (let e = is in cc)
-  held_after (Exchange p x y) still_so Start r may is ph = absurd (let e = is in cc)
-  held_after (TakePid n) still_so Start r may is ph = absurd (let e = is in cc)
-  held_after (TakeRow n) still_so Start r may is ph = absurd (let e = is in cc)
-  held_after (Row q) still_so Start r may is ph = absurd (let e = is.2 in cc)
-  held_after (PidBits v) still_so Start r may is ph = absurd (let e = is.2 in cc)
-  held_after (RowBits v) still_so Start r may is ph = absurd (let e = is.2 in cc)
+  held_after s still_so x r may is ph = still (memory_after a s m) (finished (learn (knows a) s x) r) refl ph refl

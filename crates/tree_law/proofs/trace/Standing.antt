@@ -1,42 +1,12 @@
 -- The pages and leaves that an operation has read stood at its own steps.
-use Rattle.std.proofs.Common.{◌≡◌, ◌<◌, ◌≤◌, ◌⊎◌, inl, inr, ℕ, zero, suc, List, [], ◌∷◌, ◌++◌, length, Option, Some, true, false, cond, refl, sym, ap, ◌∙◌, subst, ⊎_elim, arith}
-use Rattle.std.specs.Prelude.{slice_get}
-use Rattle.bw_model.specs.declared.command.Command.{Command}
-use Rattle.bw_model.specs.declared.command.Reply.{Reply}
-use Rattle.bw_model.specs.declared.limits.Limits.{Limits}
-use Rattle.bw_model.specs.declared.step.Answer.{Answer}
-use Rattle.bw_model.specs.declared.step.Answer.TheVariants.{Number, Content, Whether}
-use Rattle.bw_model.specs.declared.step.Step.{Step as StepOf}
-use Rattle.bw_model.specs.declared.step.Step.TheVariants.{Slot, Row, Epoch, Announce, PidBits, RowBits, Exchange, TakePid, TakeRow, Leave}
-use Rattle.bw_model.specs.Log.{Update}
-use Rattle.deltas.specs.declared.record.Record.{Record}
-use Rattle.deltas.specs.Memory.{Memory}
-use Rattle.chain_search.specs.declared.trace.Entry.{Entry}
-use Rattle.chain_search.specs.declared.trace.Entry.TheVariants.{Begin, Step}
-use Rattle.chain_search.specs.Chains.{IsChainFrom, IsChainOf, level_in, low_in, is_removed, right_in}
-use Rattle.chain_search.specs.Discipline.{May, WasStanding}
-use Rattle.chain_search.specs.Knowledge.{Knowledge, Readings, learn}
-use Rattle.chain_search.specs.SideChain.{LivePage}
-use Rattle.chain_search.specs.Steps.{IsAnswer, memory_after}
-use Rattle.chain_search.specs.Trace.{command_of, memory_at}
-use Rattle.chain_search.proofs.Pushes.{take-push, take-push_whole}
-use Rattle.op_machine.specs.Operations.{Operation}
-use Rattle.tree_law.specs.Keys.{Key}
-use Rattle.tree_law.specs.Owners.{Linked, Owners, Reached, HeadFits, OrderFits, InOrder, IsOut}
-use Rattle.tree_law.specs.Shared.{Shared, row_in, slot_in, shared}
-use Rattle.tree_law.specs.State.{IsUnended, operation_of}
-use Rattle.tree_law.specs.Stood.{IsLeafWith, WasLeafWith, WasRead, WereRead, HaveStood}
-use Rattle.tree_law.specs.Tree.{InPlace, Level, spec, IsTree}
+use Rattle.tree_law.proofs.Words.{false, ◌⊎◌, [], ap, refl, cond, Option, suc, List, true, inl, length, ◌++◌, ◌≤◌, inr, ◌∷◌, subst, sym, ℕ, ◌≡◌, zero, ◌∙◌, ◌<◌, arith, Some, ⊎_elim, slice_get, Update}
+use Rattle.tree_law.proofs.Words.{Command, Reply, Limits, Answer, Whether, Content, Number, StepOf, Leave, TakePid, Row, TakeRow, Slot, Epoch, PidBits, Exchange, RowBits, Announce, Memory, Record}
+use Rattle.tree_law.proofs.Words.{take-push, take-push_whole, IsChainOf, IsChainFrom, right_in, low_in, is_removed, level_in, May, WasStanding, Knowledge, learn, Readings, LivePage, IsAnswer}
+use Rattle.tree_law.proofs.Words.{memory_after, memory_at, command_of, Entry, Begin, Step, Operation, Key, Linked, Owners, Reached, IsOut, HeadFits, OrderFits, InOrder, shared, slot_in, row_in}
+use Rattle.tree_law.proofs.Words.{Shared, operation_of, IsUnended, HaveStood, WasRead, WereRead, WasLeafWith, IsLeafWith, IsTree, spec, Level, InPlace}
 use Rattle.tree_law.proofs.links.Exchanged.{exchanged_alike}
 use Rattle.tree_law.proofs.links.Keeping.{alive_place, met_placed}
-use Rattle.tree_law.proofs.shape.Chains.{chain_unique}
-use Rattle.tree_law.proofs.shape.Frames.{chain_stands}
-use Rattle.tree_law.proofs.shape.LeafPlaces.{is_leaf}
-use Rattle.tree_law.proofs.shape.Mapping.{chain_at}
-use Rattle.tree_law.proofs.shape.Moments.{same_memory}
-use Rattle.tree_law.proofs.shape.Puts.{by_test}
-use Rattle.tree_law.proofs.shape.Rows.{chain_was}
-use Rattle.tree_law.proofs.shape.Sides.{in_level_as, right_page}
+use Rattle.tree_law.proofs.shape.{chain_unique, chain_stands, is_leaf, chain_at, same_memory, by_test, chain_was, in_level_as, right_page}
 use Rattle.tree_law.proofs.trace.Owned.{own_step_kept, own_new, pushed_length, step_below, takes_new}
 use Rattle.tree_law.proofs.trace.Searches.{read_kept}
 
@@ -59,18 +29,14 @@ read_cases k (Slot (suc p)) (Number (suc n)) page row e = by_test page (suc p)
     (λ i f b. inr (record { number = p; held = n; page_is = i; row_is = (let same : suc n ≡ row = cc in sym same); step_is = refl; answer_is = refl; before_is = sym b }))
     (λ ne f b. inl (f, sym b)) e refl
 read_cases k (Slot zero) (Number n) page row e = inl (e, refl)
-read_cases k (Slot (suc p)) (Number zero) page row e = inl (e, refl)
 read_cases k (Row q) (Content v) page row e = inl (e, refl)
 read_cases k (PidBits v) (Number n) page row e = inl (e, refl)
 read_cases k (RowBits v) (Number n) page row e = inl (e, refl)
 read_cases k Epoch (Number n) page row e = inl (e, refl)
 read_cases k (Announce b) (Number n) page row e = inl (e, refl)
 read_cases k (TakePid q) (Whether true) page row e = inl (e, refl)
-read_cases k (TakePid q) (Whether false) page row e = inl (e, refl)
 read_cases k (TakeRow q) (Whether true) page row e = inl (e, refl)
-read_cases k (TakeRow q) (Whether false) page row e = inl (e, refl)
 read_cases k (Exchange p y z) (Whether true) page row e = inl (subst (λ (r : Readings). r.heads page ≡ Some row) (exchanged_alike p y z k).read e, ap (λ (r : Readings). r.before page) (exchanged_alike p y z k).read)
-read_cases k (Exchange p y z) (Whether false) page row e = inl (e, refl)
 read_cases k Leave x page row e = absurd (cc)
 read_cases k s x page row e = inl (e, refl)
 
@@ -166,10 +132,9 @@ module _ (limits : Limits) (entries : List Entry) (last : Entry) where
 
     sees : (page row : ℕ) → ReadsNow (knows a) step answer page row → Sees page row
     sees page row n =
-        let may' : May a (knows a) (Slot (suc n.number)) = subst (May a (knows a)) n.step_is may in
         let told : Number (suc n.held) ≡ Number (memory.slots (suc n.number)) = subst (IsAnswer memory (Slot (suc n.number))) n.answer_is (subst (λ (s : StepOf Record). IsAnswer memory s answer) n.step_is is_answer) in
         let in_slot : memory.slots (suc n.number) ≡ suc n.held = cc in
-        let placed = met_placed g a (suc n.number) may'.1 in
+        let placed = met_placed g a (suc n.number) (subst (May a (knows a)) n.step_is may).1 in
         record {
           level = placed.0;
           low = placed.1;
@@ -186,12 +151,11 @@ module _ (limits : Limits) (entries : List Entry) (last : Entry) where
     now_read page row chain n is =
         let s = sees page row n in
         let long : length (entries ++ last ∷ []) ≡ suc (length entries) = pushed_length entries last in
-        let slot : step ≡ Slot page = n.step_is ∙ ap Slot (sym n.page_is) in
         let held : answer ≡ Number row = n.answer_is ∙ ap Number (sym n.row_is) in
         record {
           step = length entries;
           before = omega arith;
-          own = takes_new entries last start a c (Slot page) (Number row) r begins unended (last_is ∙ λ d. Step a (slot d) (held d) r);
+          own = takes_new entries last start a c (Slot page) (Number row) r begins unended (last_is ∙ λ d. Step a ((n.step_is ∙ ap Slot (sym n.page_is)) d) (held d) r);
           stood = subst (λ (x : Memory). IsChainOf x page chain) (sym (same_memory limits entries last (length entries) (omega arith) ∙ now)) (chain_at memory page row chain s.at (s.rows row chain is));
         }
 

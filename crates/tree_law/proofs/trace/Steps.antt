@@ -1,61 +1,27 @@
 -- A step keeps a state, and a state is linearized.
-use Rattle.std.proofs.Common.{◌≡◌, ◌≢◌, ◌<◌, inl, inr, ℕ, suc, List, [], ◌∷◌, ◌++◌, length, Option, Some, None, Bool, true, false, cond, ◌⊎◌, refl, sym, ap, ◌∙◌, subst, arith}
-use Rattle.std.specs.Prelude.{IsSome, IfSome, MatchOption, slice_get, IsTrue, IsFalse, if◌then◌else◌, ◌↔◌}
+use Rattle.tree_law.proofs.Words.{false, ◌⊎◌, [], ap, refl, cond, Option, suc, None, List, true, inl, ◌≢◌, length, ◌++◌, inr, ◌∷◌, subst, sym, ℕ, ◌≡◌, Bool, ◌∙◌, ◌<◌, arith, Some, same_Some}
+use Rattle.tree_law.proofs.Words.{slice_get, IsSome, IfSome, MatchOption, IsFalse, if◌then◌else◌, IsTrue, ◌↔◌, bytes_eq, Update, logged_value, command_key, reply_of, Command, Swap, Upsert, Insert}
+use Rattle.tree_law.proofs.Words.{Reply, Limits, Answer, Number, StepOf, ReuseRows, ReusePids, Leave, Slot, Memory, Record, slice_get_kept, slice_get-push_cases, IsRun-push, memory_of-push}
+use Rattle.tree_law.proofs.Words.{command_of-push, MayReply, IsAllowed, knows, Knowledge, finished, learn, IsAnswer, memory_after, command_of, memory_of, commands_after, Entry, Begin, Step}
+use Rattle.tree_law.proofs.Words.{same_operation, log_of-push, RepliesAt, IsOperation, Operation, Finishes, IsOwnStep, IsInPhase, MovesPhase, Phase, log_at, log_of, IsPoint, LinksUpdate, IsFirst}
+use Rattle.tree_law.proofs.Words.{IsReuse, After, IsDue, Indexed, put, shared, slot_in, IsReadyPage, Tells, operation_of, IsSearch, IsState, phase_of, IsInTree, IsUnended, IsAnsweredBy, HasFound}
+use Rattle.tree_law.proofs.Words.{HaveStood, Times, Timed, times_after, IsTree}
 use Rattle.std.specs.Option.{option_to_list}
-use Rattle.std.specs.Str.{bytes_eq}
-use Rattle.std.proofs.lemmas.Option.{same_Some}
-use Rattle.bw_model.specs.declared.command.Command.{Command}
-use Rattle.bw_model.specs.declared.command.Command.TheVariants.{Get, Insert, Upsert, Delete, Swap, Page, Tidy}
-use Rattle.bw_model.specs.declared.command.Reply.{Reply}
+use Rattle.bw_model.specs.declared.command.Command.TheVariants.{Get, Delete, Page, Tidy}
 use Rattle.bw_model.specs.declared.command.Reply.TheVariants as reply
-use Rattle.bw_model.specs.declared.limits.Limits.{Limits}
-use Rattle.bw_model.specs.declared.step.Answer.{Answer}
-use Rattle.bw_model.specs.declared.step.Answer.TheVariants.{Number}
-use Rattle.bw_model.specs.declared.step.Step.{Step as StepOf}
-use Rattle.bw_model.specs.declared.step.Step.TheVariants.{Slot, Row, Epoch, Announce, PidBits, RowBits, Place, Exchange, TakePid, TakeRow, Enter, Leave, Retire, ReusePids, ReuseRows}
-use Rattle.bw_model.specs.Log.{Update}
-use Rattle.bw_model.specs.Replies.{reply_of}
-use Rattle.deltas.specs.declared.record.Record.{Record}
-use Rattle.deltas.specs.Memory.{Memory}
-use Rattle.chain_search.specs.declared.trace.Entry.{Entry}
-use Rattle.chain_search.specs.declared.trace.Entry.TheVariants.{Begin, Step}
-use Rattle.chain_search.specs.Steps.{IsAnswer, memory_after}
-use Rattle.chain_search.specs.Trace.{memory_of, command_of, commands_after}
-use Rattle.chain_search.proofs.Pushes.{slice_get-push_cases, slice_get_kept}
-use Rattle.chain_search.proofs.TraceLaws.{memory_of-push, command_of-push}
-use Rattle.chain_search.proofs.RunLaws.{IsRun-push}
-use Rattle.op_machine.specs.Answered.{IsTrueReply, RepliesAt}
-use Rattle.op_machine.specs.Updates.{LinksUpdate}
-use Rattle.op_machine.specs.Operations.{Operation, IsOperation, IsOwnStep, Finishes}
-use Rattle.op_machine.specs.Phases.{Phase, MovesPhase, IsInPhase}
-use Rattle.op_machine.specs.Points.{IsPoint, log_of, log_at, updates_by, has_point}
-use Rattle.op_machine.proofs.Listed.{same_operation}
-use Rattle.op_machine.proofs.LogLaws.{log_of-push}
-use Rattle.chain_search.specs.Discipline.{MayReply, IsAllowed}
-use Rattle.chain_search.specs.Knowledge.{Knowledge, learn, finished, knows}
-use Rattle.tree_law.specs.Next.{IsReuse, IsDue, grown, pointed as pointed', After}
-use Rattle.tree_law.specs.Put.{put}
-use Rattle.tree_law.specs.Shared.{slot_in, shared}
-use Rattle.tree_law.specs.State.{phase_of, IsInTree, IsReadyPage, IsUnended, operation_of, Tells, IsSearch, HasFound, IsAnsweredBy, IsState}
-use Rattle.tree_law.specs.Stood.{HaveStood}
+use Rattle.op_machine.specs.Answered.{IsTrueReply}
+use Rattle.op_machine.specs.Points.{updates_by, has_point}
+use Rattle.tree_law.specs.Next.{grown, pointed as pointed'}
 use Rattle.tree_law.specs.TraceLaws.{StatesAreIndexed, StatesAreLinearized, StatesFreeByRule, StatesKeepPhases, Steps}
-use Rattle.tree_law.specs.Times.{Times, Timed, times_after}
-use Rattle.tree_law.specs.Tree.{IsTree}
 use Rattle.tree_law.proofs.epochs.Freeing.{t1, t2, rows_after, rows_timed, pages_after, pages_timed}
 use Rattle.tree_law.proofs.epochs.Reused.{rows_numbers, rows_held, pages_numbers, pages_held}
 use Rattle.tree_law.proofs.epochs.Timewise.{timed_step}
 use Rattle.tree_law.proofs.epochs.Allowed.{after_of}
 use Rattle.tree_law.proofs.trace.Beginning.{knows-push}
 use Rattle.tree_law.proofs.trace.Ending.{ends_push, step_ends}
-use Rattle.tree_law.specs.Indexed.{IsFirst}
-use Rattle.tree_law.specs.Phase.{Indexed}
-use Rattle.tree_law.proofs.shape.Exactness.{is_indexed, root_indexed}
-use Rattle.tree_law.proofs.shape.Firsts.{first_stays, grows}
+use Rattle.tree_law.proofs.shape.{is_indexed, root_indexed, first_stays, grows, fitted_after, indexed_push, map_of, by_test, put_same, put_other}
 use Rattle.tree_law.proofs.trace.Roots.{learns_root}
-use Rattle.tree_law.proofs.shape.Fitness.{fitted_after}
 use Rattle.tree_law.proofs.epochs.Handed.{rows_in_limbo, pids_in_limbo, freed_after}
-use Rattle.tree_law.proofs.shape.Levels.{indexed_push}
-use Rattle.tree_law.proofs.shape.Mapping.{map_of}
 use Rattle.tree_law.proofs.trace.Lives.{only_after, pid_below_after, steps_in_phase, steps_phases}
 use Rattle.tree_law.proofs.links.UpdateLinks.{update_links, link_updates}
 use Rattle.tree_law.proofs.trace.Updates.{UpdatesNow, updates_push}
@@ -63,8 +29,7 @@ use Rattle.tree_law.proofs.trace.Marks.{take_whole, marked_push, tells_other, te
 use Rattle.tree_law.proofs.trace.Names.{faithful_push, Numbers, calm_numbers, named_steps, reads_known, touches_outside, may_take}
 use Rattle.tree_law.proofs.trace.Owned.{pushed_length, same_start, own_new}
 use Rattle.tree_law.proofs.trace.Phasing.{moves_between, clears_cleared, moves_or_rests, removes_unheld}
-use Rattle.tree_law.proofs.shape.Puts.{by_test, put_same, put_other}
-use Rattle.tree_law.proofs.trace.Remark.{own_same, told}
+use Rattle.tree_law.proofs.trace.Remark.{own_same}
 use Rattle.tree_law.proofs.trace.Searches.{search_other, search_own}
 use Rattle.tree_law.proofs.trace.Settling.{Settled, no_point, settled}
 use Rattle.tree_law.proofs.trace.Slots.{held_after}
@@ -94,27 +59,20 @@ module _ (limits : Limits) (entries : List Entry) (a : ℕ) (step : StepOf Recor
 
   -- an update is its operation's first
   alone : mark ≡ true → state.point a ≡ None
-  alone = go n.update n.due
-    where
-      go : (u : Option Update) → IfSome u (IsDue a (knows entries a) (log_of entries state.points)) → is_update u ≡ true → state.point a ≡ None
-      go None due e = absurd (cc)
-      go (Some u) due e = no_point limits entries a asked state asks due.2
+  alone = (elim n.update as (λ u. IfSome u (IsDue a (knows entries a) (log_of entries state.points)) → is_update u ≡ true → state.point a ≡ None) [
+    | None ↦ λ due e. absurd (cc)
+    | Some u ↦ λ due e. no_point limits entries a asked state asks due.2
+  ]) n.due
 
   -- a step that is a point has no reply, and its operation had no point
   pointed : mark ≡ true → z.own_point ≡ None
-  pointed e = go r refl
-    where
-      go : (o : Option Reply) → r ≡ o → z.own_point ≡ None
-      go None i = z.quietly i ∙ alone e
-      go (Some reply) i = let f = unpointed reply i in absurd (cc)
+  pointed e = (elim r as (λ o. r ≡ o → z.own_point ≡ None) [ None ↦ λ i. z.quietly i ∙ alone e | Some reply ↦ λ i. let f = unpointed reply i in absurd (cc) ]) refl
 
   is_mine : (op : Operation) → IsOperation entries op → op.actor ≡ a → IsUnended entries op.start op.actor → op ≡ operation_of z.mine.start a asked
   is_mine op begun actor unended =
       let begun' : slice_get entries op.start ≡ Some (Begin a op.command) = subst (λ b. slice_get entries op.start ≡ Some (Begin b op.command)) actor begun in
       let start : op.start ≡ z.mine.start = same_start entries op.start z.mine.start a op.command asked begun' z.mine.begins (subst (IsUnended entries op.start) actor unended) z.mine.unended in
-      let there : slice_get entries z.mine.start ≡ Some (Begin a op.command) = subst (λ s. slice_get entries s ≡ Some (Begin a op.command)) start begun' in
-      let b = z.mine.begins in
-      same_operation op (operation_of z.mine.start a asked) start actor (cc (there, b))
+      same_operation op (operation_of z.mine.start a asked) start actor (cc ((subst (λ s. slice_get entries s ≡ Some (Begin a op.command)) start begun'), z.mine.begins))
 
   justified : (op : Operation) (reply : Reply) → IsOperation entries op → op.actor ≡ a → IsUnended entries op.start op.actor → r ≡ Some reply → IsAnsweredBy limits entries z.points op reply
   justified op reply begun actor unended e = subst (λ o. IsAnsweredBy limits entries z.points o reply) (sym (is_mine op begun actor unended)) (z.replied reply e)
@@ -127,22 +85,19 @@ module _ (limits : Limits) (entries : List Entry) (a : ℕ) (step : StepOf Recor
           → cond (is_update u) (log_of entries state.points ++ updates_by a (command_of entries a) (log_of entries state.points)) (log_of entries state.points) ≡ grown (log_of entries state.points) u
       go None due = refl
       go (Some u) due =
-          let c : command_of entries a ≡ Some due.0 = sym (state.named.commands a) ∙ due.1 in
-          ap (λ us. log_of entries state.points ++ us) (rw c (ap option_to_list due.3))
+          ap (λ us. log_of entries state.points ++ us) (rw (sym (state.named.commands a) ∙ due.1) (ap option_to_list due.3))
 
   -- the step makes an update exactly where it links a put or a delete
   updated_now : UpdatesNow limits entries z.points last mark z.marked.beside ↔ LinksUpdate (memory_of limits entries) last
-  updated_now = (
-    λ h. let l = update_links (memory_of limits entries) state.is_tree a step answer r allowed.may is n (some_update n.update h.0) in (a, l.slot, l.old, l.new, l.kind, ((r, λ d. Step a (l.step d) (l.won d) r), l.link), l.update),
-    λ h. makes_one n.update (link_updates (memory_of limits entries) state.is_tree a step answer r allowed.may is n (let e = h.5.0.1 in record { slot = h.1; old = h.2; new = h.3; kind = h.4; step = cc; won = cc; link = h.5.1; update = h.6 })) (log_of entries z.points) (log_of (entries ++ last ∷ []) (z.points ++ mark ∷ [])) logged',
-  )
+  updated_now =
+      let logged' : log_of (entries ++ last ∷ []) (z.points ++ mark ∷ []) ≡ grown (log_of entries z.points) n.update = rw (log_of-push entries z.points last mark z.marked.beside, z.log_is) logged in (
+        λ h. let l = update_links (memory_of limits entries) state.is_tree a step answer r allowed.may is n (some_update n.update h.0) in (a, l.slot, l.old, l.new, l.kind, ((r, λ d. Step a (l.step d) (l.won d) r), l.link), l.update),
+        λ h. makes_one n.update (link_updates (memory_of limits entries) state.is_tree a step answer r allowed.may is n (let e = h.5.0.1 in record { slot = h.1; old = h.2; new = h.3; kind = h.4; step = cc; won = cc; link = h.5.1; update = h.6 })) (log_of entries z.points) (log_of (entries ++ last ∷ []) (z.points ++ mark ∷ [])) logged',
+      )
     where
       some_update : (u : Option Update) → is_update u ≡ true → IsSome u
       some_update None e = absurd (cc)
       some_update (Some u) e = refl
-
-      logged' : log_of (entries ++ last ∷ []) (z.points ++ mark ∷ []) ≡ grown (log_of entries z.points) n.update
-      logged' = rw (log_of-push entries z.points last mark z.marked.beside, z.log_is) logged
 
       makes_one : (u : Option Update) → IsSome u → (l l' : List Update) → l' ≡ grown l u → (is_update u ≡ true) × ((update : Update) × (l' ≡ l ++ update ∷ []))
       makes_one None some l l' e = absurd (cc)
@@ -164,8 +119,7 @@ module _ (limits : Limits) (entries : List Entry) (a : ℕ) (step : StepOf Recor
       → Tells (entries ++ last ∷ []) (z.points ++ mark ∷ []) a c (cond mark (Some (log_of entries state.points)) (state.point a)) (log_of entries state.points ∷ state.logs a)
   tells_mine None i c f =
       let log = log_of entries state.points in
-      let same : asked ≡ c = same_Some asked c (sym asks ∙ f) in
-      subst (λ d. Tells (entries ++ last ∷ []) (z.points ++ mark ∷ []) a d (cond mark (Some log) (state.point a)) (log ∷ state.logs a)) same
+      subst (λ d. Tells (entries ++ last ∷ []) (z.points ++ mark ∷ []) a d (cond mark (Some log) (state.point a)) (log ∷ state.logs a)) (same_Some asked c (sym asks ∙ f))
       (tells_own entries z.points last mark z.marked.beside a step answer r asked (state.point a) (state.logs a) log refl z.log_is asks alone (subst (λ o. Tells entries z.points a asked o (state.logs a)) (z.quietly i) z.mine))
   tells_mine (Some y) i c f = let e = put_same (command_of entries) a None in let g : None ≡ Some c = sym e ∙ f in absurd (cc)
 
@@ -192,13 +146,11 @@ module _ (limits : Limits) (entries : List Entry) (a : ℕ) (step : StepOf Recor
       own None no_reply i =
           let same : op ≡ operation_of op.start a op.command = same_operation op (operation_of op.start a op.command) refl i refl in
           let begun_a : slice_get entries op.start ≡ Some (Begin a op.command) = subst (λ b. slice_get entries op.start ≡ Some (Begin b op.command)) i begun in
-          let unended_a : IsUnended entries op.start a = subst (IsUnended entries op.start) i unended in
           let asked_a : command_of entries a ≡ Some op.command = subst (λ b. command_of entries b ≡ Some op.command) i (subst (λ o. commands_after (command_of entries) (Step a step answer o) op.actor ≡ Some op.command) no_reply asked') in
-          subst (λ o. P o (finished (learn (knows entries a) step answer) r)) (sym same) (goes_on op.start op.command begun_a unended_a asked_a no_reply)
+          subst (λ o. P o (finished (learn (knows entries a) step answer) r)) (sym same) (goes_on op.start op.command begun_a (subst (IsUnended entries op.start) i unended) asked_a no_reply)
       own (Some y) replies i =
           let e : commands_after (command_of entries) (Step a step answer (Some y)) a ≡ Some op.command = subst (λ b. commands_after (command_of entries) (Step a step answer (Some y)) b ≡ Some op.command) i (subst (λ o. commands_after (command_of entries) (Step a step answer o) op.actor ≡ Some op.command) replies asked') in
-          let f = put_same (command_of entries) a None in
-          let g : None ≡ Some op.command = sym f ∙ e in absurd (cc)
+          let g : None ≡ Some op.command = sym (put_same (command_of entries) a None) ∙ e in absurd (cc)
 
   searches_after : (op : Operation) → IsOperation (entries ++ last ∷ []) op → IsUnended (entries ++ last ∷ []) op.start op.actor → command_of (entries ++ last ∷ []) op.actor ≡ Some op.command
       → IsSearch (entries ++ last ∷ []) op (knows (entries ++ last ∷ []) op.actor)
@@ -227,20 +179,18 @@ module _ (limits : Limits) (entries : List Entry) (a : ℕ) (step : StepOf Recor
   only_phase_after pid phase h = only_after limits entries last state.owners.page n.owners.page state.in_phase between lives state.only_phase pid phase (subst (λ k. IsInPhase limits (entries ++ last ∷ []) k pid phase) (pushed_length entries last) h)
 
   rooted_after : (b p : ℕ) → (knows (entries ++ last ∷ []) b).read.roots p ≡ true → (level : ℕ) × IsFirst n.owners level p
-  rooted_after b p e = by_test b a (λ t. (cond t (finished (learn (knows entries a) step answer) r) (knows entries b)).read.roots p ≡ true → (level : ℕ) × IsFirst n.owners level p)
+  rooted_after b p e =
+      let stays : (level : ℕ) × IsFirst state.owners level p → (level : ℕ) × IsFirst n.owners level p =
+      λ h. (h.0, first_stays (memory_of limits entries) (memory_of limits (entries ++ last ∷ [])) state.is_tree tree_after a step answer is n.phased h.0 p h.1) in
+      let at_root : (q : ℕ) → step ≡ Slot 0 → answer ≡ Number q → (level : ℕ) × IsFirst state.owners level q = λ q asked told.
+      let here : IsAnswer (memory_of limits entries) (Slot 0) (Number q) = subst (λ (s : StepOf Record). IsAnswer (memory_of limits entries) s (Number q)) asked (subst (IsAnswer (memory_of limits entries) step) told is) in
+      let same : q ≡ (memory_of limits entries).slots 0 = (let e = here in cc) in
+      let top = is_indexed (memory_of limits entries) state.is_tree in
+      (top.top, (Indexed, rw same (root_indexed (memory_of limits entries) state.is_tree), omega arith)) in
+      by_test b a (λ t. (cond t (finished (learn (knows entries a) step answer) r) (knows entries b)).read.roots p ≡ true → (level : ℕ) × IsFirst n.owners level p)
       (λ i f. elim (learns_root (knows entries a) step answer p f) [ inl before ↦ stays (state.rooted a p before) | inr now ↦ stays (at_root p now.0 now.1) ])
       (λ ne f. stays (state.rooted b p f))
       (subst (λ (ks : ℕ → Knowledge). (ks b).read.roots p ≡ true) (knows-push entries last) e)
-    where
-      stays : (level : ℕ) × IsFirst state.owners level p → (level : ℕ) × IsFirst n.owners level p
-      stays h = (h.0, first_stays (memory_of limits entries) (memory_of limits (entries ++ last ∷ [])) state.is_tree tree_after a step answer is n.phased h.0 p h.1)
-
-      at_root : (q : ℕ) → step ≡ Slot 0 → answer ≡ Number q → (level : ℕ) × IsFirst state.owners level q
-      at_root q asked told =
-          let here : IsAnswer (memory_of limits entries) (Slot 0) (Number q) = subst (λ (s : StepOf Record). IsAnswer (memory_of limits entries) s (Number q)) asked (subst (IsAnswer (memory_of limits entries) step) told is) in
-          let same : q ≡ (memory_of limits entries).slots 0 = (let e = here in cc) in
-          let top = is_indexed (memory_of limits entries) state.is_tree in
-          (top.top, (Indexed, rw same (root_indexed (memory_of limits entries) state.is_tree), omega arith))
 
   state_after : IsState limits (entries ++ last ∷ [])
   state_after = record {
@@ -337,61 +287,22 @@ steps limits entries a step answer r state busy allowed is = go (command_of entr
             (t2 state.is_tree state.timed a allowed.may word bits allowed.frees r answer)
             (pages_timed state.is_tree state.timed a allowed.may word bits allowed.frees r answer)
             z
-        by_kind (Slot p) r answer allowed is z = calmly (Slot p) (λ h. h) r answer allowed is z
-        by_kind (Row q) r answer allowed is z = calmly (Row q) (λ h. h) r answer allowed is z
-        by_kind Epoch r answer allowed is z = calmly Epoch (λ h. h) r answer allowed is z
-        by_kind (Announce b) r answer allowed is z = calmly (Announce b) (λ h. h) r answer allowed is z
-        by_kind (PidBits w) r answer allowed is z = calmly (PidBits w) (λ h. h) r answer allowed is z
-        by_kind (RowBits w) r answer allowed is z = calmly (RowBits w) (λ h. h) r answer allowed is z
-        by_kind (Place q w) r answer allowed is z = calmly (Place q w) (λ h. h) r answer allowed is z
-        by_kind (Exchange p x y) r answer allowed is z = calmly (Exchange p x y) (λ h. h) r answer allowed is z
-        by_kind (TakePid q) r answer allowed is z = calmly (TakePid q) (λ h. h) r answer allowed is z
-        by_kind (TakeRow q) r answer allowed is z = calmly (TakeRow q) (λ h. h) r answer allowed is z
-        by_kind (Enter n) r answer allowed is z = calmly (Enter n) (λ h. h) r answer allowed is z
-        by_kind Leave r answer allowed is z = calmly Leave (λ h. h) r answer allowed is z
-        by_kind (Retire n) r answer allowed is z = calmly (Retire n) (λ h. h) r answer allowed is z
+        by_kind step r answer allowed is z = calmly step (λ h. h) r answer allowed is z
 
--- a reply that a test decides is neither of two others
-neither : (b : Bool) (one two answer : Reply) → (if b then Some one else Some two) ≡ Some answer → (one ≡ answer → ⊥) → (two ≡ answer → ⊥) → ⊥
-neither true one two answer e first second = first (same_Some one answer e)
-neither false one two answer e first second = second (same_Some two answer e)
+-- a reply by a value has a point, and so has a cursor page
+value_points : (c : Command) (v : Option (List ℕ)) → IfSome (reply_of c v) (λ r. has_point r ≡ true)
+value_points (Get k) None = refl
+value_points (Insert k w) None = refl
+value_points (Upsert k w) None = refl
+value_points (Delete k) None = refl
+value_points (Swap k x w) (Some o) = elim (bytes_eq o x) as (λ t. IfSome (if t then Some reply.Swapped else Some (reply.Differs o)) (λ r. has_point r ≡ true)) [ true ↦ refl | false ↦ refl ]
+value_points (Page k) v = tt
+value_points (Tidy k) v = tt
+value_points c v = refl
 
--- a reply by a value is neither Full nor Tidied, nor is a cursor page
-no_full : (c : Command) (v : Option (List ℕ)) → reply_of c v ≡ Some reply.Full → ⊥
-no_full (Get k) None e = cc
-no_full (Get k) (Some o) e = cc
-no_full (Insert k w) None e = cc
-no_full (Insert k w) (Some o) e = cc
-no_full (Upsert k w) None e = cc
-no_full (Upsert k w) (Some o) e = cc
-no_full (Delete k) None e = cc
-no_full (Delete k) (Some o) e = cc
-no_full (Swap k x w) None e = cc
-no_full (Swap k x w) (Some o) e = neither (bytes_eq o x) reply.Swapped (reply.Differs o) reply.Full e (λ same. cc) (λ same. cc)
-no_full (Page k) v e = cc
-no_full (Tidy k) v e = cc
-
-no_tidied : (c : Command) (v : Option (List ℕ)) → reply_of c v ≡ Some reply.Tidied → ⊥
-no_tidied (Get k) None e = cc
-no_tidied (Get k) (Some o) e = cc
-no_tidied (Insert k w) None e = cc
-no_tidied (Insert k w) (Some o) e = cc
-no_tidied (Upsert k w) None e = cc
-no_tidied (Upsert k w) (Some o) e = cc
-no_tidied (Delete k) None e = cc
-no_tidied (Delete k) (Some o) e = cc
-no_tidied (Swap k x w) None e = cc
-no_tidied (Swap k x w) (Some o) e = neither (bytes_eq o x) reply.Swapped (reply.Differs o) reply.Tidied e (λ same. cc) (λ same. cc)
-no_tidied (Page k) v e = cc
-no_tidied (Tidy k) v e = cc
-
-never_full : (memory : Memory) (log : List Update) (c : Command) → RepliesAt memory log c reply.Full → ⊥
-never_full memory log c (inl e) = no_full c _ e
-never_full memory log c (inr shown) = let e = shown.is in cc
-
-never_tidied : (memory : Memory) (log : List Update) (c : Command) → RepliesAt memory log c reply.Tidied → ⊥
-never_tidied memory log c (inl e) = no_tidied c _ e
-never_tidied memory log c (inr shown) = let e = shown.is in cc
+points_at : (memory : Memory) (log : List Update) (c : Command) (r : Reply) → RepliesAt memory log c r → has_point r ≡ true
+points_at memory log c r (inl e) = subst (λ (o : Option Reply). IfSome o (λ q. has_point q ≡ true)) e (value_points c (logged_value log (command_key c)))
+points_at memory log c r (inr shown) = ap has_point shown.is
 
 -- an operation without a point has replied one of the two
 without_point : (limits : Limits) (entries : List Entry) (op : Operation) (answer : Reply) → HasFound limits entries op answer → has_point answer ≡ false
@@ -399,21 +310,11 @@ without_point limits entries op answer (inl h) = ap has_point h.0
 without_point limits entries op answer (inr h) = ap has_point h.0
 
 true_reply : (limits : Limits) (entries : List Entry) (points : List Bool) (op : Operation) (answer : Reply) → IsAnsweredBy limits entries points op answer → IsTrueReply limits entries points op answer
-true_reply limits entries points op reply.Full (inl h) = absurd (never_full _ _ op.command h.3)
+true_reply limits entries points op reply.Full (inl h) = absurd (let e = points_at _ _ op.command reply.Full h.3 in cc)
 true_reply limits entries points op reply.Full (inr h) = elim h.finds [ inl tidied ↦ let e = tidied.0 in absurd (cc) | inr full ↦ (full.1, full.2) ]
-true_reply limits entries points op reply.Tidied (inl h) = absurd (never_tidied _ _ op.command h.3)
+true_reply limits entries points op reply.Tidied (inl h) = absurd (let e = points_at _ _ op.command reply.Tidied h.3 in cc)
 true_reply limits entries points op reply.Tidied (inr h) = elim h.finds [ inl tidied ↦ tidied.1 | inr full ↦ let e = full.0 in absurd (cc) ]
-true_reply limits entries points op (reply.Value v) (inl h) = h
-true_reply limits entries points op reply.None (inl h) = h
-true_reply limits entries points op reply.Inserted (inl h) = h
-true_reply limits entries points op (reply.Exists v) (inl h) = h
-true_reply limits entries points op reply.Set (inl h) = h
-true_reply limits entries points op (reply.Replaced v) (inl h) = h
-true_reply limits entries points op (reply.Deleted v) (inl h) = h
-true_reply limits entries points op reply.Absent (inl h) = h
-true_reply limits entries points op reply.Swapped (inl h) = h
-true_reply limits entries points op (reply.Differs v) (inl h) = h
-true_reply limits entries points op (reply.Page items next) (inl h) = h
+true_reply limits entries points op answer (inl h) = h
 true_reply limits entries points op answer (inr h) = let e = without_point limits entries op answer h.finds in absurd (cc)
 
 pointed_by : (limits : Limits) (entries : List Entry) (points : List Bool) (op : Operation) (answer : Reply) → IsAnsweredBy limits entries points op answer → IsTrue (has_point answer) → (m : ℕ) × IsOwnStep entries op m × IsPoint points m
@@ -421,9 +322,7 @@ pointed_by limits entries points op answer (inl h) e = (h.0, h.1, h.2)
 pointed_by limits entries points op answer (inr h) e = let f = without_point limits entries op answer h.finds in absurd (cc)
 
 pointless : (limits : Limits) (entries : List Entry) (points : List Bool) (op : Operation) (answer : Reply) → IsAnsweredBy limits entries points op answer → IsFalse (has_point answer) → (m : ℕ) → IsOwnStep entries op m → IsPoint points m → ⊥
-pointless limits entries points op reply.Full (inl h) e m own p = never_full _ _ op.command h.3
-pointless limits entries points op reply.Tidied (inl h) e m own p = never_tidied _ _ op.command h.3
-pointless limits entries points op answer (inl h) e m own p = cc
+pointless limits entries points op answer (inl h) e m own p = let f = points_at _ _ op.command answer h.3 in cc
 pointless limits entries points op answer (inr h) e m own p = h.unmarked m own p
 
 pub is_one_map : StatesAreLinearized

@@ -1,16 +1,9 @@
 -- One more entry: where updates are made.
-use Rattle.std.proofs.Common.{◌≡◌, ◌<◌, ◌≤◌, inl, inr, ℕ, suc, List, [], ◌∷◌, ◌++◌, length, take, Some, Bool, true, sym, ap, ◌∙◌, subst, arith}
-use Rattle.std.specs.Prelude.{◌↔◌, slice_get}
-use Rattle.std.proofs.lemmas.Bool.{cases_lt}
-use Rattle.bw_model.specs.declared.limits.Limits.{Limits}
-use Rattle.bw_model.specs.Log.{Update}
-use Rattle.chain_search.specs.declared.trace.Entry.{Entry}
-use Rattle.chain_search.specs.Trace.{Happens, memory_of, memory_at}
-use Rattle.chain_search.proofs.Pushes.{slice_get-push, slice_get-push_cases, slice_get_kept, slice_get_below, take-push_whole}
-use Rattle.chain_search.proofs.TraceLaws.{memory_at-push}
-use Rattle.op_machine.specs.Points.{log_of, log_at}
-use Rattle.op_machine.specs.Updates.{LinksUpdate, IsUpdating, UpdatesAtLinks}
-use Rattle.op_machine.proofs.LogLaws.{log_at-push}
+use Rattle.tree_law.proofs.Words.{[], ap, suc, List, true, inl, length, ◌++◌, ◌≤◌, inr, ◌∷◌, subst, sym, ℕ, ◌≡◌, Bool, ◌∙◌, ◌<◌, arith, Some, take, cases_lt, slice_get, ◌↔◌, Update, Limits}
+use Rattle.tree_law.proofs.Words.{slice_get_below, slice_get_kept, slice_get-push_cases, slice_get-push, take-push_whole, memory_at-push, memory_at, memory_of, Entry, log_at-push, log_at, log_of}
+use Rattle.tree_law.proofs.Words.{UpdatesAtLinks, LinksUpdate}
+use Rattle.chain_search.specs.Trace.{Happens}
+use Rattle.op_machine.specs.Updates.{IsUpdating}
 use Rattle.tree_law.proofs.trace.Marks.{take_whole}
 use Rattle.tree_law.proofs.trace.Owned.{pushed_length, point_below, point_last}
 
@@ -36,27 +29,21 @@ module _ (limits : Limits) (entries : List Entry) (points : List Bool) (last : E
       ∙ ap (log_of entries') (take_whole points' (suc (length entries)) (ap suc (sym beside) ∙ sym (pushed_length points mark)))
 
   pub updates_push : UpdatesAtLinks limits entries points → (UpdatesNow ↔ LinksUpdate (memory_of limits entries) last) → UpdatesAtLinks limits entries' points'
-  updates_push old now n = (to, from)
-    where
-      to : IsUpdating entries' points' n → Happens limits entries' n LinksUpdate
-      to h = elim (cases_lt n (length entries)) [
+  updates_push old now n =
+      let to : IsUpdating entries' points' n → Happens limits entries' n LinksUpdate = λ h. elim (cases_lt n (length entries)) [
         | inl lt ↦
             let was = (old n).0 (point_below points mark n (omega (arith, lt, beside)) h.0, (h.1.0, sym (log_same (suc n) (omega (arith, lt))) ∙ h.1.1 ∙ ap (λ l. l ++ h.1.0 ∷ []) (log_same n (omega (arith, lt))))) in
             record { entry = was.entry; at = slice_get_kept entries (last ∷ []) n _ was.at; holds = subst (λ m. LinksUpdate m was.entry) (sym (memory_at-push limits entries (last ∷ []) n (omega (arith, lt)))) was.holds }
         | inr le ↦
-            let below : n < length points' = slice_get_below points' n true h.0 in
-            let long = pushed_length points mark in
-            let at : n ≡ length entries = omega (arith, below, long, beside, le) in
+            let at : n ≡ length entries = omega (arith, (slice_get_below points' n true h.0), (pushed_length points mark), beside, le) in
             let grows : log_of entries' points' ≡ log_of entries points ++ h.1.0 ∷ [] = sym log_after ∙ subst (λ k. log_at entries' points' (suc k) ≡ log_at entries' points' k ++ h.1.0 ∷ []) at h.1.1 ∙ ap (λ l. l ++ h.1.0 ∷ []) log_before in
             record {
               entry = last;
               at = ap (slice_get entries') at ∙ slice_get-push entries last;
               holds = subst (λ m. LinksUpdate m last) (sym (ap (memory_at limits entries') at ∙ ap (memory_of limits) (take-push_whole entries (last ∷ [])))) (now.0 (point_last points mark n (at ∙ sym beside) h.0, (h.1.0, grows)));
             }
-      ]
-
-      from : Happens limits entries' n LinksUpdate → IsUpdating entries' points' n
-      from h = elim (slice_get-push_cases entries last n h.entry h.at) [
+      ] in
+      let from : Happens limits entries' n LinksUpdate → IsUpdating entries' points' n = λ h. elim (slice_get-push_cases entries last n h.entry h.at) [
         | inl before ↦
             let lt : n < length entries = slice_get_below entries n h.entry before in
             let was = (old n).1 (record { entry = h.entry; at = before; holds = subst (λ m. LinksUpdate m h.entry) (memory_at-push limits entries (last ∷ []) n (omega (arith, lt))) h.holds }) in
@@ -66,4 +53,5 @@ module _ (limits : Limits) (entries : List Entry) (points : List Bool) (last : E
               ap (slice_get points') (here.0 ∙ sym beside) ∙ slice_get-push points mark ∙ ap Some made.0,
               (made.1.0, ap (λ k. log_at entries' points' (suc k)) here.0 ∙ log_after ∙ made.1.1 ∙ ap (λ l. l ++ made.1.0 ∷ []) (sym log_before ∙ ap (log_at entries' points') (sym here.0))),
             )
-      ]
+      ] in
+      (to, from)

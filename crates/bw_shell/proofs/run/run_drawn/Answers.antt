@@ -1,6 +1,10 @@
-use Rattle.std.proofs.Common.{inr, refl, sym, ◌∙◌}
+use Rattle.std.proofs.Common.{[], inl, inr, refl, sym, ◌∙◌}
 use Rattle.bw_shell.specs.Text.{turned_text}
+use Rattle.bw_shell.proofs.Showing.{no_text}
 use Rattle.bw_shell.proofs.run.run_drawn.Goals as goal
+
+pub returns-then-not-is_busy : goal.returns-then-not-is_busy
+returns-then-not-is_busy g c = ([], inl (sym c.is_busy.ensures ∙ c.if-not-is_busy.true, refl, refl), no_text _)
 
 pub returns-in-Ok : goal.returns-in-Ok
 returns-in-Ok g c = (

@@ -1,4 +1,5 @@
-use Rattle.std.proofs.Common.{◌≡◌, ℕ, List, [], ◌++◌, sym, subst, ap, arith}
+use Rattle.std.proofs.Common.{◌≡◌, ℕ, List, [], ◌++◌, sym, subst, arith}
+use Rattle.std.proofs.lemmas.List.{append-nil}
 use Rattle.bw_model.specs.Schedules.{drawn, schedule_of}
 use Rattle.bw_shell.specs.Transcript.{RefusesDrawn}
 use Rattle.bw_shell.specs.Turns.{Trace}
@@ -9,25 +10,20 @@ use Rattle.bw_shell.proofs.run.run_mix.Goals as goal
 pub loop-draw-init : goal.loop-draw-init
 loop-draw-init g c = record { taken = ([], none_drawn _ _, no_text _); left = rw c.schedule_over-schedule.ensures (all_left _) }
 
-pub returns-then-run_drawn : goal.returns-then-run_drawn
-returns-then-run_drawn g c =
+pub returns-in-Err : goal.returns-in-Err
+returns-in-Err g c =
     let inv = c.loop-draw.invariant in
-    let told = rw c.if-run_drawn.true at c.run_drawn.ensures in
+    let told = c.in-Err.ensures in
     let drawn_more = one_drawn _ _ c.loop-draw._draw inv.left in (
       inv.taken.0 ++ told.0,
       (
-        told.1.0,
-        inv.taken.0,
-        (
-          c.loop-draw._draw,
-          c.loop-draw-test.true,
-          drawn c.loop-draw._draw (schedule_of c.args.seed c.args.core.now.limits.actors),
-          c.next-actor.result,
-          rw c.next-actor.ensures.actor drawn_more,
-          rw told.1.2 inv.taken.1,
-          subst (λ (m : Trace). RefusesDrawn m c.next-actor.result told.1.0) (sym told.1.2) told.1.1,
-        ),
-        ap (λ (l : List ℕ). inv.taken.0 ++ l) told.1.3,
+        c.loop-draw._draw,
+        c.loop-draw-test.true,
+        drawn c.loop-draw._draw (schedule_of c.args.seed c.args.core.now.limits.actors),
+        c.next-actor.result,
+        rw c.next-actor.ensures.actor drawn_more,
+        rw (told.1.1, told.1.2) (rw (append-nil inv.taken.0) inv.taken.1),
+        subst (λ (m : Trace). RefusesDrawn m c.next-actor.result c.in-Err.refusal) (sym told.1.1) told.1.0,
       ),
       shows_then inv.taken.2 told.2,
     )
@@ -35,7 +31,7 @@ returns-then-run_drawn g c =
 pub loop-draw-preserved : goal.loop-draw-preserved
 loop-draw-preserved g c =
     let inv = c.loop-draw.invariant in
-    let told = rw c.if-run_drawn.false at c.run_drawn.ensures in
+    let told = c.in-Ok.ensures in
     record {
       taken = (
         inv.taken.0 ++ told.0,

@@ -1,4 +1,12 @@
+use Rattle.std.proofs.Common.{[]}
+use Rattle.bw_shell.proofs.Showing.{no_text}
+use Rattle.bw_shell.proofs.Transcripts.{begun_told}
 use Rattle.bw_shell.proofs.run.run_request.Goals as goal
+
+pub returns-in-Begin : goal.returns-in-Begin
+returns-in-Begin g c =
+    let told = c.begin.ensures in
+    rw c.in-Begin.is ([], begun_told _ _ _ _ _ told.ok told.refused told.unchanged, no_text _)
 
 pub returns-in-Turn : goal.returns-in-Turn
 returns-in-Turn g c = rw c.in-Turn.is c.run_turn.ensures

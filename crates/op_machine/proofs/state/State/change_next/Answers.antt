@@ -14,7 +14,7 @@ returns-in-None-clause-makes c = record {
       let apart = taken_apart task c.args.spares.now next.new.spares k r c.in-Change.change next.new.self c.in-Change.then c.args.answer.now shows fits next.ensures.pid in
       let spends = rw c.in-None.is at (next.ensures.spends one_round r shows.recalls apart) in
       let sound = rw c.in-None.is at next.ensures.sound in
-      rw c.in-Change.is (change_on task c.args.spares.now next.new.spares k r c.in-Change.change next.new.self c.in-Change.then c.args.answer.now shows fits next.ensures.pid next.ensures.same sound goes spends.0, refl);
+      rw c.in-Change.is (change_on task c.args.spares.now next.new.spares k r c.in-Change.change next.new.self c.in-Change.then c.args.answer.now shows fits next.ensures.pid next.ensures.same sound next.ensures.made goes spends.0, refl);
   leaves = λ task k r h f.
       let shows = rw c.in-Change.is at h in
       let fits = rw c.in-Change.is at f in

@@ -13,6 +13,7 @@ returns-clause-stands c k r b =
       split = rw begun.plan b.split;
       unread = b.seeks.unread;
       sound = begun.sound;
+      made = begun.made;
       shows = begun.shows c.args.self.now.actor k b.may b.keeps b.seeks.spare.rest;
       recalls = begun.recalls r b.recalled (begins_apart k c.args.plan c.args.spares.now b.seeks.unread b.split);
     }

@@ -1,0 +1,42 @@
+-- A command at the leaf of its key.
+use Rattle.std.proofs.Common.{◌≡◌, inl, inr, ℕ, List, [], Option, Some, None, is_some, true, false, subst}
+use Rattle.std.specs.Prelude.{IsTrue}
+use Rattle.bw_model.specs.Replies.{command_key, reply_of, update_of}
+use Rattle.bw_model.specs.declared.command.Reply.{Reply}
+use Rattle.chain_search.specs.Chains.{covers}
+use Rattle.chain_search.specs.Discipline.{found}
+use Rattle.chain_search.specs.Knowledge.{Knowledge}
+use Rattle.chain_search.specs.Recalled.{Recalled}
+use Rattle.installs.specs.Spares.{Spares}
+use Rattle.smo.specs.declared.version.Version.{Version}
+use Rattle.op_machine.specs.Errands.{way_key}
+use Rattle.op_machine.specs.Outcomes.{IsAtLeaf}
+use Rattle.op_machine.specs.Shows.{ShowsState}
+use Rattle.op_machine.specs.Tasks.{Task}
+use Rattle.op_machine.specs.declared.state.State.TheVariants as at
+use Rattle.op_machine.proofs.Commands.{none_due}
+
+module _ (task : Task) (spares : Spares) (k : Knowledge) (r : Recalled) (leaf : Version) (h : IsAtLeaf task spares k r leaf) (last : task.errands ≡ []) where
+  -- the leaf has the key
+  pub within : IsTrue (covers leaf.chain (command_key task.command))
+  within = subst (λ errands. IsTrue (covers leaf.chain (way_key errands task.command))) last h.covered
+
+  -- a command that changes nothing there answers
+  pub answers_there : (reply : Reply) → reply_of task.command (found leaf.chain (command_key task.command)) ≡ Some reply → is_some (update_of 0 task.command (found leaf.chain (command_key task.command))) ≡ false
+      → ShowsState task spares k r (at.Leave reply)
+  answers_there reply replies unchanged = (
+    record { inside = h.seeks.inside; spare = h.seeks.spare; going = h.seeks.asked.going },
+    record {
+      command = task.command;
+      going = h.seeks.asked.going;
+      justified = inl (record {
+        row = leaf.head;
+        chain = leaf.chain;
+        read = h.page.in_hand.seen.read;
+        leaf = h.level;
+        covers = within;
+        is = replies;
+        basis = inr (h.seeks.asked.unlinked, inl ((leaf.pid, h.page.in_hand.seen.head), h.page.alive), none_due task.actor 0 task.command (found leaf.chain (command_key task.command)) unchanged);
+      });
+    },
+  )

@@ -1,0 +1,58 @@
+-- What an answer makes of a change in its place.
+use Rattle.std.proofs.Common.{◌≡◌, ℕ, Option, Some, None, refl}
+use Rattle.std.specs.Prelude.{IfNone}
+use Rattle.bw_model.specs.declared.step.Answer.{Answer}
+use Rattle.deltas.specs.declared.record.Record.{Record}
+use Rattle.chain_search.specs.Fitting.{Fits}
+use Rattle.chain_search.specs.Knowledge.{Knowledge, learn}
+use Rattle.chain_search.specs.Recalled.{Recalled}
+use Rattle.installs.specs.Bounded as bound
+use Rattle.installs.specs.Changes as change
+use Rattle.installs.specs.Outs.{TakesFresh, limbo_after}
+use Rattle.installs.specs.Spares.{HaveRoom, Spares}
+use Rattle.installs.specs.declared.change.End.{End}
+use Rattle.op_machine.specs.Bounded.{one_round}
+use Rattle.op_machine.specs.Outcomes.{UnlinksAfter, changed}
+use Rattle.op_machine.specs.Places.{ended_with}
+use Rattle.op_machine.specs.Shows.{IsInChange}
+use Rattle.op_machine.specs.Tasks.{Task}
+use Rattle.op_machine.specs.Works.{TurnsInto}
+use Rattle.op_machine.specs.declared.state.State.TheVariants as at
+use Rattle.op_machine.specs.declared.state.Then.{Then}
+use Rattle.op_machine.proofs.Changing.{change_ended, change_left, change_on, ended_left, taken_apart}
+use Rattle.op_machine.proofs.TakingOut.{unlinks}
+
+module _ (old new : change.Change) (then : Then) (had has : Spares) (told : Answer Record) where
+  abbrev last : Knowledge → Knowledge
+  last k = learn k (change.wanted old had) told
+
+  abbrev pub Follows : Option End → Type 0
+  Follows end = (actor : ℕ) (k : Knowledge) → change.Shows actor old had k → Fits old.limits k (change.wanted old had) told → change.Follows actor k (last k) old told new has end
+
+  -- it goes on, or has ended
+  pub changes_into : (end : Option End) → Follows end → IfNone end (change.IsSoundChange new has) → change.IsMade new has → HaveRoom old.limits has → change.IsSame old new → bound.IsPidFrom had.pid (bound.pid_taken (change.wanted old had) told) has.pid → bound.Spends old had told new has end
+      → TurnsInto (at.Change old then) had told (at.Change new then) has (changed (ended_with then end))
+  changes_into None follows sound made room same pid spends = record {
+    comes = λ task k r h fits.
+        let goes = follows task.actor k h.shows (rw h.limits fits) in
+        let apart = taken_apart task had has k r old new then told h fits pid in
+        let spent = spends one_round r h.recalls apart in
+        (change_on task had has k r old new then told h fits pid same sound made goes spent.0, refl);
+    leaves = λ task k r h fits.
+        let apart = taken_apart task had has k r old new then told h fits pid in
+        change_left task had has k r old new then told h fits pid (spends one_round r h.recalls apart);
+  }
+  changes_into (Some end) follows sound made room same pid spends = record {
+    comes = λ task k r h fits. change_ended task had has k r old new then told h fits pid end room (follows task.actor k h.shows (rw h.limits fits));
+    leaves = λ task k r h fits.
+        let apart = taken_apart task had has k r old new then told h fits pid in
+        ended_left task had has k r old new then told h fits pid end (spends one_round r h.recalls apart);
+  }
+
+  -- what is known to be in limbo then
+  pub unlinks_into : (end : Option End) → ((actor : ℕ) (k : Knowledge) → change.Shows actor old had k → Fits old.limits k (change.wanted old had) told → (last k).limbo ≡ limbo_after old.plan end k)
+      → ((actor : ℕ) (k : Knowledge) → change.Shows actor old had k → Fits old.limits k (change.wanted old had) told → TakesFresh old.limits k old.plan end)
+      → (task : Task) (k : Knowledge) (r : Recalled) → IsInChange task had k r old then → Fits task.limits k (change.wanted old had) told → UnlinksAfter task.limits k (ended_with then end) (last k).limbo
+  unlinks_into None limbo fresh task k r h fits = limbo task.actor k h.shows (rw h.limits fits)
+  unlinks_into (Some end) limbo fresh task k r h fits =
+      rw (← h.limits) (unlinks old.limits k task.command old.plan end then (last k).limbo h.brings (limbo task.actor k h.shows (rw h.limits fits)) (fresh task.actor k h.shows (rw h.limits fits)))

@@ -1,0 +1,171 @@
+-- What an answer makes of an operation's places.
+use Rattle.std.proofs.Common.{◌≡◌, ◌≤◌, ◌⊎◌, inl, inr, ℕ, zero, suc, List, [], Option, Some, None, true, false, refl, sym, ap, subst, ◌∙◌, arith}
+use Rattle.std.specs.Prelude.{IsSome}
+use Rattle.bw_model.specs.Answers.{TellsNumber, answer_of}
+use Rattle.bw_model.specs.Replies.{command_key}
+use Rattle.bw_model.specs.declared.command.Reply.{Reply}
+use Rattle.bw_model.specs.declared.limits.Limits.{Limits}
+use Rattle.bw_model.specs.declared.step.Answer.{Answer}
+use Rattle.bw_model.specs.declared.step.Answer.TheVariants.{Content}
+use Rattle.bw_model.specs.declared.step.Step.{Step}
+use Rattle.bw_model.specs.declared.step.Step.TheVariants as step
+use Rattle.deltas.specs.declared.record.Record.{Record}
+use Rattle.chain_search.specs.Fitting.{Fits}
+use Rattle.chain_search.specs.Knowledge.{Knowledge}
+use Rattle.chain_search.specs.Recalled.{Recalled}
+use Rattle.descent.specs.ReadRounds as read
+use Rattle.descent.specs.WriteRounds as write
+use Rattle.descent.specs.declared.read_round.ReadEnd.{ReadEnd}
+use Rattle.descent.specs.declared.write_round.WriteEnd.{WriteEnd}
+use Rattle.descent.proofs.Reading as reading
+use Rattle.descent.proofs.Writing as writing
+use Rattle.installs.specs.Changes.{Change as ChangeOf}
+use Rattle.installs.specs.Spares.{Spares}
+use Rattle.op_machine.specs.Bounded.{left_at, left_for, left_round, one_round}
+use Rattle.op_machine.specs.Outcomes.{Faces, Outcome, is_changing, is_leaving, is_reading, is_writing, read_out, written_out}
+use Rattle.op_machine.specs.Places.{HaveLimits, Places, Reads, Writes, state_at, state_of}
+use Rattle.op_machine.specs.Shows.{FitsLast, ShowsState, wanted_at}
+use Rattle.op_machine.specs.Tasks.{Task}
+use Rattle.op_machine.specs.Works.{FollowsOutcome, TurnsInto}
+use Rattle.op_machine.specs.declared.in_place.places.Stand.{Stand}
+use Rattle.op_machine.specs.declared.in_place.places.Stand.TheVariants.{Begun, Epoch, Enter, Read, Write, Change, Leave}
+use Rattle.bw_model.specs.declared.step.Told.{Told}
+use Rattle.bw_model.specs.declared.step.Told.TheVariants.{Start, Number, Whether, Done}
+use Rattle.op_machine.specs.declared.state.State.{State}
+use Rattle.op_machine.specs.declared.state.State.TheVariants as at
+use Rattle.op_machine.specs.declared.state.Then.{Then}
+use Rattle.op_machine.proofs.Reading.{IsReading, reader_reads, writer_reads}
+use Rattle.op_machine.proofs.Rounds.{read_comes, read_leaves, write_comes, write_leaves}
+use Rattle.sweep.specs.Sweeps.{Sweep}
+
+-- by the state that the places are, the operation stands there
+module _ (reader : read.ReadRound) (writer : write.WriteRound) (change : ChangeOf) (then : Then) (reply : Reply) where
+  pub stands_reading : (stand : Stand) → is_reading (state_at stand reader writer change then reply) ≡ true → stand ≡ Read
+  stands_reading Begun is = cc
+  stands_reading Epoch is = cc
+  stands_reading (Enter epoch) is = cc
+  stands_reading Read is = refl
+  stands_reading Write is = cc
+  stands_reading Change is = cc
+  stands_reading Leave is = cc
+
+  pub stands_writing : (stand : Stand) → is_writing (state_at stand reader writer change then reply) ≡ true → stand ≡ Write
+  stands_writing Begun is = cc
+  stands_writing Epoch is = cc
+  stands_writing (Enter epoch) is = cc
+  stands_writing Read is = cc
+  stands_writing Write is = refl
+  stands_writing Change is = cc
+  stands_writing Leave is = cc
+
+  pub stands_changing : (stand : Stand) → is_changing (state_at stand reader writer change then reply) ≡ true → stand ≡ Change
+  stands_changing Begun is = cc
+  stands_changing Epoch is = cc
+  stands_changing (Enter epoch) is = cc
+  stands_changing Read is = cc
+  stands_changing Write is = cc
+  stands_changing Change is = refl
+  stands_changing Leave is = cc
+
+  pub stands_leaving : (stand : Stand) → is_leaving (state_at stand reader writer change then reply) ≡ true → stand ≡ Leave
+  stands_leaving Begun is = cc
+  stands_leaving Epoch is = cc
+  stands_leaving (Enter epoch) is = cc
+  stands_leaving Read is = cc
+  stands_leaving Write is = cc
+  stands_leaving Change is = cc
+  stands_leaving Leave is = refl
+
+-- what is told of a slot is its number, and nothing but a record is told of a row
+module _ (limits : Limits) (k : Knowledge) where
+  of_slot : (pid : ℕ) (told : Told) → Fits limits k (step.Slot pid) (answer_of told) → TellsNumber told
+  of_slot pid (Number n) fits = tt
+  of_slot zero Start fits = absurd fits
+  of_slot zero (Whether whether) fits = absurd fits
+  of_slot zero Done fits = absurd fits
+  of_slot (suc pid) Start fits = absurd fits
+  of_slot (suc pid) (Whether whether) fits = absurd fits
+  of_slot (suc pid) Done fits = absurd fits
+
+  of_row : (row : ℕ) (told : Told) → Fits limits k (step.Row row) (answer_of told) → TellsNumber told
+  of_row row (Number n) fits = tt
+  of_row row Start fits = absurd fits
+  of_row row (Whether whether) fits = absurd fits
+  of_row row Done fits = absurd fits
+
+  is_number : (asked : Step Record) (told : Told) → IsReading asked → Fits limits k asked (answer_of told) → TellsNumber told
+  is_number asked told reads fits = elim reads [
+    | inl slot ↦ of_slot slot.0 told (rw slot.1 at fits)
+    | inr row ↦ of_row row.0 told (rw row.1 at fits)
+  ]
+
+module _ (task : Task) (spares : Spares) (k : Knowledge) (r : Recalled) (places : Places) where
+  abbrev Stands : Type 0
+  Stands = ShowsState task spares k r (state_of places)
+
+  abbrev FitsThere : Answer Record → Type 0
+  FitsThere told = FitsLast task.limits k (wanted_at spares (state_of places)) told
+
+  -- a reader's round is told numbers and rows,
+  pub reader_number : (told : Told) → places.stand ≡ Read → Stands → FitsThere (answer_of told) → TellsNumber told
+  reader_number told is h f =
+      let shows = rw is at h in
+      is_number task.limits k (read.wanted places.reader.round) told (reader_reads places.reader.round k r shows.shows) (rw is at f)
+
+  pub reader_told : (told : Answer Record) → places.stand ≡ Read → Stands → FitsThere told → read.IsTold places.reader.round told
+  reader_told told is h f =
+      let shows = rw is at h in
+      let fits : Fits task.limits k (read.wanted places.reader.round) told = rw is at f in
+      record { k = k; r = r; shows = shows.shows; fits = rw shows.limits fits }
+
+  -- for the command's key
+  pub reader_key : places.stand ≡ Read → Stands → places.reader.round.key ≡ command_key task.command
+  reader_key is h = let shows = rw is at h in shows.key
+
+  -- and so is a writer's
+  pub writer_number : (told : Told) → places.stand ≡ Write → Stands → FitsThere (answer_of told) → TellsNumber told
+  writer_number told is h f =
+      let shows = rw is at h in
+      is_number task.limits k (write.wanted places.writer.round) told (writer_reads places.writer.round k r shows.shows) (rw is at f)
+
+  pub writer_told : (told : Answer Record) → places.stand ≡ Write → Stands → FitsThere told → write.IsTold places.writer.round told
+  writer_told told is h f =
+      let shows = rw is at h in
+      let fits : Fits task.limits k (write.wanted places.writer.round) told = rw is at f in
+      record { k = k; r = r; shows = shows.shows; fits = rw shows.round_of.limits fits }
+
+-- what the rounds make of an answer
+module _ (old new : Places) (spares : Spares) (told : Answer Record) where
+  pub reads_into : (result : Option ReadEnd) → old.stand ≡ Read → Reads old told new result → TurnsInto (state_of old) spares told (state_of new) spares (read_out result)
+  reads_into result is reads =
+      let there : new.stand ≡ Read = ap (λ (p : Places). p.stand) reads.only ∙ is in
+      rw (is, there) (record {
+        comes = λ task k r h fits. read_comes task spares k r old.reader.round new.reader.round told h fits reads.same result (reading.follows_from old.reader.round new.reader.round told result reads.responds k r h.shows (rw h.limits fits));
+        leaves = λ task k r h fits. read_leaves task spares k r old.reader.round new.reader.round told h fits result (reading.spends_from old.reader.round new.reader.round told result reads.responds left_round one_round k r h.shows (rw h.limits fits));
+      })
+
+  pub writes_into : (result : Option WriteEnd) → old.stand ≡ Write → Writes old told new result → TurnsInto (state_of old) spares told (state_of new) spares (written_out result)
+  writes_into result is writes =
+      let there : new.stand ≡ Write = ap (λ (p : Places). p.stand) writes.only ∙ is in
+      rw (is, there) (record {
+        comes = λ task k r h fits. write_comes task spares k r old.writer.round new.writer.round told h fits writes.same result writes.responds (writing.follows_from old.writer.round new.writer.round told result writes.responds k r h.shows (rw h.round_of.limits fits));
+        leaves = λ task k r h fits. write_leaves task spares k r old.writer.round new.writer.round told h fits result (writing.spends_from old.writer.round new.writer.round told result writes.responds left_round one_round k r h.shows (rw h.round_of.limits fits));
+      })
+
+  -- with the limits that they had
+  pub reads_have : (limits : Limits) (result : Option ReadEnd) → HaveLimits limits old → Reads old told new result → HaveLimits limits new
+  reads_have limits result have reads = record { reader = reads.same.limits ∙ have.reader; writer = ap (λ (p : Places). p.writer.round.limits) reads.only ∙ have.writer }
+
+  pub writes_have : (limits : Limits) (result : Option WriteEnd) → HaveLimits limits old → Writes old told new result → HaveLimits limits new
+  writes_have limits result have writes = record { reader = ap (λ (p : Places). p.reader.round.limits) writes.only ∙ have.reader; writer = writes.same.limits ∙ have.writer }
+
+-- what an operation makes of what it has come to, where only its places change
+pub comes_to : (task : Task) (sweep : Option Sweep) (old new : State) (spares : Spares) (outcome : Outcome) → ((k : Knowledge) (r : Recalled) → Faces task spares k r outcome → ShowsState task spares k r new) → ((r : Recalled) → left_at r spares new ≤ left_for outcome) → IsSome (wanted_at spares new)
+    → FollowsOutcome (record { task = task; sweep = sweep; state = old }) spares outcome (record { task = task; sweep = sweep; state = new })
+comes_to task sweep old new spares outcome stands few asks = record {
+  stands = stands;
+  few = λ k r faces. let left = few r in omega (arith, left);
+  asks = asks;
+  same = record { limits = refl; actor = refl; command = refl };
+  sweep = refl;
+}

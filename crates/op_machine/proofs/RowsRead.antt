@@ -1,0 +1,74 @@
+-- A row is read by a round alone.
+use Rattle.std.proofs.Common.{◌≡◌, ℕ, Option, Some, None, true, false, refl}
+use Rattle.bw_model.specs.declared.limits.Limits.{Limits}
+use Rattle.bw_model.specs.declared.step.Answer.TheVariants.{Content}
+use Rattle.deltas.specs.declared.record.Record.{Record}
+use Rattle.chain_search.specs.Fitting.{Fits}
+use Rattle.chain_search.specs.Knowledge.{Knowledge}
+use Rattle.epochs.specs.declared.item.Reuse.{Reuse}
+use Rattle.epochs.specs.declared.item.Reuse.TheVariants as reuse
+use Rattle.installs.specs.Changes as change
+use Rattle.installs.specs.Spares.{Spares}
+use Rattle.installs.specs.Taking.{wanted_number}
+use Rattle.installs.specs.declared.change.State.{State as ChangeState}
+use Rattle.installs.specs.declared.change.State.TheVariants as change_state
+use Rattle.installs.specs.declared.plan.Plan.{Plan}
+use Rattle.installs.specs.declared.taking.Kind.TheVariants as kind
+use Rattle.installs.specs.declared.taking.Taking.{Taking}
+use Rattle.installs.specs.declared.taking.Taking.TheVariants as taking
+use Rattle.op_machine.specs.Ops.{asked_by}
+use Rattle.op_machine.specs.Outcomes.{has_begun, is_changing}
+use Rattle.op_machine.specs.Shows.{FitsLast, wanted_at}
+use Rattle.op_machine.specs.declared.state.State.{State}
+use Rattle.op_machine.specs.declared.state.State.TheVariants.{Begun, Epoch, Enter, Read, Write, Change, Leave}
+use Rattle.sweep.specs.Sweeps as sweep
+use Rattle.sweep.specs.Sweeps.{Sweep}
+use Rattle.sweep.specs.declared.sweep.State.{State as SweepState}
+use Rattle.sweep.specs.declared.sweep.State.TheVariants as sweep_state
+
+module _ (limits : Limits) (k : Knowledge) (row : Record) where
+  -- no change asks for one,
+  in_taking : (taken : Taking) → Fits limits k (wanted_number taken) (Content row) → ⊥
+  in_taking (taking.Bits kind.Pid word) fits = fits
+  in_taking (taking.Bits kind.Row word) fits = fits
+  in_taking (taking.Take kind.Pid number) fits = fits
+  in_taking (taking.Take kind.Row number) fits = fits
+
+  in_change : (plan : Plan) (spares : Spares) (state : ChangeState) → Fits limits k (change.wanted_at plan spares state) (Content row) → ⊥
+  in_change plan spares (change_state.Taking taken) fits = in_taking taken fits
+  in_change plan spares change_state.Base fits = fits
+  in_change plan spares change_state.Ready fits = fits
+  in_change plan spares change_state.Place fits = fits
+  in_change plan spares change_state.Link fits = fits
+  in_change plan spares change_state.Undo fits = fits
+  in_change plan spares change_state.Clear fits = fits
+
+  pub still : (spares : Spares) (state : State) → FitsLast limits k (wanted_at spares state) (Content row) → is_changing state ≡ false
+  still spares Begun fits = refl
+  still spares Epoch fits = refl
+  still spares (Enter epoch) fits = refl
+  still spares (Read round) fits = refl
+  still spares (Write round) fits = refl
+  still spares (Change now then) fits = absurd (in_change now.plan spares now.state fits)
+  still spares (Leave reply) fits = refl
+
+  -- and no sweep
+  in_reuse : (given : Reuse) → Fits limits k (sweep.step_of given) (Content row) → ⊥
+  in_reuse (reuse.Rows word bits) fits = fits
+  in_reuse (reuse.Pids word bits) fits = fits
+
+  in_sweep : (actor : ℕ) (state : SweepState) → Fits limits k (sweep.wanted_at actor state) (Content row) → ⊥
+  in_sweep actor sweep_state.Epoch fits = fits
+  in_sweep actor (sweep_state.Retire epoch) fits = fits
+  in_sweep actor (sweep_state.Announce announces) fits = fits
+  in_sweep actor (sweep_state.Reuse given) fits = in_reuse given fits
+
+  pub begun : (spares : Spares) (swept : Option Sweep) (state : State) → FitsLast limits k (asked_by swept (wanted_at spares state)) (Content row) → has_begun state ≡ true
+  begun spares None Begun fits = cc
+  begun spares (Some swept) Begun fits = absurd (in_sweep swept.actor swept.state fits)
+  begun spares swept Epoch fits = refl
+  begun spares swept (Enter epoch) fits = refl
+  begun spares swept (Read round) fits = refl
+  begun spares swept (Write round) fits = refl
+  begun spares swept (Change now then) fits = refl
+  begun spares swept (Leave reply) fits = refl

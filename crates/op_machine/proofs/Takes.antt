@@ -1,0 +1,150 @@
+-- What an operation in its place is after an answer, from what its work or its sweep is.
+use Rattle.std.proofs.Common.{◌≡◌, ◌<◌, ◌+◌, Option, Some, None, is_some, true, false, refl, sym, ap, subst, ◌∙◌, arith}
+use Rattle.std.specs.Prelude.{IsSome}
+use Rattle.bw_model.specs.declared.step.Answer.{Answer}
+use Rattle.bw_model.specs.declared.step.Answer.TheVariants.{Start}
+use Rattle.bw_model.specs.declared.step.Step.{Step as StepOf}
+use Rattle.deltas.specs.declared.record.Record.{Record}
+use Rattle.chain_search.specs.Knowledge.{Knowledge}
+use Rattle.chain_search.specs.Recalled.{Recalled}
+use Rattle.epochs.specs.Limbo.{Limbo}
+use Rattle.installs.specs.Spares.{Spares}
+use Rattle.op_machine.specs.Bounded.{IsSpentLast, left_at, with_errands}
+use Rattle.op_machine.specs.Hands.{Hand}
+use Rattle.op_machine.specs.InPlace.{GoesOn, Takes, Wants}
+use Rattle.op_machine.specs.Ops.{IsTold, Obeys, Op, Shows, asked_by, wanted_of}
+use Rattle.op_machine.specs.Outcomes.{has_begun}
+use Rattle.op_machine.specs.Shows.{learn_last, recall_last, wanted_at}
+use Rattle.op_machine.specs.Spending.{Spends, SpendsTo, steps_left, sweep_left}
+use Rattle.op_machine.specs.Sweeping.{HasFewer, IsSameWork, MovesSweep, ObeysSweep, with_limbo}
+use Rattle.op_machine.specs.Works.{AsksOn, IsToldWith, KeepsLimbo, asked_of}
+use Rattle.op_machine.specs.declared.op.Want.TheVariants.{Step}
+use Rattle.op_machine.specs.declared.state.State.{State}
+use Rattle.op_machine.specs.declared.state.State.TheVariants.{Begun, Epoch, Enter, Read, Write, Change, Leave}
+use Rattle.op_machine.proofs.Nexts.{asks, asks_none, fewer, fits_on, fits_swept, kept_after, kept_begun, left_first, left_is, nothing_left, rests, starts, sweep_asks, told_after, unswept}
+use Rattle.sweep.specs.Bounded as sweep
+use Rattle.sweep.specs.Sweeps.{Sweep}
+
+-- whichever step is wanted, the operation obeys by it
+obeys_by : (old : Op) (had : Hand) (told : Answer Record) (new : Op) (has : Hand) → GoesOn old had told new has → (asked : StepOf Record) → Wants new has asked → Obeys old had told new has (Step asked)
+obeys_by old had told new has goes asked wants = λ k r h f. wants (learn_last k (wanted_of old had) told) (recall_last r (wanted_of old had) told) (goes k r h f)
+
+begun_if : (spares : Spares) (state : State) → IsSome (wanted_at spares state) → has_begun state ≡ true
+begun_if spares Begun some = cc
+begun_if spares Epoch some = refl
+begun_if spares (Enter epoch) some = refl
+begun_if spares (Read round) some = refl
+begun_if spares (Write round) some = refl
+begun_if spares (Change now then) some = refl
+begun_if spares (Leave reply) some = refl
+
+asks_some : (o : Option Sweep) (after : Option (StepOf Record)) → is_some o ≡ true → IsSome (asked_by o after)
+asks_some None after on = cc
+asks_some (Some sweep) after on = refl
+
+pub none_if : (o : Option Sweep) → is_some o ≡ false → o ≡ None
+none_if None off = refl
+none_if (Some sweep) off = cc
+
+-- An operation that has begun has no sweep, and takes what its work takes.
+module _ (old : Op) (had : Hand) (told : Answer Record) (begun : has_begun old.state ≡ true) (new : Op) (has : Hand)
+    (after : AsksOn old had.spares told new has.spares) (keeps : KeepsLimbo old had told has) where
+  shows : GoesOn old had told new has
+  shows k r h f =
+      let fits = fits_on old had told begun k r h f in
+      let none = unswept old had told begun k r h in
+      subst (λ w. Shows new has (learn_last k w told) (recall_last r w told)) (sym (asks old had told begun k r h)) (record {
+        stands = after.works k r h.stands fits;
+        limbo = rw (after.sweep, none, after.same.limits, after.same.actor) (keeps k r h.stands fits (kept_begun old had told begun k r h));
+      })
+
+  spends : (asked : StepOf Record) → Spends old had told new has (Step asked)
+  spends asked k r h f =
+      let fits = fits_on old had told begun k r h f in
+      let none = unswept old had told begun k r h in
+      let then = begun_if has.spares new.state after.asks in
+      subst (λ w. IsSpentLast r w told (steps_left r old had) (steps_left (recall_last r w told) new has)) (sym (asks old had told begun k r h))
+      (rw (left_is old had told begun old had r none begun, left_is old had told begun new has (recall_last r (asked_of old had.spares) told) (after.sweep ∙ none) then) (after.spends k r h.stands fits))
+
+  pub takes_begun : IsTold old had told → Takes old had told new has
+  takes_begun is = record {
+    shows = shows;
+    asks = rw (after.sweep ∙ unswept old had told begun is.k is.r is.shows) after.asks;
+    obeys = obeys_by old had told new has shows;
+    spends = spends;
+    same = after.same;
+  }
+
+-- before the first step of the work the sweep alone asks
+module _ (old mid : Op) (spares : Spares) (limbo now : Limbo) (told : Answer Record) (first : old.state ≡ Begun) (same : IsSameWork old mid) (moves : MovesSweep old limbo told mid now) where
+  abbrev had : Hand
+  had = with_limbo spares limbo
+
+  abbrev between : Hand
+  between = with_limbo spares now
+
+  shows_mid : GoesOn old had told mid between
+  shows_mid k r h f =
+      subst (λ w. Shows mid between (learn_last k w told) (recall_last r w told)) (sym (sweep_asks old mid spares limbo now told first same))
+      (moves k r spares h (fits_swept old mid spares limbo now told first same k f))
+
+  -- the sweep goes on
+  module _ (on : is_some mid.sweep ≡ true) (few : HasFewer old mid) where
+    spends_mid : (asked : StepOf Record) → Spends old had told mid between (Step asked)
+    spends_mid asked k r h f = by mid.sweep refl
+      where
+        by : (o : Option Sweep) → mid.sweep ≡ o → SpendsTo r old had told mid between (Step asked)
+        by None over = let none = rw over at on in cc
+        by (Some next) is =
+            let less : sweep.steps_left next.state < sweep_left old.sweep old.state = rw is at few in
+            fewer old mid spares limbo now told first same r (wanted_of old had) (steps_left r old had) (steps_left (recall_last r (wanted_of old had) told) mid between)
+            (rw (is, same.task, same.state, first) (let n = rw first at less in omega (arith, n)))
+
+    pub takes_swept : Takes old had told mid between
+    takes_swept = record {
+      shows = shows_mid;
+      asks = asks_some mid.sweep (wanted_at spares mid.state) on;
+      obeys = obeys_by old had told mid between shows_mid;
+      spends = spends_mid;
+      same = rw same.task (record { limits = refl; actor = refl; command = refl });
+    }
+
+  -- and is over, so that the work begins
+  module _ (none : mid.sweep ≡ None) where
+    over : ObeysSweep old limbo told mid now None
+    over k r spares h f = (none, moves k r spares h f)
+
+    pub told_mid : IsTold old had told → IsToldWith mid between Start
+    told_mid = told_after old mid spares limbo now told first same over
+
+    module _ (new : Op) (has : Hand) (after : AsksOn mid spares Start new has.spares) (keeps : KeepsLimbo mid between Start has) where
+      nothing : asked_of mid spares ≡ None
+      nothing = asks_none old mid spares limbo now told first same over
+
+      shows_after : GoesOn old had told new has
+      shows_after k r h f =
+          let rest = rests old mid spares limbo now told first same over k r h f in
+          let start = starts old mid spares limbo now told first same over k r h f in
+          let kept = kept_after old mid spares limbo now told first same over k r h f in
+          let works = after.works _ _ rest.1.stands start in
+          let held = keeps _ _ rest.1.stands start kept in
+          subst (λ w. Shows new has (learn_last k w told) (recall_last r w told)) (sym (sweep_asks old mid spares limbo now told first same))
+          (record { stands = rw nothing at works; limbo = rw (after.sweep, rest.0, after.same.limits, after.same.actor) (rw nothing at held) })
+
+      spends_after : (asked : StepOf Record) → Spends old had told new has (Step asked)
+      spends_after asked k r h f =
+          let rest = rests old mid spares limbo now told first same over k r h f in
+          let start = starts old mid spares limbo now told first same over k r h f in
+          let spent = after.spends _ _ rest.1.stands start in
+          let less = rw nothing at spent in
+          fewer old mid spares limbo now told first same r (wanted_of old had) (steps_left r old had) (steps_left (recall_last r (wanted_of old had) told) new has)
+          (rw (sweep_asks old mid spares limbo now told first same, left_first old mid spares limbo now told first same r, after.sweep, rest.0, nothing_left new.state (begun_if has.spares new.state after.asks)) (let n = rw (same.state ∙ first, same.task) at less in omega (arith, n)))
+
+      pub takes_after : Takes old had told new has
+      takes_after = record {
+        shows = shows_after;
+        asks = rw (after.sweep ∙ none) after.asks;
+        obeys = obeys_by old had told new has shows_after;
+        spends = spends_after;
+        same = record { limits = after.same.limits ∙ ap (λ t. t.limits) same.task; actor = after.same.actor ∙ ap (λ t. t.actor) same.task; command = after.same.command ∙ ap (λ t. t.command) same.task };
+      }

@@ -1,0 +1,89 @@
+use Rattle.std.proofs.Common.{◌≡◌, ◌<◌, ◌∙◌, Some, true, false, length, refl, sym, ap, is_some}
+use Rattle.bw_model.specs.Replies.{command_key, reply_of, update_of}
+use Rattle.chain_search.specs.Chains.{content_in}
+use Rattle.chain_search.specs.Discipline.{found}
+use Rattle.rounds.specs.WriteRounds.{WriteRound}
+use Rattle.smo.specs.declared.version.Version.{Version}
+use Rattle.smo.proofs.Places.{of_made}
+use Rattle.op_machine.specs.Brings.{update_over}
+use Rattle.op_machine.proofs.Commands.{change_is, over_fits, over_kept, over_links, over_useful, update_due, value_same}
+use Rattle.op_machine.proofs.Executing.{answers_there, within}
+use Rattle.op_machine.proofs.Tidying.{may_call}
+use Rattle.op_machine.proofs.task.Task.execute_at_leaf.Goals as goal
+
+pub returns-clause-stands : goal.returns-clause-stands
+returns-clause-stands g c parent k r below idle =
+    let h = below.at in
+    let task = c.args.self.now in
+    let leaf = c.args.places.now.writer.page in
+    let key = command_key task.command in
+    let old = found leaf.chain key in
+    let leaf_is : c.page-leaf.result.now ≡ leaf = c.page-leaf.ensures ∙ ap (λ (w : WriteRound). w.page) c.writer.ensures in
+    let chain_is : c.chain-2.result.now ≡ leaf.chain = c.chain-2.ensures ∙ ap (λ (v : Version). v.chain) leaf_is in
+    let key_is : c.of.result ≡ key = c.of.ensures ∙ c.key.ensures ∙ ap command_key c.command.ensures in
+    let old_is : c.find-old.result ≡ old = (rw (chain_is, key_is) at c.find-old.ensures) ∙ value_same (content_in leaf.chain key) in
+    let replies : reply_of task.command old ≡ Some c.in-Some.reply = rw (← old_is, ← c.as_ref.ensures.value, ← c.command-2.ensures) (sym c.reply.ensures ∙ c.in-Some.is) in
+    let some : is_some (update_of 0 task.command old) ≡ true = rw (← old_is, ← c.as_ref-2.ensures.value, ← c.command-3.ensures, ← c.changes.ensures) c.if-not-changes.false in
+    let made = c.chains_make_pages.ensures leaf.chain (rw (c.chain.ensures, leaf_is) at c.keeps_rules.ensures) in
+    let page = made.0 in
+    let makes = made.1 in
+    let ruled = made.2 in
+    let due = update_due task.actor 0 task.command old some in
+    let covered = within task c.args.spares.now k r leaf h c.requires.last in
+    let few = of_made leaf.chain page (λ items. length items < 16) makes h.few in
+    let alive = h.page in
+    let fits = over_fits leaf.chain page makes alive.alive h.level few h.short (λ put. c.updates_fit.ensures.put leaf.chain page put makes ruled) (λ delete. c.updates_fit.ensures.delete leaf.chain page delete makes ruled)
+    task.command leaf.head (old, some) leaf.is_row covered in
+    c.begin_change.ensures.stands k r (rw (c.update_over.ensures, c.pid.ensures, c.head.ensures, c.head-2.ensures, leaf_is) (record {
+      seeks = h.seeks;
+      writer = h.writer;
+      may = record {
+        inside = h.seeks.inside;
+        links = c.plans_may_be_linked.ensures.update task.actor k leaf (update_over task.command leaf.head) alive.in_hand.seen alive.alive
+            (record { leaf = h.level; command = task.command; going = h.seeks.asked.going; unlinked = h.seeks.asked.unlinked; covers = covered; update = due.0; due = due.1; is = change_is task.actor task.command old due.0 leaf.head due.1 })
+            fits;
+      };
+      keeps = over_kept task.command leaf.head _;
+      brings = record {
+        pid = leaf.pid;
+        head = leaf.head;
+        content = update_over task.command leaf.head;
+        is = refl;
+        updates = over_links task.command leaf.head (old, some);
+        chain = leaf.chain;
+        read = alive.in_hand.seen.read;
+        leaf = h.level;
+        short = h.short;
+        few = h.few;
+        alive = alive.alive;
+        covers = covered;
+        replies = replies;
+      };
+      useful = over_useful k task.command leaf.head;
+      split = tt;
+      recalled = alive.recalled;
+    }))
+
+pub returns-then-not-changes-clause-stands : goal.returns-then-not-changes-clause-stands
+returns-then-not-changes-clause-stands g c parent k r below idle =
+    let task = c.args.self.now in
+    let leaf = c.args.places.now.writer.page in
+    let key = command_key task.command in
+    let old = found leaf.chain key in
+    let leaf_is : c.page-leaf.result.now ≡ leaf = c.page-leaf.ensures ∙ ap (λ (w : WriteRound). w.page) c.writer.ensures in
+    let chain_is : c.chain-2.result.now ≡ leaf.chain = c.chain-2.ensures ∙ ap (λ (v : Version). v.chain) leaf_is in
+    let key_is : c.of.result ≡ key = c.of.ensures ∙ c.key.ensures ∙ ap command_key c.command.ensures in
+    let old_is : c.find-old.result ≡ old = (rw (chain_is, key_is) at c.find-old.ensures) ∙ value_same (content_in leaf.chain key) in
+    let replies : reply_of task.command old ≡ Some c.in-Some.reply = rw (← old_is, ← c.as_ref.ensures.value, ← c.command-2.ensures) (sym c.reply.ensures ∙ c.in-Some.is) in
+    let none : is_some (update_of 0 task.command old) ≡ false = rw (← old_is, ← c.as_ref-2.ensures.value, ← c.command-3.ensures, ← c.changes.ensures) c.if-not-changes.true in
+    rw c.leave-then-not-changes.ensures (answers_there task c.args.spares.now k r leaf below.at c.requires.last c.in-Some.reply replies none)
+
+pub returns-in_default-clause-stands : goal.returns-in_default-clause-stands
+returns-in_default-clause-stands g c parent k r below idle =
+    let h = below.at in
+    let task = c.args.self.now in
+    let leaf = c.args.places.now.writer.page in
+    rw c.leave.ensures (
+      record { inside = h.seeks.inside; spare = h.seeks.spare; going = h.seeks.asked.going },
+      may_call task c.args.spares.now k r parent leaf c.find-old.result below idle c.requires.last (rw (← c.as_ref.ensures.value, ← c.command-2.ensures) (sym c.reply.ensures ∙ c.in_default.is)),
+    )

@@ -1,0 +1,79 @@
+-- The places of an operation: the state that they are, by where the operation stands.
+use Rattle.std.specs.Prelude.{◌≡◌, Bool, true, false, Option, Some, None, ℕ}
+use Rattle.bw_model.specs.declared.command.Reply.{Reply as ReplyOf}
+use Rattle.bw_model.specs.declared.limits.Limits.{Limits}
+use Rattle.bw_model.specs.declared.step.Answer.{Answer}
+use Rattle.deltas.specs.declared.record.Record.{Record}
+use Rattle.chain_search.specs.Chains.{level_in, low_in}
+use Rattle.descent.specs.Courses as course
+use Rattle.descent.specs.ReadRounds as read
+use Rattle.descent.specs.WriteRounds as write
+use Rattle.descent.specs.declared.descent.State.TheVariants.{Root}
+use Rattle.descent.specs.declared.read_round.ReadEnd.{ReadEnd}
+use Rattle.descent.specs.declared.write_round.WriteEnd.{WriteEnd}
+use Rattle.installs.specs.Changes.{Change as ChangeOf}
+use Rattle.installs.specs.declared.change.End.{End}
+use Rattle.rounds.specs.ReadRounds.{ReadRound}
+use Rattle.rounds.specs.WriteRounds.{WriteRound}
+use Rattle.op_machine.specs.declared.in_place.places.Stand.{Stand}
+use Rattle.op_machine.specs.declared.in_place.places.Stand.TheVariants.{Begun, Epoch, Enter, Read, Write, Change, Leave}
+use Rattle.op_machine.specs.declared.state.State.{State}
+use Rattle.op_machine.specs.declared.state.State.TheVariants as at
+use Rattle.op_machine.specs.declared.state.Then.{Then}
+
+-- Where the operation stands, the rounds and the change, what comes after the change, and the reply, each in its place.
+pub record Places : Type 0 where
+  pub stand : Stand
+  pub reader : ReadRound
+  pub writer : WriteRound
+  pub change : ChangeOf
+  pub then : Then
+  pub reply : ReplyOf
+
+abbrev pub state_at : Stand → read.ReadRound → write.WriteRound → ChangeOf → Then → ReplyOf → State
+state_at Begun reader writer change then reply = at.Begun
+state_at Epoch reader writer change then reply = at.Epoch
+state_at (Enter epoch) reader writer change then reply = at.Enter epoch
+state_at Read reader writer change then reply = at.Read reader
+state_at Write reader writer change then reply = at.Write writer
+state_at Change reader writer change then reply = at.Change change then
+state_at Leave reader writer change then reply = at.Leave reply
+
+-- the state that the places are
+abbrev pub state_of : Places → State
+state_of places = state_at places.stand places.reader.round places.writer.round places.change places.then places.reply
+
+-- Both rounds have these limits.
+pub record HaveLimits (limits : Limits) (places : Places) : Type 0 where
+  pub reader : places.reader.round.limits ≡ limits
+  pub writer : places.writer.round.limits ≡ limits
+
+-- a writer's round to the left of the page in the hand of one
+abbrev pub left_of : WriteRound → write.WriteRound
+left_of writer = record {
+  limits = writer.round.limits;
+  key = low_in writer.page.chain;
+  due = 8;
+  floor = level_in writer.page.chain;
+  goal = course.Left writer.page.pid;
+  parent = None;
+  left = None;
+  state = Root;
+}
+
+-- The reader's round has taken the answer, and nothing else has changed.
+pub record Reads (old : Places) (told : Answer Record) (new : Places) (result : Option ReadEnd) : Type 0 where
+  pub responds : read.Responds old.reader.round told new.reader.round result
+  pub same : read.IsSame old.reader.round new.reader.round
+  pub only : new ≡ record old { reader = new.reader }
+
+-- The same of the writer's round.
+pub record Writes (old : Places) (told : Answer Record) (new : Places) (result : Option WriteEnd) : Type 0 where
+  pub responds : write.Responds old.writer.round told new.writer.round result
+  pub same : write.IsSame old.writer.round new.writer.round
+  pub only : new ≡ record old { writer = new.writer }
+
+-- the end of a change, with what comes then
+abbrev pub ended_with : Then → Option End → Option (End × Then)
+ended_with then None = None
+ended_with then (Some end) = Some (end, then)

@@ -1,0 +1,73 @@
+//! The program: the words of a command line in, an exit status out.
+#![tactic(auto)]
+
+use bw_shell::{Reader, Refusal, Writer, script, weave};
+use race::race;
+use shell_options::{OptionsError, Program, Settings, options};
+use std::alloc::Global;
+use std::io::ErrorKind;
+use std::process::ExitCode;
+use std::sync::Wait;
+use std::thread::Threads;
+use std::{env, io};
+
+/// Runs the program that the words of the command line ask for, and answers the exit status. A race's threads are those of `threads`.
+pub fn run<R: Threads + Wait + Sync>(rt: &HostRuntime, threads: &R) -> ExitCode {
+    let alloc = rt.alloc();
+    let words = match words(rt, alloc) {
+        Ok(words) => words,
+        Err(error) => return ExitCode::from(unread(rt, error.kind())),
+    };
+    match options(alloc, words.as_slice()) {
+        Ok(settings) => ExitCode::from(started(rt, threads, settings)),
+        Err(error) => ExitCode::from(refuse(rt, error)),
+    }
+}
+/// The words of the command line, the program's name first.
+fn words(rt: &HostRuntime, alloc: Global) -> io::Result<Vec<String>> {
+    Ok(env::args(rt)?.collect(alloc)?)
+}
+
+/// Tells why the words can't be read, and answers the status.
+fn unread(rt: &HostRuntime, kind: ErrorKind) -> u8 {
+    if kind == ErrorKind::OutOfMemory {
+        return no_memory(rt);
+    }
+    let _ = eprintln!(rt; "error: invalid UTF-8 was detected in one or more arguments");
+    2
+}
+
+/// Tells that a growth of memory was refused, and answers the status.
+fn no_memory(rt: &HostRuntime) -> u8 {
+    let _ = println!(rt; "refused: {}", Refusal::Memory.code());
+    1
+}
+
+/// Tells why the words are refused, or what was asked of them, and answers the status.
+fn refuse(rt: &HostRuntime, error: OptionsError) -> u8 {
+    match error {
+        OptionsError::Clap(error) => {
+            let told = error.print(rt).is_ok();
+            if error.use_stderr() {
+                return 2;
+            }
+            if told { 0 } else { 1 }
+        }
+        OptionsError::Memory => no_memory(rt),
+    }
+}
+
+/// Runs a program, and answers the status. A race's threads are those of `threads`.
+fn started<R: Threads + Wait + Sync>(rt: &HostRuntime, threads: &R, settings: Settings) -> u8 {
+    let Ok(limits) = settings.limits() else {
+        let _ = eprintln!(rt; "refused: {}", Refusal::BadLimits.code());
+        return 2;
+    };
+    let mut input = Reader::new(rt.reader());
+    let mut output = Writer::new(io::writer(rt));
+    match settings.program {
+        Program::Script => script(rt.alloc(), limits, &mut input, &mut output),
+        Program::Weave => weave(rt.alloc(), limits, &mut input, &mut output),
+        Program::Race => race(threads, rt.alloc(), limits, &mut input, &mut output),
+    }
+}

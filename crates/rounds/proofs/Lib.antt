@@ -1,0 +1,7 @@
+pub mod Placed
+pub mod Seeing
+pub mod SmallRounds
+pub mod SmallWriteRounds
+pub mod Turning
+pub mod WayTurns
+pub mod WriteSeeing

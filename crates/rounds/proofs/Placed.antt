@@ -1,0 +1,69 @@
+-- What an answer makes of a descent in its place.
+use Rattle.std.proofs.Common.{◌≡◌, ◌<◌, ◌++◌, inl, inr, ℕ, List, [], ◌∷◌, length, Option, Some, None, refl, sym, ap, subst}
+use Rattle.std.specs.Prelude.{IfSome}
+use Rattle.bw_model.specs.declared.limits.Limits.{Limits}
+use Rattle.bw_model.specs.declared.step.Answer.TheVariants.{Number, Content}
+use Rattle.deltas.specs.declared.record.Record.{Record}
+use Rattle.deltas.specs.Records.{next_row}
+use Rattle.chain_search.specs.Fitted.{IsPageChain}
+use Rattle.smo.specs.declared.version.Version.{Version}
+use Rattle.descent.specs.Descents.{Descent, IsTold, Responds}
+use Rattle.descent.specs.Visits as page
+use Rattle.descent.specs.declared.descent.State.TheVariants.{Root, Page}
+use Rattle.descent.specs.declared.visit.Sight.TheVariants.{Empty, Whole}
+use Rattle.descent.specs.declared.visit.State.{State}
+use Rattle.descent.specs.declared.visit.State.TheVariants.{Slot, Row}
+use Rattle.descent.proofs.Visiting.{is_chain, row_below}
+
+-- a descent at a page
+abbrev pub visiting : Limits → ℕ → List Record → State → Descent
+visiting limits pid part state = record { limits = limits; state = Page (record { limits = limits; pid = pid; part = part; state = state }) }
+
+-- the page that slot 0 has is one that there may be
+pub root_within : (limits : Limits) (n : ℕ) → IsTold (record { limits = limits; state = Root }) (Number n) → (0 < n) × (n < limits.pids)
+root_within limits n told = (told.fits.0, told.fits.1)
+
+module _ (limits : Limits) (pid : ℕ) (part : List Record) where
+  -- so is the row that a page's slot has
+  pub head_below : (n : ℕ) → IsTold (visiting limits pid part Slot) (Number n) → n < limits.rows
+  head_below n told = row_below limits told.k pid n told.shows.page told.fits
+
+  pub starts : (n : ℕ) → 0 < n → Responds (visiting limits pid part Slot) (Number n) (visiting limits pid [] (Row n n)) None
+  starts n some = inr (record { visit = _; next = _; asked = refl; responds = inl (record { row = n; asked = refl; is = refl; some = some; goes = refl }); goes = refl })
+
+  pub is_empty : (n : ℕ) (new : Descent) → n ≡ 0 → Responds (visiting limits pid part Slot) (Number n) new (Some Empty)
+  is_empty n new none = record { visit = _; next = record { limits = limits; pid = pid; part = part; state = Slot }; asked = refl; responds = record { asked = refl; is = ap Number none } }
+
+module _ (limits : Limits) (pid head row : ℕ) (part : List Record) (w : Record) where
+  abbrev visit : page.Visit
+  visit = record { limits = limits; pid = pid; part = part; state = Row head row }
+
+  abbrev Told : Type 0
+  Told = IsTold (visiting limits pid part (Row head row)) (Content w)
+
+  pub few : Told → length part < 13
+  few told = told.fits.short pid head part told.shows.stands.in_slot told.shows.stands.seen
+
+  pub under_within : (under : ℕ) → next_row w ≡ Some under → Told → (0 < under) × (under < limits.rows)
+  under_within under is told = subst (λ (o : Option ℕ). IfSome o (λ n. (0 < n) × (n < limits.rows))) is told.fits.next
+
+  pub is_whole : next_row w ≡ None → Told → IsPageChain (part ++ w ∷ [])
+  is_whole last told = is_chain visit head row w last (record { k = told.k; shows = told.shows; fits = told.fits })
+
+  pub continues : (under : ℕ) → next_row w ≡ Some under → Responds (visiting limits pid part (Row head row)) (Content w) (visiting limits pid (part ++ w ∷ []) (Row head under)) None
+  continues under is = inr (record {
+    visit = visit;
+    next = record { limits = limits; pid = pid; part = part ++ w ∷ []; state = Row head under };
+    asked = refl;
+    responds = inr (record { head = head; row = row; content = w; under = under; asked = refl; is = refl; more = is; goes = refl });
+    goes = refl;
+  })
+
+  pub completes : (new : Descent) (version : Version) → next_row w ≡ None → version.pid ≡ pid → version.head ≡ head → version.chain ≡ part ++ w ∷ []
+      → Responds (visiting limits pid part (Row head row)) (Content w) new (Some (Whole version))
+  completes new version last is_pid is_head is_chain = record {
+    visit = visit;
+    next = visit;
+    asked = refl;
+    responds = record { row = row; content = w; asked = ap (λ h. Row h row) (sym is_head); is = refl; last = last; pid = is_pid; chain = is_chain };
+  }

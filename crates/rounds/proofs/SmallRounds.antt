@@ -1,0 +1,60 @@
+-- What the definitions of rounds in place say of small cases.
+use Rattle.std.proofs.Common.{◌≡◌, [], ◌∷◌, Some, None, refl}
+use Rattle.std.specs.Option.{option_map}
+use Rattle.bw_model.specs.declared.limits.Limits.{Limits}
+use Rattle.bw_model.specs.declared.step.Step.TheVariants as step
+use Rattle.deltas.specs.declared.record.Record.{Record}
+use Rattle.smo.specs.declared.version.Version.{Version}
+use Rattle.descent.specs.Descents.{going_to, wanted_at}
+use Rattle.descent.specs.ReadRounds as reader
+use Rattle.descent.specs.declared.descent.State.TheVariants as stands
+use Rattle.descent.specs.declared.read_round.Goal.TheVariants as goal
+use Rattle.descent.specs.declared.read_round.ReadEnd.TheVariants as end
+use Rattle.descent.specs.declared.visit.Sight.TheVariants as sight
+use Rattle.rounds.specs.Descents.{sight_of, state_of, step_of}
+use Rattle.rounds.specs.ReadRounds.{end_of, goal_of}
+use Rattle.rounds.specs.declared.asked.Asked.TheVariants as asked
+use Rattle.rounds.specs.declared.descents.At.TheVariants.{Root, Slot, Row}
+use Rattle.rounds.specs.declared.descents.Seen.TheVariants.{On, Empty, Whole}
+use Rattle.rounds.specs.declared.read_round.Going.TheVariants.{Seek, Left}
+use Rattle.rounds.specs.declared.read_round.ReadEnded.TheVariants.{Removed, Beside}
+
+module _ (limits : Limits) (one : Record) (round : reader.ReadRound) (first second : Version) where
+  -- slot 0, then the slot of page 5, then row 8 under one that was read from row 9 on
+  asks_slot_0 : wanted_at (state_of limits Root []) ≡ step.Slot 0
+  asks_slot_0 = refl
+
+  goes_to_5 : state_of limits (Slot 5) [] ≡ (going_to 5 (record { limits = limits; state = stands.Root })).state
+  goes_to_5 = refl
+
+  asks_slot_5 : wanted_at (state_of limits (Slot 5) []) ≡ step_of (asked.Slot 5)
+  asks_slot_5 = refl
+
+  asks_row_8 : wanted_at (state_of limits (Row 5 9 8) (one ∷ [])) ≡ step_of (asked.Row 8)
+  asks_row_8 = refl
+
+  -- the page that is whole is the one in hand
+  sees_nothing_yet : sight_of On first ≡ None
+  sees_nothing_yet = refl
+
+  sees_none : sight_of Empty first ≡ Some sight.Empty
+  sees_none = refl
+
+  sees_first : sight_of Whole first ≡ Some (sight.Whole first)
+  sees_first = refl
+
+  -- with the second page aside, a round goes to the left of that one, and ends beside it
+  goes_left_of_second : goal_of Left second ≡ goal.Left second
+  goes_left_of_second = refl
+
+  seeks : goal_of Seek second ≡ goal.Seek
+  seeks = refl
+
+  is_removed : end_of (record { round = round; page = first; aside = second }) Removed ≡ end.Removed first
+  is_removed = refl
+
+  is_beside : end_of (record { round = round; page = first; aside = second }) Beside ≡ end.Beside first second
+  is_beside = refl
+
+  goes_on : option_map (end_of (record { round = round; page = first; aside = second })) None ≡ None
+  goes_on = refl

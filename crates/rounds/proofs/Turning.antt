@@ -1,0 +1,37 @@
+-- What a writer's round finds at a page: how long and how wide it is, and where the round goes.
+use Rattle.std.proofs.Common.{◌≡◌, ◌≤◌, inl, ℕ, List, length, None, Some, refl, arith}
+use Rattle.std.proofs.Math.Nat.{lt_of_not-le}
+use Rattle.base_page.specs.declared.item.Item.{Item}
+use Rattle.deltas.specs.declared.record.Record.{Record}
+use Rattle.chain_search.specs.Chains.{IsItemsOf}
+use Rattle.chain_search.specs.Fitted.{IsFitted}
+use Rattle.smo.specs.Sizes.{HasFewDeltas, HasManyItems}
+use Rattle.smo.proofs.Places.{made}
+use Rattle.descent.specs.Courses.{Goal, Seek, Left, Merge, Unterm, removed_of}
+use Rattle.descent.specs.WriteRounds.{IsLong, SeeksLeaf}
+
+-- a page that isn't long has few deltas
+pub few_deltas : (due : ℕ) (chain : List Record) → ¬ IsLong due chain → HasFewDeltas chain
+few_deltas due chain short = let most = lt_of_not-le (λ (many : 9 ≤ length chain). short (inl many)) in omega (arith, most)
+
+-- how many items a chain has says whether they are many
+module _ (chain : List Record) (count : ℕ) (counted : (items : List Item) → IsItemsOf chain items → count ≡ length items) where
+  pub many_by_count : IsFitted chain → 16 ≤ count → HasManyItems chain
+  many_by_count fit many = let m = made chain fit in let all = counted m.0.items m.1.items in (m.0.items, m.1.items, omega (arith, many, all))
+
+  pub count_of_many : HasManyItems chain → 16 ≤ count
+  count_of_many h = let all = counted h.0 h.1 in let many = h.2 in omega (arith, many, all)
+
+-- the goal, by the removed page to whose left it is
+
+pub left_by : (goal : Goal) (pid : ℕ) → removed_of goal ≡ Some pid → goal ≡ Left pid
+left_by Seek pid e = cc
+left_by (Left other) pid e = let is : other ≡ pid = cc in cc
+left_by (Merge left) pid e = cc
+left_by (Unterm parent left) pid e = cc
+
+pub seek_by : (goal : Goal) → SeeksLeaf goal → removed_of goal ≡ None → goal ≡ Seek
+seek_by Seek seeks e = refl
+seek_by (Left pid) seeks e = cc
+seek_by (Merge left) seeks e = absurd seeks
+seek_by (Unterm parent left) seeks e = absurd seeks

@@ -1,0 +1,24 @@
+-- Where a writer's round goes, over a place for each of the two pages that it may keep on the way.
+use Rattle.std.specs.Prelude.{Bool, true, false, Option, Some, None}
+use Rattle.smo.specs.declared.version.Version.{Version}
+use Rattle.descent.specs.Courses as kept
+use Rattle.rounds.specs.declared.course.Aim.{Aim}
+use Rattle.rounds.specs.declared.course.Aim.TheVariants.{Seek, Left, Merge, Unterm}
+
+-- The course, and the pages that stand in the two places, whether they are kept or were before.
+pub record Course : Type 0 where
+  pub course : kept.Course
+  pub parent : Version
+  pub left : Version
+
+-- the page in a place, where it is kept
+abbrev pub kept_if : Bool → Version → Option Version
+kept_if false page = None
+kept_if true page = Some page
+
+-- the goal that an aim is, where the pages in the two places are these
+abbrev pub goal_of : Aim → Version → Version → kept.Goal
+goal_of Seek parent left = kept.Seek
+goal_of (Left pid) parent left = kept.Left pid
+goal_of Merge parent left = kept.Merge left
+goal_of Unterm parent left = kept.Unterm parent left

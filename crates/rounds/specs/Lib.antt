@@ -1,0 +1,4 @@
+pub mod Courses
+pub mod Descents
+pub mod ReadRounds
+pub mod WriteRounds

@@ -1,0 +1,46 @@
+-- A reader's round in its place: its pages stand in it, and an end names them there.
+use Rattle.std.specs.Prelude.{◌≡◌, Option, Some, None, ⊤}
+use Rattle.std.specs.Option.{option_map}
+use Rattle.smo.specs.declared.version.Version.{Version}
+use Rattle.descent.specs.ReadRounds as rounds
+use Rattle.descent.specs.declared.read_round.Goal.{Goal}
+use Rattle.descent.specs.declared.read_round.Goal.TheVariants as goal
+use Rattle.descent.specs.declared.read_round.ReadEnd.{ReadEnd}
+use Rattle.descent.specs.declared.read_round.ReadEnd.TheVariants as end
+use Rattle.rounds.specs.declared.descents.Seen.{Seen}
+use Rattle.rounds.specs.declared.descents.Seen.TheVariants.{On, Empty, Whole}
+use Rattle.rounds.specs.declared.read_round.Going.{Going}
+use Rattle.rounds.specs.declared.read_round.Going.TheVariants.{Seek, Left, Beyond}
+use Rattle.rounds.specs.declared.read_round.ReadEnded.{ReadEnded}
+use Rattle.rounds.specs.declared.read_round.ReadEnded.TheVariants.{Again, Removed, Leaf, Beside}
+
+-- The round, the page in hand, which was read whole last, and the page that is kept aside.
+pub record ReadRound : Type 0 where
+  pub round : rounds.ReadRound
+  pub page : Version
+  pub aside : Version
+
+-- where a round goes first, where the page to whose left it goes is the one that is kept aside
+abbrev pub goal_of : Going → Version → Goal
+goal_of Seek aside = goal.Seek
+goal_of Left aside = goal.Left aside
+goal_of Beyond aside = goal.Beyond
+
+-- an end with the pages that it is about, as they stand in the round
+abbrev pub end_of : ReadRound → ReadEnded → ReadEnd
+end_of round Again = end.Again
+end_of round Removed = end.Removed round.page
+end_of round Leaf = end.Leaf round.page
+end_of round Beside = end.Beside round.page round.aside
+
+-- what was seen is a page in hand that the round has reached, or no page
+abbrev pub CanSee : ReadRound → Seen → Type 0
+CanSee round On = ⊤
+CanSee round Empty = ⊤
+CanSee round Whole = rounds.CanTreat round.round round.page
+
+-- what a round does with what was seen
+abbrev pub Sees : ReadRound → Seen → ReadRound → Option ReadEnded → Type 0
+Sees old On new result = (new ≡ old) × (result ≡ None)
+Sees old Empty new result = result ≡ Some Again
+Sees old Whole new result = rounds.Treats old.round old.page new.round (option_map (end_of new) result)

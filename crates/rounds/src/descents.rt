@@ -1,0 +1,183 @@
+//! The way from the root to a page, as far as a round goes on, in one place.
+ghost use Rattle.std.specs.Prelude.{◌≡◌, ◌<◌, ℕ, [], IfOk};
+ghost use Rattle.bw_model.specs.declared.step.Answer.TheVariants.{Content, Number};
+ghost use Rattle.chain_search.specs.Discipline.{May};
+ghost use Rattle.chain_search.specs.Knowledge.{Knowledge};
+ghost use Rattle.descent.specs.Descents.{HasCome, IsTold, Responds, Shows, going_to, wanted};
+ghost use Rattle.descent.specs.Visits.{ReadsWithin};
+ghost use Rattle.descent.specs.declared.descent.State.TheVariants as state;
+ghost use Rattle.rounds.specs.Descents.{sight_of, state_of, step_of};
+
+use crate::{Asked, PageInHand};
+use bw_model::Limits;
+use row_chain::{ChainPart, HeldRow};
+use std::alloc::{AllocError, Allocator, Global};
+use std::marker::Model;
+use std::mem;
+
+/// Where a descent stands: each state is named by what it reads, slot 0, a page's slot, or a row of a page.
+#[derive(Clone, Copy, Debug, PartialEq, Eq)]
+pub(crate) enum At {
+    Root,
+    Slot { pid: u16 },
+    Row { pid: u16, head: u16, row: u16 },
+}
+
+/// What an answer has shown.
+#[derive(Clone, Copy, Debug, PartialEq, Eq)]
+pub(crate) enum Seen {
+    /// The descent reads on.
+    On,
+    /// The slot of the page holds 0.
+    Empty,
+    /// The page is whole: it is the page in hand.
+    Whole,
+}
+
+/// A way from the root, page by page: slot 0 is read first, then the page that it names, and then each page to which its round
+/// goes on. The rows of the page that is read have places of their own, until it is whole and becomes the page in hand.
+#[derive(Drop)]
+pub(crate) struct Descent<A: Allocator = Global> {
+    limits: Limits,
+    at: At,
+    part: ChainPart<A>,
+    page: PageInHand<A>,
+}
+
+impl<A: Allocator> Model for Descent<A> {
+    ghost use Rattle.rounds.specs.Descents.{Descent, IsSoundAt, state_of};
+
+    ghost Value = { Descent };
+
+    ghost view = { λ d. record { way = record { limits = d.limits; state = state_of d.limits d.at d.part }; page = d.page } };
+
+    ghost invariant = { λ d. IsSoundAt d.limits d.at };
+}
+
+impl<A: Allocator + Copy> Descent<A> {
+    /// A descent before its first step. Takes the memory for the rows of two pages, 52 KB, and is refused for want of it alone. No
+    /// later call takes memory.
+    pub(crate) fn new(alloc: A, limits: &Limits) -> Result<Descent<A>, AllocError>
+        ensures { IfOk result (λ descent. descent.way ≡ record { limits = limits.now; state = state.Root }) }
+    {
+        Ok(Descent {
+            limits: *limits,
+            at: At::Root,
+            part: ChainPart::<A>::new(alloc)?,
+            page: PageInHand::<A>::new(alloc)?,
+        })
+    }
+}
+
+impl<A: Allocator> Descent<A> {
+    /// Goes back to the root.
+    pub(crate) fn restart(&mut self)
+        ensures { self.new ≡ record self.old { way = record self.old.way { state = state.Root } } }
+    {
+        self.at = At::Root;
+    }
+
+    /// Goes back to the root of a tree of these limits.
+    pub(crate) fn reset(&mut self, limits: &Limits)
+        ensures { self.new ≡ record self.old { way = record { limits = limits.now; state = state.Root } } }
+    {
+        self.limits = *limits;
+        self.at = At::Root;
+    }
+
+    /// Goes on to a page.
+    pub(crate) fn go_to(&mut self, pid: u16)
+        requires some { 0 < pid }
+        requires below { pid < self.old.way.limits.pids }
+        ensures { self.new ≡ record self.old { way = going_to pid self.old.way } }
+    {
+        self.part.restart();
+        self.at = At::Slot { pid };
+    }
+
+    /// What the descent reads next.
+    pub(crate) fn asks(&self) -> Asked
+        ensures wanted { step_of result ≡ wanted self.now.way }
+        ensures within { ReadsWithin self.now.way.limits (step_of result) }
+        ensures may { (actor : ℕ) (k : Knowledge) → Shows self.now.way k → May actor k (step_of result) }
+    {
+        match self.at {
+            At::Root => Asked::Slot(0),
+            At::Slot { pid } => Asked::Slot(pid),
+            At::Row { row, .. } => Asked::Row(row),
+        }
+    }
+
+    /// The page in hand: the one that was read whole last, until another one changed places with it.
+    pub(crate) fn page(&self) -> &PageInHand<A>
+        ensures { result.now ≡ self.now.page }
+    {
+        &self.page
+    }
+
+    /// The page in hand and another one change places.
+    pub(crate) fn swap_page(&mut self, other: &mut PageInHand<A>)
+        ensures way { self.new.way ≡ self.old.way }
+        ensures page { self.new.page ≡ other.old }
+        ensures other { other.new ≡ self.old.page }
+    {
+        mem::swap(&mut self.page, other);
+    }
+
+    /// Takes the number that was read in the slot that the descent asked for.
+    pub(crate) fn told(&mut self, number: u64) -> Seen
+        requires told { IsTold self.old.way (Number number) }
+        ensures responds { Responds self.old.way (Number number) self.new.way (sight_of result self.new.page) }
+        ensures limits { self.new.way.limits ≡ self.old.way.limits }
+        ensures page { self.new.page ≡ self.old.page }
+    {
+        match self.at {
+            At::Root => {
+                self.go_to(number as u16);
+                Seen::On
+            }
+            At::Slot { .. } if number == 0 => Seen::Empty,
+            At::Slot { pid } => {
+                self.begin(pid, number as u16);
+                Seen::On
+            }
+            At::Row { .. } => unreachable!(),
+        }
+    }
+
+    /// Goes on to the newest record of the page's chain.
+    fn begin(&mut self, pid: u16, head: u16)
+        requires page { 0 < pid }
+        requires page_below { pid < self.old.way.limits.pids }
+        requires some { 0 < head }
+        requires below { head < self.old.way.limits.rows }
+        ensures { self.new ≡ record self.old { way = record self.old.way { state = state_of self.old.way.limits (At.Row pid head head) [] } } }
+    {
+        self.part.restart();
+        let row = head;
+        self.at = At::Row { pid, head, row };
+    }
+
+    /// Takes the row that the descent asked for, and gives another one in its place. With the base the page is whole.
+    pub(crate) fn take_row(&mut self, row: &mut HeldRow<A>) -> Seen
+        requires told { IsTold self.old.way (Content row.old) }
+        ensures responds { Responds self.old.way (Content row.old) self.new.way (sight_of result self.new.page) }
+        ensures limits { self.new.way.limits ≡ self.old.way.limits }
+    {
+        let At::Row { pid, head, .. } = self.at else {
+            unreachable!()
+        };
+        let next = row.row().next();
+        self.part.push(row);
+        match next {
+            Some(row) => {
+                self.at = At::Row { pid, head, row };
+                Seen::On
+            }
+            None => {
+                self.page.take(pid, head, &mut self.part);
+                Seen::Whole
+            }
+        }
+    }
+}

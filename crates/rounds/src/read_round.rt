@@ -1,0 +1,266 @@
+//! A reader's round from the root to the leaf of a key, in places that stay.
+ghost use Rattle.std.specs.Prelude.{◌≡◌, ◌<◌, ℕ, IfOk, IsTrue, MatchOption, None, Some, [], false};
+ghost use Rattle.std.specs.Bool.{Decides};
+ghost use Rattle.std.specs.Option.{option_map};
+ghost use Rattle.bw_model.specs.declared.step.Answer.TheVariants.{Content, Number};
+ghost use Rattle.chain_search.specs.Chains.{is_removed, low_in, right_in};
+ghost use Rattle.chain_search.specs.Discipline.{May};
+ghost use Rattle.chain_search.specs.Knowledge.{Knowledge};
+ghost use Rattle.chain_search.specs.Recalled.{Recalled};
+ghost use Rattle.descent.specs.ReadRounds.{CanTreat, IsSame, IsTold, Responds, Shows, Treats, going_to, toward, wanted, way_of};
+ghost use Rattle.descent.specs.Visits.{ReadsWithin};
+ghost use Rattle.descent.specs.Ways.{EndsHere, LeadsOn, precedes};
+ghost use Rattle.descent.specs.declared.descent.State.TheVariants.{Root};
+ghost use Rattle.descent.specs.declared.read_round.Goal.TheVariants as goal;
+ghost use Rattle.rounds.specs.Descents.{step_of};
+ghost use Rattle.rounds.specs.ReadRounds.{CanSee, Sees, end_of};
+
+#[cfg(test)]
+mod tests;
+
+use crate::way::{next_on_way, right_on_way};
+use crate::{Asked, Descent, PageInHand, Seen};
+use bw_model::{Key, Limits};
+use row_chain::HeldRow;
+use row_search::KeyWords;
+use std::alloc::{AllocError, Allocator, Global};
+use std::marker::Model;
+
+/// How a reader's round ends. The pages that an end is about stand in the round.
+#[derive(Clone, Copy, Debug, PartialEq, Eq)]
+pub enum ReadEnded {
+    /// A page that was named isn't there: a new round begins.
+    Again,
+    /// The page in hand, which is on the way, is removed: a round to the left of it begins.
+    Removed,
+    /// The page in hand is the leaf that has the key in its range.
+    Leaf,
+    /// The page that is kept aside is the removed leaf that has the key in its range, and the page in hand is the leaf to the left
+    /// of it, which was read afterwards.
+    Beside,
+}
+
+/// Where a reader's round goes first.
+#[derive(Clone, Copy, Debug, PartialEq, Eq)]
+pub(crate) enum Going {
+    /// To the leaf of the key.
+    Seek,
+    /// To the leaf to the left of the page that is kept aside, which is removed.
+    Left,
+    /// To the leaf of the key, after it was to the left of a removed page.
+    Beyond,
+}
+
+/// One round of a reader from the root to a leaf, and the next one in the same place.
+#[derive(Drop)]
+pub struct ReadRound<A: Allocator = Global> {
+    key: KeyWords,
+    going: Going,
+    aside: PageInHand<A>,
+    descent: Descent<A>,
+}
+
+impl<A: Allocator> Model for ReadRound<A> {
+    ghost use Rattle.rounds.specs.ReadRounds.{ReadRound, goal_of};
+
+    ghost Value = { ReadRound };
+
+    ghost view = { λ r. record { round = record { limits = r.descent.way.limits; key = r.key; goal = goal_of r.going r.aside; state = r.descent.way.state }; page = r.descent.page; aside = r.aside } };
+}
+
+impl<A: Allocator + Copy> ReadRound<A> {
+    /// The round to the leaf of the lowest key, before its first step. Takes the memory for the rows of three pages, 78 KB, and is
+    /// refused for want of it alone. No later call takes memory.
+    pub fn new(alloc: A, limits: &Limits) -> Result<ReadRound<A>, AllocError>
+        ensures { IfOk result (λ round. round.round ≡ record { limits = limits.now; key = []; goal = goal.Seek; state = Root }) }
+    {
+        Ok(ReadRound {
+            key: KeyWords::of(&Key::default()),
+            going: Going::Seek,
+            aside: PageInHand::<A>::new(alloc)?,
+            descent: Descent::<A>::new(alloc, limits)?,
+        })
+    }
+}
+
+impl<A: Allocator> ReadRound<A> {
+    /// Goes back to the root of a tree of these limits.
+    pub fn reset(&mut self, limits: &Limits)
+        ensures { self.new ≡ record self.old { round = record self.old.round { limits = limits.now; state = Root } } }
+    {
+        self.descent.reset(limits);
+    }
+
+    /// Begins a round to the leaf of a key.
+    pub fn restart(&mut self, key: &Key)
+        ensures { self.new ≡ record self.old { round = record { limits = self.old.round.limits; key = key.now; goal = goal.Seek; state = Root } } }
+    {
+        self.key = KeyWords::of(key);
+        self.going = Going::Seek;
+        self.descent.restart();
+    }
+
+    /// Begins a round that goes to the left of the page in hand first. That page is kept aside, and the one that was there before
+    /// is in hand.
+    pub fn go_left(&mut self)
+        ensures round { self.new.round ≡ record self.old.round { goal = goal.Left self.old.page; state = Root } }
+        ensures aside { self.new.aside ≡ self.old.page }
+        ensures page { self.new.page ≡ self.old.aside }
+    {
+        self.descent.swap_page(&mut self.aside);
+        self.going = Going::Left;
+        self.descent.restart();
+    }
+
+    /// The page in hand: the one that was read whole last.
+    pub fn page(&self) -> &PageInHand<A>
+        ensures { result.now ≡ self.now.page }
+    {
+        self.descent.page()
+    }
+
+    /// The page that is kept aside.
+    pub fn aside(&self) -> &PageInHand<A>
+        ensures { result.now ≡ self.now.aside }
+    {
+        &self.aside
+    }
+
+    /// What the round reads next.
+    pub fn asks(&self) -> Asked
+        ensures wanted { step_of result ≡ wanted self.now.round }
+        ensures within { ReadsWithin self.now.round.limits (step_of result) }
+        ensures may { (actor : ℕ) (k : Knowledge) (r : Recalled) → Shows self.now.round k r → May actor k (step_of result) }
+    {
+        self.descent.asks()
+    }
+
+    /// Takes the number that was read in the slot that the round asked for, and tells how the round ends, once it does.
+    pub fn told(&mut self, number: u64) -> Option<ReadEnded>
+        requires told { IsTold self.old.round (Number number) }
+        ensures responds { Responds self.old.round (Number number) self.new.round (option_map (end_of self.new) result) }
+        ensures same { IsSame self.old.round self.new.round }
+    {
+        let seen = self.descent.told(number);
+        self.see(seen)
+    }
+
+    /// Takes the row that the round asked for, gives another one in its place, and tells how the round ends, once it does.
+    pub fn take_row(&mut self, row: &mut HeldRow<A>) -> Option<ReadEnded>
+        requires told { IsTold self.old.round (Content row.old) }
+        ensures responds { Responds self.old.round (Content row.old) self.new.round (option_map (end_of self.new) result) }
+        ensures same { IsSame self.old.round self.new.round }
+    {
+        let seen = self.descent.take_row(row);
+        self.see(seen)
+    }
+
+    /// Goes on from what was seen, or ends.
+    fn see(&mut self, seen: Seen) -> Option<ReadEnded>
+        requires can { CanSee self.old seen }
+        ensures sees { Sees self.old seen self.new result }
+        ensures same { IsSame self.old.round self.new.round }
+    {
+        match seen {
+            Seen::On => None,
+            Seen::Empty => Some(ReadEnded::Again),
+            Seen::Whole => self.treat(),
+        }
+    }
+
+    /// Goes on from the page in hand, which was read now, or ends there.
+    fn treat(&mut self) -> Option<ReadEnded>
+        requires can { CanTreat self.old.round self.old.page }
+        ensures treats { Treats self.old.round self.old.page self.new.round (option_map (end_of self.new) result) }
+        ensures same { IsSame self.old.round self.new.round }
+    {
+        if self.page().chain().is_removed() {
+            return Some(ReadEnded::Removed);
+        }
+        match self.next_page() {
+            Some(pid) => {
+                self.descent.go_to(pid);
+                None
+            }
+            None => self.end(),
+        }
+    }
+
+    /// The next page on the way from the page in hand; none at the leaf where the way ends.
+    fn next_page(&self) -> Option<u16>
+        requires reached { IsTrue (way_of self.now.round.goal self.now.round.key (low_in self.now.page.chain)) }
+        ensures { MatchOption result (EndsHere (way_of self.now.round.goal self.now.round.key) self.now.page.chain) (LeadsOn (way_of self.now.round.goal self.now.round.key) self.now.page.chain) }
+    {
+        match self.going {
+            Going::Left => self.next_to_the_left(),
+            Going::Seek | Going::Beyond => next_on_way(self.page().chain(), &self.key, false),
+        }
+    }
+
+    /// The same on the way to the left of the page that is kept aside.
+    #[inline(never)]
+    fn next_to_the_left(&self) -> Option<u16>
+        requires reached { IsTrue (precedes (low_in self.now.aside.chain) (low_in self.now.page.chain)) }
+        ensures { MatchOption result (EndsHere (precedes (low_in self.now.aside.chain)) self.now.page.chain) (LeadsOn (precedes (low_in self.now.aside.chain)) self.now.page.chain) }
+    {
+        let low = KeyWords::of(&self.aside.chain().low());
+        next_on_way(self.page().chain(), &low, true)
+    }
+
+    /// Ends at the leaf where the way ends; to the left of a removed page, passes that page.
+    fn end(&mut self) -> Option<ReadEnded>
+        requires can { CanTreat self.old.round self.old.page }
+        requires alive { is_removed self.old.page.chain ≡ false }
+        requires ends { EndsHere (way_of self.old.round.goal self.old.round.key) self.old.page.chain }
+        ensures treats { Treats self.old.round self.old.page self.new.round (option_map (end_of self.new) result) }
+        ensures same { IsSame self.old.round self.new.round }
+    {
+        match self.going {
+            Going::Left => self.pass(),
+            Going::Seek | Going::Beyond => Some(ReadEnded::Leaf),
+        }
+    }
+
+    /// Ends beside the removed page, or goes on to the right of it; where it was merged, goes on for the key.
+    #[inline(never)]
+    fn pass(&mut self) -> Option<ReadEnded>
+        requires can { CanTreat (toward (goal.Left self.old.aside) self.old.round) self.old.page }
+        requires alive { is_removed self.old.page.chain ≡ false }
+        requires ends { EndsHere (precedes (low_in self.old.aside.chain)) self.old.page.chain }
+        ensures treats { Treats (toward (goal.Left self.old.aside) self.old.round) self.old.page self.new.round (option_map (end_of self.new) result) }
+        ensures same { IsSame self.old.round self.new.round }
+    {
+        if self.is_beside() {
+            return match right_on_way(self.aside.chain(), &self.key, false) {
+                None => Some(ReadEnded::Beside),
+                Some(right) => self.go_beyond(right),
+            };
+        }
+        match right_on_way(self.descent.page().chain(), &self.key, false) {
+            None => Some(ReadEnded::Leaf),
+            Some(right) => self.go_beyond(right),
+        }
+    }
+
+    /// Whether the page that is kept aside is the right of the page in hand.
+    fn is_beside(&self) -> bool
+        ensures { Decides result (right_in self.now.page.chain ≡ Some self.now.aside.pid) }
+    {
+        match self.descent.page().chain().right() {
+            Some(right) => right == self.aside.pid(),
+            None => false,
+        }
+    }
+
+    /// Goes on to a page on the way of the key, past the removed page.
+    fn go_beyond(&mut self, right: u16) -> Option<ReadEnded>
+        requires some { 0 < right }
+        requires below { right < self.old.round.limits.pids }
+        ensures goes { self.new ≡ record self.old { round = going_to right (toward goal.Beyond self.old.round) } }
+        ensures none { result ≡ None }
+    {
+        self.going = Going::Beyond;
+        self.descent.go_to(right);
+        None
+    }
+}

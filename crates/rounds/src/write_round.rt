@@ -1,0 +1,387 @@
+//! A writer's round from the root to a change that is due, or to the leaf of a key, in places that stay.
+ghost use Rattle.std.specs.Prelude.{◌≡◌, ◌<◌, ℕ, IfOk, IsTrue, MatchOption, None, Some, [], true, false, option_copied};
+ghost use Rattle.std.specs.Option.{option_map};
+ghost use Rattle.bw_model.specs.declared.step.Answer.TheVariants.{Content, Number};
+ghost use Rattle.chain_search.specs.Chains.{is_removed, level_in, low_in};
+ghost use Rattle.chain_search.specs.Discipline.{May};
+ghost use Rattle.chain_search.specs.Knowledge.{Knowledge};
+ghost use Rattle.chain_search.specs.Recalled.{Recalled};
+ghost use Rattle.descent.specs.Courses as goal;
+ghost use Rattle.descent.specs.Visits.{ReadsWithin, reads_on};
+ghost use Rattle.descent.specs.WriteRounds.{CanTreat, IsFine, IsHere, IsLeftLeaf, IsSame, IsSplitFinished, IsTold, Responds, SeeksLeaf, Shows, Treats, ends_at, goes_left, wanted, way_of};
+ghost use Rattle.descent.specs.Ways.{LeadsDown, LeadsRight, StaysLeft};
+ghost use Rattle.descent.specs.declared.descent.State.TheVariants.{Root};
+ghost use Rattle.rounds.specs.Descents.{step_of};
+ghost use Rattle.rounds.specs.WriteRounds.{CanSee, Sees, again_if, end_of};
+
+mod due;
+#[cfg(test)]
+mod tests;
+
+use crate::course::{Aim, Course};
+use crate::way::{child_on_way, right_on_way};
+use crate::{Asked, Descent, PageInHand, Seen, WriteEnded};
+use bw_model::{Key, Limits};
+use row_chain::HeldRow;
+use row_search::KeyWords;
+use smo::MANY_DELTAS;
+use std::alloc::{AllocError, Allocator, Global};
+use std::marker::Model;
+
+/// One round of a writer from the root, and the next one in the same place.
+#[derive(Drop)]
+pub struct WriteRound<A: Allocator = Global> {
+    key: KeyWords,
+    due: usize,
+    floor: u8,
+    course: Course<A>,
+    descent: Descent<A>,
+}
+
+impl<A: Allocator> Model for WriteRound<A> {
+    ghost use Rattle.rounds.specs.WriteRounds.{WriteRound};
+
+    ghost Value = { WriteRound };
+
+    ghost view = { λ r. record { round = record { limits = r.descent.way.limits; key = r.key; due = r.due; floor = r.floor; goal = r.course.course.goal; parent = r.course.course.parent; left = r.course.course.left; state = r.descent.way.state }; page = r.descent.page; parent = r.course.parent; left = r.course.left } };
+}
+
+impl<A: Allocator + Copy> WriteRound<A> {
+    /// The round to the leaf of the lowest key, before its first step, where as many deltas are due as on any page. Takes the memory for
+    /// the rows of four pages, 104 KB, and is refused for want of it alone. No later call takes memory.
+    pub fn new(alloc: A, limits: &Limits) -> Result<WriteRound<A>, AllocError>
+        ensures { IfOk result (λ round. round.round ≡ record { limits = limits.now; key = []; due = 8; floor = 0; goal = goal.Seek; parent = None; left = None; state = Root }) }
+    {
+        Ok(WriteRound {
+            key: KeyWords::of(&Key::default()),
+            due: MANY_DELTAS,
+            floor: 0,
+            course: Course::<A>::new(alloc)?,
+            descent: Descent::<A>::new(alloc, limits)?,
+        })
+    }
+}
+
+impl<A: Allocator> WriteRound<A> {
+    /// Goes back to the root of a tree of these limits.
+    pub fn reset(&mut self, limits: &Limits)
+        ensures { self.new ≡ record self.old { round = record self.old.round { limits = limits.now; state = Root } } }
+    {
+        self.descent.reset(limits);
+    }
+
+    /// Begins a round to the leaf of a key. A leaf with as many deltas as are due is consolidated.
+    pub fn restart(&mut self, key: &Key, due: usize)
+        requires due { 0 < due }
+        ensures { self.new ≡ record self.old { round = record { limits = self.old.round.limits; key = key.now; due = due; floor = 0; goal = goal.Seek; parent = None; left = None; state = Root } } }
+    {
+        self.key = KeyWords::of(key);
+        self.due = due;
+        self.floor = 0;
+        self.course.restart(None);
+        self.descent.restart();
+    }
+
+    /// Begins a round to the left of a removed page of this level, which begins at the key.
+    pub fn restart_left(&mut self, key: &Key, removed: u16, level: u8)
+        ensures { self.new ≡ record self.old { round = record { limits = self.old.round.limits; key = key.now; due = 8; floor = level; goal = goal.Left removed; parent = None; left = None; state = Root } } }
+    {
+        self.key = KeyWords::of(key);
+        self.due = MANY_DELTAS;
+        self.floor = level;
+        self.course.restart(Some(removed));
+        self.descent.restart();
+    }
+
+    /// The page in hand: the one that was read whole last, until it was kept.
+    pub fn page(&self) -> &PageInHand<A>
+        ensures { result.now ≡ self.now.page }
+    {
+        self.descent.page()
+    }
+
+    /// The page that stands in the parent's place.
+    pub fn parent(&self) -> &PageInHand<A>
+        ensures { result.now ≡ self.now.parent }
+    {
+        self.course.parent()
+    }
+
+    /// The page that stands in the left one's place.
+    pub fn left(&self) -> &PageInHand<A>
+        ensures { result.now ≡ self.now.left }
+    {
+        self.course.left()
+    }
+
+    /// The parent of the pages that are read, where one is kept.
+    pub fn kept_parent(&self) -> Option<&PageInHand<A>>
+        ensures { option_copied result ≡ self.now.round.parent }
+    {
+        if self.course.has_parent() {
+            return Some(self.course.parent());
+        }
+        None
+    }
+
+    /// What the round reads next.
+    pub fn asks(&self) -> Asked
+        ensures wanted { step_of result ≡ wanted self.now.round }
+        ensures within { ReadsWithin self.now.round.limits (step_of result) }
+        ensures may { (actor : ℕ) (k : Knowledge) (r : Recalled) → Shows self.now.round k r → May actor k (step_of result) }
+    {
+        self.descent.asks()
+    }
+
+    /// Takes the number that was read in the slot that the round asked for, and tells whether the page isn't there, which ends the round:
+    /// a new one begins.
+    pub fn told(&mut self, number: u64) -> bool
+        requires told { IsTold self.old.round (Number number) }
+        ensures responds { Responds self.old.round (Number number) self.new.round (again_if result) }
+        ensures same { IsSame self.old.round self.new.round }
+    {
+        match self.descent.told(number) {
+            Seen::On => false,
+            Seen::Empty => true,
+            Seen::Whole => unreachable!(),
+        }
+    }
+
+    /// Takes the row that the round asked for, which stands over another one, and gives another one in its place.
+    pub fn read_on(&mut self, row: &mut HeldRow<A>)
+        requires told { IsTold self.old.round (Content row.old) }
+        requires on { reads_on (Content row.old) ≡ true }
+        ensures responds { Responds self.old.round (Content row.old) self.new.round None }
+        ensures same { IsSame self.old.round self.new.round }
+    {
+        self.descent.take_row(row);
+    }
+
+    /// Takes the row that the round asked for, gives another one in its place, and tells how the round ends, once it does.
+    #[inline(never)]
+    pub fn take_row(&mut self, row: &mut HeldRow<A>) -> Option<WriteEnded>
+        requires told { IsTold self.old.round (Content row.old) }
+        ensures responds { Responds self.old.round (Content row.old) self.new.round (option_map (end_of self.new) result) }
+        ensures same { IsSame self.old.round self.new.round }
+    {
+        let seen = self.descent.take_row(row);
+        self.see(seen)
+    }
+
+    /// Goes on from what was seen, or ends.
+    fn see(&mut self, seen: Seen) -> Option<WriteEnded>
+        requires can { CanSee self.old seen }
+        ensures sees { Sees self.old seen self.new result }
+        ensures same { IsSame self.old.round self.new.round }
+    {
+        match seen {
+            Seen::On => None,
+            Seen::Empty => Some(WriteEnded::Again),
+            Seen::Whole => self.treat(),
+        }
+    }
+
+    /// Goes on from the page in hand, which was read now, or ends there, by what it was read for.
+    fn treat(&mut self) -> Option<WriteEnded>
+        requires can { CanTreat self.old.round self.old.page }
+        ensures treats { Treats self.old.round self.old.page self.new.round (option_map (end_of self.new) result) }
+        ensures same { IsSame self.old.round self.new.round }
+    {
+        if self.course.seeks_leaf() {
+            return self.meet();
+        }
+        Some(self.end_again())
+    }
+
+    /// Ends at the removed page, which was read again.
+    #[inline(never)]
+    fn end_again(&self) -> WriteEnded
+        requires can { CanTreat self.now.round self.now.page }
+        requires again { ¬ SeeksLeaf self.now.round.goal }
+        ensures { Treats self.now.round self.now.page self.now.round (Some (end_of self.now result)) }
+    {
+        match self.course.aim() {
+            Aim::Seek | Aim::Left(_) => unreachable!(),
+            Aim::Merge => self.end_merge(),
+            Aim::Unterm => self.end_unterm(),
+        }
+    }
+
+    /// Ends at a removed page; else goes on from the page, or ends there.
+    fn meet(&mut self) -> Option<WriteEnded>
+        requires can { CanTreat self.old.round self.old.page }
+        requires seeks { SeeksLeaf self.old.round.goal }
+        ensures treats { Treats self.old.round self.old.page self.new.round (option_map (end_of self.new) result) }
+        ensures same { IsSame self.old.round self.new.round }
+    {
+        if self.page().chain().is_removed() {
+            return Some(WriteEnded::Removed);
+        }
+        if self.course.has_left() {
+            return self.finish();
+        }
+        self.decide()
+    }
+
+    /// Ends where a change is due that finishes the split of the left page; else treats the page as any other.
+    #[inline(never)]
+    fn finish(&mut self) -> Option<WriteEnded>
+        requires can { CanTreat self.old.round self.old.page }
+        requires seeks { SeeksLeaf self.old.round.goal }
+        requires alive { is_removed self.old.page.chain ≡ false }
+        requires left { self.old.round.left ≡ Some self.old.left }
+        ensures treats { Treats self.old.round self.old.page self.new.round (option_map (end_of self.new) result) }
+        ensures same { IsSame self.old.round self.new.round }
+    {
+        if self.course.has_parent() {
+            return match self.due_term() {
+                Some(term) => Some(WriteEnded::Term(term)),
+                None => self.decide(),
+            };
+        }
+        match self.due_root() {
+            Some(root) => Some(WriteEnded::Root(root)),
+            None => self.decide(),
+        }
+    }
+
+    /// Goes on to the right of a page that ends on the way; else settles what is due at the page.
+    fn decide(&mut self) -> Option<WriteEnded>
+        requires can { CanTreat self.old.round self.old.page }
+        requires seeks { SeeksLeaf self.old.round.goal }
+        requires alive { is_removed self.old.page.chain ≡ false }
+        requires finished { IsSplitFinished self.old.round.parent self.old.round.left self.old.page }
+        ensures treats { Treats self.old.round self.old.page self.new.round (option_map (end_of self.new) result) }
+        ensures same { IsSame self.old.round self.new.round }
+    {
+        match self.next_aside() {
+            None => self.settle(),
+            Some(right) => {
+                self.course.keep_left(&mut self.descent);
+                self.descent.go_to(right);
+                None
+            }
+        }
+    }
+
+    /// The page's right, where the page ends on the way.
+    fn next_aside(&self) -> Option<u16>
+        ensures { MatchOption result (StaysLeft (way_of self.now.round.goal self.now.round.key) self.now.page.chain) (LeadsRight (way_of self.now.round.goal self.now.round.key) self.now.page.chain) }
+    {
+        right_on_way(self.page().chain(), &self.key, self.is_left())
+    }
+
+    /// Ends where the page is to be consolidated or split; else ends at it, or goes down.
+    fn settle(&mut self) -> Option<WriteEnded>
+        requires can { CanTreat self.old.round self.old.page }
+        requires here { IsHere self.old.round self.old.page }
+        ensures treats { Treats self.old.round self.old.page self.new.round (option_map (end_of self.new) result) }
+        ensures same { IsSame self.old.round self.new.round }
+    {
+        if self.is_long() {
+            return Some(WriteEnded::Consolidate);
+        }
+        if self.is_wide() {
+            return Some(WriteEnded::Split(self.due_split()));
+        }
+        self.go_on()
+    }
+
+    /// Goes down from a page at which nothing is due, or ends there, where the round ends at its level.
+    fn go_on(&mut self) -> Option<WriteEnded>
+        requires can { CanTreat self.old.round self.old.page }
+        requires here { IsHere self.old.round self.old.page }
+        requires fine { IsFine self.old.round.due self.old.page }
+        ensures treats { Treats self.old.round self.old.page self.new.round (option_map (end_of self.new) result) }
+        ensures same { IsSame self.old.round self.new.round }
+    {
+        let level = self.page().chain().level();
+        let floor = self.floor();
+        if level < floor {
+            return Some(WriteEnded::Again);
+        }
+        if level == floor {
+            return self.end();
+        }
+        self.go_below();
+        None
+    }
+
+    /// Goes down to a child of the page, which is the parent of those that are read from now on.
+    fn go_below(&mut self)
+        requires can { CanTreat self.old.round self.old.page }
+        requires here { IsHere self.old.round self.old.page }
+        requires fine { IsFine self.old.round.due self.old.page }
+        requires index { ends_at self.old.round.goal self.old.round.floor < level_in self.old.page.chain }
+        ensures treats { Treats self.old.round self.old.page self.new.round None }
+        ensures same { IsSame self.old.round self.new.round }
+    {
+        let child = self.next_below();
+        self.course.go_below(&mut self.descent);
+        self.descent.go_to(child);
+    }
+
+    /// The child of the greatest term on the way.
+    fn next_below(&self) -> u16
+        requires index { 0 < level_in self.now.page.chain }
+        requires reached { IsTrue (way_of self.now.round.goal self.now.round.key (low_in self.now.page.chain)) }
+        requires stays { StaysLeft (way_of self.now.round.goal self.now.round.key) self.now.page.chain }
+        ensures { LeadsDown (way_of self.now.round.goal self.now.round.key) self.now.page.chain result }
+    {
+        child_on_way(self.page().chain(), &self.key, self.is_left())
+    }
+
+    /// Ends at the leaf; to the left of a removed page, reads that one again where a change may be due.
+    fn end(&mut self) -> Option<WriteEnded>
+        requires can { CanTreat self.old.round self.old.page }
+        requires here { IsHere self.old.round self.old.page }
+        requires fine { IsFine self.old.round.due self.old.page }
+        requires level { level_in self.old.page.chain ≡ ends_at self.old.round.goal self.old.round.floor }
+        ensures treats { Treats self.old.round self.old.page self.new.round (option_map (end_of self.new) result) }
+        ensures same { IsSame self.old.round self.new.round }
+    {
+        match self.course.removed() {
+            Some(pid) => self.end_left(pid),
+            None => Some(WriteEnded::Leaf),
+        }
+    }
+
+    /// Reads the removed page again where it is the page's right, or the parent has its term; else nothing is due.
+    #[inline(never)]
+    fn end_left(&mut self, pid: u16) -> Option<WriteEnded>
+        requires some { 0 < pid }
+        requires below { pid < self.old.round.limits.pids }
+        requires left { IsLeftLeaf self.old.round self.old.page pid }
+        ensures treats { Treats self.old.round self.old.page self.new.round (option_map (end_of self.new) result) }
+        ensures same { IsSame self.old.round self.new.round }
+    {
+        if self.page().chain().right() == Some(pid) {
+            self.course.go_to_merge(&mut self.descent);
+            self.descent.go_to(pid);
+            return None;
+        }
+        if !self.has_term(pid) {
+            return Some(WriteEnded::Done);
+        }
+        self.course.go_to_unterm(&mut self.descent);
+        self.descent.go_to(pid);
+        None
+    }
+
+    /// The level at which the round ends.
+    fn floor(&self) -> u8
+        ensures { result ≡ ends_at self.now.round.goal self.now.round.floor }
+    {
+        match self.course.removed() {
+            Some(_) => self.floor,
+            None => 0,
+        }
+    }
+
+    /// Whether the round goes to the left of a removed page.
+    fn is_left(&self) -> bool
+        ensures { result ≡ goes_left self.now.round.goal }
+    {
+        self.course.removed().is_some()
+    }
+}

@@ -1,0 +1,120 @@
+//! What is due at the pages of a writer's round.
+ghost use Rattle.std.specs.Prelude.{◌≡◌, ◌≢◌, IfSome, MatchOption, Some, true, false};
+ghost use Rattle.std.specs.Bool.{Decides};
+ghost use Rattle.base_page.specs.declared.item.Content.TheVariants.{Child};
+ghost use Rattle.chain_search.specs.Chains.{content_in};
+ghost use Rattle.descent.specs.Courses as goal;
+ghost use Rattle.descent.specs.WriteRounds.{CanTreat, IsLong, Treats};
+ghost use Rattle.rounds.specs.WriteRounds.{end_of};
+ghost use Rattle.smo.specs.Roots.{CanRoot, IsRootPlan};
+ghost use Rattle.smo.specs.Sizes.{HasManyItems};
+ghost use Rattle.smo.specs.Splits.{CanSplit, IsSplitPlan};
+ghost use Rattle.smo.specs.Terms.{CanPost, IsTermPlan};
+
+use crate::{WriteEnded, WriteRound};
+use base_page::{Content, Page};
+use deltas::Term;
+use row_chain::Chain;
+use row_search::KeyWords;
+use smo::{
+    MANY_DELTAS, MANY_ITEMS, SplitPlan, plan_merge, plan_root, plan_split, plan_term, plan_unterm,
+};
+use std::alloc::Allocator;
+
+impl<A: Allocator> WriteRound<A> {
+    /// Whether the page has many deltas, or is a leaf with those that are due.
+    pub(super) fn is_long(&self) -> bool
+        ensures { Decides result (IsLong self.now.round.due self.now.page.chain) }
+    {
+        let chain = self.page().chain();
+        let deltas = chain.deltas();
+        deltas >= MANY_DELTAS || chain.level() == 0 && deltas >= self.due
+    }
+
+    /// Whether the page has many items.
+    pub(super) fn is_wide(&self) -> bool
+        ensures { Decides result (HasManyItems self.now.page.chain) }
+    {
+        let chain = self.page().chain();
+        chain.keeps_rules();
+        chain.item_count() >= MANY_ITEMS
+    }
+
+    /// The split of a page that has few deltas and many items.
+    #[inline(never)]
+    pub(super) fn due_split(&self) -> SplitPlan
+        requires { CanSplit self.now.page }
+        ensures { IsSplitPlan self.now.page result }
+    {
+        match plan_split(&self.page().version()) {
+            Some(plan) => plan,
+            None => unreachable!(),
+        }
+    }
+
+    /// The term of the page in hand in the one in the parent's place.
+    #[inline(never)]
+    pub(super) fn due_term(&self) -> Option<Term>
+        ensures { MatchOption result (¬ CanPost self.now.parent self.now.page) (IsTermPlan self.now.parent self.now.page) }
+    {
+        plan_term(&self.parent().version(), &self.page().version())
+    }
+
+    /// The root over the page in the left one's place and the page in hand.
+    #[inline(never)]
+    pub(super) fn due_root(&self) -> Option<Page>
+        ensures { MatchOption result (¬ CanRoot self.now.left self.now.page) (IsRootPlan self.now.left self.now.page) }
+    {
+        plan_root(&self.left().version(), &self.page().version())
+    }
+
+    /// Ends where the removed page may come into its left page.
+    #[inline(never)]
+    pub(super) fn end_merge(&self) -> WriteEnded
+        requires merges { self.now.round.goal ≡ goal.Merge self.now.left }
+        ensures { Treats self.now.round self.now.page self.now.round (Some (end_of self.now result)) }
+    {
+        match plan_merge(&self.left().version(), &self.page().version()) {
+            None => WriteEnded::Done,
+            Some(merge) => WriteEnded::Merge(merge),
+        }
+    }
+
+    /// Ends where the parent may lose the removed page's term.
+    #[inline(never)]
+    pub(super) fn end_unterm(&self) -> WriteEnded
+        requires can { CanTreat self.now.round self.now.page }
+        requires unterms { self.now.round.goal ≡ goal.Unterm self.now.parent self.now.left }
+        ensures { Treats self.now.round self.now.page self.now.round (Some (end_of self.now result)) }
+    {
+        match plan_unterm(
+            &self.parent().version(),
+            &self.left().version(),
+            &self.page().version(),
+        ) {
+            None => WriteEnded::Done,
+            Some(unterm) => WriteEnded::Unterm(unterm),
+        }
+    }
+
+    /// Whether the parent, where one is kept, has this child's term at the key, held.
+    pub(super) fn has_term(&self, pid: u16) -> bool
+        ensures yes { result ≡ true → (self.now.round.parent ≡ Some self.now.parent) × (content_in self.now.parent.chain self.now.round.key ≡ Some (Child pid true)) }
+        ensures no { result ≡ false → IfSome self.now.round.parent (λ parent. content_in parent.chain self.now.round.key ≢ Some (Child pid true)) }
+    {
+        if !self.course.has_parent() {
+            return false;
+        }
+        holds_term(self.parent().chain(), &self.key, pid)
+    }
+}
+
+/// Whether the page has this child's term at the key, held.
+fn holds_term<A: Allocator>(chain: &Chain<A>, key: &KeyWords, pid: u16) -> bool
+    ensures { Decides result (content_in chain.now key.now ≡ Some (Child pid true)) }
+{
+    match chain.content(key) {
+        Some(Content::Child { page, held }) => page == pid && held,
+        _ => false,
+    }
+}

@@ -1,0 +1,337 @@
+//! A writer's round over pages by hand, one page after another.
+ghost use Rattle.std.specs.Prelude.{◌≡◌, ◌<◌, ◌∷◌, [], true, false, IfOk, IfSome};
+ghost use Rattle.chain_search.specs.Chains.{is_removed, low_in};
+ghost use Rattle.chain_search.specs.Fitted.{IsFitted};
+ghost use Rattle.deltas.specs.declared.record.Record.TheVariants.{Base};
+ghost use Rattle.descent.specs.WriteRounds.{CanMeet, way_of};
+
+mod pages;
+
+use super::{WriteEnded, WriteRound};
+use crate::course::Aim;
+use crate::{Asked, PageInHand};
+use base_page::Page;
+use bw_model::{Key, Limits};
+use deltas::Record;
+use pages::{based, first, halves, key, leaf, lower, parent, removal};
+use row_chain::{ChainPart, HeldRow};
+use row_search::KeyWords;
+use smo::Version;
+use std::alloc::{AllocError, Global};
+
+/// How a round went on: to the page that it asks for, or to its end, with the pages that stand in the places which it is about.
+#[derive(Clone, Copy, Debug, PartialEq, Eq)]
+enum Turn {
+    To(u16),
+    Removed(u16),
+    Consolidate(u16),
+    Split(u16),
+    Term(u16, u16, u16),
+    Root(u16),
+    Leaf(Option<u16>, u16),
+    Merge(u16, u16),
+    Unterm(u16, u16, u16),
+    Done,
+    Other,
+}
+
+/// A round, and places by which a page comes into its hand.
+#[derive(Drop)]
+struct Desk {
+    round: WriteRound,
+    page: PageInHand,
+    part: ChainPart,
+    row: HeldRow,
+}
+
+fn limits() -> Limits
+    ensures { result.pids ≡ 4096 }
+{
+    Limits::new(1, 4096, 16384, 1).unwrap()
+}
+
+fn set_up(alloc: Global) -> Result<Desk, AllocError>
+    ensures { IfOk result (λ desk. desk.round.round.limits.pids ≡ 4096) }
+{
+    Ok(Desk {
+        round: WriteRound::new(alloc, &limits())?,
+        page: PageInHand::new(alloc)?,
+        part: ChainPart::new(alloc)?,
+        row: HeldRow::new(alloc)?,
+    })
+}
+
+/// Puts the page into the round's hand.
+fn show(desk: &mut Desk, version: &Version)
+    ensures { desk.new.round.round ≡ desk.old.round.round }
+{
+    version.chain.keeps_rules();
+    let (under, base) = version.chain.records();
+    desk.part.restart();
+    for delta in under.as_slice() {
+        desk.row.write(delta);
+        desk.part.push(&mut desk.row);
+    }
+    desk.row.write(&Record::Base(base));
+    desk.part.push(&mut desk.row);
+    desk.page.take(version.pid, version.head, &mut desk.part);
+    hand(&mut desk.round, &mut desk.page);
+}
+
+/// The page in hand and another one change places.
+fn hand(round: &mut WriteRound, page: &mut PageInHand)
+    ensures { round.new ≡ record round.old { page = page.old } }
+{
+    round.descent.swap_page(page);
+}
+
+/// Whether the parent, where there is one, isn't removed.
+fn stands(round: &WriteRound) -> bool
+    ensures { result ≡ true → IfSome round.now.round.parent (λ parent. is_removed parent.chain ≡ false) }
+{
+    match round.kept_parent() {
+        Some(parent) => !parent.chain().is_removed(),
+        None => true,
+    }
+}
+
+/// Whether the page in hand begins on the way.
+fn is_reached(round: &WriteRound) -> bool
+    ensures { result ≡ way_of round.now.round.goal round.now.round.key (low_in round.now.page.chain) }
+{
+    let low = KeyWords::of(&round.page().chain().low());
+    if round.is_left() {
+        return low.compare(&round.key).is_lt();
+    }
+    !round.key.compare(&low).is_lt()
+}
+
+/// Whether the round may go to the removed page, and on from there.
+fn meets(round: &WriteRound) -> bool
+    requires limits { round.now.round.limits.pids ≡ 4096 }
+    ensures { result ≡ true → CanMeet round.now.round.limits round.now.round.goal }
+{
+    match round.course.aim() {
+        Aim::Seek | Aim::Merge => true,
+        Aim::Left(pid) => 0 < pid && pid < 4096,
+        Aim::Unterm => !round.parent().chain().is_removed(),
+    }
+}
+
+/// What the round does with the page, once it is in hand.
+fn meet(desk: &mut Desk, version: &Version) -> Turn
+    requires limits { desk.old.round.round.limits.pids ≡ 4096 }
+    ensures limits { desk.new.round.round.limits.pids ≡ 4096 }
+{
+    show(desk, version);
+    treated(&mut desk.round)
+}
+
+/// What the round does with the page in hand.
+fn treated(round: &mut WriteRound) -> Turn
+    requires limits { round.old.round.limits.pids ≡ 4096 }
+    ensures limits { round.new.round.limits.pids ≡ 4096 }
+{
+    round.page().chain().keeps_rules();
+    if stands(round) {
+        if is_reached(round) {
+            if meets(round) {
+                let ended = round.treat();
+                return turn_of(round, ended.as_ref());
+            }
+        }
+    }
+    Turn::Other
+}
+
+/// The turn that an end is, or the page that the round asks for.
+fn turn_of(round: &WriteRound, ended: Option<&WriteEnded>) -> Turn {
+    match ended {
+        None => asked(round.asks()),
+        Some(WriteEnded::Removed) => Turn::Removed(round.page().pid()),
+        Some(WriteEnded::Consolidate) => Turn::Consolidate(round.page().pid()),
+        Some(WriteEnded::Split(_)) => Turn::Split(round.page().pid()),
+        Some(WriteEnded::Term(term)) => Turn::Term(round.parent().pid(), term.next, term.child),
+        Some(WriteEnded::Root(_)) => Turn::Root(round.left().pid()),
+        Some(WriteEnded::Leaf) => leaf_turn(round),
+        Some(WriteEnded::Merge(_)) => Turn::Merge(round.left().pid(), round.page().pid()),
+        Some(WriteEnded::Unterm(_)) => unterm_turn(round),
+        Some(WriteEnded::Done) => Turn::Done,
+        Some(WriteEnded::Again) => Turn::Other,
+    }
+}
+
+fn unterm_turn(round: &WriteRound) -> Turn {
+    Turn::Unterm(round.parent().pid(), round.left().pid(), round.page().pid())
+}
+
+fn asked(asked: Asked) -> Turn {
+    match asked {
+        Asked::Slot(pid) => Turn::To(pid),
+        Asked::Row(_) => Turn::Other,
+    }
+}
+
+fn leaf_turn(round: &WriteRound) -> Turn {
+    let leaf = round.page().pid();
+    match round.kept_parent() {
+        Some(parent) => Turn::Leaf(Some(parent.pid()), leaf),
+        None => Turn::Leaf(None, leaf),
+    }
+}
+
+/// What a writer does at a leaf of so many deltas and items, where so many deltas are due.
+fn at_leaf(alloc: Global, deltas: usize, items: u8, due: usize) -> Turn
+    requires due { 0 < due }
+{
+    let Ok(mut desk) = set_up(alloc) else {
+        return Turn::Other;
+    };
+    desk.round.restart(&key(b"x"), due);
+    meet(&mut desk, &first(deltas.min(12), leaf(items)))
+}
+
+#[test]
+fn consolidates_at_eight_deltas(rt: HostRuntime) {
+    let turns = [
+        at_leaf(rt.alloc(), 7, 3, 8),
+        at_leaf(rt.alloc(), 8, 3, 8),
+        at_leaf(rt.alloc(), 0, 3, 1),
+        at_leaf(rt.alloc(), 1, 3, 1),
+    ];
+    let (leaf, long) = (Turn::Leaf(None, 1), Turn::Consolidate(1));
+    assert_eq!(rt; turns, [leaf, long, leaf, long]);
+}
+
+#[test]
+fn splits_at_sixteen_items(rt: HostRuntime) {
+    let turns = [
+        at_leaf(rt.alloc(), 0, 15, 8),
+        at_leaf(rt.alloc(), 7, 16, 8),
+        at_leaf(rt.alloc(), 8, 16, 8),
+    ];
+    assert_eq!(rt;
+        turns,
+        [Turn::Leaf(None, 1), Turn::Split(1), Turn::Consolidate(1)]
+    );
+}
+
+/// What the round does at a page that was split, and then at the new page.
+fn meet_halves(desk: &mut Desk) -> Option<[Turn; 2]>
+    requires limits { desk.old.round.round.limits.pids ≡ 4096 }
+{
+    let (left, right) = halves()?;
+    let aside = meet(desk, &left);
+    Some([aside, meet(desk, &right)])
+}
+
+/// What a writer to the key in the middle of the pages does there.
+fn seeking(alloc: Global) -> Option<[Turn; 2]> {
+    let Ok(mut desk) = set_up(alloc) else {
+        return None;
+    };
+    desk.round.restart(&key(b"y"), 8);
+    meet_halves(&mut desk)
+}
+
+#[test]
+fn finishes_a_split_without_a_parent(rt: HostRuntime) {
+    assert_eq!(rt; seeking(rt.alloc()), Some([Turn::To(2), Turn::Root(1)]));
+}
+
+/// The same below an index page that lacks the term.
+fn below_parent(alloc: Global) -> Option<(Turn, Option<[Turn; 2]>)> {
+    let Ok(mut desk) = set_up(alloc) else {
+        return None;
+    };
+    desk.round.restart(&key(b"y"), 8);
+    let down = meet(&mut desk, &parent());
+    Some((down, meet_halves(&mut desk)))
+}
+
+#[test]
+fn finishes_a_split_below_a_parent(rt: HostRuntime) {
+    let turns = (Turn::To(1), Some([Turn::To(2), Turn::Term(5, 8, 2)]));
+    assert_eq!(rt; below_parent(rt.alloc()), Some(turns));
+}
+
+/// What a writer does below an index page at a leaf, to which it has gone down.
+fn down_to_a_leaf(alloc: Global) -> Option<[Turn; 2]> {
+    let Ok(mut desk) = set_up(alloc) else {
+        return None;
+    };
+    desk.round.restart(&key(b"y"), 8);
+    let down = meet(&mut desk, &parent());
+    Some([down, meet(&mut desk, &first(0, leaf(3)))])
+}
+
+#[test]
+fn ends_below_the_parent(rt: HostRuntime) {
+    let turns = [Turn::To(1), Turn::Leaf(Some(5), 1)];
+    assert_eq!(rt; down_to_a_leaf(rt.alloc()), Some(turns));
+}
+
+/// What a writer does to the left of page 2 at an index page, and then at a leaf that has no right.
+fn down_to_the_left(alloc: Global) -> Option<[Turn; 2]> {
+    let Ok(mut desk) = set_up(alloc) else {
+        return None;
+    };
+    desk.round.restart_left(&key(b"y"), 2, 0);
+    let down = meet(&mut desk, &parent());
+    Some([down, meet(&mut desk, &first(0, leaf(3)))])
+}
+
+#[test]
+fn goes_left_of_a_removed_page(rt: HostRuntime) {
+    assert_eq!(rt;
+        down_to_the_left(rt.alloc()),
+        Some([Turn::To(1), Turn::Done])
+    );
+}
+
+/// What a writer to the left of the removed page does at its parent, at the leaf, and at the removed page.
+fn removes(alloc: Global, leaf: Page) -> Option<[Turn; 3]>
+    requires { IsFitted (Base leaf ∷ []) }
+{
+    let Ok(mut desk) = set_up(alloc) else {
+        return None;
+    };
+    let (parent, removed) = removal()?;
+    desk.round.restart_left(&key(b"y"), 2, 0);
+    let down = meet(&mut desk, &parent);
+    let aside = meet(&mut desk, &based(1, leaf));
+    Some([down, aside, meet(&mut desk, &removed)])
+}
+
+#[test]
+fn merges_a_removed_page(rt: HostRuntime) {
+    let turns = [Turn::To(1), Turn::To(2), Turn::Merge(1, 2)];
+    assert_eq!(rt; removes(rt.alloc(), lower()), Some(turns));
+}
+
+#[test]
+fn takes_out_the_term_of_a_merged_page(rt: HostRuntime) {
+    let turns = [Turn::To(1), Turn::To(2), Turn::Unterm(5, 1, 2)];
+    assert_eq!(rt; removes(rt.alloc(), Page::empty_leaf()), Some(turns));
+}
+
+/// What a writer does to the left of the page at a page that was split, and then at the new page.
+fn left_of(alloc: Global, at: Key, removed: u16) -> Option<[Turn; 2]> {
+    let Ok(mut desk) = set_up(alloc) else {
+        return None;
+    };
+    desk.round.restart_left(&at, removed, 0);
+    meet_halves(&mut desk)
+}
+
+#[test]
+fn reads_the_removed_page_to_the_right_again(rt: HostRuntime) {
+    let turns = [Turn::To(2), Turn::Done];
+    assert_eq!(rt; left_of(rt.alloc(), key(&[b'x', 8]), 2), Some(turns));
+}
+
+#[test]
+fn goes_right_below_the_removed_page(rt: HostRuntime) {
+    let turns = [Turn::To(2), Turn::Root(1)];
+    assert_eq!(rt; left_of(rt.alloc(), key(b"y"), 3), Some(turns));
+}
