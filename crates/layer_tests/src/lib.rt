@@ -8,9 +8,13 @@ mod changes;
 #[cfg(test)]
 mod limbo;
 #[cfg(test)]
+mod limbo_memory;
+#[cfg(test)]
 mod pages;
 #[cfg(test)]
 mod plans;
+#[cfg(test)]
+mod random_rows;
 #[cfg(test)]
 mod records;
 #[cfg(test)]

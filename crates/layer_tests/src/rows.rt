@@ -6,7 +6,7 @@ use deltas::{Hold, Put, Record, Split};
 use record_slots::{BadRow, from_words, to_words};
 
 /// The words of a row by their places; the others are 0.
-type Words = &'static [(usize, u64)];
+pub(crate) type Words = &'static [(usize, u64)];
 
 /// The row that has these words.
 fn row(words: Words) -> [u64; 256] {
@@ -84,12 +84,12 @@ const INDEX: Words = &[
 /// The same with both children at the empty key.
 const EQUAL_KEYS: Words = &[(0, 0x20101), (8, 255), (18, 1), (23, 0x100), (28, 2)];
 
-const EACH_KIND: [Words; 10] = [
+pub(crate) const EACH_KIND: [Words; 10] = [
     OPENING, INDEX, PUT, DELETE, SPLIT, TERM, HOLD, REMOVE, MERGE, UNTERM,
 ];
 
 /// Whether the words spell a record, whose words they are.
-fn is_spelled(words: &[u64; 256]) -> bool {
+pub(crate) fn is_spelled(words: &[u64; 256]) -> bool {
     match from_words(words) {
         Ok(record) => to_words(&record) == *words,
         Err(_) => false,
@@ -97,7 +97,7 @@ fn is_spelled(words: &[u64; 256]) -> bool {
 }
 
 /// Whether the words spell nothing.
-fn is_refused(words: &[u64; 256]) -> bool {
+pub(crate) fn is_refused(words: &[u64; 256]) -> bool {
     matches!(from_words(words), Err(BadRow))
 }
 
@@ -170,7 +170,7 @@ const SPOILT: &[(Words, usize, u64)] = &[
 ];
 
 /// The row with another word at a place.
-fn with(words: Words, place: usize, word: u64) -> [u64; 256] {
+pub(crate) fn with(words: Words, place: usize, word: u64) -> [u64; 256] {
     let mut row = row(words);
     if place < 256 {
         row[place] = word;
@@ -196,8 +196,30 @@ fn refuses_equal_keys(rt: HostRuntime) {
     assert!(rt; is_refused(&row(EQUAL_KEYS)));
 }
 
-/// How many of the rows that differ in one bit spell a record.
-const TURNED: &[(Words, u32)] = &[(OPENING, 7), (PUT, 37), (SPLIT, 56), (HOLD, 56)];
+/// How many of the rows that differ in one bit spell a record, counted by the rules of a row.
+///
+/// A next row may have any of its 14 bits turned, and a PID any of its 12, unless it is 0 then; a length of 3 may become 7, 11 or 19, as
+/// the bytes behind the key are 0; and each bit of a key's bytes counts, where its order allows it.
+const TURNED: &[(Words, u32)] = &[
+    // six lengths of the low key, and one empty item
+    (OPENING, 7),
+    // three levels; the two children; the second key's length, mark and bytes
+    (INDEX, 3 + 11 + 11 + 3 + 1 + 24),
+    // the next row, which may not be 0; the lengths and the bytes of the key and the value
+    (PUT, 13 + 4 + 8 + 4 + 8),
+    (DELETE, 14 + 3 + 24),
+    // four levels
+    (SPLIT, 4 + 14 + 11 + 3 + 24),
+    // a split in its place, and four levels
+    (TERM, 1 + 4 + 14 + 11 + 3 + 24),
+    // the same, and three levels
+    (HOLD, 1 + 3 + 14 + 11 + 3 + 24),
+    (REMOVE, 4 + 14),
+    // the next row and the right page; the low key, which may only become less, but for its length; the high key, which may only become more;
+    // the item's key, which has to stay between them, and its value's length
+    (MERGE, 14 + 12 + 3 + 11 + 4 + 4 + 3 + 58 + 6),
+    (UNTERM, 3 + 13 + 11 + 3 + 24),
+];
 
 #[test]
 fn each_bit_of_a_row_counts(rt: HostRuntime) {
