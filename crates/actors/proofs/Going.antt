@@ -1,5 +1,6 @@
 -- One step of an operation, from what `next` promises.
-use Rattle.std.proofs.Common.{◌≡◌, ◌≢◌, ◌<◌, ◌^◌, ℕ, Option, Some, None, is_some, true, false, sym, ap, ◌∙◌, subst, refl, arith}
+use Rattle.std.proofs.Common.{◌≡◌, ◌≢◌, ◌<◌, ◌^◌, ℕ, Bool, Option, Some, None, is_some, true, false, sym, ap, ◌∙◌, subst, refl, arith}
+use Rattle.std.specs.Prelude.{IsSome}
 use Rattle.std.proofs.lemmas.Option.{same_Some}
 use Rattle.bw_model.specs.declared.command.Reply.{Reply}
 use Rattle.bw_model.specs.declared.limits.Limits.{Limits}
@@ -14,6 +15,7 @@ use Rattle.chain_search.specs.Recalled.{Recalled, blank}
 use Rattle.op_machine.specs.Hands.{Hand}
 use Rattle.op_machine.specs.Bounded.{IsSpentLast}
 use Rattle.op_machine.specs.Spending.{Spends, steps_left}
+use Rattle.op_machine.specs.InPlace.{IsShown, Takes, Wants}
 use Rattle.op_machine.specs.Ops.{Goes, HoldsLimbo, IsAtRestWith, IsOver, IsTold, Obeys, Op, Shows, asked_by, wanted_of}
 use Rattle.op_machine.specs.Outcomes.{HasLeft, is_leaving}
 use Rattle.op_machine.specs.Shows.{FitsLast, learn_last, recall_last, wanted_at}
@@ -21,12 +23,12 @@ use Rattle.op_machine.specs.Tasks.{IsSameTask, Task}
 use Rattle.op_machine.specs.declared.op.Want.TheVariants.{Step, Done}
 use Rattle.op_machine.specs.declared.state.State.{State}
 use Rattle.op_machine.specs.declared.state.State.TheVariants.{Begun, Epoch, Enter, Read, Write, Change, Leave}
-use Rattle.actors.specs.declared.actor.Running.{Running}
+use Rattle.actors.specs.Running.{AsksIf, Running, asking, running_at}
 use Rattle.epochs.specs.Limbo.{Limbo}
 use Rattle.installs.specs.Spares.{Spares}
 use Rattle.sweep.specs.Kept.{AreKept}
 use Rattle.sweep.specs.Sweeps.{Sweep}
-use Rattle.actors.specs.Actors.{Actor, GoesOn, IsActorWith, IsGoing, IsRunning, at_work, command_at, command_left, left_with}
+use Rattle.actors.specs.Actors.{GoesOn, IsActorWith, IsGoing, IsRunning, at_work, command_at, wanted_by}
 use Rattle.actors.proofs.Spending.{spends_last, spent_last}
 
 -- an actor without an operation, and one with an operation
@@ -50,6 +52,10 @@ module _ (k : Knowledge) (had : Hand) (old : Op) (unswept : old.sweep ≡ None) 
 
   pub told_start : IsTold old had answer.Start
   told_start = record { k = k; r = blank; shows = shows; fits = fits_start }
+
+  -- what is known then
+  pub shown_begun : (new : Op) (has : Hand) → Takes old had answer.Start new has → IsShown new has
+  shown_begun new has takes = (learn_last k (wanted_of old had) answer.Start, recall_last blank (wanted_of old had) answer.Start, takes.shows k blank shows fits_start)
 
   pub begun_left : (limits : Limits) (actor : ℕ) (new : Op) (has : Hand) → old.task.limits ≡ limits → old.task.actor ≡ actor → (asked : StepOf Record) → Obeys old had answer.Start new has (Step asked) → IsSameTask old.task new.task
       → IsRunning limits actor k blank has (record { op = new; wanted = asked })
@@ -121,32 +127,80 @@ module _ (limits : Limits) (actor : ℕ) (k : Knowledge) (r : Recalled) (had has
       last : old.wanted ≡ step.Leave
       last = same_Some old.wanted step.Leave (sym running.goes.wanted ∙ ends.is_last)
 
--- the operation that an actor goes on with is the one that it has
-module _ (limits : Limits) (actor : ℕ) (k : Knowledge) (r : Recalled) (hand : Hand) (old : Option Running) (running : Running) (a : Answer Record) (e : old ≡ Some running) (going : IsGoing limits actor k r (record { hand = hand; running = old }) a) where
-  same : going.running ≡ running
-  same = same_Some going.running running (sym going.is ∙ e)
+-- what is under way in the place of an operation
+asking_is : (op : Op) (hand : Hand) (running : Running) (wanted : Option (StepOf Record)) → wanted_of op hand ≡ wanted → asking op wanted ≡ Some running → (running.op ≡ op) × (wanted_of op hand ≡ Some running.wanted)
+asking_is op hand running None is e = cc
+asking_is op hand running (Some asked) is e =
+    let same : running ≡ record { op = op; wanted = asked } = same_Some running (record { op = op; wanted = asked }) (sym e) in
+    (ap (λ (q : Running). q.op) same, is ∙ ap Some (sym (ap (λ (q : Running). q.wanted) same)))
 
-  pub its_shows : IsRunning limits actor k r hand running
-  its_shows = subst (λ run. IsRunning limits actor k r hand run) same going.shows
+running_is : (on : Bool) (op : Op) (hand : Hand) (running : Running) → running_at on op hand ≡ Some running → (on ≡ true) × (running.op ≡ op) × (wanted_of op hand ≡ Some running.wanted)
+running_is false op hand running e = cc
+running_is true op hand running e = let is = asking_is op hand running (wanted_of op hand) refl e in (refl, is.0, is.1)
 
-  pub its_fits : Fits limits k running.wanted a
-  its_fits = subst (λ (run : Running). Fits limits k run.wanted a) same going.fits
+pub is_asking : (op : Op) (hand : Hand) (asked : StepOf Record) → wanted_of op hand ≡ Some asked → running_at true op hand ≡ Some (record { op = op; wanted = asked })
+is_asking op hand asked e = ap (asking op) e
 
-  -- what it has gone on to
-  pub went : (reply : Option Reply) (new after : Actor) → after ≡ new → GoesOn limits actor k r (at_work hand running) running.wanted a reply after → GoesOn limits actor k r (record { hand = hand; running = old }) going.running.wanted a reply new
-  went reply new after is goes =
-      let from : GoesOn limits actor k r (record { hand = hand; running = old }) running.wanted a reply new = subst (λ o. GoesOn limits actor k r (record { hand = hand; running = o }) running.wanted a reply new) (sym e) (subst (λ n. GoesOn limits actor k r (at_work hand running) running.wanted a reply n) is goes) in
-      subst (λ (run : Running). GoesOn limits actor k r (record { hand = hand; running = old }) run.wanted a reply new) (sym same) from
+asking_some : (op : Op) (wanted : Option (StepOf Record)) → IsSome wanted → command_at (asking op wanted) ≡ Some op.task.command
+asking_some op None some = cc
+asking_some op (Some asked) some = refl
 
--- whether it is done
-pub is_over : (hand : Hand) (new : Running) (reply : Option Reply) → is_some reply ≡ true → left_with hand new reply ≡ record { hand = hand; running = None }
-is_over hand new None done = cc
-is_over hand new (Some reply) done = refl
+-- whether there is an operation, and its command
+pub command_is : (op : Op) (hand : Hand) → AsksIf true op hand → command_at (running_at true op hand) ≡ Some op.task.command
+command_is op hand asks = asking_some op (wanted_of op hand) asks
 
-pub is_still : (hand : Hand) (new : Running) (reply : Option Reply) → is_some reply ≡ false → left_with hand new reply ≡ at_work hand new
-is_still hand new None done = refl
-is_still hand new (Some reply) done = cc
+pub is_busy : (on : Bool) (op : Op) (hand : Hand) → AsksIf on op hand → on ≡ is_some (command_at (running_at on op hand))
+is_busy false op hand asks = refl
+is_busy true op hand asks = sym (ap is_some (command_is op hand asks))
 
-pub left_command : (old : Option Running) (running new : Running) (reply : Option Reply) → old ≡ Some running → is_some reply ≡ false → new.op.task.command ≡ running.op.task.command → Some new.op.task.command ≡ command_left reply (command_at old)
-left_command old running new None e done same = rw (e, same) refl
-left_command old running new (Some reply) e done same = cc
+pub is_on : (on : Bool) (op : Op) (hand : Hand) → is_some (command_at (running_at on op hand)) ≡ true → on ≡ true
+is_on false op hand busy = cc
+is_on true op hand busy = refl
+
+pub same_command : (on : Bool) (op new : Op) (had has : Hand) → AsksIf on op had → IsSome (wanted_of new has) → new.task.command ≡ op.task.command → command_at (running_at on new has) ≡ command_at (running_at on op had)
+same_command false op new had has asks then same = refl
+same_command true op new had has asks then same = command_is new has then ∙ ap Some same ∙ sym (command_is op had asks)
+
+pub asks_then : (on : Bool) (new : Op) (has : Hand) → IsSome (wanted_of new has) → AsksIf on new has
+asks_then false new has some = tt
+asks_then true new has some = some
+
+-- what an actor shows, its operation shows
+shown_with : (limits : Limits) (actor : ℕ) (k : Knowledge) (r : Recalled) (op : Op) (hand : Hand) (wanted : Option (StepOf Record)) → wanted_of op hand ≡ wanted → IsSome wanted → IsActorWith limits actor k r hand (asking op wanted) → Shows op hand k r
+shown_with limits actor k r op hand None is some h = cc
+shown_with limits actor k r op hand (Some asked) is some h = h.goes.shows
+
+pub shown_at : (limits : Limits) (actor : ℕ) (k : Knowledge) (r : Recalled) (op : Op) (hand : Hand) → AsksIf true op hand → IsActorWith limits actor k r hand (running_at true op hand) → Shows op hand k r
+shown_at limits actor k r op hand asks h = shown_with limits actor k r op hand (wanted_of op hand) refl asks h
+
+-- the answer that an operation takes in its place, and what it goes on to
+module _ (limits : Limits) (actor : ℕ) (k : Knowledge) (r : Recalled) (on : Bool) (op : Op) (had : Hand) (a : Answer Record) (going : IsGoing limits actor k r (record { hand = had; running = running_at on op had }) a) where
+  found : (on ≡ true) × (going.running.op ≡ op) × (wanted_of op had ≡ Some going.running.wanted)
+  found = running_is on op had going.running going.is
+
+  pub told_here : IsTold op had a
+  told_here = subst (λ o. IsTold o had a) found.1 (told_with limits actor k r had had going.running going.running.op a going.shows going.fits)
+
+  pub stays_here : wanted_by (running_at on op had) ≢ Some step.Leave → is_leaving op.state ≡ false
+  stays_here stays = subst (λ (o : Op). is_leaving o.state ≡ false) found.1 (stays_at limits actor k r had had going.running going.running.op a going.shows going.fits (λ e. stays (ap wanted_by going.is ∙ ap Some e)))
+
+  module _ (new : Op) (has : Hand) (takes : Takes op had a new has) where
+    pub shown_then : IsShown new has
+    shown_then = (learn_last told_here.k (wanted_of op had) a, recall_last told_here.r (wanted_of op had) a, takes.shows told_here.k told_here.r told_here.shows told_here.fits)
+
+    pub goes_here : (asked : StepOf Record) → wanted_by (running_at on op had) ≢ Some step.Leave → Wants new has asked
+        → GoesOn limits actor k r (record { hand = had; running = running_at on op had }) going.running.wanted a None (record { hand = has; running = running_at on new has })
+    goes_here asked stays wants =
+        let from : Takes going.running.op had a new has = subst (λ o. Takes o had a new has) (sym found.1) takes in
+        let went : GoesOn limits actor k r (at_work had going.running) going.running.wanted a None (at_work has (record { op = new; wanted = asked })) =
+        goes_on limits actor k r had has going.running new a going.shows going.fits asked (λ e. stays (ap wanted_by going.is ∙ ap Some e)) (from.obeys asked wants) (from.spends asked) from.same in
+        let is : running_at on new has ≡ Some (record { op = new; wanted = asked }) = rw found.0 (is_asking new has asked (wants shown_then.0 shown_then.1 shown_then.2).wanted) in
+        subst (λ (o : Option Running). GoesOn limits actor k r (record { hand = had; running = o }) going.running.wanted a None (record { hand = has; running = running_at on new has })) (sym going.is)
+        (subst (λ (o : Option Running). GoesOn limits actor k r (at_work had going.running) going.running.wanted a None (record { hand = has; running = o })) (sym is) went)
+
+  -- it leaves
+  pub done_here : (reply : Reply) → ((hand : Hand) (told : Answer Record) → Obeys op hand told op hand (Done reply)) → GoesOn limits actor k r (record { hand = had; running = running_at on op had }) going.running.wanted a (Some reply) (record { hand = had; running = None })
+  done_here reply obeys =
+      let from : Obeys going.running.op had a op had (Done reply) = subst (λ o. Obeys o had a op had (Done reply)) (sym found.1) (obeys had a) in
+      subst (λ (o : Option Running). GoesOn limits actor k r (record { hand = had; running = o }) going.running.wanted a (Some reply) (record { hand = had; running = None })) (sym going.is)
+      (is_done limits actor k r had had going.running op a going.shows going.fits reply from)

@@ -18,7 +18,7 @@ use Rattle.op_machine.specs.declared.state.State.TheVariants.{Begun, Epoch, Ente
 use Rattle.sweep.specs.Sweeps.{Sweep, step_of, wanted_at as wanted_at_sweep}
 use Rattle.sweep.specs.declared.sweep.State as sweeping
 use Rattle.sweep.specs.declared.sweep.State.TheVariants as at_sweep
-use Rattle.actors.specs.declared.actor.Running.{Running}
+use Rattle.actors.specs.Running.{Running}
 use Rattle.actors.specs.Spending.{IsSpentOn}
 
 -- what an answer leaves, where the step that was wanted is known

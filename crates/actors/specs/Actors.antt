@@ -13,8 +13,8 @@ use Rattle.chain_search.specs.Recalled.{Recalled, recall}
 use Rattle.chain_search.specs.Useful.{IsUseful}
 use Rattle.op_machine.specs.Hands.{Hand, empty_hand}
 use Rattle.op_machine.specs.Ops.{Goes, IsAtRestWith}
-use Rattle.actors.specs.declared.actor.Running.{Running}
-use Rattle.actors.specs.Spending.{IsSpentOn, unless_done}
+use Rattle.actors.specs.Running.{Running}
+use Rattle.actors.specs.Spending.{IsSpentOn}
 
 -- what an actor keeps between operations, and the operation that it is at
 pub record Actor : Type 0 where
@@ -27,10 +27,6 @@ idle_actor limits = record { hand = empty_hand limits; running = None }
 -- it is at an operation
 abbrev pub at_work : Hand → Running → Actor
 at_work hand running = record { hand = hand; running = Some running }
-
--- it has come to the end of its operation with the reply, or is at it still
-abbrev pub left_with : Hand → Running → Option Reply → Actor
-left_with hand running reply = record { hand = hand; running = unless_done running reply }
 
 -- An operation that is under way, with the step that it wants, which its actor may take by what it knows.
 pub record IsRunning (limits : Limits) (actor : ℕ) (k : Knowledge) (r : Recalled) (hand : Hand) (running : Running) : Type 0 where
@@ -77,9 +73,9 @@ pub record IsGoing (limits : Limits) (actor : ℕ) (k : Knowledge) (r : Recalled
   pub shows : IsRunning limits actor k r at.hand running
   pub fits : Fits limits k running.wanted answer
 
--- Something is known that the operation shows, and that the answer to the step that it wants fits.
-abbrev pub IsWorkTold : Hand → Running → Answer Record → Type 0
-IsWorkTold hand running answer = (limits : Limits) × (actor : ℕ) × (k : Knowledge) × (r : Recalled) × IsRunning limits actor k r hand running × Fits limits k running.wanted answer
+-- Something is known that the actor shows.
+abbrev pub IsShown : Actor → Type 0
+IsShown at = (limits : Limits) × (actor : ℕ) × (k : Knowledge) × (r : Recalled) × IsActor limits actor k r at
 
 -- Something is known that it shows, and that the answer fits.
 pub record IsTold (at : Actor) (answer : Answer Record) : Type 0 where

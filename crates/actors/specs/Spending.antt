@@ -1,23 +1,17 @@
 -- How many steps an actor's operation has left.
 use Rattle.std.specs.Prelude.{ℕ, Option, None, Some}
-use Rattle.bw_model.specs.declared.command.Reply.{Reply}
 use Rattle.bw_model.specs.declared.step.Answer.{Answer}
 use Rattle.bw_model.specs.declared.step.Step.{Step as StepOf}
 use Rattle.deltas.specs.declared.record.Record.{Record}
 use Rattle.chain_search.specs.Recalled.{Recalled, IsStepSpent, recall}
 use Rattle.op_machine.specs.Hands.{Hand}
 use Rattle.op_machine.specs.Spending.{steps_left}
-use Rattle.actors.specs.declared.actor.Running.{Running}
+use Rattle.actors.specs.Running.{Running}
 
 -- how many steps an actor's operation takes at most, if it has one, but for those that a cause pays for
 abbrev pub steps_due : Recalled → Hand → Option Running → ℕ
 steps_due r hand None = 0
 steps_due r hand (Some running) = steps_left r running.op hand
-
--- the operation after a step, unless it is done with a reply
-abbrev pub unless_done : Running → Option Reply → Option Running
-unless_done running None = Some running
-unless_done running (Some reply) = None
 
 -- A step is taken: of the steps that were left it has spent one, or a cause paid for more.
 abbrev pub IsSpentOn : Recalled → Hand → Option Running → StepOf Record → Answer Record → Hand → Option Running → Type 0

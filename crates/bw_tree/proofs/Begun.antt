@@ -1,8 +1,9 @@
 -- A seat whose operation begins with its first step.
-use Rattle.std.proofs.Common.{◌≡◌, ◌<◌, ◌^◌, ℕ, List, [], ◌∷◌, ◌++◌, Option, Bool, true, false, refl, sym, ap, ◌∙◌, subst, arith, append-nil}
+use Rattle.std.proofs.Common.{◌≡◌, ◌≢◌, ◌<◌, ◌^◌, ℕ, List, [], ◌∷◌, ◌++◌, Option, Bool, true, false, refl, sym, ap, ◌∙◌, subst, arith, append-nil}
+use Rattle.std.proofs.lemmas.Option.{same_Some}
 use Rattle.std.specs.Prelude.{IsSome, Some, None, IsTrue}
 use Rattle.actors.specs.Actors.{Actor, IsActor, IsActorWith, IsTold, command_at, command_left, running_command, wanted_by}
-use Rattle.actors.specs.declared.actor.Running.{Running}
+use Rattle.actors.specs.Running.{Running}
 use Rattle.actors.specs.Spending.{steps_due}
 use Rattle.bw_model.specs.declared.command.Command.{Command}
 use Rattle.bw_model.specs.declared.command.Reply.{Reply}
@@ -112,6 +113,9 @@ module _ (laws : HaveLaws) (limits : Limits) (a : ℕ) (seen : List Entry) (now 
 
     not_leaving : asked ≡ step.Leave → ⊥
     not_leaving is = not_inside (knows (seen ++ Begin a command ∷ []) a).inside (subst (May a (knows (seen ++ Begin a command ∷ []) a)) is may_first) (outside seen (extends_self a seen))
+
+    pub first_stays : wanted_by new.running ≢ Some step.Leave
+    first_stays is = not_leaving (same_Some asked step.Leave (sym e ∙ is))
 
     pub may_begin : IsLawfulStep IsLawfulRun limits a seen (Some command) asked None
     may_begin run told legal x is =

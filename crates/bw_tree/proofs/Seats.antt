@@ -2,7 +2,7 @@
 use Rattle.std.proofs.Common.{◌≡◌, ◌<◌, ◌+◌, ◌-◌, inl, ℕ, List, [], ◌∷◌, ◌++◌, Option, refl, sym, ap, ◌∙◌, subst, arith, append-nil, eq-eqb}
 use Rattle.std.specs.Prelude.{IsSome, IfSome, Some, None}
 use Rattle.std.proofs.lemmas.Option.{same_Some}
-use Rattle.actors.specs.declared.actor.Running.{Running}
+use Rattle.actors.specs.Running.{Running}
 use Rattle.actors.specs.Actors.{Actor, GoesOn, IsActorWith, IsGoing, IsRunning, IsTold, command_at, command_left, knows_then, running_command, wanted_by}
 use Rattle.actors.specs.Spending.{steps_due}
 use Rattle.bw_model.specs.declared.command.Command.{Command}

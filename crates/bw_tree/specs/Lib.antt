@@ -3,6 +3,7 @@ pub mod Laws
 pub mod Notes
 pub mod Seats
 pub mod Calls
+pub mod Told
 pub mod Trees
 pub mod Examples
 pub mod Closed

@@ -5,7 +5,7 @@ use Rattle.bw_model.specs.declared.limits.Limits.{Limits}
 use Rattle.chain_search.specs.declared.trace.Entry.{Entry}
 use Rattle.chain_search.specs.Disciplined.{Extends}
 use Rattle.slot_rule.specs.declared.view.Reach.TheVariants.{Noted}
-use Rattle.slot_rule.specs.Views.{Mine, SitsAt, seen_of}
+use Rattle.slot_rule.specs.Views.{Mine, SitsAt}
 use Rattle.bw_tree.specs.Runs.{StartsWith}
 use Rattle.bw_tree.specs.Seats.{IsSame, Seat}
 use Rattle.bw_tree.specs.Trees.{Tree}

@@ -13,6 +13,7 @@ mod law;
 mod laws;
 mod note;
 mod opening;
+mod reading;
 mod seat;
 mod taking;
 mod tree;

@@ -8,6 +8,7 @@ use crate::tree::Tree;
 use actors::{Actor, idle_actors_rest};
 use atomic_table::Table;
 use bw_model::{Limits, OpenError};
+use row_chain::HeldRow;
 use slot_rule::{opening_keeps, part};
 use std::alloc::{AllocError, Allocator};
 use std::mem::replace;
@@ -64,6 +65,7 @@ impl<A: Allocator + Copy> Tree<A> {
                 limits,
                 number,
                 actor,
+                room: HeldRow::<A>::new(alloc)?,
             })?;
         }
         Ok((Tree { limits, table }, seats))

@@ -9,18 +9,20 @@ use crate::called::Called;
 use crate::law::{TreeWords, laws_of_runs, runs_are_one_history};
 use crate::taking::take;
 use actors::Actor;
-use bw_model::{Answer, Command, Limits, Reply, Step};
+use bw_model::{Command, Limits, Reply, Step};
+use row_chain::HeldRow;
 use slot_rule::{TableSeat, act};
 use std::alloc::{Allocator, Global};
 use std::marker::Model;
 
-/// A seat of a tree: one actor, and the thread that has the seat is the actor.
+/// A seat of a tree: one actor, and the thread that has the seat is the actor. It has room for the row that is read.
 #[derive(Drop)]
 pub struct BwSeat<A: Allocator = Global> {
     pub(crate) place: TableSeat,
     pub(crate) limits: Limits,
     pub(crate) number: u8,
     pub(crate) actor: Actor<A>,
+    pub(crate) room: HeldRow<A>,
 }
 
 impl<A: Allocator> Model for BwSeat<A> {
@@ -60,19 +62,16 @@ impl<A: Allocator> BwSeat<A> {
     {
         laws_of_runs();
         self.actor.begin(command, self.number, &self.limits);
-        let Some(first) = self.actor.wanted() else {
-            unreachable!()
-        };
-        let answer = act(
+        let told = act(
             words,
             &mut self.place,
             &self.limits,
             self.number,
-            first,
+            &self.actor.wanted(),
             self.actor.command(),
             None,
         );
-        self.actor.take(&answer);
+        self.actor.go_on(told);
     }
 
     /// Goes on with its operation for so many steps, or to its end.
@@ -100,7 +99,7 @@ impl<A: Allocator> BwSeat<A> {
         laws_of_runs();
         if self.actor.is_leaving() {
             // A leave answers nothing, so the reply is asked for before the store that ends the operation.
-            let reply = self.actor.take(&Answer::Done);
+            let reply = self.actor.leave();
             act(
                 words,
                 &mut self.place,
@@ -108,15 +107,22 @@ impl<A: Allocator> BwSeat<A> {
                 self.number,
                 &Step::Leave,
                 None,
-                reply.as_ref(),
+                Some(&reply),
             );
-            return reply;
+            return Some(reply);
         }
-        let Some(wanted) = self.actor.wanted() else {
-            unreachable!()
-        };
-        let answer = take(words, &mut self.place, &self.limits, self.number, wanted);
-        self.actor.go_on(&answer);
+        let told = take(
+            words,
+            &mut self.place,
+            &self.limits,
+            self.number,
+            &self.actor.wanted(),
+            &mut self.room,
+        );
+        match told {
+            None => self.actor.take_row(&mut self.room),
+            Some(told) => self.actor.go_on(told),
+        }
         None
     }
 }

@@ -1,5 +1,6 @@
 //! Records that rows and entries own together, and the steps, answers and entries that hold them.
 ghost use Rattle.std.specs.Prelude.{◌≡◌, IfOk, OnErr};
+ghost use Rattle.bw_model.specs.Lent.{lent};
 ghost use Rattle.chain_search.specs.Steps.{MovesRecord};
 ghost use Rattle.chain_search.specs.declared.trace.Entry.TheVariants as entry;
 
@@ -140,13 +141,13 @@ pub fn step_of<A: Allocator>(step: &Step<SharedRecord<A>>) -> Step<Record>
     }
 }
 
-/// The step with a record that may be shared; refused for want of memory alone.
+/// The step with a record of its own that may be shared; refused for want of memory alone.
 pub fn shared_step<A: Allocator>(
     alloc: A,
-    step: &Step<Record>,
+    step: &Step<&Record>,
 ) -> Result<Step<SharedRecord<A>>, AllocError>
-    ensures ok { IfOk result (λ shared. shared ≡ step.now) }
-    ensures err { OnErr result (MovesRecord step.now) }
+    ensures ok { IfOk result (λ shared. shared ≡ lent step.now) }
+    ensures err { OnErr result (MovesRecord (lent step.now)) }
 {
     Ok(match step {
         Step::Slot(pid) => Step::Slot(*pid),

@@ -1,10 +1,11 @@
-//! Each growth of memory refused in turn, by heaps that are too small: want of memory is answered, nothing is changed, and the
+//! Each growth of memory refused in turn, by an allocator that refuses it or by heaps that are too small: want of memory is answered, nothing is changed, and the
 //! same call made again is answered as if there had been no refusal.
 
 use crate::numbered;
 use bw_model::{Command, Key, Limits, OpenError, Value};
 use chain_search::Turn;
 use linked_list_allocator::LocalHeap;
+use refusing::Refusing;
 use std::alloc::{AllocError, Allocator, Global};
 use std::test::Fail;
 use step_core::{Core, Event, RunError, run};
@@ -14,9 +15,6 @@ const STEP: usize = 16;
 
 /// Before which of the turns below memory is wanted: where the trace has to grow, and for each record that is placed, at 8 and 20.
 const WANTS: [u64; 5] = [0, 4, 8, 16, 20];
-
-/// Before which of them heaps of all sizes lack memory: the record at 20 has room where the trace was before it grew at 16.
-const LACKS: [u64; 4] = [0, 4, 8, 16];
 
 fn insert(key: Key, value: Value) -> Turn {
     Turn::Begin(0, Command::Insert(key, value))
@@ -34,19 +32,20 @@ fn updates(alloc: Global) -> Result<Vec<Turn>, AllocError> {
     Ok(turns)
 }
 
-/// Why no core opens on a heap of this size.
-fn open_error(alloc: Global, limits: Limits, size: usize) -> Result<Option<OpenError>, AllocError> {
-    let heap = LocalHeap::new(alloc, size)?;
-    Ok(Core::<&LocalHeap>::open(&heap, limits).err())
+/// Why no core opens where a growth is refused.
+fn open_error(heap: &Refusing<Global>, limits: Limits, growth: u64) -> Option<OpenError> {
+    heap.set(growth);
+    Core::<&Refusing<Global>>::open(heap, limits).err()
 }
 
-/// Whether each heap that is too small is refused for want of memory, up to one that is large enough.
+/// Whether each growth that is refused is told as want of memory, one at least, up to where there is none more.
 fn opens_at_last(alloc: Global, limits: Limits) -> bool {
-    for step in 1..100_000usize {
-        match open_error(alloc, limits, STEP * step) {
-            Ok(None) => return true,
-            Ok(Some(OpenError::Memory)) => {}
-            _ => return false,
+    let heap = Refusing::new(alloc);
+    for growth in 0..1_000u64 {
+        match open_error(&heap, limits, growth) {
+            None => return growth > 0,
+            Some(OpenError::Memory) => {}
+            Some(_) => return false,
         }
     }
     false
@@ -59,25 +58,24 @@ fn open_wants_memory(rt: HostRuntime) -> Result<(), Fail> {
     Ok(())
 }
 
-/// Why the turns are not taken on a heap of this size.
+/// Why the turns are not taken where a growth is refused.
 fn run_error(
-    alloc: Global,
+    heap: &Refusing<Global>,
     limits: Limits,
     turns: &[Turn],
-    size: usize,
-) -> Result<Option<RunError>, AllocError> {
-    let heap = LocalHeap::new(alloc, size)?;
-    Ok(run::<&LocalHeap>(&heap, limits, turns).err())
+    growth: u64,
+) -> Option<RunError> {
+    heap.set(growth);
+    run::<&Refusing<Global>>(heap, limits, turns).err()
 }
 
-/// Whether larger and larger heaps lack memory at these turns, one after another, and at last at none.
+/// Whether memory is lacking before these turns, one after another, as one growth after another is refused, and at last before none.
 fn lacks(alloc: Global, limits: Limits, turns: &[Turn]) -> bool {
-    let mut lacks = LACKS.as_slice().iter();
+    let heap = Refusing::new(alloc);
+    let mut lacks = WANTS.as_slice().iter();
     let mut last = None;
-    for step in 1..10_000usize {
-        let Ok(error) = run_error(alloc, limits, turns, STEP * step) else {
-            return false;
-        };
+    for growth in 0..1_000u64 {
+        let error = run_error(&heap, limits, turns, growth);
         if error != last && error != lacks.next().map(|turn| RunError::Memory(*turn)) {
             return false;
         }

@@ -41,7 +41,7 @@ pub record WereRefused (limits : Limits) (jobs : List Job) (why : JobsRefusal) :
 
 -- how the program tells why jobs were refused
 abbrev pub told_as : JobsRefusal → Refusal
-told_as jobs.Memory = refusal.NotRun
+told_as jobs.NotRun = refusal.NotRun
 told_as jobs.Results = refusal.WrongResults
 
 -- What is printed for results, and for closing the tree with its seats: its pairs, or that it was refused.

@@ -50,7 +50,7 @@ fn refusal_of(why: JobsRefusal) -> Refusal
     ensures { result ≡ told_as why }
 {
     match why {
-        JobsRefusal::Memory => Refusal::NotRun,
+        JobsRefusal::NotRun => Refusal::NotRun,
         JobsRefusal::Results => Refusal::WrongResults,
     }
 }

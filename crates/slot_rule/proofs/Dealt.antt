@@ -1,5 +1,5 @@
 -- The opening words with a view of all actors keep the rule.
-use Rattle.std.proofs.Common.{◌≡◌, ℕ, zero, suc, ◌+◌, ◌<◌, ◌≤◌, Bool, true, false, eqb, List, [], ◌∷◌, sym, refl, ap, subst, arith, ne_eqb}
+use Rattle.std.proofs.Common.{◌≡◌, ◌≢◌, ℕ, zero, suc, ◌+◌, ◌<◌, ◌≤◌, Bool, true, false, eqb, List, [], ◌∷◌, sym, refl, ap, subst, arith, eq-eqb, ne_eqb}
 use Rattle.std.specs.Prelude.{if◌then◌else◌, Some, None}
 use Rattle.std.specs.List.Sorted.{IsStrictlySortedBy}
 use Rattle.std.proofs.lemmas.Bool.{eqb-true}
@@ -42,6 +42,9 @@ empty_is_spellable = record {
 empty_is_spelt : HasSpelling (Base empty_leaf)
 empty_is_spelt = record { spellable = empty_is_spellable; short = (record { short = omega arith; bytes_fit = tt }, tt, All-nil _); are = refl }
 
+at_least : (first actor : ℕ) → first ≤ actor → first ≢ actor → suc first ≤ actor
+at_least first actor from ne = omega (arith, from, ne)
+
 module _ (limits : Limits) where
   dealt_above : (actor first n : ℕ) → actor < first → times actor (dealt_from limits first n) ≡ 0
   dealt_above actor first zero above = refl
@@ -54,6 +57,12 @@ module _ (limits : Limits) where
   dealt_once actor first (suc n) = dite (ℕ_discrete first actor)
       (λ e. let rest = dealt_above actor (suc first) n (omega arith) in let one = mark_most (eqb first actor) in omega arith)
       (λ ne. let rest = dealt_once actor (suc first) n in let none : mark (eqb first actor) ≡ 0 = ap mark (ne_eqb first actor ne) in omega arith)
+
+  dealt_all : (actor first n : ℕ) → first ≤ actor → actor < first + n → 1 ≤ times actor (dealt_from limits first n)
+  dealt_all actor first zero from below = absurd (omega arith)
+  dealt_all actor first (suc n) from below = dite (ℕ_discrete first actor)
+      (λ e. let one : mark (eqb first actor) ≡ 1 = ap mark (eq-eqb first actor e) in omega arith)
+      (λ ne. let rest = dealt_all actor (suc first) n (at_least first actor from ne) (omega arith) in omega arith)
 
   dealt_fits : (words : List ℕ) (first n : ℕ) → first + n ≤ limits.actors → Each (PartFits limits words []) (dealt_from limits first n)
   dealt_fits words first zero below = tt
@@ -73,7 +82,9 @@ module _ (limits : Limits) where
     wide = are.wide;
     spells = spells_views limits words (memory_opening limits) (λ _. Unit {0}) (IsSettled (dealt limits ∷ [])) (λ row _. tt) are.spells;
     kept = opening_kept;
+    begins = tt;
     once = λ actor. let o = dealt_once actor 0 limits.actors in omega arith;
+    somewhere = λ actor below. let o = dealt_all actor 0 limits.actors (omega arith) (omega (arith, below)) in omega arith;
     each = only;
   } where
     only : (id : ℕ) (view : List Part) → get_elem? (dealt limits ∷ []) id ≡ some view → Each (PartFits limits words []) view

@@ -88,7 +88,7 @@ module _ (limits : Limits) (law : Limits → List Entry → Type 0) (apart : Kee
                 reads = λ other row' ne may. refl;
                 writes = λ other row' ne may _ j small. others_row s h there (length written + 1) x other row' j (omega arith) ne may small;
               }
-              (extends_now s h there) h.kept
+              (extends_now s h there) h.kept h.begins
               (write_fits limits (set s.words at x) h.run actor row (written ++ x ∷ []) now within (omega arith) (stand_with s.words x (omega arith) (fits_write limits s.words h.run actor row written now_fits.reach)))
               (spells_row limits s.words (memory_of limits h.run) (memory_of limits h.run) (IsSettled s.views) (IsSettled (set s.views id view)) h.spells row (length written + 1) x (omega arith) refl
               (λ other j below small st. other_row s h there at (length written + 1) x other j view refl (omega arith) below small (left_by_writer other row written x (st id view stands).0) st)),

@@ -101,7 +101,7 @@ module _ (limits : Limits) (law : Limits → List Entry → Type 0) (apart : Kee
           view,
           keeps,
           tt,
-          turn limits law s h id actor (seen_of me) (in_row row read) (stands_in_row row read) there me.1 at n h.run (seen_of me) (in_row row (read ++ n ∷ [])) (stands_in_row row (read ++ n ∷ [])) h.legal (spares_quiet actor at s.words h.run) (extends_now s h there) h.kept
+          turn limits law s h id actor (seen_of me) (in_row row read) (stands_in_row row read) there me.1 at n h.run (seen_of me) (in_row row (read ++ n ∷ [])) (stands_in_row row (read ++ n ∷ [])) h.legal (spares_quiet actor at s.words h.run) (extends_now s h there) h.kept h.begins
               (read_fits limits (set s.words at n) h.run actor row (read ++ n ∷ []) now next) (spells_still s h there view),
           λ limits' actor' row' read' is' word.
               (at_each limits (λ l b q us. SitsAt l b (in_row q (us ++ n ∷ [])) (view, me.1)) actor row read in_row done_in_row me is (ap (λ (c : List (ℕ × Unit {0})). (view, c)) (ap (λ (z : Mine). z.1) is)) 0 limits' actor' row' read' is' (omega arith), refl),

@@ -26,7 +26,7 @@ use Rattle.tree_words.specs.Words.{SpellsWhere}
 use Rattle.slot_rule.specs.declared.view.Reach.{Reach}
 use Rattle.slot_rule.specs.declared.view.Reach.TheVariants.{Idle, Reading, Writing, Noted}
 use Rattle.slot_rule.specs.declared.view.Part.{Part}
-use Rattle.slot_rule.specs.Running.{Each, ExtendsFor, LeavesRow, IsSettled, StartsWith, is_at, times, everywhere}
+use Rattle.slot_rule.specs.Running.{Each, ExtendsFor, LeavesRow, IsSettled, StartsWith, GoesOnWithStep, BeginWithSteps, is_at, times, everywhere}
 use Rattle.slot_rule.specs.Steps.{opened, with_step}
 use Rattle.slot_rule.specs.Views.{alone}
 
@@ -156,6 +156,21 @@ others_events actor other begun step answer reply ne =
 
 pub with_events : (run : List Entry) (actor : ℕ) (begun : Option Command) (step : StepOf Record) (answer : Answer Record) (reply : Option Reply) → with_step run actor begun step answer reply ≡ run ++ events actor begun step answer reply
 with_events run actor begun step answer reply = append_assoc run (opened actor begun) (Step actor step answer reply ∷ [])
+
+-- More entries, which begin with steps too, leave each begin with its step.
+goes_on_with : (actor : ℕ) (run more : List Entry) → GoesOnWithStep actor run → GoesOnWithStep actor (run ++ more)
+goes_on_with actor [] more goes = absurd goes
+goes_on_with actor (Begin other command ∷ rest) more goes = absurd goes
+goes_on_with actor (Step other step answer reply ∷ rest) more goes = goes
+
+pub begins_on : (run more : List Entry) → BeginWithSteps run → BeginWithSteps more → BeginWithSteps (run ++ more)
+begins_on [] more begins rest = rest
+begins_on (Begin actor command ∷ run) more begins rest = (goes_on_with actor run more begins.0, begins_on run more begins.1 rest)
+begins_on (Step actor step answer reply ∷ run) more begins rest = begins_on run more begins rest
+
+pub begins_events : (actor : ℕ) (begun : Option Command) (step : StepOf Record) (answer : Answer Record) (reply : Option Reply) → BeginWithSteps (events actor begun step answer reply)
+begins_events actor None step answer reply = tt
+begins_events actor (Some command) step answer reply = (refl, tt)
 
 memory_push : (limits : Limits) (run : List Entry) (entry : Entry) → memory_of limits (run ++ entry ∷ []) ≡ memory_after_entry (memory_of limits run) entry
 memory_push limits run entry = fold-append _ _ run (entry ∷ [])

@@ -73,7 +73,9 @@ module _ (limits : Limits) (law : List Entry → Type 0) where
         (λ r st j u there. dite (ℕ_discrete j id)
         (λ e. subst (λ z. Each (λ p. LeavesRow r p.reach) z) (same_view s.views id j v u at there e) (leaves_refreshed r h.run v (st id w (set_at s.views id v w at))))
         (λ ne. st j u (set_else s.views id j w ne ∙ there))) h.spells;
+    begins = h.begins;
     once = λ a. let t = everywhere_set s.views id v w a at in let o = h.once a in let same = times_refreshed a h.run v in omega arith;
+    somewhere = λ a below. let t = everywhere_set s.views id v w a at in let o = h.somewhere a below in let same = times_refreshed a h.run v in omega arith;
     each = λ j u there. ⊎_elim
         (λ t. subst (λ z. Each (Fits s.words h.run) z) t.1 (fits_refreshed s.words h.run v (h.each id v at)))
         (λ t. h.each j u t.1)
@@ -106,7 +108,9 @@ module _ (limits : Limits) (law : List Entry → Type 0) where
             (λ nid. dite (ℕ_discrete j other)
             (λ e. subst (λ z. Each (λ p. LeavesRow r p.reach) z) (same_view s.views other j w u there' is e) (each_right (λ p. LeavesRow r p.reach) v w both))
             (λ nother. st j u (set_else first other j [] nother ∙ set_else s.views id j (v ++ w) nid ∙ is)))) h.spells;
+        begins = h.begins;
         once = λ a. let t = everywhere_set s.views id v (v ++ w) a at in let u = everywhere_set first other w [] a there in let o = h.once a in let sum = times_append a v w in omega arith;
+        somewhere = λ a below. let t = everywhere_set s.views id v (v ++ w) a at in let u = everywhere_set first other w [] a there in let o = h.somewhere a below in let sum = times_append a v w in omega arith;
         each = λ j u is. ⊎_elim
             (λ t. subst (λ z. Each (Fits s.words h.run) z) t.1 tt)
             (λ t. ⊎_elim
@@ -131,7 +135,10 @@ module _ (limits : Limits) (law : List Entry → Type 0) where
             (λ r st j u is. dite (ℕ_discrete j id)
             (λ e. subst (λ z. Each (λ p. LeavesRow r p.reach) z) (sym cut ∙ same_view s.views id j v u at is e) (each_append (λ p. LeavesRow r p.reach) left right (st id left here) (st (length first) right there)))
             (λ ne. st j u (at_longer first (right ∷ []) j u (set_else s.views id j left ne ∙ is)))) h.spells;
+        begins = h.begins;
         once = λ a. let t = everywhere_set s.views id v left a at in let u = everywhere_snoc first right a in let o = h.once a in let sum = times_append a left right in
+            let whole : times a v ≡ times a (left ++ right) = ap (times a) cut in omega arith;
+        somewhere = λ a below. let t = everywhere_set s.views id v left a at in let u = everywhere_snoc first right a in let o = h.somewhere a below in let sum = times_append a left right in
             let whole : times a v ≡ times a (left ++ right) = ap (times a) cut in omega arith;
         each = λ j u is. ⊎_elim
             (λ t. ⊎_elim
@@ -169,7 +176,9 @@ module _ (limits : Limits) (law : List Entry → Type 0) where
             (λ r st j u is. dite (ℕ_discrete j id)
             (λ e. subst (λ z. Each (λ p. LeavesRow r p.reach) z) (same_view s.views id j v u at is e) (st id v here))
             (λ ne. st j u (at_longer first (noted v ∷ []) j u (set_else s.views id j v ne ∙ is)))) h.spells;
+        begins = h.begins;
         once = λ a. let t = everywhere_set s.views id v v a at in let u = everywhere_snoc first (noted v) a in let o = h.once a in let none = note_times a v in omega arith;
+        somewhere = λ a below. let t = everywhere_set s.views id v v a at in let u = everywhere_snoc first (noted v) a in let o = h.somewhere a below in let none = note_times a v in omega arith;
         each = λ j u is. ⊎_elim
             (λ t. ⊎_elim
             (λ y. subst (λ z. Each (Fits s.words h.run) z) y.1 (h.each id v at))
@@ -189,7 +198,9 @@ module _ (limits : Limits) (law : List Entry → Type 0) where
       kept = h.kept;
       wide = h.wide;
       spells = with_views limits s.words s.views (s.views ++ [] ∷ []) (memory_of limits h.run) (λ r st j u is. st j u (at_longer s.views ([] ∷ []) j u is)) h.spells;
+      begins = h.begins;
       once = λ a. let t = everywhere_snoc s.views [] a in let o = h.once a in omega arith;
+      somewhere = λ a below. let t = everywhere_snoc s.views [] a in let o = h.somewhere a below in omega arith;
       each = λ j u is. ⊎_elim (λ t. h.each j u t) (λ e. subst (λ z. Each (PartFits limits s.words h.run) z) e tt) (at_snoc s.views [] u j is);
     },
     refl,

@@ -21,10 +21,10 @@ use Rattle.tree_words.specs.Words.{words_in, SpellsWhere}
 use Rattle.slot_rule.specs.declared.view.Reach.{Reach}
 use Rattle.slot_rule.specs.declared.view.Reach.TheVariants.{Idle, Reading, Writing, Noted}
 use Rattle.slot_rule.specs.declared.view.Part.{Part}
-use Rattle.slot_rule.specs.Running.{Each, ExtendsFor, StartsWith, KnowsReadable, KnowsPlaceable, IsSettled, IsSpelledRow, ReachFits, PartFits, Running}
+use Rattle.slot_rule.specs.Running.{Each, ExtendsFor, StartsWith, KnowsReadable, KnowsPlaceable, IsSettled, IsSpelledRow, ReachFits, PartFits, BeginWithSteps, everywhere, Running}
 use Rattle.slot_rule.specs.Views.{Mine, part, alone, seen_of, SitsAt}
 use Rattle.slot_rule.specs.Steps.{with_step, IsLawfulStep, Took, Event}
-use Rattle.slot_rule.proofs.Parts.{IsApart, Stands, apart_ne, each_zip, extends_goes, extends_self, extends_on, goes_extends, knows_on, events, others_events, with_events, memory_stepped, starts_on, times_alone, times_of_one, everywhere_set, elsewhere}
+use Rattle.slot_rule.proofs.Parts.{IsApart, Stands, apart_ne, each_zip, extends_goes, extends_self, extends_on, goes_extends, knows_on, events, others_events, with_events, memory_stepped, starts_on, times_alone, times_of_one, everywhere_set, elsewhere, begins_on, begins_events}
 
 abbrev pub TableState : Type 0
 TableState = State (Unit {0}) (List Part)
@@ -81,22 +81,26 @@ module _ (limits : Limits) (law : Limits → List Entry → Type 0) where
   pub turn : (s : TableState) (h : Rule s) (id actor : ℕ) (seen : List Entry) (reach : Reach) → Stands reach → get_elem? s.views id ≡ some (alone limits actor seen reach)
       → (carried : List (ℕ × Unit {0})) (i x : ℕ) (run' seen' : List Entry) (reach' : Reach) → Stands reach' → law limits run' → Spares actor s.words (set s.words i x) h.run run' → Extends actor seen' run'
       → ((row : ℕ) (content : Record) → (memory_of limits run').rows row ≡ Some content → IsSpelledRow limits row content)
-      → ReachFits limits (set s.words i x) run' actor reach' → SpellsWhere limits (set s.words i x) (memory_of limits run') (IsSettled (set s.views id (alone limits actor seen' reach')))
+      → BeginWithSteps run' → ReachFits limits (set s.words i x) run' actor reach' → SpellsWhere limits (set s.words i x) (memory_of limits run') (IsSettled (set s.views id (alone limits actor seen' reach')))
       → Rule (stepped s i x id carried (alone limits actor seen' reach') keeps)
-  turn s h id actor seen reach stands at carried i x run' seen' reach' stands' legal spares extends kept fits spells = let one = times_alone limits actor seen reach stands in let mine = h.each id (alone limits actor seen reach) at in record {
+  turn s h id actor seen reach stands at carried i x run' seen' reach' stands' legal spares extends kept begins fits spells = let one = times_alone limits actor seen reach stands in let mine = h.each id (alone limits actor seen reach) at in record {
     run = run';
     legal = legal;
     wide = length-set s.words i x ∙ h.wide;
     spells = spells;
     kept = kept;
-    once = λ b. let t = everywhere_set s.views id (alone limits actor seen reach) (alone limits actor seen' reach') b at in let o = h.once b in
-        let before = times_of_one limits b actor seen reach stands in let after = times_of_one limits b actor seen' reach' stands' in omega arith;
+    begins = begins;
+    once = λ b. let same = moved b in let o = h.once b in omega arith;
+    somewhere = λ b below. let same = moved b in let o = h.somewhere b below in omega arith;
     each = λ j view here. ⊎_elim
         (λ t. subst (λ u. Each (PartFits limits (set s.words i x) run') u) t.1 (record { extends = extends_goes reach' actor seen' run' extends; reach = fits; there = mine.0.there; own_limits = mine.0.own_limits }, tt))
         (λ t. each_zip (λ p. IsApart actor p.actor p.reach) (PartFits limits s.words h.run) (PartFits limits (set s.words i x) run') (part_spared actor s.words (set s.words i x) h.run run' spares)
         view (elsewhere s.views id j (alone limits actor seen reach) view actor h.once at (omega arith) t.1 t.0) (h.each j view t.1))
         (at_set s.views id j (alone limits actor seen' reach') view here);
-  }
+  } where
+    moved : (b : ℕ) → everywhere b (set s.views id (alone limits actor seen' reach')) ≡ everywhere b s.views
+    moved b = let t = everywhere_set s.views id (alone limits actor seen reach) (alone limits actor seen' reach') b at in
+        let before = times_of_one limits b actor seen reach stands in let after = times_of_one limits b actor seen' reach' stands' in omega arith
 
   -- what has to be shown of a step at one state
   pub record Ready (s : TableState) (h : Rule s) (id actor i x : ℕ) (begun : Option Command) (step : StepOf Record) (answer : Answer Record) (reply : Option Reply) : Type 0 where
@@ -137,7 +141,8 @@ module _ (limits : Limits) (law : Limits → List Entry → Type 0) where
         keeps,
         tt,
         turn s h id actor (seen_of me) reach stands at' me.1 i (f (get_or s.words i 0)) later later Idle tt legal spares (extends_self actor later)
-            (subst (λ m. (row : ℕ) (content : Record) → m.rows row ≡ Some content → IsSpelledRow limits row content) (sym after) r.kept) tt
+            (subst (λ m. (row : ℕ) (content : Record) → m.rows row ≡ Some content → IsSpelledRow limits row content) (sym after) r.kept)
+            (subst BeginWithSteps (sym grown) (begins_on h.run more h.begins (begins_events actor begun step answer reply))) tt
             (subst (λ m. SpellsWhere limits (set s.words i (f (get_or s.words i 0))) m (IsSettled (set s.views id (alone limits actor later Idle)))) (sym after) (r.spells _ refl)),
         t.2 (alone limits actor later Idle, me.1) (ap (λ (c : List (ℕ × Unit {0})). (alone limits actor later Idle, c)) (ap (λ (z : Mine). z.1) is))
             record { run = h.run; legal = h.legal; extends = extends; answered = r.answered; grown = refl; kept = legal },

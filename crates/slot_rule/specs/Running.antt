@@ -6,6 +6,7 @@ use Rattle.atomic_table.specs.Table.{State}
 use Rattle.bw_model.specs.declared.limits.Limits.{Limits}
 use Rattle.deltas.specs.declared.record.Record.{Record}
 use Rattle.chain_search.specs.declared.trace.Entry.{Entry}
+use Rattle.chain_search.specs.declared.trace.Entry.TheVariants.{Begin, Step}
 use Rattle.chain_search.specs.Discipline.{IsOwn, IsUnset}
 use Rattle.chain_search.specs.Disciplined.{Extends}
 use Rattle.chain_search.specs.Knowledge.{Knowledge, knows}
@@ -100,13 +101,28 @@ pub record PartFits (limits : Limits) (words : List ℕ) (run : List Entry) (par
   pub there : part.actor < limits.actors
   pub own_limits : part.limits ≡ limits
 
+-- The next entry is a step of the actor's.
+abbrev pub GoesOnWithStep : ℕ → List Entry → Type 0
+GoesOnWithStep actor [] = ⊥
+GoesOnWithStep actor (Begin other command ∷ rest) = ⊥
+GoesOnWithStep actor (Step other step answer reply ∷ rest) = other ≡ actor
+
+-- Each begin stands directly before its operation's first step.
+abbrev pub BeginWithSteps : List Entry → Type 0
+BeginWithSteps [] = ⊤
+BeginWithSteps (Begin actor command ∷ rest) = GoesOnWithStep actor rest × BeginWithSteps rest
+BeginWithSteps (Step actor step answer reply ∷ rest) = BeginWithSteps rest
+
 -- There is a longest run, which has the law, and which goes on from what each seat has seen. The words are those of the memory after it,
--- but for rows into which a seat is in the midst of placing a record. No actor stands in two seats; of notes there may be any number.
+-- but for rows into which a seat is in the midst of placing a record. Each actor stands in exactly one seat, so the longest run is one
+-- that a seat has seen; of notes there may be any number.
 pub record Running (limits : Limits) (law : List Entry → Type 0) (s : State (Unit {0}) (List Part)) : Type 0 where
   pub run : List Entry
   pub legal : law run
   pub wide : length s.words ≡ width limits
   pub spells : SpellsWhere limits s.words (memory_of limits run) (IsSettled s.views)
   pub kept : (row : ℕ) (content : Record) → (memory_of limits run).rows row ≡ Some content → IsSpelledRow limits row content
+  pub begins : BeginWithSteps run
   pub once : (actor : ℕ) → everywhere actor s.views ≤ 1
+  pub somewhere : (actor : ℕ) → actor < limits.actors → 1 ≤ everywhere actor s.views
   pub each : (id : ℕ) (view : List Part) → get_elem? s.views id ≡ some view → Each (PartFits limits s.words run) view

@@ -18,14 +18,15 @@ use record_slots::rows_have_256_words;
 use std::marker::Brand;
 use tree_words::row_place;
 
-/// Reads a row that the seat's actor has learnt, by 256 loads. The last one is the step.
+/// Reads a row that the seat's actor has learnt, by 256 loads, into the place where its words are to lie. The last load is the step.
 pub fn read_row<P: Law>(
     words: &Words<P>,
     seat: &mut TableSeat,
     limits: &Limits,
     actor: u8,
     row: u16,
-) -> [u64; 256]
+    found: &mut [u64; 256],
+)
     requires law { KeepsRowsApart limits.now (P.law limits.now) }
     requires table { IsOf limits.now words.now.key words.now.table_id seat.old.table_id }
     requires range { row < limits.now.rows }
@@ -34,10 +35,9 @@ pub fn read_row<P: Law>(
     requires may { IsLawfulStep P.law limits.now actor (seen_of seat.old.me) None (Row row) None }
     ensures same { seat.new.table_id ≡ seat.old.table_id }
     ensures seat { SitsAt limits.now actor Idle seat.new.me }
-    ensures took { ReadsRow P.law limits.now actor (seen_of seat.old.me) row result (seen_of seat.new.me) }
+    ensures took { ReadsRow P.law limits.now actor (seen_of seat.old.me) row found.new (seen_of seat.new.me) }
 {
     rows_have_256_words();
-    let mut found = [0; 256];
     let base = row_place(row);
     let mut i = 0;
     while i < 255 {
@@ -45,7 +45,6 @@ pub fn read_row<P: Law>(
         i += 1;
     }
     found[255] = words.load::<Finishing<P>>(seat, base + 255);
-    found
 }
 
 /// Places a record into a row of the seat's own actor, by 256 stores. The last one, of the header, is the step.

@@ -1,5 +1,7 @@
 //! The steps that are one atomic operation on a word.
 ghost use Rattle.std.specs.Prelude.{◌≡◌, ◌<◌, ℕ, option_copied};
+ghost use Rattle.bw_model.specs.Answers.{answer_of};
+ghost use Rattle.bw_model.specs.Lent.{lent};
 ghost use Rattle.slot_rule.specs.declared.view.Reach.TheVariants.{Idle};
 ghost use Rattle.slot_rule.specs.Steps.{IsLawfulStep, Took};
 ghost use Rattle.slot_rule.specs.Views.{SitsAt, IsOf, seen_of};
@@ -7,7 +9,7 @@ ghost use Rattle.tree_words.specs.Changes.{HasWord, SetsBits, TellsNothing, chan
 
 use crate::plays::{Acting, Telling};
 use crate::rule::{Law, TableSeat, Words};
-use bw_model::{Answer, Command, Limits, Reply, Step};
+use bw_model::{Command, Limits, Reply, Step, Told};
 use deltas::Record;
 use std::marker::Brand;
 use tree_words::{Operation, made_by, steps_change_one_word, told_by, word_place};
@@ -19,18 +21,18 @@ pub fn act<P: Law>(
     seat: &mut TableSeat,
     limits: &Limits,
     actor: u8,
-    step: &Step<Record>,
+    step: &Step<&Record>,
     begun: Option<&Command>,
     reply: Option<&Reply>,
-) -> Answer<Record>
+) -> Told
     requires table { IsOf limits.now words.now.key words.now.table_id seat.old.table_id }
-    requires range { HasWord step.now }
+    requires range { HasWord (lent step.now) }
     requires actor { actor < 16 }
     requires seat { SitsAt limits.now actor Idle seat.old.me }
-    requires may { IsLawfulStep P.law limits.now actor (seen_of seat.old.me) (option_copied begun) step.now (option_copied reply) }
+    requires may { IsLawfulStep P.law limits.now actor (seen_of seat.old.me) (option_copied begun) (lent step.now) (option_copied reply) }
     ensures same { seat.new.table_id ≡ seat.old.table_id }
     ensures seat { SitsAt limits.now actor Idle seat.new.me }
-    ensures took { Took P.law limits.now actor (seen_of seat.old.me) (option_copied begun.entry) step.now result (option_copied reply.entry) (seen_of seat.new.me) }
+    ensures took { Took P.law limits.now actor (seen_of seat.old.me) (option_copied begun.entry) (lent step.now) (answer_of result) (option_copied reply.entry) (seen_of seat.new.me) }
 {
     act_told::<P, Brand>(words, seat, limits, actor, step, begun, reply)
 }
@@ -41,21 +43,21 @@ fn act_told<P: Law, C: Telling>(
     seat: &mut TableSeat,
     limits: &Limits,
     actor: u8,
-    step: &Step<Record>,
+    step: &Step<&Record>,
     begun: Option<&Command>,
     reply: Option<&Reply>,
-) -> Answer<Record>
-    requires told { step.now ≡ C.step }
+) -> Told
+    requires told { lent step.now ≡ C.step }
     requires begun { option_copied begun ≡ C.begun }
     requires reply { option_copied reply ≡ C.reply }
     requires table { IsOf limits.now words.now.key words.now.table_id seat.old.table_id }
-    requires range { HasWord step.now }
+    requires range { HasWord (lent step.now) }
     requires actor { actor < 16 }
     requires seat { SitsAt limits.now actor Idle seat.old.me }
-    requires may { IsLawfulStep P.law limits.now actor (seen_of seat.old.me) C.begun step.now C.reply }
+    requires may { IsLawfulStep P.law limits.now actor (seen_of seat.old.me) C.begun (lent step.now) C.reply }
     ensures same { seat.new.table_id ≡ seat.old.table_id }
     ensures seat { SitsAt limits.now actor Idle seat.new.me }
-    ensures took { Took P.law limits.now actor (seen_of seat.old.me) C.begun step.now result C.reply (seen_of seat.new.me) }
+    ensures took { Took P.law limits.now actor (seen_of seat.old.me) C.begun (lent step.now) (answer_of result) C.reply (seen_of seat.new.me) }
 {
     let _ = begun;
     let _ = reply;

@@ -17,7 +17,7 @@ use Rattle.op_machine.specs.Hands.{Hand}
 use Rattle.tree_law.specs.Own.{RowsAreApart}
 use Rattle.tree_law.specs.State.{IsState}
 use Rattle.tree_law.specs.TraceLaws.{AnswersFit, HeadsStand}
-use Rattle.actors.specs.declared.actor.Running.{Running}
+use Rattle.actors.specs.Running.{Running}
 use Rattle.actors.specs.Actors.{IsActorWith, IsRunning, wanted_by}
 use Rattle.step_core.specs.Actors.{IsServed, IsServedAt, IsWithinAt}
 

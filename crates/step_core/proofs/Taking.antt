@@ -2,7 +2,7 @@
 use Rattle.std.proofs.Common.{◌≡◌, ℕ, List, Bool, Option, Some, None, cond, is_some, true, false, inl, inr, sym, ap, ◌∙◌, subst, refl}
 use Rattle.std.specs.Str.{bytes_eq}
 use Rattle.std.proofs.lemmas.Option.{same_Some}
-use Rattle.actors.specs.declared.actor.Running.{Running}
+use Rattle.actors.specs.Running.{Running}
 use Rattle.actors.specs.Actors.{Actor, GoesOn, IsActor, IsActorWith, IsGoing, command_at, running_command, wanted_by}
 use Rattle.bw_model.specs.declared.command.Command.{Command}
 use Rattle.bw_model.specs.declared.command.Command.TheVariants.{Get, Insert, Upsert, Delete, Swap, Page, Tidy}
@@ -96,3 +96,9 @@ module _ (limits : Limits) (number : ℕ) (k : Knowledge) (r : Recalled) (memory
   needs_room at new reply some shows is goes pairs =
       let page = asks_page limits number k reply goes.allowed.replied.1 pairs in
       subst (IsPageEnd (running_command at)) (sym is) (record { from = page.0; asks = sym (command_shown limits number k r at.hand at.running some shows) ∙ page.1; leaves = goes.allowed.replied.0 })
+
+-- what an actor makes of an answer, it makes of it by any name
+pub goes_same : (at new : Actor) (told answer : Answer Record) → told ≡ answer → ((limits : Limits) (number : ℕ) (k : Knowledge) (r : Recalled) (going : IsGoing limits number k r at told) → GoesOn limits number k r at going.running.wanted told None new)
+    → (limits : Limits) (number : ℕ) (k : Knowledge) (r : Recalled) (going : IsGoing limits number k r at answer) → GoesOn limits number k r at going.running.wanted answer None new
+goes_same at new told answer same goes =
+    subst (λ a. (limits : Limits) (number : ℕ) (k : Knowledge) (r : Recalled) (going : IsGoing limits number k r at a) → GoesOn limits number k r at going.running.wanted a None new) same goes

@@ -1,21 +1,19 @@
 //! One actor of a core: what its step needs of memory, and how it is taken.
-ghost use Rattle.std.specs.Prelude.{◌≡◌, ◌≢◌, IfOk, IsSome, None, OnErr, Some, is_some, true};
-ghost use Rattle.actors.specs.Actors.{GoesOn, command_left, running_command, wanted_by};
+ghost use Rattle.std.specs.Prelude.{◌≡◌, ◌≢◌, ℕ, IfOk, IsSome, None, OnErr, Some, is_some, true};
+ghost use Rattle.actors.specs.Actors.{GoesOn, IsGoing, IsShown, IsTold, running_command, wanted_by};
 ghost use Rattle.bw_model.specs.declared.limits.Limits.{Limits};
 ghost use Rattle.chain_search.specs.Knowledge.{Knowledge};
 ghost use Rattle.chain_search.specs.Recalled.{Recalled};
 ghost use Rattle.chain_search.specs.Steps.{IsAnswer, memory_after};
 ghost use Rattle.chain_search.specs.Tables.{memory_in};
 ghost use Rattle.step_core.specs.Actors.{IsReady, IsWithinAt, NeedsRoom};
-ghost use Rattle.step_core.specs.Turns.{KeepsMore, link_told, step_event};
+ghost use Rattle.step_core.specs.Turns.{KeepsMore, link_told};
 
-use crate::event::Event;
 use actors::Actor;
-use bw_model::{Answer, Command, Link, Step};
-use chain_search::{
-    BoxedPairs, BoxedReply, SharedRecord, Table, answer_of, shared_step, step_again,
-};
+use bw_model::{Answer, Command, Link, Step, Told};
+use chain_search::{BoxedPairs, BoxedReply, SharedRecord, Table, shared_step, step_again};
 use op_machine::exchange_link;
+use row_chain::HeldRow;
 use std::alloc::{AllocError, Allocator};
 
 /// A step with its answer, before it is taken: `step` for its entry, and the same again for the memory.
@@ -40,6 +38,7 @@ pub(crate) fn prepare<A: Allocator + Copy>(
     number: u8,
     memory: &Table<A>,
 ) -> Result<Ready<A>, AllocError>
+    requires shown { IsShown actor.now }
     requires running { is_some (running_command actor.now) ≡ true }
     requires within { IsWithinAt memory.now number (wanted_by actor.now.running) }
     ensures wanted { IfOk result (λ ready. wanted_by actor.now.running ≡ Some ready.step) }
@@ -47,10 +46,7 @@ pub(crate) fn prepare<A: Allocator + Copy>(
     ensures again { IfOk result (λ ready. ready.again ≡ ready.step) }
     ensures err { OnErr result (KeepsMore (running_command actor.now) (wanted_by actor.now.running)) }
 {
-    let Some(wanted) = actor.wanted() else {
-        unreachable!()
-    };
-    let step = shared_step(alloc, wanted)?;
+    let step = shared_step(alloc, &actor.wanted())?;
     let again = step_again(&step)?;
     let answer = memory.answer(number, &step)?;
     Ok(Ready {
@@ -60,12 +56,13 @@ pub(crate) fn prepare<A: Allocator + Copy>(
     })
 }
 
-/// Takes the one step that the actor's operation wants, which isn't the leave.
+/// Takes the one step that the actor's operation wants, which isn't the leave. A record that is read comes into the room.
 pub(crate) fn go_on<A: Allocator>(
     actor: &mut Actor<A>,
     number: u8,
     memory: &mut Table<A>,
     ready: Ready<A>,
+    room: &mut HeldRow<A>,
 ) -> Stepped<A>
     requires running { is_some (running_command actor.old) ≡ true }
     requires stays { wanted_by actor.old.running ≢ Some Step.Leave }
@@ -87,9 +84,27 @@ pub(crate) fn go_on<A: Allocator>(
         answer,
     } = ready;
     memory.take(number, again);
-    let told = answer_of(&answer);
-    actor.go_on(&told);
+    tell(actor, &answer, room);
     Stepped { step, answer }
+}
+
+/// Tells the actor the answer to the step that its operation wants; a record that was read is written into the room first.
+fn tell<A: Allocator>(actor: &mut Actor<A>, answer: &Answer<SharedRecord<A>>, room: &mut HeldRow<A>)
+    requires told { IsTold actor.old answer.now }
+    requires stays { wanted_by actor.old.running ≢ Some Step.Leave }
+    ensures goes { (limits : Limits) (number : ℕ) (k : Knowledge) (r : Recalled) (going : IsGoing limits number k r actor.old answer.now) → GoesOn limits number k r actor.old going.running.wanted answer.now None actor.new }
+    ensures command { running_command actor.new ≡ running_command actor.old }
+{
+    match answer {
+        Answer::Start => actor.go_on(Told::Start),
+        Answer::Number(number) => actor.go_on(Told::Number(*number)),
+        Answer::Content(content) => {
+            room.write(content.record());
+            actor.take_row(room);
+        }
+        Answer::Whether(whether) => actor.go_on(Told::Whether(*whether)),
+        Answer::Done => actor.go_on(Told::Done),
+    }
 }
 
 impl<A: Allocator> Stepped<A> {
@@ -127,30 +142,17 @@ pub(crate) fn leave<A: Allocator>(
     number: u8,
     memory: &mut Table<A>,
     room: Option<BoxedPairs<A>>,
-) -> Option<BoxedReply<A>>
+) -> BoxedReply<A>
     requires running { is_some (running_command actor.old) ≡ true }
     requires leaves { wanted_by actor.old.running ≡ Some Step.Leave }
     requires knows { (limits : Limits) × (k : Knowledge) × (r : Recalled) × IsReady limits number k r (memory_in memory.old) actor.old }
     requires within { IsWithinAt memory.old number (wanted_by actor.old.running) }
     requires room { NeedsRoom actor.old → IsSome room }
-    ensures goes { (limits : Limits) (k : Knowledge) (r : Recalled) → IsReady limits number k r (memory_in memory.old) actor.old → GoesOn limits number k r actor.old Step.Leave Answer.Done result actor.new }
+    ensures goes { (limits : Limits) (k : Knowledge) (r : Recalled) → IsReady limits number k r (memory_in memory.old) actor.old → GoesOn limits number k r actor.old Step.Leave Answer.Done (Some result) actor.new }
     ensures limits { memory.new.limits ≡ memory.old.limits }
     ensures memory { memory_in memory.new ≡ memory_after number Step.Leave (memory_in memory.old) }
-    ensures command { running_command actor.new ≡ command_left result (running_command actor.old) }
+    ensures command { running_command actor.new ≡ None }
 {
     memory.take(number, Step::Leave);
-    match actor.take(&Answer::Done) {
-        None => None,
-        Some(reply) => Some(BoxedReply::<A>::new(reply, room)),
-    }
-}
-
-/// What a leave with the reply tells.
-pub(crate) fn event_of<A: Allocator>(reply: &Option<BoxedReply<A>>) -> Event
-    ensures { result ≡ step_event None reply.now }
-{
-    match reply {
-        None => Event::Stepped(None),
-        Some(reply) => Event::Done(reply.reply()),
-    }
+    BoxedReply::<A>::new(actor.leave(), room)
 }

@@ -6,7 +6,7 @@ ghost use Rattle.listing.specs.Listed.{IsListing};
 ghost use Rattle.op_machine.specs.Linearized.{IsLinearized, IsOrderly};
 ghost use Rattle.step_core.specs.Turns.{AddsTurn, AddsTurns, BeginsOrLeaves, LeavesAt, StopsAt, WantsMemory, busy_of, refusal_of};
 
-use crate::actor::{Stepped, event_of, go_on, leave, prepare, room};
+use crate::actor::{Stepped, go_on, leave, prepare, room};
 use crate::event::{Event, RunError, Trace};
 use crate::law::{begins_keep_laws, states_are_lawful, steps_keep_laws};
 use crate::log::Log;
@@ -14,11 +14,12 @@ use actors::{Actor, idle_actors_rest};
 use bw_model::{Answer, Command, Key, Limits, Link, OpenError, Step, Value};
 use chain_search::{SharedEntry, Table, Turn};
 use listing::{add_pairs, pages_are_listed};
+use row_chain::HeldRow;
 use std::alloc::{AllocError, Allocator, Global};
 use std::marker::Model;
 use tree_law::{entries_grow, leaves_stand, opens, opens_directly};
 
-/// All actors over one memory, which an allocator gives.
+/// All actors over one memory, which an allocator gives, and room for the record that is read.
 #[derive(Drop)]
 pub struct Core<A: Allocator = Global> {
     alloc: A,
@@ -26,6 +27,7 @@ pub struct Core<A: Allocator = Global> {
     memory: Table<A>,
     actors: Vec<Actor<A>, A>,
     trace: Log<A>,
+    room: HeldRow<A>,
 }
 
 impl<A: Allocator> Model for Core<A> {
@@ -60,6 +62,7 @@ impl<A: Allocator + Copy> Core<A> {
         opens();
         opens_directly();
         idle_actors_rest();
+        let room = HeldRow::<A>::new(alloc)?;
         let memory = Table::<A>::open(alloc, &limits)?;
         let mut actors = Vec::with_capacity(alloc, limits.actors as usize)?;
         for _ in 0..limits.actors {
@@ -74,6 +77,7 @@ impl<A: Allocator + Copy> Core<A> {
             memory,
             actors,
             trace: Log::<A>::new(alloc),
+            room,
         })
     }
 }
@@ -187,7 +191,7 @@ impl<A: Allocator + Copy> Core<A> {
             return Err(RunError::Memory(number));
         }
         let place = &mut self.actors[usize::from(actor)];
-        let stepped = go_on(place, actor, &mut self.memory, ready);
+        let stepped = go_on(place, actor, &mut self.memory, ready, &mut self.room);
         let link = stepped.link(&self.memory);
         let Stepped { step, answer } = stepped;
         self.trace
@@ -215,9 +219,8 @@ impl<A: Allocator + Copy> Core<A> {
         }
         let place = &mut self.actors[usize::from(actor)];
         let reply = leave(place, actor, &mut self.memory, room);
-        let event = event_of(&reply);
-        self.trace
-            .push(SharedEntry::step(actor, Step::Leave, Answer::Done, reply));
+        let event = Event::Done(reply.reply());
+        self.trace.push(SharedEntry::step(actor, Step::Leave, Answer::Done, Some(reply)));
         Ok(event)
     }
 }

@@ -10,7 +10,7 @@ use std::test::Fail;
 use std::thread::{Threads, yield_now};
 use workers::{Gate, Job, JobResult, JobsRefusal, Ungated, are_ascending, opened, run_jobs};
 
-/// The results of jobs on a new tree, which are run again where memory was refused, and the tree's pairs at its end.
+/// The results of jobs on a new tree, which are run again where memory or a thread was refused, and the tree's pairs at its end.
 fn done<R: Threads + Wait + Sync, G: Gate + Sync>(
     rt: &R,
     alloc: Global,
@@ -28,7 +28,7 @@ fn done<R: Threads + Wait + Sync, G: Gate + Sync>(
     let (results, seats) = match run_jobs(rt, alloc, &tree, seats, jobs, gate) {
         Ok(done) => done,
         Err(error) => {
-            if error.refusal != JobsRefusal::Memory || error.seats.is_empty() {
+            if error.refusal != JobsRefusal::NotRun || error.seats.is_empty() {
                 return None;
             }
             run_jobs(rt, alloc, &tree, error.seats, again, gate).ok()?

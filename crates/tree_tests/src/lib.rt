@@ -18,6 +18,8 @@ mod opening;
 #[cfg(test)]
 mod refused_jobs;
 #[cfg(test)]
+mod refused_threads;
+#[cfg(test)]
 mod runs;
 #[cfg(test)]
 mod stops;

@@ -11,12 +11,12 @@ use std::test::Fail;
 use std::thread::Threads;
 use workers::{Job, JobResult, JobsRefusal, Ungated, are_ascending, opened, run_jobs};
 
-/// How often two jobs on two seats want memory: four lists for the workers and two for their results; the channel; and for each job
-/// its commands, its replies, and its way through the channel.
-const WANTS: u64 = 12;
+/// How often two jobs on two seats want memory: a list of lists, and one for each worker; the lists of workers, of threads, of workers that
+/// are back, of seats and of results; the channel, twice; and for each job its commands and its replies.
+const WANTS: u64 = 14;
 
 /// Job 3 inserts a key and looks it up, job 8 inserts another one.
-fn jobs(alloc: Global) -> Result<Vec<Job>, AllocError> {
+pub(crate) fn jobs(alloc: Global) -> Result<Vec<Job>, AllocError> {
     let first = Job {
         number: 3,
         commands: vec![in alloc; insert(1), get(1)]?,
@@ -39,7 +39,7 @@ fn are_right<A: Allocator>(results: &[JobResult<A>]) -> bool {
 }
 
 /// Whether the results are those of the jobs, and the tree is closed with their pairs.
-fn is_done<A: Allocator>(
+pub(crate) fn is_done<A: Allocator>(
     alloc: Global,
     tree: Tree<A>,
     results: &[JobResult<A>],
@@ -74,7 +74,7 @@ fn was_refused<R: Threads + Wait + Sync>(
     match ran {
         Ok((results, seats)) => is_done(alloc, tree, results.as_slice(), seats).then_some(false),
         Err(error) => {
-            if error.refusal != JobsRefusal::Memory || error.seats.is_empty() {
+            if error.refusal != JobsRefusal::NotRun || error.seats.is_empty() {
                 return None;
             }
             match run_jobs(rt, heap, &tree, error.seats, again, &Ungated) {

@@ -1,9 +1,11 @@
 //! Steps as atomic operations: on which word, by which operation, and what the number that it finds tells.
 ghost use Rattle.std.specs.Prelude.{◌≡◌, ℕ, ◌%◌, ◌^◌};
+ghost use Rattle.bw_model.specs.Answers.{answer_of};
+ghost use Rattle.bw_model.specs.Lent.{lent};
 ghost use Rattle.tree_words.specs.Changes.{HasWord, SetsBits, TellsNothing, changed_word, left_by, told, word_after};
 
 use crate::places::{announced_place, epoch_place, pid_bits_place, row_bits_place, slot_place};
-use bw_model::{Answer, Step};
+use bw_model::{Step, Told};
 use deltas::Record;
 
 /// An atomic operation on a word.
@@ -22,9 +24,9 @@ pub enum Operation {
 }
 
 /// The place of the word of an actor's step.
-pub fn word_place(actor: u8, step: &Step<Record>) -> usize
-    requires { HasWord step.now }
-    ensures { result ≡ changed_word actor step.now }
+pub fn word_place(actor: u8, step: &Step<&Record>) -> usize
+    requires { HasWord (lent step.now) }
+    ensures { result ≡ changed_word actor (lent step.now) }
 {
     match step {
         Step::Slot(pid) | Step::Exchange(pid, _, _) => slot_place(*pid),
@@ -40,11 +42,11 @@ pub fn word_place(actor: u8, step: &Step<Record>) -> usize
 }
 
 /// The operation that a step is.
-pub fn made_by(step: &Step<Record>) -> Operation
-    requires { HasWord step.now }
-    ensures left { (found : ℕ) → left_by result found ≡ word_after step.now found }
-    ensures quiet { TellsNothing step.now result }
-    ensures bits { SetsBits step.now }
+pub fn made_by(step: &Step<&Record>) -> Operation
+    requires { HasWord (lent step.now) }
+    ensures left { (found : ℕ) → left_by result found ≡ word_after (lent step.now) found }
+    ensures quiet { TellsNothing (lent step.now) result }
+    ensures bits { SetsBits (lent step.now) }
 {
     match step {
         Step::Exchange(_, old, new) => Operation::Exchange(u64::from(*old), u64::from(*new)),
@@ -58,17 +60,17 @@ pub fn made_by(step: &Step<Record>) -> Operation
 }
 
 /// What a step is told by the number that it found in its word.
-pub fn told_by(step: &Step<Record>, found: u64) -> Answer<Record>
-    requires { HasWord step.now }
-    ensures { result ≡ told step.now found }
+pub fn told_by(step: &Step<&Record>, found: u64) -> Told
+    requires { HasWord (lent step.now) }
+    ensures { answer_of result ≡ told (lent step.now) found }
 {
     match step {
-        Step::Exchange(_, old, _) => Answer::Whether(found == u64::from(*old)),
-        Step::TakePid(number) | Step::TakeRow(number) => Answer::Whether(found & bit(*number) != 0),
-        Step::Retire(epoch) => Answer::Whether(found == *epoch),
-        Step::Enter(_) | Step::Leave | Step::Place(_, _) => Answer::Done,
-        Step::ReusePids(_, _) | Step::ReuseRows(_, _) => Answer::Done,
-        _ => Answer::Number(found),
+        Step::Exchange(_, old, _) => Told::Whether(found == u64::from(*old)),
+        Step::TakePid(number) | Step::TakeRow(number) => Told::Whether(found & bit(*number) != 0),
+        Step::Retire(epoch) => Told::Whether(found == *epoch),
+        Step::Enter(_) | Step::Leave | Step::Place(_, _) => Told::Done,
+        Step::ReusePids(_, _) | Step::ReuseRows(_, _) => Told::Done,
+        _ => Told::Number(found),
     }
 }
 

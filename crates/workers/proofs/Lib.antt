@@ -1,4 +1,5 @@
 mod Ascending
+mod Beginning
 mod Going
 mod Looked
 mod Named

@@ -1,11 +1,10 @@
 -- Workers are made of seats, and parted from them again.
-use Rattle.std.proofs.Common.{◌≡◌, ◌<◌, ◌+◌, ◌*◌, ℕ, zero, suc, List, [], ◌∷◌, ◌++◌, Option, Some, None, refl, sym, ap, subst, ◌∙◌, arith, All, drop, false, flat_map, length, map, take}
-use Rattle.std.specs.Prelude.{Bool, IsPermutation, MatchBool, slice_get, slice_index_or}
+use Rattle.std.proofs.Common.{◌≡◌, ◌<◌, ◌≤◌, ◌+◌, ◌*◌, ℕ, zero, suc, List, [], ◌∷◌, Some, refl, sym, ap, subst, ◌∙◌, arith, All, false, flat_map, length, map, true}
+use Rattle.std.specs.Prelude.{Bool, IsPermutation, MatchBool, slice_get, slice_index_or, vec_len}
 use Rattle.std.specs.List.Sorted.{IsNonDecreasingBy}
-use Rattle.std.proofs.lemmas.List.Elements.{All-weaker, All-get_or}
+use Rattle.std.proofs.lemmas.List.Elements.{All-weaker}
 use Rattle.std.proofs.lemmas.Option.{same_Some}
-use Rattle.bw_tree.specs.Runs.{IsOneHistory}
-use Rattle.bw_tree.specs.Seats.{Seat, unfinished_command}
+use Rattle.bw_tree.specs.Seats.{Seat}
 use Rattle.bw_tree.specs.Trees.{AreSeatsOf, Tree}
 use Rattle.workers.specs.declared.job.JobResult.{JobResult}
 use Rattle.workers.specs.declared.worker.Worker.{Worker}
@@ -14,7 +13,7 @@ use Rattle.workers.specs.declared.job.JobsRefusal.{JobsRefusal}
 use Rattle.workers.specs.declared.job.JobsRefusal.TheVariants.{Results}
 use Rattle.workers.specs.Jobs.{AreResultsOf}
 use Rattle.workers.specs.Worked.{AreIdle, AreNamed, HasWorked, HaveStopped, HaveWorked}
-use Rattle.workers.specs.Working.{HasDone}
+use Rattle.workers.specs.Begun.{ComesBack, HaveComeBack}
 use Rattle.workers.proofs.Named.{ArePlaced, done_by, named, reordered}
 
 abbrev pub seat_of : {A : Type 0} → Worker A → Seat
@@ -28,7 +27,7 @@ below_of [] n x e = cc
 below_of (y ∷ ys) zero x e = omega arith
 below_of (y ∷ ys) (suc n) x e = let below = below_of ys n x e in omega (arith, below)
 
-there : {X : Type 0} (xs : List X) (n : ℕ) → n < length xs → (x : X) × (slice_get xs n ≡ Some x)
+pub there : {X : Type 0} (xs : List X) (n : ℕ) → n < length xs → (x : X) × (slice_get xs n ≡ Some x)
 there [] n below = absurd (omega (arith, below))
 there (y ∷ ys) zero below = (y, refl)
 there (y ∷ ys) (suc n) below = there ys n (omega (arith, below))
@@ -58,46 +57,57 @@ all_mapped f P (x ∷ xs) each (suc n) d below = all_mapped f P xs (λ m y e. ea
 pub all_seats : {A : Type 0} (P : Seat → Type 0) (workers : List (Worker A)) → ((n : ℕ) (seat : Seat) → slice_get (map seat_of workers) n ≡ Some seat → P seat) → All (λ worker. P (seat_of worker)) workers
 all_seats P workers each = all_mapped seat_of P workers each
 
--- a list that was written over from its beginning to its end
-pub whole_again : {X : Type 0} (xs news : List X) (n : ℕ) → length news ≡ length xs → n ≡ length xs → take n (news ++ drop (length news) xs) ≡ news
-whole_again [] [] n count all = ap (λ k. take k []) all
-whole_again [] (y ∷ ys) n count all = absurd (omega (arith, count))
-whole_again (x ∷ xs) [] n count all = absurd (omega (arith, count))
-whole_again (x ∷ xs) (y ∷ ys) zero count all = absurd (omega (arith, all))
-whole_again (x ∷ xs) (y ∷ ys) (suc n) count all = ap (λ z. y ∷ z) (whole_again xs ys n (omega (arith, count)) (omega (arith, all)))
+-- two lists of one length, of which each element of the one is that of the other
+same_list : {X : Type 0} (xs ys : List X) → length ys ≡ length xs → ((n : ℕ) (x y : X) → slice_get xs n ≡ Some x → slice_get ys n ≡ Some y → y ≡ x) → ys ≡ xs
+same_list [] [] count each = refl
+same_list [] (y ∷ ys) count each = absurd (omega (arith, count))
+same_list (x ∷ xs) [] count each = absurd (omega (arith, count))
+same_list (x ∷ xs) (y ∷ ys) count each =
+    ap (λ z. z ∷ ys) (each 0 x y refl refl) ∙ ap (λ zs. x ∷ zs) (same_list xs ys (omega (arith, count)) (λ n. each (suc n)))
 
--- Each worker has done what it did at its place.
-abbrev pub HaveDone : {A : Type 0} → ℕ → List (Worker A) → List (Worker A) → Type 0
-HaveDone {A = A} limit olds news = (place : ℕ) (other : Worker A) → place < length olds → HasDone place limit (slice_index_or olds place other).seat (slice_index_or news place other)
+-- where no job might be run all workers are as they were
+pub all_same : {A : Type 0} (told : Bool) (limit : ℕ) (olds news : List (Worker A)) → HaveComeBack told limit olds news → told ≡ false → news ≡ olds
+all_same told limit olds news back is =
+    let same = subst (λ z. HaveComeBack z limit olds news) is back in
+    same_list olds news same.count same.each
 
-done_at : {A : Type 0} (limit : ℕ) (olds news : List (Worker A)) → HaveDone limit olds news → (place : ℕ) (old new : Worker A) → slice_get olds place ≡ Some old → slice_get news place ≡ Some new → HasDone place limit (seat_of old) new
-done_at limit olds news done place old new at_old at_new =
-    subst (HasDone place limit (seat_of old)) (index_is news place new new at_new)
-    (subst (λ z. HasDone place limit (seat_of z) (slice_index_or news place new)) (index_is olds place old new at_old) (done place new (below_of olds place old at_old)))
+few_of : {A : Type 0} (told : Bool) (limit place : ℕ) (old new : Worker A) → vec_len old.done ≤ limit → ComesBack told limit place old new → vec_len new.done ≤ limit
+few_of true limit place old new few comes = comes.0.few
+few_of false limit place old new few same = subst (λ w. vec_len w.done ≤ limit) (sym same) few
 
-placed : {A : Type 0} (limit : ℕ) (olds news : List (Worker A)) → length news ≡ length olds → HaveDone limit olds news → ArePlaced 0 news
-placed limit olds news count done n worker at =
+-- no worker has more results than there are jobs
+pub all_few : {A : Type 0} (told : Bool) (limit : ℕ) (olds news : List (Worker A)) → All (λ w. vec_len w.done ≤ limit) olds → HaveComeBack told limit olds news → All (λ w. vec_len w.done ≤ limit) news
+all_few told limit olds news few back k d below =
+    let new = there news k below in
+    let old = there olds k (omega (arith, below, back.count)) in
+    let before = subst (λ w. vec_len w.done ≤ limit) (index_is olds k old.0 d old.1) (few k d (omega (arith, below, back.count))) in
+    subst (λ w. vec_len w.done ≤ limit) (sym (index_is news k new.0 d new.1)) (few_of told limit k old.0 new.0 before (back.each k old.0 new.0 old.1 new.1))
+
+placed : {A : Type 0} (limit : ℕ) (olds news : List (Worker A)) → HaveComeBack true limit olds news → ArePlaced 0 news
+placed limit olds news back n worker at =
     let below = below_of news n worker at in
-    let old = there olds n (omega (arith, below, count)) in
-    All-weaker (λ result. result.seat ≡ n) (λ result. result.seat ≡ 0 + n) (λ result e. omega (arith, e)) (done_by worker) (done_at limit olds news done n old.0 worker old.1 at).named
+    let old = there olds n (omega (arith, below, back.count)) in
+    All-weaker (λ result. result.seat ≡ n) (λ result. result.seat ≡ 0 + n) (λ result e. omega (arith, e)) (done_by worker) (back.each n old.0 worker old.1 at).0.named
 
 none_more : (place : ℕ) → 0 + place ≡ place
 none_more place = omega arith
 
-pub have_worked : {A : Type 0} (limit : ℕ) (olds news : List (Worker A)) → length news ≡ length olds → HaveDone limit olds news → All (λ worker. IsOneHistory worker.seat.limits worker.seat.seen) news → HaveWorked (flat_map done_by news) (map seat_of olds) (map seat_of news)
-have_worked limit olds news count done histories = record {
-  count = length_map seat_of news ∙ count ∙ sym (length_map seat_of olds);
-  each = λ place before after at_before at_after.
-      let old = of_map seat_of olds place before at_before in
-      let new = of_map seat_of news place after at_after in
-      let h = done_at limit olds news done place old.0 new.0 old.1 new.1 in
-      subst (HasWorked (flat_map done_by news) place before) new.2 (subst (λ z. HasWorked (flat_map done_by news) place z (seat_of new.0)) old.2 record {
-        order = done_by new.0;
-        named = subst (λ k. AreNamed k (flat_map done_by news) (done_by new.0)) (none_more place) (named 0 news (placed limit olds news count done) place new.0 new.1);
-        goes = h.goes;
-        history = subst (λ worker. IsOneHistory worker.seat.limits worker.seat.seen) (index_is news place new.0 new.0 new.1) (histories place new.0 (below_of news place new.0 new.1));
-      });
-}
+-- where jobs might be run all seats have worked
+pub have_worked : {A : Type 0} (told : Bool) (limit : ℕ) (olds news : List (Worker A)) → HaveComeBack told limit olds news → told ≡ true → HaveWorked (flat_map done_by news) (map seat_of olds) (map seat_of news)
+have_worked told limit olds news comes is =
+    let back = subst (λ z. HaveComeBack z limit olds news) is comes in record {
+      count = length_map seat_of news ∙ back.count ∙ sym (length_map seat_of olds);
+      each = λ place before after at_before at_after.
+          let old = of_map seat_of olds place before at_before in
+          let new = of_map seat_of news place after at_after in
+          let h = back.each place old.0 new.0 old.1 new.1 in
+          subst (HasWorked (flat_map done_by news) place before) new.2 (subst (λ z. HasWorked (flat_map done_by news) place z (seat_of new.0)) old.2 record {
+            order = done_by new.0;
+            named = subst (λ k. AreNamed k (flat_map done_by news) (done_by new.0)) (none_more place) (named 0 news (placed limit olds news back) place new.0 new.1);
+            goes = h.0.goes;
+            history = h.1;
+          });
+    }
 
 -- in whatever order the results stand
 pub worked_reordered : {A : Type 0} (xs ys : List (JobResult A)) (olds news : List Seat) → IsPermutation xs ys → HaveWorked xs olds news → HaveWorked ys olds news

@@ -1,3 +1,4 @@
+pub mod Begun
 pub mod Jobs
 pub mod Replies
 pub mod Worked

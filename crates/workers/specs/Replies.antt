@@ -1,5 +1,5 @@
 -- What a command comes to on a seat at hand.
-use Rattle.std.specs.Prelude.{◌≡◌, ℕ, None, IsSome, ◌⊎◌}
+use Rattle.std.specs.Prelude.{◌≡◌, ℕ, IsSome, ◌⊎◌}
 use Rattle.bw_model.specs.declared.command.Command.{Command}
 use Rattle.bw_tree.specs.Calls.{IsSpent}
 use Rattle.bw_tree.specs.Seats.{Seat, unfinished_command}

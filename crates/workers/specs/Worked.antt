@@ -9,7 +9,7 @@ use Rattle.bw_tree.specs.Seats.{IsSame, Seat, unfinished_command}
 use Rattle.workers.specs.declared.job.Job.{Job}
 use Rattle.workers.specs.declared.job.JobResult.{JobResult}
 use Rattle.workers.specs.declared.job.JobsRefusal.{JobsRefusal}
-use Rattle.workers.specs.declared.job.JobsRefusal.TheVariants.{Memory, Results}
+use Rattle.workers.specs.declared.job.JobsRefusal.TheVariants.{NotRun, Results}
 use Rattle.workers.specs.Jobs.{AreResultsOf, calls_told}
 
 -- No seat has an operation.
@@ -43,8 +43,8 @@ pub record HaveWorked {A : Type 0} (results : List (JobResult A)) (old new : Lis
   pub count : length new ≡ length old
   pub each : (place : ℕ) (before after : Seat) → slice_get old place ≡ Some before → slice_get new place ≡ Some after → HasWorked results place before after
 
--- What the seats that come back from a refusal have done. Where memory was refused, nothing. Otherwise they have worked, but the
--- results, in order of their numbers, are not those of the jobs.
+-- What the seats that come back from a refusal have done. Where memory or a thread couldn't be had, nothing. Otherwise they have worked,
+-- but the results, in order of their numbers, are not those of the jobs.
 abbrev pub HaveStopped : Type 0 → List Job → JobsRefusal → List Seat → List Seat → Type 0
-HaveStopped A jobs Memory old new = new ≡ old
+HaveStopped A jobs NotRun old new = new ≡ old
 HaveStopped A jobs Results old new = (results : List (JobResult A)) × HaveWorked results old new × IsNonDecreasingBy (λ result. result.job) results × (AreResultsOf jobs results → ⊥)

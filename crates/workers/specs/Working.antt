@@ -31,6 +31,8 @@ pub record IsRoom {A : Type 0} (count limit : ℕ) (room : Room A) : Type 0 wher
   pub each : All (HasRoom limit) room.lists.items
   pub workers : room.workers.items ≡ []
   pub workers_room : count ≤ vec_capacity room.workers
+  pub back : room.back.items ≡ []
+  pub back_room : count ≤ vec_capacity room.back
   pub seats : room.seats.items ≡ []
   pub seats_room : count ≤ vec_capacity room.seats
   pub results : room.results.items ≡ []

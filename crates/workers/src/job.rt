@@ -30,9 +30,9 @@ pub struct JobResult<A: Allocator = Global> {
 /// Why there are no results.
 #[derive(Clone, Copy, Debug, PartialEq, Eq, Error)]
 pub enum JobsRefusal {
-    /// A growth of memory was refused, before a job began.
-    #[error("no memory for the jobs")]
-    Memory,
+    /// Memory or a thread couldn't be had, before a job began.
+    #[error("no memory or no thread for the jobs")]
+    NotRun,
     /// A result is missing, doubled, or of no job: the channel didn't bring each job once.
     #[error("a result is missing, doubled or foreign")]
     Results,

@@ -5,6 +5,7 @@
 //! the same calls with the same replies (specs/Worked).
 #![tactic(auto)]
 
+mod begun;
 mod check;
 mod gate;
 mod job;

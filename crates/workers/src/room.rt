@@ -8,11 +8,12 @@ use crate::worker::Worker;
 use bw_tree::BwSeat;
 use std::alloc::{AllocError, Allocator};
 
-/// Room for workers, for the results of each, for the seats that come back, and for all results.
+/// Room for workers, for the results of each, for the workers and the seats that come back, and for all results.
 #[derive(Drop)]
 pub(crate) struct Room<A: Allocator> {
     pub(crate) lists: Vec<Vec<JobResult<A>, A>, A>,
     pub(crate) workers: Vec<Worker<A>, A>,
+    pub(crate) back: Vec<Worker<A>, A>,
     pub(crate) seats: Vec<BwSeat<A>, A>,
     pub(crate) results: Vec<JobResult<A>, A>,
 }
@@ -28,6 +29,7 @@ impl<A: Allocator + Copy> Room<A> {
         Ok(Room {
             lists: lists(alloc, count, limit)?,
             workers: Vec::with_capacity(alloc, count)?,
+            back: Vec::with_capacity(alloc, count)?,
             seats: Vec::with_capacity(alloc, count)?,
             results: Vec::with_capacity(alloc, all)?,
         })

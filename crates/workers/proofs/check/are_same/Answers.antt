@@ -1,4 +1,4 @@
-use Rattle.std.proofs.Common.{rules, ◌≡◌, ◌≢◌, MatchBool, Bool, true, false, refl}
+use Rattle.std.proofs.Common.{rules, MatchBool, Bool, true, false, refl}
 use Rattle.std.specs.Bool.{Decides}
 use Rattle.std.proofs.lemmas.Slice.Eq.{slice_eq-Decides}
 use Rattle.workers.proofs.check.are_same.Goals as goal

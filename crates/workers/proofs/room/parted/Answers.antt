@@ -1,4 +1,4 @@
-use Rattle.std.proofs.Common.{◌≡◌, ◌<◌, ◌≤◌, ◌+◌, ◌*◌, [], ◌∷◌, ◌++◌, ◌∙◌, ℕ, All, ap, arith, flat_map, length, map, rules, subst, sym}
+use Rattle.std.proofs.Common.{◌≡◌, ◌≤◌, ◌+◌, ◌*◌, [], ◌∷◌, ◌++◌, ◌∙◌, ℕ, All, ap, arith, flat_map, length, map, rules, subst, sym}
 use Rattle.std.specs.Prelude.{vec_len}
 use Rattle.std.proofs.lemmas.List.{append-nil, length-append, map-append, map-id}
 use Rattle.std.proofs.Math.Nat.{mul-le-mul_right}
@@ -13,6 +13,18 @@ use Rattle.workers.proofs.room.parted.Goals as goal
 
 abbrev IsFew : {A : Type 0} → ℕ → Worker A → Type 0
 IsFew limit worker = vec_len worker.done ≤ limit
+
+pub loop-worker-init : goal.loop-worker-init
+loop-worker-init g c =
+    let none = c.args.results.ok.0 ∙ ap length c.requires.results in record {
+      seats = c.requires.seats;
+      count = c.args.seats.ok.0 ∙ ap length c.requires.seats;
+      results = c.requires.results;
+      few = omega (arith, none);
+      left = subst (All (IsFew c.args.limit)) (sym c.into_iter-worker-iterator.ensures.into_iter_gives.0) c.requires.few;
+      seats_room = c.requires.seats_room;
+      results_room = c.requires.results_room;
+    }
 
 pub loop-worker-preserved : goal.loop-worker-preserved
 loop-worker-preserved g c =

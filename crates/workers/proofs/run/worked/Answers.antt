@@ -1,36 +1,38 @@
-use Rattle.std.proofs.Common.{◌≡◌, ◌<◌, ◌≤◌, ℕ, All, None, ap, arith, flat_map, length, map, subst, sym, ◌∙◌}
+use Rattle.std.proofs.Common.{◌≡◌, ◌≤◌, None, ap, arith, flat_map, length, map, subst, sym, ◌∙◌}
 use Rattle.std.specs.Prelude.{vec_len}
+use Rattle.std.proofs.lemmas.List.Elements.{All-weaker}
 use Rattle.bw_tree.specs.Seats.{unfinished_command}
 use Rattle.bw_tree.specs.Trees.{AreSeatsOf, IsSeatOf}
 use Rattle.workers.specs.Worked.{AreIdle}
+use Rattle.workers.specs.Working.{HasRoom}
 use Rattle.workers.proofs.Named.{done_by}
-use Rattle.workers.proofs.Parting.{all_seats, have_worked, seat_of, whole_again, worked_as}
+use Rattle.workers.proofs.Parting.{all_few, all_same, all_seats, have_worked, seat_of, worked_as}
 use Rattle.workers.proofs.run.worked.Goals as goal
 
-pub in_threads-requires-clause-own : goal.in_threads-requires-clause-own
-in_threads-requires-clause-own g c κs within = subst (All (λ worker. IsSeatOf c.args.tree.now worker.seat)) (sym c.as_mut_slice.ensures.value)
-    (all_seats (IsSeatOf c.args.tree.now) c.seated-workers.result.items (subst (AreSeatsOf c.args.tree.now) (sym c.seated-workers.ensures.seats) c.requires.own))
+pub in_threads-may_run-requires-clause-own : goal.in_threads-may_run-requires-clause-own
+in_threads-may_run-requires-clause-own g c κs within =
+    all_seats (IsSeatOf c.args.shared.now.tree.now) c.seated-workers.result.items (subst (AreSeatsOf c.args.shared.now.tree.now) (sym c.seated-workers.ensures.seats) c.requires.own)
 
-pub in_threads-requires-clause-idle : goal.in_threads-requires-clause-idle
-in_threads-requires-clause-idle g c κs within = subst (All (λ worker. unfinished_command worker.seat ≡ None)) (sym c.as_mut_slice.ensures.value)
-    (all_seats (λ seat. unfinished_command seat ≡ None) c.seated-workers.result.items (subst AreIdle (sym c.seated-workers.ensures.seats) c.requires.idle))
+pub in_threads-may_run-requires-clause-idle : goal.in_threads-may_run-requires-clause-idle
+in_threads-may_run-requires-clause-idle g c κs within =
+    all_seats (λ seat. unfinished_command seat ≡ None) c.seated-workers.result.items (subst AreIdle (sym c.seated-workers.ensures.seats) c.requires.idle)
 
-pub parted-requires-clause-few : goal.parted-requires-clause-few
-parted-requires-clause-few g c =
-    let value = ap length c.as_mut_slice.ensures.value in
-    let count = c.in_threads.ensures.count in
-    let whole = whole_again c.seated-workers.result.items c.in_threads.new.workers c.seated-workers.result.len (count ∙ value) (omega (arith, value, c.as_mut_slice.ensures.len)) in
-    subst (All (λ worker. vec_len worker.done ≤ c.args.limit)) (sym whole) (λ k d below. (c.in_threads.ensures.done k d (omega (arith, below, count))).few)
+pub parted-done-requires-clause-few : goal.parted-done-requires-clause-few
+parted-done-requires-clause-few g c =
+    all_few c.in_threads-may_run.result.0 c.args.shared.now.limit c.seated-workers.result.items c.in_threads-may_run.result.1.items
+    (All-weaker (λ worker. HasRoom c.args.shared.now.limit worker.done) (λ worker. vec_len worker.done ≤ c.args.shared.now.limit) (λ worker room. let none = worker.done.ok.0 ∙ ap length room.0 in omega (arith, none)) c.seated-workers.result.items c.seated-workers.ensures.room)
+    c.in_threads-may_run.ensures
 
-pub returns : goal.returns
-returns g c =
-    let value = ap length c.as_mut_slice.ensures.value in
-    let count = c.in_threads.ensures.count in
-    let whole = whole_again c.seated-workers.result.items c.in_threads.new.workers c.seated-workers.result.len (count ∙ value) (omega (arith, value, c.as_mut_slice.ensures.len)) in
-    let news = c.in_threads.new.workers in
-    let worked = have_worked c.args.limit c.as_mut_slice.result.now news count c.in_threads.ensures.done c.in_threads.ensures.history in record {
-      worked = worked_as (flat_map done_by news) c.parted.result.0.items (map seat_of c.as_mut_slice.result.now) c.args.seats.items (map seat_of news) c.parted.result.1.items worked
-          (c.parted.ensures.results ∙ ap (flat_map done_by) whole)
-          (sym c.seated-workers.ensures.seats ∙ ap (map seat_of) (sym c.as_mut_slice.ensures.value))
-          (c.parted.ensures.seats ∙ ap (map seat_of) whole);
-    }
+pub returns-then-may_run-clause-worked : goal.returns-then-may_run-clause-worked
+returns-then-may_run-clause-worked g c =
+    let olds = c.seated-workers.result.items in
+    let news = c.in_threads-may_run.result.1.items in
+    worked_as (flat_map done_by news) c.parted-done.result.0.items (map seat_of olds) c.args.seats.items (map seat_of news) c.parted-done.result.1.items
+    (have_worked c.in_threads-may_run.result.0 c.args.shared.now.limit olds news c.in_threads-may_run.ensures c.if-may_run.true)
+    c.parted-done.ensures.results (sym c.seated-workers.ensures.seats) c.parted-done.ensures.seats
+
+pub returns-else-may_run-clause-left : goal.returns-else-may_run-clause-left
+returns-else-may_run-clause-left g c =
+    c.parted-done.ensures.seats
+    ∙ ap (map seat_of) (all_same c.in_threads-may_run.result.0 c.args.shared.now.limit c.seated-workers.result.items c.in_threads-may_run.result.1.items c.in_threads-may_run.ensures c.if-may_run.false)
+    ∙ c.seated-workers.ensures.seats

@@ -1,6 +1,9 @@
-use Rattle.std.proofs.Common.{sym, subst}
+use Rattle.std.proofs.Common.{◌<◌, ◌≤◌, ℕ, arith, sym, subst}
 use Rattle.bw_tree.specs.Trees.{HasBusy}
 use Rattle.bw_tree.proofs.tree.Tree.close.Goals as goal
+
+not_less : (m n : ℕ) → n ≤ m → m < n → ⊥
+not_less m n all few = omega arith
 
 pub returns-then-not-are_idle-clause-memory : goal.returns-then-not-are_idle-clause-memory
 returns-then-not-are_idle-clause-memory g c = λ all idle. absurd (idle (subst HasBusy c.as_slice.ensures.value c.if-not-are_idle.ensures))
@@ -10,3 +13,18 @@ returns-in_default-clause-busy g c = λ all busy. absurd (c.if-not-are_idle.ensu
 
 pub returns-clause-busy : goal.returns-clause-busy
 returns-clause-busy g c = λ all busy. absurd (c.if-not-are_idle.ensures (subst HasBusy (sym c.as_slice.ensures.value) busy))
+
+pub returns-then-not-are_idle-clause-missing : goal.returns-then-not-are_idle-clause-missing
+returns-then-not-are_idle-clause-missing g c = rw (← c.self.view_is) (λ few. absurd (not_less _ _ (let all = c.if-len-self.false in omega (arith, all, c.len.ensures)) few))
+
+pub returns-in_default-clause-missing : goal.returns-in_default-clause-missing
+returns-in_default-clause-missing g c = rw (← c.self.view_is) (λ few. absurd (not_less _ _ (let all = c.if-len-self.false in omega (arith, all, c.len.ensures)) few))
+
+pub listed-requires-clause-all : goal.listed-requires-clause-all
+listed-requires-clause-all g c = rw (← c.self.view_is) (let all = c.if-len-self.false in omega (arith, all, c.len.ensures))
+
+pub listed-requires-clause-room : goal.listed-requires-clause-room
+listed-requires-clause-room g c = rw (← c.self.view_is) (let room = c.in-Ok.ensures.capacity in omega (arith, room))
+
+pub returns-clause-missing : goal.returns-clause-missing
+returns-clause-missing g c = rw (← c.self.view_is) (λ few. absurd (not_less _ _ (let all = c.if-len-self.false in omega (arith, all, c.len.ensures)) few))

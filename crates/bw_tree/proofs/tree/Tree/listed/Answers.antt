@@ -16,3 +16,6 @@ returns g c =
     (closes c.self.inside.limits c.self.inside.table.shared.key c.self.invariant.own c.closing_spells.ensures c.args.seats.items c.joined-whole.result.me.0 c.joined-whole.result.id
     c.close_with-closed.result.words.items c.close_with-closed.result.slots.items many c.joined-whole.ensures.parts c.close_with-closed.ensures.values.2
     c.runs_are_one_history.ensures c.list.result.items c.list.ensures)
+
+pub joined-whole-requires-clause-own : goal.joined-whole-requires-clause-own
+joined-whole-requires-clause-own g c = rw (← c.self.view_is) at c.requires.own

@@ -2,7 +2,7 @@ use Rattle.std.proofs.Common.{ap, arith, refl}
 use Rattle.chain_search.specs.Knowledge.{knows}
 use Rattle.chain_search.specs.Recalled.{recalls}
 use Rattle.chain_search.specs.declared.trace.Entry.TheVariants.{Begin}
-use Rattle.step_core.proofs.Cored.{core_begins, core_begun, core_others}
+use Rattle.step_core.proofs.Cored.{begin_goes, core_begins, core_begun, core_others}
 use Rattle.step_core.specs.declared.event.RunError.TheVariants.{Memory}
 use Rattle.step_core.proofs.Reserving.{granted, refused}
 use Rattle.step_core.proofs.machine.Core.begin.Goals as goal
@@ -46,6 +46,11 @@ returns-then-is_err-clause-memory g c = (ap Memory c.turns-number.ensures, rw (â
 
 pub returns-then-is_err-clause-err : goal.returns-then-is_err-clause-err
 returns-then-is_err-clause-err g c = rw (refused c.reserve.result _ c.is_err.result c.is_err.ensures.value c.if-is_err.true c.reserve.ensures.err) c.self.view_is
+
+pub index_mut-place-requires : goal.index_mut-place-requires
+index_mut-place-requires g c =
+    let there = (rw (â† c.self.view_is) at (begin_goes c.args.self.now c.args.actor c.args.command c.requires.goes)).0 in
+    omega (arith, c.from.ensures, there, c.self.invariant.count, c.self.inside.actors.ok.0)
 
 pub push-requires : goal.push-requires
 push-requires g c = granted c.reserve.result _ c.is_err.result c.is_err.ensures.value c.if-is_err.false c.reserve.ensures.ok

@@ -1,11 +1,13 @@
-use Rattle.std.proofs.Common.{None, Some, ap, inl, refl, ◌∙◌, arith}
+use Rattle.std.proofs.Common.{◌≡◌, None, Some, ap, inl, refl, sym, subst, ◌∙◌, arith}
+use Rattle.actors.specs.Actors.{Actor, wanted_by}
 use Rattle.chain_search.specs.Steps.{memory_after}
 use Rattle.chain_search.specs.Knowledge.{knows}
 use Rattle.chain_search.specs.Recalled.{recalls}
 use Rattle.chain_search.specs.declared.trace.Entry.TheVariants.{Step}
-use Rattle.step_core.proofs.Cored.{core_affords, core_asks, core_leaves, core_others, core_stepped, core_took, core_wanted, core_wants, step_goes}
+use Rattle.step_core.proofs.Cored.{core_affords, core_asks, core_leaves, core_others, core_shown, core_stepped, core_took, core_wanted, core_wants, step_goes}
 use Rattle.step_core.proofs.Lawful.{heads}
 use Rattle.step_core.proofs.Linked.{event_is, told_to}
+use Rattle.step_core.proofs.Replaced.{get_same}
 use Rattle.step_core.proofs.Reserving.{granted, refused}
 use Rattle.step_core.proofs.machine.Core.go_on.Goals as goal
 use Rattle.step_core.specs.declared.event.Event.TheVariants.{Stepped}
@@ -47,6 +49,10 @@ pub go_on-stepped-requires-clause-within : goal.go_on-stepped-requires-clause-wi
 go_on-stepped-requires-clause-within g c =
     (core_asks _ c.steps_keep_laws.ensures.apart c.steps_keep_laws.ensures.fit _ _ _ _ _ _ c.self.invariant _ _ c.self.view_is c.requires.goes c.from-2.ensures c.index_mut-place.ensures.value).4
 
+pub prepare-requires-clause-shown : goal.prepare-requires-clause-shown
+prepare-requires-clause-shown g c =
+    (core_shown _ _ _ _ _ _ _ c.self.invariant _ _ c.self.view_is c.requires.goes c.from.ensures c.index-place.ensures).0
+
 pub prepare-requires-clause-running : goal.prepare-requires-clause-running
 prepare-requires-clause-running g c =
     (core_asks _ c.steps_keep_laws.ensures.apart c.steps_keep_laws.ensures.fit _ _ _ _ _ _ c.self.invariant _ _ c.self.view_is c.requires.goes c.from.ensures c.index-place.ensures).3
@@ -80,3 +86,9 @@ go_on-stepped-requires-clause-running g c =
 pub go_on-stepped-requires-clause-stays : goal.go_on-stepped-requires-clause-stays
 go_on-stepped-requires-clause-stays g c = λ leaves.
     c.requires.stays (core_leaves _ _ _ _ _ _ c.index_mut-place.result.now _ c.self.invariant _ c.self.view_is c.requires.goes c.from-2.ensures c.index_mut-place.ensures.value leaves)
+
+pub go_on-stepped-requires-clause-wanted : goal.go_on-stepped-requires-clause-wanted
+go_on-stepped-requires-clause-wanted g c =
+    let there = (rw (← c.self.view_is) at (step_goes c.args.self.now c.args.actor c.requires.goes)).0 in
+    let same = get_same c.self.inside.actors.items c.from.result c.from-2.result c.index-place.result.now c.index_mut-place.result.now (c.from.ensures ∙ sym c.from-2.ensures) (omega (arith, there, c.from.ensures, c.self.invariant.count)) c.index-place.ensures c.index_mut-place.ensures.value in
+    subst (λ (at : Actor). wanted_by at.running ≡ Some c.in-Ok.ready.step) same c.in-Ok.ensures.wanted

@@ -1,4 +1,4 @@
-use Rattle.std.proofs.Common.{ap, inl, refl, sym, subst, ◌∙◌, arith}
+use Rattle.std.proofs.Common.{Some, ap, inl, refl, sym, subst, ◌∙◌, arith}
 use Rattle.std.specs.Prelude.{IsSome}
 use Rattle.bw_model.specs.declared.step.Answer.TheVariants.{Done}
 use Rattle.bw_model.specs.declared.step.Step.TheVariants.{Leave}
@@ -14,6 +14,7 @@ use Rattle.step_core.proofs.Lawful.{heads}
 use Rattle.step_core.proofs.Linked.{event_is, told_to}
 use Rattle.step_core.proofs.Reserving.{granted, refused}
 use Rattle.step_core.proofs.machine.Core.leave.Goals as goal
+use Rattle.step_core.specs.declared.event.Event.TheVariants.{Done as Finished}
 use Rattle.step_core.specs.declared.event.RunError.TheVariants.{Memory}
 
 pub invariant_of-self-2 : goal.invariant_of-self-2
@@ -23,8 +24,8 @@ invariant_of-self-2 g c =
     let took = core_took _ c.steps_keep_laws.ensures.apart _ _ _ _ Leave Done c.self.invariant refl goes.allowed.may in
     let affords = core_affords _ _ _ _ _ _ _ c.self.invariant c.from-2.ensures asks.1 c.index_mut-place.ensures.value in
     let stays = c.steps_keep_laws.ensures.direct _ _ _ _ _ _ _ _ c.self.invariant.state goes.allowed goes.useful took.1 c.self.invariant.direct affords goes.spends in
-    core_stepped _ c.steps_keep_laws.ensures.state _ _ _ _ _ _ _ _ _ Leave Done c.leave-reply.result c.self.invariant c.from-2.ensures asks.1
-    c.index_mut-place.ensures.value asks.3 goes.allowed goes.shows c.leave-reply.ensures.command (c.entries_grow.ensures _ c.self.inside.trace.entries (Step c.args.actor Leave Done c.leave-reply.result)) stays c.leave-reply.ensures.limits took.1 c.leave-reply.ensures.memory (rw (c.step.ensures, c.reserve.ensures.entries) at c.push.ensures.entries)
+    core_stepped _ c.steps_keep_laws.ensures.state _ _ _ _ _ _ _ _ _ Leave Done (Some c.leave-reply.result) c.self.invariant c.from-2.ensures asks.1
+    c.index_mut-place.ensures.value asks.3 goes.allowed goes.shows c.leave-reply.ensures.command (c.entries_grow.ensures _ c.self.inside.trace.entries (Step c.args.actor Leave Done (Some c.leave-reply.result))) stays c.leave-reply.ensures.limits took.1 c.leave-reply.ensures.memory (rw (c.step.ensures, c.reserve.ensures.entries) at c.push.ensures.entries)
 
 pub returns-clause-ok : goal.returns-clause-ok
 returns-clause-ok g c =
@@ -32,14 +33,14 @@ returns-clause-ok g c =
     let goes = c.leave-reply.ensures.goes _ _ _ asks.2 in
     let took = core_took _ c.steps_keep_laws.ensures.apart _ _ _ _ Leave Done c.self.invariant refl goes.allowed.may in
     record {
-      added = Step c.args.actor Leave Done c.leave-reply.result;
+      added = Step c.args.actor Leave Done (Some c.leave-reply.result);
       entries = rw (← c.self.view_is) (rw (c.step.ensures, c.reserve.ensures.entries) at c.push.ensures.entries);
       of_turn = refl;
       wanted = c.requires.leaves;
       others = core_others _ _ _ _ _ _ _ _ c.self.view_is c.from-2.ensures;
       room = rw (← c.self.view_is) (let grown = c.reserve.ensures.room in let kept = c.push.ensures.room in omega (arith, grown, kept));
       told = refl;
-      event_of = told_to _ _ (Step c.args.actor Leave Done c.leave-reply.result) c.event_of-event.result c.self.view_is (event_is _ _ c.args.actor Leave Done c.leave-reply.result c.event_of-event.result (c.leave-reply.ensures.memory ∙ ap (memory_after c.args.actor Leave) c.self.invariant.has) (heads _ _ c.self.invariant.state c.steps_keep_laws.ensures.heads) took.0 took.1 c.event_of-event.ensures);
+      event_of = told_to _ _ (Step c.args.actor Leave Done (Some c.leave-reply.result)) (Finished c.reply.result) c.self.view_is (event_is _ _ c.args.actor Leave Done (Some c.leave-reply.result) (Finished c.reply.result) (c.leave-reply.ensures.memory ∙ ap (memory_after c.args.actor Leave) c.self.invariant.has) (heads _ _ c.self.invariant.state c.steps_keep_laws.ensures.heads) took.0 took.1 (ap Finished c.reply.ensures));
       same_limits = rw (← c.self.view_is) refl;
     }
 

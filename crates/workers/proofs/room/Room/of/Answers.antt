@@ -1,0 +1,21 @@
+use Rattle.std.proofs.Common.{◌≤◌, subst}
+use Rattle.std.specs.Vec.{vec_capacity}
+use Rattle.workers.proofs.room.Room.of.Goals as goal
+
+pub returns : goal.returns
+returns g c =
+    let workers = c.in_ok-with_capacity.ensures in
+    let back = c.in_ok-with_capacity-2.ensures in
+    let seats = c.in_ok-with_capacity-3.ensures in
+    let results = c.in_ok-with_capacity-4.ensures in record {
+      lists = c.in_ok-lists.ensures.count;
+      each = c.in_ok-lists.ensures.each;
+      workers = workers.items;
+      workers_room = workers.capacity;
+      back = back.items;
+      back_room = back.capacity;
+      seats = seats.items;
+      seats_room = seats.capacity;
+      results = results.items;
+      results_room = subst (λ n. n ≤ vec_capacity c.in_ok-with_capacity-4.field-0) c.in-Some.ensures.1 results.capacity;
+    }
