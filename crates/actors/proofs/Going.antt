@@ -20,9 +20,8 @@ use Rattle.op_machine.specs.Ops.{Goes, HoldsLimbo, IsAtRestWith, IsOver, IsTold,
 use Rattle.op_machine.specs.Outcomes.{HasLeft, is_leaving}
 use Rattle.op_machine.specs.Shows.{FitsLast, learn_last, recall_last, wanted_at}
 use Rattle.op_machine.specs.Tasks.{IsSameTask, Task}
-use Rattle.op_machine.specs.declared.op.Want.TheVariants.{Step, Done}
-use Rattle.op_machine.specs.declared.state.State.{State}
-use Rattle.op_machine.specs.declared.state.State.TheVariants.{Begun, Epoch, Enter, Read, Write, Change, Leave}
+use Rattle.op_machine.specs.Wants.{Step, Done}
+use Rattle.op_machine.specs.States.{State, Begun, Epoch, Enter, Read, Write, Change, Leave}
 use Rattle.actors.specs.Running.{AsksIf, Running, asking, running_at}
 use Rattle.epochs.specs.Limbo.{Limbo}
 use Rattle.installs.specs.Spares.{Spares}

@@ -13,8 +13,7 @@ use Rattle.op_machine.specs.Bounded.{IsSpentLast, left_at, one_round}
 use Rattle.op_machine.specs.Ops.{asked_by, wanted_of}
 use Rattle.op_machine.specs.Shows.{recall_last, wanted_at}
 use Rattle.op_machine.specs.Spending.{sweep_left}
-use Rattle.op_machine.specs.declared.state.State.{State}
-use Rattle.op_machine.specs.declared.state.State.TheVariants.{Begun, Epoch, Enter, Read, Write, Change, Leave}
+use Rattle.op_machine.specs.States.{State, Begun, Epoch, Enter, Read, Write, Change, Leave}
 use Rattle.sweep.specs.Sweeps.{Sweep, step_of, wanted_at as wanted_at_sweep}
 use Rattle.sweep.specs.declared.sweep.State as sweeping
 use Rattle.sweep.specs.declared.sweep.State.TheVariants as at_sweep

@@ -29,8 +29,8 @@ use Rattle.op_machine.specs.Hands.{Hand}
 use Rattle.op_machine.specs.Shows.{ShowsState}
 use Rattle.op_machine.specs.Spending.{sweep_left}
 use Rattle.op_machine.specs.Tasks.{Task}
-use Rattle.op_machine.specs.declared.state.State.{State}
-use Rattle.op_machine.specs.declared.state.State.TheVariants as state
+use Rattle.op_machine.specs.States.{State}
+use Rattle.op_machine.specs.States as state
 use Rattle.slot_rule.specs.Steps.{IsLawfulStep, Took, with_step}
 use Rattle.tree_law.specs.Direct.{Accounts, StaysDirect}
 use Rattle.bw_tree.specs.Laws.{HaveLaws}

@@ -14,4 +14,3 @@ pub mod Reading
 pub mod Keeping
 pub mod Leading
 pub mod Writing
-pub mod TestedRounds

@@ -14,8 +14,7 @@ use Rattle.chain_search.specs.Knowledge.{Knowledge, learn}
 use Rattle.chain_search.specs.Recalled.{Recalled, recall}
 use Rattle.smo.specs.Readings.{IsAfter}
 use Rattle.smo.specs.declared.version.Version.{Version}
-use Rattle.descent.specs.declared.read_round.Goal.{Goal}
-use Rattle.descent.specs.declared.read_round.Goal.TheVariants.{Seek, Left, Beyond}
+use Rattle.descent.specs.ReadGoals.{Goal, Seek, Left, Beyond}
 use Rattle.descent.specs.declared.visit.State.TheVariants.{Slot, Row}
 use Rattle.descent.specs.Versions.{IsInHand}
 use Rattle.descent.specs.Visits.{Starts, Completes, Continues, Visit, at, to_page, wanted}

@@ -9,17 +9,13 @@ use Rattle.chain_search.specs.Fitting.{Fits}
 use Rattle.chain_search.specs.Knowledge.{Knowledge, learn}
 use Rattle.chain_search.specs.Recalled.{IsSpentWith, Recalled, recall}
 use Rattle.smo.specs.declared.version.Version.{Version}
-use Rattle.descent.specs.declared.read_round.Goal.{Goal}
-use Rattle.descent.specs.declared.read_round.Goal.TheVariants.{Seek, Left, Beyond}
-use Rattle.descent.specs.declared.read_round.ReadEnd.{ReadEnd}
-use Rattle.descent.specs.declared.read_round.ReadEnd.TheVariants.{Again, Removed, Leaf, Beside}
-use Rattle.descent.specs.declared.descent.State.{State}
-use Rattle.descent.specs.declared.descent.State.TheVariants.{Root, Page}
+use Rattle.descent.specs.ReadGoals.{Goal, Seek, Left, Beyond}
+use Rattle.descent.specs.ReadEnds.{ReadEnd, Again, Removed, Leaf, Beside}
+use Rattle.descent.specs.Descents.{State, Root, Page, Descent, Finds, Shows as WayShows, Starts, Visits}
 use Rattle.descent.specs.declared.visit.Sight.{Sight}
 use Rattle.descent.specs.declared.visit.State.TheVariants.{Slot}
 use Rattle.descent.specs.declared.visit.Sight.TheVariants.{Empty, Whole}
 use Rattle.descent.specs.ReadRounds.{Begins, CanPass, CanSee, Ends, Follows, GoesFrom, GoesOnWay, IsLeftLeaf, IsTold, IsVisiting, Misses, ReadRound, Responds, Sees, SeeksKey, Shows, Spends, Treats, at, descent_of, going_to, is_beyond, kept_for, wanted, way_of}
-use Rattle.descent.specs.Descents.{Descent, Finds, Shows as WayShows, Starts, Visits}
 use Rattle.descent.specs.Visits as page
 use Rattle.descent.specs.Walks.{IsSeeking, left_at, left_in, with_walk}
 use Rattle.descent.specs.Ways.{EndsHere, StaysLeft, precedes, reaches}

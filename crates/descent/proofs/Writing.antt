@@ -27,15 +27,13 @@ use Rattle.smo.specs.Unterms.{IsUntermPlan}
 use Rattle.smo.specs.declared.version.Version.{Version}
 use Rattle.smo.proofs.Places.{made}
 use Rattle.descent.specs.Courses.{Goal, Seek, Left, Merge, Unterm}
-use Rattle.descent.specs.declared.write_round.WriteEnd.{WriteEnd}
-use Rattle.descent.specs.declared.write_round.WriteEnd.TheVariants as end
-use Rattle.descent.specs.declared.descent.State.{State}
-use Rattle.descent.specs.declared.descent.State.TheVariants.{Root, Page}
+use Rattle.descent.specs.WriteEnds.{WriteEnd}
+use Rattle.descent.specs.WriteEnds as end
+use Rattle.descent.specs.Descents.{State, Root, Page, Descent, Finds, Shows as WayShows, Starts, Visits}
 use Rattle.descent.specs.declared.visit.Sight.{Sight}
 use Rattle.descent.specs.declared.visit.State.TheVariants.{Slot}
 use Rattle.descent.specs.declared.visit.Sight.TheVariants.{Empty, Whole}
 use Rattle.descent.specs.Versions.{IsAlive}
-use Rattle.descent.specs.Descents.{Descent, Finds, Shows as WayShows, Starts, Visits}
 use Rattle.descent.specs.Visits as page
 use Rattle.descent.specs.Walks.{IsSeeking, left_at, left_in, with_walk}
 use Rattle.descent.specs.Ways.{LeadsDown, LeadsRight, NamesAt, StaysLeft, precedes, reaches}
@@ -486,34 +484,6 @@ can_see old other told (Whole version) b t =
     meets_at k now earlier (Unterm parent left) p = p.above.alive
 
 -- what is made of the removed page that was read again
-
-pub merged_as : (old new : WriteRound) (version left : Version) (end : WriteEnd) → old.goal ≡ Merge left → Merges left version end → Treats old version new (Some end)
-merged_as old new version left end.Again e m = absurd m
-merged_as old new version left end.Done e m = inr (inl (record { left = left; goal = e; none = m }))
-merged_as old new version left (end.Removed removed) e m = absurd m
-merged_as old new version left (end.Consolidate page) e m = absurd m
-merged_as old new version left (end.Split page plan) e m = absurd m
-merged_as old new version left (end.Term parent term) e m = absurd m
-merged_as old new version left (end.Root other root) e m = absurd m
-merged_as old new version left (end.Leaf parent leaf) e m = absurd m
-merged_as old new version left (end.Merge other removed merge) e m = record { is = m.1; goal = e ∙ ap Merge (sym m.0); plan = subst (λ (x : Version). IsMergePlan x version merge) (sym m.0) m.2 }
-merged_as old new version left (end.Unterm parent other removed unterm) e m = absurd m
-
-pub cut_as : (old new : WriteRound) (version parent left : Version) (end : WriteEnd) → old.goal ≡ Unterm parent left → Cuts parent left version end → Treats old version new (Some end)
-cut_as old new version parent left end.Again e m = absurd m
-cut_as old new version parent left end.Done e m = inr (inr (record { parent = parent; left = left; goal = e; none = m }))
-cut_as old new version parent left (end.Removed removed) e m = absurd m
-cut_as old new version parent left (end.Consolidate page) e m = absurd m
-cut_as old new version parent left (end.Split page plan) e m = absurd m
-cut_as old new version parent left (end.Term above term) e m = absurd m
-cut_as old new version parent left (end.Root other root) e m = absurd m
-cut_as old new version parent left (end.Leaf above leaf) e m = absurd m
-cut_as old new version parent left (end.Merge other removed merge) e m = absurd m
-cut_as old new version parent left (end.Unterm above other removed unterm) e m = record {
-  is = m.2;
-  goal = e ∙ ap (λ (x : Version). Unterm x left) (sym m.0) ∙ ap (λ (y : Version). Unterm above y) (sym m.1);
-  plan = subst (λ (y : Version). IsUntermPlan above y version unterm) (sym m.1) (subst (λ (x : Version). IsUntermPlan x left version unterm) (sym m.0) m.3);
-}
 
 -- what a round does with a page doesn't depend on the state that it had
 

@@ -1,8 +1,6 @@
 -- Where a writer's round goes, and the pages that it keeps on the way.
 use Rattle.std.specs.Prelude.{ℕ, Option, None, Some}
 use Rattle.smo.specs.declared.version.Version.{Version}
-use Rattle.descent.specs.declared.course.Aim.{Aim}
-use Rattle.descent.specs.declared.course.Aim.TheVariants as aim
 
 -- To the leaf of the key; to the leaf to the left of this removed page, which begins at the key; to the removed page, which is to
 -- come into this leaf; to the removed page, whose term the parent is to lose, as the leaf shows that would have it to its right.
@@ -29,9 +27,3 @@ removed_of Seek = None
 removed_of (Left pid) = Some pid
 removed_of (Merge left) = None
 removed_of (Unterm parent left) = None
-
--- the course that an aim is
-abbrev pub course_of : Aim → Course
-course_of (aim.Down removed parent left) = record { goal = down_to removed; parent = parent; left = left }
-course_of (aim.Merge left) = record { goal = Merge left; parent = None; left = None }
-course_of (aim.Unterm parent left) = record { goal = Unterm parent left; parent = None; left = None }

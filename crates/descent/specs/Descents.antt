@@ -11,9 +11,12 @@ use Rattle.chain_search.specs.Knowledge.{Knowledge}
 use Rattle.chain_search.specs.Recalled.{Recalled}
 use Rattle.descent.specs.Visits as page
 use Rattle.descent.specs.Walks.{few_reads, left_in}
-use Rattle.descent.specs.declared.descent.State.{State}
-use Rattle.descent.specs.declared.descent.State.TheVariants.{Root, Page}
 use Rattle.descent.specs.declared.visit.Sight.{Sight}
+
+-- where a descent stands: each state is named by what it reads
+pub data State : Type 0 where
+  Root : State
+  Page : (visit : page.Visit) → State
 
 pub record Descent : Type 0 where
   pub limits : Limits

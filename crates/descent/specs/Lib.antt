@@ -4,6 +4,9 @@ pub mod Ways
 pub mod Walks
 pub mod Descents
 pub mod Courses
+pub mod ReadGoals
+pub mod ReadEnds
+pub mod WriteEnds
 pub mod Detours
 pub mod ReadRounds
 pub mod WriteRounds

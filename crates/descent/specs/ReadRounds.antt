@@ -11,18 +11,14 @@ use Rattle.chain_search.specs.Recalled.{IsPaid, IsSpentWith, Recalled, recall}
 use Rattle.smo.specs.Readings.{IsAfter}
 use Rattle.smo.specs.declared.version.Version.{Version}
 use Rattle.descent.specs.Versions.{IsAlive, IsGone}
-use Rattle.descent.specs.Descents.{Descent, Finds, Responds as Moves, left_from, wanted_at}
+use Rattle.descent.specs.Descents.{Descent, Finds, Responds as Moves, left_from, wanted_at, State, Root, Page}
 use Rattle.descent.specs.Visits as page
 use Rattle.descent.specs.Walks.{IsAhead, IsReached, IsSeeking, with_walk}
 use Rattle.descent.specs.Ways.{EndsHere, LeadsOn, LeadsRight, StaysLeft, precedes, reaches}
 use Rattle.descent.specs.declared.visit.Sight as page_sight
 use Rattle.descent.specs.declared.visit.Sight.TheVariants as page_is
-use Rattle.descent.specs.declared.descent.State.{State}
-use Rattle.descent.specs.declared.descent.State.TheVariants.{Root, Page}
-use Rattle.descent.specs.declared.read_round.Goal.{Goal}
-use Rattle.descent.specs.declared.read_round.Goal.TheVariants.{Seek, Left, Beyond}
-use Rattle.descent.specs.declared.read_round.ReadEnd.{ReadEnd}
-use Rattle.descent.specs.declared.read_round.ReadEnd.TheVariants.{Again, Removed, Leaf, Beside}
+use Rattle.descent.specs.ReadGoals.{Goal, Seek, Left, Beyond}
+use Rattle.descent.specs.ReadEnds.{ReadEnd, Again, Removed, Leaf, Beside}
 
 -- the key whose leaf is sought, where the round goes first, and where it stands
 pub record ReadRound : Type 0 where

@@ -27,17 +27,15 @@ use Rattle.smo.specs.declared.split.SplitPlan.{SplitPlan}
 use Rattle.smo.specs.declared.version.Version.{Version}
 use Rattle.descent.specs.Versions.{IsAlive, IsGone, IsInHand}
 use Rattle.descent.specs.Courses.{Course, Goal, Seek, Left, Merge, Unterm, removed_of}
-use Rattle.descent.specs.Descents.{Descent, Finds, Responds as Moves, left_from, wanted_at}
+use Rattle.descent.specs.Descents.{Descent, Finds, Responds as Moves, left_from, wanted_at, State, Root, Page}
 use Rattle.descent.specs.Visits as page
 use Rattle.descent.specs.Walks.{IsAhead, IsAmong, IsReached, IsSeeking, with_walk}
 use Rattle.descent.specs.Ways.{LeadsDown, LeadsRight, StaysLeft, passes}
 use Rattle.descent.specs.declared.visit.Sight as page_sight
 use Rattle.descent.specs.declared.visit.Sight.TheVariants as page_is
 use Rattle.descent.specs.declared.visit.State as at_page
-use Rattle.descent.specs.declared.descent.State.{State}
-use Rattle.descent.specs.declared.descent.State.TheVariants.{Root, Page}
-use Rattle.descent.specs.declared.write_round.WriteEnd.{WriteEnd}
-use Rattle.descent.specs.declared.write_round.WriteEnd.TheVariants as end
+use Rattle.descent.specs.WriteEnds.{WriteEnd}
+use Rattle.descent.specs.WriteEnds as end
 
 -- The key whose leaf is sought, or to whose left the round goes; at how many deltas a leaf is consolidated; the level at which a round
 -- to the left ends; where the round goes; the parent of the pages that are read; the page to whose right the round has gone, until
@@ -70,10 +68,6 @@ going_to pid round = at round (Page (page.to_page round.limits pid))
 -- the round, with another goal
 abbrev pub toward : Goal → WriteRound → WriteRound
 toward goal round = record round { goal = goal }
-
--- the round on another course
-abbrev pub on_course : Course → WriteRound → WriteRound
-on_course course round = record round { goal = course.goal; parent = course.parent; left = course.left }
 
 -- the round where a page to the left of the next one is kept, or none
 abbrev pub beside : Option Version → WriteRound → WriteRound
@@ -559,13 +553,6 @@ Spends reserve kept r old told new (Some end.Done) = kept < reads_left reserve k
 Spends reserve kept r old told new (Some (end.Merge left removed merge)) = kept < reads_left reserve kept r old
 Spends reserve kept r old told new (Some (end.Unterm parent left removed unterm)) = kept < reads_left reserve kept r old
 Spends reserve kept r old told new (Some other) = kept_for kept old.goal < reads_left reserve kept r old
-
--- The limits, the key, the number of deltas that are due and the level at which a round to the left ends stay.
-pub record IsSameWay (old new : WriteRound) : Type 0 where
-  pub limits : new.limits ≡ old.limits
-  pub key : new.key ≡ old.key
-  pub due : new.due ≡ old.due
-  pub floor : new.floor ≡ old.floor
 
 -- So does the goal where it is the leaf of the key.
 pub record IsSame (old new : WriteRound) : Type 0 where

@@ -1,15 +1,16 @@
 //! The way round a removed index page, to the page on its left.
-ghost use Rattle.std.specs.Prelude.{◌≡◌, ◌<◌, ℕ};
+ghost use Rattle.std.specs.Prelude.{◌≡◌, ◌<◌, ℕ, MatchOption};
 ghost use Rattle.chain_search.specs.Discipline.{May};
 ghost use Rattle.chain_search.specs.Fitting.{Fits};
 ghost use Rattle.chain_search.specs.Knowledge.{Knowledge};
 ghost use Rattle.chain_search.specs.Recalled.{Recalled};
 ghost use Rattle.descent.specs.Detours.{CanTreat, Follows, IsTold, Responds, Shows, Spends, Treats, wanted};
 ghost use Rattle.descent.specs.Visits.{ReadsWithin, to_page};
+ghost use Rattle.descent.specs.Ways.{LeadsRight, StaysLeft, precedes};
 
-use crate::way::right_on_way;
 use crate::{Sight, Visit, reads_on};
-use bw_model::{Answer, Limits, Step};
+use bw_model::{Answer, Key, Limits, Step};
+use chain_search::Chain;
 use deltas::Record;
 use smo::Version;
 use std::marker::Model;
@@ -90,7 +91,7 @@ impl Detour {
         if version.chain.level() != self.removed.chain.level() {
             return Some(DetourEnd::Again);
         }
-        if let Some(right) = right_on_way(&version.chain, self.removed.chain.low(), true) {
+        if let Some(right) = right_below(&version.chain, self.removed.chain.low()) {
             self.visit.go_to(right);
             return None;
         }
@@ -99,4 +100,22 @@ impl Detour {
         }
         Some(DetourEnd::Past(version))
     }
+}
+
+/// The page's right, where the page ends below the key.
+fn right_below(chain: &Chain, key: &Key) -> Option<u16>
+    ensures { MatchOption result (StaysLeft (precedes key.now) chain.now) (LeadsRight (precedes key.now) chain.now) }
+{
+    chain.keeps_rules();
+    match chain.high() {
+        Some(high) if is_before(high, key) => chain.right(),
+        _ => None,
+    }
+}
+
+/// Whether one key is below another.
+fn is_before(low: &Key, key: &Key) -> bool
+    ensures { result ≡ precedes key.now low.now }
+{
+    low.cmp(key).is_lt()
 }

@@ -22,8 +22,8 @@ ghost use Rattle.deltas.specs.declared.record.Unterm.{Unterm};
 ghost use Rattle.smo.specs.Holds.{IsHoldPlan};
 ghost use Rattle.smo.specs.Removals.{IsRemovePlan};
 ghost use Rattle.smo.specs.declared.version.Version.{Version};
-ghost use Rattle.descent.specs.declared.read_round.ReadEnd.{ReadEnd};
-ghost use Rattle.descent.specs.declared.write_round.WriteEnd.{WriteEnd};
+ghost use Rattle.descent.specs.ReadEnds.{ReadEnd};
+ghost use Rattle.descent.specs.WriteEnds.{WriteEnd};
 
 use smo::plans_are_due;
 

@@ -95,31 +95,7 @@ impl Change {
         }
     }
 
-    /// The step that the change wants next.
-    pub fn step(&self, spares: &Spares) -> Step<Record>
-        requires sound { IsSoundChange self.now spares.now }
-        ensures wanted { result ≡ wanted self.now spares.now }
-        ensures within { IsWithin self.now.limits result }
-        ensures may { (actor : ℕ) (k : Knowledge) → Shows actor self.now spares.now k → May actor k result }
-        ensures only { IsOfChange result }
-        ensures frees { (limits : LimitsSeen) (actor : ℕ) (k : Knowledge) → MayFree limits actor k result }
-    {
-        match self.state {
-            State::Taking(taking) => taking.step(),
-            State::Base => Step::Place(self.base_row(spares), self.plan.base()),
-            State::Ready => Step::Exchange(spares.pid_or_0(), 0, self.base_row(spares)),
-            State::Place => Step::Place(spares.last_row(), self.plan.record(spares.pid_or_0())),
-            State::Link => Step::Exchange(
-                self.plan.slot(),
-                self.plan.head(),
-                self.linked_number(spares),
-            ),
-            State::Undo => Step::Exchange(spares.pid_or_0(), self.base_row(spares), 0),
-            State::Clear => Step::Exchange(self.plan.cleared_page(), self.plan.cleared_row(), 0),
-        }
-    }
-
-    /// The same, with the record that is to be placed lent from where it lies.
+    /// The step that the change wants next, with the record that is to be placed lent from where it lies.
     pub fn wanted(&self, spares: &Spares) -> Step<&Record>
         requires sound { IsSoundChange self.now spares.now }
         requires made { IsMade self.now spares.now }

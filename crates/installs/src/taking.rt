@@ -46,22 +46,6 @@ impl Kind {
 
 impl Taking {
     /// The step that the taking wants next.
-    pub(crate) fn step(self) -> Step<Record>
-        ensures { result ≡ wanted_number self }
-    {
-        match self {
-            Taking::Bits { kind, word } => match kind {
-                Kind::Pid => Step::PidBits(word),
-                Kind::Row => Step::RowBits(word),
-            },
-            Taking::Take { kind, number } => match kind {
-                Kind::Pid => Step::TakePid(number),
-                Kind::Row => Step::TakeRow(number),
-            },
-        }
-    }
-
-    /// The same among steps that lend the record that they place.
     pub(crate) fn wanted<'a>(self) -> Step<&'a Record>
         ensures { lent result ≡ wanted_number self }
     {

@@ -1,5 +1,6 @@
 //! Changes step by step, over a memory in which a few numbers are free.
 ghost use Rattle.std.specs.Prelude.{◌≡◌, ◌≤◌, ◌∷◌, [], ℕ};
+ghost use Rattle.bw_model.specs.Lent.{lent};
 ghost use Rattle.chain_search.specs.Fitting.{Fits, FitsWord};
 ghost use Rattle.chain_search.specs.Knowledge.{nothing};
 ghost use Rattle.installs.specs.Changes.{IsOfChange, IsSpellablePlan, IsTarget};
@@ -55,10 +56,10 @@ fn word(at: u8, free: u8) -> u64
 }
 
 /// The answer to a step of a change.
-fn told(world: &mut World, limits: &Limits, step: &Step<Record>) -> Answer<Record>
-    requires only { IsOfChange step.now }
-    requires within { IsWithin limits.now step.now }
-    ensures fits { Fits limits.now nothing step.now result }
+fn told(world: &mut World, limits: &Limits, step: &Step<&Record>) -> Answer<Record>
+    requires only { IsOfChange (lent step.now) }
+    requires within { IsWithin limits.now (lent step.now) }
+    ensures fits { Fits limits.now nothing (lent step.now) result }
 {
     match step {
         Step::PidBits(at) => Answer::Number(word(*at, world.pids)),
@@ -78,7 +79,7 @@ fn told(world: &mut World, limits: &Limits, step: &Step<Record>) -> Answer<Recor
 }
 
 /// Adds a step to the log.
-fn show(log: &mut Log, step: &Step<Record>) {
+fn show(log: &mut Log, step: &Step<&Record>) {
     let _ = match step {
         Step::PidBits(word) => write!(log, "pids {word} "),
         Step::RowBits(word) => write!(log, "rows {word} "),
@@ -101,7 +102,7 @@ fn drive(limits: &Limits, spares: &mut Spares, plan: Plan, world: World) -> (Log
     let mut log = ArrayString::new();
     let mut change = Change::new(limits, spares, plan);
     for _ in 0..16 {
-        let step = change.step(spares);
+        let step = change.wanted(spares);
         show(&mut log, &step);
         let answer = told(&mut world, limits, &step);
         if let Some(end) = change.next(spares, &answer) {

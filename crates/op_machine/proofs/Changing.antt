@@ -28,8 +28,8 @@ use Rattle.op_machine.specs.Outcomes as outcome
 use Rattle.op_machine.specs.Outcomes.{FacesChanged}
 use Rattle.op_machine.specs.Shows.{IsInChange}
 use Rattle.op_machine.specs.Tasks.{IsBetweenChanges, IsUnreadPid, Seeks, Task}
-use Rattle.op_machine.specs.declared.state.Then.{Then}
-use Rattle.op_machine.specs.declared.state.Then.TheVariants.{Round, Limbo, Errand, Reply}
+use Rattle.op_machine.specs.declared.then.Then.{Then}
+use Rattle.op_machine.specs.declared.then.Then.TheVariants.{Round, Limbo, Errand, Reply}
 use Rattle.op_machine.specs.declared.unlinked.Unlinked.{Unlinked}
 
 -- a PID that is taken is of no page that was read

@@ -9,7 +9,7 @@ use Rattle.std.proofs.lemmas.Option.{same_Some}
 use Rattle.bw_model.specs.declared.command.Command.{Command}
 use Rattle.bw_model.specs.declared.command.Command.TheVariants.{Get, Insert, Upsert, Delete, Swap, Page as PageFrom, Tidy}
 use Rattle.bw_model.specs.Log.{Update, set, unset}
-use Rattle.bw_model.specs.Replies.{command_key, update_of}
+use Rattle.bw_model.specs.Replies.{command_key, update_of, is_writer}
 use Rattle.base_page.specs.declared.item.Content.{Content}
 use Rattle.base_page.specs.declared.item.Content.TheVariants.{Value, Child}
 use Rattle.base_page.specs.Pages.{Page, value_in}
@@ -24,7 +24,6 @@ use Rattle.chain_search.specs.Discipline.{FitsOn, update_record, value_of}
 use Rattle.chain_search.specs.Fitted.{FitsOver, Makes}
 use Rattle.chain_search.specs.Knowledge.{Knowledge}
 use Rattle.installs.specs.Changes.{KeepsSparePage, linked_by}
-use Rattle.bw_model.specs.Replies.{is_writer}
 use Rattle.op_machine.specs.Brings.{IsUsefulOver, update_over}
 
 -- an update that a test decides, which doesn't know whose it is
@@ -98,15 +97,6 @@ value_same (Some (Child page held)) = refl
 
 abbrev pub Changes : Command → Type 0
 Changes c = (old : Option (List ℕ)) × (is_some (update_of 0 c old) ≡ true)
-
-pub over_next : (c : Command) (x rows : ℕ) → x < rows → Changes c → ForSome (next_row (update_over c x)) (λ next. next < rows)
-over_next (Get key) x rows below h = let e = h.1 in cc
-over_next (PageFrom key) x rows below h = let e = h.1 in cc
-over_next (Tidy key) x rows below h = let e = h.1 in cc
-over_next (Insert key value) x rows below h = λ next e. subst (λ n. n < rows) (same_Some x next e) below
-over_next (Upsert key value) x rows below h = λ next e. subst (λ n. n < rows) (same_Some x next e) below
-over_next (Delete key) x rows below h = λ next e. subst (λ n. n < rows) (same_Some x next e) below
-over_next (Swap key expected value) x rows below h = λ next e. subst (λ n. n < rows) (same_Some x next e) below
 
 pub over_kept : (c : Command) (x : ℕ) (pid : Option ℕ) → KeepsSparePage (update_over c x) pid
 over_kept (Get key) x pid = tt

@@ -13,7 +13,7 @@ use Rattle.op_machine.specs.Errands.{way_key}
 use Rattle.op_machine.specs.Outcomes.{IsAtLeaf}
 use Rattle.op_machine.specs.Shows.{ShowsState}
 use Rattle.op_machine.specs.Tasks.{Task}
-use Rattle.op_machine.specs.declared.state.State.TheVariants as at
+use Rattle.op_machine.specs.States as at
 use Rattle.op_machine.proofs.Commands.{none_due}
 
 module _ (task : Task) (spares : Spares) (k : Knowledge) (r : Recalled) (leaf : Version) (h : IsAtLeaf task spares k r leaf) (last : task.errands ≡ []) where

@@ -10,12 +10,10 @@ use Rattle.op_machine.specs.Bounded.{IsSpentLast, LeavesFor, left_at, with_erran
 use Rattle.op_machine.specs.Hands.{Hand}
 use Rattle.op_machine.specs.Ops.{Op}
 use Rattle.op_machine.specs.Outcomes.{Comes, Entered, Faces, IsFaced, IsToldAt, Outcome}
-use Rattle.op_machine.specs.Shows.{FitsLast, MayStep, ShowsState, learn_last, recall_last}
-use Rattle.op_machine.specs.Tasks.{Task}
-use Rattle.op_machine.specs.Works.{AsksOn, FollowsOutcome, GoesAhead, IsToldChange, IsToldOn, IsToldWith, TurnsInto, Works, asked_of}
-use Rattle.op_machine.specs.declared.op.Want.TheVariants as Want
-use Rattle.op_machine.specs.declared.state.State.{State}
-use Rattle.op_machine.specs.declared.state.State.TheVariants as at
+use Rattle.op_machine.specs.Shows.{FitsLast, learn_last, recall_last}
+use Rattle.op_machine.specs.Works.{AsksOn, FollowsOutcome, IsToldChange, IsToldOn, IsToldWith, TurnsInto, Works, asked_of}
+use Rattle.op_machine.specs.States.{State}
+use Rattle.op_machine.specs.States as at
 
 -- what is told of an operation is told of its state
 abbrev pub told_at : (op : Op) (spares : Spares) (told : Answer Record) → IsToldOn op spares told → IsToldAt op.state spares told
@@ -85,14 +83,3 @@ module _ (old : Op) (had has : Spares) (told : Answer Record) (is : IsToldOn old
       same = after.same;
       sweep = after.sweep;
     }
-
--- An operation that has advanced wants the step that it asks for.
-pub wants : (old : Op) (had : Spares) (told : Answer Record) (new : Op) (has : Spares) → AsksOn old had told new has
-    → (asked : Step Record) → asked_of new has ≡ Some asked → ((task : Task) (k : Knowledge) (r : Recalled) → ShowsState task has k r new.state → MayStep task k asked)
-    → GoesAhead old had told new has (Want.Step asked)
-wants old had told new has after asked wanted may = record {
-  obeys = λ k r works fits. let now = after.works k r works fits in record { wanted = wanted; may = may new.task _ _ now; works = now };
-  spends = after.spends;
-  same = after.same;
-  sweep = after.sweep;
-}

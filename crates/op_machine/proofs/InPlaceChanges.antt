@@ -17,8 +17,8 @@ use Rattle.op_machine.specs.Places.{ended_with}
 use Rattle.op_machine.specs.Shows.{IsInChange}
 use Rattle.op_machine.specs.Tasks.{Task}
 use Rattle.op_machine.specs.Works.{TurnsInto}
-use Rattle.op_machine.specs.declared.state.State.TheVariants as at
-use Rattle.op_machine.specs.declared.state.Then.{Then}
+use Rattle.op_machine.specs.States as at
+use Rattle.op_machine.specs.declared.then.Then.{Then}
 use Rattle.op_machine.proofs.Changing.{change_ended, change_left, change_on, ended_left, taken_apart}
 use Rattle.op_machine.proofs.TakingOut.{unlinks}
 

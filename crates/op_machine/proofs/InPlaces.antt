@@ -15,8 +15,8 @@ use Rattle.chain_search.specs.Knowledge.{Knowledge}
 use Rattle.chain_search.specs.Recalled.{Recalled}
 use Rattle.descent.specs.ReadRounds as read
 use Rattle.descent.specs.WriteRounds as write
-use Rattle.descent.specs.declared.read_round.ReadEnd.{ReadEnd}
-use Rattle.descent.specs.declared.write_round.WriteEnd.{WriteEnd}
+use Rattle.descent.specs.ReadEnds.{ReadEnd}
+use Rattle.descent.specs.WriteEnds.{WriteEnd}
 use Rattle.descent.proofs.Reading as reading
 use Rattle.descent.proofs.Writing as writing
 use Rattle.installs.specs.Changes.{Change as ChangeOf}
@@ -27,13 +27,13 @@ use Rattle.op_machine.specs.Places.{HaveLimits, Places, Reads, Writes, state_at,
 use Rattle.op_machine.specs.Shows.{FitsLast, ShowsState, wanted_at}
 use Rattle.op_machine.specs.Tasks.{Task}
 use Rattle.op_machine.specs.Works.{FollowsOutcome, TurnsInto}
-use Rattle.op_machine.specs.declared.in_place.places.Stand.{Stand}
-use Rattle.op_machine.specs.declared.in_place.places.Stand.TheVariants.{Begun, Epoch, Enter, Read, Write, Change, Leave}
+use Rattle.op_machine.specs.declared.places.Stand.{Stand}
+use Rattle.op_machine.specs.declared.places.Stand.TheVariants.{Begun, Epoch, Enter, Read, Write, Change, Leave}
 use Rattle.bw_model.specs.declared.step.Told.{Told}
 use Rattle.bw_model.specs.declared.step.Told.TheVariants.{Start, Number, Whether, Done}
-use Rattle.op_machine.specs.declared.state.State.{State}
-use Rattle.op_machine.specs.declared.state.State.TheVariants as at
-use Rattle.op_machine.specs.declared.state.Then.{Then}
+use Rattle.op_machine.specs.States.{State}
+use Rattle.op_machine.specs.States as at
+use Rattle.op_machine.specs.declared.then.Then.{Then}
 use Rattle.op_machine.proofs.Reading.{IsReading, reader_reads, writer_reads}
 use Rattle.op_machine.proofs.Rounds.{read_comes, read_leaves, write_comes, write_leaves}
 use Rattle.sweep.specs.Sweeps.{Sweep}

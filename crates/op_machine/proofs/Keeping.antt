@@ -14,8 +14,7 @@ use Rattle.installs.specs.Spares.{Spares}
 use Rattle.op_machine.specs.Outcomes.{is_changing}
 use Rattle.op_machine.specs.Shows.{FitsLast, ShowsState, learn_last, wanted_at}
 use Rattle.op_machine.specs.Tasks.{Task}
-use Rattle.op_machine.specs.declared.state.State.{State}
-use Rattle.op_machine.specs.declared.state.State.TheVariants.{Begun, Epoch, Enter, Read, Write, Change, Leave}
+use Rattle.op_machine.specs.States.{State, Begun, Epoch, Enter, Read, Write, Change, Leave}
 use Rattle.op_machine.proofs.Reading.{IsReading, reader_reads, writer_reads}
 use Rattle.sweep.specs.Kept.{AreKept}
 

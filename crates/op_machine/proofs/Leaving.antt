@@ -8,8 +8,7 @@ use Rattle.deltas.specs.declared.record.Record.{Record}
 use Rattle.chain_search.specs.Knowledge.{Knowledge}
 use Rattle.descent.specs.Descents as descent
 use Rattle.descent.specs.Visits as page
-use Rattle.descent.specs.declared.descent.State.{State as DescentState}
-use Rattle.descent.specs.declared.descent.State.TheVariants as descent_state
+use Rattle.descent.specs.Descents.{State as DescentState}
 use Rattle.descent.specs.declared.visit.State.{State as VisitState}
 use Rattle.descent.specs.declared.visit.State.TheVariants as visit_state
 use Rattle.epochs.specs.Limbo.{Limbo}
@@ -30,10 +29,8 @@ use Rattle.op_machine.specs.Outcomes.{is_leaving}
 use Rattle.op_machine.specs.Shows.{wanted_at}
 use Rattle.op_machine.specs.Tasks.{Task}
 use Rattle.op_machine.specs.Works.{LeavesWith}
-use Rattle.op_machine.specs.declared.op.Want.{Want}
-use Rattle.op_machine.specs.declared.op.Want.TheVariants.{Step, Done}
-use Rattle.op_machine.specs.declared.state.State.{State}
-use Rattle.op_machine.specs.declared.state.State.TheVariants.{Begun, Epoch, Enter, Read, Write, Change, Leave}
+use Rattle.op_machine.specs.Wants.{Want, Step, Done}
+use Rattle.op_machine.specs.States.{State, Begun, Epoch, Enter, Read, Write, Change, Leave}
 use Rattle.sweep.specs.Sweeps as sweep
 use Rattle.sweep.specs.Sweeps.{Sweep}
 use Rattle.sweep.specs.declared.sweep.State.{State as SweepState}
@@ -44,8 +41,8 @@ in_visit pid visit_state.Slot e = cc
 in_visit pid (visit_state.Row head row) e = cc
 
 in_round : (state : DescentState) → descent.wanted_at state ≢ step.Leave
-in_round descent_state.Root e = cc
-in_round (descent_state.Page visit) e = in_visit visit.pid visit.state e
+in_round descent.Root e = cc
+in_round (descent.Page visit) e = in_visit visit.pid visit.state e
 
 in_taking : (taken : Taking) → wanted_number taken ≢ step.Leave
 in_taking (taking.Bits kind.Pid word) e = cc

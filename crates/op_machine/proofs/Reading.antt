@@ -12,14 +12,12 @@ use Rattle.deltas.specs.Memory.{replaced_at}
 use Rattle.chain_search.specs.Fitting.{Fits}
 use Rattle.chain_search.specs.Knowledge.{OwnPage, Other, Empty, Ready, Gone, Knowledge, learn}
 use Rattle.chain_search.specs.Recalled.{Recalled}
-use Rattle.descent.specs.Descents.{wanted_at}
+use Rattle.descent.specs.Descents.{wanted_at, State, Root, Page}
 use Rattle.descent.specs.ReadRounds as read
 use Rattle.descent.specs.WriteRounds as write
 use Rattle.descent.specs.Visits as page
 use Rattle.descent.specs.declared.visit.State as at_page
 use Rattle.descent.specs.declared.visit.State.TheVariants as at_visit
-use Rattle.descent.specs.declared.descent.State.{State}
-use Rattle.descent.specs.declared.descent.State.TheVariants.{Root, Page}
 use Rattle.installs.specs.Spares.{IsUnlinked, Spares}
 use Rattle.op_machine.specs.Tasks.{Seeks, Task}
 

@@ -7,23 +7,23 @@ use Rattle.chain_search.specs.Knowledge.{Knowledge, learn}
 use Rattle.chain_search.specs.Recalled.{IsStepSpent, Recalled, recall}
 use Rattle.descent.specs.ReadRounds as read
 use Rattle.descent.specs.WriteRounds as write
-use Rattle.descent.specs.declared.read_round.Goal.{Goal}
-use Rattle.descent.specs.declared.read_round.Goal.TheVariants as read_to
+use Rattle.descent.specs.ReadGoals.{Goal}
+use Rattle.descent.specs.ReadGoals as read_to
 use Rattle.descent.specs.declared.visit.Sight.{Sight}
 use Rattle.descent.specs.declared.visit.Sight.TheVariants.{Empty, Whole}
 use Rattle.descent.specs.Courses as write_to
 use Rattle.descent.specs.Courses.{Seek}
-use Rattle.descent.specs.declared.read_round.ReadEnd.{ReadEnd}
-use Rattle.descent.specs.declared.read_round.ReadEnd.TheVariants as read_end
-use Rattle.descent.specs.declared.write_round.WriteEnd.{WriteEnd}
-use Rattle.descent.specs.declared.write_round.WriteEnd.TheVariants as write_end
+use Rattle.descent.specs.ReadEnds.{ReadEnd}
+use Rattle.descent.specs.ReadEnds as read_end
+use Rattle.descent.specs.WriteEnds.{WriteEnd}
+use Rattle.descent.specs.WriteEnds as write_end
 use Rattle.installs.specs.Spares.{Spares}
 use Rattle.op_machine.specs.Bounded.{LeavesFor, left_at, left_for, left_round, one_round}
 use Rattle.op_machine.specs.Outcomes as outcome
 use Rattle.op_machine.specs.Outcomes.{Comes, FacesRead, FacesWritten, HasSought, read_out, written_out}
 use Rattle.op_machine.specs.Shows.{IsInReadRound, IsInWriteRound}
 use Rattle.op_machine.specs.Tasks.{Task}
-use Rattle.op_machine.specs.declared.state.State.TheVariants as at
+use Rattle.op_machine.specs.States as at
 use Rattle.op_machine.proofs.Reading.{reader_reads, seeks_still, writer_reads}
 
 module _ (task : Task) (spares : Spares) (k : Knowledge) (r : Recalled) (round new : read.ReadRound) (told : Answer Record) (h : IsInReadRound task spares k r round) (fits : Fits task.limits k (read.wanted round) told) where

@@ -19,8 +19,7 @@ use Rattle.installs.specs.declared.taking.Taking.TheVariants as taking
 use Rattle.op_machine.specs.Ops.{asked_by}
 use Rattle.op_machine.specs.Outcomes.{has_begun, is_changing}
 use Rattle.op_machine.specs.Shows.{FitsLast, wanted_at}
-use Rattle.op_machine.specs.declared.state.State.{State}
-use Rattle.op_machine.specs.declared.state.State.TheVariants.{Begun, Epoch, Enter, Read, Write, Change, Leave}
+use Rattle.op_machine.specs.States.{State, Begun, Epoch, Enter, Read, Write, Change, Leave}
 use Rattle.sweep.specs.Sweeps as sweep
 use Rattle.sweep.specs.Sweeps.{Sweep}
 use Rattle.sweep.specs.declared.sweep.State.{State as SweepState}

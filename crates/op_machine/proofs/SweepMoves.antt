@@ -17,10 +17,8 @@ use Rattle.op_machine.specs.Ops.{Goes, HoldsLimbo, IsSweeping, Op, Shows, asked_
 use Rattle.op_machine.specs.Shows.{FitsLast, ShowsState, learn_last, recall_last}
 use Rattle.op_machine.specs.Sweeping.{FollowsSweep, with_limbo}
 use Rattle.op_machine.specs.Tasks.{Task, Waits}
-use Rattle.op_machine.specs.declared.state.State.{State}
-use Rattle.op_machine.specs.declared.state.State.TheVariants.{Begun}
-use Rattle.sweep.specs.Sweeps.{IsSoundSweep, IsKeptOutside, Sweep, wanted}
-use Rattle.sweep.specs.Sweeps.{Shows as ShowsSweep}
+use Rattle.op_machine.specs.States.{State, Begun}
+use Rattle.sweep.specs.Sweeps.{IsSoundSweep, IsKeptOutside, Sweep, wanted, Shows as ShowsSweep}
 
 module _ (task : Task) (spares : Spares) where
   -- what is known of the limbo is of no matter before the first step of the work

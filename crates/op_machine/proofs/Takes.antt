@@ -18,9 +18,8 @@ use Rattle.op_machine.specs.Shows.{learn_last, recall_last, wanted_at}
 use Rattle.op_machine.specs.Spending.{Spends, SpendsTo, steps_left, sweep_left}
 use Rattle.op_machine.specs.Sweeping.{HasFewer, IsSameWork, MovesSweep, ObeysSweep, with_limbo}
 use Rattle.op_machine.specs.Works.{AsksOn, IsToldWith, KeepsLimbo, asked_of}
-use Rattle.op_machine.specs.declared.op.Want.TheVariants.{Step}
-use Rattle.op_machine.specs.declared.state.State.{State}
-use Rattle.op_machine.specs.declared.state.State.TheVariants.{Begun, Epoch, Enter, Read, Write, Change, Leave}
+use Rattle.op_machine.specs.Wants.{Step}
+use Rattle.op_machine.specs.States.{State, Begun, Epoch, Enter, Read, Write, Change, Leave}
 use Rattle.op_machine.proofs.Nexts.{asks, asks_none, fewer, fits_on, fits_swept, kept_after, kept_begun, left_first, left_is, nothing_left, rests, starts, sweep_asks, told_after, unswept}
 use Rattle.sweep.specs.Bounded as sweep
 use Rattle.sweep.specs.Sweeps.{Sweep}

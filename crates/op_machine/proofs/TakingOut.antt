@@ -18,8 +18,8 @@ use Rattle.installs.specs.declared.plan.Plan.{Plan}
 use Rattle.installs.specs.declared.plan.Plan.TheVariants.{Install, Split, Root, Unlink}
 use Rattle.op_machine.specs.Brings.{Brings}
 use Rattle.op_machine.specs.Hands.{IsPageOut, IsTakenBy, GoesToLimbo, TakesNothing, Unlinks}
-use Rattle.op_machine.specs.declared.state.Then.{Then}
-use Rattle.op_machine.specs.declared.state.Then.TheVariants.{Round, Limbo, Errand, Reply}
+use Rattle.op_machine.specs.declared.then.Then.{Then}
+use Rattle.op_machine.specs.declared.then.Then.TheVariants.{Round, Limbo, Errand, Reply}
 use Rattle.op_machine.specs.declared.unlinked.Unlinked.{Unlinked}
 use Rattle.sweep.specs.Kept.{AreKept}
 use Rattle.sweep.specs.Taken.{IsTakenOut}

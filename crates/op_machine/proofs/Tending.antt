@@ -19,7 +19,7 @@ use Rattle.op_machine.specs.Outcomes.{IsAtLeaf, IsAtLeafBelow}
 use Rattle.op_machine.specs.Shows.{MayBegin}
 use Rattle.op_machine.specs.Tasks.{Task}
 use Rattle.op_machine.specs.Upkeep.{IsUpkeepFor}
-use Rattle.op_machine.specs.declared.state.Then.TheVariants.{Round}
+use Rattle.op_machine.specs.declared.then.Then.TheVariants.{Round}
 
 module _ (task : Task) (spares : Spares) (k : Knowledge) (r : Recalled)
     (holds : (actor : ℕ) (k : Knowledge) (parent page : Version) (hold : Hold) → HasSeen k parent → is_removed parent.chain ≡ false → IsPageChain parent.chain → IsHoldPlan parent page hold → MayInstall actor k parent.pid parent.head (kind.Hold hold))

@@ -7,16 +7,16 @@ use Rattle.chain_search.specs.Recalled.{Recalled, IsStepSpent}
 use Rattle.descent.specs.ReadRounds as read
 use Rattle.descent.specs.WriteRounds as write
 use Rattle.descent.specs.Walks.{few_reads}
-use Rattle.descent.specs.declared.read_round.ReadEnd.TheVariants as read_end
-use Rattle.descent.specs.declared.write_round.WriteEnd.TheVariants as write_end
+use Rattle.descent.specs.ReadEnds as read_end
+use Rattle.descent.specs.WriteEnds as write_end
 use Rattle.installs.specs.Bounded as change
 use Rattle.installs.specs.Spares.{Spares}
 use Rattle.installs.specs.declared.change.End.TheVariants.{Won, Lost, Full}
 use Rattle.op_machine.specs.Outcomes.{Outcome, Begun, Epoch, Entered, Read, Written, Changed}
 use Rattle.op_machine.specs.Shows.{recall_last}
-use Rattle.op_machine.specs.declared.state.State.{State}
-use Rattle.op_machine.specs.declared.state.State.TheVariants as at
-use Rattle.op_machine.specs.declared.state.Then.TheVariants.{Round, Limbo, Errand, Reply}
+use Rattle.op_machine.specs.States.{State}
+use Rattle.op_machine.specs.States as at
+use Rattle.op_machine.specs.declared.then.Then.TheVariants.{Round, Limbo, Errand, Reply}
 
 -- how many steps a change takes at most
 abbrev pub few_changes : ℕ

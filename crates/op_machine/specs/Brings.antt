@@ -20,8 +20,8 @@ use Rattle.smo.specs.Sizes.{HasFewItems}
 use Rattle.op_machine.specs.Errands.{with_errand}
 use Rattle.op_machine.specs.Hands.{IsTakenBy, TakesNothing}
 use Rattle.op_machine.specs.Upkeep.{IsTidying}
-use Rattle.op_machine.specs.declared.state.Then.{Then}
-use Rattle.op_machine.specs.declared.state.Then.TheVariants.{Round, Limbo, Errand, Reply}
+use Rattle.op_machine.specs.declared.then.Then.{Then}
+use Rattle.op_machine.specs.declared.then.Then.TheVariants.{Round, Limbo, Errand, Reply}
 
 -- The plan links the command's update over a leaf as it was read, where neither a consolidation nor a split is due, and this is the reply over that leaf.
 pub record IsUpdateOf (k : Knowledge) (command : Command) (plan : Plan) (answered : ReplyOf) : Type 0 where

@@ -13,8 +13,8 @@ use Rattle.installs.specs.declared.change.End.{End}
 use Rattle.installs.specs.declared.change.End.TheVariants.{Won}
 use Rattle.installs.specs.declared.plan.Plan.{Plan}
 use Rattle.installs.specs.declared.plan.Plan.TheVariants.{Install, Unlink}
-use Rattle.op_machine.specs.declared.state.Then.{Then}
-use Rattle.op_machine.specs.declared.state.Then.TheVariants as then
+use Rattle.op_machine.specs.declared.then.Then.{Then}
+use Rattle.op_machine.specs.declared.then.Then.TheVariants as then
 use Rattle.op_machine.specs.declared.unlinked.Unlinked.{Unlinked}
 use Rattle.sweep.specs.Kept.{empty_limbo}
 

@@ -11,7 +11,7 @@ use Rattle.op_machine.specs.Ops.{Goes, IsTold, Obeys, Op, Shows, wanted_of}
 use Rattle.op_machine.specs.Shows.{FitsLast, learn_last, recall_last}
 use Rattle.op_machine.specs.Spending.{Spends}
 use Rattle.op_machine.specs.Tasks.{IsSameTask}
-use Rattle.op_machine.specs.declared.op.Want.TheVariants.{Step}
+use Rattle.op_machine.specs.Wants.{Step}
 
 -- Something is known that the operation shows.
 abbrev pub IsShown : Op → Hand → Type 0

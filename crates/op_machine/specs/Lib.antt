@@ -14,6 +14,8 @@ pub mod Updates
 pub mod Tasks
 pub mod Errands
 pub mod Brings
+pub mod States
+pub mod Wants
 pub mod Shows
 pub mod Outcomes
 pub mod Ops

@@ -13,13 +13,10 @@ use Rattle.op_machine.specs.Hands.{Hand}
 use Rattle.op_machine.specs.Outcomes.{HasLeft}
 use Rattle.op_machine.specs.Shows.{FitsLast, MayStep, ShowsState, learn_last, recall_last, wanted_at}
 use Rattle.op_machine.specs.Tasks.{IsAtRest, Task}
-use Rattle.op_machine.specs.declared.op.Want.{Want}
-use Rattle.op_machine.specs.declared.op.Want.TheVariants.{Step, Done}
-use Rattle.op_machine.specs.declared.state.State.{State}
-use Rattle.op_machine.specs.declared.state.State.TheVariants.{Begun}
+use Rattle.op_machine.specs.Wants.{Want, Step, Done}
+use Rattle.op_machine.specs.States.{State, Begun}
 use Rattle.sweep.specs.Kept.{AreKept}
-use Rattle.sweep.specs.Sweeps.{IsSoundSweep, Sweep, wanted}
-use Rattle.sweep.specs.Sweeps.{Shows as ShowsSweep}
+use Rattle.sweep.specs.Sweeps.{IsSoundSweep, Sweep, wanted, Shows as ShowsSweep}
 
 -- what an operation was asked, the sweep that is under way, and where the operation stands after that
 pub record Op : Type 0 where

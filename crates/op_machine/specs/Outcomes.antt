@@ -14,10 +14,10 @@ use Rattle.descent.specs.ReadRounds as read
 use Rattle.descent.specs.Versions.{IsAlive}
 use Rattle.descent.specs.Visits.{reads_on}
 use Rattle.descent.specs.WriteRounds as write
-use Rattle.descent.specs.declared.read_round.ReadEnd.{ReadEnd}
+use Rattle.descent.specs.ReadEnds.{ReadEnd}
 use Rattle.descent.specs.Courses.{Seek}
-use Rattle.descent.specs.declared.write_round.WriteEnd.{WriteEnd}
-use Rattle.descent.specs.declared.write_round.WriteEnd.TheVariants as write_end
+use Rattle.descent.specs.WriteEnds.{WriteEnd}
+use Rattle.descent.specs.WriteEnds as write_end
 use Rattle.installs.specs.declared.change.End.{End}
 use Rattle.installs.specs.declared.change.End.TheVariants.{Won, Lost, Full}
 use Rattle.installs.specs.Spares.{Spares}
@@ -28,11 +28,10 @@ use Rattle.op_machine.specs.Errands.{due_of, way_key}
 use Rattle.op_machine.specs.Hands.{Unlinks}
 use Rattle.op_machine.specs.Shows.{FitsLast, IsRoundOf, ShowsState, learn_last, recall_last, wanted_at}
 use Rattle.op_machine.specs.Tasks.{IsBetweenChanges, IsAtRest, Seeks, Task, Waits}
-use Rattle.op_machine.specs.declared.state.State.{State}
-use Rattle.op_machine.specs.declared.state.State.TheVariants as at
-use Rattle.op_machine.specs.declared.state.State.TheVariants.{Change, Leave}
-use Rattle.op_machine.specs.declared.state.Then.{Then}
-use Rattle.op_machine.specs.declared.state.Then.TheVariants.{Round, Limbo, Errand, Reply}
+use Rattle.op_machine.specs.States.{State, Change, Leave}
+use Rattle.op_machine.specs.States as at
+use Rattle.op_machine.specs.declared.then.Then.{Then}
+use Rattle.op_machine.specs.declared.then.Then.TheVariants.{Round, Limbo, Errand, Reply}
 
 -- what an operation has come to, where it goes from one state to another: it begins, has read the epoch, has entered, or
 -- a round or a change has ended
@@ -152,12 +151,6 @@ has_machine state = is_reading state || is_writing state || is_changing state
 abbrev pub is_leaving : State → Bool
 is_leaving (Leave reply) = true
 is_leaving state = false
-
--- whether a round reads on after the answer
-abbrev pub reads_on_at : State → Answer Record → Bool
-reads_on_at (at.Read round) told = reads_on told
-reads_on_at (at.Write round) told = reads_on told
-reads_on_at state told = false
 
 -- what is known to be in limbo after a change's step
 abbrev pub UnlinksAfter : Limits → Knowledge → Option (End × Then) → Limbos → Type 0

@@ -8,18 +8,18 @@ use Rattle.chain_search.specs.Chains.{level_in, low_in}
 use Rattle.descent.specs.Courses as course
 use Rattle.descent.specs.ReadRounds as read
 use Rattle.descent.specs.WriteRounds as write
-use Rattle.descent.specs.declared.descent.State.TheVariants.{Root}
-use Rattle.descent.specs.declared.read_round.ReadEnd.{ReadEnd}
-use Rattle.descent.specs.declared.write_round.WriteEnd.{WriteEnd}
+use Rattle.descent.specs.Descents.{Root}
+use Rattle.descent.specs.ReadEnds.{ReadEnd}
+use Rattle.descent.specs.WriteEnds.{WriteEnd}
 use Rattle.installs.specs.Changes.{Change as ChangeOf}
 use Rattle.installs.specs.declared.change.End.{End}
 use Rattle.rounds.specs.ReadRounds.{ReadRound}
 use Rattle.rounds.specs.WriteRounds.{WriteRound}
-use Rattle.op_machine.specs.declared.in_place.places.Stand.{Stand}
-use Rattle.op_machine.specs.declared.in_place.places.Stand.TheVariants.{Begun, Epoch, Enter, Read, Write, Change, Leave}
-use Rattle.op_machine.specs.declared.state.State.{State}
-use Rattle.op_machine.specs.declared.state.State.TheVariants as at
-use Rattle.op_machine.specs.declared.state.Then.{Then}
+use Rattle.op_machine.specs.declared.places.Stand.{Stand}
+use Rattle.op_machine.specs.declared.places.Stand.TheVariants.{Begun, Epoch, Enter, Read, Write, Change, Leave}
+use Rattle.op_machine.specs.States.{State}
+use Rattle.op_machine.specs.States as at
+use Rattle.op_machine.specs.declared.then.Then.{Then}
 
 -- Where the operation stands, the rounds and the change, what comes after the change, and the reply, each in its place.
 pub record Places : Type 0 where

@@ -23,9 +23,8 @@ use Rattle.bw_model.specs.Replies.{is_writer}
 use Rattle.op_machine.specs.Brings.{Brings, IsReadPlan, IsUsefulPlan}
 use Rattle.op_machine.specs.Errands.{due_of, way_key}
 use Rattle.op_machine.specs.Tasks.{IsAsked, IsBetweenChanges, IsUnreadPid, Seeks, Task, Waits}
-use Rattle.op_machine.specs.declared.state.State.{State}
-use Rattle.op_machine.specs.declared.state.State.TheVariants.{Begun, Epoch, Enter, Read, Write, Change, Leave}
-use Rattle.op_machine.specs.declared.state.Then.{Then}
+use Rattle.op_machine.specs.States.{State, Begun, Epoch, Enter, Read, Write, Change, Leave}
+use Rattle.op_machine.specs.declared.then.Then.{Then}
 
 -- A reader's round is under way, for the command's key.
 pub record IsInReadRound (task : Task) (spares : Spares) (k : Knowledge) (r : Recalled) (round : read.ReadRound) : Type 0 where

@@ -8,10 +8,8 @@ use Rattle.op_machine.specs.Bounded.{IsSpentLast, left_at, with_errands}
 use Rattle.op_machine.specs.Hands.{Hand}
 use Rattle.op_machine.specs.Ops.{Op, Shows, wanted_of}
 use Rattle.op_machine.specs.Shows.{FitsLast, recall_last}
-use Rattle.op_machine.specs.declared.op.Want.{Want}
-use Rattle.op_machine.specs.declared.op.Want.TheVariants.{Step, Done}
-use Rattle.op_machine.specs.declared.state.State.{State}
-use Rattle.op_machine.specs.declared.state.State.TheVariants.{Begun}
+use Rattle.op_machine.specs.Wants.{Want, Step, Done}
+use Rattle.op_machine.specs.States.{State, Begun}
 use Rattle.sweep.specs.Bounded as sweep
 use Rattle.sweep.specs.Sweeps.{Sweep}
 

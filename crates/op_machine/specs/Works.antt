@@ -1,5 +1,5 @@
 -- An operation after its sweep, over the spares alone.
-use Rattle.std.specs.Prelude.{◌≡◌, ◌≤◌, Option, Some, IsSome, ⊤}
+use Rattle.std.specs.Prelude.{◌≡◌, ◌≤◌, Option, IsSome}
 use Rattle.bw_model.specs.declared.step.Step.{Step as StepOf}
 use Rattle.bw_model.specs.declared.step.Answer.{Answer}
 use Rattle.deltas.specs.declared.record.Record.{Record}
@@ -9,13 +9,11 @@ use Rattle.installs.specs.Spares.{Spares}
 use Rattle.op_machine.specs.Bounded.{IsSpentLast, LeavesFor, left_at, left_for, with_errands}
 use Rattle.op_machine.specs.Hands.{Hand}
 use Rattle.op_machine.specs.Ops.{Op}
-use Rattle.op_machine.specs.Outcomes.{Comes, Faces, HasLeft, IsToldAt, Outcome}
-use Rattle.op_machine.specs.Shows.{FitsLast, MayStep, ShowsState, learn_last, recall_last, wanted_at}
+use Rattle.op_machine.specs.Outcomes.{Comes, Faces, IsToldAt, Outcome}
+use Rattle.op_machine.specs.Shows.{FitsLast, ShowsState, learn_last, recall_last, wanted_at}
 use Rattle.op_machine.specs.Tasks.{IsSameTask, Task}
-use Rattle.op_machine.specs.declared.op.Want.{Want}
-use Rattle.op_machine.specs.declared.op.Want.TheVariants.{Step, Done}
-use Rattle.op_machine.specs.declared.state.State.{State}
-use Rattle.op_machine.specs.declared.state.State.TheVariants.{Leave}
+use Rattle.op_machine.specs.Wants.{Want, Step, Done}
+use Rattle.op_machine.specs.States.{State, Leave}
 use Rattle.sweep.specs.Kept.{AreKept}
 
 abbrev pub Works : Op → Spares → Knowledge → Recalled → Type 0
@@ -47,42 +45,14 @@ pub record TurnsInto (old : State) (had : Spares) (told : Answer Record) (new : 
   pub comes : (task : Task) (k : Knowledge) (r : Recalled) → ShowsState task had k r old → FitsLast task.limits k (wanted_at had old) told → Comes task k r (wanted_at had old) told new has outcome
   pub leaves : (task : Task) (k : Knowledge) (r : Recalled) → ShowsState task had k r old → FitsLast task.limits k (wanted_at had old) told → LeavesFor r (wanted_at had old) told (left_at r had old) new has outcome
 
--- The step is wanted, the actor may take it, and the operation shows what is known.
-pub record GoesOn (k : Knowledge) (r : Recalled) (op : Op) (spares : Spares) (asked : StepOf Record) : Type 0 where
-  pub wanted : asked_of op spares ≡ Some asked
-  pub may : MayStep op.task k asked
-  pub works : Works op spares k r
-
-abbrev pub AnswersOn : Knowledge → Recalled → Op → Spares → Answer Record → Op → Spares → Want → Type 0
-AnswersOn k r old had told new has (Step asked) = GoesOn (learn_last k (asked_of old had) told) (recall_last r (asked_of old had) told) new has asked
-AnswersOn k r old had told new has (Done reply) = HasLeft old.task k (asked_of old had) told has reply
-
--- It goes on as its actor may,
-abbrev pub ObeysOn : Op → Spares → Answer Record → Op → Spares → Want → Type 0
-ObeysOn old had told new has want = (k : Knowledge) (r : Recalled) → Works old had k r → FitsLast old.task.limits k (asked_of old had) told → AnswersOn k r old had told new has want
-
--- with fewer steps left, or a cause paid for more,
+-- It has fewer steps left, or a cause paid for more.
 abbrev pub IsSpentOn : Recalled → Op → Spares → Answer Record → Op → Spares → Type 0
 IsSpentOn r old had told new has = IsSpentLast r (asked_of old had) told (with_errands old.task.errands (left_at r had old.state)) (with_errands new.task.errands (left_at (recall_last r (asked_of old had) told) has new.state))
 
-abbrev pub SpendsOnTo : Recalled → Op → Spares → Answer Record → Op → Spares → Want → Type 0
-SpendsOnTo r old had told new has (Step asked) = IsSpentOn r old had told new has
-SpendsOnTo r old had told new has (Done reply) = ⊤
-
-abbrev pub SpendsOn : Op → Spares → Answer Record → Op → Spares → Want → Type 0
-SpendsOn old had told new has want = (k : Knowledge) (r : Recalled) → Works old had k r → FitsLast old.task.limits k (asked_of old had) told → SpendsOnTo r old had told new has want
-
--- and the limbo list keeps what is known to be in limbo.
+-- The limbo list keeps what is known to be in limbo.
 abbrev pub KeepsLimbo : Op → Hand → Answer Record → Hand → Type 0
 KeepsLimbo old had told has = (k : Knowledge) (r : Recalled) → Works old had.spares k r → FitsLast old.task.limits k (asked_of old had.spares) told
     → AreKept old.task.limits old.task.actor had.limbo k.limbo → AreKept old.task.limits old.task.actor has.limbo (learn_last k (asked_of old had.spares) told).limbo
-
--- An operation after its sweep goes ahead: as its actor may, with fewer steps left, at the same task.
-pub record GoesAhead (old : Op) (had : Spares) (told : Answer Record) (new : Op) (has : Spares) (want : Want) : Type 0 where
-  pub obeys : ObeysOn old had told new has want
-  pub spends : SpendsOn old had told new has want
-  pub same : IsSameTask old.task new.task
-  pub sweep : new.sweep ≡ old.sweep
 
 -- It has taken the answer and asks for a step: it shows what is known then, with fewer steps left, at the same task.
 pub record AsksOn (old : Op) (had : Spares) (told : Answer Record) (new : Op) (has : Spares) : Type 0 where

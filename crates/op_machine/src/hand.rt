@@ -5,7 +5,7 @@ ghost use Rattle.chain_search.specs.Knowledge.{Knowledge, Limbos};
 ghost use Rattle.op_machine.specs.Hands.{Unlinks, empty_hand};
 ghost use Rattle.sweep.specs.Kept.{AreKept};
 
-use crate::state::Then;
+use crate::then::Then;
 use bw_model::{Limits, OpenError};
 use epochs::Limbo;
 use installs::{End, Spares};

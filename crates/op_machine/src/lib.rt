@@ -4,15 +4,17 @@
 mod errands;
 mod examples;
 mod hand;
-mod in_place;
 mod laws;
 mod link;
 mod listing;
-mod op;
-mod state;
+mod operation;
+mod places;
+mod read_ends;
 mod task;
+mod then;
 mod unlinked;
 mod upkeep;
+mod write_ends;
 
 pub use errands::MAX_ERRANDS;
 pub use examples::{
@@ -21,11 +23,9 @@ pub use examples::{
     useless_links_are_refused,
 };
 pub use hand::Hand;
-pub use in_place::Operation;
-pub(crate) use in_place::Places;
 pub use laws::{
     knowledge_stays, late_mark_keeps_log, log_grows, one_leaf_has_the_map, phases_grow,
 };
 pub use link::exchange_link;
 pub use listing::logged_pairs;
-pub use op::{Op, Want};
+pub use operation::Operation;

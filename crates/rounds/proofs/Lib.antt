@@ -5,3 +5,4 @@ pub mod SmallWriteRounds
 pub mod Turning
 pub mod WayTurns
 pub mod WriteSeeing
+pub mod TestedRounds

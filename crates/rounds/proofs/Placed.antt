@@ -7,9 +7,8 @@ use Rattle.deltas.specs.declared.record.Record.{Record}
 use Rattle.deltas.specs.Records.{next_row}
 use Rattle.chain_search.specs.Fitted.{IsPageChain}
 use Rattle.smo.specs.declared.version.Version.{Version}
-use Rattle.descent.specs.Descents.{Descent, IsTold, Responds}
+use Rattle.descent.specs.Descents.{Descent, IsTold, Responds, Root, Page}
 use Rattle.descent.specs.Visits as page
-use Rattle.descent.specs.declared.descent.State.TheVariants.{Root, Page}
 use Rattle.descent.specs.declared.visit.Sight.TheVariants.{Empty, Whole}
 use Rattle.descent.specs.declared.visit.State.{State}
 use Rattle.descent.specs.declared.visit.State.TheVariants.{Slot, Row}

@@ -7,9 +7,9 @@ use Rattle.deltas.specs.declared.record.Record.{Record}
 use Rattle.smo.specs.declared.version.Version.{Version}
 use Rattle.descent.specs.Descents.{going_to, wanted_at}
 use Rattle.descent.specs.ReadRounds as reader
-use Rattle.descent.specs.declared.descent.State.TheVariants as stands
-use Rattle.descent.specs.declared.read_round.Goal.TheVariants as goal
-use Rattle.descent.specs.declared.read_round.ReadEnd.TheVariants as end
+use Rattle.descent.specs.Descents as stands
+use Rattle.descent.specs.ReadGoals as goal
+use Rattle.descent.specs.ReadEnds as end
 use Rattle.descent.specs.declared.visit.Sight.TheVariants as sight
 use Rattle.rounds.specs.Descents.{sight_of, state_of, step_of}
 use Rattle.rounds.specs.ReadRounds.{end_of, goal_of}

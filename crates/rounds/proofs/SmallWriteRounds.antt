@@ -7,7 +7,7 @@ use Rattle.deltas.specs.declared.record.Unterm.{Unterm as UntermRecord}
 use Rattle.smo.specs.declared.version.Version.{Version}
 use Rattle.descent.specs.Courses as kept
 use Rattle.descent.specs.WriteRounds as writer
-use Rattle.descent.specs.declared.write_round.WriteEnd.TheVariants as end
+use Rattle.descent.specs.WriteEnds as end
 use Rattle.rounds.specs.Courses.{goal_of, kept_if}
 use Rattle.rounds.specs.WriteRounds.{WriteRound, again_if, end_of}
 use Rattle.rounds.specs.declared.course.Aim.TheVariants as aim

@@ -7,7 +7,7 @@ use Rattle.deltas.specs.declared.record.Record.{Record}
 use Rattle.descent.specs.Descents as from_root
 use Rattle.descent.specs.WriteRounds as writer
 use Rattle.descent.specs.declared.visit.Sight.TheVariants as sight
-use Rattle.descent.specs.declared.write_round.WriteEnd.TheVariants as end
+use Rattle.descent.specs.WriteEnds as end
 use Rattle.descent.proofs.Writing.{can_see, sees_as, way_shows}
 use Rattle.rounds.specs.Courses.{Course}
 use Rattle.rounds.specs.Descents.{Descent, sight_of}

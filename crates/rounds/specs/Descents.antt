@@ -7,8 +7,6 @@ use Rattle.deltas.specs.declared.record.Record.{Record}
 use Rattle.smo.specs.declared.version.Version.{Version}
 use Rattle.descent.specs.Descents as from_root
 use Rattle.descent.specs.Visits as visit
-use Rattle.descent.specs.declared.descent.State as stands
-use Rattle.descent.specs.declared.descent.State.TheVariants as stands_at
 use Rattle.descent.specs.declared.visit.State.TheVariants as reads
 use Rattle.descent.specs.declared.visit.Sight.{Sight}
 use Rattle.descent.specs.declared.visit.Sight.TheVariants as sight
@@ -25,10 +23,10 @@ pub record Descent : Type 0 where
   pub page : Version
 
 -- the state that a place is, with the records that were read of the page's chain
-abbrev pub state_of : Limits → At → List Record → stands.State
-state_of limits Root part = stands_at.Root
-state_of limits (Slot pid) part = stands_at.Page (record { limits = limits; pid = pid; part = part; state = reads.Slot })
-state_of limits (Row pid head row) part = stands_at.Page (record { limits = limits; pid = pid; part = part; state = reads.Row head row })
+abbrev pub state_of : Limits → At → List Record → from_root.State
+state_of limits Root part = from_root.Root
+state_of limits (Slot pid) part = from_root.Page (record { limits = limits; pid = pid; part = part; state = reads.Slot })
+state_of limits (Row pid head row) part = from_root.Page (record { limits = limits; pid = pid; part = part; state = reads.Row head row })
 
 abbrev pub IsSoundAt : Limits → At → Type 0
 IsSoundAt limits Root = ⊤

@@ -3,10 +3,10 @@ use Rattle.std.specs.Prelude.{◌≡◌, Option, Some, None, ⊤}
 use Rattle.std.specs.Option.{option_map}
 use Rattle.smo.specs.declared.version.Version.{Version}
 use Rattle.descent.specs.ReadRounds as rounds
-use Rattle.descent.specs.declared.read_round.Goal.{Goal}
-use Rattle.descent.specs.declared.read_round.Goal.TheVariants as goal
-use Rattle.descent.specs.declared.read_round.ReadEnd.{ReadEnd}
-use Rattle.descent.specs.declared.read_round.ReadEnd.TheVariants as end
+use Rattle.descent.specs.ReadGoals.{Goal}
+use Rattle.descent.specs.ReadGoals as goal
+use Rattle.descent.specs.ReadEnds.{ReadEnd}
+use Rattle.descent.specs.ReadEnds as end
 use Rattle.rounds.specs.declared.descents.Seen.{Seen}
 use Rattle.rounds.specs.declared.descents.Seen.TheVariants.{On, Empty, Whole}
 use Rattle.rounds.specs.declared.read_round.Going.{Going}

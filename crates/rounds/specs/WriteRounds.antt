@@ -3,8 +3,8 @@ use Rattle.std.specs.Prelude.{◌≡◌, Bool, true, false, Option, Some, None, 
 use Rattle.std.specs.Option.{option_map}
 use Rattle.smo.specs.declared.version.Version.{Version}
 use Rattle.descent.specs.WriteRounds as rounds
-use Rattle.descent.specs.declared.write_round.WriteEnd.{WriteEnd}
-use Rattle.descent.specs.declared.write_round.WriteEnd.TheVariants as end
+use Rattle.descent.specs.WriteEnds.{WriteEnd}
+use Rattle.descent.specs.WriteEnds as end
 use Rattle.rounds.specs.declared.descents.Seen.{Seen}
 use Rattle.rounds.specs.declared.descents.Seen.TheVariants.{On, Empty, Whole}
 use Rattle.rounds.specs.declared.write_ended.WriteEnded.{WriteEnded}

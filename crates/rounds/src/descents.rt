@@ -5,7 +5,7 @@ ghost use Rattle.chain_search.specs.Discipline.{May};
 ghost use Rattle.chain_search.specs.Knowledge.{Knowledge};
 ghost use Rattle.descent.specs.Descents.{HasCome, IsTold, Responds, Shows, going_to, wanted};
 ghost use Rattle.descent.specs.Visits.{ReadsWithin};
-ghost use Rattle.descent.specs.declared.descent.State.TheVariants as state;
+ghost use Rattle.descent.specs.Descents as state;
 ghost use Rattle.rounds.specs.Descents.{sight_of, state_of, step_of};
 
 use crate::{Asked, PageInHand};

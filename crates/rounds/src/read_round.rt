@@ -10,8 +10,8 @@ ghost use Rattle.chain_search.specs.Recalled.{Recalled};
 ghost use Rattle.descent.specs.ReadRounds.{CanTreat, IsSame, IsTold, Responds, Shows, Treats, going_to, toward, wanted, way_of};
 ghost use Rattle.descent.specs.Visits.{ReadsWithin};
 ghost use Rattle.descent.specs.Ways.{EndsHere, LeadsOn, precedes};
-ghost use Rattle.descent.specs.declared.descent.State.TheVariants.{Root};
-ghost use Rattle.descent.specs.declared.read_round.Goal.TheVariants as goal;
+ghost use Rattle.descent.specs.Descents.{Root};
+ghost use Rattle.descent.specs.ReadGoals as goal;
 ghost use Rattle.rounds.specs.Descents.{step_of};
 ghost use Rattle.rounds.specs.ReadRounds.{CanSee, Sees, end_of};
 

@@ -10,7 +10,7 @@ ghost use Rattle.descent.specs.Courses as goal;
 ghost use Rattle.descent.specs.Visits.{ReadsWithin, reads_on};
 ghost use Rattle.descent.specs.WriteRounds.{CanTreat, IsFine, IsHere, IsLeftLeaf, IsSame, IsSplitFinished, IsTold, Responds, SeeksLeaf, Shows, Treats, ends_at, goes_left, wanted, way_of};
 ghost use Rattle.descent.specs.Ways.{LeadsDown, LeadsRight, StaysLeft};
-ghost use Rattle.descent.specs.declared.descent.State.TheVariants.{Root};
+ghost use Rattle.descent.specs.Descents.{Root};
 ghost use Rattle.rounds.specs.Descents.{step_of};
 ghost use Rattle.rounds.specs.WriteRounds.{CanSee, Sees, again_if, end_of};
 

@@ -23,8 +23,7 @@ use Rattle.installs.specs.Spares.{Spares}
 use Rattle.op_machine.specs.Hands.{Hand}
 use Rattle.op_machine.specs.Shows.{ShowsState}
 use Rattle.op_machine.specs.Tasks.{Task}
-use Rattle.op_machine.specs.declared.state.State.{State}
-use Rattle.op_machine.specs.declared.state.State.TheVariants.{Begun, Epoch, Enter, Read, Write, Change, Leave}
+use Rattle.op_machine.specs.States.{State, Begun, Epoch, Enter, Read, Write, Change, Leave}
 use Rattle.step_core.specs.Actors.{IsPageEnd, IsReady, NeedsRoom}
 
 -- a reply that a test decides between two without pairs

@@ -6,7 +6,7 @@ ghost use Rattle.chain_search.specs.Fitted.{IsFitted};
 ghost use Rattle.deltas.specs.Spellable.{IsPid};
 ghost use Rattle.deltas.specs.declared.record.Record.TheVariants.{Base};
 ghost use Rattle.descent.specs.Ways.{precedes};
-ghost use Rattle.descent.specs.declared.read_round.Goal.TheVariants.{Left};
+ghost use Rattle.descent.specs.ReadGoals.{Left};
 
 use super::{ReadEnded, ReadRound};
 use crate::{Asked, PageInHand};

@@ -1,6 +1,6 @@
 use Rattle.std.proofs.Common.{◌≡◌, ◌<◌, ◌∙◌, length, ap, sym, subst}
 use Rattle.smo.specs.declared.version.Version.{Version}
-use Rattle.descent.specs.declared.write_round.WriteEnd.TheVariants as end
+use Rattle.descent.specs.WriteEnds as end
 use Rattle.rounds.specs.WriteRounds.{WriteRound}
 use Rattle.op_machine.specs.Outcomes.{FacesWritten}
 use Rattle.op_machine.proofs.Plans.{long_chain, one_chain}

@@ -1,7 +1,7 @@
 use Rattle.std.proofs.Common.{sym, ap, subst, ◌∙◌}
 use Rattle.chain_search.specs.Fitted.{IsFitted}
 use Rattle.smo.specs.declared.version.Version.{Version}
-use Rattle.descent.proofs.TestedRounds.{names_pages}
+use Rattle.rounds.proofs.TestedRounds.{names_pages}
 use Rattle.rounds.proofs.write_round.tests.treated.Goals as goal
 
 pub treat-ended-requires : goal.treat-ended-requires

@@ -1,4 +1,0 @@
-use Rattle.op_machine.proofs.in_place.operation.Operation.change_on.Goals as goal
-
-pub returns-clause-keeps : goal.returns-clause-keeps
-returns-clause-keeps g c = rw c.answer.ensures at c.change_by.ensures.keeps

@@ -1,0 +1,10 @@
+use Rattle.std.proofs.Common.{sym, ◌∙◌}
+use Rattle.op_machine.proofs.Nexts.{told_begun}
+use Rattle.op_machine.proofs.Takes.{takes_begun}
+use Rattle.op_machine.proofs.operation.Operation.go_on.Goals as goal
+
+pub work_on-requires-clause-told : goal.work_on-requires-clause-told
+work_on-requires-clause-told g c = told_begun _ _ _ (rw (← c.self.view_is) (sym c.has_begun.ensures ∙ c.if-has_begun.true)) c.requires.told
+
+pub returns-then-has_begun : goal.returns-then-has_begun
+returns-then-has_begun g c = takes_begun _ _ _ (rw (← c.self.view_is) (sym c.has_begun.ensures ∙ c.if-has_begun.true)) _ _ c.work_on.ensures.asks c.work_on.ensures.keeps c.requires.told

@@ -1,0 +1,20 @@
+use Rattle.std.proofs.Common.{◌∙◌}
+use Rattle.op_machine.proofs.Changing.{begins_apart}
+use Rattle.op_machine.proofs.places.Places.begin_change.Goals as goal
+
+pub returns-clause-stands : goal.returns-clause-stands
+returns-clause-stands g c k r b =
+    let begun = c.new-self-inside.ensures in
+    record {
+      asked = b.seeks.asked;
+      writer = b.writer;
+      limits = begun.limits ∙ c.limits.ensures;
+      brings = rw begun.plan b.brings;
+      useful = rw begun.plan b.useful;
+      split = rw begun.plan b.split;
+      unread = b.seeks.unread;
+      sound = begun.sound;
+      made = begun.made;
+      shows = begun.shows c.args.task.now.actor k b.may b.keeps b.seeks.spare.rest;
+      recalls = begun.recalls r b.recalled (begins_apart k c.args.plan c.args.spares.now b.seeks.unread b.split);
+    }

@@ -1,0 +1,16 @@
+-- Where an operation stands after its sweep: a state without a machine is named by the step that it has asked for.
+use Rattle.std.specs.Prelude.{ℕ}
+use Rattle.bw_model.specs.declared.command.Reply.{Reply}
+use Rattle.descent.specs.ReadRounds.{ReadRound}
+use Rattle.descent.specs.WriteRounds.{WriteRound}
+use Rattle.installs.specs.Changes.{Change as ChangeOf}
+use Rattle.op_machine.specs.declared.then.Then.{Then}
+
+pub data State : Type 0 where
+  Begun : State
+  Epoch : State
+  Enter : (epoch : ℕ) → State
+  Read : (round : ReadRound) → State
+  Write : (round : WriteRound) → State
+  Change : (change : ChangeOf) (then : Then) → State
+  Leave : (reply : Reply) → State

@@ -1,0 +1,374 @@
+//! One operation as a machine that stays in its place, apart from the memory: it is told an answer, and then wants one step.
+ghost use Rattle.std.specs.Prelude.{◌≡◌, ◌<◌, ◌^◌, [], IfOk, IfSome, IsSome, None, Some, false, is_some, true};
+ghost use Rattle.bw_model.specs.Answers.{answer_of};
+ghost use Rattle.bw_model.specs.Lent.{lent};
+ghost use Rattle.bw_model.specs.declared.step.Answer.{Answer as AnswerOf};
+ghost use Rattle.bw_model.specs.declared.step.Answer.TheVariants.{Content};
+ghost use Rattle.chain_search.specs.Discipline.{May, MayFree};
+ghost use Rattle.chain_search.specs.Knowledge.{Knowledge, begun, learn};
+ghost use Rattle.chain_search.specs.Recalled.{Recalled, blank};
+ghost use Rattle.chain_search.specs.Useful.{IsUseful};
+ghost use Rattle.chain_search.specs.Within.{IsWithin};
+ghost use Rattle.deltas.specs.declared.record.Record.{Record as RecordOf};
+ghost use Rattle.epochs.specs.Limbo.{Limbo as LimboSeen};
+ghost use Rattle.op_machine.specs.Hands.{Hand as HandSeen};
+ghost use Rattle.op_machine.specs.InPlace.{IsShown, Takes, Wants};
+ghost use Rattle.op_machine.specs.Ops.{EndsAtLeave, IsAtRestWith, IsTold, Obeys, Shows, wanted_of};
+ghost use Rattle.op_machine.specs.Outcomes.{changed, has_machine, is_changing, is_leaving, is_reading, is_writing};
+ghost use Rattle.op_machine.specs.Places.{ended_with, state_of};
+ghost use Rattle.op_machine.specs.Shows.{FitsLast, ShowsState, learn_last, wanted_at};
+ghost use Rattle.op_machine.specs.Spending.{steps_left};
+ghost use Rattle.op_machine.specs.Sweeping.{FollowsSweep, HasFewer, IsSameWork, IsToldSweep, MovesSweep};
+ghost use Rattle.op_machine.specs.Tasks.{Task as TaskSeen};
+ghost use Rattle.op_machine.specs.Works.{AsksOn, IsToldChange, IsToldOn, IsToldWith, KeepsLimbo, TurnsInto};
+ghost use Rattle.op_machine.specs.Wants as Want;
+ghost use Rattle.op_machine.specs.States as State;
+ghost use Rattle.sweep.specs.Kept.{AreKept};
+ghost use Rattle.sweep.specs.Bounded.{steps_left as steps_of};
+ghost use Rattle.sweep.specs.Sweeps.{IsSoundSweep, IsTold as IsToldSweepAlone, Shows as ShowsSweep, wanted as sweep_wants};
+ghost use Rattle.chain_search.specs.Fitting.{Fits};
+
+use crate::hand::Hand;
+use crate::places::{Places, Stand};
+use crate::task::Task;
+use bw_model::{Answer, Command, Key, Limits, Reply, Step, Told};
+use deltas::Record;
+use epochs::Limbo;
+use installs::{End, Spares};
+use row_chain::HeldRow;
+use std::alloc::{AllocError, Allocator, Global};
+use std::marker::Model;
+use sweep::{Sweep, limbos_are_kept};
+
+/// An operation that is under way, or the room for the next one: what it was asked, the sweep with which a writer begins, and the
+/// places of what comes after that.
+#[derive(Drop)]
+pub struct Operation<A: Allocator = Global> {
+    task: Task,
+    sweep: Option<Sweep>,
+    places: Places<A>,
+}
+
+impl<A: Allocator> Model for Operation<A> {
+    ghost use Rattle.op_machine.specs.Ops.{Op};
+    ghost use Rattle.op_machine.specs.Places.{HaveLimits, state_of};
+
+    ghost Value = { Op };
+
+    ghost view = { λ o. record { task = o.task; sweep = o.sweep; state = state_of o.places } };
+
+    ghost invariant = { λ o. HaveLimits o.task.limits o.places };
+}
+
+impl<A: Allocator + Copy> Operation<A> {
+    /// The room for operations on a tree of these limits. Takes the memory for the pages of both rounds, and is refused for want of it
+    /// alone. No later call takes memory.
+    pub fn new(alloc: A, limits: &Limits) -> Result<Operation<A>, AllocError>
+        ensures { IfOk result (λ operation. operation.task.limits ≡ limits.now) }
+    {
+        Ok(Operation {
+            task: Task::new(Command::Get(Key::default()), 0, limits),
+            sweep: None,
+            places: Places::<A>::new(alloc, limits)?,
+        })
+    }
+}
+
+impl<A: Allocator> Operation<A> {
+    /// An operation of an actor begins on a tree of these limits, in the place of the one that was there before; its first step isn't
+    /// wanted yet.
+    pub fn begin(&mut self, command: Command, actor: u8, limits: &Limits)
+        requires { actor < limits.now.actors }
+        ensures shows { (k : Knowledge) (hand : HandSeen) → IsAtRestWith limits.now actor hand k → Shows self.new hand (begun k command) blank }
+        ensures task { self.new.task ≡ record { limits = limits.now; actor = actor; command = command; errands = [] } }
+        ensures sweep { self.new.sweep ≡ None }
+        ensures state { self.new.state ≡ State.Begun }
+        ensures few { (r : Recalled) (hand : HandSeen) → steps_left r self.new hand < 2 ^ 18 }
+    {
+        self.task.begin(command, actor, limits);
+        self.sweep = None;
+        self.places.reset(limits);
+    }
+
+    /// What the operation was asked.
+    pub fn command(&self) -> &Command
+        ensures { result.now ≡ self.now.task.command }
+    {
+        self.task.command()
+    }
+
+    /// Whether the leave is the step that it wants, after which it is done.
+    pub fn is_leaving(&self) -> bool
+        ensures { result ≡ is_leaving self.now.state }
+    {
+        self.places.is_leaving()
+    }
+
+    /// The step that the operation wants, with the record that is to be placed lent from where it lies.
+    pub fn wanted(&self, hand: &Hand<A>) -> Step<&Record>
+        requires shown { IsShown self.now hand.now }
+        requires asks { IsSome (wanted_of self.now hand.now) }
+        ensures { Wants self.now hand.now (lent result) }
+    {
+        match &self.sweep {
+            Some(sweep) => sweeping(sweep),
+            None => self.places.wanted(&hand.spares),
+        }
+    }
+
+    /// The reply of an operation that has left.
+    #[inline(never)]
+    pub fn leave(&self) -> Reply
+        requires leaving { is_leaving self.now.state ≡ true }
+        ensures reply { self.now.state ≡ State.Leave result }
+        ensures obeys { (hand : HandSeen) (told : AnswerOf RecordOf) → Obeys self.now hand told self.now hand (Want.Done result) }
+        ensures ends { (hand : HandSeen) (told : AnswerOf RecordOf) → IsTold self.now hand told → EndsAtLeave self.now hand (Want.Done result) }
+    {
+        self.places.reply()
+    }
+
+    /// Takes the answer to the step that it wanted, which isn't the leave, and reads no row, or `Start`.
+    pub fn go_on(&mut self, hand: &mut Hand<A>, told: Told)
+        requires told { IsTold self.old hand.old (answer_of told) }
+        requires stays { is_leaving self.old.state ≡ false }
+        ensures { Takes self.old hand.old (answer_of told) self.new hand.new }
+    {
+        if self.places.has_begun() {
+            return self.work_on(hand, told);
+        }
+        self.sweep_first(hand, told);
+    }
+
+    /// Takes the row that it wanted to read, and gives another one in its place.
+    pub fn take_row(&mut self, hand: &mut Hand<A>, row: &mut HeldRow<A>)
+        requires told { IsTold self.old hand.old (Content row.old) }
+        ensures { Takes self.old hand.old (Content row.old) self.new hand.new }
+    {
+        limbos_are_kept();
+        self.round_row(&hand.spares, row);
+    }
+    /// Takes an answer before the first step of its work, which comes after a writer's sweep.
+    #[inline(never)]
+    fn sweep_first(&mut self, hand: &mut Hand<A>, told: Told)
+        requires told { IsTold self.old hand.old (answer_of told) }
+        requires first { self.old.state ≡ State.Begun }
+        ensures { Takes self.old hand.old (answer_of told) self.new hand.new }
+    {
+        if self.sweep_on(&mut hand.limbo, told) {
+            return;
+        }
+        self.work_on(hand, Told::Start);
+    }
+
+    /// Begins the sweep of a writer, or goes on with it, and tells whether it is under way: before anything else a writer frees what it
+    /// may of its limbo.
+    fn sweep_on(&mut self, limbo: &mut Limbo<A>, told: Told) -> bool
+        requires told { IsToldSweep self.old limbo.old (answer_of told) }
+        requires first { self.old.state ≡ State.Begun }
+        ensures shows { MovesSweep self.old limbo.old (answer_of told) self.new limbo.new }
+        ensures few { HasFewer self.old self.new }
+        ensures same { IsSameWork self.old self.new }
+        ensures on { result ≡ is_some self.new.sweep }
+    {
+        self.sweep = match self.sweep.take() {
+            None => self.task.sweep(limbo),
+            Some(sweep) => swept(sweep, limbo, &told.answer()),
+        };
+        self.sweep.is_some()
+    }
+
+    /// Takes the answer once the sweep is over, and comes to where the operation asks for its next step.
+    fn work_on(&mut self, hand: &mut Hand<A>, told: Told)
+        requires told { IsToldWith self.old hand.old (answer_of told) }
+        requires stays { is_leaving self.old.state ≡ false }
+        ensures asks { AsksOn self.old hand.old.spares (answer_of told) self.new hand.new.spares }
+        ensures keeps { KeepsLimbo self.old hand.old (answer_of told) hand.new }
+    {
+        limbos_are_kept();
+        if self.places.is_changing() {
+            return self.change_on(hand, told);
+        }
+        self.move_on(&hand.spares, told);
+    }
+
+    /// The same where a change is under way.
+    #[inline(never)]
+    fn change_on(&mut self, hand: &mut Hand<A>, told: Told)
+        requires told { IsToldWith self.old hand.old (answer_of told) }
+        requires changing { is_changing self.old.state ≡ true }
+        ensures asks { AsksOn self.old hand.old.spares (answer_of told) self.new hand.new.spares }
+        ensures keeps { KeepsLimbo self.old hand.old (answer_of told) hand.new }
+    {
+        self.change_by(hand, &told.answer());
+    }
+
+    /// The same with the answer. What the change has taken out of the tree comes into limbo.
+    fn change_by(&mut self, hand: &mut Hand<A>, answer: &Answer<Record>)
+        requires told { IsToldWith self.old hand.old answer.now }
+        requires changing { is_changing self.old.state ≡ true }
+        ensures asks { AsksOn self.old hand.old.spares answer.now self.new hand.new.spares }
+        ensures keeps { KeepsLimbo self.old hand.old answer.now hand.new }
+    {
+        if let Some(end) = ended(&mut self.places, hand, answer) {
+            self.task.end_changing(end, &mut self.places);
+        }
+    }
+
+    /// The same where no change is under way.
+    fn move_on(&mut self, spares: &Spares, told: Told)
+        requires told { IsToldOn self.old spares.now (answer_of told) }
+        requires still { is_changing self.old.state ≡ false }
+        requires stays { is_leaving self.old.state ≡ false }
+        ensures { AsksOn self.old spares.now (answer_of told) self.new spares.now }
+    {
+        match self.places.stand() {
+            Stand::Read => self.read_number(spares, told),
+            Stand::Write => self.write_number(spares, told),
+            _ => self.turn(spares, told),
+        }
+    }
+
+    /// From a state without a machine the operation goes to another one.
+    #[inline(never)]
+    fn turn(&mut self, spares: &Spares, told: Told)
+        requires told { IsToldOn self.old spares.now (answer_of told) }
+        requires alone { has_machine self.old.state ≡ false }
+        requires stays { is_leaving self.old.state ≡ false }
+        ensures { AsksOn self.old spares.now (answer_of told) self.new spares.now }
+    {
+        match self.places.stand() {
+            Stand::Begun => self.places.go_to(Stand::Epoch),
+            Stand::Epoch => self.places.go_to(Stand::Enter {
+                epoch: told.number(),
+            }),
+            Stand::Enter { .. } => self.task.begin_round(&mut self.places),
+            _ => unreachable!(),
+        }
+    }
+
+    /// The round that is under way takes a row.
+    fn round_row(&mut self, spares: &Spares, row: &mut HeldRow<A>)
+        requires told { IsToldOn self.old spares.now (Content row.old) }
+        ensures { AsksOn self.old spares.now (Content row.old) self.new spares.now }
+    {
+        match self.places.stand() {
+            Stand::Read => self.read_row(spares, row),
+            Stand::Write => self.write_row(spares, row),
+            _ => unreachable!(),
+        }
+    }
+
+    /// A reader's round takes a number.
+    fn read_number(&mut self, spares: &Spares, told: Told)
+        requires told { IsToldOn self.old spares.now (answer_of told) }
+        requires reading { is_reading self.old.state ≡ true }
+        ensures { AsksOn self.old spares.now (answer_of told) self.new spares.now }
+    {
+        if let Some(ended) = self.places.read_number(told.number()) {
+            self.task.end_reading(ended, &mut self.places);
+        }
+    }
+
+    /// A reader's round takes a row.
+    fn read_row(&mut self, spares: &Spares, row: &mut HeldRow<A>)
+        requires told { IsToldOn self.old spares.now (Content row.old) }
+        requires reading { is_reading self.old.state ≡ true }
+        ensures { AsksOn self.old spares.now (Content row.old) self.new spares.now }
+    {
+        if let Some(ended) = self.places.read_row(row) {
+            self.task.end_reading(ended, &mut self.places);
+        }
+    }
+
+    /// A writer's round takes a number.
+    fn write_number(&mut self, spares: &Spares, told: Told)
+        requires told { IsToldOn self.old spares.now (answer_of told) }
+        requires writing { is_writing self.old.state ≡ true }
+        ensures { AsksOn self.old spares.now (answer_of told) self.new spares.now }
+    {
+        if self.places.write_number(told.number()) {
+            self.task.begin_round(&mut self.places);
+        }
+    }
+
+    /// A writer's round takes a row.
+    fn write_row(&mut self, spares: &Spares, row: &mut HeldRow<A>)
+        requires told { IsToldOn self.old spares.now (Content row.old) }
+        requires writing { is_writing self.old.state ≡ true }
+        ensures { AsksOn self.old spares.now (Content row.old) self.new spares.now }
+    {
+        if row.row().next().is_some() {
+            return self.places.write_on(row);
+        }
+        self.write_last_row(spares, row);
+    }
+
+    /// A writer's round takes the last row of a page.
+    #[inline(never)]
+    fn write_last_row(&mut self, spares: &Spares, row: &mut HeldRow<A>)
+        requires told { IsToldOn self.old spares.now (Content row.old) }
+        requires writing { is_writing self.old.state ≡ true }
+        ensures { AsksOn self.old spares.now (Content row.old) self.new spares.now }
+    {
+        if let Some(ended) = self.places.write_row(row) {
+            self.task.end_writing(spares, ended, &mut self.places);
+        }
+    }
+}
+
+/// How a change has ended, once it has. What it has taken out of the tree comes into limbo.
+fn ended<A: Allocator>(
+    places: &mut Places<A>,
+    hand: &mut Hand<A>,
+    answer: &Answer<Record>,
+) -> Option<End>
+    requires told { IsToldChange (state_of places.old) hand.old answer.now }
+    requires changing { places.old.stand ≡ Stand.Change }
+    ensures makes { TurnsInto (state_of places.old) hand.old.spares answer.now (state_of places.new) hand.new.spares (changed (ended_with places.old.then result)) }
+    ensures keeps { (task : TaskSeen) (k : Knowledge) (r : Recalled) → ShowsState task hand.old.spares k r (state_of places.old) → FitsLast task.limits k (wanted_at hand.old.spares (state_of places.old)) answer.now → AreKept task.limits task.actor hand.old.limbo k.limbo → AreKept task.limits task.actor hand.new.limbo (learn_last k (wanted_at hand.old.spares (state_of places.old)) answer.now).limbo }
+    ensures only { places.new ≡ record places.old { change = places.new.change } }
+{
+    match places.change_next(&mut hand.spares, answer) {
+        None => None,
+        Some(end) => {
+            hand.unlink(end, places.then());
+            Some(end)
+        }
+    }
+}
+
+/// The step that a sweep wants, among steps that lend the record that they place.
+#[inline(never)]
+fn sweeping<'a>(sweep: &Sweep) -> Step<&'a Record>
+    ensures wanted { lent result ≡ sweep_wants sweep.now }
+    ensures within { IsWithin sweep.now.limits (lent result) }
+    ensures may { (limbo : LimboSeen) (k : Knowledge) → ShowsSweep sweep.now limbo k → May sweep.now.actor k (lent result) }
+    ensures frees { (limbo : LimboSeen) (k : Knowledge) → ShowsSweep sweep.now limbo k → MayFree sweep.now.limits sweep.now.actor k (lent result) }
+    ensures useful { (k : Knowledge) → IsUseful k (lent result) }
+{
+    match sweep.step() {
+        Step::Epoch => Step::Epoch,
+        Step::Retire(epoch) => Step::Retire(epoch),
+        Step::Announce(actor) => Step::Announce(actor),
+        Step::ReuseRows(word, bits) => Step::ReuseRows(word, bits),
+        Step::ReusePids(word, bits) => Step::ReusePids(word, bits),
+        _ => unreachable!(),
+    }
+}
+
+/// The sweep after an answer, if it goes on.
+fn swept<A: Allocator>(sweep: Sweep, limbo: &mut Limbo<A>, answer: &Answer<Record>) -> Option<Sweep>
+    requires sound { IsSoundSweep sweep limbo.old }
+    requires told { IsToldSweepAlone sweep answer.now }
+    ensures follows { (k : Knowledge) → ShowsSweep sweep limbo.old k → Fits sweep.limits k (sweep_wants sweep) answer.now → FollowsSweep k (learn k (sweep_wants sweep) answer.now) sweep result limbo.new }
+    ensures sound { IfSome result (λ next. IsSoundSweep next limbo.new) }
+    ensures few { IfSome result (λ next. steps_of next.state < steps_of sweep.state) }
+    ensures same { IfSome result (λ next. (next.limits ≡ sweep.limits) × (next.actor ≡ sweep.actor)) }
+{
+    let mut sweep = sweep;
+    if sweep.next(limbo, answer) {
+        Some(sweep)
+    } else {
+        None
+    }
+}

@@ -1,0 +1,322 @@
+//! The places of an operation: what is under way stands in one of them, and what isn't lies there until it is needed again.
+ghost use Rattle.std.specs.Prelude.{◌≡◌, ◌<◌, ◌≤◌, ◌+◌, IfOk, IsSome, None, true};
+ghost use Rattle.std.specs.Option.{option_map};
+ghost use Rattle.bw_model.specs.Lent.{lent};
+ghost use Rattle.bw_model.specs.declared.step.Answer.TheVariants.{Content, Number};
+ghost use Rattle.chain_search.specs.Knowledge.{Knowledge};
+ghost use Rattle.chain_search.specs.Recalled.{Recalled};
+ghost use Rattle.descent.specs.Courses as course;
+ghost use Rattle.descent.specs.ReadRounds as read;
+ghost use Rattle.descent.specs.Visits.{reads_on};
+ghost use Rattle.descent.specs.WriteRounds as write;
+ghost use Rattle.descent.specs.Descents.{Root};
+ghost use Rattle.descent.specs.ReadGoals as goal;
+ghost use Rattle.installs.specs.Changes.{IsSpellablePlan, IsTarget};
+ghost use Rattle.installs.specs.Spares.{HaveRoom};
+ghost use Rattle.op_machine.specs.Bounded.{few_changes, left_at};
+ghost use Rattle.op_machine.specs.Outcomes.{IsToldAt, UnlinksAfter, changed, has_begun, is_changing, is_leaving};
+ghost use Rattle.op_machine.specs.Places.{HaveLimits, Reads, Writes, ended_with, left_of, state_of};
+ghost use Rattle.op_machine.specs.Shows.{FitsLast, MayBegin, MayStep, ShowsState, learn_last, wanted_at};
+ghost use Rattle.op_machine.specs.Tasks.{Task as TaskSeen};
+ghost use Rattle.op_machine.specs.Works.{TurnsInto};
+ghost use Rattle.rounds.specs.Descents.{step_of};
+ghost use Rattle.rounds.specs.ReadRounds as reads;
+ghost use Rattle.rounds.specs.WriteRounds as writes;
+ghost use Rattle.rounds.specs.WriteRounds.{again_if};
+
+use crate::task::Task;
+use crate::then::Then;
+use bw_model::{Answer, Key, Limits, Reply, Step};
+use deltas::{Record, Remove};
+use installs::{Change, End, Plan, Spares};
+use rounds::{Asked, ReadEnded, ReadRound, WriteEnded, WriteRound};
+use row_chain::HeldRow;
+use std::alloc::{AllocError, Allocator, Global};
+use std::marker::Model;
+
+/// Where an operation stands, by the place of what is under way: a state without a place is named by the step that it has asked for.
+#[derive(Clone, Copy, Debug, PartialEq, Eq)]
+pub(crate) enum Stand {
+    Begun,
+    Epoch,
+    Enter { epoch: u64 },
+    Read,
+    Write,
+    Change,
+    Leave,
+}
+
+/// The places of an operation's rounds and of its change, what comes after the change, and the reply.
+#[derive(Drop)]
+pub(crate) struct Places<A: Allocator = Global> {
+    stand: Stand,
+    reader: ReadRound<A>,
+    writer: WriteRound<A>,
+    change: Change,
+    then: Then,
+    reply: Reply,
+}
+
+impl<A: Allocator> Model for Places<A> {
+    ghost use Rattle.op_machine.specs.Places.{Places};
+
+    ghost Value = { Places };
+
+    ghost view = { λ p. record { stand = p.stand; reader = p.reader; writer = p.writer; change = p.change; then = p.then; reply = p.reply } };
+}
+
+impl<A: Allocator + Copy> Places<A> {
+    /// Places in which nothing was done yet. Takes the memory for the rows of both rounds, 182 KB, and is refused for want of it
+    /// alone. No later call takes memory.
+    pub(crate) fn new(alloc: A, limits: &Limits) -> Result<Places<A>, AllocError>
+        ensures reader { IfOk result (λ places. places.reader.round.limits ≡ limits.now) }
+        ensures writer { IfOk result (λ places. places.writer.round.limits ≡ limits.now) }
+    {
+        Ok(Places {
+            stand: Stand::Begun,
+            reader: ReadRound::<A>::new(alloc, limits)?,
+            writer: WriteRound::<A>::new(alloc, limits)?,
+            change: no_change(limits),
+            then: Then::Round,
+            reply: Reply::None,
+        })
+    }
+}
+
+impl<A: Allocator> Places<A> {
+    /// The place of the reader's round.
+    pub(crate) fn reader(&self) -> &ReadRound<A>
+        ensures { result.now ≡ self.now.reader }
+    {
+        &self.reader
+    }
+
+    /// The place of the writer's round.
+    pub(crate) fn writer(&self) -> &WriteRound<A>
+        ensures { result.now ≡ self.now.writer }
+    {
+        &self.writer
+    }
+
+    /// Where the operation stands.
+    pub(crate) fn stand(&self) -> Stand
+        ensures { result ≡ self.now.stand }
+    {
+        self.stand
+    }
+
+    /// Whether the first step of the work was asked for.
+    pub(crate) fn has_begun(&self) -> bool
+        ensures { result ≡ has_begun (state_of self.now) }
+    {
+        !matches!(self.stand, Stand::Begun)
+    }
+
+    /// Whether a change is under way.
+    pub(crate) fn is_changing(&self) -> bool
+        ensures { result ≡ is_changing (state_of self.now) }
+    {
+        matches!(self.stand, Stand::Change)
+    }
+
+    /// Whether the last step was asked for.
+    pub(crate) fn is_leaving(&self) -> bool
+        ensures { result ≡ is_leaving (state_of self.now) }
+    {
+        matches!(self.stand, Stand::Leave)
+    }
+
+    /// Nothing was done yet, on a tree of these limits.
+    pub(crate) fn reset(&mut self, limits: &Limits)
+        ensures begun { self.new.stand ≡ Stand.Begun }
+        ensures have { HaveLimits limits.now self.new }
+    {
+        self.stand = Stand::Begun;
+        self.reader.reset(limits);
+        self.writer.reset(limits);
+    }
+
+    /// Goes to a state without a place.
+    pub(crate) fn go_to(&mut self, stand: Stand)
+        ensures { self.new ≡ record self.old { stand = stand } }
+    {
+        self.stand = stand;
+    }
+
+    /// A reader's round to the leaf of the key begins.
+    pub(crate) fn read(&mut self, key: &Key)
+        ensures { self.new ≡ record self.old { stand = Stand.Read; reader = record self.old.reader { round = record { limits = self.old.reader.round.limits; key = key.now; goal = goal.Seek; state = Root } } } }
+    {
+        self.reader.restart(key);
+        self.stand = Stand::Read;
+    }
+
+    /// A reader's round begins that goes to the left of the page in its hand first.
+    #[inline(never)]
+    pub(crate) fn read_left(&mut self)
+        ensures stand { self.new.stand ≡ Stand.Read }
+        ensures round { self.new.reader.round ≡ record self.old.reader.round { goal = goal.Left self.old.reader.page; state = Root } }
+        ensures writer { self.new.writer ≡ self.old.writer }
+    {
+        self.reader.go_left();
+        self.stand = Stand::Read;
+    }
+
+    /// A writer's round to the leaf of the key begins.
+    pub(crate) fn write(&mut self, key: &Key, due: usize)
+        requires due { 0 < due }
+        ensures { self.new ≡ record self.old { stand = Stand.Write; writer = record self.old.writer { round = record { limits = self.old.writer.round.limits; key = key.now; due = due; floor = 0; goal = course.Seek; parent = None; left = None; state = Root } } } }
+    {
+        self.writer.restart(key, due);
+        self.stand = Stand::Write;
+    }
+
+    /// A writer's round to the left of the page in its hand begins, which is removed.
+    #[inline(never)]
+    pub(crate) fn write_left(&mut self)
+        ensures { self.new ≡ record self.old { stand = Stand.Write; writer = record self.old.writer { round = left_of self.old.writer } } }
+    {
+        let removed = self.writer.page();
+        let (pid, low, level) = (
+            removed.pid(),
+            removed.chain().low(),
+            removed.chain().level(),
+        );
+        self.writer.restart_left(&low, pid, level);
+        self.stand = Stand::Write;
+    }
+
+    /// The operation is to leave with the reply.
+    pub(crate) fn leave(&mut self, reply: Reply)
+        ensures { self.new ≡ record self.old { stand = Stand.Leave; reply = reply } }
+    {
+        self.reply = reply;
+        self.stand = Stand::Leave;
+    }
+
+    /// A change begins.
+    #[inline(never)]
+    pub(crate) fn begin_change(&mut self, task: &Task, spares: &Spares, plan: Plan, then: Then)
+        requires target { IsTarget task.now.limits plan }
+        requires spells { IsSpellablePlan plan }
+        requires room { HaveRoom task.now.limits spares.now }
+        ensures stands { (k : Knowledge) (r : Recalled) → MayBegin task.now spares.now k r plan then → ShowsState task.now spares.now k r (state_of self.new) }
+        ensures few { (r : Recalled) → left_at r spares.now (state_of self.new) ≤ few_changes + 1 }
+        ensures asks { IsSome (wanted_at spares.now (state_of self.new)) }
+        ensures reader { self.new.reader ≡ self.old.reader }
+        ensures writer { self.new.writer ≡ self.old.writer }
+    {
+        self.change = Change::new(task.limits(), spares, plan);
+        self.then = then;
+        self.stand = Stand::Change;
+    }
+
+    /// The step that is wanted, with the record that is to be placed lent from where it lies.
+    pub(crate) fn wanted(&self, spares: &Spares) -> Step<&Record>
+        requires stands { (task : TaskSeen) × (k : Knowledge) × (r : Recalled) × ShowsState task spares.now k r (state_of self.now) }
+        requires asks { IsSome (wanted_at spares.now (state_of self.now)) }
+        ensures wanted { wanted_at spares.now (state_of self.now) ≡ Some (lent result) }
+        ensures may { (task : TaskSeen) (k : Knowledge) (r : Recalled) → ShowsState task spares.now k r (state_of self.now) → MayStep task k (lent result) }
+    {
+        match self.stand {
+            Stand::Begun => unreachable!(),
+            Stand::Epoch => Step::Epoch,
+            Stand::Enter { epoch } => Step::Enter(epoch),
+            Stand::Read => reading(self.reader.asks()),
+            Stand::Write => reading(self.writer.asks()),
+            Stand::Change => self.change.wanted(spares),
+            Stand::Leave => Step::Leave,
+        }
+    }
+
+    /// The reply with which the operation leaves.
+    pub(crate) fn reply(&self) -> Reply
+        requires leaving { self.now.stand ≡ Stand.Leave }
+        ensures { result ≡ self.now.reply }
+    {
+        self.reply.clone().unwrap()
+    }
+
+    /// The reader's round takes a number, and tells how it ends, once it does.
+    pub(crate) fn read_number(&mut self, number: u64) -> Option<ReadEnded>
+        requires told { read.IsTold self.old.reader.round (Number number) }
+        ensures { Reads self.old (Number number) self.new (option_map (reads.end_of self.new.reader) result) }
+    {
+        self.reader.told(number)
+    }
+
+    /// The reader's round takes a row, gives another one in its place, and tells how it ends, once it does.
+    pub(crate) fn read_row(&mut self, row: &mut HeldRow<A>) -> Option<ReadEnded>
+        requires told { read.IsTold self.old.reader.round (Content row.old) }
+        ensures { Reads self.old (Content row.old) self.new (option_map (reads.end_of self.new.reader) result) }
+    {
+        self.reader.take_row(row)
+    }
+
+    /// The writer's round takes a number, and tells whether it has ended: a page that was named isn't there.
+    pub(crate) fn write_number(&mut self, number: u64) -> bool
+        requires told { write.IsTold self.old.writer.round (Number number) }
+        ensures { Writes self.old (Number number) self.new (again_if result) }
+    {
+        self.writer.told(number)
+    }
+
+    /// The writer's round takes a row that stands over another one, and gives another one in its place.
+    pub(crate) fn write_on(&mut self, row: &mut HeldRow<A>)
+        requires told { write.IsTold self.old.writer.round (Content row.old) }
+        requires on { reads_on (Content row.old) ≡ true }
+        ensures { Writes self.old (Content row.old) self.new None }
+    {
+        self.writer.read_on(row);
+    }
+
+    /// The writer's round takes a row, gives another one in its place, and tells how it ends, once it does.
+    pub(crate) fn write_row(&mut self, row: &mut HeldRow<A>) -> Option<WriteEnded>
+        requires told { write.IsTold self.old.writer.round (Content row.old) }
+        ensures { Writes self.old (Content row.old) self.new (option_map (writes.end_of self.new.writer) result) }
+    {
+        self.writer.take_row(row)
+    }
+
+    /// The change takes the answer to the step that it wanted, and tells how it has ended, once it has.
+    pub(crate) fn change_next(
+        &mut self,
+        spares: &mut Spares,
+        answer: &Answer<Record>,
+    ) -> Option<End>
+        requires told { IsToldAt (state_of self.old) spares.old answer.now }
+        requires changing { self.old.stand ≡ Stand.Change }
+        ensures makes { TurnsInto (state_of self.old) spares.old answer.now (state_of self.new) spares.new (changed (ended_with self.old.then result)) }
+        ensures unlinks { (task : TaskSeen) (k : Knowledge) (r : Recalled) → ShowsState task spares.old k r (state_of self.old) → FitsLast task.limits k (wanted_at spares.old (state_of self.old)) answer.now → UnlinksAfter task.limits k (ended_with self.old.then result) (learn_last k (wanted_at spares.old (state_of self.old)) answer.now).limbo }
+        ensures only { self.new ≡ record self.old { change = self.new.change } }
+    {
+        self.change.next(spares, answer)
+    }
+
+    /// What comes after the change.
+    pub(crate) fn then(&self) -> &Then
+        ensures { result.now ≡ self.now.then }
+    {
+        &self.then
+    }
+}
+
+/// The step that a round asks for.
+fn reading<'a>(asked: Asked) -> Step<&'a Record>
+    ensures { lent result ≡ step_of asked }
+{
+    match asked {
+        Asked::Slot(pid) => Step::Slot(pid),
+        Asked::Row(row) => Step::Row(row),
+    }
+}
+
+/// What lies in the place of a change before there was one.
+fn no_change(limits: &Limits) -> Change {
+    let plan = Plan::Install {
+        pid: 1,
+        head: 1,
+        content: Record::Remove(Remove { level: 0, next: 1 }),
+    };
+    Change::new(limits, &Spares::new(), plan)
+}

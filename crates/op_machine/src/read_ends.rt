@@ -1,0 +1,78 @@
+//! What an operation makes of the end of a reader's round, where its pages stand.
+ghost use Rattle.std.specs.Prelude.{◌≡◌, ◌≤◌, ℕ, IsSome};
+ghost use Rattle.bw_model.specs.Replies.{command_key, is_writer};
+ghost use Rattle.chain_search.specs.Knowledge.{Knowledge};
+ghost use Rattle.chain_search.specs.Recalled.{Recalled};
+ghost use Rattle.installs.specs.Spares.{Spares};
+ghost use Rattle.op_machine.specs.Bounded.{left_at, left_for, one_round};
+ghost use Rattle.op_machine.specs.Outcomes as Outcome;
+ghost use Rattle.op_machine.specs.Outcomes.{FacesRead, StandsForReader};
+ghost use Rattle.op_machine.specs.Places.{HaveLimits, state_of};
+ghost use Rattle.op_machine.specs.Shows.{ShowsState, wanted_at};
+ghost use Rattle.op_machine.specs.Tasks.{Seeks};
+ghost use Rattle.op_machine.specs.States as State;
+ghost use Rattle.rounds.specs.ReadRounds.{end_of};
+
+use crate::places::Places;
+use crate::task::{Task, cursor_page};
+use bw_model::Reply;
+use descent::leaves_stand;
+use rounds::ReadEnded;
+use row_chain::Chain;
+use row_search::KeyWords;
+use std::alloc::Allocator;
+
+impl Task {
+    /// A new round begins: for the newest errand, or for the command's key.
+    pub(crate) fn begin_round<A: Allocator>(&self, places: &mut Places<A>)
+        requires have { HaveLimits self.now.limits places.old }
+        ensures stands { (spares : Spares) (k : Knowledge) (r : Recalled) → Seeks self.now spares k → ShowsState self.now spares k r (state_of places.new) }
+        ensures few { (spares : Spares) (r : Recalled) → left_at r spares (state_of places.new) ≤ one_round }
+        ensures asks { (spares : Spares) → IsSome (wanted_at spares (state_of places.new)) }
+        ensures have { HaveLimits self.now.limits places.new }
+    {
+        if self.command().is_writer() {
+            places.write(self.way_key(), self.due());
+            return;
+        }
+        places.read(self.command().key());
+    }
+
+    /// A reader answers at the leaf of its key, or from what it read of a removed one, whose left page it has read since; where its
+    /// round was cut off, a new one begins, which goes to the left of a removed page.
+    #[inline(never)]
+    pub(crate) fn end_reading<A: Allocator>(&self, ended: ReadEnded, places: &mut Places<A>)
+        requires have { HaveLimits self.now.limits places.old }
+        requires key { places.old.reader.round.key ≡ command_key self.now.command }
+        ensures stands { (spares : Spares) (k : Knowledge) (r : Recalled) → FacesRead self.now spares k r (end_of places.old.reader ended) → ShowsState self.now spares k r (state_of places.new) }
+        ensures few { (spares : Spares) (r : Recalled) → left_at r spares (state_of places.new) ≤ left_for (Outcome.Read (end_of places.old.reader ended)) }
+        ensures asks { (spares : Spares) → IsSome (wanted_at spares (state_of places.new)) }
+        ensures have { HaveLimits self.now.limits places.new }
+    {
+        leaves_stand();
+        match ended {
+            ReadEnded::Again => self.begin_round(places),
+            ReadEnded::Removed => places.read_left(),
+            ReadEnded::Leaf => {
+                let reply = self.reply_over(places.reader().page().chain());
+                places.leave(reply);
+            }
+            ReadEnded::Beside => {
+                let reply = self.reply_over(places.reader().aside().chain());
+                places.leave(reply);
+            }
+        }
+    }
+
+    /// A reader's reply over the chain of a leaf that stood.
+    fn reply_over<A: Allocator>(&self, leaf: &Chain<A>) -> Reply
+        ensures { (spares : Spares) (k : Knowledge) (r : Recalled) (head : ℕ) → StandsForReader self.now spares k head leaf.now → ShowsState self.now spares k r (State.Leave result) }
+    {
+        let key = self.command().key();
+        let found = leaf.find(&KeyWords::of(key));
+        match self.command().reply(found.as_ref()) {
+            Some(reply) => reply,
+            None => cursor_page(&leaf.typed(), key),
+        }
+    }
+}

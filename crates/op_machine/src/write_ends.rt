@@ -1,0 +1,315 @@
+//! What an operation makes of the end of a writer's round, where its pages stand, and of the end of a change.
+ghost use Rattle.std.specs.Prelude.{◌≡◌, ◌≤◌, ◌+◌, ◌-◌, [], Option, IfSome, IsSome, MatchOption, false, length, take};
+ghost use Rattle.chain_search.specs.Chains.{is_removed};
+ghost use Rattle.chain_search.specs.Knowledge.{Knowledge};
+ghost use Rattle.chain_search.specs.Recalled.{Recalled};
+ghost use Rattle.descent.specs.WriteEnds as end;
+ghost use Rattle.installs.specs.Spares.{Spares as SparesOf};
+ghost use Rattle.op_machine.specs.Bounded.{few_changes, left_at, left_for, with_errands};
+ghost use Rattle.op_machine.specs.Brings.{errands_after};
+ghost use Rattle.op_machine.specs.Outcomes as Outcome;
+ghost use Rattle.op_machine.specs.Outcomes.{FacesChanged, FacesWritten, IsAtLeaf, IsAtLeafBelow};
+ghost use Rattle.op_machine.specs.Places.{HaveLimits, state_of};
+ghost use Rattle.op_machine.specs.Shows.{ShowsState, wanted_at};
+ghost use Rattle.op_machine.specs.Tasks.{IsSameTask};
+ghost use Rattle.op_machine.specs.Upkeep.{IsIdle, IsIdleFor, IsUpkeep, IsUpkeepFor};
+ghost use Rattle.rounds.specs.WriteRounds.{end_of};
+ghost use Rattle.smo.specs.declared.version.Version.{Version};
+
+use crate::places::Places;
+use crate::task::Task;
+use crate::then::{Then, copied};
+use crate::unlinked::Unlinked;
+use crate::upkeep::upkeep;
+use base_page::Page;
+use bw_model::{Command, Reply};
+use chain_search::{chain_is_one, chains_make_pages, updates_fit};
+use deltas::{Merge, Record, Term, Unterm};
+use installs::{End, Plan, Spares, plans_may_be_linked};
+use rounds::{PageInHand, WriteEnded, WriteRound};
+use row_search::KeyWords;
+use smo::{FEW_ITEMS, SplitPlan};
+use std::alloc::Allocator;
+
+impl Task {
+    /// A writer makes the change that is due where its round ended, or goes on at the leaf.
+    pub(crate) fn end_writing<A: Allocator>(
+        &mut self,
+        spares: &Spares,
+        ended: WriteEnded,
+        places: &mut Places<A>,
+    )
+        requires have { HaveLimits self.old.limits places.old }
+        requires faced { (k : Knowledge) × (r : Recalled) × FacesWritten self.old spares.now k r (end_of places.old.writer ended) }
+        ensures stands { (k : Knowledge) (r : Recalled) → FacesWritten self.old spares.now k r (end_of places.old.writer ended) → ShowsState self.new spares.now k r (state_of places.new) }
+        ensures few { (k : Knowledge) (r : Recalled) → FacesWritten self.old spares.now k r (end_of places.old.writer ended) → with_errands self.new.errands (left_at r spares.now (state_of places.new)) ≤ with_errands self.old.errands (left_for (Outcome.Written (end_of places.old.writer ended))) }
+        ensures asks { IsSome (wanted_at spares.now (state_of places.new)) }
+        ensures same { IsSameTask self.old self.new }
+        ensures have { HaveLimits self.new.limits places.new }
+    {
+        match ended {
+            WriteEnded::Again | WriteEnded::Done => self.begin_round(places),
+            WriteEnded::Removed => places.write_left(),
+            WriteEnded::Consolidate => self.begin_consolidation(spares, places),
+            WriteEnded::Split(plan) => self.begin_split(spares, plan, places),
+            WriteEnded::Term(term) => self.begin_term(spares, term, places),
+            WriteEnded::Root(root) => self.begin_root(spares, root, places),
+            WriteEnded::Leaf => self.end_at_sought_leaf(spares, places),
+            WriteEnded::Merge(merge) => self.begin_merge(spares, merge, places),
+            WriteEnded::Unterm(unterm) => self.begin_unlink(spares, unterm, places),
+        }
+    }
+
+    /// At the leaf of an errand the errand is done; at that of its key the leaf is tended.
+    fn end_at_sought_leaf<A: Allocator>(&mut self, spares: &Spares, places: &mut Places<A>)
+        requires have { HaveLimits self.old.limits places.old }
+        requires faced { (k : Knowledge) × (r : Recalled) × IsAtLeafBelow self.old spares.now k r places.old.writer.round.parent places.old.writer.page }
+        ensures stands { (k : Knowledge) (r : Recalled) → IsAtLeafBelow self.old spares.now k r places.old.writer.round.parent places.old.writer.page → ShowsState self.new spares.now k r (state_of places.new) }
+        ensures few { (r : Recalled) → with_errands self.new.errands (left_at r spares.now (state_of places.new)) ≤ with_errands self.old.errands (few_changes + 1) }
+        ensures asks { IsSome (wanted_at spares.now (state_of places.new)) }
+        ensures same { IsSameTask self.old self.new }
+        ensures errands { self.new.errands ≡ take (length self.old.errands - 1) self.old.errands }
+        ensures have { HaveLimits self.new.limits places.new }
+    {
+        match self.errand() {
+            None => self.tend_leaf(spares, places),
+            Some(_) => {
+                self.finish_errand();
+                self.begin_round(places);
+            }
+        }
+    }
+
+    /// At the leaf of its key a deletion or a tidying removes a small leaf first; then the command is executed.
+    fn tend_leaf<A: Allocator>(&self, spares: &Spares, places: &mut Places<A>)
+        requires have { HaveLimits self.now.limits places.old }
+        requires faced { (k : Knowledge) × (r : Recalled) × IsAtLeafBelow self.now spares.now k r places.old.writer.round.parent places.old.writer.page }
+        requires last { self.now.errands ≡ [] }
+        ensures stands { (k : Knowledge) (r : Recalled) → IsAtLeafBelow self.now spares.now k r places.old.writer.round.parent places.old.writer.page → ShowsState self.now spares.now k r (state_of places.new) }
+        ensures few { (r : Recalled) → left_at r spares.now (state_of places.new) ≤ few_changes + 1 }
+        ensures asks { IsSome (wanted_at spares.now (state_of places.new)) }
+        ensures have { HaveLimits self.now.limits places.new }
+    {
+        plans_may_be_linked();
+        match self.upkeep_at(places.writer()) {
+            Some(plan) => places.begin_change(self, spares, plan, Then::Round),
+            None => self.execute_at_leaf(spares, places),
+        }
+    }
+
+    /// What a deletion or a tidying does first at the small leaf where its round has ended.
+    fn upkeep_at<A: Allocator>(&self, round: &WriteRound<A>) -> Option<Plan>
+        requires above { IfSome round.now.round.parent (λ above. is_removed above.chain ≡ false) }
+        ensures { MatchOption result (IsIdleFor self.now.command round.now.round.parent round.now.page) (IsUpkeepFor self.now.command round.now.round.parent round.now.page) }
+    {
+        match (self.command(), round.kept_parent()) {
+            (Command::Delete(_) | Command::Tidy(_), Some(parent)) => {
+                upkeep_below(parent, round.page())
+            }
+            _ => None,
+        }
+    }
+
+    /// At the leaf of its key the command answers, where nothing is to be changed, a tidying so that nothing is left to do; else
+    /// its update is linked.
+    #[inline(never)]
+    fn execute_at_leaf<A: Allocator>(&self, spares: &Spares, places: &mut Places<A>)
+        requires have { HaveLimits self.now.limits places.old }
+        requires faced { (k : Knowledge) × (r : Recalled) × IsAtLeaf self.now spares.now k r places.old.writer.page }
+        requires last { self.now.errands ≡ [] }
+        ensures stands { (parent : Option Version) (k : Knowledge) (r : Recalled) → IsAtLeafBelow self.now spares.now k r parent places.old.writer.page → IsIdleFor self.now.command parent places.old.writer.page → ShowsState self.now spares.now k r (state_of places.new) }
+        ensures few { (r : Recalled) → left_at r spares.now (state_of places.new) ≤ few_changes + 1 }
+        ensures asks { IsSome (wanted_at spares.now (state_of places.new)) }
+        ensures have { HaveLimits self.now.limits places.new }
+    {
+        updates_fit();
+        chains_make_pages();
+        plans_may_be_linked();
+        let leaf = places.writer().page();
+        leaf.chain().keeps_rules();
+        let old = leaf.chain().find(&KeyWords::of(self.command().key()));
+        let Some(reply) = self.command().reply(old.as_ref()) else {
+            return places.leave(Reply::Tidied);
+        };
+        if !self.command().changes(old.as_ref()) {
+            return places.leave(reply);
+        }
+        let plan = Plan::Install {
+            pid: leaf.pid(),
+            head: leaf.head(),
+            content: self.update_over(leaf.head()),
+        };
+        places.begin_change(self, spares, plan, Then::Reply(reply))
+    }
+
+    /// A base is linked in the place of the chain of the page in hand.
+    #[inline(never)]
+    fn begin_consolidation<A: Allocator>(&self, spares: &Spares, places: &mut Places<A>)
+        requires have { HaveLimits self.now.limits places.old }
+        requires faced { (k : Knowledge) × (r : Recalled) × FacesWritten self.now spares.now k r (end.Consolidate places.old.writer.page) }
+        ensures stands { (k : Knowledge) (r : Recalled) → FacesWritten self.now spares.now k r (end.Consolidate places.old.writer.page) → ShowsState self.now spares.now k r (state_of places.new) }
+        ensures few { (r : Recalled) → left_at r spares.now (state_of places.new) ≤ few_changes + 1 }
+        ensures asks { IsSome (wanted_at spares.now (state_of places.new)) }
+        ensures have { HaveLimits self.now.limits places.new }
+    {
+        plans_may_be_linked();
+        chain_is_one();
+        let page = places.writer().page().version();
+        let base = page.chain.consolidated();
+        let plan = Plan::Install {
+            pid: page.pid,
+            head: page.head,
+            content: Record::Base(base),
+        };
+        let unlinked = Unlinked::chain(page.head, &page.chain);
+        places.begin_change(self, spares, plan, Then::Limbo(unlinked))
+    }
+
+    /// The page in hand is split; its new page is an errand then.
+    #[inline(never)]
+    fn begin_split<A: Allocator>(&self, spares: &Spares, plan: SplitPlan, places: &mut Places<A>)
+        requires have { HaveLimits self.now.limits places.old }
+        requires faced { (k : Knowledge) × (r : Recalled) × FacesWritten self.now spares.now k r (end.Split places.old.writer.page plan) }
+        ensures stands { (k : Knowledge) (r : Recalled) → FacesWritten self.now spares.now k r (end.Split places.old.writer.page plan) → ShowsState self.now spares.now k r (state_of places.new) }
+        ensures few { (r : Recalled) → left_at r spares.now (state_of places.new) ≤ few_changes + 1 }
+        ensures asks { IsSome (wanted_at spares.now (state_of places.new)) }
+        ensures have { HaveLimits self.now.limits places.new }
+    {
+        plans_may_be_linked();
+        let separator = plan.upper.low().copied();
+        let pid = places.writer().page().pid();
+        let plan = Plan::Split { pid, plan };
+        places.begin_change(self, spares, plan, Then::Errand(separator))
+    }
+
+    /// A page's term is linked on the page in the parent's place.
+    #[inline(never)]
+    fn begin_term<A: Allocator>(&self, spares: &Spares, term: Term, places: &mut Places<A>)
+        requires have { HaveLimits self.now.limits places.old }
+        requires faced { (k : Knowledge) × (r : Recalled) × FacesWritten self.now spares.now k r (end.Term places.old.writer.parent term) }
+        ensures stands { (k : Knowledge) (r : Recalled) → FacesWritten self.now spares.now k r (end.Term places.old.writer.parent term) → ShowsState self.now spares.now k r (state_of places.new) }
+        ensures few { (r : Recalled) → left_at r spares.now (state_of places.new) ≤ few_changes + 1 }
+        ensures asks { IsSome (wanted_at spares.now (state_of places.new)) }
+        ensures have { HaveLimits self.now.limits places.new }
+    {
+        plans_may_be_linked();
+        let parent = places.writer().parent();
+        let plan = Plan::Install {
+            pid: parent.pid(),
+            head: parent.head(),
+            content: Record::Term(term),
+        };
+        places.begin_change(self, spares, plan, Then::Round)
+    }
+
+    /// A root is linked over the page in the left one's place and its right.
+    #[inline(never)]
+    fn begin_root<A: Allocator>(&self, spares: &Spares, root: Page, places: &mut Places<A>)
+        requires have { HaveLimits self.now.limits places.old }
+        requires faced { (k : Knowledge) × (r : Recalled) × FacesWritten self.now spares.now k r (end.Root places.old.writer.left root) }
+        ensures stands { (k : Knowledge) (r : Recalled) → FacesWritten self.now spares.now k r (end.Root places.old.writer.left root) → ShowsState self.now spares.now k r (state_of places.new) }
+        ensures few { (r : Recalled) → left_at r spares.now (state_of places.new) ≤ few_changes + 1 }
+        ensures asks { IsSome (wanted_at spares.now (state_of places.new)) }
+        ensures have { HaveLimits self.now.limits places.new }
+    {
+        plans_may_be_linked();
+        let left = places.writer().left().pid();
+        let plan = Plan::Root { left, root };
+        places.begin_change(self, spares, plan, Then::Round)
+    }
+
+    /// What the page in hand has, which is removed, comes into the leaf in the left one's place.
+    #[inline(never)]
+    fn begin_merge<A: Allocator>(&self, spares: &Spares, merge: Merge, places: &mut Places<A>)
+        requires have { HaveLimits self.now.limits places.old }
+        requires faced { (k : Knowledge) × (r : Recalled) × FacesWritten self.now spares.now k r (end.Merge places.old.writer.left places.old.writer.page merge) }
+        ensures stands { (k : Knowledge) (r : Recalled) → FacesWritten self.now spares.now k r (end.Merge places.old.writer.left places.old.writer.page merge) → ShowsState self.now spares.now k r (state_of places.new) }
+        ensures few { (r : Recalled) → left_at r spares.now (state_of places.new) ≤ few_changes + 1 }
+        ensures asks { IsSome (wanted_at spares.now (state_of places.new)) }
+        ensures have { HaveLimits self.now.limits places.new }
+    {
+        plans_may_be_linked();
+        let left = places.writer().left();
+        let plan = Plan::Install {
+            pid: left.pid(),
+            head: left.head(),
+            content: Record::Merge(merge),
+        };
+        places.begin_change(self, spares, plan, Then::Round)
+    }
+
+    /// The page in the parent's place loses the term of the page in hand, which was merged, and that page is cleared.
+    #[inline(never)]
+    fn begin_unlink<A: Allocator>(&self, spares: &Spares, unterm: Unterm, places: &mut Places<A>)
+        requires have { HaveLimits self.now.limits places.old }
+        requires faced { (k : Knowledge) × (r : Recalled) × FacesWritten self.now spares.now k r (end.Unterm places.old.writer.parent places.old.writer.left places.old.writer.page unterm) }
+        ensures stands { (k : Knowledge) (r : Recalled) → FacesWritten self.now spares.now k r (end.Unterm places.old.writer.parent places.old.writer.left places.old.writer.page unterm) → ShowsState self.now spares.now k r (state_of places.new) }
+        ensures few { (r : Recalled) → left_at r spares.now (state_of places.new) ≤ few_changes + 1 }
+        ensures asks { IsSome (wanted_at spares.now (state_of places.new)) }
+        ensures have { HaveLimits self.now.limits places.new }
+    {
+        plans_may_be_linked();
+        let parent = places.writer().parent();
+        let removed = places.writer().page();
+        let plan = Plan::Unlink {
+            pid: parent.pid(),
+            head: parent.head(),
+            unterm,
+            removal: removed.head(),
+        };
+        let unlinked = Unlinked {
+            rows: removed.chain().rows(removed.head()),
+            pid: Some(removed.pid()),
+        };
+        places.begin_change(self, spares, plan, Then::Limbo(unlinked))
+    }
+
+    /// An update that won has its reply; any other change is followed by a new round, and one for which nothing was free by none.
+    pub(crate) fn end_changing<A: Allocator>(&mut self, end: End, places: &mut Places<A>)
+        requires have { HaveLimits self.old.limits places.old }
+        ensures stands { (spares : SparesOf) (k : Knowledge) (r : Recalled) → FacesChanged self.old spares k end places.old.then → ShowsState self.new spares k r (state_of places.new) }
+        ensures few { (spares : SparesOf) (r : Recalled) → with_errands self.new.errands (left_at r spares (state_of places.new)) ≤ with_errands self.old.errands (left_for (Outcome.Changed end places.old.then)) }
+        ensures asks { (spares : SparesOf) → IsSome (wanted_at spares (state_of places.new)) }
+        ensures same { IsSameTask self.old self.new }
+        ensures errands { self.new.errands ≡ errands_after end places.old.then self.old.errands }
+        ensures have { HaveLimits self.new.limits places.new }
+    {
+        match (end, places.then()) {
+            (End::Won, Then::Reply(reply)) => {
+                let reply = copied(reply);
+                places.leave(reply);
+            }
+            (End::Won, Then::Errand(separator)) => {
+                let separator = separator.copied();
+                self.add_errand(separator);
+                self.begin_round(places);
+            }
+            (End::Won, Then::Round | Then::Limbo(_)) | (End::Lost, _) => self.begin_round(places),
+            (End::Full, _) => places.leave(Reply::Full),
+        }
+    }
+}
+
+/// What a deletion or a tidying does first at a leaf below a page.
+fn upkeep_below<A: Allocator>(parent: &PageInHand<A>, leaf: &PageInHand<A>) -> Option<Plan>
+    requires alive { is_removed parent.now.chain ≡ false }
+    ensures { MatchOption result (IsIdle parent.now leaf.now) (IsUpkeep parent.now leaf.now) }
+{
+    leaf.chain().keeps_rules();
+    if leaf.pid() == 1 {
+        return None;
+    }
+    if leaf.chain().item_count() > FEW_ITEMS {
+        return None;
+    }
+    upkeep_decoded(parent, leaf)
+}
+
+/// The same where the leaf may be small: both pages are decoded.
+#[inline(never)]
+fn upkeep_decoded<A: Allocator>(parent: &PageInHand<A>, leaf: &PageInHand<A>) -> Option<Plan>
+    requires alive { is_removed parent.now.chain ≡ false }
+    ensures { MatchOption result (IsIdle parent.now leaf.now) (IsUpkeep parent.now leaf.now) }
+{
+    upkeep(&parent.version(), &leaf.version())
+}
