@@ -10,6 +10,8 @@ mod example;
 #[cfg(test)]
 mod jobs;
 #[cfg(test)]
+mod last_epoch;
+#[cfg(test)]
 mod notes;
 #[cfg(test)]
 mod numbered;
@@ -20,6 +22,8 @@ mod refused_jobs;
 #[cfg(test)]
 mod refused_threads;
 #[cfg(test)]
+mod refused_trees;
+#[cfg(test)]
 mod runs;
 #[cfg(test)]
 mod stops;
@@ -27,3 +31,5 @@ mod stops;
 mod threads;
 #[cfg(test)]
 mod trees;
+#[cfg(test)]
+mod without_memory;

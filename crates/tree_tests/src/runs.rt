@@ -18,6 +18,8 @@ pub(crate) enum Run {
     Stays,
     /// That lookup is done, and one more update.
     Goes,
+    /// Updates of one seat, beside no other: whether the key has no value yet, and how many.
+    Updates(bool, u32),
     /// Inserts of one seat, beside no other.
     Alone(u32),
     /// Inserts of one seat, each looked up by it and by the other.
@@ -38,7 +40,9 @@ pub(crate) fn is_right(tree: &Tree, one: &mut BwSeat, other: &mut BwSeat, run: R
     ensures other { IsSeatOf tree.now other.new }
 {
     match run {
-        Run::Nothing | Run::Steps | Run::Alone(_) => is_right_alone(tree, one, run),
+        Run::Nothing | Run::Steps | Run::Alone(_) | Run::Updates(_, _) => {
+            is_right_alone(tree, one, run)
+        }
         Run::Stays => stays(tree, one, other),
         Run::Goes => goes(tree, one, other),
         Run::Inserts(count) => inserts(tree, one, other, count),
@@ -57,15 +61,16 @@ pub(crate) fn is_right_alone(tree: &Tree, seat: &mut BwSeat, run: Run) -> bool
         Run::Nothing => true,
         Run::Steps => steps(tree, seat),
         Run::Alone(count) => inserts_alone(tree, seat, count),
+        Run::Updates(fresh, count) => updates(tree, seat, fresh, count),
         _ => false,
     }
 }
 
-fn key() -> Key {
+pub(crate) fn key() -> Key {
     Key::from_slice(b"a").unwrap_or_default()
 }
 
-fn value() -> Value {
+pub(crate) fn value() -> Value {
     Value::from_slice(b"x").unwrap_or_default()
 }
 
@@ -132,6 +137,25 @@ fn goes(tree: &Tree, writer: &mut BwSeat, reader: &mut BwSeat) -> bool
     let updated = called(tree, writer, Command::Upsert(key(), value()), 4096);
     last == Some(Called::Done(Reply::Value(value())))
         && updated == Some(Called::Done(Reply::Replaced(value())))
+}
+
+/// So many updates within 4,096 steps each, of a key that has no value yet, or has it.
+fn updates(tree: &Tree, seat: &mut BwSeat, fresh: bool, count: u32) -> bool
+    requires own { IsSeatOf tree.now seat.old }
+    ensures own { IsSeatOf tree.now seat.new }
+{
+    for round in 0..count {
+        let wanted = if fresh && round == 0 {
+            Reply::Set
+        } else {
+            Reply::Replaced(value())
+        };
+        let updated = called(tree, seat, Command::Upsert(key(), value()), 4096);
+        if updated != Some(Called::Done(wanted)) {
+            return false;
+        }
+    }
+    true
 }
 
 /// Inserts within 4,096 steps each, so that the page is consolidated at the ninth and split at the seventeenth.

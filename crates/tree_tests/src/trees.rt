@@ -13,7 +13,7 @@ use std::test::Fail;
 use workers::{give_seat, opened, take_seat};
 
 /// Takes the last two seats of a list, or the only one, does it, and gives them back in their order.
-fn runs(tree: &Tree, seats: &mut Vec<BwSeat>, run: Run) -> bool
+pub(crate) fn runs(tree: &Tree, seats: &mut Vec<BwSeat>, run: Run) -> bool
     requires own { AreSeatsOf tree.now seats.old.items }
     ensures own { result ≡ true → AreSeatsOf tree.now seats.new.items }
 {
