@@ -5,7 +5,7 @@ use mathlib.Core.Logic.{dite}
 use native.Mathlib.Decide.{ℕ_discrete}
 use Rattle.workers.specs.declared.job.Job.{Job}
 use Rattle.workers.specs.Jobs.{AreAscending}
-use Rattle.workers.proofs.Parting.{length_map}
+use Rattle.std.proofs.lemmas.List.{length-map}
 
 abbrev pub number_of : Job → ℕ
 number_of job = job.number
@@ -17,7 +17,7 @@ at_map (first ∷ jobs) (suc n) job below is = at_map jobs n job (omega (arith, 
 
 pub not_ascending : (jobs : List Job) (k place : ℕ) (one other : Job) → k + 1 ≡ place → place < length jobs → one ≡ slice_index_or jobs k one → other ≡ slice_index_or jobs place other → number_of other ≤ number_of one → AreAscending jobs → ⊥
 not_ascending jobs k place one other next below is is_other least up =
-    let long = length_map number_of jobs in
+    let long = length-map jobs number_of in
     let first = at_map jobs k one (omega (arith, next, below)) is in
     let second = ap (slice_index (map number_of jobs)) next ∙ at_map jobs place other below is_other in
     let less = up k (omega (arith, next, below, long)) in absurd (omega (arith, first, second, less, least))

@@ -3,10 +3,11 @@ use Rattle.std.proofs.Common.{◌≡◌, ℕ, zero, suc, inl, inr, List, [], ◌
 use Rattle.std.specs.Prelude.{◌⊎◌, Bool, slice_get}
 use Rattle.std.proofs.lemmas.List.{length-append}
 use Rattle.std.proofs.lemmas.Option.{same_Some}
+use Rattle.workers.specs.declared.begun.Back.{Back}
 use Rattle.workers.specs.declared.begun.Begun.{Begun}
 use Rattle.workers.specs.declared.begun.Begun.TheVariants as begun
 use Rattle.workers.specs.declared.worker.Worker.{Worker}
-use Rattle.workers.specs.Begun.{AreBegun, HasJoined, HaveComeBack, HaveJoined, IsBegun, IsToldBy}
+use Rattle.workers.specs.Begun.{AreBegun, ComesBack, HasJoined, HaveComeBack, HaveJoined, IsBack, IsBegun, IsToldBy}
 use Rattle.workers.proofs.Parting.{below_of, index_is, there}
 
 -- what stands in a longer list stands in the list, or is the last
@@ -84,3 +85,18 @@ stayed limit olds = record {
   count = refl;
   each = λ place old new at_old at_new. same_Some new old (sym at_new ∙ at_old);
 }
+
+-- what was begun ends as this: by the promise of its thread, or as it is back already
+abbrev pub EndsAs : {A : Type 0} → Begun A → Back A → Type 0
+EndsAs (begun.Standing handle) back = IsBack handle.promise.limit handle.promise.may_run.value.id handle.promise.place handle.promise.worker.value back
+EndsAs (begun.Back it) back = back ≡ it
+
+-- what has ended has joined
+pub has_joined : {A : Type 0} (told : Bool) (one : Begun A) (back : Back A) → EndsAs one back → back.told.value ≡ told → HasJoined told one back.worker
+has_joined told (begun.Standing handle) back ends says = λ limit id place old is.
+    subst (λ z. ComesBack z limit place old back.worker) says
+    (subst (λ w. ComesBack back.told.value limit place w back.worker) is.3
+    (subst (λ l. ComesBack back.told.value l place handle.promise.worker.value back.worker) is.2
+    (subst (λ p. ComesBack back.told.value handle.promise.limit p handle.promise.worker.value back.worker) is.1 ends.comes)))
+has_joined told (begun.Back it) back ends says = λ limit id place old is.
+    subst (λ z. ComesBack z limit place old back.worker) says (subst (λ b. ComesBack b.told.value limit place old b.worker) (sym ends) is.comes)

@@ -2,6 +2,7 @@
 use Rattle.std.proofs.Common.{◌≡◌, ◌<◌, ◌≤◌, ◌+◌, ◌*◌, ℕ, zero, suc, List, [], ◌∷◌, Some, refl, sym, ap, subst, ◌∙◌, arith, All, false, flat_map, length, map, true}
 use Rattle.std.specs.Prelude.{Bool, IsPermutation, MatchBool, slice_get, slice_index_or, vec_len}
 use Rattle.std.specs.List.Sorted.{IsNonDecreasingBy}
+use Rattle.std.proofs.lemmas.List.{length-map}
 use Rattle.std.proofs.lemmas.List.Elements.{All-weaker}
 use Rattle.std.proofs.lemmas.Option.{same_Some}
 use Rattle.bw_tree.specs.Seats.{Seat}
@@ -42,10 +43,6 @@ of_map : {X Y : Type 0} (f : X → Y) (xs : List X) (n : ℕ) (y : Y) → slice_
 of_map f [] n y e = cc
 of_map f (x ∷ xs) zero y e = (x, refl, same_Some (f x) y e)
 of_map f (x ∷ xs) (suc n) y e = of_map f xs n y e
-
-pub length_map : {X Y : Type 0} (f : X → Y) (xs : List X) → length (map f xs) ≡ length xs
-length_map f [] = refl
-length_map f (x ∷ xs) = ap suc (length_map f xs)
 
 -- what holds of each element of a mapped list
 all_mapped : {X Y : Type 0} (f : X → Y) (P : Y → Type 0) (xs : List X) → ((n : ℕ) (y : Y) → slice_get (map f xs) n ≡ Some y → P y) → All (λ x. P (f x)) xs
@@ -96,7 +93,7 @@ none_more place = omega arith
 pub have_worked : {A : Type 0} (told : Bool) (limit : ℕ) (olds news : List (Worker A)) → HaveComeBack told limit olds news → told ≡ true → HaveWorked (flat_map done_by news) (map seat_of olds) (map seat_of news)
 have_worked told limit olds news comes is =
     let back = subst (λ z. HaveComeBack z limit olds news) is comes in record {
-      count = length_map seat_of news ∙ back.count ∙ sym (length_map seat_of olds);
+      count = length-map news seat_of ∙ back.count ∙ sym (length-map olds seat_of);
       each = λ place before after at_before at_after.
           let old = of_map seat_of olds place before at_before in
           let new = of_map seat_of news place after at_after in

@@ -1,6 +1,6 @@
--- A list with one element more, where there was memory for it.
-use Rattle.std.proofs.Common.{◌≡◌, ℕ, zero, suc, List, [], ◌∷◌, ◌++◌, Some, subst}
-use Rattle.std.specs.Prelude.{OnOk, Result, Ok, Err, is_ok, slice_get, true}
+-- A list with one element more, where there was memory for it, and a list whose last element is taken.
+use Rattle.std.proofs.Common.{◌≡◌, ℕ, zero, suc, List, [], ◌∷◌, ◌++◌, Some, refl, subst}
+use Rattle.std.specs.Prelude.{IfSome, None, OnOk, Option, Result, Ok, Err, is_ok, option_to_list, slice_get, true}
 use Rattle.std.proofs.lemmas.Option.{same_Some}
 
 -- what holds of each element of a list, and of one more, holds of each of both
@@ -10,6 +10,18 @@ all_pushed P [] last all one zero x e = subst P (same_Some last x e) one
 all_pushed P [] last all one (suc n) x e = cc
 all_pushed P (first ∷ xs) last all one zero x e = all zero x e
 all_pushed P (first ∷ xs) last all one (suc n) x e = all_pushed P xs last (λ m y h. all (suc m) y h) one n x e
+
+-- what holds of each element of two lists holds of each of the first
+pub all_before : {X : Type 0} (P : X → Type 0) (xs ys : List X) → ((n : ℕ) (x : X) → slice_get (xs ++ ys) n ≡ Some x → P x) → (n : ℕ) (x : X) → slice_get xs n ≡ Some x → P x
+all_before P [] ys all n x e = cc
+all_before P (first ∷ xs) ys all zero x e = all zero x e
+all_before P (first ∷ xs) ys all (suc n) x e = all_before P xs ys (λ m y h. all (suc m) y h) n x e
+
+-- and of the last one, if it is taken
+pub last_of : {X : Type 0} (P : X → Type 0) (xs : List X) (taken : Option X) → ((n : ℕ) (x : X) → slice_get (xs ++ option_to_list taken) n ≡ Some x → P x) → IfSome taken P
+last_of P xs None all = tt
+last_of P [] (Some x) all = all zero x refl
+last_of P (first ∷ xs) (Some x) all = last_of P xs (Some x) (λ n y e. all (suc n) y e)
 
 -- what is so where a result is Ok
 pub where_ok : {T E : Type 0} {P : Type 0} (r : Result T E) → true ≡ is_ok r → OnOk r P → P

@@ -1,13 +1,25 @@
-use Rattle.std.proofs.Common.{[], ◌∷◌, ◌++◌, ◌∙◌, ap, arith, map, rules, subst, sym}
+use Rattle.std.proofs.Common.{[], ◌∷◌, ◌++◌, ◌∙◌, All, ap, arith, length, map, rules, subst, sym}
 use Rattle.std.specs.Prelude.{IfSome}
 use Rattle.std.proofs.lemmas.List.{length-append, map-append, map-id}
 use Rattle.std.proofs.lemmas.Iterator.Adapters.{YieldsList-from_vec}
 use Rattle.std.proofs.lemmas.Iterator.Consumers.{YieldsList-end, YieldsList-turn}
-use Rattle.std.proofs.lemmas.List.Elements.{All-pop, All-push}
+use Rattle.std.proofs.lemmas.List.Elements.{All-nil, All-pop, All-push}
 use Rattle.workers.specs.declared.worker.Worker.{Worker}
 use Rattle.workers.specs.Working.{HasRoom}
 use Rattle.workers.proofs.Parting.{seat_of}
 use Rattle.workers.proofs.room.seated.Goals as goal
+
+pub loop-seat-init : goal.loop-seat-init
+loop-seat-init g c =
+    let none = c.args.workers.ok.0 ∙ ap length c.requires.empty in
+    let lists = c.requires.lists in record {
+      lists = omega (arith, lists);
+      each = c.requires.each;
+      seats = ap (map seat_of) c.requires.empty;
+      room = subst (All (λ w. HasRoom c.args.limit w.done)) (sym c.requires.empty) (All-nil (λ w. HasRoom c.args.limit w.done));
+      count = none;
+      capacity = c.requires.room;
+    }
 
 pub loop-seat-preserved : goal.loop-seat-preserved
 loop-seat-preserved g c =

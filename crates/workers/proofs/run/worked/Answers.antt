@@ -1,5 +1,7 @@
-use Rattle.std.proofs.Common.{◌≡◌, ◌≤◌, None, ap, arith, flat_map, length, map, subst, sym, ◌∙◌}
+use Rattle.std.proofs.Common.{◌≡◌, ◌≤◌, ◌*◌, None, ap, arith, flat_map, length, map, subst, sym, ◌∙◌}
 use Rattle.std.specs.Prelude.{vec_len}
+use Rattle.std.specs.Vec.{vec_capacity}
+use Rattle.std.proofs.lemmas.List.{length-map}
 use Rattle.std.proofs.lemmas.List.Elements.{All-weaker}
 use Rattle.bw_tree.specs.Seats.{unfinished_command}
 use Rattle.bw_tree.specs.Trees.{AreSeatsOf, IsSeatOf}
@@ -16,6 +18,32 @@ in_threads-may_run-requires-clause-own g c κs within =
 pub in_threads-may_run-requires-clause-idle : goal.in_threads-may_run-requires-clause-idle
 in_threads-may_run-requires-clause-idle g c κs within =
     all_seats (λ seat. unfinished_command seat ≡ None) c.seated-workers.result.items (subst AreIdle (sym c.seated-workers.ensures.seats) c.requires.idle)
+
+pub in_threads-may_run-requires-clause-space : goal.in_threads-may_run-requires-clause-space
+in_threads-may_run-requires-clause-space g c κs within =
+    let many = length-map c.seated-workers.result.items seat_of in
+    let same = ap length c.seated-workers.ensures.seats in
+    let long = c.seated-workers.result.ok.0 in
+    let seats = c.args.seats.ok.0 in
+    let room = c.requires.room.back_room in omega (arith, many, same, long, seats, room)
+
+pub parted-done-requires-clause-seats_room : goal.parted-done-requires-clause-seats_room
+parted-done-requires-clause-seats_room g c =
+    let many = length-map c.seated-workers.result.items seat_of in
+    let same = ap length c.seated-workers.ensures.seats in
+    let seats = c.args.seats.ok.0 in
+    let back = c.in_threads-may_run.ensures.count in
+    let long = c.in_threads-may_run.result.1.ok.0 in
+    let room = c.requires.room.seats_room in omega (arith, many, same, seats, back, long, room)
+
+pub parted-done-requires-clause-results_room : goal.parted-done-requires-clause-results_room
+parted-done-requires-clause-results_room g c =
+    let many = length-map c.seated-workers.result.items seat_of in
+    let same = ap length c.seated-workers.ensures.seats in
+    let seats = c.args.seats.ok.0 in
+    let back = c.in_threads-may_run.ensures.count in
+    let long = c.in_threads-may_run.result.1.ok.0 in
+    subst (λ n. n * c.args.shared.now.limit ≤ vec_capacity c.args.room.results) (omega (arith, many, same, seats, back, long)) c.requires.room.results_room
 
 pub parted-done-requires-clause-few : goal.parted-done-requires-clause-few
 parted-done-requires-clause-few g c =
