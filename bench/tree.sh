@@ -1,8 +1,8 @@
 #!/bin/sh
 # How many operations a second threads do on one running tree, each thread with a seat of its own: bench/tree.sh [OPERATIONS], so many in
 # each thread. The tree has 20,000 keys of 16 bytes with values of 8; lookups are of drawn keys, and in the mix every second operation is
-# an upsert of one. Beside it stands how many lookups bare loads of as many rows' words would allow, and the share of that limit that is
-# reached. Opening and loading the tree is not counted. The program is proved and built first.
+# an upsert of one. Beside it stands how many lookups bare loads of as many rows' words would allow, of the rows of ways over five levels and of
+# drawn rows, and the share of these limits that is reached. Opening and loading the tree is not counted. The program is proved and built first.
 set -eu
 top=$(CDPATH='' cd -- "$(dirname -- "$0")/.." && pwd)
 operations=${1:-10000}
@@ -28,18 +28,24 @@ for threads in 1 2 4; do
     all=$((threads * operations))
     reads=$(took "$all" reads "$keys" "$threads" "$operations")
     half=$(took "$all" half "$keys" "$threads" "$operations")
-    bare=$(took "$all" rows "$rows" "$threads" "$operations")
-    echo "$threads $all $reads $half $bare" >>"$times"
+    ways=$(took "$all" ways "$rows" "$threads" "$operations")
+    drawn=$(took "$all" rows "$rows" "$threads" "$operations")
+    echo "$threads $all $reads $half $ways $drawn" >>"$times"
 done
 awk -v rows="$rows" '
     BEGIN { printf "a lookup reads %d rows\n", rows }
     {
         reads = $2 / $3 * 1e9
         half = $2 / $4 * 1e9
-        bare = $2 / $5 * 1e9
-        if (NR == 1) { one_reads = reads; one_half = half; one_bare = bare }
+        ways = $2 / $5 * 1e9
+        drawn = $2 / $6 * 1e9
+        if (NR == 1) { one_reads = reads; one_half = half; one_ways = ways; one_drawn = drawn }
         printf "%d threads: %.0f lookups a second, %.0f operations of the mix; ", $1, reads, half
-        printf "bare loads allow %.0f lookups, %.1f %% of which are reached\n", bare, reads / bare * 100
+        printf "bare loads of ways allow %.0f lookups, %.1f %% of which are reached, ", ways, reads / ways * 100
+        printf "of drawn rows %.0f, %.1f %%\n", drawn, reads / drawn * 100
     }
-    END { printf "4 threads against 1: lookups %.2f, mix %.2f, bare loads %.2f\n", reads / one_reads, half / one_half, bare / one_bare }
+    END {
+        printf "4 threads against 1: lookups %.2f, mix %.2f, bare loads of ways %.2f, of drawn rows %.2f\n", \
+            reads / one_reads, half / one_half, ways / one_ways, drawn / one_drawn
+    }
 ' "$times"

@@ -15,6 +15,9 @@ const ROWS: u32 = 16384;
 
 const WIDTH: usize = 256;
 
+/// An odd number, which scatters the rows of a way over the table.
+const SCATTER: u32 = 7919;
+
 /// The rule of words that may be any numbers.
 struct AnyWords;
 
@@ -26,15 +29,20 @@ impl TableRule<(), (), ()> for AnyWords {
 
 type Words = Shared<(), (), (), AnyWords>;
 
-/// Reads rows in threads; none without memory or a clock.
-pub(crate) fn run<R: Threads + Clock + Sync>(rt: &R, alloc: Global, scale: Scale) -> Option<Done> {
+/// Reads rows in threads, drawn ones or those of ways; none without memory or a clock.
+pub(crate) fn run<R: Threads + Clock + Sync>(
+    rt: &R,
+    alloc: Global,
+    on_ways: bool,
+    scale: Scale,
+) -> Option<Done> {
     let words = vec![in alloc; 0u64; ROWS as usize * WIDTH].ok()?;
     let opened = Table::<(), (), (), AnyWords, Global>::of_words(alloc, words.as_slice(), &());
     let (table, _) = opened.ok()?;
     let shared = &table.shared;
     let read = |thread: usize| -> u64
         requires { shared.now.table_id.words ≡ ROWS * WIDTH }
-    { read(shared, scale, thread as u64) };
+    { read(shared, on_ways, scale, thread as u64) };
     let start = Instant::now(rt).ok()?;
     let all = map_indices(rt, alloc, scale.threads as usize, &read).ok()?;
     let time = start.elapsed(rt).ok()?;
@@ -43,13 +51,18 @@ pub(crate) fn run<R: Threads + Clock + Sync>(rt: &R, alloc: Global, scale: Scale
 }
 
 /// How many operations of one thread have read what stands there.
-fn read(words: &Words, scale: Scale, seed: u64) -> u64
+fn read(words: &Words, on_ways: bool, scale: Scale, seed: u64) -> u64
     requires { words.now.table_id.words ≡ ROWS * WIDTH }
 {
     let mut drawn = Pcg32::seed_from_u64(seed);
     let mut done = 0u64;
     for _ in 0..scale.operations {
-        if folded(words, scale.size, &mut drawn) == 0 {
+        let folded = if on_ways {
+            way(words, scale.size, drawn.next_word())
+        } else {
+            folded(words, scale.size, &mut drawn)
+        };
+        if folded == 0 {
             done = done.saturating_add(1);
         }
     }
@@ -63,6 +76,26 @@ fn folded(words: &Words, rows: u32, drawn: &mut Pcg32) -> u64
     let mut folded = 0;
     for _ in 0..rows {
         folded ^= row(words, (drawn.next_word() % ROWS) as usize);
+    }
+    folded
+}
+
+/// All words of so many rows on a way from a root to a leaf, folded into one: the rows of five levels by turns, which have 1, 2, 16, 128 and
+/// 2,048 pages. The number says which pages.
+fn way(words: &Words, rows: u32, number: u32) -> u64
+    requires { words.now.table_id.words ≡ ROWS * WIDTH }
+{
+    let mut folded = 0;
+    for record in 0..rows {
+        let pages: u32 = match record % 5 {
+            0 => 1,
+            1 => 2,
+            2 => 16,
+            3 => 128,
+            _ => 2048,
+        };
+        let place = record.wrapping_mul(2731).wrapping_add(number % pages);
+        folded ^= row(words, (place.wrapping_mul(SCATTER) % ROWS) as usize);
     }
     folded
 }

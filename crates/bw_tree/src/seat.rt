@@ -1,8 +1,14 @@
 //! A seat of a running tree.
-ghost use Rattle.std.specs.Prelude.{◌≡◌, None, IsSome, is_none};
+ghost use Rattle.std.specs.Prelude.{◌≡◌, ℕ, None, Some, IsSome, is_none};
+ghost use Rattle.actors.specs.Actors.{GoesOn, IsGoing, IsTold, running_command, wanted_by};
+ghost use Rattle.bw_model.specs.declared.limits.Limits.{Limits as LimitsSeen};
+ghost use Rattle.bw_model.specs.declared.step.Answer.TheVariants.{Done};
 ghost use Rattle.bw_tree.specs.Calls.{Advances, HasBegun, IsResumed};
 ghost use Rattle.bw_tree.specs.Runs.{IsOneHistory};
 ghost use Rattle.bw_tree.specs.Seats.{IsSame, unfinished_command};
+ghost use Rattle.bw_tree.specs.Told.{reply_if};
+ghost use Rattle.chain_search.specs.Knowledge.{Knowledge};
+ghost use Rattle.chain_search.specs.Recalled.{Recalled};
 ghost use Rattle.slot_rule.specs.Views.{IsOf};
 
 use crate::called::Called;
@@ -81,25 +87,26 @@ impl<A: Allocator> BwSeat<A> {
         ensures same { IsSame self.old self.new }
         ensures goes { IsResumed self.old budget result self.new }
     {
+        let mut reply = Reply::None;
         for _ in 0..budget {
-            if let Some(reply) = self.advance(words) {
+            if self.advance(words, &mut reply) {
                 return Called::Done(reply);
             }
         }
         Called::Spent
     }
 
-    /// Takes the one step that its operation wants, and answers the reply, if it is done.
-    fn advance(&mut self, words: &TreeWords) -> Option<Reply>
+    /// Takes the one step that its operation wants, and tells whether it is done, with the reply in its place.
+    fn advance(&mut self, words: &TreeWords, reply: &mut Reply) -> bool
         requires own { IsOf self.old.limits words.now.key words.now.table_id self.old.table }
         requires busy { IsSome (unfinished_command self.old) }
         ensures same { IsSame self.old self.new }
-        ensures advances { Advances self.old result self.new }
+        ensures advances { Advances self.old (reply_if result reply.new) self.new }
     {
         laws_of_runs();
         if self.actor.is_leaving() {
             // A leave answers nothing, so the reply is asked for before the store that ends the operation.
-            let reply = self.actor.leave();
+            leave(&mut self.actor, reply);
             act(
                 words,
                 &mut self.place,
@@ -107,9 +114,9 @@ impl<A: Allocator> BwSeat<A> {
                 self.number,
                 &Step::Leave,
                 None,
-                Some(&reply),
+                Some(&*reply),
             );
-            return Some(reply);
+            return true;
         }
         let told = take(
             words,
@@ -123,6 +130,17 @@ impl<A: Allocator> BwSeat<A> {
             None => self.actor.take_row(&mut self.room),
             Some(told) => self.actor.go_on(told),
         }
-        None
+        false
     }
+}
+
+/// Ends an actor's operation with its reply, which comes into its place. Not inlined: no other step needs room for one.
+#[inline(never)]
+fn leave<A: Allocator>(actor: &mut Actor<A>, reply: &mut Reply)
+    requires told { IsTold actor.old Done }
+    requires leaves { wanted_by actor.old.running ≡ Some Step.Leave }
+    ensures goes { (limits : LimitsSeen) (number : ℕ) (k : Knowledge) (r : Recalled) (going : IsGoing limits number k r actor.old Done) → GoesOn limits number k r actor.old going.running.wanted Done (Some reply.new) actor.new }
+    ensures command { running_command actor.new ≡ None }
+{
+    *reply = actor.leave();
 }

@@ -6,6 +6,8 @@ use Rattle.bw_model.specs.declared.step.Step.{Step as StepOf}
 use Rattle.bw_model.specs.declared.step.Step.TheVariants as step
 use Rattle.bw_model.specs.declared.step.Answer.{Answer}
 use Rattle.bw_model.specs.declared.step.Answer.TheVariants.{Number, Whether}
+use Rattle.bw_model.specs.declared.step.Told.{Told}
+use Rattle.bw_model.specs.declared.step.Told.TheVariants as told
 use Rattle.deltas.specs.declared.record.Record.{Record}
 use Rattle.chain_search.specs.Fitting.{Fits}
 use Rattle.chain_search.specs.Knowledge.{Asked, Knowledge}
@@ -80,6 +82,11 @@ abbrev pub IsSoundFound : Limits → Found → Type 0
 IsSoundFound limits (Not taking) = IsSoundTaking limits taking
 IsSoundFound limits (Taken kind number) = (0 < number) × (number < count_of limits kind)
 IsSoundFound limits Full = ⊤
+
+-- It is told whether a step went.
+abbrev pub TellsWhether : Told → Type 0
+TellsWhether (told.Whether went) = ⊤
+TellsWhether told = ⊥
 
 -- Something is known that the answer fits.
 pub record FitsTaking (limits : Limits) (taking : Taking) (told : Answer Record) : Type 0 where

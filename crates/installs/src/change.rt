@@ -1,6 +1,7 @@
 //! A change of the tree: a record over a page's newest row, the split of a page, a new root, or the end of a removed page.
 ghost use Rattle.std.specs.Prelude.{◌≡◌, ◌<◌, ◌≤◌, ◌*◌, ◌+◌, ◌/◌, ℕ, false, None, Some, IfNone};
 ghost use Rattle.std.specs.Int.{trailing_zeros, w64};
+ghost use Rattle.bw_model.specs.Answers.{answer_of};
 ghost use Rattle.bw_model.specs.Lent.{lent};
 ghost use Rattle.bw_model.specs.declared.limits.Limits.{Limits as LimitsSeen};
 ghost use Rattle.chain_search.specs.Discipline.{May, MayFree};
@@ -15,9 +16,9 @@ ghost use Rattle.installs.specs.Spares.{HaveRoom, Rest};
 ghost use Rattle.installs.specs.Taking.{found_after};
 ghost use Rattle.chain_search.specs.Within.{IsWithin};
 
-use crate::taking::{Found, Kind, Taking};
+use crate::taking::{Found, Kind, Taking, went};
 use crate::{Plan, Spares};
-use bw_model::{Answer, Limits, Step};
+use bw_model::{Limits, Step, Told};
 use deltas::{Record, Remove};
 use std::marker::Model;
 
@@ -130,35 +131,35 @@ impl Change {
         }
     }
 
-    /// Takes the answer to the step wanted last, and tells whether the change has ended.
-    pub fn next(&mut self, spares: &mut Spares, answer: &Answer<Record>) -> Option<End>
+    /// Is told the answer to the step wanted last, and tells whether the change has ended.
+    pub fn next(&mut self, spares: &mut Spares, told: Told) -> Option<End>
         requires sound { IsSoundChange self.old spares.old }
-        requires told { IsTold self.old spares.old answer.now }
-        ensures follows { (actor : ℕ) (k : Knowledge) → Shows actor self.old spares.old k → Fits self.old.limits k (wanted self.old spares.old) answer.now → Follows actor k (learn k (wanted self.old spares.old) answer.now) self.old answer.now self.new spares.new result }
-        ensures limbo { (actor : ℕ) (k : Knowledge) → Shows actor self.old spares.old k → Fits self.old.limits k (wanted self.old spares.old) answer.now → (learn k (wanted self.old spares.old) answer.now).limbo ≡ limbo_after self.old.plan result k }
-        ensures fresh { (actor : ℕ) (k : Knowledge) → Shows actor self.old spares.old k → Fits self.old.limits k (wanted self.old spares.old) answer.now → TakesFresh self.old.limits k self.old.plan result }
+        requires told { IsTold self.old spares.old (answer_of told) }
+        ensures follows { (actor : ℕ) (k : Knowledge) → Shows actor self.old spares.old k → Fits self.old.limits k (wanted self.old spares.old) (answer_of told) → Follows actor k (learn k (wanted self.old spares.old) (answer_of told)) self.old (answer_of told) self.new spares.new result }
+        ensures limbo { (actor : ℕ) (k : Knowledge) → Shows actor self.old spares.old k → Fits self.old.limits k (wanted self.old spares.old) (answer_of told) → (learn k (wanted self.old spares.old) (answer_of told)).limbo ≡ limbo_after self.old.plan result k }
+        ensures fresh { (actor : ℕ) (k : Knowledge) → Shows actor self.old spares.old k → Fits self.old.limits k (wanted self.old spares.old) (answer_of told) → TakesFresh self.old.limits k self.old.plan result }
         ensures sound { IfNone result (IsSoundChange self.new spares.new) }
         ensures made { IsMade self.new spares.new }
         ensures room { HaveRoom self.old.limits spares.new }
         ensures same { IsSame self.old self.new }
-        ensures pid { IsPidFrom spares.old.pid (pid_taken (wanted self.old spares.old) answer.now) spares.new.pid }
-        ensures spends { Spends self.old spares.old answer.now self.new spares.new result }
-        ensures lowest { (kind : Kind) (word bits : ℕ) → self.old.state ≡ State.Taking (Taking.Bits kind word) → answer.now ≡ Answer.Number bits → 0 < bits → self.new.state ≡ State.Taking (Taking.Take kind (64 * word + trailing_zeros w64 bits)) }
-        ensures again { (kind : Kind) (number : ℕ) → self.old.state ≡ State.Taking (Taking.Take kind number) → answer.now ≡ Answer.Whether false → self.new.state ≡ State.Taking (Taking.Bits kind (number / 64)) }
+        ensures pid { IsPidFrom spares.old.pid (pid_taken (wanted self.old spares.old) (answer_of told)) spares.new.pid }
+        ensures spends { Spends self.old spares.old (answer_of told) self.new spares.new result }
+        ensures lowest { (kind : Kind) (word bits : ℕ) → self.old.state ≡ State.Taking (Taking.Bits kind word) → told ≡ Told.Number bits → 0 < bits → self.new.state ≡ State.Taking (Taking.Take kind (64 * word + trailing_zeros w64 bits)) }
+        ensures again { (kind : Kind) (number : ℕ) → self.old.state ≡ State.Taking (Taking.Take kind number) → told ≡ Told.Whether false → self.new.state ≡ State.Taking (Taking.Bits kind (number / 64)) }
     {
         let _ = &self.limits;
-        self.move_on(spares, answer)
+        self.move_on(spares, told)
     }
 
     /// Goes to the state that follows, and makes what is to be placed there.
-    fn move_on(&mut self, spares: &mut Spares, answer: &Answer<Record>) -> Option<End>
+    fn move_on(&mut self, spares: &mut Spares, told: Told) -> Option<End>
         requires sound { IsSoundChange self.old spares.old }
-        requires told { IsTold self.old spares.old answer.now }
-        ensures moved { moved self.old.limits self.old.plan spares.old self.old.state answer.now ≡ record { state = self.new.state; spares = spares.new; end = result } }
+        requires told { IsTold self.old spares.old (answer_of told) }
+        ensures moved { moved self.old.limits self.old.plan spares.old self.old.state (answer_of told) ≡ record { state = self.new.state; spares = spares.new; end = result } }
         ensures same { IsSame self.old self.new }
         ensures made { IsMade self.new spares.new }
     {
-        let end = self.follow(spares, answer);
+        let end = self.follow(spares, told);
         self.make(spares);
         end
     }
@@ -188,35 +189,35 @@ impl Change {
     }
 
     /// Goes to the state that follows.
-    fn follow(&mut self, spares: &mut Spares, answer: &Answer<Record>) -> Option<End>
+    fn follow(&mut self, spares: &mut Spares, told: Told) -> Option<End>
         requires sound { IsSoundChange self.old spares.old }
-        requires told { IsTold self.old spares.old answer.now }
-        ensures moved { moved self.old.limits self.old.plan spares.old self.old.state answer.now ≡ record { state = self.new.state; spares = spares.new; end = result } }
+        requires told { IsTold self.old spares.old (answer_of told) }
+        ensures moved { moved self.old.limits self.old.plan spares.old self.old.state (answer_of told) ≡ record { state = self.new.state; spares = spares.new; end = result } }
         ensures same { IsSame self.old self.new }
     {
         match self.state {
-            State::Taking(taking) => self.take(spares, taking, answer),
+            State::Taking(taking) => self.take(spares, taking, told),
             State::Base => self.go(State::Ready),
             State::Ready => {
                 let state = after_ready(&self.plan);
                 self.go(state)
             }
             State::Place => self.go(State::Link),
-            State::Link => self.decide(spares, answer.whether()),
+            State::Link => self.decide(spares, went(told)),
             State::Undo => Some(End::Lost),
             State::Clear => Some(End::Won),
         }
     }
 
     /// Goes on with a taking; what was taken is a spare.
-    fn take(&mut self, spares: &mut Spares, taking: Taking, answer: &Answer<Record>) -> Option<End>
+    fn take(&mut self, spares: &mut Spares, taking: Taking, told: Told) -> Option<End>
         requires state { self.old.state ≡ State.Taking taking }
         requires sound { IsSoundChange self.old spares.old }
-        requires told { IsTold self.old spares.old answer.now }
-        ensures moved { moved_by self.old.plan spares.old self.old.state (found_after self.old.limits taking answer.now) ≡ record { state = self.new.state; spares = spares.new; end = result } }
+        requires told { IsTold self.old spares.old (answer_of told) }
+        ensures moved { moved_by self.old.plan spares.old self.old.state (found_after self.old.limits taking (answer_of told)) ≡ record { state = self.new.state; spares = spares.new; end = result } }
         ensures same { IsSame self.old self.new }
     {
-        match taking.next(&self.limits, answer) {
+        match taking.next(&self.limits, told) {
             Found::Not(taking) => self.go(State::Taking(taking)),
             Found::Taken { kind, number } => {
                 spares.keep(kind, number);

@@ -1,10 +1,12 @@
 //! The taking of one free number: it reads words of free bits, and takes the lowest free number of the first word that has one.
 ghost use Rattle.std.specs.Prelude.{◌≡◌, ◌<◌, ◌*◌};
+ghost use Rattle.bw_model.specs.Answers.{answer_of};
 ghost use Rattle.bw_model.specs.Lent.{lent};
+ghost use Rattle.bw_model.specs.declared.step.Answer.TheVariants.{Number};
 ghost use Rattle.chain_search.specs.Fitting.{FitsWord};
-ghost use Rattle.installs.specs.Taking.{FitsTaking, IsSoundFound, IsSoundTaking, count_of, found_after, wanted_number};
+ghost use Rattle.installs.specs.Taking.{FitsTaking, IsSoundFound, IsSoundTaking, TellsWhether, count_of, found_after, wanted_number};
 
-use bw_model::{Answer, Limits, Step};
+use bw_model::{Limits, Step, Told};
 use deltas::Record;
 
 /// A kind of number.
@@ -61,17 +63,17 @@ impl Taking {
         }
     }
 
-    /// Takes the answer to the step wanted last.
-    pub(crate) fn next(self, limits: &Limits, answer: &Answer<Record>) -> Found
-        requires told { FitsTaking limits.now self answer.now }
+    /// Is told the answer to the step wanted last.
+    pub(crate) fn next(self, limits: &Limits, told: Told) -> Found
+        requires told { FitsTaking limits.now self (answer_of told) }
         requires sound { IsSoundTaking limits.now self }
-        ensures found { result ≡ found_after limits.now self answer.now }
+        ensures found { result ≡ found_after limits.now self (answer_of told) }
         ensures sound { IsSoundFound limits.now result }
     {
         match self {
-            Taking::Bits { kind, word } => choose(limits, kind, word, answer.number()),
+            Taking::Bits { kind, word } => choose(limits, kind, word, told.number()),
             Taking::Take { kind, number } => {
-                if answer.whether() {
+                if went(told) {
                     return Found::Taken { kind, number };
                 }
                 Found::Not(Taking::Bits {
@@ -87,7 +89,7 @@ impl Taking {
 fn choose(limits: &Limits, kind: Kind, word: u8, bits: u64) -> Found
     requires word { 64 * word < count_of limits.now kind }
     requires fits { FitsWord (count_of limits.now kind) word bits }
-    ensures found { result ≡ found_after limits.now (Taking.Bits kind word) (Answer.Number bits) }
+    ensures found { result ≡ found_after limits.now (Taking.Bits kind word) (Number bits) }
     ensures sound { IsSoundFound limits.now result }
 {
     if bits != 0 {
@@ -101,4 +103,15 @@ fn choose(limits: &Limits, kind: Kind, word: u8, bits: u64) -> Found
         });
     }
     Found::Full
+}
+
+/// Whether a step went.
+pub(crate) fn went(told: Told) -> bool
+    requires { TellsWhether told }
+    ensures { told ≡ Told.Whether result }
+{
+    match told {
+        Told::Whether(went) => went,
+        _ => unreachable!(),
+    }
 }

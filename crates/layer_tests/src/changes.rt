@@ -1,5 +1,6 @@
 //! Changes step by step, over a memory in which a few numbers are free.
 ghost use Rattle.std.specs.Prelude.{◌≡◌, ◌≤◌, ◌∷◌, [], ℕ};
+ghost use Rattle.bw_model.specs.Answers.{answer_of};
 ghost use Rattle.bw_model.specs.Lent.{lent};
 ghost use Rattle.chain_search.specs.Fitting.{Fits, FitsWord};
 ghost use Rattle.chain_search.specs.Knowledge.{nothing};
@@ -9,7 +10,7 @@ ghost use Rattle.chain_search.specs.Within.{IsWithin};
 
 use arrayvec::ArrayString;
 use base_page::{Items, Page};
-use bw_model::{Answer, Key, Limits, Step};
+use bw_model::{Key, Limits, Step, Told};
 use deltas::{Record, Remove, Unterm};
 use installs::{Change, End, Plan, Spares};
 use smo::SplitPlan;
@@ -56,24 +57,24 @@ fn word(at: u8, free: u8) -> u64
 }
 
 /// The answer to a step of a change.
-fn told(world: &mut World, limits: &Limits, step: &Step<&Record>) -> Answer<Record>
+fn told(world: &mut World, limits: &Limits, step: &Step<&Record>) -> Told
     requires only { IsOfChange (lent step.now) }
     requires within { IsWithin limits.now (lent step.now) }
-    ensures fits { Fits limits.now nothing (lent step.now) result }
+    ensures fits { Fits limits.now nothing (lent step.now) (answer_of result) }
 {
     match step {
-        Step::PidBits(at) => Answer::Number(word(*at, world.pids)),
-        Step::RowBits(at) => Answer::Number(word(*at, world.rows)),
+        Step::PidBits(at) => Told::Number(word(*at, world.pids)),
+        Step::RowBits(at) => Told::Number(word(*at, world.rows)),
         Step::TakePid(pid) => {
             world.pids = world.pids.saturating_sub(1);
-            Answer::Whether(*pid != 0)
+            Told::Whether(*pid != 0)
         }
         Step::TakeRow(row) => {
             world.rows = world.rows.saturating_sub(1);
-            Answer::Whether(*row != 0)
+            Told::Whether(*row != 0)
         }
-        Step::Place(_, _) => Answer::Done,
-        Step::Exchange(_, old, new) => Answer::Whether(*old == 0 || *new == 0 || world.won),
+        Step::Place(_, _) => Told::Done,
+        Step::Exchange(_, old, new) => Told::Whether(*old == 0 || *new == 0 || world.won),
         _ => unreachable!(),
     }
 }
@@ -105,7 +106,7 @@ fn drive(limits: &Limits, spares: &mut Spares, plan: Plan, world: World) -> (Log
         let step = change.wanted(spares);
         show(&mut log, &step);
         let answer = told(&mut world, limits, &step);
-        if let Some(end) = change.next(spares, &answer) {
+        if let Some(end) = change.next(spares, answer) {
             return (log, Some(end));
         }
     }

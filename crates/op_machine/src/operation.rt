@@ -191,7 +191,7 @@ impl<A: Allocator> Operation<A> {
         self.move_on(&hand.spares, told);
     }
 
-    /// The same where a change is under way.
+    /// The same where a change is under way. What the change has taken out of the tree comes into limbo.
     #[inline(never)]
     fn change_on(&mut self, hand: &mut Hand<A>, told: Told)
         requires told { IsToldWith self.old hand.old (answer_of told) }
@@ -199,17 +199,7 @@ impl<A: Allocator> Operation<A> {
         ensures asks { AsksOn self.old hand.old.spares (answer_of told) self.new hand.new.spares }
         ensures keeps { KeepsLimbo self.old hand.old (answer_of told) hand.new }
     {
-        self.change_by(hand, &told.answer());
-    }
-
-    /// The same with the answer. What the change has taken out of the tree comes into limbo.
-    fn change_by(&mut self, hand: &mut Hand<A>, answer: &Answer<Record>)
-        requires told { IsToldWith self.old hand.old answer.now }
-        requires changing { is_changing self.old.state ≡ true }
-        ensures asks { AsksOn self.old hand.old.spares answer.now self.new hand.new.spares }
-        ensures keeps { KeepsLimbo self.old hand.old answer.now hand.new }
-    {
-        if let Some(end) = ended(&mut self.places, hand, answer) {
+        if let Some(end) = ended(&mut self.places, hand, told) {
             self.task.end_changing(end, &mut self.places);
         }
     }
@@ -317,18 +307,14 @@ impl<A: Allocator> Operation<A> {
 }
 
 /// How a change has ended, once it has. What it has taken out of the tree comes into limbo.
-fn ended<A: Allocator>(
-    places: &mut Places<A>,
-    hand: &mut Hand<A>,
-    answer: &Answer<Record>,
-) -> Option<End>
-    requires told { IsToldChange (state_of places.old) hand.old answer.now }
+fn ended<A: Allocator>(places: &mut Places<A>, hand: &mut Hand<A>, told: Told) -> Option<End>
+    requires told { IsToldChange (state_of places.old) hand.old (answer_of told) }
     requires changing { places.old.stand ≡ Stand.Change }
-    ensures makes { TurnsInto (state_of places.old) hand.old.spares answer.now (state_of places.new) hand.new.spares (changed (ended_with places.old.then result)) }
-    ensures keeps { (task : TaskSeen) (k : Knowledge) (r : Recalled) → ShowsState task hand.old.spares k r (state_of places.old) → FitsLast task.limits k (wanted_at hand.old.spares (state_of places.old)) answer.now → AreKept task.limits task.actor hand.old.limbo k.limbo → AreKept task.limits task.actor hand.new.limbo (learn_last k (wanted_at hand.old.spares (state_of places.old)) answer.now).limbo }
+    ensures makes { TurnsInto (state_of places.old) hand.old.spares (answer_of told) (state_of places.new) hand.new.spares (changed (ended_with places.old.then result)) }
+    ensures keeps { (task : TaskSeen) (k : Knowledge) (r : Recalled) → ShowsState task hand.old.spares k r (state_of places.old) → FitsLast task.limits k (wanted_at hand.old.spares (state_of places.old)) (answer_of told) → AreKept task.limits task.actor hand.old.limbo k.limbo → AreKept task.limits task.actor hand.new.limbo (learn_last k (wanted_at hand.old.spares (state_of places.old)) (answer_of told)).limbo }
     ensures only { places.new ≡ record places.old { change = places.new.change } }
 {
-    match places.change_next(&mut hand.spares, answer) {
+    match places.change_next(&mut hand.spares, told) {
         None => None,
         Some(end) => {
             hand.unlink(end, places.then());

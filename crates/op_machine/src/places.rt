@@ -1,6 +1,7 @@
 //! The places of an operation: what is under way stands in one of them, and what isn't lies there until it is needed again.
 ghost use Rattle.std.specs.Prelude.{◌≡◌, ◌<◌, ◌≤◌, ◌+◌, IfOk, IsSome, None, true};
 ghost use Rattle.std.specs.Option.{option_map};
+ghost use Rattle.bw_model.specs.Answers.{answer_of};
 ghost use Rattle.bw_model.specs.Lent.{lent};
 ghost use Rattle.bw_model.specs.declared.step.Answer.TheVariants.{Content, Number};
 ghost use Rattle.chain_search.specs.Knowledge.{Knowledge};
@@ -26,7 +27,7 @@ ghost use Rattle.rounds.specs.WriteRounds.{again_if};
 
 use crate::task::Task;
 use crate::then::Then;
-use bw_model::{Answer, Key, Limits, Reply, Step};
+use bw_model::{Key, Limits, Reply, Step, Told};
 use deltas::{Record, Remove};
 use installs::{Change, End, Plan, Spares};
 use rounds::{Asked, ReadEnded, ReadRound, WriteEnded, WriteRound};
@@ -279,18 +280,14 @@ impl<A: Allocator> Places<A> {
     }
 
     /// The change takes the answer to the step that it wanted, and tells how it has ended, once it has.
-    pub(crate) fn change_next(
-        &mut self,
-        spares: &mut Spares,
-        answer: &Answer<Record>,
-    ) -> Option<End>
-        requires told { IsToldAt (state_of self.old) spares.old answer.now }
+    pub(crate) fn change_next(&mut self, spares: &mut Spares, told: Told) -> Option<End>
+        requires told { IsToldAt (state_of self.old) spares.old (answer_of told) }
         requires changing { self.old.stand ≡ Stand.Change }
-        ensures makes { TurnsInto (state_of self.old) spares.old answer.now (state_of self.new) spares.new (changed (ended_with self.old.then result)) }
-        ensures unlinks { (task : TaskSeen) (k : Knowledge) (r : Recalled) → ShowsState task spares.old k r (state_of self.old) → FitsLast task.limits k (wanted_at spares.old (state_of self.old)) answer.now → UnlinksAfter task.limits k (ended_with self.old.then result) (learn_last k (wanted_at spares.old (state_of self.old)) answer.now).limbo }
+        ensures makes { TurnsInto (state_of self.old) spares.old (answer_of told) (state_of self.new) spares.new (changed (ended_with self.old.then result)) }
+        ensures unlinks { (task : TaskSeen) (k : Knowledge) (r : Recalled) → ShowsState task spares.old k r (state_of self.old) → FitsLast task.limits k (wanted_at spares.old (state_of self.old)) (answer_of told) → UnlinksAfter task.limits k (ended_with self.old.then result) (learn_last k (wanted_at spares.old (state_of self.old)) (answer_of told)).limbo }
         ensures only { self.new ≡ record self.old { change = self.new.change } }
     {
-        self.change.next(spares, answer)
+        self.change.next(spares, told)
     }
 
     /// What comes after the change.

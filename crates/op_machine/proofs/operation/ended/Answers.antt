@@ -1,4 +1,5 @@
 use Rattle.std.proofs.Common.{◌≡◌, ap, subst, sym, ◌∙◌}
+use Rattle.bw_model.specs.Answers.{answer_of}
 use Rattle.chain_search.specs.Knowledge.{Limbos}
 use Rattle.op_machine.specs.Places.{Places, state_of}
 use Rattle.op_machine.specs.Shows.{learn_last, wanted_at}
@@ -17,7 +18,7 @@ unlink-requires g c =
         told.task.limits,
         told.task.actor,
         told.k,
-        (learn_last told.k (wanted_at c.hand.inside.spares (state_of c.args.places.now)) c.args.answer.now).limbo,
+        (learn_last told.k (wanted_at c.hand.inside.spares (state_of c.args.places.now)) (answer_of c.args.told)).limbo,
         rw (← c.hand.view_is) at c.requires.told.kept,
         rw then_is (rw c.in-Some.is at (c.change_next.ensures.unlinks told.task told.k told.r stands fits)),
       );

@@ -1,4 +1,6 @@
-use Rattle.std.proofs.Common.{arith}
+use Rattle.std.proofs.Common.{None, arith, refl, subst}
+use Rattle.bw_tree.specs.Calls.{Advances}
+use Rattle.bw_tree.specs.Told.{reply_if}
 use Rattle.bw_tree.proofs.Going.{busy_still, finished, of_same, same_on, same_self, still_at, still_on, still_self}
 use Rattle.bw_tree.proofs.seat.BwSeat.go_on.Goals as goal
 
@@ -11,16 +13,19 @@ advance-requires-clause-own g c = of_same _ _ c.args.self.now c.loop.self c.loop
 pub advance-requires-clause-busy : goal.advance-requires-clause-busy
 advance-requires-clause-busy g c = busy_still c.args.self.now c.loop.self c.loop.counter c.loop.invariant.still c.requires.busy
 
-pub returns-in-Some-clause-same : goal.returns-in-Some-clause-same
-returns-in-Some-clause-same g c = same_on _ _ _ c.loop.invariant.same c.in-Some.ensures.same
+pub returns-then-advance-clause-same : goal.returns-then-advance-clause-same
+returns-then-advance-clause-same g c = same_on _ _ _ c.loop.invariant.same c.advance.ensures.same
 
-pub returns-in-Some-clause-goes : goal.returns-in-Some-clause-goes
-returns-in-Some-clause-goes g c = finished c.args.self.now c.loop.self c.loop.counter c.loop.invariant.same c.loop.invariant.still c.advance.new.self c.in-Some.ensures.same c.args.budget c.in-Some.reply c.loop-test.true c.in-Some.ensures.advances
+pub returns-then-advance-clause-goes : goal.returns-then-advance-clause-goes
+returns-then-advance-clause-goes g c =
+    finished c.args.self.now c.loop.self c.loop.counter c.loop.invariant.same c.loop.invariant.still c.advance.new.self c.advance.ensures.same c.args.budget c.advance.new.reply c.loop-test.true
+    (subst (λ done. Advances c.loop.self (reply_if done c.advance.new.reply) c.advance.new.self) c.if-advance.true c.advance.ensures.advances)
 
 pub loop-preserved : goal.loop-preserved
 loop-preserved g c = record {
   same = same_on _ _ _ c.loop.invariant.same c.advance.ensures.same;
-  still = still_on c.args.self.now c.loop.self c.loop.counter c.loop.invariant.same c.loop.invariant.still c.advance.new.self c.advance.ensures.same c.advance.result c.in_default.is c.advance.ensures.advances;
+  still = still_on c.args.self.now c.loop.self c.loop.counter c.loop.invariant.same c.loop.invariant.still c.advance.new.self c.advance.ensures.same None refl
+      (subst (λ done. Advances c.loop.self (reply_if done c.advance.new.reply) c.advance.new.self) c.if-advance.false c.advance.ensures.advances);
 }
 
 pub returns-clause-same : goal.returns-clause-same
