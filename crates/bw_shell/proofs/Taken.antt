@@ -21,17 +21,21 @@ abbrev pub TurnTold : Trace → ℕ → Result Event RunError → Trace → Type
 TurnTold before actor (Ok event) after = TakesTurn before (Step actor) event after
 TurnTold before actor (Err error) after = Refuses before (Step actor) (refusal_by error) × (after ≡ before)
 
+-- a step that was taken, and that no refusal kept
+pub stepped : (old new : Core) (actor : ℕ) (event : Event) → core_refusal_of old (Step actor) ≡ None → AddsTurn old (Step actor) event new → TakesTurn (seen old) (Step actor) event (seen new)
+stepped old new actor event free adds = record {
+  free = refusal_is old (Step actor) ∙ ap (option_map refusal_by) free;
+  entry = adds.added;
+  of_turn = adds.of_turn;
+  event_of = adds.event_of;
+  adds = adds.entries;
+  limits = adds.same_limits;
+}
+
 pub turn_told : (old new : Core) (actor : ℕ) (told : Result Event RunError) → ((e : RunError) → core_refusal_of old (Step actor) ≡ Some e → told ≡ Err e)
     → (core_refusal_of old (Step actor) ≡ None → IfErr told (λ error. (error ≡ Memory (length old.entries)) × WantsMemory old (Step actor)))
     → IfOk told (λ event. AddsTurn old (Step actor) event new) → OnErr told (new ≡ old) → TurnTold (seen old) actor told (seen new)
-turn_told old new actor (Ok event) refused memory ok err = record {
-  free = refusal_is old (Step actor) ∙ ap (option_map refusal_by) (none (core_refusal_of old (Step actor)) refl);
-  entry = ok.added;
-  of_turn = ok.of_turn;
-  event_of = ok.event_of;
-  adds = ok.entries;
-  limits = ok.same_limits;
-}
+turn_told old new actor (Ok event) refused memory ok err = stepped old new actor event (none (core_refusal_of old (Step actor)) refl) ok
   where
     none : (o : Option RunError) → core_refusal_of old (Step actor) ≡ o → core_refusal_of old (Step actor) ≡ None
     none None is = is

@@ -67,6 +67,13 @@ fn told_of(told: Result<Event, RunError>, until: Option<Link>) -> Result<Progres
     }
 }
 
+// Whether an exchange won with the link at which turns are to stop.
+fn is_won(made: Option<Link>, until: Option<Link>) -> bool
+    ensures { MatchBool result (ComesTo until (Event.Stepped made) Progress.Linked) (ComesTo until (Event.Stepped made) Progress.GoesOn) }
+{
+    made.is_some() && made == until
+}
+
 // Whether the operation goes on behind a turn that told this, at which turns are not to stop.
 fn goes_on(told: &Result<Event, RunError>, until: Option<Link>) -> bool
     ensures { MatchBool result (IsUnderWay until told.now) (IsUnderWay until told.now → ⊥) }
@@ -111,9 +118,18 @@ pub fn steps(
 {
     for _turn in 0..limit {
         let number = actor_of(core, actor)?;
-        let told = core.turn(Turn::Step(number));
-        if !goes_on(&told, until) {
-            return told_of(told, until);
+        match core.step_on(number) {
+            Some(made) => {
+                if is_won(made, until) {
+                    return Ok(Progress::Linked);
+                }
+            }
+            None => {
+                let told = core.turn(Turn::Step(number));
+                if !goes_on(&told, until) {
+                    return told_of(told, until);
+                }
+            }
         }
     }
     Ok(Progress::GoesOn)

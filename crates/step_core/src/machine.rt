@@ -104,6 +104,37 @@ impl<A: Allocator + Copy> Core<A> {
         Ok(Event::Stepped(told?))
     }
 
+    /// Takes the step that an actor's operation wants, if it has one that isn't its last, and answers its link, if it is an exchange that won.
+    /// None where there is no such step, or no memory for it; then nothing changes. Most turns are such steps, and need no room for a reply.
+    pub fn step_on(&mut self, actor: u8) -> Option<Option<Link>>
+        ensures some { IfSome result (λ link. (refusal_of self.old (Turn.Step actor) ≡ None) × AddsTurn self.old (Turn.Step actor) (Event.Stepped link) self.new) }
+        ensures none { result ≡ None → self.new ≡ self.old }
+        ensures linearized { IsLinearized self.new.limits (map turn_of self.new.entries) self.new.entries }
+        ensures orderly { IsOrderly self.new.limits self.new.entries }
+    {
+        let stepped = self.stepped(actor);
+        self.linearized();
+        stepped
+    }
+
+    /// The same, of which no law is told.
+    fn stepped(&mut self, actor: u8) -> Option<Option<Link>>
+        ensures some { IfSome result (λ link. (refusal_of self.old (Turn.Step actor) ≡ None) × AddsTurn self.old (Turn.Step actor) (Event.Stepped link) self.new) }
+        ensures none { result ≡ None → self.new ≡ self.old }
+    {
+        let turn = Turn::Step(actor);
+        if self.refusal(&turn).is_some() {
+            return None;
+        }
+        if self.goes_on(&turn).is_none() {
+            return None;
+        }
+        match self.go_on(actor) {
+            Ok(link) => Some(link),
+            Err(_) => None,
+        }
+    }
+
     /// Takes the turns one after another, up to one that is refused, whose refusal it answers.
     pub fn take_turns(&mut self, turns: &[Turn]) -> Result<(), RunError>
         ensures ok { IfOk result (λ _. AddsTurns self.old turns.now self.new) }
