@@ -1,10 +1,10 @@
 //! Trees that open at the last epochs, of which the greatest is never retired.
-ghost use Rattle.std.specs.Prelude.{IfSome};
-ghost use Rattle.bw_tree.specs.Trees.{AreFresh, AreSeatsOf};
+ghost use Rattle.std.specs.Prelude.{◌≡◌, IfOk, true};
+ghost use Rattle.bw_tree.specs.Trees.{AreSeatsOf};
 
 use crate::runs::{Run, key, value};
 use crate::trees::runs;
-use bw_model::Limits;
+use bw_model::{Limits, OpenError};
 use bw_tree::{BwSeat, Tree};
 use std::alloc::Global;
 use std::test::Fail;
@@ -12,21 +12,32 @@ use std::test::Fail;
 /// The greatest epoch.
 const LAST: u64 = 1 << 62;
 
-/// A tree of two seats and as few rows as may be, opened at an epoch that isn't that of its limits.
-fn opened_at(alloc: Global, epoch: u64) -> Option<(Tree, Vec<BwSeat>)>
-    ensures own { IfSome result (λ opened. AreSeatsOf opened.0 opened.1.items) }
+/// A tree that opens at an epoch that isn't that of its limits, with its seats.
+fn opened_at(alloc: Global, limits: Limits, epoch: u64) -> Result<(Tree, Vec<BwSeat>), OpenError>
+    ensures own { IfOk result (λ opened. AreSeatsOf opened.0 opened.1.items) }
 {
-    let limits = Limits::new(2, 64, 64, 1).ok()?;
-    Tree::<Global>::open_at(alloc, limits, epoch).ok()
+    Tree::<Global>::open_at(alloc, limits, epoch)
 }
 
-/// Whether the seats do all of these, one after another, on a tree that opens at this epoch, and it then has the one pair.
-fn goes(alloc: Global, epoch: u64, all: &[Run]) -> Option<bool> {
-    let (tree, mut seats) = opened_at(alloc, epoch)?;
+/// Whether the seats do all of these, one after another.
+fn do_all(tree: &Tree, seats: &mut Vec<BwSeat>, all: &[Run]) -> bool
+    requires own { AreSeatsOf tree.now seats.old.items }
+    ensures own { result ≡ true → AreSeatsOf tree.now seats.new.items }
+{
     for run in all {
-        if !runs(&tree, &mut seats, *run) {
-            return None;
+        if !runs(tree, seats, *run) {
+            return false;
         }
+    }
+    true
+}
+
+/// Whether they do on a tree of two seats and as few rows as may be, which opens at this epoch, and it then has the one pair.
+fn goes(alloc: Global, epoch: u64, all: &[Run]) -> Option<bool> {
+    let limits = Limits::new(2, 64, 64, 1).ok()?;
+    let (tree, mut seats) = opened_at(alloc, limits, epoch).ok()?;
+    if !do_all(&tree, &mut seats, all) {
+        return None;
     }
     let pairs = tree.close(alloc, seats).ok()?;
     Some(pairs.as_slice() == [(key(), value())].as_slice())

@@ -31,5 +31,3 @@ mod stops;
 mod threads;
 #[cfg(test)]
 mod trees;
-#[cfg(test)]
-mod without_memory;

@@ -3,6 +3,6 @@ mod Beginning
 mod Going
 mod Looked
 mod Named
-mod Fresh
+pub mod Fresh
 mod Parting
-mod Pushed
+pub mod Pushed
