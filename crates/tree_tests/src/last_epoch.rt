@@ -1,5 +1,5 @@
 //! Trees that open at the last epochs, of which the greatest is never retired.
-ghost use Rattle.std.specs.Prelude.{◌≡◌, IfOk, true};
+ghost use Rattle.std.specs.Prelude.{IfOk};
 ghost use Rattle.bw_tree.specs.Trees.{AreSeatsOf};
 
 use crate::runs::{Run, key, value};
@@ -7,7 +7,6 @@ use crate::trees::runs;
 use bw_model::{Limits, OpenError};
 use bw_tree::{BwSeat, Tree};
 use std::alloc::Global;
-use std::test::Fail;
 
 /// The greatest epoch.
 const LAST: u64 = 1 << 62;
@@ -22,7 +21,7 @@ fn opened_at(alloc: Global, limits: Limits, epoch: u64) -> Result<(Tree, Vec<BwS
 /// Whether the seats do all of these, one after another.
 fn do_all(tree: &Tree, seats: &mut Vec<BwSeat>, all: &[Run]) -> bool
     requires own { AreSeatsOf tree.now seats.old.items }
-    ensures own { result ≡ true → AreSeatsOf tree.now seats.new.items }
+    ensures own { AreSeatsOf tree.now seats.new.items }
 {
     for run in all {
         if !runs(tree, seats, *run) {

@@ -1,7 +1,7 @@
 //! Notes between threads: who heeds a note finds what was done before it was made.
 ghost use Rattle.std.specs.Prelude.{◌≡◌, Some};
 ghost use Rattle.bw_tree.specs.Notes.{IsNoteOf};
-ghost use Rattle.bw_tree.specs.Trees.{IsSeatOf, Tree as TreeSeen};
+ghost use Rattle.bw_tree.specs.Trees.{AreSeatsOf, IsSeatOf, Tree as TreeSeen};
 
 use crate::numbered::{get, number_of, upsert};
 use bw_model::{Limits, Reply};
@@ -105,6 +105,20 @@ fn tell_and_heed<R: Threads + Wait + Sync, T: OfTree + Send>(
     Some(right)
 }
 
+/// The same with the last two seats of a list.
+fn heeded_by<R: Threads + Wait + Sync>(
+    rt: &R,
+    alloc: Global,
+    tree: &Tree,
+    seats: &mut Vec<BwSeat>,
+) -> Option<u32>
+    requires own { AreSeatsOf tree.now seats.old.items }
+{
+    let mut one = take_seat(tree, seats)?;
+    let mut other = take_seat(tree, seats)?;
+    tell_and_heed::<R, Brand>(rt, alloc, tree, &mut one, &mut other)
+}
+
 /// The same on a new tree.
 fn heeded_on_a_tree<R: Threads + Wait + Sync>(
     rt: &R,
@@ -112,9 +126,7 @@ fn heeded_on_a_tree<R: Threads + Wait + Sync>(
     limits: Limits,
 ) -> Option<u32> {
     let (tree, mut seats) = opened(alloc, limits).ok()?;
-    let mut one = take_seat(&tree, &mut seats)?;
-    let mut other = take_seat(&tree, &mut seats)?;
-    tell_and_heed::<R, Brand>(rt, alloc, &tree, &mut one, &mut other)
+    heeded_by(rt, alloc, &tree, &mut seats)
 }
 
 #[test]

@@ -1,6 +1,6 @@
 //! Trees that are opened, run and closed.
-ghost use Rattle.std.specs.Prelude.{◌≡◌, true};
-ghost use Rattle.bw_tree.specs.Trees.{AreSeatsOf};
+ghost use Rattle.std.specs.Prelude.{true};
+ghost use Rattle.bw_tree.specs.Trees.{AreSeatsOf, IsSeatOf};
 
 use crate::numbered::{are_first, are_from_k01};
 use crate::runs::{Run, is_right, is_right_alone};
@@ -12,20 +12,55 @@ use std::alloc::Global;
 use std::test::Fail;
 use workers::{give_seat, opened, take_seat};
 
+/// Gives a seat back.
+fn give_back(tree: &Tree, seats: &mut Vec<BwSeat>, seat: BwSeat) -> bool
+    requires own { AreSeatsOf tree.now seats.old.items }
+    requires given { IsSeatOf tree.now seat }
+    ensures own { AreSeatsOf tree.now seats.new.items }
+{
+    match give_seat(tree, seats, seat) {
+        Ok(()) => true,
+        Err(_) => false,
+    }
+}
+
+/// Does it with the only seat of a list, which was taken out of it.
+fn runs_alone(tree: &Tree, seats: &mut Vec<BwSeat>, seat: BwSeat, run: Run) -> bool
+    requires own { AreSeatsOf tree.now seats.old.items }
+    requires given { IsSeatOf tree.now seat }
+    ensures own { AreSeatsOf tree.now seats.new.items }
+{
+    let mut seat = seat;
+    let right = is_right_alone(tree, &mut seat, run);
+    give_back(tree, seats, seat) && right
+}
+
+/// Does it with two seats of a list, which were taken out of it.
+fn runs_both(tree: &Tree, seats: &mut Vec<BwSeat>, one: BwSeat, other: BwSeat, run: Run) -> bool
+    requires own { AreSeatsOf tree.now seats.old.items }
+    requires one { IsSeatOf tree.now one }
+    requires other { IsSeatOf tree.now other }
+    ensures own { AreSeatsOf tree.now seats.new.items }
+{
+    let mut one = one;
+    let mut other = other;
+    let right = is_right(tree, &mut one, &mut other, run);
+    let given = give_back(tree, seats, one);
+    give_back(tree, seats, other) && given && right
+}
+
 /// Takes the last two seats of a list, or the only one, does it, and gives them back in their order.
 pub(crate) fn runs(tree: &Tree, seats: &mut Vec<BwSeat>, run: Run) -> bool
     requires own { AreSeatsOf tree.now seats.old.items }
-    ensures own { result ≡ true → AreSeatsOf tree.now seats.new.items }
+    ensures own { AreSeatsOf tree.now seats.new.items }
 {
-    let Some(mut other) = take_seat(tree, seats) else {
+    let Some(other) = take_seat(tree, seats) else {
         return false;
     };
-    let Some(mut one) = take_seat(tree, seats) else {
-        return is_right_alone(tree, &mut other, run) && give_seat(tree, seats, other).is_ok();
+    let Some(one) = take_seat(tree, seats) else {
+        return runs_alone(tree, seats, other, run);
     };
-    is_right(tree, &mut one, &mut other, run)
-        && give_seat(tree, seats, one).is_ok()
-        && give_seat(tree, seats, other).is_ok()
+    runs_both(tree, seats, one, other, run)
 }
 
 /// The pairs of a tree that is closed after the run; none where a reply was wrong.
@@ -62,18 +97,27 @@ fn closed_later(
     Some((refusal, pairs))
 }
 
+/// Lets the seat go that is the last but one of a list.
+fn lets_one_go(tree: &Tree, seats: &mut Vec<BwSeat>) -> bool
+    requires own { AreSeatsOf tree.now seats.old.items }
+    ensures own { AreSeatsOf tree.now seats.new.items }
+{
+    let Some(last) = take_seat(tree, seats) else {
+        return false;
+    };
+    let _ = take_seat(tree, seats);
+    give_back(tree, seats, last)
+}
+
 /// Why a tree isn't closed without one of its seats, where another one isn't idle, and how many seats come back.
 fn closed_without(alloc: Global, heap: &LocalHeap) -> Option<(CloseRefusal, usize)> {
     let limits = Limits::new(2, 64, 64, 1).ok()?;
     let Ok((tree, mut seats)) = opened(alloc, limits) else {
         return None;
     };
-    if !runs(&tree, &mut seats, Run::Stays) {
+    if !runs(&tree, &mut seats, Run::Stays) || !lets_one_go(&tree, &mut seats) {
         return None;
     }
-    let reader = take_seat(&tree, &mut seats)?;
-    take_seat(&tree, &mut seats)?;
-    give_seat(&tree, &mut seats, reader).ok()?;
     let refused = tree.close(heap, seats).err()?;
     Some((refused.refusal, refused.seats.len()))
 }
