@@ -7,8 +7,8 @@
 //! `bench WHAT SIZE THREADS OPERATIONS`: it opens a tree and inserts SIZE keys by one seat; that is all where WHAT is `load`. Where it is
 //! `reads` or `half`, each of so many threads then does so many operations on drawn keys: lookups, or upserts and lookups by turns. Where it
 //! is `steps`, they do lookups, and count their steps. Where it is `rows` or `ways`, there is no tree: an operation loads the words of SIZE rows,
-//! 256 each, drawn ones, or those of a way over five levels. It prints how many operations succeeded or steps were taken by what came last, and on standard error how many nanoseconds that
-//! took. bench/tree.sh runs it.
+//! 256 each, drawn ones, or those of a way over five levels. It prints how many operations succeeded or steps were taken by what came last,
+//! and on standard error how many nanoseconds that took. bench/tree.sh runs it.
 #![tactic(auto)]
 
 mod amounts;
