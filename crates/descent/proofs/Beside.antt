@@ -5,8 +5,9 @@ use Rattle.std.specs.List.{AllByRecursion}
 use Rattle.bw_model.specs.declared.limits.Limits.{Limits}
 use Rattle.bw_model.specs.Bytes.{is_below}
 use Rattle.deltas.specs.declared.record.Record.{Record}
-use Rattle.chain_search.specs.Chains.{high_in, is_removed, level_in, low_in, right_in}
+use Rattle.chain_search.specs.Chains.{IsChainFrom, high_in, is_removed, level_in, low_in, right_in}
 use Rattle.chain_search.specs.Discipline.{IsBeyond, NamesChild}
+use Rattle.chain_search.specs.Fitting.{SaysOf}
 use Rattle.chain_search.specs.Knowledge.{Knowledge}
 use Rattle.chain_search.specs.Recalled.{IsUnread, Recalled}
 use Rattle.smo.specs.Readings.{IsAfter}
@@ -45,6 +46,10 @@ module _ (limits : Limits) (k now : Knowledge) (r : Recalled) (removed version :
 
     pub within : (0 < pid) × (pid < limits.pids)
     within = let reach = arrives.arrives.whole.beyond by.alive pid known_before in let both : (0 < pid) × (pid < arrives.visit.limits.pids) = (reach.0, reach.1) in rw arrives.same at both
+
+    -- what the removed page says of a page that was read is so
+    pub says_before : (other row : ℕ) (read : List Record) → k.read.heads other ≡ Some row → IsChainFrom k.read.seen row read → SaysOf removed.chain other read
+    says_before other row read = (arrives.arrives.whole.beyond by.alive pid known_before).3 other row read
 
     module _ (level : ℕ) (low : List ℕ) (names : NamesAt removed.chain pid level low) where
       descends_on : IsPastAt level low (level_in here) (low_in here)

@@ -9,7 +9,7 @@ pub mod Seeking
 pub mod Spending
 pub mod Beside
 pub mod Passing
-pub mod Detouring
+pub mod Rounding
 pub mod Reading
 pub mod Keeping
 pub mod Leading

@@ -1,6 +1,6 @@
 -- A reader's way to a key, also by the left of a removed page.
-use Rattle.std.proofs.Common.{◌≡◌, ◌≢◌, ◌<◌, ◌++◌, ◌-◌, ◌⊎◌, inl, inr, ℕ, List, [], ◌∷◌, Bool, true, false, Some, refl, sym, ◌∙◌, subst}
-use Rattle.std.specs.Prelude.{IsFalse, IsTrue, ⊤}
+use Rattle.std.proofs.Common.{◌≡◌, ◌≢◌, ◌<◌, ◌+◌, ◌++◌, ◌-◌, ◌||◌, ◌⊎◌, inl, inr, ℕ, zero, suc, List, [], ◌∷◌, Bool, true, false, Option, None, Some, refl, sym, ap, ◌∙◌, subst, arith}
+use Rattle.std.specs.Prelude.{IsFalse, IsTrue, IfSome, ⊤}
 use Rattle.bw_model.specs.declared.limits.Limits.{Limits}
 use Rattle.bw_model.specs.declared.step.Step.TheVariants as step
 use Rattle.bw_model.specs.declared.step.Answer.{Answer}
@@ -8,26 +8,26 @@ use Rattle.bw_model.specs.declared.step.Answer.TheVariants as answer
 use Rattle.bw_model.specs.Bytes.{is_below}
 use Rattle.base_page.proofs.KeyLaws.{not_true}
 use Rattle.deltas.specs.declared.record.Record.{Record}
-use Rattle.chain_search.specs.Chains.{high_in, is_removed, level_in, low_in, right_in}
+use Rattle.chain_search.specs.Chains.{is_removed, level_in, low_in}
 use Rattle.chain_search.specs.Fitting.{Fits, FitsRow}
 use Rattle.chain_search.specs.Knowledge.{Knowledge, learn}
 use Rattle.chain_search.specs.Recalled.{Recalled, recall}
 use Rattle.smo.specs.Readings.{IsAfter}
 use Rattle.smo.specs.declared.version.Version.{Version}
 use Rattle.descent.specs.ReadGoals.{Goal, Seek, Left, Beyond}
+use Rattle.descent.specs.ReadLegs.{Leg, Down, Round, Past, below, has_met}
 use Rattle.descent.specs.declared.visit.State.TheVariants.{Slot, Row}
 use Rattle.descent.specs.Versions.{IsInHand}
 use Rattle.descent.specs.Visits.{Starts, Completes, Continues, Visit, at, to_page, wanted}
-use Rattle.descent.specs.Walks.{HasArrived}
-use Rattle.descent.specs.Ways.{LeadsOn, LeadsRight, NamesAt, StaysLeft, reaches, precedes}
-use Rattle.descent.specs.ReadRounds.{Begins, IsBesideLeaf, IsGoneAt, IsAliveLeaf, IsVisiting, Keeps, is_beyond, way_of}
-use Rattle.descent.proofs.Beside.{IsBesideGone, beside_on, says, within}
+use Rattle.descent.specs.Walks.{HasArrived, HasMet, IsAmong}
+use Rattle.descent.specs.Ways.{LeadsDown, LeadsRight, NamesAt, reaches, precedes}
+use Rattle.descent.specs.ReadRounds.{Begins, IsAbove, IsGoneAt, IsOn, IsVisiting, Keeps, SaysAside, is_beyond, way_of}
 use Rattle.descent.proofs.Holding.{before_slot, in_hand_row, in_hand_slot}
 use Rattle.descent.proofs.PageLaws.{above_empty}
-use Rattle.descent.proofs.Seeking.{arrived_next, fresh_next, living, seeks_next, seeks_on, seeks_root}
+use Rattle.descent.proofs.Seeking.{arrived_next, hand, seeks_next, seeks_on, seeks_root}
 use Rattle.descent.proofs.Visiting.{back, there}
-use Rattle.descent.proofs.Walking.{not_itself, told_of, trans}
-use Rattle.descent.proofs.WayLaws.{covers_here, down_names, lowest, named_of, right_names}
+use Rattle.descent.proofs.Walking.{is_new, not_itself, told_of, trans}
+use Rattle.descent.proofs.WayLaws.{down_names, lowest, right_names}
 
 -- a key that is above a page that begins after another is above that one
 reached_before : (key low high : List ℕ) → IsTrue (is_below low high) → IsTrue (reaches key high) → IsTrue (reaches key low)
@@ -50,15 +50,31 @@ Passed limits key k now version Seek = ⊤
 Passed limits key k now version (Left removed) = IsBy limits key k now version removed
 Passed limits key k now version Beyond = ⊤
 
+-- the page above, once the page was read whole
+pub record IsOver (limits : Limits) (k now : Knowledge) (goal : Goal) (pid level : ℕ) (earlier : List ℕ) (above : Version) : Type 0 where
+  pub was : IsInHand limits k above
+  pub above_is : IsAbove limits now goal pid level earlier above
+
+abbrev pub WasOn : Limits → Knowledge → Knowledge → Recalled → Goal → ℕ → ℕ → List ℕ → Leg → Type 0
+WasOn limits k now r goal pid level earlier (Down above) = (r.walk.passed ≡ false) × IfSome above (IsOver limits k now goal pid level earlier)
+WasOn limits k now r goal pid level earlier (Round removed) = ⊥
+WasOn limits k now r goal pid level earlier Past = r.walk.passed ≡ true
+
 -- A page was read whole, on the way of the goal.
-pub record HasReached (limits : Limits) (key : List ℕ) (goal : Goal) (k now : Knowledge) (r : Recalled) (version : Version) : Type 0 where
+pub record HasReached (limits : Limits) (key : List ℕ) (goal : Goal) (leg : Leg) (k now : Knowledge) (r : Recalled) (version : Version) : Type 0 where
   pub level : ℕ
   pub low : List ℕ
   pub earlier : List ℕ
   pub arrives : HasArrived limits k now r version level low earlier
   pub passing : IsTrue (way_of goal key low)
-  pub fresh : IsFalse (is_beyond goal) → r.walk.passed ≡ false
   pub passed : Passed limits key k now version goal
+  pub leg_was : WasOn limits k now r goal version.pid level earlier leg
+
+-- the one of two keys that is below the other on a way is on the way
+pub before_on : (goal : Goal) (key low high : List ℕ) → IsTrue (is_below low high) → IsTrue (way_of goal key high) → IsTrue (way_of goal key low)
+before_on Seek key low high below on = reached_before key low high below on
+before_on (Left removed) key low high below on = trans low high (low_in removed.chain) below on
+before_on Beyond key low high below on = reached_before key low high below on
 
 module _ (limits : Limits) (key : List ℕ) (k : Knowledge) (r : Recalled) where
   -- slot 0 was read
@@ -79,16 +95,17 @@ module _ (limits : Limits) (key : List ℕ) (k : Knowledge) (r : Recalled) where
         let first : low_in removed.chain ≡ [] = fits.2 removed.head removed.chain (rw (← e) hand.seen.head) hand.seen.read in
         not_itself [] (rw first at (above_empty removed.chain hand.sound.is_chain.fitted h.page.gone))
 
-    pub begins : (goal : Goal) → Begins limits key k goal → IsVisiting limits key goal started (recall r (step.Slot 0) (answer.Number pid)) (to_page limits pid)
-    begins Seek inside = record { level = 0; low = []; earlier = []; seeks = seeks_root limits (reaches key) false k r pid (lowest key) fits inside; keeps = tt }
+    pub begins : (goal : Goal) → Begins limits key k goal → IsVisiting limits key goal (Down None) started (recall r (step.Slot 0) (answer.Number pid)) (to_page limits pid)
+    begins Seek inside = record { level = 0; low = []; earlier = []; seeks = seeks_root limits (reaches key) false k r pid (lowest key) fits inside; keeps = tt; leg_is = (refl, tt) }
     begins (Left removed) h = record {
       level = 0;
       low = [];
       earlier = [];
       seeks = seeks_root limits (precedes (low_in removed.chain)) false k r pid (above_empty removed.chain h.1.page.in_hand.sound.is_chain.fitted h.1.page.gone) fits h.0;
       keeps = record { gone = gone_root removed h.1; apart = not_root removed h.1; after = tt };
+      leg_is = (refl, tt);
     }
-    begins Beyond inside = record { level = 0; low = []; earlier = []; seeks = seeks_root limits (reaches key) true k r pid (lowest key) fits inside; keeps = tt }
+    begins Beyond inside = record { level = 0; low = []; earlier = []; seeks = seeks_root limits (reaches key) true k r pid (lowest key) fits inside; keeps = tt; leg_is = (refl, tt) }
 
   -- a visit goes on
 
@@ -101,6 +118,20 @@ module _ (limits : Limits) (key : List ℕ) (k : Knowledge) (r : Recalled) where
       after = before_slot k visit.pid row removed.pid removed.head some linked h.gone.page.in_hand.seen.head;
     }
     keeps_slot row some linked Beyond h = tt
+
+    met_slot : (pid row : ℕ) (met : Bool) → 0 < pid → r.walk.removed ≡ met → (recall r (step.Slot pid) (answer.Number row)).walk.passed ≡ met
+    met_slot zero row met some is = absurd (omega (arith, some))
+    met_slot (suc pid) row met some is = is
+
+    above_slot : (row level : ℕ) (earlier : List ℕ) (goal : Goal) (above : Option Version) → IfSome above (IsAbove limits k goal visit.pid level earlier) → IfSome above (IsAbove limits (learn k (step.Slot visit.pid) (answer.Number row)) goal visit.pid level earlier)
+    above_slot row level earlier goal None h = tt
+    above_slot row level earlier goal (Some above) h = record { in_hand = in_hand_slot limits k visit.pid row above h.apart h.in_hand; alive = h.alive; among = h.among; up = h.up; apart = h.apart; says = h.says }
+
+    on_slot : (row level : ℕ) (earlier : List ℕ) → 0 < visit.pid → (goal : Goal) (leg : Leg) → IsOn limits k r goal (at visit Slot) level earlier leg
+        → IsOn limits (learn k (step.Slot visit.pid) (answer.Number row)) (recall r (step.Slot visit.pid) (answer.Number row)) goal (record visit { part = []; state = Row row row }) level earlier leg
+    on_slot row level earlier some goal (Down above) h = (met_slot visit.pid row false some h.0, above_slot row level earlier goal above h.1)
+    on_slot row level earlier some goal (Round removed) h = absurd h
+    on_slot row level earlier some goal Past h = met_slot visit.pid row true some h
 
     module _ (row : ℕ) (content : Record) (fits : FitsRow limits k row content) where
       abbrev now : Knowledge
@@ -119,80 +150,97 @@ module _ (limits : Limits) (key : List ℕ) (k : Knowledge) (r : Recalled) where
       passed_row version pid head (Left removed) h = record { was = h.gone.page.in_hand; gone = gone_row removed h.gone; apart = rw pid h.apart; before = rw pid h.after; after = rw pid h.after }
       passed_row version pid head Beyond h = tt
 
+      above_row : (level : ℕ) (earlier : List ℕ) (goal : Goal) (above : Version) → IsAbove limits k goal visit.pid level earlier above → IsAbove limits now goal visit.pid level earlier above
+      above_row level earlier goal above h = record { in_hand = in_hand_row k row content fits.same limits above h.in_hand; alive = h.alive; among = h.among; up = h.up; apart = h.apart; says = h.says }
+
+      on_row : (head under level : ℕ) (earlier : List ℕ) (goal : Goal) (leg : Leg) → IsOn limits k r goal (at visit (Row head row)) level earlier leg
+          → IsOn limits now (recall r (step.Row row) (answer.Content content)) goal (record visit { part = visit.part ++ content ∷ []; state = Row head under }) level earlier leg
+      on_row head under level earlier goal (Down None) h = h
+      on_row head under level earlier goal (Down (Some above)) h = (h.0, above_row level earlier goal above h.1)
+      on_row head under level earlier goal (Round removed) h = absurd h
+      on_row head under level earlier goal Past h = h
+
+      was_row : (version : Version) → version.pid ≡ visit.pid → (head level : ℕ) (earlier : List ℕ) (goal : Goal) (leg : Leg) → IsOn limits k r goal (at visit (Row head row)) level earlier leg
+          → WasOn limits k now (recall r (step.Row row) (answer.Content content)) goal version.pid level earlier leg
+      was_row version pid head level earlier goal (Down None) h = h
+      was_row version pid head level earlier goal (Down (Some above)) h = (h.0, record { was = h.1.in_hand; above_is = rw pid (above_row level earlier goal above h.1) })
+      was_row version pid head level earlier goal (Round removed) h = absurd h
+      was_row version pid head level earlier goal Past h = h
+
 -- the same by what a visit makes of an answer
-module _ (limits : Limits) (key : List ℕ) (goal : Goal) (k : Knowledge) (r : Recalled) (visit : Visit) (told : Answer Record) (h : IsVisiting limits key goal k r visit) (f : Fits limits k (wanted visit) told) where
-  abbrev KeepsAt : Visit → Answer Record → Type 0
-  KeepsAt v x = Keeps limits key k v goal
+module _ (limits : Limits) (key : List ℕ) (goal : Goal) (leg : Leg) (k : Knowledge) (r : Recalled) (visit : Visit) (told : Answer Record) (h : IsVisiting limits key goal leg k r visit) (f : Fits limits k (wanted visit) told) where
+  abbrev KeepsAt : Goal → Visit → Answer Record → Type 0
+  KeepsAt other v x = Keeps limits key k v other
+
+  abbrev OnAt : Visit → Answer Record → Type 0
+  OnAt v x = IsOn limits k r goal v h.level h.earlier leg
 
   abbrev FitsAt : Visit → Answer Record → Type 0
   FitsAt v x = Fits limits k (wanted v) x
 
-  keeps_next : (new : Visit) → Starts visit told new ⊎ Continues visit told new → Keeps limits key (learn k (wanted visit) told) new goal
-  keeps_next new moves =
-      let P : Visit → Answer Record → Type 0 = λ v x. Keeps limits key (learn k (wanted v) x) new goal in
+  -- a page that is kept aside
+  pub keeps_next : (other : Goal) → Keeps limits key k visit other → (new : Visit) → Starts visit told new ⊎ Continues visit told new → Keeps limits key (learn k (wanted visit) told) new other
+  keeps_next other keeps new moves =
+      let P : Visit → Answer Record → Type 0 = λ v x. Keeps limits key (learn k (wanted v) x) new other in
       elim moves [
-        | inl b ↦ back visit P Slot (answer.Number b.row) told b.asked b.is (rw b.goes (keeps_slot limits key k r visit b.row h.seeks.on_way.shows.page b.some goal (there visit KeepsAt Slot (answer.Number b.row) told b.asked b.is h.keeps)))
+        | inl b ↦ back visit P Slot (answer.Number b.row) told b.asked b.is (rw b.goes (keeps_slot limits key k r visit b.row h.seeks.on_way.shows.page b.some other (there visit (KeepsAt other) Slot (answer.Number b.row) told b.asked b.is keeps)))
         | inr b ↦
             let fits = there visit FitsAt (Row b.head b.row) (answer.Content b.content) told b.asked b.is f in
             back visit P (Row b.head b.row) (answer.Content b.content) told b.asked b.is
-            (rw b.goes (keeps_row limits key k r visit b.row b.content fits b.head b.under goal (there visit KeepsAt (Row b.head b.row) (answer.Content b.content) told b.asked b.is h.keeps)))
+            (rw b.goes (keeps_row limits key k r visit b.row b.content fits b.head b.under other (there visit (KeepsAt other) (Row b.head b.row) (answer.Content b.content) told b.asked b.is keeps)))
       ]
 
-  pub visits_next : (new : Visit) → Starts visit told new ⊎ Continues visit told new → IsVisiting limits key goal (learn k (wanted visit) told) (recall r (wanted visit) told) new
+  on_next : (new : Visit) → Starts visit told new ⊎ Continues visit told new → IsOn limits (learn k (wanted visit) told) (recall r (wanted visit) told) goal new h.level h.earlier leg
+  on_next new moves =
+      let P : Visit → Answer Record → Type 0 = λ v x. IsOn limits (learn k (wanted v) x) (recall r (wanted v) x) goal new h.level h.earlier leg in
+      elim moves [
+        | inl b ↦ back visit P Slot (answer.Number b.row) told b.asked b.is (rw b.goes (on_slot limits key k r visit b.row h.level h.earlier h.seeks.on_way.shows.page goal leg (there visit OnAt Slot (answer.Number b.row) told b.asked b.is h.leg_is)))
+        | inr b ↦
+            let fits = there visit FitsAt (Row b.head b.row) (answer.Content b.content) told b.asked b.is f in
+            back visit P (Row b.head b.row) (answer.Content b.content) told b.asked b.is
+            (rw b.goes (on_row limits key k r visit b.row b.content fits b.head b.under h.level h.earlier goal leg (there visit OnAt (Row b.head b.row) (answer.Content b.content) told b.asked b.is h.leg_is)))
+      ]
+
+  pub visits_next : (new : Visit) → Starts visit told new ⊎ Continues visit told new → IsVisiting limits key goal leg (learn k (wanted visit) told) (recall r (wanted visit) told) new
   visits_next new moves = record {
     level = h.level;
     low = h.low;
     earlier = h.earlier;
-    seeks = seeks_next limits (way_of goal key) (is_beyond goal) k r visit h.level h.low h.earlier told h.seeks f new moves;
-    keeps = keeps_next new moves;
+    seeks = seeks_next limits (way_of goal key) (has_met leg || is_beyond goal) k r visit h.level h.low h.earlier told h.seeks f new moves;
+    keeps = keeps_next goal h.keeps new moves;
+    leg_is = on_next new moves;
   }
 
-  passed_next : (version : Version) → Completes visit told version → Passed limits key k (learn k (wanted visit) told) version goal
-  passed_next version b =
-      let fits = there visit FitsAt (Row version.head b.row) (answer.Content b.content) told b.asked b.is f in
-      back visit (λ v x. Passed limits key k (learn k (wanted v) x) version goal) (Row version.head b.row) (answer.Content b.content) told b.asked b.is
-      (passed_row limits key k r visit b.row b.content fits version b.pid version.head goal (there visit KeepsAt (Row version.head b.row) (answer.Content b.content) told b.asked b.is h.keeps))
+  -- the page was read whole
+  module _ (version : Version) (b : Completes visit told version) where
+    fits : FitsRow limits k b.row b.content
+    fits = there visit FitsAt (Row version.head b.row) (answer.Content b.content) told b.asked b.is f
 
-  pub reached_next : (version : Version) → Completes visit told version → HasReached limits key goal k (learn k (wanted visit) told) (recall r (wanted visit) told) version
-  reached_next version b = record {
-    level = h.level;
-    low = h.low;
-    earlier = h.earlier;
-    arrives = arrived_next limits (way_of goal key) (is_beyond goal) k r visit h.level h.low h.earlier told h.seeks f version b;
-    passing = h.seeks.passing;
-    fresh = fresh_next limits (way_of goal key) (is_beyond goal) k r visit h.level h.low h.earlier told h.seeks f version b;
-    passed = passed_next version b;
-  }
+    pub passed_next : (other : Goal) → Keeps limits key k visit other → Passed limits key k (learn k (wanted visit) told) version other
+    passed_next other keeps =
+        back visit (λ v x. Passed limits key k (learn k (wanted v) x) version other) (Row version.head b.row) (answer.Content b.content) told b.asked b.is
+        (passed_row limits key k r visit b.row b.content fits version b.pid version.head other (there visit (KeepsAt other) (Row version.head b.row) (answer.Content b.content) told b.asked b.is keeps))
+
+    was_next : WasOn limits k (learn k (wanted visit) told) (recall r (wanted visit) told) goal version.pid h.level h.earlier leg
+    was_next =
+        back visit (λ v x. WasOn limits k (learn k (wanted v) x) (recall r (wanted v) x) goal version.pid h.level h.earlier leg) (Row version.head b.row) (answer.Content b.content) told b.asked b.is
+        (was_row limits key k r visit b.row b.content fits version b.pid version.head h.level h.earlier goal leg (there visit OnAt (Row version.head b.row) (answer.Content b.content) told b.asked b.is h.leg_is))
+
+    pub reached_next : HasReached limits key goal leg k (learn k (wanted visit) told) (recall r (wanted visit) told) version
+    reached_next = record {
+      level = h.level;
+      low = h.low;
+      earlier = h.earlier;
+      arrives = arrived_next limits (way_of goal key) (has_met leg || is_beyond goal) k r visit h.level h.low h.earlier told h.seeks f version b;
+      passing = h.seeks.passing;
+      passed = passed_next goal h.keeps;
+      leg_was = was_next;
+    }
 
 -- a page was read whole
-
-module _ (limits : Limits) (key : List ℕ) (goal : Goal) (k now : Knowledge) (r : Recalled) (version : Version) (h : HasReached limits key goal k now r version) where
+module _ (limits : Limits) (key : List ℕ) (goal : Goal) (leg : Leg) (k now : Knowledge) (r : Recalled) (version : Version) (h : HasReached limits key goal leg k now r version) where
   abbrev chain : List Record
   chain = version.chain
-
-  -- the removed page begins where the way ends, so that the next page isn't that one
-  keeps_on : is_removed chain ≡ false → (pid level : ℕ) (low : List ℕ) → NamesAt chain pid level low → (other : Goal) → IsTrue (way_of other key low) → Passed limits key k now version other → Keeps limits key now (to_page limits pid) other
-  keeps_on alive pid level low names Seek passing by = tt
-  keeps_on alive pid level low names (Left removed) passing by = record {
-    gone = by.gone;
-    apart = λ e.
-        let so = told_of chain removed.pid removed.chain level low (h.arrives.arrives.whole.names alive removed.pid removed.head removed.chain by.was.seen.head by.was.seen.read) (subst (λ (p : ℕ). NamesAt chain p level low) (sym e) names) in
-        not_itself low (rw so.1 at passing);
-    after = tt;
-  }
-  keeps_on alive pid level low names Beyond passing by = tt
-
-  pub goes_to : (pid : ℕ) → is_removed chain ≡ false → LeadsOn (way_of goal key) chain pid → IsVisiting limits key goal now r (to_page limits pid)
-  goes_to pid alive leads = elim leads [
-    | inl right ↦ (
-        let names = right_names (way_of goal key) chain pid right in
-        record { level = level_in chain; low = right.low; earlier = version.pid ∷ h.earlier; seeks = seeks_on limits k now r version h.level h.low h.earlier h.arrives (way_of goal key) (is_beyond goal) pid (level_in chain) right.low names alive right.on_way h.fresh; keeps = keeps_on alive pid (level_in chain) right.low names goal right.on_way h.passed }
-        )
-    | inr down ↦ (
-        let names = down_names (way_of goal key) chain pid down.1 down.2 in
-        record { level = level_in chain - 1; low = down.2.low; earlier = version.pid ∷ h.earlier; seeks = seeks_on limits k now r version h.level h.low h.earlier h.arrives (way_of goal key) (is_beyond goal) pid (level_in chain - 1) down.2.low names alive down.2.greatest.passing h.fresh; keeps = keeps_on alive pid (level_in chain - 1) down.2.low names goal down.2.greatest.passing h.passed }
-        )
-  ]
 
   -- the page begins at or below the key
   pub at_or_below : IsTrue (reaches key (low_in chain))
@@ -203,66 +251,105 @@ module _ (limits : Limits) (key : List ℕ) (goal : Goal) (k now : Knowledge) (r
       by_goal (Left removed) passing by = reached_before key h.low (low_in removed.chain) passing by.gone.reached
       by_goal Beyond passing by = passing
 
--- beside the removed page
-module _ (limits : Limits) (key : List ℕ) (removed : Version) (k now : Knowledge) (r : Recalled) (version : Version) (h : HasReached limits key (Left removed) k now r version) (alive : is_removed version.chain ≡ false) where
-  abbrev here : List Record
-  here = version.chain
+  pub is_on_way : IsTrue (way_of goal key (low_in chain))
+  is_on_way = rw h.arrives.is_low h.passing
 
-  by : IsBy limits key k now version removed
-  by = h.passed
+  -- whether a removed index page was met
 
-  left : IsTrue (is_below (low_in here) (low_in removed.chain))
-  left = rw h.arrives.is_low h.passing
+  fresh_on : (other : Leg) → WasOn limits k now r goal version.pid h.level h.earlier other → IsFalse (has_met other || is_beyond goal) → r.walk.passed ≡ false
+  fresh_on (Down above) on here = on.0
+  fresh_on (Round removed) on here = absurd on
+  fresh_on Past on here = cc
 
-  -- it has been merged, and the round goes on at its left page's right
-  pub past_merged : (pid : ℕ) → LeadsRight (reaches key) here pid → IsVisiting limits key Beyond now r (to_page limits pid)
-  past_merged pid on = record {
-    level = level_in here;
-    low = on.low;
-    earlier = version.pid ∷ h.earlier;
-    seeks = seeks_on limits k now r version h.level h.low h.earlier h.arrives (reaches key) true pid (level_in here) on.low (right_names (reaches key) here pid on) alive on.on_way (λ here. absurd cc);
-    keeps = tt;
-  }
+  pub met_on : (met : Bool) → is_removed chain ≡ false → r.walk.passed ≡ met → r.walk.removed ≡ met
+  met_on met alive is = h.arrives.removed ∙ ap (λ (p : Bool). p || is_removed chain) is ∙ plain met
+    where
+      plain : (b : Bool) → (b || is_removed chain) ≡ b
+      plain true = refl
+      plain false = alive
 
-  module _ (beside : right_in here ≡ Some removed.pid) where
-    beside_gone : IsBesideGone limits k now removed version
-    beside_gone = record { known = by.was; gone = by.gone.page; before = by.before; after = by.after; left = left; alive = alive; right = beside }
-
-    says_here : (level_in removed.chain ≡ level_in here) × (high_in here ≡ Some (low_in removed.chain))
-    says_here = says limits k now r removed version h.level h.low h.earlier h.arrives beside_gone
-
-    -- the right of the removed page is one that there may be
-    pub right_within : (pid : ℕ) → right_in removed.chain ≡ Some pid → (0 < pid) × (pid < limits.pids)
-    right_within pid next = within limits k now r removed version h.level h.low h.earlier h.arrives beside_gone pid (inl next)
-
-    -- the round goes on at a page that the removed one names: its right, or a child
-    pub past_removed : (pid level : ℕ) (low : List ℕ) → NamesAt removed.chain pid level low → IsTrue (reaches key low) → IsVisiting limits key Beyond now r (to_page limits pid)
-    past_removed pid level low names passing = record {
-      level = level;
-      low = low;
-      earlier = version.pid ∷ h.earlier;
-      seeks = record {
-        on_way = beside_on limits k now r removed version h.level h.low h.earlier h.arrives beside_gone pid (named_of removed.chain pid level low names) level low names;
-        passing = passing;
-        named = λ here. absurd cc;
-        fresh = λ here. absurd cc;
-      };
-      keeps = tt;
+  -- where the page isn't removed
+  module _ (alive : is_removed chain ≡ false) where
+    -- the removed page begins where the way ends, so that the next page isn't that one
+    pub keeps_on : (pid level : ℕ) (low : List ℕ) → NamesAt chain pid level low → (other : Goal) → IsTrue (way_of other key low) → Passed limits key k now version other → Keeps limits key now (to_page limits pid) other
+    keeps_on pid level low names Seek passing by = tt
+    keeps_on pid level low names (Left removed) passing by = record {
+      gone = by.gone;
+      apart = λ e.
+          let so = told_of chain removed.pid removed.chain level low (h.arrives.arrives.whole.names alive removed.pid removed.head removed.chain by.was.seen.head by.was.seen.read) (subst (λ (p : ℕ). NamesAt chain p level low) (sym e) names) in
+          not_itself low (rw so.1 at passing);
+      after = tt;
     }
+    keeps_on pid level low names Beyond passing by = tt
 
-    pub is_beside : StaysLeft (reaches key) removed.chain → level_in here ≡ 0 → IsBesideLeaf limits now r key version removed
-    is_beside stays leaf = record {
-      aside = living limits k now r version h.level h.low h.earlier h.arrives alive;
-      right = beside;
-      after = by.after;
-      page = by.gone.page;
-      level = says_here.0 ∙ leaf;
-      covered = covers_here key removed.chain by.gone.reached stays;
-    }
+    -- nor is the page above
+    above_on : (pid : ℕ) (low : List ℕ) → NamesAt chain pid (level_in chain) low → (above : Version) → IsOver limits k now goal version.pid h.level h.earlier above → IsAbove limits now goal pid (level_in chain) (version.pid ∷ h.earlier) above
+    above_on pid low names above over =
+        let up : level_in above.chain ≡ suc (level_in chain) = elim h.arrives.is_level [ inl first ↦ absurd (rw first at over.above_is.among) | inr is ↦ over.above_is.up ∙ ap suc (sym is) ] in
+        record {
+          in_hand = over.above_is.in_hand;
+          alive = over.above_is.alive;
+          among = inr over.above_is.among;
+          up = up;
+          apart = λ e.
+              let so = told_of chain above.pid above.chain (level_in chain) low (h.arrives.arrives.whole.names alive above.pid above.head above.chain over.was.seen.head over.was.seen.read) (subst (λ (p : ℕ). NamesAt chain p (level_in chain) low) (sym e) names) in
+              let same = so.0 in
+              omega (arith, up, same);
+          says = over.above_is.says;
+        }
 
-  pub is_merged : StaysLeft (reaches key) here → level_in here ≡ 0 → IsAliveLeaf limits now r key version
-  is_merged stays leaf = record {
-    page = living limits k now r version h.level h.low h.earlier h.arrives alive;
-    level = leaf;
-    covered = covers_here key here (at_or_below limits key (Left removed) k now r version h) stays;
-  }
+    leg_right : (pid : ℕ) (low : List ℕ) → NamesAt chain pid (level_in chain) low → (other : Leg) → WasOn limits k now r goal version.pid h.level h.earlier other → IsOn limits now r goal (to_page limits pid) (level_in chain) (version.pid ∷ h.earlier) other
+    leg_right pid low names (Down None) on = (met_on false alive on.0, tt)
+    leg_right pid low names (Down (Some above)) on = (met_on false alive on.0, above_on pid low names above on.1)
+    leg_right pid low names (Round removed) on = absurd on
+    leg_right pid low names Past on = met_on true alive on
+
+    pub goes_right : (pid : ℕ) → LeadsRight (way_of goal key) chain pid → IsVisiting limits key goal leg now r (to_page limits pid)
+    goes_right pid leads =
+        let names = right_names (way_of goal key) chain pid leads in
+        record {
+          level = level_in chain;
+          low = leads.low;
+          earlier = version.pid ∷ h.earlier;
+          seeks = seeks_on limits k now r version h.level h.low h.earlier h.arrives (way_of goal key) (has_met leg || is_beyond goal) pid (level_in chain) leads.low names alive leads.on_way (fresh_on leg h.leg_was);
+          keeps = keeps_on pid (level_in chain) leads.low names goal leads.on_way h.passed;
+          leg_is = leg_right pid leads.low names leg h.leg_was;
+        }
+
+    says_aside : (other : Goal) → Passed limits key k now version other → SaysAside other chain
+    says_aside Seek by = tt
+    says_aside (Left removed) by = h.arrives.arrives.whole.names alive removed.pid removed.head removed.chain by.was.seen.head by.was.seen.read
+    says_aside Beyond by = tt
+
+    leg_down : (pid level : ℕ) (low : List ℕ) → level_in chain ≡ suc level → NamesAt chain pid level low → (other : Leg) → WasOn limits k now r goal version.pid h.level h.earlier other
+        → IsOn limits now r goal (to_page limits pid) level (version.pid ∷ h.earlier) (below version other)
+    leg_down pid level low up names (Down above) on = (
+      met_on false alive on.0,
+      record {
+        in_hand = hand limits k now r version h.level h.low h.earlier h.arrives;
+        alive = alive;
+        among = inl refl;
+        up = up;
+        apart = λ e. (is_new limits k now r version h.level h.low h.earlier h.arrives pid level low names alive).0 (sym e);
+        says = says_aside goal h.passed;
+      },
+    )
+    leg_down pid level low up names (Round removed) on = absurd on
+    leg_down pid level low up names Past on = met_on true alive on
+
+    met_below : (other : Leg) → WasOn limits k now r goal version.pid h.level h.earlier other → has_met (below version other) ≡ has_met other
+    met_below (Down above) on = refl
+    met_below (Round removed) on = absurd on
+    met_below Past on = refl
+
+    pub goes_down : (pid : ℕ) → 0 < level_in chain → LeadsDown (way_of goal key) chain pid → IsVisiting limits key goal (below version leg) now r (to_page limits pid)
+    goes_down pid index leads =
+        let names = down_names (way_of goal key) chain pid index leads in
+        record {
+          level = level_in chain - 1;
+          low = leads.low;
+          earlier = version.pid ∷ h.earlier;
+          seeks = rw (met_below leg h.leg_was) (seeks_on limits k now r version h.level h.low h.earlier h.arrives (way_of goal key) (has_met leg || is_beyond goal) pid (level_in chain - 1) leads.low names alive leads.greatest.passing (fresh_on leg h.leg_was));
+          keeps = keeps_on pid (level_in chain - 1) leads.low names goal leads.greatest.passing h.passed;
+          leg_is = leg_down pid (level_in chain - 1) leads.low (omega (arith, index)) names leg h.leg_was;
+        }

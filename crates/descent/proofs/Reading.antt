@@ -1,5 +1,7 @@
 -- What an answer leaves a reader's round.
-use Rattle.std.proofs.Common.{ap, ◌∙◌, ◌≡◌, ◌<◌, ◌+◌, inl, inr, ℕ, List, [], Bool, true, false, Option, Some, None, refl, sym, subst, arith}
+use Rattle.std.proofs.Common.{ap, ◌∙◌, ◌≡◌, ◌<◌, ◌+◌, ◌||◌, ◌⊎◌, inl, inr, ℕ, List, [], Bool, true, false, Option, Some, None, refl, sym, subst, arith}
+use Rattle.std.specs.Prelude.{IfSome}
+use Rattle.bw_model.specs.declared.limits.Limits.{Limits}
 use Rattle.bw_model.specs.declared.step.Answer.{Answer}
 use Rattle.bw_model.specs.declared.step.Answer.TheVariants as answer
 use Rattle.bw_model.specs.declared.step.Step.{Step}
@@ -10,51 +12,100 @@ use Rattle.chain_search.specs.Knowledge.{Knowledge, learn}
 use Rattle.chain_search.specs.Recalled.{IsSpentWith, Recalled, recall}
 use Rattle.smo.specs.declared.version.Version.{Version}
 use Rattle.descent.specs.ReadGoals.{Goal, Seek, Left, Beyond}
+use Rattle.descent.specs.ReadLegs.{Leg, Down, Round, Past, IsPlain, below, has_met, level_on}
 use Rattle.descent.specs.ReadEnds.{ReadEnd, Again, Removed, Leaf, Beside}
 use Rattle.descent.specs.Descents.{State, Root, Page, Descent, Finds, Shows as WayShows, Starts, Visits}
 use Rattle.descent.specs.declared.visit.Sight.{Sight}
-use Rattle.descent.specs.declared.visit.State.TheVariants.{Slot}
+use Rattle.descent.specs.declared.visit.State.TheVariants.{Slot, Row}
 use Rattle.descent.specs.declared.visit.Sight.TheVariants.{Empty, Whole}
-use Rattle.descent.specs.ReadRounds.{Begins, CanPass, CanSee, Ends, Follows, GoesFrom, GoesOnWay, IsLeftLeaf, IsTold, IsVisiting, Misses, ReadRound, Responds, Sees, SeeksKey, Shows, Spends, Treats, at, descent_of, going_to, is_beyond, kept_for, wanted, way_of}
+use Rattle.descent.specs.ReadRounds.{Begins, CanMeet, CanPass, CanSee, Ends, Follows, GoesFrom, GoesOnWay, HasChildren, IsAtLevel, IsLeftLeaf, IsOn, IsTold, IsVisiting, Misses, ReadRound, Responds, Sees, SeeksKey, Shows, ShowsVisit, Spends, Treats, at, descent_of, going_to, is_beyond, kept_for, reads_left, wanted, way_of, way_on}
 use Rattle.descent.specs.Visits as page
-use Rattle.descent.specs.Walks.{IsSeeking, left_at, left_in, with_walk}
+use Rattle.descent.specs.Walks.{HasMet, IsReached, IsSeeking, left_at, left_in, with_walk}
 use Rattle.descent.specs.Ways.{EndsHere, StaysLeft, precedes, reaches}
-use Rattle.descent.proofs.Passing.{HasReached, at_or_below, begins, goes_to, is_beside, is_merged, past_merged, past_removed, reached_next, right_within, visits_next}
+use Rattle.descent.proofs.Passing.{HasReached, IsOver, Passed, at_or_below, begins, goes_down, goes_right, keeps_next, passed_next, reached_next, visits_next}
+use Rattle.descent.proofs.Rounding.{HasNeared, goes_nearer, goes_on, goes_round, goes_through, is_beside, is_merged, past_leaf, past_merged, within_beside}
 use Rattle.descent.proofs.Seeking.{is_gone, living, reached}
-use Rattle.descent.proofs.Spending.{left_empty, left_on, left_removed, left_some, spent_empty, spent_on}
+use Rattle.descent.proofs.Spending.{left_empty, left_gone, left_kept, left_on, left_removed, left_round, left_some, spent_empty, spent_on}
+use Rattle.descent.proofs.Visiting.{there}
 use Rattle.descent.proofs.WayLaws.{covers_here}
+
+-- by the leg of a round: a page was read whole
+abbrev HasRead : Limits → List ℕ → Goal → Leg → Knowledge → Knowledge → Recalled → Version → Type 0
+HasRead limits key goal (Down above) k now r version = HasReached limits key goal (Down above) k now r version
+HasRead limits key goal (Round removed) k now r version = HasNeared limits key goal removed k now r version
+HasRead limits key goal Past k now r version = HasReached limits key goal Past k now r version
+
+-- a round that isn't on its way round a page
+
+plain_below : (version : Version) (leg : Leg) → IsPlain leg → IsPlain (below version leg)
+plain_below version (Down above) plain = tt
+plain_below version (Round removed) plain = absurd plain
+plain_below version Past plain = tt
+
+plain_level : (leg : Leg) → IsPlain leg → IsPlain (level_on leg)
+plain_level (Down above) plain = tt
+plain_level (Round removed) plain = absurd plain
+plain_level Past plain = tt
+
+shows_plain : (limits : Limits) (key : List ℕ) (goal : Goal) (k : Knowledge) (r : Recalled) (visit : page.Visit) (leg : Leg) → IsPlain leg → IsVisiting limits key goal leg k r visit → ShowsVisit limits key goal leg k r visit
+shows_plain limits key goal k r visit (Down above) plain h = h
+shows_plain limits key goal k r visit (Round removed) plain h = absurd plain
+shows_plain limits key goal k r visit Past plain h = h
+
+read_plain : (limits : Limits) (key : List ℕ) (goal : Goal) (k now : Knowledge) (r : Recalled) (version : Version) (leg : Leg) → IsPlain leg → HasRead limits key goal leg k now r version → HasReached limits key goal leg k now r version
+read_plain limits key goal k now r version (Down above) plain h = h
+read_plain limits key goal k now r version (Round removed) plain h = absurd plain
+read_plain limits key goal k now r version Past plain h = h
 
 -- what follows once a page was read whole
 abbrev After : ReadRound → Knowledge → Recalled → ReadRound → Option ReadEnd → Type 0
 After old now r new None = Shows new now r
 After old now r new (Some end) = Ends old now r end
 
-module _ (old : ReadRound) (k now : Knowledge) (r : Recalled) (version : Version) (h : HasReached old.limits old.key old.goal k now r version) where
-  at_goal : (goal : Goal) → old.goal ≡ goal → HasReached old.limits old.key goal k now r version
-  at_goal goal e = subst (λ (g : Goal). HasReached old.limits old.key g k now r version) e h
+module _ (old : ReadRound) (k now : Knowledge) (r : Recalled) (version : Version) (h : HasRead old.limits old.key old.goal old.leg k now r version) where
+  at_leg : (leg : Leg) → old.leg ≡ leg → HasRead old.limits old.key old.goal leg k now r version
+  at_leg leg e = subst (λ (l : Leg). HasRead old.limits old.key old.goal l k now r version) e h
+
+  at_goal : (goal : Goal) → old.goal ≡ goal → IsPlain old.leg → HasReached old.limits old.key goal old.leg k now r version
+  at_goal goal e plain = subst (λ (g : Goal). HasReached old.limits old.key g old.leg k now r version) e (read_plain old.limits old.key old.goal k now r version old.leg plain h)
+
+  -- the round goes on
+  shows : (goal : Goal) (leg : Leg) (next : ℕ) → IsPlain leg → IsVisiting old.limits old.key goal leg now r (page.to_page old.limits next) → ShowsVisit old.limits old.key goal leg now r (page.to_page old.limits next)
+  shows goal leg next plain is = shows_plain old.limits old.key goal now r (page.to_page old.limits next) leg plain is
+
+  neared : (removed : Version) → IsAtLevel old version removed → HasNeared old.limits old.key old.goal removed k now r version
+  neared removed left = at_leg (Round removed) left.leg
 
   treated : (new : ReadRound) (result : Option ReadEnd) → Treats old version new result → After old now r new result
   treated new None t = elim t [
-    | inl on ↦ subst (λ (x : ReadRound). Shows x now r) (sym on.goes) (goes_to old.limits old.key old.goal k now r version h on.next on.alive on.leads)
-    | inr (inl beyond) ↦ subst (λ (x : ReadRound). Shows x now r) (sym beyond.goes) (past_removed old.limits old.key beyond.removed k now r version (at_goal (Left beyond.removed) beyond.left.goal) beyond.left.alive beyond.beside beyond.next (level_in beyond.removed.chain) beyond.leads.low (inl (beyond.leads.is_right, refl, beyond.leads.is_high)) beyond.leads.on_way)
-    | inr (inr past) ↦ subst (λ (x : ReadRound). Shows x now r) (sym past.goes) (past_merged old.limits old.key past.removed k now r version (at_goal (Left past.removed) past.left.goal) past.left.alive past.next past.leads)
+    | inl right ↦ rw right.goes (shows old.goal old.leg right.next right.plain (goes_right old.limits old.key old.goal old.leg k now r version (at_goal old.goal refl right.plain) right.alive right.next right.leads))
+    | inr (inl down) ↦ rw down.goes (shows old.goal (below version old.leg) down.next (plain_below version old.leg down.plain) (goes_down old.limits old.key old.goal old.leg k now r version (at_goal old.goal refl down.plain) down.alive down.next down.index down.leads))
+    | inr (inr (inl beyond)) ↦ rw beyond.goes (shows Beyond (level_on old.leg) beyond.next (plain_level old.leg beyond.left.plain) (past_leaf old.limits old.key beyond.removed old.leg k now r version (at_goal (Left beyond.removed) beyond.left.goal beyond.left.plain) beyond.left.alive beyond.beside beyond.next beyond.leads))
+    | inr (inr (inr (inl past))) ↦ rw past.goes (shows Beyond (level_on old.leg) past.next (plain_level old.leg past.left.plain) (past_merged old.limits old.key past.removed old.leg k now r version (at_goal (Left past.removed) past.left.goal past.left.plain) past.left.alive past.next past.leads))
+    | inr (inr (inr (inr (inl round)))) ↦ rw round.goes (goes_round old.limits old.key old.goal round.above k now r version (at_leg (Down (Some round.above)) round.is_above) round.gone round.next round.leads round.index)
+    | inr (inr (inr (inr (inr (inl nearer))))) ↦ rw (nearer.goes, nearer.left.leg) (goes_nearer old.limits old.key old.goal nearer.removed k now r version (neared nearer.removed nearer.left) nearer.left.alive nearer.next nearer.leads)
+    | inr (inr (inr (inr (inr (inr (inl through)))))) ↦ rw through.goes (goes_through old.limits old.key old.goal through.removed k now r version (neared through.removed through.left) through.left.alive through.beside through.next through.leads)
+    | inr (inr (inr (inr (inr (inr (inr on)))))) ↦ rw on.goes (goes_on old.limits old.key old.goal on.removed k now r version (neared on.removed on.left) on.left.alive on.next on.leads)
   ]
-  treated new (Some Again) t = absurd t
-  treated new (Some (Removed removed)) t = rw t.0 (record { page = is_gone old.limits k now r version h.level h.low h.earlier h.arrives t.1; reached = at_or_below old.limits old.key old.goal k now r version h })
+  treated new (Some Again) t = tt
+  treated new (Some (Removed removed)) t =
+      let d = at_goal old.goal refl t.plain in
+      rw t.is (record { page = is_gone old.limits k now r version d.level d.low d.earlier d.arrives t.gone; reached = at_or_below old.limits old.key old.goal old.leg k now r version d })
   treated new (Some (Leaf leaf)) t = elim t [
-    | inl end ↦ rw end.is (record {
-      page = living old.limits k now r version h.level h.low h.earlier h.arrives end.alive;
-      level = end.ends.leaf;
-      covered = covers_here old.key version.chain (at_or_below old.limits old.key old.goal k now r version h) (stays old.goal end.seeks end.ends);
-    })
-    | inr merged ↦ rw merged.is (is_merged old.limits old.key merged.removed k now r version (at_goal (Left merged.removed) merged.left.goal) merged.left.alive merged.stays merged.left.ends.leaf)
+    | inl end ↦ (let d = at_goal old.goal refl end.plain in
+        rw end.is (record {
+          page = living old.limits k now r version d.level d.low d.earlier d.arrives end.alive;
+          level = end.ends.leaf;
+          covered = covers_here old.key version.chain (at_or_below old.limits old.key old.goal old.leg k now r version d) (stays old.goal end.seeks end.ends);
+        }))
+    | inr merged ↦ rw merged.is (is_merged old.limits old.key merged.removed old.leg k now r version (at_goal (Left merged.removed) merged.left.goal merged.left.plain) merged.left.alive merged.stays merged.left.ends.leaf)
   ]
     where
       stays : (goal : Goal) → SeeksKey goal → EndsHere (way_of goal old.key) version.chain → StaysLeft (reaches old.key) version.chain
       stays Seek seeks ends = ends.stays
       stays (Left removed) seeks ends = absurd seeks
       stays Beyond seeks ends = ends.stays
-  treated new (Some (Beside left removed)) t = rw t.is (is_beside old.limits old.key removed k now r version (at_goal (Left removed) t.at_left.goal) t.at_left.alive t.beside t.stays t.at_left.ends.leaf)
+  treated new (Some (Beside left removed)) t = rw t.is (is_beside old.limits old.key removed old.leg k now r version (at_goal (Left removed) t.at_left.goal t.at_left.plain) t.at_left.alive t.beside t.stays t.at_left.ends.leaf)
 
 -- the answer to the step wanted last is the one that the state was waiting for
 back : (old : ReadRound) (P : ReadRound → Answer Record → Type 0) (state : State) (told real : Answer Record) → old.state ≡ state → real ≡ told → P (at old state) told → P old real
@@ -66,6 +117,48 @@ Then new result old told = (k : Knowledge) (r : Recalled) → Shows old k r → 
 abbrev Pays : ReadRound → Option ReadEnd → ReadRound → Answer Record → Type 0
 Pays new result old told = (reserve kept : ℕ) (k : Knowledge) (r : Recalled) → Shows old k r → Fits old.limits k (wanted old) told → Spends reserve kept r old told new result
 
+-- A page is visited on some way.
+record IsSought (limits : Limits) (k : Knowledge) (r : Recalled) (visit : page.Visit) : Type 0 where
+  way : List ℕ → Bool
+  beyond : Bool
+  level : ℕ
+  low : List ℕ
+  earlier : List ℕ
+  seeks : IsSeeking limits way beyond k r visit level low earlier
+
+sought : (limits : Limits) (key : List ℕ) (goal : Goal) (k : Knowledge) (r : Recalled) (visit : page.Visit) (leg : Leg) → ShowsVisit limits key goal leg k r visit → IsSought limits k r visit
+sought limits key goal k r visit (Down above) h = record { way = way_of goal key; beyond = has_met (Down above) || is_beyond goal; level = h.level; low = h.low; earlier = h.earlier; seeks = h.seeks }
+sought limits key goal k r visit (Round removed) h = record { way = way_of (Left removed) key; beyond = true; level = h.nears.level; low = h.nears.low; earlier = h.nears.earlier; seeks = h.nears.seeks }
+sought limits key goal k r visit Past h = record { way = way_of goal key; beyond = true; level = h.level; low = h.low; earlier = h.earlier; seeks = h.seeks }
+
+-- whether a removed index page was met before it
+met_before : (limits : Limits) (key : List ℕ) (goal : Goal) (k : Knowledge) (r : Recalled) (visit : page.Visit) (leg : Leg) → ShowsVisit limits key goal leg k r visit → HasMet (has_met leg) r.walk visit.state
+met_before limits key goal k r visit (Down above) h = h.leg_is.0
+met_before limits key goal k r visit (Round removed) h = h.nears.leg_is
+met_before limits key goal k r visit Past h = h.leg_is
+
+-- by what a visit makes of an answer
+module _ (limits : Limits) (key : List ℕ) (goal : Goal) (k : Knowledge) (r : Recalled) (visit : page.Visit) (told : Answer Record) (f : Fits limits k (page.wanted visit) told) where
+  on_visit : (leg : Leg) → ShowsVisit limits key goal leg k r visit → (new : page.Visit) → page.Starts visit told new ⊎ page.Continues visit told new → ShowsVisit limits key goal leg (learn k (page.wanted visit) told) (recall r (page.wanted visit) told) new
+  on_visit (Down above) h new moves = visits_next limits key goal (Down above) k r visit told h f new moves
+  on_visit (Round removed) h new moves = record {
+    nears = visits_next limits key (Left removed) Past k r visit told h.nears f new moves;
+    keeps = keeps_next limits key (Left removed) Past k r visit told h.nears f goal h.keeps new moves;
+    index = h.index;
+    reached = h.reached;
+  }
+  on_visit Past h new moves = visits_next limits key goal Past k r visit told h f new moves
+
+  whole : (leg : Leg) → ShowsVisit limits key goal leg k r visit → (version : Version) → page.Completes visit told version → HasRead limits key goal leg k (learn k (page.wanted visit) told) (recall r (page.wanted visit) told) version
+  whole (Down above) h version b = reached_next limits key goal (Down above) k r visit told h f version b
+  whole (Round removed) h version b = record {
+    nears = reached_next limits key (Left removed) Past k r visit told h.nears f version b;
+    passed = passed_next limits key (Left removed) Past k r visit told h.nears f version b goal h.keeps;
+    index = h.index;
+    reached = h.reached;
+  }
+  whole Past h version b = reached_next limits key goal Past k r visit told h f version b
+
 module _ (old new : ReadRound) (told : Answer Record) (visit : page.Visit) where
   abbrev here : ReadRound
   here = at old (Page visit)
@@ -73,43 +166,74 @@ module _ (old new : ReadRound) (told : Answer Record) (visit : page.Visit) where
   seen : (next : page.Visit) (sight : Sight) (result : Option ReadEnd) → page.Responds visit told next (Some sight) → Sees here sight new result → Then new result here told
   seen next Empty result b sees = rw sees (λ k r h f. tt)
   seen next (Whole version) result b sees = λ k r h f.
-      by_result k r result (treated here k (learn k (page.wanted visit) told) (recall r (page.wanted visit) told) version (reached_next old.limits old.key old.goal k r visit told h f version b) new result sees)
+      by_result k r result (treated here k (learn k (page.wanted visit) told) (recall r (page.wanted visit) told) version (whole old.limits old.key old.goal k r visit told f old.leg h version b) new result sees)
     where
       by_result : (k : Knowledge) (r : Recalled) (o : Option ReadEnd) → After here (learn k (page.wanted visit) told) (recall r (page.wanted visit) told) new o → Follows k r here told new o
       by_result k r None a = a
       by_result k r (Some end) a = a
 
-  module _ (reserve kept : ℕ) (k : Knowledge) (r : Recalled) (h : IsVisiting old.limits old.key old.goal k r visit) (f : Fits old.limits k (page.wanted visit) told) where
+  module _ (reserve kept : ℕ) (k : Knowledge) (r : Recalled) (h : ShowsVisit old.limits old.key old.goal old.leg k r visit) (f : Fits old.limits k (page.wanted visit) told) where
+    abbrev Lost : Goal → Type 0
+    Lost goal = Misses reserve kept r (record here { goal = goal }) told goal
+
+    -- what is reserved is left
+    missed_with : reserve < left_in reserve r visit → (goal : Goal) → Lost goal
+    missed_with more Seek = inr (omega (arith, more))
+    missed_with more (Left removed) = inr (omega (arith, more))
+    missed_with more Beyond = omega (arith, more)
+
     -- a page wasn't there
-    missed : page.FindsEmpty visit told → (goal : Goal) → IsSeeking old.limits (way_of goal old.key) (is_beyond goal) k r visit h.level h.low h.earlier → Misses reserve kept r (record here { goal = goal }) told goal
-    missed b Seek seeks = spent_empty reserve old.limits (reaches old.key) false k r visit h.level h.low h.earlier told seeks f refl b
-    missed b (Left removed) seeks = spent_empty reserve old.limits (precedes (low_in removed.chain)) false k r visit h.level h.low h.earlier told seeks f refl b
-    missed b Beyond seeks = let some = left_empty reserve old.limits (reaches old.key) true k r visit h.level h.low h.earlier told seeks f b in omega (arith, some)
+    missed : page.FindsEmpty visit told → (goal : Goal) (leg : Leg) → ShowsVisit old.limits old.key goal leg k r visit → Lost goal
+    missed b Seek (Down above) at = inl (spent_empty reserve old.limits (reaches old.key) false k r visit at.level at.low at.earlier told at.seeks f refl b)
+    missed b (Left removed) (Down above) at = inl (spent_empty reserve old.limits (precedes (low_in removed.chain)) false k r visit at.level at.low at.earlier told at.seeks f refl b)
+    missed b Beyond (Down above) at = let some = left_empty reserve old.limits (reaches old.key) true k r visit at.level at.low at.earlier told at.seeks f b in omega (arith, some)
+    missed b goal (Round removed) at =
+        let s = at.nears in
+        missed_with (left_gone reserve old.limits (precedes (low_in removed.chain)) true k r visit s.level s.low s.earlier told s.seeks f b (there visit (λ v x. HasMet true r.walk v.state) Slot (answer.Number 0) told b.asked b.is s.leg_is)) goal
+    missed b goal Past at =
+        missed_with (left_gone reserve old.limits (way_of goal old.key) true k r visit at.level at.low at.earlier told at.seeks f b (there visit (λ v x. HasMet true r.walk v.state) Slot (answer.Number 0) told b.asked b.is at.leg_is)) goal
 
     -- a page was read whole
     module _ (version : Version) (b : page.Completes visit told version) where
-      abbrev way : List ℕ → Bool
-      way = way_of old.goal old.key
+      s : IsSought old.limits k r visit
+      s = sought old.limits old.key old.goal k r visit old.leg h
+
+      met_is : (met : Bool) → has_met old.leg ≡ met → r.walk.passed ≡ met
+      met_is met e = there visit (λ v x. HasMet met r.walk v.state) (Row version.head b.row) (answer.Content b.content) told b.asked b.is (subst (λ (m : Bool). HasMet m r.walk visit.state) e (met_before old.limits old.key old.goal k r visit old.leg h))
 
       less : is_removed version.chain ≡ false → left_at reserve (recall r (page.wanted visit) told).walk [] Slot < left_in reserve r visit
-      less = left_on reserve old.limits way (is_beyond old.goal) k r visit h.level h.low h.earlier told h.seeks f version b
+      less = left_on reserve old.limits s.way s.beyond k r visit s.level s.low s.earlier told s.seeks f version b
 
       more : is_removed version.chain ≡ false → (goal : Goal) → old.goal ≡ goal → left_at reserve (recall r (page.wanted visit) told).walk [] Slot + kept_for kept goal < left_in reserve r visit + kept_for kept old.goal
       more alive goal e = let l = less alive in rw e (omega (arith, l))
 
+      gone_on : is_removed version.chain ≡ true → has_met old.leg ≡ false → left_at reserve (recall r (page.wanted visit) told).walk [] Slot + kept_for kept old.goal < left_in reserve r visit + kept_for kept old.goal
+      gone_on gone e = let l = left_round reserve old.limits s.way s.beyond k r visit s.level s.low s.earlier told s.seeks f version b gone (met_is false e) in omega (arith, l)
+
+      reserved : is_removed version.chain ≡ true → reserve < left_in reserve r visit
+      reserved = left_removed reserve old.limits s.way s.beyond k r visit s.level s.low s.earlier told s.seeks f version b
+
       by_result : (o : Option ReadEnd) → Treats here version new o → Spends reserve kept r here told new o
       by_result None t = elim t [
-        | inl on ↦ rw on.goes (inl (more on.alive old.goal refl))
-        | inr (inl beyond) ↦ rw beyond.goes (inl (more beyond.left.alive (Left beyond.removed) beyond.left.goal))
-        | inr (inr past) ↦ rw past.goes (inl (more past.left.alive (Left past.removed) past.left.goal))
+        | inl right ↦ rw right.goes (inl (more right.alive old.goal refl))
+        | inr (inl down) ↦ rw down.goes (inl (more down.alive old.goal refl))
+        | inr (inr (inl beyond)) ↦ rw beyond.goes (inl (more beyond.left.alive (Left beyond.removed) beyond.left.goal))
+        | inr (inr (inr (inl past))) ↦ rw past.goes (inl (more past.left.alive (Left past.removed) past.left.goal))
+        | inr (inr (inr (inr (inl round)))) ↦ rw round.goes (inl (gone_on round.gone (ap has_met round.is_above)))
+        | inr (inr (inr (inr (inr (inl nearer))))) ↦ rw nearer.goes (inl (more nearer.left.alive old.goal refl))
+        | inr (inr (inr (inr (inr (inr (inl through)))))) ↦ rw through.goes (inl (more through.left.alive old.goal refl))
+        | inr (inr (inr (inr (inr (inr (inr on)))))) ↦ rw on.goes (inl (more on.left.alive old.goal refl))
       ]
-      by_result (Some Again) t = absurd t
-      by_result (Some (Removed removed)) t = let some = left_removed reserve old.limits way (is_beyond old.goal) k r visit h.level h.low h.earlier told h.seeks f version b t.1 in omega (arith, some)
-      by_result (Some (Leaf leaf)) t = let some = left_some reserve old.limits way (is_beyond old.goal) k r visit h.level h.low h.earlier told h.seeks f version b in omega (arith, some)
-      by_result (Some (Beside left removed)) t = let some = left_some reserve old.limits way (is_beyond old.goal) k r visit h.level h.low h.earlier told h.seeks f version b in rw t.at_left.goal (omega (arith, some))
+      by_result (Some Again) t = elim t [
+        | inl lost ↦ missed_with (reserved lost.gone) old.goal
+        | inr off ↦ missed_with (left_kept reserve old.limits s.way s.beyond k r visit s.level s.low s.earlier told s.seeks f version b (met_is true (ap has_met off.leg))) old.goal
+      ]
+      by_result (Some (Removed removed)) t = let some = reserved t.gone in omega (arith, some)
+      by_result (Some (Leaf leaf)) t = let some = left_some reserve old.limits s.way s.beyond k r visit s.level s.low s.earlier told s.seeks f version b in omega (arith, some)
+      by_result (Some (Beside left removed)) t = let some = left_some reserve old.limits s.way s.beyond k r visit s.level s.low s.earlier told s.seeks f version b in rw t.at_left.goal (omega (arith, some))
 
   paid : (next : page.Visit) (sight : Sight) (result : Option ReadEnd) → page.Responds visit told next (Some sight) → Sees here sight new result → Pays new result here told
-  paid next Empty result b sees = rw sees (λ reserve kept k r h f. missed reserve kept k r h f b old.goal h.seeks)
+  paid next Empty result b sees = rw sees (λ reserve kept k r h f. missed reserve kept k r h f b old.goal old.leg h)
   paid next (Whole version) result b sees = λ reserve kept k r h f. by_result reserve kept k r h f version b result sees
 
 -- the same with more that is kept
@@ -131,8 +255,8 @@ seen_at old new told result from = subst (λ (s : State). Sees (at old s) from.s
 pub follows_from : (old new : ReadRound) (told : Answer Record) (result : Option ReadEnd) → Responds old told new result → (k : Knowledge) (r : Recalled) → Shows old k r → Fits old.limits k (wanted old) told → Follows k r old told new result
 follows_from old new told result responds = elim responds [
   | inl way ↦ elim way.on [
-    | inl b ↦ back old (Then new result) Root (answer.Number b.root) told b.asked b.is (rw (way.none, started old new told result way b) (λ k r h f. begins old.limits old.key k r b.root f old.goal h))
-    | inr b ↦ back old (Then new result) (Page b.visit) told told b.asked refl (rw (way.none, visiting old new told result way b) (λ k r h f. visits_next old.limits old.key old.goal k r b.visit told h f b.next b.responds))
+    | inl b ↦ back old (Then new result) Root (answer.Number b.root) told b.asked b.is (rw (way.none, started old new told result way b) (λ k r h f. rw h.0 (begins old.limits old.key k r b.root f old.goal h.1)))
+    | inr b ↦ back old (Then new result) (Page b.visit) told told b.asked refl (rw (way.none, visiting old new told result way b) (λ k r h f. on_visit old.limits old.key old.goal k r b.visit told f old.leg h b.next b.responds))
   ]
   | inr from ↦ back old (Then new result) (Page from.finds.visit) told told from.finds.asked refl (seen old new told from.finds.visit from.finds.next from.sight result from.finds.responds (seen_at old new told result from))
 ]
@@ -141,7 +265,7 @@ pub spends_from : (old new : ReadRound) (told : Answer Record) (result : Option 
 spends_from old new told result responds = elim responds [
   | inl way ↦ elim way.on [
     | inl b ↦ back old (Pays new result) Root (answer.Number b.root) told b.asked b.is (rw (way.none, started old new told result way b) (λ reserve kept k r h f. inl (omega arith)))
-    | inr b ↦ back old (Pays new result) (Page b.visit) told told b.asked refl (rw (way.none, visiting old new told result way b) (λ reserve kept k r h f. still (with_walk reserve) r (page.wanted b.visit) told _ _ (kept_for kept old.goal) (spent_on reserve old.limits (way_of old.goal old.key) (is_beyond old.goal) k r b.visit h.level h.low h.earlier told h.seeks f b.next b.responds)))
+    | inr b ↦ back old (Pays new result) (Page b.visit) told told b.asked refl (rw (way.none, visiting old new told result way b) (λ reserve kept k r h f. let s = sought old.limits old.key old.goal k r b.visit old.leg h in still (with_walk reserve) r (page.wanted b.visit) told _ _ (kept_for kept old.goal) (spent_on reserve old.limits s.way s.beyond k r b.visit s.level s.low s.earlier told s.seeks f b.next b.responds)))
   ]
   | inr from ↦ back old (Pays new result) (Page from.finds.visit) told told from.finds.asked refl (paid old new told from.finds.visit from.finds.next from.sight result from.finds.responds (seen_at old new told result from))
 ]
@@ -156,43 +280,74 @@ way_shows round k r h = by_state round.state refl
     inside_at Beyond inside = inside
 
     by_state : (state : State) → round.state ≡ state → WayShows (descent_of round) k
-    by_state Root e = rw e (inside_at round.goal (rw e at h))
-    by_state (Page visit) e = let here : IsVisiting round.limits round.key round.goal k r visit = rw e at h in rw e here.seeks.on_way.shows
+    by_state Root e = let begun : (round.leg ≡ Down None) × Begins round.limits round.key k round.goal = rw e at h in rw e (inside_at round.goal begun.1)
+    by_state (Page visit) e = let here : ShowsVisit round.limits round.key round.goal round.leg k r visit = rw e at h in rw e (sought round.limits round.key round.goal k r visit round.leg here).seeks.on_way.shows
 
 -- the page that was found is one that the round has reached
+
+can_pass : (limits : Limits) (key : List ℕ) (leg : Leg) (k now : Knowledge) (r : Recalled) (version : Version) (goal : Goal) → HasReached limits key goal leg k now r version → CanPass limits version goal
+can_pass limits key leg k now r version Seek d = tt
+can_pass limits key leg k now r version (Left removed) d = λ alive beside next is. within_beside limits key removed leg k now r version d alive beside next (inl is)
+can_pass limits key leg k now r version Beyond d = tt
+
+can_meet : (limits : Limits) (key : List ℕ) (goal : Goal) (k now : Knowledge) (r : Recalled) (version : Version) (leg : Leg) → HasRead limits key goal leg k now r version → IsReached limits (way_on leg goal key) version × CanMeet limits (way_of goal key) goal version leg
+can_meet limits key goal k now r version (Down None) d = (reached limits k now r version d.level d.low d.earlier d.arrives (way_of goal key) d.passing, (can_pass limits key (Down None) k now r version goal d, tt))
+can_meet limits key goal k now r version (Down (Some above)) d =
+    let over : IsOver limits k now goal version.pid d.level d.earlier above = d.leg_was.1 in
+    let up = over.above_is.up in (
+      reached limits k now r version d.level d.low d.earlier d.arrives (way_of goal key) d.passing,
+      (can_pass limits key (Down (Some above)) k now r version goal d, record { index = omega (arith, up); names = over.above_is.in_hand.sound.names over.above_is.alive }),
+    )
+can_meet limits key goal k now r version (Round removed) d =
+    let n = d.nears in (
+      reached limits k now r version n.level n.low n.earlier n.arrives (way_of (Left removed) key) n.passing,
+      record { index = d.index; reached = d.reached; names = λ alive beside next named. within_beside limits key removed Past k now r version n alive beside next (inr named) },
+    )
+can_meet limits key goal k now r version Past d = (reached limits k now r version d.level d.low d.earlier d.arrives (way_of goal key) d.passing, can_pass limits key Past k now r version goal d)
+
 pub can_see : (old : ReadRound) (other : State) (told : Answer Record) (sight : Sight) → Finds (descent_of old) told sight → IsTold old told → CanSee (at old other) sight
 can_see old other told Empty b t = tt
 can_see old other told (Whole version) b t =
     let visit = b.visit in
-    let h : IsVisiting old.limits old.key old.goal t.k t.r visit = subst (λ (s : State). Shows (at old s) t.k t.r) b.asked t.shows in
+    let h : ShowsVisit old.limits old.key old.goal old.leg t.k t.r visit = subst (λ (s : State). Shows (at old s) t.k t.r) b.asked t.shows in
     let f : Fits old.limits t.k (page.wanted visit) told = subst (λ (s : State). Fits old.limits t.k (wanted (at old s)) told) b.asked t.fits in
-    let now = learn t.k (page.wanted visit) told in
-    let d = reached_next old.limits old.key old.goal t.k t.r visit told h f version b.responds in
-    record {
-      reached = reached old.limits t.k now (recall t.r (page.wanted visit) told) version d.level d.low d.earlier d.arrives (way_of old.goal old.key) d.passing;
-      passes = passes_at now old.goal d;
-    }
-  where
-    passes_at : (now : Knowledge) (goal : Goal) → HasReached old.limits old.key goal t.k now (recall t.r (page.wanted b.visit) told) version → CanPass old.limits version goal
-    passes_at now Seek d = tt
-    passes_at now (Left removed) d = λ alive beside next is. right_within old.limits old.key removed t.k now (recall t.r (page.wanted b.visit) told) version d alive beside next is
-    passes_at now Beyond d = tt
+    let meets = can_meet old.limits old.key old.goal t.k (learn t.k (page.wanted visit) told) (recall t.r (page.wanted visit) told) version old.leg (whole old.limits old.key old.goal t.k t.r visit told f old.leg h version b.responds) in
+    record { reached = meets.0; meets = meets.1 }
 
 -- what a round does with a page doesn't depend on the state that it had
 
 left_as : (old : ReadRound) (state other : State) (version removed : Version) → IsLeftLeaf (at old other) version removed → IsLeftLeaf (at old state) version removed
-left_as old state other version removed t = record { goal = t.goal; alive = t.alive; ends = t.ends }
+left_as old state other version removed t = record { plain = t.plain; goal = t.goal; alive = t.alive; ends = t.ends }
+
+level_as : (old : ReadRound) (state other : State) (version removed : Version) → IsAtLevel (at old other) version removed → IsAtLevel (at old state) version removed
+level_as old state other version removed t = record { leg = t.leg; alive = t.alive; same = t.same }
 
 treats_as : (old new : ReadRound) (state other : State) (version : Version) (result : Option ReadEnd) → Treats (at old other) version new result → Treats (at old state) version new result
 treats_as old new state other version None t = elim t [
-  | inl on ↦ inl (record { alive = on.alive; next = on.next; leads = on.leads; goes = on.goes })
-  | inr (inl beyond) ↦ inr (inl (record { removed = beyond.removed; left = left_as old state other version beyond.removed beyond.left; beside = beyond.beside; next = beyond.next; leads = beyond.leads; goes = beyond.goes }))
-  | inr (inr past) ↦ inr (inr (record { removed = past.removed; left = left_as old state other version past.removed past.left; merged = past.merged; next = past.next; leads = past.leads; goes = past.goes }))
+  | inl right ↦ inl (record { plain = right.plain; alive = right.alive; next = right.next; leads = right.leads; goes = right.goes })
+  | inr (inl down) ↦ inr (inl (record { plain = down.plain; alive = down.alive; stays = down.stays; index = down.index; next = down.next; leads = down.leads; goes = down.goes }))
+  | inr (inr (inl beyond)) ↦ inr (inr (inl (record { removed = beyond.removed; left = left_as old state other version beyond.removed beyond.left; beside = beyond.beside; next = beyond.next; leads = beyond.leads; goes = beyond.goes })))
+  | inr (inr (inr (inl past))) ↦ inr (inr (inr (inl (record { removed = past.removed; left = left_as old state other version past.removed past.left; merged = past.merged; next = past.next; leads = past.leads; goes = past.goes }))))
+  | inr (inr (inr (inr (inl round)))) ↦ inr (inr (inr (inr (inl (record { gone = round.gone; index = round.index; above = round.above; is_above = round.is_above; next = round.next; leads = round.leads; goes = round.goes })))))
+  | inr (inr (inr (inr (inr (inl nearer))))) ↦ inr (inr (inr (inr (inr (inl (record { removed = nearer.removed; left = level_as old state other version nearer.removed nearer.left; next = nearer.next; leads = nearer.leads; goes = nearer.goes }))))))
+  | inr (inr (inr (inr (inr (inr (inl through)))))) ↦ inr (inr (inr (inr (inr (inr (inl (record {
+    removed = through.removed;
+    left = level_as old state other version through.removed through.left;
+    stays = through.stays;
+    beside = through.beside;
+    next = through.next;
+    leads = through.leads;
+    goes = through.goes;
+  })))))))
+  | inr (inr (inr (inr (inr (inr (inr on)))))) ↦ inr (inr (inr (inr (inr (inr (inr (record { removed = on.removed; left = level_as old state other version on.removed on.left; stays = on.stays; merged = on.merged; next = on.next; leads = on.leads; goes = on.goes })))))))
 ]
-treats_as old new state other version (Some Again) t = t
-treats_as old new state other version (Some (Removed removed)) t = t
+treats_as old new state other version (Some Again) t = elim t [
+  | inl lost ↦ inl (record { gone = lost.gone; index = lost.index; lacks = lost.lacks })
+  | inr off ↦ inr (record { removed = off.removed; leg = off.leg; off = off.off })
+]
+treats_as old new state other version (Some (Removed removed)) t = record { is = t.is; plain = t.plain; gone = t.gone; leaf = t.leaf }
 treats_as old new state other version (Some (Leaf leaf)) t = elim t [
-  | inl end ↦ inl (record { is = end.is; seeks = end.seeks; alive = end.alive; ends = end.ends })
+  | inl end ↦ inl (record { is = end.is; plain = end.plain; seeks = end.seeks; alive = end.alive; ends = end.ends })
   | inr merged ↦ inr (record { is = merged.is; removed = merged.removed; left = left_as old state other version merged.removed merged.left; merged = merged.merged; stays = merged.stays })
 ]
 treats_as old new state other version (Some (Beside left removed)) t = record { is = t.is; at_left = left_as old state other version removed t.at_left; beside = t.beside; stays = t.stays }

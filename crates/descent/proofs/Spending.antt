@@ -220,6 +220,25 @@ module _ (reserve : ℕ) (limits : Limits) (way : List ℕ → Bool) (beyond : B
           by_passed true e = let same : kept ≡ reserve = rw e refl in let more = more_left in omega (arith, more, same)
           by_passed false e = let is = part_removed gone in let same : kept ≡ full = rw (e, is) refl in let more = more_left in omega (arith, more, same)
 
+      -- the round goes round a removed page, the first one: the pages that it has read don't count any more
+      pub left_round : is_removed version.chain ≡ true → r.walk.passed ≡ false → left_at reserve (recall r (wanted visit) told).walk [] Slot < left_in reserve r visit
+      left_round gone first = back visit (λ v x. left_at reserve (recall r (wanted v) x).walk [] Slot < left_in reserve r visit) (Row version.head b.row) (answer.Content b.content) told b.asked b.is here
+        where
+          now : Walk
+          now = (recall r (step.Row b.row) (answer.Content b.content)).walk
+
+          met : now.removed ≡ true
+          met = (arrived limits way beyond k r visit level low earlier b.row b.content fits_row version b.pid b.chain b.last seeks).removed ∙ rw (first, gone) refl
+
+          here : left_at reserve now [] Slot < left_in reserve r visit
+          here =
+              let is = part_removed gone in
+              let same : kept ≡ full = rw (first, is) refl in
+              let none : trail now ≡ [] = rw (met, first) refl in
+              let all : (if now.removed then reserve else 0) ≡ reserve = rw met refl in
+              let more = more_left in
+              rw none (omega (arith, more, same, all))
+
 -- a round takes few reads
 pub few_left : (reserve : ℕ) (limits : Limits) (way : List ℕ → Bool) (beyond : Bool) (k : Knowledge) (r : Recalled) (visit : Visit) (level : ℕ) (low : List ℕ) (earlier : List ℕ) → IsSeeking limits way beyond k r visit level low earlier → left_in reserve r visit ≤ few_reads + with_walk reserve
 few_left reserve limits way beyond k r visit level low earlier h = by_state visit.state refl

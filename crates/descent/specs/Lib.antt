@@ -5,8 +5,8 @@ pub mod Walks
 pub mod Descents
 pub mod Courses
 pub mod ReadGoals
+pub mod ReadLegs
 pub mod ReadEnds
 pub mod WriteEnds
-pub mod Detours
 pub mod ReadRounds
 pub mod WriteRounds

@@ -1,30 +1,34 @@
 -- A reader's round from the root to a leaf: the step that it wants, what its actor knows meanwhile, and how it ends.
-use Rattle.std.specs.Prelude.{◌≡◌, ◌≢◌, ◌<◌, ◌+◌, ◌⊎◌, ℕ, List, Bool, Option, Some, None, true, false, IsTrue, ⊤}
+use Rattle.std.specs.Prelude.{◌≡◌, ◌≢◌, ◌<◌, ◌+◌, ◌⊎◌, ◌||◌, ℕ, suc, List, Bool, Option, Some, None, true, false, IsTrue, IfSome, ⊤}
 use Rattle.bw_model.specs.declared.limits.Limits.{Limits}
 use Rattle.bw_model.specs.declared.step.Step.{Step as StepOf}
 use Rattle.bw_model.specs.declared.step.Answer.{Answer}
+use Rattle.base_page.specs.Places.{HasNoChild}
 use Rattle.deltas.specs.declared.record.Record.{Record}
-use Rattle.chain_search.specs.Chains.{covers, is_removed, level_in, low_in, right_in}
-use Rattle.chain_search.specs.Fitting.{Fits}
+use Rattle.chain_search.specs.Chains.{content_in, covers, is_removed, level_in, low_in, right_in}
+use Rattle.chain_search.specs.Discipline.{NamesChild}
+use Rattle.chain_search.specs.Fitting.{Fits, SaysOf}
 use Rattle.chain_search.specs.Knowledge.{Knowledge, learn}
 use Rattle.chain_search.specs.Recalled.{IsPaid, IsSpentWith, Recalled, recall}
 use Rattle.smo.specs.Readings.{IsAfter}
 use Rattle.smo.specs.declared.version.Version.{Version}
-use Rattle.descent.specs.Versions.{IsAlive, IsGone}
+use Rattle.descent.specs.Versions.{IsAlive, IsGone, IsInHand, NamesPages}
 use Rattle.descent.specs.Descents.{Descent, Finds, Responds as Moves, left_from, wanted_at, State, Root, Page}
 use Rattle.descent.specs.Visits as page
-use Rattle.descent.specs.Walks.{IsAhead, IsReached, IsSeeking, with_walk}
-use Rattle.descent.specs.Ways.{EndsHere, LeadsOn, LeadsRight, StaysLeft, precedes, reaches}
+use Rattle.descent.specs.Walks.{HasMet, IsAhead, IsAmong, IsReached, IsSeeking, with_walk}
+use Rattle.descent.specs.Ways.{EndsHere, LeadsDown, LeadsOn, LeadsRight, StaysLeft, precedes, reaches}
 use Rattle.descent.specs.declared.visit.Sight as page_sight
 use Rattle.descent.specs.declared.visit.Sight.TheVariants as page_is
 use Rattle.descent.specs.ReadGoals.{Goal, Seek, Left, Beyond}
+use Rattle.descent.specs.ReadLegs.{Leg, Down, Round, Past, IsPlain, below, has_met, level_on}
 use Rattle.descent.specs.ReadEnds.{ReadEnd, Again, Removed, Leaf, Beside}
 
--- the key whose leaf is sought, where the round goes first, and where it stands
+-- the key whose leaf is sought, where the round goes first, on which leg of its way it is, and where it stands
 pub record ReadRound : Type 0 where
   pub limits : Limits
   pub key : List ℕ
   pub goal : Goal
+  pub leg : Leg
   pub state : State
 
 -- the way that the round goes
@@ -42,11 +46,21 @@ at round state = record round { state = state }
 abbrev pub going_to : ℕ → ReadRound → ReadRound
 going_to pid round = at round (Page (page.to_page round.limits pid))
 
+-- which low keys are on the way to the left of a removed page
+abbrev pub left_of : Version → List ℕ → Bool
+left_of removed = precedes (low_in removed.chain)
+
 -- which low keys are on the way of a goal
 abbrev pub way_of : Goal → List ℕ → List ℕ → Bool
 way_of Seek key = reaches key
-way_of (Left removed) key = precedes (low_in removed.chain)
+way_of (Left removed) key = left_of removed
 way_of Beyond key = reaches key
+
+-- which low keys are on the way of a goal and a leg
+abbrev pub way_on : Leg → Goal → List ℕ → List ℕ → Bool
+way_on (Down above) goal key = way_of goal key
+way_on (Round removed) goal key = left_of removed
+way_on Past goal key = way_of goal key
 
 abbrev pub is_beyond : Goal → Bool
 is_beyond Seek = false
@@ -56,6 +70,10 @@ is_beyond Beyond = true
 -- the round, gone on to a goal
 abbrev pub toward : Goal → ReadRound → ReadRound
 toward goal round = record round { goal = goal }
+
+-- the round, on another leg
+abbrev pub on : Leg → ReadRound → ReadRound
+on leg round = record round { leg = leg }
 
 -- The page is in hand, removed, and begins at or below the key.
 pub record IsGoneAt (limits : Limits) (k : Knowledge) (key : List ℕ) (removed : Version) : Type 0 where
@@ -80,21 +98,56 @@ Begins limits key k Seek = k.inside ≡ true
 Begins limits key k (Left removed) = (k.inside ≡ true) × IsGoneAt limits k key removed
 Begins limits key k Beyond = k.inside ≡ true
 
+-- what a page says of the one that is kept aside is so
+abbrev pub SaysAside : Goal → List Record → Type 0
+SaysAside Seek chain = ⊤
+SaysAside (Left removed) chain = SaysOf chain removed.pid removed.chain
+SaysAside Beyond chain = ⊤
+
+-- The page above is in hand, isn't removed, was read in this round, is one level up, and so isn't the page.
+pub record IsAbove (limits : Limits) (k : Knowledge) (goal : Goal) (pid level : ℕ) (earlier : List ℕ) (above : Version) : Type 0 where
+  pub in_hand : IsInHand limits k above
+  pub alive : is_removed above.chain ≡ false
+  pub among : IsAmong above.pid earlier
+  pub up : level_in above.chain ≡ suc level
+  pub apart : above.pid ≢ pid
+  pub says : SaysAside goal above.chain
+
+-- by the leg of a round that isn't on its way round a page
+abbrev pub IsOn : Limits → Knowledge → Recalled → Goal → page.Visit → ℕ → List ℕ → Leg → Type 0
+IsOn limits k r goal visit level earlier (Down above) = HasMet false r.walk visit.state × IfSome above (IsAbove limits k goal visit.pid level earlier)
+IsOn limits k r goal visit level earlier (Round removed) = ⊥
+IsOn limits k r goal visit level earlier Past = HasMet true r.walk visit.state
+
 -- A page is visited on the way of the goal.
-pub record IsVisiting (limits : Limits) (key : List ℕ) (goal : Goal) (k : Knowledge) (r : Recalled) (visit : page.Visit) : Type 0 where
+pub record IsVisiting (limits : Limits) (key : List ℕ) (goal : Goal) (leg : Leg) (k : Knowledge) (r : Recalled) (visit : page.Visit) : Type 0 where
   pub level : ℕ
   pub low : List ℕ
   pub earlier : List ℕ
-  pub seeks : IsSeeking limits (way_of goal key) (is_beyond goal) k r visit level low earlier
+  pub seeks : IsSeeking limits (way_of goal key) (has_met leg || is_beyond goal) k r visit level low earlier
   pub keeps : Keeps limits key k visit goal
+  pub leg_is : IsOn limits k r goal visit level earlier leg
+
+-- A page is visited on the way to the left of a removed index page, which was read in this round on the way of the goal.
+pub record IsGoingRound (limits : Limits) (key : List ℕ) (goal : Goal) (removed : Version) (k : Knowledge) (r : Recalled) (visit : page.Visit) : Type 0 where
+  pub nears : IsVisiting limits key (Left removed) Past k r visit
+  pub keeps : Keeps limits key k visit goal
+  pub index : 0 < level_in removed.chain
+  pub reached : IsTrue (way_of goal key (low_in removed.chain))
+
+-- by the leg of a round that has read slot 0
+abbrev pub ShowsVisit : Limits → List ℕ → Goal → Leg → Knowledge → Recalled → page.Visit → Type 0
+ShowsVisit limits key goal (Down above) k r visit = IsVisiting limits key goal (Down above) k r visit
+ShowsVisit limits key goal (Round removed) k r visit = IsGoingRound limits key goal removed k r visit
+ShowsVisit limits key goal Past k r visit = IsVisiting limits key goal Past k r visit
 
 -- by the state of a round
-abbrev pub ShowsState : Limits → List ℕ → Goal → Knowledge → Recalled → State → Type 0
-ShowsState limits key goal k r Root = Begins limits key k goal
-ShowsState limits key goal k r (Page visit) = IsVisiting limits key goal k r visit
+abbrev pub ShowsState : Limits → List ℕ → Goal → Leg → Knowledge → Recalled → State → Type 0
+ShowsState limits key goal leg k r Root = (leg ≡ Down None) × Begins limits key k goal
+ShowsState limits key goal leg k r (Page visit) = ShowsVisit limits key goal leg k r visit
 
 abbrev pub Shows : ReadRound → Knowledge → Recalled → Type 0
-Shows round k r = ShowsState round.limits round.key round.goal k r round.state
+Shows round k r = ShowsState round.limits round.key round.goal round.leg k r round.state
 
 -- Something is known that the round shows.
 pub record HasCome (round : ReadRound) : Type 0 where
@@ -136,15 +189,27 @@ abbrev pub Follows : Knowledge → Recalled → ReadRound → Answer Record → 
 Follows k r old told new None = Shows new (learn k (wanted old) told) (recall r (wanted old) told)
 Follows k r old told new (Some end) = Ends old (learn k (wanted old) told) (recall r (wanted old) told) end
 
--- The page isn't removed, and the round goes on to the next one on its way.
-pub record IsOnward (old : ReadRound) (version : Version) (new : ReadRound) : Type 0 where
+-- The page isn't removed, and the round goes on to its right, where the page ends on the way.
+pub record GoesRight (old : ReadRound) (version : Version) (new : ReadRound) : Type 0 where
+  pub plain : IsPlain old.leg
   pub alive : is_removed version.chain ≡ false
   pub next : ℕ
-  pub leads : LeadsOn (way_of old.goal old.key) version.chain next
+  pub leads : LeadsRight (way_of old.goal old.key) version.chain next
   pub goes : new ≡ going_to next old
+
+-- The page isn't removed, and the round goes down to the child of its greatest term on the way.
+pub record GoesDown (old : ReadRound) (version : Version) (new : ReadRound) : Type 0 where
+  pub plain : IsPlain old.leg
+  pub alive : is_removed version.chain ≡ false
+  pub stays : StaysLeft (way_of old.goal old.key) version.chain
+  pub index : 0 < level_in version.chain
+  pub next : ℕ
+  pub leads : LeadsDown (way_of old.goal old.key) version.chain next
+  pub goes : new ≡ going_to next (on (below version old.leg) old)
 
 -- The page isn't removed, and is the leaf where the way to the left of the removed page ends.
 pub record IsLeftLeaf (old : ReadRound) (version removed : Version) : Type 0 where
+  pub plain : IsPlain old.leg
   pub goal : old.goal ≡ Left removed
   pub alive : is_removed version.chain ≡ false
   pub ends : EndsHere (precedes (low_in removed.chain)) version.chain
@@ -157,7 +222,7 @@ pub record GoesBeyond (old : ReadRound) (version : Version) (new : ReadRound) : 
   pub beside : right_in version.chain ≡ Some removed.pid
   pub next : ℕ
   pub leads : LeadsRight (reaches old.key) removed.chain next
-  pub goes : new ≡ going_to next (toward Beyond old)
+  pub goes : new ≡ going_to next (on (level_on old.leg) (toward Beyond old))
 
 -- At the leaf to the left of a page that has been merged, the round goes on to the leaf's own right.
 pub record GoesPast (old : ReadRound) (version : Version) (new : ReadRound) : Type 0 where
@@ -166,7 +231,7 @@ pub record GoesPast (old : ReadRound) (version : Version) (new : ReadRound) : Ty
   pub merged : right_in version.chain ≢ Some removed.pid
   pub next : ℕ
   pub leads : LeadsRight (reaches old.key) version.chain next
-  pub goes : new ≡ going_to next (toward Beyond old)
+  pub goes : new ≡ going_to next (on (level_on old.leg) (toward Beyond old))
 
 -- the round isn't on its way to the left of a page
 abbrev pub SeeksKey : Goal → Type 0
@@ -174,9 +239,17 @@ SeeksKey Seek = ⊤
 SeeksKey (Left removed) = ⊥
 SeeksKey Beyond = ⊤
 
+-- The page is a removed leaf.
+pub record IsAtGone (old : ReadRound) (version removed : Version) : Type 0 where
+  pub is : removed ≡ version
+  pub plain : IsPlain old.leg
+  pub gone : is_removed version.chain ≡ true
+  pub leaf : level_in version.chain ≡ 0
+
 -- The page isn't removed, and the round ends there.
 pub record IsAtEnd (old : ReadRound) (version leaf : Version) : Type 0 where
   pub is : leaf ≡ version
+  pub plain : IsPlain old.leg
   pub seeks : SeeksKey old.goal
   pub alive : is_removed version.chain ≡ false
   pub ends : EndsHere (way_of old.goal old.key) version.chain
@@ -196,11 +269,76 @@ pub record IsAtBeside (old : ReadRound) (version left removed : Version) : Type 
   pub beside : right_in version.chain ≡ Some removed.pid
   pub stays : StaysLeft (reaches old.key) removed.chain
 
+-- The page is a removed index page, and the round goes to the left of it: to the child of the greatest term below the page that the page
+-- above has.
+pub record GoesRound (old : ReadRound) (version : Version) (new : ReadRound) : Type 0 where
+  pub gone : is_removed version.chain ≡ true
+  pub index : 0 < level_in version.chain
+  pub above : Version
+  pub is_above : old.leg ≡ Down (Some above)
+  pub next : ℕ
+  pub leads : LeadsDown (left_of version) above.chain next
+  pub goes : new ≡ going_to next (on (Round version) old)
+
+-- No page above has a term below the page.
+abbrev pub LacksLeft : Version → Leg → Type 0
+LacksLeft version (Down None) = ⊤
+LacksLeft version (Down (Some above)) = HasNoChild (content_in above.chain) (left_of version)
+LacksLeft version (Round removed) = ⊥
+LacksLeft version Past = ⊤
+
+-- The page is a removed index page, to the left of which the round can't go from the page above; or it isn't the first one.
+pub record IsLost (old : ReadRound) (version : Version) : Type 0 where
+  pub gone : is_removed version.chain ≡ true
+  pub index : 0 < level_in version.chain
+  pub lacks : LacksLeft version old.leg
+
+-- On the way round a removed page, a page of its level was read, which isn't removed.
+pub record IsAtLevel (old : ReadRound) (version removed : Version) : Type 0 where
+  pub leg : old.leg ≡ Round removed
+  pub alive : is_removed version.chain ≡ false
+  pub same : level_in version.chain ≡ level_in removed.chain
+
+-- The page ends to the left of the removed one, and the way round that one goes on to its right.
+pub record GoesNearer (old : ReadRound) (version : Version) (new : ReadRound) : Type 0 where
+  pub removed : Version
+  pub left : IsAtLevel old version removed
+  pub next : ℕ
+  pub leads : LeadsRight (left_of removed) version.chain next
+  pub goes : new ≡ going_to next old
+
+-- The removed page is the page's right: the round goes down from what it read of it.
+pub record GoesThrough (old : ReadRound) (version : Version) (new : ReadRound) : Type 0 where
+  pub removed : Version
+  pub left : IsAtLevel old version removed
+  pub stays : StaysLeft (left_of removed) version.chain
+  pub beside : right_in version.chain ≡ Some removed.pid
+  pub next : ℕ
+  pub leads : LeadsDown (way_of old.goal old.key) removed.chain next
+  pub goes : new ≡ going_to next (on Past old)
+
+-- The removed page has been merged, and the round goes on from the page.
+pub record GoesOn (old : ReadRound) (version : Version) (new : ReadRound) : Type 0 where
+  pub removed : Version
+  pub left : IsAtLevel old version removed
+  pub stays : StaysLeft (left_of removed) version.chain
+  pub merged : right_in version.chain ≢ Some removed.pid
+  pub next : ℕ
+  pub leads : LeadsOn (way_of old.goal old.key) version.chain next
+  pub goes : new ≡ going_to next (on Past old)
+
+-- On the way round a removed page, the page is removed, or of another level.
+pub record IsOff (old : ReadRound) (version : Version) : Type 0 where
+  pub removed : Version
+  pub leg : old.leg ≡ Round removed
+  pub off : (is_removed version.chain ≡ true) ⊎ (level_in version.chain ≢ level_in removed.chain)
+
 -- what a round does with a page that was read whole
 abbrev pub Treats : ReadRound → Version → ReadRound → Option ReadEnd → Type 0
-Treats old version new None = IsOnward old version new ⊎ GoesBeyond old version new ⊎ GoesPast old version new
-Treats old version new (Some Again) = ⊥
-Treats old version new (Some (Removed removed)) = (removed ≡ version) × (is_removed version.chain ≡ true)
+Treats old version new None = GoesRight old version new ⊎ GoesDown old version new ⊎ GoesBeyond old version new ⊎ GoesPast old version new
+    ⊎ GoesRound old version new ⊎ GoesNearer old version new ⊎ GoesThrough old version new ⊎ GoesOn old version new
+Treats old version new (Some Again) = IsLost old version ⊎ IsOff old version
+Treats old version new (Some (Removed removed)) = IsAtGone old version removed
 Treats old version new (Some (Leaf leaf)) = IsAtEnd old version leaf ⊎ IsAtMerged old version leaf
 Treats old version new (Some (Beside left removed)) = IsAtBeside old version left removed
 
@@ -210,10 +348,27 @@ CanPass limits version Seek = ⊤
 CanPass limits version (Left removed) = is_removed version.chain ≡ false → right_in version.chain ≡ Some removed.pid → (next : ℕ) → right_in removed.chain ≡ Some next → (0 < next) × (next < limits.pids)
 CanPass limits version Beyond = ⊤
 
+-- The page above is an index page, and the pages that it names are such as there may be.
+pub record HasChildren (limits : Limits) (above : Version) : Type 0 where
+  pub index : 0 < level_in above.chain
+  pub names : NamesPages limits above.chain
+
+-- The removed page is an index page on the way; the pages that it names are such as there may be, where the page is its left one.
+pub record CanGoRound (limits : Limits) (way : List ℕ → Bool) (version removed : Version) : Type 0 where
+  pub index : 0 < level_in removed.chain
+  pub reached : IsTrue (way (low_in removed.chain))
+  pub names : is_removed version.chain ≡ false → right_in version.chain ≡ Some removed.pid → (next : ℕ) → NamesChild removed.chain next → (0 < next) × (next < limits.pids)
+
+-- by the leg of a round
+abbrev pub CanMeet : Limits → (List ℕ → Bool) → Goal → Version → Leg → Type 0
+CanMeet limits way goal version (Down above) = CanPass limits version goal × IfSome above (HasChildren limits)
+CanMeet limits way goal version (Round removed) = CanGoRound limits way version removed
+CanMeet limits way goal version Past = CanPass limits version goal
+
 -- The round has reached the page.
 pub record CanTreat (round : ReadRound) (version : Version) : Type 0 where
-  pub reached : IsReached round.limits (way_of round.goal round.key) version
-  pub passes : CanPass round.limits version round.goal
+  pub reached : IsReached round.limits (way_on round.leg round.goal round.key) version
+  pub meets : CanMeet round.limits (way_of round.goal round.key) round.goal version round.leg
 
 -- a page was found that the round has reached, or none
 abbrev pub CanSee : ReadRound → page_sight.Sight → Type 0
@@ -250,10 +405,11 @@ kept_for kept Beyond = kept
 abbrev pub reads_left : ℕ → ℕ → Recalled → ReadRound → ℕ
 reads_left reserve kept r round = left_from reserve r round.state + kept_for kept round.goal
 
--- Where a page wasn't there, a cause pays, but beyond a removed page, where the reads that were kept are left.
+-- Where a page wasn't there, a cause pays, but where a removed index page was met, and what is reserved is left; beyond a removed leaf
+-- the reads that were kept are.
 abbrev pub Misses : ℕ → ℕ → Recalled → ReadRound → Answer Record → Goal → Type 0
-Misses reserve kept r old told Seek = IsPaid r (wanted old) told
-Misses reserve kept r old told (Left removed) = IsPaid r (wanted old) told
+Misses reserve kept r old told Seek = IsPaid r (wanted old) told ⊎ (reserve < reads_left reserve kept r old)
+Misses reserve kept r old told (Left removed) = IsPaid r (wanted old) told ⊎ (reserve + kept < reads_left reserve kept r old)
 Misses reserve kept r old told Beyond = kept < reads_left reserve kept r old
 
 -- A round that goes on has fewer reads left, or a cause paid for the reserve. Where the round ends at a removed page, the reserve

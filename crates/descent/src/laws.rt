@@ -10,9 +10,6 @@ ghost use Rattle.descent.specs.ReadRounds as reader;
 ghost use Rattle.descent.specs.WriteRounds as writer;
 ghost use Rattle.descent.specs.Walks.{few_reads, with_walk};
 ghost use Rattle.descent.specs.Courses.{Seek};
-ghost use Rattle.descent.specs.Detours.{GoesOnTo, HasRounded};
-ghost use Rattle.descent.specs.Ways.{NamesAt};
-ghost use Rattle.chain_search.specs.Chains.{right_in};
 ghost use Rattle.deltas.specs.declared.record.Hold.{Hold};
 ghost use Rattle.deltas.specs.declared.record.Merge.{Merge};
 ghost use Rattle.deltas.specs.declared.record.Record.{Record};
@@ -100,20 +97,3 @@ pub fn removals_are_due()
 {
     plans_are_due();
 }
-
-/// From the way round a removed page a round goes on to any page that its left page names, or that the removed one names, which stood there.
-pub fn detours_lead_on()
-    ensures past { (limits : Limits) (k : Knowledge) (r : Recalled) (removed page : Version)
-        → HasRounded limits k r removed page
-        → (way : List ℕ → Bool) (next level : ℕ) (low : List ℕ)
-        → NamesAt page.chain next level low
-        → IsTrue (way low)
-        → GoesOnTo limits way k r next level low }
-    ensures through { (limits : Limits) (k : Knowledge) (r : Recalled) (removed left : Version)
-        → HasRounded limits k r removed left
-        → right_in left.chain ≡ Some removed.pid
-        → (way : List ℕ → Bool) (next level : ℕ) (low : List ℕ)
-        → NamesAt removed.chain next level low
-        → IsTrue (way low)
-        → GoesOnTo limits way k r next level low }
-{}
