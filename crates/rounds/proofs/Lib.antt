@@ -1,5 +1,6 @@
 pub mod Placed
 pub mod Seeing
+pub mod LegTurns
 pub mod SmallRounds
 pub mod SmallWriteRounds
 pub mod Turning

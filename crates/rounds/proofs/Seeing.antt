@@ -20,7 +20,7 @@ way_told round told h = record { k = h.k; shows = way_shows round h.k h.r h.show
 
 -- the round with its descent as an answer left it
 abbrev pub after : ReadRound → Descent → ReadRound
-after was now = record { round = record was.round { limits = now.way.limits; state = now.way.state }; page = now.page; aside = was.aside }
+after was now = record { round = record was.round { limits = now.way.limits; state = now.way.state }; page = now.page; aside = was.aside; met = was.met }
 
 module _ (was : ReadRound) (now : Descent) (told : Answer Record) where
   abbrev Moved : Seen → Type 0

@@ -50,11 +50,11 @@ module _ (limits : Limits) (one : Record) (round : reader.ReadRound) (first seco
   seeks : goal_of Seek second ≡ goal.Seek
   seeks = refl
 
-  is_removed : end_of (record { round = round; page = first; aside = second }) Removed ≡ end.Removed first
+  is_removed : end_of (record { round = round; page = first; aside = second; met = second }) Removed ≡ end.Removed first
   is_removed = refl
 
-  is_beside : end_of (record { round = round; page = first; aside = second }) Beside ≡ end.Beside first second
+  is_beside : end_of (record { round = round; page = first; aside = second; met = second }) Beside ≡ end.Beside first second
   is_beside = refl
 
-  goes_on : option_map (end_of (record { round = round; page = first; aside = second })) None ≡ None
+  goes_on : option_map (end_of (record { round = round; page = first; aside = second; met = second })) None ≡ None
   goes_on = refl

@@ -1,8 +1,12 @@
 -- A reader's round in its place: its pages stand in it, and an end names them there.
-use Rattle.std.specs.Prelude.{◌≡◌, Option, Some, None, ⊤}
+use Rattle.std.specs.Prelude.{◌≡◌, ℕ, Option, Some, None, false, ⊤}
 use Rattle.std.specs.Option.{option_map}
+use Rattle.chain_search.specs.Chains.{is_removed, level_in}
 use Rattle.smo.specs.declared.version.Version.{Version}
 use Rattle.descent.specs.ReadRounds as rounds
+use Rattle.descent.specs.ReadLegs.{Leg, Down, Round, Past, IsPlain}
+use Rattle.descent.specs.Walks.{IsReached}
+use Rattle.descent.specs.Ways.{LeadsDown}
 use Rattle.descent.specs.ReadGoals.{Goal}
 use Rattle.descent.specs.ReadGoals as goal
 use Rattle.descent.specs.ReadEnds.{ReadEnd}
@@ -14,11 +18,13 @@ use Rattle.rounds.specs.declared.read_round.Going.TheVariants.{Seek, Left, Beyon
 use Rattle.rounds.specs.declared.read_round.ReadEnded.{ReadEnded}
 use Rattle.rounds.specs.declared.read_round.ReadEnded.TheVariants.{Again, Removed, Leaf, Beside}
 
--- The round, the page in hand, which was read whole last, and the page that is kept aside.
+-- The round, the page in hand, which was read whole last, the page that is kept aside, and the one that stands in the place of the page
+-- above, or of the removed page that the round goes round.
 pub record ReadRound : Type 0 where
   pub round : rounds.ReadRound
   pub page : Version
   pub aside : Version
+  pub met : Version
 
 -- where a round goes first, where the page to whose left it goes is the one that is kept aside
 abbrev pub goal_of : Going → Version → Goal
@@ -44,3 +50,22 @@ abbrev pub Sees : ReadRound → Seen → ReadRound → Option ReadEnded → Type
 Sees old On new result = (new ≡ old) × (result ≡ None)
 Sees old Empty new result = result ≡ Some Again
 Sees old Whole new result = rounds.Treats old.round old.page new.round (option_map (end_of new) result)
+
+-- The page isn't removed, and the round has reached it on the way of its goal.
+pub record CanGoOn (round : rounds.ReadRound) (version : Version) : Type 0 where
+  pub plain : IsPlain round.leg
+  pub alive : is_removed version.chain ≡ false
+  pub reached : IsReached round.limits (rounds.way_of round.goal round.key) version
+  pub passes : rounds.CanPass round.limits version round.goal
+
+-- The page above leads to the left of the page.
+abbrev pub LeadsLeft : Version → Leg → ℕ → Type 0
+LeadsLeft version (Down None) next = ⊥
+LeadsLeft version (Down (Some above)) next = LeadsDown (rounds.left_of version) above.chain next
+LeadsLeft version (Round removed) next = ⊥
+LeadsLeft version Past next = ⊥
+
+-- The page isn't removed, and is of the removed page's level.
+pub record IsOfLevel (version removed : Version) : Type 0 where
+  pub alive : is_removed version.chain ≡ false
+  pub same : level_in version.chain ≡ level_in removed.chain

@@ -4,6 +4,7 @@
 mod asked;
 mod course;
 mod descents;
+mod leg;
 mod page_in_hand;
 mod read_round;
 mod way;
@@ -12,6 +13,7 @@ mod write_round;
 
 pub use asked::Asked;
 pub(crate) use descents::{Descent, Seen};
+pub(crate) use leg::Leg;
 pub use page_in_hand::{Name, PageInHand};
 pub use read_round::{ReadEnded, ReadRound};
 pub use write_ended::WriteEnded;

@@ -1,25 +1,27 @@
 //! A reader's round from the root to the leaf of a key, in places that stay.
-ghost use Rattle.std.specs.Prelude.{◌≡◌, ◌<◌, ℕ, IfOk, IsTrue, MatchOption, None, Some, [], false};
+ghost use Rattle.std.specs.Prelude.{◌≡◌, ◌<◌, ℕ, IfOk, IsTrue, MatchOption, None, Some, [], false, true};
 ghost use Rattle.std.specs.Bool.{Decides};
 ghost use Rattle.std.specs.Option.{option_map};
 ghost use Rattle.bw_model.specs.declared.step.Answer.TheVariants.{Content, Number};
-ghost use Rattle.chain_search.specs.Chains.{is_removed, low_in, right_in};
+ghost use Rattle.chain_search.specs.Chains.{is_removed, level_in, low_in, right_in};
 ghost use Rattle.chain_search.specs.Discipline.{May};
 ghost use Rattle.chain_search.specs.Knowledge.{Knowledge};
 ghost use Rattle.chain_search.specs.Recalled.{Recalled};
-ghost use Rattle.descent.specs.ReadRounds.{CanTreat, IsSame, IsTold, Responds, Shows, Treats, going_to, toward, wanted, way_of};
+ghost use Rattle.descent.specs.ReadLegs.{Down, IsPlain, level_on};
+ghost use Rattle.descent.specs.ReadRounds.{CanTreat, IsSame, IsTold, Responds, Shows, Treats, going_to, on, toward, wanted, way_of};
 ghost use Rattle.descent.specs.Visits.{ReadsWithin};
-ghost use Rattle.descent.specs.Ways.{EndsHere, LeadsOn, precedes};
+ghost use Rattle.descent.specs.Ways.{EndsHere, LeadsDown, LeadsRight, StaysLeft, precedes};
 ghost use Rattle.descent.specs.Descents.{Root};
 ghost use Rattle.descent.specs.ReadGoals as goal;
 ghost use Rattle.rounds.specs.Descents.{step_of};
-ghost use Rattle.rounds.specs.ReadRounds.{CanSee, Sees, end_of};
+ghost use Rattle.rounds.specs.ReadRounds.{CanGoOn, CanSee, Sees, end_of};
 
+mod detour;
 #[cfg(test)]
 mod tests;
 
-use crate::way::{next_on_way, right_on_way};
-use crate::{Asked, Descent, PageInHand, Seen};
+use crate::way::{child_on_way, right_on_way};
+use crate::{Asked, Descent, Leg, PageInHand, Seen};
 use bw_model::{Key, Limits};
 use row_chain::HeldRow;
 use row_search::KeyWords;
@@ -29,9 +31,9 @@ use std::marker::Model;
 /// How a reader's round ends. The pages that an end is about stand in the round.
 #[derive(Clone, Copy, Debug, PartialEq, Eq)]
 pub enum ReadEnded {
-    /// A page that was named isn't there: a new round begins.
+    /// A page that was named isn't there, or the round can't go round a removed index page: a new round begins.
     Again,
-    /// The page in hand, which is on the way, is removed: a round to the left of it begins.
+    /// The page in hand, which is on the way, is a removed leaf: a round to the left of it begins.
     Removed,
     /// The page in hand is the leaf that has the key in its range.
     Leaf,
@@ -56,6 +58,7 @@ pub(crate) enum Going {
 pub struct ReadRound<A: Allocator = Global> {
     key: KeyWords,
     going: Going,
+    leg: Leg<A>,
     aside: PageInHand<A>,
     descent: Descent<A>,
 }
@@ -65,18 +68,19 @@ impl<A: Allocator> Model for ReadRound<A> {
 
     ghost Value = { ReadRound };
 
-    ghost view = { λ r. record { round = record { limits = r.descent.way.limits; key = r.key; goal = goal_of r.going r.aside; state = r.descent.way.state }; page = r.descent.page; aside = r.aside } };
+    ghost view = { λ r. record { round = record { limits = r.descent.way.limits; key = r.key; goal = goal_of r.going r.aside; leg = r.leg.leg; state = r.descent.way.state }; page = r.descent.page; aside = r.aside; met = r.leg.page } };
 }
 
 impl<A: Allocator + Copy> ReadRound<A> {
-    /// The round to the leaf of the lowest key, before its first step. Takes the memory for the rows of three pages, 78 KB, and is
+    /// The round to the leaf of the lowest key, before its first step. Takes the memory for the rows of four pages, 104 KB, and is
     /// refused for want of it alone. No later call takes memory.
     pub fn new(alloc: A, limits: &Limits) -> Result<ReadRound<A>, AllocError>
-        ensures { IfOk result (λ round. round.round ≡ record { limits = limits.now; key = []; goal = goal.Seek; state = Root }) }
+        ensures { IfOk result (λ round. round.round ≡ record { limits = limits.now; key = []; goal = goal.Seek; leg = Down None; state = Root }) }
     {
         Ok(ReadRound {
             key: KeyWords::of(&Key::default()),
             going: Going::Seek,
+            leg: Leg::<A>::new(alloc)?,
             aside: PageInHand::<A>::new(alloc)?,
             descent: Descent::<A>::new(alloc, limits)?,
         })
@@ -93,22 +97,24 @@ impl<A: Allocator> ReadRound<A> {
 
     /// Begins a round to the leaf of a key.
     pub fn restart(&mut self, key: &Key)
-        ensures { self.new ≡ record self.old { round = record { limits = self.old.round.limits; key = key.now; goal = goal.Seek; state = Root } } }
+        ensures { self.new ≡ record self.old { round = record { limits = self.old.round.limits; key = key.now; goal = goal.Seek; leg = Down None; state = Root } } }
     {
         self.key = KeyWords::of(key);
         self.going = Going::Seek;
+        self.leg.restart();
         self.descent.restart();
     }
 
     /// Begins a round that goes to the left of the page in hand first. That page is kept aside, and the one that was there before
     /// is in hand.
     pub fn go_left(&mut self)
-        ensures round { self.new.round ≡ record self.old.round { goal = goal.Left self.old.page; state = Root } }
+        ensures round { self.new.round ≡ record self.old.round { goal = goal.Left self.old.page; leg = Down None; state = Root } }
         ensures aside { self.new.aside ≡ self.old.page }
         ensures page { self.new.page ≡ self.old.aside }
     {
         self.descent.swap_page(&mut self.aside);
         self.going = Going::Left;
+        self.leg.restart();
         self.descent.restart();
     }
 
@@ -174,43 +180,90 @@ impl<A: Allocator> ReadRound<A> {
         ensures treats { Treats self.old.round self.old.page self.new.round (option_map (end_of self.new) result) }
         ensures same { IsSame self.old.round self.new.round }
     {
+        if self.leg.is_round() {
+            return self.come_nearer();
+        }
         if self.page().chain().is_removed() {
-            return Some(ReadEnded::Removed);
+            return self.meet_removed();
         }
-        match self.next_page() {
-            Some(pid) => {
-                self.descent.go_to(pid);
-                None
-            }
-            None => self.end(),
-        }
+        self.go_on()
     }
 
-    /// The next page on the way from the page in hand; none at the leaf where the way ends.
-    fn next_page(&self) -> Option<u16>
-        requires reached { IsTrue (way_of self.now.round.goal self.now.round.key (low_in self.now.page.chain)) }
-        ensures { MatchOption result (EndsHere (way_of self.now.round.goal self.now.round.key) self.now.page.chain) (LeadsOn (way_of self.now.round.goal self.now.round.key) self.now.page.chain) }
+    /// Goes on from the page in hand, which isn't removed, or ends there.
+    fn go_on(&mut self) -> Option<ReadEnded>
+        requires can { CanGoOn self.old.round self.old.page }
+        ensures treats { Treats self.old.round self.old.page self.new.round (option_map (end_of self.new) result) }
+        ensures same { IsSame self.old.round self.new.round }
+    {
+        if let Some(right) = self.next_aside() {
+            self.descent.go_to(right);
+            return None;
+        }
+        if self.page().chain().level() == 0 {
+            return self.end();
+        }
+        self.go_below();
+        None
+    }
+
+    /// The page's right, where the page in hand ends on the way.
+    fn next_aside(&self) -> Option<u16>
+        ensures { MatchOption result (StaysLeft (way_of self.now.round.goal self.now.round.key) self.now.page.chain) (LeadsRight (way_of self.now.round.goal self.now.round.key) self.now.page.chain) }
     {
         match self.going {
-            Going::Left => self.next_to_the_left(),
-            Going::Seek | Going::Beyond => next_on_way(self.page().chain(), &self.key, false),
+            Going::Left => self.right_to_the_left(),
+            Going::Seek | Going::Beyond => right_on_way(self.page().chain(), &self.key, false),
         }
     }
 
     /// The same on the way to the left of the page that is kept aside.
     #[inline(never)]
-    fn next_to_the_left(&self) -> Option<u16>
-        requires reached { IsTrue (precedes (low_in self.now.aside.chain) (low_in self.now.page.chain)) }
-        ensures { MatchOption result (EndsHere (precedes (low_in self.now.aside.chain)) self.now.page.chain) (LeadsOn (precedes (low_in self.now.aside.chain)) self.now.page.chain) }
+    fn right_to_the_left(&self) -> Option<u16>
+        ensures { MatchOption result (StaysLeft (precedes (low_in self.now.aside.chain)) self.now.page.chain) (LeadsRight (precedes (low_in self.now.aside.chain)) self.now.page.chain) }
     {
         let low = KeyWords::of(&self.aside.chain().low());
-        next_on_way(self.page().chain(), &low, true)
+        right_on_way(self.page().chain(), &low, true)
+    }
+
+    /// Goes down to a child of the page in hand, which is the page above from then on.
+    fn go_below(&mut self)
+        requires can { CanGoOn self.old.round self.old.page }
+        requires stays { StaysLeft (way_of self.old.round.goal self.old.round.key) self.old.page.chain }
+        requires index { 0 < level_in self.old.page.chain }
+        ensures treats { Treats self.old.round self.old.page self.new.round None }
+        ensures same { IsSame self.old.round self.new.round }
+    {
+        let child = self.next_below();
+        self.leg.go_below(&mut self.descent);
+        self.descent.go_to(child);
+    }
+
+    /// The child of the greatest term on the way.
+    fn next_below(&self) -> u16
+        requires index { 0 < level_in self.now.page.chain }
+        requires reached { IsTrue (way_of self.now.round.goal self.now.round.key (low_in self.now.page.chain)) }
+        ensures { LeadsDown (way_of self.now.round.goal self.now.round.key) self.now.page.chain result }
+    {
+        match self.going {
+            Going::Left => self.child_to_the_left(),
+            Going::Seek | Going::Beyond => child_on_way(self.page().chain(), &self.key, false),
+        }
+    }
+
+    /// The same on the way to the left of the page that is kept aside.
+    #[inline(never)]
+    fn child_to_the_left(&self) -> u16
+        requires index { 0 < level_in self.now.page.chain }
+        requires reached { IsTrue (precedes (low_in self.now.aside.chain) (low_in self.now.page.chain)) }
+        ensures { LeadsDown (precedes (low_in self.now.aside.chain)) self.now.page.chain result }
+    {
+        let low = KeyWords::of(&self.aside.chain().low());
+        child_on_way(self.page().chain(), &low, true)
     }
 
     /// Ends at the leaf where the way ends; to the left of a removed page, passes that page.
     fn end(&mut self) -> Option<ReadEnded>
-        requires can { CanTreat self.old.round self.old.page }
-        requires alive { is_removed self.old.page.chain ≡ false }
+        requires can { CanGoOn self.old.round self.old.page }
         requires ends { EndsHere (way_of self.old.round.goal self.old.round.key) self.old.page.chain }
         ensures treats { Treats self.old.round self.old.page self.new.round (option_map (end_of self.new) result) }
         ensures same { IsSame self.old.round self.new.round }
@@ -224,8 +277,7 @@ impl<A: Allocator> ReadRound<A> {
     /// Ends beside the removed page, or goes on to the right of it; where it was merged, goes on for the key.
     #[inline(never)]
     fn pass(&mut self) -> Option<ReadEnded>
-        requires can { CanTreat (toward (goal.Left self.old.aside) self.old.round) self.old.page }
-        requires alive { is_removed self.old.page.chain ≡ false }
+        requires can { CanGoOn (toward (goal.Left self.old.aside) self.old.round) self.old.page }
         requires ends { EndsHere (precedes (low_in self.old.aside.chain)) self.old.page.chain }
         ensures treats { Treats (toward (goal.Left self.old.aside) self.old.round) self.old.page self.new.round (option_map (end_of self.new) result) }
         ensures same { IsSame self.old.round self.new.round }
@@ -256,10 +308,11 @@ impl<A: Allocator> ReadRound<A> {
     fn go_beyond(&mut self, right: u16) -> Option<ReadEnded>
         requires some { 0 < right }
         requires below { right < self.old.round.limits.pids }
-        ensures goes { self.new ≡ record self.old { round = going_to right (toward goal.Beyond self.old.round) } }
+        ensures goes { self.new ≡ record self.old { round = going_to right (on (level_on self.old.round.leg) (toward goal.Beyond self.old.round)) } }
         ensures none { result ≡ None }
     {
         self.going = Going::Beyond;
+        self.leg.stay_on_level();
         self.descent.go_to(right);
         None
     }

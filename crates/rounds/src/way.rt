@@ -2,29 +2,11 @@
 ghost use Rattle.std.specs.Prelude.{◌≡◌, ◌<◌, IsFalse, IsTrue, MatchOption};
 ghost use Rattle.bw_model.specs.Bytes.{is_below};
 ghost use Rattle.chain_search.specs.Chains.{high_in, level_in, low_in};
-ghost use Rattle.descent.specs.Ways.{EndsHere, LeadsDown, LeadsOn, LeadsRight, StaysLeft, passes};
+ghost use Rattle.descent.specs.Ways.{LeadsDown, LeadsRight, StaysLeft, passes};
 
 use row_chain::Chain;
 use row_search::KeyWords;
 use std::alloc::Allocator;
-
-/// The next page on the way: the right, or else a child; none at the leaf where the way ends.
-pub(crate) fn next_on_way<A: Allocator>(
-    chain: &Chain<A>,
-    key: &KeyWords,
-    below: bool,
-) -> Option<u16>
-    requires reached { IsTrue (passes below key.now (low_in chain.now)) }
-    ensures { MatchOption result (EndsHere (passes below key.now) chain.now) (LeadsOn (passes below key.now) chain.now) }
-{
-    if let Some(right) = right_on_way(chain, key, below) {
-        return Some(right);
-    }
-    if chain.level() == 0 {
-        return None;
-    }
-    Some(child_on_way(chain, key, below))
-}
 
 /// The page's right, where the page ends on the way.
 pub(crate) fn right_on_way<A: Allocator>(
@@ -41,11 +23,10 @@ pub(crate) fn right_on_way<A: Allocator>(
     None
 }
 
-/// The child of the greatest term on the way.
+/// The child of the greatest term on the way, also where the page ends on it.
 pub(crate) fn child_on_way<A: Allocator>(chain: &Chain<A>, key: &KeyWords, below: bool) -> u16
     requires index { 0 < level_in chain.now }
     requires reached { IsTrue (passes below key.now (low_in chain.now)) }
-    requires stays { StaysLeft (passes below key.now) chain.now }
     ensures { LeadsDown (passes below key.now) chain.now result }
 {
     chain.keeps_rules();

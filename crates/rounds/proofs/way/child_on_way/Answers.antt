@@ -1,8 +1,10 @@
-use Rattle.std.proofs.Common.{true, false}
+use Rattle.std.proofs.Common.{true, false, None}
 use Rattle.std.specs.Prelude.{IsTrue}
-use Rattle.chain_search.specs.Chains.{low_in}
-use Rattle.descent.specs.Ways.{StaysLeft, passes}
-use Rattle.descent.proofs.WayLaws.{covers_here, goes_down}
+use Rattle.base_page.specs.Places.{IsGreatestChild}
+use Rattle.chain_search.specs.Chains.{content_in, low_in}
+use Rattle.chain_search.proofs.FittedLaws.{has_child}
+use Rattle.descent.specs.Ways.{passes}
+use Rattle.descent.proofs.WayLaws.{goes_down}
 use Rattle.rounds.proofs.way.child_on_way.Goals as goal
 
 pub returns-then-below : goal.returns-then-below
@@ -14,7 +16,5 @@ returns g c = rw c.if-below.false (goes_down (passes false c.args.key.now) c.arg
 pub unreachable-requires-in-None-child_of : goal.unreachable-requires-in-None-child_of
 unreachable-requires-in-None-child_of g c =
     let reached : IsTrue (passes false c.args.key.now (low_in c.args.chain.now)) = rw c.if-below.false at c.requires.reached in
-    let stays : StaysLeft (passes false c.args.key.now) c.args.chain.now = rw c.if-below.false at c.requires.stays in
-    let covered = covers_here c.args.key.now c.args.chain.now reached stays in
-    let some = c.in-None-child_of.ensures.index c.requires.index covered in
+    let some = has_child c.args.chain.now (passes false c.args.key.now) c.keeps_rules.ensures.fitted c.requires.index reached (IsGreatestChild (content_in c.args.chain.now) (passes false c.args.key.now)) None c.in-None-child_of.ensures.child in
     cc

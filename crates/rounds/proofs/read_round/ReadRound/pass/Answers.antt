@@ -9,21 +9,21 @@ pub returns-in-Some-clause-treats : goal.returns-in-Some-clause-treats
 returns-in-Some-clause-treats g c =
     let beside : right_in c.args.self.now.page.chain ≡ Some c.args.self.now.aside.pid = c.is_beside.ensures.0 c.if-is_beside.true in
     let leads : LeadsRight (reaches c.self.inside.key) c.self.inside.aside.chain c.in-Some.right = subst (λ (chain : List Record). LeadsRight (reaches c.self.inside.key) chain c.in-Some.right) c.chain.ensures c.in-Some.ensures in
-    rw (c.go_beyond.ensures.none, c.go_beyond.ensures.goes) (inr (inl (record {
+    rw (c.go_beyond.ensures.none, c.go_beyond.ensures.goes) (inr (inr (inl (record {
       removed = c.args.self.now.aside;
-      left = record { goal = refl; alive = c.requires.alive; ends = c.requires.ends };
+      left = record { plain = c.requires.can.plain; goal = refl; alive = c.requires.can.alive; ends = c.requires.ends };
       beside = beside;
       next = c.in-Some.right;
       leads = rw (← c.self.view_is) leads;
       goes = rw (← c.self.view_is) refl;
-    })))
+    }))))
 
 pub returns-in-None-right_on_way-clause-treats : goal.returns-in-None-right_on_way-clause-treats
 returns-in-None-right_on_way-clause-treats g c =
     let merged : right_in c.args.self.now.page.chain ≢ Some c.args.self.now.aside.pid = λ e. let beside = c.is_beside.ensures.1 e in let not = c.if-is_beside.false in cc in
     let is : c.chain-2.result.now ≡ c.self.inside.descent.page.chain = c.chain-2.ensures ∙ ap (λ (v : Version). v.chain) c.page.ensures in
     let stays : StaysLeft (reaches c.self.inside.key) c.self.inside.descent.page.chain = subst (λ (chain : List Record). StaysLeft (reaches c.self.inside.key) chain) is c.in-None-right_on_way.ensures in
-    inr (record { is = refl; removed = c.args.self.now.aside; left = record { goal = refl; alive = c.requires.alive; ends = c.requires.ends }; merged = merged; stays = rw (← c.self.view_is) stays })
+    inr (record { is = refl; removed = c.args.self.now.aside; left = record { plain = c.requires.can.plain; goal = refl; alive = c.requires.can.alive; ends = c.requires.ends }; merged = merged; stays = rw (← c.self.view_is) stays })
 
 pub returns-in-Some-right_on_way-clause-treats : goal.returns-in-Some-right_on_way-clause-treats
 returns-in-Some-right_on_way-clause-treats g c =
@@ -31,11 +31,11 @@ returns-in-Some-right_on_way-clause-treats g c =
     let right = c.in-Some-right_on_way.right in
     let is : c.chain-2.result.now ≡ c.self.inside.descent.page.chain = c.chain-2.ensures ∙ ap (λ (v : Version). v.chain) c.page.ensures in
     let leads : LeadsRight (reaches c.self.inside.key) c.self.inside.descent.page.chain right = subst (λ (chain : List Record). LeadsRight (reaches c.self.inside.key) chain right) is c.in-Some-right_on_way.ensures in
-    rw (c.go_beyond-in-Some-right_on_way.ensures.none, c.go_beyond-in-Some-right_on_way.ensures.goes) (inr (inr (record {
+    rw (c.go_beyond-in-Some-right_on_way.ensures.none, c.go_beyond-in-Some-right_on_way.ensures.goes) (inr (inr (inr (inl (record {
       removed = c.args.self.now.aside;
-      left = record { goal = refl; alive = c.requires.alive; ends = c.requires.ends };
+      left = record { plain = c.requires.can.plain; goal = refl; alive = c.requires.can.alive; ends = c.requires.ends };
       merged = merged;
       next = right;
       leads = rw (← c.self.view_is) leads;
       goes = rw (← c.self.view_is) refl;
-    })))
+    })))))

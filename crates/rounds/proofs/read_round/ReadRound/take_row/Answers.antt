@@ -6,17 +6,19 @@ use Rattle.rounds.proofs.read_round.ReadRound.take_row.Goals as goal
 pub see-requires : goal.see-requires
 see-requires g c =
     let was : ReadRound = record {
-      round = record { limits = c.self.inside.descent.way.limits; key = c.self.inside.key; goal = goal_of c.self.inside.going c.self.inside.aside; state = c.self.inside.descent.way.state };
+      round = record { limits = c.self.inside.descent.way.limits; key = c.self.inside.key; goal = goal_of c.self.inside.going c.self.inside.aside; leg = c.self.inside.leg.leg; state = c.self.inside.descent.way.state };
       page = c.self.inside.descent.page;
       aside = c.self.inside.aside;
+      met = c.self.inside.leg.page;
     } in
     record { can = can_see_now was c.take_row-seen.new.self (Content c.args.row.now) c.take_row-seen.result c.take_row-seen.ensures.responds c.take_row-seen.ensures.limits (rw (← c.self.view_is) at c.requires.told) }
 
 pub returns-clause-responds : goal.returns-clause-responds
 returns-clause-responds g c =
     let was : ReadRound = record {
-      round = record { limits = c.self.inside.descent.way.limits; key = c.self.inside.key; goal = goal_of c.self.inside.going c.self.inside.aside; state = c.self.inside.descent.way.state };
+      round = record { limits = c.self.inside.descent.way.limits; key = c.self.inside.key; goal = goal_of c.self.inside.going c.self.inside.aside; leg = c.self.inside.leg.leg; state = c.self.inside.descent.way.state };
       page = c.self.inside.descent.page;
       aside = c.self.inside.aside;
+      met = c.self.inside.leg.page;
     } in
     rw (← c.self.view_is) (responds_now was c.take_row-seen.new.self (Content c.args.row.now) c.take_row-seen.result c.see.new.self c.see.result c.take_row-seen.ensures.responds c.take_row-seen.ensures.limits c.see.ensures.sees)

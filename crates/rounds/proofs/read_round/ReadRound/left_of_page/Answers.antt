@@ -1,0 +1,17 @@
+use Rattle.std.proofs.Common.{rules, ◌≡◌, Some, true}
+use Rattle.std.specs.Prelude.{MatchOption}
+use Rattle.base_page.specs.Places.{HasNoChild, IsGreatestChild}
+use Rattle.chain_search.specs.Chains.{content_in, low_in}
+use Rattle.smo.specs.declared.version.Version.{Version}
+use Rattle.descent.specs.ReadLegs.{Down}
+use Rattle.descent.specs.ReadRounds.{left_of}
+use Rattle.rounds.proofs.LegTurns.{leads_left}
+use Rattle.rounds.proofs.read_round.ReadRound.left_of_page.Goals as goal
+
+pub returns : goal.returns
+returns g c =
+    let old = c.args.self.now in
+    let above : old.round.leg ≡ Down (Some old.met) = search rules in
+    let low : c.of-low.result ≡ low_in old.page.chain = search rules in
+    let chain : c.chain-above.result.now ≡ old.met.chain = search rules in
+    leads_left old.page old.met c.child_below.result (rw chain at c.keeps_rules.ensures.fitted) (rw (chain, low) at c.child_below.ensures.child) old.round.leg above

@@ -1,0 +1,118 @@
+//! On which leg of its way a reader's round is, over a place for a page.
+ghost use Rattle.std.specs.Prelude.{◌≡◌, None, Some, IfOk, MatchOption, ⊤, false, true};
+ghost use Rattle.descent.specs.ReadLegs.{Down, IsPlain, Past, Round, below, level_on};
+ghost use Rattle.rounds.specs.Legs.{IsPlainWithout};
+
+use crate::{Descent, PageInHand};
+use std::alloc::{AllocError, Allocator, Global};
+use std::marker::Model;
+
+/// On which leg a round is.
+#[derive(Clone, Copy, Debug, PartialEq, Eq)]
+pub(crate) enum On {
+    /// Down, with no page above.
+    Top,
+    /// Down from the page above, which stands in the place.
+    Below,
+    /// Round the removed index page that stands in the place.
+    Round,
+    /// On from a removed index page.
+    Past,
+}
+
+/// The leg on which a round is, with a place for the page above, or for the removed page that the round goes round.
+#[derive(Drop)]
+pub(crate) struct Leg<A: Allocator = Global> {
+    on: On,
+    page: PageInHand<A>,
+}
+
+impl<A: Allocator> Model for Leg<A> {
+    ghost use Rattle.rounds.specs.Legs.{Leg, leg_of};
+
+    ghost Value = { Leg };
+
+    ghost view = { λ l. record { leg = leg_of l.on l.page; page = l.page } };
+}
+
+impl<A: Allocator + Copy> Leg<A> {
+    /// Down, with no page above. Takes the memory for the rows of a page, 26 KB, and is refused for want of it alone. No later call
+    /// takes memory.
+    pub(crate) fn new(alloc: A) -> Result<Leg<A>, AllocError>
+        ensures { IfOk result (λ leg. leg.leg ≡ Down None) }
+    {
+        Ok(Leg {
+            on: On::Top,
+            page: PageInHand::<A>::new(alloc)?,
+        })
+    }
+}
+
+impl<A: Allocator> Leg<A> {
+    /// Begins again, with no page above.
+    pub(crate) fn restart(&mut self)
+        ensures { self.new ≡ record self.old { leg = Down None } }
+    {
+        self.on = On::Top;
+    }
+
+    /// The page that stands in the place.
+    pub(crate) fn page(&self) -> &PageInHand<A>
+        ensures { result.now ≡ self.now.page }
+    {
+        &self.page
+    }
+
+    /// Whether the round is on its way round the removed page that stands in the place.
+    pub(crate) fn is_round(&self) -> bool
+        ensures round { result ≡ true → self.now.leg ≡ Round self.now.page }
+        ensures plain { result ≡ false → IsPlain self.now.leg }
+    {
+        self.on == On::Round
+    }
+
+    /// Whether the page above stands in the place.
+    pub(crate) fn has_above(&self) -> bool
+        ensures above { result ≡ true → self.now.leg ≡ Down (Some self.now.page) }
+        ensures none { result ≡ false → IsPlain self.now.leg → IsPlainWithout self.now.leg }
+    {
+        self.on == On::Below
+    }
+
+    /// Keeps the page in hand as the page above, from which the round goes down.
+    pub(crate) fn go_below(&mut self, descent: &mut Descent<A>)
+        requires plain { IsPlain self.old.leg }
+        ensures leg { self.new.leg ≡ below descent.old.page self.old.leg }
+        ensures way { descent.new.way ≡ descent.old.way }
+    {
+        if self.on != On::Past {
+            self.on = On::Below;
+            descent.swap_page(&mut self.page);
+        }
+    }
+
+    /// Keeps no page above.
+    pub(crate) fn stay_on_level(&mut self)
+        ensures { self.new ≡ record self.old { leg = level_on self.old.leg } }
+    {
+        if self.on == On::Below {
+            self.on = On::Top;
+        }
+    }
+
+    /// Goes round the page in hand, which is removed.
+    pub(crate) fn go_round(&mut self, descent: &mut Descent<A>)
+        ensures leg { self.new.leg ≡ Round descent.old.page }
+        ensures way { descent.new.way ≡ descent.old.way }
+    {
+        self.on = On::Round;
+        descent.swap_page(&mut self.page);
+    }
+
+    /// Goes on from the removed page.
+    pub(crate) fn pass(&mut self)
+        ensures { self.new ≡ record self.old { leg = Past } }
+    {
+        self.on = On::Past;
+    }
+}

@@ -1,0 +1,135 @@
+//! The way of a reader's round round a removed index page, to the page on its left.
+ghost use Rattle.std.specs.Prelude.{◌≡◌, ◌≢◌, ◌<◌, IsTrue, MatchOption, Some, true};
+ghost use Rattle.std.specs.Bool.{Decides};
+ghost use Rattle.std.specs.Option.{option_map};
+ghost use Rattle.chain_search.specs.Chains.{is_removed, level_in, low_in, right_in};
+ghost use Rattle.descent.specs.ReadLegs.{IsPlain, Round};
+ghost use Rattle.descent.specs.ReadRounds.{CanTreat, IsSame, LacksLeft, Treats, left_of, way_of};
+ghost use Rattle.descent.specs.Ways.{LeadsDown, LeadsOn, LeadsRight, StaysLeft};
+ghost use Rattle.rounds.specs.ReadRounds.{IsOfLevel, LeadsLeft, end_of};
+
+use super::{Going, ReadEnded, ReadRound};
+use crate::way::{child_on_way, right_on_way};
+use row_search::KeyWords;
+use std::alloc::Allocator;
+
+impl<A: Allocator> ReadRound<A> {
+    /// Ends at a removed leaf; goes round a removed index page, where the page above leads to the left of it.
+    #[inline(never)]
+    pub(super) fn meet_removed(&mut self) -> Option<ReadEnded>
+        requires can { CanTreat self.old.round self.old.page }
+        requires plain { IsPlain self.old.round.leg }
+        requires gone { is_removed self.old.page.chain ≡ true }
+        ensures treats { Treats self.old.round self.old.page self.new.round (option_map (end_of self.new) result) }
+        ensures same { IsSame self.old.round self.new.round }
+    {
+        if self.page().chain().level() == 0 {
+            return Some(ReadEnded::Removed);
+        }
+        match self.left_of_page() {
+            None => Some(ReadEnded::Again),
+            Some(left) => {
+                self.leg.go_round(&mut self.descent);
+                self.descent.go_to(left);
+                None
+            }
+        }
+    }
+
+    /// The child of the greatest term below the page in hand that the page above has, where there is one.
+    fn left_of_page(&self) -> Option<u16>
+        requires plain { IsPlain self.now.round.leg }
+        ensures { MatchOption result (LacksLeft self.now.page self.now.round.leg) (LeadsLeft self.now.page self.now.round.leg) }
+    {
+        if !self.leg.has_above() {
+            return None;
+        }
+        let low = KeyWords::of(&self.page().chain().low());
+        let above = self.leg.page().chain();
+        above.keeps_rules();
+        above.child_below(&low)
+    }
+
+    /// On the way round a removed page, goes on to the right of the page in hand, or down from the removed page, which it has to its
+    /// right; where that one was merged, goes on from the page in hand.
+    #[inline(never)]
+    pub(super) fn come_nearer(&mut self) -> Option<ReadEnded>
+        requires can { CanTreat self.old.round self.old.page }
+        requires round { self.old.round.leg ≡ Round self.old.met }
+        ensures treats { Treats self.old.round self.old.page self.new.round (option_map (end_of self.new) result) }
+        ensures same { IsSame self.old.round self.new.round }
+    {
+        if !self.is_of_level() {
+            return Some(ReadEnded::Again);
+        }
+        if let Some(right) = self.right_before() {
+            self.descent.go_to(right);
+            return None;
+        }
+        let next = self.next_past();
+        self.leg.pass();
+        self.descent.go_to(next);
+        None
+    }
+
+    /// Whether the page in hand isn't removed, and is of the removed page's level.
+    fn is_of_level(&self) -> bool
+        ensures { Decides result (IsOfLevel self.now.page self.now.met) }
+    {
+        let page = self.descent.page().chain();
+        !page.is_removed() && page.level() == self.leg.page().chain().level()
+    }
+
+    /// The right of the page in hand, where that page ends to the left of the removed one.
+    fn right_before(&self) -> Option<u16>
+        ensures { MatchOption result (StaysLeft (left_of self.now.met) self.now.page.chain) (LeadsRight (left_of self.now.met) self.now.page.chain) }
+    {
+        let low = KeyWords::of(&self.leg.page().chain().low());
+        right_on_way(self.page().chain(), &low, true)
+    }
+
+    /// The next page, where the page in hand doesn't end to the left of the removed one: a child of that one, where the page in hand has
+    /// it as its right; else the next page from the page in hand.
+    fn next_past(&self) -> u16
+        requires reached { IsTrue (left_of self.now.met (low_in self.now.page.chain)) }
+        requires level { IsOfLevel self.now.page self.now.met }
+        requires index { 0 < level_in self.now.met.chain }
+        requires on_way { IsTrue (way_of self.now.round.goal self.now.round.key (low_in self.now.met.chain)) }
+        ensures through { right_in self.now.page.chain ≡ Some self.now.met.pid → LeadsDown (way_of self.now.round.goal self.now.round.key) self.now.met.chain result }
+        ensures past { right_in self.now.page.chain ≢ Some self.now.met.pid → LeadsOn (way_of self.now.round.goal self.now.round.key) self.now.page.chain result }
+    {
+        if self.has_removed_aside() {
+            return self.child_of_removed();
+        }
+        match self.next_aside() {
+            Some(right) => right,
+            None => self.next_below(),
+        }
+    }
+
+    /// Whether the removed page is the right of the page in hand.
+    fn has_removed_aside(&self) -> bool
+        ensures { Decides result (right_in self.now.page.chain ≡ Some self.now.met.pid) }
+    {
+        match self.descent.page().chain().right() {
+            Some(right) => right == self.leg.page().pid(),
+            None => false,
+        }
+    }
+
+    /// The child of the greatest term on the way that the removed page has.
+    fn child_of_removed(&self) -> u16
+        requires index { 0 < level_in self.now.met.chain }
+        requires on_way { IsTrue (way_of self.now.round.goal self.now.round.key (low_in self.now.met.chain)) }
+        ensures { LeadsDown (way_of self.now.round.goal self.now.round.key) self.now.met.chain result }
+    {
+        let removed = self.leg.page().chain();
+        match self.going {
+            Going::Left => {
+                let low = KeyWords::of(&self.aside.chain().low());
+                child_on_way(removed, &low, true)
+            }
+            Going::Seek | Going::Beyond => child_on_way(removed, &self.key, false),
+        }
+    }
+}
