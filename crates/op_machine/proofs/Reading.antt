@@ -32,7 +32,7 @@ of_visit pid (at_visit.Row head row) = inr (row, refl)
 pub reader_reads : (round : read.ReadRound) (k : Knowledge) (r : Recalled) → read.Shows round k r → IsReading (read.wanted round)
 reader_reads round k r shows = go round.state shows
   where
-    go : (state : State) → read.ShowsState round.limits round.key round.goal k r state → IsReading (wanted_at state)
+    go : (state : State) → read.ShowsState round.limits round.key round.goal round.leg k r state → IsReading (wanted_at state)
     go Root h = inl (0, refl)
     go (Page visit) h = of_visit visit.pid visit.state
 

@@ -48,8 +48,8 @@ module _ (task : Task) (spares : Spares) (k : Knowledge) (r : Recalled) (round n
 
   -- where a page wasn't there
   missed : (goal : Goal) → round.goal ≡ goal → read.Misses left_round one_round r round told goal → IsStepSpent r (read.wanted round) told (left_at r spares (at.Read round)) one_round
-  missed read_to.Seek is paid = inr (paid, omega arith)
-  missed (read_to.Left removed) is paid = inr (paid, omega arith)
+  missed read_to.Seek is either = elim either [ inl paid ↦ inr (paid, omega arith) | inr left ↦ inl (omega (arith, left)) ]
+  missed (read_to.Left removed) is either = elim either [ inl paid ↦ inr (paid, omega arith) | inr left ↦ inl (omega (arith, left)) ]
   missed read_to.Beyond is kept = inl (omega (arith, kept))
 
   pub read_went : read.Spends left_round one_round r round told new None → IsStepSpent r (read.wanted round) told (left_at r spares (at.Read round)) (left_at (recall r (read.wanted round) told) spares (at.Read new))

@@ -7,6 +7,7 @@ ghost use Rattle.bw_model.specs.declared.step.Answer.TheVariants.{Content, Numbe
 ghost use Rattle.chain_search.specs.Knowledge.{Knowledge};
 ghost use Rattle.chain_search.specs.Recalled.{Recalled};
 ghost use Rattle.descent.specs.Courses as course;
+ghost use Rattle.descent.specs.ReadLegs.{Down};
 ghost use Rattle.descent.specs.ReadRounds as read;
 ghost use Rattle.descent.specs.Visits.{reads_on};
 ghost use Rattle.descent.specs.WriteRounds as write;
@@ -26,7 +27,7 @@ ghost use Rattle.rounds.specs.WriteRounds as writes;
 ghost use Rattle.rounds.specs.WriteRounds.{again_if};
 
 use crate::task::Task;
-use crate::then::Then;
+use crate::then::{Then, copied};
 use bw_model::{Key, Limits, Reply, Step, Told};
 use deltas::{Record, Remove};
 use installs::{Change, End, Plan, Spares};
@@ -67,7 +68,7 @@ impl<A: Allocator> Model for Places<A> {
 }
 
 impl<A: Allocator + Copy> Places<A> {
-    /// Places in which nothing was done yet. Takes the memory for the rows of both rounds, 182 KB, and is refused for want of it
+    /// Places in which nothing was done yet. Takes the memory for the rows of both rounds, 208 KB, and is refused for want of it
     /// alone. No later call takes memory.
     pub(crate) fn new(alloc: A, limits: &Limits) -> Result<Places<A>, AllocError>
         ensures reader { IfOk result (λ places. places.reader.round.limits ≡ limits.now) }
@@ -146,7 +147,7 @@ impl<A: Allocator> Places<A> {
 
     /// A reader's round to the leaf of the key begins.
     pub(crate) fn read(&mut self, key: &Key)
-        ensures { self.new ≡ record self.old { stand = Stand.Read; reader = record self.old.reader { round = record { limits = self.old.reader.round.limits; key = key.now; goal = goal.Seek; state = Root } } } }
+        ensures { self.new ≡ record self.old { stand = Stand.Read; reader = record self.old.reader { round = record { limits = self.old.reader.round.limits; key = key.now; goal = goal.Seek; leg = Down None; state = Root } } } }
     {
         self.reader.restart(key);
         self.stand = Stand::Read;
@@ -156,7 +157,7 @@ impl<A: Allocator> Places<A> {
     #[inline(never)]
     pub(crate) fn read_left(&mut self)
         ensures stand { self.new.stand ≡ Stand.Read }
-        ensures round { self.new.reader.round ≡ record self.old.reader.round { goal = goal.Left self.old.reader.page; state = Root } }
+        ensures round { self.new.reader.round ≡ record self.old.reader.round { goal = goal.Left self.old.reader.page; leg = Down None; state = Root } }
         ensures writer { self.new.writer ≡ self.old.writer }
     {
         self.reader.go_left();
@@ -235,7 +236,7 @@ impl<A: Allocator> Places<A> {
         requires leaving { self.now.stand ≡ Stand.Leave }
         ensures { result ≡ self.now.reply }
     {
-        self.reply.clone().unwrap()
+        copied(&self.reply)
     }
 
     /// The reader's round takes a number, and tells how it ends, once it does.

@@ -1,5 +1,5 @@
 //! A reader's round over pages by hand, to the left of a page.
-ghost use Rattle.std.specs.Prelude.{◌≡◌, ◌≤◌, ◌∷◌, [], length};
+ghost use Rattle.std.specs.Prelude.{◌≡◌, ◌≤◌, ◌∷◌, [], None, length};
 ghost use Rattle.chain_search.specs.Chains.{low_in};
 ghost use Rattle.chain_search.specs.Examples.{index};
 ghost use Rattle.chain_search.specs.Fitted.{IsFitted};
@@ -7,6 +7,7 @@ ghost use Rattle.deltas.specs.Spellable.{IsPid};
 ghost use Rattle.deltas.specs.declared.record.Record.TheVariants.{Base};
 ghost use Rattle.descent.specs.Ways.{precedes};
 ghost use Rattle.descent.specs.ReadGoals.{Left};
+ghost use Rattle.descent.specs.ReadLegs.{Down};
 
 use super::{ReadEnded, ReadRound};
 use crate::{Asked, PageInHand};
@@ -95,6 +96,7 @@ fn is_reached(round: &ReadRound) -> bool
 fn meet(round: &mut ReadRound) -> Option<Turn>
     requires limits { round.old.round.limits.pids ≡ 4096 }
     requires goal { round.old.round.goal ≡ Left round.old.aside }
+    requires leg { round.old.round.leg ≡ Down None }
 {
     keep_rules(round);
     if !is_reached(round) {

@@ -12,7 +12,7 @@ treat-requires c =
     let reached : IsTrue (precedes (low_in round.aside.chain) (low_in round.page.chain)) = search rules in
     record {
       can = record {
-        reached = record { reached = rw c.requires.goal reached; names = λ alive. names_pages limits round.page.chain c.requires.limits c.keep_rules.ensures.page };
-        passes = rw c.requires.goal (λ alive beside next named. (names_pages limits round.aside.chain c.requires.limits c.keep_rules.ensures.aside).right next named);
+        reached = record { reached = rw (c.requires.leg, c.requires.goal) reached; names = λ alive. names_pages limits round.page.chain c.requires.limits c.keep_rules.ensures.page };
+        meets = rw (c.requires.leg, c.requires.goal) ((λ alive beside next named. (names_pages limits round.aside.chain c.requires.limits c.keep_rules.ensures.aside).right next named), tt);
       };
     }
