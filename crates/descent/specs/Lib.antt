@@ -10,3 +10,4 @@ pub mod WriteEnds
 pub mod Detours
 pub mod ReadRounds
 pub mod WriteRounds
+pub mod WriteResponses
