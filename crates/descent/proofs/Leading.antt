@@ -17,7 +17,8 @@ use Rattle.smo.specs.Terms.{CanPost}
 use Rattle.smo.specs.declared.version.Version.{Version}
 use Rattle.descent.specs.Walks.{HasArrived}
 use Rattle.descent.specs.Ways.{LeadsRight, passes, reaches}
-use Rattle.descent.specs.WriteRounds.{HasGreatest, HasRoomAt, IsSplitFinished, IsLed, IsLeftOf, IsNextToFirst, IsTermed}
+use Rattle.descent.specs.WriteRounds.{HasGreatest, HasRoomAt, IsLed, IsLeftOf, IsNextToFirst, IsTermed}
+use Rattle.descent.specs.WriteResponses.{IsSplitFinished}
 use Rattle.descent.proofs.Keeping.{LiesAbove, some_among}
 use Rattle.descent.proofs.PageLaws.{covered, spans}
 use Rattle.descent.proofs.Seeking.{hand}

@@ -13,4 +13,5 @@ pub mod Rounding
 pub mod Reading
 pub mod Keeping
 pub mod Leading
+pub mod Treating
 pub mod Writing

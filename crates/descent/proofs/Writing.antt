@@ -1,7 +1,6 @@
 -- What an answer leaves a writer's round.
-use Rattle.std.proofs.Common.{ap, ◌∙◌, ◌≡◌, ◌≢◌, ◌<◌, ◌≤◌, ◌+◌, ◌-◌, inl, inr, ℕ, suc, List, [], ◌∷◌, length, Bool, true, false, Option, Some, None, refl, sym, subst, arith}
-use Rattle.std.specs.Prelude.{IfSome, IsTrue}
-use Rattle.std.proofs.Math.Nat.{lt_of_not-le}
+use Rattle.std.proofs.Common.{ap, ◌∙◌, ◌≡◌, ◌≢◌, ◌<◌, ◌+◌, inl, inr, ℕ, List, [], Bool, true, false, Option, Some, None, refl, sym, subst, arith}
+use Rattle.std.specs.Prelude.{IsTrue}
 use Rattle.std.proofs.lemmas.Option.{IfSome_then}
 use Rattle.bw_model.specs.declared.limits.Limits.{Limits}
 use Rattle.bw_model.specs.declared.step.Step.{Step}
@@ -9,23 +8,12 @@ use Rattle.bw_model.specs.declared.step.Step.TheVariants as step
 use Rattle.bw_model.specs.declared.step.Answer.{Answer}
 use Rattle.bw_model.specs.declared.step.Answer.TheVariants as answer
 use Rattle.bw_model.specs.Bytes.{is_below}
-use Rattle.base_page.specs.declared.item.Content.TheVariants.{Child}
-use Rattle.base_page.specs.Pages.{Page as PageOf}
-use Rattle.base_page.proofs.KeyLaws.{not_true}
 use Rattle.deltas.specs.declared.record.Record.{Record}
-use Rattle.deltas.specs.declared.record.Merge.{Merge as MergeRecord}
-use Rattle.deltas.specs.declared.record.Term.{Term}
-use Rattle.deltas.specs.declared.record.Unterm.{Unterm as UntermRecord}
-use Rattle.chain_search.specs.Chains.{content_in, covers, is_removed, level_in, low_in, right_in}
+use Rattle.chain_search.specs.Chains.{is_removed, low_in}
 use Rattle.chain_search.specs.Fitting.{Fits}
 use Rattle.chain_search.specs.Knowledge.{Knowledge, learn}
-use Rattle.chain_search.specs.Recalled.{IsSpentWith, Recalled, WasHead, recall}
-use Rattle.smo.specs.Merges.{IsMergePlan}
-use Rattle.smo.specs.Sizes.{HasFewItems}
-use Rattle.smo.specs.Splits.{CanSplit}
-use Rattle.smo.specs.Unterms.{IsUntermPlan}
+use Rattle.chain_search.specs.Recalled.{IsSpentWith, Recalled, recall}
 use Rattle.smo.specs.declared.version.Version.{Version}
-use Rattle.smo.proofs.Places.{made}
 use Rattle.descent.specs.Courses.{Goal, Seek, Left, Merge, Unterm}
 use Rattle.descent.specs.WriteEnds.{WriteEnd}
 use Rattle.descent.specs.WriteEnds as end
@@ -33,275 +21,18 @@ use Rattle.descent.specs.Descents.{State, Root, Page, Descent, Finds, Shows as W
 use Rattle.descent.specs.declared.visit.Sight.{Sight}
 use Rattle.descent.specs.declared.visit.State.TheVariants.{Slot}
 use Rattle.descent.specs.declared.visit.Sight.TheVariants.{Empty, Whole}
-use Rattle.descent.specs.Versions.{IsAlive}
 use Rattle.descent.specs.Visits as page
 use Rattle.descent.specs.Walks.{IsSeeking, left_at, left_in, with_walk}
-use Rattle.descent.specs.Ways.{LeadsDown, LeadsRight, NamesAt, StaysLeft, precedes, reaches}
-use Rattle.descent.specs.WriteRounds.{Begins, CanMeet, Cuts, Merges, EndsCut, EndsMerged, IsLosingTerm, IsHere, IsLeftLeaf, IsMergeEnd, IsMissing, IsUntermEnd, Keeps, Misses, SeeksLeaf, is_beyond, kept_for, way_of, CanSee, EndsFine, EndsUnposted, EndsUnrooted, Ends, Follows, GoesFrom, GoesOnWay, IsBased, IsFine, IsSplitFinished, IsLeftOf, IsKept, IsLeafEnd, IsLong, IsRootEnd, IsTermEnd, IsTold, IsVisiting, Responds, Sees, Shows, Spends, Treats, WriteRound, at, wanted, descent_of, going_to, goes_left}
-use Rattle.descent.proofs.Keeping.{HasReached, LiesAbove, Passed, differs, reached_next, visits_next}
-use Rattle.descent.proofs.Leading.{led_aside, termed}
-use Rattle.descent.proofs.PageLaws.{above_empty, covered, spans}
-use Rattle.descent.proofs.Seeking.{hand, is_gone, living, reached, seeks_on, seeks_root}
+use Rattle.descent.specs.Ways.{precedes, reaches}
+use Rattle.descent.specs.WriteRounds.{Begins, IsMissing, Keeps, Misses, is_beyond, kept_for, way_of, Follows, IsTold, IsVisiting, Shows, Spends, WriteRound, at, wanted, descent_of, going_to}
+use Rattle.descent.specs.WriteResponses.{CanMeet, CanSee, GoesFrom, GoesOnWay, IsHere, IsLeftLeaf, IsTended, Responds, Sees, Treats}
+use Rattle.descent.proofs.Keeping.{Passed, reached_next, visits_next}
+use Rattle.descent.proofs.PageLaws.{above_empty}
+use Rattle.descent.proofs.Seeking.{reached, seeks_root}
 use Rattle.descent.proofs.Spending.{left_empty, left_on, left_removed, left_some, spent_empty, spent_on}
-use Rattle.descent.proofs.Walking.{all_past, not_itself, recalled_head, told_of, trail_on}
-use Rattle.descent.proofs.WayLaws.{covers_here, down_names, lowest, right_names}
-
--- what follows once a page was read whole
-abbrev After : WriteRound → Knowledge → Recalled → WriteRound → Option WriteEnd → Type 0
-After old now r new None = Shows new now r
-After old now r new (Some end) = Ends old now r end
-
--- a key is at itself
-reaches_itself : (key : List ℕ) → IsTrue (reaches key key)
-reaches_itself key = by_test (is_below key key) refl
-  where
-    by_test : (b : Bool) → is_below key key ≡ b → IsTrue (reaches key key)
-    by_test false e = rw e refl
-    by_test true e = absurd (not_itself key e)
-
--- what is above a key is above the empty key
-inner : (low high : List ℕ) → IsTrue (is_below low high) → IsTrue (is_below [] high)
-inner low [] h = let no : is_below low [] ≡ false = not_true (is_below low []) (lowest low) in let clash : true ≡ false = sym h ∙ no in cc
-inner low (x ∷ xs) h = refl
-
-module _ (old : WriteRound) (k now : Knowledge) (r : Recalled) (version : Version) (h : HasReached old.limits old.key old.floor old.goal old.parent old.left k now r version) where
-  abbrev way : List ℕ → Bool
-  way = way_of old.goal old.key
-
-  abbrev chain : List Record
-  chain = version.chain
-
-  alive_of : (other : Version) → IsKept old.limits now other h.earlier → IsAlive old.limits now r other
-  alive_of other kept = record {
-    in_hand = kept.in_hand;
-    alive = kept.alive;
-    recalled = (other.is_row.0, recalled_head now r (version.pid ∷ h.earlier) other.pid other.head h.arrives.recalled (inr kept.among) kept.in_hand.seen.head);
-  }
-
-  alive_here : is_removed version.chain ≡ false → IsAlive old.limits now r version
-  alive_here alive = living old.limits k now r version h.level h.low h.earlier h.arrives alive
-
-  kept_on : (other : Version) → IsKept old.limits now other h.earlier → IsKept old.limits now other (version.pid ∷ h.earlier)
-  kept_on other kept = record { in_hand = kept.in_hand; alive = kept.alive; among = inr kept.among }
-
-  kept_here : is_removed version.chain ≡ false → IsKept old.limits now version (version.pid ∷ h.earlier)
-  kept_here alive = record { in_hand = hand old.limits k now r version h.level h.low h.earlier h.arrives; alive = alive; among = inl refl }
-
-  -- the removed page begins where the way ends, so that the next page isn't that one
-  keeps_on : is_removed chain ≡ false → (pid level : ℕ) (low : List ℕ) → NamesAt chain pid level low → (goal : Goal) → SeeksLeaf goal → IsTrue (way_of goal old.key low) → Passed old.limits old.key old.floor k now version.pid h.earlier goal → Keeps old.limits old.key old.floor now pid (version.pid ∷ h.earlier) goal
-  keeps_on alive pid level low names Seek seeks passing by = tt
-  keeps_on alive pid level low names (Left removed) seeks passing by =
-      let was = by.0 in
-      let apart : removed ≢ pid = λ e. (
-      let here : NamesAt chain was.removed.pid level low = subst (λ (p : ℕ). NamesAt chain p level low) (sym (was.is ∙ e)) names in
-      let so = told_of chain was.removed.pid was.removed.chain level low (h.arrives.arrives.whole.names alive was.removed.pid was.removed.head was.removed.chain was.gone.in_hand.seen.head was.gone.in_hand.seen.read) here in
-      not_itself low (subst (λ (q : List ℕ). IsTrue (is_below low q)) (sym was.low ∙ so.1) passing)
-      ) in
-      record { removed = by.1.removed; gone = by.1.gone; is = by.1.is; low = by.1.low; level = by.1.level; unread = (apart, by.1.unread) }
-  keeps_on alive pid level low names (Merge left) seeks passing by = absurd seeks
-  keeps_on alive pid level low names (Unterm parent left) seeks passing by = absurd seeks
-
-  few_deltas : ¬ IsLong old.due version.chain → length version.chain ≤ 8
-  few_deltas short = let most = lt_of_not-le (λ (many : 9 ≤ length version.chain). short (inl many)) in omega (arith, most)
-
-  few_items : is_removed version.chain ≡ false → length version.chain ≤ 8 → ¬ CanSplit version → HasFewItems version.chain
-  few_items alive short narrow =
-      let m = made version.chain (hand old.limits k now r version h.level h.low h.earlier h.arrives).sound.is_chain.fitted in
-      (m.0.items, m.1.items, lt_of_not-le (λ many. narrow (record { alive = alive; short = short; wide = (m.0.items, m.1.items, many) })))
-
-  -- goes on
-
-  based_on : (parent left : Option Version) (pid : ℕ) (low : List ℕ) → IsBased r parent left version.pid h.low → IfSome left (IsLeftOf old.limits now h.low h.earlier) → IsBased r parent (Some version) pid low
-  based_on (Some above) left pid low based aside = tt
-  based_on None None pid low based aside = elim based [ inl is ↦ inl is | inr above ↦ inr (rw h.arrives.is_low above) ]
-  based_on None (Some other) pid low based aside = inr (rw h.arrives.is_low aside.inner)
-
-  aside : (pid : ℕ) → is_removed version.chain ≡ false → SeeksLeaf old.goal → IsSplitFinished old.parent old.left version → LeadsRight way version.chain pid → IsVisiting old.limits old.key old.floor old.goal old.parent (Some version) now r (page.to_page old.limits pid)
-  aside pid alive seeks finished leads =
-      let names = right_names way version.chain pid leads in
-      record {
-        level = level_in version.chain;
-        low = leads.low;
-        earlier = version.pid ∷ h.earlier;
-        seeks = seeks_on old.limits k now r version h.level h.low h.earlier h.arrives way (is_beyond old.goal) pid (level_in version.chain) leads.low names alive leads.on_way h.fresh;
-        above = IfSome_then old.parent h.above (λ other i. record { kept = kept_on other i.kept; up = i.up; after = tt });
-        aside = record { kept = kept_here alive; inner = inner (low_in version.chain) leads.low (spans version.chain leads.low (hand old.limits k now r version h.level h.low h.earlier h.arrives).sound.is_chain.fitted leads.is_high) };
-        based = based_on old.parent old.left pid leads.low h.based h.aside;
-        led = λ so. led_aside old.limits (goes_left old.goal) old.key k now r version h.level h.low h.earlier h.arrives alive pid leads old.parent old.left h.above h.aside (h.led so) finished;
-        keeps = keeps_on alive pid (level_in version.chain) leads.low names old.goal seeks leads.on_way h.passed;
-      }
-
-  below : (pid : ℕ) → IsHere old version → IsFine old.due version → 0 < level_in version.chain → LeadsDown way version.chain pid → IsVisiting old.limits old.key old.floor old.goal (Some version) None now r (page.to_page old.limits pid)
-  below pid here fine index leads =
-      let alive = here.alive in
-      let names = down_names way version.chain pid index leads in
-      record {
-        level = level_in version.chain - 1;
-        low = leads.low;
-        earlier = version.pid ∷ h.earlier;
-        seeks = seeks_on old.limits k now r version h.level h.low h.earlier h.arrives way (is_beyond old.goal) pid (level_in version.chain - 1) leads.low names alive leads.greatest.passing h.fresh;
-        above = record { kept = kept_here alive; up = omega (arith, index); after = tt };
-        aside = tt;
-        based = tt;
-        led = λ so. record { short = few_deltas fine.short; roomy = few_items alive (few_deltas fine.short) fine.narrow; stays = here.stays; held = leads.held; greatest = leads.greatest };
-        keeps = keeps_on alive pid (level_in version.chain - 1) leads.low names old.goal here.seeks leads.greatest.passing h.passed;
-      }
-
-  -- reads the removed page again
-  module _ (pid : ℕ) (goal : old.goal ≡ Left pid) (alive : is_removed version.chain ≡ false) where
-    by : IsMissing old.limits k old.key old.floor pid (version.pid ∷ h.earlier) × IsMissing old.limits now old.key old.floor pid (version.pid ∷ h.earlier)
-    by = subst (λ (g : Goal). Passed old.limits old.key old.floor k now version.pid h.earlier g) goal h.passed
-
-    left_of : IsTrue (is_below h.low old.key)
-    left_of = subst (λ (g : Goal). IsTrue (way_of g old.key h.low)) goal h.passing
-
-    above_low : IsTrue (is_below [] old.key)
-    above_low = inner h.low old.key left_of
-
-    back_to_merge : right_in version.chain ≡ Some pid → IsVisiting old.limits old.key old.floor (Merge version) None None now r (page.to_page old.limits pid)
-    back_to_merge beside =
-        let was = by.0 in
-        let says = (h.arrives.arrives.whole.names alive was.removed.pid was.removed.head was.removed.chain was.gone.in_hand.seen.head was.gone.in_hand.seen.read).right (beside ∙ ap Some (sym was.is)) in
-        let names : NamesAt chain pid (level_in chain) old.key = inl (beside, refl, says.1 ∙ ap Some was.low) in
-        record {
-          level = level_in version.chain;
-          low = old.key;
-          earlier = version.pid ∷ h.earlier;
-          seeks = seeks_on old.limits k now r version h.level h.low h.earlier h.arrives (reaches old.key) false pid (level_in version.chain) old.key names alive (reaches_itself old.key) (λ here. h.fresh (ap is_beyond goal));
-          above = tt;
-          aside = tt;
-          based = inr above_low;
-          led = λ so. absurd so;
-          keeps = kept_here alive;
-        }
-
-    module _ (parent : Version) (over : LiesAbove old.limits now version h.earlier parent) (term : content_in parent.chain old.key ≡ Some (Child pid true)) where
-      inside_parent : IsTrue (covers parent.chain old.key)
-      inside_parent = covered parent.chain old.key (Child pid true) over.kept.in_hand.sound.is_chain.fitted term
-
-      apart_parent : parent.pid ≢ pid
-      apart_parent = differs pid parent.pid h.earlier by.1.unread.1 over.kept.among
-
-      some : 0 < pid
-      some = subst (λ (p : ℕ). 0 < p) by.1.is by.1.removed.is_pid.0
-
-      below_limit : pid < old.limits.pids
-      below_limit = subst (λ (p : ℕ). p < old.limits.pids) by.1.is by.1.gone.in_hand.page
-
-      back_to_unterm : IsVisiting old.limits old.key old.floor (Unterm parent version) None None now r (page.to_page old.limits pid)
-      back_to_unterm = record {
-        level = level_in version.chain;
-        low = old.key;
-        earlier = version.pid ∷ h.earlier;
-        seeks = record {
-          on_way = record {
-            shows = record {
-              inside = h.arrives.arrives.inside;
-              page = some;
-              below = below_limit;
-              head = tt;
-              stands = inr (record {
-                other = parent.pid;
-                row = parent.head;
-                basis = record { head = over.kept.in_hand.seen.head; chain = parent.chain; read = over.kept.in_hand.seen.read; alive = over.kept.alive };
-                named = inr (inl (level_in version.chain, old.key, true, over.up, inside_parent, term));
-              });
-            };
-            same = refl;
-            bare = refl;
-            visited = trail_on r.walk chain h.arrives.removed alive ∙ h.arrives.visited;
-            recalled = h.arrives.recalled;
-            expected = inr (inl (record { naming = parent; in_hand = over.kept.in_hand; alive = over.kept.alive; apart = apart_parent; names = inr (true, over.up, inside_parent, term) }));
-            distinct = (some, below_limit, by.1.unread, h.arrives.distinct);
-            past = all_past old.limits k now r version h.level h.low h.earlier h.arrives (level_in version.chain) old.key (inr (refl, rw h.arrives.is_low left_of));
-            rooted = h.arrives.rooted;
-            removed = tt;
-            kept = λ other none. absurd none;
-          };
-          passing = reaches_itself old.key;
-          named = λ here. absurd cc;
-          fresh = λ here. absurd cc;
-        };
-        above = tt;
-        aside = tt;
-        based = inr above_low;
-        led = λ so. absurd so;
-        keeps = record { above = kept_on parent over.kept; aside = kept_here alive; up = over.up; after = over.after };
-      }
-
-  -- ends
-
-  term_end : (parent : Version) (term : Term) → EndsUnposted old version parent term → IsTermEnd old now r parent term
-  term_end parent term t =
-      let over : LiesAbove old.limits now version h.earlier parent = subst (λ (o : Option Version). IfSome o (LiesAbove old.limits now version h.earlier)) t.above h.above in
-      record { page = alive_of parent over.kept; child = version; below = alive_here t.plan.can.alive; after = over.after; plan = t.plan }
-
-  root_of : (left : Version) → IsBased r None (Some left) version.pid h.low → low_in left.chain ≡ [] → WasHead r 0 left.pid
-  root_of left based first = elim based [
-    | inl is ↦ (left.is_pid.0, is)
-    | inr above ↦ absurd (not_itself [] (rw first at above))
-  ]
-
-  root_end : (left : Version) (root : PageOf) → EndsUnrooted old version left root → IsRootEnd old now r left root
-  root_end left root t =
-      let beside : IsLeftOf old.limits now h.low h.earlier left = subst (λ (o : Option Version). IfSome o (IsLeftOf old.limits now h.low h.earlier)) t.aside h.aside in
-      let based : IsBased r None (Some left) version.pid h.low =
-      subst (λ (o : Option Version). IsBased r None o version.pid h.low) t.aside (subst (λ (o : Option Version). IsBased r o old.left version.pid h.low) t.above h.based) in
-      record { page = alive_of left beside.kept; right = version; aside = alive_here t.plan.can.alive; rooted = root_of left based t.plan.can.lowest; plan = t.plan }
-
-  leaf_end : (parent : Option Version) (leaf : Version) → EndsFine old version parent leaf → IsLeafEnd old now r parent leaf
-  leaf_end parent leaf t =
-      let alive = t.here.alive in
-      let short = few_deltas t.fine.short in
-      let early : length version.chain ≤ old.due = (let most = lt_of_not-le (λ (many : suc old.due ≤ length version.chain). t.fine.short (inr (t.level, many))) in omega (arith, most)) in
-      rw (t.is, t.above) (record {
-        seeks = t.seeks;
-        page = alive_here alive;
-        level = t.level;
-        covered = covers_here old.key version.chain (reached old.limits k now r version h.level h.low h.earlier h.arrives (reaches old.key) (subst (λ (g : Goal). IsTrue (way_of g old.key h.low)) t.seeks h.passing)).reached (subst (λ (g : Goal). StaysLeft (way_of g old.key) version.chain) t.seeks t.here.stays);
-        short = short;
-        early = early;
-        few = few_items alive short t.fine.narrow;
-        above = IfSome_then old.parent h.above (λ other i. record { page = alive_of other i.kept; up = i.up; after = i.after });
-        termed = termed old.limits (goes_left old.goal) old.key k now r version h.level h.low h.earlier h.arrives alive old.parent old.left h.above h.aside (h.led (subst SeeksLeaf (sym t.seeks) tt)) t.here.finished t.level;
-      })
-
-  merge_end : (left removed : Version) (merge : MergeRecord) → EndsMerged old version left removed merge → IsMergeEnd old now r left removed merge
-  merge_end left removed merge t =
-      let kept : IsKept old.limits now left h.earlier = subst (λ (g : Goal). Passed old.limits old.key old.floor k now version.pid h.earlier g) t.goal h.passed in
-      rw t.is (record { page = alive_of left kept; gone = is_gone old.limits k now r version h.level h.low h.earlier h.arrives t.plan.can.gone; plan = t.plan })
-
-  unterm_end : (parent left removed : Version) (unterm : UntermRecord) → EndsCut old version parent left removed unterm → IsUntermEnd old now r parent left removed unterm
-  unterm_end parent left removed unterm t =
-      let cut : IsLosingTerm old.limits now h.earlier parent left = subst (λ (g : Goal). Passed old.limits old.key old.floor k now version.pid h.earlier g) t.goal h.passed in
-      rw t.is (record {
-        page = alive_of parent cut.above;
-        aside = alive_of left cut.aside;
-        gone = is_gone old.limits k now r version h.level h.low h.earlier h.arrives t.plan.can.gone;
-        up = cut.up;
-        after = cut.after;
-        plan = t.plan;
-      })
-
-  treated : (new : WriteRound) (result : Option WriteEnd) → Treats old version new result → After old now r new result
-  treated new None t = elim t [
-    | inl right ↦ subst (λ (x : WriteRound). Shows x now r) (sym right.goes) (aside right.right right.alive right.seeks right.finished right.leads)
-    | inr (inl down) ↦ subst (λ (x : WriteRound). Shows x now r) (sym down.goes) (below down.child down.here down.fine (let index = down.index in omega (arith, index)) down.leads)
-    | inr (inr (inl merge)) ↦ subst (λ (x : WriteRound). Shows x now r) (sym merge.goes) (back_to_merge merge.pid merge.left.goal merge.left.here.alive merge.beside)
-    | inr (inr (inr cut)) ↦
-        let over : LiesAbove old.limits now version h.earlier cut.parent = subst (λ (o : Option Version). IfSome o (LiesAbove old.limits now version h.earlier)) cut.above h.above in
-        subst (λ (x : WriteRound). Shows x now r) (sym cut.goes) (back_to_unterm cut.pid cut.left.goal cut.left.here.alive cut.parent over cut.term)
-  ]
-  treated new (Some end.Again) t = tt
-  treated new (Some end.Done) t = tt
-  treated new (Some (end.Removed removed)) t = rw t.is (is_gone old.limits k now r version h.level h.low h.earlier h.arrives t.gone)
-  treated new (Some (end.Consolidate page)) t = rw t.is (record { page = alive_here t.here.alive; long = t.long })
-  treated new (Some (end.Split page plan)) t = rw t.is (record { page = alive_here t.here.alive; plan_due = t.plan_due })
-  treated new (Some (end.Term parent term)) t = term_end parent term t
-  treated new (Some (end.Root left root)) t = root_end left root t
-  treated new (Some (end.Leaf parent leaf)) t = leaf_end parent leaf t
-  treated new (Some (end.Merge left removed merge)) t = merge_end left removed merge t
-  treated new (Some (end.Unterm parent left removed unterm)) t = unterm_end parent left removed unterm t
+use Rattle.descent.proofs.Walking.{not_itself}
+use Rattle.descent.proofs.WayLaws.{lowest}
+use Rattle.descent.proofs.Treating.{After, treated}
 
 -- the answer to the step wanted last is the one that the state was waiting for
 back : (old : WriteRound) (P : WriteRound → Answer Record → Type 0) (state : State) (told real : Answer Record) → old.state ≡ state → real ≡ told → P (at old state) told → P old real
@@ -375,6 +106,7 @@ module _ (old new : WriteRound) (told : Answer Record) (visit : page.Visit) wher
       by_result (Some (end.Split page plan)) t = some_left
       by_result (Some (end.Term parent term)) t = some_left
       by_result (Some (end.Root left root)) t = some_left
+      by_result (Some (end.Tend parent page upkeep)) t = some_left
       by_result (Some (end.Leaf parent leaf)) t = some_left
       by_result (Some (end.Merge left removed merge)) t = keeps (Merge left) t.goal refl
       by_result (Some (end.Unterm parent left removed unterm)) t = keeps (Unterm parent left) t.goal refl
@@ -483,8 +215,6 @@ can_see old other told (Whole version) b t =
     meets_at k now earlier (Merge left) p = tt
     meets_at k now earlier (Unterm parent left) p = p.above.alive
 
--- what is made of the removed page that was read again
-
 -- what a round does with a page doesn't depend on the state that it had
 
 module _ (old : WriteRound) (state other : State) (version : Version) where
@@ -494,10 +224,13 @@ module _ (old : WriteRound) (state other : State) (version : Version) where
   left_as : (pid : ℕ) → IsLeftLeaf (at old other) version pid → IsLeftLeaf (at old state) version pid
   left_as pid h = record { goal = h.goal; here = here_as h.here; fine = h.fine; level = h.level }
 
+  tended_as : (parent : Version) → IsTended (at old other) parent version → IsTended (at old state) parent version
+  tended_as parent h = record { tends = h.tends; seeks = h.seeks; above = h.above; level = h.level }
+
 treats_as : (old new : WriteRound) (state other : State) (version : Version) (result : Option WriteEnd) → Treats (at old other) version new result → Treats (at old state) version new result
 treats_as old new state other version None t = elim t [
   | inl right ↦ inl (record { seeks = right.seeks; alive = right.alive; finished = right.finished; right = right.right; leads = right.leads; goes = right.goes })
-  | inr (inl down) ↦ inr (inl (record { here = here_as old state other version down.here; fine = down.fine; index = down.index; child = down.child; leads = down.leads; goes = down.goes }))
+  | inr (inl down) ↦ inr (inl (record { here = here_as old state other version down.here; fine = down.fine; idle = λ parent tended. down.idle parent (tended_as old other state version parent tended); index = down.index; child = down.child; leads = down.leads; goes = down.goes }))
   | inr (inr (inl merge)) ↦ inr (inr (inl (record { pid = merge.pid; left = left_as old state other version merge.pid merge.left; beside = merge.beside; goes = merge.goes })))
   | inr (inr (inr cut)) ↦ inr (inr (inr (record { pid = cut.pid; left = left_as old state other version cut.pid cut.left; apart = cut.apart; parent = cut.parent; above = cut.above; term = cut.term; goes = cut.goes })))
 ]
@@ -512,6 +245,7 @@ treats_as old new state other version (Some (end.Consolidate page)) t = record {
 treats_as old new state other version (Some (end.Split page plan)) t = record { is = t.is; here = here_as old state other version t.here; short = t.short; plan_due = t.plan_due }
 treats_as old new state other version (Some (end.Term parent term)) t = record { seeks = t.seeks; above = t.above; left = t.left; aside = t.aside; plan = t.plan }
 treats_as old new state other version (Some (end.Root left root)) t = record { seeks = t.seeks; above = t.above; aside = t.aside; plan = t.plan }
+treats_as old new state other version (Some (end.Tend parent page upkeep)) t = record { is = t.is; here = here_as old state other version t.here; fine = t.fine; tended = tended_as old state other version parent t.tended; due = t.due }
 treats_as old new state other version (Some (end.Leaf parent leaf)) t = record { is = t.is; seeks = t.seeks; above = t.above; here = here_as old state other version t.here; fine = t.fine; level = t.level }
 treats_as old new state other version (Some (end.Merge left removed merge)) t = record { is = t.is; goal = t.goal; plan = t.plan }
 treats_as old new state other version (Some (end.Unterm parent left removed unterm)) t = record { is = t.is; goal = t.goal; plan = t.plan }

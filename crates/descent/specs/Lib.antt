@@ -10,3 +10,4 @@ pub mod ReadEnds
 pub mod WriteEnds
 pub mod ReadRounds
 pub mod WriteRounds
+pub mod WriteResponses

@@ -16,34 +16,35 @@ use Rattle.chain_search.specs.Chains.{content_in, covers, high_in, is_removed, l
 use Rattle.chain_search.specs.Fitting.{Fits}
 use Rattle.chain_search.specs.Knowledge.{Knowledge, learn}
 use Rattle.chain_search.specs.Recalled.{IsPaid, IsSpentWith, IsUnread, Recalled, WasHead, recall}
-use Rattle.smo.specs.Merges.{CanMerge, IsMergePlan}
+use Rattle.smo.specs.Merges.{IsMergePlan}
 use Rattle.smo.specs.Readings.{IsAfter}
-use Rattle.smo.specs.Roots.{CanRoot, IsRootPlan}
+use Rattle.smo.specs.Roots.{IsRootPlan}
 use Rattle.smo.specs.Sizes.{HasFewDeltas, HasFewItems}
-use Rattle.smo.specs.Splits.{CanSplit, IsSplitPlan}
-use Rattle.smo.specs.Terms.{CanPost, IsTermPlan}
-use Rattle.smo.specs.Unterms.{CanUnterm, IsUntermPlan}
+use Rattle.smo.specs.Splits.{IsSplitPlan}
+use Rattle.smo.specs.Terms.{IsTermPlan}
+use Rattle.smo.specs.Unterms.{IsUntermPlan}
 use Rattle.smo.specs.declared.split.SplitPlan.{SplitPlan}
+use Rattle.smo.specs.Upkeep.{IsUpkeep}
+use Rattle.smo.specs.declared.upkeep.Upkeep.{Upkeep}
 use Rattle.smo.specs.declared.version.Version.{Version}
 use Rattle.descent.specs.Versions.{IsAlive, IsGone, IsInHand}
-use Rattle.descent.specs.Courses.{Course, Goal, Seek, Left, Merge, Unterm, removed_of}
-use Rattle.descent.specs.Descents.{Descent, Finds, Responds as Moves, left_from, wanted_at, State, Root, Page}
+use Rattle.descent.specs.Courses.{Goal, Seek, Left, Merge, Unterm, removed_of}
+use Rattle.descent.specs.Descents.{Descent, left_from, wanted_at, State, Root, Page}
 use Rattle.descent.specs.Visits as page
-use Rattle.descent.specs.Walks.{IsAhead, IsAmong, IsReached, IsSeeking, with_walk}
-use Rattle.descent.specs.Ways.{LeadsDown, LeadsRight, StaysLeft, passes}
-use Rattle.descent.specs.declared.visit.Sight as page_sight
-use Rattle.descent.specs.declared.visit.Sight.TheVariants as page_is
+use Rattle.descent.specs.Walks.{IsAhead, IsAmong, IsSeeking, with_walk}
+use Rattle.descent.specs.Ways.{StaysLeft, passes}
 use Rattle.descent.specs.declared.visit.State as at_page
 use Rattle.descent.specs.WriteEnds.{WriteEnd}
 use Rattle.descent.specs.WriteEnds as end
 
--- The key whose leaf is sought, or to whose left the round goes; at how many deltas a leaf is consolidated; the level at which a round
--- to the left ends; where the round goes; the parent of the pages that are read; the page to whose right the round has gone, until
--- that one was read; where it stands.
+-- The key whose leaf is sought, or to whose left the round goes; at how many deltas a leaf is consolidated; whether small pages of level 1
+-- are held and removed on the way; the level at which a round to the left ends; where the round goes; the parent of the pages that are
+-- read; the page to whose right the round has gone, until that one was read; where it stands.
 pub record WriteRound : Type 0 where
   pub limits : Limits
   pub key : List ℕ
   pub due : ℕ
+  pub tends : Bool
   pub floor : ℕ
   pub goal : Goal
   pub parent : Option Version
@@ -64,10 +65,6 @@ at round state = record round { state = state }
 -- the round, gone to a page
 abbrev pub going_to : ℕ → WriteRound → WriteRound
 going_to pid round = at round (Page (page.to_page round.limits pid))
-
--- the round, with another goal
-abbrev pub toward : Goal → WriteRound → WriteRound
-toward goal round = record round { goal = goal }
 
 -- the round where a page to the left of the next one is kept, or none
 abbrev pub beside : Option Version → WriteRound → WriteRound
@@ -292,6 +289,15 @@ pub record IsUntermEnd (round : WriteRound) (k : Knowledge) (r : Recalled) (pare
   pub after : IsAfter k parent left
   pub plan : IsUntermPlan parent left removed unterm
 
+-- What is due at a small page of level 1 on the way to the leaf of a key, below the page that was read before it.
+pub record IsTendEnd (round : WriteRound) (k : Knowledge) (r : Recalled) (parent version : Version) (upkeep : Upkeep) : Type 0 where
+  pub tends : round.tends ≡ true
+  pub seeks : round.goal ≡ Seek
+  pub page : IsAlive round.limits k r version
+  pub above : IsUpper round.limits k r version parent
+  pub level : level_in version.chain ≡ 1
+  pub due : IsUpkeep parent version upkeep
+
 -- what an end says
 abbrev pub Ends : WriteRound → Knowledge → Recalled → WriteEnd → Type 0
 Ends round k r end.Again = ⊤
@@ -301,6 +307,7 @@ Ends round k r (end.Consolidate version) = IsLongEnd round k r version
 Ends round k r (end.Split version plan) = IsSplitEnd round k r version plan
 Ends round k r (end.Term parent term) = IsTermEnd round k r parent term
 Ends round k r (end.Root left root) = IsRootEnd round k r left root
+Ends round k r (end.Tend parent page upkeep) = IsTendEnd round k r parent page upkeep
 Ends round k r (end.Leaf parent leaf) = IsLeafEnd round k r parent leaf
 Ends round k r (end.Merge left removed merge) = IsMergeEnd round k r left removed merge
 Ends round k r (end.Unterm parent left removed unterm) = IsUntermEnd round k r parent left removed unterm
@@ -309,221 +316,6 @@ Ends round k r (end.Unterm parent left removed unterm) = IsUntermEnd round k r p
 abbrev pub Follows : Knowledge → Recalled → WriteRound → Answer Record → WriteRound → Option WriteEnd → Type 0
 Follows k r old told new None = Shows new (learn k (wanted old) told) (recall r (wanted old) told)
 Follows k r old told new (Some end) = Ends old (learn k (wanted old) told) (recall r (wanted old) told) end
-
--- what a round does with a page that was read whole
-
--- No change is due that finishes the split of the page's left page: the parent can't get the page's term, nor, where there is no
--- parent, the two pages a root.
-abbrev pub IsSplitFinished : Option Version → Option Version → Version → Type 0
-IsSplitFinished parent None version = ⊤
-IsSplitFinished None (Some left) version = ¬ CanRoot left version
-IsSplitFinished (Some parent) (Some left) version = ¬ CanPost parent version
-
--- The page isn't removed, nothing is due at its left page, and it ends above the key.
-pub record IsHere (old : WriteRound) (version : Version) : Type 0 where
-  pub seeks : SeeksLeaf old.goal
-  pub alive : is_removed version.chain ≡ false
-  pub finished : IsSplitFinished old.parent old.left version
-  pub stays : StaysLeft (way_of old.goal old.key) version.chain
-
--- The page is neither to be consolidated nor to be split.
-pub record IsFine (due : ℕ) (version : Version) : Type 0 where
-  pub short : ¬ IsLong due version.chain
-  pub narrow : ¬ CanSplit version
-
--- The page isn't removed, nothing is due at its left page, and the round goes on to its right.
-pub record GoesAside (old : WriteRound) (version : Version) (new : WriteRound) : Type 0 where
-  pub seeks : SeeksLeaf old.goal
-  pub alive : is_removed version.chain ≡ false
-  pub finished : IsSplitFinished old.parent old.left version
-  pub right : ℕ
-  pub leads : LeadsRight (way_of old.goal old.key) version.chain right
-  pub goes : new ≡ going_to right (beside (Some version) old)
-
--- Nothing is due at the page, and the round goes down to a child of it.
-pub record GoesBelow (old : WriteRound) (version : Version) (new : WriteRound) : Type 0 where
-  pub here : IsHere old version
-  pub fine : IsFine old.due version
-  pub index : ends_at old.goal old.floor < level_in version.chain
-  pub child : ℕ
-  pub leads : LeadsDown (way_of old.goal old.key) version.chain child
-  pub goes : new ≡ going_to child (record old { parent = Some version; left = None })
-
--- The page has too many deltas.
-pub record EndsLong (old : WriteRound) (version page : Version) : Type 0 where
-  pub is : page ≡ version
-  pub here : IsHere old version
-  pub long : IsLong old.due version.chain
-
--- The page has few deltas and too many items.
-pub record EndsWide (old : WriteRound) (version page : Version) (plan : SplitPlan) : Type 0 where
-  pub is : page ≡ version
-  pub here : IsHere old version
-  pub short : ¬ IsLong old.due version.chain
-  pub plan_due : IsSplitPlan version plan
-
--- The page stands to the right of another one, and the parent lacks its term.
-pub record EndsUnposted (old : WriteRound) (version parent : Version) (term : Term) : Type 0 where
-  pub seeks : SeeksLeaf old.goal
-  pub above : old.parent ≡ Some parent
-  pub left : Version
-  pub aside : old.left ≡ Some left
-  pub plan : IsTermPlan parent version term
-
--- The page stands to the right of the root.
-pub record EndsUnrooted (old : WriteRound) (version left : Version) (root : PageOf) : Type 0 where
-  pub seeks : SeeksLeaf old.goal
-  pub above : old.parent ≡ None
-  pub aside : old.left ≡ Some left
-  pub plan : IsRootPlan left version root
-
--- The page is the leaf that was sought, and nothing is due there.
-pub record EndsFine (old : WriteRound) (version : Version) (parent : Option Version) (leaf : Version) : Type 0 where
-  pub is : leaf ≡ version
-  pub seeks : old.goal ≡ Seek
-  pub above : parent ≡ old.parent
-  pub here : IsHere old version
-  pub fine : IsFine old.due version
-  pub level : level_in version.chain ≡ 0
-
--- The page is removed, on the way to a leaf.
-pub record EndsRemoved (old : WriteRound) (version removed : Version) : Type 0 where
-  pub is : removed ≡ version
-  pub seeks : SeeksLeaf old.goal
-  pub gone : is_removed version.chain ≡ true
-
--- The page is the one of the removed page's level where the way to its left ends, and nothing is due there.
-pub record IsLeftLeaf (old : WriteRound) (version : Version) (pid : ℕ) : Type 0 where
-  pub goal : old.goal ≡ Left pid
-  pub here : IsHere old version
-  pub fine : IsFine old.due version
-  pub level : level_in version.chain ≡ old.floor
-
--- Nothing is due at the page, which is below the level of the removed page to whose left the round goes.
-pub record EndsBelow (old : WriteRound) (version : Version) : Type 0 where
-  pub pid : ℕ
-  pub goal : old.goal ≡ Left pid
-  pub here : IsHere old version
-  pub fine : IsFine old.due version
-  pub below : level_in version.chain < old.floor
-
--- the round, gone to read the removed page again
-abbrev pub going_back : Goal → ℕ → WriteRound → WriteRound
-going_back goal pid round = going_to pid (record round { goal = goal; parent = None; left = None })
-
--- The removed page is the leaf's right.
-pub record GoesToMerge (old : WriteRound) (version : Version) (new : WriteRound) : Type 0 where
-  pub pid : ℕ
-  pub left : IsLeftLeaf old version pid
-  pub beside : right_in version.chain ≡ Some pid
-  pub goes : new ≡ going_back (Merge version) pid old
-
--- The removed page isn't the leaf's right, and the parent has its term.
-pub record GoesToUnterm (old : WriteRound) (version : Version) (new : WriteRound) : Type 0 where
-  pub pid : ℕ
-  pub left : IsLeftLeaf old version pid
-  pub apart : right_in version.chain ≢ Some pid
-  pub parent : Version
-  pub above : old.parent ≡ Some parent
-  pub term : content_in parent.chain old.key ≡ Some (Child pid true)
-  pub goes : new ≡ going_back (Unterm parent version) pid old
-
--- The removed page isn't the leaf's right, and no parent has its term held.
-pub record EndsClean (old : WriteRound) (version : Version) : Type 0 where
-  pub pid : ℕ
-  pub left : IsLeftLeaf old version pid
-  pub apart : right_in version.chain ≢ Some pid
-  pub lacks : IfSome old.parent (λ parent. content_in parent.chain old.key ≢ Some (Child pid true))
-
--- The page may not come into the left page.
-pub record EndsUnmerged (old : WriteRound) (version : Version) : Type 0 where
-  pub left : Version
-  pub goal : old.goal ≡ Merge left
-  pub none : ¬ CanMerge left version
-
--- The parent may not lose the page's term.
-pub record EndsUncut (old : WriteRound) (version : Version) : Type 0 where
-  pub parent : Version
-  pub left : Version
-  pub goal : old.goal ≡ Unterm parent left
-  pub none : ¬ CanUnterm parent left version
-
--- The page may come into the left page.
-pub record EndsMerged (old : WriteRound) (version left removed : Version) (merge : MergeRecord) : Type 0 where
-  pub is : removed ≡ version
-  pub goal : old.goal ≡ Merge left
-  pub plan : IsMergePlan left version merge
-
--- The parent may lose the page's term.
-pub record EndsCut (old : WriteRound) (version parent left removed : Version) (unterm : UntermRecord) : Type 0 where
-  pub is : removed ≡ version
-  pub goal : old.goal ≡ Unterm parent left
-  pub plan : IsUntermPlan parent left version unterm
-
--- what a round does with a page that was read whole
-abbrev pub Treats : WriteRound → Version → WriteRound → Option WriteEnd → Type 0
-Treats old version new None = GoesAside old version new ⊎ GoesBelow old version new ⊎ GoesToMerge old version new ⊎ GoesToUnterm old version new
-Treats old version new (Some end.Again) = EndsBelow old version
-Treats old version new (Some end.Done) = EndsClean old version ⊎ EndsUnmerged old version ⊎ EndsUncut old version
-Treats old version new (Some (end.Removed removed)) = EndsRemoved old version removed
-Treats old version new (Some (end.Consolidate page)) = EndsLong old version page
-Treats old version new (Some (end.Split page plan)) = EndsWide old version page plan
-Treats old version new (Some (end.Term parent term)) = EndsUnposted old version parent term
-Treats old version new (Some (end.Root left root)) = EndsUnrooted old version left root
-Treats old version new (Some (end.Leaf parent leaf)) = EndsFine old version parent leaf
-Treats old version new (Some (end.Merge left removed merge)) = EndsMerged old version left removed merge
-Treats old version new (Some (end.Unterm parent left removed unterm)) = EndsCut old version parent left removed unterm
-
--- what is made of the removed page to the right of a leaf that was read again
-abbrev pub Merges : Version → Version → WriteEnd → Type 0
-Merges left version end.Done = ¬ CanMerge left version
-Merges left version (end.Merge at removed merge) = (at ≡ left) × (removed ≡ version) × IsMergePlan left version merge
-Merges left version other = ⊥
-
--- what is made of the page that was merged
-abbrev pub Cuts : Version → Version → Version → WriteEnd → Type 0
-Cuts parent left version end.Done = ¬ CanUnterm parent left version
-Cuts parent left version (end.Unterm above at removed unterm) = (above ≡ parent) × (at ≡ left) × (removed ≡ version) × IsUntermPlan parent left version unterm
-Cuts parent left version other = ⊥
-
--- by the goal: the removed page is one that there may be; the parent isn't removed
-abbrev pub CanMeet : Limits → Goal → Type 0
-CanMeet limits Seek = ⊤
-CanMeet limits (Left pid) = (0 < pid) × (pid < limits.pids)
-CanMeet limits (Merge left) = ⊤
-CanMeet limits (Unterm parent left) = is_removed parent.chain ≡ false
-
--- The round has reached the page, and the parent isn't removed.
-pub record CanTreat (round : WriteRound) (version : Version) : Type 0 where
-  pub reached : IsReached round.limits (way_of round.goal round.key) version
-  pub above : IfSome round.parent (λ parent. is_removed parent.chain ≡ false)
-  pub meets : CanMeet round.limits round.goal
-
--- a page was found that the round has reached, or none
-abbrev pub CanSee : WriteRound → page_sight.Sight → Type 0
-CanSee round page_is.Empty = ⊤
-CanSee round (page_is.Whole version) = CanTreat round version
-
--- what a round does with what a visit found
-abbrev pub Sees : WriteRound → page_sight.Sight → WriteRound → Option WriteEnd → Type 0
-Sees old page_is.Empty new result = result ≡ Some end.Again
-Sees old (page_is.Whole version) new result = Treats old version new result
-
--- The round is on its way to a page, or its visit goes on.
-pub record GoesOnWay (old : WriteRound) (told : Answer Record) (new : WriteRound) (result : Option WriteEnd) : Type 0 where
-  pub on : Moves (descent_of old) told (descent_of new) None
-  pub same : new ≡ at old new.state
-  pub none : result ≡ None
-
--- The visit of a page ended.
-pub record GoesFrom (old : WriteRound) (told : Answer Record) (new : WriteRound) (result : Option WriteEnd) : Type 0 where
-  pub sight : page_sight.Sight
-  pub finds : Finds (descent_of old) told sight
-  pub sees : Sees old sight new result
-
--- what a round makes of an answer
-abbrev pub Responds : WriteRound → Answer Record → WriteRound → Option WriteEnd → Type 0
-Responds old told new result = GoesOnWay old told new result ⊎ GoesFrom old told new result
 
 -- how many reads are kept for a round after this one: those of one that was begun for a removed page
 abbrev pub kept_for : ℕ → Goal → ℕ
@@ -559,5 +351,6 @@ pub record IsSame (old new : WriteRound) : Type 0 where
   pub limits : new.limits ≡ old.limits
   pub key : new.key ≡ old.key
   pub due : new.due ≡ old.due
+  pub tends : new.tends ≡ old.tends
   pub floor : new.floor ≡ old.floor
   pub seeks : old.goal ≡ Seek → new.goal ≡ Seek

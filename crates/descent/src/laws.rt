@@ -7,6 +7,7 @@ ghost use Rattle.chain_search.specs.Fitting.{Fits};
 ghost use Rattle.chain_search.specs.Knowledge.{Knowledge};
 ghost use Rattle.chain_search.specs.Recalled.{Recalled};
 ghost use Rattle.descent.specs.ReadRounds as reader;
+ghost use Rattle.descent.specs.WriteResponses as response;
 ghost use Rattle.descent.specs.WriteRounds as writer;
 ghost use Rattle.descent.specs.Walks.{few_reads, with_walk};
 ghost use Rattle.descent.specs.Courses.{Seek};
@@ -53,18 +54,18 @@ pub fn write_rounds_follow()
     ensures follows { (old new : writer.WriteRound) (told : Answer Record) (result : Option WriteEnd) (k : Knowledge) (r : Recalled)
         → writer.Shows old k r
         → Fits old.limits k (writer.wanted old) told
-        → writer.Responds old told new result
+        → response.Responds old told new result
         → writer.Follows k r old told new result }
     ensures spends { (reserve kept : ℕ) (old new : writer.WriteRound) (told : Answer Record) (result : Option WriteEnd) (k : Knowledge) (r : Recalled)
         → writer.Shows old k r
         → Fits old.limits k (writer.wanted old) told
-        → writer.Responds old told new result
+        → response.Responds old told new result
         → writer.Spends reserve kept r old told new result }
 {}
 
 /// A round to the left of a removed page that goes on doesn't become one to the leaf of its key.
 pub fn left_rounds_stay()
-    ensures { (old new : writer.WriteRound) (told : Answer Record) → writer.Responds old told new None → new.goal ≡ Seek → old.goal ≡ Seek }
+    ensures { (old new : writer.WriteRound) (told : Answer Record) → response.Responds old told new None → new.goal ≡ Seek → old.goal ≡ Seek }
 {}
 
 /// The leaf at which a reader's round ends was read while it stood, also the one that is removed.
@@ -77,17 +78,17 @@ pub fn leaves_stand()
         → WasStanding k removed.head removed.chain }
 {}
 
-/// The changes of a removal may be linked: the plans that a round ends with, and those that are given for the parent and the leaf
-/// of its end.
+/// The changes of a removal may be linked: the plans that a round ends with, and those that are given for a page where it ends and
+/// the one above, which was read before it.
 pub fn removals_are_due()
-    ensures hold { (round : writer.WriteRound) (k : Knowledge) (r : Recalled) (parent leaf : Version) (hold : Hold)
-        → writer.IsLeafEnd round k r (Some parent) leaf
-        → IsHoldPlan parent leaf hold
+    ensures hold { (limits : Limits) (k : Knowledge) (r : Recalled) (parent page : Version) (hold : Hold)
+        → writer.IsUpper limits k r page parent
+        → IsHoldPlan parent page hold
         → MayHold parent.head parent.chain (kind.Hold hold) }
-    ensures remove { (round : writer.WriteRound) (k : Knowledge) (r : Recalled) (parent leaf : Version) (remove : Remove)
-        → writer.IsLeafEnd round k r (Some parent) leaf
-        → IsRemovePlan parent leaf remove
-        → MayRemove k leaf.pid leaf.head leaf.chain (kind.Remove remove) }
+    ensures remove { (limits : Limits) (k : Knowledge) (r : Recalled) (parent page : Version) (remove : Remove)
+        → writer.IsUpper limits k r page parent
+        → IsRemovePlan parent page remove
+        → MayRemove k page.pid page.head page.chain (kind.Remove remove) }
     ensures merge { (round : writer.WriteRound) (k : Knowledge) (r : Recalled) (left removed : Version) (merge : Merge)
         → writer.IsMergeEnd round k r left removed merge
         → MayMerge k left.head left.chain (kind.Merge merge) }

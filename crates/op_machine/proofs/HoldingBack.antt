@@ -19,9 +19,10 @@ use Rattle.chain_search.specs.Recalled.{Recalled}
 use Rattle.chain_search.proofs.FittedLaws.{ruled}
 use Rattle.descent.specs.WriteRounds.{IsTermed, IsUpper}
 use Rattle.smo.specs.Holds.{CanHold, HasFreeNeighbours}
+use Rattle.smo.specs.Upkeep.{IsIdle, IsSmall}
 use Rattle.smo.specs.declared.version.Version.{Version}
 use Rattle.smo.proofs.Places.{from_made, index_at, made}
-use Rattle.op_machine.specs.Upkeep.{IsIdle, IsIdleFor, IsSmall, tidies}
+use Rattle.op_machine.specs.Upkeep.{IsIdleFor, tidies}
 
 neither : (a b : Bool) → (a || b) ≡ false → (a ≡ false) × (b ≡ false)
 neither true b h = cc

@@ -6,6 +6,7 @@ use Rattle.chain_search.specs.Fitting.{Fits}
 use Rattle.chain_search.specs.Knowledge.{Knowledge, learn}
 use Rattle.chain_search.specs.Recalled.{IsStepSpent, Recalled, recall}
 use Rattle.descent.specs.ReadRounds as read
+use Rattle.descent.specs.WriteResponses as response
 use Rattle.descent.specs.WriteRounds as write
 use Rattle.descent.specs.ReadGoals.{Goal}
 use Rattle.descent.specs.ReadGoals as read_to
@@ -74,7 +75,7 @@ module _ (task : Task) (spares : Spares) (k : Knowledge) (r : Recalled) (round n
   read_leaves (Some end) spends = read_left end spends
 
 -- a round that has gone to a leaf from the first goes there, and one that hasn't doesn't
-still_goes_left : (old new : write.WriteRound) (told : Answer Record) → write.Responds old told new None → new.goal ≡ Seek → old.goal ≡ Seek
+still_goes_left : (old new : write.WriteRound) (told : Answer Record) → response.Responds old told new None → new.goal ≡ Seek → old.goal ≡ Seek
 still_goes_left old new told responds is = elim responds [
   | inl on ↦ sym (ap (λ (round : write.WriteRound). round.goal) on.same) ∙ is
   | inr from ↦ by_sight from.sight from.sees
@@ -83,7 +84,7 @@ still_goes_left old new told responds is = elim responds [
     back : (to : write.WriteRound) → new ≡ to → to.goal ≡ Seek
     back to same = subst (λ (round : write.WriteRound). round.goal ≡ Seek) same is
 
-    by_sight : (sight : Sight) → write.Sees old sight new None → old.goal ≡ Seek
+    by_sight : (sight : Sight) → response.Sees old sight new None → old.goal ≡ Seek
     by_sight Empty sees = cc
     by_sight (Whole version) sees = elim sees [
       | inl aside ↦ back _ aside.goes
@@ -97,13 +98,13 @@ still_goes_left old new told responds is = elim responds [
     ]
 
 -- a round that ends at the leaf of a key has gone there
-has_sought : (old new : write.WriteRound) (told : Answer Record) (end : WriteEnd) → write.Responds old told new (Some end) → HasSought old end
+has_sought : (old new : write.WriteRound) (told : Answer Record) (end : WriteEnd) → response.Responds old told new (Some end) → HasSought old end
 has_sought old new told (write_end.Leaf parent leaf) responds = elim responds [
   | inl on ↦ (let e = on.none in cc)
   | inr from ↦ by_sight from.sight from.sees
 ]
   where
-    by_sight : (sight : Sight) → write.Sees old sight new (Some (write_end.Leaf parent leaf)) → old.goal ≡ Seek
+    by_sight : (sight : Sight) → response.Sees old sight new (Some (write_end.Leaf parent leaf)) → old.goal ≡ Seek
     by_sight Empty sees = cc
     by_sight (Whole version) sees = sees.seeks
 has_sought old new told write_end.Again responds = tt
@@ -113,11 +114,12 @@ has_sought old new told (write_end.Consolidate page) responds = tt
 has_sought old new told (write_end.Split page plan) responds = tt
 has_sought old new told (write_end.Term parent term) responds = tt
 has_sought old new told (write_end.Root left root) responds = tt
+has_sought old new told (write_end.Tend parent page upkeep) responds = tt
 has_sought old new told (write_end.Merge left removed merge) responds = tt
 has_sought old new told (write_end.Unterm parent left removed unterm) responds = tt
 
 module _ (task : Task) (spares : Spares) (k : Knowledge) (r : Recalled) (round new : write.WriteRound) (told : Answer Record) (h : IsInWriteRound task spares k r round) (fits : Fits task.limits k (write.wanted round) told) where
-  pub write_on : write.Responds round told new None → write.IsSame round new → write.Follows k r round told new None → IsInWriteRound task spares (learn k (write.wanted round) told) (recall r (write.wanted round) told) new
+  pub write_on : response.Responds round told new None → write.IsSame round new → write.Follows k r round told new None → IsInWriteRound task spares (learn k (write.wanted round) told) (recall r (write.wanted round) told) new
   write_on responds same follows = record {
     seeks = seeks_still task spares k h.seeks task.limits (write.wanted round) told (writer_reads round k r h.shows) fits;
     writer = h.writer;
@@ -126,11 +128,12 @@ module _ (task : Task) (spares : Spares) (k : Knowledge) (r : Recalled) (round n
       some = rw same.due h.round_of.some;
       key = λ is. same.key ∙ h.round_of.key (still_goes_left round new told responds is);
       due = λ is. same.due ∙ h.round_of.due (still_goes_left round new told responds is);
+      tends = λ is. same.tends ∙ h.round_of.tends (still_goes_left round new told responds is);
     };
     shows = follows;
   }
 
-  pub write_ended : (end : WriteEnd) → write.Responds round told new (Some end) → write.Ends round (learn k (write.wanted round) told) (recall r (write.wanted round) told) end → FacesWritten task spares (learn k (write.wanted round) told) (recall r (write.wanted round) told) end
+  pub write_ended : (end : WriteEnd) → response.Responds round told new (Some end) → write.Ends round (learn k (write.wanted round) told) (recall r (write.wanted round) told) end → FacesWritten task spares (learn k (write.wanted round) told) (recall r (write.wanted round) told) end
   write_ended end responds ends = record {
     seeks = seeks_still task spares k h.seeks task.limits (write.wanted round) told (writer_reads round k r h.shows) fits;
     writer = h.writer;
@@ -161,12 +164,13 @@ module _ (task : Task) (spares : Spares) (k : Knowledge) (r : Recalled) (round n
   write_left (write_end.Split page plan) some = inl (omega (arith, some))
   write_left (write_end.Term parent term) some = inl (omega (arith, some))
   write_left (write_end.Root left root) some = inl (omega (arith, some))
+  write_left (write_end.Tend parent page upkeep) some = inl (omega (arith, some))
   write_left (write_end.Leaf parent leaf) some = inl (omega (arith, some))
   write_left (write_end.Merge left removed merge) kept = inl (omega (arith, kept))
   write_left (write_end.Unterm parent left removed unterm) kept = inl (omega (arith, kept))
 
   -- whatever the round makes of the answer
-  pub write_comes : write.IsSame round new → (result : Option WriteEnd) → write.Responds round told new result → write.Follows k r round told new result → Comes task k r (Some (write.wanted round)) told (at.Write new) spares (written_out result)
+  pub write_comes : write.IsSame round new → (result : Option WriteEnd) → response.Responds round told new result → write.Follows k r round told new result → Comes task k r (Some (write.wanted round)) told (at.Write new) spares (written_out result)
   write_comes same None responds follows = (write_on responds same follows, refl)
   write_comes same (Some end) responds ends = write_ended end responds ends
 

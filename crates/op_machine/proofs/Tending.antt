@@ -1,5 +1,7 @@
--- What is due of a small leaf's removal may be linked.
-use Rattle.std.proofs.Common.{◌≡◌, inl, inr, ℕ, suc, Option, Some, None, false, refl}
+-- What is due at a small page may be linked.
+use Rattle.std.proofs.Common.{◌≡◌, ℕ, suc, List, [], ◌∷◌, Option, Some, None, true, false, refl, sym, ◌∙◌}
+use Rattle.bw_model.specs.declared.command.Command.{Command}
+use Rattle.bw_model.specs.Replies.{is_writer}
 use Rattle.deltas.specs.declared.record.Hold.{Hold}
 use Rattle.deltas.specs.declared.record.Record.TheVariants as kind
 use Rattle.deltas.specs.declared.record.Remove.{Remove}
@@ -7,6 +9,8 @@ use Rattle.chain_search.specs.Chains.{is_removed, level_in}
 use Rattle.chain_search.specs.Fitted.{IsPageChain}
 use Rattle.chain_search.specs.Knowledge.{Knowledge}
 use Rattle.chain_search.specs.Recalled.{Recalled}
+use Rattle.descent.specs.Versions.{IsAlive}
+use Rattle.descent.specs.WriteEnds as end
 use Rattle.descent.specs.WriteRounds.{IsUpper}
 use Rattle.installs.specs.Changes.{MayInstall}
 use Rattle.installs.specs.Spares.{Spares}
@@ -14,40 +18,54 @@ use Rattle.installs.specs.declared.plan.Plan.{Plan}
 use Rattle.smo.specs.Holds.{IsHoldPlan}
 use Rattle.smo.specs.Readings.{HasSeen}
 use Rattle.smo.specs.Removals.{IsRemovePlan}
+use Rattle.smo.specs.Upkeep.{IsDue}
+use Rattle.smo.specs.declared.upkeep.Upkeep.{Upkeep}
+use Rattle.smo.specs.declared.upkeep.Upkeep.TheVariants.{Hold as HoldTerm, Remove as RemovePage}
 use Rattle.smo.specs.declared.version.Version.{Version}
-use Rattle.op_machine.specs.Outcomes.{IsAtLeaf, IsAtLeafBelow}
+use Rattle.op_machine.specs.Errands.{tends_of}
+use Rattle.op_machine.specs.Outcomes.{FacesWritten, IsAtLeafBelow}
 use Rattle.op_machine.specs.Shows.{MayBegin}
-use Rattle.op_machine.specs.Tasks.{Task}
-use Rattle.op_machine.specs.Upkeep.{IsUpkeepFor}
+use Rattle.op_machine.specs.Tasks.{Seeks, Task}
+use Rattle.op_machine.specs.Upkeep.{IsUpkeepFor, plan_of, tidies}
 use Rattle.op_machine.specs.declared.then.Then.TheVariants.{Round}
+
+-- a round that tends small pages is one of a deletion or a tidying
+tends_only : (errands : List (List ℕ)) (command : Command) → tends_of errands command ≡ true → tidies command ≡ true
+tends_only [] command e = e
+tends_only (key ∷ errands) command e = cc
 
 module _ (task : Task) (spares : Spares) (k : Knowledge) (r : Recalled)
     (holds : (actor : ℕ) (k : Knowledge) (parent page : Version) (hold : Hold) → HasSeen k parent → is_removed parent.chain ≡ false → IsPageChain parent.chain → IsHoldPlan parent page hold → MayInstall actor k parent.pid parent.head (kind.Hold hold))
     (removes : (actor : ℕ) (k : Knowledge) (parent page : Version) (remove : Remove) → HasSeen k parent → is_removed parent.chain ≡ false → IsPageChain parent.chain → level_in parent.chain ≡ suc (level_in page.chain) → HasSeen k page → IsRemovePlan parent page remove → MayInstall actor k page.pid page.head (kind.Remove remove)) where
-  begins : (page : Version) (plan : Plan) (parent leaf : Version) → IsAtLeaf task spares k r leaf → IsUpper task.limits k r leaf parent → IsUpkeepFor task.command (Some parent) leaf plan → MayBegin task spares k r plan Round
-  begins page plan parent leaf at u h = elim h.1.is [
-    | inl removal ↦ rw removal.is (record {
-      seeks = at.seeks;
-      writer = at.writer;
-      may = record { inside = at.seeks.inside; links = removes task.actor k parent leaf removal.remove u.page.in_hand.seen u.page.alive u.page.in_hand.sound.is_chain u.up at.page.in_hand.seen removal.due };
-      keeps = tt;
-      brings = (tt, tt, refl, h.0);
-      useful = tt;
-      split = tt;
-      recalled = at.page.recalled;
-    })
-    | inr holding ↦ rw holding.is (record {
-      seeks = at.seeks;
-      writer = at.writer;
-      may = record { inside = at.seeks.inside; links = holds task.actor k parent leaf holding.hold u.page.in_hand.seen u.page.alive u.page.in_hand.sound.is_chain holding.due };
-      keeps = tt;
-      brings = (tt, tt, refl, h.0);
-      useful = tt;
-      split = tt;
-      recalled = u.page.recalled;
-    })
-  ]
+  begins : (parent page : Version) (upkeep : Upkeep) → Seeks task spares k → is_writer task.command ≡ true → tidies task.command ≡ true → IsAlive task.limits k r page → IsUpper task.limits k r page parent → IsDue parent page upkeep → MayBegin task spares k r (plan_of parent page upkeep) Round
+  begins parent page (RemovePage remove) seeks writer tidy alive u due = record {
+    seeks = seeks;
+    writer = writer;
+    may = record { inside = seeks.inside; links = removes task.actor k parent page remove u.page.in_hand.seen u.page.alive u.page.in_hand.sound.is_chain u.up alive.in_hand.seen due };
+    keeps = tt;
+    brings = (tt, tt, refl, tidy);
+    useful = tt;
+    split = tt;
+    recalled = alive.recalled;
+  }
+  begins parent page (HoldTerm hold) seeks writer tidy alive u due = record {
+    seeks = seeks;
+    writer = writer;
+    may = record { inside = seeks.inside; links = holds task.actor k parent page hold u.page.in_hand.seen u.page.alive u.page.in_hand.sound.is_chain due.1 };
+    keeps = tt;
+    brings = (tt, tt, refl, tidy);
+    useful = tt;
+    split = tt;
+    recalled = u.page.recalled;
+  }
 
+  -- at a small leaf, and at a small page on the way
   pub may_tend : (parent : Option Version) (leaf : Version) (plan : Plan) → IsUpkeepFor task.command parent leaf plan → IsAtLeafBelow task spares k r parent leaf → MayBegin task spares k r plan Round
   may_tend None leaf plan h below = absurd h
-  may_tend (Some parent) leaf plan h below = begins leaf plan parent leaf below.at below.above h
+  may_tend (Some parent) leaf plan h below = rw h.1.is (begins parent leaf h.1.upkeep below.at.seeks below.at.writer h.0 below.at.page below.above h.1.due.due)
+
+  pub may_tend_on_way : (parent page : Version) (upkeep : Upkeep) → FacesWritten task spares k r (end.Tend parent page upkeep) → MayBegin task spares k r (plan_of parent page upkeep) Round
+  may_tend_on_way parent page upkeep h =
+      let ends = h.ends in
+      let tidy : tidies task.command ≡ true = tends_only task.errands task.command (sym (h.round_of.tends ends.seeks) ∙ ends.tends) in
+      begins parent page upkeep h.seeks h.writer tidy (rw h.round_of.limits at ends.page) (rw h.round_of.limits at ends.above) ends.due.due

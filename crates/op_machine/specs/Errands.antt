@@ -1,8 +1,9 @@
 -- For which key an operation's rounds look, and what is due there.
-use Rattle.std.specs.Prelude.{◌∷◌, [], ◌++◌, ◌-◌, ℕ, List, length, nat_lt, if◌then◌else◌, slice_get, unwrap_or}
+use Rattle.std.specs.Prelude.{◌∷◌, [], ◌++◌, ◌-◌, ℕ, List, Bool, false, length, nat_lt, if◌then◌else◌, slice_get, unwrap_or}
 use Rattle.bw_model.specs.declared.command.Command.{Command}
 use Rattle.bw_model.specs.declared.command.Command.TheVariants.{Delete, Get, Insert, Page, Swap, Tidy, Upsert}
 use Rattle.bw_model.specs.Replies.{command_key}
+use Rattle.op_machine.specs.Upkeep.{tidies}
 
 -- at most 16 errands are kept
 abbrev pub with_errand : List ℕ → List (List ℕ) → List (List ℕ)
@@ -22,3 +23,8 @@ due_of [] (Delete key) = 8
 due_of [] (Swap key expected value) = 8
 due_of [] (Page key) = 8
 due_of (key ∷ errands) command = 8
+
+-- Whether a round holds and removes small pages of level 1 on its way: that of a deletion or a tidying for its own key does.
+abbrev pub tends_of : List (List ℕ) → Command → Bool
+tends_of [] command = tidies command
+tends_of (key ∷ errands) command = false

@@ -1,5 +1,5 @@
 -- The places of an operation: the state that they are, by where the operation stands.
-use Rattle.std.specs.Prelude.{◌≡◌, Bool, true, false, Option, Some, None, ℕ}
+use Rattle.std.specs.Prelude.{◌≡◌, false, Option, Some, None}
 use Rattle.bw_model.specs.declared.command.Reply.{Reply as ReplyOf}
 use Rattle.bw_model.specs.declared.limits.Limits.{Limits}
 use Rattle.bw_model.specs.declared.step.Answer.{Answer}
@@ -7,6 +7,7 @@ use Rattle.deltas.specs.declared.record.Record.{Record}
 use Rattle.chain_search.specs.Chains.{level_in, low_in}
 use Rattle.descent.specs.Courses as course
 use Rattle.descent.specs.ReadRounds as read
+use Rattle.descent.specs.WriteResponses as response
 use Rattle.descent.specs.WriteRounds as write
 use Rattle.descent.specs.Descents.{Root}
 use Rattle.descent.specs.ReadEnds.{ReadEnd}
@@ -54,6 +55,7 @@ left_of writer = record {
   limits = writer.round.limits;
   key = low_in writer.page.chain;
   due = 8;
+  tends = false;
   floor = level_in writer.page.chain;
   goal = course.Left writer.page.pid;
   parent = None;
@@ -69,7 +71,7 @@ pub record Reads (old : Places) (told : Answer Record) (new : Places) (result : 
 
 -- The same of the writer's round.
 pub record Writes (old : Places) (told : Answer Record) (new : Places) (result : Option WriteEnd) : Type 0 where
-  pub responds : write.Responds old.writer.round told new.writer.round result
+  pub responds : response.Responds old.writer.round told new.writer.round result
   pub same : write.IsSame old.writer.round new.writer.round
   pub only : new ≡ record old { writer = new.writer }
 

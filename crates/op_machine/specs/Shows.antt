@@ -21,7 +21,7 @@ use Rattle.chain_search.specs.Within.{IsWithin}
 use Rattle.installs.specs.declared.plan.Plan.{Plan}
 use Rattle.bw_model.specs.Replies.{is_writer}
 use Rattle.op_machine.specs.Brings.{Brings, IsReadPlan, IsUsefulPlan}
-use Rattle.op_machine.specs.Errands.{due_of, way_key}
+use Rattle.op_machine.specs.Errands.{due_of, tends_of, way_key}
 use Rattle.op_machine.specs.Tasks.{IsAsked, IsBetweenChanges, IsUnreadPid, Seeks, Task, Waits}
 use Rattle.op_machine.specs.States.{State, Begun, Epoch, Enter, Read, Write, Change, Leave}
 use Rattle.op_machine.specs.declared.then.Then.{Then}
@@ -40,6 +40,7 @@ pub record IsRoundOf (task : Task) (round : write.WriteRound) : Type 0 where
   pub some : 0 < round.due
   pub key : round.goal ≡ Seek → round.key ≡ way_key task.errands task.command
   pub due : round.goal ≡ Seek → round.due ≡ due_of task.errands task.command
+  pub tends : round.goal ≡ Seek → round.tends ≡ tends_of task.errands task.command
 
 -- A writer's round is under way.
 pub record IsInWriteRound (task : Task) (spares : Spares) (k : Knowledge) (r : Recalled) (round : write.WriteRound) : Type 0 where

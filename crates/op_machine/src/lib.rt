@@ -13,7 +13,6 @@ mod read_ends;
 mod task;
 mod then;
 mod unlinked;
-mod upkeep;
 mod write_ends;
 
 pub use errands::MAX_ERRANDS;

@@ -165,11 +165,11 @@ impl<A: Allocator> Places<A> {
     }
 
     /// A writer's round to the leaf of the key begins.
-    pub(crate) fn write(&mut self, key: &Key, due: usize)
+    pub(crate) fn write(&mut self, key: &Key, due: usize, tends: bool)
         requires due { 0 < due }
-        ensures { self.new ≡ record self.old { stand = Stand.Write; writer = record self.old.writer { round = record { limits = self.old.writer.round.limits; key = key.now; due = due; floor = 0; goal = course.Seek; parent = None; left = None; state = Root } } } }
+        ensures { self.new ≡ record self.old { stand = Stand.Write; writer = record self.old.writer { round = record { limits = self.old.writer.round.limits; key = key.now; due = due; tends = tends; floor = 0; goal = course.Seek; parent = None; left = None; state = Root } } } }
     {
-        self.writer.restart(key, due);
+        self.writer.restart(key, due, tends);
         self.stand = Stand::Write;
     }
 

@@ -32,7 +32,7 @@ impl Task {
         ensures have { HaveLimits self.now.limits places.new }
     {
         if self.command().is_writer() {
-            places.write(self.way_key(), self.due());
+            places.write(self.way_key(), self.due(), self.tends());
             return;
         }
         places.read(self.command().key());

@@ -7,7 +7,7 @@ ghost use Rattle.bw_model.specs.Pairs.{ArePairsOf};
 ghost use Rattle.bw_model.specs.Replies.{is_writer, update_of};
 ghost use Rattle.bw_model.specs.declared.command.Reply.TheVariants as reply;
 ghost use Rattle.op_machine.specs.Brings.{update_over};
-ghost use Rattle.op_machine.specs.Errands.{due_of, way_key, with_errand};
+ghost use Rattle.op_machine.specs.Errands.{due_of, tends_of, way_key, with_errand};
 ghost use Rattle.sweep.specs.Bounded.{steps_left as steps_of};
 ghost use Rattle.sweep.specs.Kept.{IsLimboOf};
 ghost use Rattle.sweep.specs.Moves.{IsEmpty};
@@ -138,6 +138,16 @@ impl Task {
         match (&self.command, self.errands.newest()) {
             (Command::Tidy(_), None) => 1,
             _ => MANY_DELTAS,
+        }
+    }
+
+    /// Whether a round holds and removes small pages of level 1 on its way: that of a deletion or a tidying for its own key does.
+    pub(crate) fn tends(&self) -> bool
+        ensures { result ≡ tends_of self.now.errands self.now.command }
+    {
+        match (&self.command, self.errands.newest()) {
+            (Command::Delete(_) | Command::Tidy(_), None) => true,
+            _ => false,
         }
     }
 

@@ -1,6 +1,5 @@
 //! What an operation makes of the end of a writer's round, where its pages stand, and of the end of a change.
-ghost use Rattle.std.specs.Prelude.{◌≡◌, ◌≤◌, ◌+◌, ◌-◌, [], Option, IfSome, IsSome, MatchOption, false, length, take};
-ghost use Rattle.chain_search.specs.Chains.{is_removed};
+ghost use Rattle.std.specs.Prelude.{◌≡◌, ◌≤◌, ◌+◌, ◌-◌, [], Option, IsSome, MatchOption, length, take};
 ghost use Rattle.chain_search.specs.Knowledge.{Knowledge};
 ghost use Rattle.chain_search.specs.Recalled.{Recalled};
 ghost use Rattle.descent.specs.WriteEnds as end;
@@ -12,23 +11,23 @@ ghost use Rattle.op_machine.specs.Outcomes.{FacesChanged, FacesWritten, IsAtLeaf
 ghost use Rattle.op_machine.specs.Places.{HaveLimits, state_of};
 ghost use Rattle.op_machine.specs.Shows.{ShowsState, wanted_at};
 ghost use Rattle.op_machine.specs.Tasks.{IsSameTask};
-ghost use Rattle.op_machine.specs.Upkeep.{IsIdle, IsIdleFor, IsUpkeep, IsUpkeepFor};
+ghost use Rattle.op_machine.specs.Upkeep.{IsIdleFor, IsUpkeepFor, IsUpkeepPlan, plan_of};
 ghost use Rattle.rounds.specs.WriteRounds.{end_of};
+ghost use Rattle.smo.specs.Upkeep.{IsIdle};
 ghost use Rattle.smo.specs.declared.version.Version.{Version};
 
 use crate::places::Places;
 use crate::task::Task;
 use crate::then::{Then, copied};
 use crate::unlinked::Unlinked;
-use crate::upkeep::upkeep;
 use base_page::Page;
 use bw_model::{Command, Reply};
 use chain_search::{chain_is_one, chains_make_pages, updates_fit};
 use deltas::{Merge, Record, Term, Unterm};
 use installs::{End, Plan, Spares, plans_may_be_linked};
-use rounds::{PageInHand, WriteEnded, WriteRound};
+use rounds::{PageInHand, WriteEnded, WriteRound, upkeep_below};
 use row_search::KeyWords;
-use smo::{FEW_ITEMS, SplitPlan};
+use smo::{SplitPlan, Upkeep};
 use std::alloc::Allocator;
 
 impl Task {
@@ -54,6 +53,7 @@ impl Task {
             WriteEnded::Split(plan) => self.begin_split(spares, plan, places),
             WriteEnded::Term(term) => self.begin_term(spares, term, places),
             WriteEnded::Root(root) => self.begin_root(spares, root, places),
+            WriteEnded::Tend(upkeep) => self.begin_upkeep(spares, upkeep, places),
             WriteEnded::Leaf => self.end_at_sought_leaf(spares, places),
             WriteEnded::Merge(merge) => self.begin_merge(spares, merge, places),
             WriteEnded::Unterm(unterm) => self.begin_unlink(spares, unterm, places),
@@ -99,12 +99,11 @@ impl Task {
 
     /// What a deletion or a tidying does first at the small leaf where its round has ended.
     fn upkeep_at<A: Allocator>(&self, round: &WriteRound<A>) -> Option<Plan>
-        requires above { IfSome round.now.round.parent (λ above. is_removed above.chain ≡ false) }
         ensures { MatchOption result (IsIdleFor self.now.command round.now.round.parent round.now.page) (IsUpkeepFor self.now.command round.now.round.parent round.now.page) }
     {
         match (self.command(), round.kept_parent()) {
             (Command::Delete(_) | Command::Tidy(_), Some(parent)) => {
-                upkeep_below(parent, round.page())
+                upkeep_at_leaf(parent, round.page())
             }
             _ => None,
         }
@@ -218,6 +217,21 @@ impl Task {
         places.begin_change(self, spares, plan, Then::Round)
     }
 
+    /// The page in hand, which is small, is removed, or the page in the parent's place holds its term.
+    #[inline(never)]
+    fn begin_upkeep<A: Allocator>(&self, spares: &Spares, upkeep: Upkeep, places: &mut Places<A>)
+        requires have { HaveLimits self.now.limits places.old }
+        requires faced { (k : Knowledge) × (r : Recalled) × FacesWritten self.now spares.now k r (end.Tend places.old.writer.parent places.old.writer.page upkeep) }
+        ensures stands { (k : Knowledge) (r : Recalled) → FacesWritten self.now spares.now k r (end.Tend places.old.writer.parent places.old.writer.page upkeep) → ShowsState self.now spares.now k r (state_of places.new) }
+        ensures few { (r : Recalled) → left_at r spares.now (state_of places.new) ≤ few_changes + 1 }
+        ensures asks { IsSome (wanted_at spares.now (state_of places.new)) }
+        ensures have { HaveLimits self.now.limits places.new }
+    {
+        plans_may_be_linked();
+        let plan = planned(upkeep, places.writer().parent(), places.writer().page());
+        places.begin_change(self, spares, plan, Then::Round)
+    }
+
     /// What the page in hand has, which is removed, comes into the leaf in the left one's place.
     #[inline(never)]
     fn begin_merge<A: Allocator>(&self, spares: &Spares, merge: Merge, places: &mut Places<A>)
@@ -290,26 +304,29 @@ impl Task {
     }
 }
 
-/// What a deletion or a tidying does first at a leaf below a page.
-fn upkeep_below<A: Allocator>(parent: &PageInHand<A>, leaf: &PageInHand<A>) -> Option<Plan>
-    requires alive { is_removed parent.now.chain ≡ false }
-    ensures { MatchOption result (IsIdle parent.now leaf.now) (IsUpkeep parent.now leaf.now) }
+/// What is done first at a small leaf below a page.
+fn upkeep_at_leaf<A: Allocator>(parent: &PageInHand<A>, leaf: &PageInHand<A>) -> Option<Plan>
+    ensures { MatchOption result (IsIdle parent.now leaf.now) (IsUpkeepPlan parent.now leaf.now) }
 {
-    leaf.chain().keeps_rules();
-    if leaf.pid() == 1 {
-        return None;
-    }
-    if leaf.chain().item_count() > FEW_ITEMS {
-        return None;
-    }
-    upkeep_decoded(parent, leaf)
+    let upkeep = upkeep_below(parent, leaf)?;
+    Some(planned(upkeep, parent, leaf))
 }
 
-/// The same where the leaf may be small: both pages are decoded.
+/// The change by which the page is removed, or its parent holds its term.
 #[inline(never)]
-fn upkeep_decoded<A: Allocator>(parent: &PageInHand<A>, leaf: &PageInHand<A>) -> Option<Plan>
-    requires alive { is_removed parent.now.chain ≡ false }
-    ensures { MatchOption result (IsIdle parent.now leaf.now) (IsUpkeep parent.now leaf.now) }
+fn planned<A: Allocator>(upkeep: Upkeep, parent: &PageInHand<A>, page: &PageInHand<A>) -> Plan
+    ensures { result ≡ plan_of parent.now page.now upkeep }
 {
-    upkeep(&parent.version(), &leaf.version())
+    match upkeep {
+        Upkeep::Remove(remove) => Plan::Install {
+            pid: page.pid(),
+            head: page.head(),
+            content: Record::Remove(remove),
+        },
+        Upkeep::Hold(hold) => Plan::Install {
+            pid: parent.pid(),
+            head: parent.head(),
+            content: Record::Hold(hold),
+        },
+    }
 }

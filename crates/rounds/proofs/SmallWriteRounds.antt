@@ -4,6 +4,7 @@ use Rattle.std.specs.Option.{option_map}
 use Rattle.deltas.specs.declared.record.Merge.{Merge as MergeRecord}
 use Rattle.deltas.specs.declared.record.Term.{Term as TermRecord}
 use Rattle.deltas.specs.declared.record.Unterm.{Unterm as UntermRecord}
+use Rattle.smo.specs.declared.upkeep.Upkeep.{Upkeep}
 use Rattle.smo.specs.declared.version.Version.{Version}
 use Rattle.descent.specs.Courses as kept
 use Rattle.descent.specs.WriteRounds as writer
@@ -11,7 +12,7 @@ use Rattle.descent.specs.WriteEnds as end
 use Rattle.rounds.specs.Courses.{goal_of, kept_if}
 use Rattle.rounds.specs.WriteRounds.{WriteRound, again_if, end_of}
 use Rattle.rounds.specs.declared.course.Aim.TheVariants as aim
-use Rattle.rounds.specs.declared.write_ended.WriteEnded.TheVariants.{Removed, Term, Leaf, Merge, Unterm}
+use Rattle.rounds.specs.declared.write_ended.WriteEnded.TheVariants.{Removed, Term, Tend, Leaf, Merge, Unterm}
 
 module _ (round : writer.WriteRound) (first second third : Version) where
   -- the first page is in hand, the second stands in the parent's place, the third in the left one's
@@ -26,6 +27,9 @@ module _ (round : writer.WriteRound) (first second third : Version) where
 
   gets_term : (term : TermRecord) → end_of stands (Term term) ≡ end.Term second term
   gets_term term = refl
+
+  is_small : (upkeep : Upkeep) → end_of stands (Tend upkeep) ≡ end.Tend second first upkeep
+  is_small upkeep = refl
 
   gets_first : (merge : MergeRecord) → end_of stands (Merge merge) ≡ end.Merge third first merge
   gets_first merge = refl

@@ -1,10 +1,11 @@
 -- What a writer's round in its place makes of an answer, by what its descent makes of it.
-use Rattle.std.proofs.Common.{◌≡◌, inl, inr, ℕ, List, Option, None, Some, refl, sym, ap, subst, ◌∙◌}
+use Rattle.std.proofs.Common.{◌≡◌, inl, inr, ℕ, List, Bool, Option, None, Some, refl, sym, ap, subst, ◌∙◌}
 use Rattle.std.specs.Option.{option_map}
 use Rattle.bw_model.specs.declared.limits.Limits.{Limits}
 use Rattle.bw_model.specs.declared.step.Answer.{Answer}
 use Rattle.deltas.specs.declared.record.Record.{Record}
 use Rattle.descent.specs.Descents as from_root
+use Rattle.descent.specs.WriteResponses as response
 use Rattle.descent.specs.WriteRounds as writer
 use Rattle.descent.specs.declared.visit.Sight.TheVariants as sight
 use Rattle.descent.specs.WriteEnds as end
@@ -36,21 +37,21 @@ module _ (was : WriteRound) (now : Descent) (told : Answer Record) where
   pub can_see_now : (seen : Seen) → Moved seen → now.way.limits ≡ was.round.limits → writer.IsTold was.round told → CanSee (after was now) seen
   can_see_now On b limits t = tt
   can_see_now Empty b limits t = tt
-  can_see_now Whole b limits t = subst (λ (l : Limits). writer.CanTreat (with_limits l) now.page) (sym limits) (can_see was.round now.way.state told (sight.Whole now.page) b t)
+  can_see_now Whole b limits t = subst (λ (l : Limits). response.CanTreat (with_limits l) now.page) (sym limits) (can_see was.round now.way.state told (sight.Whole now.page) b t)
 
   -- the round reads on
-  pub goes_on : Moved On → now.way.limits ≡ was.round.limits → writer.Responds was.round told (after was now).round None
+  pub goes_on : Moved On → now.way.limits ≡ was.round.limits → response.Responds was.round told (after was now).round None
   goes_on b limits =
       let same : (after was now).round ≡ with_limits was.round.limits = ap with_limits limits in
       inl (record { on = b; same = same; none = refl })
 
   -- a page that was named isn't there
-  pub is_missing : Moved Empty → writer.Responds was.round told (after was now).round (Some end.Again)
+  pub is_missing : Moved Empty → response.Responds was.round told (after was now).round (Some end.Again)
   is_missing b = inr (record { sight = sight.Empty; finds = b; sees = refl })
 
   -- the round responds as it does with what was seen
   pub responds_now : (seen : Seen) (new : WriteRound) (result : Option WriteEnded) → Moved seen → now.way.limits ≡ was.round.limits → Sees (after was now) seen new result
-      → writer.Responds was.round told new.round (option_map (end_of new) result)
+      → response.Responds was.round told new.round (option_map (end_of new) result)
   responds_now On new result b limits sees =
       let same : new.round ≡ with_limits was.round.limits = ap (λ (r : WriteRound). r.round) sees.0 ∙ ap with_limits limits in
       inl (record {
@@ -60,14 +61,14 @@ module _ (was : WriteRound) (now : Descent) (told : Answer Record) where
       })
   responds_now Empty new result b limits sees = inr (record { sight = sight.Empty; finds = b; sees = ap (option_map (end_of new)) sees })
   responds_now Whole new result b limits sees =
-      let there : writer.Sees (with_limits was.round.limits) (sight.Whole now.page) new.round (option_map (end_of new) result) =
-      subst (λ (l : Limits). writer.Sees (with_limits l) (sight.Whole now.page) new.round (option_map (end_of new) result)) limits sees in
+      let there : response.Sees (with_limits was.round.limits) (sight.Whole now.page) new.round (option_map (end_of new) result) =
+      subst (λ (l : Limits). response.Sees (with_limits l) (sight.Whole now.page) new.round (option_map (end_of new) result)) limits sees in
       inr (record { sight = sight.Whole now.page; finds = b; sees = sees_as was.round new.round was.round.state now.way.state (sight.Whole now.page) (option_map (end_of new) result) there })
 
 -- the round whose fields these are
-abbrev pub placed : List ℕ → ℕ → ℕ → Course → Descent → WriteRound
-placed key due floor course descent = record {
-  round = record { limits = descent.way.limits; key = key; due = due; floor = floor; goal = course.course.goal; parent = course.course.parent; left = course.course.left; state = descent.way.state };
+abbrev pub placed : List ℕ → ℕ → Bool → ℕ → Course → Descent → WriteRound
+placed key due tends floor course descent = record {
+  round = record { limits = descent.way.limits; key = key; due = due; tends = tends; floor = floor; goal = course.course.goal; parent = course.course.parent; left = course.course.left; state = descent.way.state };
   page = descent.page;
   parent = course.parent;
   left = course.left;

@@ -2,7 +2,7 @@
 
 use base_page::Page;
 use deltas::{Merge, Term, Unterm};
-use smo::SplitPlan;
+use smo::{SplitPlan, Upkeep};
 
 /// How a writer's round ends. The pages that an end is about stand in the round.
 #[derive(Debug, Drop)]
@@ -19,6 +19,8 @@ pub enum WriteEnded {
     Term(Term),
     /// The page in the left one's place, which is the root, is to get this root over it and its right.
     Root(Page),
+    /// The page in hand, which is small and on the way, is to be removed, or the page in the parent's place to hold its term.
+    Tend(Upkeep),
     /// The page in hand is the leaf that has the key in its range, below the parent, where one is kept.
     Leaf,
     /// The page in the left one's place is to get what the page in hand has, the removed one to its right.

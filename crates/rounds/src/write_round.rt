@@ -8,11 +8,14 @@ ghost use Rattle.chain_search.specs.Knowledge.{Knowledge};
 ghost use Rattle.chain_search.specs.Recalled.{Recalled};
 ghost use Rattle.descent.specs.Courses as goal;
 ghost use Rattle.descent.specs.Visits.{ReadsWithin, reads_on};
-ghost use Rattle.descent.specs.WriteRounds.{CanTreat, IsFine, IsHere, IsLeftLeaf, IsSame, IsSplitFinished, IsTold, Responds, SeeksLeaf, Shows, Treats, ends_at, goes_left, wanted, way_of};
+ghost use Rattle.descent.specs.WriteResponses.{CanTreat, IsFine, IsHere, IsLeftLeaf, IsSplitFinished, IsTended, Responds, Treats};
+ghost use Rattle.descent.specs.WriteRounds.{IsSame, IsTold, SeeksLeaf, Shows, ends_at, goes_left, wanted, way_of};
 ghost use Rattle.descent.specs.Ways.{LeadsDown, LeadsRight, StaysLeft};
 ghost use Rattle.descent.specs.Descents.{Root};
 ghost use Rattle.rounds.specs.Descents.{step_of};
 ghost use Rattle.rounds.specs.WriteRounds.{CanSee, Sees, again_if, end_of};
+ghost use Rattle.smo.specs.Upkeep.{IsIdle};
+ghost use Rattle.smo.specs.declared.version.Version.{Version};
 
 mod due;
 #[cfg(test)]
@@ -33,6 +36,7 @@ use std::marker::Model;
 pub struct WriteRound<A: Allocator = Global> {
     key: KeyWords,
     due: usize,
+    tends: bool,
     floor: u8,
     course: Course<A>,
     descent: Descent<A>,
@@ -43,18 +47,20 @@ impl<A: Allocator> Model for WriteRound<A> {
 
     ghost Value = { WriteRound };
 
-    ghost view = { λ r. record { round = record { limits = r.descent.way.limits; key = r.key; due = r.due; floor = r.floor; goal = r.course.course.goal; parent = r.course.course.parent; left = r.course.course.left; state = r.descent.way.state }; page = r.descent.page; parent = r.course.parent; left = r.course.left } };
+    ghost view = { λ r. record { round = record { limits = r.descent.way.limits; key = r.key; due = r.due; tends = r.tends; floor = r.floor; goal = r.course.course.goal; parent = r.course.course.parent; left = r.course.course.left; state = r.descent.way.state }; page = r.descent.page; parent = r.course.parent; left = r.course.left } };
 }
 
 impl<A: Allocator + Copy> WriteRound<A> {
-    /// The round to the leaf of the lowest key, before its first step, where as many deltas are due as on any page. Takes the memory for
+    /// The round to the leaf of the lowest key, before its first step, where as many deltas are due as on any page, and no index page is
+    /// held or removed. Takes the memory for
     /// the rows of four pages, 104 KB, and is refused for want of it alone. No later call takes memory.
     pub fn new(alloc: A, limits: &Limits) -> Result<WriteRound<A>, AllocError>
-        ensures { IfOk result (λ round. round.round ≡ record { limits = limits.now; key = []; due = 8; floor = 0; goal = goal.Seek; parent = None; left = None; state = Root }) }
+        ensures { IfOk result (λ round. round.round ≡ record { limits = limits.now; key = []; due = 8; tends = false; floor = 0; goal = goal.Seek; parent = None; left = None; state = Root }) }
     {
         Ok(WriteRound {
             key: KeyWords::of(&Key::default()),
             due: MANY_DELTAS,
+            tends: false,
             floor: 0,
             course: Course::<A>::new(alloc)?,
             descent: Descent::<A>::new(alloc, limits)?,
@@ -70,13 +76,15 @@ impl<A: Allocator> WriteRound<A> {
         self.descent.reset(limits);
     }
 
-    /// Begins a round to the leaf of a key. A leaf with as many deltas as are due is consolidated.
-    pub fn restart(&mut self, key: &Key, due: usize)
+    /// Begins a round to the leaf of a key. A leaf with as many deltas as are due is consolidated; a small page of level 1 is held and
+    /// removed where the round tends such pages.
+    pub fn restart(&mut self, key: &Key, due: usize, tends: bool)
         requires due { 0 < due }
-        ensures { self.new ≡ record self.old { round = record { limits = self.old.round.limits; key = key.now; due = due; floor = 0; goal = goal.Seek; parent = None; left = None; state = Root } } }
+        ensures { self.new ≡ record self.old { round = record { limits = self.old.round.limits; key = key.now; due = due; tends = tends; floor = 0; goal = goal.Seek; parent = None; left = None; state = Root } } }
     {
         self.key = KeyWords::of(key);
         self.due = due;
+        self.tends = tends;
         self.floor = 0;
         self.course.restart(None);
         self.descent.restart();
@@ -84,10 +92,11 @@ impl<A: Allocator> WriteRound<A> {
 
     /// Begins a round to the left of a removed page of this level, which begins at the key.
     pub fn restart_left(&mut self, key: &Key, removed: u16, level: u8)
-        ensures { self.new ≡ record self.old { round = record { limits = self.old.round.limits; key = key.now; due = 8; floor = level; goal = goal.Left removed; parent = None; left = None; state = Root } } }
+        ensures { self.new ≡ record self.old { round = record { limits = self.old.round.limits; key = key.now; due = 8; tends = false; floor = level; goal = goal.Left removed; parent = None; left = None; state = Root } } }
     {
         self.key = KeyWords::of(key);
         self.due = MANY_DELTAS;
+        self.tends = false;
         self.floor = level;
         self.course.restart(Some(removed));
         self.descent.restart();
@@ -303,8 +312,31 @@ impl<A: Allocator> WriteRound<A> {
         if level == floor {
             return self.end();
         }
+        if self.tends {
+            return self.tend();
+        }
         self.go_below();
         None
+    }
+
+    /// Ends at a small page of level 1 where it is to be removed or its term to be held; else goes down.
+    #[inline(never)]
+    fn tend(&mut self) -> Option<WriteEnded>
+        requires can { CanTreat self.old.round self.old.page }
+        requires here { IsHere self.old.round self.old.page }
+        requires fine { IsFine self.old.round.due self.old.page }
+        requires index { ends_at self.old.round.goal self.old.round.floor < level_in self.old.page.chain }
+        requires tends { self.old.round.tends ≡ true }
+        ensures treats { Treats self.old.round self.old.page self.new.round (option_map (end_of self.new) result) }
+        ensures same { IsSame self.old.round self.new.round }
+    {
+        match self.due_upkeep() {
+            Some(upkeep) => Some(WriteEnded::Tend(upkeep)),
+            None => {
+                self.go_below();
+                None
+            }
+        }
     }
 
     /// Goes down to a child of the page, which is the parent of those that are read from now on.
@@ -313,6 +345,7 @@ impl<A: Allocator> WriteRound<A> {
         requires here { IsHere self.old.round self.old.page }
         requires fine { IsFine self.old.round.due self.old.page }
         requires index { ends_at self.old.round.goal self.old.round.floor < level_in self.old.page.chain }
+        requires idle { (parent : Version) → IsTended self.old.round parent self.old.page → IsIdle parent self.old.page }
         ensures treats { Treats self.old.round self.old.page self.new.round None }
         ensures same { IsSame self.old.round self.new.round }
     {

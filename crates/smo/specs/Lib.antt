@@ -9,3 +9,4 @@ pub mod Removals
 pub mod Merges
 pub mod Unterms
 pub mod Linking
+pub mod Upkeep

@@ -49,7 +49,7 @@ pub(crate) fn held_count(items: &[Item]) -> usize
 }
 
 /// Whether no term of the page is held; on a leaf there is none.
-pub fn is_unheld(chain: &Chain) -> bool
+pub(crate) fn is_unheld(chain: &Chain) -> bool
     ensures { Decides result (HasNoneHeld chain.now) }
 {
     chain.keeps_rules();

@@ -12,9 +12,9 @@ mod sizes;
 mod split;
 mod term;
 mod unterm;
+mod upkeep;
 mod version;
 
-pub use held::is_unheld;
 pub use hold::plan_hold;
 pub use laws::{links_keep_the_index, links_keep_the_map, plans_are_due};
 pub use merge::plan_merge;
@@ -24,4 +24,5 @@ pub use sizes::{FEW_ITEMS, MANY_DELTAS, MANY_HELD, MANY_ITEMS, TOP_LEVEL};
 pub use split::{SplitPlan, plan_split};
 pub use term::plan_term;
 pub use unterm::plan_unterm;
+pub use upkeep::{Upkeep, plan_upkeep};
 pub use version::Version;

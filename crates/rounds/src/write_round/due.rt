@@ -4,20 +4,24 @@ ghost use Rattle.std.specs.Bool.{Decides};
 ghost use Rattle.base_page.specs.declared.item.Content.TheVariants.{Child};
 ghost use Rattle.chain_search.specs.Chains.{content_in};
 ghost use Rattle.descent.specs.Courses as goal;
-ghost use Rattle.descent.specs.WriteRounds.{CanTreat, IsLong, Treats};
+ghost use Rattle.descent.specs.WriteResponses.{CanTreat, IsTended, Treats};
+ghost use Rattle.descent.specs.WriteRounds.{IsLong, SeeksLeaf};
 ghost use Rattle.rounds.specs.WriteRounds.{end_of};
 ghost use Rattle.smo.specs.Roots.{CanRoot, IsRootPlan};
 ghost use Rattle.smo.specs.Sizes.{HasManyItems};
 ghost use Rattle.smo.specs.Splits.{CanSplit, IsSplitPlan};
 ghost use Rattle.smo.specs.Terms.{CanPost, IsTermPlan};
+ghost use Rattle.smo.specs.Upkeep.{IsIdle, IsUpkeep};
+ghost use Rattle.smo.specs.declared.version.Version.{Version};
 
-use crate::{WriteEnded, WriteRound};
+use crate::{WriteEnded, WriteRound, upkeep_below};
 use base_page::{Content, Page};
 use deltas::Term;
 use row_chain::Chain;
 use row_search::KeyWords;
 use smo::{
-    MANY_DELTAS, MANY_ITEMS, SplitPlan, plan_merge, plan_root, plan_split, plan_term, plan_unterm,
+    MANY_DELTAS, MANY_ITEMS, SplitPlan, Upkeep, plan_merge, plan_root, plan_split, plan_term,
+    plan_unterm,
 };
 use std::alloc::Allocator;
 
@@ -66,6 +70,21 @@ impl<A: Allocator> WriteRound<A> {
         ensures { MatchOption result (¬ CanRoot self.now.left self.now.page) (IsRootPlan self.now.left self.now.page) }
     {
         plan_root(&self.left().version(), &self.page().version())
+    }
+
+    /// What is done first at the page in hand, where it is small, of level 1 and below the parent, on the way to the leaf of a key.
+    pub(super) fn due_upkeep(&self) -> Option<Upkeep>
+        requires seeks { SeeksLeaf self.now.round.goal }
+        requires tends { self.now.round.tends ≡ true }
+        ensures { MatchOption result ((parent : Version) → IsTended self.now.round parent self.now.page → IsIdle parent self.now.page) (λ upkeep. IsTended self.now.round self.now.parent self.now.page × IsUpkeep self.now.parent self.now.page upkeep) }
+    {
+        if self.is_left() || self.page().chain().level() != 1 {
+            return None;
+        }
+        if !self.course.has_parent() {
+            return None;
+        }
+        upkeep_below(self.parent(), self.page())
     }
 
     /// Ends where the removed page may come into its left page.

@@ -3,7 +3,8 @@ ghost use Rattle.std.specs.Prelude.{◌≡◌, ◌<◌, ◌∷◌, [], true, fal
 ghost use Rattle.chain_search.specs.Chains.{is_removed, low_in};
 ghost use Rattle.chain_search.specs.Fitted.{IsFitted};
 ghost use Rattle.deltas.specs.declared.record.Record.TheVariants.{Base};
-ghost use Rattle.descent.specs.WriteRounds.{CanMeet, way_of};
+ghost use Rattle.descent.specs.WriteResponses.{CanMeet};
+ghost use Rattle.descent.specs.WriteRounds.{way_of};
 
 mod pages;
 
@@ -13,10 +14,10 @@ use crate::{Asked, PageInHand};
 use base_page::Page;
 use bw_model::{Key, Limits};
 use deltas::Record;
-use pages::{based, first, halves, key, leaf, lower, parent, removal};
+use pages::{above, based, first, halves, holding, index, key, leaf, lower, parent, removal};
 use row_chain::{ChainPart, HeldRow};
 use row_search::KeyWords;
-use smo::Version;
+use smo::{Upkeep, Version};
 use std::alloc::{AllocError, Global};
 
 /// How a round went on: to the page that it asks for, or to its end, with the pages that stand in the places which it is about.
@@ -28,6 +29,8 @@ enum Turn {
     Split(u16),
     Term(u16, u16, u16),
     Root(u16),
+    Remove(u16),
+    Hold(u16, u16),
     Leaf(Option<u16>, u16),
     Merge(u16, u16),
     Unterm(u16, u16, u16),
@@ -153,6 +156,8 @@ fn turn_of(round: &WriteRound, ended: Option<&WriteEnded>) -> Turn {
         Some(WriteEnded::Split(_)) => Turn::Split(round.page().pid()),
         Some(WriteEnded::Term(term)) => Turn::Term(round.parent().pid(), term.next, term.child),
         Some(WriteEnded::Root(_)) => Turn::Root(round.left().pid()),
+        Some(WriteEnded::Tend(Upkeep::Remove(_))) => Turn::Remove(round.page().pid()),
+        Some(WriteEnded::Tend(Upkeep::Hold(hold))) => Turn::Hold(round.parent().pid(), hold.child),
         Some(WriteEnded::Leaf) => leaf_turn(round),
         Some(WriteEnded::Merge(_)) => Turn::Merge(round.left().pid(), round.page().pid()),
         Some(WriteEnded::Unterm(_)) => unterm_turn(round),
@@ -187,7 +192,7 @@ fn at_leaf(alloc: Global, deltas: usize, items: u8, due: usize) -> Turn
     let Ok(mut desk) = set_up(alloc) else {
         return Turn::Other;
     };
-    desk.round.restart(&key(b"x"), due);
+    desk.round.restart(&key(b"x"), due, false);
     meet(&mut desk, &first(deltas.min(12), leaf(items)))
 }
 
@@ -230,7 +235,7 @@ fn seeking(alloc: Global) -> Option<[Turn; 2]> {
     let Ok(mut desk) = set_up(alloc) else {
         return None;
     };
-    desk.round.restart(&key(b"y"), 8);
+    desk.round.restart(&key(b"y"), 8, false);
     meet_halves(&mut desk)
 }
 
@@ -244,7 +249,7 @@ fn below_parent(alloc: Global) -> Option<(Turn, Option<[Turn; 2]>)> {
     let Ok(mut desk) = set_up(alloc) else {
         return None;
     };
-    desk.round.restart(&key(b"y"), 8);
+    desk.round.restart(&key(b"y"), 8, false);
     let down = meet(&mut desk, &parent());
     Some((down, meet_halves(&mut desk)))
 }
@@ -260,7 +265,7 @@ fn down_to_a_leaf(alloc: Global) -> Option<[Turn; 2]> {
     let Ok(mut desk) = set_up(alloc) else {
         return None;
     };
-    desk.round.restart(&key(b"y"), 8);
+    desk.round.restart(&key(b"y"), 8, false);
     let down = meet(&mut desk, &parent());
     Some([down, meet(&mut desk, &first(0, leaf(3)))])
 }
@@ -269,6 +274,85 @@ fn down_to_a_leaf(alloc: Global) -> Option<[Turn; 2]> {
 fn ends_below_the_parent(rt: HostRuntime) {
     let turns = [Turn::To(1), Turn::Leaf(Some(5), 1)];
     assert_eq!(rt; down_to_a_leaf(rt.alloc()), Some(turns));
+}
+
+/// What the round does at an index page below one that has its term, held or not.
+fn meet_index(desk: &mut Desk, index: &Version, held: bool) -> Option<Turn>
+    requires limits { desk.old.round.round.limits.pids ≡ 4096 }
+{
+    let above = above(index, held)?;
+    meet(desk, &above);
+    Some(meet(desk, index))
+}
+
+/// What a writer does on its way at an index page of so many terms.
+fn on_way(alloc: Global, terms: u8, held: bool, tends: bool) -> Option<Turn> {
+    let Ok(mut desk) = set_up(alloc) else {
+        return None;
+    };
+    desk.round.restart(&key(b"z"), 8, tends);
+    meet_index(&mut desk, &index(terms)?, held)
+}
+
+#[test]
+fn removes_a_small_index_page(rt: HostRuntime) {
+    let turns = [
+        on_way(rt.alloc(), 1, true, true),
+        on_way(rt.alloc(), 4, true, true),
+        on_way(rt.alloc(), 1, false, true),
+        on_way(rt.alloc(), 4, false, true),
+    ];
+    let (remove, hold) = (Some(Turn::Remove(6)), Some(Turn::Hold(9, 6)));
+    assert_eq!(rt; turns, [remove, remove, hold, hold]);
+}
+
+/// What a writer that removes small index pages does on its way at one that has a held term.
+fn at_holding(alloc: Global) -> Option<Turn> {
+    let Ok(mut desk) = set_up(alloc) else {
+        return None;
+    };
+    desk.round.restart(&key(b"z"), 8, true);
+    meet_index(&mut desk, &holding()?, true)
+}
+
+/// The same at the first one.
+fn at_first(alloc: Global) -> Option<Turn> {
+    let Ok(mut desk) = set_up(alloc) else {
+        return None;
+    };
+    desk.round.restart(&key(b"z"), 8, true);
+    let above = above(&index(1)?, false)?;
+    meet(&mut desk, &above);
+    Some(meet(&mut desk, &parent()))
+}
+
+#[test]
+fn goes_down_from_an_index_page_that_stays(rt: HostRuntime) {
+    let turns = [
+        on_way(rt.alloc(), 5, true, true),
+        on_way(rt.alloc(), 5, false, true),
+        on_way(rt.alloc(), 1, true, false),
+        on_way(rt.alloc(), 1, false, false),
+    ];
+    let (last, only) = (Some(Turn::To(14)), Some(Turn::To(3)));
+    assert_eq!(rt; turns, [last, last, only, only]);
+    let turns = [at_holding(rt.alloc()), at_first(rt.alloc())];
+    assert_eq!(rt; turns, [Some(Turn::To(11)), Some(Turn::To(1))]);
+}
+
+/// What a writer does at a small index page on the way to the left of page 2.
+fn to_the_left(alloc: Global) -> Option<Turn> {
+    let Ok(mut desk) = set_up(alloc) else {
+        return None;
+    };
+    desk.round.restart(&key(b"z"), 8, true);
+    desk.round.restart_left(&key(b"z"), 2, 0);
+    meet_index(&mut desk, &index(1)?, true)
+}
+
+#[test]
+fn removes_no_index_page_on_the_way_to_the_left(rt: HostRuntime) {
+    assert_eq!(rt; to_the_left(rt.alloc()), Some(Turn::To(3)));
 }
 
 /// What a writer does to the left of page 2 at an index page, and then at a leaf that has no right.

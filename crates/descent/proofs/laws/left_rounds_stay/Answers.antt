@@ -3,7 +3,8 @@ use Rattle.smo.specs.declared.version.Version.{Version}
 use Rattle.descent.specs.declared.visit.Sight.{Sight}
 use Rattle.descent.specs.declared.visit.Sight.TheVariants.{Empty, Whole}
 use Rattle.descent.specs.Courses.{Seek, Merge, Unterm}
-use Rattle.descent.specs.WriteRounds.{Sees, Treats, WriteRound}
+use Rattle.descent.specs.WriteRounds.{WriteRound}
+use Rattle.descent.specs.WriteResponses.{Sees, Treats}
 use Rattle.descent.proofs.laws.left_rounds_stay.Goals as goal
 
 treated : (old new : WriteRound) (version : Version) → Treats old version new None → new.goal ≡ Seek → old.goal ≡ Seek

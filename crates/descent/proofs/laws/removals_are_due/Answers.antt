@@ -1,12 +1,10 @@
 use Rattle.descent.proofs.laws.removals_are_due.Goals as goal
 
 pub returns-clause-hold : goal.returns-clause-hold
-returns-clause-hold c = λ round k r parent leaf hold h plan. c.plans_are_due.ensures.hold parent leaf hold plan h.above.page.in_hand.sound.is_chain
+returns-clause-hold c = λ limits k r parent page hold h plan. c.plans_are_due.ensures.hold parent page hold plan h.page.in_hand.sound.is_chain
 
 pub returns-clause-remove : goal.returns-clause-remove
-returns-clause-remove c = λ round k r parent leaf remove h plan.
-    let above = h.above in
-    c.plans_are_due.ensures.remove k parent leaf remove plan above.page.in_hand.sound.is_chain above.page.alive above.up above.page.in_hand.seen
+returns-clause-remove c = λ limits k r parent page remove h plan. c.plans_are_due.ensures.remove k parent page remove plan h.page.in_hand.sound.is_chain h.page.alive h.up h.page.in_hand.seen
 
 pub returns-clause-merge : goal.returns-clause-merge
 returns-clause-merge c = λ round k r left removed merge h. c.plans_are_due.ensures.merge k left removed merge h.plan h.gone.in_hand.seen

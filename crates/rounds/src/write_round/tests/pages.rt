@@ -1,6 +1,5 @@
 //! Pages by hand, for tests of rounds.
-ghost use Rattle.std.specs.Prelude.{◌≡◌, ◌≤◌, ◌∷◌, [], length, None, false};
-ghost use Rattle.chain_search.specs.Examples.{index};
+ghost use Rattle.std.specs.Prelude.{◌≡◌, ◌<◌, ◌≤◌, ◌∷◌, [], length, None, false};
 ghost use Rattle.chain_search.specs.Fitted.{FitsOver, IsFitted};
 ghost use Rattle.deltas.specs.Spellable.{IsPid};
 ghost use Rattle.deltas.specs.declared.record.Record.TheVariants.{Base};
@@ -83,20 +82,23 @@ pub(super) fn halves() -> Option<(Version, Version)> {
     Some((left, Version { pid, head, chain }))
 }
 
-/// An index page that has page 1 at the empty key.
-fn index() -> Page
-    ensures { result ≡ index }
+/// An index page from a key on, with the term of this child there.
+fn index_from(level: u8, low: Key, child: u16) -> Page
+    requires index { 0 < level }
+    requires top { level ≤ 15 }
+    requires child { IsPid child }
+    ensures { IsFitted (Base result ∷ []) }
 {
-    let page = 1;
+    let page = child;
     let held = false;
     let mut items = Items::new();
-    items.put(Key::default(), Content::Child { page, held });
-    Page::new(1, Key::default(), None, None, items)
+    items.put(low.copied(), Content::Child { page, held });
+    Page::new(level, low, None, None, items)
 }
 
-/// The same as page 5.
+/// An index page that has page 1 at the empty key, as page 5.
 pub(super) fn parent() -> Version {
-    let chain = ChainPart::new().over(index());
+    let chain = ChainPart::new().over(index_from(1, Key::default(), 1));
     let (pid, head) = (5, 8);
     Version { pid, head, chain }
 }
@@ -136,4 +138,47 @@ pub(super) fn removal() -> Option<(Version, Version)> {
     let held = grown(&parent, Record::Hold(hold));
     let remove = plan_remove(&held, &page)?;
     Some((held, grown(&page, Record::Remove(remove))))
+}
+
+/// The index page with one term more: that of a leaf from the key on.
+fn with_term(index: &Version, pid: u16, low: Key) -> Option<Version>
+    requires pid { IsPid pid }
+{
+    let term = plan_term(index, &leaf_from(pid, low))?;
+    Some(grown(index, Record::Term(term)))
+}
+
+/// An empty leaf from a key on.
+fn leaf_from(pid: u16, low: Key) -> Version
+    requires pid { IsPid pid }
+{
+    based(pid, Page::new(0, low, None, None, Items::new()))
+}
+
+/// An index page from "y" on as page 6, with so many terms: of page 3, and of pages from 11 on.
+pub(super) fn index(terms: u8) -> Option<Version> {
+    let mut index = based(6, index_from(1, key(b"y"), 3));
+    for i in 1..terms {
+        index = with_term(&index, 10 + u16::from(i), key(&[b'y', i]))?;
+    }
+    Some(index)
+}
+
+/// The same with two terms, the second one held.
+pub(super) fn holding() -> Option<Version> {
+    let index = index(2)?;
+    let hold = plan_hold(&index, &leaf_from(11, key(&[b'y', 1])))?;
+    Some(grown(&index, Record::Hold(hold)))
+}
+
+/// A page of level 2 as page 9, with the terms of page 5 and of the index page, whose term is held or isn't.
+pub(super) fn above(index: &Version, held: bool) -> Option<Version> {
+    let bare = based(9, index_from(2, Key::default(), 5));
+    let term = plan_term(&bare, index)?;
+    let above = grown(&bare, Record::Term(term));
+    if !held {
+        return Some(above);
+    }
+    let hold = plan_hold(&above, index)?;
+    Some(grown(&above, Record::Hold(hold)))
 }

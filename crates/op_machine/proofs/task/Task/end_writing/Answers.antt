@@ -11,6 +11,6 @@ returns-in-Removed-clause-stands g c k r faced =
     rw c.write_left.ensures (record {
       seeks = h.seeks;
       writer = h.writer;
-      round_of = record { limits = have; some = omega arith; key = λ is. cc; due = λ is. cc };
+      round_of = record { limits = have; some = omega arith; key = λ is. cc; due = λ is. cc; tends = λ is. cc };
       shows = (h.seeks.inside, refl, refl, record { removed = c.args.places.now.writer.page; gone = rw have (rw h.round_of.limits at h.ends); is = refl; low = refl; level = refl; unread = tt });
     })

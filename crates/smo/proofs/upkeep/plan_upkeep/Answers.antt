@@ -1,6 +1,6 @@
-use Rattle.std.proofs.Common.{inr, refl, arith}
+use Rattle.std.proofs.Common.{arith}
 use Rattle.smo.proofs.Places.{made}
-use Rattle.op_machine.proofs.upkeep.upkeep.Goals as goal
+use Rattle.smo.proofs.upkeep.plan_upkeep.Goals as goal
 
 pub returns-then-item_count-gt-FEW_ITEMS : goal.returns-then-item_count-gt-FEW_ITEMS
 returns-then-item_count-gt-FEW_ITEMS c = λ small.
@@ -11,10 +11,10 @@ returns-then-item_count-gt-FEW_ITEMS c = λ small.
 
 pub returns : goal.returns
 returns c =
-    let (page, makes) = made c.args.leaf.now.chain c.keeps_rules.ensures.fitted in
+    let (page, makes) = made c.args.page.now.chain c.keeps_rules.ensures.fitted in
     let count = c.item_count.ensures page.items makes.items in
     let few = c.if-item_count-gt-FEW_ITEMS.false in
     record {
-      small = record { other = c.if-leaf-eq1.false; few = (page.items, makes.items, omega (arith, count, few)); unheld = c.is_unheld.ensures.0 c.if-not-is_unheld.false };
-      is = inr (record { unheld = c.in_default.ensures; hold = c.in_ok-hold.hold; is = refl; due = c.in_ok-hold.ensures });
+      small = record { other = c.if-page-eq1.false; few = (page.items, makes.items, omega (arith, count, few)); unheld = c.is_unheld.ensures.0 c.if-not-is_unheld.false };
+      due = (c.in_default.ensures, c.in_ok-hold.ensures);
     }

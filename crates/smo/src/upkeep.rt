@@ -1,0 +1,39 @@
+//! What is done first at a small page: its term is held, and then it is removed.
+ghost use Rattle.std.specs.Prelude.{MatchOption};
+ghost use Rattle.smo.specs.Upkeep.{IsIdle, IsUpkeep};
+
+use crate::held::is_unheld;
+use crate::sizes::FEW_ITEMS;
+use crate::{Version, plan_hold, plan_remove};
+use deltas::{Hold, Remove};
+
+/// What is done first at a small page, below its parent.
+#[derive(Debug, Drop)]
+pub enum Upkeep {
+    /// The page is removed.
+    Remove(Remove),
+    /// The parent holds the page's term.
+    Hold(Hold),
+}
+
+/// The removal of the page where its term is held, else the hold of its term; none exactly where the page is page 1, or has more
+/// than a few items or a held one, or its term is neither held nor may be.
+pub fn plan_upkeep(parent: &Version, page: &Version) -> Option<Upkeep>
+    ensures { MatchOption result (IsIdle parent.now page.now) (IsUpkeep parent.now page.now) }
+{
+    page.chain.keeps_rules();
+    if page.pid == 1 {
+        return None;
+    }
+    if page.chain.item_count() > FEW_ITEMS {
+        return None;
+    }
+    if !is_unheld(&page.chain) {
+        return None;
+    }
+    if let Some(remove) = plan_remove(parent, page) {
+        return Some(Upkeep::Remove(remove));
+    }
+    let hold = plan_hold(parent, page)?;
+    Some(Upkeep::Hold(hold))
+}
