@@ -8,6 +8,8 @@ mod by_hand;
 #[cfg(test)]
 mod example;
 #[cfg(test)]
+mod index_removals;
+#[cfg(test)]
 mod numbered;
 #[cfg(test)]
 mod numbers;

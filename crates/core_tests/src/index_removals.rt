@@ -1,0 +1,225 @@
+//! A tree of 200 keys that shrinks to nothing: index pages of level 1 are removed, and others act while one is.
+
+use crate::by_hand::{begins, finish, finishes, replies, takes};
+use bw_model::{Answer, Command, Key, Limits, Reply, Step, Value};
+use chain_search::{Entry, SharedEntry, Turn};
+use deltas::Record;
+use std::alloc::{AllocError, Global};
+use step_core::{Core, run};
+
+/// How many keys there are.
+const KEYS: u32 = 200;
+
+/// A letter, and the three digits of a number.
+fn text(letter: u8, number: u32) -> [u8; 4] {
+    [
+        letter,
+        b'0' + (number / 100 % 10) as u8,
+        b'0' + (number / 10 % 10) as u8,
+        b'0' + (number % 10) as u8,
+    ]
+}
+
+/// The key k001, and so on.
+fn key(number: u32) -> Key {
+    Key::from_slice(&text(b'k', number)).unwrap_or_default()
+}
+
+/// The value v001, and so on.
+fn value(number: u32) -> Value {
+    Value::from_slice(&text(b'v', number)).unwrap_or_default()
+}
+
+fn opened(alloc: Global) -> Option<Core> {
+    Core::open(alloc, Limits::new(2, 256, 4096, 1).ok()?).ok()
+}
+
+/// Each key is inserted, from the first on; then each is deleted, from the last on.
+fn asked(place: u32) -> (Command, Reply) {
+    if place < KEYS {
+        let number = place + 1;
+        return (Command::Insert(key(number), value(number)), Reply::Inserted);
+    }
+    let number = (2 * KEYS).wrapping_sub(place);
+    (Command::Delete(key(number)), Reply::Deleted(value(number)))
+}
+
+/// Whether the commands from one place to another have their replies.
+fn goes(core: &mut Core, first: u32, end: u32) -> bool {
+    for place in first..end {
+        let (command, reply) = asked(place);
+        if !replies(core, 0, command, reply) {
+            return false;
+        }
+    }
+    true
+}
+
+/// The operation in which the removal of a page of level 1 is linked first, by how many began before it.
+fn removes(entries: &[SharedEntry]) -> Option<u32> {
+    let mut begun = 0u32;
+    let mut placed = None;
+    for entry in entries {
+        match entry.entry() {
+            Entry::Begin(_, _) => begun = begun.wrapping_add(1),
+            Entry::Step(_, Step::Place(row, Record::Remove(remove)), _, _) => {
+                if remove.level == 1 {
+                    placed = Some(row);
+                }
+            }
+            Entry::Step(_, Step::Exchange(_, _, row), Answer::Whether(true), _) => {
+                if placed == Some(row) {
+                    return begun.checked_sub(1);
+                }
+            }
+            Entry::Step(_, _, _, _) => {}
+        }
+    }
+    None
+}
+
+/// The turns of a trace.
+fn turns_of(alloc: Global, entries: &[SharedEntry]) -> Result<Vec<Turn>, AllocError> {
+    let mut turns = Vec::new(alloc);
+    for entry in entries {
+        turns.push(match entry.entry() {
+            Entry::Begin(actor, command) => Turn::Begin(actor, command),
+            Entry::Step(actor, _, _, _) => Turn::Step(actor),
+        })?;
+    }
+    Ok(turns)
+}
+
+/// Whether a run of the same turns links the removal of a page of level 1 in the same operation.
+fn is_run(alloc: Global, entries: &[SharedEntry], at: Option<u32>) -> Option<bool> {
+    let turns = turns_of(alloc, entries).ok()?;
+    let trace = run(alloc, Limits::new(2, 256, 4096, 1).ok()?, turns.as_slice()).ok()?;
+    Some(at.is_some() && removes(trace.entries.as_slice()) == at)
+}
+
+/// Whether all keys come and go, so that none is left.
+fn comes_and_goes(alloc: Global, core: &mut Core) -> bool {
+    goes(core, 0, 2 * KEYS) && matches!(core.listing(alloc), Ok(pairs) if pairs.is_empty())
+}
+
+/// The operation that first removes a page of level 1, where all goes as it is to.
+fn first_removal(alloc: Global) -> Option<u32> {
+    let mut core = opened(alloc)?;
+    if !comes_and_goes(alloc, &mut core) {
+        return None;
+    }
+    let trace = core.into_trace();
+    let at = removes(trace.entries.as_slice());
+    if is_run(alloc, trace.entries.as_slice(), at)? {
+        return at;
+    }
+    None
+}
+
+/// What actor 1 does while the delete is stopped, and what that is to say.
+#[derive(Clone, Copy)]
+enum Meanwhile {
+    /// A lookup whose way leads through the page that is removed.
+    Looks,
+    /// A cursor page on that way.
+    Lists,
+    /// A delete of a key there.
+    Deletes,
+    /// Inserts of ten keys there, by which a leaf is split.
+    Inserts,
+}
+
+/// Whether actor 1 does so.
+fn acts(core: &mut Core, meanwhile: Meanwhile) -> bool {
+    match meanwhile {
+        Meanwhile::Looks => replies(core, 1, Command::Get(key(130)), Reply::Value(value(130))),
+        Meanwhile::Lists => lists(core),
+        Meanwhile::Deletes => replies(
+            core,
+            1,
+            Command::Delete(key(129)),
+            Reply::Deleted(value(129)),
+        ),
+        Meanwhile::Inserts => inserts(core),
+    }
+}
+
+/// Whether ten keys after k130 are inserted, up to k130j.
+fn inserts(core: &mut Core) -> bool {
+    for last in b'a'..=b'j' {
+        let new = Key::from_slice(&[b'k', b'1', b'3', b'0', last]).unwrap_or_default();
+        if !replies(core, 1, Command::Insert(new, value(130)), Reply::Inserted) {
+            return false;
+        }
+    }
+    true
+}
+
+/// Whether the cursor page of k130 begins with that key.
+fn lists(core: &mut Core) -> bool {
+    if !begins(core, 1, Command::Page(key(130))) {
+        return false;
+    }
+    match finish(core, 1) {
+        Some((Reply::Page { items, next: _ }, _)) => {
+            items.as_slice().first() == Some(&(key(130), value(130)))
+        }
+        _ => false,
+    }
+}
+
+/// Whether actor 1 acts after so many steps of the delete at this place, and the delete then ends as it is to. None once it ends
+/// before.
+fn stops(core: &mut Core, at: u32, steps: u32, meanwhile: Meanwhile) -> Option<bool> {
+    let (command, reply) = asked(at);
+    let mut done = None;
+    if !goes(core, 0, at) || !begins(core, 0, command) || !takes(core, 0, steps, &mut done) {
+        return Some(false);
+    }
+    if done.is_some() {
+        return None;
+    }
+    Some(acts(core, meanwhile) && finishes(core, 0, reply))
+}
+
+/// The same on a new core.
+fn stops_anew(alloc: Global, at: u32, steps: u32, meanwhile: Meanwhile) -> Option<bool> {
+    match opened(alloc) {
+        Some(mut core) => stops(&mut core, at, steps, meanwhile),
+        None => Some(false),
+    }
+}
+
+/// Whether it does so after each number of steps, or after each so manieth; more than two hundred there are.
+fn stops_anywhere(alloc: Global, at: u32, every: u32, meanwhile: Meanwhile) -> bool {
+    let mut steps = 0u32;
+    for _ in 0..1000u32 {
+        match stops_anew(alloc, at, steps, meanwhile) {
+            Some(true) => {}
+            Some(false) => return false,
+            None => return steps > 200,
+        }
+        steps = steps.saturating_add(every);
+    }
+    false
+}
+
+/// Whether the first delete that removes a page of level 1 stops anywhere.
+fn removal_stops(alloc: Global, every: u32, meanwhile: Meanwhile) -> bool {
+    match first_removal(alloc) {
+        Some(at) => stops_anywhere(alloc, at, every, meanwhile),
+        None => false,
+    }
+}
+
+#[test]
+fn a_lookup_goes_through_a_removal_of_an_index_page(rt: HostRuntime) {
+    assert!(rt; removal_stops(rt.alloc(), 1, Meanwhile::Looks));
+}
+
+#[test]
+fn others_go_through_a_removal_of_an_index_page(rt: HostRuntime) {
+    assert!(rt; removal_stops(rt.alloc(), 3, Meanwhile::Lists));
+    assert!(rt; removal_stops(rt.alloc(), 2, Meanwhile::Deletes));
+    assert!(rt; removal_stops(rt.alloc(), 2, Meanwhile::Inserts));
+}
