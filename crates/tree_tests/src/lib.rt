@@ -26,6 +26,8 @@ mod refused_trees;
 #[cfg(test)]
 mod runs;
 #[cfg(test)]
+mod shrinking;
+#[cfg(test)]
 mod stops;
 #[cfg(test)]
 mod threads;

@@ -2,6 +2,7 @@
 ghost use Rattle.bw_tree.specs.Trees.{IsSeatOf};
 
 use crate::numbered::{found, get, insert, pair};
+use crate::shrinking::comes_and_goes;
 use crate::stops::Stop;
 use bw_model::{Command, Key, Reply, Value};
 use bw_tree::{BwSeat, Called, Tree};
@@ -22,6 +23,8 @@ pub(crate) enum Run {
     Updates(bool, u32),
     /// Inserts of one seat, beside no other.
     Alone(u32),
+    /// Two hundred keys that one seat inserts and deletes, beside no other.
+    ComesAndGoes,
     /// Inserts of one seat, each looked up by it and by the other.
     Inserts(u32),
     /// Inserts of both seats, in another order than that of the keys.
@@ -40,9 +43,8 @@ pub(crate) fn is_right(tree: &Tree, one: &mut BwSeat, other: &mut BwSeat, run: R
     ensures other { IsSeatOf tree.now other.new }
 {
     match run {
-        Run::Nothing | Run::Steps | Run::Alone(_) | Run::Updates(_, _) => {
-            is_right_alone(tree, one, run)
-        }
+        Run::Nothing | Run::Steps | Run::Alone(_) | Run::ComesAndGoes | Run::Updates(_, _) =>
+            is_right_alone(tree, one, run),
         Run::Stays => stays(tree, one, other),
         Run::Goes => goes(tree, one, other),
         Run::Inserts(count) => inserts(tree, one, other, count),
@@ -61,6 +63,7 @@ pub(crate) fn is_right_alone(tree: &Tree, seat: &mut BwSeat, run: Run) -> bool
         Run::Nothing => true,
         Run::Steps => steps(tree, seat),
         Run::Alone(count) => inserts_alone(tree, seat, count),
+        Run::ComesAndGoes => comes_and_goes(tree, seat),
         Run::Updates(fresh, count) => updates(tree, seat, fresh, count),
         _ => false,
     }

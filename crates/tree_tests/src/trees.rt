@@ -169,6 +169,14 @@ fn a_lone_seat_is_never_spent(rt: HostRuntime) -> Result<(), Fail> {
     Ok(())
 }
 
+// Deletions hold, remove and merge index pages too.
+#[test]
+fn a_lone_seat_empties_its_tree(rt: HostRuntime) -> Result<(), Fail> {
+    let limits = Limits::new(1, 256, 4096, 1)?;
+    assert!(rt; lists_first(rt.alloc(), limits, Run::ComesAndGoes, 0));
+    Ok(())
+}
+
 #[test]
 fn all_pairs_are_listed(rt: HostRuntime) -> Result<(), Fail> {
     assert!(rt; lists_first(rt.alloc(), Limits::new(2, 256, 1024, 1)?, Run::Mixed, 200));
