@@ -54,6 +54,10 @@ pub record IsTended (old : WriteRound) (parent version : Version) : Type 0 where
   pub above : old.parent ≡ Some parent
   pub level : level_in version.chain ≡ 1
 
+-- Nothing is due of such a page's removal.
+abbrev pub IsIdleOnWay : WriteRound → Version → Type 0
+IsIdleOnWay old version = (parent : Version) → IsTended old parent version → IsIdle parent version
+
 -- The page isn't removed, nothing is due at its left page, and the round goes on to its right.
 pub record GoesAside (old : WriteRound) (version : Version) (new : WriteRound) : Type 0 where
   pub seeks : SeeksLeaf old.goal
@@ -67,7 +71,7 @@ pub record GoesAside (old : WriteRound) (version : Version) (new : WriteRound) :
 pub record GoesBelow (old : WriteRound) (version : Version) (new : WriteRound) : Type 0 where
   pub here : IsHere old version
   pub fine : IsFine old.due version
-  pub idle : (parent : Version) → IsTended old parent version → IsIdle parent version
+  pub idle : IsIdleOnWay old version
   pub index : ends_at old.goal old.floor < level_in version.chain
   pub child : ℕ
   pub leads : LeadsDown (way_of old.goal old.key) version.chain child

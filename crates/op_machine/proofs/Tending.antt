@@ -18,7 +18,7 @@ use Rattle.installs.specs.declared.plan.Plan.{Plan}
 use Rattle.smo.specs.Holds.{IsHoldPlan}
 use Rattle.smo.specs.Readings.{HasSeen}
 use Rattle.smo.specs.Removals.{IsRemovePlan}
-use Rattle.smo.specs.Upkeep.{IsDue}
+use Rattle.smo.specs.Upkeep.{IsUpkeepDue}
 use Rattle.smo.specs.declared.upkeep.Upkeep.{Upkeep}
 use Rattle.smo.specs.declared.upkeep.Upkeep.TheVariants.{Hold as HoldTerm, Remove as RemovePage}
 use Rattle.smo.specs.declared.version.Version.{Version}
@@ -37,7 +37,7 @@ tends_only (key ∷ errands) command e = cc
 module _ (task : Task) (spares : Spares) (k : Knowledge) (r : Recalled)
     (holds : (actor : ℕ) (k : Knowledge) (parent page : Version) (hold : Hold) → HasSeen k parent → is_removed parent.chain ≡ false → IsPageChain parent.chain → IsHoldPlan parent page hold → MayInstall actor k parent.pid parent.head (kind.Hold hold))
     (removes : (actor : ℕ) (k : Knowledge) (parent page : Version) (remove : Remove) → HasSeen k parent → is_removed parent.chain ≡ false → IsPageChain parent.chain → level_in parent.chain ≡ suc (level_in page.chain) → HasSeen k page → IsRemovePlan parent page remove → MayInstall actor k page.pid page.head (kind.Remove remove)) where
-  begins : (parent page : Version) (upkeep : Upkeep) → Seeks task spares k → is_writer task.command ≡ true → tidies task.command ≡ true → IsAlive task.limits k r page → IsUpper task.limits k r page parent → IsDue parent page upkeep → MayBegin task spares k r (plan_of parent page upkeep) Round
+  begins : (parent page : Version) (upkeep : Upkeep) → Seeks task spares k → is_writer task.command ≡ true → tidies task.command ≡ true → IsAlive task.limits k r page → IsUpper task.limits k r page parent → IsUpkeepDue parent page upkeep → MayBegin task spares k r (plan_of parent page upkeep) Round
   begins parent page (RemovePage remove) seeks writer tidy alive u due = record {
     seeks = seeks;
     writer = writer;

@@ -8,14 +8,12 @@ ghost use Rattle.chain_search.specs.Knowledge.{Knowledge};
 ghost use Rattle.chain_search.specs.Recalled.{Recalled};
 ghost use Rattle.descent.specs.Courses as goal;
 ghost use Rattle.descent.specs.Visits.{ReadsWithin, reads_on};
-ghost use Rattle.descent.specs.WriteResponses.{CanTreat, IsFine, IsHere, IsLeftLeaf, IsSplitFinished, IsTended, Responds, Treats};
+ghost use Rattle.descent.specs.WriteResponses.{CanTreat, IsFine, IsHere, IsIdleOnWay, IsLeftLeaf, IsSplitFinished, Responds, Treats};
 ghost use Rattle.descent.specs.WriteRounds.{IsSame, IsTold, SeeksLeaf, Shows, ends_at, goes_left, wanted, way_of};
 ghost use Rattle.descent.specs.Ways.{LeadsDown, LeadsRight, StaysLeft};
 ghost use Rattle.descent.specs.Descents.{Root};
 ghost use Rattle.rounds.specs.Descents.{step_of};
 ghost use Rattle.rounds.specs.WriteRounds.{CanSee, Sees, again_if, end_of};
-ghost use Rattle.smo.specs.Upkeep.{IsIdle};
-ghost use Rattle.smo.specs.declared.version.Version.{Version};
 
 mod due;
 #[cfg(test)]
@@ -345,7 +343,7 @@ impl<A: Allocator> WriteRound<A> {
         requires here { IsHere self.old.round self.old.page }
         requires fine { IsFine self.old.round.due self.old.page }
         requires index { ends_at self.old.round.goal self.old.round.floor < level_in self.old.page.chain }
-        requires idle { (parent : Version) → IsTended self.old.round parent self.old.page → IsIdle parent self.old.page }
+        requires idle { IsIdleOnWay self.old.round self.old.page }
         ensures treats { Treats self.old.round self.old.page self.new.round None }
         ensures same { IsSame self.old.round self.new.round }
     {

@@ -14,14 +14,14 @@ pub record IsSmall (page : Version) : Type 0 where
   pub unheld : HasNoneHeld page.chain
 
 -- The removal may be placed on the page; or the page may not be removed yet, and the hold of its term may be placed on its parent.
-abbrev pub IsDue : Version → Version → Upkeep → Type 0
-IsDue parent page (Remove remove) = IsRemovePlan parent page remove
-IsDue parent page (Hold hold) = (¬ CanRemove parent page) × IsHoldPlan parent page hold
+abbrev pub IsUpkeepDue : Version → Version → Upkeep → Type 0
+IsUpkeepDue parent page (Remove remove) = IsRemovePlan parent page remove
+IsUpkeepDue parent page (Hold hold) = (¬ CanRemove parent page) × IsHoldPlan parent page hold
 
 -- what is due at a small page
 pub record IsUpkeep (parent page : Version) (upkeep : Upkeep) : Type 0 where
   pub small : IsSmall page
-  pub due : IsDue parent page upkeep
+  pub due : IsUpkeepDue parent page upkeep
 
 -- Nothing is due: the page isn't small, or its term is neither held nor may be.
 abbrev pub IsIdle : Version → Version → Type 0

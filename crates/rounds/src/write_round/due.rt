@@ -4,15 +4,14 @@ ghost use Rattle.std.specs.Bool.{Decides};
 ghost use Rattle.base_page.specs.declared.item.Content.TheVariants.{Child};
 ghost use Rattle.chain_search.specs.Chains.{content_in};
 ghost use Rattle.descent.specs.Courses as goal;
-ghost use Rattle.descent.specs.WriteResponses.{CanTreat, IsTended, Treats};
+ghost use Rattle.descent.specs.WriteResponses.{CanTreat, IsIdleOnWay, IsTended, Treats};
 ghost use Rattle.descent.specs.WriteRounds.{IsLong, SeeksLeaf};
 ghost use Rattle.rounds.specs.WriteRounds.{end_of};
 ghost use Rattle.smo.specs.Roots.{CanRoot, IsRootPlan};
 ghost use Rattle.smo.specs.Sizes.{HasManyItems};
 ghost use Rattle.smo.specs.Splits.{CanSplit, IsSplitPlan};
 ghost use Rattle.smo.specs.Terms.{CanPost, IsTermPlan};
-ghost use Rattle.smo.specs.Upkeep.{IsIdle, IsUpkeep};
-ghost use Rattle.smo.specs.declared.version.Version.{Version};
+ghost use Rattle.smo.specs.Upkeep.{IsUpkeep};
 
 use crate::{WriteEnded, WriteRound, upkeep_below};
 use base_page::{Content, Page};
@@ -76,7 +75,7 @@ impl<A: Allocator> WriteRound<A> {
     pub(super) fn due_upkeep(&self) -> Option<Upkeep>
         requires seeks { SeeksLeaf self.now.round.goal }
         requires tends { self.now.round.tends ≡ true }
-        ensures { MatchOption result ((parent : Version) → IsTended self.now.round parent self.now.page → IsIdle parent self.now.page) (λ upkeep. IsTended self.now.round self.now.parent self.now.page × IsUpkeep self.now.parent self.now.page upkeep) }
+        ensures { MatchOption result (IsIdleOnWay self.now.round self.now.page) (λ upkeep. IsTended self.now.round self.now.parent self.now.page × IsUpkeep self.now.parent self.now.page upkeep) }
     {
         if self.is_left() || self.page().chain().level() != 1 {
             return None;
