@@ -15,7 +15,7 @@ use workers::opened;
 const THREADS: u32 = 4;
 
 /// How many commands each thread runs.
-const ROUNDS: u32 = 1000;
+const ROUNDS: u32 = 5000;
 
 /// More pieces than a command is run in.
 const PIECES: u32 = 1 << 16;
