@@ -1,17 +1,19 @@
-//! Each growth of memory refused in turn, by an allocator that refuses it or by heaps that are too small: want of memory is answered, nothing is changed, and the
-//! same call made again is answered as if there had been no refusal.
+//! Each growth of memory refused in turn: want of memory is answered, nothing is changed, and the same call made again is answered as if
+//! there had been no refusal.
 
 use crate::numbered;
 use bw_model::{Command, Key, Limits, OpenError, Value};
 use chain_search::Turn;
-use linked_list_allocator::LocalHeap;
 use refusing::Refusing;
 use std::alloc::{AllocError, Allocator, Global};
 use std::test::Fail;
 use step_core::{Core, Event, RunError, run};
 
-/// How many bytes each heap has more than the one before: as many as a heap gives at least.
-const STEP: usize = 16;
+/// An allocator that refuses one growth, and counts.
+type Heap<'a> = &'a Refusing<Global>;
+
+/// More growths than a call wants.
+const MOST: u64 = 1_000;
 
 /// Before which of the turns below memory is wanted: where the trace has to grow, and for each record that is placed, at 8 and 20.
 const WANTS: [u64; 5] = [0, 4, 8, 16, 20];
@@ -33,15 +35,15 @@ fn updates(alloc: Global) -> Result<Vec<Turn>, AllocError> {
 }
 
 /// Why no core opens where a growth is refused.
-fn open_error(heap: &Refusing<Global>, limits: Limits, growth: u64) -> Option<OpenError> {
+fn open_error<'a>(heap: Heap<'a>, limits: Limits, growth: u64) -> Option<OpenError> {
     heap.set(growth);
-    Core::<&Refusing<Global>>::open(heap, limits).err()
+    Core::<Heap<'a>>::open(heap, limits).err()
 }
 
 /// Whether each growth that is refused is told as want of memory, one at least, up to where there is none more.
 fn opens_at_last(alloc: Global, limits: Limits) -> bool {
     let heap = Refusing::new(alloc);
-    for growth in 0..1_000u64 {
+    for growth in 0..MOST {
         match open_error(&heap, limits, growth) {
             None => return growth > 0,
             Some(OpenError::Memory) => {}
@@ -59,14 +61,9 @@ fn open_wants_memory(rt: HostRuntime) -> Result<(), Fail> {
 }
 
 /// Why the turns are not taken where a growth is refused.
-fn run_error(
-    heap: &Refusing<Global>,
-    limits: Limits,
-    turns: &[Turn],
-    growth: u64,
-) -> Option<RunError> {
+fn run_error<'a>(heap: Heap<'a>, limits: Limits, turns: &[Turn], growth: u64) -> Option<RunError> {
     heap.set(growth);
-    run::<&Refusing<Global>>(heap, limits, turns).err()
+    run::<Heap<'a>>(heap, limits, turns).err()
 }
 
 /// Whether memory is lacking before these turns, one after another, as one growth after another is refused, and at last before none.
@@ -74,7 +71,7 @@ fn lacks(alloc: Global, limits: Limits, turns: &[Turn]) -> bool {
     let heap = Refusing::new(alloc);
     let mut lacks = WANTS.as_slice().iter();
     let mut last = None;
-    for growth in 0..1_000u64 {
+    for growth in 0..MOST {
         let error = run_error(&heap, limits, turns, growth);
         if error != last && error != lacks.next().map(|turn| RunError::Memory(*turn)) {
             return false;
@@ -99,37 +96,8 @@ fn run_wants_memory(rt: HostRuntime) -> Result<(), Fail> {
     Ok(())
 }
 
-/// Takes what the heap has left, in pieces as large as it gives.
-fn filled<'a>(
-    alloc: Global,
-    heap: &'a LocalHeap,
-) -> Result<Vec<Vec<u8, &'a LocalHeap>>, AllocError> {
-    let mut pieces = Vec::new(alloc);
-    let mut size = heap.free();
-    for _ in 0..200u32 {
-        match Vec::with_capacity(heap, size) {
-            Ok(piece) => pieces.push(piece)?,
-            Err(_) => size /= 2,
-        }
-    }
-    Ok(pieces)
-}
-
-/// Takes a turn while the core's heap has nothing left.
-fn turn_when_full<'a>(
-    alloc: Global,
-    heap: &'a LocalHeap,
-    core: &mut Core<&'a LocalHeap>,
-    turn: &Turn,
-) -> Option<Result<Event, RunError>> {
-    let pieces = filled(alloc, heap).ok()?;
-    let event = core.turn(turn.clone().unwrap());
-    drop(pieces);
-    Some(event)
-}
-
 /// Whether both cores list the same pairs.
-fn list_alike(alloc: Global, core: &Core<&LocalHeap>, twin: &Core) -> bool {
+fn list_alike(alloc: Global, core: &Core<Heap<'_>>, twin: &Core) -> bool {
     match (core.listing(alloc), twin.listing(alloc)) {
         (Ok(pairs), Ok(same)) => pairs == same,
         _ => false,
@@ -137,55 +105,64 @@ fn list_alike(alloc: Global, core: &Core<&LocalHeap>, twin: &Core) -> bool {
 }
 
 /// Whether both cores answer the same to what can be asked of them.
-fn are_alike(alloc: Global, core: &Core<&LocalHeap>, twin: &Core) -> bool {
+fn are_alike(alloc: Global, core: &Core<Heap<'_>>, twin: &Core) -> bool {
     core.turns() == twin.turns()
         && core.is_busy(0) == twin.is_busy(0)
         && list_alike(alloc, core, twin)
 }
 
-/// Whether the core refuses a turn while its heap has nothing left, for want of memory, and is like its twin still.
-fn refuses<'a>(
-    alloc: Global,
-    heap: &'a LocalHeap,
-    core: &mut Core<&'a LocalHeap>,
-    twin: &Core,
+/// Takes a turn while a growth is refused; says how many growths came before the refused one and were not wanted.
+fn turn_without<'a>(
+    heap: Heap<'a>,
+    core: &mut Core<Heap<'a>>,
     turn: &Turn,
-) -> bool {
-    let refused = Some(Err(RunError::Memory(twin.turns())));
-    turn_when_full(alloc, heap, core, turn) == refused && are_alike(alloc, core, twin)
+    growth: u64,
+) -> (Result<Event, RunError>, u64) {
+    heap.set(growth);
+    let event = core.turn(turn.clone().unwrap());
+    let left = heap.left();
+    heap.set(u64::MAX);
+    (event, left)
 }
 
-/// Whether both cores take a turn alike, also while the heap of the one has nothing left, if that is said.
-fn take<'a>(
+/// How many growths a turn wants: each of them is refused in turn, for want of memory, and the core is like its twin still; then both take
+/// the turn alike. None where anything else comes.
+fn growths<'a>(
     alloc: Global,
-    heap: &'a LocalHeap,
-    core: &mut Core<&'a LocalHeap>,
+    heap: Heap<'a>,
+    core: &mut Core<Heap<'a>>,
     twin: &mut Core,
-    (turn, full): (&Turn, bool),
-) -> bool {
-    let event = if full {
-        turn_when_full(alloc, heap, core, turn)
-    } else {
-        Some(core.turn(turn.clone().unwrap()))
-    };
-    event == Some(twin.turn(turn.clone().unwrap())) && are_alike(alloc, core, twin)
+    turn: &Turn,
+) -> Option<u64> {
+    let refused = Err(RunError::Memory(twin.turns()));
+    for growth in 0..MOST {
+        let (event, left) = turn_without(heap, core, turn, growth);
+        if event != refused {
+            let same = event == twin.turn(turn.clone().unwrap());
+            return (same && left == 0 && are_alike(alloc, core, twin)).then_some(growth);
+        }
+        if !are_alike(alloc, core, twin) {
+            return None;
+        }
+    }
+    None
 }
 
-/// Takes the turns while the heap has nothing left, but for those that want memory, which are refused first. Says how many were
-/// taken before one that is not refused exactly where memory is wanted.
+/// Takes the turns, of each growth that is wanted refused in turn. Says how many were taken before one that doesn't want memory exactly
+/// where it is said.
 fn all_refused<'a>(
     alloc: Global,
-    heap: &'a LocalHeap,
-    core: &mut Core<&'a LocalHeap>,
+    heap: Heap<'a>,
+    core: &mut Core<Heap<'a>>,
     twin: &mut Core,
     turns: &[Turn],
     wants: &[u64],
 ) -> u64 {
     for turn in turns {
         let wants = wants.contains(&core.turns());
-        let refused = !wants || refuses(alloc, heap, core, twin, turn);
-        if !refused || !take(alloc, heap, core, twin, (turn, !wants)) {
-            break;
+        match growths(alloc, heap, core, twin, turn) {
+            Some(growths) if (growths > 0) == wants => {}
+            _ => break,
         }
     }
     core.turns()
@@ -194,9 +171,9 @@ fn all_refused<'a>(
 /// Takes first turns while there is memory, and the turns behind them so.
 fn taken_by_twins(alloc: Global, first: &[Turn], turns: &[Turn], wants: &[u64]) -> Option<u64> {
     let limits = Limits::new(1, 64, 64, 1).ok()?;
-    let heap = LocalHeap::new(alloc, 1 << 22).ok()?;
+    let heap = Refusing::new(alloc);
     let mut twin = Core::open(alloc, limits).ok()?;
-    let mut core = Core::<&LocalHeap>::open(&heap, limits).ok()?;
+    let mut core = Core::<Heap<'_>>::open(&heap, limits).ok()?;
     if !are_taken(&mut core, first) || !are_taken(&mut twin, first) {
         return None;
     }
@@ -277,29 +254,33 @@ fn are_taken<A: Allocator + Copy>(core: &mut Core<A>, turns: &[Turn]) -> bool {
     true
 }
 
-/// Why the pairs are not listed on a heap of this size.
-fn listing_error(alloc: Global, core: &Core, size: usize) -> Result<Option<RunError>, AllocError> {
-    let heap = LocalHeap::new(alloc, size)?;
-    Ok(core.listing::<&LocalHeap>(&heap).err())
-}
-
-/// Whether each heap that is too small is refused for want of memory, at least one, up to one that is large enough.
-fn lists_at_last(alloc: Global, core: &Core) -> bool {
-    for step in 1..10_000usize {
-        match listing_error(alloc, core, STEP * step) {
-            Ok(None) => return step > 1,
-            Ok(Some(RunError::Memory(23))) => {}
-            _ => return false,
+/// Whether each growth of a listing that is refused is told as want of memory, one at least, up to where there is none more and the
+/// pairs are listed as if none had been refused.
+fn lists_at_last(alloc: Global, core: &Core) -> Option<bool> {
+    let pairs = core.listing(alloc).ok()?;
+    let heap = Refusing::new(alloc);
+    for growth in 0..MOST {
+        heap.set(growth);
+        match core.listing::<Heap<'_>>(&heap) {
+            Err(error) if error == RunError::Memory(core.turns()) => {}
+            Ok(listed) => {
+                let same = listed.as_slice() == pairs.as_slice();
+                return Some(same && heap.left() == 0 && growth > 0 && pairs.len() == 16);
+            }
+            Err(_) => return None,
         }
     }
-    false
+    None
 }
 
-/// Whether the listing is refused so behind the updates.
+/// Whether the listing of sixteen pairs is refused so.
 fn listing_lacks(alloc: Global) -> Option<bool> {
-    let turns = updates(alloc).ok()?;
+    let turns = inserts(alloc).ok()?;
     let mut core = Core::open(alloc, Limits::new(1, 64, 64, 1).ok()?).ok()?;
-    Some(are_taken(&mut core, turns.as_slice()) && lists_at_last(alloc, &core))
+    if !are_taken(&mut core, turns.as_slice()) {
+        return None;
+    }
+    lists_at_last(alloc, &core)
 }
 
 #[test]

@@ -122,23 +122,29 @@ fn turn(
     }
 }
 
-/// How many slots of merged pages 20,000 turns clear; none where a turn is refused, a listing is not the map's, or a row or PID is not
-/// where it is to be at the end.
-fn cleared(alloc: Global, seed: u64) -> Result<Option<u32>, Fail> {
-    let mut core = Core::open(alloc, Limits::new(4, 256, 4096, 1)?)?;
+/// Takes 20,000 turns in the order that a seed draws; says whether none is refused, and each listing on the way is the map's.
+fn are_taken(alloc: Global, core: &mut Core, beside: &mut Beside, seed: u64) -> Result<bool, Fail> {
     let mut schedule = Schedule::new(seed, 4);
     let mut words = Pcg32::seed_from_u64(seed.wrapping_add(1000));
-    let mut beside = Beside::new(alloc);
     for number in 1..=20_000u32 {
         let actor = schedule.next();
-        if !turn(alloc, &mut core, &mut beside, actor, &mut words, number)? {
-            return Ok(None);
+        if !turn(alloc, core, beside, actor, &mut words, number)? {
+            return Ok(false);
         }
-        if number % 1000 == 0 && !beside.is_listed(alloc, &core)? {
-            return Ok(None);
+        if number % 1000 == 0 && !beside.is_listed(alloc, core)? {
+            return Ok(false);
         }
     }
-    Ok(is_settled(alloc, core, &key(99)).then_some(beside.cleared))
+    Ok(true)
+}
+
+/// How many slots of merged pages these turns clear; none where they aren't taken so, or a row or PID is not where it is to be at the
+/// end.
+fn cleared(alloc: Global, seed: u64) -> Result<Option<u32>, Fail> {
+    let mut core = Core::open(alloc, Limits::new(4, 256, 4096, 1)?)?;
+    let mut beside = Beside::new(alloc);
+    let taken = are_taken(alloc, &mut core, &mut beside, seed)?;
+    Ok((taken && is_settled(alloc, core, &key(99))).then_some(beside.cleared))
 }
 
 /// How many slots these seeds clear, each without a fault.

@@ -22,6 +22,7 @@ const ROWS: &[(&[u8], &[u8])] = &[
     ),
     // the greatest number, and no last LF
     (b"4095 insert a =6b6B", b"4095 inserted\npairs 1\na kk\n"),
+    (b"00000000000000000000001 get a", b"1 none\npairs 0\n"),
     // a reply of each kind
     (
         b"0 get a\n0 insert a 1\n0 insert a 2\n0 upsert a 3\n0 upsert b =\n0 delete a\n0 delete a\n0 tidy b\n",
@@ -64,6 +65,7 @@ const REFUSED: &[(&[u8], &[u8])] = &[
     (b"4096 get a", b"11"),
     (b"4294967296 get a", b"11"),
     (b"18446744073709551616 get a", b"11"),
+    (b"99999999999999999999 get a", b"11"),
     (b"-1 get a", b"11"),
     (b"+1 get a", b"11"),
     (b"a get a", b"11"),
@@ -85,6 +87,14 @@ const REFUSED: &[(&[u8], &[u8])] = &[
     (b"0 Get a", b"11"),
     (b"0 get =6", b"11"),
     (b"0 get =6g", b"11"),
+    (b"0 swap a 1", b"11"),
+    (b"0 swap a 1 2 3", b"11"),
+    (b"0 get a\0", b"11"),
+    (b"0 get \x7f", b"11"),
+    (b"0 get \x80", b"11"),
+    (b"0 get \xc3\xa9", b"11"),
+    (b"0 insert a \xff", b"11"),
+    (b"\0", b"11"),
     (b"0 get 123456789012345678901234567890123", b"1"),
     (b"0 insert a 123456789012345678901234567890123", b"1"),
     (b"4096 get 123456789012345678901234567890123", b"11"),

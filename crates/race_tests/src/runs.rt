@@ -11,18 +11,32 @@ use std::thread::Threads;
 
 pub const NEVER: u32 = 1_000_000;
 
-// Gives a few bytes at a time, and fails at a read.
+// Gives a few bytes at a time, and fails at one read, in this manner.
 #[derive(Drop)]
 pub struct Choppy<'a> {
     pub bytes: &'a [u8],
     pub size: usize,
     pub before_fault: u32,
+    pub fault: ErrorKind,
+}
+
+impl Choppy<'_> {
+    // Bytes that never fail.
+    pub fn sound(bytes: &[u8], size: usize) -> Choppy<'_> {
+        Choppy {
+            bytes,
+            size,
+            before_fault: NEVER,
+            fault: ErrorKind::Other,
+        }
+    }
 }
 
 impl Read for Choppy<'_> {
     fn read(&mut self, buf: &mut [u8]) -> io::Result<usize> {
         if self.before_fault == 0 {
-            return Err(io::Error::from(ErrorKind::Other));
+            self.before_fault = NEVER;
+            return Err(io::Error::from(self.fault));
         }
         self.before_fault -= 1;
         let n = self.size.min(buf.len()).min(self.bytes.len());
@@ -33,7 +47,7 @@ impl Read for Choppy<'_> {
     }
 }
 
-// Takes a few bytes at a time, and fails at a write or at the flush.
+// Takes a few bytes at a time, and fails at one write or at the flush.
 #[derive(Drop)]
 pub struct Breaking {
     pub held: Vec<u8>,
@@ -46,6 +60,7 @@ pub struct Breaking {
 impl Write for Breaking {
     fn write(&mut self, buf: &[u8]) -> io::Result<usize> {
         if self.before_fault == 0 {
+            self.before_fault = NEVER;
             return Err(io::Error::from(ErrorKind::Other));
         }
         self.before_fault -= 1;
@@ -112,10 +127,6 @@ pub fn whole<R: Threads + Wait + Sync>(
     limits: Limits,
     input: &[u8],
 ) -> Raced {
-    let input = Choppy {
-        bytes: input,
-        size: 4096,
-        before_fault: NEVER,
-    };
+    let input = Choppy::sound(input, 4096);
     run_into(rt, alloc, limits, input, taking(alloc, 4096, NEVER))
 }

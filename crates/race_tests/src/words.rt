@@ -23,6 +23,17 @@ fn race_of(seats: u64, pids: u64, rows: u64, epoch: u64) -> Option<Settings> {
     })
 }
 
+// Whether an option's numbers are read, and then found outside its range.
+fn are_outside(alloc: Global, option: &str, numbers: &[&str]) -> Result<bool, AllocError> {
+    for number in numbers {
+        match said(alloc, &["bwtree", "race", option, number])? {
+            Some(settings) if settings.limits().is_err() => {}
+            _ => return Ok(false),
+        }
+    }
+    Ok(true)
+}
+
 #[test]
 fn words_of_races(rt: HostRuntime) -> Result<(), Fail> {
     let alloc = rt.alloc();
@@ -43,5 +54,7 @@ fn words_of_races(rt: HostRuntime) -> Result<(), Fail> {
     assert!(rt; said(alloc, &["bwtree", "race", "--seats", "-1"])? == None);
     assert!(rt; said(alloc, &["bwtree", "weave", "--seats", "2"])? == None);
     assert!(rt; said(alloc, &["bwtree", "race", "--seats", "2", "--seats", "2"])? == None);
+    assert!(rt; are_outside(alloc, "--seats", &["0", "17"])?);
+    assert!(rt; are_outside(alloc, "--pids", &["0", "63", "4160"])?);
     Ok(())
 }

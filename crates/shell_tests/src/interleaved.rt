@@ -10,7 +10,7 @@ use std::collections::BTreeMap;
 use std::test::Fail;
 
 // One of the first so many numbers, by a linear congruential generator.
-fn draw(seed: &mut u64, count: u64) -> u64
+pub(crate) fn draw(seed: &mut u64, count: u64) -> u64
     requires { 0 < count }
     ensures { result < count }
 {

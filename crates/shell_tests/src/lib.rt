@@ -2,6 +2,8 @@
 #![tactic(auto)]
 
 #[cfg(test)]
+mod bad_lines;
+#[cfg(test)]
 mod cursor_pages;
 #[cfg(test)]
 mod drawn;
@@ -15,6 +17,8 @@ mod interleaved;
 mod lines;
 #[cfg(test)]
 mod numbered;
+#[cfg(test)]
+mod random_lines;
 #[cfg(test)]
 mod removal;
 #[cfg(test)]

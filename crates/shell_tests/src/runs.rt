@@ -8,18 +8,32 @@ use std::io;
 use std::io::{ErrorKind, Read, Write};
 use std::process::Abort;
 
-// Gives a few bytes at a time, and fails at a read.
+// Gives a few bytes at a time, and fails at one read, in this manner.
 #[derive(Drop)]
 pub struct Choppy<'a> {
     pub bytes: &'a [u8],
     pub size: usize,
     pub before_fault: u32,
+    pub fault: ErrorKind,
+}
+
+impl Choppy<'_> {
+    // Bytes that never fail.
+    pub fn sound(bytes: &[u8], size: usize) -> Choppy<'_> {
+        Choppy {
+            bytes,
+            size,
+            before_fault: NEVER,
+            fault: ErrorKind::Other,
+        }
+    }
 }
 
 impl Read for Choppy<'_> {
     fn read(&mut self, buf: &mut [u8]) -> io::Result<usize> {
         if self.before_fault == 0 {
-            return Err(io::Error::from(ErrorKind::Other));
+            self.before_fault = NEVER;
+            return Err(io::Error::from(self.fault));
         }
         self.before_fault -= 1;
         let n = self.size.min(buf.len()).min(self.bytes.len());
@@ -30,7 +44,7 @@ impl Read for Choppy<'_> {
     }
 }
 
-// Takes a few bytes at a time, and fails at a write or at the flush.
+// Takes a few bytes at a time, and fails at one write or at the flush.
 #[derive(Drop)]
 pub struct Breaking {
     pub held: Vec<u8>,
@@ -43,6 +57,7 @@ pub struct Breaking {
 impl Write for Breaking {
     fn write(&mut self, buf: &[u8]) -> io::Result<usize> {
         if self.before_fault == 0 {
+            self.before_fault = NEVER;
             return Err(io::Error::from(ErrorKind::Other));
         }
         self.before_fault -= 1;
@@ -68,6 +83,12 @@ pub struct Woven {
     pub status: u8,
     pub output: Vec<u8>,
     pub writes: u32,
+}
+
+impl Woven {
+    pub fn is(&self, output: &[u8], status: u8) -> bool {
+        self.output.as_slice() == output && self.status == status
+    }
 }
 
 pub fn run_into(
@@ -111,11 +132,7 @@ pub fn run(
 
 // A run in which nothing fails.
 pub fn whole(alloc: Global, language: Language, limits: Limits, input: &[u8]) -> Woven {
-    let input = Choppy {
-        bytes: input,
-        size: 4096,
-        before_fault: NEVER,
-    };
+    let input = Choppy::sound(input, 4096);
     run(alloc, language, limits, input, 4096, NEVER)
 }
 

@@ -1,26 +1,55 @@
 //! Long lines, and streams that fail.
 
-use crate::runs::{Breaking, Choppy, NEVER, Woven, add, limits, prints, run, run_into, whole};
+use crate::runs::{Breaking, Choppy, NEVER, add, limits, run, run_into, whole};
 use bw_model::Limits;
 use shell_lines::Language;
-use std::alloc::Global;
+use std::alloc::{AllocError, Global};
+use std::io::ErrorKind;
 use std::test::Fail;
 
+// A line with so many zeros, which asks for a turn of an actor without an operation, by seven bytes more.
+fn turn_line(alloc: Global, zeros: u32) -> Result<Vec<u8>, AllocError> {
+    let mut line = Vec::new(alloc);
+    add(&mut line, b"turn ", 1)?;
+    add(&mut line, b"0", zeros)?;
+    add(&mut line, b" 1", 1)?;
+    Ok(line)
+}
+
+// Whether this is what is printed for a first line, with a last LF and without, however many bytes come with each read.
+fn is_refused(
+    alloc: Global,
+    limits: Limits,
+    line: &[u8],
+    output: &[u8],
+) -> Result<bool, AllocError> {
+    let mut ended = Vec::new(alloc);
+    add(&mut ended, line, 1)?;
+    add(&mut ended, b"\nlist\n", 1)?;
+    for size in [1, 7, 1000, 1023, 1024, 1025, 1026, 4096] {
+        for input in [line, ended.as_slice()] {
+            let input = Choppy::sound(input, size);
+            let woven = run(alloc, Language::Weave, limits, input, 4096, NEVER);
+            if !woven.is(output, 1) {
+                return Ok(false);
+            }
+        }
+    }
+    Ok(true)
+}
+
+// 1,024 bytes are a line, and 1,025 are not.
 #[test]
 fn long_lines(rt: HostRuntime) -> Result<(), Fail> {
-    let limits = limits(&rt);
-    let mut line = vec![in rt.alloc(); b'0'; 1025]?;
-    let woven = whole(rt.alloc(), Language::Weave, limits, line.as_slice());
-    assert_eq!(rt; woven.output.as_slice(), b"refused line 1: 11\n".as_slice());
-    let (front, _) = line.as_mut_slice().split_at_mut(5);
-    front.copy_from_slice(b"turn ");
-    line.truncate(1022);
-    line.extend_from_slice(b" 1")?;
-    let woven = whole(rt.alloc(), Language::Weave, limits, line.as_slice());
-    assert_eq!(rt; woven.output.as_slice(), b"refused line 1: 6\n".as_slice());
-    line.extend_from_slice(b"1")?;
-    let woven = whole(rt.alloc(), Language::Weave, limits, line.as_slice());
-    assert_eq!(rt; woven.output.as_slice(), b"refused line 1: 11\n".as_slice());
+    for (zeros, output) in [
+        (1016, b"refused line 1: 6\n".as_slice()),
+        (1017, b"refused line 1: 6\n".as_slice()),
+        (1018, b"refused line 1: 11\n".as_slice()),
+        (5000, b"refused line 1: 11\n".as_slice()),
+    ] {
+        let line = turn_line(rt.alloc(), zeros)?;
+        assert!(rt; is_refused(rt.alloc(), limits(&rt), line.as_slice(), output)?);
+    }
     Ok(())
 }
 
@@ -43,35 +72,30 @@ const RUNS: &[(Language, &[u8], &[u8])] = &[
     (Language::Script, COMMANDS, REPLIES),
 ];
 
-// The bytes, seven a read.
-fn by_sevens(bytes: &[u8], before_fault: u32) -> Choppy<'_> {
-    Choppy {
-        bytes,
-        size: 7,
-        before_fault,
+// Whether each write that fails, of five bytes, leaves a beginning of the output, though the next ones wouldn't fail.
+fn writes_fail(
+    alloc: Global,
+    limits: Limits,
+    language: Language,
+    input: &[u8],
+    output: &[u8],
+) -> bool {
+    let all = run(alloc, language, limits, Choppy::sound(input, 7), 5, NEVER);
+    for n in 0..all.writes {
+        let woven = run(alloc, language, limits, Choppy::sound(input, 7), 5, n);
+        let written = (n as usize).saturating_mul(5).min(output.len());
+        if !woven.is(output.split_at(written).0, 1) {
+            return false;
+        }
     }
+    all.writes > 20 && all.is(output, 0)
 }
 
 #[test]
 fn failed_writes(rt: HostRuntime) {
     let limits = limits(&rt);
     for (language, input, output) in RUNS {
-        let all = run(
-            rt.alloc(),
-            *language,
-            limits,
-            by_sevens(input, NEVER),
-            5,
-            NEVER,
-        );
-        assert_eq!(rt; all.output.as_slice(), *output);
-        assert_eq!(rt; all.status, 0);
-        for n in 0..all.writes {
-            let woven = run(rt.alloc(), *language, limits, by_sevens(input, NEVER), 5, n);
-            assert_eq!(rt; woven.status, 1);
-            let written = (n as usize).saturating_mul(5).min(output.len());
-            assert_eq!(rt; woven.output.as_slice(), output.split_at(written).0);
-        }
+        assert!(rt; writes_fail(rt.alloc(), limits, *language, input, output));
     }
 }
 
@@ -85,50 +109,91 @@ fn failed_flush(rt: HostRuntime) {
             before_fault: NEVER,
             flush_fails: true,
         };
-        let input = by_sevens(input, NEVER);
-        let woven = run_into(rt.alloc(), *language, limits(&rt), input, out);
-        assert_eq!(rt; woven.output.as_slice(), *output);
-        assert_eq!(rt; woven.status, 1);
+        let woven = run_into(
+            rt.alloc(),
+            *language,
+            limits(&rt),
+            Choppy::sound(input, 7),
+            out,
+        );
+        assert!(rt; woven.is(output, 1));
     }
 }
 
-// The output of the whole lines among the first bytes of the input.
-fn lines_before(
-    alloc: Global,
-    language: Language,
-    limits: Limits,
-    input: &[u8],
-    bytes: usize,
-) -> Woven {
+// The whole lines among the first bytes of the input.
+fn whole_lines(input: &[u8], bytes: usize) -> &[u8] {
     let mut end = 0;
     for (i, b) in input.split_at(bytes.min(input.len())).0.iter().enumerate() {
         if *b == b'\n' {
             end = i + 1;
         }
     }
-    let lines = input.split_at(end.min(input.len())).0;
-    whole(alloc, language, limits, lines)
+    input.split_at(end.min(input.len())).0
 }
 
+// Whether each read that fails so, of seven bytes, ends the program behind the whole lines before it, though the next ones wouldn't fail.
+fn reads_fail(
+    alloc: Global,
+    limits: Limits,
+    (language, input, output): (Language, &[u8], &[u8]),
+    fault: ErrorKind,
+) -> bool {
+    for n in 0..input.len() / 7 + 2 {
+        let cut = Choppy {
+            bytes: input,
+            size: 7,
+            before_fault: u32::try_from(n).unwrap_or(NEVER),
+            fault,
+        };
+        let woven = run(alloc, language, limits, cut, 4096, NEVER);
+        let lines = whole_lines(input, n.saturating_mul(7));
+        let before = whole(alloc, language, limits, lines);
+        if !woven.is(before.output.as_slice(), 1) || !output.starts_with(woven.output.as_slice()) {
+            return false;
+        }
+    }
+    true
+}
+
+// An interrupted read isn't tried again.
 #[test]
 fn failed_reads(rt: HostRuntime) {
     let limits = limits(&rt);
-    for (language, input, output) in RUNS {
-        let reads = (input.len() / 7) as u32 + 2;
-        for n in 0..reads {
-            let cut = by_sevens(input, n);
-            let woven = run(rt.alloc(), *language, limits, cut, 4096, NEVER);
-            let bytes = (n as usize).saturating_mul(7);
-            let before = lines_before(rt.alloc(), *language, limits, input, bytes);
-            assert_eq!(rt; woven.status, 1);
-            assert_eq!(rt; woven.output.as_slice(), before.output.as_slice());
-            assert!(rt; output.starts_with(woven.output.as_slice()));
+    for run in RUNS {
+        for fault in [ErrorKind::Other, ErrorKind::Interrupted] {
+            assert!(rt; reads_fail(rt.alloc(), limits, *run, fault));
         }
     }
 }
 
+// Whether this is printed, one byte a read and one a write.
+fn is_printed(
+    alloc: Global,
+    limits: Limits,
+    language: Language,
+    input: &[u8],
+    output: &[u8],
+) -> bool {
+    run(alloc, language, limits, Choppy::sound(input, 1), 1, NEVER).is(output, 0)
+}
+
+// With a last LF and without.
 #[test]
-fn one_byte_a_read(rt: HostRuntime) -> Result<(), Fail> {
+fn one_byte_at_a_time(rt: HostRuntime) -> Result<(), Fail> {
+    let limits = limits(&rt);
+    for (language, input, output) in RUNS {
+        let mut ended = Vec::new(rt.alloc());
+        add(&mut ended, input, 1)?;
+        add(&mut ended, b"\n", 1)?;
+        assert!(rt; is_printed(rt.alloc(), limits, *language, input, output));
+        assert!(rt; is_printed(rt.alloc(), limits, *language, ended.as_slice(), output));
+    }
+    Ok(())
+}
+
+// Thousands of lines, read in one piece and byte by byte, and written in few pieces.
+#[test]
+fn many_lines(rt: HostRuntime) -> Result<(), Fail> {
     let mut lines = Vec::new(rt.alloc());
     add(&mut lines, INPUT, 1)?;
     add(&mut lines, b"\n", 1)?;
@@ -136,33 +201,11 @@ fn one_byte_a_read(rt: HostRuntime) -> Result<(), Fail> {
     let mut output = Vec::new(rt.alloc());
     add(&mut output, OUTPUT, 1)?;
     add(&mut output, b"0 none\n", 3000)?;
-    let input = Choppy {
-        bytes: lines.as_slice(),
-        size: 1,
-        before_fault: NEVER,
-    };
-    let woven = run(rt.alloc(), Language::Weave, limits(&rt), input, 4096, NEVER);
-    assert_eq!(rt; woven.output.as_slice(), output.as_slice());
-    assert_eq!(rt; woven.status, 0);
-    prints(
-        &rt,
-        rt.alloc(),
-        limits(&rt),
-        lines.as_slice(),
-        output.as_slice(),
-    );
-    Ok(())
-}
-
-#[test]
-fn few_writes(rt: HostRuntime) -> Result<(), Fail> {
-    let mut input = Vec::new(rt.alloc());
-    add(&mut input, b"begin 0 get a\nfinish 0\n", 3000)?;
-    let mut output = Vec::new(rt.alloc());
-    add(&mut output, b"0 none\n", 3000)?;
-    let woven = whole(rt.alloc(), Language::Weave, limits(&rt), input.as_slice());
-    assert_eq!(rt; woven.status, 0);
-    assert_eq!(rt; woven.output.as_slice(), output.as_slice());
-    assert!(rt; woven.writes <= 6);
+    for size in [1, 4096] {
+        let input = Choppy::sound(lines.as_slice(), size);
+        let woven = run(rt.alloc(), Language::Weave, limits(&rt), input, 4096, NEVER);
+        assert!(rt; woven.is(output.as_slice(), 0));
+        assert!(rt; woven.writes <= 6);
+    }
     Ok(())
 }

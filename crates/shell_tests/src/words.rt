@@ -1,102 +1,136 @@
 //! The words of a command line.
 
-use shell_options::{OptionsError, Program, options};
+use shell_options::{OptionsError, Program, Settings, options};
 use std::alloc::{AllocError, Global};
 use std::test::Fail;
 
-fn words(alloc: Global, texts: &[&str]) -> Result<Vec<String>, AllocError> {
-    let mut words = Vec::new(alloc);
-    for text in texts {
-        words.push(String::from_str(alloc, text)?)?;
+/// What the words come to.
+#[derive(Clone, Copy, Debug, PartialEq, Eq)]
+enum Said {
+    /// A program with its numbers: actors, PIDs, rows, epoch.
+    Numbers(Program, [u64; 4]),
+    /// The same, but one of the numbers isn't allowed.
+    BadLimits,
+    /// They are refused.
+    Refused,
+    /// Help.
+    Help,
+    Memory,
+}
+
+/// What these settings come to.
+fn said_by(settings: &Settings) -> Said {
+    match settings.limits() {
+        Ok(limits) => Said::Numbers(
+            settings.program,
+            [limits.actors, limits.pids, limits.rows, limits.epoch],
+        ),
+        Err(_) => Said::BadLimits,
     }
-    Ok(words)
+}
+
+/// What words come to, of which the line has those behind the program's name.
+fn answer_to(alloc: Global, line: &str) -> Result<Said, AllocError> {
+    let mut words = vec![in alloc; String::from_str(alloc, "bwtree")?]?;
+    for word in line.split(' ') {
+        words.push(String::from_str(alloc, word)?)?;
+    }
+    Ok(match options(alloc, words.as_slice()) {
+        Ok(settings) => said_by(&settings),
+        Err(OptionsError::Clap(error)) if error.use_stderr() => Said::Refused,
+        Err(OptionsError::Clap(_)) => Said::Help,
+        Err(OptionsError::Memory) => Said::Memory,
+    })
+}
+
+/// Whether each of the lines comes to this.
+fn all_say(alloc: Global, lines: &[&str], wanted: Said) -> Result<bool, AllocError> {
+    for line in lines {
+        if answer_to(alloc, line)? != wanted {
+            return Ok(false);
+        }
+    }
+    Ok(true)
 }
 
 #[test]
 fn numbers_of_options(rt: HostRuntime) -> Result<(), Fail> {
-    let given = words(rt.alloc(), &["bwtree", "weave"])?;
-    let Ok(settings) = options(rt.alloc(), given.as_slice()) else {
-        return Err(Fail::from("defaults"));
-    };
-    assert_eq!(rt; (settings.actors, settings.pids), (2, 64));
-    assert_eq!(rt; (settings.rows, settings.epoch), (256, 1));
-    assert_eq!(rt; settings.program, Program::Weave);
-    let texts = [
-        "bwtree",
-        "weave",
-        "--rows",
-        "64",
-        "--epoch=7",
-        "--actors",
-        "3",
-        "--pids",
-        "0128",
+    let table = [
+        ("weave", Said::Numbers(Program::Weave, [2, 64, 256, 1])),
+        (
+            "weave --rows 64 --epoch=7 --actors 3 --pids 0128",
+            Said::Numbers(Program::Weave, [3, 128, 64, 7]),
+        ),
+        (
+            "weave --actors +16",
+            Said::Numbers(Program::Weave, [16, 64, 256, 1]),
+        ),
+        (
+            "weave --actors 00000000000000000000001",
+            Said::Numbers(Program::Weave, [1, 64, 256, 1]),
+        ),
+        ("script", Said::Numbers(Program::Script, [1, 64, 256, 1])),
+        (
+            "script --pids 4096 --rows=16384 --epoch 4611686018427387904",
+            Said::Numbers(Program::Script, [1, 4096, 16384, 1 << 62]),
+        ),
     ];
-    let given = words(rt.alloc(), &texts)?;
-    let Ok(settings) = options(rt.alloc(), given.as_slice()) else {
-        return Err(Fail::from("given numbers"));
-    };
-    assert_eq!(rt; (settings.actors, settings.pids), (3, 128));
-    assert_eq!(rt; (settings.rows, settings.epoch), (64, 7));
+    for (line, wanted) in table {
+        let said = answer_to(rt.alloc(), line)?;
+        assert_eq!(rt; said, wanted, "{line}");
+    }
     Ok(())
 }
 
-#[test]
-fn numbers_of_scripts(rt: HostRuntime) -> Result<(), Fail> {
-    let given = words(rt.alloc(), &["bwtree", "script"])?;
-    let Ok(settings) = options(rt.alloc(), given.as_slice()) else {
-        return Err(Fail::from("defaults"));
-    };
-    assert_eq!(rt; settings.program, Program::Script);
-    assert_eq!(rt; (settings.actors, settings.pids), (1, 64));
-    assert_eq!(rt; (settings.rows, settings.epoch), (256, 1));
-    let texts = [
-        "bwtree",
-        "script",
-        "--pids",
-        "4096",
-        "--rows=16384",
-        "--epoch",
-        "4611686018427387904",
-    ];
-    let given = words(rt.alloc(), &texts)?;
-    let Ok(settings) = options(rt.alloc(), given.as_slice()) else {
-        return Err(Fail::from("given numbers"));
-    };
-    assert_eq!(rt; (settings.actors, settings.pids), (1, 4096));
-    assert_eq!(rt;
-        (settings.rows, settings.epoch),
-        (16384, 4611686018427387904)
-    );
-    Ok(())
-}
+/// Numbers that are none of 64 bits, words that are none, and options that stand twice.
+const REFUSED: [&str; 16] = [
+    "weave --rows x",
+    "weave --rows -1",
+    "weave --rows 64.0",
+    "weave --rows",
+    "weave --rows=",
+    "weave --rows 18446744073709551616",
+    "weave --pids 99999999999999999999",
+    "weave --turns 1",
+    "weave 1",
+    "knit --rows 64",
+    "--rows 64 weave",
+    "script --actors 1",
+    "script --rows x",
+    "weave --actors 2 --actors 2",
+    "weave --rows 64 --pids 64 --rows=64",
+    "script --epoch 1 --epoch 1",
+];
+
+/// Numbers outside their ranges.
+const BAD_LIMITS: [&str; 14] = [
+    "weave --actors 0",
+    "weave --actors 17",
+    "weave --actors 18446744073709551615",
+    "weave --pids 0",
+    "weave --pids 63",
+    "weave --pids 65",
+    "weave --pids 4160",
+    "weave --rows 0",
+    "weave --rows 63",
+    "weave --rows 16448",
+    "script --rows 100",
+    "script --pids 4160",
+    "weave --epoch 0",
+    "script --epoch 4611686018427387905",
+];
 
 #[test]
 fn refused_words(rt: HostRuntime) -> Result<(), Fail> {
-    let refused = [
-        ["bwtree", "weave", "--rows", "x"],
-        ["bwtree", "weave", "--rows", "-1"],
-        ["bwtree", "weave", "--rows", "18446744073709551616"],
-        ["bwtree", "weave", "--turns", "1"],
-        ["bwtree", "knit", "--rows", "64"],
-        ["bwtree", "--rows", "64", "weave"],
-        ["bwtree", "weave", "--rows", "64.0"],
-        ["bwtree", "script", "--actors", "1"],
-        ["bwtree", "script", "--rows", "x"],
-    ];
-    for texts in &refused {
-        let given = words(rt.alloc(), texts)?;
-        let Err(OptionsError::Clap(error)) = options(rt.alloc(), given.as_slice()) else {
-            return Err(Fail::from("not refused"));
-        };
-        assert!(rt; error.use_stderr());
-    }
-    for texts in &[["bwtree", "--help"], ["bwtree", "help"]] {
-        let given = words(rt.alloc(), texts)?;
-        let Err(OptionsError::Clap(error)) = options(rt.alloc(), given.as_slice()) else {
-            return Err(Fail::from("no help"));
-        };
-        assert!(rt; !error.use_stderr());
-    }
+    let alloc = rt.alloc();
+    assert!(rt; all_say(alloc, &REFUSED, Said::Refused)?);
+    assert!(rt; all_say(alloc, &BAD_LIMITS, Said::BadLimits)?);
+    assert!(rt;
+        all_say(
+            alloc,
+            &["--help", "help", "weave -h", "help script"],
+            Said::Help
+        )?
+    );
     Ok(())
 }

@@ -17,7 +17,8 @@ const FIRST_SHARED: u32 = 4 * OWN;
 #[derive(Clone, Copy, Debug, Drop)]
 pub(crate) struct Client {
     number: u32,
-    rounds: u32,
+    pub(crate) rounds: u32,
+    drawn: u32,
     values: [u32; 16],
     pub(crate) wrong: u32,
 }
@@ -44,6 +45,7 @@ impl Client {
         Client {
             number,
             rounds,
+            drawn: number,
             values: [0; 16],
             wrong: 0,
         }
@@ -81,25 +83,66 @@ impl Client {
     }
 }
 
+/// What a client asks in a round: a command by a number that was drawn, on an own key or on a shared one.
+#[derive(Clone, Copy, Drop)]
+pub(crate) struct Asked {
+    drawn: u32,
+    own: bool,
+}
+
+impl Asked {
+    fn kind(self) -> u32 {
+        self.drawn >> 8
+    }
+
+    /// The number of the value that an update sets.
+    fn new_value(self) -> u32 {
+        1 + (self.drawn >> 20) % 4000
+    }
+
+    /// The place among the client's own keys.
+    fn place(self) -> u32 {
+        (self.drawn >> 16) % OWN
+    }
+}
+
+impl Client {
+    /// What it asks in a round: every second command is on an own key.
+    pub(crate) fn ask(&mut self, round: u32) -> Asked {
+        self.drawn = next(self.drawn);
+        Asked {
+            drawn: self.drawn,
+            own: round % 2 == 0,
+        }
+    }
+
+    pub(crate) fn command(&self, asked: Asked) -> Command {
+        let number = if asked.own {
+            (self.number % 4 * OWN).wrapping_add(asked.place())
+        } else {
+            FIRST_SHARED + (asked.drawn >> 12) % SHARED
+        };
+        command(asked.kind(), number, asked.new_value())
+    }
+
+    /// Looks at the reply of a command, and counts it where it is wrong.
+    pub(crate) fn learn(&mut self, asked: Asked, reply: &Reply) {
+        let place = asked.place() as usize;
+        if asked.own && !self.expects(asked.kind(), place, asked.new_value(), reply) {
+            self.wrong = self.wrong.saturating_add(1);
+        }
+    }
+}
+
 impl Work for Client {
-    /// Runs its commands, every second one on an own key.
+    /// Runs its commands.
     fn work(&mut self, tree: &Tree, seat: &mut BwSeat) {
-        let mut drawn = self.number;
         for round in 0..self.rounds {
-            drawn = next(drawn);
-            let (kind, new) = (drawn >> 8, 1 + (drawn >> 20) % 4000);
-            let place = (drawn >> 16) % OWN;
-            let number = if round % 2 == 0 {
-                self.number % 4 * OWN + place
-            } else {
-                FIRST_SHARED + (drawn >> 12) % SHARED
-            };
-            let Some(reply) = reply(tree, seat, command(kind, number, new)) else {
+            let asked = self.ask(round);
+            let Some(reply) = reply(tree, seat, self.command(asked)) else {
                 return;
             };
-            if round % 2 == 0 && !self.expects(kind, place as usize, new, &reply) {
-                self.wrong = self.wrong.saturating_add(1);
-            }
+            self.learn(asked, &reply);
         }
     }
 }

@@ -33,3 +33,5 @@ mod stops;
 mod threads;
 #[cfg(test)]
 mod trees;
+#[cfg(test)]
+mod without_memory;

@@ -4,6 +4,7 @@ ghost use Rattle.bw_tree.specs.Notes.{IsNoteOf};
 ghost use Rattle.bw_tree.specs.Trees.{AreSeatsOf, IsSeatOf, Tree as TreeSeen};
 
 use crate::numbered::{get, number_of, upsert};
+use crate::trees::give_back;
 use bw_model::{Limits, Reply};
 use bw_tree::{BwSeat, Note, Tree};
 use crossbeam_channel::{Receiver, Sender, bounded};
@@ -95,6 +96,8 @@ fn tell_and_heed<R: Threads + Wait + Sync, T: OfTree + Send>(
     requires tree { T.tree ≡ Some tree.now }
     requires one { IsSeatOf tree.now one.old }
     requires other { IsSeatOf tree.now other.old }
+    ensures one { IsSeatOf tree.now one.new }
+    ensures other { IsSeatOf tree.now other.new }
 {
     let (sender, receiver) = bounded::<Told<T>, Global>(alloc, TIMES as usize).ok()?;
     let (_, right) = join_mut(
@@ -103,6 +106,30 @@ fn tell_and_heed<R: Threads + Wait + Sync, T: OfTree + Send>(
         &mut || heeds::<R, T>(rt, tree, other, &receiver),
     );
     Some(right)
+}
+
+/// The same with two seats of a list, which were taken out of it.
+fn heeded_by_both<R: Threads + Wait + Sync>(
+    rt: &R,
+    alloc: Global,
+    tree: &Tree,
+    seats: &mut Vec<BwSeat>,
+    one: BwSeat,
+    other: BwSeat,
+) -> Option<u32>
+    requires own { AreSeatsOf tree.now seats.old.items }
+    requires one { IsSeatOf tree.now one }
+    requires other { IsSeatOf tree.now other }
+{
+    let mut one = one;
+    let mut other = other;
+    let heeded = tell_and_heed::<R, Brand>(rt, alloc, tree, &mut one, &mut other);
+    let given = give_back(tree, seats, one);
+    if give_back(tree, seats, other) && given {
+        heeded
+    } else {
+        None
+    }
 }
 
 /// The same with the last two seats of a list.
@@ -114,9 +141,14 @@ fn heeded_by<R: Threads + Wait + Sync>(
 ) -> Option<u32>
     requires own { AreSeatsOf tree.now seats.old.items }
 {
-    let mut one = take_seat(tree, seats)?;
-    let mut other = take_seat(tree, seats)?;
-    tell_and_heed::<R, Brand>(rt, alloc, tree, &mut one, &mut other)
+    let Some(other) = take_seat(tree, seats) else {
+        return None;
+    };
+    let Some(one) = take_seat(tree, seats) else {
+        give_back(tree, seats, other);
+        return None;
+    };
+    heeded_by_both(rt, alloc, tree, seats, one, other)
 }
 
 /// The same on a new tree.

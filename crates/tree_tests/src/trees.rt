@@ -13,7 +13,7 @@ use std::test::Fail;
 use workers::{give_seat, opened, take_seat};
 
 /// Gives a seat back.
-fn give_back(tree: &Tree, seats: &mut Vec<BwSeat>, seat: BwSeat) -> bool
+pub(crate) fn give_back(tree: &Tree, seats: &mut Vec<BwSeat>, seat: BwSeat) -> bool
     requires own { AreSeatsOf tree.now seats.old.items }
     requires given { IsSeatOf tree.now seat }
     ensures own { AreSeatsOf tree.now seats.new.items }

@@ -1,0 +1,194 @@
+//! Lines of drawn words and bytes: a line is refused for a reason of the grammar, or for none.
+
+use crate::interleaved::draw;
+use crate::runs::{Woven, add, whole};
+use bw_model::Limits;
+use shell_lines::Language;
+use std::alloc::{AllocError, Global};
+use std::test::Fail;
+
+/// How many lines are drawn for each program.
+const LINES: u64 = 5000;
+
+/// The forms of lines, with N for a number, K for a token and L for a link.
+const WEAVE: [&str; 14] = [
+    "begin N get K",
+    "begin N insert K K",
+    "begin N upsert K K",
+    "begin N delete K",
+    "begin N swap K K K",
+    "begin N page K",
+    "begin N tidy K",
+    "turn N N",
+    "until N L",
+    "finish N",
+    "mix N N",
+    "list",
+    "get K",
+    "N get K",
+];
+
+const SCRIPT: [&str; 10] = [
+    "get K",
+    "insert K K",
+    "upsert K K",
+    "delete K",
+    "swap K K K",
+    "page K",
+    "tidy K",
+    "list",
+    "begin N get K",
+    "turn N N",
+];
+
+const NUMBERS: [&str; 12] = [
+    "0",
+    "0",
+    "1",
+    "1",
+    "2",
+    "16",
+    "007",
+    "100000",
+    "18446744073709551615",
+    "18446744073709551616",
+    "99999999999999999999",
+    "-1",
+];
+
+const TOKENS: [&str; 12] = [
+    "a",
+    "a",
+    "b",
+    "k01",
+    "=",
+    "=6B",
+    "=00fF",
+    "=6",
+    "=6g",
+    "12345678901234567890123456789012",
+    "123456789012345678901234567890123",
+    "=ffffffffffffffffffffffffffffffffffffffffffffffffffffffffffffffffff",
+];
+
+const LINKS: [&str; 6] = ["put", "base", "split", "clear", "ready", "Put"];
+
+/// Codes of refusals.
+const CODES: [&[u8]; 5] = [b": 11\n", b": 1\n", b": 4\n", b": 5\n", b": 6\n"];
+
+/// One of these.
+fn one_of<'a>(seed: &mut u64, words: &[&'a str]) -> &'a str {
+    let place = draw(seed, words.len().max(1) as u64);
+    words.get(place as usize).copied().unwrap_or("")
+}
+
+/// A word of a form, or what is drawn in its place.
+fn drawn<'a>(seed: &mut u64, word: &'a str) -> &'a str {
+    match word {
+        "N" => one_of(seed, &NUMBERS),
+        "K" => one_of(seed, &TOKENS),
+        "L" => one_of(seed, &LINKS),
+        _ => word,
+    }
+}
+
+/// Adds a line of a form that is drawn.
+fn add_words(line: &mut Vec<u8>, seed: &mut u64, forms: &[&str]) -> Result<(), AllocError> {
+    let form = one_of(seed, forms);
+    for (place, word) in form.split(' ').enumerate() {
+        if place > 0 {
+            add(line, b" ", 1)?;
+        }
+        add(line, drawn(seed, word).as_bytes(), 1)?;
+    }
+    Ok(())
+}
+
+/// Adds up to so many bytes that are drawn.
+fn add_bytes(line: &mut Vec<u8>, seed: &mut u64, most: u64) -> Result<(), AllocError> {
+    for _ in 0..draw(seed, most.max(1)) {
+        line.push(draw(seed, 256) as u8)?;
+    }
+    Ok(())
+}
+
+/// A line: of words, or of words with a few bytes behind them, or of bytes.
+fn drawn_line(alloc: Global, seed: &mut u64, forms: &[&str]) -> Result<Vec<u8>, AllocError> {
+    let mut line = Vec::new(alloc);
+    match draw(seed, 8) {
+        0 => add_bytes(&mut line, seed, 40)?,
+        1 | 2 | 3 => add_words(&mut line, seed, forms)?,
+        _ => {
+            add_words(&mut line, seed, forms)?;
+            add_bytes(&mut line, seed, 3)?;
+        }
+    }
+    Ok(line)
+}
+
+/// The last line of an output.
+fn last_line(output: &[u8]) -> &[u8] {
+    let mut start = 0;
+    for (place, byte) in output.iter().enumerate() {
+        if *byte == b'\n' && place + 1 < output.len() {
+            start = place + 1;
+        }
+    }
+    output.split_at(start.min(output.len())).1
+}
+
+/// The place of the refusal's code, or the number of codes where nothing is refused; none where the program ends otherwise.
+fn end(woven: &Woven) -> Option<usize> {
+    let line = last_line(woven.output.as_slice());
+    let refused = line.starts_with(b"refused line ");
+    if woven.status == 0 && !line.starts_with(b"refused") {
+        return Some(CODES.len());
+    }
+    let place = CODES.iter().position(|code| line.ends_with(code))?;
+    (refused && woven.status == 1).then_some(place)
+}
+
+/// How often drawn lines, each behind a first one, end so; none where one ends otherwise.
+fn ends(
+    alloc: Global,
+    limits: Limits,
+    language: Language,
+    forms: &[&str],
+    first: &[u8],
+) -> Result<Option<[u32; 6]>, AllocError> {
+    let mut seed = 1;
+    let mut ends = [0u32; 6];
+    for _ in 0..LINES {
+        let mut input = Vec::new(alloc);
+        add(&mut input, first, 1)?;
+        let line = drawn_line(alloc, &mut seed, forms)?;
+        add(&mut input, line.as_slice(), 1)?;
+        let woven = whole(alloc, language, limits, input.as_slice());
+        let Some(end) = end(&woven) else {
+            return Ok(None);
+        };
+        if let Some(count) = ends.get_mut(end) {
+            *count = count.saturating_add(1);
+        }
+    }
+    Ok(Some(ends))
+}
+
+// In a weave each reason comes; a script has one actor, whose operations are done.
+#[test]
+fn random_lines(rt: HostRuntime) -> Result<(), Fail> {
+    let limits = Limits::new(2, 64, 64, 1)?;
+    let alloc = rt.alloc();
+    let first = b"begin 0 insert a 1\n";
+    let woven = ends(alloc, limits, Language::Weave, &WEAVE, first)?;
+    let scripted = ends(alloc, limits, Language::Script, &SCRIPT, b"insert a 1\n")?;
+    println!(rt; "codes 11, 1, 4, 5, 6, none: {woven:?} {scripted:?}")?;
+    let seen = [woven, scripted].map(|ends| ends.map(|counts| counts.map(|count| count > 0)));
+    assert!(rt;
+        seen == [
+            Some([true; 6]),
+            Some([true, true, false, false, false, true])
+        ]
+    );
+    Ok(())
+}

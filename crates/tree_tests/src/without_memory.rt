@@ -1,0 +1,189 @@
+//! Threads over a tree whose memory is counted: once it is open, no call of it wants any, so nothing changes where all of it is refused.
+ghost use Rattle.std.specs.Prelude.{IfSome};
+ghost use Rattle.bw_tree.specs.Trees.{AreSeatsOf, IsSeatOf};
+
+use crate::clients::Client;
+use bw_model::{Command, Limits, Reply};
+use bw_tree::{BwSeat, Called, Tree};
+use refusing::Refusing;
+use std::alloc::{Allocator, Global};
+use std::test::Fail;
+use std::thread::{Threads, map_vec};
+use workers::opened;
+
+/// How many threads there are, each with two seats.
+const THREADS: u32 = 4;
+
+/// How many commands each thread runs.
+const ROUNDS: u32 = 5000;
+
+/// More pieces than a command is run in.
+const PIECES: u32 = 1 << 16;
+
+/// Runs a command in pieces of so many steps, between which the seats meet.
+fn reply_in_pieces<A: Allocator>(
+    tree: &Tree<A>,
+    one: &mut BwSeat<A>,
+    other: &mut BwSeat<A>,
+    command: Command,
+    steps: u32,
+) -> Option<Reply>
+    requires one { IsSeatOf tree.now one.old }
+    requires other { IsSeatOf tree.now other.old }
+    ensures one { IsSeatOf tree.now one.new }
+    ensures other { IsSeatOf tree.now other.new }
+{
+    if !one.is_idle() || steps == 0 {
+        return None;
+    }
+    let mut called = tree.call(one, command, steps);
+    for _ in 0..PIECES {
+        if let Called::Done(reply) = called {
+            return Some(reply);
+        }
+        tree.meet(other, one);
+        if one.is_idle() {
+            return None;
+        }
+        called = tree.resume(one, steps);
+    }
+    None
+}
+
+/// Runs the client's commands, with the one seat and the other in turns, in pieces of 1 to 29 steps.
+fn runs<A: Allocator>(
+    tree: &Tree<A>,
+    one: &mut BwSeat<A>,
+    other: &mut BwSeat<A>,
+    client: &mut Client,
+)
+    requires one { IsSeatOf tree.now one.old }
+    requires other { IsSeatOf tree.now other.old }
+    ensures one { IsSeatOf tree.now one.new }
+    ensures other { IsSeatOf tree.now other.new }
+{
+    for round in 0..client.rounds {
+        let asked = client.ask(round);
+        let command = client.command(asked);
+        let steps = 1 + round % 29;
+        let replied = if round % 3 == 0 {
+            reply_in_pieces(tree, one, other, command, steps)
+        } else {
+            reply_in_pieces(tree, other, one, command, steps)
+        };
+        let Some(reply) = replied else {
+            client.wrong = client.wrong.saturating_add(1);
+            return;
+        };
+        client.learn(asked, &reply);
+    }
+}
+
+/// Takes the last seat of a list, if it has one.
+fn take_seat<A: Allocator>(tree: &Tree<A>, seats: &mut Vec<BwSeat<A>, A>) -> Option<BwSeat<A>>
+    requires own { AreSeatsOf tree.now seats.old.items }
+    ensures left { AreSeatsOf tree.now seats.new.items }
+    ensures taken { IfSome result (IsSeatOf tree.now) }
+{
+    let _ = tree;
+    seats.pop()
+}
+
+/// What a thread has to do.
+trait Job: Drop + Send {
+    fn done(self) -> Self;
+}
+
+/// A client with two seats of a tree, which take turns at its commands.
+#[derive(Drop)]
+struct Pair<'a, A: Allocator> {
+    tree: &'a Tree<A>,
+    one: BwSeat<A>,
+    other: BwSeat<A>,
+    client: Client,
+    ghost own: { IsSeatOf tree.now one },
+    ghost own_other: { IsSeatOf tree.now other },
+}
+
+impl<'a, A: Allocator + Send + Sync> Job for Pair<'a, A> {
+    fn done(self) -> Pair<'a, A> {
+        let Pair {
+            tree,
+            mut one,
+            mut other,
+            mut client,
+        } = self;
+        runs(tree, &mut one, &mut other, &mut client);
+        Pair {
+            tree,
+            one,
+            other,
+            client,
+        }
+    }
+}
+
+/// A client for each thread, with the last two seats of a list.
+fn seated<'a, A: Allocator>(
+    alloc: Global,
+    tree: &'a Tree<A>,
+    seats: &mut Vec<BwSeat<A>, A>,
+) -> Option<Vec<Pair<'a, A>>>
+    requires own { AreSeatsOf tree.now seats.old.items }
+{
+    let mut pairs = Vec::new(alloc);
+    for number in 0..THREADS {
+        let one = take_seat(tree, seats)?;
+        let other = take_seat(tree, seats)?;
+        let pair = Pair {
+            tree,
+            one,
+            other,
+            client: Client::new(number, ROUNDS),
+        };
+        pairs.push(pair).ok()?;
+    }
+    Some(pairs)
+}
+
+/// Does all jobs, each in a thread of its own.
+fn done_at_once<R: Threads + Sync, J: Job>(rt: &R, jobs: Vec<J>) -> Option<Vec<J>> {
+    map_vec(rt, jobs, &|job: J| job.done()).ok()
+}
+
+/// How many replies are wrong.
+fn wrong<A: Allocator>(pairs: &[Pair<'_, A>]) -> u32 {
+    let mut wrong = 0u32;
+    for pair in pairs {
+        wrong = wrong.saturating_add(pair.client.wrong);
+    }
+    wrong
+}
+
+/// How many replies are wrong, and how often memory was wanted, where every call for it from the opening on is counted.
+fn wrong_and_wanted<R: Threads + Sync>(
+    rt: &R,
+    alloc: Global,
+    heap: &Refusing<Global>,
+    limits: Limits,
+) -> Option<(u32, u64)> {
+    let (tree, mut seats) = opened(heap, limits).ok()?;
+    let pairs = seated(alloc, &tree, &mut seats)?;
+    heap.set(0);
+    let done = done_at_once(rt, pairs)?;
+    let wanted = heap.left().wrapping_neg();
+    Some((wrong(done.as_slice()), wanted))
+}
+
+// The first call for memory would be refused. There are few rows and PIDs, so that pages are split, removed and used again, and some
+// writers find no room.
+#[test]
+fn no_call_wants_memory(rt: HostRuntime) -> Result<(), Fail> {
+    let heap = Refusing::new(rt.alloc());
+    let limits = Limits::new(8, 64, 128, 1)?;
+    assert_eq!(rt;
+        wrong_and_wanted(&rt, rt.alloc(), &heap, limits),
+        Some((0, 0))
+    );
+    Ok(())
+}
