@@ -147,7 +147,8 @@ fn turns_to_the_left_of_a_page(rt: HostRuntime) {
         left_of_second(rt.alloc(), 1, Page::empty_leaf()).unwrap_or(None),
     ];
     let expected = [
-        stands(5, Asked::Slot(1), None),
+        // page 5 is the page above then, and the one that stood in its place is in hand
+        stands(1, Asked::Slot(1), None),
         stands(1, Asked::Slot(0), Some(ReadEnded::Beside)),
         stands(1, Asked::Slot(0), Some(ReadEnded::Leaf)),
     ];
