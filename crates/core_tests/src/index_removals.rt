@@ -56,7 +56,7 @@ fn goes(core: &mut Core, first: u32, end: u32) -> bool {
 }
 
 /// The operation in which the removal of a page of level 1 is linked first, by how many began before it.
-fn removes(entries: &[SharedEntry]) -> Option<u32> {
+pub(crate) fn removes(entries: &[SharedEntry]) -> Option<u32> {
     let mut begun = 0u32;
     let mut placed = None;
     for entry in entries {

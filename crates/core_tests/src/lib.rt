@@ -46,6 +46,8 @@ mod swaps;
 #[cfg(test)]
 mod sweeps;
 #[cfg(test)]
+mod tides;
+#[cfg(test)]
 mod tidying;
 #[cfg(test)]
 mod walks;
