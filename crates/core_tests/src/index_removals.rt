@@ -1,7 +1,7 @@
 //! A tree of 200 keys that shrinks to nothing: index pages of level 1 are removed, and others act while one is.
 
-use crate::by_hand::{begins, finish, finishes, replies, takes};
-use bw_model::{Answer, Command, Key, Limits, Reply, Step, Value};
+use crate::by_hand::{begins, finish, finishes, replies, takes, until};
+use bw_model::{Answer, Command, Key, Limits, Link, Reply, Step, Value};
 use chain_search::{Entry, SharedEntry, Turn};
 use deltas::Record;
 use std::alloc::{AllocError, Global};
@@ -210,6 +210,85 @@ fn removal_stops(alloc: Global, every: u32, meanwhile: Meanwhile) -> bool {
         Some(at) => stops_anywhere(alloc, at, every, meanwhile),
         None => false,
     }
+}
+
+/// Whether an actor deletes the keys from one number down to another.
+fn deletes(core: &mut Core, actor: u8, last: u32, first: u32) -> bool {
+    let mut number = last;
+    for _ in first..=last {
+        let reply = Reply::Deleted(value(number));
+        if !replies(core, actor, Command::Delete(key(number)), reply) {
+            return false;
+        }
+        number = number.saturating_sub(1);
+    }
+    true
+}
+
+/// Whether an actor begins a command, and takes steps up to so many exchanges with this link.
+fn stops_at(core: &mut Core, actor: u8, command: Command, link: Link, times: u32) -> bool {
+    if !begins(core, actor, command) {
+        return false;
+    }
+    for _ in 0..times {
+        if !until(core, actor, link) {
+            return false;
+        }
+    }
+    true
+}
+
+/// Whether the page that the delete of k164 would remove stays while the term of the leaf from k145 on is held there; it goes once that
+/// leaf is removed, while a lookup that began after the delete is the last one.
+fn stays_while_a_leaf_is_held(core: &mut Core) -> bool {
+    goes(core, 0, 236)
+        && deletes(core, 1, 148, 145)
+        && stops_at(core, 1, Command::Tidy(key(149)), Link::Hold, 1)
+        && deletes(core, 0, 164, 164)
+        && replies(core, 0, Command::Get(key(130)), Reply::Value(value(130)))
+        && finishes(core, 1, Reply::Tidied)
+        && deletes(core, 0, 163, 149)
+        && deletes(core, 0, 144, 1)
+}
+
+/// Whether two pages of level 1 beside each other go one after the other: the delete of k164 has made its page small when another actor
+/// holds the page to the left of that one.
+fn neighbours_go(core: &mut Core) -> bool {
+    goes(core, 0, 236)
+        && stops_at(core, 0, Command::Delete(key(164)), Link::Clear, 1)
+        && deletes(core, 1, 128, 101)
+        && stops_at(core, 1, Command::Delete(key(100)), Link::Hold, 2)
+        && finishes(core, 0, Reply::Deleted(value(164)))
+        && finishes(core, 1, Reply::Deleted(value(100)))
+        && deletes(core, 0, 163, 129)
+        && deletes(core, 0, 99, 1)
+}
+
+/// How pages of level 1 go.
+#[derive(Clone, Copy)]
+enum Way {
+    HeldLeaf,
+    Neighbours,
+}
+
+/// The operation in which the first of them goes, where no key is left.
+fn first_gone(alloc: Global, way: Way) -> Option<u32> {
+    let mut core = opened(alloc)?;
+    let right = match way {
+        Way::HeldLeaf => stays_while_a_leaf_is_held(&mut core),
+        Way::Neighbours => neighbours_go(&mut core),
+    };
+    if !right || !matches!(core.listing(alloc), Ok(pairs) if pairs.is_empty()) {
+        return None;
+    }
+    removes(core.into_trace().entries.as_slice())
+}
+
+// Before the lookup 236 operations, four deletes, a tidying and a delete begin; before the delete of k100 the delete of k164, and 28 more.
+#[test]
+fn index_pages_go_where_they_may(rt: HostRuntime) {
+    assert!(rt; first_gone(rt.alloc(), Way::HeldLeaf) == Some(242));
+    assert!(rt; first_gone(rt.alloc(), Way::Neighbours) == Some(265));
 }
 
 #[test]
