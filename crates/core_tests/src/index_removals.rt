@@ -55,15 +55,30 @@ fn goes(core: &mut Core, first: u32, end: u32) -> bool {
     true
 }
 
-/// The operation in which the removal of a page of level 1 is linked first, by how many began before it.
-pub(crate) fn removes(entries: &[SharedEntry]) -> Option<u32> {
+/// Whether the record removes a page of level 1.
+fn is_removal(record: &Record) -> bool {
+    matches!(record, Record::Remove(remove) if remove.level == 1)
+}
+
+/// Whether it splits one.
+fn is_split(record: &Record) -> bool {
+    matches!(record, Record::Split(split) if split.level == 1)
+}
+
+/// The operation in which a removal of a page of level 1 is linked first, or a split of one, by how many began before it.
+fn links(entries: &[SharedEntry], removal: bool) -> Option<u32> {
     let mut begun = 0u32;
     let mut placed = None;
     for entry in entries {
         match entry.entry() {
             Entry::Begin(_, _) => begun = begun.wrapping_add(1),
-            Entry::Step(_, Step::Place(row, Record::Remove(remove)), _, _) => {
-                if remove.level == 1 {
+            Entry::Step(_, Step::Place(row, record), _, _) => {
+                let is_wanted = if removal {
+                    is_removal(&record)
+                } else {
+                    is_split(&record)
+                };
+                if is_wanted {
                     placed = Some(row);
                 }
             }
@@ -76,6 +91,11 @@ pub(crate) fn removes(entries: &[SharedEntry]) -> Option<u32> {
         }
     }
     None
+}
+
+/// The operation in which the removal of a page of level 1 is linked first.
+pub(crate) fn removes(entries: &[SharedEntry]) -> Option<u32> {
+    links(entries, true)
 }
 
 /// The turns of a trace.
@@ -289,6 +309,63 @@ fn first_gone(alloc: Global, way: Way) -> Option<u32> {
 fn index_pages_go_where_they_may(rt: HostRuntime) {
     assert!(rt; first_gone(rt.alloc(), Way::HeldLeaf) == Some(242));
     assert!(rt; first_gone(rt.alloc(), Way::Neighbours) == Some(265));
+}
+
+/// The insert that first splits a page of level 1.
+fn first_split(alloc: Global) -> Option<u32> {
+    let mut core = opened(alloc)?;
+    if !goes(&mut core, 0, KEYS) {
+        return None;
+    }
+    links(core.into_trace().entries.as_slice(), false)
+}
+
+/// Whether that insert, stopped after so many steps, ends as it is to, once another actor has looked a key up, and inserted and deleted
+/// keys of its own below that page.
+fn split_stops(core: &mut Core, at: u32, steps: u32) -> Option<bool> {
+    let (command, reply) = asked(at);
+    let mut done = None;
+    if !goes(core, 0, at) || !begins(core, 0, command) || !takes(core, 0, steps, &mut done) {
+        return Some(false);
+    }
+    if done.is_some() {
+        return None;
+    }
+    Some(
+        replies(core, 1, Command::Get(key(100)), Reply::Value(value(100)))
+            && deletes(core, 1, 104, 100)
+            && finishes(core, 0, reply)
+            && goes(core, at.wrapping_add(1), KEYS)
+            && replies(core, 1, Command::Get(key(200)), Reply::Value(value(200))),
+    )
+}
+
+/// The same on a new core.
+fn split_stops_anew(alloc: Global, at: u32, steps: u32) -> Option<bool> {
+    match opened(alloc) {
+        Some(mut core) => split_stops(&mut core, at, steps),
+        None => Some(false),
+    }
+}
+
+/// Whether it does so after each number of steps, more than fifty of them.
+fn splits_anywhere(alloc: Global) -> bool {
+    let Some(at) = first_split(alloc) else {
+        return false;
+    };
+    for steps in 0..1000u32 {
+        match split_stops_anew(alloc, at, steps) {
+            Some(true) => {}
+            Some(false) => return false,
+            None => return steps > 50,
+        }
+    }
+    false
+}
+
+#[test]
+fn a_split_of_an_index_page_stops_anywhere(rt: HostRuntime) {
+    assert!(rt; splits_anywhere(rt.alloc()));
 }
 
 #[test]

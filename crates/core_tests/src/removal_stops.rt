@@ -47,11 +47,25 @@ const fn deletes(twelfth: Say) -> [Line; 9] {
     ]
 }
 
+/// Actor 1 inserts three keys that go to the leaf, which so isn't small any more, also where its term is held; the delete goes on after
+/// that, and another delete and a tidying there.
+const GROWS: [Line; 8] = [
+    Line::Replies(1, Ask::Insert(13), Say::Inserted),
+    Line::Replies(1, Ask::Insert(14), Say::Inserted),
+    Line::Replies(1, Ask::Insert(15), Say::Inserted),
+    Line::Finishes(0, Say::Deleted(12)),
+    Line::Lists(&[1, 2, 3, 4, 5, 6, 7, 8, 9, 10, 11, 13, 14, 15], 10),
+    Line::Replies(0, Ask::Delete(15), Say::Deleted(15)),
+    Line::Replies(1, Ask::Tidy(9), Say::Tidied),
+    Line::Lists(&[1, 2, 3, 4, 5, 6, 7, 8, 9, 10, 11, 13, 14], 10),
+];
+
 /// Whether nothing goes wrong after any of these numbers of steps.
 fn all_right(alloc: Global, first: u32, end: u32) -> bool {
     for steps in first..end {
         if !go_on(alloc, steps, &updates(&TWELVE), &updates(&ELEVEN))
             || !go_on(alloc, steps, &deletes(Say::Value(12)), &deletes(Say::None))
+            || !go_on(alloc, steps, &GROWS, &GROWS)
         {
             return false;
         }
