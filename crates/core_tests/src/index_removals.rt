@@ -136,7 +136,7 @@ fn first_removal(alloc: Global) -> Option<u32> {
     None
 }
 
-/// What actor 1 does while the delete is stopped, and what that is to say.
+/// What actor 1 does while the command is stopped, and what that is to say.
 #[derive(Clone, Copy)]
 enum Meanwhile {
     /// A lookup whose way leads through the page that is removed.
@@ -147,6 +147,8 @@ enum Meanwhile {
     Deletes,
     /// Inserts of ten keys there, by which a leaf is split.
     Inserts,
+    /// A lookup of an earlier key, and deletes of it and the next four.
+    Trims,
 }
 
 /// Whether actor 1 does so.
@@ -161,6 +163,10 @@ fn acts(core: &mut Core, meanwhile: Meanwhile) -> bool {
             Reply::Deleted(value(129)),
         ),
         Meanwhile::Inserts => inserts(core),
+        Meanwhile::Trims => {
+            replies(core, 1, Command::Get(key(100)), Reply::Value(value(100)))
+                && deletes(core, 1, 104, 100)
+        }
     }
 }
 
@@ -188,8 +194,8 @@ fn lists(core: &mut Core) -> bool {
     }
 }
 
-/// Whether actor 1 acts after so many steps of the delete at this place, and the delete then ends as it is to. None once it ends
-/// before.
+/// Whether actor 1 acts after so many steps of the command at this place, which then ends as it is to, and all goes on. None once the
+/// command ends before.
 fn stops(core: &mut Core, at: u32, steps: u32, meanwhile: Meanwhile) -> Option<bool> {
     let (command, reply) = asked(at);
     let mut done = None;
@@ -199,7 +205,8 @@ fn stops(core: &mut Core, at: u32, steps: u32, meanwhile: Meanwhile) -> Option<b
     if done.is_some() {
         return None;
     }
-    Some(acts(core, meanwhile) && finishes(core, 0, reply))
+    let right = acts(core, meanwhile) && finishes(core, 0, reply);
+    Some(right && goes(core, at.wrapping_add(1), KEYS))
 }
 
 /// The same on a new core.
@@ -210,14 +217,14 @@ fn stops_anew(alloc: Global, at: u32, steps: u32, meanwhile: Meanwhile) -> Optio
     }
 }
 
-/// Whether it does so after each number of steps, or after each so manieth; more than two hundred there are.
+/// Whether it does so after each number of steps, or after each so manieth; more than fifty there are.
 fn stops_anywhere(alloc: Global, at: u32, every: u32, meanwhile: Meanwhile) -> bool {
     let mut steps = 0u32;
     for _ in 0..1000u32 {
         match stops_anew(alloc, at, steps, meanwhile) {
             Some(true) => {}
             Some(false) => return false,
-            None => return steps > 200,
+            None => return steps > 50,
         }
         steps = steps.saturating_add(every);
     }
@@ -320,52 +327,13 @@ fn first_split(alloc: Global) -> Option<u32> {
     links(core.into_trace().entries.as_slice(), false)
 }
 
-/// Whether that insert, stopped after so many steps, ends as it is to, once another actor has looked a key up, and inserted and deleted
-/// keys of its own below that page.
-fn split_stops(core: &mut Core, at: u32, steps: u32) -> Option<bool> {
-    let (command, reply) = asked(at);
-    let mut done = None;
-    if !goes(core, 0, at) || !begins(core, 0, command) || !takes(core, 0, steps, &mut done) {
-        return Some(false);
-    }
-    if done.is_some() {
-        return None;
-    }
-    Some(
-        replies(core, 1, Command::Get(key(100)), Reply::Value(value(100)))
-            && deletes(core, 1, 104, 100)
-            && finishes(core, 0, reply)
-            && goes(core, at.wrapping_add(1), KEYS)
-            && replies(core, 1, Command::Get(key(200)), Reply::Value(value(200))),
-    )
-}
-
-/// The same on a new core.
-fn split_stops_anew(alloc: Global, at: u32, steps: u32) -> Option<bool> {
-    match opened(alloc) {
-        Some(mut core) => split_stops(&mut core, at, steps),
-        None => Some(false),
-    }
-}
-
-/// Whether it does so after each number of steps, more than fifty of them.
-fn splits_anywhere(alloc: Global) -> bool {
-    let Some(at) = first_split(alloc) else {
-        return false;
-    };
-    for steps in 0..1000u32 {
-        match split_stops_anew(alloc, at, steps) {
-            Some(true) => {}
-            Some(false) => return false,
-            None => return steps > 50,
-        }
-    }
-    false
-}
-
 #[test]
 fn a_split_of_an_index_page_stops_anywhere(rt: HostRuntime) {
-    assert!(rt; splits_anywhere(rt.alloc()));
+    let Some(at) = first_split(rt.alloc()) else {
+        assert!(rt; false);
+        return;
+    };
+    assert!(rt; stops_anywhere(rt.alloc(), at, 1, Meanwhile::Trims));
 }
 
 #[test]
