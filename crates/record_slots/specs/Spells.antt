@@ -17,7 +17,7 @@ IsShortContent (Child page held) = ⊤
 abbrev pub IsShortItem : Item → Type 0
 IsShortItem item = IsShort item.key × IsShortContent item.content
 
--- Keys and values have at most 32 bytes, as their types say.
+-- Keys and values are short, as their types say.
 abbrev pub HasShortTexts : Record → Type 0
 HasShortTexts (Base page) = IsShort page.low × IfSome page.high IsShort × All IsShortItem page.items
 HasShortTexts (Put put) = IsShort put.key × IsShort put.value
