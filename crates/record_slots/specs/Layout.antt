@@ -23,7 +23,10 @@ item_size = 18
 abbrev pub row_size : ℕ
 row_size = 512
 
--- where the keys and the items stand
+-- where its last word, its keys and its items stand
+abbrev pub last_at : ℕ
+last_at = 511
+
 abbrev pub first_at : ℕ
 first_at = 3
 

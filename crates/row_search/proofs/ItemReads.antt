@@ -1,5 +1,5 @@
 -- What an item of a row has, read from its words.
-use Rattle.std.proofs.Common.{◌≡◌, ◌==◌, ◌<◌, ◌+◌, ◌*◌, ◌%◌, ℕ, false, List, length, get_or, take, drop, refl, sym, ap, subst, ◌∙◌, arith}
+use Rattle.std.proofs.Common.{◌≡◌, suc, ◌==◌, ◌<◌, ◌+◌, ◌*◌, ◌%◌, ℕ, false, List, length, get_or, take, drop, refl, sym, ap, subst, ◌∙◌, arith}
 use Rattle.std.specs.Prelude.{if◌then◌else◌, nat_le, ◌-◌, Option, Some, None, IfSome}
 use Rattle.std.proofs.lemmas.Bool.{eqb-true, false_from_ne_true}
 use Rattle.std.proofs.lemmas.List.{get_or-drop, drop-drop}

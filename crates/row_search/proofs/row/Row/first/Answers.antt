@@ -1,4 +1,4 @@
-use Rattle.std.proofs.Common.{List, ℕ, get_or, take, drop}
+use Rattle.std.proofs.Common.{List, suc, ℕ, get_or, take, drop}
 use Rattle.record_slots.specs.Layout.{first_at, text_size}
 use Rattle.record_slots.specs.Parts.{row_of}
 use Rattle.record_slots.specs.Texts.{IsText}

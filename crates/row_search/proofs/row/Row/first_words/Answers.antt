@@ -1,4 +1,4 @@
-use Rattle.std.proofs.Common.{get_or, take, drop, ◌∙◌}
+use Rattle.std.proofs.Common.{get_or, suc, take, drop, ◌∙◌}
 use Rattle.record_slots.specs.Layout.{first_at, text_size}
 use Rattle.row_search.proofs.ItemReads.{text_is, text_stands}
 use Rattle.row_search.proofs.RowTexts.{first_text, row_spells}

@@ -1,4 +1,4 @@
-use Rattle.std.proofs.Common.{◌≡◌, ◌≤◌, ◌/◌, get_or, length, arith}
+use Rattle.std.proofs.Common.{◌≡◌, ◌%◌, ◌≤◌, ◌/◌, get_or, length, arith}
 use Rattle.record_slots.specs.Layout.{count_unit, part_limit}
 use Rattle.record_slots.specs.Parts.{items_of}
 use Rattle.row_search.proofs.RowTexts.{count_there, few_items, row_spells}
