@@ -124,3 +124,8 @@ pub second_there : (words : List ℕ) (second : Option (List ℕ)) → IfSome se
     → (text : List ℕ) → IsText (get_or words second_at 0) (take text_size (drop (suc second_at) words)) text → Some text ≡ second
 second_there words None short e bounded text h = absurd (bounded (sym (get_or-drop second_at words 0 0) ∙ sym (first_of text_size (drop second_at words)) ∙ ap (λ ws. get_or ws 0 0) (sym e)))
 second_there words (Some other) short e bounded text h = ap Some (text_same (get_or words second_at 0) (take text_size (drop (suc second_at) words)) text other h (text_at other words second_at short e))
+
+pub second_text : (words : List ℕ) (second : Option (List ℕ)) → IfSome second IsShort → bound_words second ≡ take field_size (drop second_at words) → (get_or words second_at 0 ≡ no_bound → ⊥)
+    → (text : List ℕ) × IsText (get_or words second_at 0) (take text_size (drop (suc second_at) words)) text
+second_text words None short e bounded = absurd (bounded (sym (get_or-drop second_at words 0 0) ∙ sym (first_of text_size (drop second_at words)) ∙ ap (λ ws. get_or ws 0 0) (sym e)))
+second_text words (Some text) short e bounded = (text, text_at text words second_at short e)
