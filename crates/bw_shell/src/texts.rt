@@ -11,7 +11,7 @@ ghost use Rattle.bw_shell.specs.Text.{item_text, next_text, reply_text, turned_t
 use crate::refusal::Refusal;
 use crate::streams::Output;
 use crate::turns::Progress;
-use bw_model::{Key, Reply, Value};
+use bw_model::{Key, MAX_LENGTH, Reply, Value};
 use itoa::Buffer;
 use shell_lines::is_word;
 
@@ -28,7 +28,7 @@ fn show_digits<O: Output>(out: &mut O, bytes: &[u8])
     requires { length bytes.now ≤ longest }
     ensures { Prints (O.state out.old) (O.state out.new) (61 ∷ encode_lower bytes.now) }
 {
-    let mut digits = [0u8; 64];
+    let mut digits = [0u8; 2 * MAX_LENGTH];
     let text = &mut digits[..2 * bytes.len()];
     match hex::encode_to_slice(bytes, text) {
         Ok(()) => {
