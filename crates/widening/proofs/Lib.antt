@@ -1,0 +1,3 @@
+pub mod FieldLaws
+pub mod SpreadLaws
+pub mod WideLaws

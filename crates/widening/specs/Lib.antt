@@ -1,0 +1,2 @@
+pub mod FirstForm
+pub mod Spread

@@ -1,0 +1,12 @@
+//! Rows of the first form as rows of today's.
+#![tactic(auto)]
+
+mod layout;
+mod narrow;
+mod rows;
+mod spread;
+#[cfg(test)]
+mod tests;
+
+pub use layout::{FIRST_LONGEST, FIRST_ROW_WORDS};
+pub use rows::widen;
