@@ -6,6 +6,7 @@ mod Resuming
 mod Joining
 mod Resting
 mod Meeting
+mod Gathering
 mod Opened
 mod Kept
 mod Leaving
