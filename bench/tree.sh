@@ -1,14 +1,15 @@
 #!/bin/sh
-# How many operations a second threads do on one running tree, each thread with a seat of its own: bench/tree.sh [OPERATIONS], so many in
-# each thread. The tree has 20,000 keys of 16 bytes with values of 8; lookups are of drawn keys, and in the mix every second operation is
-# an upsert of one. Beside it stands how many lookups bare loads of as many rows' words would allow, of the rows of ways over five levels and of
+# How many operations a second threads do on one running tree, each thread with a seat of its own: bench/tree.sh [OPERATIONS [BYTES]], so
+# many in each thread, with keys of 16 bytes or of so many. The tree has 20,000 keys with values of 8 bytes; lookups are of drawn keys, and
+# in the mix every second operation is an upsert of one. Beside it stands how many lookups bare loads of as many rows' words would allow, of the rows of ways over five levels and of
 # drawn rows, and the share of these limits that is reached. Opening and loading the tree is not counted. The program is proved and built first.
 set -eu
 top=$(CDPATH='' cd -- "$(dirname -- "$0")/.." && pwd)
 operations=${1:-10000}
+bytes=${2:-16}
 keys=20000
 program=$top/crates/bench/out/bench
-[ -x "$program" ] || (cd "$top/crates/bench" && rt run -- load 1 1 0) </dev/null >/dev/null 2>&1
+[ -x "$program" ] || (cd "$top/crates/bench" && rt run -- load 1 1 0 16) </dev/null >/dev/null 2>&1
 taken=$(mktemp)
 times=$(mktemp)
 trap 'rm -f "$taken" "$times"' EXIT
@@ -17,13 +18,13 @@ trap 'rm -f "$taken" "$times"' EXIT
 took() {
     wanted=$1
     shift
-    succeeded=$("$program" "$@" 2>"$taken")
+    succeeded=$("$program" "$@" "$bytes" 2>"$taken")
     [ "$succeeded" = "$wanted" ] || { echo "expected $wanted, got $succeeded" >&2; exit 1; }
     cat "$taken"
 }
 
 # A lookup's steps are the epoch, the entry, slot 0, a slot for each of five levels, the rows of five chains, and the leave.
-rows=$("$program" steps "$keys" 1 1000 2>"$taken" | awk '{ printf "%.0f", $1 / 1000 - 9 }')
+rows=$("$program" steps "$keys" 1 1000 "$bytes" 2>"$taken" | awk '{ printf "%.0f", $1 / 1000 - 9 }')
 for threads in 1 2 4; do
     all=$((threads * operations))
     reads=$(took "$all" reads "$keys" "$threads" "$operations")

@@ -11,6 +11,8 @@ pub(crate) struct Scale {
     pub(crate) threads: u32,
     /// How many operations each thread does.
     pub(crate) operations: u32,
+    /// How many bytes a key has, if that is no fewer than a number's digits and no more than a key may have.
+    pub(crate) key_bytes: u32,
 }
 
 /// What all threads have done.

@@ -1,13 +1,13 @@
 //! Does one thing again and again, as often as the command line says.
 //!
 //! `bench WHAT TIMES`: where WHAT is `put`, `short` or `long` it reads a row of words as a record: a put, or a leaf of 24 items whose keys and
-//! values have 4 or 32 bytes. Where it is `find` or `page` it searches a key in a chain of 8 deltas over a leaf of 15 items: by the walk, or
+//! values have 4 or 64 bytes. Where it is `find` or `page` it searches a key in a chain of 8 deltas over a leaf of 15 items: by the walk, or
 //! by the page that the chain makes. Where it is `count` it counts the items of that chain. It prints how often that succeeded; bench/rows.sh times it.
 //!
-//! `bench WHAT SIZE THREADS OPERATIONS`: it opens a tree and inserts SIZE keys by one seat; that is all where WHAT is `load`. Where it is
+//! `bench WHAT SIZE THREADS OPERATIONS BYTES`: it opens a tree and inserts SIZE keys of so many bytes, 16 at least, by one seat; that is all where WHAT is `load`. Where it is
 //! `reads` or `half`, each of so many threads then does so many operations on drawn keys: lookups, or upserts and lookups by turns. Where it
 //! is `steps`, they do lookups, and count their steps. Where it is `rows` or `ways`, there is no tree: an operation loads the words of SIZE rows,
-//! 256 each, drawn ones, or those of a way over five levels. It prints how many operations succeeded or steps were taken by what came last,
+//! drawn ones, or those of a way over five levels. It prints how many operations succeeded or steps were taken by what came last,
 //! and on standard error how many nanoseconds that took. bench/tree.sh runs it.
 #![tactic(auto)]
 
@@ -31,11 +31,12 @@ fn main(rt: HostRuntime) -> io::Result<()> {
         [_, what, times] => {
             println!(rt; "{}", records::run(what.as_str(), number(times.as_str())))?;
         }
-        [_, what, size, threads, operations] => {
+        [_, what, size, threads, operations, bytes] => {
             let scale = Scale {
                 size: number(size.as_str()),
                 threads: number(threads.as_str()),
                 operations: number(operations.as_str()),
+                key_bytes: number(bytes.as_str()),
             };
             let done = work(&rt, rt.alloc(), what.as_str(), scale).unwrap_or_default();
             println!(rt; "{}", done.count)?;

@@ -1,19 +1,19 @@
 //! Words that are loaded and not read as records: how fast rows can be read at most.
 ghost use Rattle.std.specs.Prelude.{◌≡◌, ◌<◌, ◌*◌};
+ghost use Rattle.record_slots.specs.declared.layout.TheConstants.{ROW_WORDS};
 
 use crate::amounts::{Done, Scale};
 use atomic_table::{Shared, Table, TableRule};
 use rand_core::SeedableRng;
 use rand_core::utils::NextWord;
 use rand_pcg::Pcg32;
+use record_slots::ROW_WORDS;
 use std::alloc::Global;
 use std::thread::{Threads, map_indices};
 use std::time::{Clock, Instant};
 
-/// How many rows the table has, and how many words a row.
+/// How many rows the table has.
 const ROWS: u32 = 16384;
-
-const WIDTH: usize = 256;
 
 /// An odd number, which scatters the rows of a way over the table.
 const SCATTER: u32 = 7919;
@@ -36,12 +36,12 @@ pub(crate) fn run<R: Threads + Clock + Sync>(
     on_ways: bool,
     scale: Scale,
 ) -> Option<Done> {
-    let words = vec![in alloc; 0u64; ROWS as usize * WIDTH].ok()?;
+    let words = vec![in alloc; 0u64; ROWS as usize * ROW_WORDS].ok()?;
     let opened = Table::<(), (), (), AnyWords, Global>::of_words(alloc, words.as_slice(), &());
     let (table, _) = opened.ok()?;
     let shared = &table.shared;
     let read = |thread: usize| -> u64
-        requires { shared.now.table_id.words ≡ ROWS * WIDTH }
+        requires { shared.now.table_id.words ≡ ROWS * ROW_WORDS }
     { read(shared, on_ways, scale, thread as u64) };
     let start = Instant::now(rt).ok()?;
     let all = map_indices(rt, alloc, scale.threads as usize, &read).ok()?;
@@ -52,7 +52,7 @@ pub(crate) fn run<R: Threads + Clock + Sync>(
 
 /// How many operations of one thread have read what stands there.
 fn read(words: &Words, on_ways: bool, scale: Scale, seed: u64) -> u64
-    requires { words.now.table_id.words ≡ ROWS * WIDTH }
+    requires { words.now.table_id.words ≡ ROWS * ROW_WORDS }
 {
     let mut drawn = Pcg32::seed_from_u64(seed);
     let mut done = 0u64;
@@ -71,7 +71,7 @@ fn read(words: &Words, on_ways: bool, scale: Scale, seed: u64) -> u64
 
 /// All words of so many drawn rows, folded into one.
 fn folded(words: &Words, rows: u32, drawn: &mut Pcg32) -> u64
-    requires { words.now.table_id.words ≡ ROWS * WIDTH }
+    requires { words.now.table_id.words ≡ ROWS * ROW_WORDS }
 {
     let mut folded = 0;
     for _ in 0..rows {
@@ -83,7 +83,7 @@ fn folded(words: &Words, rows: u32, drawn: &mut Pcg32) -> u64
 /// All words of so many rows on a way from a root to a leaf, folded into one: the rows of five levels by turns, which have 1, 2, 16, 128 and
 /// 2,048 pages. The number says which pages.
 fn way(words: &Words, rows: u32, number: u32) -> u64
-    requires { words.now.table_id.words ≡ ROWS * WIDTH }
+    requires { words.now.table_id.words ≡ ROWS * ROW_WORDS }
 {
     let mut folded = 0;
     for record in 0..rows {
@@ -103,11 +103,11 @@ fn way(words: &Words, rows: u32, number: u32) -> u64
 /// The words of a row, folded into one.
 fn row(words: &Words, row: usize) -> u64
     requires range { row < ROWS }
-    requires words { words.now.table_id.words ≡ ROWS * WIDTH }
+    requires words { words.now.table_id.words ≡ ROWS * ROW_WORDS }
 {
     let mut folded = 0;
-    for place in 0..WIDTH {
-        folded ^= words.peek(row * WIDTH + place);
+    for place in 0..ROW_WORDS {
+        folded ^= words.peek(row * ROW_WORDS + place);
     }
     folded
 }

@@ -6,10 +6,10 @@ use base_page::Page;
 use bw_model::Key;
 use chain_search::{Chain, ChainPart, updates_fit};
 use deltas::{Delete, Record};
-use record_slots::from_words;
+use record_slots::{ROW_WORDS, from_words};
 
 /// How often one of the keys was found in the chain over the leaf that the row spells, by the page that the chain makes or by a walk.
-pub fn search_again(row: &[u64; 256], by_page: bool, times: u32) -> u32 {
+pub fn search_again(row: &[u64; ROW_WORDS], by_page: bool, times: u32) -> u32 {
     let Some(chain) = chain_of(row) else {
         return 0;
     };
@@ -24,7 +24,7 @@ pub fn search_again(row: &[u64; 256], by_page: bool, times: u32) -> u32 {
 }
 
 /// How often the items of the chain over the leaf that the row spells were counted, and were some.
-pub fn count_again(row: &[u64; 256], times: u32) -> u32 {
+pub fn count_again(row: &[u64; ROW_WORDS], times: u32) -> u32 {
     let Some(chain) = chain_of(row) else {
         return 0;
     };
@@ -38,7 +38,7 @@ pub fn count_again(row: &[u64; 256], times: u32) -> u32 {
 }
 
 /// The chain over the leaf that the row spells; none where it spells no leaf of all keys.
-fn chain_of(row: &[u64; 256]) -> Option<Chain> {
+fn chain_of(row: &[u64; ROW_WORDS]) -> Option<Chain> {
     let Ok(Record::Base(page)) = from_words(row) else {
         return None;
     };

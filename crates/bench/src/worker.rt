@@ -2,7 +2,7 @@
 ghost use Rattle.bw_tree.specs.Trees.{IsSeatOf};
 
 use crate::amounts::Scale;
-use bw_model::{Command, Key, Reply, Value};
+use bw_model::{Command, Key, MAX_LENGTH, Reply, Value};
 use bw_tree::{BwSeat, Called, Tree};
 use rand_core::SeedableRng;
 use rand_core::utils::NextWord;
@@ -14,6 +14,9 @@ const MOST_STEPS: u32 = 1 << 16;
 
 /// An odd number, so that products with it modulo 2^64 are as many as the numbers.
 const SCATTER: u64 = 0x9e37_79b9_7f4a_7c15;
+
+/// How many digits a number has.
+const DIGITS: usize = 16;
 
 /// What is done.
 #[derive(Clone, Copy, Debug, PartialEq, Eq, Drop)]
@@ -66,9 +69,21 @@ impl Worker {
         let drawn = self.drawn.next_word();
         let number = drawn.checked_rem(self.scale.size).unwrap_or(0);
         match self.what {
-            What::Load => Command::Insert(key(operation), value(operation)),
-            What::Half if operation % 2 == 0 => Command::Upsert(key(number), value(operation)),
-            _ => Command::Get(key(number)),
+            What::Load => Command::Insert(self.key(operation), value(operation)),
+            What::Half if operation % 2 == 0 => Command::Upsert(self.key(number), value(operation)),
+            _ => Command::Get(self.key(number)),
+        }
+    }
+
+    /// The key of a number: zeros, and 16 hexadecimal digits. Neighbours among the numbers are none among the keys.
+    fn key(&self, number: u32) -> Key {
+        let product = u64::from(number).wrapping_mul(SCATTER);
+        let scattered = (product ^ (product >> 32)).wrapping_mul(SCATTER);
+        let mut bytes = [b'0'; MAX_LENGTH];
+        let length = (self.scale.key_bytes as usize).clamp(DIGITS, MAX_LENGTH);
+        match hex::encode_to_slice(scattered.to_be_bytes(), &mut bytes[length - DIGITS..length]) {
+            Ok(()) => Key::from_slice(&bytes[..length]).unwrap_or_default(),
+            Err(_) => Key::default(),
         }
     }
 }
@@ -110,17 +125,6 @@ fn steps(tree: &Tree, seat: &mut BwSeat, command: Command) -> u64
         last = resumed(tree, seat, 1);
     }
     0
-}
-
-/// The key of a number, 16 hexadecimal digits: neighbours among the numbers are none among the keys.
-fn key(number: u32) -> Key {
-    let product = u64::from(number).wrapping_mul(SCATTER);
-    let scattered = (product ^ (product >> 32)).wrapping_mul(SCATTER);
-    let mut digits = [0; 16];
-    match hex::encode_to_slice(scattered.to_be_bytes(), &mut digits) {
-        Ok(()) => Key::from_slice(&digits).unwrap_or_default(),
-        Err(_) => Key::default(),
-    }
 }
 
 /// The value of a number, 8 bytes.

@@ -2,14 +2,14 @@
 ghost use Rattle.std.specs.Prelude.{◌≡◌, ◌≤◌, ◌↔◌, List, ℕ, [], length, IsOk, IfOk};
 ghost use Rattle.bw_model.specs.declared.short_bytes.TheConstants.{MAX_LENGTH};
 
-use crate::short_bytes::{ShortBytes, TooLong};
+use crate::short_bytes::{MAX_LENGTH, ShortBytes, TooLong};
 use std::alloc::AllocError;
 use std::marker::Model;
 
-/// A key: at most 32 bytes, ordered as a list of unsigned bytes.
+/// A key: at most 64 bytes, ordered as a list of unsigned bytes.
 #[derive(Debug, PartialEq, Eq, PartialOrd, Ord, Drop)]
 pub struct Key {
-    bytes: ShortBytes,
+    bytes: ShortBytes<MAX_LENGTH>,
 }
 
 impl Model for Key {
@@ -26,7 +26,7 @@ impl Model for Key {
 }
 
 impl Key {
-    /// The key of these bytes, refused exactly where there are more than 32.
+    /// The key of these bytes, refused exactly where there are more than 64.
     pub fn from_slice(bytes: &[u8]) -> Result<Key, TooLong>
         ensures fits { IsOk result ↔ (length bytes.now ≤ MAX_LENGTH) }
         ensures key { IfOk result (λ key. key ≡ bytes.now) }

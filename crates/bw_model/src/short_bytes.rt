@@ -3,49 +3,49 @@ ghost use Rattle.std.specs.Prelude.{◌≡◌, ◌≤◌, ◌↔◌, [], length,
 ghost use Rattle.std.specs.Ordering.{nat_cmp};
 ghost use Rattle.std.specs.Cmp.{partial_equiv_from_equiv};
 ghost use Rattle.std.specs.Cmp.Lexicographic.{pointwise, slice_cmp, nat_list_eq_equiv, nat_list_cmp_total, texts_po, texts_ties};
-ghost use Rattle.bw_model.specs.declared.short_bytes.TheConstants.{MAX_LENGTH};
 
 use std::cmp::Ordering;
 use std::fmt;
 use std::marker::Model;
 use thiserror::Error;
 
-/// A slice has more than 32 bytes.
+/// A slice has more bytes than a key or a value may have.
 #[derive(Clone, Copy, Debug, PartialEq, Eq, Error)]
 #[error("more than {MAX_LENGTH} bytes")]
 pub struct TooLong;
 
 /// How many bytes a key or a value has at most.
-pub const MAX_LENGTH: usize = 32;
+pub const MAX_LENGTH: usize = 64;
 
-/// At most 32 bytes. Their count is a byte, so that large values made of keys and values are copied
-/// at 33 bytes each; the bytes past the count are zeroes that nothing reads.
+/// At most so many bytes. Their count is a byte, so that large values made of keys and values are copied at one byte more than they
+/// have at most; the bytes past the count are zeroes that nothing reads.
 #[derive(Drop)]
-pub(crate) struct ShortBytes {
-    bytes: [u8; MAX_LENGTH],
+pub(crate) struct ShortBytes<const LENGTH: usize> {
+    bytes: [u8; LENGTH],
     count: u8,
 }
 
-impl Model for ShortBytes {
+impl<const LENGTH: usize> Model for ShortBytes<LENGTH> {
     ghost use Rattle.std.specs.Prelude.{◌≤◌, ℕ, List, take};
 
     ghost Value = { List ℕ };
 
     ghost view = { λ s. take s.count s.bytes };
 
-    ghost invariant = { λ s. s.count ≤ 32 };
+    ghost invariant = { λ s. s.count ≤ LENGTH };
 }
 
-impl ShortBytes {
-    /// These bytes, refused exactly where there are more than 32.
-    pub(crate) fn from_slice(bytes: &[u8]) -> Result<ShortBytes, TooLong>
-        ensures fits { IsOk result ↔ (length bytes.now ≤ MAX_LENGTH) }
+impl<const LENGTH: usize> ShortBytes<LENGTH> {
+    /// These bytes, refused exactly where there are more. A count is a byte.
+    pub(crate) fn from_slice(bytes: &[u8]) -> Result<ShortBytes<LENGTH>, TooLong>
+        requires { LENGTH ≤ 255 }
+        ensures fits { IsOk result ↔ (length bytes.now ≤ LENGTH) }
         ensures bytes { IfOk result (λ short. short ≡ bytes.now) }
     {
-        if bytes.len() > MAX_LENGTH {
+        if bytes.len() > LENGTH {
             return Err(TooLong);
         }
-        let mut padded = [0; MAX_LENGTH];
+        let mut padded = [0; LENGTH];
         padded[..bytes.len()].copy_from_slice(bytes);
         Ok(ShortBytes {
             bytes: padded,
@@ -57,14 +57,14 @@ impl ShortBytes {
     #[inline]
     pub(crate) fn as_slice(&self) -> &[u8]
         ensures bytes { result.now ≡ self.now }
-        ensures fits { length result.now ≤ MAX_LENGTH }
+        ensures fits { length result.now ≤ LENGTH }
     {
         &self.bytes[..usize::from(self.count)]
     }
 
     /// The same bytes again, without memory.
     #[inline]
-    pub(crate) fn copied(&self) -> ShortBytes
+    pub(crate) fn copied(&self) -> ShortBytes<LENGTH>
         ensures { result ≡ self.now }
     {
         ShortBytes {
@@ -74,19 +74,19 @@ impl ShortBytes {
     }
 }
 
-impl Default for ShortBytes {
+impl<const LENGTH: usize> Default for ShortBytes<LENGTH> {
     ghost is_default = { λ bytes. bytes ≡ [] };
 
     /// No bytes.
     fn default() -> Self {
         ShortBytes {
-            bytes: [0; MAX_LENGTH],
+            bytes: [0; LENGTH],
             count: 0,
         }
     }
 }
 
-impl PartialEq for ShortBytes {
+impl<const LENGTH: usize> PartialEq for ShortBytes<LENGTH> {
     ghost eq = { pointwise nat_eq };
 
     ghost laws = { partial_equiv_from_equiv nat_list_eq_equiv };
@@ -96,11 +96,11 @@ impl PartialEq for ShortBytes {
     }
 }
 
-impl Eq for ShortBytes {
+impl<const LENGTH: usize> Eq for ShortBytes<LENGTH> {
     ghost laws = { nat_list_eq_equiv };
 }
 
-impl PartialOrd for ShortBytes {
+impl<const LENGTH: usize> PartialOrd for ShortBytes<LENGTH> {
     ghost partial_cmp = { λ a b. Some (slice_cmp nat_cmp a b) };
 
     ghost laws = { texts_po };
@@ -110,7 +110,7 @@ impl PartialOrd for ShortBytes {
     }
 }
 
-impl Ord for ShortBytes {
+impl<const LENGTH: usize> Ord for ShortBytes<LENGTH> {
     ghost cmp = { slice_cmp nat_cmp };
 
     ghost total = { nat_list_cmp_total };
@@ -124,7 +124,7 @@ impl Ord for ShortBytes {
     }
 }
 
-impl fmt::Debug for ShortBytes {
+impl<const LENGTH: usize> fmt::Debug for ShortBytes<LENGTH> {
     fn fmt<W: fmt::Write>(&self, f: &mut fmt::Formatter<W>) -> fmt::Result {
         f.debug_list().entries(self.as_slice()).finish()
     }

@@ -2,14 +2,14 @@
 ghost use Rattle.std.specs.Prelude.{◌≡◌, ◌≤◌, ◌↔◌, List, ℕ, [], length, IsOk, IfOk};
 ghost use Rattle.bw_model.specs.declared.short_bytes.TheConstants.{MAX_LENGTH};
 
-use crate::short_bytes::{ShortBytes, TooLong};
+use crate::short_bytes::{MAX_LENGTH, ShortBytes, TooLong};
 use std::alloc::AllocError;
 use std::marker::Model;
 
-/// A value: at most 32 bytes.
+/// A value: at most 64 bytes.
 #[derive(Debug, PartialEq, Eq, PartialOrd, Ord, Drop)]
 pub struct Value {
-    bytes: ShortBytes,
+    bytes: ShortBytes<MAX_LENGTH>,
 }
 
 impl Model for Value {
@@ -26,7 +26,7 @@ impl Model for Value {
 }
 
 impl Value {
-    /// The value of these bytes, refused exactly where there are more than 32.
+    /// The value of these bytes, refused exactly where there are more than 64.
     pub fn from_slice(bytes: &[u8]) -> Result<Value, TooLong>
         ensures fits { IsOk result ↔ (length bytes.now ≤ MAX_LENGTH) }
         ensures value { IfOk result (λ value. value ≡ bytes.now) }

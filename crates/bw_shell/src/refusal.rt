@@ -9,7 +9,7 @@ use thiserror::Error;
 /// Why a line, a command line or a whole run is refused.
 #[derive(Clone, Copy, Debug, PartialEq, Eq, Error)]
 pub enum Refusal {
-    #[error("a key or a value has more than 32 bytes")]
+    #[error("a key or a value has more than 64 bytes")]
     TooLong,
     #[error("a limit is outside its range")]
     BadLimits,

@@ -2,6 +2,7 @@
 
 ghost use Rattle.std.specs.Prelude.{◌≡◌, ◌+◌, ◌<◌, ◌≤◌, ◌++◌, ◌∷◌, [], length, decimal, codes, map, option_copied};
 ghost use Rattle.std.specs.List.{flat_map};
+ghost use Rattle.bw_model.specs.Bytes.{longest};
 ghost use Rattle.hex.specs.Hex.{encode_lower};
 ghost use Rattle.shell_lines.specs.Token.{printed};
 ghost use Rattle.bw_shell.specs.Output.{Prints};
@@ -10,7 +11,7 @@ ghost use Rattle.bw_shell.specs.Text.{item_text, next_text, reply_text, turned_t
 use crate::refusal::Refusal;
 use crate::streams::Output;
 use crate::turns::Progress;
-use bw_model::{Key, Reply, Value};
+use bw_model::{Key, MAX_LENGTH, Reply, Value};
 use itoa::Buffer;
 use shell_lines::is_word;
 
@@ -24,10 +25,10 @@ pub fn show_number<O: Output>(out: &mut O, n: u64)
 
 // Bytes in digits, behind '='.
 fn show_digits<O: Output>(out: &mut O, bytes: &[u8])
-    requires { length bytes.now ≤ 32 }
+    requires { length bytes.now ≤ longest }
     ensures { Prints (O.state out.old) (O.state out.new) (61 ∷ encode_lower bytes.now) }
 {
-    let mut digits = [0u8; 64];
+    let mut digits = [0u8; 2 * MAX_LENGTH];
     let text = &mut digits[..2 * bytes.len()];
     match hex::encode_to_slice(bytes, text) {
         Ok(()) => {
@@ -40,7 +41,7 @@ fn show_digits<O: Output>(out: &mut O, bytes: &[u8])
 
 /// A token for the bytes.
 pub fn show_token<O: Output>(out: &mut O, bytes: &[u8])
-    requires { length bytes.now ≤ 32 }
+    requires { length bytes.now ≤ longest }
     ensures { Prints (O.state out.old) (O.state out.new) (printed bytes.now) }
 {
     if is_word(bytes) {

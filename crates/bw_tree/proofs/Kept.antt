@@ -9,6 +9,7 @@ use lib.ListN.{get_elem?}
 use Rattle.deltas.specs.declared.record.Record.{Record}
 use Rattle.deltas.specs.declared.record.Record.TheVariants.{Base, Put, Delete, Split, Term, Hold, Remove, Merge, Unterm}
 use Rattle.deltas.specs.Memory.{Memory}
+use Rattle.record_slots.specs.Layout.{last_at, row_size}
 use Rattle.record_slots.specs.Spelling.{words_of}
 use Rattle.record_slots.specs.Spells.{IsSpelling}
 use Rattle.tree_words.specs.Layout.{row_at, slot_at}
@@ -26,7 +27,7 @@ slot_is words memory pid found keep below e = sym (word_at words (slot_at pid) f
 pub slot_small : (words : List ℕ) (memory : Memory) (pid : ℕ) (content : Record) → KeepMemory words memory → memory.rows (memory.slots pid) ≡ Some content → memory.slots pid < 65536
 slot_small words memory pid content keep at = let there = (keep.kept (memory.slots pid) content at).there in omega (arith, there, keep.limits.allowed.few_rows)
 
-pub row_there : (words : List ℕ) (memory : Memory) (row : ℕ) (content : Record) → KeepMemory words memory → memory.rows row ≡ Some content → row_at row 255 < length words
+pub row_there : (words : List ℕ) (memory : Memory) (row : ℕ) (content : Record) → KeepMemory words memory → memory.rows row ≡ Some content → row_at row last_at < length words
 row_there words memory row content keep at = let there = (keep.kept row content at).there in omega (arith, there, keep.are.wide)
 
 same_words : (one other : List ℕ) → length one ≡ length other → ((j : ℕ) → j < length one → slice_index one j ≡ slice_index other j) → one ≡ other
@@ -40,17 +41,17 @@ same_words (a ∷ front) (b ∷ back) long each =
 
 -- The row was read whole.
 abbrev pub IsRead : List ℕ → ℕ → List ℕ → Type 0
-IsRead words row read = (j : ℕ) → j < 256 → slice_index read j ≡ slice_index words (row_at row j)
+IsRead words row read = (j : ℕ) → j < row_size → slice_index read j ≡ slice_index words (row_at row j)
 
-read_is : (words : List ℕ) (memory : Memory) (row : ℕ) (read : List ℕ) → (keep : KeepMemory words memory) → row < keep.limits.rows → IsRead words row read → (j : ℕ) → j < 256 → slice_index read j ≡ slice_index (words_in (memory.rows row)) j
+read_is : (words : List ℕ) (memory : Memory) (row : ℕ) (read : List ℕ) → (keep : KeepMemory words memory) → row < keep.limits.rows → IsRead words row read → (j : ℕ) → j < row_size → slice_index read j ≡ slice_index (words_in (memory.rows row)) j
 read_is words memory row read keep there is j below = is j below ∙ keep.are.spells.rows row j there below tt
 
 -- the words that were read spell the record
-pub row_spells : (words : List ℕ) (memory : Memory) (row : ℕ) (content : Record) (read : List ℕ) → ((content : Record) (words : List ℕ) → IsSpelling content words → length words ≡ 256) → KeepMemory words memory → memory.rows row ≡ Some content → length read ≡ 256 → IsRead words row read
+pub row_spells : (words : List ℕ) (memory : Memory) (row : ℕ) (content : Record) (read : List ℕ) → ((content : Record) (words : List ℕ) → IsSpelling content words → length words ≡ row_size) → KeepMemory words memory → memory.rows row ≡ Some content → length read ≡ row_size → IsRead words row read
     → IsSpelling content read
 row_spells words memory row content read all keep at long is =
     let kept = keep.kept row content at in
-    let whole : length (words_of content) ≡ 256 = all content (words_of content) kept.spelling in
+    let whole : length (words_of content) ≡ row_size = all content (words_of content) kept.spelling in
     let same : words_of content ≡ read = same_words (words_of content) read (whole ∙ sym long) (λ j below. sym (read_is words memory row read keep kept.there is j (omega (arith, below, whole)) ∙ ap (λ o. slice_index (words_in o) j) at)) in
     subst (IsSpelling content) same kept.spelling
 
@@ -67,8 +68,8 @@ some_header (Merge merge) = omega arith
 some_header (Unterm unterm) = omega arith
 
 -- where a record was read, it stands in each memory of the words
-pub row_is : (words : List ℕ) (memory first : Memory) (row : ℕ) (content before : Record) (read : List ℕ) → ((content : Record) (words : List ℕ) → IsSpelling content words → length words ≡ 256) → ((one other : Record) (words : List ℕ) → IsSpelling one words → IsSpelling other words → one ≡ other)
-    → KeepMemory words first → first.rows row ≡ Some before → KeepMemory words memory → length read ≡ 256 → IsRead words row read → IsSpelling content read → memory.rows row ≡ Some content
+pub row_is : (words : List ℕ) (memory first : Memory) (row : ℕ) (content before : Record) (read : List ℕ) → ((content : Record) (words : List ℕ) → IsSpelling content words → length words ≡ row_size) → ((one other : Record) (words : List ℕ) → IsSpelling one words → IsSpelling other words → one ≡ other)
+    → KeepMemory words first → first.rows row ≡ Some before → KeepMemory words memory → length read ≡ row_size → IsRead words row read → IsSpelling content read → memory.rows row ≡ Some content
 row_is words memory first row content before read all one keep_first at_first keep long is spelling = go (memory.rows row) refl
   where
     there : row < keep.limits.rows

@@ -1,6 +1,7 @@
 //! What a closed table has: its words as the slots and rows of a memory, and the pairs in its leaves.
 ghost use Rattle.std.specs.Prelude.{◌≡◌, ◌<◌, ◌≤◌, ◌*◌, ℕ, List, [], length, slice_index};
 ghost use Rattle.std.specs.Vec.{vec_capacity};
+ghost use Rattle.record_slots.specs.Layout.{last_at, row_size};
 ghost use Rattle.bw_tree.specs.Closed.{AreFilled, KeepMemory};
 ghost use Rattle.bw_tree.specs.Runs.{IsLawfulRun};
 ghost use Rattle.chain_search.specs.declared.trace.Entry.{Entry};
@@ -12,7 +13,7 @@ use atomic_table::Closed;
 use bw_model::{Key, Limits, Value};
 use deltas::Record;
 use listing::{Rows, add_pairs, pages_are_listed};
-use record_slots::{from_words, rows_have_256_words, spelling_is_one};
+use record_slots::{ROW_WORDS, from_words, rows_have_words, spelling_is_one};
 use std::alloc::Allocator;
 use tree_law::leaves_stand;
 use tree_words::{row_place, slot_place};
@@ -33,7 +34,7 @@ impl<'a, A: Allocator> Rows for ClosedRows<'a, A> {
     }
 
     fn record(&self, row: u16) -> Record {
-        rows_have_256_words();
+        rows_have_words();
         spelling_is_one();
         match from_words(&row_of(self.closed, row)) {
             Ok(record) => record,
@@ -43,15 +44,15 @@ impl<'a, A: Allocator> Rows for ClosedRows<'a, A> {
 }
 
 /// The words of a row.
-fn row_of<A: Allocator>(closed: &Closed<(), A>, row: u16) -> [u64; 256]
+fn row_of<A: Allocator>(closed: &Closed<(), A>, row: u16) -> [u64; ROW_WORDS]
     requires full { AreFilled closed.now.words.filled closed.now.words.len }
-    requires there { row_at row 255 < closed.now.words.len }
-    ensures long { length result ≡ 256 }
-    ensures words { (j : ℕ) → j < 256 → slice_index result j ≡ slice_index closed.now.words.items (row_at row j) }
+    requires there { row_at row last_at < closed.now.words.len }
+    ensures long { length result ≡ row_size }
+    ensures words { (j : ℕ) → j < row_size → slice_index result j ≡ slice_index closed.now.words.items (row_at row j) }
 {
-    let mut words = [0; 256];
+    let mut words = [0; ROW_WORDS];
     let base = row_place(row);
-    for j in 0..256 {
+    for j in 0..ROW_WORDS {
         words[j] = closed.word(base + j);
     }
     words

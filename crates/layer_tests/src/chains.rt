@@ -1,5 +1,6 @@
 //! Chains by hand, which have all nine kinds of record.
 ghost use Rattle.std.specs.Prelude.{◌≡◌, ◌≤◌, [], ◌∷◌, false, length};
+ghost use Rattle.bw_model.specs.Bytes.{longest};
 ghost use Rattle.base_page.specs.declared.item.Content.TheVariants.{Child};
 ghost use Rattle.deltas.specs.declared.record.Record.TheVariants as kind;
 ghost use Rattle.chain_search.specs.Examples.{leaf, leaf_chain, index, index_chain, index_split, split_index, long_index};
@@ -11,14 +12,14 @@ use chain_search::{Chain, ChainPart};
 use deltas::{Delete, Hold, Merge, Put, Record, Remove, Split, Term, Unterm};
 
 fn key(text: &[u8]) -> Key
-    requires { length text.now ≤ 32 }
+    requires { length text.now ≤ longest }
     ensures { result ≡ text.now }
 {
     Key::from_slice(text).unwrap()
 }
 
 fn value(text: &[u8]) -> Value
-    requires { length text.now ≤ 32 }
+    requires { length text.now ≤ longest }
     ensures { result ≡ text.now }
 {
     Value::from_slice(text).unwrap()

@@ -1,5 +1,6 @@
 //! Plans over pages by hand, at the edges of their conditions.
 ghost use Rattle.std.specs.Prelude.{◌≡◌, ◌≤◌, length, None, false};
+ghost use Rattle.bw_model.specs.Bytes.{longest};
 ghost use Rattle.deltas.specs.Spellable.{IsPid};
 ghost use Rattle.chain_search.specs.Chains.{is_removed};
 ghost use Rattle.chain_search.specs.Examples.{held_page, index, index_page, termed_page};
@@ -19,7 +20,7 @@ use deltas::{Delete, Hold, Record, Term};
 use smo::{Version, plan_hold, plan_remove, plan_root, plan_split, plan_term};
 
 pub(crate) fn key(text: &[u8]) -> Key
-    requires { length text.now ≤ 32 }
+    requires { length text.now ≤ longest }
     ensures { result ≡ text.now }
 {
     Key::from_slice(text).unwrap()
@@ -164,7 +165,7 @@ fn posts_a_term_once(rt: HostRuntime) {
 fn may_be_held(parent: &Version, pid: u16, low: &[u8]) -> bool
     requires alive { is_removed parent.now.chain ≡ false }
     requires pid { IsPid pid }
-    requires low { length low.now ≤ 32 }
+    requires low { length low.now ≤ longest }
 {
     plan_hold(parent, &version(pid, 0, leaf(key(low), 3))).is_some()
 }

@@ -4,6 +4,7 @@ use crate::rows::{EACH_KIND, Words, is_refused, is_spelled, with};
 use rand_core::SeedableRng;
 use rand_core::utils::NextWord;
 use rand_pcg::Pcg32;
+use record_slots::ROW_WORDS;
 
 /// How many rows are drawn.
 const ROWS: u32 = 100_000;
@@ -17,7 +18,7 @@ fn draw(words: &mut Pcg32) -> u64 {
 fn refused(words: &mut Pcg32) -> u32 {
     let mut refused = 0u32;
     for _ in 0..ROWS {
-        let mut row = [0; 256];
+        let mut row = [0; ROW_WORDS];
         for word in row.iter_mut() {
             *word = draw(words);
         }
@@ -28,7 +29,7 @@ fn refused(words: &mut Pcg32) -> u32 {
     refused
 }
 
-// A header has 40 bits that are 0: of so many rows none has that.
+// A header has 40 bits that are given: of so many rows none has that.
 #[test]
 fn drawn_words_spell_nothing(rt: HostRuntime) {
     assert_eq!(rt; refused(&mut Pcg32::seed_from_u64(38)), ROWS);
@@ -42,7 +43,7 @@ fn other_word(words: &mut Pcg32, kind: u32) -> u64 {
         1 => any % 64,
         2 => any % 16_384,
         3 => any << 40,
-        4 => (any % 16) | (any >> 8 & 0x0f00) | (any >> 16 & 0x1f0000),
+        4 => (any % 16) | (any >> 8 & 0x0f00) | (any >> 16 & 0x1f0000) | 0x02000000,
         _ => 1 << (any % 64),
     }
 }
@@ -50,7 +51,7 @@ fn other_word(words: &mut Pcg32, kind: u32) -> u64 {
 /// How many rows with another word at one place spell a record, all of which have to be its own words.
 fn spelled(words: &mut Pcg32, good: Words) -> Option<u32> {
     let mut spelled = 0u32;
-    for place in 0..256usize {
+    for place in 0..ROW_WORDS {
         for kind in 0..24u32 {
             let row = with(good, place, other_word(words, kind % 6));
             if is_refused(&row) {

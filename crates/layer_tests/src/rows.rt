@@ -3,16 +3,16 @@
 use crate::texts::{key, value};
 use base_page::Page;
 use deltas::{Hold, Put, Record, Split};
-use record_slots::{BadRow, from_words, to_words};
+use record_slots::{BadRow, ROW_WORDS, from_words, to_words};
 
 /// The words of a row by their places; the others are 0.
 pub(crate) type Words = &'static [(usize, u64)];
 
 /// The row that has these words.
-fn row(words: Words) -> [u64; 256] {
-    let mut row = [0; 256];
+fn row(words: Words) -> [u64; ROW_WORDS] {
+    let mut row = [0; ROW_WORDS];
     for (place, word) in words {
-        if *place < 256 {
+        if *place < ROW_WORDS {
             row[*place] = *word;
         }
     }
@@ -20,27 +20,38 @@ fn row(words: Words) -> [u64; 256] {
 }
 
 /// The opening leaf.
-const OPENING: Words = &[(0, 0x1), (8, 255)];
+const OPENING: Words = &[(0, 0x02000001), (12, 255)];
 
 /// `a` has `1`, over row 1.
 const PUT: Words = &[
-    (0, 0x10002),
+    (0, 0x02010002),
     (1, 1),
-    (13, 1),
-    (14, 0x6100000000000000),
-    (18, 1),
-    (19, 0x3100000000000000),
+    (21, 1),
+    (22, 0x6100000000000000),
+    (30, 1),
+    (31, 0x3100000000000000),
 ];
 
 /// `k09` is absent, over row 7.
-const DELETE: Words = &[(0, 0x3), (1, 7), (3, 3), (4, 0x6b30390000000000)];
+const DELETE: Words = &[
+    (0, 0x02000003),
+    (1, 7),
+    (3, 3),
+    (4, 0x6b30390000000000),
+];
 
 /// A leaf is split at `k09`, with page 2 to the right, over row 11.
-const SPLIT: Words = &[(0, 0x4), (1, 11), (2, 2), (3, 3), (4, 0x6b30390000000000)];
+const SPLIT: Words = &[
+    (0, 0x02000004),
+    (1, 11),
+    (2, 2),
+    (3, 3),
+    (4, 0x6b30390000000000),
+];
 
 /// The term of `k09` and child 2 is added on level 15, over row 16383.
 const TERM: Words = &[
-    (0, 0xf05),
+    (0, 0x02000f05),
     (1, 16383),
     (2, 2),
     (3, 3),
@@ -48,48 +59,66 @@ const TERM: Words = &[
 ];
 
 /// The term of `k09` and child 2 is held, over row 5.
-const HOLD: Words = &[(0, 0x106), (1, 5), (2, 2), (3, 3), (4, 0x6b30390000000000)];
+const HOLD: Words = &[
+    (0, 0x02000106),
+    (1, 5),
+    (2, 2),
+    (3, 3),
+    (4, 0x6b30390000000000),
+];
 
 /// A page of level 1 is removed, over row 9.
-const REMOVE: Words = &[(0, 0x107), (1, 9)];
+const REMOVE: Words = &[(0, 0x02000107), (1, 9)];
 
 /// The leaf from `k09` up to `l`, with page 4095 to its right and one item, comes to its left page, over row 3.
 const MERGE: Words = &[
-    (0, 0x10008),
+    (0, 0x02010008),
     (1, 3),
     (2, 4095),
     (3, 3),
     (4, 0x6b30390000000000),
-    (8, 1),
-    (9, 0x6c00000000000000),
-    (13, 9),
-    (14, 0x6b30396162636465),
-    (15, 0x6600000000000000),
-    (18, 0),
+    (12, 1),
+    (13, 0x6c00000000000000),
+    (21, 9),
+    (22, 0x6b30396162636465),
+    (23, 0x6600000000000000),
+    (30, 0),
 ];
 
 /// The term of `k09` and child 2 goes, over row 4.
-const UNTERM: Words = &[(0, 0x109), (1, 4), (2, 2), (3, 3), (4, 0x6b30390000000000)];
+const UNTERM: Words = &[
+    (0, 0x02000109),
+    (1, 4),
+    (2, 2),
+    (3, 3),
+    (4, 0x6b30390000000000),
+];
 
 /// An index page over all keys, with child 1 at the empty key and child 2, which is held, at `k09`.
 const INDEX: Words = &[
-    (0, 0x20101),
-    (8, 255),
-    (18, 1),
-    (23, 0x103),
-    (24, 0x6b30390000000000),
-    (28, 2),
+    (0, 0x02020101),
+    (12, 255),
+    (30, 1),
+    (39, 0x103),
+    (40, 0x6b30390000000000),
+    (48, 2),
 ];
 
 /// The same with both children at the empty key.
-const EQUAL_KEYS: Words = &[(0, 0x20101), (8, 255), (18, 1), (23, 0x100), (28, 2)];
+const EQUAL_KEYS: Words = &[
+    (0, 0x02020101),
+    (12, 255),
+    (30, 1),
+    (39, 0x100),
+    (48, 2),
+];
 
 pub(crate) const EACH_KIND: [Words; 10] = [
     OPENING, INDEX, PUT, DELETE, SPLIT, TERM, HOLD, REMOVE, MERGE, UNTERM,
 ];
 
 /// Whether the words spell a record, whose words they are.
-pub(crate) fn is_spelled(words: &[u64; 256]) -> bool {
+pub(crate) fn is_spelled(words: &[u64; ROW_WORDS]) -> bool {
     match from_words(words) {
         Ok(record) => to_words(&record) == *words,
         Err(_) => false,
@@ -97,14 +126,14 @@ pub(crate) fn is_spelled(words: &[u64; 256]) -> bool {
 }
 
 /// Whether the words spell nothing.
-pub(crate) fn is_refused(words: &[u64; 256]) -> bool {
+pub(crate) fn is_refused(words: &[u64; ROW_WORDS]) -> bool {
     matches!(from_words(words), Err(BadRow))
 }
 
 /// How many of the rows with one bit turned over spell a record, all of which have to be its own words.
-fn spelled_by_one_bit(words: &[u64; 256]) -> Option<u32> {
+fn spelled_by_one_bit(words: &[u64; ROW_WORDS]) -> Option<u32> {
     let mut spelled = 0u32;
-    for place in 0..256usize {
+    for place in 0..ROW_WORDS {
         for bit in 0..64u32 {
             let mut turned = *words;
             turned[place] ^= 1 << bit;
@@ -162,17 +191,26 @@ fn reads_a_row_of_each_kind(rt: HostRuntime) {
 
 /// Rows with one word changed, so that they spell nothing.
 const SPOILT: &[(Words, usize, u64)] = &[
-    (PUT, 15, 1),
-    (PUT, 0, 0x10102),
+    // a byte past the key, and lengths past the greatest
+    (PUT, 23, 1),
+    (PUT, 21, 65),
+    (PUT, 30, 65),
+    (DELETE, 3, 65),
+    // a put above the leaves, and the first form of rows, and others
+    (PUT, 0, 0x02010102),
+    (PUT, 0, 0x10002),
+    (PUT, 0, 0x01010002),
+    (PUT, 0, 0x03010002),
+    (PUT, 0, 0x0000_0001_0201_0002),
     (PUT, 1, 0),
-    (INDEX, 18, 4096),
-    (INDEX, 13, 0x100),
+    (INDEX, 30, 4096),
+    (INDEX, 21, 0x100),
 ];
 
 /// The row with another word at a place.
-pub(crate) fn with(words: Words, place: usize, word: u64) -> [u64; 256] {
+pub(crate) fn with(words: Words, place: usize, word: u64) -> [u64; ROW_WORDS] {
     let mut row = row(words);
-    if place < 256 {
+    if place < ROW_WORDS {
         row[place] = word;
     }
     row
@@ -187,7 +225,7 @@ fn refuses_rows_that_spell_nothing(rt: HostRuntime) {
 
 #[test]
 fn refuses_rows_of_one_word(rt: HostRuntime) {
-    let refused = [is_refused(&[0; 256]), is_refused(&[u64::MAX; 256])];
+    let refused = [is_refused(&[0; ROW_WORDS]), is_refused(&[u64::MAX; ROW_WORDS])];
     assert_eq!(rt; refused, [true; 2]);
 }
 
@@ -198,27 +236,27 @@ fn refuses_equal_keys(rt: HostRuntime) {
 
 /// How many of the rows that differ in one bit spell a record, counted by the rules of a row.
 ///
-/// A next row may have any of its 14 bits turned, and a PID any of its 12, unless it is 0 then; a length of 3 may become 7, 11 or 19, as
-/// the bytes behind the key are 0; and each bit of a key's bytes counts, where its order allows it.
+/// A next row may have any of its 14 bits turned, and a PID any of its 12, unless it is 0 then; a length of 3 may become 7, 11, 19 or 35,
+/// as the bytes behind the key are 0; and each bit of a key's bytes counts, where its order allows it.
 const TURNED: &[(Words, u32)] = &[
-    // six lengths of the low key, and one empty item
-    (OPENING, 7),
+    // seven lengths of the low key, and one empty item
+    (OPENING, 8),
     // three levels; the two children; the second key's length, mark and bytes
-    (INDEX, 3 + 11 + 11 + 3 + 1 + 24),
+    (INDEX, 3 + 11 + 11 + 4 + 1 + 24),
     // the next row, which may not be 0; the lengths and the bytes of the key and the value
-    (PUT, 13 + 4 + 8 + 4 + 8),
-    (DELETE, 14 + 3 + 24),
+    (PUT, 13 + 5 + 8 + 5 + 8),
+    (DELETE, 14 + 4 + 24),
     // four levels
-    (SPLIT, 4 + 14 + 11 + 3 + 24),
+    (SPLIT, 4 + 14 + 11 + 4 + 24),
     // a split in its place, and four levels
-    (TERM, 1 + 4 + 14 + 11 + 3 + 24),
+    (TERM, 1 + 4 + 14 + 11 + 4 + 24),
     // the same, and three levels
-    (HOLD, 1 + 3 + 14 + 11 + 3 + 24),
+    (HOLD, 1 + 3 + 14 + 11 + 4 + 24),
     (REMOVE, 4 + 14),
     // the next row and the right page; the low key, which may only become less, but for its length; the high key, which may only become more;
     // the item's key, which has to stay between them, and its value's length
-    (MERGE, 14 + 12 + 3 + 11 + 4 + 4 + 3 + 58 + 6),
-    (UNTERM, 3 + 13 + 11 + 3 + 24),
+    (MERGE, 14 + 12 + 4 + 11 + 5 + 4 + 4 + 58 + 7),
+    (UNTERM, 3 + 13 + 11 + 4 + 24),
 ];
 
 #[test]

@@ -95,10 +95,10 @@ const REFUSED: &[(&[u8], &[u8])] = &[
     (b"0 get \xc3\xa9", b"11"),
     (b"0 insert a \xff", b"11"),
     (b"\0", b"11"),
-    (b"0 get 123456789012345678901234567890123", b"1"),
-    (b"0 insert a 123456789012345678901234567890123", b"1"),
-    (b"4096 get 123456789012345678901234567890123", b"11"),
-    (b"0 insert 123456789012345678901234567890123 =6", b"11"),
+    (b"0 get 12345678901234567890123456789012345678901234567890123456789012345", b"1"),
+    (b"0 insert a 12345678901234567890123456789012345678901234567890123456789012345", b"1"),
+    (b"4096 get 12345678901234567890123456789012345678901234567890123456789012345", b"11"),
+    (b"0 insert 12345678901234567890123456789012345678901234567890123456789012345 =6", b"11"),
 ];
 
 // Whether a line is refused behind one that isn't, and before one that is refused too.
@@ -117,7 +117,7 @@ fn is_refused<R: Threads + Wait + Sync>(
     output.extend_from_slice(code)?;
     output.extend_from_slice(b"\n")?;
     let last = whole(rt, alloc, limits, input.as_slice()).is(output.as_slice(), 1);
-    input.extend_from_slice(b"\n0 get 123456789012345678901234567890123\nlist\n")?;
+    input.extend_from_slice(b"\n0 get 12345678901234567890123456789012345678901234567890123456789012345\nlist\n")?;
     Ok(last && whole(rt, alloc, limits, input.as_slice()).is(output.as_slice(), 1))
 }
 

@@ -7,20 +7,21 @@ use Rattle.std.proofs.Math.Seq.{take-append_seam, drop-append_seam}
 use Rattle.base_page.specs.declared.item.Item.{Item}
 use Rattle.record_slots.specs.declared.row.Header.{Header}
 use Rattle.record_slots.specs.declared.row.Row.{Row}
-use Rattle.record_slots.specs.Spelling.{field_words, bound_words, items_words, row_words}
-use Rattle.record_slots.specs.Parts.{are_zeros, IsHeaderIn, IsRowOfParts, IsRowIn}
+use Rattle.record_slots.specs.Layout.{field_size, first_at, item_size, items_at, row_size, second_at}
+use Rattle.record_slots.specs.Spelling.{field_words, bound_words, items_words, row_words, words_left}
+use Rattle.record_slots.specs.Parts.{are_zeros, first_word, IsHeaderIn, IsRowOfParts, IsRowIn}
 use Rattle.record_slots.proofs.ItemLaws.{items_length}
 use Rattle.record_slots.proofs.Flags.{left, right}
 use Rattle.record_slots.proofs.WordLaws.{or_zeros}
 
-zeros_are : (words : List ℕ) → are_zeros words ≡ true → words ≡ replicate (length words) 0
+pub zeros_are : (words : List ℕ) → are_zeros words ≡ true → words ≡ replicate (length words) 0
 zeros_are [] h = refl
 zeros_are (word ∷ words) h =
     let first : word ≡ 0 = eqb-true word 0 (left (word == 0) (are_zeros words) h) in
     let rest = zeros_are words (right (word == 0) (are_zeros words) h) in
     λ i. first i ∷ rest i
 
-are_zeros_all : (n : ℕ) → are_zeros (replicate n 0) ≡ true
+pub are_zeros_all : (n : ℕ) → are_zeros (replicate n 0) ≡ true
 are_zeros_all zero = refl
 are_zeros_all (suc n) = are_zeros_all n
 
@@ -36,11 +37,11 @@ module _ (h n p : ℕ) (key : List ℕ) (rest : List ℕ) where
   abbrev behind : Option (List ℕ) → List ℕ
   behind second = h ∷ n ∷ p ∷ (field_words key ++ (bound_words second ++ rest))
 
-  second_there : (second : Option (List ℕ)) → take 5 (drop 8 (behind second)) ≡ bound_words second
+  second_there : (second : Option (List ℕ)) → take field_size (drop second_at (behind second)) ≡ bound_words second
   second_there None = refl
   second_there (Some bound) = refl
 
-  rest_there : (second : Option (List ℕ)) → drop 13 (behind second) ≡ rest
+  rest_there : (second : Option (List ℕ)) → drop items_at (behind second) ≡ rest
   rest_there None = refl
   rest_there (Some bound) = refl
 
@@ -49,51 +50,51 @@ words_of_row row items = row_words row.kind row.level row.next row.page row.firs
 
 module _ (words : List ℕ) (row : Row) (items : List Item) (is : IsRowOfParts row) (counts : length items ≡ row.count) (are : words_of_row row items ≡ words) where
   abbrev tail : List ℕ
-  tail = items_words items ++ replicate (243 - 10 * length items) 0
+  tail = items_words items ++ replicate (words_left (length items)) 0
 
   abbrev head : ℕ
-  head = row.kind + 256 * row.level + 65536 * length items
+  head = first_word row.kind row.level (length items)
 
-  behind_bound : drop 13 words ≡ tail
-  behind_bound = ap (drop 13) (sym are) ∙ rest_there head row.next row.page row.first tail row.second
+  behind_bound : drop items_at words ≡ tail
+  behind_bound = ap (drop items_at) (sym are) ∙ rest_there head row.next row.page row.first tail row.second
 
-  behind_items : drop (13 + 10 * length items) words ≡ replicate (243 - 10 * length items) 0
+  behind_items : drop (items_at + item_size * length items) words ≡ replicate (words_left (length items)) 0
   behind_items =
       let l = items_length items in
-      sym (drop-drop (10 * length items) 13 words) ∙ ap (drop (10 * length items)) behind_bound ∙ ap (λ n. drop n tail) (sym l) ∙ drop-append_seam (items_words items) (replicate (243 - 10 * length items) 0)
+      sym (drop-drop (item_size * length items) items_at words) ∙ ap (drop (item_size * length items)) behind_bound ∙ ap (λ n. drop n tail) (sym l) ∙ drop-append_seam (items_words items) (replicate (words_left (length items)) 0)
 
   pub row_there : IsRowIn words row
   row_there = record {
     is = is;
-    first_word = ap (λ n. row.kind + 256 * row.level + 65536 * n) (sym counts) ∙ ap (λ ws. get_or ws 0 0) are;
+    header = ap (λ n. first_word row.kind row.level n) (sym counts) ∙ ap (λ ws. get_or ws 0 0) are;
     next = ap (λ ws. get_or ws 1 0) are;
     page = ap (λ ws. get_or ws 2 0) are;
-    first = ap (λ ws. take 5 (drop 3 ws)) are;
-    second = sym (second_there head row.next row.page row.first tail row.second) ∙ ap (λ ws. take 5 (drop 8 ws)) are;
-    rest = subst (λ n. drop (13 + 10 * n) words ≡ replicate (243 - 10 * n) 0) counts behind_items;
+    first = ap (λ ws. take field_size (drop first_at ws)) are;
+    second = sym (second_there head row.next row.page row.first tail row.second) ∙ ap (λ ws. take field_size (drop second_at ws)) are;
+    rest = subst (λ n. drop (items_at + item_size * n) words ≡ replicate (words_left n) 0) counts behind_items;
   }
 
-  pub items_there : items_words items ≡ take (10 * row.count) (drop 13 words)
+  pub items_there : items_words items ≡ take (item_size * row.count) (drop items_at words)
   items_there =
-      sym (ap (take (10 * length items)) behind_bound ∙ ap (λ n. take n tail) (sym (items_length items)) ∙ take-append_seam (items_words items) (replicate (243 - 10 * length items) 0)) ∙ ap (λ n. take (10 * n) (drop 13 words)) counts
+      sym (ap (take (item_size * length items)) behind_bound ∙ ap (λ n. take n tail) (sym (items_length items)) ∙ take-append_seam (items_words items) (replicate (words_left (length items)) 0)) ∙ ap (λ n. take (item_size * n) (drop items_at words)) counts
 
-cut_twice : (n : ℕ) (xs : List ℕ) → take 5 xs ++ (take 5 (drop 5 xs) ++ (take n (drop 10 xs) ++ drop (10 + n) xs)) ≡ xs
-cut_twice n xs =
-    let inner : take n (drop 10 xs) ++ drop (10 + n) xs ≡ drop 10 xs = ap (λ ys. take n (drop 10 xs) ++ ys) (sym (drop-drop n 10 xs)) ∙ take-append-drop n (drop 10 xs) in
-    let ten : drop 10 xs ≡ drop 5 (drop 5 xs) = sym (drop-drop 5 5 xs) in
-    let middle : take 5 (drop 5 xs) ++ (take n (drop 10 xs) ++ drop (10 + n) xs) ≡ drop 5 xs = ap (λ ys. take 5 (drop 5 xs) ++ ys) (inner ∙ ten) ∙ take-append-drop 5 (drop 5 xs) in
-    ap (λ ys. take 5 xs ++ ys) middle ∙ take-append-drop 5 xs
+cut_twice : (m n : ℕ) (xs : List ℕ) → take m xs ++ (take m (drop m xs) ++ (take n (drop (m + m) xs) ++ drop (m + m + n) xs)) ≡ xs
+cut_twice m n xs =
+    let inner : take n (drop (m + m) xs) ++ drop (m + m + n) xs ≡ drop (m + m) xs = ap (λ ys. take n (drop (m + m) xs) ++ ys) (sym (drop-drop n (m + m) xs)) ∙ take-append-drop n (drop (m + m) xs) in
+    let both : drop (m + m) xs ≡ drop m (drop m xs) = sym (drop-drop m m xs) in
+    let middle : take m (drop m xs) ++ (take n (drop (m + m) xs) ++ drop (m + m + n) xs) ≡ drop m xs = ap (λ ys. take m (drop m xs) ++ ys) (inner ∙ both) ∙ take-append-drop m (drop m xs) in
+    ap (λ ys. take m xs ++ ys) middle ∙ take-append-drop m xs
 
-pub whole_row : (words : List ℕ) (row : Row) (items : List Item) → 13 ≤ length words → IsRowIn words row → length items ≡ row.count → items_words items ≡ take (10 * row.count) (drop 13 words) → words_of_row row items ≡ words
+pub whole_row : (words : List ℕ) (row : Row) (items : List Item) → items_at ≤ length words → IsRowIn words row → length items ≡ row.count → items_words items ≡ take (item_size * row.count) (drop items_at words) → words_of_row row items ≡ words
 whole_row [] row items long is counts are = absurd (omega arith)
 whole_row (a ∷ []) row items long is counts are = absurd (omega arith)
 whole_row (a ∷ b ∷ []) row items long is counts are = absurd (omega arith)
 whole_row (a ∷ b ∷ c ∷ words) row items long is counts are =
-    let n : ℕ = 10 * row.count in
-    let rest : drop (10 + n) words ≡ replicate (243 - 10 * length items) 0 =
-    let three : 13 + n ≡ suc (suc (suc (10 + n))) = omega arith in ap (λ k. drop k (a ∷ b ∷ c ∷ words)) (sym three) ∙ is.rest ∙ ap (λ k. replicate (243 - 10 * k) 0) (sym counts) in
-    let head : row.kind + 256 * row.level + 65536 * length items ≡ a = ap (λ k. row.kind + 256 * row.level + 65536 * k) counts ∙ is.first_word in
-    (λ i. head i ∷ is.next i ∷ is.page i ∷ (is.first i ++ (is.second i ++ (are i ++ sym rest i)))) ∙ ap (λ ws. a ∷ b ∷ c ∷ ws) (cut_twice n words)
+    let n : ℕ = item_size * row.count in
+    let rest : drop (field_size + field_size + n) words ≡ replicate (words_left (length items)) 0 =
+    let three : items_at + n ≡ suc (suc (suc (field_size + field_size + n))) = omega arith in ap (λ k. drop k (a ∷ b ∷ c ∷ words)) (sym three) ∙ is.rest ∙ ap (λ k. replicate (words_left k) 0) (sym counts) in
+    let head : first_word row.kind row.level (length items) ≡ a = ap (λ k. first_word row.kind row.level k) counts ∙ is.header in
+    (λ i. head i ∷ is.next i ∷ is.page i ∷ (is.first i ++ (is.second i ++ (are i ++ sym rest i)))) ∙ ap (λ ws. a ∷ b ∷ c ∷ ws) (cut_twice field_size n words)
 
 -- the numbers of a first word are one
 pub header_one : (word : ℕ) (one other : Header) → IsHeaderIn word one → IsHeaderIn word other → (one.kind ≡ other.kind) × (one.level ≡ other.level) × (one.count ≡ other.count)
@@ -110,19 +111,19 @@ abbrev pub header_of : Row → Header
 header_of row = record { kind = row.kind; level = row.level; count = row.count }
 
 pub header_is : (words : List ℕ) (row : Row) → IsRowIn words row → IsHeaderIn (get_or words 0 0) (header_of row)
-header_is words row is = record { kind = is.is.kind; level = is.is.level; few = is.is.few; are = is.first_word }
+header_is words row is = record { kind = is.is.kind; level = is.is.level; few = is.is.few; are = is.header }
 
 -- behind the items that the header counts there are zeros
-pub zeros_behind : (words : List ℕ) (header : Header) → IsHeaderIn (get_or words 0 0) header → (row : Row) → IsRowIn words row → are_zeros (drop (13 + 10 * header.count) words) ≡ true
+pub zeros_behind : (words : List ℕ) (header : Header) → IsHeaderIn (get_or words 0 0) header → (row : Row) → IsRowIn words row → are_zeros (drop (items_at + item_size * header.count) words) ≡ true
 zeros_behind words header h row is =
     let same = header_one (get_or words 0 0) header (header_of row) h (header_is words row is) in
-    ap (λ n. are_zeros (drop (13 + 10 * n) words)) same.2 ∙ ap are_zeros is.rest ∙ are_zeros_all (243 - 10 * row.count)
+    ap (λ n. are_zeros (drop (items_at + item_size * n) words)) same.2 ∙ ap are_zeros is.rest ∙ are_zeros_all (words_left row.count)
 
-pub zeros_there : (words : List ℕ) (count : ℕ) → length words ≡ 256 → are_zeros (drop (13 + 10 * count) words) ≡ true → drop (13 + 10 * count) words ≡ replicate (243 - 10 * count) 0
+pub zeros_there : (words : List ℕ) (count : ℕ) → length words ≡ row_size → are_zeros (drop (items_at + item_size * count) words) ≡ true → drop (items_at + item_size * count) words ≡ replicate (words_left count) 0
 zeros_there words count all h =
-    let l = length-drop (13 + 10 * count) words in
-    let n : length (drop (13 + 10 * count) words) ≡ 243 - 10 * count = omega arith in
-    zeros_are (drop (13 + 10 * count) words) h ∙ ap (λ k. replicate k 0) n
+    let l = length-drop (items_at + item_size * count) words in
+    let n : length (drop (items_at + item_size * count) words) ≡ words_left count = omega arith in
+    zeros_are (drop (items_at + item_size * count) words) h ∙ ap (λ k. replicate k 0) n
 
 take_whole : (n : ℕ) (xs : List ℕ) → length xs ≤ n → take n xs ≡ xs
 take_whole zero [] h = refl
@@ -131,14 +132,14 @@ take_whole (suc n) [] h = refl
 take_whole (suc n) (x ∷ xs) h = ap (λ ys. x ∷ ys) (take_whole n xs (omega arith))
 
 -- a part up to the end is all that is behind its beginning
-pub up_to_end : (words : List ℕ) (from : ℕ) → length words ≡ 256 → take (256 - from) (drop from words) ≡ drop from words
-up_to_end words from all = let l = length-drop from words in take_whole (256 - from) (drop from words) (omega arith)
+pub up_to_end : (words : List ℕ) (from : ℕ) → length words ≡ row_size → take (row_size - from) (drop from words) ≡ drop from words
+up_to_end words from all = let l = length-drop from words in take_whole (row_size - from) (drop from words) (omega arith)
 
-pub row_length : (words : List ℕ) (row : Row) → IsRowIn words row → length words ≡ 256
+pub row_length : (words : List ℕ) (row : Row) → IsRowIn words row → length words ≡ row_size
 row_length words row is =
     let few = is.is.few in
-    let n : ℕ = 13 + 10 * row.count in
-    let l : length (drop n words) ≡ 243 - 10 * row.count = ap length is.rest ∙ length-replicate (243 - 10 * row.count) 0 in
+    let n : ℕ = items_at + item_size * row.count in
+    let l : length (drop n words) ≡ words_left row.count = ap length is.rest ∙ length-replicate (words_left row.count) 0 in
     let d = length-drop n words in
-    let m : length words - n ≡ 243 - 10 * row.count = sym d ∙ l in
+    let m : length words - n ≡ words_left row.count = sym d ∙ l in
     omega (arith, m, few)

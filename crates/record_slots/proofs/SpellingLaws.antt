@@ -11,6 +11,7 @@ use Rattle.deltas.specs.Spellable.{IsPid, HasPid, IsSpellable, IsSpellableLink}
 use Rattle.deltas.specs.declared.record.Record.{Record}
 use Rattle.deltas.specs.declared.record.Record.TheVariants.{Base, Put, Delete, Split, Term, Hold, Remove, Merge, Unterm}
 use Rattle.record_slots.specs.declared.row.Row.{Row}
+use Rattle.record_slots.specs.Layout.{item_size, items_at, row_size}
 use Rattle.record_slots.specs.Spelling.{items_words, words_of}
 use Rattle.record_slots.specs.Spells.{IsShortItem, HasShortTexts, IsSpelling}
 use Rattle.record_slots.specs.Parts.{IsItem, IsRowOfParts, IsRowIn, IsRecordOf, row_of, items_of}
@@ -87,10 +88,10 @@ module _ (words : List ℕ) (content : Record) (h : IsSpelling content words) wh
   pub row_spelled : IsRowIn words (row_of content)
   row_spelled = row_there words (row_of content) (items_of content) (parts_fit content h.spellable h.short) (counts content) are
 
-  pub items_spelled : items_words (items_of content) ≡ take (10 * (row_of content).count) (drop 13 words)
+  pub items_spelled : items_words (items_of content) ≡ take (item_size * (row_of content).count) (drop items_at words)
   items_spelled = items_there words (row_of content) (items_of content) (parts_fit content h.spellable h.short) (counts content) are
 
-pub spelled_by : (words : List ℕ) (row : Row) (content : Record) → length words ≡ 256 → IsRowIn words row → IsRecordOf row (take (10 * row.count) (drop 13 words)) content → IsSpelling content words
+pub spelled_by : (words : List ℕ) (row : Row) (content : Record) → length words ≡ row_size → IsRowIn words row → IsRecordOf row (take (item_size * row.count) (drop items_at words)) content → IsSpelling content words
 spelled_by words row content all h r =
     let many : length (items_of content) ≡ row.count = counts content ∙ ap (λ (one : Row). one.count) r.are in
     record {
@@ -99,14 +100,14 @@ spelled_by words row content all h r =
       are = sym (same_words content) ∙ ap (λ one. words_of_row one (items_of content)) r.are ∙ whole_row words row (items_of content) (omega (arith, all)) h many r.items;
     }
 
-pub record_spelled : (words : List ℕ) (row : Row) (content : Record) → IsRowIn words row → IsSpelling content words → IsRecordOf row (take (10 * row.count) (drop 13 words)) content
+pub record_spelled : (words : List ℕ) (row : Row) (content : Record) → IsRowIn words row → IsSpelling content words → IsRecordOf row (take (item_size * row.count) (drop items_at words)) content
 record_spelled words row content h s =
     let same = row_one words (row_of content) row (row_spelled words content s) h in
     record {
       spellable = s.spellable;
       short = s.short;
       are = same;
-      items = items_spelled words content s ∙ ap (λ (one : Row). take (10 * one.count) (drop 13 words)) same;
+      items = items_spelled words content s ∙ ap (λ (one : Row). take (item_size * one.count) (drop items_at words)) same;
     }
 
 abbrev kind_of : Record → ℕ
@@ -149,12 +150,12 @@ spelling_one one other words h g =
     let level = ap (λ (row : Row). row.level) rows in
     let count = ap (λ (row : Row). row.count) rows in
     let each = subst (λ l. All (IsItem l) (items_of other)) (sym level) (items_fit other g.spellable g.short) in
-    let same = items_spelled words one h ∙ ap (λ n. take (10 * n) (drop 13 words)) count ∙ sym (items_spelled words other g) in
+    let same = items_spelled words one h ∙ ap (λ n. take (item_size * n) (drop items_at words)) count ∙ sym (items_spelled words other g) in
     let items = items_one (row_of one).level (items_of one) (items_of other) (items_fit one h.spellable h.short) each (counts one ∙ count ∙ sym (counts other)) same in
     parts_one one other h.spellable g.spellable rows items
 
 pub spelling_there : (content : Record) → IsSpellable content → HasShortTexts content → IsSpelling content (words_of content)
 spelling_there content h s = record { spellable = h; short = s; are = refl }
 
-pub spelling_length : (content : Record) (words : List ℕ) → IsSpelling content words → length words ≡ 256
+pub spelling_length : (content : Record) (words : List ℕ) → IsSpelling content words → length words ≡ row_size
 spelling_length content words h = row_length words (row_of content) (row_spelled words content h)

@@ -4,11 +4,13 @@ use Rattle.std.specs.Prelude.{◌&&◌}
 use Rattle.std.specs.Int.{w64, to_be_bytes, from_be_bytes}
 use Rattle.std.specs.List.{AllByRecursion}
 use Rattle.std.proofs.lemmas.Bool.{cases_lt, eqb-true}
-use Rattle.std.proofs.lemmas.List.{length-drop, take-append-le}
+use Rattle.std.proofs.lemmas.List.{drop-drop, length-drop, take-append-le}
 use Rattle.std.proofs.lemmas.Nat.{be_bytes_8, from_be_bytes-to_be_bytes_8, mod-mul-add, div-add-mod', pow-add}
 use Rattle.std.proofs.Math.Dec.{eqb-suc-zero}
 use Rattle.std.proofs.Math.Nat.{mod-lt, mod-one, mul-mod_left, mul_assoc, add-mul, mul-le-mul_left}
 use Rattle.std.proofs.Math.Seq.{take-append-add}
+use Rattle.bw_model.specs.Bytes.{longest}
+use Rattle.record_slots.specs.Layout.{text_size}
 use Rattle.record_slots.specs.Spelling.{packed, text_words}
 use Rattle.record_slots.specs.Texts.{IsText, bytes_of, ends_there}
 use Rattle.record_slots.proofs.WordLaws.{AreBytes, bytes_at, multiple, no_packed, packed_below, packed_split, pow_bytes, some_bytes}
@@ -190,23 +192,29 @@ read_back (suc n) text h few =
       are = ap (λ xs. take (length text) (xs ++ bytes_of (text_words n back))) front ∙ padded_front 8 text (bytes_of (text_words n back)) behind;
     }
 
+-- one word more has the next eight bytes
+pub text_grows : (n : ℕ) (text : List ℕ) → text_words (suc n) text ≡ text_words n text ++ packed 8 (drop (8 * n) text) ∷ []
+text_grows zero text = refl
+text_grows (suc n) text =
+    ap (λ ws. packed 8 text ∷ ws) (text_grows n (drop 8 text) ∙ ap (λ xs. text_words n (drop 8 text) ++ packed 8 xs ∷ []) (drop-drop (8 * n) 8 text ∙ ap (λ k. drop k text) (let e : 8 + 8 * n ≡ 8 * suc n = omega arith in e)))
+
 words_fit : (words : List ℕ) → ((i : ℕ) → get_or words i 0 < 2 ^ 64) → AreWords words
 words_fit [] h = tt
 words_fit (word ∷ words) h = (h 0, words_fit words (λ i. h (suc i)))
 
 -- what is read of four words with nothing behind it is the text that they spell
-pub is_text : (count : ℕ) (words : List ℕ) → ((i : ℕ) → get_or words i 0 < 2 ^ 64) → length words ≡ 4 → count ≤ 32 → ends_there count words ≡ true → IsText count words (take count (bytes_of words))
-is_text count words fits four few ends =
+pub is_text : (count : ℕ) (words : List ℕ) → ((i : ℕ) → get_or words i 0 < 2 ^ 64) → length words ≡ text_size → count ≤ longest → ends_there count words ≡ true → IsText count words (take count (bytes_of words))
+is_text count words fits long few ends =
     let s = spelled words count (words_fit words fits) (omega arith) ends in
-    record { short = record { short = let c = s.counts in omega arith; bytes_fit = s.bytes }; counts = s.counts; are = ap (λ n. text_words n (take count (bytes_of words))) (sym four) ∙ s.are }
+    record { short = record { short = let c = s.counts in omega arith; bytes_fit = s.bytes }; counts = s.counts; are = ap (λ n. text_words n (take count (bytes_of words))) (sym long) ∙ s.are }
 
 pub no_text : (count : ℕ) (words : List ℕ) → ends_there count words ≡ false → (text : List ℕ) → IsText count words text → ⊥
 no_text count words stops text is =
-    let r = read_back 4 text is.short.bytes_fit (let s = is.short.short in omega arith) in
+    let r = read_back text_size text is.short.bytes_fit (let s = is.short.short in omega arith) in
     let ends : ends_there count words ≡ true = (λ i. ends_there (sym is.counts i) (sym is.are i)) ∙ r.ends in
     cc
 
--- four words have 32 bytes
+-- each word has eight bytes
 pub many_bytes : (words : List ℕ) → length (bytes_of words) ≡ 8 * length words
 many_bytes [] = refl
 many_bytes (word ∷ words) = let r = many_bytes words in omega arith

@@ -3,24 +3,25 @@ use Rattle.std.proofs.Common.{◌≡◌, ◌<◌, ◌≤◌, ◌+◌, ◌*◌, �
 use Rattle.std.specs.Prelude.{Option, Some, None}
 use Rattle.std.proofs.lemmas.List.{drop_more}
 use Rattle.base_page.specs.declared.item.Item.{Item}
-use Rattle.record_slots.specs.Spelling.{field_words, bound_words, item_words, items_words}
-use Rattle.record_slots.proofs.ItemLaws.{item_ten, items_length}
+use Rattle.record_slots.specs.Layout.{field_size, item_size, items_at, row_size}
+use Rattle.record_slots.specs.Spelling.{field_words, bound_words, item_words, items_words, words_left}
+use Rattle.record_slots.proofs.ItemLaws.{item_long, items_length}
 
-bound_five : (bound : Option (List ℕ)) → length (bound_words bound) ≡ 5
-bound_five None = refl
-bound_five (Some key) = refl
+bound_long : (bound : Option (List ℕ)) → length (bound_words bound) ≡ field_size
+bound_long None = refl
+bound_long (Some key) = refl
 
 module _ (head next page : ℕ) (key : List ℕ) (bound : Option (List ℕ)) (items : List Item) where
   abbrev pub used : List ℕ
   used = head ∷ next ∷ page ∷ (field_words key ++ (bound_words bound ++ items_words items))
 
-  pub used_length : length used ≡ 13 + 10 * length items
+  pub used_length : length used ≡ items_at + item_size * length items
   used_length =
       let a = length-append (field_words key) (bound_words bound ++ items_words items) in
       let b = length-append (bound_words bound) (items_words items) in
-      let c = bound_five bound in
+      let c = bound_long bound in
       let d = items_length items in
-      let e : length (field_words key) ≡ 5 = refl in
+      let e : length (field_words key) ≡ field_size = refl in
       omega arith
 
   pub written : (a b c d e f g : List ℕ) → a ≡ [] → b ≡ a ++ head ∷ [] → c ≡ b ++ next ∷ [] → d ≡ c ++ page ∷ [] → e ≡ d ++ field_words key → f ≡ e ++ bound_words bound → g ≡ f ++ items_words items → g ≡ used
@@ -29,12 +30,12 @@ module _ (head next page : ℕ) (key : List ℕ) (bound : Option (List ℕ)) (it
       let f_is : f ≡ head ∷ next ∷ page ∷ (field_words key ++ bound_words bound) = ft ∙ ap (λ xs. xs ++ bound_words bound) (et ∙ ap (λ xs. xs ++ field_words key) d_is) in
       gt ∙ ap (λ xs. xs ++ items_words items) f_is ∙ ap (λ xs. head ∷ next ∷ page ∷ xs) (append_assoc (field_words key) (bound_words bound) (items_words items))
 
-  pub filled : (g h : List ℕ) → g ≡ used → h ≡ g ++ replicate (256 - length g) 0
-      → h ≡ head ∷ next ∷ page ∷ (field_words key ++ (bound_words bound ++ (items_words items ++ replicate (243 - 10 * length items) 0)))
+  pub filled : (g h : List ℕ) → g ≡ used → h ≡ g ++ replicate (row_size - length g) 0
+      → h ≡ head ∷ next ∷ page ∷ (field_words key ++ (bound_words bound ++ (items_words items ++ replicate (words_left (length items)) 0)))
   filled g h is more =
-      let zeros : List ℕ = replicate (243 - 10 * length items) 0 in
+      let zeros : List ℕ = replicate (words_left (length items)) 0 in
       let l = used_length in
-      let left : 256 - length g ≡ 243 - 10 * length items = ap (λ xs. 256 - length xs) is ∙ (omega arith) in
+      let left : row_size - length g ≡ words_left (length items) = ap (λ xs. row_size - length xs) is ∙ (omega arith) in
       let inner = append_assoc (bound_words bound) (items_words items) zeros in
       let outer = append_assoc (field_words key) (bound_words bound ++ items_words items) zeros in
       more ∙ (λ i. is i ++ replicate (left i) 0) ∙ ap (λ xs. head ∷ next ∷ page ∷ xs) (outer ∙ ap (λ xs. field_words key ++ xs) inner)
@@ -52,9 +53,9 @@ module _ (items : List Item) (place : ℕ) (item : Item) (within : place < lengt
         ∙ ap (λ left. before ++ items_words left) (sym left_items)
         ∙ so
 
-    pub room_left : length before + 10 * length (drop place items) ≤ 256 → length now + 10 * length (drop (place + 1) items) ≤ 256
+    pub room_left : length before + item_size * length (drop place items) ≤ row_size → length now + item_size * length (drop (place + 1) items) ≤ row_size
     room_left room =
         let left : length (drop place items) ≡ suc (length (drop (place + 1) items)) = ap length left_items in
         let grown : length now ≡ length before + length (item_words item) = ap length more ∙ length-append before (item_words item) in
-        let ten = item_ten item in
+        let long = item_long item in
         omega arith

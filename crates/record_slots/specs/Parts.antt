@@ -1,5 +1,5 @@
 -- The parts of a row, whatever its kind.
-use Rattle.std.specs.Prelude.{◌≡◌, ◌≢◌, ◌==◌, ◌<◌, ◌≤◌, ◌+◌, ◌*◌, ℕ, Bool, true, ◌&&◌, ◌⊎◌, List, [], ◌∷◌, length, Option, Some, IfSome, unwrap_or, get_or, take, drop, replicate, ◌-◌}
+use Rattle.std.specs.Prelude.{◌≡◌, ◌≢◌, ◌==◌, ◌<◌, ◌≤◌, ◌+◌, ◌*◌, ℕ, Bool, true, ◌&&◌, ◌⊎◌, List, [], ◌∷◌, length, Option, Some, IfSome, unwrap_or, get_or, take, drop, replicate}
 use Rattle.std.specs.List.{All}
 use Rattle.bw_model.specs.Bytes.{IsShort}
 use Rattle.base_page.specs.declared.item.Content.{Content}
@@ -12,7 +12,8 @@ use Rattle.deltas.specs.declared.record.Record.{Record}
 use Rattle.deltas.specs.declared.record.Record.TheVariants.{Base, Put, Delete, Split, Term, Hold, Remove, Merge, Unterm}
 use Rattle.record_slots.specs.declared.row.Header.{Header}
 use Rattle.record_slots.specs.declared.row.Row.{Row}
-use Rattle.record_slots.specs.Spelling.{field_words, bound_words, content_words, item_words, items_words}
+use Rattle.record_slots.specs.Layout.{count_unit, field_size, first_at, form_unit, item_size, items_at, level_unit, second_at, text_size, this_form}
+use Rattle.record_slots.specs.Spelling.{field_words, bound_words, content_words, item_words, items_words, words_left}
 use Rattle.record_slots.specs.Spells.{HasShortTexts, IsShortContent, IsShortItem}
 
 -- An item of a page of the level: its texts are short, and its child is a page.
@@ -24,7 +25,7 @@ pub record IsItem (level : ℕ) (item : Item) : Type 0 where
 -- the words spell a child's PID, what such an item has at its key, such an item, and such items
 pub record IsChildIn (words : List ℕ) (page : ℕ) : Type 0 where
   pub pid : IsPid page
-  pub are : page ∷ 0 ∷ 0 ∷ 0 ∷ 0 ∷ [] ≡ words
+  pub are : page ∷ replicate text_size 0 ≡ words
 
 pub record IsContentIn (level : ℕ) (held : Bool) (words : List ℕ) (content : Content) : Type 0 where
   pub short : IsShortContent content
@@ -52,12 +53,16 @@ pub record IsNumberIn (word limit number : ℕ) : Type 0 where
   pub below : number < limit
   pub are : number ≡ word
 
+-- the first word of a row of today's form
+abbrev pub first_word : ℕ → ℕ → ℕ → ℕ
+first_word kind level count = kind + level_unit * level + count_unit * count + form_unit * this_form.number
+
 -- what stands in the first word
 pub record IsHeaderIn (word : ℕ) (header : Header) : Type 0 where
   pub kind : header.kind < 256
   pub level : header.level ≤ 15
   pub few : header.count ≤ 24
-  pub are : header.kind + 256 * header.level + 65536 * header.count ≡ word
+  pub are : first_word header.kind header.level header.count ≡ word
 
 -- The numbers are in their ranges, and the texts are short.
 pub record IsRowOfParts (row : Row) : Type 0 where
@@ -72,12 +77,12 @@ pub record IsRowOfParts (row : Row) : Type 0 where
 -- Such parts stand in the words before the items, and nothing behind the items.
 pub record IsRowIn (words : List ℕ) (row : Row) : Type 0 where
   pub is : IsRowOfParts row
-  pub first_word : row.kind + 256 * row.level + 65536 * row.count ≡ get_or words 0 0
+  pub header : first_word row.kind row.level row.count ≡ get_or words 0 0
   pub next : row.next ≡ get_or words 1 0
   pub page : row.page ≡ get_or words 2 0
-  pub first : field_words row.first ≡ take 5 (drop 3 words)
-  pub second : bound_words row.second ≡ take 5 (drop 8 words)
-  pub rest : drop (13 + 10 * row.count) words ≡ replicate (243 - 10 * row.count) 0
+  pub first : field_words row.first ≡ take field_size (drop first_at words)
+  pub second : bound_words row.second ≡ take field_size (drop second_at words)
+  pub rest : drop (items_at + item_size * row.count) words ≡ replicate (words_left row.count) 0
 
 -- the parts and the items that each kind of record has
 abbrev pub row_of : Record → Row

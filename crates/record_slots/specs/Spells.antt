@@ -10,24 +10,35 @@ use Rattle.deltas.specs.declared.record.Record.TheVariants.{Base, Put, Delete, S
 use Rattle.deltas.specs.Spellable.{IsSpellable}
 use Rattle.record_slots.specs.Spelling.{words_of}
 
+-- Each key and each value has the property.
+module _ (is : List ℕ → Type 0) where
+  abbrev pub HasTextIn : Content → Type 0
+  HasTextIn (Value value) = is value
+  HasTextIn (Child page held) = ⊤
+
+  abbrev pub HasItemTexts : Item → Type 0
+  HasItemTexts item = is item.key × HasTextIn item.content
+
+  abbrev pub HasTexts : Record → Type 0
+  HasTexts (Base page) = is page.low × IfSome page.high is × All HasItemTexts page.items
+  HasTexts (Put put) = is put.key × is put.value
+  HasTexts (Delete delete) = is delete.key
+  HasTexts (Split split) = is split.separator
+  HasTexts (Term term) = is term.separator
+  HasTexts (Hold hold) = is hold.separator
+  HasTexts (Remove remove) = ⊤
+  HasTexts (Merge merge) = is merge.low × IfSome merge.high is × All HasItemTexts merge.items
+  HasTexts (Unterm unterm) = is unterm.separator
+
+-- Keys and values are short, as their types say.
 abbrev pub IsShortContent : Content → Type 0
-IsShortContent (Value value) = IsShort value
-IsShortContent (Child page held) = ⊤
+IsShortContent = HasTextIn IsShort
 
 abbrev pub IsShortItem : Item → Type 0
-IsShortItem item = IsShort item.key × IsShortContent item.content
+IsShortItem = HasItemTexts IsShort
 
--- Keys and values have at most 32 bytes, as their types say.
 abbrev pub HasShortTexts : Record → Type 0
-HasShortTexts (Base page) = IsShort page.low × IfSome page.high IsShort × All IsShortItem page.items
-HasShortTexts (Put put) = IsShort put.key × IsShort put.value
-HasShortTexts (Delete delete) = IsShort delete.key
-HasShortTexts (Split split) = IsShort split.separator
-HasShortTexts (Term term) = IsShort term.separator
-HasShortTexts (Hold hold) = IsShort hold.separator
-HasShortTexts (Remove remove) = ⊤
-HasShortTexts (Merge merge) = IsShort merge.low × IfSome merge.high IsShort × All IsShortItem merge.items
-HasShortTexts (Unterm unterm) = IsShort unterm.separator
+HasShortTexts = HasTexts IsShort
 
 -- The words spell the record.
 pub record IsSpelling (content : Record) (words : List ℕ) : Type 0 where

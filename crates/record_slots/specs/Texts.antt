@@ -2,13 +2,14 @@
 use Rattle.std.specs.Prelude.{◌≡◌, ◌==◌, ℕ, ◌-◌, ◌%◌, ◌^◌, List, [], ◌∷◌, ◌++◌, length, Bool, true, ◌&&◌, Option, IfSome}
 use Rattle.std.specs.Int.{w64, to_be_bytes}
 use Rattle.bw_model.specs.Bytes.{IsShort}
+use Rattle.record_slots.specs.Layout.{text_size}
 use Rattle.record_slots.specs.Spelling.{text_words, field_words, bound_words}
 
 -- the words have the bytes of a text of that length
 pub record IsText (count : ℕ) (words text : List ℕ) : Type 0 where
   pub short : IsShort text
   pub counts : length text ≡ count
-  pub are : text_words 4 text ≡ words
+  pub are : text_words text_size text ≡ words
 
 pub record IsField (words text : List ℕ) : Type 0 where
   pub short : IsShort text

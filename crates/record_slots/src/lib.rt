@@ -1,4 +1,4 @@
-//! Records as rows of 256 words.
+//! Records as rows of words, and back.
 #![tactic(auto)]
 
 mod item_words;
@@ -11,10 +11,10 @@ mod rules;
 mod texts;
 mod write;
 
-pub use laws::{rows_have_256_words, spelling_is_one};
+pub use laws::{rows_have_words, spelling_is_one};
 pub use layout::{
-    FIRST_ITEM, FIRST_KEY, HELD, ITEM_CONTENT, ITEM_UNIT, ITEM_WORDS, LEVEL_UNIT, NO_BOUND,
-    ROW_WORDS, SECOND_KEY, TEXT_WORDS,
+    FIELD_WORDS, FIRST_ITEM, FIRST_KEY, FORM, FORM_UNIT, HELD, ITEM_CONTENT, ITEM_UNIT, ITEM_WORDS,
+    LEVEL_UNIT, NO_BOUND, PART_LIMIT, ROW_WORDS, SECOND_KEY, TEXT_WORDS,
 };
 pub use read::from_words;
 pub use row::BadRow;

@@ -1,10 +1,12 @@
 //! Records from the parts of a row.
 ghost use Rattle.std.specs.Prelude.{◌≡◌, ◌<◌, ◌*◌, ◌↔◌, [], IsTrue, Some, length};
+ghost use Rattle.record_slots.specs.Layout.{item_size};
 ghost use Rattle.record_slots.specs.Parts.{IsBare, IsLinkKind, IsLinkOf, IsRecordOf, IsRightIn, IsRowOfParts};
 ghost use Rattle.record_slots.specs.Spells.{FindsOne};
 
 use crate::BadRow;
 use crate::item_words::read_items;
+use crate::layout::{ITEM_CONTENT, ITEM_WORDS};
 use crate::row::Row;
 use crate::rules::keeps_rules;
 use crate::texts::{field_in, value_in};
@@ -16,7 +18,7 @@ use deltas::{Delete, Hold, Merge, Put, Record, Remove, Split, Term, Unterm};
 /// The record that has these parts.
 pub(crate) fn record_in(row: Row, words: &[u64]) -> Result<Record, BadRow>
     requires parts { IsRowOfParts row }
-    requires words { length words.now ≡ 10 * row.count }
+    requires words { length words.now ≡ item_size * row.count }
     ensures { FindsOne (IsRecordOf row words.now) result }
 {
     match row.kind {
@@ -33,7 +35,7 @@ pub(crate) fn record_in(row: Row, words: &[u64]) -> Result<Record, BadRow>
 #[inline(never)]
 fn base_in(row: Row, words: &[u64]) -> Result<Record, BadRow>
     requires parts { IsRowOfParts row }
-    requires words { length words.now ≡ 10 * row.count }
+    requires words { length words.now ≡ item_size * row.count }
     requires kind { row.kind ≡ 1 }
     ensures { FindsOne (IsRecordOf row words.now) result }
 {
@@ -54,7 +56,7 @@ fn base_in(row: Row, words: &[u64]) -> Result<Record, BadRow>
 
 fn put_in(row: Row, words: &[u64]) -> Result<Record, BadRow>
     requires parts { IsRowOfParts row }
-    requires words { length words.now ≡ 10 * row.count }
+    requires words { length words.now ≡ item_size * row.count }
     requires kind { row.kind ≡ 2 }
     ensures { FindsOne (IsRecordOf row words.now) result }
 {
@@ -64,8 +66,8 @@ fn put_in(row: Row, words: &[u64]) -> Result<Record, BadRow>
     if !is_empty(&row.first) || !is_empty_bound(&row.second) {
         return Err(BadRow);
     }
-    let key = field_in(&words[..5])?;
-    let value = value_in(words[5], &words[6..10])?;
+    let key = field_in(&words[..ITEM_CONTENT])?;
+    let value = value_in(words[ITEM_CONTENT], &words[ITEM_CONTENT + 1..ITEM_WORDS])?;
     Ok(Record::Put(Put {
         next: row.next,
         key,
@@ -75,7 +77,7 @@ fn put_in(row: Row, words: &[u64]) -> Result<Record, BadRow>
 
 fn delete_in(row: Row, words: &[u64]) -> Result<Record, BadRow>
     requires parts { IsRowOfParts row }
-    requires words { length words.now ≡ 10 * row.count }
+    requires words { length words.now ≡ item_size * row.count }
     requires kind { row.kind ≡ 3 }
     ensures { FindsOne (IsRecordOf row words.now) result }
 {
@@ -91,7 +93,7 @@ fn delete_in(row: Row, words: &[u64]) -> Result<Record, BadRow>
 /// A record that names a separator and a page. A split alone may stand on a leaf.
 fn link_in(row: Row, words: &[u64]) -> Result<Record, BadRow>
     requires parts { IsRowOfParts row }
-    requires words { length words.now ≡ 10 * row.count }
+    requires words { length words.now ≡ item_size * row.count }
     requires kind { IsLinkKind row.kind }
     ensures { FindsOne (IsRecordOf row words.now) result }
 {
@@ -128,7 +130,7 @@ fn link_in(row: Row, words: &[u64]) -> Result<Record, BadRow>
 
 fn remove_in(row: Row, words: &[u64]) -> Result<Record, BadRow>
     requires parts { IsRowOfParts row }
-    requires words { length words.now ≡ 10 * row.count }
+    requires words { length words.now ≡ item_size * row.count }
     requires kind { row.kind ≡ 7 }
     ensures { FindsOne (IsRecordOf row words.now) result }
 {
@@ -144,7 +146,7 @@ fn remove_in(row: Row, words: &[u64]) -> Result<Record, BadRow>
 #[inline(never)]
 fn merge_in(row: Row, words: &[u64]) -> Result<Record, BadRow>
     requires parts { IsRowOfParts row }
-    requires words { length words.now ≡ 10 * row.count }
+    requires words { length words.now ≡ item_size * row.count }
     requires kind { row.kind ≡ 8 }
     ensures { FindsOne (IsRecordOf row words.now) result }
 {

@@ -3,6 +3,7 @@ ghost use Rattle.std.specs.Prelude.{◌≡◌, ◌≤◌};
 ghost use Rattle.record_slots.specs.Parts.{are_zeros, IsHeaderIn, IsNumberIn, IsRowIn};
 ghost use Rattle.record_slots.specs.Spells.{FindsOne};
 
+use crate::layout::{FIRST_ITEM, FIRST_KEY, FORM, FORM_UNIT, ITEM_UNIT, ITEM_WORDS, LEVEL_UNIT, PART_LIMIT, ROW_WORDS, SECOND_KEY};
 use crate::texts::{bound_in, field_in};
 use bw_model::Key;
 use thiserror::Error;
@@ -33,15 +34,15 @@ pub struct Header {
 }
 
 /// The parts of a row, where nothing stands behind its items.
-pub(crate) fn row_in(words: &[u64; 256]) -> Result<Row, BadRow>
+pub(crate) fn row_in(words: &[u64; ROW_WORDS]) -> Result<Row, BadRow>
     ensures { FindsOne (IsRowIn words.now) result }
 {
     let header = header_in(words[0])?;
     let next = number_in(words[1], 16384)?;
     let page = number_in(words[2], 4096)?;
-    let first = field_in(&words[3..8])?;
-    let second = bound_in(&words[8..13])?;
-    if !are_zeros(&words[13 + 10 * header.count..]) {
+    let first = field_in(&words[FIRST_KEY..SECOND_KEY])?;
+    let second = bound_in(&words[SECOND_KEY..FIRST_ITEM])?;
+    if !are_zeros(&words[FIRST_ITEM + ITEM_WORDS * header.count..]) {
         return Err(BadRow);
     }
     Ok(Row {
@@ -55,17 +56,17 @@ pub(crate) fn row_in(words: &[u64; 256]) -> Result<Row, BadRow>
     })
 }
 
-/// The parts of a row's first word, which has a byte each for the kind and the level and the rest for the count.
+/// The parts of a row's first word, which has a byte each for the kind, the level and the count, and the rest for the form.
 fn header_in(word: u64) -> Result<Header, BadRow>
     ensures { FindsOne (IsHeaderIn word) result }
 {
-    let level = word / 256 % 256;
-    let count = word / 65536;
-    if level > 15 || count > 24 {
+    let level = word / LEVEL_UNIT % PART_LIMIT;
+    let count = word / ITEM_UNIT % PART_LIMIT;
+    if level > 15 || count > 24 || word / FORM_UNIT != FORM {
         return Err(BadRow);
     }
     Ok(Header {
-        kind: (word % 256) as u8,
+        kind: (word % PART_LIMIT) as u8,
         level: level as u8,
         count: count as usize,
     })
@@ -84,7 +85,7 @@ fn number_in(word: u64, limit: u64) -> Result<u16, BadRow>
 }
 
 /// Whether nothing stands in the words.
-fn are_zeros(words: &[u64]) -> bool
+pub(crate) fn are_zeros(words: &[u64]) -> bool
     ensures { result ≡ are_zeros words.now }
 {
     let mut all = 0;

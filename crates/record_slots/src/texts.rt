@@ -1,17 +1,19 @@
 //! Keys and values read from words.
 ghost use Rattle.std.specs.Prelude.{◌≡◌, ◌≤◌, ◌==◌, ◌%◌, ◌^◌, ◌-◌, ℕ, List, [], IsTrue, IsFalse, length, take};
+ghost use Rattle.record_slots.specs.Layout.{field_size, text_size};
 ghost use Rattle.record_slots.specs.Spells.{FindsOne};
 ghost use Rattle.record_slots.specs.Texts.{IsText, IsField, IsBound, bytes_of, ends_there};
 
 use crate::BadRow;
 use crate::layout::NO_BOUND;
+use crate::row::are_zeros;
 use arrayvec::ArrayVec;
 use bw_model::{Key, MAX_LENGTH, Value};
 
-/// A key, from its length and four words of bytes.
+/// A key, from its length and its words of bytes.
 #[inline(never)]
 pub fn key_in(count: u64, words: &[u64]) -> Result<Key, BadRow>
-    requires { length words.now ≡ 4 }
+    requires { length words.now ≡ text_size }
     ensures { FindsOne (IsText count words.now) result }
 {
     let mut bytes = ArrayVec::new();
@@ -22,10 +24,10 @@ pub fn key_in(count: u64, words: &[u64]) -> Result<Key, BadRow>
     Ok(Key::from_slice(text).unwrap())
 }
 
-/// A value, from its length and four words of bytes.
+/// A value, from its length and its words of bytes.
 #[inline(never)]
 pub fn value_in(count: u64, words: &[u64]) -> Result<Value, BadRow>
-    requires { length words.now ≡ 4 }
+    requires { length words.now ≡ text_size }
     ensures { FindsOne (IsText count words.now) result }
 {
     let mut bytes = ArrayVec::new();
@@ -36,45 +38,45 @@ pub fn value_in(count: u64, words: &[u64]) -> Result<Value, BadRow>
     Ok(Value::from_slice(text).unwrap())
 }
 
-/// A key, from the five words of its field.
+/// A key, from the words of its field.
 pub(crate) fn field_in(words: &[u64]) -> Result<Key, BadRow>
-    requires { length words.now ≡ 5 }
+    requires { length words.now ≡ field_size }
     ensures { FindsOne (IsField words.now) result }
 {
-    key_in(words[0], &words[1..5])
+    key_in(words[0], &words[1..])
 }
 
-/// A key or no bound, from the five words of its field.
+/// A key or no bound, from the words of its field.
 pub(crate) fn bound_in(words: &[u64]) -> Result<Option<Key>, BadRow>
-    requires { length words.now ≡ 5 }
+    requires { length words.now ≡ field_size }
     ensures { FindsOne (IsBound words.now) result }
 {
     if words[0] != NO_BOUND {
         return Ok(Some(field_in(words)?));
     }
-    if words[1] == 0 && words[2] == 0 && words[3] == 0 && words[4] == 0 {
+    if are_zeros(&words[1..]) {
         Ok(None)
     } else {
         Err(BadRow)
     }
 }
 
-/// Adds the bytes of four words, and answers whether the first ones are a text of that length, with nothing behind it.
+/// Adds the bytes of words, and answers whether the first ones are a text of that length, with nothing behind it.
 #[inline(always)]
 fn read_text(count: u64, words: &[u64], bytes: &mut ArrayVec<u8, MAX_LENGTH>) -> bool
-    requires words { length words.now ≡ 4 }
+    requires words { length words.now ≡ text_size }
     requires none { bytes.old.items ≡ [] }
     ensures many { IsTrue result → count ≤ length bytes.new.items }
     ensures text { IsTrue result → IsText count words.now (take count bytes.new.items) }
     ensures none { IsFalse result → (text : List ℕ) → IsText count words.now text → ⊥ }
 {
-    count <= 32 && read_bytes(count, words, bytes)
+    count <= MAX_LENGTH as u64 && read_bytes(count, words, bytes)
 }
 
-/// Adds the bytes of four words, and answers whether there is nothing behind the first ones.
+/// Adds the bytes of words, and answers whether there is nothing behind the first ones.
 #[inline(always)]
 fn read_bytes(count: u64, words: &[u64], bytes: &mut ArrayVec<u8, MAX_LENGTH>) -> bool
-    requires words { length words.now ≡ 4 }
+    requires words { length words.now ≡ text_size }
     requires none { bytes.old.items ≡ [] }
     ensures bytes { bytes.new.items ≡ bytes_of words.now }
     ensures rest { result ≡ ends_there count words.now }

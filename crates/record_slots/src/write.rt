@@ -1,19 +1,21 @@
 //! Records written as rows of words.
-ghost use Rattle.std.specs.Prelude.{◌≡◌, ◌≤◌, ◌+◌, ◌++◌, ◌*◌, ◌∷◌, [], IfSome, Some, drop, length, option_copied, replicate, slice_index, ◌-◌};
+ghost use Rattle.std.specs.Prelude.{◌≡◌, ◌≤◌, ◌+◌, ◌++◌, ◌*◌, ◌∷◌, [], IfSome, Some, drop, length, option_copied, replicate, slice_index};
 ghost use Rattle.std.specs.List.{All};
-ghost use Rattle.bw_model.specs.Bytes.{IsShort};
+ghost use Rattle.bw_model.specs.Bytes.{IsShort, longest};
 ghost use Rattle.deltas.specs.Spellable.{IsSpellable};
+ghost use Rattle.record_slots.specs.Layout.{field_size, item_size, row_size, text_size};
+ghost use Rattle.record_slots.specs.Parts.{first_word};
 ghost use Rattle.record_slots.specs.Spelling.{bound_words, content_words, field_words, item_words, items_words, packed, row_words, text_words, words_of};
 ghost use Rattle.record_slots.specs.Spells.{IsShortItem, IsSpelling};
 
-use crate::layout::ROW_WORDS;
+use crate::layout::{FORM, FORM_UNIT, HELD, ITEM_UNIT, LEVEL_UNIT, NO_BOUND, ROW_WORDS, TEXT_WORDS};
 use arrayvec::ArrayVec;
 use base_page::{Content, Item};
 use bw_model::{Key, Value};
 use deltas::Record;
 
 /// The words of the record; where a row can spell it, they do.
-pub fn to_words(content: &Record) -> [u64; 256]
+pub fn to_words(content: &Record) -> [u64; ROW_WORDS]
     ensures words { result ≡ words_of content.now }
     ensures spells { IsSpellable content.now → IsSpelling content.now result }
 {
@@ -68,7 +70,7 @@ pub fn to_words(content: &Record) -> [u64; 256]
 }
 
 /// A row with one key and no items.
-fn link_words(kind: u8, level: u8, next: u16, page: u16, first: &Key) -> [u64; 256]
+fn link_words(kind: u8, level: u8, next: u16, page: u16, first: &Key) -> [u64; ROW_WORDS]
     ensures words { result ≡ row_words kind level next page first.now (Some []) [] }
     ensures short { IsShort first.now }
 {
@@ -84,7 +86,7 @@ fn row_words(
     first: &Key,
     second: Option<&Key>,
     items: &[Item],
-) -> [u64; 256]
+) -> [u64; ROW_WORDS]
     requires { length items.now ≤ 24 }
     ensures words { result ≡ row_words kind level next page first.now (option_copied second.entry) items.now }
     ensures first { IsShort first.now }
@@ -92,18 +94,27 @@ fn row_words(
     ensures items { All IsShortItem items.now }
 {
     let mut words = ArrayVec::new();
-    words.push(u64::from(kind) + 256 * u64::from(level) + 65536 * items.len() as u64);
+    words.push(first_word(kind, level, items.len()));
     words.push(u64::from(next));
     words.push(u64::from(page));
     push_field(&mut words, key_bytes(first));
     push_bound(&mut words, second);
     push_items(&mut words, items);
-    push_zeros(&mut words);
+    let left = ROW_WORDS - words.len();
+    push_zeros(&mut words, left);
     words.into_inner().unwrap()
 }
 
+/// A row's first word.
+fn first_word(kind: u8, level: u8, count: usize) -> u64
+    requires { count ≤ 24 }
+    ensures { result ≡ first_word kind level count }
+{
+    u64::from(kind) + LEVEL_UNIT * u64::from(level) + ITEM_UNIT * count as u64 + FORM_UNIT * FORM
+}
+
 fn push_items(words: &mut ArrayVec<u64, ROW_WORDS>, items: &[Item])
-    requires { length words.old.items + 10 * length items.now ≤ 256 }
+    requires { length words.old.items + item_size * length items.now ≤ row_size }
     ensures words { words.new.items ≡ words.old.items ++ items_words items.now }
     ensures short { All IsShortItem items.now }
 {
@@ -113,7 +124,7 @@ fn push_items(words: &mut ArrayVec<u64, ROW_WORDS>, items: &[Item])
 }
 
 fn push_item(words: &mut ArrayVec<u64, ROW_WORDS>, item: &Item)
-    requires { length words.old.items + 10 ≤ 256 }
+    requires { length words.old.items + item_size ≤ row_size }
     ensures words { words.new.items ≡ words.old.items ++ item_words item.now }
     ensures short { IsShortItem item.now }
 {
@@ -126,17 +137,17 @@ fn push_item(words: &mut ArrayVec<u64, ROW_WORDS>, item: &Item)
             push_field(words, value_bytes(value));
         }
         Content::Child { page, held } => {
-            words.push(if *held { count + 256 } else { count });
+            words.push(if *held { count + HELD } else { count });
             push_text(words, key);
-            push_five(words, u64::from(*page));
+            push_number(words, u64::from(*page));
         }
     }
 }
 
 /// A key or a value with its length.
 fn push_field(words: &mut ArrayVec<u64, ROW_WORDS>, bytes: &[u8])
-    requires room { length words.old.items + 5 ≤ 256 }
-    requires short { length bytes.now ≤ 32 }
+    requires room { length words.old.items + field_size ≤ row_size }
+    requires short { length bytes.now ≤ longest }
     ensures { words.new.items ≡ words.old.items ++ field_words bytes.now }
 {
     words.push(bytes.len() as u64);
@@ -144,12 +155,12 @@ fn push_field(words: &mut ArrayVec<u64, ROW_WORDS>, bytes: &[u8])
 }
 
 fn push_bound(words: &mut ArrayVec<u64, ROW_WORDS>, bound: Option<&Key>)
-    requires { length words.old.items + 5 ≤ 256 }
+    requires { length words.old.items + field_size ≤ row_size }
     ensures words { words.new.items ≡ words.old.items ++ bound_words (option_copied bound.entry) }
     ensures short { IfSome (option_copied bound.entry) IsShort }
 {
     match bound {
-        None => push_five(words, 255),
+        None => push_number(words, NO_BOUND),
         Some(key) => push_field(words, key_bytes(key)),
     }
 }
@@ -174,38 +185,34 @@ fn value_bytes(value: &Value) -> &[u8]
     bytes
 }
 
-/// At most 32 bytes are a key or a value.
+/// So few bytes are a key or a value.
 fn are_short(bytes: &[u8])
-    requires { length bytes.now ≤ 32 }
+    requires { length bytes.now ≤ longest }
     ensures { IsShort bytes.now }
 {}
 
-/// A number, and four words of nothing.
-fn push_five(words: &mut ArrayVec<u64, ROW_WORDS>, number: u64)
-    requires { length words.old.items + 5 ≤ 256 }
-    ensures { words.new.items ≡ words.old.items ++ number ∷ 0 ∷ 0 ∷ 0 ∷ 0 ∷ [] }
+/// A number, in as many words as a key or a value takes.
+fn push_number(words: &mut ArrayVec<u64, ROW_WORDS>, number: u64)
+    requires { length words.old.items + field_size ≤ row_size }
+    ensures { words.new.items ≡ words.old.items ++ number ∷ replicate text_size 0 }
 {
     words.push(number);
-    words.push(0);
-    words.push(0);
-    words.push(0);
-    words.push(0);
+    push_zeros(words, TEXT_WORDS);
 }
 
-/// Four words of bytes.
+/// The words of a text's bytes.
 fn push_text(words: &mut ArrayVec<u64, ROW_WORDS>, bytes: &[u8])
-    requires { length words.old.items + 4 ≤ 256 }
-    ensures { words.new.items ≡ words.old.items ++ text_words 4 bytes.now }
+    requires { length words.old.items + text_size ≤ row_size }
+    ensures { words.new.items ≡ words.old.items ++ text_words text_size bytes.now }
 {
-    words.push(word_at(bytes, 0));
-    words.push(word_at(bytes, 8));
-    words.push(word_at(bytes, 16));
-    words.push(word_at(bytes, 24));
+    for place in 0..TEXT_WORDS {
+        words.push(word_at(bytes, 8 * place));
+    }
 }
 
 /// The eight bytes from a place on as one word, with zeros behind the last byte.
 pub fn word_at(bytes: &[u8], from: usize) -> u64
-    requires { from ≤ 24 }
+    requires { from ≤ longest }
     ensures { result ≡ packed 8 (drop from bytes.now) }
 {
     let mut word = 0;
@@ -223,12 +230,12 @@ fn byte_at(bytes: &[u8], place: usize) -> u8
     if place < bytes.len() { bytes[place] } else { 0 }
 }
 
-/// Zeros up to the end of the row.
-fn push_zeros(words: &mut ArrayVec<u64, ROW_WORDS>)
-    requires { length words.old.items ≤ 256 }
-    ensures { words.new.items ≡ words.old.items ++ replicate (256 - length words.old.items) 0 }
+/// So many zeros.
+fn push_zeros(words: &mut ArrayVec<u64, ROW_WORDS>, count: usize)
+    requires { length words.old.items + count ≤ row_size }
+    ensures { words.new.items ≡ words.old.items ++ replicate count 0 }
 {
-    for _ in words.len()..ROW_WORDS {
+    for _ in 0..count {
         words.push(0);
     }
 }

@@ -15,6 +15,7 @@ use Rattle.deltas.specs.Records.{names, next_row}
 use Rattle.deltas.specs.Spellable.{IsSpellable}
 use Rattle.deltas.specs.declared.record.Record.{Record}
 use Rattle.deltas.specs.declared.record.Record.TheVariants.{Base, Put, Delete, Split, Term, Hold, Remove, Merge, Unterm}
+use Rattle.record_slots.specs.Layout.{count_unit, field_size, first_at, item_size, items_at, no_bound, part_limit, second_at, text_size}
 use Rattle.record_slots.specs.Spelling.{field_words, bound_words}
 use Rattle.record_slots.specs.Spells.{IsSpelling}
 use Rattle.record_slots.specs.Texts.{IsText}
@@ -29,13 +30,13 @@ first_of n [] = refl
 first_of n (x ∷ xs) = refl
 
 -- a text whose field stands at a place
-pub text_at : (text words : List ℕ) (at : ℕ) → IsShort text → field_words text ≡ take 5 (drop at words) → IsText (get_or words at 0) (take 4 (drop (at + 1) words)) text
+pub text_at : (text words : List ℕ) (at : ℕ) → IsShort text → field_words text ≡ take field_size (drop at words) → IsText (get_or words at 0) (take text_size (drop (at + 1) words)) text
 text_at text words at short e = record {
   short = short;
   counts =
       let zero_more : at + 0 ≡ at = omega arith in
-      sym (ap (λ k. get_or words k 0) (sym zero_more) ∙ sym (get_or-drop at words 0 0) ∙ sym (first_of 4 (drop at words)) ∙ ap (λ ws. get_or ws 0 0) (sym e));
-  are = sym (ap (take 4) (sym (drop-drop 1 at words)) ∙ sym (window 4 1 5 (drop at words) (omega arith)) ∙ ap (λ ws. take 4 (drop 1 ws)) (sym e));
+      sym (ap (λ k. get_or words k 0) (sym zero_more) ∙ sym (get_or-drop at words 0 0) ∙ sym (first_of text_size (drop at words)) ∙ ap (λ ws. get_or ws 0 0) (sym e));
+  are = sym (ap (take text_size) (sym (drop-drop 1 at words)) ∙ sym (window text_size 1 field_size (drop at words) (omega arith)) ∙ ap (λ ws. take text_size (drop 1 ws)) (sym e));
 }
 
 items_ascend : (content : Record) → IsSpellable content → IsAscending (items_of content)
@@ -50,14 +51,14 @@ items_ascend (Remove remove) h = IsAscending-from [] tt
 items_ascend (Unterm unterm) h = IsAscending-from [] tt
 
 module _ (words : List ℕ) (content : Record) (h : IsSpelling content words) where
-  pub kind_there : get_or words 0 0 % 256 ≡ (row_of content).kind
-  kind_there = let is = row_spelled words content h in let first = is.first_word in let small = is.is.kind in let top = is.is.level in omega arith
+  pub kind_there : get_or words 0 0 % part_limit ≡ (row_of content).kind
+  kind_there = let is = row_spelled words content h in let first = is.header in let small = is.is.kind in let top = is.is.level in omega arith
 
-  pub count_there : get_or words 0 0 / 65536 ≡ length (items_of content)
-  count_there = let is = row_spelled words content h in let first = is.first_word in let small = is.is.kind in let top = is.is.level in let many = counts content in omega arith
+  pub count_there : get_or words 0 0 / count_unit % part_limit ≡ length (items_of content)
+  count_there = let is = row_spelled words content h in let first = is.header in let small = is.is.kind in let top = is.is.level in let many = counts content in omega arith
 
-  pub first_text : IsText (get_or words 3 0) (take 4 (drop 4 words)) (row_of content).first
-  first_text = let is = row_spelled words content h in text_at (row_of content).first words 3 is.is.first is.first
+  pub first_text : IsText (get_or words first_at 0) (take text_size (drop (suc first_at) words)) (row_of content).first
+  first_text = let is = row_spelled words content h in text_at (row_of content).first words first_at is.is.first is.first
 
   pub stands : StandIn words (items_of content)
   stands =
@@ -68,7 +69,7 @@ module _ (words : List ℕ) (content : Record) (h : IsSpelling content words) wh
         count = count_there;
         few = let few = is.is.few in omega arith;
         short = λ k d within. (each k d within).short;
-        are = items_spelled words content h ∙ ap (λ n. take (10 * n) (drop 13 words)) many;
+        are = items_spelled words content h ∙ ap (λ n. take (item_size * n) (drop items_at words)) many;
         ascending = items_ascend content h.spellable;
       }
 
@@ -148,10 +149,10 @@ module _ (key : List ℕ) where
   above_some None o e = cc
   above_some (Some bound) o e = below_turned key bound ∙ ap (λ (p : Option Ordering). elim p as (λ q. Bool) [ None ↦ true | Some r ↦ is_gt r ]) (sym e)
 
-  pub second_by : (words : List ℕ) (second : Option (List ℕ)) → IfSome second IsShort → bound_words second ≡ take 5 (drop 8 words) → (get_or words 8 0 ≡ 255 → ⊥)
-      → (o : Ordering) → ((text : List ℕ) → IsText (get_or words 8 0) (take 4 (drop 9 words)) text → o ≡ key_cmp text key) → Some o ≡ option_map (λ bound. key_cmp bound key) second
-  second_by words None short e bounded o said = absurd (bounded (sym (get_or-drop 8 words 0 0) ∙ sym (first_of 4 (drop 8 words)) ∙ ap (λ ws. get_or ws 0 0) (sym e)))
-  second_by words (Some text) short e bounded o said = ap Some (said text (text_at text words 8 short e))
+  pub second_by : (words : List ℕ) (second : Option (List ℕ)) → IfSome second IsShort → bound_words second ≡ take field_size (drop second_at words) → (get_or words second_at 0 ≡ no_bound → ⊥)
+      → (o : Ordering) → ((text : List ℕ) → IsText (get_or words second_at 0) (take text_size (drop (suc second_at) words)) text → o ≡ key_cmp text key) → Some o ≡ option_map (λ bound. key_cmp bound key) second
+  second_by words None short e bounded o said = absurd (bounded (sym (get_or-drop second_at words 0 0) ∙ sym (first_of text_size (drop second_at words)) ∙ ap (λ ws. get_or ws 0 0) (sym e)))
+  second_by words (Some text) short e bounded o said = ap Some (said text (text_at text words second_at short e))
 
   pub names_single : (content : Record) → ((row_of content).kind ≡ 1 → ⊥) → ((row_of content).kind ≡ 2 → ⊥) → ((row_of content).kind ≡ 4 → ⊥) → ((row_of content).kind ≡ 7 → ⊥) → ((row_of content).kind ≡ 8 → ⊥)
       → names content key ≡ is_eq (key_cmp (row_of content).first key)

@@ -6,13 +6,13 @@ use Rattle.base_page.specs.declared.item.Item.{Item}
 use Rattle.deltas.specs.declared.record.Record.{Record}
 use Rattle.deltas.specs.declared.record.Record.TheVariants.{Base, Put, Delete, Split, Term, Hold, Remove, Merge, Unterm}
 use Rattle.record_slots.specs.Texts.{bytes_of}
-use Rattle.record_slots.specs.declared.layout.TheConstants.{FIRST_ITEM, FIRST_KEY, HELD, ITEM_CONTENT, ITEM_UNIT, ITEM_WORDS, LEVEL_UNIT, NO_BOUND, SECOND_KEY, TEXT_WORDS}
+use Rattle.record_slots.specs.declared.layout.TheConstants.{FIRST_ITEM, FIRST_KEY, HELD, ITEM_CONTENT, ITEM_UNIT, ITEM_WORDS, LEVEL_UNIT, NO_BOUND, PART_LIMIT, SECOND_KEY, TEXT_WORDS}
 
--- the text of that length in four words
+-- the text of that length in its words
 abbrev pub text_in : ℕ → List ℕ → List ℕ
 text_in count words = take count (bytes_of (take TEXT_WORDS words))
 
--- the text, and the bound, of five words
+-- the text, and the bound, of a field
 abbrev pub field_in : List ℕ → List ℕ
 field_in words = text_in (slice_index words 0) (drop 1 words)
 
@@ -22,7 +22,7 @@ bound_in words = if slice_index words 0 == NO_BOUND then None else Some (field_i
 abbrev pub right_in : ℕ → Option ℕ
 right_in page = if page == 0 then None else Some page
 
--- the item of ten words, on a level
+-- the item of its words, on a level
 abbrev pub item_in : ℕ → List ℕ → Item
 item_in level words = record {
   key = text_in (slice_index words 0 % HELD) (drop 1 words);
@@ -60,13 +60,13 @@ record_from kind level next page first second items =
     else Unterm (record { level = level; next = next; separator = first; child = page })
 
 abbrev pub kind_in : List ℕ → ℕ
-kind_in words = slice_index words 0 % LEVEL_UNIT
+kind_in words = slice_index words 0 % PART_LIMIT
 
 abbrev pub level_in : List ℕ → ℕ
-level_in words = slice_index words 0 / LEVEL_UNIT % LEVEL_UNIT
+level_in words = slice_index words 0 / LEVEL_UNIT % PART_LIMIT
 
 abbrev pub count_in : List ℕ → ℕ
-count_in words = slice_index words 0 / ITEM_UNIT
+count_in words = slice_index words 0 / ITEM_UNIT % PART_LIMIT
 
 abbrev pub record_in : List ℕ → Record
 record_in words = record_from (kind_in words) (level_in words) (slice_index words 1) (slice_index words 2) (field_in (drop FIRST_KEY words)) (bound_in (drop SECOND_KEY words)) (items_in (level_in words) (count_in words) (drop FIRST_ITEM words))

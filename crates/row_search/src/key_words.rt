@@ -41,7 +41,7 @@ impl KeyWords {
         }
     }
 
-    /// The key of that length which four words of a row spell.
+    /// The key of that length which words of a row spell.
     pub(crate) fn at(row: &[u64; ROW_WORDS], at: usize, count: u64) -> KeyWords
         requires room { at + TEXT_WORDS ≤ ROW_WORDS }
         requires text { IsText count (take TEXT_WORDS (drop at row.now)) (text_in count (drop at row.now)) }
@@ -61,7 +61,7 @@ impl KeyWords {
             .then(self.count.cmp(&other.count))
     }
 
-    /// How the text of that length which four words of a row spell compares with the key: word by word, and then by the lengths.
+    /// How the text of that length which words of a row spell compares with the key: word by word, and then by the lengths.
     #[inline]
     pub fn compare_at(&self, row: &[u64; ROW_WORDS], at: usize, count: u64) -> Ordering
         requires { at + TEXT_WORDS ≤ ROW_WORDS }
@@ -72,14 +72,13 @@ impl KeyWords {
     }
 }
 
-/// The four words that spell the bytes.
+/// The words that spell the bytes.
 fn words_of(bytes: &[u8]) -> [u64; TEXT_WORDS]
     ensures { result ≡ text_words TEXT_WORDS bytes.now }
 {
-    [
-        word_at(bytes, 0),
-        word_at(bytes, 8),
-        word_at(bytes, 16),
-        word_at(bytes, 24),
-    ]
+    let mut words = [0; TEXT_WORDS];
+    for place in 0..TEXT_WORDS {
+        words[place] = word_at(bytes, 8 * place);
+    }
+    words
 }

@@ -11,7 +11,7 @@ mod names;
 mod says;
 
 use deltas::{Record, Remove};
-use record_slots::{LEVEL_UNIT, ROW_WORDS, from_words, to_words};
+use record_slots::{LEVEL_UNIT, PART_LIMIT, ROW_WORDS, from_words, to_words};
 use std::marker::Model;
 
 /// A record as the words of its row.
@@ -58,7 +58,7 @@ impl Row {
         self.words = to_words(content);
     }
 
-    /// The record, decoded: about 3 KB. Searches ask the row itself.
+    /// The record, decoded: about 6 KB. Searches ask the row itself.
     pub fn record(&self) -> Record
         ensures { result ≡ self.now }
     {
@@ -76,14 +76,14 @@ impl Row {
     fn kind(&self) -> u64
         ensures { result ≡ (row_of self.now).kind }
     {
-        self.words[0] % LEVEL_UNIT
+        self.words[0] % PART_LIMIT
     }
 
     /// The level; puts and deletes stand on leaves.
     pub fn level(&self) -> u8
         ensures { result ≡ (row_of self.now).level }
     {
-        (self.words[0] / LEVEL_UNIT % LEVEL_UNIT) as u8
+        (self.words[0] / LEVEL_UNIT % PART_LIMIT) as u8
     }
 
     /// Whether it is a removal.

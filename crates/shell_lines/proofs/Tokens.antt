@@ -4,6 +4,7 @@ use Rattle.std.specs.Result.{result_ok}
 use Rattle.std.proofs.lemmas.Bool.Decides.{nat_tests}
 use Rattle.std.proofs.lemmas.List.Sums.{AllPass-from_list_all, list_all-from_AllPass}
 use Rattle.std.specs.List.{list_all}
+use Rattle.bw_model.specs.Bytes.{longest}
 use Rattle.hex.specs.Hex.{decode_of, decode_pairs, value_at, pair_value, digit_or_error, hex_digit_value, ◌>>=◌, IsBytes, encode_lower, is_hex_digit}
 use Rattle.hex.specs.declared.error.FromHexError.{FromHexError}
 use Rattle.hex.proofs.HexLemmas.{decode_of-encode_lower, decode_of-ok, decode_of-digits, decode_of-odd, decode_of-even}
@@ -127,7 +128,7 @@ means_value t v (inr d) =
 
 -- ---- what reading a token answers
 
-pub read_ok : (t : List ℕ) (r : Result (List ℕ) LineError) → Gives r (token_value t) → IfOk r (λ key. Means t key × (length key ≤ 32))
+pub read_ok : (t : List ℕ) (r : Result (List ℕ) LineError) → Gives r (token_value t) → IfOk r (λ key. Means t key × (length key ≤ longest))
 read_ok t (Ok key) h = (value_means t key h.0, h.1)
 read_ok t (Err e) h = tt
 
@@ -136,7 +137,7 @@ read_malformed t (Ok key) h e v m = cc e
 read_malformed t (Err Malformed) h e v m = cc (sym h ∙ means_value t v m)
 read_malformed t (Err TooLong) h e v m = cc e
 
-pub read_too_long : (t : List ℕ) (r : Result (List ℕ) LineError) → Gives r (token_value t) → r ≡ Err TooLong → (v : List ℕ) × Means t v × (32 < length v)
+pub read_too_long : (t : List ℕ) (r : Result (List ℕ) LineError) → Gives r (token_value t) → r ≡ Err TooLong → (v : List ℕ) × Means t v × (longest < length v)
 read_too_long t (Ok key) h e = cc e
 read_too_long t (Err Malformed) h e = cc e
 read_too_long t (Err TooLong) h e = (h.0, value_means t h.0 h.1, h.2)
@@ -166,8 +167,8 @@ no_digits s h = at (decode_of s) refl
 pub odd_digits : (s : List ℕ) → length s % 2 ≡ 1 → result_ok (decode_of s) ≡ None
 odd_digits s h = rw (decode_of-odd s h) refl
 
-pub long_digits : (s : List ℕ) → length s % 2 ≡ 0 → list_all is_hex_digit s ≡ true → 64 < length s
-    → (bytes : List ℕ) × (result_ok (decode_of s) ≡ Some bytes) × (32 < length bytes)
+pub long_digits : (s : List ℕ) → length s % 2 ≡ 0 → list_all is_hex_digit s ≡ true → 2 * longest < length s
+    → (bytes : List ℕ) × (result_ok (decode_of s) ≡ Some bytes) × (longest < length bytes)
 long_digits s even digits long =
     let d = decode_of-digits s even (AllPass-from_list_all is_hex_digit s digits) in
     let len = (decode_of-ok s d.0 d.1).2 in

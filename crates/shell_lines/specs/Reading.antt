@@ -2,6 +2,7 @@
 use Rattle.std.specs.Prelude.{◌≡◌, ℕ, ◌≤◌, length, ◌&&◌, nat_le, if◌then◌else◌, List, [], ◌∷◌, codes, option_map, Option, Some, None, Result, Ok, Err}
 use Rattle.std.specs.Option.{option_and_then}
 use Rattle.std.specs.Str.{bytes_eq}
+use Rattle.bw_model.specs.Bytes.{longest}
 use Rattle.bw_model.specs.declared.command.Command.{Command}
 use Rattle.bw_model.specs.declared.command.Command.TheVariants.{Get, Insert, Upsert, Delete, Swap, Page, Tidy}
 use Rattle.bw_model.specs.declared.step.Link.{Link}
@@ -118,7 +119,7 @@ asked Weave fields = woven_in fields
 
 -- no key or value of a pair is too long
 abbrev pub IsShortPair : List ℕ × List ℕ → Type 0
-IsShortPair pair = (length pair.0 ≤ 32) × (length pair.1 ≤ 32)
+IsShortPair pair = (length pair.0 ≤ longest) × (length pair.1 ≤ longest)
 
 -- what is answered, given what the fields request for
 abbrev pub GivesPair : Result (List ℕ × List ℕ) LineError → Option (List ℕ × List ℕ) → Type 0

@@ -1,5 +1,6 @@
 -- What a line asks for.
 use Rattle.std.specs.Prelude.{◌≡◌, ℕ, ◌≤◌, ◌<◌, ◌^◌, List, [], ◌∷◌, length, codes, Option, Some, None}
+use Rattle.bw_model.specs.Bytes.{longest}
 use Rattle.bw_model.specs.declared.command.Command.{Command}
 use Rattle.bw_model.specs.declared.command.Command.TheVariants.{Get, Insert, Upsert, Delete, Swap, Page, Tidy}
 use Rattle.bw_model.specs.declared.step.Link.{Link}
@@ -71,13 +72,13 @@ Says language line request = (length line ≤ 1024) × SpellsRequest (fields_of 
 
 -- no key or value is too long
 abbrev pub IsShortCommand : Command → Type 0
-IsShortCommand (Get key) = length key ≤ 32
-IsShortCommand (Insert key value) = (length key ≤ 32) × (length value ≤ 32)
-IsShortCommand (Upsert key value) = (length key ≤ 32) × (length value ≤ 32)
-IsShortCommand (Delete key) = length key ≤ 32
-IsShortCommand (Swap key expected value) = (length key ≤ 32) × (length expected ≤ 32) × (length value ≤ 32)
-IsShortCommand (Page key) = length key ≤ 32
-IsShortCommand (Tidy key) = length key ≤ 32
+IsShortCommand (Get key) = length key ≤ longest
+IsShortCommand (Insert key value) = (length key ≤ longest) × (length value ≤ longest)
+IsShortCommand (Upsert key value) = (length key ≤ longest) × (length value ≤ longest)
+IsShortCommand (Delete key) = length key ≤ longest
+IsShortCommand (Swap key expected value) = (length key ≤ longest) × (length expected ≤ longest) × (length value ≤ longest)
+IsShortCommand (Page key) = length key ≤ longest
+IsShortCommand (Tidy key) = length key ≤ longest
 
 abbrev pub IsShortRequest : Request → Type 0
 IsShortRequest (Begin actor command) = IsShortCommand command

@@ -3,11 +3,12 @@
 ghost use Rattle.std.specs.Prelude.{◌≡◌, ◌<◌, ◌≤◌, ◌↔◌, ℕ, List, IfOk, IfErr, IsErrOf, IsTrue, length};
 ghost use Rattle.std.specs.List.{list_all};
 ghost use Rattle.std.specs.Result.{result_ok};
+ghost use Rattle.bw_model.specs.Bytes.{longest};
 ghost use Rattle.hex.specs.Hex.{decode_of, IsBytes, is_hex_digit as is_hex_digit_lem};
 ghost use Rattle.shell_lines.specs.Token.{Means, token_value, printed, is_word as is_word_lem, is_word_byte as is_word_byte_lem};
 ghost use Rattle.shell_lines.specs.Gives.{Gives};
 
-use bw_model::{Key, Value};
+use bw_model::{Key, MAX_LENGTH, Value};
 use thiserror::Error;
 
 /// Why a line asks for nothing.
@@ -61,10 +62,10 @@ fn read_digits(digits: &[u8]) -> Result<Key, LineError>
     if !are_hex_digits(digits) {
         return Err(LineError::Malformed);
     }
-    if digits.len() > 64 {
+    if digits.len() > 2 * MAX_LENGTH {
         return Err(LineError::TooLong);
     }
-    let mut held = [0u8; 32];
+    let mut held = [0u8; MAX_LENGTH];
     let room = &mut held[..digits.len() / 2];
     match hex::decode_to_slice(digits, room) {
         Ok(()) => Key::from_slice(&held[..digits.len() / 2]).map_err(|_| LineError::TooLong),
@@ -97,9 +98,9 @@ pub fn value_of(token: &[u8]) -> Result<Value, LineError>
 
 /// The bytes that a token stands for, by the grammar.
 pub fn read_token(token: &[u8]) -> Result<Key, LineError>
-    ensures ok { IfOk result (λ key. Means token.now key × (length key ≤ 32)) }
+    ensures ok { IfOk result (λ key. Means token.now key × (length key ≤ longest)) }
     ensures malformed { IsErrOf result LineError.Malformed → (bytes : List ℕ) → Means token.now bytes → ⊥ }
-    ensures too_long { IsErrOf result LineError.TooLong → (bytes : List ℕ) × Means token.now bytes × (32 < length bytes) }
+    ensures too_long { IsErrOf result LineError.TooLong → (bytes : List ℕ) × Means token.now bytes × (longest < length bytes) }
 {
     key_of(token)
 }

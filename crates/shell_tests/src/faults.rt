@@ -18,7 +18,7 @@ fn says<T: Display>(rt: &impl Abort, alloc: Global, fault: &T, message: &str) ->
 #[test]
 fn faults_say_why(rt: HostRuntime) -> Result<(), Fail> {
     let alloc = rt.alloc();
-    says(&rt, alloc, &TooLong, "more than 32 bytes")?;
+    says(&rt, alloc, &TooLong, "more than 64 bytes")?;
     says(&rt, alloc, &BadLimits, "a limit is outside its range")?;
     says(&rt, alloc, &OpenError::Memory, "no memory for the tree")?;
     says(

@@ -53,7 +53,7 @@ fn replies(rt: HostRuntime) {
 fn refused_lines(rt: HostRuntime) {
     let rows: Rows<'_> = &[
         (
-            b"begin 0 insert =ffffffffffffffffffffffffffffffffffffffffffffffffffffffffffffffff =0000000000000000000000000000000000000000000000000000000000000000\nfinish 0\nbegin 0 get =ffffffffffffffffffffffffffffffffffffffffffffffffffffffffffffffffff\n",
+            b"begin 0 insert =ffffffffffffffffffffffffffffffffffffffffffffffffffffffffffffffffffffffffffffffffffffffffffffffffffffffffffffffffffffffffffffffff =00000000000000000000000000000000000000000000000000000000000000000000000000000000000000000000000000000000000000000000000000000000\nfinish 0\nbegin 0 get =ffffffffffffffffffffffffffffffffffffffffffffffffffffffffffffffffffffffffffffffffffffffffffffffffffffffffffffffffffffffffffffffffff\n",
             b"0 inserted\nrefused line 3: 1\n",
             1,
         ),
@@ -69,12 +69,12 @@ fn refused_lines(rt: HostRuntime) {
         (b"begin 0 get =GG\n", b"refused line 1: 11\n", 1),
         (b"begin 0 insert a\n", b"refused line 1: 11\n", 1),
         (
-            b"begin 9 get =ffffffffffffffffffffffffffffffffffffffffffffffffffffffffffffffffff\n",
+            b"begin 9 get =ffffffffffffffffffffffffffffffffffffffffffffffffffffffffffffffffffffffffffffffffffffffffffffffffffffffffffffffffffffffffffffffffff\n",
             b"refused line 1: 1\n",
             1,
         ),
         (
-            b"begin 9 insert =ffffffffffffffffffffffffffffffffffffffffffffffffffffffffffffffffff\n",
+            b"begin 9 insert =ffffffffffffffffffffffffffffffffffffffffffffffffffffffffffffffffffffffffffffffffffffffffffffffffffffffffffffffffffffffffffffffffff\n",
             b"refused line 1: 11\n",
             1,
         ),
@@ -110,7 +110,7 @@ fn odd_lines(rt: HostRuntime) {
         (b"begin 0 page\n", b"refused line 1: 11\n", 1),
         (b"begin 0 tidy =6\n", b"refused line 1: 11\n", 1),
         (
-            b"begin 0 tidy =ffffffffffffffffffffffffffffffffffffffffffffffffffffffffffffffffff\n",
+            b"begin 0 tidy =ffffffffffffffffffffffffffffffffffffffffffffffffffffffffffffffffffffffffffffffffffffffffffffffffffffffffffffffffffffffffffffffffff\n",
             b"refused line 1: 1\n",
             1,
         ),

@@ -66,9 +66,9 @@ const TOKENS: [&str; 12] = [
     "=00fF",
     "=6",
     "=6g",
-    "12345678901234567890123456789012",
-    "123456789012345678901234567890123",
-    "=ffffffffffffffffffffffffffffffffffffffffffffffffffffffffffffffffff",
+    "1234567890123456789012345678901234567890123456789012345678901234",
+    "12345678901234567890123456789012345678901234567890123456789012345",
+    "=ffffffffffffffffffffffffffffffffffffffffffffffffffffffffffffffffffffffffffffffffffffffffffffffffffffffffffffffffffffffffffffffffff",
 ];
 
 const LINKS: [&str; 6] = ["put", "base", "split", "clear", "ready", "Put"];

@@ -41,12 +41,12 @@ fn refused_commands(rt: HostRuntime) {
         (b"finish 0\n", b"refused line 1: 11\n", 1),
         (b"mix 1 1\n", b"refused line 1: 11\n", 1),
         (
-            b"page =ffffffffffffffffffffffffffffffffffffffffffffffffffffffffffffffffff\n",
+            b"page =ffffffffffffffffffffffffffffffffffffffffffffffffffffffffffffffffffffffffffffffffffffffffffffffffffffffffffffffffffffffffffffffffff\n",
             b"refused line 1: 1\n",
             1,
         ),
         (
-            b"insert a =ffffffffffffffffffffffffffffffffffffffffffffffffffffffffffffffffff\n",
+            b"insert a =ffffffffffffffffffffffffffffffffffffffffffffffffffffffffffffffffffffffffffffffffffffffffffffffffffffffffffffffffffffffffffffffffff\n",
             b"refused line 1: 1\n",
             1,
         ),

@@ -71,27 +71,27 @@ fn refused_swaps(rt: HostRuntime) {
         (b"swap a 1 =6\n", b"refused line 1: 11\n", 1),
         (b"SWAP a 1 2\n", b"refused line 1: 11\n", 1),
         (
-            b"swap =ffffffffffffffffffffffffffffffffffffffffffffffffffffffffffffffffff 1 2\n",
+            b"swap =ffffffffffffffffffffffffffffffffffffffffffffffffffffffffffffffffffffffffffffffffffffffffffffffffffffffffffffffffffffffffffffffffff 1 2\n",
             b"refused line 1: 1\n",
             1,
         ),
         (
-            b"swap a =ffffffffffffffffffffffffffffffffffffffffffffffffffffffffffffffffff 2\n",
+            b"swap a =ffffffffffffffffffffffffffffffffffffffffffffffffffffffffffffffffffffffffffffffffffffffffffffffffffffffffffffffffffffffffffffffffff 2\n",
             b"refused line 1: 1\n",
             1,
         ),
         (
-            b"swap a 1 =ffffffffffffffffffffffffffffffffffffffffffffffffffffffffffffffffff\n",
+            b"swap a 1 =ffffffffffffffffffffffffffffffffffffffffffffffffffffffffffffffffffffffffffffffffffffffffffffffffffffffffffffffffffffffffffffffffff\n",
             b"refused line 1: 1\n",
             1,
         ),
         (
-            b"swap =ffffffffffffffffffffffffffffffffffffffffffffffffffffffffffffffffff 1 =6\n",
+            b"swap =ffffffffffffffffffffffffffffffffffffffffffffffffffffffffffffffffffffffffffffffffffffffffffffffffffffffffffffffffffffffffffffffffff 1 =6\n",
             b"refused line 1: 11\n",
             1,
         ),
         (
-            b"swap a =ffffffffffffffffffffffffffffffffffffffffffffffffffffffffffffffffff =6\n",
+            b"swap a =ffffffffffffffffffffffffffffffffffffffffffffffffffffffffffffffffffffffffffffffffffffffffffffffffffffffffffffffffffffffffffffffffff =6\n",
             b"refused line 1: 11\n",
             1,
         ),

@@ -20,7 +20,7 @@ use Rattle.chain_search.specs.Trace.{memory_of}
 use Rattle.tree_words.specs.Changes.{HasWord, SetsBits, TellsNothing, changed_word, left_by, told, word_after, words_after, SpellsParts, ChangesOneWord, StepsChangeOneWord, WordsStandFirst}
 use Rattle.tree_words.specs.declared.operations.Operation.{Operation}
 use Rattle.tree_words.specs.declared.operations.Operation.TheVariants as operation
-use Rattle.tree_words.specs.Layout.{row_at}
+use Rattle.tree_words.specs.Layout.{row_at, rows_at}
 use Rattle.tree_words.specs.Words.{words_in, SpellsWhere}
 use Rattle.slot_rule.specs.declared.view.Reach.TheVariants.{Idle}
 use Rattle.slot_rule.specs.Running.{IsSettled}
@@ -48,7 +48,7 @@ module _ (change : StepsChangeOneWord) (first : WordsStandFirst) (limits : Limit
       → Ready limits law s h id actor (changed_word actor step) (word_after step (get_or s.words (changed_word actor step) 0)) begun step (told step (get_or s.words (changed_word actor step) 0)) reply
   step_ready s h id actor seen begun step reply at few has bits =
       let m : Memory = memory_of limits h.run in
-      let low : changed_word actor step < 4608 = first actor step few has in
+      let low : changed_word actor step < rows_at = first actor step few has in
       let parts : SpellsParts limits s.words m = spells_views limits s.words m (IsSettled s.views) (λ row. ⊥) (λ row none. absurd none) h.spells in
       let c : ChangesOneWord limits s.words m actor step = change limits s.words m actor step h.wide parts few has bits in
       let stay : (row j : ℕ) → get_or (words_after actor step s.words) (row_at row j) 0 ≡ get_or s.words (row_at row j) 0 = λ row j. get_or-set_other s.words (changed_word actor step) (row_at row j) _ 0 (omega arith) in
@@ -72,7 +72,7 @@ module _ (change : StepsChangeOneWord) (first : WordsStandFirst) (law : Limits �
     (slots id actor : ℕ) (me : Mine) (begun : Option Command) (reply : Option Reply) (is : SitsAt limits actor Idle me) (few : actor < 16)
     (step : Step Record) (range : HasWord step) (bits : SetsBits step) (may : IsLawfulStep law limits actor (seen_of me) begun step reply) (i : ℕ) (e : i ≡ changed_word actor step) where
   there : i < table.words
-  there = let low : changed_word actor step < 4608 = first actor step few range in let wide = of.wide in omega arith
+  there = let low : changed_word actor step < rows_at = first actor step few range in let wide = of.wide in omega arith
 
   allowed : Allows (Rule limits law) slots id me (changed_word actor step) (word_after step) (Acts law begun step reply me)
   allowed = acts change first limits law slots id actor me begun step reply is may few range bits

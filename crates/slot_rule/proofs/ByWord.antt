@@ -7,6 +7,7 @@ use Rattle.chain_search.specs.declared.trace.Entry.{Entry}
 use Rattle.chain_search.specs.Knowledge.{knows}
 use Rattle.chain_search.specs.Steps.{IsWordOf}
 use Rattle.chain_search.specs.Trace.{memory_of}
+use Rattle.record_slots.specs.Layout.{row_size}
 use Rattle.tree_words.specs.Layout.{row_at, epoch_at, announced_at, pid_bits_at, row_bits_at}
 use Rattle.tree_words.specs.Words.{words_in, SpellsWhere}
 use Rattle.slot_rule.specs.declared.view.Reach.{Reach}
@@ -78,7 +79,7 @@ module _ (limits : Limits) where
   fits_read words run actor row [] fits = refl
   fits_read words run actor row (x ∷ xs) fits = fits.1
 
-  pub write_fits : (words : List ℕ) (run : List Entry) (actor row : ℕ) (written : List ℕ) → KnowsPlaceable (knows run actor) row → row < limits.rows → length written < 256
+  pub write_fits : (words : List ℕ) (run : List Entry) (actor row : ℕ) (written : List ℕ) → KnowsPlaceable (knows run actor) row → row < limits.rows → length written < row_size
       → ((j : ℕ) → j < length written → get_or words (row_at row (j + 1)) 0 ≡ get_or written j 0) → ReachFits limits words run actor (into_row row written)
   write_fits words run actor row [] may within short stand = tt
   write_fits words run actor row (x ∷ xs) may within short stand = (may, within, short, stand)
@@ -98,8 +99,8 @@ module _ (limits : Limits) where
       (λ k. (same_limits limits limits' actor actor' (reach row done) (reach row' done') me is is' k, same_actor limits limits' actor actor' (reach row done) (reach row' done') me is is' k, rows k, same k)) p
 
   -- A word of a row changes, and so no word but this row's.
-  pub spells_row : (words : List ℕ) (memory memory' : Memory) (P Q : ℕ → Type 0) → SpellsWhere limits words memory P → (row k x : ℕ) → k < 256 → memory' ≡ record memory { rows = memory'.rows }
-      → ((other j : ℕ) → other < limits.rows → j < 256 → Q other → get_or (set words (row_at row k) x) (row_at other j) 0 ≡ get_or (words_in (memory'.rows other)) j 0)
+  pub spells_row : (words : List ℕ) (memory memory' : Memory) (P Q : ℕ → Type 0) → SpellsWhere limits words memory P → (row k x : ℕ) → k < row_size → memory' ≡ record memory { rows = memory'.rows }
+      → ((other j : ℕ) → other < limits.rows → j < row_size → Q other → get_or (set words (row_at row k) x) (row_at other j) 0 ≡ get_or (words_in (memory'.rows other)) j 0)
       → SpellsWhere limits (set words (row_at row k) x) memory' Q
   spells_row words memory memory' P Q sp row k x small same rows = let at : ℕ = row_at row k in subst (λ z. SpellsWhere limits (set words at x) z Q) (sym same) (record {
     slots = λ pid below. get_or-set_other words at pid x 0 (omega arith) ∙ sp.slots pid below;

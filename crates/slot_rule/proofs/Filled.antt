@@ -19,6 +19,7 @@ use Rattle.chain_search.specs.declared.trace.Entry.{Entry}
 use Rattle.chain_search.specs.Disciplined.{Extends}
 use Rattle.chain_search.specs.Knowledge.{knows}
 use Rattle.chain_search.specs.Trace.{memory_of}
+use Rattle.record_slots.specs.Layout.{last_at, row_size}
 use Rattle.record_slots.specs.Spelling.{words_of}
 use Rattle.tree_words.specs.Layout.{row_at, width}
 use Rattle.tree_words.specs.Words.{words_in}
@@ -50,13 +51,13 @@ module _ (limits : Limits) (law : Limits → List Entry → Type 0) (apart : Kee
       may_now = subst (λ k. KnowsPlaceable k row) (sym (knows_extends actor (seen_of me) h.run extends_now)) owned
 
       -- a row of which the seat has written no word
-      other_row : (i k x other j : ℕ) (view : List Part) → i ≡ row_at row k → k < 256 → other < limits.rows → j < 256 → row ≢ other → IsSettled (set s.views id view) other
+      other_row : (i k x other j : ℕ) (view : List Part) → i ≡ row_at row k → k < row_size → other < limits.rows → j < row_size → row ≢ other → IsSettled (set s.views id view) other
           → get_or (set s.words i x) (row_at other j) 0 ≡ get_or (words_in ((memory_of limits h.run).rows other)) j 0
       other_row i k x other j view at small below short ne st = get_or-set_other s.words i (row_at other j) x 0 (λ e. ne (omega arith))
           ∙ h.spells.rows other j below short (settled_back s.views id limits actor (seen_of me) (into_row row written) view other there (leaves_into_row other row written ne) st)
 
       -- a row into which another seat writes
-      others_row : (k x other row' j : ℕ) → k < 256 → other ≢ actor → KnowsPlaceable (knows h.run other) row' → j < 255 → get_or (set s.words (row_at row k) x) (row_at row' (j + 1)) 0 ≡ get_or s.words (row_at row' (j + 1)) 0
+      others_row : (k x other row' j : ℕ) → k < row_size → other ≢ actor → KnowsPlaceable (knows h.run other) row' → j < last_at → get_or (set s.words (row_at row k) x) (row_at row' (j + 1)) 0 ≡ get_or s.words (row_at row' (j + 1)) 0
       others_row k x other row' j small ne may short =
           let no : row' ≢ row = no_other actor other row row' h.run h.legal may_now ne may in get_or-set_other s.words (row_at row k) (row_at row' (j + 1)) x 0 (λ e. no (omega arith))
 
@@ -67,7 +68,7 @@ module _ (limits : Limits) (law : Limits → List Entry → Type 0) (apart : Kee
         (λ e. ap (λ (k : ℕ). get_or (set words at x) (row_at row (k + 1)) 0) e ∙ get_or-set_same words at x 0 small ∙ sym (get_or-append_seam written x [] 0) ∙ ap (λ (k : ℕ). get_or (written ++ x ∷ []) k 0) (sym e))
         (λ ne. get_or-set_other words at (row_at row (j + 1)) x 0 (λ e. ne (omega arith)) ∙ stand j (omega arith) ∙ sym (get_or_append_left written (x ∷ []) 0 j (omega arith)))
 
-    pub fills : (x : ℕ) → length written < 255 → Allows (Rule limits law) slots id me (row_at row (length written + 1)) (λ _. x) (λ _. Fills (step slots (row_at row (length written + 1)) x 0 none) me x)
+    pub fills : (x : ℕ) → length written < last_at → Allows (Rule limits law) slots id me (row_at row (length written + 1)) (λ _. x) (λ _. Fills (step slots (row_at row (length written + 1)) x 0 none) me x)
     fills x short s h _ here _ =
         let there : get_elem? s.views id ≡ some (alone limits actor (seen_of me) (into_row row written)) = here ∙ ap (λ (z : Mine). some z.0) is in
         let at : ℕ = row_at row (length written + 1) in
@@ -97,13 +98,13 @@ module _ (limits : Limits) (law : Limits → List Entry → Type 0) (apart : Kee
         )
 
     -- Once the header is written, the row has the record's words.
-    placed_word : (words : List ℕ) (run : List Entry) (header : ℕ) (content : Record) (j : ℕ) → ReachFits limits words run actor (into_row row written) → length words ≡ width limits → j < 256 → length written ≡ 255
+    placed_word : (words : List ℕ) (run : List Entry) (header : ℕ) (content : Record) (j : ℕ) → ReachFits limits words run actor (into_row row written) → length words ≡ width limits → j < row_size → length written ≡ last_at
         → words_of content ≡ header ∷ written → get_or (set words (row_at row 0) header) (row_at row j) 0 ≡ get_or (words_of content) j 0
     placed_word words run header content zero fits wide small last spelt = get_or-set_same words (row_at row 0) header 0 (omega arith) ∙ ap (λ (u : List ℕ). get_or u 0 0) (sym spelt)
     placed_word words run header content (suc j) fits wide small last spelt = get_or-set_other words (row_at row 0) (row_at row (suc j)) header 0 (omega arith)
         ∙ ap (λ (k : ℕ). get_or words (row_at row k) 0) (omega arith) ∙ fits_write limits words run actor row written fits j (omega arith) ∙ ap (λ (u : List ℕ). get_or u (suc j) 0) (sym spelt)
 
-    pub places : (header : ℕ) (content : Record) → length written ≡ 255 → HasSpelling content → words_of content ≡ header ∷ written → IsLawfulStep law limits actor (seen_of me) None (Place row content) None
+    pub places : (header : ℕ) (content : Record) → length written ≡ last_at → HasSpelling content → words_of content ≡ header ∷ written → IsLawfulStep law limits actor (seen_of me) None (Place row content) None
         → Allows (Rule limits law) slots id me (row_at row 0) (λ _. header) (λ _. Places law (Place row content) me header)
     places header content last spellable spelt may = event_telling limits law slots id actor me (into_row row written) (row_at row 0) (λ _. header) None (Place row content) None (λ _. Places law (Place row content) me header) (stands_into_row row written) is may
         (λ s h there.
@@ -137,11 +138,11 @@ module _ (law : Limits → List Entry → Type 0) (key limits : Limits) (own : k
   owned_of : KnowsPlaceable (knows (seen_of me) actor) row
   owned_of = subst (λ (z : List Entry). KnowsPlaceable (knows z actor) row) (sym is_seen) owned
 
-  pub fills_at : (x : ℕ) → word ≡ row_at row (length written + 1) → length written < 255 → Allows (Rule key law) slots id me word (λ _. x) (λ _. Fills (step slots word x 0 none) me x)
+  pub fills_at : (x : ℕ) → word ≡ row_at row (length written + 1) → length written < last_at → Allows (Rule key law) slots id me word (λ _. x) (λ _. Fills (step slots word x 0 none) me x)
   fills_at x at short = subst (λ (z : Limits × ℕ). Allows (Rule z.0 law) slots id me z.1 (λ _. x) (λ _. Fills (step slots z.1 x 0 none) me x)) (λ k. (sym own k, sym at k))
       (fills limits law apart slots id actor me row written within is owned_of x short)
 
-  pub places_at : (header : ℕ) (content : Record) (told : StepOf Record) → word ≡ row_at row 0 → Place row content ≡ told → length written ≡ 255 → HasSpelling content → words_of content ≡ header ∷ written
+  pub places_at : (header : ℕ) (content : Record) (told : StepOf Record) → word ≡ row_at row 0 → Place row content ≡ told → length written ≡ last_at → HasSpelling content → words_of content ≡ header ∷ written
       → IsLawfulStep law limits actor seen None (Place row content) None → Allows (Rule key law) slots id me word (λ _. header) (λ _. Places law told me header)
   places_at header content told at is_told last spellable spelt may = subst (λ (z : Limits × ℕ × StepOf Record). Allows (Rule z.0 law) slots id me z.1 (λ _. header) (λ _. Places law z.2 me header)) (λ k. (sym own k, sym at k, is_told k))
       (places limits law apart slots id actor me row written within is owned_of header content last spellable spelt (subst (λ (z : List Entry). IsLawfulStep law limits actor z None (Place row content) None) (sym is_seen) may))
@@ -155,6 +156,6 @@ pub next_in_tail : (xs : List ℕ) (i : ℕ) → get_or xs (i + 1) 0 ≡ get_or 
 next_in_tail [] i = refl
 next_in_tail (x ∷ xs) i = ap (λ k. get_or (x ∷ xs) k 0) (add-one i)
 
-pub tail_length : (xs : List ℕ) → length xs ≡ 256 → length (tail_from xs) ≡ 255
+pub tail_length : (xs : List ℕ) → length xs ≡ row_size → length (tail_from xs) ≡ last_at
 tail_length [] long = absurd (omega arith)
 tail_length (x ∷ xs) long = omega arith

@@ -13,6 +13,7 @@ use Rattle.chain_search.specs.declared.trace.Entry.{Entry}
 use Rattle.chain_search.specs.Disciplined.{Extends}
 use Rattle.chain_search.specs.Knowledge.{knows}
 use Rattle.chain_search.specs.Trace.{memory_of}
+use Rattle.record_slots.specs.Layout.{last_at, row_size}
 use Rattle.record_slots.specs.Spelling.{words_of}
 use Rattle.record_slots.specs.Spells.{IsSpelling}
 use Rattle.tree_words.specs.Layout.{row_at}
@@ -27,9 +28,9 @@ use Rattle.slot_rule.proofs.Parts.{goes_extends, settled_back, knows_extends, sp
 use Rattle.slot_rule.proofs.Turns.{TableState, Rule, Spares, turn, event_telling}
 use Rattle.slot_rule.proofs.ByWord.{done_in_row, leaves_in_row, one_more, whole, read_fits, fits_read, at_each, stands_in_row}
 
--- A row of words has 256.
+-- All rows have the same number of words.
 abbrev pub AreRows : Type 0
-AreRows = (content : Record) (words : List ℕ) → IsSpelling content words → length words ≡ 256
+AreRows = (content : Record) (words : List ℕ) → IsSpelling content words → length words ≡ row_size
 
 module _ (limits : Limits) (law : Limits → List Entry → Type 0) (apart : KeepsRowsApart limits (law limits)) (long : AreRows) where
   -- no other seat writes into a row that the actor may read
@@ -51,7 +52,7 @@ module _ (limits : Limits) (law : Limits → List Entry → Type 0) (apart : Kee
   settled s h actor row may id view there = each_leaves s.words h.run actor row view h.legal may (h.each id view there)
 
   -- the word j of the record of a row that the actor may read
-  word_is : (s : TableState) (h : Rule limits law s) (actor row j : ℕ) → KnowsReadable (knows h.run actor) row → row < limits.rows → j < 256 → get_or s.words (row_at row j) 0 ≡ get_or (words_in ((memory_of limits h.run).rows row)) j 0
+  word_is : (s : TableState) (h : Rule limits law s) (actor row j : ℕ) → KnowsReadable (knows h.run actor) row → row < limits.rows → j < row_size → get_or s.words (row_at row j) 0 ≡ get_or (words_in ((memory_of limits h.run).rows row)) j 0
   word_is s h actor row j may within small = h.spells.rows row j within small (settled s h actor row may)
 
   -- the record of a row that the actor may read
@@ -87,7 +88,7 @@ module _ (limits : Limits) (law : Limits → List Entry → Type 0) (apart : Kee
       spells_still view = subst (λ (words : List ℕ). SpellsWhere limits words (memory_of limits h.run) (IsSettled (set s.views id view))) (sym (set-get_or s.words at 0))
           (spells_views limits s.words (memory_of limits h.run) (IsSettled s.views) (IsSettled (set s.views id view)) (λ other st. settled_back s.views id limits actor (seen_of me) (in_row row read) view other there (leaves_in_row other row read) st) h.spells)
 
-    pub gathers : length read < 256 → Allows (Rule limits law) slots id me at (λ n. n) (Gathers (step slots at 0 0 none) me)
+    pub gathers : length read < row_size → Allows (Rule limits law) slots id me at (λ n. n) (Gathers (step slots at 0 0 none) me)
     gathers short s h _ here _ =
         let there : get_elem? s.views id ≡ some (alone limits actor (seen_of me) (in_row row read)) = here ∙ ap (λ (z : Mine). some z.0) is in
         let n : ℕ = get_or s.words at 0 in
@@ -95,7 +96,7 @@ module _ (limits : Limits) (law : Limits → List Entry → Type 0) (apart : Kee
         let now_fits = fit s h there in
         let x = row_is s h actor row now in
         let all : List ℕ = words_in ((memory_of limits h.run).rows row) in
-        let wide : length all ≡ 256 = ap (λ o. length (words_in o)) x.1 ∙ long x.0 (words_of x.0) x.2 in
+        let wide : length all ≡ row_size = ap (λ o. length (words_in o)) x.1 ∙ long x.0 (words_of x.0) x.2 in
         let next : read ++ n ∷ [] ≡ take (length (read ++ n ∷ [])) all = one_more read all n (fits_read limits s.words h.run actor row read now_fits.reach) (word_is s h actor row (length read) now within short) (omega arith) in
         let view : List Part = alone limits actor (seen_of me) (in_row row (read ++ n ∷ [])) in (
           view,
@@ -107,14 +108,14 @@ module _ (limits : Limits) (law : Limits → List Entry → Type 0) (apart : Kee
               (at_each limits (λ l b q us. SitsAt l b (in_row q (us ++ n ∷ [])) (view, me.1)) actor row read in_row done_in_row me is (ap (λ (c : List (ℕ × Unit {0})). (view, c)) (ap (λ (z : Mine). z.1) is)) 0 limits' actor' row' read' is' (omega arith), refl),
         )
 
-    pub finishes : length read ≡ 255 → IsLawfulStep law limits actor (seen_of me) None (Row row) None → Allows (Rule limits law) slots id me at (λ n. n) (GathersLast law (step slots at 0 0 none) me)
+    pub finishes : length read ≡ last_at → IsLawfulStep law limits actor (seen_of me) None (Row row) None → Allows (Rule limits law) slots id me at (λ n. n) (GathersLast law (step slots at 0 0 none) me)
     finishes last may = event_telling limits law slots id actor me (in_row row read) at (λ n. n) None (Row row) None (GathersLast law (step slots at 0 0 none) me) (stands_in_row row read) is may
         (λ s h there.
         let n : ℕ = get_or s.words at 0 in
         let now = may_now s h there in
         let x = row_is s h actor row now in
         let all : List ℕ = words_of x.0 in
-        let wide : length all ≡ 256 = long x.0 all x.2 in
+        let wide : length all ≡ row_size = long x.0 all x.2 in
         let next : n ≡ get_or all (length read) 0 = word_is s h actor row (length read) now within (omega arith) ∙ ap (λ o. get_or (words_in o) (length read) 0) x.1 in
         let front : read ≡ take (length read) all = fits_read limits s.words h.run actor row read (fit s h there).reach ∙ ap (λ o. take (length read) (words_in o)) x.1 in
         let lengths : length (read ++ n ∷ []) ≡ length all = omega (arith, length-append read (n ∷ [])) in
@@ -138,10 +139,10 @@ module _ (law : Limits → List Entry → Type 0) (key limits : Limits) (own : k
   known_of : KnowsReadable (knows (seen_of me) actor) row
   known_of = subst (λ (z : List Entry). KnowsReadable (knows z actor) row) (sym is_seen) known
 
-  pub gathers_at : length read < 256 → Allows (Rule key law) slots id me word (λ n. n) (Gathers (step slots word 0 0 none) me)
+  pub gathers_at : length read < row_size → Allows (Rule key law) slots id me word (λ n. n) (Gathers (step slots word 0 0 none) me)
   gathers_at short = subst (λ (z : Limits × ℕ). Allows (Rule z.0 law) slots id me z.1 (λ n. n) (Gathers (step slots z.1 0 0 none) me)) (λ k. (sym own k, sym at k))
       (gathers limits law apart long slots id actor me row read within is known_of short)
 
-  pub finishes_at : length read ≡ 255 → IsLawfulStep law limits actor seen None (Row row) None → Allows (Rule key law) slots id me word (λ n. n) (GathersLast law (step slots word 0 0 none) me)
+  pub finishes_at : length read ≡ last_at → IsLawfulStep law limits actor seen None (Row row) None → Allows (Rule key law) slots id me word (λ n. n) (GathersLast law (step slots word 0 0 none) me)
   finishes_at last may = subst (λ (z : Limits × ℕ). Allows (Rule z.0 law) slots id me z.1 (λ n. n) (GathersLast law (step slots z.1 0 0 none) me)) (λ k. (sym own k, sym at k))
       (finishes limits law apart long slots id actor me row read within is known_of last (subst (λ (z : List Entry). IsLawfulStep law limits actor z None (Row row) None) (sym is_seen) may))

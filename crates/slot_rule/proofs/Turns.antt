@@ -16,6 +16,7 @@ use Rattle.chain_search.specs.Disciplined.{Extends}
 use Rattle.chain_search.specs.Knowledge.{knows}
 use Rattle.chain_search.specs.Steps.{IsAnswer, memory_after}
 use Rattle.chain_search.specs.Trace.{memory_of}
+use Rattle.record_slots.specs.Layout.{last_at}
 use Rattle.tree_words.specs.Layout.{row_at}
 use Rattle.tree_words.specs.Words.{words_in, SpellsWhere}
 use Rattle.slot_rule.specs.declared.view.Reach.{Reach}
@@ -54,7 +55,7 @@ module _ (limits : Limits) (law : Limits → List Entry → Type 0) where
     pub extends : (other : ℕ) (seen : List Entry) → other ≢ actor → Extends other seen run → Extends other seen run'
     pub same : (other : ℕ) → other ≢ actor → knows run' other ≡ knows run other
     pub reads : (other row : ℕ) → other ≢ actor → KnowsReadable (knows run other) row → (memory_of limits run').rows row ≡ (memory_of limits run).rows row
-    pub writes : (other row : ℕ) → other ≢ actor → KnowsPlaceable (knows run other) row → row < limits.rows → (j : ℕ) → j < 255 → get_or words' (row_at row (j + 1)) 0 ≡ get_or words (row_at row (j + 1)) 0
+    pub writes : (other row : ℕ) → other ≢ actor → KnowsPlaceable (knows run other) row → row < limits.rows → (j : ℕ) → j < last_at → get_or words' (row_at row (j + 1)) 0 ≡ get_or words (row_at row (j + 1)) 0
 
   spared : (actor other : ℕ) (words words' : List ℕ) (seen run run' : List Entry) (reach : Reach) → IsApart actor other reach → Spares actor words words' run run' → ExtendsFor reach other seen run → ReachFits limits words run other reach
       → ExtendsFor reach other seen run' × ReachFits limits words' run' other reach
@@ -109,7 +110,7 @@ module _ (limits : Limits) (law : Limits → List Entry → Type 0) where
         → SpellsWhere limits (set s.words i x) (memory_after actor step (memory_of limits h.run)) (IsSettled (set s.views id view))
     pub kept : (row : ℕ) (content : Record) → (memory_after actor step (memory_of limits h.run)).rows row ≡ Some content → IsSpelledRow limits row content
     pub reads : (other row : ℕ) → other ≢ actor → KnowsReadable (knows h.run other) row → (memory_after actor step (memory_of limits h.run)).rows row ≡ (memory_of limits h.run).rows row
-    pub writes : (other row : ℕ) → other ≢ actor → KnowsPlaceable (knows h.run other) row → row < limits.rows → (j : ℕ) → j < 255 → get_or (set s.words i x) (row_at row (j + 1)) 0 ≡ get_or s.words (row_at row (j + 1)) 0
+    pub writes : (other row : ℕ) → other ≢ actor → KnowsPlaceable (knows h.run other) row → row < limits.rows → (j : ℕ) → j < last_at → get_or (set s.words i x) (row_at row (j + 1)) 0 ≡ get_or s.words (row_at row (j + 1)) 0
 
   -- a step, and all that it can tell
   pub event_telling : (slots id actor : ℕ) (me : Mine) (reach : Reach) (i : ℕ) (f : ℕ → ℕ) (begun : Option Command) (step : StepOf Record) (reply : Option Reply) (then : ℕ → Mine → Type 0)

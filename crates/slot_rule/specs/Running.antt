@@ -11,6 +11,7 @@ use Rattle.chain_search.specs.Discipline.{IsOwn, IsUnset}
 use Rattle.chain_search.specs.Disciplined.{Extends}
 use Rattle.chain_search.specs.Knowledge.{Knowledge, knows}
 use Rattle.chain_search.specs.Trace.{memory_of}
+use Rattle.record_slots.specs.Layout.{row_size}
 use Rattle.record_slots.specs.Spelling.{words_of}
 use Rattle.record_slots.specs.Spells.{IsSpelling}
 use Rattle.tree_words.specs.Layout.{row_at, width}
@@ -70,7 +71,7 @@ everywhere actor (view ∷ views) = times actor view + everywhere actor views
 abbrev pub ReachFits : Limits → List ℕ → List Entry → ℕ → Reach → Type 0
 ReachFits limits words run actor Idle = ⊤
 ReachFits limits words run actor (Reading row read) = KnowsReadable (knows run actor) row × (read ≡ take (length read) (words_in ((memory_of limits run).rows row)))
-ReachFits limits words run actor (Writing row written) = KnowsPlaceable (knows run actor) row × (row < limits.rows) × (length written < 256)
+ReachFits limits words run actor (Writing row written) = KnowsPlaceable (knows run actor) row × (row < limits.rows) × (length written < row_size)
     × ((j : ℕ) → j < length written → slice_index words (row_at row (j + 1)) ≡ slice_index written j)
 ReachFits limits words run actor Noted = ⊤
 

@@ -14,6 +14,7 @@ use Rattle.chain_search.specs.declared.trace.Entry.TheVariants.{Begin, Step}
 use Rattle.chain_search.specs.Disciplined.{Extends}
 use Rattle.chain_search.specs.Steps.{IsAnswer}
 use Rattle.chain_search.specs.Trace.{memory_of}
+use Rattle.record_slots.specs.Layout.{last_at}
 use Rattle.record_slots.specs.Spells.{IsSpelling}
 use Rattle.tree_words.specs.Changes.{told}
 use Rattle.tree_words.specs.Layout.{row_at}
@@ -78,7 +79,7 @@ Gathers made me found me' = (limits : Limits) (actor row : ℕ) (read : List ℕ
     → SitsAt limits actor (in_row row (read ++ found ∷ [])) me' × (seen_of me' ≡ seen_of me)
 
 abbrev pub GathersLast : (Limits → List Entry → Type 0) → Made (Unit {0}) → Mine → ℕ → Mine → Type 0
-GathersLast law made me found me' = (limits : Limits) (actor row : ℕ) (read : List ℕ) → SitsAt limits actor (in_row row read) me → made.word ≡ row_at row (length read) → length read ≡ 255
+GathersLast law made me found me' = (limits : Limits) (actor row : ℕ) (read : List ℕ) → SitsAt limits actor (in_row row read) me → made.word ≡ row_at row (length read) → length read ≡ last_at
     → SitsAt limits actor Idle me' × ReadsRow law limits actor (seen_of me) row (read ++ found ∷ []) (seen_of me')
 
 -- One more word of a row is written behind the header, and the header, which is the step: it is told with the record.

@@ -14,18 +14,18 @@ use crate::plays::{Filling, Finishing, Gathering, Placing, Telling};
 use crate::rule::{Law, TableSeat, Words};
 use bw_model::Limits;
 use deltas::Record;
-use record_slots::rows_have_256_words;
+use record_slots::{ROW_WORDS, rows_have_words};
 use std::marker::Brand;
 use tree_words::row_place;
 
-/// Reads a row that the seat's actor has learnt, by 256 loads, into the place where its words are to lie. The last load is the step.
+/// Reads a row that the seat's actor has learnt, by one load a word, into the place where its words are to lie. The last load is the step.
 pub fn read_row<P: Law>(
     words: &Words<P>,
     seat: &mut TableSeat,
     limits: &Limits,
     actor: u8,
     row: u16,
-    found: &mut [u64; 256],
+    found: &mut [u64; ROW_WORDS],
 )
     requires law { KeepsRowsApart limits.now (P.law limits.now) }
     requires table { IsOf limits.now words.now.key words.now.table_id seat.old.table_id }
@@ -37,17 +37,17 @@ pub fn read_row<P: Law>(
     ensures seat { SitsAt limits.now actor Idle seat.new.me }
     ensures took { ReadsRow P.law limits.now actor (seen_of seat.old.me) row found.new (seen_of seat.new.me) }
 {
-    rows_have_256_words();
+    rows_have_words();
     let base = row_place(row);
     let mut i = 0;
-    while i < 255 {
+    while i < ROW_WORDS - 1 {
         found[i] = words.load::<Gathering>(seat, base + i);
         i += 1;
     }
-    found[255] = words.load::<Finishing<P>>(seat, base + 255);
+    found[ROW_WORDS - 1] = words.load::<Finishing<P>>(seat, base + ROW_WORDS - 1);
 }
 
-/// Places a record into a row of the seat's own actor, by 256 stores. The last one, of the header, is the step.
+/// Places a record into a row of the seat's own actor, by one store a word. The last one, of the header, is the step.
 pub fn place_row<P: Law>(
     words: &Words<P>,
     seat: &mut TableSeat,
@@ -55,7 +55,7 @@ pub fn place_row<P: Law>(
     actor: u8,
     row: u16,
     content: &Record,
-    spelt: &[u64; 256],
+    spelt: &[u64; ROW_WORDS],
 )
     requires law { KeepsRowsApart limits.now (P.law limits.now) }
     requires table { IsOf limits.now words.now.key words.now.table_id seat.old.table_id }
@@ -70,7 +70,7 @@ pub fn place_row<P: Law>(
 {
     let base = row_place(row);
     let mut i = 0;
-    while i < 255 {
+    while i < ROW_WORDS - 1 {
         words.store::<Filling>(seat, base + i + 1, spelt[i + 1]);
         i += 1;
     }
@@ -85,7 +85,7 @@ fn place_header<P: Law, C: Telling>(
     actor: u8,
     row: u16,
     content: &Record,
-    spelt: &[u64; 256],
+    spelt: &[u64; ROW_WORDS],
 )
     requires told { Place row content.now ≡ C.step }
     requires law { KeepsRowsApart limits.now (P.law limits.now) }

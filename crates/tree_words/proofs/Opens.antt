@@ -1,5 +1,5 @@
 -- The opening words are those of the opening memory.
-use Rattle.std.proofs.Common.{◌≡◌, ◌≢◌, ◌⊎◌, ◌<◌, ◌≤◌, ◌+◌, ◌*◌, ◌/◌, ◌%◌, ℕ, zero, suc, List, length, set, get_or, replicate, Bool, true, false, inl, inr, refl, sym, ap, subst, arith, ◌∙◌, get_or-set_same, get_or-set_other, length-set, ne_eqb}
+use Rattle.std.proofs.Common.{◌≡◌, ◌≢◌, ◌⊎◌, ◌<◌, ◌≤◌, ◌+◌, ◌*◌, ◌-◌, ◌/◌, ◌%◌, ◌++◌, ◌∷◌, ℕ, zero, suc, List, length, set, get_or, replicate, Bool, true, false, inl, inr, refl, sym, ap, subst, arith, ◌∙◌, get_or-set_same, get_or-set_other, length-set, ne_eqb}
 use Rattle.std.specs.Prelude.{if◌then◌else◌, nat_le, nat_lt, ◌&&◌}
 use Rattle.std.specs.Int.{bit_at}
 use Rattle.std.proofs.lemmas.Bool.{cases_lt}
@@ -11,8 +11,10 @@ use Rattle.base_page.specs.Pages.{empty_leaf}
 use Rattle.deltas.specs.declared.record.Record.TheVariants.{Base}
 use Rattle.deltas.specs.Memory.{opening}
 use Rattle.chain_search.specs.Steps.{IsWordOf}
-use Rattle.record_slots.specs.Spelling.{words_of}
-use Rattle.tree_words.specs.Layout.{pid_bits_at, row_bits_at, epoch_at, announced_at, row_at, width}
+use Rattle.record_slots.specs.Layout.{no_bound, row_size, second_at, text_size}
+use Rattle.record_slots.specs.Parts.{first_word}
+use Rattle.record_slots.specs.Spelling.{words_left, words_of}
+use Rattle.tree_words.specs.Layout.{pid_bits_at, row_bits_at, epoch_at, announced_at, row_at, rows_at, width}
 use Rattle.tree_words.specs.Opening.{with_ones, with_free, opening_words}
 use Rattle.tree_words.specs.Words.{words_in, AreWordsOf}
 
@@ -95,21 +97,25 @@ free_inside count from word ws whole some within long = let len = ones_length fr
 ]
 
 -- the words of the row that opens: a header, the mark of no bound, and else 0
-base_word : (j : ℕ) → j ≢ 0 → j ≢ 8 → j < 256 → get_or (words_of (Base empty_leaf)) j 0 ≡ 0
-base_word zero a b lt = absurd (a refl)
-base_word (suc zero) a b lt = refl
-base_word (suc (suc zero)) a b lt = refl
-base_word (suc (suc (suc zero))) a b lt = refl
-base_word (suc (suc (suc (suc zero)))) a b lt = refl
-base_word (suc (suc (suc (suc (suc zero))))) a b lt = refl
-base_word (suc (suc (suc (suc (suc (suc zero)))))) a b lt = refl
-base_word (suc (suc (suc (suc (suc (suc (suc zero))))))) a b lt = refl
-base_word (suc (suc (suc (suc (suc (suc (suc (suc zero)))))))) a b lt = absurd (b refl)
-base_word (suc (suc (suc (suc (suc (suc (suc (suc (suc zero))))))))) a b lt = refl
-base_word (suc (suc (suc (suc (suc (suc (suc (suc (suc (suc zero)))))))))) a b lt = refl
-base_word (suc (suc (suc (suc (suc (suc (suc (suc (suc (suc (suc zero))))))))))) a b lt = refl
-base_word (suc (suc (suc (suc (suc (suc (suc (suc (suc (suc (suc (suc zero)))))))))))) a b lt = refl
-base_word (suc (suc (suc (suc (suc (suc (suc (suc (suc (suc (suc (suc (suc j))))))))))))) a b lt = get_or-replicate {A = ℕ} 243 j 0 0 (omega arith)
+base_word : (j : ℕ) → j ≢ 0 → j ≢ second_at → get_or (words_of (Base empty_leaf)) j 0 ≡ 0
+base_word zero a b = absurd (a refl)
+base_word (suc j) a b = between (second_at - 1) j (replicate text_size 0 ++ replicate (words_left 0) 0) (λ e. b (ap suc e)) (both text_size (words_left 0))
+  where
+    all : (n i : ℕ) → ◌≡◌ {A = ℕ} (get_or (replicate n 0) i 0) 0
+    all zero i = refl
+    all (suc n) zero = refl
+    all (suc n) (suc i) = all n i
+
+    both : (n m i : ℕ) → ◌≡◌ {A = ℕ} (get_or (replicate n 0 ++ replicate m 0) i 0) 0
+    both zero m i = all m i
+    both (suc n) m zero = refl
+    both (suc n) m (suc i) = both n m i
+
+    between : (n i : ℕ) (behind : List ℕ) → i ≢ n → ((k : ℕ) → get_or behind k 0 ≡ 0) → get_or (replicate n 0 ++ no_bound ∷ behind) i 0 ≡ 0
+    between zero zero behind other none = absurd (other refl)
+    between zero (suc i) behind other none = none i
+    between (suc n) zero behind other none = refl
+    between (suc n) (suc i) behind other none = between n i behind (λ e. other (ap suc e)) none
 
 module _ (limits : Limits) where
   abbrev L0 : List ℕ
@@ -131,7 +137,7 @@ module _ (limits : Limits) where
   L5 = set L4 epoch_at limits.epoch
 
   abbrev L6 : List ℕ
-  L6 = set L5 (row_at 1 0) 1
+  L6 = set L5 (row_at 1 0) (first_word 1 0 0)
 
   some_pids : 64 ≤ limits.pids
   some_pids = limits.allowed.some_pids
@@ -164,16 +170,16 @@ module _ (limits : Limits) where
   l5 = length-set L4 epoch_at limits.epoch ∙ l4
 
   l6 : length L6 ≡ width limits
-  l6 = length-set L5 (row_at 1 0) 1 ∙ l5
+  l6 = length-set L5 (row_at 1 0) (first_word 1 0 0) ∙ l5
 
   -- but for five words
-  else_where : (i : ℕ) → i ≢ 0 → i ≢ 1 → i ≢ epoch_at → i ≢ row_at 1 0 → i ≢ row_at 1 8 → get_or (opening_words limits) i 0 ≡ get_or L2 i 0
-  else_where i a b c d e = get_or-set_other L6 (row_at 1 8) i 255 0 e ∙ get_or-set_other L5 (row_at 1 0) i 1 0 d ∙ get_or-set_other L4 epoch_at i limits.epoch 0 c ∙ get_or-set_other L3 1 i 1 0 b ∙ get_or-set_other L2 0 i 1 0 a
+  else_where : (i : ℕ) → i ≢ 0 → i ≢ 1 → i ≢ epoch_at → i ≢ row_at 1 0 → i ≢ row_at 1 second_at → get_or (opening_words limits) i 0 ≡ get_or L2 i 0
+  else_where i a b c d e = get_or-set_other L6 (row_at 1 second_at) i no_bound 0 e ∙ get_or-set_other L5 (row_at 1 0) i (first_word 1 0 0) 0 d ∙ get_or-set_other L4 epoch_at i limits.epoch 0 c ∙ get_or-set_other L3 1 i 1 0 b ∙ get_or-set_other L2 0 i 1 0 a
 
   zero_at : (i : ℕ) → i < width limits → get_or L0 i 0 ≡ 0
   zero_at i h = get_or-replicate (width limits) i 0 0 h
 
-  nowhere : (i : ℕ) → i < width limits → i ≢ 0 → i ≢ 1 → i ≢ epoch_at → i ≢ row_at 1 0 → i ≢ row_at 1 8 → ((k : ℕ) → k < 64 → i ≢ 4096 + k) → ((k : ℕ) → k < 256 → i ≢ 4160 + k) → get_or (opening_words limits) i 0 ≡ 0
+  nowhere : (i : ℕ) → i < width limits → i ≢ 0 → i ≢ 1 → i ≢ epoch_at → i ≢ row_at 1 0 → i ≢ row_at 1 second_at → ((k : ℕ) → k < 64 → i ≢ 4096 + k) → ((k : ℕ) → k < 256 → i ≢ 4160 + k) → get_or (opening_words limits) i 0 ≡ 0
   nowhere i h a b c d e f g = else_where i a b c d e ∙ free2 i h f g
     where
       free2 : (i : ℕ) → i < width limits → ((k : ℕ) → k < 64 → i ≢ 4096 + k) → ((k : ℕ) → k < 256 → i ≢ 4160 + k) → get_or L2 i 0 ≡ 0
@@ -182,9 +188,9 @@ module _ (limits : Limits) where
 
   slot_word : (pid : ℕ) → pid < 4096 → get_or (opening_words limits) pid 0 ≡ (opening limits).slots pid
   slot_word pid lt = elim (same_or_not pid 0) [
-    | inl zero_is ↦ rw zero_is (get_or-set_other L6 (row_at 1 8) 0 255 0 (λ e. absurd (omega arith)) ∙ get_or-set_other L5 (row_at 1 0) 0 1 0 (λ e. absurd (omega arith)) ∙ get_or-set_other L4 epoch_at 0 limits.epoch 0 (λ e. absurd (omega arith)) ∙ get_or-set_other L3 1 0 1 0 (λ e. absurd (omega arith)) ∙ get_or-set_same L2 0 1 0 (let l = l2 in omega arith))
+    | inl zero_is ↦ rw zero_is (get_or-set_other L6 (row_at 1 second_at) 0 no_bound 0 (λ e. absurd (omega arith)) ∙ get_or-set_other L5 (row_at 1 0) 0 (first_word 1 0 0) 0 (λ e. absurd (omega arith)) ∙ get_or-set_other L4 epoch_at 0 limits.epoch 0 (λ e. absurd (omega arith)) ∙ get_or-set_other L3 1 0 1 0 (λ e. absurd (omega arith)) ∙ get_or-set_same L2 0 1 0 (let l = l2 in omega arith))
     | inr some ↦ elim (same_or_not pid 1) [
-      | inl one_is ↦ rw one_is (get_or-set_other L6 (row_at 1 8) 1 255 0 (λ e. absurd (omega arith)) ∙ get_or-set_other L5 (row_at 1 0) 1 1 0 (λ e. absurd (omega arith)) ∙ get_or-set_other L4 epoch_at 1 limits.epoch 0 (λ e. absurd (omega arith)) ∙ get_or-set_same L3 1 1 0 (let l = l3 in omega arith))
+      | inl one_is ↦ rw one_is (get_or-set_other L6 (row_at 1 second_at) 1 no_bound 0 (λ e. absurd (omega arith)) ∙ get_or-set_other L5 (row_at 1 0) 1 (first_word 1 0 0) 0 (λ e. absurd (omega arith)) ∙ get_or-set_other L4 epoch_at 1 limits.epoch 0 (λ e. absurd (omega arith)) ∙ get_or-set_same L3 1 1 0 (let l = l3 in omega arith))
       | inr more ↦ rw (le_false pid 1 (omega arith)) (nowhere pid (omega arith) some more (λ e. absurd (omega arith)) (λ e. absurd (omega arith)) (λ e. absurd (omega arith)) (λ k h e. absurd (omega arith)) (λ k h e. absurd (omega arith)))
     ]
   ]
@@ -209,30 +215,30 @@ module _ (limits : Limits) where
             ∙ free_outside (pid_bits_at 0) (limits.pids / 64) L0 (row_bits_at word) (omega arith) (λ k h e. absurd (omega arith)) ∙ zero_at (row_bits_at word) (omega arith))) (past_word limits.rows word limits.allowed.whole_rows past)
       ])
 
-  apart_from_bits : (i k : ℕ) → 4608 ≤ i → k < 256 → (i ≢ 4096 + k) × (i ≢ 4160 + k)
+  apart_from_bits : (i k : ℕ) → rows_at ≤ i → k < 256 → (i ≢ 4096 + k) × (i ≢ 4160 + k)
   apart_from_bits i k h lt = ((λ e. absurd (omega arith)), (λ e. absurd (omega arith)))
 
-  record_word : (row j : ℕ) → row < limits.rows → j < 256 → get_or (opening_words limits) (row_at row j) 0 ≡ get_or (words_in ((opening limits).rows row)) j 0
+  record_word : (row j : ℕ) → row < limits.rows → j < row_size → get_or (opening_words limits) (row_at row j) 0 ≡ get_or (words_in ((opening limits).rows row)) j 0
   record_word row j rl jl = elim (same_or_not row 1) [
     | inl one ↦ subst (λ r. get_or (opening_words limits) (row_at r j) 0 ≡ get_or (words_in ((opening limits).rows r)) j 0) (sym one) (elim (same_or_not j 0) [
-      | inl none ↦ subst (λ k. get_or (opening_words limits) (row_at 1 k) 0 ≡ get_or (words_of (Base empty_leaf)) k 0) (sym none) (get_or-set_other L6 (row_at 1 8) (row_at 1 0) 255 0 (λ e. absurd (omega arith)) ∙ get_or-set_same L5 (row_at 1 0) 1 0 (let l = l5 in let s = some_rows in omega arith))
-      | inr some ↦ elim (same_or_not j 8) [
-        | inl eight ↦ subst (λ k. get_or (opening_words limits) (row_at 1 k) 0 ≡ get_or (words_of (Base empty_leaf)) k 0) (sym eight) (get_or-set_same L6 (row_at 1 8) 255 0 (let l = l6 in let s = some_rows in omega arith))
-        | inr other ↦ nowhere (row_at 1 j) (let s = some_rows in omega arith) (λ e. absurd (omega arith)) (λ e. absurd (omega arith)) (λ e. absurd (omega arith)) (λ e. some (omega arith)) (λ e. other (omega arith)) (λ k h e. absurd (omega arith)) (λ k h e. absurd (omega arith)) ∙ sym (base_word j some other jl)
+      | inl none ↦ subst (λ k. get_or (opening_words limits) (row_at 1 k) 0 ≡ get_or (words_of (Base empty_leaf)) k 0) (sym none) (get_or-set_other L6 (row_at 1 second_at) (row_at 1 0) no_bound 0 (λ e. absurd (omega arith)) ∙ get_or-set_same L5 (row_at 1 0) (first_word 1 0 0) 0 (let l = l5 in let s = some_rows in omega arith))
+      | inr some ↦ elim (same_or_not j second_at) [
+        | inl bound ↦ subst (λ k. get_or (opening_words limits) (row_at 1 k) 0 ≡ get_or (words_of (Base empty_leaf)) k 0) (sym bound) (get_or-set_same L6 (row_at 1 second_at) no_bound 0 (let l = l6 in let s = some_rows in omega arith))
+        | inr other ↦ nowhere (row_at 1 j) (let s = some_rows in omega arith) (λ e. absurd (omega arith)) (λ e. absurd (omega arith)) (λ e. absurd (omega arith)) (λ e. some (omega arith)) (λ e. other (omega arith)) (λ k h e. absurd (omega arith)) (λ k h e. absurd (omega arith)) ∙ sym (base_word j some other)
       ]
     ])
     | inr apart ↦ rw (ne_eqb row 1 apart)
-        (nowhere (row_at row j) (omega arith) (λ e. absurd (omega arith)) (λ e. absurd (omega arith)) (λ e. absurd (omega arith)) (λ e. apart (omega arith)) (λ e. apart (omega arith)) (λ k h e. absurd (omega arith)) (λ k h e. absurd (omega arith)) ∙ sym (get_or-replicate 256 j 0 0 jl))
+        (nowhere (row_at row j) (omega arith) (λ e. absurd (omega arith)) (λ e. absurd (omega arith)) (λ e. absurd (omega arith)) (λ e. apart (omega arith)) (λ e. apart (omega arith)) (λ k h e. absurd (omega arith)) (λ k h e. absurd (omega arith)) ∙ sym (get_or-replicate row_size j 0 0 jl))
   ]
 
   pub opening_is : AreWordsOf limits (opening limits) (opening_words limits)
   opening_is = record {
-    wide = length-set L6 (row_at 1 8) 255 ∙ l6;
+    wide = length-set L6 (row_at 1 second_at) no_bound ∙ l6;
     spells = record {
       slots = slot_word;
       pid_bits = pid_word;
       row_bits = row_word;
-      epoch = get_or-set_other L6 (row_at 1 8) epoch_at 255 0 (λ e. absurd (omega arith)) ∙ get_or-set_other L5 (row_at 1 0) epoch_at 1 0 (λ e. absurd (omega arith)) ∙ get_or-set_same L4 epoch_at limits.epoch 0 (let l = l4 in omega arith);
+      epoch = get_or-set_other L6 (row_at 1 second_at) epoch_at no_bound 0 (λ e. absurd (omega arith)) ∙ get_or-set_other L5 (row_at 1 0) epoch_at (first_word 1 0 0) 0 (λ e. absurd (omega arith)) ∙ get_or-set_same L4 epoch_at limits.epoch 0 (let l = l4 in omega arith);
       announced = λ a al. nowhere (announced_at a) (omega arith) (λ e. absurd (omega arith)) (λ e. absurd (omega arith)) (λ e. absurd (omega arith)) (λ e. absurd (omega arith)) (λ e. absurd (omega arith)) (λ k h e. absurd (omega arith)) (λ k h e. absurd (omega arith));
       pads = λ i pad. let low = pad.0 in let high = pad.1 in nowhere i (omega arith) (λ e. absurd (omega arith)) (λ e. absurd (omega arith)) (λ e. absurd (omega arith)) (λ e. absurd (omega arith)) (λ e. absurd (omega arith)) (λ k h e. absurd (omega arith)) (λ k h e. absurd (omega arith));
       rows = λ r j rl jl _. record_word r j rl jl;

@@ -1,9 +1,10 @@
 -- Where each part of a memory has its words, in every table alike: only the number of rows differs.
 use Rattle.std.specs.Prelude.{◌≢◌, ◌<◌, ◌+◌, ◌*◌, ℕ}
 use Rattle.bw_model.specs.declared.limits.Limits.{Limits}
+use Rattle.record_slots.specs.Layout.{row_size}
 
 -- There are 4,096 slots, 64 words of free PIDs, 256 words of free rows, the epoch, 16 announced epochs, one at every eighth
--- word, and then rows of 256 words.
+-- word, and then the rows.
 abbrev pub slot_at : ℕ → ℕ
 slot_at pid = pid
 
@@ -19,13 +20,16 @@ epoch_at = 4416
 abbrev pub announced_at : ℕ → ℕ
 announced_at actor = 4424 + 8 * actor
 
+abbrev pub rows_at : ℕ
+rows_at = 4608
+
 abbrev pub row_at : ℕ → ℕ → ℕ
-row_at row j = 4608 + (256 * row + j)
+row_at row j = rows_at + (row_size * row + j)
 
 -- how many words a table has
 abbrev pub width : Limits → ℕ
-width limits = 4608 + 256 * limits.rows
+width limits = rows_at + row_size * limits.rows
 
 -- a word that no part has
 abbrev pub IsPad : ℕ → Type 0
-IsPad i = (4416 < i) × (i < 4608) × ((actor : ℕ) → actor < 16 → i ≢ announced_at actor)
+IsPad i = (4416 < i) × (i < rows_at) × ((actor : ℕ) → actor < 16 → i ≢ announced_at actor)

@@ -4,12 +4,13 @@ use Rattle.bw_model.specs.declared.limits.Limits.{Limits}
 use Rattle.deltas.specs.declared.record.Record.{Record}
 use Rattle.deltas.specs.Memory.{Memory}
 use Rattle.chain_search.specs.Steps.{IsWordOf}
+use Rattle.record_slots.specs.Layout.{row_size}
 use Rattle.record_slots.specs.Spelling.{words_of}
 use Rattle.tree_words.specs.Layout.{slot_at, pid_bits_at, row_bits_at, epoch_at, announced_at, row_at, width, IsPad}
 
 -- the words of a row: all 0 where nothing was placed in it
 abbrev pub words_in : Option Record → List ℕ
-words_in None = replicate 256 0
+words_in None = replicate row_size 0
 words_in (Some content) = words_of content
 
 -- The words have the memory's numbers, its free bits, and the spellings of its records in the rows that are settled; each part
@@ -21,7 +22,7 @@ pub record SpellsWhere (limits : Limits) (words : List ℕ) (memory : Memory) (s
   pub epoch : slice_index words epoch_at ≡ memory.epoch
   pub announced : (actor : ℕ) → actor < 16 → slice_index words (announced_at actor) ≡ memory.announced actor
   pub pads : (i : ℕ) → IsPad i → slice_index words i ≡ 0
-  pub rows : (row j : ℕ) → row < limits.rows → j < 256 → settled row → slice_index words (row_at row j) ≡ slice_index (words_in (memory.rows row)) j
+  pub rows : (row j : ℕ) → row < limits.rows → j < row_size → settled row → slice_index words (row_at row j) ≡ slice_index (words_in (memory.rows row)) j
 
 -- These are the words of the memory: one row of words for each memory.
 pub record AreWordsOf (limits : Limits) (memory : Memory) (words : List ℕ) : Type 0 where

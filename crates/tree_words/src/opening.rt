@@ -7,6 +7,7 @@ ghost use Rattle.tree_words.specs.Words.{AreWordsOf};
 
 use crate::places::{epoch_place, pid_bits_place, row_bits_place, row_place, width};
 use bw_model::Limits;
+use record_slots::{FORM, FORM_UNIT, NO_BOUND, SECOND_KEY};
 use std::alloc::{AllocError, Allocator};
 
 /// The opening words are those of the opening memory.
@@ -24,8 +25,8 @@ pub fn opening_words<A: Allocator>(alloc: A, limits: &Limits) -> Result<Vec<u64,
     words[0] = 1;
     words[1] = 1;
     words[epoch_place()] = limits.epoch;
-    words[row_place(1)] = 1;
-    words[row_place(1) + 8] = 255;
+    words[row_place(1)] = 1 + FORM_UNIT * FORM;
+    words[row_place(1) + SECOND_KEY] = NO_BOUND;
     Ok(words)
 }
 

@@ -3,6 +3,10 @@ ghost use Rattle.std.specs.Prelude.{◌≡◌, ◌<◌};
 ghost use Rattle.tree_words.specs.Layout.{announced_at, epoch_at, pid_bits_at, row_at, row_bits_at, slot_at, width};
 
 use bw_model::Limits;
+use record_slots::ROW_WORDS;
+
+/// The place of the first word of the first row.
+const ROWS: usize = 4608;
 
 /// The place of the slot of a PID.
 pub fn slot_place(pid: u16) -> usize
@@ -39,16 +43,16 @@ pub(crate) fn announced_place(actor: u8) -> usize
     4424 + 8 * usize::from(actor)
 }
 
-/// The place of the first of the 256 words of a row.
+/// The place of the first word of a row.
 pub fn row_place(row: u16) -> usize
     ensures { result ≡ row_at row 0 }
 {
-    4608 + 256 * usize::from(row)
+    ROWS + ROW_WORDS * usize::from(row)
 }
 
 /// How many words a table of these limits has.
 pub fn width(limits: &Limits) -> usize
     ensures { result ≡ width limits.now }
 {
-    4608 + 256 * limits.rows as usize
+    ROWS + ROW_WORDS * limits.rows as usize
 }

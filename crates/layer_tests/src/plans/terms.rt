@@ -1,5 +1,6 @@
 //! What an index page may get at the edges: beside few items, under few deltas, on its level and in its range.
 ghost use Rattle.std.specs.Prelude.{◌≡◌, ◌≤◌, length, false};
+ghost use Rattle.bw_model.specs.Bytes.{longest};
 ghost use Rattle.chain_search.specs.Chains.{is_removed};
 
 use crate::plans::grown::{consolidated, with_terms};
@@ -9,7 +10,7 @@ use smo::{Version, plan_hold, plan_term};
 
 /// Whether the parent gets the term of a leaf that begins at the key.
 fn posts(parent: &Version, low: &[u8]) -> bool
-    requires low { length low.now ≤ 32 }
+    requires low { length low.now ≤ longest }
     requires alive { is_removed parent.now.chain ≡ false }
 {
     plan_term(parent, &version(2, 0, leaf(key(low), 0))).is_some()

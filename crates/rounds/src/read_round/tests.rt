@@ -1,5 +1,6 @@
 //! A reader's round over pages by hand, to the left of a page.
 ghost use Rattle.std.specs.Prelude.{◌≡◌, ◌≤◌, ◌∷◌, [], None, length};
+ghost use Rattle.bw_model.specs.Bytes.{longest};
 ghost use Rattle.chain_search.specs.Chains.{low_in};
 ghost use Rattle.chain_search.specs.Examples.{index};
 ghost use Rattle.chain_search.specs.Fitted.{IsFitted};
@@ -33,7 +34,7 @@ fn limits() -> Limits
 }
 
 fn key(text: &[u8]) -> Key
-    requires { length text.now ≤ 32 }
+    requires { length text.now ≤ longest }
     ensures { result ≡ text.now }
 {
     Key::from_slice(text).unwrap()

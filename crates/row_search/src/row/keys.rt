@@ -6,7 +6,7 @@ ghost use Rattle.record_slots.specs.Parts.{items_of, row_of};
 ghost use Rattle.row_search.specs.OneKey.{one_key, split_at};
 
 use crate::{KeyWords, Row};
-use record_slots::{FIRST_KEY, HELD, ITEM_UNIT};
+use record_slots::{FIRST_KEY, HELD, ITEM_UNIT, PART_LIMIT};
 
 impl Row {
     /// The one key that it names, and whether it says that the key is there. A base, a split, a removal and a merge have none.
@@ -47,7 +47,7 @@ impl Row {
         ensures count { result ≡ length (items_of self.now) }
         ensures few { result ≤ MAX_ITEMS }
     {
-        (self.words[0] / ITEM_UNIT) as usize
+        (self.words[0] / ITEM_UNIT % PART_LIMIT) as usize
     }
 
     /// The key of the item at the place.

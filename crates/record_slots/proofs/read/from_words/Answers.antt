@@ -1,5 +1,6 @@
 use Rattle.std.proofs.Common.{◌≡◌, ◌+◌, ◌*◌, ◌-◌, take, drop, ap, subst, sym, arith}
 use Rattle.deltas.specs.declared.record.Record.{Record}
+use Rattle.record_slots.specs.Layout.{item_size, items_at}
 use Rattle.record_slots.specs.Spells.{IsSpelling}
 use Rattle.record_slots.specs.Parts.{IsRecordOf}
 use Rattle.record_slots.proofs.Refusals.{refused, found_as}
@@ -16,8 +17,8 @@ returns c =
     let words = c.args.words.now in
     let row = c.in_ok-row.row in
     let is = c.in_ok-row.ensures in
-    let span : 13 + 10 * row.count - 13 ≡ 10 * row.count = omega arith in
-    let items = ap (λ n. take n (drop 13 words)) span in
-    found_as (IsRecordOf row (take (13 + 10 * row.count - 13) (drop 13 words))) (λ (content : Record). IsSpelling content words) c.record_in.result
+    let span : items_at + item_size * row.count - items_at ≡ item_size * row.count = omega arith in
+    let items = ap (λ n. take n (drop items_at words)) span in
+    found_as (IsRecordOf row (take (items_at + item_size * row.count - items_at) (drop items_at words))) (λ (content : Record). IsSpelling content words) c.record_in.result
     (λ content h. spelled_by words row content c.told-words is (subst (λ ws. IsRecordOf row ws content) items h))
     (λ content h. subst (λ ws. IsRecordOf row ws content) (sym items) (record_spelled words row content is h)) c.record_in.ensures

@@ -1,4 +1,5 @@
-use Rattle.std.proofs.Common.{◌≡◌, [], Some, take, drop, get_or, sym, arith}
+use Rattle.std.proofs.Common.{suc, ◌≡◌, [], Some, take, drop, get_or, sym, arith}
+use Rattle.record_slots.specs.Layout.{field_size, text_size}
 use Rattle.record_slots.specs.Texts.{IsField, IsText}
 use Rattle.record_slots.proofs.ItemLaws.{pair_spelled}
 use Rattle.record_slots.proofs.records.put_in.Goals as goal
@@ -8,8 +9,8 @@ returns c =
     let words = c.args.words.now in
     let key = c.in_ok-key.key in
     let value = c.in_ok-value.value in
-    let first : IsField (take 5 words) key = c.in_ok-key.ensures in
-    let second : IsText (get_or words 5 0) (take 4 (drop 6 words)) value = c.in_ok-value.ensures in
+    let first : IsField (take field_size words) key = c.in_ok-key.ensures in
+    let second : IsText (get_or words field_size 0) (take text_size (drop (suc field_size) words)) value = c.in_ok-value.ensures in
     let row = c.args.row in
     let kind : 2 ≡ row.kind = sym c.requires.kind in
     let level : 0 ≡ row.level = omega (arith, c.if-row-gt0.false) in

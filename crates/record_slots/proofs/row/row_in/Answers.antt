@@ -1,4 +1,5 @@
 use Rattle.std.proofs.Common.{◌≡◌, ◌+◌, ◌*◌, ◌-◌, true, false, take, drop, sym, ap, ◌∙◌}
+use Rattle.record_slots.specs.Layout.{field_size, first_at, item_size, items_at, row_size, second_at}
 use Rattle.record_slots.specs.Texts.{IsField, IsBound}
 use Rattle.record_slots.specs.Parts.{IsRowIn, are_zeros}
 use Rattle.record_slots.proofs.RowLaws.{header_of, header_is, zeros_behind, zeros_there, up_to_end}
@@ -12,8 +13,8 @@ returns-in_err-header c =
 pub returns-then-not-are_zeros : goal.returns-then-not-are_zeros
 returns-then-not-are_zeros c row is =
     let all = zeros_behind c.args.words.now c.in_ok-header.header c.in_ok-header.ensures row is in
-    let answer : c.are_zeros.result ≡ are_zeros (take (256 - (13 + 10 * c.in_ok-header.header.count)) (drop (13 + 10 * c.in_ok-header.header.count) c.args.words.now)) = c.are_zeros.ensures in
-    let end = up_to_end c.args.words.now (13 + 10 * c.in_ok-header.header.count) c.told-words in
+    let answer : c.are_zeros.result ≡ are_zeros (take (row_size - (items_at + item_size * c.in_ok-header.header.count)) (drop (items_at + item_size * c.in_ok-header.header.count) c.args.words.now)) = c.are_zeros.ensures in
+    let end = up_to_end c.args.words.now (items_at + item_size * c.in_ok-header.header.count) c.told-words in
     let turned : true ≡ false = sym all ∙ ap are_zeros (sym end) ∙ sym answer ∙ c.if-not-are_zeros.true in
     cc
 
@@ -22,10 +23,10 @@ returns c =
     let words = c.args.words.now in
     let header = c.in_ok-header.header in
     let head = c.in_ok-header.ensures in
-    let first : IsField (take 5 (drop 3 words)) c.in_ok-first.first = c.in_ok-first.ensures in
-    let second : IsBound (take 5 (drop 8 words)) c.in_ok-second.second = c.in_ok-second.ensures in
-    let answer : c.are_zeros.result ≡ are_zeros (take (256 - (13 + 10 * header.count)) (drop (13 + 10 * header.count) words)) = c.are_zeros.ensures in
-    let end = up_to_end words (13 + 10 * header.count) c.told-words in
+    let first : IsField (take field_size (drop first_at words)) c.in_ok-first.first = c.in_ok-first.ensures in
+    let second : IsBound (take field_size (drop second_at words)) c.in_ok-second.second = c.in_ok-second.ensures in
+    let answer : c.are_zeros.result ≡ are_zeros (take (row_size - (items_at + item_size * header.count)) (drop (items_at + item_size * header.count) words)) = c.are_zeros.ensures in
+    let end = up_to_end words (items_at + item_size * header.count) c.told-words in
     record {
       is = record {
         kind = head.kind;
@@ -36,7 +37,7 @@ returns c =
         first = first.short;
         second = second.short;
       };
-      first_word = head.are;
+      header = head.are;
       next = c.in_ok-next.ensures.are;
       page = c.in_ok-page.ensures.are;
       first = first.are;

@@ -3,18 +3,18 @@ use Rattle.record_slots.specs.Texts.{IsText, ends_there}
 use Rattle.record_slots.proofs.TextLaws.{is_text, no_text, many_bytes}
 use Rattle.record_slots.proofs.texts.read_text.Goals as goal
 
-pub returns-then-count-le32-clause-many : goal.returns-then-count-le32-clause-many
-returns-then-count-le32-clause-many c ends =
+pub returns-then-count-clause-many : goal.returns-then-count-clause-many
+returns-then-count-clause-many c ends =
     let words = c.args.words.now in
     let many : length c.read_bytes.new.bytes.items ≡ 8 * length words = ap length c.read_bytes.ensures.bytes ∙ many_bytes words in
-    omega (arith, many, c.requires.words, c.if-count-le32.true)
+    omega (arith, many, c.requires.words, c.if-count.true)
 
-pub returns-then-count-le32-clause-text : goal.returns-then-count-le32-clause-text
-returns-then-count-le32-clause-text c ends =
+pub returns-then-count-clause-text : goal.returns-then-count-clause-text
+returns-then-count-clause-text c ends =
     let words = c.args.words.now in
     let count = c.args.count in
     let ended : ends_there count words ≡ true = sym c.read_bytes.ensures.rest ∙ ends in
-    subst (λ bytes. IsText count words (take count bytes)) (sym c.read_bytes.ensures.bytes) (is_text count words (λ i. omega (arith, c.type_inv.words i)) c.requires.words (omega (arith, c.if-count-le32.true)) ended)
+    subst (λ bytes. IsText count words (take count bytes)) (sym c.read_bytes.ensures.bytes) (is_text count words (λ i. omega (arith, c.type_inv.words i)) c.requires.words (omega (arith, c.if-count.true)) ended)
 
-pub returns-then-count-le32-clause-none : goal.returns-then-count-le32-clause-none
-returns-then-count-le32-clause-none c stops = no_text c.args.count c.args.words.now (sym c.read_bytes.ensures.rest ∙ stops)
+pub returns-then-count-clause-none : goal.returns-then-count-clause-none
+returns-then-count-clause-none c stops = no_text c.args.count c.args.words.now (sym c.read_bytes.ensures.rest ∙ stops)

@@ -1,5 +1,6 @@
 use Rattle.std.proofs.Common.{◌≡◌, ◌≤◌, ◌+◌, ◌*◌, ◌++◌, drop, length, take}
 use Rattle.std.specs.List.{All}
+use Rattle.record_slots.specs.Layout.{item_size, row_size}
 use Rattle.record_slots.specs.Spelling.{items_words}
 use Rattle.record_slots.specs.Spells.{IsShortItem}
 use Rattle.record_slots.proofs.write.push_items.Given as goal
@@ -7,6 +8,6 @@ use Rattle.record_slots.proofs.write.push_items.Given as goal
 abbrev pub invariant-loop-item : goal.invariant-loop-item
 invariant-loop-item l = record {
   written : l.words.items ++ items_words (drop l.item-index l.items) ≡ l.initial.words.items ++ items_words l.items;
-  room : length l.words.items + 10 * length (drop l.item-index l.items) ≤ 256;
+  room : length l.words.items + item_size * length (drop l.item-index l.items) ≤ row_size;
   short : All IsShortItem (take l.item-index l.items);
 }

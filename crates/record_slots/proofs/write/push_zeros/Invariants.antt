@@ -1,8 +1,8 @@
-use Rattle.std.proofs.Common.{◌≡◌, ◌-◌, ◌++◌, length, replicate}
+use Rattle.std.proofs.Common.{◌≡◌, ◌+◌, ◌-◌, ◌++◌, length, replicate}
 use Rattle.record_slots.proofs.write.push_zeros.Given as goal
 
 abbrev pub invariant-loop : goal.invariant-loop
 invariant-loop l = record {
-  written : l.words.items ++ replicate (256 - l.counter) 0 ≡ l.initial.words.items ++ replicate (256 - length l.initial.words.items) 0;
-  counts : length l.words.items ≡ l.counter;
+  written : l.words.items ++ replicate (l.count - l.counter) 0 ≡ l.initial.words.items ++ replicate l.count 0;
+  counts : length l.words.items ≡ length l.initial.words.items + l.counter;
 }

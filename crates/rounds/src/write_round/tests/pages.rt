@@ -1,5 +1,6 @@
 //! Pages by hand, for tests of rounds.
 ghost use Rattle.std.specs.Prelude.{◌≡◌, ◌<◌, ◌≤◌, ◌∷◌, [], length, None, false};
+ghost use Rattle.bw_model.specs.Bytes.{longest};
 ghost use Rattle.chain_search.specs.Fitted.{FitsOver, IsFitted};
 ghost use Rattle.deltas.specs.Spellable.{IsPid};
 ghost use Rattle.deltas.specs.declared.record.Record.TheVariants.{Base};
@@ -11,7 +12,7 @@ use deltas::{Delete, Record};
 use smo::{Version, plan_hold, plan_remove, plan_split, plan_term};
 
 pub(super) fn key(text: &[u8]) -> Key
-    requires { length text.now ≤ 32 }
+    requires { length text.now ≤ longest }
     ensures { result ≡ text.now }
 {
     Key::from_slice(text).unwrap()

@@ -1,6 +1,7 @@
 use Rattle.std.proofs.Common.{◌≡◌, ℕ, ◌+◌, List, [], ◌∷◌, ◌++◌, length, take, get_or, sym, ap, ◌∙◌, subst, arith, add-one}
 use Rattle.std.proofs.lemmas.List.{length-take-le}
 use Rattle.std.proofs.Math.Seq.{take-suc}
+use Rattle.record_slots.specs.Layout.{last_at}
 use Rattle.slot_rule.specs.Steps.{into_row, tail_from}
 use Rattle.slot_rule.specs.Views.{seen_of, SitsAt}
 use Rattle.slot_rule.proofs.Filled.{fills_at, next_in_tail, tail_length}
@@ -9,7 +10,7 @@ use Rattle.slot_rule.proofs.rows.place_row.Goals as goal
 pub store-requires : goal.store-requires
 store-requires g c =
     let v = c.loop-i.invariant in
-    let rest : length (tail_from c.args.spelt.now) ≡ 255 = tail_length c.args.spelt.now c.told-spelt in
+    let rest : length (tail_from c.args.spelt.now) ≡ last_at = tail_length c.args.spelt.now c.told-spelt in
     let written : List ℕ = take c.loop-i.i (tail_from c.args.spelt.now) in
     let k : length written ≡ c.loop-i.i = length-take-le c.loop-i.i (tail_from c.args.spelt.now) (omega (arith, rest, v.within)) in
     let base = c.row_place-base.ensures in
@@ -22,7 +23,7 @@ store-requires g c =
 pub loop-i-preserved : goal.loop-i-preserved
 loop-i-preserved g c =
     let v = c.loop-i.invariant in
-    let rest : length (tail_from c.args.spelt.now) ≡ 255 = tail_length c.args.spelt.now c.told-spelt in
+    let rest : length (tail_from c.args.spelt.now) ≡ last_at = tail_length c.args.spelt.now c.told-spelt in
     let written : List ℕ = take c.loop-i.i (tail_from c.args.spelt.now) in
     let k : length written ≡ c.loop-i.i = length-take-le c.loop-i.i (tail_from c.args.spelt.now) (omega (arith, rest, v.within)) in
     let x : ℕ = get_or c.args.spelt.now (c.loop-i.i + 1) 0 in

@@ -1,17 +1,18 @@
 use Rattle.std.proofs.Common.{◌≡◌, List, ℕ, take, length, refl, sym, ap, subst, ◌∙◌, arith}
 use Rattle.bw_model.specs.Bytes.{IsShort}
+use Rattle.record_slots.specs.Layout.{text_size}
 use Rattle.record_slots.specs.Spelling.{text_words}
 use Rattle.record_slots.specs.Texts.{IsText, bytes_of}
 use Rattle.record_slots.proofs.TextLaws.{read_back}
 use Rattle.row_search.proofs.key_words.KeyWords.of.Goals as goal
 
-spelled : (text : List ℕ) → IsShort text → take (length text) (bytes_of (text_words 4 text)) ≡ text
-spelled text short = (read_back 4 text short.bytes_fit (let s = short.short in omega arith)).are
+spelled : (text : List ℕ) → IsShort text → take (length text) (bytes_of (text_words text_size text)) ≡ text
+spelled text short = (read_back text_size text short.bytes_fit (let s = short.short in omega arith)).are
 
-is_text : (text : List ℕ) → IsShort text → IsText (length text) (text_words 4 text) (take (length text) (bytes_of (text_words 4 text)))
-is_text text short = subst (IsText (length text) (text_words 4 text)) (sym (spelled text short)) (record { short = short; counts = refl; are = refl })
+is_text : (text : List ℕ) → IsShort text → IsText (length text) (text_words text_size text) (take (length text) (bytes_of (text_words text_size text)))
+is_text text short = subst (IsText (length text) (text_words text_size text)) (sym (spelled text short)) (record { short = short; counts = refl; are = refl })
 
-module _ (words text key : List ℕ) (are : words ≡ text_words 4 text) (same : text ≡ key) (short : IsShort key) where
+module _ (words text key : List ℕ) (are : words ≡ text_words text_size text) (same : text ≡ key) (short : IsShort key) where
   fits : IsShort text
   fits = subst IsShort (sym same) short
 

@@ -2,6 +2,7 @@ use Rattle.std.proofs.Common.{◌≡◌, ◌<◌, ◌+◌, ◌*◌, ◌-◌, Lis
 use Rattle.std.specs.Prelude.{false}
 use Rattle.base_page.specs.declared.item.Content.TheVariants.{Child}
 use Rattle.base_page.specs.declared.item.Item.{Item}
+use Rattle.record_slots.specs.Layout.{field_size, item_size, items_at}
 use Rattle.record_slots.specs.Parts.{row_of}
 use Rattle.record_slots.specs.Texts.{IsText}
 use Rattle.row_search.proofs.Found.{found_one, unwrapped}
@@ -17,7 +18,7 @@ overflow_cast-page c =
     let words = c.self.inside.words in
     let spelled = row_spells words c.args.self.now c.self.view_is c.self.invariant in
     let above : 0 < (row_of c.args.self.now).level = subst (λ n. 0 < n) c.level.ensures c.if-level-gt0.true in
-    let same : get_or words (c.item_at-at.result + 5) 0 ≡ get_or words (13 + 10 * c.args.place + 5) 0 = λ i. get_or words (c.item_at-at.ensures.at i + 5) 0 in
+    let same : get_or words (c.item_at-at.result + field_size) 0 ≡ get_or words (items_at + item_size * c.args.place + field_size) 0 = λ i. get_or words (c.item_at-at.ensures.at i + field_size) 0 in
     let few = page_fits words c.args.self.now spelled c.args.place none c.requires above in
     omega arith
 
@@ -26,7 +27,7 @@ returns-then-level-gt0 c d =
     let words = c.self.inside.words in
     let spelled = row_spells words c.args.self.now c.self.view_is c.self.invariant in
     let above : 0 < (row_of c.args.self.now).level = subst (λ n. 0 < n) c.level.ensures c.if-level-gt0.true in
-    marked words c.item_at-at.result (13 + 10 * c.args.place) c.item_at-at.ensures.at ∙ child_there words c.args.self.now spelled c.args.place d c.requires above
+    marked words c.item_at-at.result (items_at + item_size * c.args.place) c.item_at-at.ensures.at ∙ child_there words c.args.self.now spelled c.args.place d c.requires above
 
 pub unwrap-requires : goal.unwrap-requires
 unwrap-requires c =
@@ -35,8 +36,8 @@ unwrap-requires c =
     let leaf : (row_of c.args.self.now).level ≡ 0 = sym c.level.ensures ∙ omega (arith, c.if-level-gt0.false) in
     let at = c.item_at-at.result in
     let there = value_there words c.args.self.now spelled c.args.place none c.requires leaf in
-    found_one (λ (text : List ℕ). IsText (get_or words (at + 5) 0) (take (at + 10 - (at + 5 + 1)) (drop (at + 5 + 1) words)) text) c.value_in.result there.0
-    (to_slice words (at + 5 + 1) (at + 10) at (13 + 10 * c.args.place) there.0 c.item_at-at.ensures.at (omega arith) refl there.1.1)
+    found_one (λ (text : List ℕ). IsText (get_or words (at + field_size) 0) (take (at + item_size - (at + field_size + 1)) (drop (at + field_size + 1) words)) text) c.value_in.result there.0
+    (to_slice words (at + field_size + 1) (at + item_size) at (items_at + item_size * c.args.place) there.0 c.item_at-at.ensures.at (omega arith) refl there.1.1)
     c.value_in.ensures
 
 pub returns : goal.returns
@@ -46,5 +47,5 @@ returns c d =
     let leaf : (row_of c.args.self.now).level ≡ 0 = sym c.level.ensures ∙ omega (arith, c.if-level-gt0.false) in
     let at = c.item_at-at.result in
     value_is words c.args.self.now spelled c.args.place d c.requires leaf c.unwrap.result
-    (from_slice words (at + 5 + 1) (at + 10) at (13 + 10 * c.args.place) c.unwrap.result c.item_at-at.ensures.at (omega arith) refl
-    (unwrapped (λ (text : List ℕ). IsText (get_or words (at + 5) 0) (take (at + 10 - (at + 5 + 1)) (drop (at + 5 + 1) words)) text) c.value_in.result c.unwrap.result c.unwrap.ensures c.value_in.ensures))
+    (from_slice words (at + field_size + 1) (at + item_size) at (items_at + item_size * c.args.place) c.unwrap.result c.item_at-at.ensures.at (omega arith) refl
+    (unwrapped (λ (text : List ℕ). IsText (get_or words (at + field_size) 0) (take (at + item_size - (at + field_size + 1)) (drop (at + field_size + 1) words)) text) c.value_in.result c.unwrap.result c.unwrap.ensures c.value_in.ensures))

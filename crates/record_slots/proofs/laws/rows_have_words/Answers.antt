@@ -1,5 +1,5 @@
 use Rattle.record_slots.proofs.SpellingLaws.{spelling_there, spelling_length}
-use Rattle.record_slots.proofs.laws.rows_have_256_words.Goals as goal
+use Rattle.record_slots.proofs.laws.rows_have_words.Goals as goal
 
 pub returns-clause-spelled : goal.returns-clause-spelled
 returns-clause-spelled c = spelling_there
