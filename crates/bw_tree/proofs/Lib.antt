@@ -8,5 +8,10 @@ mod Resting
 mod Meeting
 mod Gathering
 mod Opened
+mod Ascending
+mod Alone
+mod Logged
+mod Filled
+mod Filling
 mod Kept
 mod Leaving

@@ -17,10 +17,10 @@ use Rattle.slot_rule.specs.Running.{Running}
 use Rattle.slot_rule.specs.Views.{Mine, alone, dealt, dealt_from, first_part, other_parts, refreshed, seen_of}
 use Rattle.tree_law.specs.Own.{OwnLasts}
 use Rattle.tree_words.specs.Opening.{opening_words}
-use Rattle.bw_tree.specs.Loaded.{seat_at}
+use Rattle.bw_tree.specs.Loaded.{AreAt, seat_at}
 use Rattle.bw_tree.specs.Runs.{IsLawfulRun}
 use Rattle.bw_tree.specs.Seats.{IsSeat, Seat}
-use Rattle.bw_tree.specs.Trees.{IsTreeTable, Tree}
+use Rattle.bw_tree.specs.Trees.{AreFresh, IsSeatOf, IsTreeTable, Tree}
 use Rattle.bw_tree.proofs.Gathering.{AllExtend}
 use Rattle.bw_tree.proofs.Meeting.{seat_extends}
 
@@ -117,3 +117,33 @@ seat_is tree run number limits table me own same is = ap (λ (t : TableId). seat
   where
     seat_of : TableId → Limits → List Entry → Seat
     seat_of t l seen = record { table = t; limits = l; actor = number; seen = seen }
+
+-- the first seat, before the others are dealt
+pub first_seat_at : (tree : Tree) (first : Seat) → IsSeatOf tree first → first.actor ≡ 0 → (n : ℕ) → n < 1 → slice_get (first ∷ []) n ≡ Some (seat_at tree first.seen n)
+first_seat_at tree first own is zero below = ap Some (λ i. record { table = own.table i; limits = own.limits i; actor = is i; seen = first.seen })
+first_seat_at tree first own is (suc n) below = absurd (omega (arith, below))
+
+pub first_left : (own limits : Limits) (run : List Entry) (me : Mine) → own ≡ limits → me ≡ (map (refreshed run) (other_parts (dealt own)), []) → me ≡ (left_of limits run 1 (limits.actors - 1), [])
+first_left own limits run me same is =
+    is ∙ ap (λ (l : Limits). (map (refreshed run) (other_parts (dealt l)), [])) same
+    ∙ ap (λ parts. (map (refreshed run) parts, [])) (others_dealt limits limits.actors (let some = limits.allowed.some_actor in omega (arith, some)))
+
+pub first_extend : (own limits : Limits) (run : List Entry) → own ≡ limits → AllExtend run (other_parts (dealt own)) → AllExtend run (dealt_from limits 1 (limits.actors - 1))
+first_extend own limits run same each =
+    subst (AllExtend run) (others_dealt limits limits.actors (let some = limits.allowed.some_actor in omega (arith, some)))
+    (subst (λ (l : Limits). AllExtend run (other_parts (dealt l))) same each)
+
+-- where nobody has taken a step
+pub fresh_left : (limits : Limits) (run : List Entry) (me : Mine) → run ≡ [] → me ≡ (other_parts (dealt limits), []) → me ≡ (map (refreshed run) (other_parts (dealt limits)), [])
+fresh_left limits run me none is =
+    let some : 0 < limits.actors = (let there = limits.allowed.some_actor in omega (arith, there)) in
+    let others : other_parts (dealt limits) ≡ dealt_from limits 1 (limits.actors - 1) = others_dealt limits limits.actors some in
+    is ∙ ap (λ (parts : List Part). (parts, [])) (others ∙ refreshed_none limits 1 (limits.actors - 1) ∙ ap (map (refreshed [])) (sym others) ∙ ap (λ r. map (refreshed r) (other_parts (dealt limits))) (sym none))
+
+pub fresh_extend : (limits : Limits) (run : List Entry) → run ≡ [] → AllExtend run (other_parts (dealt limits))
+fresh_extend limits run none =
+    let some : 0 < limits.actors = (let there = limits.allowed.some_actor in omega (arith, there)) in
+    subst (λ r. AllExtend r (other_parts (dealt limits))) (sym none) (subst (AllExtend []) (sym (others_dealt limits limits.actors some)) (extends_none limits 1 (limits.actors - 1)))
+
+pub at_fresh : (tree : Tree) (run : List Entry) (seats : List Seat) → run ≡ [] → AreAt tree run seats → AreFresh tree seats
+at_fresh tree run seats none at = record { count = at.count; each = λ actor below. at.each actor below ∙ ap (λ r. Some (seat_at tree r actor)) none }

@@ -14,6 +14,7 @@ use crate::tree::Tree;
 use bw_model::{Command, Key, Limits, Reply, Value};
 use slot_rule::TableSeat;
 use std::alloc::Allocator;
+use tree_law::own_lasts;
 
 /// How many steps the upsert of a pair may take.
 pub const LOAD_BUDGET: u32 = 65_536;
@@ -106,6 +107,7 @@ fn loaded<A: Allocator + Copy>(
     ensures loaded { IfOk result (λ seats. AreLoaded tree.now seats.items pairs.now) }
     ensures err { IfErr result (IsLoadStop tree.now.limits pairs.now LOAD_BUDGET) }
 {
+    own_lasts();
     let mut first = first;
     fill(tree, &mut first, pairs)?;
     let others = gathered(tree, &mut first, others);
