@@ -1,7 +1,7 @@
 -- A run in which one actor alone has operations: each is a begin, steps without a reply, and a step with one.
-use Rattle.std.specs.Prelude.{◌≢◌, slice_get, Option, IsSome, ◌==◌, if◌then◌else◌, ⊤}
+use Rattle.std.specs.Prelude.{◌≢◌, slice_get, Option, IsSome, ◌==◌, if◌then◌else◌}
 use Rattle.std.specs.List.{AllByRecursion}
-use Rattle.std.proofs.Common.{◌≡◌, ◌<◌, ◌≤◌, ◌+◌, ◌-◌, ◌++◌, ◌⊎◌, inl, inr, ℕ, zero, suc, List, [], ◌∷◌, length, take, refl, sym, ap, subst, ◌∙◌, true, false, Bool, Some, None, arith, append_assoc, append-nil}
+use Rattle.std.proofs.Common.{◌≡◌, ◌≤◌, ◌++◌, ◌⊎◌, inl, inr, ℕ, List, [], ◌∷◌, length, take, refl, sym, ap, subst, ◌∙◌, true, false, Bool, Some, None, arith, append_assoc, append-nil}
 use mathlib.Core.Logic.{dite}
 use native.Mathlib.Decide.{ℕ_discrete}
 use Rattle.bw_model.specs.declared.command.Command.{Command}
@@ -15,7 +15,7 @@ use Rattle.chain_search.specs.declared.trace.Entry.TheVariants.{Begin, Step}
 use Rattle.chain_search.specs.Disciplined.{is_entry_of, own_entries}
 use Rattle.chain_search.specs.Run.{IsNext, IsRun}
 use Rattle.chain_search.specs.Trace.{command_of}
-use Rattle.chain_search.proofs.Pushes.{slice_get-push, take-push_whole}
+use Rattle.chain_search.proofs.Pushes.{take-push_whole}
 use Rattle.chain_search.proofs.TraceLaws.{command_of-push}
 use Rattle.bw_tree.specs.Calls.{answered_last, calls_along}
 

@@ -1,8 +1,6 @@
 -- A run in which actor 0 alone has operations, which upsert pairs whose keys ascend: each replied Set, and the log has these pairs.
-use Rattle.std.specs.Prelude.{◌≢◌, Option, IsSome, ◌==◌, if◌then◌else◌}
-use Rattle.std.specs.List.{AllByRecursion}
-use Rattle.std.specs.List.Sorted.{IsStrictlySortedBy}
-use Rattle.std.proofs.Common.{◌≡◌, ◌<◌, ◌≤◌, ◌+◌, ◌-◌, ◌++◌, ◌⊎◌, inl, inr, ℕ, zero, suc, List, [], ◌∷◌, length, map, take, refl, sym, ap, subst, ◌∙◌, true, false, Bool, Some, None, arith, append_assoc, append-nil, length-append}
+use Rattle.std.specs.Prelude.{◌≢◌, Option}
+use Rattle.std.proofs.Common.{◌≡◌, ◌<◌, ◌≤◌, ◌+◌, ◌-◌, ◌++◌, ◌⊎◌, inl, inr, ℕ, zero, suc, List, [], ◌∷◌, length, map, take, refl, sym, ap, subst, ◌∙◌, Bool, Some, None, arith, append_assoc, append-nil, length-append}
 use mathlib.Core.Logic.{dite}
 use native.Mathlib.Decide.{ℕ_discrete}
 use Rattle.bw_model.specs.declared.command.Command.{Command}
@@ -10,19 +8,13 @@ use Rattle.bw_model.specs.declared.command.Command.TheVariants.{Upsert}
 use Rattle.bw_model.specs.declared.command.Reply.{Reply}
 use Rattle.bw_model.specs.declared.command.Reply.TheVariants as kind
 use Rattle.bw_model.specs.declared.limits.Limits.{Limits}
-use Rattle.bw_model.specs.declared.step.Answer.{Answer}
-use Rattle.bw_model.specs.declared.step.Step.{Step as StepOf}
-use Rattle.bw_model.specs.Log.{Update, set, logged_value}
+use Rattle.bw_model.specs.Log.{set, logged_value}
 use Rattle.bw_model.specs.Pairs.{IsPairsOf}
 use Rattle.bw_model.specs.Replies.{reply_of}
-use Rattle.deltas.specs.declared.record.Record.{Record}
 use Rattle.chain_search.specs.declared.trace.Entry.{Entry}
 use Rattle.chain_search.specs.declared.trace.Entry.TheVariants.{Begin, Step}
 use Rattle.chain_search.specs.Disciplined.{Extends, own_entries}
-use Rattle.chain_search.specs.Run.{IsNext, IsRun}
 use Rattle.chain_search.specs.Trace.{command_of, turn_of}
-use Rattle.chain_search.proofs.Pushes.{take-push_whole}
-use Rattle.chain_search.proofs.TraceLaws.{command_of-push}
 use Rattle.listing.specs.Listed.{IsListing}
 use Rattle.op_machine.specs.Answered.{IsAnswered}
 use Rattle.op_machine.specs.Linearized.{IsLinearized}
@@ -34,7 +26,7 @@ use Rattle.bw_tree.specs.Loaded.{AreAt, AreLoaded, HaveUpserted, KeysAscend, ups
 use Rattle.bw_tree.specs.Runs.{IsOneHistory}
 use Rattle.bw_tree.specs.Seats.{Seat}
 use Rattle.bw_tree.specs.Trees.{Tree}
-use Rattle.bw_tree.proofs.Alone.{Blocks, IsSilent, absent, all_own, are_ours, in_blocks, AreOurs}
+use Rattle.bw_tree.proofs.Alone.{Blocks, absent, all_own, are_ours, in_blocks, AreOurs}
 use Rattle.bw_tree.proofs.Ascending.{Pair, lists, sets_of, unset_before}
 use Rattle.bw_tree.proofs.Gathering.{AllExtend}
 use Rattle.bw_tree.proofs.Logged.{adds}

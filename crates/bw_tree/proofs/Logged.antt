@@ -1,8 +1,7 @@
 -- What an operation of a run in which one actor alone has operations adds to the log, and what it replies.
-use Rattle.std.specs.Prelude.{◌≢◌, slice_get, Option, if◌then◌else◌}
+use Rattle.std.specs.Prelude.{◌≢◌, slice_get, Option}
 use Rattle.std.specs.List.{AllByRecursion}
-use Rattle.std.specs.Option.{option_to_list}
-use Rattle.std.proofs.Common.{◌≡◌, ◌<◌, ◌≤◌, ◌+◌, ◌-◌, ◌++◌, ◌⊎◌, inl, inr, ℕ, zero, suc, List, [], ◌∷◌, length, take, refl, sym, ap, subst, ◌∙◌, true, false, Bool, Some, None, arith, append-nil, length-append}
+use Rattle.std.proofs.Common.{◌≡◌, ◌<◌, ◌≤◌, ◌+◌, ◌-◌, ◌++◌, ◌⊎◌, inl, inr, ℕ, zero, suc, List, [], ◌∷◌, length, take, refl, ap, subst, ◌∙◌, true, false, Bool, Some, None, arith, length-append}
 use mathlib.Core.Logic.{dite}
 use native.Mathlib.Decide.{ℕ_discrete}
 use Rattle.bw_model.specs.declared.command.Command.{Command}
@@ -19,10 +18,10 @@ use Rattle.deltas.specs.Memory.{Memory}
 use Rattle.chain_search.specs.declared.trace.Entry.{Entry}
 use Rattle.chain_search.specs.declared.trace.Entry.TheVariants.{Begin, Step}
 use Rattle.chain_search.specs.Trace.{command_of, memory_at}
-use Rattle.chain_search.proofs.Pushes.{slice_get_below, take-push_whole}
+use Rattle.chain_search.proofs.Pushes.{slice_get_below}
 use Rattle.chain_search.proofs.TraceLaws.{command_of-push}
 use Rattle.op_machine.specs.Answered.{IsAnswered, IsTrueReply, RepliesAt, RepliesAtPoint}
-use Rattle.op_machine.specs.Operations.{Finishes, IsOperation, IsOwnEntry, IsOwnStep, Operation}
+use Rattle.op_machine.specs.Operations.{Finishes, IsOwnStep, Operation}
 use Rattle.op_machine.specs.Points.{HasPoints, IsPoint, log_at, updates_at, updates_by}
 use Rattle.op_machine.proofs.LogLaws.{log_at-step}
 use Rattle.bw_tree.proofs.Alone.{IsSilent, get_middle}

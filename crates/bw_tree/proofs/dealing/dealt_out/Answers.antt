@@ -1,8 +1,8 @@
-use Rattle.std.proofs.Common.{◌≡◌, ◌+◌, ◌-◌, ◌<◌, ◌++◌, ℕ, List, [], ◌∷◌, Some, length, length-append, sym, ap, subst, arith, ◌∙◌}
+use Rattle.std.proofs.Common.{◌≡◌, ◌+◌, ◌-◌, ◌++◌, [], ◌∷◌, Some, length, length-append, sym, ap, subst, arith, ◌∙◌}
 use Rattle.std.specs.Prelude.{slice_get}
 use Rattle.bw_model.specs.declared.limits.Limits.{Limits}
 use Rattle.bw_tree.specs.Loaded.{seat_at}
-use Rattle.bw_tree.specs.Seats.{IsSeat, Seat}
+use Rattle.bw_tree.specs.Seats.{Seat}
 use Rattle.bw_tree.specs.Trees.{Tree}
 use Rattle.slot_rule.specs.declared.view.Reach.TheVariants.{Idle}
 use Rattle.bw_tree.specs.Runs.{IsLawfulRun}

@@ -1,10 +1,10 @@
-use Rattle.std.proofs.Common.{◌≡◌, List, sym, ap, subst, ◌∙◌}
+use Rattle.std.proofs.Common.{◌≡◌, sym, ap, subst, ◌∙◌}
 use Rattle.bw_model.specs.declared.limits.Limits.{Limits}
 use Rattle.slot_rule.specs.declared.view.Reach.TheVariants.{Idle}
 use Rattle.slot_rule.specs.Views.{SitsAt}
 use Rattle.bw_tree.specs.Seats.{IsSeat, Seat}
 use Rattle.bw_tree.specs.Trees.{Tree}
-use Rattle.bw_tree.proofs.Gathering.{first_extends, first_seat, others_are, others_extend, some_part}
+use Rattle.bw_tree.proofs.Gathering.{first_seat, others_extend, some_part}
 use Rattle.bw_tree.proofs.dealing.gathered.Goals as goal
 
 pub look-requires-clause-some : goal.look-requires-clause-some

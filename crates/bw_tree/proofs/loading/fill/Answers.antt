@@ -1,5 +1,4 @@
 use Rattle.std.proofs.Common.{◌≡◌, List, ℕ, ap, ◌∙◌, subst}
-use Rattle.bw_model.specs.declared.command.Command.{Command}
 use Rattle.bw_model.specs.declared.command.Command.TheVariants.{Upsert}
 use Rattle.bw_model.specs.declared.limits.Limits.{Limits}
 use Rattle.bw_tree.specs.Loaded.{upsert_of}

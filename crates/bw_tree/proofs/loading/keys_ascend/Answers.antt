@@ -1,4 +1,4 @@
-use Rattle.std.proofs.Common.{arith, sym, ◌∙◌}
+use Rattle.std.proofs.Common.{arith, sym}
 use Rattle.bw_tree.proofs.Ascending.{adjacent_next, ascending, not_ascending}
 use Rattle.bw_tree.proofs.loading.keys_ascend.Goals as goal
 
