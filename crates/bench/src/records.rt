@@ -3,8 +3,8 @@ ghost use Rattle.std.specs.Prelude.{◌≤◌};
 
 use crate::searches::{count_again, search_again};
 use record_slots::{
-    FIRST_ITEM, FORM, FORM_UNIT, ITEM_CONTENT, ITEM_UNIT, ITEM_WORDS, NO_BOUND, ROW_WORDS, SECOND_KEY,
-    from_words,
+    FIRST_ITEM, FORM, FORM_UNIT, ITEM_CONTENT, ITEM_UNIT, ITEM_WORDS, NO_BOUND, ROW_WORDS,
+    SECOND_KEY, from_words,
 };
 
 /// Does what the word names so often, and answers how often it succeeded.

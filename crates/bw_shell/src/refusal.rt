@@ -3,13 +3,14 @@
 ghost use Rattle.std.specs.Prelude.{◌≡◌};
 ghost use Rattle.bw_shell.specs.Refusal.{code_of, refusal_by};
 
+use bw_model::MAX_LENGTH;
 use step_core::RunError;
 use thiserror::Error;
 
 /// Why a line, a command line or a whole run is refused.
 #[derive(Clone, Copy, Debug, PartialEq, Eq, Error)]
 pub enum Refusal {
-    #[error("a key or a value has more than 64 bytes")]
+    #[error("a key or a value has more than {MAX_LENGTH} bytes")]
     TooLong,
     #[error("a limit is outside its range")]
     BadLimits,

@@ -1,4 +1,4 @@
--- Which records a row of words can spell. Keys and values have at most 32 bytes by their types.
+-- Which records a row of words can spell. Keys and values are short by their types.
 use Rattle.std.specs.Prelude.{◌≡◌, ◌≢◌, ◌<◌, ◌≤◌, ℕ, List, [], false, length, IfSome, ⊤}
 use Rattle.std.specs.List.{All}
 use Rattle.base_page.specs.declared.item.Content.{Content}

@@ -318,7 +318,7 @@ pub record GoesThrough (old : ReadRound) (version : Version) (new : ReadRound) :
   pub goes : new ≡ going_to next (on Past old)
 
 -- The removed page has been merged, and the round goes on from the page.
-pub record GoesOn (old : ReadRound) (version : Version) (new : ReadRound) : Type 0 where
+pub record GoesOnMerged (old : ReadRound) (version : Version) (new : ReadRound) : Type 0 where
   pub removed : Version
   pub left : IsAtLevel old version removed
   pub stays : StaysLeft (left_of removed) version.chain
@@ -336,7 +336,7 @@ pub record IsOff (old : ReadRound) (version : Version) : Type 0 where
 -- what a round does with a page that was read whole
 abbrev pub Treats : ReadRound → Version → ReadRound → Option ReadEnd → Type 0
 Treats old version new None = GoesRight old version new ⊎ GoesDown old version new ⊎ GoesBeyond old version new ⊎ GoesPast old version new
-    ⊎ GoesRound old version new ⊎ GoesNearer old version new ⊎ GoesThrough old version new ⊎ GoesOn old version new
+    ⊎ GoesRound old version new ⊎ GoesNearer old version new ⊎ GoesThrough old version new ⊎ GoesOnMerged old version new
 Treats old version new (Some Again) = IsLost old version ⊎ IsOff old version
 Treats old version new (Some (Removed removed)) = IsAtGone old version removed
 Treats old version new (Some (Leaf leaf)) = IsAtEnd old version leaf ⊎ IsAtMerged old version leaf

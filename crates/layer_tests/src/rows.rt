@@ -33,12 +33,7 @@ const PUT: Words = &[
 ];
 
 /// `k09` is absent, over row 7.
-const DELETE: Words = &[
-    (0, 0x02000003),
-    (1, 7),
-    (3, 3),
-    (4, 0x6b30390000000000),
-];
+const DELETE: Words = &[(0, 0x02000003), (1, 7), (3, 3), (4, 0x6b30390000000000)];
 
 /// A leaf is split at `k09`, with page 2 to the right, over row 11.
 const SPLIT: Words = &[
@@ -105,13 +100,7 @@ const INDEX: Words = &[
 ];
 
 /// The same with both children at the empty key.
-const EQUAL_KEYS: Words = &[
-    (0, 0x02020101),
-    (12, 255),
-    (30, 1),
-    (39, 0x100),
-    (48, 2),
-];
+const EQUAL_KEYS: Words = &[(0, 0x02020101), (12, 255), (30, 1), (39, 0x100), (48, 2)];
 
 pub(crate) const EACH_KIND: [Words; 10] = [
     OPENING, INDEX, PUT, DELETE, SPLIT, TERM, HOLD, REMOVE, MERGE, UNTERM,
@@ -225,7 +214,10 @@ fn refuses_rows_that_spell_nothing(rt: HostRuntime) {
 
 #[test]
 fn refuses_rows_of_one_word(rt: HostRuntime) {
-    let refused = [is_refused(&[0; ROW_WORDS]), is_refused(&[u64::MAX; ROW_WORDS])];
+    let refused = [
+        is_refused(&[0; ROW_WORDS]),
+        is_refused(&[u64::MAX; ROW_WORDS]),
+    ];
     assert_eq!(rt; refused, [true; 2]);
 }
 

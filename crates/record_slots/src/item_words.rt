@@ -27,7 +27,10 @@ pub(crate) fn read_items(
     ensures none { IsFalse result → (others : List Item) → AreItemsIn level count words.now others → ⊥ }
 {
     for place in 0..count {
-        match item_in(level, &words[ITEM_WORDS * place..ITEM_WORDS * place + ITEM_WORDS]) {
+        match item_in(
+            level,
+            &words[ITEM_WORDS * place..ITEM_WORDS * place + ITEM_WORDS],
+        ) {
             Ok(item) => items.push(item),
             Err(_) => return false,
         }

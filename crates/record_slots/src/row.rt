@@ -3,7 +3,10 @@ ghost use Rattle.std.specs.Prelude.{◌≡◌, ◌≤◌};
 ghost use Rattle.record_slots.specs.Parts.{are_zeros, IsHeaderIn, IsNumberIn, IsRowIn};
 ghost use Rattle.record_slots.specs.Spells.{FindsOne};
 
-use crate::layout::{FIRST_ITEM, FIRST_KEY, FORM, FORM_UNIT, ITEM_UNIT, ITEM_WORDS, LEVEL_UNIT, PART_LIMIT, ROW_WORDS, SECOND_KEY};
+use crate::layout::{
+    FIRST_ITEM, FIRST_KEY, FORM, FORM_UNIT, ITEM_UNIT, ITEM_WORDS, LEVEL_UNIT, PART_LIMIT,
+    ROW_WORDS, SECOND_KEY,
+};
 use crate::texts::{bound_in, field_in};
 use bw_model::Key;
 use thiserror::Error;

@@ -8,7 +8,9 @@ ghost use Rattle.record_slots.specs.Parts.{first_word};
 ghost use Rattle.record_slots.specs.Spelling.{bound_words, content_words, field_words, item_words, items_words, packed, row_words, text_words, words_of};
 ghost use Rattle.record_slots.specs.Spells.{IsShortItem, IsSpelling};
 
-use crate::layout::{FORM, FORM_UNIT, HELD, ITEM_UNIT, LEVEL_UNIT, NO_BOUND, ROW_WORDS, TEXT_WORDS};
+use crate::layout::{
+    FORM, FORM_UNIT, HELD, ITEM_UNIT, LEVEL_UNIT, NO_BOUND, ROW_WORDS, TEXT_WORDS,
+};
 use arrayvec::ArrayVec;
 use base_page::{Content, Item};
 use bw_model::{Key, Value};

@@ -11,7 +11,7 @@ use Rattle.chain_search.specs.Fitted.{IsFitted}
 use Rattle.smo.specs.declared.version.Version.{Version}
 use Rattle.descent.specs.ReadGoals.{Goal}
 use Rattle.descent.specs.ReadLegs.{Leg, Down, Round, Past}
-use Rattle.descent.specs.ReadRounds.{CanGoRound, CanMeet, CanTreat, GoesOn, GoesThrough, IsAtLevel, LacksLeft, ReadRound, Treats, going_to, left_of, on, way_of}
+use Rattle.descent.specs.ReadRounds.{CanGoRound, CanMeet, CanTreat, GoesOnMerged, GoesThrough, IsAtLevel, LacksLeft, ReadRound, Treats, going_to, left_of, on, way_of}
 use Rattle.descent.specs.Versions.{NamesPages}
 use Rattle.descent.specs.Ways.{LeadsDown, LeadsOn, StaysLeft}
 use Rattle.descent.proofs.WayLaws.{down_within, goes_down, on_within}

@@ -79,13 +79,6 @@ came_back told same limit id olds news ones is joined says = subst (λ z. HaveCo
       joined.each place one.0 new one.1 at_new limit id place old (is.each place old one.0 at_old one.1);
 }
 
--- where no memory could be had all stay
-pub stayed : {A : Type 0} (limit : ℕ) (olds : List (Worker A)) → HaveComeBack false limit olds olds
-stayed limit olds = record {
-  count = refl;
-  each = λ place old new at_old at_new. same_Some new old (sym at_new ∙ at_old);
-}
-
 -- what was begun ends as this: by the promise of its thread, or as it is back already
 abbrev pub EndsAs : {A : Type 0} → Begun A → Back A → Type 0
 EndsAs (begun.Standing handle) back = IsBack handle.promise.limit handle.promise.may_run.value.id handle.promise.place handle.promise.worker.value back
