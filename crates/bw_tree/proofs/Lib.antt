@@ -6,6 +6,12 @@ mod Resuming
 mod Joining
 mod Resting
 mod Meeting
+mod Gathering
 mod Opened
+mod Ascending
+mod Alone
+mod Logged
+mod Filled
+mod Filling
 mod Kept
 mod Leaving

@@ -5,5 +5,6 @@ pub mod Seats
 pub mod Calls
 pub mod Told
 pub mod Trees
+pub mod Loaded
 pub mod Examples
 pub mod Closed

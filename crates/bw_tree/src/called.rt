@@ -29,6 +29,23 @@ pub enum CloseRefusal {
     Memory,
 }
 
+/// Why a tree wasn't opened with pairs.
+#[derive(Clone, Copy, Debug, PartialEq, Eq, Error)]
+pub enum LoadError {
+    /// The keys don't ascend strictly.
+    #[error("the keys don't ascend")]
+    Order,
+    /// A growth of memory was refused.
+    #[error("no memory for the tree")]
+    Memory,
+    /// An upsert found no free row or PID.
+    #[error("the tree is full")]
+    Full,
+    /// An upsert has spent its budget.
+    #[error("an upsert was spent")]
+    Spent,
+}
+
 /// A refusal to close, which hands back the tree and its seats.
 #[derive(Drop)]
 pub struct CloseError<A: Allocator> {

@@ -8,9 +8,11 @@
 mod called;
 mod closed;
 mod closing;
+mod dealing;
 mod examples;
 mod law;
 mod laws;
+mod loading;
 mod note;
 mod opening;
 mod reading;
@@ -18,9 +20,10 @@ mod seat;
 mod taking;
 mod tree;
 
-pub use called::{Called, CloseError, CloseRefusal};
+pub use called::{Called, CloseError, CloseRefusal, LoadError};
 pub use examples::{entries_tell_calls, last_call_is_answered};
 pub use laws::resumed_calls_are_calls;
+pub use loading::LOAD_BUDGET;
 pub use note::Note;
 pub use seat::BwSeat;
 pub use tree::Tree;

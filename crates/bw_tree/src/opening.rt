@@ -2,17 +2,11 @@
 ghost use Rattle.std.specs.Prelude.{◌≡◌, IfErr, IfOk};
 ghost use Rattle.bw_tree.specs.Trees.{AreFresh, IsRefusedAt, OpensAt};
 
-use crate::law::{TreeLaw, empty_run_is_lawful};
+use crate::dealing::{begun, dealt_out};
 use crate::seat::BwSeat;
 use crate::tree::Tree;
-use actors::{Actor, idle_actors_rest};
-use atomic_table::Table;
 use bw_model::{Limits, OpenError};
-use row_chain::HeldRow;
-use slot_rule::{opening_keeps, part};
 use std::alloc::{AllocError, Allocator};
-use std::mem::replace;
-use tree_words::opening_words;
 
 impl<A: Allocator + Copy> Tree<A> {
     /// A tree with one leaf, and a seat for each actor, in order; refused for want of memory alone. No later call on a seat takes
@@ -48,26 +42,8 @@ impl<A: Allocator + Copy> Tree<A> {
         ensures limits { IfOk result (λ opened. opened.0.limits ≡ limits) }
         ensures seats { IfOk result (λ opened. AreFresh opened.0 opened.1.items) }
     {
-        empty_run_is_lawful();
-        opening_keeps::<TreeLaw>();
-        idle_actors_rest();
-        let mut seats = Vec::with_capacity(alloc, limits.actors as usize)?;
-        let words = opening_words(alloc, &limits)?;
-        let (table, mut rest) = Table::of_words(alloc, words.as_slice(), &limits)?;
-        for number in 0..limits.actors as u8 {
-            let others = part(&table.shared, &mut rest, &limits);
-            let place = replace(&mut rest, others);
-            let Ok(actor) = Actor::<A>::idle(alloc, &limits) else {
-                return Err(AllocError);
-            };
-            seats.push(BwSeat {
-                place,
-                limits,
-                number,
-                actor,
-                room: HeldRow::<A>::new(alloc)?,
-            })?;
-        }
-        Ok((Tree { limits, table }, seats))
+        let (tree, first, others) = begun(alloc, limits)?;
+        let seats = dealt_out(alloc, &tree, first, others)?;
+        Ok((tree, seats))
     }
 }

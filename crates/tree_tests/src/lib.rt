@@ -12,6 +12,8 @@ mod jobs;
 #[cfg(test)]
 mod last_epoch;
 #[cfg(test)]
+mod loading;
+#[cfg(test)]
 mod notes;
 #[cfg(test)]
 mod numbered;

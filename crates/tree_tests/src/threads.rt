@@ -11,13 +11,13 @@ use workers::{Work, opened, reply, work_in_threads};
 
 /// Inserts 1,000 keys from a number on, each followed by a lookup of it, and counts the replies that are right.
 #[derive(Drop)]
-struct Inserts {
+pub(crate) struct Inserts {
     from: u32,
     right: u32,
 }
 
 impl Inserts {
-    fn new(from: u32) -> Inserts {
+    pub(crate) fn new(from: u32) -> Inserts {
         Inserts { from, right: 0 }
     }
 }

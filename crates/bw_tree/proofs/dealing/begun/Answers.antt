@@ -1,0 +1,23 @@
+use Rattle.std.proofs.Common.{[], sym, subst, ◌∙◌}
+use Rattle.atomic_table.specs.Table.{opening}
+use Rattle.bw_tree.specs.Runs.{IsLawfulRun}
+use Rattle.slot_rule.specs.Running.{Running}
+use Rattle.slot_rule.specs.Views.{dealt}
+use Rattle.bw_tree.proofs.Opened.{deals_first, fresh, is_tree}
+use Rattle.bw_tree.proofs.dealing.begun.Goals as goal
+
+pub of_words-requires : goal.of_words-requires
+of_words-requires g c = subst (λ words. Running c.args.limits (IsLawfulRun c.args.limits) (opening words [] (dealt c.args.limits))) (sym (c.as_slice.ensures.value ∙ c.in_ok-words.ensures)) (c.opening_keeps.ensures c.args.limits (c.empty_run_is_lawful.ensures c.args.limits))
+
+pub part-others-requires : goal.part-others-requires
+part-others-requires g c =
+    let tree = is_tree c.args.limits c.in_ok-table.table.shared.key c.in_ok-table.table.shared.table_id c.as_slice.result.now c.in_ok-table.ensures.0 c.in_ok-table.ensures.1 c.in_ok-table.ensures.5 (c.as_slice.ensures.value ∙ c.in_ok-words.ensures) (c.opening_keeps.ensures c.args.limits (c.empty_run_is_lawful.ensures c.args.limits)) in
+    record { table = record { same = c.in_ok-table.ensures.2; wide = tree.wide; own = tree.own } }
+
+pub invariant_of-first : goal.invariant_of-first
+invariant_of-first g c =
+    fresh c.args.limits 0 c.part-others.new.seat.me c.in-Ok.actor c.idle_actors_rest.ensures (c.empty_run_is_lawful.ensures c.args.limits) c.args.limits.allowed.some_actor
+    (deals_first c.args.limits c.in_ok-table.place.me c.part-others.new.seat.me c.in_ok-table.ensures.4 c.part-others.ensures.first) c.in-Ok.ensures.ok
+
+pub invariant_of-result : goal.invariant_of-result
+invariant_of-result g c = is_tree c.args.limits c.in_ok-table.table.shared.key c.in_ok-table.table.shared.table_id c.as_slice.result.now c.in_ok-table.ensures.0 c.in_ok-table.ensures.1 c.in_ok-table.ensures.5 (c.as_slice.ensures.value ∙ c.in_ok-words.ensures) (c.opening_keeps.ensures c.args.limits (c.empty_run_is_lawful.ensures c.args.limits))

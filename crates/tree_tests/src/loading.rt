@@ -1,0 +1,100 @@
+//! Trees that are opened with pairs.
+ghost use Rattle.std.specs.Prelude.{IfOk};
+ghost use Rattle.bw_tree.specs.Trees.{AreSeatsOf};
+
+use crate::numbered::{are_first, key, value};
+use crate::threads::{Inserts, done_at_once};
+use bw_model::{Key, Limits, Value};
+use bw_tree::{BwSeat, LoadError, Tree};
+use linked_list_allocator::LocalHeap;
+use std::alloc::{AllocError, Global};
+use std::test::Fail;
+
+/// A tree with the pairs, with its seats.
+fn opened_from(
+    alloc: Global,
+    limits: Limits,
+    pairs: &[(Key, Value)],
+) -> Result<(Tree, Vec<BwSeat>), LoadError>
+    ensures own { IfOk result (λ opened. AreSeatsOf opened.0 opened.1.items) }
+{
+    Tree::<Global>::open_from(alloc, limits, pairs)
+}
+
+/// The pairs of a tree that is opened with these, and closed.
+fn moved(
+    alloc: Global,
+    limits: Limits,
+    pairs: &[(Key, Value)],
+) -> Result<Option<Vec<(Key, Value)>>, LoadError> {
+    let (tree, seats) = opened_from(alloc, limits, pairs)?;
+    Ok(tree.close(alloc, seats).ok())
+}
+
+/// Whether they are moved.
+fn are_moved(alloc: Global, limits: Limits, pairs: &[(Key, Value)]) -> bool {
+    match moved(alloc, limits, pairs) {
+        Ok(Some(after)) => after.as_slice() == pairs,
+        _ => false,
+    }
+}
+
+/// The pairs of so many keys, in order.
+fn first_pairs(alloc: Global, count: u32) -> Result<Vec<(Key, Value)>, AllocError> {
+    let mut pairs = Vec::new(alloc);
+    for number in 0..count {
+        pairs.push((key(number), value(number)))?;
+    }
+    Ok(pairs)
+}
+
+// The pairs that two threads have inserted are moved into a tree of the same limits.
+#[test]
+fn the_pairs_of_two_threads_are_moved(rt: HostRuntime) -> Result<(), Fail> {
+    let limits = Limits::new(2, 4096, 16384, 1)?;
+    let works = vec![in rt.alloc(); Inserts::new(0), Inserts::new(1000)]?;
+    let Some((_, pairs)) = done_at_once(&rt, rt.alloc(), limits, works) else {
+        assert!(rt; false);
+        return Ok(());
+    };
+    assert!(rt; are_first(pairs.as_slice(), 2000));
+    assert!(rt; are_moved(rt.alloc(), limits, pairs.as_slice()));
+    Ok(())
+}
+
+// No pair, and 64 pairs in a tree of 64 rows.
+#[test]
+fn few_pairs_are_moved(rt: HostRuntime) -> Result<(), Fail> {
+    let limits = Limits::new(1, 64, 64, 1)?;
+    for count in [0, 1, 64] {
+        let pairs = first_pairs(rt.alloc(), count)?;
+        assert!(rt; are_moved(rt.alloc(), limits, pairs.as_slice()), "{count}");
+    }
+    Ok(())
+}
+
+// Too many pairs for the rows.
+#[test]
+fn many_pairs_are_too_many(rt: HostRuntime) -> Result<(), Fail> {
+    let limits = Limits::new(1, 64, 64, 1)?;
+    let pairs = first_pairs(rt.alloc(), 4000)?;
+    assert!(rt; moved(rt.alloc(), limits, pairs.as_slice()).err() == Some(LoadError::Full));
+    Ok(())
+}
+
+// The order of the keys is looked for before anything else: two equal keys, and a key below the one before it, also where there is no memory.
+#[test]
+fn keys_that_do_not_ascend_are_refused(rt: HostRuntime) -> Result<(), Fail> {
+    let limits = Limits::new(2, 64, 64, 1)?;
+    let heap = LocalHeap::new(rt.alloc(), 1_000)?;
+    for (one, other) in [(5, 5), (5, 4)] {
+        let pairs = [(key(1), value(1)), (key(one), value(1)), (key(other), value(2))];
+        assert!(rt; moved(rt.alloc(), limits, &pairs).err() == Some(LoadError::Order));
+        let refused = Tree::<&LocalHeap>::open_from(&heap, limits, &pairs).err();
+        assert!(rt; refused == Some(LoadError::Order));
+    }
+    let pairs = [(key(1), value(1)), (key(2), value(2))];
+    let refused = Tree::<&LocalHeap>::open_from(&heap, limits, &pairs).err();
+    assert!(rt; refused == Some(LoadError::Memory));
+    Ok(())
+}
