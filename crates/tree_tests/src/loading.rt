@@ -40,7 +40,7 @@ fn are_moved(alloc: Global, limits: Limits, pairs: &[(Key, Value)]) -> bool {
 }
 
 /// The pairs of so many keys, in order.
-fn first_pairs(alloc: Global, count: u32) -> Result<Vec<(Key, Value)>, AllocError> {
+pub(crate) fn first_pairs(alloc: Global, count: u32) -> Result<Vec<(Key, Value)>, AllocError> {
     let mut pairs = Vec::new(alloc);
     for number in 0..count {
         pairs.push((key(number), value(number)))?;
@@ -88,7 +88,11 @@ fn keys_that_do_not_ascend_are_refused(rt: HostRuntime) -> Result<(), Fail> {
     let limits = Limits::new(2, 64, 64, 1)?;
     let heap = LocalHeap::new(rt.alloc(), 1_000)?;
     for (one, other) in [(5, 5), (5, 4)] {
-        let pairs = [(key(1), value(1)), (key(one), value(1)), (key(other), value(2))];
+        let pairs = [
+            (key(1), value(1)),
+            (key(one), value(1)),
+            (key(other), value(2)),
+        ];
         assert!(rt; moved(rt.alloc(), limits, &pairs).err() == Some(LoadError::Order));
         let refused = Tree::<&LocalHeap>::open_from(&heap, limits, &pairs).err();
         assert!(rt; refused == Some(LoadError::Order));

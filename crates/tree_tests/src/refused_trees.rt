@@ -1,10 +1,11 @@
-//! Trees of which each growth of memory is refused in turn: as they are opened, and as they are closed.
+//! Trees of which each growth of memory is refused in turn: as they are opened, with pairs or without, and as they are closed.
 
+use crate::loading::first_pairs;
 use crate::numbered::are_first;
 use crate::runs::Run;
 use crate::trees::runs;
-use bw_model::{Limits, OpenError};
-use bw_tree::{CloseRefusal, Tree};
+use bw_model::{Key, Limits, OpenError, Value};
+use bw_tree::{CloseRefusal, LoadError, Tree};
 use refusing::Refusing;
 use std::alloc::Global;
 use std::test::Fail;
@@ -61,6 +62,31 @@ fn each_growth_of_an_opening_is_refused(rt: HostRuntime) -> Result<(), Fail> {
             "{actors}"
         );
     }
+    Ok(())
+}
+
+/// How many growths an opening with pairs wants, where each of them that is refused is told as want of memory.
+fn loading_growths<'a>(heap: Heap<'a>, limits: Limits, pairs: &[(Key, Value)]) -> Option<u64> {
+    for growth in 0..MOST {
+        heap.set(growth);
+        match Tree::<Heap<'a>>::open_from(heap, limits, pairs).err() {
+            None => return (heap.left() == 0).then_some(growth),
+            Some(LoadError::Memory) => {}
+            Some(_) => return None,
+        }
+    }
+    None
+}
+
+// The pairs take no memory of their own.
+#[test]
+fn each_growth_of_a_loading_is_refused(rt: HostRuntime) -> Result<(), Fail> {
+    let heap = Refusing::new(rt.alloc());
+    let limits = Limits::new(2, 64, 256, 1)?;
+    let pairs = first_pairs(rt.alloc(), PAIRS)?;
+    let count = loading_growths(&heap, limits, pairs.as_slice());
+    println!(rt; "loading: {count:?} growths")?;
+    assert!(rt; count > Some(0) && count == growths(&heap, limits, None));
     Ok(())
 }
 
