@@ -12,6 +12,7 @@ use record_slots::{BadRow, FORM_UNIT, ROW_WORDS, from_words};
 /// The row of today's form that spells the record which the words spell by the first form, refused exactly where they spell none.
 ///
 /// In the first form keys and values had at most 32 bytes, and the first word had no form. A row is decoded once.
+#[tactic(auto, using(crate::proofs::WideLaws::first_head))]
 pub fn widen(words: &[u64; FIRST_ROW_WORDS]) -> Result<[u64; ROW_WORDS], BadRow>
     ensures spelled { IfOk result (λ wide. (content : Record) × (IsFirstSpelling content words.now × IsSpelling content wide)) }
     ensures refused { IfErr result (λ fault. (content : Record) → IsFirstSpelling content words.now → ⊥) }

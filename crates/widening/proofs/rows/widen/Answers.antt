@@ -1,19 +1,16 @@
-use Rattle.std.proofs.Common.{Result, Ok, Err, subst, sym, arith}
+use Rattle.std.proofs.Common.{Result, Ok, Err, subst, sym}
 use Rattle.std.specs.Prelude.{IfErr, IsErr}
 use Rattle.deltas.specs.declared.record.Record.{Record}
 use Rattle.record_slots.specs.Spells.{HasTexts, IsSpelling}
 use Rattle.record_slots.proofs.SpellingLaws.{spelling_one}
 use Rattle.widening.specs.FirstForm.{IsFew, IsFirstSpelling}
 use Rattle.widening.specs.Spread.{spread}
-use Rattle.widening.proofs.WideLaws.{few_texts, first_head, narrowed, widened}
+use Rattle.widening.proofs.WideLaws.{few_texts, narrowed, widened}
 use Rattle.widening.proofs.rows.widen.Goals as goal
 
 refused : {A E : Type 0} (result : Result A E) (none : Type 0) → IsErr result → none → IfErr result (λ fault. none)
 refused (Ok a) none h n = tt
 refused (Err e) none h n = n
-
-pub returns-then-words-ge-FORM_UNIT-clause-refused : goal.returns-then-words-ge-FORM_UNIT-clause-refused
-returns-then-words-ge-FORM_UNIT-clause-refused c content h = let low = first_head content c.args.words.now h in absurd (omega (arith, c.if-words-ge-FORM_UNIT.true))
 
 pub returns-in_err-content-clause-refused : goal.returns-in_err-content-clause-refused
 returns-in_err-content-clause-refused c =
