@@ -1,0 +1,1 @@
+//! Walks to their end.
