@@ -104,11 +104,13 @@ impl Cursor {
             return Walk::End;
         };
         match run(tree, seat, from, self.asked, budget) {
-            Called::Done(Reply::Page { items, next }) => {
+            Called::Done(reply) => {
+                let Reply::Page { items, next } = reply else {
+                    unreachable!()
+                };
                 self.show(items, next);
                 Walk::Page
             }
-            Called::Done(_) => unreachable!(),
             Called::Spent => {
                 self.asked = true;
                 Walk::Spent
