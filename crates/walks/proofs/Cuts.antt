@@ -73,7 +73,7 @@ module _ (bound : Option (List ℕ)) (key : List ℕ) where
   first_end None low up = up
   first_end (Some high) low up = either (is_under high bound) (λ inn. rw inn low) (λ out. rw out up)
 
-  below_bound : (b : Option (List ℕ)) (high : List ℕ) → is_under high b ≡ true → is_below key high ≡ true → is_under key b ≡ true
+  pub below_bound : (b : Option (List ℕ)) (high : List ℕ) → is_under high b ≡ true → is_below key high ≡ true → is_under key b ≡ true
   below_bound None high is low = refl
   below_bound (Some end) high is low = let through : key_cmp key end ≡ Less = below-trans key high end (below_from key high low) (below_from high end is) in ap is_lt through
 
@@ -81,7 +81,7 @@ module _ (bound : Option (List ℕ)) (key : List ℕ) where
   below_high None high is up = cc
   below_high (Some end) high is up = ap is_lt (below_reach key end high (below_from key end up) is)
 
-  both_ends : (high : Option (List ℕ)) → is_under key (end_under bound (place_under bound high)) ≡ true → (is_under key high ≡ true) × (is_under key bound ≡ true)
+  pub both_ends : (high : Option (List ℕ)) → is_under key (end_under bound (place_under bound high)) ≡ true → (is_under key high ≡ true) × (is_under key bound ≡ true)
   both_ends None h = (refl, h)
   both_ends (Some high) h = either (is_under high bound)
       (λ inn. let low : is_below key high ≡ true = subst (λ b. is_under key (end_under bound (if b then Some high else None)) ≡ true) inn h in (low, below_bound bound high inn low))

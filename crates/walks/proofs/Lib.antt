@@ -3,3 +3,5 @@ pub mod Cuts
 pub mod Paging
 pub mod Replying
 pub mod Spans
+pub mod Walked
+pub mod Walking

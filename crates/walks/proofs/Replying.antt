@@ -1,6 +1,6 @@
 -- What a cursor page has replied.
 use Rattle.std.proofs.Common.{◌≡◌, ◌≤◌, ◌<◌, ◌+◌, ◌⊎◌, ℕ, zero, suc, List, [], ◌∷◌, ◌++◌, length, take, drop, Bool, true, false, Option, Some, None, IsSome, IsTrue, inl, inr, refl, sym, ap, subst, ◌∙◌, arith, eq-eqb}
-use Rattle.std.specs.Prelude.{if◌then◌else◌, slice_get, ◌==◌}
+use Rattle.std.specs.Prelude.{if◌then◌else◌, not, slice_get, ◌==◌}
 use Rattle.std.proofs.lemmas.List.{length-append, length-take-le, take-append-drop, drop-take}
 use mathlib.Core.Logic.{dite}
 use Rattle.std.proofs.Math.Decide.{dec_le}
@@ -25,6 +25,10 @@ use Rattle.op_machine.specs.Answered.{FindsTidy, IsAnswered, IsTrueReply, Replie
 use Rattle.op_machine.specs.Linearized.{IsLinearized}
 use Rattle.op_machine.specs.Operations.{Finishes, IsOperation, IsOwnEntry, IsOwnStep, Operation}
 use Rattle.op_machine.specs.Points.{IsPoint, log_at}
+use Rattle.base_page.proofs.KeyLaws.{and_right, either}
+use Rattle.bw_model.specs.Bytes.{is_below, is_under}
+use Rattle.chain_search.specs.Chains.{covers, high_in, low_in}
+use Rattle.chain_search.specs.SideChain.{LivePage}
 use Rattle.walks.proofs.Spans.{begun_since}
 use Rattle.walks.specs.Pages.{end_under, place_under, pairs_under, IsPageOf, IsShown, Page, operation_of}
 use Rattle.walks.proofs.Cuts.{cut_pairs}
@@ -37,6 +41,7 @@ pub record IsPaged (run : List Entry) (points : List Bool) (operation : Operatio
   pub step : ℕ
   pub own : IsOwnStep run operation step
   pub point : IsPoint points step
+  pub ahead : is_under from high ≡ true
   pub pairs : IsPairsOf (log_at run points step) from high items
 
 module _ (limits : Limits) (run : List Entry) (points : List Bool) (operation : Operation) (from : List ℕ) (asks : operation.command ≡ command.Page from) where
@@ -49,11 +54,16 @@ module _ (limits : Limits) (run : List Entry) (points : List Bool) (operation : 
         step = n;
         own = own;
         point = point;
+        ahead = subst (λ key. is_under key page.next ≡ true) same (covered page.from page.next page.page.leaf page.page.ends page.page.stands.covers);
         pairs = subst (λ key. IsPairsOf (log_at run points n) key page.next page.items) same page.page.pairs;
       }
     where
       from_same : {a b : List ℕ} → command.Page a ≡ command.Page b → a ≡ b
       from_same e = cc
+
+      -- the leaf that has the key ends above it
+      covered : (key : List ℕ) (high : Option (List ℕ)) (leaf : LivePage) → high_in leaf.chain ≡ high → IsTrue (covers leaf.chain key) → is_under key high ≡ true
+      covered key high leaf ends has = subst (λ end. is_under key end ≡ true) ends (and_right (not (is_below key (low_in leaf.chain))) (is_under key (high_in leaf.chain)) has)
 
   at_point : (answer : Reply) → RepliesAtPoint limits run points operation answer → IsPaged run points operation from answer
   at_point answer (n, own, point, inl by_value) = absurd (let none = sym (ap (λ c. reply_of c (logged_value (log_at run points n) (command_key operation.command))) asks) ∙ by_value in cc)
@@ -146,10 +156,15 @@ page_is_shown limits turns run bound page linear is =
       own = p.own;
       within = own_before limits run linear.run.run (operation_of page) page.done (reply.Page is.items is.high) is.ends p.step p.own;
       point = p.point;
+      ahead = subst (λ next. is_under page.from next ≡ true) (sym (is.next ∙ ap (place_under bound) same_high)) (goes_ahead p.high p.ahead);
       pairs = subst (λ (z : Option (List ℕ) × List (List ℕ × List ℕ)). IsPairsOf (log_at run linear.points p.step) page.from (end_under bound z.0) z.1)
           (λ i. (sym (is.next ∙ ap (place_under bound) same_high) i, sym (is.pairs ∙ ap (pairs_under bound) same_items) i)) cut;
     }
   where
+    goes_ahead : (high : Option (List ℕ)) → is_under page.from high ≡ true → is_under page.from (place_under bound high) ≡ true
+    goes_ahead None up = refl
+    goes_ahead (Some high) up = either (is_under high bound) (λ within. rw within up) (λ past. rw past refl)
+
     items_same : {a b : List (List ℕ × List ℕ)} {x y : Option (List ℕ)} → reply.Page a x ≡ reply.Page b y → a ≡ b
     items_same e = cc
 

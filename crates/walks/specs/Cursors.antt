@@ -1,5 +1,5 @@
 -- Cursors, and what asking one for its next page comes to.
-use Rattle.std.specs.Prelude.{◌≡◌, ◌+◌, ◌≤◌, ◌++◌, ℕ, Bool, true, false, List, Option, None, Some, if◌then◌else◌, length}
+use Rattle.std.specs.Prelude.{◌≡◌, ◌+◌, ◌≤◌, ◌++◌, ◌-◌, ◌^◌, ◌⊎◌, ℕ, Bool, true, false, List, [], Option, None, Some, if◌then◌else◌, length}
 use Rattle.bw_model.specs.declared.command.Command.{Command}
 use Rattle.bw_model.specs.declared.command.Command.TheVariants as command
 use Rattle.bw_model.specs.declared.command.Reply.{Reply}
@@ -14,6 +14,8 @@ use Rattle.walks.specs.Pages.{IsPageOf, Page}
 use Rattle.walks.specs.Walks.{IsWalk, pairs_shown}
 use Rattle.walks.specs.declared.cursor.Walk.{Walk}
 use Rattle.walks.specs.declared.cursor.Walk.TheVariants as walk
+use Rattle.walks.specs.declared.scan.Scanned.{Scanned}
+use Rattle.walks.specs.declared.scan.Scanned.TheVariants as scanned
 
 -- a cursor: the key at which it stands, if it isn't at its end; its bound, if it has one; whether a seat has an operation of its; and the
 -- pairs that it shows, those of the page before
@@ -67,11 +69,33 @@ IsNextOf old seat budget walk.Page new later = HasShown old seat budget new late
 IsNextOf old seat budget walk.Spent new later = HasAsked old seat budget new later
 IsNextOf old seat budget walk.End new later = (old.at ≡ None) × (new ≡ old) × (later ≡ seat)
 
--- The pairs are what pages show, one after another in one walk, which went on from where the cursor stood to where it stands. It was after
--- all that the seat had seen while it was idle.
-pub record HasWalked (old : Cursor) (seat : Seat) (pairs : List (List ℕ × List ℕ)) (new : Cursor) (later : Seat) : Type 0 where
+-- A list of pairs grew by what pages show that follow one another in one walk, from where the cursor stood to where it stands. After whatever
+-- the seat had seen while it was idle the walk began, and it was over before something that the seat has seen while it was idle.
+pub record HasWalked (old : Cursor) (seat : Seat) (before after : List (List ℕ × List ℕ)) (new : Cursor) (later : Seat) : Type 0 where
   pub pages : List Page
-  pub are : pairs ≡ pairs_shown pages
-  pub walk : (early : List Entry) → WasIdle seat early → IsWalk later.seen old.bound old.at (length early) pages new.at (length later.seen)
+  pub shown : after ≡ before ++ pairs_shown pages
+  pub walk : (early : List Entry) → WasIdle seat early → (late : List Entry) × WasIdle later late × IsWalk later.seen old.bound old.at (length early) pages new.at (length late)
   pub bound : new.bound ≡ old.bound
   pub grows : StartsWith later.seen seat.seen
+
+-- what an answer adds to a list
+abbrev pub added_by : Walk → Cursor → List (List ℕ × List ℕ)
+added_by walk.Page cursor = cursor.pairs
+added_by walk.Spent cursor = []
+added_by walk.End cursor = []
+
+-- The budget of one page was spent, after all that the first seat had seen.
+pub record IsSpentOn (first : Seat) (budget : ℕ) (new : Cursor) (later : Seat) : Type 0 where
+  pub old : Cursor
+  pub seat : Seat
+  pub grows : StartsWith seat.seen first.seen
+  pub asked : HasAsked old seat budget new later
+
+-- As many pages were shown as a scan shows at most, 2^64 - 1.
+abbrev pub HasManyPages : Cursor → Seat → List (List ℕ × List ℕ) → List (List ℕ × List ℕ) → Cursor → Seat → Type 0
+HasManyPages old seat before after new later = (walked : HasWalked old seat before after new later) × (length walked.pages ≡ 2 ^ 64 - 1)
+
+-- Why a scan stopped.
+abbrev pub HasStopped : Scanned → Cursor → Seat → ℕ → List (List ℕ × List ℕ) → List (List ℕ × List ℕ) → Cursor → Seat → Type 0
+HasStopped scanned.End old seat budget before after new later = new.at ≡ None
+HasStopped scanned.Spent old seat budget before after new later = IsSpentOn seat budget new later ⊎ HasManyPages old seat before after new later

@@ -1,5 +1,5 @@
 -- The pages of a walk, as a run tells of them.
-use Rattle.std.specs.Prelude.{◌≡◌, ◌≤◌, ℕ, Bool, List, Option, None, Some, filter, if◌then◌else◌}
+use Rattle.std.specs.Prelude.{◌≡◌, ◌≤◌, ℕ, Bool, List, Option, None, Some, filter, if◌then◌else◌, IsTrue}
 use Rattle.bw_model.specs.Bytes.{is_under}
 use Rattle.bw_model.specs.Pairs.{IsPairsOf}
 use Rattle.bw_model.specs.declared.command.Command.TheVariants as command
@@ -44,10 +44,12 @@ pub record IsPageOf (run : List Entry) (bound : Option (List ℕ)) (page : Page)
   pub next : page.next ≡ place_under bound high
   pub pairs : page.pairs ≡ pairs_under bound items
 
--- At its operation's point, a step of the operation's own, the map has exactly the page's pairs in the page's range.
+-- At its operation's point, a step of the operation's own, the map has exactly the page's pairs in the page's range. The walk goes on above
+-- where the page begins.
 pub record IsShown (run : List Entry) (points : List Bool) (bound : Option (List ℕ)) (page : Page) : Type 0 where
   pub step : ℕ
   pub own : IsOwnStep run (operation_of page) step
   pub within : step ≤ page.done
   pub point : IsPoint points step
+  pub ahead : IsTrue (is_under page.from page.next)
   pub pairs : IsPairsOf (log_at run points step) page.from (end_under bound page.next) page.pairs

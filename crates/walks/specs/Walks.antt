@@ -21,10 +21,6 @@ pairs_shown pages = flat_map (λ page. page.pairs) pages
 abbrev pub AreAscending : List (List ℕ × List ℕ) → Type 0
 AreAscending pairs = IsStrictlySortedBy key_cmp (map (λ pair. pair.0) pairs)
 
--- All keys are in the range.
-abbrev pub AreInRange : List ℕ → Option (List ℕ) → List (List ℕ × List ℕ) → Type 0
-AreInRange from bound pairs = (key value : List ℕ) → Contains pairs (key, value) → IsTrue (is_in_range from bound key)
-
 -- The map has the value at the key before each step between the two places.
 abbrev pub HasThroughout : List Entry → List Bool → ℕ → ℕ → List ℕ → List ℕ → Type 0
 HasThroughout run points since till key value = (n : ℕ) → since ≤ n → n < till → logged_value (log_at run points n) key ≡ Some value
@@ -32,3 +28,11 @@ HasThroughout run points since till key value = (n : ℕ) → since ≤ n → n 
 -- It has the value at the key before one of these steps.
 abbrev pub HasOnce : List Entry → List Bool → ℕ → ℕ → List ℕ → List ℕ → Type 0
 HasOnce run points since till key value = (n : ℕ) × (since ≤ n) × (n < till) × (logged_value (log_at run points n) key ≡ Some value)
+
+-- What pairs tell of a map that others change meanwhile: their keys ascend strictly and are in the range; what the map has throughout is among
+-- them, and what is among them it has had.
+pub record TellMap (run : List Entry) (points : List Bool) (since till : ℕ) (from : List ℕ) (end : Option (List ℕ)) (pairs : List (List ℕ × List ℕ)) : Type 0 where
+  pub ascending : AreAscending pairs
+  pub within : (key value : List ℕ) → Contains pairs (key, value) → IsTrue (is_in_range from end key)
+  pub stays : (key value : List ℕ) → IsTrue (is_in_range from end key) → HasThroughout run points since till key value → Contains pairs (key, value)
+  pub was : (key value : List ℕ) → Contains pairs (key, value) → HasOnce run points since till key value
