@@ -10,7 +10,7 @@ use Rattle.bw_tree.specs.Seats.{IsSame, Seat, unfinished_command}
 use Rattle.bw_tree.specs.declared.called.Called.{Called}
 use Rattle.bw_tree.specs.declared.called.Called.TheVariants as called
 use Rattle.bw_tree.proofs.Going.{starts_on}
-use Rattle.walks.specs.Cursors.{Cursor, HasAsked, HasShown, HasWalked, IsNextOf, IsRun, WasIdle, added_by}
+use Rattle.walks.specs.Cursors.{Cursor, HasAsked, HasShown, HasWalked, IsNextOf, IsRun, IsSpentOn, WasIdle, added_by}
 use Rattle.walks.specs.Pages.{Page}
 use Rattle.walks.specs.Walks.{IsWalk, pairs_shown}
 use Rattle.walks.specs.declared.cursor.Walk.{Walk}
@@ -73,3 +73,27 @@ walked_on first mid last seat between later before middle after one more = recor
   bound = more.bound ∙ one.bound;
   grows = starts_on seat.seen between.seen later.seen one.grows more.grows;
 }
+
+-- one answer more
+module _ (first mid last : Cursor) (seat between later : Seat) (budget : ℕ) (answered : Walk) (before middle after : List (List ℕ × List ℕ)) (same : IsSame between later) (next : IsNextOf mid between budget answered last later)
+    (adds : after ≡ middle ++ added_by answered last) where
+  pub walked_more : HasWalked first seat before middle mid between → HasWalked first seat before after last later
+  walked_more walked = walked_on first mid last seat between later before middle after walked
+      (subst (λ pairs. HasWalked mid between middle pairs last later) (sym adds) (walked_next mid last between later budget answered middle same next))
+
+  pub spent_on : answered ≡ walk.Spent → HasWalked first seat before middle mid between → IsSpentOn seat budget last later
+  spent_on is walked = record { old = mid; seat = between; grows = walked.grows; asked = subst (λ one. IsNextOf mid between budget one last later) is next }
+
+  pub walked_counted : answered ≡ walk.Page → (n : ℕ) → (walked : HasWalked first seat before middle mid between) × (length walked.pages ≡ n) → (walked : HasWalked first seat before after last later) × (length walked.pages ≡ n + 1)
+  unfolding walked_on walked_page
+  walked_counted is n (walked, count) =
+      let shows : HasShown mid between budget last later = subst (λ one. IsNextOf mid between budget one last later) is next in
+      let more : HasWalked mid between middle (middle ++ last.pairs) last later = walked_page mid last between later budget middle same shows in
+      let whole : HasWalked first seat before (middle ++ last.pairs) last later = walked_on first mid last seat between later before middle (middle ++ last.pairs) walked more in
+      let is_after : middle ++ last.pairs ≡ after = sym (adds ∙ ap (λ one. middle ++ added_by one last) is) in
+      subst (λ pairs. (walked : HasWalked first seat before pairs last later) × (length walked.pages ≡ n + 1)) is_after
+          (whole, let long = length-append walked.pages (shows.page ∷ []) in omega arith)
+
+-- nothing walked yet
+pub walked_nothing : (cursor : Cursor) (seat : Seat) (pairs : List (List ℕ × List ℕ)) → (walked : HasWalked cursor seat pairs pairs cursor seat) × (length walked.pages ≡ 0)
+walked_nothing cursor seat pairs = (record { pages = []; shown = sym (append-nil pairs); walk = λ early was. (early, was, (refl, omega arith)); bound = refl; grows = ([], sym (append-nil seat.seen)) }, refl)

@@ -3,6 +3,7 @@ ghost use Rattle.std.specs.Prelude.{◌≡◌, ◌≤◌, None, Some, [], false,
 ghost use Rattle.std.specs.List.{prefix_len};
 ghost use Rattle.bw_model.specs.Bytes.{is_under};
 ghost use Rattle.bw_model.specs.declared.command.Command.TheVariants as command;
+ghost use Rattle.bw_model.specs.declared.pairs.TheConstants.{MAX_PAIRS};
 ghost use Rattle.bw_model.specs.declared.command.Reply.TheVariants as reply;
 ghost use Rattle.bw_tree.specs.Runs.{IsOneHistory};
 ghost use Rattle.bw_tree.specs.Seats.{IsSame, unfinished_command};
@@ -64,7 +65,8 @@ impl Cursor {
 
     /// The pairs of the page that was shown last.
     pub fn pairs(&self) -> &[(Key, Value)]
-        ensures { result.now ≡ self.now.pairs }
+        ensures pairs { result.now ≡ self.now.pairs }
+        ensures few { length result.now ≤ MAX_PAIRS }
     {
         &self.page.as_slice()[..self.shown]
     }

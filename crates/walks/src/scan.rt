@@ -48,6 +48,7 @@ impl Cursor {
                 Walk::End => return Ok(Scanned::End),
             }
         }
+        seat.saw_one_history();
         Ok(Scanned::Spent)
     }
 
