@@ -58,7 +58,7 @@ told actor commands calls (entry ∷ run) asked fits is = by_entry entry (λ com
     by_entry : (e : Entry) → IsTold actor run asked → fold commands_after (commands_after commands e) run actor ≡ Some asked → EndsUnanswered (calls_along calls (own_entries actor (e ∷ run))) asked
     by_entry (Begin who c) rest along = either_way (Begin who c) (commands_after commands (Begin who c)) rest along
         (λ mine d has. let some : Some c ≡ Some d = subst (λ (b : Bool). (if b then Some c else commands actor) ≡ Some d) mine has in let same : c ≡ d = cc in
-            subst (EndsUnanswered (calls ++ (c, None) ∷ [])) same (calls, refl))
+        subst (EndsUnanswered (calls ++ (c, None) ∷ [])) same (calls, refl))
         (λ others d has. fits d (subst (λ (b : Bool). (if b then Some c else commands actor) ≡ Some d) others has))
     by_entry (Step who step answer None) rest along = either_way (Step who step answer None) commands rest along (λ mine c has. fits c has) (λ others c has. fits c has)
     by_entry (Step who step answer (Some given)) rest along = either_way (Step who step answer (Some given)) (commands_after commands (Step who step answer (Some given))) rest along
@@ -130,7 +130,7 @@ module _ (limits : Limits) (run front : List Entry) (actor : ℕ) (asked : Comma
       let (c, has) = some_of (command_of front actor) (IsRun-last limits front leave (subst (IsRun limits) ends is_run)).0 in
       let (before, unanswered) = last_unanswered actor front c has in
       let answers : calls_of actor run ≡ before ++ (c, Some answered) ∷ [] =
-          ap (calls_of actor) ends ∙ calls_push actor front leave (eq-eqb actor actor refl) ∙ ap (λ calls. answered_last calls answered) unanswered ∙ answered_snoc before c None answered in
+      ap (calls_of actor) ends ∙ calls_push actor front leave (eq-eqb actor actor refl) ∙ ap (λ calls. answered_last calls answered) unanswered ∙ answered_snoc before c None answered in
       let same : c ≡ asked = ap (λ pair. pair.0) (same_last before calls (c, Some answered) (asked, Some answered) (sym answers ∙ is_last)) in
       has ∙ ap Some same
 
@@ -144,14 +144,18 @@ module _ (limits : Limits) (run front : List Entry) (actor : ℕ) (asked : Comma
   is_operation = subst (λ es. slice_get es opened.0 ≡ Some (Begin actor asked)) (sym ends) (slice_get_kept front (leave ∷ []) opened.0 (Begin actor asked) opened.1.begins)
 
   pub finishes : Finishes run operation (length front) answered
-  finishes = (Leave, answer.Done, record {
-    begun = slice_get_below front opened.0 (Begin actor asked) opened.1.begins;
-    entry = subst (λ es. slice_get es (length front) ≡ Some leave) (sym ends) (slice_get-push front leave);
-    not_ended = λ later c after before at. elim (slice_get-push_cases front leave later (Begin actor c) (subst (λ es. slice_get es later ≡ Some (Begin actor c)) ends at)) [
-      | inl there ↦ opened.1.last later c after there
-      | inr last ↦ let here = last.0 in omega arith
-    ];
-  })
+  finishes = (
+    Leave,
+    answer.Done,
+    record {
+      begun = slice_get_below front opened.0 (Begin actor asked) opened.1.begins;
+      entry = subst (λ es. slice_get es (length front) ≡ Some leave) (sym ends) (slice_get-push front leave);
+      not_ended = λ later c after before at. elim (slice_get-push_cases front leave later (Begin actor c) (subst (λ es. slice_get es later ≡ Some (Begin actor c)) ends at)) [
+        | inl there ↦ opened.1.last later c after there
+        | inr last ↦ let here = last.0 in omega arith
+      ];
+    },
+  )
 
   -- it was begun after what the actor has seen while it had none
   pub since : (early more : List Entry) → front ≡ early ++ more → command_of early actor ≡ None → length early ≤ opened.0

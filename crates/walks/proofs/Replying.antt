@@ -147,7 +147,7 @@ module _ (limits : Limits) (run : List Entry) (is_run : IsRun limits run) (opera
 pub page_is_shown : (limits : Limits) (turns : List Turn) (run : List Entry) (bound : Option (List ℕ)) (page : Page) (linear : IsLinearized limits turns run) → IsPageOf run bound page → IsShown run linear.points bound page
 page_is_shown limits turns run bound page linear is =
     let p : IsPaged run linear.points (operation_of page) page.from (reply.Page is.items is.high) =
-        paged limits run linear.points (operation_of page) page.from refl (reply.Page is.items is.high) (linear.answered.each (operation_of page) page.done (reply.Page is.items is.high) is.begins is.ends) in
+    paged limits run linear.points (operation_of page) page.from refl (reply.Page is.items is.high) (linear.answered.each (operation_of page) page.done (reply.Page is.items is.high) is.begins is.ends) in
     let same_items : is.items ≡ p.items = items_same p.is in
     let same_high : is.high ≡ p.high = high_same p.is in
     let cut = cut_pairs (logged_value (log_at run linear.points p.step)) page.from p.high bound p.items p.pairs in

@@ -54,20 +54,20 @@ held commands (entry ∷ run) actor command is = elim (held (commands_after comm
     by_entry : (e : Entry) → commands_after commands e actor ≡ Some command → BeginsNothing run actor → IsHeld commands (e ∷ run) actor command
     by_entry (Begin other asked) has nothing = either (actor == other)
         (λ same.
-            let who : actor ≡ other = eqb-true actor other same in
-            let some : Some asked ≡ Some command = subst (λ b. (if b then Some asked else commands actor) ≡ Some command) same has in
-            let what : asked ≡ command = cc in
-            inr (0, subst (λ a. IsOpenAt (Begin a asked ∷ run) actor command 0) who (subst (λ c. IsOpenAt (Begin actor c ∷ run) actor command 0) (sym what) (open_here run actor command nothing))))
+        let who : actor ≡ other = eqb-true actor other same in
+        let some : Some asked ≡ Some command = subst (λ b. (if b then Some asked else commands actor) ≡ Some command) same has in
+        let what : asked ≡ command = cc in
+        inr (0, subst (λ a. IsOpenAt (Begin a asked ∷ run) actor command 0) who (subst (λ c. IsOpenAt (Begin actor c ∷ run) actor command 0) (sym what) (open_here run actor command nothing))))
         (λ apart.
-            let kept : commands actor ≡ Some command = subst (λ b. (if b then Some asked else commands actor) ≡ Some command) apart has in
-            let differs : actor ≡ other → ⊥ = eqb-false actor other apart in
-            inl (kept, nothing_more (Begin other asked) run actor (λ more e. differs (cc)) nothing))
+        let kept : commands actor ≡ Some command = subst (λ b. (if b then Some asked else commands actor) ≡ Some command) apart has in
+        let differs : actor ≡ other → ⊥ = eqb-false actor other apart in
+        inl (kept, nothing_more (Begin other asked) run actor (λ more e. differs (cc)) nothing))
     by_entry (Step other step answer None) has nothing = inl (has, nothing_more (Step other step answer None) run actor (λ asked e. cc) nothing)
     by_entry (Step other step answer (Some reply)) has nothing = either (actor == other)
         (λ same. let none : None ≡ Some command = subst (λ b. (if b then None else commands actor) ≡ Some command) same has in absurd (cc))
         (λ apart.
-            let kept : commands actor ≡ Some command = subst (λ b. (if b then None else commands actor) ≡ Some command) apart has in
-            inl (kept, nothing_more (Step other step answer (Some reply)) run actor (λ asked e. cc) nothing))
+        let kept : commands actor ≡ Some command = subst (λ b. (if b then None else commands actor) ≡ Some command) apart has in
+        inl (kept, nothing_more (Step other step answer (Some reply)) run actor (λ asked e. cc) nothing))
 
 -- what an actor has in hand it has begun
 pub in_hand : (run : List Entry) (actor : ℕ) (command : Command) → command_of run actor ≡ Some command → (start : ℕ) × IsOpenAt run actor command start

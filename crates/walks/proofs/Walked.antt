@@ -92,7 +92,7 @@ module _ (first mid last : Cursor) (seat between later : Seat) (budget : ℕ) (a
       let whole : HasWalked first seat before (middle ++ last.pairs) last later = walked_on first mid last seat between later before middle (middle ++ last.pairs) walked more in
       let is_after : middle ++ last.pairs ≡ after = sym (adds ∙ ap (λ one. middle ++ added_by one last) is) in
       subst (λ pairs. (walked : HasWalked first seat before pairs last later) × (length walked.pages ≡ n + 1)) is_after
-          (whole, let long = length-append walked.pages (shows.page ∷ []) in omega arith)
+      (whole, let long = length-append walked.pages (shows.page ∷ []) in omega arith)
 
 -- nothing walked yet
 pub walked_nothing : (cursor : Cursor) (seat : Seat) (pairs : List (List ℕ × List ℕ)) → (walked : HasWalked cursor seat pairs pairs cursor seat) × (length walked.pages ≡ 0)

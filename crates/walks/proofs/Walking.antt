@@ -21,13 +21,17 @@ use Rattle.walks.proofs.Cuts.{Pair, below_bound}
 
 -- a page of a run is one of each longer run
 finish_stays : (run rest : List Entry) (operation : Operation) (n : ℕ) (answered : Reply) → Finishes run operation n answered → Finishes (run ++ rest) operation n answered
-finish_stays run rest operation n answered (step, told, own) = (step, told, record {
-  begun = own.begun;
-  entry = slice_get_kept run rest n _ own.entry;
-  not_ended = λ later c after before at.
-      let within : n < length run = slice_get_below run n _ own.entry in
-      own.not_ended later c after before (sym (slice_get-append_left run rest later (omega arith)) ∙ at);
-})
+finish_stays run rest operation n answered (step, told, own) = (
+  step,
+  told,
+  record {
+    begun = own.begun;
+    entry = slice_get_kept run rest n _ own.entry;
+    not_ended = λ later c after before at.
+        let within : n < length run = slice_get_below run n _ own.entry in
+        own.not_ended later c after before (sym (slice_get-append_left run rest later (omega arith)) ∙ at);
+  },
+)
 
 pub page_stays : (run later : List Entry) (bound : Option (List ℕ)) (page : Page) → StartsWith later run → IsPageOf run bound page → IsPageOf later bound page
 page_stays run later bound page (rest, more) is = subst (λ es. IsPageOf es bound page) (sym more) (record {
@@ -193,4 +197,4 @@ module _ (run : List Entry) (points : List Bool) where
             let here : TellMap run points since till from (Some next) page.pairs = subst (λ end. TellMap run points since till from (end_under bound end) page.pairs) goes one in
             let early = walk.1 in let begun = walk.2.ends.2.begun in
             join_tells since (page.done + 1) till from next (end_under bound to) page.pairs (pairs_shown pages) (omega arith) (subst (λ key. is_below key next ≡ true) same (goes_ahead page next walk.2 goes))
-                (below_end next (page.done + 1) pages to till (next_under page next walk.2 goes) rest) here (more next rest)
+            (below_end next (page.done + 1) pages to till (next_under page next walk.2 goes) rest) here (more next rest)

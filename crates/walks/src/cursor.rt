@@ -87,12 +87,7 @@ impl Cursor {
 
     /// Shows the next page, if its operation is done within `budget` steps. It takes no lock and no memory. A cursor that waits goes on with
     /// its operation, on the seat that has it; any other one calls on an idle seat, and the seats may change from page to page.
-    pub fn next<A: Allocator>(
-        &mut self,
-        tree: &Tree<A>,
-        seat: &mut BwSeat<A>,
-        budget: u32,
-    ) -> Walk
+    pub fn next<A: Allocator>(&mut self, tree: &Tree<A>, seat: &mut BwSeat<A>, budget: u32) -> Walk
         requires own { IsSeatOf tree.now seat.old }
         requires ready { unfinished_command seat.old ≡ asked_by self.old }
         requires some { 1 ≤ budget }
