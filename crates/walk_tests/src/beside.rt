@@ -1,12 +1,12 @@
 //! A walk beside another seat, which inserts and deletes keys between its pages.
 ghost use Rattle.bw_tree.specs.Trees.{AreSeatsOf, IsSeatOf};
 
-use crate::numbered::{deletes, fills, inserts, key, value};
+use crate::numbered::{deletes, fills, inserts, key, value, walk_from};
 use bw_model::{Key, Limits, Value};
 use bw_tree::{BwSeat, Tree};
 use std::alloc::Global;
 use std::test::Fail;
-use walks::{Cursor, Walk};
+use walks::Walk;
 use workers::{opened, take_seat};
 
 /// More pages than there are.
@@ -53,10 +53,7 @@ fn walks_beside(tree: &Tree, seat: &mut BwSeat, other: &mut BwSeat) -> Option<Sh
     ensures own { IsSeatOf tree.now seat.new }
     ensures other { IsSeatOf tree.now other.new }
 {
-    if !seat.is_idle() {
-        return None;
-    }
-    let mut cursor = Cursor::new(key(0), None);
+    let mut cursor = walk_from(seat, 0, None)?;
     let mut shown = Shown {
         next: 0,
         even: 0,

@@ -1,8 +1,12 @@
 //! Keys and values by number, and trees that have them.
+ghost use Rattle.std.specs.Prelude.{◌≡◌, IfSome};
+ghost use Rattle.bw_tree.specs.Seats.{unfinished_command};
 ghost use Rattle.bw_tree.specs.Trees.{IsSeatOf};
+ghost use Rattle.walks.specs.Cursors.{asked_by};
 
 use bw_model::{Command, Key, Reply, Value};
 use bw_tree::{BwSeat, Tree};
+use walks::Cursor;
 use workers::reply;
 
 /// Two bytes that stand for a number; those of the numbers below 4,096 are in their order.
@@ -60,4 +64,18 @@ pub(crate) fn are_numbers(pairs: &[(Key, Value)], first: u32, end: u32) -> bool 
         }
     }
     left.next().is_none()
+}
+
+/// A walk from a number on, below another one, if there is a bound, for an idle seat.
+pub(crate) fn walk_from(seat: &BwSeat, from: u32, bound: Option<u32>) -> Option<Cursor>
+    ensures { IfSome result (λ cursor. unfinished_command seat.now ≡ asked_by cursor) }
+{
+    if !seat.is_idle() {
+        return None;
+    }
+    let bound = match bound {
+        Some(number) => Some(key(number)),
+        None => None,
+    };
+    Some(Cursor::new(key(from), bound))
 }

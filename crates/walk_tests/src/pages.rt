@@ -1,12 +1,12 @@
 //! Walks by pages, whole and in pieces, with a bound and without one.
 ghost use Rattle.bw_tree.specs.Trees.{AreSeatsOf, IsSeatOf};
 
-use crate::numbered::{are_numbers, fills, key};
+use crate::numbered::{are_numbers, fills, walk_from};
 use bw_model::{Key, Limits, Value};
 use bw_tree::{BwSeat, Tree};
 use std::alloc::{AllocError, Global};
 use std::test::Fail;
-use walks::{Cursor, Scanned, Walk};
+use walks::{Scanned, Walk};
 use workers::{opened, take_seat};
 
 /// More pieces than a walk is asked for.
@@ -18,16 +18,6 @@ struct Range {
     from: u32,
     bound: Option<u32>,
     budget: u32,
-}
-
-impl Range {
-    fn cursor(self) -> Cursor {
-        let bound = match self.bound {
-            Some(number) => Some(key(number)),
-            None => None,
-        };
-        Cursor::new(key(self.from), bound)
-    }
 }
 
 /// Adds the pairs of a page to those of the pages before it.
@@ -48,10 +38,10 @@ fn by_pages(
     requires own { IsSeatOf tree.now seat.old }
     ensures own { IsSeatOf tree.now seat.new }
 {
-    if !seat.is_idle() || range.budget == 0 {
+    if range.budget == 0 {
         return None;
     }
-    let mut cursor = range.cursor();
+    let mut cursor = walk_from(seat, range.from, range.bound)?;
     let mut pairs = Vec::new(alloc);
     for _ in 0..PIECES {
         match cursor.next(tree, seat, range.budget) {
@@ -68,10 +58,10 @@ fn scanned(alloc: Global, tree: &Tree, seat: &mut BwSeat, range: Range) -> Optio
     requires own { IsSeatOf tree.now seat.old }
     ensures own { IsSeatOf tree.now seat.new }
 {
-    if !seat.is_idle() || range.budget == 0 {
+    if range.budget == 0 {
         return None;
     }
-    let mut cursor = range.cursor();
+    let mut cursor = walk_from(seat, range.from, range.bound)?;
     let mut pairs = Vec::new(alloc);
     for _ in 0..PIECES {
         match cursor.scan(tree, seat, range.budget, &mut pairs) {

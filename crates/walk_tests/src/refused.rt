@@ -1,13 +1,13 @@
 //! Scans into a list whose growth is refused.
 ghost use Rattle.bw_tree.specs.Trees.{AreSeatsOf, IsSeatOf};
 
-use crate::numbered::{are_numbers, fills, key};
+use crate::numbered::{are_numbers, fills, walk_from};
 use bw_model::Limits;
 use bw_tree::{BwSeat, Tree};
 use refusing::Refusing;
 use std::alloc::Global;
 use std::test::Fail;
-use walks::{Cursor, Scanned};
+use walks::Scanned;
 use workers::{opened, take_seat};
 
 /// Whether a scan whose list may grow so many times is refused, and has all pairs once it is made again. Where it isn't refused it has them at
@@ -16,10 +16,9 @@ fn goes_on(tree: &Tree, seat: &mut BwSeat, heap: &Refusing<Global>, grows: u64) 
     requires own { IsSeatOf tree.now seat.old }
     ensures own { IsSeatOf tree.now seat.new }
 {
-    if !seat.is_idle() {
+    let Some(mut cursor) = walk_from(seat, 0, None) else {
         return false;
-    }
-    let mut cursor = Cursor::new(key(0), None);
+    };
     let mut pairs = Vec::new(heap);
     heap.set(grows);
     let first = cursor.scan(tree, seat, 4096, &mut pairs);
