@@ -1,15 +1,11 @@
 -- A seat's call that is done: the operation that it was.
-use Rattle.std.proofs.Common.{◌≡◌, ◌≤◌, ◌<◌, ◌+◌, ◌⊎◌, ℕ, zero, suc, List, [], ◌∷◌, ◌++◌, length, Bool, true, false, Option, Some, None, inl, inr, refl, sym, ap, subst, ◌∙◌, arith, eq-eqb}
-use Rattle.std.specs.Prelude.{if◌then◌else◌, slice_get, ◌==◌}
+use Rattle.std.proofs.Common.{◌≡◌, ◌≤◌, ◌+◌, ◌⊎◌, ℕ, List, [], ◌∷◌, ◌++◌, length, Bool, true, false, Option, Some, None, inl, inr, refl, sym, ap, subst, ◌∙◌, arith, eq-eqb}
+use Rattle.std.specs.Prelude.{if◌then◌else◌, slice_get}
 use Rattle.std.specs.List.{fold}
-use Rattle.std.proofs.lemmas.Bool.{eqb-true}
-use Rattle.std.proofs.lemmas.List.{length-append, append_assoc, append-nil}
 use mathlib.Core.Logic.{dite}
 use Rattle.std.proofs.Math.Decide.{dec_le}
 use Rattle.bw_model.specs.declared.command.Command.{Command}
-use Rattle.bw_model.specs.declared.command.Command.TheVariants as command
 use Rattle.bw_model.specs.declared.command.Reply.{Reply}
-use Rattle.bw_model.specs.declared.command.Reply.TheVariants as reply
 use Rattle.bw_model.specs.declared.limits.Limits.{Limits}
 use Rattle.bw_model.specs.declared.step.Answer.TheVariants as answer
 use Rattle.bw_model.specs.declared.step.Step.TheVariants.{Leave}
@@ -22,9 +18,7 @@ use Rattle.chain_search.specs.Trace.{command_of, commands_after}
 use Rattle.chain_search.proofs.Pushes.{slice_get_below, slice_get_kept, slice_get-push, slice_get-push_cases}
 use Rattle.chain_search.proofs.RunLaws.{IsRun-last}
 use Rattle.op_machine.specs.Operations.{Finishes, IsOperation, Operation}
-use Rattle.bw_tree.specs.Calls.{EndsWith, IsDone, IsFinished, IsResumed, answered_last, call_after, calls_along, calls_in, calls_of, own_count}
-use Rattle.bw_tree.specs.Runs.{StartsWith}
-use Rattle.bw_tree.specs.Seats.{Seat, unfinished_command}
+use Rattle.bw_tree.specs.Calls.{answered_last, call_after, calls_along, calls_of}
 use Rattle.bw_tree.proofs.Going.{answered_snoc}
 use Rattle.walks.proofs.Replying.{some_of}
 use Rattle.walks.proofs.Spans.{IsOpenAt, begun_since, in_hand}

@@ -1,13 +1,13 @@
 -- Pairs in the order of their keys, cut off at a bound.
-use Rattle.std.proofs.Common.{◌≡◌, ◌<◌, ℕ, zero, suc, List, [], ◌∷◌, length, map, take, Bool, true, false, cond, Option, Some, None, IsTrue, refl, sym, ap, subst, ◌∙◌, arith, Less}
-use Rattle.std.specs.Prelude.{Contains, filter, ◌&&◌, not, if◌then◌else◌}
-use Rattle.std.specs.List.{AllByRecursion, prefix_len, take_while}
+use Rattle.std.proofs.Common.{◌≡◌, ℕ, zero, suc, List, [], ◌∷◌, map, Bool, true, false, cond, Option, Some, None, refl, sym, ap, subst, ◌∙◌, arith, Less}
+use Rattle.std.specs.Prelude.{Contains, filter, not, if◌then◌else◌}
+use Rattle.std.specs.List.{AllByRecursion, take_while}
 use Rattle.std.specs.List.Sorted.{IsStrictlySortedBy}
 use Rattle.std.specs.Ordering.{is_lt}
 use Rattle.std.proofs.lemmas.List.Elements.{All-contains, All-contains_itself, All-filter, Contains-append_right, filter_passes}
 use Rattle.std.proofs.lemmas.List.Kept.{IsStrictlySortedBy-filter}
 use Rattle.std.proofs.lemmas.List.Sums.{take_while-cons}
-use Rattle.bw_model.specs.Bytes.{is_below, is_in_range, is_under, key_cmp}
+use Rattle.bw_model.specs.Bytes.{is_below, is_under, key_cmp}
 use Rattle.bw_model.specs.Pairs.{ArePairsOf}
 use Rattle.base_page.proofs.KeyLaws.{and_both, and_left, and_right, below_from, below-trans, below_reach, either}
 use Rattle.walks.specs.Pages.{end_under, pairs_under, place_under}

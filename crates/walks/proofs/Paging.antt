@@ -1,5 +1,5 @@
 -- A cursor page on a seat that is done: the page that it shows.
-use Rattle.std.proofs.Common.{◌≡◌, ◌≤◌, ◌<◌, ◌+◌, ◌⊎◌, ℕ, List, [], ◌∷◌, ◌++◌, length, Bool, true, false, Option, Some, None, inl, inr, refl, sym, ap, subst, ◌∙◌, arith, append_assoc}
+use Rattle.std.proofs.Common.{◌≡◌, ◌≤◌, ℕ, List, [], ◌∷◌, ◌++◌, length, Bool, true, false, Option, Some, None, inl, inr, refl, sym, ap, subst, ◌∙◌, arith, append_assoc}
 use Rattle.std.specs.Prelude.{if◌then◌else◌}
 use Rattle.std.proofs.lemmas.List.{length-append, append-nil}
 use Rattle.bw_model.specs.declared.command.Command.{Command}
@@ -13,15 +13,15 @@ use Rattle.chain_search.specs.declared.trace.Entry.TheVariants.{Step}
 use Rattle.chain_search.specs.Disciplined.{own_entries}
 use Rattle.chain_search.specs.Trace.{command_of}
 use Rattle.op_machine.specs.Operations.{Finishes, Operation}
-use Rattle.bw_tree.specs.Calls.{EndsWith, IsDone, IsFinished, answered_last, calls_in, calls_of}
+use Rattle.bw_tree.specs.Calls.{EndsWith, answered_last, calls_in, calls_of}
 use Rattle.bw_tree.specs.Runs.{IsOneHistory, StartsWith}
 use Rattle.bw_tree.specs.Seats.{IsSame, Seat, unfinished_command}
 use Rattle.bw_tree.specs.declared.called.Called.TheVariants as called
 use Rattle.bw_tree.proofs.Going.{answered_snoc}
-use Rattle.walks.proofs.Asking.{Calls, finishes, fronts, is_operation, last_unanswered, opened, operation, since}
+use Rattle.walks.proofs.Asking.{Calls, finishes, fronts, is_operation, last_unanswered, operation, since}
 use Rattle.walks.proofs.Replying.{IsPaged, paged}
 use Rattle.walks.specs.Cursors.{Cursor, HasShown, IsRun, WasIdle}
-use Rattle.walks.specs.Pages.{IsPageOf, Page, operation_of, pairs_under, place_under}
+use Rattle.walks.specs.Pages.{pairs_under, place_under}
 use Rattle.walks.specs.Walks.{AreAscending}
 
 -- the seat has seen more, and this ends with the reply to its last call

@@ -1,19 +1,17 @@
 -- What a cursor page has replied.
-use Rattle.std.proofs.Common.{◌≡◌, ◌≤◌, ◌<◌, ◌+◌, ◌⊎◌, ℕ, zero, suc, List, [], ◌∷◌, ◌++◌, length, take, drop, Bool, true, false, Option, Some, None, IsSome, IsTrue, inl, inr, refl, sym, ap, subst, ◌∙◌, arith, eq-eqb}
-use Rattle.std.specs.Prelude.{if◌then◌else◌, not, slice_get, ◌==◌}
-use Rattle.std.proofs.lemmas.List.{length-append, length-take-le, take-append-drop, drop-take}
+use Rattle.std.proofs.Common.{◌≡◌, ◌≤◌, ◌<◌, ◌+◌, ℕ, zero, suc, List, [], ◌∷◌, ◌++◌, length, take, drop, Bool, true, Option, Some, None, IsSome, IsTrue, inl, inr, refl, sym, ap, subst, ◌∙◌, arith, eq-eqb}
+use Rattle.std.specs.Prelude.{if◌then◌else◌, not, slice_get}
+use Rattle.std.proofs.lemmas.List.{length-take-le, take-append-drop}
 use mathlib.Core.Logic.{dite}
 use Rattle.std.proofs.Math.Decide.{dec_le}
 use Rattle.bw_model.specs.Log.{logged_value}
 use Rattle.bw_model.specs.Replies.{command_key, is_writer, reply_of}
-use Rattle.bw_model.specs.Log.{Update}
 use Rattle.bw_model.specs.Pairs.{IsPairsOf}
 use Rattle.bw_model.specs.declared.command.Command.{Command}
 use Rattle.bw_model.specs.declared.command.Command.TheVariants as command
 use Rattle.bw_model.specs.declared.command.Reply.{Reply}
 use Rattle.bw_model.specs.declared.command.Reply.TheVariants as reply
 use Rattle.bw_model.specs.declared.limits.Limits.{Limits}
-use Rattle.deltas.specs.Memory.{Memory}
 use Rattle.chain_search.specs.declared.trace.Entry.{Entry}
 use Rattle.chain_search.specs.declared.trace.Entry.TheVariants.{Begin, Step}
 use Rattle.chain_search.specs.declared.trace.Turn.{Turn}
@@ -21,9 +19,9 @@ use Rattle.chain_search.specs.Run.{IsRun}
 use Rattle.chain_search.specs.Trace.{command_of, commands_after, memory_at}
 use Rattle.chain_search.proofs.Pushes.{slice_get_below}
 use Rattle.chain_search.proofs.TraceLaws.{command_of-push}
-use Rattle.op_machine.specs.Answered.{FindsTidy, IsAnswered, IsTrueReply, RepliesAt, RepliesAtPoint, ShowsPage}
+use Rattle.op_machine.specs.Answered.{FindsTidy, IsTrueReply, RepliesAtPoint, ShowsPage}
 use Rattle.op_machine.specs.Linearized.{IsLinearized}
-use Rattle.op_machine.specs.Operations.{Finishes, IsOperation, IsOwnEntry, IsOwnStep, Operation}
+use Rattle.op_machine.specs.Operations.{Finishes, IsOwnStep, Operation}
 use Rattle.op_machine.specs.Points.{IsPoint, log_at}
 use Rattle.base_page.proofs.KeyLaws.{and_right, either}
 use Rattle.bw_model.specs.Bytes.{is_below, is_under}

@@ -1,5 +1,5 @@
 -- What a cursor has walked on a seat.
-use Rattle.std.proofs.Common.{◌≡◌, ◌≤◌, ◌+◌, ◌++◌, ℕ, List, [], ◌∷◌, length, Bool, true, false, Option, Some, None, refl, sym, ap, subst, ◌∙◌, arith, append_assoc}
+use Rattle.std.proofs.Common.{◌≡◌, ◌+◌, ◌++◌, ℕ, List, [], ◌∷◌, length, Bool, true, false, None, refl, sym, ap, subst, ◌∙◌, arith, append_assoc}
 use Rattle.std.proofs.lemmas.List.{append-nil, length-append}
 use Rattle.bw_model.specs.declared.command.Command.TheVariants as command
 use Rattle.bw_model.specs.declared.command.Reply.{Reply}
@@ -7,11 +7,9 @@ use Rattle.chain_search.specs.Trace.{command_of}
 use Rattle.chain_search.specs.declared.trace.Entry.{Entry}
 use Rattle.bw_tree.specs.Runs.{StartsWith}
 use Rattle.bw_tree.specs.Seats.{IsSame, Seat, unfinished_command}
-use Rattle.bw_tree.specs.declared.called.Called.{Called}
 use Rattle.bw_tree.specs.declared.called.Called.TheVariants as called
 use Rattle.bw_tree.proofs.Going.{starts_on}
-use Rattle.walks.specs.Cursors.{Cursor, HasAsked, HasShown, HasWalked, IsNextOf, IsRun, IsSpentOn, WasIdle, added_by}
-use Rattle.walks.specs.Pages.{Page}
+use Rattle.walks.specs.Cursors.{Cursor, HasShown, HasWalked, IsNextOf, IsRun, IsSpentOn, WasIdle, added_by}
 use Rattle.walks.specs.Walks.{IsWalk, pairs_shown}
 use Rattle.walks.specs.declared.cursor.Walk.{Walk}
 use Rattle.walks.specs.declared.cursor.Walk.TheVariants as walk

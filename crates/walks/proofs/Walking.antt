@@ -1,22 +1,20 @@
 -- Walks that go on, and what they show.
-use Rattle.std.proofs.Common.{◌≡◌, ◌≤◌, ◌<◌, ◌+◌, ◌⊎◌, ℕ, List, [], ◌∷◌, ◌++◌, length, map, Bool, true, false, Option, Some, None, IsTrue, inl, inr, refl, sym, ap, subst, ◌∙◌, arith, append_assoc, Less}
-use Rattle.std.specs.Prelude.{if◌then◌else◌, Contains, not, slice_get, slice_index_or}
+use Rattle.std.proofs.Common.{◌≡◌, ◌≤◌, ◌<◌, ◌+◌, ℕ, List, [], ◌∷◌, ◌++◌, length, map, Bool, true, false, Option, Some, None, inl, inr, refl, sym, ap, subst, ◌∙◌, arith, append_assoc, Less}
+use Rattle.std.specs.Prelude.{if◌then◌else◌, Contains, not}
 use Rattle.std.specs.List.{AllByRecursion}
 use Rattle.std.specs.List.Sorted.{IsStrictlySortedBy}
 use Rattle.std.specs.Ordering.{is_lt}
 use Rattle.std.proofs.lemmas.List.{append-nil}
-use Rattle.std.proofs.lemmas.List.Elements.{All-from_recursion, recursion_from_All, Contains-append_cases, Contains-append_left, Contains-append_right}
-use Rattle.bw_model.specs.Bytes.{is_below, is_in_range, is_under, key_cmp}
-use Rattle.bw_model.specs.declared.command.Command.{Command}
+use Rattle.std.proofs.lemmas.List.Elements.{Contains-append_cases, Contains-append_left, Contains-append_right}
+use Rattle.bw_model.specs.Bytes.{is_below, is_under, key_cmp}
 use Rattle.bw_model.specs.declared.command.Reply.{Reply}
 use Rattle.base_page.proofs.KeyLaws.{and_both, and_left, and_right, below_from, below-trans, below_reach, either, not_true}
 use Rattle.chain_search.specs.declared.trace.Entry.{Entry}
-use Rattle.chain_search.specs.declared.trace.Entry.TheVariants.{Begin}
 use Rattle.chain_search.proofs.Pushes.{slice_get-append_left, slice_get_below, slice_get_kept}
 use Rattle.op_machine.specs.Operations.{Finishes, Operation}
 use Rattle.bw_tree.specs.Runs.{StartsWith}
 use Rattle.walks.specs.Pages.{IsPageOf, IsShown, Page, end_under, operation_of, place_under}
-use Rattle.walks.specs.Walks.{AreAscending, HasOnce, HasThroughout, IsWalk, TellMap, pairs_shown}
+use Rattle.walks.specs.Walks.{AreAscending, IsWalk, TellMap, pairs_shown}
 use Rattle.walks.proofs.Cuts.{Pair, below_bound}
 
 -- a page of a run is one of each longer run

@@ -1,5 +1,5 @@
 -- Walks: pages one after another, in keys and in time.
-use Rattle.std.specs.Prelude.{◌≡◌, ◌+◌, ◌<◌, ◌≤◌, ℕ, Bool, List, [], ◌∷◌, Contains, Option, None, Some, IsTrue, flat_map, map}
+use Rattle.std.specs.Prelude.{◌≡◌, ◌+◌, ◌<◌, ◌≤◌, ℕ, Bool, List, [], ◌∷◌, Contains, Option, Some, IsTrue, flat_map, map}
 use Rattle.std.specs.List.Sorted.{IsStrictlySortedBy}
 use Rattle.bw_model.specs.Bytes.{is_in_range, key_cmp}
 use Rattle.bw_model.specs.Log.{logged_value}

@@ -1,4 +1,4 @@
-use Rattle.std.proofs.Common.{◌≡◌, ◌∙◌, ap, inl, inr, refl, sym, arith}
+use Rattle.std.proofs.Common.{inl, inr, refl, arith}
 use Rattle.bw_tree.proofs.Going.{same_on}
 use Rattle.walks.proofs.Walked.{spent_on, walked_counted, walked_more, walked_nothing}
 use Rattle.walks.proofs.cursor.Cursor.scan.Goals as goal

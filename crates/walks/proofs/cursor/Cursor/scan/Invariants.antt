@@ -1,5 +1,4 @@
 use Rattle.std.proofs.Common.{◌≡◌, length}
-use Rattle.bw_tree.specs.Runs.{IsOneHistory}
 use Rattle.bw_tree.specs.Seats.{IsSame, unfinished_command}
 use Rattle.walks.specs.Cursors.{HasWalked, asked_by}
 use Rattle.walks.proofs.cursor.Cursor.scan.Given as goal

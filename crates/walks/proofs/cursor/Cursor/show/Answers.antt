@@ -1,4 +1,4 @@
-use Rattle.std.proofs.Common.{◌≡◌, ◌∙◌, ap, false, take}
+use Rattle.std.proofs.Common.{◌∙◌, ap, false, take}
 use Rattle.std.specs.List.{prefix_len}
 use Rattle.bw_model.specs.Bytes.{is_under}
 use Rattle.walks.specs.Pages.{pairs_under, place_under}
