@@ -16,11 +16,12 @@ use Rattle.op_machine.specs.Operations.{Finishes, Operation}
 use Rattle.bw_tree.specs.Calls.{EndsWith, answered_last, calls_in, calls_of}
 use Rattle.bw_tree.specs.Runs.{IsOneHistory, StartsWith}
 use Rattle.bw_tree.specs.Seats.{IsSame, Seat, unfinished_command}
+use Rattle.bw_tree.specs.declared.called.Called.{Called}
 use Rattle.bw_tree.specs.declared.called.Called.TheVariants as called
 use Rattle.bw_tree.proofs.Going.{answered_snoc}
 use Rattle.walks.proofs.Asking.{Calls, finishes, fronts, is_operation, last_unanswered, operation, since}
 use Rattle.walks.proofs.Replying.{IsPaged, paged}
-use Rattle.walks.specs.Cursors.{Cursor, HasShown, IsRun, WasIdle}
+use Rattle.walks.specs.Cursors.{Cursor, HasShown, IsRun, WasIdle, asked_by, page_from}
 use Rattle.walks.specs.Pages.{pairs_under, place_under}
 use Rattle.walks.specs.Walks.{AreAscending}
 
@@ -53,10 +54,13 @@ replied true seat later from budget answered same ready h =
       last = h.calls ∙ ap (λ calls. answered_last calls answered) is ∙ answered_snoc before (command.Page from) None answered;
     }
 
-module _ (asked : Bool) (seat later : Seat) (from : List ℕ) (budget : ℕ) (answered : Reply) (same : IsSame seat later) (ready : unfinished_command seat ≡ (if asked then Some (command.Page from) else None))
-    (runs : IsRun asked seat (command.Page from) budget (called.Done answered) later) (history : IsOneHistory later.limits later.seen) where
+module _ (old : Cursor) (seat later : Seat) (from : List ℕ) (budget : ℕ) (came : Called) (answered : Reply) (at : old.at ≡ Some from) (same : IsSame seat later) (ready : unfinished_command seat ≡ asked_by old)
+    (runs : IsRun old.asked seat (command.Page from) budget came later) (is_done : came ≡ called.Done answered) (history : IsOneHistory later.limits later.seen) where
+  abbrev done : IsRun old.asked seat (command.Page from) budget (called.Done answered) later
+  done = subst (λ z. IsRun old.asked seat (command.Page from) budget z later) is_done runs
+
   abbrev r : IsReplied seat (command.Page from) answered later
-  r = replied asked seat later from budget answered same ready runs
+  r = replied old.asked seat later from budget answered same (ready ∙ ap (λ key. if old.asked then page_from key else None) at) done
 
   abbrev mine : Operation
   mine = operation later.limits later.seen r.ends.0 later.actor (command.Page from) answered r.calls history.linearized.run.run r.ends.1 r.last
@@ -88,9 +92,9 @@ module _ (asked : Bool) (seat later : Seat) (from : List ℕ) (budget : ℕ) (an
       whole : early ++ (idle.0.0 ++ r.grows.0) ≡ r.ends.0 ++ Step later.actor Leave answer.Done (Some answered) ∷ []
       whole = sym (append_assoc early idle.0.0 r.grows.0) ∙ ap (λ front. front ++ r.grows.0) (sym idle.0.1) ∙ sym r.grows.1 ∙ r.ends.1
 
-  pub has_shown : (old new : Cursor) (items : List (List ℕ × List ℕ)) (high : Option (List ℕ)) → answered ≡ reply.Page items high → old.at ≡ Some from → old.asked ≡ asked
+  pub has_shown : (new : Cursor) (items : List (List ℕ × List ℕ)) (high : Option (List ℕ)) → answered ≡ reply.Page items high
       → new ≡ record { at = place_under old.bound high; bound = old.bound; asked = false; pairs = pairs_under old.bound items } → HasShown old seat budget new later
-  has_shown old new items high is at same_asked stands = record {
+  has_shown new items high is stands = record {
     page = record { from = from; next = place_under old.bound high; pairs = pairs_under old.bound items; actor = later.actor; begun = mine.start; done = length r.ends.0 };
     from = at;
     is = record {
@@ -105,6 +109,6 @@ module _ (asked : Bool) (seat later : Seat) (from : List ℕ) (budget : ℕ) (an
     last = ap length r.ends.1 ∙ length-append r.ends.0 _;
     since = begun_after;
     reply = answered;
-    run = subst (λ b. IsRun b seat (command.Page from) budget (called.Done answered) later) (sym same_asked) runs;
+    run = done;
     stands = stands;
   }
