@@ -1,0 +1,97 @@
+-- What a cursor has walked on a seat.
+use Rattle.std.proofs.Common.{◌≡◌, ◌+◌, ◌++◌, ℕ, List, [], ◌∷◌, length, Bool, true, false, None, refl, sym, ap, subst, ◌∙◌, arith, append_assoc}
+use Rattle.std.proofs.lemmas.List.{append-nil, length-append}
+use Rattle.bw_model.specs.declared.command.Command.TheVariants as command
+use Rattle.bw_model.specs.declared.command.Reply.{Reply}
+use Rattle.chain_search.specs.Trace.{command_of}
+use Rattle.chain_search.specs.declared.trace.Entry.{Entry}
+use Rattle.bw_tree.specs.Runs.{StartsWith}
+use Rattle.bw_tree.specs.Seats.{IsSame, Seat, unfinished_command}
+use Rattle.bw_tree.specs.declared.called.Called.TheVariants as called
+use Rattle.bw_tree.proofs.Going.{starts_on}
+use Rattle.walks.specs.Cursors.{Cursor, HasShown, HasWalked, IsNextOf, IsRun, IsSpentOn, WasIdle, added_by}
+use Rattle.walks.specs.Walks.{IsWalk, pairs_shown}
+use Rattle.walks.specs.declared.cursor.Walk.{Walk}
+use Rattle.walks.specs.declared.cursor.Walk.TheVariants as walk
+use Rattle.walks.proofs.Walking.{shown_on, walk_on, walk_stays}
+
+done_idle : (asked : Bool) (seat later : Seat) (from : List ℕ) (budget : ℕ) (reply : Reply) → IsRun asked seat (command.Page from) budget (called.Done reply) later → (StartsWith later.seen seat.seen) × (unfinished_command later ≡ None)
+done_idle false seat later from budget reply run = (run.grows, run.idle)
+done_idle true seat later from budget reply run = (run.grows, run.idle)
+
+spent_grows : (asked : Bool) (seat later : Seat) (from : List ℕ) (budget : ℕ) → IsRun asked seat (command.Page from) budget called.Spent later → StartsWith later.seen seat.seen
+spent_grows false seat later from budget run = run.grows
+spent_grows true seat later from budget run = run.grows
+
+-- a seat that has seen more was idle when it was idle
+idle_still : (seat later : Seat) (early : List Entry) → IsSame seat later → StartsWith later.seen seat.seen → WasIdle seat early → WasIdle later early
+idle_still seat later early same grows idle = (starts_on early seat.seen later.seen idle.0 grows, subst (λ actor. command_of early actor ≡ None) (sym same.actor) idle.1)
+
+walked_page : (old new : Cursor) (seat later : Seat) (budget : ℕ) (before : List (List ℕ × List ℕ)) → IsSame seat later → HasShown old seat budget new later → HasWalked old seat before (before ++ new.pairs) new later
+walked_page old new seat later budget before same h =
+    let (grows, idle) = done_idle old.asked seat later h.page.from budget h.reply h.run in
+    let last = h.last in record {
+      pages = h.page ∷ [];
+      shown = ap (λ z. before ++ z.pairs) h.stands ∙ ap (λ pairs. before ++ pairs) (sym (append-nil h.page.pairs));
+      walk = λ early was. (later.seen, (([], sym (append-nil later.seen)), idle), (h.from, h.since early was, h.is, (ap (λ z. z.at) h.stands, omega arith)));
+      bound = ap (λ z. z.bound) h.stands;
+      grows = grows;
+    }
+
+walked_none : (old new : Cursor) (seat later : Seat) (before : List (List ℕ × List ℕ)) → IsSame seat later → StartsWith later.seen seat.seen → new.at ≡ old.at → new.bound ≡ old.bound → HasWalked old seat before (before ++ []) new later
+walked_none old new seat later before same grows at bound = record {
+  pages = [];
+  shown = refl;
+  walk = λ early was. (early, idle_still seat later early same grows was, (at, omega arith));
+  bound = bound;
+  grows = grows;
+}
+
+pub walked_next : (old new : Cursor) (seat later : Seat) (budget : ℕ) (answered : Walk) (before : List (List ℕ × List ℕ)) → IsSame seat later → IsNextOf old seat budget answered new later
+    → HasWalked old seat before (before ++ added_by answered new) new later
+walked_next old new seat later budget walk.Page before same h = walked_page old new seat later budget before same h
+walked_next old new seat later budget walk.Spent before same h =
+    walked_none old new seat later before same (spent_grows old.asked seat later h.from budget h.run) (ap (λ z. z.at) h.stands) (ap (λ z. z.bound) h.stands)
+walked_next old new seat later budget walk.End before same h =
+    walked_none old new seat later before same ([], ap (λ z. z.seen) h.2 ∙ sym (append-nil seat.seen)) (ap (λ z. z.at) h.1) (ap (λ z. z.bound) h.1)
+
+pub walked_on : (first mid last : Cursor) (seat between later : Seat) (before middle after : List (List ℕ × List ℕ)) → HasWalked first seat before middle mid between → HasWalked mid between middle after last later → HasWalked first seat before after last later
+walked_on first mid last seat between later before middle after one more = record {
+  pages = one.pages ++ more.pages;
+  shown = more.shown ∙ ap (λ pairs. pairs ++ pairs_shown more.pages) one.shown ∙ append_assoc before (pairs_shown one.pages) (pairs_shown more.pages) ∙ ap (λ pairs. before ++ pairs) (sym (shown_on one.pages more.pages));
+  walk = λ early was.
+      let (early', was', walk) = one.walk early was in
+      let (late, idle, walk') = more.walk early' was' in (
+        late,
+        idle,
+        walk_on later.seen first.bound first.at (length early) one.pages mid.at (length early') more.pages last.at (length late)
+            (walk_stays between.seen later.seen first.bound first.at (length early) one.pages mid.at (length early') more.grows walk)
+            (subst (λ bound. IsWalk later.seen bound mid.at (length early') more.pages last.at (length late)) one.bound walk'),
+      );
+  bound = more.bound ∙ one.bound;
+  grows = starts_on seat.seen between.seen later.seen one.grows more.grows;
+}
+
+-- one answer more
+module _ (first mid last : Cursor) (seat between later : Seat) (budget : ℕ) (answered : Walk) (before middle after : List (List ℕ × List ℕ)) (same : IsSame between later) (next : IsNextOf mid between budget answered last later)
+    (adds : after ≡ middle ++ added_by answered last) where
+  pub walked_more : HasWalked first seat before middle mid between → HasWalked first seat before after last later
+  walked_more walked = walked_on first mid last seat between later before middle after walked
+      (subst (λ pairs. HasWalked mid between middle pairs last later) (sym adds) (walked_next mid last between later budget answered middle same next))
+
+  pub spent_on : answered ≡ walk.Spent → HasWalked first seat before middle mid between → IsSpentOn seat budget last later
+  spent_on is walked = record { old = mid; seat = between; grows = walked.grows; asked = subst (λ one. IsNextOf mid between budget one last later) is next }
+
+  pub walked_counted : answered ≡ walk.Page → (n : ℕ) → (walked : HasWalked first seat before middle mid between) × (length walked.pages ≡ n) → (walked : HasWalked first seat before after last later) × (length walked.pages ≡ n + 1)
+  unfolding walked_on walked_page
+  walked_counted is n (walked, count) =
+      let shows : HasShown mid between budget last later = subst (λ one. IsNextOf mid between budget one last later) is next in
+      let more : HasWalked mid between middle (middle ++ last.pairs) last later = walked_page mid last between later budget middle same shows in
+      let whole : HasWalked first seat before (middle ++ last.pairs) last later = walked_on first mid last seat between later before middle (middle ++ last.pairs) walked more in
+      let is_after : middle ++ last.pairs ≡ after = sym (adds ∙ ap (λ one. middle ++ added_by one last) is) in
+      subst (λ pairs. (walked : HasWalked first seat before pairs last later) × (length walked.pages ≡ n + 1)) is_after
+      (whole, let long = length-append walked.pages (shows.page ∷ []) in omega arith)
+
+-- nothing walked yet
+pub walked_nothing : (cursor : Cursor) (seat : Seat) (pairs : List (List ℕ × List ℕ)) → (walked : HasWalked cursor seat pairs pairs cursor seat) × (length walked.pages ≡ 0)
+walked_nothing cursor seat pairs = (record { pages = []; shown = sym (append-nil pairs); walk = λ early was. (early, was, (refl, omega arith)); bound = refl; grows = ([], sym (append-nil seat.seen)) }, refl)

@@ -1,0 +1,198 @@
+-- Walks that go on, and what they show.
+use Rattle.std.proofs.Common.{◌≡◌, ◌≤◌, ◌<◌, ◌+◌, ℕ, List, [], ◌∷◌, ◌++◌, length, map, Bool, true, false, Option, Some, None, inl, inr, refl, sym, ap, subst, ◌∙◌, arith, append_assoc, Less}
+use Rattle.std.specs.Prelude.{if◌then◌else◌, Contains, not}
+use Rattle.std.specs.List.{AllByRecursion}
+use Rattle.std.specs.List.Sorted.{IsStrictlySortedBy}
+use Rattle.std.specs.Ordering.{is_lt}
+use Rattle.std.proofs.lemmas.List.{append-nil}
+use Rattle.std.proofs.lemmas.List.Elements.{Contains-append_cases, Contains-append_left, Contains-append_right}
+use Rattle.bw_model.specs.Bytes.{is_below, is_under, key_cmp}
+use Rattle.bw_model.specs.declared.command.Reply.{Reply}
+use Rattle.base_page.proofs.KeyLaws.{and_both, and_left, and_right, below_from, below-trans, below_reach, either, not_true}
+use Rattle.chain_search.specs.declared.trace.Entry.{Entry}
+use Rattle.chain_search.proofs.Pushes.{slice_get-append_left, slice_get_below, slice_get_kept}
+use Rattle.op_machine.specs.Operations.{Finishes, Operation}
+use Rattle.bw_tree.specs.Runs.{StartsWith}
+use Rattle.walks.specs.Pages.{IsPageOf, IsShown, Page, end_under, operation_of, place_under}
+use Rattle.walks.specs.Walks.{AreAscending, IsWalk, TellMap, pairs_shown}
+use Rattle.walks.proofs.Cuts.{Pair, below_bound}
+
+-- a page of a run is one of each longer run
+finish_stays : (run rest : List Entry) (operation : Operation) (n : ℕ) (answered : Reply) → Finishes run operation n answered → Finishes (run ++ rest) operation n answered
+finish_stays run rest operation n answered (step, told, own) = (
+  step,
+  told,
+  record {
+    begun = own.begun;
+    entry = slice_get_kept run rest n _ own.entry;
+    not_ended = λ later c after before at.
+        let within : n < length run = slice_get_below run n _ own.entry in
+        own.not_ended later c after before (sym (slice_get-append_left run rest later (omega arith)) ∙ at);
+  },
+)
+
+pub page_stays : (run later : List Entry) (bound : Option (List ℕ)) (page : Page) → StartsWith later run → IsPageOf run bound page → IsPageOf later bound page
+page_stays run later bound page (rest, more) is = subst (λ es. IsPageOf es bound page) (sym more) (record {
+  begins = slice_get_kept run rest page.begun _ is.begins;
+  items = is.items;
+  high = is.high;
+  ends = finish_stays run rest (operation_of page) page.done _ is.ends;
+  next = is.next;
+  pairs = is.pairs;
+})
+
+pub walk_stays : (run later : List Entry) (bound at : Option (List ℕ)) (since : ℕ) (pages : List Page) (to : Option (List ℕ)) (till : ℕ) → StartsWith later run → IsWalk run bound at since pages to till → IsWalk later bound at since pages to till
+walk_stays run later bound at since [] to till more walk = walk
+walk_stays run later bound at since (page ∷ pages) to till more walk = (walk.0, walk.1, page_stays run later bound page more walk.2, walk_stays run later bound page.next (page.done + 1) pages to till more walk.3)
+
+-- a walk takes its time
+pub walk_lasts : (run : List Entry) (bound at : Option (List ℕ)) (since : ℕ) (pages : List Page) (to : Option (List ℕ)) (till : ℕ) → IsWalk run bound at since pages to till → since ≤ till
+walk_lasts run bound at since [] to till walk = walk.1
+walk_lasts run bound at since (page ∷ pages) to till walk =
+    let rest = walk_lasts run bound page.next (page.done + 1) pages to till walk.3 in let begun = walk.1 in let ends = walk.2.ends.2.begun in omega arith
+
+walk_from : (run : List Entry) (bound at : Option (List ℕ)) (early since : ℕ) (pages : List Page) (to : Option (List ℕ)) (till : ℕ) → early ≤ since → IsWalk run bound at since pages to till → IsWalk run bound at early pages to till
+walk_from run bound at early since [] to till le walk = let then' = walk.1 in (walk.0, omega arith)
+walk_from run bound at early since (page ∷ pages) to till le walk = let then' = walk.1 in (walk.0, omega arith, walk.2, walk.3)
+
+-- a walk that goes on
+pub walk_on : (run : List Entry) (bound at : Option (List ℕ)) (since : ℕ) (pages : List Page) (mid : Option (List ℕ)) (then' : ℕ) (more : List Page) (to : Option (List ℕ)) (till : ℕ)
+    → IsWalk run bound at since pages mid then' → IsWalk run bound mid then' more to till → IsWalk run bound at since (pages ++ more) to till
+walk_on run bound at since [] mid then' more to till walk rest = walk_from run bound at since then' more to till walk.1 (subst (λ key. IsWalk run bound key then' more to till) walk.0 rest)
+walk_on run bound at since (page ∷ pages) mid then' more to till walk rest = (walk.0, walk.1, walk.2, walk_on run bound page.next (page.done + 1) pages mid then' more to till walk.3 rest)
+
+pub shown_on : (pages more : List Page) → pairs_shown (pages ++ more) ≡ pairs_shown pages ++ pairs_shown more
+shown_on [] more = refl
+shown_on (page ∷ pages) more = ap (λ rest. page.pairs ++ rest) (shown_on pages more) ∙ sym (append_assoc page.pairs (pairs_shown pages) (pairs_shown more))
+
+abbrev keys : List Pair → List (List ℕ)
+keys pairs = map (λ (pair : Pair). pair.0) pairs
+
+-- ascending pairs above ascending pairs
+sorted_on : (xs ys : List Pair) → AreAscending xs → AreAscending ys → ((x y : List ℕ) (v w : List ℕ) → Contains xs (x, v) → Contains ys (y, w) → key_cmp x y ≡ Less) → AreAscending (xs ++ ys)
+unfolding IsStrictlySortedBy
+sorted_on [] ys one other apart = other
+sorted_on (pair ∷ xs) ys one other apart = (
+  above xs ys pair.0 one.0 (λ y w among. apart pair.0 y pair.1 w (0, omega arith, refl) among),
+  sorted_on xs ys one.1 other (λ x y v w here there. apart x y v w (Contains-append_right (pair ∷ []) xs (x, v) here) there),
+)
+  where
+    above_all : (key : List ℕ) (ys : List Pair) → ((y w : List ℕ) → Contains ys (y, w) → key_cmp key y ≡ Less) → AllByRecursion (λ other. key_cmp key other ≡ Less) (keys ys)
+    above_all key [] h = tt
+    above_all key (next ∷ ys) h = (h next.0 next.1 (0, omega arith, refl), above_all key ys (λ y w among. h y w (Contains-append_right (next ∷ []) ys (y, w) among)))
+
+    above : (xs ys : List Pair) (key : List ℕ) → AllByRecursion (λ other. key_cmp key other ≡ Less) (keys xs) → ((y w : List ℕ) → Contains ys (y, w) → key_cmp key y ≡ Less) → AllByRecursion (λ other. key_cmp key other ≡ Less) (keys (xs ++ ys))
+    above [] ys key own h = above_all key ys h
+    above (next ∷ xs) ys key own h = (own.0, above xs ys key own.1 h)
+
+none_in : {X : Type 0} (x : X) → Contains [] x → ⊥
+none_in x (k, within, is) = omega arith
+
+module _ (run : List Entry) (points : List Bool) where
+  -- pairs up to a key, and pairs from there on
+  join_tells : (since mid till : ℕ) (from next : List ℕ) (end : Option (List ℕ)) (xs ys : List Pair) → since ≤ mid → is_below from next ≡ true → ((key : List ℕ) → is_below key next ≡ true → is_under key end ≡ true)
+      → TellMap run points since till from (Some next) xs → TellMap run points mid till next end ys → TellMap run points since till from end (xs ++ ys)
+  join_tells since mid till from next end xs ys le ahead under one more = record {
+    ascending = sorted_on xs ys one.ascending more.ascending (λ x y v w here there.
+        below_reach x next y (below_from x next (and_right (not (is_below x from)) (is_below x next) (one.within x v here))) (not_true (is_below y next) (and_left (not (is_below y next)) (is_under y end) (more.within y w there))));
+    within = λ key value among. elim (Contains-append_cases xs ys (key, value) among) [
+      | inl here ↦ let in' = one.within key value here in and_both _ _ (and_left (not (is_below key from)) (is_below key next) in') (under key (and_right (not (is_below key from)) (is_below key next) in'))
+      | inr there ↦ let in' = more.within key value there in and_both _ _ (above_from key (not_true (is_below key next) (and_left (not (is_below key next)) (is_under key end) in'))) (and_right (not (is_below key next)) (is_under key end) in')
+    ];
+    stays = λ key value in' has. either (is_below key next)
+        (λ before. Contains-append_left xs ys (key, value) (one.stays key value (and_both _ _ (and_left (not (is_below key from)) (is_under key end) in') before) has))
+        (λ after. Contains-append_right xs ys (key, value) (more.stays key value (and_both _ _ (ap not after) (and_right (not (is_below key from)) (is_under key end) in')) (λ n late soon. has n (omega arith) soon)));
+    was = λ key value among. elim (Contains-append_cases xs ys (key, value) among) [
+      | inl here ↦ one.was key value here
+      | inr there ↦ let (n, late, soon, is) = more.was key value there in (n, omega arith, soon, is)
+    ];
+  }
+    where
+      above_from : (key : List ℕ) → is_below key next ≡ false → not (is_below key from) ≡ true
+      above_from key out = either (is_below key from)
+          (λ before. let through : is_below key next ≡ true = ap is_lt (below-trans key from next (below_from key from before) (below_from from next ahead)) in absurd (cc))
+          (λ after. ap not after)
+
+  module _ (bound : Option (List ℕ)) (shown : (page : Page) → IsPageOf run bound page → IsShown run points bound page) where
+    one_tells : (page : Page) (since till : ℕ) → IsPageOf run bound page → since ≤ page.begun → page.done + 1 ≤ till → TellMap run points since till page.from (end_under bound page.next) page.pairs
+    one_tells page since till is early late =
+        let s = shown page is in let begun = s.own.2.1.begun in let done = s.within in record {
+          ascending = s.pairs.ascending;
+          within = λ key value among. ((s.pairs.exact key value).0 among).0;
+          stays = λ key value in' has. (s.pairs.exact key value).1 (in', has s.step (omega arith) (omega arith));
+          was = λ key value among. (s.step, omega arith, omega arith, ((s.pairs.exact key value).0 among).1);
+        }
+
+    -- at its end a walk shows no more
+    ended : (since : ℕ) (pages : List Page) (to : Option (List ℕ)) (till : ℕ) → IsWalk run bound None since pages to till → (pages ≡ []) × (to ≡ None)
+    ended since [] to till walk = (refl, walk.0)
+    ended since (page ∷ pages) to till walk = let none = walk.0 in cc
+
+    -- where a page goes on is below the bound
+    next_under : (page : Page) (next : List ℕ) → IsPageOf run bound page → page.next ≡ Some next → is_under next bound ≡ true
+    next_under page next is goes = by_high is.high (sym is.next ∙ goes)
+      where
+        by_high : (high : Option (List ℕ)) → place_under bound high ≡ Some next → is_under next bound ≡ true
+        by_high None e = cc
+        by_high (Some high) e = either (is_under high bound)
+            (λ within. let some : Some high ≡ Some next = subst (λ b. (if b then Some high else None) ≡ Some next) within e in let same : high ≡ next = cc in subst (λ key. is_under key bound ≡ true) same within)
+            (λ past. let none : None ≡ Some next = subst (λ b. (if b then Some high else None) ≡ Some next) past e in absurd (cc))
+
+    goes_ahead : (page : Page) (next : List ℕ) → IsPageOf run bound page → page.next ≡ Some next → is_below page.from next ≡ true
+    goes_ahead page next is goes = subst (λ end. is_under page.from end ≡ true) goes (shown page is).ahead
+
+    -- a key below where the walk stands is below where it goes
+    below_end : (from : List ℕ) (since : ℕ) (pages : List Page) (to : Option (List ℕ)) (till : ℕ) → is_under from bound ≡ true → IsWalk run bound (Some from) since pages to till
+        → (key : List ℕ) → is_below key from ≡ true → is_under key (end_under bound to) ≡ true
+    below_end from since [] to till under walk key below = subst (λ end. is_under key (end_under bound end) ≡ true) (sym walk.0) below
+    below_end from since (page ∷ pages) to till under walk key below = go page.next refl (λ next up rest. below_end next (page.done + 1) pages to till up rest key)
+      where
+        same : from ≡ page.from
+        same = let e = walk.0 in cc
+
+        go : (next : Option (List ℕ)) → page.next ≡ next
+            → ((next : List ℕ) → is_under next bound ≡ true → IsWalk run bound (Some next) (page.done + 1) pages to till → is_below key next ≡ true → is_under key (end_under bound to) ≡ true)
+            → is_under key (end_under bound to) ≡ true
+        go None goes more =
+            let none = ended (page.done + 1) pages to till (subst (λ at. IsWalk run bound at (page.done + 1) pages to till) goes walk.3) in
+            subst (λ end. is_under key (end_under bound end) ≡ true) (sym none.1) (below_bound bound key bound from under below)
+        go (Some next) goes more =
+            let ahead : is_below from next ≡ true = subst (λ key. is_below key next ≡ true) (sym same) (goes_ahead page next walk.2 goes) in
+            more next (next_under page next walk.2 goes) (subst (λ at. IsWalk run bound at (page.done + 1) pages to till) goes walk.3) (ap is_lt (below-trans key from next (below_from key from below) (below_from from next ahead)))
+
+    tell_none : (from : List ℕ) (since till : ℕ) → TellMap run points since till from (Some from) []
+    unfolding IsStrictlySortedBy
+    tell_none from since till = record {
+      ascending = tt;
+      within = λ key value among. absurd (none_in (key, value) among);
+      stays = λ key value in' has. let out = not_true (is_below key from) (and_left (not (is_below key from)) (is_below key from) in') in let below = and_right (not (is_below key from)) (is_below key from) in' in absurd (cc);
+      was = λ key value among. absurd (none_in (key, value) among);
+    }
+
+    -- a walk tells of the map from where it began to where it stands
+    pub walk_tells : (from : List ℕ) (since : ℕ) (pages : List Page) (to : Option (List ℕ)) (till : ℕ) → IsWalk run bound (Some from) since pages to till → TellMap run points since till from (end_under bound to) (pairs_shown pages)
+    walk_tells from since [] to till walk = subst (λ end. TellMap run points since till from (end_under bound end) []) (sym walk.0) (tell_none from since till)
+    walk_tells from since (page ∷ pages) to till walk = go page.next refl (λ next rest. walk_tells next (page.done + 1) pages to till rest)
+      where
+        same : page.from ≡ from
+        same = let e = walk.0 in cc
+
+        lasts : page.done + 1 ≤ till
+        lasts = walk_lasts run bound page.next (page.done + 1) pages to till walk.3
+
+        one : TellMap run points since till from (end_under bound page.next) page.pairs
+        one = subst (λ key. TellMap run points since till key (end_under bound page.next) page.pairs) same (one_tells page since till walk.2 walk.1 lasts)
+
+        go : (next : Option (List ℕ)) → page.next ≡ next
+            → ((next : List ℕ) → IsWalk run bound (Some next) (page.done + 1) pages to till → TellMap run points (page.done + 1) till next (end_under bound to) (pairs_shown pages))
+            → TellMap run points since till from (end_under bound to) (page.pairs ++ pairs_shown pages)
+        go None goes more =
+            let none = ended (page.done + 1) pages to till (subst (λ at. IsWalk run bound at (page.done + 1) pages to till) goes walk.3) in
+            let here : TellMap run points since till from (end_under bound to) page.pairs = subst (λ end. TellMap run points since till from (end_under bound end) page.pairs) (goes ∙ sym none.1) one in
+            subst (TellMap run points since till from (end_under bound to)) (sym (ap (λ ps. page.pairs ++ pairs_shown ps) none.0 ∙ append-nil page.pairs)) here
+        go (Some next) goes more =
+            let rest = subst (λ at. IsWalk run bound at (page.done + 1) pages to till) goes walk.3 in
+            let here : TellMap run points since till from (Some next) page.pairs = subst (λ end. TellMap run points since till from (end_under bound end) page.pairs) goes one in
+            let early = walk.1 in let begun = walk.2.ends.2.begun in
+            join_tells since (page.done + 1) till from next (end_under bound to) page.pairs (pairs_shown pages) (omega arith) (subst (λ key. is_below key next ≡ true) same (goes_ahead page next walk.2 goes))
+            (below_end next (page.done + 1) pages to till (next_under page next walk.2 goes) rest) here (more next rest)

@@ -1,0 +1,33 @@
+use Rattle.std.proofs.Common.{inl, inr, refl, arith}
+use Rattle.bw_tree.proofs.Going.{same_on}
+use Rattle.walks.proofs.Walked.{spent_on, walked_counted, walked_more, walked_nothing}
+use Rattle.walks.proofs.cursor.Cursor.scan.Goals as goal
+
+pub loop-init : goal.loop-init
+loop-init g c = record {
+  same = record { table = refl; limits = refl; actor = refl };
+  ready = c.requires.ready;
+  walked = walked_nothing c.args.self.now c.args.seat.now c.args.list.now.items;
+}
+
+pub loop-preserved : goal.loop-preserved
+loop-preserved g c =
+    let h = c.in_ok-add_page.ensures in record {
+      same = same_on c.args.seat.now c.loop.seat c.add_page.new.seat c.loop.invariant.same h.same;
+      ready = h.ready;
+      walked = walked_counted c.args.self.now c.loop.self c.add_page.new.self c.args.seat.now c.loop.seat c.add_page.new.seat c.args.budget c.in_ok-add_page.field-0 c.args.list.now.items c.loop.list.items c.add_page.new.list.items
+          h.same h.next h.list c.in-Page.is c.loop.counter c.loop.invariant.walked;
+    }
+
+pub returns-in-Spent-clause-walked : goal.returns-in-Spent-clause-walked
+returns-in-Spent-clause-walked g c =
+    let h = c.in_ok-add_page.ensures in
+    walked_more c.args.self.now c.loop.self c.add_page.new.self c.args.seat.now c.loop.seat c.add_page.new.seat c.args.budget c.in_ok-add_page.field-0 c.args.list.now.items c.loop.list.items c.add_page.new.list.items h.same h.next h.list c.loop.invariant.walked.0
+
+pub returns-in-Spent-clause-stopped : goal.returns-in-Spent-clause-stopped
+returns-in-Spent-clause-stopped g c =
+    let h = c.in_ok-add_page.ensures in
+    inl (spent_on c.args.self.now c.loop.self c.add_page.new.self c.args.seat.now c.loop.seat c.add_page.new.seat c.args.budget c.in_ok-add_page.field-0 c.args.list.now.items c.loop.list.items c.add_page.new.list.items h.same h.next h.list c.in-Spent.is c.loop.invariant.walked.0)
+
+pub returns-clause-stopped : goal.returns-clause-stopped
+returns-clause-stopped g c = let count = c.loop.invariant.walked.1 in inr (c.loop.invariant.walked.0, omega (arith, count, c.loop.auto.counter-end, c.loop-test.false))

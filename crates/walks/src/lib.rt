@@ -1,0 +1,13 @@
+//! Walks over a running tree in the order of keys, page by page.
+//!
+//! A `Cursor` is asked for its next page on a seat. Each page is what one operation has replied, so its pairs are the map's at one step of
+//! that operation's own; what a walk of many pages tells of the map follows from that (specs/Pages, specs/Walks).
+#![tactic(auto)]
+
+mod cursor;
+mod laws;
+mod scan;
+
+pub use cursor::{Cursor, Walk};
+pub use laws::{pages_are_the_maps, pages_are_walked, walks_go_on, walks_tell_the_map};
+pub use scan::Scanned;
