@@ -76,11 +76,12 @@ module _ (limits : Limits) (run : List Entry) (points : List Bool) (pointed : Ha
       let unset : logged_value (log_at run points (length before)) p.0 ≡ None = ap (λ log. logged_value log p.0) log ∙ unset_before done p pairs ascend in
       let is_set : given ≡ kind.Set = same_reply (logged_value (log_at run points (length before)) p.0) p.0 p.1 given unset replied in
       let (calls_then, log_then) = each (done ++ p ∷ []) pairs later (before ++ Begin 0 (Upsert p.0 p.1) ∷ (mid ++ Step 0 step answer (Some given) ∷ [])) after
-          (here ∙ front_then before mid after (Begin 0 (Upsert p.0 p.1)) (Step 0 step answer (Some given))) blocks' upserted
-          (subst KeysAscend (sym (append_assoc done (p ∷ []) pairs)) ascend)
-          (ap (log_at run points) (front_length before mid (Begin 0 (Upsert p.0 p.1)) (Step 0 step answer (Some given))) ∙ grown ∙ ap (λ log. log ++ set 0 p.0 p.1 ∷ []) log ∙ sets_snoc done p) in
-      (calls_is ∙ ap (λ (r : Reply). (upsert_of p, Some r) ∷ later) is_set ∙ ap (λ (cs : List (Command × Option Reply)). (upsert_of p, Some kind.Set) ∷ cs) calls_then,
-       log_then ∙ ap sets_of (append_assoc done (p ∷ []) pairs))
+      (here ∙ front_then before mid after (Begin 0 (Upsert p.0 p.1)) (Step 0 step answer (Some given))) blocks' upserted
+      (subst KeysAscend (sym (append_assoc done (p ∷ []) pairs)) ascend)
+      (ap (log_at run points) (front_length before mid (Begin 0 (Upsert p.0 p.1)) (Step 0 step answer (Some given))) ∙ grown ∙ ap (λ log. log ++ set 0 p.0 p.1 ∷ []) log ∙ sets_snoc done p) in (
+        calls_is ∙ ap (λ (r : Reply). (upsert_of p, Some r) ∷ later) is_set ∙ ap (λ (cs : List (Command × Option Reply)). (upsert_of p, Some kind.Set) ∷ cs) calls_then,
+        log_then ∙ ap sets_of (append_assoc done (p ∷ []) pairs),
+      )
 
   all_log : log_of run points ≡ log_at run points (length run)
   all_log =

@@ -201,9 +201,10 @@ module _ (limits : Limits) (entries : List Entry) (points : List Bool) (pointed 
       let first : log_at entries points m ≡ old_log = flat_between start m (omega (arith, low)) (omega (arith, high, in_run)) (λ n from to point'. before_point m owns point n from to high point') in
       let next : log_at entries points (suc m) ≡ log_at entries points m ++ updates_at (take m entries) (Step 0 one told given) (log_at entries points m) = log_at-step entries points m (Step 0 one told given) true pointed.beside at.entry point in
       let added : updates_at (take m entries) (Step 0 one told given) (log_at entries points m) ≡ set 0 key value ∷ [] = ap (λ o. updates_by 0 o (log_at entries points m)) (command_at m low high) in
-      let rest : log_at entries points (suc last) ≡ log_at entries points (suc m) = flat_between (suc m) (suc last) (omega (arith, high)) (omega (arith, in_run)) (λ n from to point'. after_point m owns point n from (omega (arith, to)) low point') in
-      (rest ∙ next ∙ ap (λ more. log_at entries points m ++ more) added ∙ ap (λ log. log ++ set 0 key value ∷ []) first,
-       subst (λ log. reply_of asked (logged_value log key) ≡ Some reply) first (at_point (log_at entries points m) (memory_at limits entries m) replies))
+      let rest : log_at entries points (suc last) ≡ log_at entries points (suc m) = flat_between (suc m) (suc last) (omega (arith, high)) (omega (arith, in_run)) (λ n from to point'. after_point m owns point n from (omega (arith, to)) low point') in (
+        rest ∙ next ∙ ap (λ more. log_at entries points m ++ more) added ∙ ap (λ log. log ++ set 0 key value ∷ []) first,
+        subst (λ log. reply_of asked (logged_value log key) ≡ Some reply) first (at_point (log_at entries points m) (memory_at limits entries m) replies),
+      )
     where
       flat_between : (from to : ℕ) → from ≤ to → to ≤ length entries → ((n : ℕ) → from ≤ n → n < to → IsPoint points n → ⊥) → log_at entries points to ≡ log_at entries points from
       flat_between from to low high none =
@@ -216,8 +217,8 @@ module _ (limits : Limits) (entries : List Entry) (points : List Bool) (pointed 
       before_point : (m : ℕ) → IsOwnStep entries operation m → IsPoint points m → (n : ℕ) → start ≤ n → n < m → m ≤ last → IsPoint points n → ⊥
       before_point m owns point n from to high point' = dite (ℕ_discrete n start)
           (λ same.
-              let (other, starts, (one, told, (given, at))) = pointed.own n point' in
-              step_or_begin (slice_get entries n) other.actor 0 one told given asked at.entry (ap (slice_get entries) same ∙ begins))
+          let (other, starts, (one, told, (given, at))) = pointed.own n point' in
+          step_or_begin (slice_get entries n) other.actor 0 one told given asked at.entry (ap (slice_get entries) same ∙ begins))
           (λ later. let same = same_point m n owns point (omega (arith, from, later)) (omega (arith, to, high)) point' in omega (arith, same, to))
 
       after_point : (m : ℕ) → IsOwnStep entries operation m → IsPoint points m → (n : ℕ) → suc m ≤ n → n ≤ last → start < m → IsPoint points n → ⊥
