@@ -31,6 +31,9 @@ impl<A: Allocator> Core<A> {
         ensures keeps { IfSome result (λ actor. IsActor self.now.limits number (knows self.now.entries number) (recalls self.now.entries number) actor.now) }
         ensures command { IfSome result (λ actor. running_command actor.now ≡ command_of self.now.entries number) }
     {
-        self.actors.get(usize::from(number))
+        match self.actors.get(usize::from(number)) {
+            None => None,
+            Some(actor) => Some(actor),
+        }
     }
 }
