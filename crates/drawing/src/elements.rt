@@ -8,12 +8,13 @@ ghost use Rattle.shapes.specs.Elements.{attribute, dashes, document_attributes, 
 
 use bw_shell::Output;
 use itoa::Buffer;
-use shapes::{Colour, Line, Rectangle, Shape, Text, Words};
+use shapes::{Colour, Line, Rectangle, Shape, Text};
 
 /// What stands for a byte.
-fn show_byte<O: Output>(out: &mut O, byte: u8)
-    ensures { Prints (O.state out.old) (O.state out.new) (escaped_byte byte) }
+fn show_byte<O: Output>(out: &mut O, byte: &u8)
+    ensures { Prints (O.state out.old) (O.state out.new) (escaped_byte byte.now) }
 {
+    let byte = *byte;
     if byte == 60 {
         out.show(b"&lt;");
     } else if byte == 62 {
@@ -34,7 +35,7 @@ fn show_escaped<O: Output>(out: &mut O, bytes: &[u8])
     ensures { Prints (O.state out.old) (O.state out.new) (escaped bytes.now) }
 {
     for byte in bytes {
-        show_byte(out, *byte);
+        show_byte(out, byte);
     }
 }
 
@@ -50,7 +51,7 @@ fn show_attribute<O: Output>(out: &mut O, name: &[u8], value: &[u8])
 }
 
 /// An attribute with a number.
-fn show_number_attribute<O: Output>(out: &mut O, name: &[u8], n: u64)
+fn show_number_attribute<O: Output>(out: &mut O, name: &[u8], n: u32)
     ensures { Prints (O.state out.old) (O.state out.new) (attribute_text (number name.now n)) }
 {
     let mut buffer = Buffer::new();
@@ -68,33 +69,40 @@ fn show_colour<O: Output>(out: &mut O, name: &[u8], colour: Colour)
 fn show_rectangle<O: Output>(out: &mut O, rectangle: &Rectangle)
     ensures { Prints (O.state out.old) (O.state out.new) (flat_map attribute_text (rectangle_attributes rectangle.now)) }
 {
-    show_number_attribute(out, b"x", u64::from(rectangle.x));
-    show_number_attribute(out, b"y", u64::from(rectangle.y));
-    show_number_attribute(out, b"width", u64::from(rectangle.width));
-    show_number_attribute(out, b"height", u64::from(rectangle.height));
+    show_number_attribute(out, b"x", rectangle.x);
+    show_number_attribute(out, b"y", rectangle.y);
+    show_number_attribute(out, b"width", rectangle.width);
+    show_number_attribute(out, b"height", rectangle.height);
     show_attribute(out, b"rx", b"4");
     show_colour(out, b"fill", rectangle.fill);
     show_colour(out, b"stroke", rectangle.edge);
+}
+
+/// The digits of a PID.
+fn show_digits<O: Output>(out: &mut O, pid: u16)
+    ensures { Prints (O.state out.old) (O.state out.new) (escaped (decimal pid)) }
+{
+    let mut buffer = Buffer::new();
+    show_escaped(out, buffer.format(pid).as_bytes());
 }
 
 /// The identifier of a page's box.
 fn show_page_name<O: Output>(out: &mut O, pid: u16)
     ensures { Prints (O.state out.old) (O.state out.new) (attribute_text (attribute (codes "id") (codes "page-" ++ decimal pid))) }
 {
-    let mut name = Words::new();
-    name.add(b"page-");
-    let mut buffer = Buffer::new();
-    name.add(buffer.format(u64::from(pid)).as_bytes());
-    show_attribute(out, b"id", name.as_slice());
+    out.show(b" id=\"page-");
+    show_digits(out, pid);
+    out.show(b"\"");
 }
 
-fn show_page<O: Output>(out: &mut O, pid: u16, rectangle: &Rectangle)
-    ensures { Prints (O.state out.old) (O.state out.new) (element_text (rectangle_element (attribute (codes "id") (codes "page-" ++ decimal pid) ∷ []) rectangle.now)) }
+fn show_page<O: Output>(out: &mut O, pid: &u16, rectangle: &Rectangle)
+    ensures { Prints (O.state out.old) (O.state out.new) (element_text (element_of (Shape.Page pid.now rectangle.now))) }
 {
     out.show(b"<rect");
-    show_page_name(out, pid);
+    show_page_name(out, *pid);
     show_rectangle(out, rectangle);
-    out.show(b"></rect>\n");
+    out.show(b">");
+    out.show(b"</rect>\n");
 }
 
 fn show_box<O: Output>(out: &mut O, rectangle: &Rectangle)
@@ -102,17 +110,18 @@ fn show_box<O: Output>(out: &mut O, rectangle: &Rectangle)
 {
     out.show(b"<rect");
     show_rectangle(out, rectangle);
-    out.show(b"></rect>\n");
+    out.show(b">");
+    out.show(b"</rect>\n");
 }
 
 /// The attributes of a line.
 fn show_line_attributes<O: Output>(out: &mut O, line: &Line)
     ensures { Prints (O.state out.old) (O.state out.new) (flat_map attribute_text (line_element line.now).attributes) }
 {
-    show_number_attribute(out, b"x1", u64::from(line.x1));
-    show_number_attribute(out, b"y1", u64::from(line.y1));
-    show_number_attribute(out, b"x2", u64::from(line.x2));
-    show_number_attribute(out, b"y2", u64::from(line.y2));
+    show_number_attribute(out, b"x1", line.x1);
+    show_number_attribute(out, b"y1", line.y1);
+    show_number_attribute(out, b"x2", line.x2);
+    show_number_attribute(out, b"y2", line.y2);
     show_colour(out, b"stroke", line.colour);
     show_attribute(out, b"stroke-width", b"2");
     show_attribute(out, b"stroke-dasharray", dashes_of(line.dashed));
@@ -129,16 +138,17 @@ fn show_line<O: Output>(out: &mut O, line: &Line)
 {
     out.show(b"<line");
     show_line_attributes(out, line);
-    out.show(b"></line>\n");
+    out.show(b">");
+    out.show(b"</line>\n");
 }
 
 /// The attributes of a text.
 fn show_text_attributes<O: Output>(out: &mut O, text: &Text)
     ensures { Prints (O.state out.old) (O.state out.new) (flat_map attribute_text (text_element text.now).attributes) }
 {
-    show_number_attribute(out, b"x", u64::from(text.x));
-    show_number_attribute(out, b"y", u64::from(text.y));
-    show_number_attribute(out, b"font-size", u64::from(text.size));
+    show_number_attribute(out, b"x", text.x);
+    show_number_attribute(out, b"y", text.y);
+    show_number_attribute(out, b"font-size", u32::from(text.size));
     show_attribute(out, b"font-weight", weight_of(text.bold));
     show_colour(out, b"fill", text.colour);
 }
@@ -163,7 +173,7 @@ fn show_shape<O: Output>(out: &mut O, shape: &Shape)
     ensures { Prints (O.state out.old) (O.state out.new) (element_text (element_of shape.now)) }
 {
     match shape {
-        Shape::Page(pid, rectangle) => show_page(out, *pid, rectangle),
+        Shape::Page(pid, rectangle) => show_page(out, pid, rectangle),
         Shape::Box(rectangle) => show_box(out, rectangle),
         Shape::Line(line) => show_line(out, line),
         Shape::Text(text) => show_text(out, text),
@@ -183,8 +193,8 @@ fn show_document_attributes<O: Output>(out: &mut O, width: u32, height: u32)
     ensures { Prints (O.state out.old) (O.state out.new) (flat_map attribute_text (document_attributes width height)) }
 {
     show_attribute(out, b"xmlns", b"http://www.w3.org/2000/svg");
-    show_number_attribute(out, b"width", u64::from(width));
-    show_number_attribute(out, b"height", u64::from(height));
+    show_number_attribute(out, b"width", width);
+    show_number_attribute(out, b"height", height);
     show_attribute(
         out,
         b"font-family",
@@ -198,7 +208,8 @@ pub fn show_document<O: Output>(out: &mut O, width: u32, height: u32, shapes: &[
 {
     out.show(b"<svg");
     show_document_attributes(out, width, height);
-    out.show(b">\n");
+    out.show(b">");
+    out.show(b"\n");
     show_shapes(out, shapes);
     out.show(b"</svg>\n");
 }

@@ -2,5 +2,7 @@
 #![tactic(auto)]
 
 mod elements;
+mod tail;
 
 pub use elements::show_document;
+pub use tail::Tail;

@@ -1,6 +1,5 @@
 //! The end of what is shown.
 ghost use Rattle.std.specs.Prelude.{◌≡◌, [], None, false};
-ghost use Rattle.bw_shell.specs.Output.{Prints, Sink};
 
 use arrayvec::ArrayVec;
 use bw_shell::Output;
@@ -8,13 +7,13 @@ use bw_shell::Output;
 /// A writer that keeps the last line of what it is shown, and gives nothing to anyone.
 #[derive(Drop)]
 pub struct Tail {
-    held: ArrayVec<u8, 256>,
+    pub held: ArrayVec<u8, 256>,
 }
 
 impl Tail {
     /// Nothing.
     pub fn new() -> Tail
-        ensures { Tail.Output.state result ≡ record { contents = None; held = []; failed = false } }
+        ensures { result.held.items ≡ [] }
     {
         Tail {
             held: ArrayVec::new(),
@@ -23,7 +22,7 @@ impl Tail {
 
     /// What is kept.
     pub fn as_slice(&self) -> &[u8]
-        ensures { result.now ≡ (Tail.Output.state self.now).held }
+        ensures { result.now ≡ self.now.held.items }
     {
         self.held.as_slice()
     }
