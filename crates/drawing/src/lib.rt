@@ -2,7 +2,9 @@
 #![tactic(auto)]
 
 mod elements;
+mod run;
 mod tail;
 
 pub use elements::show_document;
+pub use run::draw;
 pub use tail::Tail;
