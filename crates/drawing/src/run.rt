@@ -29,7 +29,12 @@ fn show_core<O: Output>(alloc: Global, core: &Core, out: &mut O) -> bool
     documents_are_well_formed();
     match picture_of(alloc, core) {
         Ok(picture) => {
-            show_document(out, picture.width, picture.height, picture.shapes.as_slice());
+            show_document(
+                out,
+                picture.width,
+                picture.height,
+                picture.shapes.as_slice(),
+            );
             true
         }
         Err(_) => {

@@ -92,7 +92,11 @@ fn kept(hand: &Hand) -> Words {
 /// What it took out of the tree and has not freed.
 fn limbo(hand: &Hand) -> Words {
     let mut words = Words::new();
-    with_number(&mut words, b"limbo: rows: ", hand.limbo().rows().len() as u64);
+    with_number(
+        &mut words,
+        b"limbo: rows: ",
+        hand.limbo().rows().len() as u64,
+    );
     entries(&mut words, hand.limbo().rows());
     with_number(&mut words, b"; PIDs: ", hand.limbo().pids().len() as u64);
     entries(&mut words, hand.limbo().pids());

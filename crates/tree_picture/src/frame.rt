@@ -59,15 +59,41 @@ pub(crate) fn legend(sheet: &mut Sheet, y: u32) -> u32
 {
     let boxes = y.saturating_add(10);
     key_box(sheet, LEFT, boxes, Colour::Page, b"page with its term");
-    key_box(sheet, LEFT + 180, boxes, Colour::Paper, b"page without a term");
+    key_box(
+        sheet,
+        LEFT + 180,
+        boxes,
+        Colour::Paper,
+        b"page without a term",
+    );
     key_box(sheet, LEFT + 370, boxes, Colour::Held, b"held");
     key_box(sheet, LEFT + 470, boxes, Colour::Removed, b"removed");
     key_box(sheet, LEFT + 590, boxes, Colour::Merged, b"merged");
-    key_box(sheet, LEFT + 700, boxes, Colour::Delta, b"delta, newest on top");
+    key_box(
+        sheet,
+        LEFT + 700,
+        boxes,
+        Colour::Delta,
+        b"delta, newest on top",
+    );
     let lines = y.saturating_add(36);
     key_line(sheet, LEFT, lines, Colour::Term, false, b"term");
-    key_line(sheet, LEFT + 180, lines, Colour::Missing, true, b"term that is missing");
-    key_line(sheet, LEFT + 370, lines, Colour::Missing, false, b"held term");
+    key_line(
+        sheet,
+        LEFT + 180,
+        lines,
+        Colour::Missing,
+        true,
+        b"term that is missing",
+    );
+    key_line(
+        sheet,
+        LEFT + 370,
+        lines,
+        Colour::Missing,
+        false,
+        b"held term",
+    );
     key_line(sheet, LEFT + 590, lines, Colour::Side, false, b"side link");
     y.saturating_add(66)
 }

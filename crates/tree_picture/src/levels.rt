@@ -44,7 +44,14 @@ pub(crate) fn rows(
     let mut y = top;
     let mut above: Option<&Level> = None;
     for level in levels {
-        level_row(sheet, level, above, root, first_x(width, level.pages().len()), y)?;
+        level_row(
+            sheet,
+            level,
+            above,
+            root,
+            first_x(width, level.pages().len()),
+            y,
+        )?;
         y = y.saturating_add(level_height(level)).saturating_add(DROP);
         above = Some(level);
     }

@@ -4,13 +4,21 @@ use deltas::Record;
 use scene::{Level, ScenePage};
 
 pub(crate) const PAGE_WIDTH: u32 = 236;
+
 pub(crate) const GAP: u32 = 40;
+
 pub(crate) const LEFT: u32 = 30;
+
 pub(crate) const TOP: u32 = 118;
+
 pub(crate) const HEAD: u32 = 44;
+
 pub(crate) const DELTA: u32 = 21;
+
 pub(crate) const ROW: u32 = 15;
+
 pub(crate) const DROP: u32 = 84;
+
 const LEAST_WIDTH: u32 = 1000;
 
 /// A count as a number of pixels.
@@ -37,9 +45,7 @@ pub(crate) fn width_of(levels: &[Level]) -> u32 {
 
 /// Where the first page of a level stands, in the middle of a picture of this width.
 pub(crate) fn first_x(width: u32, pages: usize) -> u32 {
-    width
-        .saturating_sub(row_width(pages).saturating_sub(GAP))
-        / 2
+    width.saturating_sub(row_width(pages).saturating_sub(GAP)) / 2
 }
 
 /// Where the page of a level stands whose first one stands at `first`.

@@ -34,7 +34,11 @@ pub(crate) fn step_words(words: &mut Words, step: &Step<&Record>) {
         Step::Slot(pid) => with_number(words, b"read slot ", u64::from(*pid)),
         Step::Row(row) => with_number(words, b"read row ", u64::from(*row)),
         Step::Epoch => words.add(b"read the epoch"),
-        Step::Announce(actor) => with_number(words, b"read the announce of actor ", u64::from(*actor)),
+        Step::Announce(actor) => with_number(
+            words,
+            b"read the announce of actor ",
+            u64::from(*actor),
+        ),
         Step::PidBits(word) => with_number(words, b"read free PIDs, word ", u64::from(*word)),
         Step::RowBits(word) => with_number(words, b"read free rows, word ", u64::from(*word)),
         Step::Place(row, record) => {

@@ -51,7 +51,11 @@ pub(crate) fn with_token(words: &mut Words, before: &[u8], bytes: &[u8]) {
 fn digit(value: u8) -> u8
     requires { value < 16 }
 {
-    if value < 10 { b'0' + value } else { b'a' + (value - 10) }
+    if value < 10 {
+        b'0' + value
+    } else {
+        b'a' + (value - 10)
+    }
 }
 
 /// From which key on, and up to which one.
@@ -74,7 +78,11 @@ pub(crate) fn record_words(record: &Record) -> Words {
     let mut words = Words::new();
     match record {
         Record::Base(page) => {
-            with_number(&mut words, b"base, items: ", page.items().as_slice().len() as u64);
+            with_number(
+                &mut words,
+                b"base, items: ",
+                page.items().as_slice().len() as u64,
+            );
         }
         Record::Put(put) => {
             with_token(&mut words, b"put ", put.key.as_slice());
