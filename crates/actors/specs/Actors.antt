@@ -1,5 +1,5 @@
 -- What an actor keeps, and what an answer makes of it.
-use Rattle.std.specs.Prelude.{◌≡◌, ℕ, Option, Some, None}
+use Rattle.std.specs.Prelude.{◌≡◌, ℕ, List, [], Option, Some, None}
 use Rattle.bw_model.specs.declared.command.Command.{Command}
 use Rattle.bw_model.specs.declared.command.Reply.{Reply}
 use Rattle.bw_model.specs.declared.limits.Limits.{Limits}
@@ -55,6 +55,14 @@ command_at (Some running) = Some running.op.task.command
 -- the command of its operation, if it has one
 abbrev pub running_command : Actor → Option Command
 running_command at = command_at at.running
+
+abbrev pub errands_at : Option Running → List (List ℕ)
+errands_at None = []
+errands_at (Some running) = running.op.task.errands
+
+-- the separators that its operation is still to visit, the newest last
+abbrev pub errands_of : Actor → List (List ℕ)
+errands_of at = errands_at at.running
 
 -- the step that its operation wants, if it has one
 abbrev pub wanted_by : Option Running → Option (StepOf Record)

@@ -1,6 +1,6 @@
 //! One actor.
 ghost use Rattle.std.specs.Prelude.{◌≡◌, ◌≢◌, ◌<◌, ◌^◌, ℕ, IfErr, IfOk, IsSome, MatchBool, None, Some, is_some, option_copied};
-ghost use Rattle.actors.specs.Actors.{GoesOn, IsActor, IsGoing, IsShown, IsTold, idle_actor, running_command, wanted_by};
+ghost use Rattle.actors.specs.Actors.{GoesOn, IsActor, IsGoing, IsShown, IsTold, errands_of, idle_actor, running_command, wanted_by};
 ghost use Rattle.actors.specs.Spending.{steps_due};
 ghost use Rattle.bw_model.specs.Answers.{answer_of};
 ghost use Rattle.bw_model.specs.Lent.{lent};
@@ -9,7 +9,7 @@ ghost use Rattle.bw_model.specs.declared.step.Answer.TheVariants.{Content, Done}
 ghost use Rattle.chain_search.specs.Knowledge.{Knowledge, begun, nothing};
 ghost use Rattle.chain_search.specs.Recalled.{Recalled, blank};
 
-use bw_model::{Command, Limits, OpenError, Reply, Step, Told};
+use bw_model::{Command, Key, Limits, OpenError, Reply, Step, Told};
 use deltas::Record;
 use op_machine::{Hand, Operation};
 use row_chain::HeldRow;
@@ -75,6 +75,24 @@ impl<A: Allocator> Actor<A> {
             Some(self.operation.command())
         } else {
             None
+        }
+    }
+
+    /// What it keeps between operations.
+    pub fn hand(&self) -> &Hand<A>
+        ensures { result.now ≡ self.now.hand }
+    {
+        &self.hand
+    }
+
+    /// The separators of splits that its operation has linked and is still to visit, the newest last; none without an operation.
+    pub fn errands(&self) -> &[Key]
+        ensures { result.now ≡ errands_of self.now }
+    {
+        if self.is_running {
+            self.operation.errands()
+        } else {
+            &[]
         }
     }
 

@@ -16,4 +16,4 @@ pub use over_std::{HELD, READS, Reader, Writer};
 pub use refusal::Refusal;
 pub use streams::{Failed, Input, Output, outputs_add_up};
 pub use texts::{show_listing, show_lone_refusal, show_number, show_refused, show_reply};
-pub use whole::{script, status, weave};
+pub use whole::{Woven, script, status, weave, weave_core};

@@ -1,7 +1,7 @@
 //! A whole run.
 
-ghost use Rattle.std.specs.Prelude.{◌≡◌, ◌≤◌, ◌^◌, ◌⊎◌, ◌↔◌, [], false};
-ghost use Rattle.bw_shell.specs.Turns.{seen};
+ghost use Rattle.std.specs.Prelude.{◌≡◌, ◌≤◌, ◌^◌, ◌⊎◌, ◌↔◌, [], false, IfSome, None};
+ghost use Rattle.bw_shell.specs.Turns.{opening_trace, seen};
 ghost use Rattle.bw_shell.specs.Weave.{HasRun, IsWholeRun};
 
 use crate::pieces::{Weaver, feed};
@@ -59,6 +59,42 @@ fn run<I: Input, O: Output>(
         weaver.part.as_slice(),
         out,
     )
+}
+
+/// A core on which lines were run.
+#[derive(Drop)]
+pub struct Woven {
+    pub core: Core,
+    /// Whether a line was refused.
+    pub refused: bool,
+}
+
+/// Reads lines, runs them turn by turn on a core of these limits, as `weave` does, and gives the core away. What the lines answer is
+/// shown, but not finished. None where memory for the core is refused; then nothing is read or shown.
+pub fn weave_core<I: Input, O: Output>(
+    alloc: Global,
+    limits: Limits,
+    input: &mut I,
+    out: &mut O,
+) -> Option<Woven>
+    requires sound_in { I.failed input.old ≡ false }
+    requires bounded { I.reads_left input.old ≤ 2 ^ 31 }
+    requires sound_out { (O.state out.old).failed ≡ false }
+    ensures ran { IfSome result (λ woven. HasRun Language.Weave (opening_trace limits) (I.remaining input.old) (I.remaining input.new) (I.failed input.new)
+        (O.state out.old) (O.state out.new) (seen woven.core) woven.refused) }
+    ensures none { result ≡ None → (input.new ≡ input.old) × (out.new ≡ out.old) }
+{
+    let Ok(core) = Core::open(alloc, limits) else {
+        return None;
+    };
+    let mut weaver = Weaver {
+        core,
+        number: 1,
+        part: ArrayVec::new(),
+    };
+    let refused = run(alloc, Language::Weave, &mut weaver, input, out);
+    let Weaver { core, .. } = weaver;
+    Some(Woven { core, refused })
 }
 
 /// The status of a run: 0 where nothing was refused and no read or write failed, else 1.

@@ -5,7 +5,7 @@ ghost use Rattle.epochs.specs.Limbo.{IsLimboList, IsNewItem, all_restaged, compa
 ghost use Rattle.epochs.specs.Words.{IsHandedOn};
 
 use crate::list::LimboList;
-use crate::{Item, Reuse};
+use crate::{Entry, Item, Reuse};
 use bw_model::{Limits, OpenError};
 use std::alloc::{AllocError, Allocator, Global};
 use std::marker::Model;
@@ -99,6 +99,20 @@ impl<A: Allocator> Limbo<A> {
     {
         self.rows.has_each_once();
         self.pids.has_each_once();
+    }
+
+    /// The rows with their stages, in the order in which they came.
+    pub fn rows(&self) -> &[Entry]
+        ensures { result.now ≡ self.now.rows.entries }
+    {
+        self.rows.entries()
+    }
+
+    /// The PIDs with their stages, in the order in which they came.
+    pub fn pids(&self) -> &[Entry]
+        ensures { result.now ≡ self.now.pids.entries }
+    {
+        self.pids.entries()
     }
 
     /// Whether nothing is in limbo.

@@ -100,6 +100,13 @@ impl<A: Allocator> LimboList<A> {
         let _ = &self.entries;
     }
 
+    /// The numbers with their stages, in the order in which they came.
+    pub(crate) fn entries(&self) -> &[Entry]
+        ensures { result.now ≡ self.now.entries }
+    {
+        self.entries.as_slice()
+    }
+
     /// Whether no number is left.
     pub(crate) fn is_empty(&self) -> bool
         ensures { IsTrue result ↔ (self.now.entries ≡ []) }

@@ -7,5 +7,5 @@ mod rows;
 mod table;
 
 pub use law::pages_are_listed;
-pub use pairs::add_pairs;
+pub use pairs::{add_pairs, chain_of};
 pub use rows::Rows;

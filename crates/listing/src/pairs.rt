@@ -37,8 +37,8 @@ pub fn add_pairs<M: Rows, B: Allocator>(
     unreachable!()
 }
 
-/// The chain of a page.
-fn chain_of<M: Rows>(rows: &M, pid: u16) -> Chain
+/// The chain of a page that stands.
+pub fn chain_of<M: Rows>(rows: &M, pid: u16) -> Chain
     requires there { pid < 4096 }
     requires stands { (memory : Memory) × (chain : List Record) × M.has rows.now memory × StandsAt memory pid chain }
     ensures { (memory : Memory) (chain : List Record) → M.has rows.now memory → StandsAt memory pid chain → result ≡ chain }

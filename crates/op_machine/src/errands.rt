@@ -34,6 +34,13 @@ impl Errands {
         }
     }
 
+    /// All of them, the newest last.
+    pub(crate) fn keys(&self) -> &[Key]
+        ensures { result.now ≡ self.now }
+    {
+        self.keys.as_slice()
+    }
+
     /// The newest one.
     pub(crate) fn newest(&self) -> Option<&Key>
         ensures { option_copied result ≡ slice_get self.now (length self.now - 1) }

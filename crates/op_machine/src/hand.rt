@@ -44,6 +44,20 @@ impl<A: Allocator + Copy> Hand<A> {
 }
 
 impl<A: Allocator> Hand<A> {
+    /// What was taken and not linked.
+    pub fn spares(&self) -> &Spares
+        ensures { result.now ≡ self.now.spares }
+    {
+        &self.spares
+    }
+
+    /// What was taken out of the tree and is not freed.
+    pub fn limbo(&self) -> &Limbo<A>
+        ensures { result.now ≡ self.now.limbo }
+    {
+        &self.limbo
+    }
+
     /// What a change has taken out of the tree, if it has won, comes into limbo.
     pub(crate) fn unlink(&mut self, end: End, then: &Then)
         requires due { (limits : LimitsSeen) × (actor : ℕ) × (k : Knowledge) × (after : Limbos) × AreKept limits actor self.old.limbo k.limbo × Unlinks limits k end then.now after }

@@ -97,6 +97,13 @@ impl<A: Allocator> Operation<A> {
         self.task.command()
     }
 
+    /// The separators of splits that it has linked and is still to visit, the newest last.
+    pub fn errands(&self) -> &[Key]
+        ensures { result.now ≡ self.now.task.errands }
+    {
+        self.task.errands()
+    }
+
     /// Whether the leave is the step that it wants, after which it is done.
     pub fn is_leaving(&self) -> bool
         ensures { result ≡ is_leaving self.now.state }

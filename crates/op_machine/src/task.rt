@@ -65,6 +65,13 @@ impl Task {
         &self.command
     }
 
+    /// The separators that it is still to visit, the newest last.
+    pub(crate) fn errands(&self) -> &[Key]
+        ensures { result.now ≡ self.now.errands }
+    {
+        self.errands.keys()
+    }
+
     /// How large the tree is.
     pub(crate) fn limits(&self) -> &Limits
         ensures { result.now ≡ self.now.limits }

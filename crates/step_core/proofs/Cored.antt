@@ -115,6 +115,12 @@ module _ (limits : Limits) where
       let lt : i < limits.actors = rw (← core.count) (get_below actors i at found) in
       rw (← is, lt-ltb i limits.actors lt, core.each_running i at found) refl
 
+  -- an actor that there is keeps what its entries show
+  pub core_seen : (table : Table) (actors : List Actor) (entries : List Entry) (i : ℕ) (at : Actor) → IsCore limits table actors entries → (demand : Demand) (v : Core) → record { limits = limits; entries = entries; demand = demand } ≡ v
+      → slice_get actors i ≡ Some at → IsActor v.limits i (knows v.entries i) (recalls v.entries i) at × (running_command at ≡ command_of v.entries i)
+  core_seen table actors entries i at core demand v is found =
+      subst (λ (seen : Core). IsActor seen.limits i (knows seen.entries i) (recalls seen.entries i) at × (running_command at ≡ command_of seen.entries i)) is (core.each_shows i at found, core.each_running i at found)
+
   -- the actor of a turn that goes on with its operation shows what is known
   pub core_shown : (table : Table) (actors : List Actor) (entries : List Entry) (i j : ℕ) (old : Actor) → IsCore limits table actors entries
       → (demand : Demand) (v : Core) → record { limits = limits; entries = entries; demand = demand } ≡ v → refusal_of v (turn.Step i) ≡ None → j ≡ i → old ≡ get_or actors j old

@@ -7,6 +7,7 @@ pub mod Kept
 pub mod KeyOrder
 pub mod LeafPlaces
 pub mod Leaves
+pub mod LevelPages
 pub mod Levels
 pub mod Mapping
 pub mod Moments

@@ -8,6 +8,7 @@ pub mod Indexed
 pub mod Keys
 pub mod Laws
 pub mod Leaves
+pub mod LevelPages
 pub mod Limbos
 pub mod Next
 pub mod Own

@@ -24,6 +24,7 @@ use Rattle.op_machine.specs.Points.{log_of}
 use Rattle.op_machine.specs.Quiet.{HasMapOf}
 use Rattle.op_machine.specs.Reuse.{IsFreedByRule}
 use Rattle.tree_law.specs.Leaves.{HasLeafPages}
+use Rattle.tree_law.specs.LevelPages.{HasAllLevels}
 use Rattle.tree_law.specs.State.{IsState}
 
 -- The entry changes the memory, the commands under way, and what actors know and recall, each by what it was before.
@@ -86,6 +87,10 @@ StatesFreeByRule = (limits : Limits) (entries : List Entry) → IsState limits e
 -- the leaves of a state stand
 abbrev pub LeavesStand : Type 0
 LeavesStand = (limits : Limits) (entries : List Entry) → IsState limits entries → HasLeafPages limits (memory_of limits entries)
+
+-- all levels of a state stand
+abbrev pub LevelsStand : Type 0
+LevelsStand = (limits : Limits) (entries : List Entry) → IsState limits entries → HasAllLevels limits (memory_of limits entries)
 
 -- by whatever points a trace is linearized, the leaves have the map of their log
 abbrev pub LeavesHaveMap : Type 0

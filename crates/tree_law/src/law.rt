@@ -1,6 +1,6 @@
 //! The law over runs: each of its parts is the contract of a function that does nothing.
 ghost use Rattle.tree_law.specs.State.{IsState};
-ghost use Rattle.tree_law.specs.TraceLaws.{AnswersFit, BeginsKeep, DisciplinedRuns, EntriesGrow, HeadsStand, LeavesHaveMap, LeavesStand, RunsAreLinearized, StatesFreeByRule, StatesAreIndexed, StatesAreLinearized, KnowledgeIsOwn, Opens, RowsStand, StatesKeepPhases, Steps};
+ghost use Rattle.tree_law.specs.TraceLaws.{AnswersFit, BeginsKeep, DisciplinedRuns, EntriesGrow, HeadsStand, LeavesHaveMap, LeavesStand, LevelsStand, RunsAreLinearized, StatesFreeByRule, StatesAreIndexed, StatesAreLinearized, KnowledgeIsOwn, Opens, RowsStand, StatesKeepPhases, Steps};
 
 /// What one more entry makes of a trace.
 pub fn entries_grow()
@@ -60,6 +60,12 @@ pub fn answers()
 pub fn leaves_stand()
     ensures stand { LeavesStand }
     ensures map { LeavesHaveMap }
+{}
+
+/// In a state all levels stand, each from its first page to the right: the top one from the root on, and each other one from the
+/// child at the empty key of the first page above it.
+pub fn levels_stand()
+    ensures { LevelsStand }
 {}
 
 /// What an actor knows comes from its own entries alone: in two traces with the same ones it knows the same.

@@ -19,6 +19,6 @@ pub use invariant::{
 };
 pub use law::{
     answers, begins, disciplined_runs, entries_grow, frees_by_rule, index_is_exact, is_one_map,
-    keeps_phases, knowledge_is_own, leaves_stand, opens, steps,
+    keeps_phases, knowledge_is_own, leaves_stand, levels_stand, opens, steps,
 };
 pub use own::{own_lasts, rows_are_apart};

@@ -11,7 +11,7 @@ use Rattle.tree_law.proofs.shape.Sides.{locate, same_page}
 placed_low : (st st' : Stage) (l l' : ℕ) (s s' : Key) → Placed st l s ≡ Placed st' l' s' → s ≡ s'
 placed_low st st' l l' s s' e = cc
 
-first_page : (o : Owners) (m : Shared) (lv : ℕ) (mp : Key → Option ContentOf) (gs : List SidePage) (p : ℕ) (low : Key) → IsPart o m lv mp gs (Some p) (Some low) None None → (g : SidePage) × (g.page ≡ p) × (low_in g.chain ≡ low) × InPlace o m lv mp g
+pub first_page : (o : Owners) (m : Shared) (lv : ℕ) (mp : Key → Option ContentOf) (gs : List SidePage) (p : ℕ) (low : Key) → IsPart o m lv mp gs (Some p) (Some low) None None → (g : SidePage) × (g.page ≡ p) × (low_in g.chain ≡ low) × InPlace o m lv mp g
 first_page o m lv mp [] p low h = absurd (let e = h.0 in cc)
 first_page o m lv mp (g ∷ gs) p low h = (g, sym (same_Some p g.page h.0), sym (same_Some low (low_in g.chain) h.1), h.2)
 
@@ -77,6 +77,11 @@ module _ (memory : Memory) {log : List Update} {o : Owners} {knows : ℕ → Kno
         whole = λ l le. whole_from memory o l (spec log o.index l) (g.tree.levels l le).side (Some (g.tree.first l)) (Some []) (g.tree.levels l le).whole;
         terms = λ l le key child held. (posted l le key child held, has_term l le key child held);
       }
+
+  -- the page that begins a level at the empty key is the level's first one
+  pub first_only : (q l : ℕ) (st : Stage) → l ≤ g.tree.top → o.page q ≡ Placed st l [] → rank st ≤ 3 → q ≡ g.tree.first l
+  unfolding is_indexed
+  first_only q l st le e on = is_indexed.only q l st le e on
 
   -- no page is above the top level
   pub below_top : (q l : ℕ) (s : Key) (st : Stage) → o.page q ≡ Placed st l s → l ≤ is_indexed.top

@@ -1,7 +1,8 @@
--- The leaves of a state stand, and are fewer than there are slots.
+-- The pages of each level of a state stand, and are fewer than there are slots.
 use Rattle.tree_law.proofs.Words.{false, [], ap, Option, None, List, true, inl, ◌≢◌, length, ◌≤◌, inr, ◌∷◌, subst, sym, ℕ, ◌≡◌, ◌∙◌, ◌<◌, arith, Some, map, ⊎_elim, cases_lt, nat_tests, All-weaker}
 use Rattle.tree_law.proofs.Words.{All-from_recursion, All, ⊤, Update, Limits, ContentOf, Memory, right_in, low_in, high_in, LivePage, memory_of, turn_of, Entry, IsLinearized, log_of, HasMapOf, Key}
-use Rattle.tree_law.proofs.Words.{Owners, leaf_map, Placed, Fresh, Stage, shared, Shared, IsState, phase_of, SidePage, InPlace, IsPart}
+use Rattle.tree_law.proofs.Words.{Owners, leaf_map, Placed, Fresh, Stage, shared, Shared, IsState, phase_of, Level, SidePage, InPlace, IsPart}
+use Rattle.base_page.proofs.ItemLaws.{all-weaker}
 use Rattle.std.proofs.Math.Dec.{eqb}
 use Rattle.std.specs.List.{AllByRecursion, AllPairs, list_any}
 use Rattle.std.proofs.lemmas.Bool.Decides.{Decides-eqb}
@@ -12,7 +13,8 @@ use Rattle.std.proofs.lemmas.Map.Made.{IsDistinct-from_AllPairs}
 use Rattle.std.proofs.lemmas.Map.Steps.{length-le_from_distinct_below}
 use Rattle.op_machine.specs.Phases as phase
 use Rattle.tree_law.specs.Leaves.{IsLeafPage, HasLeafPages}
-use Rattle.tree_law.proofs.shape.Mapping.{live, chain_of, leaves, is_leaves, whole_from}
+use Rattle.tree_law.specs.LevelPages.{IsPageOn, HasPagesOn}
+use Rattle.tree_law.proofs.shape.Mapping.{live, chain_of, leaves, side_from, whole_from}
 use Rattle.tree_law.proofs.shape.Sides.{AllPages, StartsFrom, all_in, all_pages, begins_after, beside_after}
 
 abbrev pids : List SidePage → List ℕ
@@ -71,46 +73,56 @@ module _ (limits : Limits) (entries : List Entry) (state : IsState limits entrie
   abbrev log : List Update
   log = log_of entries state.points
 
-  abbrev Here : SidePage → Type 0
-  Here g = InPlace state.owners (shared m) 0 (leaf_map log) g
+  -- a level, from its first page on
+  module _ (l first : ℕ) (mp : Key → Option ContentOf) (level : Level state.owners (shared m) l mp first) where
+    abbrev Here : SidePage → Type 0
+    Here g = InPlace state.owners (shared m) l mp g
 
-  abbrev side : List SidePage
-  side = (leaves m state.is_tree).side
+    -- what is so of each page in its place is so of each page of the level
+    each_page : (P : SidePage → Type 0) → ((g : SidePage) → Here g → P g) → AllPages P level.side
+    each_page P f = all_in state.owners (shared m) l mp (λ g. ⊤) P (λ g here t. f g here) level.side (Some first) (Some []) None None level.whole (all_pages (λ g. ⊤) (λ g. tt) level.side)
 
-  -- what is so of each page in its place is so of each leaf
-  each_leaf : (P : SidePage → Type 0) → ((g : SidePage) → Here g → P g) → AllPages P side
-  each_leaf P f = all_in state.owners (shared m) 0 (leaf_map log) (λ g. ⊤) P (λ g here t. f g here) side (Some 1) (Some []) None None (leaves m state.is_tree).whole (all_pages (λ g. ⊤) (λ g. tt) side)
+    in_range : (g : SidePage) → Here g → (0 < g.page) × (g.page < limits.pids)
+    in_range g here = ⊎_elim
+        (λ free. absurd (not_free here.stage l (low_in g.chain) (ap phase_of (sym here.placed) ∙ free)))
+        (λ in_range. in_range)
+        (state.named.pid_below g.page)
 
-  in_range : (g : SidePage) → Here g → (0 < g.page) × (g.page < limits.pids)
-  in_range g here = ⊎_elim
-      (λ free. absurd (not_free here.stage 0 (low_in g.chain) (ap phase_of (sym here.placed) ∙ free)))
-      (λ in_range. in_range)
-      (state.named.pid_below g.page)
+    page_on : (g : SidePage) → Here g → IsPageOn limits m l (live g)
+    page_on g here = record {
+      pid = (in_range g here).1;
+      stands = chain_of m state.owners l mp g here;
+      fits = state.fitted g.row here.linked g.chain here.is_page.is_chain;
+      level_is = here.is_page.on_level;
+    }
 
-  leaf_page : (g : SidePage) → Here g → IsLeafPage limits m (live g)
-  leaf_page g here = record {
-    pid = (in_range g here).1;
-    stands = chain_of m state.owners 0 (leaf_map log) g here;
-    fits = state.fitted g.row here.linked g.chain here.is_page.is_chain;
-    level = here.is_page.on_level;
-  }
+    few : length level.side < limits.pids
+    few =
+        let some : 64 ≤ limits.pids = limits.allowed.some_pids in
+        let above : AllByRecursion (λ n. 0 ≢ n) (pids level.side) = of_pids (λ n. 0 ≢ n) level.side (each_page (λ g. 0 ≢ g.page) (λ g here e. let above = (in_range g here).0 in omega arith)) in
+        let below : AllByRecursion (λ n. n < limits.pids) (pids level.side) = of_pids (λ n. n < limits.pids) level.side (each_page (λ g. g.page < limits.pids) (λ g here. (in_range g here).1)) in
+        let apart : AreApart (pids level.side) = apart_in state.owners (shared m) l mp level.side (Some first) (Some []) None None level.whole in
+        subst (λ n. n < limits.pids) (length-map level.side (λ g. g.page)) (fewer limits.pids (pids level.side) (omega arith) apart above below)
 
-  few : length side < limits.pids
-  few =
-      let some : 64 ≤ limits.pids = limits.allowed.some_pids in
-      let above : AllByRecursion (λ n. 0 ≢ n) (pids side) = of_pids (λ n. 0 ≢ n) side (each_leaf (λ g. 0 ≢ g.page) (λ g here e. let above = (in_range g here).0 in omega arith)) in
-      let below : AllByRecursion (λ n. n < limits.pids) (pids side) = of_pids (λ n. n < limits.pids) side (each_leaf (λ g. g.page < limits.pids) (λ g here. (in_range g here).1)) in
-      let apart : AreApart (pids side) = apart_in state.owners (shared m) 0 (leaf_map log) side (Some 1) (Some []) None None (leaves m state.is_tree).whole in
-      subst (λ n. n < limits.pids) (length-map side (λ g. g.page)) (fewer limits.pids (pids side) (omega arith) apart above below)
+    pub pages_on : HasPagesOn limits m l first
+    pages_on = record {
+      pages = map live level.side;
+      side = side_from m state.owners l mp level.side (Some first) (Some []) level.whole;
+      whole = whole_from m state.owners l mp level.side (Some first) (Some []) level.whole;
+      few = subst (λ n. n < limits.pids) (sym (length-map level.side live)) few;
+      each = of_live (IsPageOn limits m l) level.side (each_page (λ g. IsPageOn limits m l (live g)) page_on);
+    }
 
   pub leaf_pages : HasLeafPages limits m
-  leaf_pages = record {
-    pages = map live side;
-    leaves = is_leaves m state.is_tree;
-    whole = whole_from m state.owners 0 (leaf_map log) side (Some 1) (Some []) (leaves m state.is_tree).whole;
-    few = subst (λ n. n < limits.pids) (sym (length-map side live)) few;
-    each = of_live (IsLeafPage limits m) side (each_leaf (λ g. IsLeafPage limits m (live g)) leaf_page);
-  }
+  leaf_pages =
+      let leaves = pages_on 0 1 (leaf_map log) (leaves m state.is_tree) in
+      record {
+        pages = leaves.pages;
+        leaves = leaves.side;
+        whole = leaves.whole;
+        few = leaves.few;
+        each = all-weaker (IsPageOn limits m 0) (IsLeafPage limits m) (λ page on. record { pid = on.pid; stands = on.stands; fits = on.fits; level = on.level_is }) leaves.pages leaves.each;
+      }
 
 -- by whatever points a trace is linearized, its memory has the map of their log
 pub has_map_of_log : (limits : Limits) (entries : List Entry) (linear : IsLinearized limits (map turn_of entries) entries) → HasMapOf (memory_of limits entries) (log_of entries linear.points)

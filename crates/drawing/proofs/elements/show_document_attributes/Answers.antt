@@ -1,0 +1,5 @@
+use Rattle.bw_shell.proofs.Showing.{shows_then, no_text, flat_more}
+use Rattle.drawing.proofs.elements.show_document_attributes.Goals as goal
+
+pub returns : goal.returns
+returns g c = shows_then c.show_attribute.ensures (shows_then c.show_number_attribute.ensures (shows_then c.show_number_attribute-2.ensures (shows_then c.show_attribute-2.ensures (no_text _))))

@@ -1,0 +1,8 @@
+use Rattle.std.proofs.Common.{take}
+use Rattle.std.specs.List.{flat_map}
+use Rattle.bw_shell.specs.Output.{Prints}
+use Rattle.shapes.specs.Document.{escaped_byte}
+use Rattle.drawing.proofs.elements.show_escaped.Given as goal
+
+abbrev pub invariant-loop-byte : goal.invariant-loop-byte
+invariant-loop-byte g l = Prints (g.O.Output.state l.initial.out) (g.O.Output.state l.out) (flat_map escaped_byte (take l.byte-index l.bytes))

@@ -1,0 +1,9 @@
+use Rattle.std.proofs.Common.{take}
+use Rattle.std.specs.List.{flat_map}
+use Rattle.bw_shell.specs.Output.{Prints}
+use Rattle.shapes.specs.Document.{element_text}
+use Rattle.shapes.specs.Elements.{element_of}
+use Rattle.drawing.proofs.elements.show_shapes.Given as goal
+
+abbrev pub invariant-loop-shape : goal.invariant-loop-shape
+invariant-loop-shape g l = Prints (g.O.Output.state l.initial.out) (g.O.Output.state l.out) (flat_map (λ shape. element_text (element_of shape)) (take l.shape-index l.shapes))

@@ -1,0 +1,4 @@
+mod Bits
+mod Chains
+mod Descents
+mod Sides

@@ -1,0 +1,10 @@
+use Rattle.std.proofs.Common.{◌≡◌, ◌≤◌}
+use Rattle.chain_search.specs.Tables.{memory_in}
+use Rattle.scene.specs.Counts.{how_many}
+use Rattle.scene.proofs.counts.free_pids.Given as goal
+
+abbrev pub invariant-loop-pid : goal.invariant-loop-pid
+invariant-loop-pid g l = record {
+  counted : l.count ≡ how_many (memory_in l.table).free_pids l.pid;
+  few : l.count ≤ l.pid;
+}

@@ -1,0 +1,10 @@
+use Rattle.std.proofs.Common.{◌≡◌, ◌≤◌}
+use Rattle.chain_search.specs.Tables.{memory_in}
+use Rattle.scene.specs.Counts.{how_many}
+use Rattle.scene.proofs.counts.free_rows.Given as goal
+
+abbrev pub invariant-loop-row : goal.invariant-loop-row
+invariant-loop-row g l = record {
+  counted : l.count ≡ how_many (memory_in l.table).free_rows l.row;
+  few : l.count ≤ l.row;
+}

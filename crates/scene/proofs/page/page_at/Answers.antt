@@ -1,0 +1,8 @@
+use Rattle.std.proofs.Common.{subst, sym, refl, ◌∙◌}
+use Rattle.chain_search.specs.Fitted.{Makes}
+use Rattle.scene.proofs.page.page_at.Goals as goal
+
+pub invariant_of-result : goal.invariant_of-result
+invariant_of-result g c =
+    let (chain, stands) = c.requires.stands in
+    subst (λ records. Makes records c.page-page.result) (c.chain_of.ensures _ chain refl stands ∙ sym (c.in_ok-records.ensures chain stands)) c.page-page.ensures.makes

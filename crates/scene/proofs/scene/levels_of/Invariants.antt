@@ -1,0 +1,7 @@
+use Rattle.std.proofs.Common.{◌≡◌}
+use Rattle.chain_search.specs.Tables.{memory_in}
+use Rattle.scene.proofs.Descents.{HasDown}
+use Rattle.scene.proofs.scene.levels_of.Given as goal
+
+abbrev pub invariant-loop : goal.invariant-loop
+invariant-loop g l = HasDown l.limits (memory_in l.table) l.levels.items l.counter l.pid

@@ -1,0 +1,24 @@
+-- What stands in a tree.
+use Rattle.std.specs.Prelude.{◌≡◌, ℕ, List}
+use Rattle.bw_model.specs.declared.limits.Limits.{Limits}
+use Rattle.deltas.specs.Memory.{Memory}
+use Rattle.chain_search.specs.SideChain.{LivePage}
+use Rattle.scene.specs.Counts.{how_many}
+use Rattle.scene.specs.Levels.{AreLevels}
+
+-- the PID in slot 0; the pages of each level from left to right, from the root's level down to the leaves; how many PIDs and rows
+-- are free; and the epoch
+pub record Scene : Type 0 where
+  pub root : ℕ
+  pub levels : List (List LivePage)
+  pub free_pids : ℕ
+  pub free_rows : ℕ
+  pub epoch : ℕ
+
+-- The scene is what stands in the memory of a tree of these limits, and nothing else.
+pub record IsSceneOf (limits : Limits) (memory : Memory) (scene : Scene) : Type 0 where
+  pub root : scene.root ≡ memory.slots 0
+  pub levels : AreLevels memory scene.levels
+  pub free_pids : scene.free_pids ≡ how_many memory.free_pids limits.pids
+  pub free_rows : scene.free_rows ≡ how_many memory.free_rows limits.rows
+  pub epoch : scene.epoch ≡ memory.epoch

@@ -1,0 +1,69 @@
+//! One level as it stands.
+ghost use Rattle.std.specs.Prelude.{◌≡◌, ℕ, IfOk};
+ghost use Rattle.chain_search.specs.Tables.{memory_in};
+ghost use Rattle.scene.specs.Levels.{first_child};
+ghost use Rattle.tree_law.specs.LevelPages.{HasPagesOn};
+
+use crate::page::{ScenePage, page_at};
+use bw_model::Limits;
+use chain_search::Table;
+use std::alloc::{AllocError, Allocator, Global};
+use std::marker::Model;
+
+/// The pages of a level, from left to right.
+#[derive(Drop)]
+pub struct Level<A: Allocator = Global> {
+    pages: Vec<ScenePage<A>, A>,
+}
+
+impl<A: Allocator> Model for Level<A> {
+    ghost use Rattle.std.specs.Prelude.{List};
+    ghost use Rattle.chain_search.specs.SideChain.{LivePage};
+
+    ghost Value = { List LivePage };
+
+    ghost view = { λ l. l.pages.items };
+}
+
+impl<A: Allocator> Level<A> {
+    /// The pages.
+    pub fn pages(&self) -> &[ScenePage<A>]
+        ensures { result.now ≡ self.now }
+    {
+        self.pages.as_slice()
+    }
+
+    /// The child of the first page's low key, or none.
+    pub(crate) fn first_child(&self) -> Option<u16>
+        ensures { result ≡ first_child self.now }
+    {
+        match self.pages.first() {
+            Some(page) => page.low_child(),
+            None => None,
+        }
+    }
+}
+
+/// The level from its first page on.
+pub(crate) fn level_from<A: Allocator, B: Allocator + Copy>(
+    alloc: B,
+    limits: &Limits,
+    table: &Table<A>,
+    first: u16,
+) -> Result<Level<B>, AllocError>
+    requires stands { (number : ℕ) × HasPagesOn limits.now (memory_in table.now) number first }
+    ensures { IfOk result (λ level. (number : ℕ) (has : HasPagesOn limits.now (memory_in table.now) number first) → level ≡ has.pages) }
+{
+    let mut pages = Vec::new(alloc);
+    let mut pid = first;
+    for _ in 0..limits.pids {
+        let page = page_at(alloc, table, pid)?;
+        let right = page.right();
+        pages.push(page)?;
+        match right {
+            Some(right) => pid = right,
+            None => return Ok(Level { pages }),
+        }
+    }
+    unreachable!()
+}

@@ -1,0 +1,112 @@
+//! One page as it stands.
+ghost use Rattle.std.specs.Prelude.{◌≡◌, ◌<◌, List, IfOk, option_copied};
+ghost use Rattle.base_page.specs.Rules.{IsRuled};
+ghost use Rattle.deltas.specs.declared.record.Record.{Record as RecordSeen};
+ghost use Rattle.chain_search.specs.Chains.{right_in};
+ghost use Rattle.chain_search.specs.Fitted.{Makes};
+ghost use Rattle.chain_search.specs.Tables.{memory_in};
+ghost use Rattle.listing.specs.Listed.{StandsAt};
+ghost use Rattle.scene.specs.Levels.{low_child};
+
+use base_page::Page;
+use chain_search::Table;
+use deltas::Record;
+use listing::chain_of;
+use std::alloc::{AllocError, Allocator, Global};
+use std::marker::Model;
+
+/// A page by its PID: the records of its chain, the newest first, and the page that they make.
+#[derive(Drop)]
+pub struct ScenePage<A: Allocator = Global> {
+    pid: u16,
+    records: Vec<Record, A>,
+    page: Page,
+}
+
+impl<A: Allocator> Model for ScenePage<A> {
+    ghost use Rattle.chain_search.specs.Fitted.{Makes};
+    ghost use Rattle.chain_search.specs.SideChain.{LivePage};
+
+    ghost Value = { LivePage };
+
+    ghost view = { λ p. record { pid = p.pid; chain = p.records.items } };
+
+    ghost invariant = { λ p. Makes p.records.items p.page };
+}
+
+impl<A: Allocator> ScenePage<A> {
+    /// Its PID.
+    pub fn pid(&self) -> u16
+        ensures { result ≡ self.now.pid }
+    {
+        self.pid
+    }
+
+    /// The records of its chain, the newest first, the base last.
+    pub fn records(&self) -> &[Record]
+        ensures { result.now ≡ self.now.chain }
+    {
+        self.records.as_slice()
+    }
+
+    /// The page that the chain makes.
+    pub fn page(&self) -> &Page
+        ensures { Makes self.now.chain result.now }
+    {
+        &self.page
+    }
+
+    /// The PID of the next page to the right, or none.
+    pub(crate) fn right(&self) -> Option<u16>
+        ensures { result ≡ right_in self.now.chain }
+    {
+        self.page.right()
+    }
+
+    /// The child of its low key, or none.
+    pub(crate) fn low_child(&self) -> Option<u16>
+        ensures { result ≡ low_child self.now.chain }
+    {
+        self.page.items().child_at(self.page.low())
+    }
+}
+
+/// A page that stands in a table.
+pub(crate) fn page_at<A: Allocator, B: Allocator>(
+    alloc: B,
+    table: &Table<A>,
+    pid: u16,
+) -> Result<ScenePage<B>, AllocError>
+    requires there { pid < 4096 }
+    requires stands { (chain : List RecordSeen) × StandsAt (memory_in table.now) pid chain }
+    ensures pid { IfOk result (λ page. page.pid ≡ pid) }
+    ensures chain { IfOk result (λ page. (chain : List RecordSeen) → StandsAt (memory_in table.now) pid chain → page.chain ≡ chain) }
+{
+    let page = chain_of(table, pid).page();
+    let records = records_at(alloc, table, pid)?;
+    Ok(ScenePage { pid, records, page })
+}
+
+/// The records of a page's chain, the newest first.
+fn records_at<A: Allocator, B: Allocator>(
+    alloc: B,
+    table: &Table<A>,
+    pid: u16,
+) -> Result<Vec<Record, B>, AllocError>
+    requires stands { (chain : List RecordSeen) × StandsAt (memory_in table.now) pid chain }
+    ensures { IfOk result (λ records. (chain : List RecordSeen) → StandsAt (memory_in table.now) pid chain → records.items ≡ chain) }
+{
+    let mut records = Vec::new(alloc);
+    let mut row = table.slot(pid);
+    for _ in 0..13u32 {
+        let Some(record) = table.record(row) else {
+            unreachable!()
+        };
+        records.push(record.copied())?;
+        match record.next() {
+            Some(below) => row = below,
+            None => return Ok(records),
+        }
+    }
+    unreachable!()
+}

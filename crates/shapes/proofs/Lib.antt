@@ -1,0 +1,2 @@
+mod Documents
+mod Escapes

@@ -1,0 +1,17 @@
+-- Colours as they are written.
+use Rattle.std.specs.Prelude.{ℕ, List, codes}
+use Rattle.shapes.specs.declared.colour.Colour.{Colour}
+use Rattle.shapes.specs.declared.colour.Colour.TheVariants.{Ink, Grey, Paper, Page, Delta, Side, Term, Missing, Held, Removed, Merged}
+
+abbrev pub colour_text : Colour → List ℕ
+colour_text Ink = codes "#1b1f24"
+colour_text Grey = codes "#57606a"
+colour_text Paper = codes "#ffffff"
+colour_text Page = codes "#ddf4e4"
+colour_text Delta = codes "#dbe9ff"
+colour_text Side = codes "#0a5ec2"
+colour_text Term = codes "#1a7f37"
+colour_text Missing = codes "#bc4c00"
+colour_text Held = codes "#ffe08a"
+colour_text Removed = codes "#ffc9c4"
+colour_text Merged = codes "#e4d4fa"

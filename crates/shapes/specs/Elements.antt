@@ -1,0 +1,75 @@
+-- Each shape as an element of an SVG document, and a list of shapes as a document.
+use Rattle.std.specs.Prelude.{ℕ, List, [], ◌∷◌, ◌++◌, Bool, true, false, codes, decimal, map}
+use Rattle.std.specs.List.{flat_map}
+use Rattle.shapes.specs.declared.shape.Line.{Line as LineOf}
+use Rattle.shapes.specs.declared.shape.Rectangle.{Rectangle}
+use Rattle.shapes.specs.declared.shape.Shape.{Shape}
+use Rattle.shapes.specs.declared.shape.Shape.TheVariants.{Page, Box, Line, Text}
+use Rattle.shapes.specs.declared.shape.Text.{Text as TextOf}
+use Rattle.shapes.specs.Colours.{colour_text}
+use Rattle.shapes.specs.Document.{Attribute, Element, element_text, open_text, close_text}
+
+abbrev pub attribute : List ℕ → List ℕ → Attribute
+attribute name value = record { name = name; value = value }
+
+-- an attribute with a number
+abbrev pub number : List ℕ → ℕ → Attribute
+number name n = attribute name (decimal n)
+
+abbrev pub rectangle_attributes : Rectangle → List Attribute
+rectangle_attributes r =
+    number (codes "x") r.x ∷ number (codes "y") r.y ∷ number (codes "width") r.width ∷ number (codes "height") r.height
+    ∷ attribute (codes "rx") (codes "4") ∷ attribute (codes "fill") (colour_text r.fill) ∷ attribute (codes "stroke") (colour_text r.edge) ∷ []
+
+abbrev pub rectangle_element : List Attribute → Rectangle → Element
+rectangle_element before r = record { name = codes "rect"; attributes = before ++ rectangle_attributes r; content = [] }
+
+-- the lengths of the dashes of a line and of the gaps between them, or that it has none
+abbrev pub dashes : Bool → List ℕ
+dashes true = codes "6 4"
+dashes false = codes "none"
+
+abbrev pub line_element : LineOf → Element
+line_element line = record {
+  name = codes "line";
+  attributes = number (codes "x1") line.x1 ∷ number (codes "y1") line.y1 ∷ number (codes "x2") line.x2 ∷ number (codes "y2") line.y2
+      ∷ attribute (codes "stroke") (colour_text line.colour) ∷ attribute (codes "stroke-width") (codes "2") ∷ attribute (codes "stroke-dasharray") (dashes line.dashed) ∷ [];
+  content = [];
+}
+
+abbrev pub weight : Bool → List ℕ
+weight true = codes "bold"
+weight false = codes "normal"
+
+abbrev pub text_element : TextOf → Element
+text_element text = record {
+  name = codes "text";
+  attributes = number (codes "x") text.x ∷ number (codes "y") text.y ∷ number (codes "font-size") text.size
+      ∷ attribute (codes "font-weight") (weight text.bold) ∷ attribute (codes "fill") (colour_text text.colour) ∷ [];
+  content = text.words;
+}
+
+-- a page's box has the page's PID for an identifier
+abbrev pub element_of : Shape → Element
+element_of (Page pid r) = rectangle_element (attribute (codes "id") (codes "page-" ++ decimal pid) ∷ []) r
+element_of (Box r) = rectangle_element [] r
+element_of (Line line) = line_element line
+element_of (Text text) = text_element text
+
+abbrev pub document_attributes : ℕ → ℕ → List Attribute
+document_attributes width height =
+    attribute (codes "xmlns") (codes "http://www.w3.org/2000/svg") ∷ number (codes "width") width ∷ number (codes "height") height
+    ∷ attribute (codes "font-family") (codes "DejaVu Sans, Verdana, Helvetica, Arial, sans-serif") ∷ []
+
+-- a document of this width and height, with the shapes one over another
+abbrev pub document_text : ℕ → ℕ → List Shape → List ℕ
+document_text width height shapes =
+    open_text (codes "svg") (document_attributes width height) ++ codes "\n" ++ flat_map (λ shape. element_text (element_of shape)) shapes ++ close_text (codes "svg")
+
+-- the PIDs of the pages among the shapes, in their order
+abbrev pub pids_of : List Shape → List ℕ
+pids_of [] = []
+pids_of (Page pid r ∷ shapes) = pid ∷ pids_of shapes
+pids_of (Box r ∷ shapes) = pids_of shapes
+pids_of (Line line ∷ shapes) = pids_of shapes
+pids_of (Text text ∷ shapes) = pids_of shapes

@@ -1,0 +1,3 @@
+pub mod Colours
+pub mod Document
+pub mod Elements

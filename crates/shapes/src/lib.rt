@@ -1,0 +1,12 @@
+//! The shapes of a picture: rectangles, lines and texts, each of which is one element of an SVG document.
+#![tactic(auto)]
+
+mod colour;
+mod law;
+mod shape;
+mod words;
+
+pub use colour::Colour;
+pub use law::{documents_are_well_formed, escapes_are_safe};
+pub use shape::{Line, Rectangle, Shape, Text};
+pub use words::{MAX_WORDS, Words};

@@ -1,0 +1,39 @@
+//! What stands in a core, for who looks at it. Nothing here is a turn.
+ghost use Rattle.std.specs.Prelude.{◌≡◌, nat_lt, is_some, IfSome};
+ghost use Rattle.actors.specs.Actors.{IsActor, running_command};
+ghost use Rattle.chain_search.specs.Knowledge.{knows};
+ghost use Rattle.chain_search.specs.Recalled.{recalls};
+ghost use Rattle.chain_search.specs.Tables.{memory_in};
+ghost use Rattle.chain_search.specs.Trace.{command_of, memory_of};
+ghost use Rattle.tree_law.specs.LevelPages.{HasAllLevels};
+
+use super::Core;
+use actors::Actor;
+use chain_search::Table;
+use std::alloc::Allocator;
+use tree_law::levels_stand;
+
+impl<A: Allocator> Core<A> {
+    /// The memory after the turns so far, all levels of which stand.
+    pub fn memory(&self) -> &Table<A>
+        ensures memory { memory_in result.now ≡ memory_of self.now.limits self.now.entries }
+        ensures limits { result.now.limits ≡ self.now.limits }
+        ensures levels { HasAllLevels self.now.limits (memory_of self.now.limits self.now.entries) }
+    {
+        levels_stand();
+        &self.memory
+    }
+
+    /// The actor of a number, if there is one: it has the operation that the trace says, and its spares and its limbo are exactly
+    /// what its own entries show as taken and not linked, and as taken out of the tree and not freed.
+    pub fn actor(&self, number: u8) -> Option<&Actor<A>>
+        ensures there { is_some result ≡ nat_lt number self.now.limits.actors }
+        ensures keeps { IfSome result (λ actor. IsActor self.now.limits number (knows self.now.entries number) (recalls self.now.entries number) actor.now) }
+        ensures command { IfSome result (λ actor. running_command actor.now ≡ command_of self.now.entries number) }
+    {
+        match self.actors.get(usize::from(number)) {
+            None => None,
+            Some(actor) => Some(actor),
+        }
+    }
+}

@@ -1,0 +1,113 @@
+//! Shapes while they are drawn.
+ghost use Rattle.std.specs.Prelude.{◌≡◌, ◌∷◌, ◌++◌, [], IfOk, OnOk};
+ghost use Rattle.shapes.specs.Elements.{pids_of};
+
+use shapes::{Colour, Line, Rectangle, Shape, Text, Words};
+use std::alloc::{AllocError, Global};
+use std::marker::Model;
+
+/// A picture: its shapes, those behind first, and its size in pixels.
+#[derive(Drop)]
+pub struct Picture {
+    pub shapes: Vec<Shape>,
+    pub width: u32,
+    pub height: u32,
+}
+
+/// The shapes that were drawn so far, or that there was no room for one. Its contracts tell of the pages among them.
+#[derive(Drop)]
+pub(crate) struct Sheet {
+    shapes: Vec<Shape>,
+    is_full: bool,
+}
+
+impl Model for Sheet {
+    ghost use Rattle.std.specs.Prelude.{List, ℕ};
+    ghost use Rattle.shapes.specs.Elements.{pids_of};
+
+    ghost Value = { List ℕ };
+
+    ghost view = { λ s. pids_of s.shapes.items };
+}
+
+impl Sheet {
+    /// No shapes.
+    pub(crate) fn new(alloc: Global) -> Sheet
+        ensures { result ≡ [] }
+    {
+        Sheet {
+            shapes: Vec::new(alloc),
+            is_full: false,
+        }
+    }
+
+    /// The box of a page.
+    #[tactic(auto, using(crate::proofs::Shapes::page_more))]
+    pub(crate) fn page(&mut self, pid: u16, rectangle: Rectangle) -> Result<(), AllocError>
+        ensures { OnOk result (self.new ≡ self.old ++ pid ∷ []) }
+    {
+        self.shapes.push(Shape::Page(pid, rectangle))?;
+        Ok(())
+    }
+
+    /// Any other box.
+    #[tactic(auto, using(crate::proofs::Shapes::box_more))]
+    pub(crate) fn rectangle(&mut self, rectangle: Rectangle)
+        ensures { self.new ≡ self.old }
+    {
+        match self.shapes.push(Shape::Box(rectangle)) {
+            Ok(()) => {}
+            Err(_) => self.is_full = true,
+        }
+    }
+
+    /// A line.
+    #[tactic(auto, using(crate::proofs::Shapes::line_more))]
+    pub(crate) fn line(&mut self, line: Line)
+        ensures { self.new ≡ self.old }
+    {
+        match self.shapes.push(Shape::Line(line)) {
+            Ok(()) => {}
+            Err(_) => self.is_full = true,
+        }
+    }
+
+    /// A text.
+    #[tactic(auto, using(crate::proofs::Shapes::text_more))]
+    pub(crate) fn text(&mut self, text: Text)
+        ensures { self.new ≡ self.old }
+    {
+        match self.shapes.push(Shape::Text(text)) {
+            Ok(()) => {}
+            Err(_) => self.is_full = true,
+        }
+    }
+
+    /// Plain words of a size.
+    pub(crate) fn words(&mut self, x: u32, y: u32, size: u8, words: Words)
+        ensures { self.new ≡ self.old }
+    {
+        self.text(Text {
+            x,
+            y,
+            size,
+            bold: false,
+            colour: Colour::Ink,
+            words,
+        });
+    }
+
+    /// The picture, if there was room for all its shapes.
+    pub(crate) fn finish(self, width: u32, height: u32) -> Result<Picture, AllocError>
+        ensures { IfOk result (λ picture. pids_of picture.shapes.items ≡ self) }
+    {
+        if self.is_full {
+            return Err(AllocError);
+        }
+        Ok(Picture {
+            shapes: self.shapes,
+            width,
+            height,
+        })
+    }
+}

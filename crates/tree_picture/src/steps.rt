@@ -1,0 +1,62 @@
+//! Words for commands and steps.
+
+use crate::write::{record_words, with_number, with_token};
+use bw_model::{Command, Step};
+use deltas::Record;
+use shapes::Words;
+
+/// What an actor was asked.
+pub(crate) fn command_words(words: &mut Words, command: &Command) {
+    match command {
+        Command::Get(key) => with_token(words, b"get ", key.as_slice()),
+        Command::Insert(key, value) => {
+            with_token(words, b"insert ", key.as_slice());
+            with_token(words, b" ", value.as_slice());
+        }
+        Command::Upsert(key, value) => {
+            with_token(words, b"upsert ", key.as_slice());
+            with_token(words, b" ", value.as_slice());
+        }
+        Command::Delete(key) => with_token(words, b"delete ", key.as_slice()),
+        Command::Swap(key, expected, value) => {
+            with_token(words, b"swap ", key.as_slice());
+            with_token(words, b" ", expected.as_slice());
+            with_token(words, b" ", value.as_slice());
+        }
+        Command::Page(key) => with_token(words, b"page ", key.as_slice()),
+        Command::Tidy(key) => with_token(words, b"tidy ", key.as_slice()),
+    }
+}
+
+/// The step that an operation wants.
+pub(crate) fn step_words(words: &mut Words, step: &Step<&Record>) {
+    match step {
+        Step::Slot(pid) => with_number(words, b"read slot ", u64::from(*pid)),
+        Step::Row(row) => with_number(words, b"read row ", u64::from(*row)),
+        Step::Epoch => words.add(b"read the epoch"),
+        Step::Announce(actor) => with_number(
+            words,
+            b"read the announce of actor ",
+            u64::from(*actor),
+        ),
+        Step::PidBits(word) => with_number(words, b"read free PIDs, word ", u64::from(*word)),
+        Step::RowBits(word) => with_number(words, b"read free rows, word ", u64::from(*word)),
+        Step::Place(row, record) => {
+            with_number(words, b"place in row ", u64::from(*row));
+            words.add(b": ");
+            words.add(record_words(record).as_slice());
+        }
+        Step::Exchange(slot, old, new) => {
+            with_number(words, b"exchange slot ", u64::from(*slot));
+            with_number(words, b" from ", u64::from(*old));
+            with_number(words, b" to ", u64::from(*new));
+        }
+        Step::TakePid(pid) => with_number(words, b"take PID ", u64::from(*pid)),
+        Step::TakeRow(row) => with_number(words, b"take row ", u64::from(*row)),
+        Step::Enter(epoch) => with_number(words, b"enter epoch ", *epoch),
+        Step::Leave => words.add(b"leave"),
+        Step::Retire(epoch) => with_number(words, b"retire epoch ", *epoch),
+        Step::ReusePids(word, _) => with_number(words, b"free PIDs of word ", u64::from(*word)),
+        Step::ReuseRows(word, _) => with_number(words, b"free rows of word ", u64::from(*word)),
+    }
+}
