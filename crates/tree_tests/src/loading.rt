@@ -82,23 +82,34 @@ fn many_pairs_are_too_many(rt: HostRuntime) -> Result<(), Fail> {
     Ok(())
 }
 
-// The order of the keys is looked for before anything else: two equal keys, and a key below the one before it, also where there is no memory.
+/// Why no tree with the pairs opens on a heap of this size.
+fn refusal(
+    alloc: Global,
+    size: usize,
+    limits: Limits,
+    pairs: &[(Key, Value)],
+) -> Result<Option<LoadError>, AllocError> {
+    let heap = LocalHeap::new(alloc, size)?;
+    Ok(Tree::<&LocalHeap>::open_from(&heap, limits, pairs).err())
+}
+
+// The order of the keys is looked for before memory is: two equal keys, and a key below the one before it.
 #[test]
 fn keys_that_do_not_ascend_are_refused(rt: HostRuntime) -> Result<(), Fail> {
     let limits = Limits::new(2, 64, 64, 1)?;
-    let heap = LocalHeap::new(rt.alloc(), 1_000)?;
-    for (one, other) in [(5, 5), (5, 4)] {
+    for (one, other, refused) in [
+        (5, 5, LoadError::Order),
+        (5, 4, LoadError::Order),
+        (5, 6, LoadError::Memory),
+    ] {
         let pairs = [
             (key(1), value(1)),
             (key(one), value(1)),
             (key(other), value(2)),
         ];
-        assert!(rt; moved(rt.alloc(), limits, &pairs).err() == Some(LoadError::Order));
-        let refused = Tree::<&LocalHeap>::open_from(&heap, limits, &pairs).err();
-        assert!(rt; refused == Some(LoadError::Order));
+        assert!(rt; refusal(rt.alloc(), 1_000, limits, &pairs)? == Some(refused));
+        let room = refusal(rt.alloc(), 10_000_000, limits, &pairs)?;
+        assert!(rt; room == if one < other { None } else { Some(refused) });
     }
-    let pairs = [(key(1), value(1)), (key(2), value(2))];
-    let refused = Tree::<&LocalHeap>::open_from(&heap, limits, &pairs).err();
-    assert!(rt; refused == Some(LoadError::Memory));
     Ok(())
 }
