@@ -17,7 +17,8 @@ use Rattle.chain_search.specs.Run.{IsNext, IsRun}
 use Rattle.chain_search.specs.Trace.{command_of}
 use Rattle.chain_search.proofs.Pushes.{take-push_whole}
 use Rattle.chain_search.proofs.TraceLaws.{command_of-push}
-use Rattle.bw_tree.specs.Calls.{answered_last, calls_along}
+use Rattle.bw_tree.specs.Calls.{calls_along}
+use Rattle.bw_tree.proofs.Going.{answered_snoc}
 
 abbrev pub who : Entry → ℕ
 who (Begin actor command) = actor
@@ -91,11 +92,6 @@ abbrev ParsedFrom : Option Command → List Entry → Type 0
 ParsedFrom None rest = Parsed rest
 ParsedFrom (Some command) rest = ParsedIn command rest
 
-answered : (old : List (Command × Option Reply)) (command : Command) (reply : Reply) → answered_last (old ++ (command, None) ∷ []) reply ≡ old ++ (command, Some reply) ∷ []
-answered [] command reply = refl
-answered (one ∷ []) command reply = refl
-answered (one ∷ two ∷ old) command reply = ap (λ rest. one ∷ rest) (answered (two ∷ old) command reply)
-
 none_some : (o : Option Command) → o ≡ None → IsSome o → ⊥
 none_some None e s = cc
 none_some (Some c) e s = cc
@@ -165,7 +161,7 @@ module _ (limits : Limits) (run : List Entry) (runs : IsRun limits run) where
           silent = tt;
           calls = p.calls;
           blocks = p.blocks;
-          along = λ old. ap (λ calls. calls_along calls rest) (answered old command given) ∙ p.along (old ++ (command, Some given) ∷ []) ∙ append_assoc old ((command, Some given) ∷ []) p.calls;
+          along = λ old. ap (λ calls. calls_along calls rest) (answered_snoc old command None given) ∙ p.along (old ++ (command, Some given) ∷ []) ∙ append_assoc old ((command, Some given) ∷ []) p.calls;
         }
 
     -- the run is the entries of its calls

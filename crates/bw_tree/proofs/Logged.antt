@@ -94,7 +94,6 @@ module _ (limits : Limits) (entries : List Entry) (points : List Bool) (pointed 
 
   silent_then : (n : ℕ) → start < n → n < last → (one : StepOf Record) × (told : Answer Record) × (slice_get entries n ≡ Some (Step 0 one told None))
   silent_then n low high =
-      let j : ℕ = n - suc start in
       let place : n ≡ start + suc (n - suc start) = omega (arith, low) in
       let few : n - suc start < length mid = omega (arith, low, high) in
       let (entry, at, (one, told, same)) = silent_at mid (Step 0 step answer (Some reply) ∷ after) (n - suc start) silent few in
@@ -140,11 +139,11 @@ module _ (limits : Limits) (entries : List Entry) (points : List Bool) (pointed 
         | inl none ↦ let below = slice_get_below entries n _ at.entry in let nothing : length after ≡ 0 = ap length none in omega (arith, below, nothing, whole_length, other)
         | inr next ↦ dite (ℕ_discrete n (suc last))
             (λ same. absurd (step_or_begin (slice_get entries n) 0 0 one told given next.0 at.entry (ap (slice_get entries) same ∙ next_is (Begin 0 next.0 ∷ next.1) next.2)))
-            (λ beyond. by_order (suc last) next.0 (next_is (Begin 0 next.0 ∷ next.1) next.2) n other beyond at.not_ended)
+            (λ beyond. by_order next.0 (next_is (Begin 0 next.0 ∷ next.1) next.2) n other beyond at.not_ended)
       ])
     where
-      by_order : (place : ℕ) (command : Command) → slice_get entries (suc last) ≡ Some (Begin 0 command) → (n : ℕ) → n ≢ last → n ≢ suc last → ((later : ℕ) (command : Command) → start < later → later < n → slice_get entries later ≡ Some (Begin 0 command) → ⊥) → n ≤ last
-      by_order place command next n other beyond ended = by_contradiction (n_or n)
+      by_order : (command : Command) → slice_get entries (suc last) ≡ Some (Begin 0 command) → (n : ℕ) → n ≢ last → n ≢ suc last → ((later : ℕ) (command : Command) → start < later → later < n → slice_get entries later ≡ Some (Begin 0 command) → ⊥) → n ≤ last
+      by_order command next n other beyond ended = by_contradiction (n_or n)
         where
           n_or : (n : ℕ) → (n ≤ last) ⊎ (last < n)
           n_or n = grind (arith)
