@@ -2,6 +2,7 @@
 #![tactic(auto)]
 
 use bw_shell::{Reader, Refusal, Writer, script, weave};
+use drawing::draw;
 use race::race;
 use shell_options::{OptionsError, Program, Settings, options};
 use std::alloc::Global;
@@ -68,6 +69,7 @@ fn started<R: Threads + Wait + Sync>(rt: &HostRuntime, threads: &R, settings: Se
     match settings.program {
         Program::Script => script(rt.alloc(), limits, &mut input, &mut output),
         Program::Weave => weave(rt.alloc(), limits, &mut input, &mut output),
+        Program::Draw => draw(rt.alloc(), limits, &mut input, &mut output),
         Program::Race => race(threads, rt.alloc(), limits, &mut input, &mut output),
     }
 }

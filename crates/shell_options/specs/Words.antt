@@ -6,7 +6,7 @@ use Rattle.clap.specs.Words.{IsAmong, fault_of, kind_of, App, Row, Rule, Text, n
 use Rattle.clap.specs.Simple.{on_top}
 use Rattle.clap.specs.declared.builder.value_parser.ValueParser.TheVariants as vp
 use Rattle.shell_options.specs.declared.words.Program.{Program}
-use Rattle.shell_options.specs.declared.words.Program.TheVariants.{Script, Weave, Race}
+use Rattle.shell_options.specs.declared.words.Program.TheVariants.{Script, Weave, Draw, Race}
 use Rattle.shell_options.specs.declared.words.Settings.{Settings}
 use Rattle.shell_options.specs.declared.words.OptionsError.{OptionsError}
 use Rattle.shell_options.specs.declared.words.OptionsError.TheVariants.{Clap, Memory}
@@ -22,14 +22,25 @@ limits_rules app = with_rule (with_rule (with_rule app (number_rule (codes "pids
 abbrev pub script_app : App
 script_app = limits_rules (new_app (codes "script"))
 
+-- a program of several actors that take turns
+abbrev pub actors_app : Text → App
+actors_app name = limits_rules (with_rule (new_app name) (number_rule (codes "actors")))
+
 abbrev pub weave_app : App
-weave_app = limits_rules (with_rule (new_app (codes "weave")) (number_rule (codes "actors")))
+weave_app = actors_app (codes "weave")
+
+abbrev pub draw_app : App
+draw_app = actors_app (codes "draw")
 
 abbrev pub race_app : App
 race_app = limits_rules (with_rule (new_app (codes "race")) (number_rule (codes "seats")))
 
+-- the programs over a core, and with them the one over a running tree
+abbrev pub core_app : App
+core_app = with_subcommand (with_subcommand (with_subcommand (on_top (λ s. record s { subcommand_required = true }) (new_app (codes "bwtree"))) script_app.top) weave_app.top) draw_app.top
+
 abbrev pub bwtree_app : App
-bwtree_app = with_subcommand (with_subcommand (with_subcommand (on_top (λ s. record s { subcommand_required = true }) (new_app (codes "bwtree"))) script_app.top) weave_app.top) race_app.top
+bwtree_app = with_subcommand core_app race_app.top
 
 -- what the words after the subcommand's name are, by option
 unfoldable pub rows_in : List Text → List Row
@@ -44,17 +55,20 @@ SpellsOr rows id default n =
 abbrev pub HasActors : Program → List Row → ℕ → Type 0
 HasActors Script rows n = n ≡ 1
 HasActors Weave rows n = SpellsOr rows (codes "actors") 2 n
+HasActors Draw rows n = SpellsOr rows (codes "actors") 2 n
 HasActors Race rows n = SpellsOr rows (codes "seats") 2 n
 
 -- how many page identifiers and rows there are where the words don't say
 abbrev pub default_pids_of : Program → ℕ
 default_pids_of Script = 64
 default_pids_of Weave = 64
+default_pids_of Draw = 64
 default_pids_of Race = 4096
 
 abbrev pub default_rows_of : Program → ℕ
 default_rows_of Script = 256
 default_rows_of Weave = 256
+default_rows_of Draw = 256
 default_rows_of Race = 16384
 
 -- the numbers are those of the options
@@ -68,6 +82,7 @@ pub record HasNumbers (rows_read : List Row) (line : Settings) : Type 0 where
 abbrev pub name_of : Program → Text
 name_of Script = codes "script"
 name_of Weave = codes "weave"
+name_of Draw = codes "draw"
 name_of Race = codes "race"
 
 -- The words name the program, and its numbers are those of the options behind the name.

@@ -5,7 +5,7 @@ ghost use Rattle.bw_model.specs.Limits.{AreLimits};
 ghost use Rattle.std.specs.String.{string_bytes};
 ghost use Rattle.clap.specs.Words.{app_of, found_of, rows_of, rule_of};
 ghost use Rattle.clap.specs.declared.builder.command.Command.TheViews.{out-Command as fields_of};
-ghost use Rattle.shell_options.specs.Words.{number_rule, limits_rules, script_app, weave_app, race_app, bwtree_app, SpellsOr, HasActors, HasNumbers, default_pids_of, default_rows_of, HasNoFault, IsSpelled, MayRefuse};
+ghost use Rattle.shell_options.specs.Words.{number_rule, limits_rules, actors_app, core_app, draw_app, script_app, weave_app, race_app, bwtree_app, SpellsOr, HasActors, HasNumbers, default_pids_of, default_rows_of, HasNoFault, IsSpelled, MayRefuse};
 
 use bw_model::{BadLimits, Limits};
 use clap::error::ErrorKind;
@@ -19,6 +19,8 @@ pub enum Program {
     Script,
     /// Runs operations of several actors, turn by turn.
     Weave,
+    /// Runs the same, and draws the tree as it then stands.
+    Draw,
     /// Runs jobs on threads.
     Race,
 }
@@ -107,25 +109,39 @@ fn with_few<'a>(alloc: Global, command: Command<'a>) -> Result<Command<'a>, Allo
     )
 }
 
-fn weave_words<'a>(alloc: Global) -> Result<Command<'a>, AllocError>
-    ensures shape { IfOk result (λ c. app_of c ≡ weave_app) }
+// The words of a program of several actors that take turns.
+fn actors_words<'a>(alloc: Global, name: &'a str) -> Result<Command<'a>, AllocError>
+    ensures shape { IfOk result (λ c. app_of c ≡ actors_app name.entry.now) }
     ensures local { IfOk result (λ c. (fields_of c).has_globals ≡ false) }
 {
     let actors = number(alloc, "actors", "Actors, 1 to 16 [default: 2]");
-    let weave = Command::new(alloc, "weave").arg(actors)?;
-    with_few(alloc, weave)
+    let command = Command::new(alloc, name).arg(actors)?;
+    with_few(alloc, command)
 }
 
 fn weave_command<'a>(alloc: Global) -> Result<Command<'a>, AllocError>
     ensures shape { IfOk result (λ c. app_of c ≡ weave_app) }
     ensures local { IfOk result (λ c. (fields_of c).has_globals ≡ false) }
 {
-    let weave = weave_words(alloc)?;
+    let weave = actors_words(alloc, "weave")?;
     let weave = weave.about(
         "Runs the lines of standard input, turn by turn, and prints what they answer",
     );
     Ok(weave.after_help(
         "Example: the lines 'begin 0 insert a 1' and 'finish 0' print '0 inserted'",
+    ))
+}
+
+fn draw_command<'a>(alloc: Global) -> Result<Command<'a>, AllocError>
+    ensures shape { IfOk result (λ c. app_of c ≡ draw_app) }
+    ensures local { IfOk result (λ c. (fields_of c).has_globals ≡ false) }
+{
+    let draw = actors_words(alloc, "draw")?;
+    let draw = draw.about(
+        "Runs the lines of standard input as weave does, and prints a picture of the tree, as SVG",
+    );
+    Ok(draw.after_help(
+        "Example: the lines 'begin 0 insert a 1' and 'finish 0' print a picture of one page with one item",
     ))
 }
 
@@ -180,12 +196,20 @@ fn race_command<'a>(alloc: Global) -> Result<Command<'a>, AllocError>
     ))
 }
 
-fn plain_command<'a>(alloc: Global) -> Result<Command<'a>, AllocError>
-    ensures { IfOk result (λ c. app_of c ≡ bwtree_app) }
+fn core_command<'a>(alloc: Global) -> Result<Command<'a>, AllocError>
+    ensures { IfOk result (λ c. app_of c ≡ core_app) }
 {
     let command = Command::new(alloc, "bwtree").subcommand_required(true);
     let command = command.subcommand(script_command(alloc)?)?;
     let command = command.subcommand(weave_command(alloc)?)?;
+    let command = command.subcommand(draw_command(alloc)?)?;
+    Ok(command)
+}
+
+fn plain_command<'a>(alloc: Global) -> Result<Command<'a>, AllocError>
+    ensures { IfOk result (λ c. app_of c ≡ bwtree_app) }
+{
+    let command = core_command(alloc)?;
     let command = command.subcommand(race_command(alloc)?)?;
     Ok(command)
 }
@@ -214,7 +238,7 @@ fn actors(program: Program, matches: &ArgMatches<'_>) -> Option<u64>
 {
     match program {
         Program::Script => Some(1),
-        Program::Weave => chosen(matches, "actors", 2),
+        Program::Weave | Program::Draw => chosen(matches, "actors", 2),
         Program::Race => chosen(matches, "seats", 2),
     }
 }
@@ -224,7 +248,7 @@ fn default_pids(program: Program) -> u64
     ensures { result ≡ default_pids_of program }
 {
     match program {
-        Program::Script | Program::Weave => 64,
+        Program::Script | Program::Weave | Program::Draw => 64,
         Program::Race => 4096,
     }
 }
@@ -234,7 +258,7 @@ fn default_rows(program: Program) -> u64
     ensures { result ≡ default_rows_of program }
 {
     match program {
-        Program::Script | Program::Weave => 256,
+        Program::Script | Program::Weave | Program::Draw => 256,
         Program::Race => 16384,
     }
 }
@@ -285,6 +309,9 @@ pub fn options(alloc: Global, words: &[String]) -> Result<Settings, OptionsError
     }
     if let Some(weave) = matches.subcommand_matches("weave") {
         return numbers(Program::Weave, weave);
+    }
+    if let Some(draw) = matches.subcommand_matches("draw") {
+        return numbers(Program::Draw, draw);
     }
     let Some(race) = matches.subcommand_matches("race") else {
         return Err(OptionsError::Memory);

@@ -69,6 +69,11 @@ fn numbers_of_options(rt: HostRuntime) -> Result<(), Fail> {
             "weave --actors 00000000000000000000001",
             Said::Numbers(Program::Weave, [1, 64, 256, 1]),
         ),
+        ("draw", Said::Numbers(Program::Draw, [2, 64, 256, 1])),
+        (
+            "draw --actors 3 --rows 128",
+            Said::Numbers(Program::Draw, [3, 64, 128, 1]),
+        ),
         ("script", Said::Numbers(Program::Script, [1, 64, 256, 1])),
         (
             "script --pids 4096 --rows=16384 --epoch 4611686018427387904",
@@ -83,7 +88,7 @@ fn numbers_of_options(rt: HostRuntime) -> Result<(), Fail> {
 }
 
 /// Numbers that are none of 64 bits, words that are none, and options that stand twice.
-const REFUSED: [&str; 16] = [
+const REFUSED: [&str; 17] = [
     "weave --rows x",
     "weave --rows -1",
     "weave --rows 64.0",
@@ -97,6 +102,7 @@ const REFUSED: [&str; 16] = [
     "--rows 64 weave",
     "script --actors 1",
     "script --rows x",
+    "draw --turns 1",
     "weave --actors 2 --actors 2",
     "weave --rows 64 --pids 64 --rows=64",
     "script --epoch 1 --epoch 1",

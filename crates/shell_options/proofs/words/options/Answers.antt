@@ -4,7 +4,7 @@ use Rattle.std.specs.String.{string_bytes}
 use Rattle.clap.specs.declared.error.Error.{Error}
 use Rattle.clap.specs.Words.{HasKind, IsAmong, Kinds, App, Text, app_of, kind_of, fault_of, found_of, is_simple, is_simple_and_free, rows_of, subcommand_of}
 use Rattle.clap.specs.declared.error.kind.ErrorKind.TheVariants.{OutOfMemory}
-use Rattle.shell_options.specs.declared.words.Program.TheVariants.{Script, Weave, Race}
+use Rattle.shell_options.specs.declared.words.Program.TheVariants.{Script, Weave, Draw, Race}
 use Rattle.shell_options.specs.Words.{bwtree_app, HasNoFault}
 use Rattle.shell_options.proofs.Spelling.{is_simple-bwtree_app, is_simple_and_free-bwtree_app, is_spelled, name_is, outside}
 use Rattle.shell_options.proofs.words.options.Goals as goal
@@ -31,15 +31,26 @@ returns-in-Some-subcommand_matches-clause-spelled c =
     (ap (option_map (λ p. p.1)) (sym same) ∙ c.in-Some-subcommand_matches.ensures.rows)
     c.numbers-in-Some-subcommand_matches.ensures.ok c.numbers-in-Some-subcommand_matches.ensures.program
 
+pub returns-in-Some-subcommand_matches-2-clause-spelled : goal.returns-in-Some-subcommand_matches-2-clause-spelled
+returns-in-Some-subcommand_matches-2-clause-spelled c =
+    let words : List Text = map (λ s. string_bytes s) c.args.words.now in
+    let app : app_of c.in-Ok.command ≡ bwtree_app = c.in-Ok.ensures in
+    let has = (c.in-Ok-try_get_matches_from.ensures.matches (ap is_simple app ∙ is_simple-bwtree_app)).1 in
+    let same = has ∙ ap (λ (a : App). subcommand_of a words) app in
+    is_spelled words Draw (rows_of (found_of c.in-Some-subcommand_matches-2.draw.now)) c.numbers-in-Some-subcommand_matches-2.result
+    (ap (option_map (λ p. p.0)) (sym same) ∙ name_is _ ∙ c.in-Some-subcommand_matches-2.ensures.found.0 refl)
+    (ap (option_map (λ p. p.1)) (sym same) ∙ c.in-Some-subcommand_matches-2.ensures.rows)
+    c.numbers-in-Some-subcommand_matches-2.ensures.ok c.numbers-in-Some-subcommand_matches-2.ensures.program
+
 pub returns-clause-spelled : goal.returns-clause-spelled
 returns-clause-spelled c =
     let words : List Text = map (λ s. string_bytes s) c.args.words.now in
     let app : app_of c.in-Ok.command ≡ bwtree_app = c.in-Ok.ensures in
     let has = (c.in-Ok-try_get_matches_from.ensures.matches (ap is_simple app ∙ is_simple-bwtree_app)).1 in
     let same = has ∙ ap (λ (a : App). subcommand_of a words) app in
-    is_spelled words Race (rows_of (found_of c.in-Some-subcommand_matches-2.race.now)) c.numbers-2.result
-    (ap (option_map (λ p. p.0)) (sym same) ∙ name_is _ ∙ c.in-Some-subcommand_matches-2.ensures.found.0 refl)
-    (ap (option_map (λ p. p.1)) (sym same) ∙ c.in-Some-subcommand_matches-2.ensures.rows)
+    is_spelled words Race (rows_of (found_of c.in-Some-subcommand_matches-3.race.now)) c.numbers-2.result
+    (ap (option_map (λ p. p.0)) (sym same) ∙ name_is _ ∙ c.in-Some-subcommand_matches-3.ensures.found.0 refl)
+    (ap (option_map (λ p. p.1)) (sym same) ∙ c.in-Some-subcommand_matches-3.ensures.rows)
     c.numbers-2.ensures.ok c.numbers-2.ensures.program
 
 among : (kinds : Kinds) (e : Error) → (kind_of e ≡ OutOfMemory → ⊥) → HasKind kinds e → IsAmong (kind_of e) kinds
@@ -77,6 +88,13 @@ returns-in-Some-subcommand_matches-clause-faultless c =
     let app : app_of c.in-Ok.command ≡ bwtree_app = c.in-Ok.ensures in
     let none = c.in-Ok-try_get_matches_from.ensures.kinds (ap is_simple_and_free app ∙ is_simple_and_free-bwtree_app) in
     if_ok c.numbers-in-Some-subcommand_matches.result (HasNoFault words) (sym (ap (λ (a : App). fault_of a words) app) ∙ none)
+
+pub returns-in-Some-subcommand_matches-2-clause-faultless : goal.returns-in-Some-subcommand_matches-2-clause-faultless
+returns-in-Some-subcommand_matches-2-clause-faultless c =
+    let words : List Text = map (λ s. string_bytes s) c.args.words.now in
+    let app : app_of c.in-Ok.command ≡ bwtree_app = c.in-Ok.ensures in
+    let none = c.in-Ok-try_get_matches_from.ensures.kinds (ap is_simple_and_free app ∙ is_simple_and_free-bwtree_app) in
+    if_ok c.numbers-in-Some-subcommand_matches-2.result (HasNoFault words) (sym (ap (λ (a : App). fault_of a words) app) ∙ none)
 
 pub returns-clause-faultless : goal.returns-clause-faultless
 returns-clause-faultless c =
