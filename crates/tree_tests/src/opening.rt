@@ -22,7 +22,7 @@ fn refusal(
 fn opening_wants_memory(rt: HostRuntime) -> Result<(), Fail> {
     let limits = Limits::new(2, 64, 64, 1)?;
     for step in 0..4_000usize {
-        let Some(error) = refusal(rt.alloc(), limits, 1, 1_000 + 256 * step)? else {
+        let Some(error) = refusal(rt.alloc(), limits, 1, 1_000 + 512 * step)? else {
             return Ok(());
         };
         assert!(rt; error == OpenError::Memory);
